@@ -1,0 +1,11 @@
+pub mod Numbers
+pub mod Members
+pub mod Slots
+pub mod SlotOrder
+pub mod Messages
+pub mod Tags
+pub mod History
+pub mod Shortest
+pub mod Quorums
+pub mod HistoryLaws
+pub mod MessagesLaws

@@ -1,0 +1,22 @@
+//! What every layer speaks of: the numbers of a session, slots, items and messages.
+#![tactic(auto)]
+
+mod bytes;
+mod event;
+mod id;
+mod item;
+mod mode;
+mod params;
+mod sender_set;
+mod slot;
+mod tagger;
+
+pub use bytes::{Bytes, Mem};
+pub use event::Event;
+pub use id::Id;
+pub use item::{Item, Kind, Msg, Say, To};
+pub use mode::{Mode, Vect};
+pub use params::{ParamFault, Params};
+pub use sender_set::SenderSet;
+pub use slot::{Slot, SlotFault};
+pub use tagger::{Coin, Tagger};

@@ -1,0 +1,128 @@
+ghost use Rattle.std.specs.Prelude.{◌≡◌, Some, None, MatchResult, OnOk, if◌then◌else◌, ◌==◌};
+ghost use Rattle.ritas_base.specs.Numbers.{IsSession};
+ghost use Rattle.ritas_base.specs.Slots.{slot_fault, slot_bytes, by_echo, has_class, within};
+
+use crate::mode::{Mode, Vect};
+use crate::params::Params;
+
+/// One broadcast: a class (1 command, 2 vector proposal, 3 multi-valued proposal, 4 VECT, 5 step of binary
+/// consensus), a number (the origin's command, or the round), the try, the round and step of binary consensus, and
+/// the origin. Slots are ordered as their nine bytes are.
+#[derive(Clone, Copy, Debug, PartialEq, Eq, PartialOrd, Ord)]
+pub struct Slot {
+    pub class: u8,
+    pub a: u32,
+    pub attempt: u8,
+    pub bround: u8,
+    pub step: u8,
+    pub origin: u8,
+}
+
+/// What is wrong with a slot.
+#[derive(Clone, Copy, Debug, PartialEq, Eq)]
+pub enum SlotFault {
+    /// The class isn't 1 to 5.
+    Class,
+    /// The class isn't one of the root service's.
+    Closed,
+    /// The number is 1,000,000 or more, or isn't 0 where the root service has one instance alone.
+    Number,
+    /// There is no such try.
+    Attempt,
+    /// There is no such round of binary consensus, or a round where there is none.
+    Round,
+    /// There is no such step of binary consensus, or a step where there is none.
+    Step,
+    /// The origin isn't a replica.
+    Origin,
+    /// The bytes are fewer than a slot has. `Slot::check` never answers it.
+    Whole,
+}
+
+#[tactic(auto, unfolding(crate::specs::Slots::has_class))]
+fn has_class(root: u8, class: u8) -> bool
+    ensures { result ≡ has_class root class }
+{
+    match class {
+        1 => root <= 2 || root == 6,
+        2 => root >= 5,
+        3 | 4 => root >= 4,
+        5 => root >= 3,
+        _ => false,
+    }
+}
+
+// A field that class 5 alone uses counts from 1 there, and is 0 elsewhere.
+fn is_count(is_step: bool, high: u8, x: u8) -> bool
+    ensures { result ≡ (if is_step then within 1 high x else x == 0) }
+{
+    if is_step { x >= 1 && x <= high } else { x == 0 }
+}
+
+impl Slot {
+    /// The nine bytes of the slot: class, number (big-endian), try, round, step, origin.
+    pub fn bytes(&self) -> [u8; 9]
+        ensures { result ≡ slot_bytes self.now }
+    {
+        let [a3, a2, a1, a0] = self.a.to_be_bytes();
+        [
+            self.class,
+            a3,
+            a2,
+            a1,
+            a0,
+            self.attempt,
+            self.bround,
+            self.step,
+            self.origin,
+        ]
+    }
+
+    /// The first fault that the slot has, in the order of `SlotFault`.
+    #[tactic(auto, unfolding(crate::specs::Slots::slot_fault))]
+    pub fn check(&self, p: &Params, mode: &Mode) -> Result<(), SlotFault>
+        ensures fault { MatchResult result (λ _. slot_fault p.now mode.now self.now ≡ None) (λ x. slot_fault p.now mode.now self.now ≡ Some x) }
+        ensures session { OnOk result (IsSession p.now) }
+    {
+        if self.class < 1 || self.class > 5 {
+            return Err(SlotFault::Class);
+        }
+        if !has_class(mode.root, self.class) {
+            return Err(SlotFault::Closed);
+        }
+        if self.a >= 1_000_000 || self.a != 0 && mode.root >= 3 && mode.root <= 5 {
+            return Err(SlotFault::Number);
+        }
+        let tries = if mode.root >= 5 && self.class >= 3 {
+            p.f()
+        } else {
+            0
+        };
+        if self.attempt > tries {
+            return Err(SlotFault::Attempt);
+        }
+        let is_step = self.class == 5;
+        if !is_count(is_step, 200, self.bround) {
+            return Err(SlotFault::Round);
+        }
+        if !is_count(is_step, 3, self.step) {
+            return Err(SlotFault::Step);
+        }
+        if self.origin >= p.n() {
+            return Err(SlotFault::Origin);
+        }
+        Ok(())
+    }
+
+    /// Whether the slot goes by the echo broadcast.
+    #[tactic(auto, unfolding(crate::specs::Slots::by_echo))]
+    pub fn by_echo(&self, mode: &Mode) -> bool
+        ensures { result ≡ by_echo mode.now self.now }
+    {
+        match self.class {
+            1 => mode.root == 2,
+            4 => matches!(mode.vect, Vect::Echo),
+            _ => false,
+        }
+    }
+}
