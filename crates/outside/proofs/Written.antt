@@ -1,0 +1,58 @@
+-- Texts that are written one after the other.
+use Rattle.std.proofs.Common.{◌≡◌, ℕ, List, [], ◌++◌, Bool, Result, Ok, Err, refl, sym, ap, ◌∙◌, append_assoc, arith, take, drop}
+use Rattle.std.proofs.lemmas.List.{take-append-drop, append-nil}
+use Rattle.std.proofs.lemmas.Result.{on_ok_weaker}
+use Rattle.outside.specs.Writing.{TookFront, Writes}
+use Rattle.outside.proofs.Rising.{rose_after}
+
+-- a front by its length
+pub front_of : (old new text : List ℕ) (k : ℕ) → new ≡ old ++ take k text → TookFront old new text
+front_of old new text k e = record { front = take k text; rest = drop k text; parts = sym (take-append-drop k text); taken = e }
+
+-- nothing was written
+pub none_written : (old text : List ℕ) → TookFront old old text
+none_written old text = record { front = []; rest = text; parts = refl; taken = sym (append-nil old) }
+
+-- all was written
+pub all_written : (old new text : List ℕ) → new ≡ old ++ text → TookFront old new text
+all_written old new text e = record { front = text; rest = []; parts = sym (append-nil text); taken = e }
+
+-- a text, and then a front of the next
+pub front_then : (old mid new a b c whole : List ℕ) → whole ≡ a ++ (b ++ c) → mid ≡ old ++ a → TookFront mid new b → TookFront old new whole
+front_then old mid new a b c whole e first took = record {
+  front = a ++ took.front;
+  rest = took.rest ++ c;
+  parts = e ∙ rw took.parts (simp append_assoc);
+  taken = took.taken ∙ rw first (append_assoc old a took.front);
+}
+
+-- a front of a text is one of a longer text
+pub front_more : (old new a b : List ℕ) → TookFront old new a → TookFront old new (a ++ b)
+front_more old new a b took = record { front = took.front; rest = took.rest ++ b; parts = rw took.parts (append_assoc took.front took.rest b); taken = took.taken }
+
+-- a call that failed before it wrote anything, and not because of the sink
+pub writes_none : {E F : Type 0} (text : List ℕ) (tells : Bool) (old : List ℕ) (x : ℕ) (e : E) → (F → ⊥) → Writes text tells old old x x (Err e) F
+writes_none text tells old x e not = record {
+  whole = λ _. tt;
+  front = λ _. none_written old text;
+  later = omega arith;
+  cause = λ f. absurd (not f);
+}
+
+-- one text, and then another
+pub writes_then : {E F G : Type 0} (a b : List ℕ) (tells : Bool) (old mid new : List ℕ) (x y z : ℕ) (r : Result (Unit {0}) E) → Writes {E = E} a tells old mid x y (Ok tt) F → Writes b tells mid new y z r G → Writes (a ++ b) tells old new x z r G
+writes_then a b tells old mid new x y z r first second = record {
+  whole = λ t. on_ok_weaker r (λ e. e ∙ rw (first.whole t) (append_assoc old a b)) (second.whole t);
+  front = λ t. front_then old mid new a b [] (a ++ b) (ap (λ (s : List ℕ). a ++ s) (sym (append-nil b))) (first.whole t) (second.front t);
+  later = omega (arith, first.later, second.later);
+  cause = λ f. rose_after x y z first.later (second.cause f);
+}
+
+-- the first of two texts failed
+pub fails_then : {D E F G : Type 0} (a b : List ℕ) (tells : Bool) (old new : List ℕ) (x y : ℕ) (d : D) (e : E) → (G → F) → Writes a tells old new x y (Err d) F → Writes (a ++ b) tells old new x y (Err e) G
+fails_then a b tells old new x y d e why first = record {
+  whole = λ t. tt;
+  front = λ t. front_more old new a b (first.front t);
+  later = first.later;
+  cause = λ f. first.cause (why f);
+}

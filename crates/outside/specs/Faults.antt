@@ -1,0 +1,19 @@
+-- The count of faults of a source or a sink, and what a fault says of it.
+use Rattle.std.specs.Prelude.{ℕ, ◌+◌, ◌-◌, ◌^◌, ◌<◌, ◌≤◌, ◌⊎◌, min}
+
+-- a count goes up to this number, and then stands
+abbrev pub last_count : ℕ
+last_count = 2 ^ 64 - 1
+
+-- a count after one more
+abbrev pub count_after : ℕ → ℕ
+count_after n = min (n + 1) last_count
+
+-- the count rose, or stands at its last value
+abbrev pub Rose : ℕ → ℕ → Type 0
+Rose before now = (before < now) ⊎ (last_count ≤ now)
+
+-- the count didn't fall, and where the call failed, it rose
+pub record HasCause (before now : ℕ) (failed : Type 0) : Type 0 where
+  pub later : before ≤ now
+  pub cause : failed → Rose before now
