@@ -1,0 +1,228 @@
+-- The answer is an item exactly where the bytes spell it.
+use Rattle.std.proofs.Common.{◌≡◌, ℕ, zero, suc, ◌^◌, ◌<◌, ◌≤◌, Bool, true, false, cond, ltb, eqb, List, [], ◌∷◌, ◌++◌, length, get_or, take, drop, Option, Some, None, Result, Ok, Err, refl, sym, ap, subst, ◌∙◌, arith, lit<, ◌||◌, not, inl, inr, ◌⊎◌}
+use Rattle.std.specs.Prelude.{IfOk, OnOk, slice_index}
+use Rattle.std.proofs.lemmas.Bool.{ltb-false, ltb-true, le-ltb, eqb-true, ne_eqb, and_parts}
+use Rattle.std.proofs.lemmas.List.{nil_from_length}
+use Rattle.std.proofs.lemmas.Nat.{be_bytes_4, from_be_bytes-to_be_bytes_4}
+use Rattle.ritas_base.specs.Numbers.{Numbers, IsSession}
+use Rattle.ritas_base.specs.Slots.{first_failed, slot_fault, slot_bytes, by_echo, has_class, within, has_number, has_attempt, has_count}
+use Rattle.ritas_base.specs.declared.slot.Slot.{Slot}
+use Rattle.ritas_base.specs.declared.slot.SlotFault.{SlotFault}
+use Rattle.ritas_base.specs.declared.slot.SlotFault.TheVariants as slot_faults
+use Rattle.ritas_base.specs.declared.mode.Mode.{Mode}
+use Rattle.ritas_base.specs.declared.item.Item.{Item}
+use Rattle.ritas_base.specs.declared.item.Kind.{Kind}
+use Rattle.ritas_base.specs.declared.item.Kind.TheVariants as kinds
+use Rattle.frame_codec.specs.declared.fault.BodyFault.{BodyFault}
+use Rattle.frame_codec.specs.declared.fault.BodyFault.TheVariants as faults
+use Rattle.frame_codec.specs.Format.{read}
+use Rattle.frame_codec.specs.Grammar.{payload}
+use Rattle.frame_codec.specs.Body.{kind_byte, kind_of, kind_at, is_of_broadcast, slot_of, IsInGrammar, Spells, spelling, unless, slot_fault_of, slot_answer, kind_answer, head_answer, payload_fault, body_answer, Answers}
+use Rattle.frame_codec.specs.Values.{IsBytes}
+use Rattle.frame_codec.proofs.Formats.{bind_ok, read_is, is_read}
+
+abbrev fault_if : Bool → BodyFault → Option BodyFault
+fault_if t x = cond t None (Some x)
+
+abbrev the_rest : List ℕ → Result (List ℕ) ℕ
+the_rest rest = Ok rest
+
+-- ---- kinds
+
+pick : (t : Bool) (k : Kind) (rest : Option Kind) (kind : Kind) → cond t (Some k) rest ≡ Some kind → ((t ≡ true) × (k ≡ kind)) ⊎ (rest ≡ Some kind)
+pick true k rest kind e = inl (refl, cc)
+pick false k rest kind e = inr e
+
+found : (b : ℕ) (k kind : Kind) → (eqb b (kind_byte k) ≡ true) × (k ≡ kind) → kind_byte kind ≡ b
+found b k kind h = ap kind_byte (sym h.1) ∙ sym (eqb-true b (kind_byte k) h.0)
+
+pub kind_back : (b : ℕ) (kind : Kind) → kind_of b ≡ Some kind → kind_byte kind ≡ b
+kind_back b kind e =
+    elim (pick (eqb b 1) kinds.Init _ kind e) [
+      | inl h ↦ found b kinds.Init kind h
+      | inr e ↦ elim (pick (eqb b 2) kinds.Echo _ kind e) [
+        | inl h ↦ found b kinds.Echo kind h
+        | inr e ↦ elim (pick (eqb b 3) kinds.Ready _ kind e) [
+          | inl h ↦ found b kinds.Ready kind h
+          | inr e ↦ elim (pick (eqb b 4) kinds.Send _ kind e) [
+            | inl h ↦ found b kinds.Send kind h
+            | inr e ↦ elim (pick (eqb b 5) kinds.Hashes _ kind e) [
+              | inl h ↦ found b kinds.Hashes kind h
+              | inr e ↦ elim (pick (eqb b 6) kinds.Column None kind e) [
+                | inl h ↦ found b kinds.Column kind h
+                | inr e ↦ absurd cc
+              ]
+            ]
+          ]
+        ]
+      ]
+    ]
+
+pub kind_again : (kind : Kind) → kind_of (kind_byte kind) ≡ Some kind
+kind_again kinds.Init = refl
+kind_again kinds.Echo = refl
+kind_again kinds.Ready = refl
+kind_again kinds.Send = refl
+kind_again kinds.Hashes = refl
+kind_again kinds.Column = refl
+
+-- ---- slots
+
+failed_none : (t : Bool) (x : SlotFault) (rest : List (Bool × SlotFault)) → first_failed ((t, x) ∷ rest) ≡ None → (t ≡ true) × (first_failed rest ≡ None)
+failed_none true x rest e = (refl, e)
+failed_none false x rest e = absurd cc
+
+pub number_fits : (p : Numbers) (mode : Mode) (s : Slot) → slot_fault p mode s ≡ None → s.a < 2 ^ 32
+unfolding slot_fault
+number_fits p mode s e =
+    let root = mode.root in
+    let rest3 : List (Bool × SlotFault) = (has_attempt root p.f s.class s.attempt, slot_faults.Attempt) ∷ (has_count 200 s.class s.bround, slot_faults.Round) ∷ (has_count 3 s.class s.step, slot_faults.Step) ∷ (ltb s.origin p.n, slot_faults.Origin) ∷ [] in
+    let rest2 : List (Bool × SlotFault) = (has_number root s.a, slot_faults.Number) ∷ rest3 in
+    let a = failed_none (within 1 5 s.class) slot_faults.Class ((has_class root s.class, slot_faults.Closed) ∷ rest2) e in
+    let b = failed_none (has_class root s.class) slot_faults.Closed rest2 a.1 in
+    let c = failed_none (has_number root s.a) slot_faults.Number rest3 b.1 in
+    let d = and_parts (ltb s.a 1000000) (eqb s.a 0 || not (within 3 5 root)) c.0 in
+    omega (arith, ltb-true s.a 1000000 d.0)
+
+pub slot_again : (s : Slot) → s.a < 2 ^ 32 → slot_of (slot_bytes s) ≡ s
+unfolding slot_of
+slot_again s lt = ap (λ (a : ℕ). let t : Slot = record s { a = a } in t) (from_be_bytes-to_be_bytes_4 s.a lt)
+
+four_fit : (a b c d : ℕ) → a < 256 → b < 256 → c < 256 → d < 256 → IsBytes (a ∷ b ∷ c ∷ d ∷ [])
+four_fit a b c d p q r s zero = p
+four_fit a b c d p q r s (suc zero) = q
+four_fit a b c d p q r s (suc (suc zero)) = r
+four_fit a b c d p q r s (suc (suc (suc zero))) = s
+four_fit a b c d p q r s (suc (suc (suc (suc i)))) = lit< tt
+
+pub slot_back : (bytes : List ℕ) → IsBytes bytes → 10 ≤ length bytes → bytes ≡ get_or bytes 0 0 ∷ slot_bytes (slot_of (take 9 (drop 1 bytes))) ++ drop 10 bytes
+unfolding slot_of
+slot_back (b ∷ c ∷ a3 ∷ a2 ∷ a1 ∷ a0 ∷ t ∷ r ∷ s ∷ o ∷ v) fits le =
+    let number = a3 ∷ a2 ∷ a1 ∷ a0 ∷ [] in
+    let fit = four_fit a3 a2 a1 a0 (fits 2) (fits 3) (fits 4) (fits 5) in
+    ap (λ (x : List ℕ). b ∷ c ∷ x ++ t ∷ r ∷ s ∷ o ∷ v) (sym (be_bytes_4 number _ refl fit refl))
+slot_back _ fits le = absurd (omega arith)
+
+-- ---- an answer that is an item
+
+empty_ok : {A : Type 0} (t : Bool) (fault : BodyFault) (answer : Result A BodyFault) (x : A) → cond t (Err fault) answer ≡ Ok x → (t ≡ false) × (answer ≡ Ok x)
+empty_ok true fault answer x e = absurd cc
+empty_ok false fault answer x e = (refl, e)
+
+when_ok : {A : Type 0} (t : Bool) (fault : BodyFault) (y x : A) → cond t (Ok y) (Err fault) ≡ Ok x → (t ≡ true) × (y ≡ x)
+when_ok true fault y x e = (refl, cc)
+when_ok false fault y x e = absurd cc
+
+slot_ok : {A : Type 0} (o : Option SlotFault) (answer : Result A BodyFault) (x : A) → unless (slot_fault_of o) answer ≡ Ok x → (o ≡ None) × (answer ≡ Ok x)
+slot_ok None answer x e = (refl, e)
+slot_ok (Some y) answer x e = absurd cc
+
+unless_ok : {A : Type 0} (o : Option BodyFault) (y x : A) → unless o (Ok y) ≡ Ok x → (o ≡ None) × (y ≡ x)
+unless_ok None y x e = (refl, cc)
+unless_ok (Some z) y x e = absurd cc
+
+no_rest : (t : Bool) (x : BodyFault) → fault_if t x ≡ None → t ≡ true
+no_rest true x e = refl
+no_rest false x e = absurd cc
+
+no_fault : (len : ℕ) (r : Result (List ℕ) ℕ) → payload_fault len r ≡ None → r ≡ Ok []
+no_fault len (Ok rest) e =
+    let nothing : rest ≡ [] = nil_from_length rest (eqb-true _ _ (no_rest (eqb (length rest) 0) _ e)) in
+    ap the_rest nothing
+no_fault len (Err left) e = absurd cc
+
+record Head (p : Numbers) (mode : Mode) (bytes : List ℕ) (head : Kind × Slot) : Type 0 where
+  long : 10 ≤ length bytes
+  kind : kind_of (slice_index bytes 0) ≡ Some head.0
+  made : slot_of (take 9 (drop 1 bytes)) ≡ head.1
+  right : slot_fault p mode head.1 ≡ None
+  goes : is_of_broadcast (by_echo mode head.1) head.0 ≡ true
+
+first_kind : (t : Bool) (b : ℕ) (kind : Kind) → cond t None (kind_of b) ≡ Some kind → kind_of b ≡ Some kind
+first_kind true b kind e = absurd cc
+first_kind false b kind e = e
+
+kind_ok : (p : Numbers) (mode : Mode) (bytes : List ℕ) (o : Option Kind) (head : Kind × Slot) → kind_at bytes ≡ o → kind_answer p mode bytes o ≡ Ok head → Head p mode bytes head
+kind_ok p mode bytes None head is e = absurd cc
+kind_ok p mode bytes (Some kind) head is e =
+    let slot = slot_of (take 9 (drop 1 bytes)) in
+    let a = empty_ok (ltb (length bytes) 10) (faults.Slot slot_faults.Whole) (slot_answer p mode kind slot) head e in
+    let b = slot_ok (slot_fault p mode slot) (cond (is_of_broadcast (by_echo mode slot) kind) (Ok (kind, slot)) (Err faults.Kind)) head a.1 in
+    let w = when_ok (is_of_broadcast (by_echo mode slot) kind) faults.Kind (kind, slot) head b.1 in
+    subst (Head p mode bytes) w.1 (record { long = ltb-false _ _ a.0; kind = first_kind (eqb (length bytes) 0) (slice_index bytes 0) kind is; made = refl; right = b.0; goes = w.0 })
+
+head_ok : (p : Numbers) (mode : Mode) (bytes : List ℕ) (head : Kind × Slot) → head_answer p mode bytes ≡ Ok head → Head p mode bytes head
+unfolding head_answer
+head_ok p mode bytes head e = kind_ok p mode bytes (kind_at bytes) head refl e
+
+-- the item of this kind and slot
+abbrev made_of : ℕ → List ℕ → Kind × Slot → Item
+made_of from bytes head = record { from = from; kind = head.0; slot = head.1; value = drop 10 bytes }
+
+record Answered (p : Numbers) (mode : Mode) (from : ℕ) (bytes : List ℕ) (item : Item) : Type 0 where
+  head : Kind × Slot
+  found : Head p mode bytes head
+  whole : read (payload p mode.root head.0 head.1) (drop 10 bytes) ≡ Ok []
+  made : made_of from bytes head ≡ item
+
+answered : (p : Numbers) (mode : Mode) (from : ℕ) (bytes : List ℕ) (item : Item) → body_answer p mode from bytes ≡ Ok item → Answered p mode from bytes item
+unfolding body_answer
+answered p mode from bytes item e =
+    let b = bind_ok (head_answer p mode bytes) (λ head. unless (payload_fault (length bytes) (read (payload p mode.root head.0 head.1) (drop 10 bytes))) (Ok (record { from = from; kind = head.0; slot = head.1; value = drop 10 bytes }))) item e in
+    let u = unless_ok (payload_fault (length bytes) (read (payload p mode.root b.0.0 b.0.1) (drop 10 bytes))) (made_of from bytes b.0) item b.2 in
+    record {
+      head = b.0;
+      found = head_ok p mode bytes b.0 b.1;
+      whole = no_fault (length bytes) (read (payload p mode.root b.0.0 b.0.1) (drop 10 bytes)) u.0;
+      made = u.1;
+    }
+
+made_good : (p : Numbers) (mode : Mode) (from : ℕ) (bytes : List ℕ) (item : Item) → IsSession p → (a : Answered p mode from bytes item) → IsInGrammar p mode (made_of from bytes a.head)
+made_good p mode from bytes item session a = record {
+  session = session;
+  slot = a.found.right;
+  kind = a.found.goes;
+  payload_is = read_is (payload p mode.root a.head.0 a.head.1) (drop 10 bytes) a.whole;
+}
+
+-- what is answered is in the grammar, and from the sender
+pub answer_good : (p : Numbers) (mode : Mode) (from : ℕ) (bytes : List ℕ) (item : Item) → IsSession p → body_answer p mode from bytes ≡ Ok item → IsInGrammar p mode item × (item.from ≡ from)
+answer_good p mode from bytes item session e =
+    let a = answered p mode from bytes item e in
+    (subst (IsInGrammar p mode) a.made (made_good p mode from bytes item session a), sym (ap (λ (x : Item). x.from) a.made))
+
+-- and bytes spell it
+pub answer_spells : (p : Numbers) (mode : Mode) (from : ℕ) (bytes : List ℕ) (item : Item) → IsSession p → IsBytes bytes → body_answer p mode from bytes ≡ Ok item → Spells p mode from bytes item
+answer_spells p mode from bytes item session fits e =
+    let a = answered p mode from bytes item e in
+    let made : Item = made_of from bytes a.head in
+    let spelled : bytes ≡ spelling made =
+    slot_back bytes fits a.found.long
+    ∙ ap (λ (x : ℕ). x ∷ slot_bytes (slot_of (take 9 (drop 1 bytes))) ++ drop 10 bytes) (sym (kind_back (slice_index bytes 0) a.head.0 a.found.kind))
+    ∙ ap (λ (s : Slot). kind_byte a.head.0 ∷ slot_bytes s ++ drop 10 bytes) a.found.made in
+    let is : Spells p mode from bytes made = record { sender = refl; is_spelling = spelled; in_grammar = made_good p mode from bytes item session a } in
+    subst (Spells p mode from bytes) a.made is
+
+-- ---- what spells an item is answered so
+
+head_again : (p : Numbers) (mode : Mode) (item : Item) → IsInGrammar p mode item → head_answer p mode (spelling item) ≡ Ok (item.kind, item.slot)
+unfolding head_answer
+head_again p mode item is =
+    let bytes = spelling item in
+    let long : ltb (length bytes) 10 ≡ false = le-ltb _ _ (omega arith) in
+    let some : eqb (length bytes) 0 ≡ false = ne_eqb _ _ (omega arith) in
+    let slot : slot_of (take 9 (drop 1 bytes)) ≡ item.slot = slot_again item.slot (number_fits p mode item.slot is.slot) in
+    let kind = kind_again item.kind in
+    rw (some, kind, long, slot, is.slot, is.kind) refl
+
+pub spells_answer : (p : Numbers) (mode : Mode) (from : ℕ) (bytes : List ℕ) (item : Item) → Spells p mode from bytes item → body_answer p mode from bytes ≡ Ok item
+unfolding body_answer
+spells_answer p mode from bytes item is =
+    let whole = is_read (payload p mode.root item.kind item.slot) item.value is.in_grammar.payload_is in
+    rw (is.is_spelling, head_again p mode item is.in_grammar, whole, ← is.sender) refl
+
+-- ---- the two laws, at what a function returned
+
+pub is_found : (p : Numbers) (mode : Mode) (from : ℕ) (bytes : List ℕ) (r : Result Item BodyFault) → OnOk r (IsSession p) → IsBytes bytes → Answers r (body_answer p mode from bytes) → IfOk r (λ item. Spells p mode from bytes item)
+is_found p mode from bytes (Ok item) session fits a = answer_spells p mode from bytes item session fits a
+is_found p mode from bytes (Err e) session fits a = tt

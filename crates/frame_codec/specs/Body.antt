@@ -1,0 +1,126 @@
+-- Bodies: which bytes spell which item, and the fault of those that spell none.
+use Rattle.std.specs.Prelude.{◌≡◌, ℕ, ◌-◌, Bool, true, false, not, ◌==◌, nat_lt, List, ◌∷◌, ◌++◌, length, slice_index, take, drop, Option, Some, None, Result, Ok, Err, if◌then◌else◌}
+use Rattle.std.specs.Int.{w32, from_be_bytes}
+use Rattle.ritas_base.specs.Numbers.{Numbers, IsSession}
+use Rattle.ritas_base.specs.Slots.{slot_fault, slot_bytes, by_echo}
+use Rattle.ritas_base.specs.declared.slot.Slot.{Slot}
+use Rattle.ritas_base.specs.declared.slot.SlotFault.{SlotFault}
+use Rattle.ritas_base.specs.declared.slot.SlotFault.TheVariants.{Whole}
+use Rattle.ritas_base.specs.declared.mode.Mode.{Mode}
+use Rattle.ritas_base.specs.declared.item.Item.{Item}
+use Rattle.ritas_base.specs.declared.item.Kind.{Kind}
+use Rattle.ritas_base.specs.declared.item.Kind.TheVariants as kinds
+use Rattle.frame_codec.specs.declared.fault.BodyFault.{BodyFault}
+use Rattle.frame_codec.specs.declared.fault.BodyFault.TheVariants as faults
+use Rattle.frame_codec.specs.Format.{Is, read, ◌>>=◌}
+use Rattle.frame_codec.specs.Grammar.{payload}
+
+abbrev pub kind_byte : Kind → ℕ
+kind_byte kinds.Init = 1
+kind_byte kinds.Echo = 2
+kind_byte kinds.Ready = 3
+kind_byte kinds.Send = 4
+kind_byte kinds.Hashes = 5
+kind_byte kinds.Column = 6
+
+-- whether a broadcast has this kind
+abbrev pub is_of_broadcast : Bool → Kind → Bool
+is_of_broadcast echo kinds.Init = not echo
+is_of_broadcast echo kinds.Echo = not echo
+is_of_broadcast echo kinds.Ready = not echo
+is_of_broadcast echo kinds.Send = echo
+is_of_broadcast echo kinds.Hashes = echo
+is_of_broadcast echo kinds.Column = echo
+
+-- whether what comes with this kind is the slot's value
+abbrev pub carries_value : Kind → Bool
+carries_value kinds.Hashes = false
+carries_value kinds.Column = false
+carries_value _ = true
+
+-- ---- the grammar
+
+pub record IsInGrammar (p : Numbers) (mode : Mode) (item : Item) : Type 0 where
+  pub session : IsSession p
+  pub slot : slot_fault p mode item.slot ≡ None
+  pub kind : is_of_broadcast (by_echo mode item.slot) item.kind ≡ true
+  pub payload_is : Is (payload p mode.root item.kind item.slot) item.value
+
+-- the one spelling of an item
+abbrev pub spelling : Item → List ℕ
+spelling item = kind_byte item.kind ∷ slot_bytes item.slot ++ item.value
+
+pub record Spells (p : Numbers) (mode : Mode) (from : ℕ) (bytes : List ℕ) (item : Item) : Type 0 where
+  pub sender : item.from ≡ from
+  pub is_spelling : bytes ≡ spelling item
+  pub in_grammar : IsInGrammar p mode item
+
+-- ---- the answer
+
+abbrev pub kind_of : ℕ → Option Kind
+kind_of b =
+    if b == 1 then Some kinds.Init
+    else if b == 2 then Some kinds.Echo
+    else if b == 3 then Some kinds.Ready
+    else if b == 4 then Some kinds.Send
+    else if b == 5 then Some kinds.Hashes
+    else if b == 6 then Some kinds.Column
+    else None
+
+-- the kind that a body begins with
+abbrev pub kind_at : List ℕ → Option Kind
+kind_at bytes = if length bytes == 0 then None else kind_of (slice_index bytes 0)
+
+-- the slot that nine bytes are
+unfoldable pub slot_of : List ℕ → Slot
+slot_of b = record {
+  class = slice_index b 0;
+  a = from_be_bytes w32 (take 4 (drop 1 b));
+  attempt = slice_index b 5;
+  bround = slice_index b 6;
+  step = slice_index b 7;
+  origin = slice_index b 8;
+}
+
+-- the slot that stands behind the kind
+abbrev pub slot_at : List ℕ → Slot
+slot_at bytes = slot_of (take 9 (drop 1 bytes))
+
+abbrev pub unless : {A : Type 0} → Option BodyFault → Result A BodyFault → Result A BodyFault
+unless None answer = answer
+unless (Some x) answer = Err x
+
+-- the kind and the slot
+abbrev pub slot_fault_of : Option SlotFault → Option BodyFault
+slot_fault_of None = None
+slot_fault_of (Some x) = Some (faults.Slot x)
+
+abbrev pub slot_answer : Numbers → Mode → Kind → Slot → Result (Kind × Slot) BodyFault
+slot_answer p mode kind slot =
+    unless (slot_fault_of (slot_fault p mode slot))
+    (if is_of_broadcast (by_echo mode slot) kind then Ok (kind, slot) else Err faults.Kind)
+
+abbrev pub kind_answer : Numbers → Mode → List ℕ → Option Kind → Result (Kind × Slot) BodyFault
+kind_answer p mode bytes None = Err faults.Kind
+kind_answer p mode bytes (Some kind) =
+    if nat_lt (length bytes) 10 then Err (faults.Slot Whole) else slot_answer p mode kind (slot_at bytes)
+
+unfoldable pub head_answer : Numbers → Mode → List ℕ → Result (Kind × Slot) BodyFault
+head_answer p mode bytes = kind_answer p mode bytes (kind_at bytes)
+
+-- offsets are counted from the body's first byte
+abbrev pub payload_fault : ℕ → Result (List ℕ) ℕ → Option BodyFault
+payload_fault len (Err left) = Some (faults.Payload (len - left))
+payload_fault len (Ok rest) = if length rest == 0 then None else Some (faults.Rest (len - length rest))
+
+unfoldable pub body_answer : Numbers → Mode → ℕ → List ℕ → Result Item BodyFault
+body_answer p mode from bytes = do
+  head ← head_answer p mode bytes
+  unless (payload_fault (length bytes) (read (payload p mode.root head.0 head.1) (drop 10 bytes)))
+      (Ok (record { from = from; kind = head.0; slot = head.1; value = drop 10 bytes }))
+
+-- What a function returned is this answer, unless memory ran out.
+abbrev pub Answers : Result Item BodyFault → Result Item BodyFault → Type 0
+Answers (Ok item) answer = answer ≡ Ok item
+Answers (Err faults.Mem) answer = Unit {0}
+Answers (Err fault) answer = answer ≡ Err fault

@@ -1,0 +1,185 @@
+-- Some bodies and their answers, and some inputs and what is wrong with them, where there are four replicas and one may
+-- be faulty.
+use Rattle.std.specs.Prelude.{◌≡◌, ℕ, List, [], ◌∷◌, Some, None, Result, Ok, Err, replicate, refl}
+use Rattle.std.proofs.Common.{lit≤}
+use Rattle.ritas_base.specs.Numbers.{Numbers}
+use Rattle.ritas_base.specs.Slots.{has_class, slot_fault, by_echo}
+use Rattle.ritas_base.specs.declared.slot.SlotFault.TheVariants.{Class, Closed, Number, Attempt, Round, Step, Origin, Whole}
+use Rattle.ritas_base.specs.declared.mode.Mode.{Mode}
+use Rattle.ritas_base.specs.declared.mode.Vect.TheVariants.{Echo}
+use Rattle.ritas_base.specs.declared.item.Item.{Item}
+use Rattle.ritas_base.specs.declared.item.Kind.TheVariants.{Init}
+use Rattle.frame_codec.specs.declared.fault.BodyFault.{BodyFault}
+use Rattle.frame_codec.specs.declared.fault.BodyFault.TheVariants.{Kind, Slot as SlotWrong, Payload, Rest}
+use Rattle.frame_codec.specs.Grammar.{ids_from, ids, class1, class2, class3, vect, bit, value, payload}
+use Rattle.frame_codec.specs.Body.{slot_of, head_answer, body_answer}
+use Rattle.frame_codec.specs.Inputs.{input_format, input_fault}
+
+abbrev four : Numbers
+four = record { n = 4; f = 1 }
+
+-- the root services
+
+abbrev one : Mode
+one = record { root = 1; vect = Echo; low = lit≤ tt; high = lit≤ tt }
+
+abbrev three : Mode
+three = record { root = 3; vect = Echo; low = lit≤ tt; high = lit≤ tt }
+
+abbrev fourth : Mode
+fourth = record { root = 4; vect = Echo; low = lit≤ tt; high = lit≤ tt }
+
+abbrev five : Mode
+five = record { root = 5; vect = Echo; low = lit≤ tt; high = lit≤ tt }
+
+abbrev six : Mode
+six = record { root = 6; vect = Echo; low = lit≤ tt; high = lit≤ tt }
+
+-- ---- bodies, from replica 2
+
+-- an INIT of replica 0
+abbrev init : ℕ → ℕ → ℕ → List ℕ → Result Item BodyFault
+init class bround step value = Ok (record {
+  from = 2;
+  kind = Init;
+  slot = record { class = class; a = 0; attempt = 0; bround = bround; step = step; origin = 0 };
+  value = value;
+})
+
+empty : body_answer four one 2 [] ≡ Err Kind
+unfolding body_answer head_answer slot_of slot_fault has_class by_echo payload value class1 class2 class3 vect bit ids ids_from
+empty = refl
+
+no_such_kind : body_answer four one 2 (7 ∷ 1 ∷ 0 ∷ 0 ∷ 0 ∷ 0 ∷ 0 ∷ 0 ∷ 0 ∷ 0 ∷ 97 ∷ []) ≡ Err Kind
+unfolding body_answer head_answer slot_of slot_fault has_class by_echo payload value class1 class2 class3 vect bit ids ids_from
+no_such_kind = refl
+
+send_at_a_reliable_broadcast : body_answer four one 2 (4 ∷ 1 ∷ 0 ∷ 0 ∷ 0 ∷ 0 ∷ 0 ∷ 0 ∷ 0 ∷ 0 ∷ 97 ∷ []) ≡ Err Kind
+unfolding body_answer head_answer slot_of slot_fault has_class by_echo payload value class1 class2 class3 vect bit ids ids_from
+send_at_a_reliable_broadcast = refl
+
+no_whole_slot : body_answer four one 2 (1 ∷ 1 ∷ 0 ∷ []) ≡ Err (SlotWrong Whole)
+unfolding body_answer head_answer slot_of slot_fault has_class by_echo payload value class1 class2 class3 vect bit ids ids_from
+no_whole_slot = refl
+
+no_such_class : body_answer four one 2 (1 ∷ 6 ∷ 0 ∷ 0 ∷ 0 ∷ 0 ∷ 0 ∷ 0 ∷ 0 ∷ 0 ∷ 97 ∷ []) ≡ Err (SlotWrong Class)
+unfolding body_answer head_answer slot_of slot_fault has_class by_echo payload value class1 class2 class3 vect bit ids ids_from
+no_such_class = refl
+
+class_of_another_root_service : body_answer four one 2 (1 ∷ 5 ∷ 0 ∷ 0 ∷ 0 ∷ 0 ∷ 0 ∷ 0 ∷ 1 ∷ 1 ∷ 0 ∷ []) ≡ Err (SlotWrong Closed)
+unfolding body_answer head_answer slot_of slot_fault has_class by_echo payload value class1 class2 class3 vect bit ids ids_from
+class_of_another_root_service = refl
+
+number_too_large : body_answer four one 2 (1 ∷ 1 ∷ 0 ∷ 15 ∷ 66 ∷ 64 ∷ 0 ∷ 0 ∷ 0 ∷ 0 ∷ 97 ∷ []) ≡ Err (SlotWrong Number)
+unfolding body_answer head_answer slot_of slot_fault has_class by_echo payload value class1 class2 class3 vect bit ids ids_from
+number_too_large = refl
+
+try_of_a_command : body_answer four one 2 (1 ∷ 1 ∷ 0 ∷ 0 ∷ 0 ∷ 0 ∷ 1 ∷ 0 ∷ 0 ∷ 0 ∷ 97 ∷ []) ≡ Err (SlotWrong Attempt)
+unfolding body_answer head_answer slot_of slot_fault has_class by_echo payload value class1 class2 class3 vect bit ids ids_from
+try_of_a_command = refl
+
+round_of_a_command : body_answer four one 2 (1 ∷ 1 ∷ 0 ∷ 0 ∷ 0 ∷ 0 ∷ 0 ∷ 1 ∷ 0 ∷ 0 ∷ 97 ∷ []) ≡ Err (SlotWrong Round)
+unfolding body_answer head_answer slot_of slot_fault has_class by_echo payload value class1 class2 class3 vect bit ids ids_from
+round_of_a_command = refl
+
+step_of_a_command : body_answer four one 2 (1 ∷ 1 ∷ 0 ∷ 0 ∷ 0 ∷ 0 ∷ 0 ∷ 0 ∷ 1 ∷ 0 ∷ 97 ∷ []) ≡ Err (SlotWrong Step)
+unfolding body_answer head_answer slot_of slot_fault has_class by_echo payload value class1 class2 class3 vect bit ids ids_from
+step_of_a_command = refl
+
+no_such_origin : body_answer four one 2 (1 ∷ 1 ∷ 0 ∷ 0 ∷ 0 ∷ 0 ∷ 0 ∷ 0 ∷ 0 ∷ 4 ∷ 97 ∷ []) ≡ Err (SlotWrong Origin)
+unfolding body_answer head_answer slot_of slot_fault has_class by_echo payload value class1 class2 class3 vect bit ids ids_from
+no_such_origin = refl
+
+empty_command : body_answer four one 2 (1 ∷ 1 ∷ 0 ∷ 0 ∷ 0 ∷ 0 ∷ 0 ∷ 0 ∷ 0 ∷ 0 ∷ []) ≡ Err (Payload 10)
+unfolding body_answer head_answer slot_of slot_fault has_class by_echo payload value class1 class2 class3 vect bit ids ids_from
+empty_command = refl
+
+command : body_answer four one 2 (1 ∷ 1 ∷ 0 ∷ 0 ∷ 0 ∷ 0 ∷ 0 ∷ 0 ∷ 0 ∷ 0 ∷ 97 ∷ []) ≡ init 1 0 0 (97 ∷ [])
+unfolding body_answer head_answer slot_of slot_fault has_class by_echo payload value class1 class2 class3 vect bit ids ids_from
+command = refl
+
+unmarked_in_step_1 : body_answer four three 2 (1 ∷ 5 ∷ 0 ∷ 0 ∷ 0 ∷ 0 ∷ 0 ∷ 1 ∷ 1 ∷ 0 ∷ 2 ∷ []) ≡ Err (Payload 10)
+unfolding body_answer head_answer slot_of slot_fault has_class by_echo payload value class1 class2 class3 vect bit ids ids_from
+unmarked_in_step_1 = refl
+
+more_than_a_bit : body_answer four three 2 (1 ∷ 5 ∷ 0 ∷ 0 ∷ 0 ∷ 0 ∷ 0 ∷ 1 ∷ 1 ∷ 0 ∷ 0 ∷ 0 ∷ []) ≡ Err (Rest 11)
+unfolding body_answer head_answer slot_of slot_fault has_class by_echo payload value class1 class2 class3 vect bit ids ids_from
+more_than_a_bit = refl
+
+unmarked_in_step_3 : body_answer four three 2 (1 ∷ 5 ∷ 0 ∷ 0 ∷ 0 ∷ 0 ∷ 0 ∷ 1 ∷ 3 ∷ 0 ∷ 2 ∷ []) ≡ init 5 1 3 (2 ∷ [])
+unfolding body_answer head_answer slot_of slot_fault has_class by_echo payload value class1 class2 class3 vect bit ids ids_from
+unmarked_in_step_3 = refl
+
+list_of_one_identifier : body_answer four six 2 (1 ∷ 2 ∷ 0 ∷ 0 ∷ 0 ∷ 0 ∷ 0 ∷ 0 ∷ 0 ∷ 0 ∷ 0 ∷ 0 ∷ 0 ∷ 0 ∷ 0 ∷ []) ≡ init 2 0 0 (0 ∷ 0 ∷ 0 ∷ 0 ∷ 0 ∷ [])
+unfolding body_answer head_answer slot_of slot_fault has_class by_echo payload value class1 class2 class3 vect bit ids ids_from
+list_of_one_identifier = refl
+
+-- ---- inputs
+
+no_command : input_fault four one [] ≡ Some 0
+unfolding input_format class1 class2 class3 bit
+no_command = refl
+
+one_byte : input_fault four one (97 ∷ []) ≡ None
+unfolding input_format class1 class2 class3 bit
+one_byte = refl
+
+longest_command : input_fault four one (replicate 4096 97) ≡ None
+unfolding input_format class1 class2 class3 bit
+longest_command = refl
+
+command_too_long : input_fault four one (replicate 4097 97) ≡ Some 4096
+unfolding input_format class1 class2 class3 bit
+command_too_long = refl
+
+no_bit : input_fault four three [] ≡ Some 0
+unfolding input_format class1 class2 class3 bit
+no_bit = refl
+
+bit_1 : input_fault four three (1 ∷ []) ≡ None
+unfolding input_format class1 class2 class3 bit
+bit_1 = refl
+
+no_such_bit : input_fault four three (2 ∷ []) ≡ Some 0
+unfolding input_format class1 class2 class3 bit
+no_such_bit = refl
+
+no_such_bit_and_more : input_fault four three (2 ∷ 0 ∷ []) ≡ Some 0
+unfolding input_format class1 class2 class3 bit
+no_such_bit_and_more = refl
+
+two_bits : input_fault four three (0 ∷ 0 ∷ []) ≡ Some 1
+unfolding input_format class1 class2 class3 bit
+two_bits = refl
+
+no_proposal : input_fault four fourth [] ≡ Some 0
+unfolding input_format class1 class2 class3 bit
+no_proposal = refl
+
+proposal_too_long : input_fault four fourth (replicate 4097 0) ≡ Some 4096
+unfolding input_format class1 class2 class3 bit
+proposal_too_long = refl
+
+longest_vector_proposal : input_fault four five (replicate 512 0) ≡ None
+unfolding input_format class1 class2 class3 bit
+longest_vector_proposal = refl
+
+vector_proposal_too_long : input_fault four five (replicate 513 0) ≡ Some 512
+unfolding input_format class1 class2 class3 bit
+vector_proposal_too_long = refl
+
+no_request : input_fault four six [] ≡ Some 0
+unfolding input_format class1 class2 class3 bit
+no_request = refl
+
+no_whole_request : input_fault four six (0 ∷ 0 ∷ 0 ∷ 7 ∷ 0 ∷ 0 ∷ 0 ∷ []) ≡ Some 7
+unfolding input_format class1 class2 class3 bit
+no_whole_request = refl
+
+request_without_payload : input_fault four six (0 ∷ 0 ∷ 0 ∷ 7 ∷ 0 ∷ 0 ∷ 0 ∷ 1 ∷ []) ≡ None
+unfolding input_format class1 class2 class3 bit
+request_without_payload = refl
+
+request_too_long : input_fault four six (replicate 4097 0) ≡ Some 4096
+unfolding input_format class1 class2 class3 bit
+request_too_long = refl

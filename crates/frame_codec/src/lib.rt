@@ -1,0 +1,58 @@
+//! Bodies of messages, the values in them, and inputs, as bytes.
+//!
+//! A body is the kind of a message (1 byte), its slot (9 bytes) and a payload. All numbers are big-endian. A mask is 4
+//! bytes, and its bit k stands for replica k.
+//!
+//! | Byte | Kind | Broadcast | Payload |
+//! |---|---|---|---|
+//! | 1, 2, 3 | INIT, ECHO, READY | reliable | the slot's value |
+//! | 4 | SEND | echo | the slot's value |
+//! | 5 | HASHES | echo | n entries of 32 bytes |
+//! | 6 | COLUMN | echo | a mask that isn't 0, with bits below n alone, and 32 bytes for each of its bits, ascending |
+//!
+//! | Class | Root service | Value |
+//! |---|---|---|
+//! | 1 | 1, 2 | 1 to 4,096 bytes |
+//! | 1 | 6 | 8 to 4,096 bytes, which begin with the client's and the request's number |
+//! | 2 | 5 | 1 to 512 bytes |
+//! | 2 | 6 | identifier list |
+//! | 3 | 4 | 1 to 4,096 bytes |
+//! | 3 | 5, 6 | vector |
+//! | 4 | 4, 5, 6 | VECT |
+//! | 5 | 3 to 6 | one byte: 0 or 1 in steps 1 and 2; 0, 1 or 2 in step 3 |
+//!
+//! - Identifier list: 1 to 64 identifiers of 5 bytes, an origin (1 byte, below n) and a number (4 bytes, below
+//!   1,000,000), strictly ascending, at most floor(64 / n) with one origin.
+//! - Vector: a mask of at least n - f replicas, and for each of them, ascending, a length (2 bytes) and that many bytes,
+//!   which are a class 2 value of the root service.
+//! - VECT: no bytes for none, and otherwise a mask of at least n - 2f replicas and a class 3 value of the root service.
+//!
+//! [`read_body`] answers an item exactly where the bytes are that item's one spelling, which [`write_body`] writes; it
+//! answers the first fault from the left, with its offset, exactly where there is no such item.
+//!
+//! The messages are those of Moniz, Neves, Correia and Veríssimo, "RITAS: Services for Randomized Intrusion Tolerance"
+//! (2011), over the reliable broadcast of Bracha, "Asynchronous Byzantine Agreement Protocols" (1987). Their bytes are
+//! this project's own.
+#![tactic(auto)]
+
+mod body_laws;
+mod fault;
+mod fields;
+mod ids;
+mod inputs;
+mod laws;
+mod payload;
+mod reading;
+mod values;
+mod writing;
+
+pub use body_laws::{body_faults, input_is_value, same_value, spelled};
+pub use fault::BodyFault;
+pub use inputs::input_fault;
+pub use laws::{class2_is_short, column_law, list_law, place_law, vect_law, vector_law};
+pub use reading::read_body;
+pub use values::{column_entry, id_at, ids_have, vect_parts, vector_entry};
+pub use writing::{body_len, write_body, write_column, write_ids, write_vect, write_vector};
+
+#[cfg(test)]
+mod tests;

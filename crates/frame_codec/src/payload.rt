@@ -1,0 +1,149 @@
+//! Payloads, each read as its format says. What is read is the bytes after it.
+
+ghost use Rattle.std.specs.Prelude.{◌≡◌};
+ghost use Rattle.frame_codec.specs.Format.{Gives, read};
+ghost use Rattle.frame_codec.specs.Inputs.{input_format};
+ghost use Rattle.frame_codec.specs.Grammar.{entry, times, vector, class1, class2, class3, vect, bit, value, hashes, column, payload};
+
+use crate::fault::Wrong;
+use crate::fields::{block, byte_below, entry_len, places, plain};
+use crate::ids::{ids, ids_from};
+use ritas_base::{Kind, Mode, Params, Slot};
+
+#[tactic(auto, unfolding(crate::specs::Grammar::entry))]
+fn entry<'a>(p: &Params, root: u8, bytes: &'a [u8]) -> Result<&'a [u8], Wrong>
+    ensures { Gives (λ rest. rest.now) result (read (entry p.now.n root) bytes.now) }
+{
+    let (len, rest) = entry_len(root, bytes)?;
+    if root == 6 {
+        return ids_from(p, len / 5, rest);
+    }
+    let (_, rest) = block(len, rest)?;
+    Ok(rest)
+}
+
+fn entries<'a>(p: &Params, root: u8, count: u32, bytes: &'a [u8]) -> Result<&'a [u8], Wrong>
+    ensures { Gives (λ rest. rest.now) result (read (times count (entry p.now.n root)) bytes.now) }
+{
+    let mut rest = bytes;
+    for _ in 0..count {
+        rest = entry(p, root, rest)?;
+    }
+    Ok(rest)
+}
+
+#[tactic(auto, unfolding(crate::specs::Grammar::vector))]
+fn vector<'a>(p: &Params, root: u8, bytes: &'a [u8]) -> Result<&'a [u8], Wrong>
+    ensures { Gives (λ rest. rest.now) result (read (vector p.now root) bytes.now) }
+{
+    let (mask, rest) = places(p.n(), p.wait(), bytes)?;
+    entries(p, root, mask.count_ones(), rest)
+}
+
+#[tactic(auto, unfolding(crate::specs::Grammar::class1))]
+fn class1(root: u8, bytes: &[u8]) -> Result<&[u8], Wrong>
+    ensures { Gives (λ rest. rest.now) result (read (class1 root) bytes.now) }
+{
+    plain(if root == 6 { 8 } else { 1 }, 4096, bytes)
+}
+
+#[tactic(auto, unfolding(crate::specs::Grammar::class2))]
+fn class2<'a>(p: &Params, root: u8, bytes: &'a [u8]) -> Result<&'a [u8], Wrong>
+    ensures { Gives (λ rest. rest.now) result (read (class2 p.now root) bytes.now) }
+{
+    if root == 6 {
+        ids(p, bytes)
+    } else {
+        plain(1, 512, bytes)
+    }
+}
+
+#[tactic(auto, unfolding(crate::specs::Grammar::class3))]
+fn class3<'a>(p: &Params, root: u8, bytes: &'a [u8]) -> Result<&'a [u8], Wrong>
+    ensures { Gives (λ rest. rest.now) result (read (class3 p.now root) bytes.now) }
+{
+    if root == 4 {
+        plain(1, 4096, bytes)
+    } else {
+        vector(p, root, bytes)
+    }
+}
+
+#[tactic(auto, unfolding(crate::specs::Grammar::vect))]
+fn vect<'a>(p: &Params, root: u8, bytes: &'a [u8]) -> Result<&'a [u8], Wrong>
+    ensures { Gives (λ rest. rest.now) result (read (vect p.now root) bytes.now) }
+{
+    if bytes.is_empty() {
+        return Ok(bytes);
+    }
+    let (_, rest) = places(p.n(), p.support(), bytes)?;
+    class3(p, root, rest)
+}
+
+#[tactic(auto, unfolding(crate::specs::Grammar::bit))]
+fn bit(step: u8, bytes: &[u8]) -> Result<&[u8], Wrong>
+    ensures { Gives (λ rest. rest.now) result (read (bit step) bytes.now) }
+{
+    let (_, rest) = byte_below(if step == 3 { 3 } else { 2 }, bytes)?;
+    Ok(rest)
+}
+
+#[tactic(auto, unfolding(crate::specs::Grammar::value))]
+fn value<'a>(p: &Params, root: u8, slot: &Slot, bytes: &'a [u8]) -> Result<&'a [u8], Wrong>
+    ensures { Gives (λ rest. rest.now) result (read (value p.now root slot.now) bytes.now) }
+{
+    match slot.class {
+        1 => class1(root, bytes),
+        2 => class2(p, root, bytes),
+        3 => class3(p, root, bytes),
+        4 => vect(p, root, bytes),
+        _ => bit(slot.step, bytes),
+    }
+}
+
+#[tactic(auto, unfolding(crate::specs::Grammar::hashes))]
+fn hashes<'a>(p: &Params, bytes: &'a [u8]) -> Result<&'a [u8], Wrong>
+    ensures { Gives (λ rest. rest.now) result (read (hashes p.now.n) bytes.now) }
+{
+    let (_, rest) = block(32 * usize::from(p.n()), bytes)?;
+    Ok(rest)
+}
+
+#[tactic(auto, unfolding(crate::specs::Grammar::column))]
+fn column<'a>(p: &Params, bytes: &'a [u8]) -> Result<&'a [u8], Wrong>
+    ensures { Gives (λ rest. rest.now) result (read (column p.now.n) bytes.now) }
+{
+    let (mask, rest) = places(p.n(), 1, bytes)?;
+    let (_, rest) = block(32 * mask.count_ones() as usize, rest)?;
+    Ok(rest)
+}
+
+#[tactic(auto, unfolding(crate::specs::Grammar::payload))]
+pub(crate) fn payload<'a>(
+    p: &Params,
+    root: u8,
+    kind: Kind,
+    slot: &Slot,
+    bytes: &'a [u8],
+) -> Result<&'a [u8], Wrong>
+    ensures { Gives (λ rest. rest.now) result (read (payload p.now root kind slot.now) bytes.now) }
+{
+    match kind {
+        Kind::Hashes => hashes(p, bytes),
+        Kind::Column => column(p, bytes),
+        Kind::Init | Kind::Echo | Kind::Ready | Kind::Send => value(p, root, slot, bytes),
+    }
+}
+
+/// An input of the root service.
+#[tactic(auto, unfolding(crate::specs::Inputs::input_format))]
+pub(crate) fn input<'a>(p: &Params, root: u8, bytes: &'a [u8]) -> Result<&'a [u8], Wrong>
+    ensures { Gives (λ rest. rest.now) result (read (input_format p.now root) bytes.now) }
+{
+    match root {
+        3 => bit(1, bytes),
+        4 => class3(p, root, bytes),
+        5 => class2(p, root, bytes),
+        _ => class1(root, bytes),
+    }
+}

@@ -1,0 +1,202 @@
+use super::*;
+use ritas_base::{Bytes, Id, Item, Kind, Mode, Params, SenderSet, SlotFault, Vect};
+use std::alloc::Global;
+use std::test::*;
+
+// Four replicas, one of which may be faulty.
+fn session(root: u8) -> Option<(Params, Mode)> {
+    Some((Params::new(4, 1).ok()?, Mode::new(root, Vect::Echo)?))
+}
+
+fn read(alloc: Global, root: u8, bytes: &[u8]) -> Option<Result<Item, BodyFault>> {
+    let (p, mode) = session(root)?;
+    Some(read_body(alloc, &p, &mode, 2, bytes))
+}
+
+#[test]
+fn bodies_that_are_refused(rt: HostRuntime) -> Result<(), Fail> {
+    let cases: [(u8, &[u8], BodyFault); 14] = [
+        (1, b"", BodyFault::Kind),
+        (1, b"\x07\x01\0\0\0\0\0\0\0\0a", BodyFault::Kind),
+        (1, b"\x04\x01\0\0\0\0\0\0\0\0a", BodyFault::Kind),
+        (1, b"\x01\x01\0", BodyFault::Slot(SlotFault::Whole)),
+        (
+            1,
+            b"\x01\x06\0\0\0\0\0\0\0\0a",
+            BodyFault::Slot(SlotFault::Class),
+        ),
+        (
+            1,
+            b"\x01\x05\0\0\0\0\0\0\x01\x01\0",
+            BodyFault::Slot(SlotFault::Closed),
+        ),
+        (
+            1,
+            b"\x01\x01\0\x0f\x42\x40\0\0\0\0a",
+            BodyFault::Slot(SlotFault::Number),
+        ),
+        (
+            1,
+            b"\x01\x01\0\0\0\0\x01\0\0\0a",
+            BodyFault::Slot(SlotFault::Attempt),
+        ),
+        (
+            1,
+            b"\x01\x01\0\0\0\0\0\x01\0\0a",
+            BodyFault::Slot(SlotFault::Round),
+        ),
+        (
+            1,
+            b"\x01\x01\0\0\0\0\0\0\x01\0a",
+            BodyFault::Slot(SlotFault::Step),
+        ),
+        (
+            1,
+            b"\x01\x01\0\0\0\0\0\0\0\x04a",
+            BodyFault::Slot(SlotFault::Origin),
+        ),
+        (1, b"\x01\x01\0\0\0\0\0\0\0\0", BodyFault::Payload(10)),
+        (
+            3,
+            b"\x01\x05\0\0\0\0\0\x01\x01\0\x02",
+            BodyFault::Payload(10),
+        ),
+        (3, b"\x01\x05\0\0\0\0\0\x01\x01\0\0\0", BodyFault::Rest(11)),
+    ];
+    for (root, bytes, want) in cases {
+        let answer = read(rt.alloc(), root, bytes).ok_or("no session")?;
+        assert_eq!(rt; answer.err(), Some(want), "at {bytes:?}");
+    }
+    Ok(())
+}
+
+#[test]
+fn bodies_that_are_items(rt: HostRuntime) -> Result<(), Fail> {
+    let cases: [(u8, &[u8]); 3] = [
+        (1, b"\x01\x01\0\0\0\0\0\0\0\0a"),
+        (3, b"\x01\x05\0\0\0\0\0\x01\x03\0\x02"),
+        (6, b"\x01\x02\0\0\0\0\0\0\0\0\0\0\0\0\0"),
+    ];
+    for (root, bytes) in cases {
+        let answer = read(rt.alloc(), root, bytes).ok_or("no session")?;
+        let item = answer.ok().ok_or("no item")?;
+        assert_eq!(rt;
+            (item.from, item.kind, item.slot.origin),
+            (2, Kind::Init, 0)
+        );
+        let written = write_body(rt.alloc(), &item).ok().ok_or("no memory")?;
+        assert_eq!(rt; written.as_slice(), bytes);
+    }
+    Ok(())
+}
+
+// How long a body is, for a caller that knows that what it read is of the grammar.
+fn length_of(alloc: Global, bytes: &[u8]) -> Option<u32> {
+    let (p, mode) = session(1)?;
+    match read_body(alloc, &p, &mode, 2, bytes) {
+        Ok(item) => Some(body_len(&item)),
+        Err(_) => None,
+    }
+}
+
+#[test]
+fn inputs(rt: HostRuntime) -> Result<(), Fail> {
+    assert_eq!(rt;
+        length_of(rt.alloc(), b"\x01\x01\0\0\0\0\0\0\0\0abc"),
+        Some(13)
+    );
+    let long = [7; 4097];
+    let cases: [(u8, &[u8], Option<u32>); 10] = [
+        (1, &[], Some(0)),
+        (2, &long[..4096], None),
+        (2, &long, Some(4096)),
+        (3, &[1], None),
+        (3, &[2, 0], Some(0)),
+        (3, &[0, 0], Some(1)),
+        (4, &long[..4096], None),
+        (5, &long[..513], Some(512)),
+        (6, &long[..7], Some(7)),
+        (6, &long[..8], None),
+    ];
+    for (root, bytes, want) in cases {
+        let (p, mode) = session(root).ok_or("no session")?;
+        assert_eq!(rt;
+            input_fault(&p, &mode, bytes),
+            want,
+            "of root service {root}"
+        );
+    }
+    Ok(())
+}
+
+// Whether the vector of replicas 0, 1 and 3 has this entry.
+fn has_entry(k: u8, want: &[u8]) -> bool {
+    let vector = [0, 0, 0, 11, 0, 1, b'a', 0, 2, b'b', b'c', 0, 1, b'd'];
+    vector_entry(&vector, k) == Some(want)
+}
+
+// Whether the column of replica 1 has this row.
+fn has_row(k: u8, want: &[u8]) -> bool {
+    let column = [
+        0, 0, 0, 2, 1, 2, 3, 4, 5, 6, 7, 8, 9, 10, 11, 12, 13, 14, 15, 16, 17, 18, 19, 20, 21, 22,
+        23, 24, 25, 26, 27, 28, 29, 30, 31, 32,
+    ];
+    column_entry(&column, k) == Some(want)
+}
+
+// Whether the VECT of replicas 0 and 1 has these parts.
+fn has_parts(places: SenderSet, want: &[u8]) -> bool {
+    let vect = [0, 0, 0, 3, b'x', b'y'];
+    vect_parts(&vect) == Some((places, want))
+}
+
+#[test]
+fn values_that_are_read(rt: HostRuntime) {
+    assert!(rt; has_entry(0, b"a") && has_entry(1, b"bc") && has_entry(3, b"d"));
+    assert!(rt; !has_entry(2, b""));
+    let mut row = [0; 32];
+    for i in 0..32 {
+        row[i] = i as u8 + 1;
+    }
+    assert!(rt; has_row(1, &row) && !has_row(0, &row));
+    assert!(rt; has_parts(SenderSet::from_mask(3), b"xy"));
+}
+
+#[test]
+fn values_that_are_written(rt: HostRuntime) -> Result<(), Fail> {
+    let ids = [
+        Id { origin: 0, num: 7 },
+        Id {
+            origin: 3,
+            num: 256,
+        },
+    ];
+    let list = write_ids(rt.alloc(), &ids).ok().ok_or("no memory")?;
+    assert_eq!(rt; list.as_slice(), b"\0\0\0\0\x07\x03\0\0\x01\0".as_slice());
+    assert_eq!(rt; id_at(list.as_slice(), 1), Some(ids[1]));
+    assert!(rt; ids_have(list.as_slice(), ids[0]));
+    let places = SenderSet::from_mask(3);
+    let vect = write_vect(rt.alloc(), places, b"xy")
+        .ok()
+        .ok_or("no memory")?;
+    assert_eq!(rt; vect.as_slice(), b"\0\0\0\x03xy".as_slice());
+    let rows = [[b'a'; 32], [b'b'; 32]];
+    let column = write_column(rt.alloc(), places, &rows)
+        .ok()
+        .ok_or("no memory")?;
+    assert_eq!(rt;
+        column.as_slice(),
+        b"\0\0\0\x03aaaaaaaaaaaaaaaaaaaaaaaaaaaaaaaabbbbbbbbbbbbbbbbbbbbbbbbbbbbbbbb".as_slice()
+    );
+    let entries = [
+        Bytes::from_slice(rt.alloc(), b"a").ok().ok_or("no memory")?,
+        Bytes::from_slice(rt.alloc(), b"bc")
+            .ok()
+            .ok_or("no memory")?,
+    ];
+    let vector = write_vector(rt.alloc(), places, &entries)
+        .ok()
+        .ok_or("no memory")?;
+    assert_eq!(rt; vector.as_slice(), b"\0\0\0\x03\0\x01a\0\x02bc".as_slice());
+    Ok(())
+}
