@@ -1,0 +1,119 @@
+-- What opens was sealed by its sender.
+use Rattle.std.specs.Prelude.{◌≡◌, ◌≢◌, ℕ, ◌+◌, ◌-◌, ◌<◌, ◌≤◌, Bool, true, false, not, ◌==◌, ◌&&◌, nat_le, nat_lt, List, [], ◌∷◌, ◌++◌, length, take, drop, slice_index, slice_range, None, refl}
+use Rattle.std.specs.Int.{w64, to_be_bytes}
+use Rattle.std.proofs.Common.{sym, ◌∙◌, ap, ap₂, subst, inl, inr, arith}
+use Rattle.std.proofs.Math.ListN.{get_or, get_or-eq_default}
+use Rattle.std.proofs.Math.Seq.{take-add}
+use Rattle.std.proofs.lemmas.List.{take-append-drop, length-take, length-drop, get_or-take, get_or-drop}
+use Rattle.std.proofs.lemmas.Nat.{be_bytes_8}
+use Rattle.std.proofs.lemmas.Bool.{leb-true, ltb-true, eqb-true, eqb-false}
+use Rattle.std.proofs.lemmas.Bool.Decides.{leb_tells}
+use Rattle.std.proofs.lemmas.Slice.Eq.{bytes_eq-Decides}
+use Rattle.keyed_channel.specs.Hmac.{hmac_of}
+use Rattle.keyed_channel.specs.KeyRow.{KeyRow, key_with}
+use Rattle.keyed_channel.specs.Keyed.{dealt}
+use Rattle.keyed_channel.specs.Frames.{frame_front, sealed, front_of, tag_of, version_of, sender_of, receiver_of, seq_of, body_of, parts_of, is_peer, is_tagged, plain_fault, Opening}
+use Rattle.keyed_channel.specs.Laws.{OpensSealed}
+use Rattle.keyed_channel.proofs.Opens.{five, opening_ok}
+use Rattle.keyed_channel.proofs.Dealt.{key_with-dealt, pair_key_swapped}
+
+-- ---- the tests
+
+-- each test that needs no key is passed
+record AllPassed (a b c d e : Bool) : Type 0 where
+  long : a ≡ true
+  short : b ≡ true
+  version : c ≡ true
+  mine : d ≡ true
+  peer : e ≡ true
+
+five_passed : (a b c d e : Bool) → five a b c d e ≡ None → AllPassed a b c d e
+five_passed false b c d e h = cc
+five_passed true false c d e h = cc
+five_passed true true false d e h = cc
+five_passed true true true false e h = cc
+five_passed true true true true false h = cc
+five_passed true true true true true h = record { long = refl; short = refl; version = refl; mine = refl; peer = refl }
+
+passed : (k : KeyRow) (bytes : List ℕ) → plain_fault k bytes ≡ None
+    → AllPassed (nat_le 43 (length bytes)) (nat_le (length bytes) 16384) (version_of bytes == 1) (receiver_of bytes == k.me) (is_peer k (sender_of bytes))
+passed k bytes h = five_passed _ _ _ _ _ h
+
+both_true : (a b : Bool) → (a && b) ≡ true → (a ≡ true) × (b ≡ true)
+both_true true b h = (refl, h)
+both_true false b h = cc
+
+not_true : (b : Bool) → not b ≡ true → b ≡ false
+not_true true h = cc
+not_true false h = refl
+
+-- ---- the front of a frame, by its parts
+
+three : (xs : List ℕ) → 3 ≤ length xs → take 3 xs ≡ slice_index xs 0 ∷ slice_index xs 1 ∷ slice_index xs 2 ∷ []
+three [] h = absurd (omega (arith, h))
+three (a ∷ []) h = absurd (omega (arith, h))
+three (a ∷ b ∷ []) h = absurd (omega (arith, h))
+three (a ∷ b ∷ c ∷ xs) h = refl
+
+-- the first m, of which there are 11 at least
+split_front : (xs : List ℕ) (m : ℕ) → 11 ≤ m → m ≤ length xs
+    → take m xs ≡ slice_index xs 0 ∷ slice_index xs 1 ∷ slice_index xs 2 ∷ (slice_range xs 3 11 ++ slice_range xs 11 m)
+split_front [] m low high = absurd (omega (arith, low, high))
+split_front (a ∷ []) m low high = absurd (omega (arith, low, high))
+split_front (a ∷ b ∷ []) m low high = absurd (omega (arith, low, high))
+split_front (a ∷ b ∷ c ∷ xs) m low high =
+    let parts : m ≡ 3 + (8 + (m - 11)) = omega (arith, low) in
+    ap (λ k. take k (a ∷ b ∷ c ∷ xs)) parts ∙ take-add 3 (8 + (m - 11)) (a ∷ b ∷ c ∷ xs)
+    ∙ ap (λ l. a ∷ b ∷ c ∷ l) (take-add 8 (m - 11) xs)
+
+-- a list of bytes from 3 on
+middle_small : (xs : List ℕ) → ((k : ℕ) → slice_index xs k < 256) → (i : ℕ) → get_or (slice_range xs 3 11) i 0 < 256
+middle_small xs small i =
+    elim (leb_tells 8 i) [
+      | inl out ↦
+          let size : length (slice_range xs 3 11) ≤ i = omega (arith, length-take 8 (drop 3 xs), out.1) in
+          omega (arith, get_or-eq_default (slice_range xs 3 11) 0 size)
+      | inr within ↦ omega (arith, get_or-take 8 (drop 3 xs) i 0 within.1, get_or-drop 3 xs i 0, small (3 + i))
+    ]
+
+seq_is : (xs : List ℕ) → 43 ≤ length xs → ((k : ℕ) → slice_index xs k < 256) → slice_range xs 3 11 ≡ to_be_bytes w64 (seq_of xs)
+seq_is xs long small =
+    let size : length (slice_range xs 3 11) ≡ 8 = omega (arith, length-take 8 (drop 3 xs), length-drop 3 xs) in
+    sym (be_bytes_8 (slice_range xs 3 11) (seq_of xs) size (middle_small xs small) refl)
+
+front_is : (xs : List ℕ) (j : ℕ) → 43 ≤ length xs → ((k : ℕ) → slice_index xs k < 256) → version_of xs ≡ 1 → receiver_of xs ≡ j
+    → front_of xs ≡ frame_front (sender_of xs) j (seq_of xs) (body_of xs)
+front_is xs j long small one mine =
+    split_front xs (length xs - 32) (omega arith) (omega arith)
+    ∙ ap₂ (λ (v r : ℕ). v ∷ sender_of xs ∷ r ∷ (slice_range xs 3 11 ++ body_of xs)) one mine
+    ∙ ap (λ l. 1 ∷ sender_of xs ∷ j ∷ (l ++ body_of xs)) (seq_is xs long small)
+
+-- ---- the law
+
+abbrev IsFromSender : List ℕ → ℕ → ℕ → ℕ → List ℕ → Opening → Type 0
+IsFromSender master session n j bytes o =
+    (o.from < n) × (o.from ≢ j) × (bytes ≡ sealed (dealt master session n o.from) j o.seq o.body)
+
+from_sender : (master : List ℕ) (session n j : ℕ) (bytes : List ℕ) → j < n → ((k : ℕ) → slice_index bytes k < 256)
+    → plain_fault (dealt master session n j) bytes ≡ None → is_tagged (dealt master session n j) bytes ≡ true
+    → IsFromSender master session n j bytes (parts_of bytes)
+from_sender master session n j bytes j_in small plain tagged =
+    let i = sender_of bytes in
+    let k = dealt master session n j in
+    let by = dealt master session n i in
+    let tests = passed k bytes plain in
+    let long : 43 ≤ length bytes = leb-true 43 (length bytes) tests.long in
+    let peer = both_true (nat_lt i n) (not (i == j)) tests.peer in
+    let i_in : i < n = ltb-true i n peer.0 in
+    let front = front_is bytes j long small (eqb-true _ _ tests.version) (eqb-true _ _ tests.mine) in
+    let key : key_with k i ≡ key_with by j =
+    key_with-dealt master session n j i i_in ∙ pair_key_swapped master session j i ∙ sym (key_with-dealt master session n i j j_in) in
+    let tag = sym ((bytes_eq-Decides (hmac_of (key_with k i) (front_of bytes)) (tag_of bytes)).0 tagged) ∙ ap₂ hmac_of key front in
+    let other : i ≢ j = eqb-false i j (not_true (i == j) peer.1) in
+    (i_in, other, sym (take-append-drop (length bytes - 32) bytes) ∙ ap₂ (λ (x y : List ℕ). x ++ y) front tag)
+
+pub opens_sealed_holds : OpensSealed
+opens_sealed_holds master session n j bytes o j_in small opens =
+    let t = opening_ok (dealt master session n j) bytes o opens in
+    let P : Opening → Type 0 = λ x. IsFromSender master session n j bytes x in
+    subst P t.2 (from_sender master session n j bytes j_in small t.0 t.1)

@@ -1,0 +1,50 @@
+-- Rows of keys: n keys, and zeros behind them.
+use Rattle.std.specs.Prelude.{◌≡◌, ℕ, ◌+◌, ◌-◌, ◌<◌, ◌≤◌, List, [], ◌∷◌, ◌++◌, length, map, drop, replicate}
+use Rattle.std.specs.List.{range_with_len}
+use Rattle.std.proofs.Common.{sym, ◌∙◌, ap, subst, arith, suc, append_assoc}
+use Rattle.std.proofs.Math.ListN.{set, take, get_or}
+use Rattle.std.proofs.Math.Seq.{drop-append_seam}
+use Rattle.std.proofs.lemmas.List.{length-append, length-replicate, set-append_right, get_or-take, get_or_read}
+use Rattle.std.proofs.lemmas.List.FromFn.{length-map-range_with_len, map-range_with_len_more}
+use Rattle.keyed_channel.specs.KeyRow.{IsKeyRow, zero_key, filled_row}
+
+-- a row made of n keys is one
+pub filled_row_is : (session n me : ℕ) (keys : List (List ℕ)) → length keys ≡ n → me < n → n ≤ 31
+    → IsKeyRow (record { session = session; n = n; me = me; row = filled_row keys })
+filled_row_is session n me keys long mine most = record {
+  mine = mine;
+  most = most;
+  places = omega (arith, length-append keys (replicate (31 - length keys) zero_key), length-replicate (31 - length keys) zero_key);
+  rest =
+      let P : ℕ → Type 0 = λ k. drop k (filled_row keys) ≡ replicate (31 - k) zero_key in
+      subst P long (drop-append_seam keys (replicate (31 - length keys) zero_key));
+}
+
+-- one key more
+pub row_more : (f : ℕ → List ℕ) (row : List (List ℕ)) (j : ℕ) → j < 31 → row ≡ map f (range_with_len 0 j) ++ replicate (31 - j) zero_key
+    → set row j (f j) ≡ map f (range_with_len 0 (j + 1)) ++ replicate (31 - (j + 1)) zero_key
+row_more f row j lt is =
+    let keys = map f (range_with_len 0 j) in
+    let next : 31 - j ≡ suc (31 - (j + 1)) = omega arith in
+    let here : j - j ≡ 0 = omega arith in
+    let more : map f (range_with_len 0 (j + 1)) ≡ keys ++ f j ∷ [] = map-range_with_len_more f 0 j j (omega arith) in
+    ap (λ l. set l j (f j)) is
+    ∙ set-append_right keys (replicate (31 - j) zero_key) j j (f j) (length-map-range_with_len f 0 j) (omega arith)
+    ∙ ap (λ k. keys ++ set (replicate (31 - j) zero_key) k (f j)) here
+    ∙ ap (λ k. keys ++ set (replicate k zero_key) 0 (f j)) next
+    ∙ sym (append_assoc keys (f j ∷ []) (replicate (31 - (j + 1)) zero_key))
+    ∙ ap (λ l. l ++ replicate (31 - (j + 1)) zero_key) (sym more)
+
+-- a row of n keys, where all are there
+pub row_done : (f : ℕ → List ℕ) (row : List (List ℕ)) (n j : ℕ) → n ≡ j → row ≡ map f (range_with_len 0 j) ++ replicate (31 - j) zero_key
+    → row ≡ filled_row (map f (range_with_len 0 n))
+row_done f row n j same is =
+    let P : ℕ → Type 0 = λ k. row ≡ map f (range_with_len 0 k) ++ replicate (31 - k) zero_key in
+    subst P (sym same) is
+    ∙ ap (λ k. map f (range_with_len 0 n) ++ replicate (31 - k) zero_key) (sym (length-map-range_with_len f 0 n))
+
+-- a key read from the first n of a row
+pub key_read : (row keys : List (List ℕ)) (n j : ℕ) (x : List ℕ) → keys ≡ take n row → j < n → n ≤ length row → x ≡ get_or keys j x
+    → x ≡ get_or row j zero_key
+key_read row keys n j x front lt within read =
+    get_or_read row j x (omega arith) (read ∙ ap (λ l. get_or l j x) front ∙ get_or-take n row j x lt) zero_key

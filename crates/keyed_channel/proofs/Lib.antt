@@ -1,0 +1,6 @@
+mod Pieces
+mod KeyRows
+mod Opens
+mod Dealt
+mod Sealing
+mod FromSender

@@ -1,0 +1,91 @@
+-- What is sealed opens, and what opens was sealed.
+use Rattle.std.specs.Prelude.{◌≡◌, ℕ, ◌+◌, ◌-◌, ◌^◌, ◌<◌, Bool, true, false, not, ◌==◌, ◌&&◌, nat_le, List, ◌++◌, length, take, drop, None, Ok, refl}
+use Rattle.std.proofs.Common.{sym, ◌∙◌, ap, ap₂, arith}
+use Rattle.std.proofs.Math.Seq.{take-append_seam, drop-append_seam}
+use Rattle.std.proofs.lemmas.List.{length-append}
+use Rattle.std.proofs.lemmas.Nat.{from_be_bytes-to_be_bytes_8}
+use Rattle.std.proofs.lemmas.Bool.{le-leb, lt-ltb, eq-eqb, ne_eqb, lt-leb}
+use Rattle.std.proofs.lemmas.Slice.Eq.{bytes_eq-Decides}
+use Rattle.sha2.proofs.Facts256.{length-sha256}
+use Rattle.sha2.specs.Sha256.{sha256}
+use Rattle.keyed_channel.specs.Hmac.{hmac_of, pad}
+use Rattle.keyed_channel.specs.KeyRow.{key_with}
+use Rattle.keyed_channel.specs.Keyed.{dealt}
+use Rattle.keyed_channel.specs.Frames.{frame_front, sealed, front_of, tag_of, version_of, sender_of, receiver_of, seq_of, body_of, parts_of, is_peer, is_tagged, plain_fault, Opening}
+use Rattle.keyed_channel.specs.Laws.{SealedLength, SealedLong, SealedOpens}
+use Rattle.keyed_channel.specs.declared.frame.OpenFault.TheVariants.{Long}
+use Rattle.keyed_channel.proofs.Opens.{five_pass, too_long, opening_plain, opening_tagged}
+use Rattle.keyed_channel.proofs.Dealt.{key_with-dealt, pair_key_swapped}
+
+-- a tag has 32 bytes
+pub length-hmac_of : (key text : List ℕ) → length (hmac_of key text) ≡ 32
+unfolding hmac_of
+length-hmac_of key text = length-sha256 (pad 0x5c key ++ sha256 (pad 0x36 key ++ text))
+
+length-front : (from to seq : ℕ) (body : List ℕ) → length (frame_front from to seq body) ≡ length body + 11
+length-front from to seq body = omega arith
+
+pub sealed_length_holds : SealedLength
+sealed_length_holds k to seq body =
+    let front = frame_front k.me to seq body in
+    let tag = hmac_of (key_with k to) front in
+    omega (arith, length-append front tag, length-front k.me to seq body, length-hmac_of (key_with k to) front)
+
+-- a front with a tag behind it comes apart again
+front_is : (front tag : List ℕ) → length tag ≡ 32 → front_of (front ++ tag) ≡ front
+front_is front tag long =
+    let at : length (front ++ tag) - 32 ≡ length front = omega (arith, length-append front tag) in
+    ap (λ k. take k (front ++ tag)) at ∙ take-append_seam front tag
+
+tag_is : (front tag : List ℕ) → length tag ≡ 32 → tag_of (front ++ tag) ≡ tag
+tag_is front tag long =
+    let at : length (front ++ tag) - 32 ≡ length front = omega (arith, length-append front tag) in
+    ap (λ k. drop k (front ++ tag)) at ∙ drop-append_seam front tag
+
+parts_are : (from to seq : ℕ) (body tag : List ℕ) → seq < 2 ^ 64 → length tag ≡ 32
+    → parts_of (frame_front from to seq body ++ tag) ≡ record { from = from; seq = seq; body = body }
+parts_are from to seq body tag small long =
+    let bytes = frame_front from to seq body ++ tag in
+    let number : seq_of bytes ≡ seq = from_be_bytes-to_be_bytes_8 seq small in
+    let at : length bytes - 32 - 11 ≡ length body = omega (arith, length-append body tag) in
+    let said : body_of bytes ≡ body = ap (λ k. take k (body ++ tag)) at ∙ take-append_seam body tag in
+    let opening_of : ℕ → List ℕ → Opening = λ q b. record { from = from; seq = q; body = b } in
+    ap₂ opening_of number said
+
+-- ---- what doesn't open, and what does
+
+pub sealed_long_holds : SealedLong
+sealed_long_holds k by to seq body long =
+    let bytes = sealed by to seq body in
+    let size = sealed_length_holds by to seq body in
+    let enough : nat_le 43 (length bytes) ≡ true = le-leb 43 (length bytes) (omega arith) in
+    let over : nat_le (length bytes) 16384 ≡ false = lt-leb (length bytes) 16384 (omega arith) in
+    opening_plain k bytes Long (too_long _ _ (version_of bytes == 1) (receiver_of bytes == k.me) (is_peer k (sender_of bytes)) enough over)
+
+-- the tag is right at the other end
+tagged_there : (master : List ℕ) (session n i j seq : ℕ) (body : List ℕ) → i < n → j < n
+    → is_tagged (dealt master session n j) (sealed (dealt master session n i) j seq body) ≡ true
+tagged_there master session n i j seq body i_in j_in =
+    let mine = key_with (dealt master session n i) j in
+    let theirs = key_with (dealt master session n j) i in
+    let front = frame_front i j seq body in
+    let tag = hmac_of mine front in
+    let long = length-hmac_of mine front in
+    let same : theirs ≡ mine =
+    key_with-dealt master session n j i i_in ∙ pair_key_swapped master session j i ∙ sym (key_with-dealt master session n i j j_in) in
+    let wanted = ap₂ hmac_of same (front_is front tag long) ∙ sym (tag_is front tag long) in
+    (bytes_eq-Decides (hmac_of theirs (front_of (front ++ tag))) (tag_of (front ++ tag))).1 wanted
+
+pub sealed_opens_holds : SealedOpens
+sealed_opens_holds master session n i j seq body i_in j_in ne small short =
+    let k = dealt master session n j in
+    let by = dealt master session n i in
+    let bytes = sealed by j seq body in
+    let size = sealed_length_holds by j seq body in
+    let enough : nat_le 43 (length bytes) ≡ true = le-leb 43 (length bytes) (omega arith) in
+    let most : nat_le (length bytes) 16384 ≡ true = le-leb (length bytes) 16384 (omega arith) in
+    let peer : is_peer k i ≡ true = ap₂ (λ (x y : Bool). x && not y) (lt-ltb i n i_in) (ne_eqb i j ne) in
+    let plain : plain_fault k bytes ≡ None =
+    five_pass _ _ _ _ _ enough most refl (eq-eqb j j refl) peer in
+    opening_tagged k bytes plain (tagged_there master session n i j seq body i_in j_in)
+    ∙ ap Ok (parts_are i j seq body _ small (length-hmac_of (key_with by j) (frame_front i j seq body)))

@@ -1,0 +1,89 @@
+-- Sealed frames, and what opens.
+use Rattle.std.specs.Prelude.{ℕ, Bool, not, ◌==◌, ◌&&◌, ◌-◌, nat_le, nat_lt, List, [], ◌∷◌, ◌++◌, length, take, drop, slice_index, slice_range, Option, Some, None, Result, Ok, Err, if◌then◌else◌}
+use Rattle.std.specs.Int.{w64, to_be_bytes, from_be_bytes}
+use Rattle.std.specs.Str.{bytes_eq}
+use Rattle.keyed_channel.specs.Hmac.{hmac_of}
+use Rattle.keyed_channel.specs.KeyRow.{KeyRow, key_with}
+use Rattle.keyed_channel.specs.declared.frame.OpenFault.{OpenFault}
+use Rattle.keyed_channel.specs.declared.frame.OpenFault.TheVariants as faults
+
+-- ---- sealing
+
+-- the frame without its tag: version 1, sender, receiver, sequence number, body
+abbrev pub frame_front : ℕ → ℕ → ℕ → List ℕ → List ℕ
+frame_front from to seq body = 1 ∷ from ∷ to ∷ to_be_bytes w64 seq ++ body
+
+-- the frame: its front, and the front's tag under the key of sender and receiver
+abbrev pub sealed : KeyRow → ℕ → ℕ → List ℕ → List ℕ
+sealed k to seq body = frame_front k.me to seq body ++ hmac_of (key_with k to) (frame_front k.me to seq body)
+
+-- ---- the parts of a frame
+
+abbrev pub version_of : List ℕ → ℕ
+version_of bytes = slice_index bytes 0
+
+abbrev pub sender_of : List ℕ → ℕ
+sender_of bytes = slice_index bytes 1
+
+abbrev pub receiver_of : List ℕ → ℕ
+receiver_of bytes = slice_index bytes 2
+
+abbrev pub seq_of : List ℕ → ℕ
+seq_of bytes = from_be_bytes w64 (slice_range bytes 3 11)
+
+abbrev pub body_of : List ℕ → List ℕ
+body_of bytes = slice_range bytes 11 (length bytes - 32)
+
+abbrev pub front_of : List ℕ → List ℕ
+front_of bytes = take (length bytes - 32) bytes
+
+abbrev pub tag_of : List ℕ → List ℕ
+tag_of bytes = drop (length bytes - 32) bytes
+
+-- ---- opening
+
+-- what a frame says, and who sent it
+pub record Opening : Type 0 where
+  pub from : ℕ
+  pub seq : ℕ
+  pub body : List ℕ
+
+abbrev pub parts_of : List ℕ → Opening
+parts_of bytes = record { from = sender_of bytes; seq = seq_of bytes; body = body_of bytes }
+
+-- a replica that isn't me
+abbrev pub is_peer : KeyRow → ℕ → Bool
+is_peer k j = nat_lt j k.n && not (j == k.me)
+
+-- the tests that need no key, each with the fault where it fails
+abbrev pub plain_tests : KeyRow → List ℕ → List (Bool × OpenFault)
+plain_tests k bytes =
+    (nat_le 43 (length bytes), faults.Short)
+    ∷ (nat_le (length bytes) 16384, faults.Long)
+    ∷ (version_of bytes == 1, faults.Version)
+    ∷ (receiver_of bytes == k.me, faults.NotMine)
+    ∷ (is_peer k (sender_of bytes), faults.NoSuchReplica)
+    ∷ []
+
+-- whether the tag is that of the front, under the key shared with the sender
+abbrev pub is_tagged : KeyRow → List ℕ → Bool
+is_tagged k bytes = bytes_eq (hmac_of (key_with k (sender_of bytes)) (front_of bytes)) (tag_of bytes)
+
+-- the fault of the first test that fails
+abbrev pub first_failed : List (Bool × OpenFault) → Option OpenFault
+first_failed [] = None
+first_failed (test ∷ tests) = if test.0 then first_failed tests else Some test.1
+
+abbrev pub plain_fault : KeyRow → List ℕ → Option OpenFault
+plain_fault k bytes = first_failed (plain_tests k bytes)
+
+abbrev pub open_fault : KeyRow → List ℕ → Option OpenFault
+open_fault k bytes = first_failed (plain_tests k bytes ++ (is_tagged k bytes, faults.BadTag) ∷ [])
+
+abbrev pub opening_but : Option OpenFault → Opening → Result Opening OpenFault
+opening_but None parts = Ok parts
+opening_but (Some fault) parts = Err fault
+
+-- the first fault that holds, or the parts of the frame
+unfoldable pub opening : KeyRow → List ℕ → Result Opening OpenFault
+opening k bytes = opening_but (open_fault k bytes) (parts_of bytes)

@@ -1,0 +1,27 @@
+-- The keys of one replica.
+use Rattle.std.specs.Prelude.{◌≡◌, ℕ, ◌-◌, ◌<◌, ◌≤◌, List, ◌++◌, length, drop, replicate, slice_index_or}
+
+-- the replica's number, the number of replicas, and the key that it shares with each replica: 31 places, and those
+-- from n on are zero
+pub record KeyRow : Type 0 where
+  pub session : ℕ
+  pub n : ℕ
+  pub me : ℕ
+  pub row : List (List ℕ)
+
+abbrev pub zero_key : List ℕ
+zero_key = replicate 32 0
+
+-- these keys, and zeros up to the 31 places
+abbrev pub filled_row : List (List ℕ) → List (List ℕ)
+filled_row keys = keys ++ replicate (31 - length keys) zero_key
+
+pub record IsKeyRow (k : KeyRow) : Type 0 where
+  pub mine : k.me < k.n
+  pub most : k.n ≤ 31
+  pub places : length k.row ≡ 31
+  pub rest : drop k.n k.row ≡ replicate (31 - k.n) zero_key
+
+-- the key that is shared with replica j
+abbrev pub key_with : KeyRow → ℕ → List ℕ
+key_with k j = slice_index_or k.row j zero_key

@@ -1,0 +1,6 @@
+pub mod Hmac
+pub mod KeyRow
+pub mod Keyed
+pub mod Frames
+pub mod Laws
+pub mod Rows

@@ -1,0 +1,49 @@
+-- Worked rows.
+use Rattle.std.specs.Prelude.{◌≡◌, [], ◌∷◌, replicate, length, Err, refl}
+use Rattle.ritas_base.specs.declared.slot.Slot.{Slot}
+use Rattle.keyed_channel.specs.KeyRow.{KeyRow, filled_row}
+use Rattle.keyed_channel.specs.Keyed.{pair_string, coin_key_string, entry_string, coin_string, other_of}
+use Rattle.keyed_channel.specs.Frames.{frame_front, opening}
+use Rattle.keyed_channel.specs.declared.frame.OpenFault.TheVariants.{Short, Version, NotMine, NoSuchReplica}
+
+-- the front of frame 258 from 3 to 1, with two bytes
+front_row : frame_front 3 1 258 (0xaa ∷ 0xbb ∷ []) ≡ 1 ∷ 3 ∷ 1 ∷ 0 ∷ 0 ∷ 0 ∷ 0 ∷ 0 ∷ 0 ∷ 1 ∷ 2 ∷ 0xaa ∷ 0xbb ∷ []
+front_row = refl
+
+-- the string of replicas 5 and 2 in session 7: the lesser number comes first
+pair_row : pair_string 7 5 2 ≡ 0x4b ∷ 0 ∷ 0 ∷ 0 ∷ 0 ∷ 0 ∷ 0 ∷ 0 ∷ 7 ∷ 2 ∷ 5 ∷ []
+pair_row = refl
+
+coin_key_row : coin_key_string 7 5 ≡ 0x53 ∷ 0 ∷ 0 ∷ 0 ∷ 0 ∷ 0 ∷ 0 ∷ 0 ∷ 7 ∷ 5 ∷ []
+coin_key_row = refl
+
+-- step 2 of round 1 of the binary consensus of number 4, from origin 6
+abbrev slot_row : Slot
+slot_row = record { class = 5; a = 4; attempt = 0; bround = 1; step = 2; origin = 6 }
+
+coin_row : coin_string 7 slot_row ≡ 0x43 ∷ 0 ∷ 0 ∷ 0 ∷ 0 ∷ 0 ∷ 0 ∷ 0 ∷ 7 ∷ 5 ∷ 0 ∷ 0 ∷ 0 ∷ 4 ∷ 0 ∷ 1 ∷ 2 ∷ 6 ∷ []
+coin_row = refl
+
+entry_row : entry_string 7 slot_row 3 1 (0xaa ∷ 0xbb ∷ [])
+    ≡ 0x45 ∷ 0 ∷ 0 ∷ 0 ∷ 0 ∷ 0 ∷ 0 ∷ 0 ∷ 7 ∷ 5 ∷ 0 ∷ 0 ∷ 0 ∷ 4 ∷ 0 ∷ 1 ∷ 2 ∷ 6 ∷ 3 ∷ 1 ∷ 0xaa ∷ 0xbb ∷ []
+entry_row = refl
+
+-- with a digest of 32 bytes it has 52
+entry_length_row : length (entry_string 7 slot_row 3 1 (replicate 32 0xaa)) ≡ 52
+entry_length_row = refl
+
+other_rows : (other_of 3 3 1 ≡ 1) × (other_of 1 3 1 ≡ 3) × (other_of 3 3 3 ≡ 3)
+other_rows = (refl, refl, refl)
+
+-- replica 1 of 4
+abbrev keys_row : KeyRow
+keys_row = record { session = 7; n = 4; me = 1; row = filled_row (replicate 4 (replicate 32 9)) }
+
+-- 42 bytes are too few, and then the first byte, the receiver and the sender are tested
+opening_rows : (opening keys_row (replicate 42 1) ≡ Err Short)
+    × (opening keys_row (2 ∷ 1 ∷ 0 ∷ replicate 40 0) ≡ Err Version)
+    × (opening keys_row (1 ∷ 1 ∷ 0 ∷ replicate 40 0) ≡ Err NotMine)
+    × (opening keys_row (1 ∷ 1 ∷ 1 ∷ replicate 40 0) ≡ Err NoSuchReplica)
+    × (opening keys_row (1 ∷ 4 ∷ 1 ∷ replicate 40 0) ≡ Err NoSuchReplica)
+unfolding opening
+opening_rows = (refl, refl, refl, refl, refl)

@@ -1,0 +1,133 @@
+ghost use Rattle.std.specs.Prelude.{◌≡◌, ◌<◌, ◌≤◌, ◌++◌, length, IfOk, OnOk, MatchResult, Ok, Err, Some, None};
+ghost use Rattle.keyed_channel.specs.Frames.{sealed, frame_front, opening, plain_fault, parts_of, sender_of};
+
+use crate::keys::Keys;
+use crate::tags::hmac;
+use ritas_base::{Bytes, Mem};
+use std::alloc::Global;
+
+// The version of a frame, its first byte.
+const VERSION: u8 = 1;
+
+// The bytes of a frame beside its body, and of its tag.
+const LEAST_LEN: usize = 43;
+
+pub(crate) const TAG_LEN: usize = 32;
+
+// The bytes of the longest frame that opens.
+const MOST_LEN: usize = 16_384;
+
+/// Why a frame doesn't open: the first of these that holds.
+#[derive(Clone, Copy, Debug, PartialEq, Eq)]
+pub enum OpenFault {
+    /// It has fewer than 43 bytes.
+    Short,
+    /// It has more than 16,384 bytes.
+    Long,
+    /// The first byte isn't 1.
+    Version,
+    /// The receiver isn't this replica.
+    NotMine,
+    /// The sender isn't a replica, or is this one.
+    NoSuchReplica,
+    /// The tag isn't that of the bytes before it.
+    BadTag,
+}
+
+/// What a frame says, and which replica sent it.
+#[derive(Clone, Copy, Debug)]
+pub struct Opened<'a> {
+    /// The sender.
+    pub from: u8,
+    /// The sender's number of the frame.
+    pub seq: u64,
+    /// What is sent, borrowed from the frame.
+    pub body: &'a [u8],
+}
+
+// The frame without its tag, with room for the tag.
+pub(crate) fn front(alloc: Global, me: u8, to: u8, seq: u64, body: &[u8]) -> Result<Vec<u8>, Mem>
+    ensures { IfOk result (λ frame. frame.items ≡ frame_front me to seq body.now) }
+{
+    let mut frame = Vec::with_capacity(alloc, body.len() + LEAST_LEN)?;
+    frame.extend_from_slice(&[VERSION, me, to])?;
+    frame.extend_from_slice(&seq.to_be_bytes())?;
+    frame.extend_from_slice(body)?;
+    Ok(frame)
+}
+
+// The front with its tag behind it.
+pub(crate) fn tagged(mut front: Vec<u8>, tag: &[u8; 32]) -> Result<Bytes, Mem>
+    ensures { IfOk result (λ frame. frame ≡ front.items ++ tag.now) }
+{
+    front.extend_from_slice(tag)?;
+    Ok(Bytes::from_vec(front))
+}
+
+/// The frame that carries a body to a replica: version 1, sender, receiver, sequence number (8 bytes, big-endian),
+/// body, and the tag of all these bytes (HMAC-SHA-256, RFC 2104) under the key that sender and receiver share. The one
+/// error is want of memory. A body of more than 16,341 bytes gives a frame that opens nowhere.
+pub fn seal(alloc: Global, keys: &Keys, to: u8, seq: u64, body: &[u8]) -> Result<Bytes, Mem>
+    requires { to < keys.now.n }
+    ensures { IfOk result (λ frame. frame ≡ sealed keys.now to seq body.now) }
+{
+    let front = front(alloc, keys.me(), to, seq, body)?;
+    let tag = hmac(keys.key(to), front.as_slice());
+    tagged(front, &tag)
+}
+
+// The first fault that shows without a key.
+pub(crate) fn check(keys: &Keys, bytes: &[u8]) -> Result<(), OpenFault>
+    ensures fault { MatchResult result
+        (λ _. plain_fault keys.now bytes.now ≡ None)
+        (λ fault. plain_fault keys.now bytes.now ≡ Some fault) }
+    ensures long { OnOk result (43 ≤ length bytes.now) }
+    ensures sender { OnOk result ((sender_of bytes.now < keys.now.n) × (keys.now.n ≤ 31)) }
+{
+    if bytes.len() < LEAST_LEN {
+        return Err(OpenFault::Short);
+    }
+    if bytes.len() > MOST_LEN {
+        return Err(OpenFault::Long);
+    }
+    if bytes[0] != VERSION {
+        return Err(OpenFault::Version);
+    }
+    if bytes[2] != keys.me() {
+        return Err(OpenFault::NotMine);
+    }
+    if bytes[1] >= keys.n() || bytes[1] == keys.me() {
+        return Err(OpenFault::NoSuchReplica);
+    }
+    Ok(())
+}
+
+// The parts of a frame that isn't too short.
+pub(crate) fn parts<'a>(bytes: &'a [u8]) -> Opened<'a>
+    requires { 43 ≤ length bytes.now }
+    ensures { record { from = result.from; seq = result.seq; body = result.body.now } ≡ parts_of bytes.now }
+{
+    let mut seq = [0; 8];
+    seq.copy_from_slice(&bytes[3..11]);
+    Opened {
+        from: bytes[1],
+        seq: u64::from_be_bytes(seq),
+        body: &bytes[11..bytes.len() - TAG_LEN],
+    }
+}
+
+/// Opens a frame: who sent it, its sequence number and its body. Where it doesn't open, the first fault that holds, in
+/// the order of `OpenFault`. It takes no memory.
+pub fn open_frame<'a>(keys: &Keys, bytes: &'a [u8]) -> Result<Opened<'a>, OpenFault>
+    ensures { MatchResult result
+        (λ o. opening keys.now bytes.now ≡ Ok (record { from = o.from; seq = o.seq; body = o.body.now }))
+        (λ fault. opening keys.now bytes.now ≡ Err fault) }
+{
+    check(keys, bytes)?;
+    let (front, tag) = bytes.split_at(bytes.len() - TAG_LEN);
+    let wanted = hmac(keys.key(bytes[1]), front);
+    if wanted.as_slice() != tag {
+        return Err(OpenFault::BadTag);
+    }
+    Ok(parts(bytes))
+}

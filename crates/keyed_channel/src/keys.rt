@@ -1,0 +1,167 @@
+ghost use Rattle.std.specs.Prelude.{◌≡◌, ◌<◌, ◌≤◌, length};
+ghost use Rattle.keyed_channel.specs.KeyRow.{IsKeyRow, filled_row, key_with};
+ghost use Rattle.keyed_channel.specs.Keyed.{pair_key, dealt_keys, dealt, entry_of, tags_of};
+
+use crate::tags::{digest, finished, inner, outer};
+use ritas_base::{Params, Slot, Tagger};
+use sha2::Digest;
+use std::marker::Model;
+
+/// The keys of one replica: the one that it shares with each of the n replicas, itself too.
+#[derive(Clone, Copy)]
+pub struct Keys {
+    session: u64,
+    n: u8,
+    me: u8,
+    row: [[u8; 32]; 31],
+}
+
+impl Model for Keys {
+    ghost use Rattle.keyed_channel.specs.KeyRow.{KeyRow, IsKeyRow};
+
+    ghost Value = { KeyRow };
+
+    ghost view = { λ k. record { session = k.session; n = k.n; me = k.me; row = k.row } };
+
+    ghost invariant = { λ k. IsKeyRow (record { session = k.session; n = k.n; me = k.me; row = k.row }) };
+
+    ghost inverse = { λ k. record { session = k.session; n = k.n; me = k.me; row = k.row } };
+}
+
+// The key that replicas i and j share.
+fn pair_key(master: &[u8; 32], session: u64, i: u8, j: u8) -> [u8; 32]
+    ensures { result ≡ pair_key master.now session i j }
+{
+    let text = inner(master)
+        .chain_update([0x4b])
+        .chain_update(session.to_be_bytes())
+        .chain_update([i.min(j), i.max(j)]);
+    finished(text, outer(master))
+}
+
+// The keys that replica me shares with each of the n replicas, and zeros behind them.
+fn dealt_row(master: &[u8; 32], session: u64, n: u8, me: u8) -> [[u8; 32]; 31]
+    requires { n ≤ 31 }
+    ensures { result ≡ filled_row (dealt_keys master.now session n me) }
+{
+    let mut row = [[0; 32]; 31];
+    for j in 0..n {
+        row[j as usize] = pair_key(master, session, me, j);
+    }
+    row
+}
+
+// These keys, and zeros behind them.
+fn filled_row(keys: &[[u8; 32]]) -> [[u8; 32]; 31]
+    requires { length keys.now ≤ 31 }
+    ensures { result ≡ filled_row keys.now }
+{
+    let mut row = [[0; 32]; 31];
+    row[..keys.len()].copy_from_slice(keys);
+    row
+}
+
+impl Keys {
+    /// The keys of replica me, dealt from a master key: the one that i and j share is HMAC-SHA-256 (RFC 2104) under it of
+    /// 0x4b, the session (8 bytes, big-endian), and the lesser and the greater of i and j.
+    pub fn deal(master: &[u8; 32], session: u64, p: &Params, me: u8) -> Keys
+        requires { me < p.now.n }
+        ensures { result ≡ dealt master.now session p.now.n me }
+    {
+        let n = p.n();
+        let row = dealt_row(master, session, n, me);
+        Keys {
+            session,
+            n,
+            me,
+            row,
+        }
+    }
+
+    /// The keys of replica me, where place k of the row is the key that it shares with replica k.
+    pub fn from_row(session: u64, p: &Params, me: u8, row: &[[u8; 32]]) -> Keys
+        requires mine { me < p.now.n }
+        requires each { length row.now ≡ p.now.n }
+        ensures { result ≡ record { session = session; n = p.now.n; me = me; row = filled_row row.now } }
+    {
+        let n = p.n();
+        let row = filled_row(row);
+        Keys {
+            session,
+            n,
+            me,
+            row,
+        }
+    }
+
+    /// The number of the replica, below n.
+    pub fn me(&self) -> u8
+        ensures value { result ≡ self.now.me }
+        ensures row { IsKeyRow self.now }
+    {
+        self.me
+    }
+
+    /// The number of replicas that the keys were made for, 1 to 31.
+    pub fn n(&self) -> u8
+        ensures value { result ≡ self.now.n }
+        ensures row { IsKeyRow self.now }
+    {
+        self.n
+    }
+
+    /// The session.
+    pub fn session(&self) -> u64
+        ensures value { result ≡ self.now.session }
+        ensures row { IsKeyRow self.now }
+    {
+        self.session
+    }
+
+    // The key that is shared with replica j.
+    pub(crate) fn key(&self, j: u8) -> &[u8; 32]
+        requires { j < 31 }
+        ensures { result.now ≡ key_with self.now j }
+    {
+        &self.row[j as usize]
+    }
+}
+
+// The entry of an echoer for a verifier over a digest, at a slot, under the key that the two share.
+fn entry_under(
+    key: &[u8; 32],
+    session: u64,
+    slot: &Slot,
+    echoer: u8,
+    verifier: u8,
+    d: &[u8; 32],
+) -> [u8; 32]
+    ensures { result ≡ entry_of key.now session slot.now echoer verifier d.now }
+{
+    let text = inner(key)
+        .chain_update([0x45])
+        .chain_update(session.to_be_bytes())
+        .chain_update(slot.bytes())
+        .chain_update([echoer, verifier])
+        .chain_update(d);
+    finished(text, outer(key))
+}
+
+impl Tagger for Keys {
+    ghost me = { λ k. k.me };
+
+    ghost tags = { tags_of };
+
+    fn me(&self) -> u8 {
+        self.me
+    }
+
+    fn entry(&self, slot: &Slot, echoer: u8, verifier: u8, d: &[u8; 32]) -> [u8; 32] {
+        let other = if echoer == self.me { verifier } else { echoer };
+        entry_under(self.key(other), self.session, slot, echoer, verifier, d)
+    }
+
+    fn digest(&self, bytes: &[u8]) -> [u8; 32] {
+        digest(bytes)
+    }
+}

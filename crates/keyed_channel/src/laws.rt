@@ -1,0 +1,33 @@
+ghost use Rattle.keyed_channel.specs.Laws.{EntriesAgree, EntryByPair, OpensSealed, SealedLength, SealedLong, SealedOpens};
+
+/// A law: what replica i seals for replica j, both with keys dealt from one master key, opens at j as from i, with the
+/// same sequence number and body. The body has at most 16,341 bytes.
+pub fn sealed_opens()
+    ensures { SealedOpens }
+{}
+
+/// A law: what opens at replica j, with keys dealt from a master key, is the very frame that its sender, another
+/// replica, seals for j with that sequence number and body.
+pub fn opens_sealed()
+    ensures { OpensSealed }
+{}
+
+/// A law: a frame has 43 bytes more than its body.
+pub fn sealed_length()
+    ensures { SealedLength }
+{}
+
+/// A law: the frame of a body of more than 16,341 bytes opens nowhere, as `Long`.
+pub fn sealed_long()
+    ensures { SealedLong }
+{}
+
+/// A law: with keys dealt from a master key, an entry is tagged under the key that its echoer and its verifier share.
+pub fn entry_by_pair()
+    ensures { EntryByPair }
+{}
+
+/// A law: two replicas with keys dealt from one master key tag an entry alike, wherever both may be asked for it.
+pub fn entries_agree()
+    ensures { EntriesAgree }
+{}

@@ -1,0 +1,41 @@
+//! What two replicas prove to each other by a key that they share, and nobody else has: that a frame comes from its
+//! sender, that an entry of the hash matrix is its echoer's, and the coin that a key fixes.
+//!
+//! Every tag is HMAC (RFC 2104) over SHA-256 (FIPS 180-4), with the block of 64 bytes and the pads 0x36 and 0x5c. What
+//! is tagged begins with a byte of its own kind, and all numbers are big-endian:
+//!
+//! | Tag | Key | Bytes |
+//! |---|---|---|
+//! | key of i and j | master key | 0x4b, session (8), the lesser of i and j, the greater |
+//! | coin key of i | master key | 0x53, session (8), i |
+//! | of a frame | key of sender and receiver | 1, sender, receiver, sequence number (8), body |
+//! | entry | key of echoer and verifier | 0x45, session (8), slot (9), echoer, verifier, SHA-256 of the message (32) |
+//! | coin | coin key | 0x43, session (8), slot (9) |
+//!
+//! A frame is what its tag is of, and then the tag's 32 bytes. The contracts say each of these byte for byte. `seal`
+//! gives exactly that frame; `open_frame` gives the first fault that the bytes have, and their parts where they have
+//! none. So what one replica seals opens at the other (`sealed_opens`), and what opens is the very frame that its sender
+//! seals (`opens_sealed`). That nobody without the key makes up such a tag is no part of what is proved.
+//!
+//! `Channel` seals and opens with the same contracts, and hashes the pads of each key once. Nothing is said of how long a
+//! call takes, and so nothing of what its time tells about a key.
+#![tactic(auto)]
+
+mod channel;
+mod coin;
+mod frame;
+mod hashed_key;
+mod keys;
+mod laws;
+mod tags;
+#[cfg(test)]
+mod tests;
+
+pub use channel::Channel;
+pub use coin::{SeedCoin, coin_key};
+pub use frame::{OpenFault, Opened, open_frame, seal};
+pub use keys::Keys;
+pub use laws::{
+    entries_agree, entry_by_pair, opens_sealed, sealed_length, sealed_long, sealed_opens,
+};
+pub use tags::{digest, hmac};
