@@ -1,0 +1,140 @@
+-- What a service means: its rules on lists of words, the newest first, and when a word may come.
+use Rattle.std.specs.Prelude.{◌≡◌, ℕ, ◌+◌, ◌<◌, ◌≤◌, nat_lt, nat_le, Bool, true, false, not, ◌==◌, ◌||◌, List, [], ◌∷◌, ◌++◌, Option, Some, None, if◌then◌else◌}
+use Rattle.std.specs.List.{list_any}
+use Rattle.ritas_base.specs.declared.slot.Slot.{Slot}
+use Rattle.ritas_base.specs.declared.item.Say.{Say}
+use Rattle.ritas_base.specs.declared.id.Id.{Id}
+use Rattle.ritas_base.specs.declared.mode.Mode.{Mode}
+use Rattle.ritas_base.specs.Numbers.{Numbers, IsSession}
+use Rattle.ritas_base.specs.Slots.{slot_fault}
+use Rattle.frame_codec.specs.Format.{Is}
+use Rattle.frame_codec.specs.Grammar.{value}
+use Rattle.frame_codec.specs.Inputs.{IsInput}
+use Rattle.ritas_base.specs.SlotOrder.{is_slot}
+
+-- a word to a service: an input, or what a slot delivered
+pub data Word : Type 0 where
+  Ask : List ℕ → Word
+  Hear : Slot → List ℕ → Word
+
+-- the replica that a service's value is for, and its coin
+pub record Seat : Type 0 where
+  pub numbers : Numbers
+  pub me : ℕ
+  pub coin : Slot → Bool
+
+-- the slot of a command
+abbrev pub command_slot : ℕ → ℕ → Slot
+command_slot origin num = record { class = 1; a = num; attempt = 0; bround = 0; step = 0; origin = origin }
+
+-- whether the slot was heard
+abbrev pub is_heard : List Word → Slot → Bool
+is_heard [] s = false
+is_heard (Ask v ∷ w) s = is_heard w s
+is_heard (Hear q v ∷ w) s = is_slot q s || is_heard w s
+
+-- how many inputs there were
+abbrev pub asked : List Word → ℕ
+asked [] = 0
+asked (Ask v ∷ w) = asked w + 1
+asked (Hear q v ∷ w) = asked w
+
+-- the meaning of a service at one seat, by the words so far
+pub record ServiceRules : Type 0 where
+  -- the root services that it serves
+  pub serves : ℕ → Bool
+  -- the broadcasts that a word newly starts
+  pub says : Seat → List Word → Word → List Say
+  -- whether items of a slot inside the window may be taken
+  pub opens : Seat → List Word → Slot → Bool
+  -- how many rounds are complete
+  pub completed : Seat → List Word → ℕ
+  -- the least command number of an origin that isn't finished
+  pub base : Seat → List Word → ℕ → ℕ
+  -- the number that the next input gets
+  pub next_number : Seat → List Word → ℕ
+  -- whether the one input of a root service with one instance is there
+  pub given : Seat → List Word → Bool
+  -- the identifier log, the newest first
+  pub done : Seat → List Word → List Id
+
+-- whether a slot is one of those said
+abbrev pub is_said : List Say → Slot → Bool
+is_said says s = list_any (λ y. is_slot y.slot s) says
+
+-- all that was said
+abbrev pub said : ServiceRules → Seat → List Word → List Say
+said r seat [] = []
+said r seat (c ∷ w) = r.says seat w c ++ said r seat w
+
+-- whether a slot's command number or round lies too far behind what is finished
+abbrev pub is_past : ServiceRules → Seat → List Word → Slot → Bool
+is_past r seat w s = if s.class == 1 then nat_lt (s.a + 64) (r.base seat w s.origin) else nat_lt (s.a + 2) (r.completed seat w)
+
+-- or too far ahead of it
+abbrev pub is_ahead : ServiceRules → Seat → List Word → Slot → Bool
+is_ahead r seat w s = if s.class == 1 then nat_le (r.base seat w s.origin + 64) s.a else nat_lt (r.completed seat w + 4) s.a
+
+-- an input may be given: the one of a root service with one instance isn't there, and the next number lies in the window
+pub record MayAsk (r : ServiceRules) (seat : Seat) (w : List Word) : Type 0 where
+  pub first : r.given seat w ≡ false
+  pub room : r.next_number seat w < r.base seat w seat.me + 64
+  pub number : r.next_number seat w < 1000000
+
+-- a slot is heard once, inside the window, and while its items may be taken
+pub record MayHear (r : ServiceRules) (seat : Seat) (w : List Word) (s : Slot) : Type 0 where
+  pub origin : s.origin < seat.numbers.n
+  pub number : s.a < 1000000
+  pub not_past : is_past r seat w s ≡ false
+  pub not_ahead : is_ahead r seat w s ≡ false
+  pub is_open : r.opens seat w s ≡ true
+  pub first : is_heard w s ≡ false
+
+-- the conditions that each of these words met
+abbrev pub AreProper : ServiceRules → Seat → List Word → Type 0
+AreProper r seat [] = Unit {0}
+AreProper r seat (Ask v ∷ w) = MayAsk r seat w × AreProper r seat w
+AreProper r seat (Hear s v ∷ w) = MayHear r seat w s × AreProper r seat w
+
+-- each is at one of the replica's own slots, where nothing was said before nor is by another of them
+abbrev pub AreNew : ServiceRules → Seat → List Word → List Say → Type 0
+AreNew r seat w [] = Unit {0}
+AreNew r seat w (y ∷ ys) =
+    (y.slot.origin ≡ seat.me) × (is_said (said r seat w) y.slot ≡ false) × (is_said ys y.slot ≡ false) × AreNew r seat w ys
+
+-- the inputs, and the values heard, are in the grammar of the root service
+abbrev pub AreGoodWords : Numbers → Mode → List Word → Type 0
+AreGoodWords p mode [] = Unit {0}
+AreGoodWords p mode (Ask v ∷ w) = IsInput p mode v × AreGoodWords p mode w
+AreGoodWords p mode (Hear s v ∷ w) = (slot_fault p mode s ≡ None) × Is (value p mode.root s) v × AreGoodWords p mode w
+
+-- each is at a slot of the root service, with a value of that slot's grammar
+abbrev pub AreGoodSays : Numbers → Mode → List Say → Type 0
+AreGoodSays p mode [] = Unit {0}
+AreGoodSays p mode (y ∷ ys) = (slot_fault p mode y.slot ≡ None) × Is (value p mode.root y.slot) y.value × AreGoodSays p mode ys
+
+-- the word is this input
+abbrev pub IsAsk : Word → List ℕ → Type 0
+IsAsk (Ask u) v = u ≡ v
+IsAsk (Hear s u) v = ⊥
+
+-- what is said is the input of this word, at the replica's next number
+abbrev pub IsInputSaid : Seat → List Word → Word → Say → Type 0
+IsInputSaid seat w c y = (y.slot ≡ command_slot seat.me (asked w)) × IsAsk c y.value
+
+abbrev pub AreInputs : Seat → List Word → Word → List Say → Type 0
+AreInputs seat w c [] = Unit {0}
+AreInputs seat w c (y ∷ ys) = (y.slot.class ≡ 1 → IsInputSaid seat w c y) × AreInputs seat w c ys
+
+-- laws of a single value, over all words that met their conditions
+pub record WordLaws (r : ServiceRules) : Type 0 where
+  -- what is said is at new slots of this replica
+  pub says_new : (seat : Seat) (c : Word) (w : List Word) → AreProper r seat (c ∷ w) → AreNew r seat w (r.says seat w c)
+  -- and in the grammar, where all that came is
+  pub says_good : (seat : Seat) (mode : Mode) (c : Word) (w : List Word) → IsSession seat.numbers → seat.me < seat.numbers.n → r.serves mode.root ≡ true
+      → AreProper r seat (c ∷ w) → AreGoodWords seat.numbers mode (c ∷ w) → AreGoodSays seat.numbers mode (r.says seat w c)
+  -- a command slot is said for an input alone, and is that of the replica's next number
+  pub commands_said : (seat : Seat) (c : Word) (w : List Word) → AreProper r seat (c ∷ w) → AreInputs seat w c (r.says seat w c)
+  -- the windows never go back
+  pub completed_stays : (seat : Seat) (c : Word) (w : List Word) → r.completed seat w ≤ r.completed seat (c ∷ w)
+  pub base_stays : (seat : Seat) (c : Word) (w : List Word) (o : ℕ) → r.base seat w o ≤ r.base seat (c ∷ w) o

@@ -1,0 +1,87 @@
+ghost use Rattle.std.specs.Prelude.{◌≡◌, ℕ, ◌<◌, Bool, true, false, List, [], Option, IfOk};
+ghost use Rattle.std.specs.Option.{option_copied};
+ghost use Rattle.ritas_base.specs.declared.item.Msg.{Msg};
+ghost use Rattle.ritas_base.specs.Messages.{Place};
+ghost use Rattle.ritas_base.specs.History.{Call};
+ghost use Rattle.ritas_base.specs.Tags.{Tags};
+ghost use Rattle.layer_api.specs.Broadcast.{BroadcastRules, Tagging};
+ghost use Rattle.layer_api.specs.BroadcastCalls.{Started, Takes};
+ghost use Rattle.layer_api.specs.OneValue.{ValueLaws, OneValue};
+
+use ritas_base::{Item, Mem, Msg, Params, Slot, Tagger};
+use std::alloc::Global;
+
+/// What became of an item that a broadcast was given.
+#[derive(Clone, Copy, Debug, PartialEq, Eq)]
+pub enum Heard {
+    /// It was taken.
+    Took,
+    /// It repeats one that was taken, and changed nothing.
+    Repeat,
+}
+
+/// One replica's part in one broadcast.
+pub trait Broadcast: Drop + Sized {
+    /// The value stands for these calls, the newest first, at this place, with a tagger that answers so.
+    ghost stands: { Self → Place → Tags → List Call → Type 0 };
+
+    /// What the broadcast means.
+    ghost rules: { BroadcastRules };
+
+    /// No call on it was without memory.
+    ghost live: { Self → Bool };
+
+    /// What `delivered` answers.
+    ghost shown: { Self → Option (List ℕ) };
+
+    /// The part of replica `me` in the broadcast of a slot, before any call. The one error is want of memory.
+    fn new(alloc: Global, p: &Params, me: u8, slot: Slot) -> Result<Self, Mem>
+        requires me_below { me < p.now.n }
+        requires origin_below { slot.origin < p.now.n }
+        ensures { IfOk result (λ b. (tags : Tags) → stands b (record { numbers = p.now; me = me; slot = slot }) tags []) };
+
+    /// Broadcasts a value, and appends the messages that become due by it. It may be called once, at the slot's origin.
+    ///
+    /// For want of memory `out` is as before, and the value isn't `live`.
+    fn start<T: Tagger>(
+        &mut self,
+        alloc: Global,
+        t: &T,
+        value: &[u8],
+        out: &mut Vec<Msg>,
+    ) -> Result<(), Mem>
+        ensures { Started stands rules live shown (record { me = T.me t.now; tags = T.tags t.now }) self.old self.new value.now out.old.items out.new.items result };
+
+    /// Takes an item, and appends the messages that become due by it. An item that repeats one changes nothing.
+    ///
+    /// For want of memory `out` is as before, and the value isn't `live`.
+    fn take<T: Tagger>(
+        &mut self,
+        alloc: Global,
+        t: &T,
+        item: &Item,
+        out: &mut Vec<Msg>,
+    ) -> Result<Heard, Mem>
+        ensures { Takes stands rules live shown (record { me = T.me t.now; tags = T.tags t.now }) self.old self.new item.now out.old.items out.new.items result };
+
+    /// Whether an item of this slot and broadcast can be taken yet.
+    fn ready_for(&self, item: &Item) -> bool
+        ensures { (at : Place) (tags : Tags) (h : List Call) → stands self.now at tags h → result ≡ rules.ready at tags h item.now };
+
+    /// What is delivered, if anything is.
+    fn delivered(&self) -> Option<&[u8]>
+        ensures { option_copied result ≡ shown self.now };
+
+    /// Whether no call on this value answered want of memory.
+    fn live(&self) -> bool
+        ensures { result ≡ live self.now };
+
+    /// A value that stands for some calls is live, and shows what is delivered after them.
+    ghost shows: { (b : Self) (at : Place) (tags : Tags) (h : List Call) → stands b at tags h → (live b ≡ true) × (shown b ≡ rules.out at tags h) };
+
+    /// The laws of a single value.
+    ghost value_laws: { ValueLaws rules };
+
+    /// The law of one value, over every run of correct replicas.
+    ghost one_value: { OneValue rules };
+}

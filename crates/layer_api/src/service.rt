@@ -1,0 +1,81 @@
+ghost use Rattle.std.specs.Prelude.{◌≡◌, ℕ, ◌<◌, Bool, true, List, [], IfOk, reverse};
+ghost use Rattle.ritas_base.specs.declared.id.Id.{Id};
+ghost use Rattle.layer_api.specs.Service.{ServiceRules, Seat, Word, WordLaws};
+ghost use Rattle.layer_api.specs.ServiceCalls.{Inputs, Heeds};
+
+use ritas_base::{Coin, Id, Mem, Params, Say, Slot};
+use std::alloc::Global;
+
+/// A root service over broadcasts: it is told inputs and what slots delivered, and says what to broadcast.
+pub trait Service: Drop + Sized {
+    /// The value stands for these words, the newest first, at this seat.
+    ghost stands: { Self → Seat → List Word → Type 0 };
+
+    /// What the service means.
+    ghost rules: { ServiceRules };
+
+    /// No call on it was without memory.
+    ghost live: { Self → Bool };
+
+    /// Whether the type serves this root service.
+    fn serves(root: u8) -> bool
+        ensures { result ≡ rules.serves root };
+
+    /// The service of replica `me`, before any word. The one error is want of memory.
+    fn new(alloc: Global, p: &Params, me: u8) -> Result<Self, Mem>
+        requires { me < p.now.n }
+        ensures { IfOk result (λ s. (seat : Seat) → seat.numbers ≡ p.now → seat.me ≡ me → stands s seat []) };
+
+    /// Takes an input, and appends the broadcasts that it newly starts.
+    ///
+    /// For want of memory `says` is as before, and the value isn't `live`.
+    fn input(&mut self, alloc: Global, value: &[u8], says: &mut Vec<Say>) -> Result<(), Mem>
+        ensures { Inputs stands rules live self.old self.new value.now says.old.items says.new.items result };
+
+    /// Hears what a slot delivered, and appends the broadcasts that this newly starts. It comes once a slot.
+    ///
+    /// For want of memory `says` is as before, and the value isn't `live`.
+    fn heard<C: Coin>(
+        &mut self,
+        alloc: Global,
+        coin: &C,
+        slot: &Slot,
+        value: &[u8],
+        says: &mut Vec<Say>,
+    ) -> Result<(), Mem>
+        ensures { Heeds stands rules live (C.bits coin.now) self.old self.new slot.now value.now says.old.items says.new.items result };
+
+    /// Whether items of a slot inside the window may be taken.
+    fn is_open(&self, slot: &Slot) -> bool
+        ensures { (seat : Seat) (w : List Word) → stands self.now seat w → result ≡ rules.opens seat w slot.now };
+
+    /// How many rounds are complete.
+    fn completed(&self) -> u32
+        ensures { (seat : Seat) (w : List Word) → stands self.now seat w → result ≡ rules.completed seat w };
+
+    /// The least command number of an origin that isn't finished.
+    fn base(&self, origin: u8) -> u32
+        ensures { (seat : Seat) (w : List Word) → stands self.now seat w → origin < seat.numbers.n → result ≡ rules.base seat w origin };
+
+    /// The number that the next input gets.
+    fn next_number(&self) -> u32
+        ensures { (seat : Seat) (w : List Word) → stands self.now seat w → result ≡ rules.next_number seat w };
+
+    /// Whether the one input of a root service with one instance is there.
+    fn given(&self) -> bool
+        ensures { (seat : Seat) (w : List Word) → stands self.now seat w → result ≡ rules.given seat w };
+
+    /// The identifier log, the oldest first.
+    fn done(&self) -> &[Id]
+        ensures { (seat : Seat) (w : List Word) → stands self.now seat w → result.now ≡ reverse (rules.done seat w) };
+
+    /// Whether no call on this value answered want of memory.
+    fn live(&self) -> bool
+        ensures { result ≡ live self.now };
+
+    /// A value that stands for some words is live.
+    ghost lives: { (s : Self) (seat : Seat) (w : List Word) → stands s seat w → live s ≡ true };
+
+    /// The laws of a single value.
+    ghost word_laws: { WordLaws rules };
+}
