@@ -1,0 +1,10 @@
+pub mod Bracha
+pub mod Tally
+pub mod State
+pub mod Steps
+pub mod Due
+pub mod Good
+pub mod ValueLaws
+pub mod OneValue
+pub mod Reading
+pub mod Rows

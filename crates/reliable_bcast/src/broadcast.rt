@@ -1,0 +1,72 @@
+ghost use Rattle.std.specs.Prelude.{◌≡◌};
+ghost use Rattle.std.proofs.Common.{ap};
+ghost use Rattle.reliable_bcast.specs.declared.rb.Rb.{Rb};
+ghost use Rattle.reliable_bcast.specs.Bracha.{bracha};
+ghost use Rattle.reliable_bcast.specs.State.{state_of};
+ghost use Rattle.reliable_bcast.specs.ValueLaws.{value_laws_of_bracha};
+ghost use Rattle.reliable_bcast.specs.OneValue.{one_value_of_bracha};
+
+use crate::rb::Rb;
+use layer_api::{Broadcast, Heard};
+use ritas_base::{Item, Mem, Msg, Params, Slot, Tagger};
+use std::alloc::Global;
+
+impl Broadcast for Rb {
+    ghost stands = { λ b at tags h. b ≡ state_of at h };
+
+    ghost rules = { bracha };
+
+    ghost live = { λ b. b.live };
+
+    ghost shown = { λ b. b.delivered };
+
+    ghost shows = { λ b at tags h e. (ap (λ (x : Rb). x.live) e, ap (λ (x : Rb). x.delivered) e) };
+
+    ghost value_laws = { value_laws_of_bracha };
+
+    ghost one_value = { one_value_of_bracha };
+
+    fn new(alloc: Global, p: &Params, _me: u8, slot: Slot) -> Result<Rb, Mem> {
+        Ok(Rb::make(alloc, p, slot))
+    }
+
+    fn start<T: Tagger>(
+        &mut self,
+        alloc: Global,
+        _t: &T,
+        value: &[u8],
+        out: &mut Vec<Msg>,
+    ) -> Result<(), Mem> {
+        let said = self.begin(alloc, value, out);
+        if said.is_err() {
+            self.live = false;
+        }
+        said
+    }
+
+    fn take<T: Tagger>(
+        &mut self,
+        alloc: Global,
+        _t: &T,
+        item: &Item,
+        out: &mut Vec<Msg>,
+    ) -> Result<Heard, Mem> {
+        let heard = self.hear(alloc, item, out);
+        if heard.is_err() {
+            self.live = false;
+        }
+        heard
+    }
+
+    fn ready_for(&self, _item: &Item) -> bool {
+        true
+    }
+
+    fn delivered(&self) -> Option<&[u8]> {
+        self.value()
+    }
+
+    fn live(&self) -> bool {
+        self.live
+    }
+}

@@ -1,0 +1,29 @@
+ghost use Rattle.ritas_base.specs.Numbers.{Numbers};
+ghost use Rattle.ritas_base.specs.Messages.{Place};
+ghost use Rattle.reliable_bcast.specs.Bracha.{bracha, is_backed, is_carried, ready_value, out_of};
+ghost use Rattle.reliable_bcast.specs.Reading.{IsTheValue};
+ghost use Rattle.layer_api.specs.OneValue.{OneValue};
+
+/// In every run where at least n - f replicas are correct, what correct replicas deliver is one value, and a correct
+/// origin's is what it started.
+///
+/// It does nothing: its contract is the law.
+pub fn one_value()
+    ensures { OneValue bracha }
+{}
+
+/// READY is due of a value exactly where that value has an echo quorum of ECHO voters or f + 1 READY voters at the
+/// shortest prefix of the calls with such a value; there it is the only one.
+///
+/// It does nothing: its contract is the law.
+pub fn one_backed()
+    ensures { (p : Numbers) → IsTheValue (is_backed p) (ready_value p) }
+{}
+
+/// A value is delivered exactly where it has 2f + 1 READY voters at the shortest prefix of the calls with such a
+/// value; there it is the only one.
+///
+/// It does nothing: its contract is the law.
+pub fn one_carried()
+    ensures { (at : Place) → IsTheValue (is_carried at.numbers) (out_of at) }
+{}

@@ -1,0 +1,102 @@
+ghost use Rattle.std.specs.Prelude.{◌≡◌, IfOk, replicate};
+
+use crate::Rb;
+use layer_api::{Broadcast, Heard};
+use ritas_base::{Bytes, Item, Kind, Mem, Msg, Params, Slot, Tagger};
+use std::alloc::Global;
+
+const SLOT: Slot = Slot {
+    class: 1,
+    a: 0,
+    attempt: 0,
+    bround: 0,
+    step: 0,
+    origin: 0,
+};
+
+/// A tagger whose answers are all zeros: reliable broadcast asks for none.
+struct Zeros {
+    me: u8,
+}
+
+impl Tagger for Zeros {
+    ghost me = { λ t. t.me };
+
+    ghost tags = { λ t. record { digest = λ m. replicate 32 0; entry = λ s echoer verifier d. replicate 32 0 } };
+
+    fn me(&self) -> u8 {
+        self.me
+    }
+
+    fn entry(&self, _slot: &Slot, _echoer: u8, _verifier: u8, _d: &[u8; 32]) -> [u8; 32] {
+        [0; 32]
+    }
+
+    fn digest(&self, _bytes: &[u8]) -> [u8; 32] {
+        [0; 32]
+    }
+}
+
+fn item(alloc: Global, from: u8, kind: Kind, value: &[u8]) -> Result<Item, Mem> {
+    Ok(Item {
+        from,
+        kind,
+        slot: SLOT,
+        value: Bytes::from_slice(alloc, value)?,
+    })
+}
+
+// Replica 1 of 4, one of which may be faulty: each item with the answer, what is said, and whether it delivers.
+#[test]
+fn follows_the_rules(rt: HostRuntime) {
+    let alloc = rt.alloc();
+    let p = Params::new(4, 1).expect(&rt, "numbers");
+    let table = [
+        (0, Kind::Init, b"a", Heard::Took, Some(Kind::Echo), false),
+        (0, Kind::Init, b"b", Heard::Repeat, None, false),
+        (0, Kind::Echo, b"a", Heard::Took, None, false),
+        (2, Kind::Echo, b"b", Heard::Took, None, false),
+        (2, Kind::Echo, b"a", Heard::Repeat, None, false),
+        (3, Kind::Echo, b"a", Heard::Took, None, false),
+        (1, Kind::Echo, b"a", Heard::Took, Some(Kind::Ready), false),
+        (2, Kind::Ready, b"a", Heard::Took, None, false),
+        (2, Kind::Ready, b"a", Heard::Repeat, None, false),
+        (0, Kind::Ready, b"a", Heard::Took, None, false),
+        (9, Kind::Ready, b"a", Heard::Repeat, None, false),
+        (0, Kind::Hashes, b"a", Heard::Repeat, None, false),
+        (3, Kind::Ready, b"a", Heard::Took, None, true),
+    ];
+    let mut rb = Rb::new(alloc, &p, 1, SLOT).expect(&rt, "new");
+    let mut out: Vec<Msg> = Vec::new(alloc);
+    for (at, (from, kind, value, heard, said, delivers)) in table.into_iter().enumerate() {
+        let item = item(alloc, from, kind, value).expect(&rt, "item");
+        let answer = rb
+            .take(alloc, &Zeros { me: 1 }, &item, &mut out)
+            .expect(&rt, "take");
+        assert_eq!(rt; answer, heard, "answer at {at}");
+        assert_eq!(rt; out.pop().map(|m| m.kind), said, "said at {at}");
+        assert!(rt; out.is_empty(), "more at {at}");
+        assert_eq!(rt; rb.delivered().is_some(), delivers, "delivered at {at}");
+    }
+    assert!(rt; rb.delivered() == Some(b"a".as_slice()), "the value");
+}
+
+// The origin starts, and says READY at two READYs, before any ECHO.
+#[test]
+fn starts_and_joins(rt: HostRuntime) {
+    let alloc = rt.alloc();
+    let p = Params::new(4, 1).expect(&rt, "numbers");
+    let mut rb = Rb::new(alloc, &p, 0, SLOT).expect(&rt, "new");
+    let mut out: Vec<Msg> = Vec::new(alloc);
+    rb.start(alloc, &Zeros { me: 0 }, b"a", &mut out)
+        .expect(&rt, "start");
+    assert_eq!(rt; out.pop().map(|m| m.kind), Some(Kind::Init), "start");
+    for (from, said) in [(1, None), (2, Some(Kind::Ready))] {
+        let item = item(alloc, from, Kind::Ready, b"a").expect(&rt, "item");
+        assert!(rt; rb.ready_for(&item), "ready");
+        rb.take(alloc, &Zeros { me: 0 }, &item, &mut out)
+            .expect(&rt, "take");
+        assert_eq!(rt; out.pop().map(|m| m.kind), said, "at {from}");
+    }
+    assert!(rt; rb.live(), "live");
+}
