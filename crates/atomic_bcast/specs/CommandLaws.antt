@@ -1,0 +1,205 @@
+-- The laws of the service of commands: what is said is new, and the base is the least number that was not heard.
+use Rattle.std.specs.Prelude.{◌≡◌, ℕ, ◌+◌, ◌<◌, ◌≤◌, Bool, true, false, ◌==◌, List, [], ◌∷◌, Option, Some, None, MatchOption, length, unwrap_or, refl, ◌⊎◌}
+use Rattle.std.proofs.Common.{sym, ◌∙◌, ap, subst, inl, inr, arith, zero, suc}
+use Rattle.std.specs.List.{find, range_with_len, list_any}
+use Rattle.std.proofs.lemmas.Bool.{cases_Bool, cases_order, or_cases, or_left, or_right, or_from, not-true, not-false, eq-eqb, eqb-true, leb-false, both_ways, cond-true, cond-false, false_from_ne_true}
+use Rattle.std.proofs.lemmas.Map.Steps.{le-length_from_below}
+use Rattle.ritas_base.specs.declared.slot.Slot.{Slot}
+use Rattle.ritas_base.specs.declared.mode.Mode.{Mode}
+use Rattle.ritas_base.specs.Numbers.{IsSession}
+use Rattle.ritas_base.specs.Slots.{has_class}
+use Rattle.ritas_base.specs.SlotOrder.{is_slot, same_slot}
+use Rattle.frame_codec.specs.Inputs.{takes_input}
+use Rattle.frame_codec.proofs.Items.{command_slot_right, input_value}
+use Rattle.layer_api.specs.Service.{Seat, Word, Ask, Hear, command_slot, is_heard, asked, is_said, said, is_ahead, MayHear, AreProper, AreNew, AreGoodWords, AreGoodSays, WordLaws, AreInputs}
+use Rattle.atomic_bcast.specs.Commands.{is_missing, base_of, says_of, commands}
+
+-- ---- the least number that was not heard
+
+-- b is the least number from a on that passes
+record IsFirst (p : ℕ → Bool) (a b : ℕ) : Type 0 where
+  passes : p b ≡ true
+  «from» : a ≤ b
+  none_before : (k : ℕ) → a ≤ k → k < b → p k ≡ false
+
+-- no number of these passes
+abbrev NonePasses : (ℕ → Bool) → ℕ → ℕ → Type 0
+NonePasses p a n = (k : ℕ) → a ≤ k → k < a + n → p k ≡ false
+
+at_or_after : (p : ℕ → Bool) (a k : ℕ) → p a ≡ false → a ≤ k → (a + 1 ≤ k → p k ≡ false) → p k ≡ false
+at_or_after p a k fails here later =
+    elim (cases_order a k) [
+      | inl same ↦ ap p (sym same) ∙ fails
+      | inr (inl less) ↦ later (omega arith)
+      | inr (inr more) ↦ absurd (omega arith)
+    ]
+
+find_later : (p : ℕ → Bool) (a n : ℕ) (o : Option ℕ) → p a ≡ false → MatchOption o (NonePasses p (a + 1) n) (IsFirst p (a + 1))
+    → MatchOption o (NonePasses p a (suc n)) (IsFirst p a)
+find_later p a n None fails later = λ k here within. at_or_after p a k fails here (λ after. later k after (omega arith))
+find_later p a n (Some b) fails later = record {
+  passes = later.passes;
+  «from» = let g : a + 1 ≤ b = later.«from» in omega arith;
+  none_before = λ k here before. at_or_after p a k fails here (λ after. later.none_before k after before);
+}
+
+find_is : (p : ℕ → Bool) (a n : ℕ) → MatchOption (find p (range_with_len a n)) (NonePasses p a n) (IsFirst p a)
+find_is p a zero = λ k here within. absurd (omega arith)
+find_is p a (suc n) =
+    elim (cases_Bool (p a)) [
+      | inl passes ↦
+          rw (cond-true (p a) (Some a) (find p (range_with_len (a + 1) n)) passes)
+          (record { passes = passes; «from» = omega arith; none_before = λ k here before. absurd (omega arith) })
+      | inr fails ↦
+          rw (cond-false (p a) (Some a) (find p (range_with_len (a + 1) n)) fails) (find_later p a n _ fails (find_is p (a + 1) n))
+    ]
+
+-- the numbers of the slots that were heard
+abbrev heard_numbers : List Word → List ℕ
+heard_numbers [] = []
+heard_numbers (Ask v ∷ w) = heard_numbers w
+heard_numbers (Hear s v ∷ w) = s.a ∷ heard_numbers w
+
+fewer_numbers : (w : List Word) → length (heard_numbers w) ≤ length w
+fewer_numbers [] = omega arith
+fewer_numbers (Ask v ∷ w) = omega (arith, fewer_numbers w)
+fewer_numbers (Hear s v ∷ w) = omega (arith, fewer_numbers w)
+
+has_number : (w : List Word) (o k : ℕ) → is_heard w (command_slot o k) ≡ true → list_any (λ (x : ℕ). k == x) (heard_numbers w) ≡ true
+has_number [] o k h = h
+has_number (Ask v ∷ w) o k h = has_number w o k h
+has_number (Hear s v ∷ w) o k h =
+    elim (or_cases (is_slot s (command_slot o k)) (is_heard w (command_slot o k)) h) [
+      | inl here ↦
+          let same : k ≡ s.a = sym (ap (λ (q : Slot). q.a) (same_slot s (command_slot o k) here)) in
+          or_left (k == s.a) (list_any (λ (x : ℕ). k == x) (heard_numbers w)) (eq-eqb k s.a same)
+      | inr there ↦ or_right (k == s.a) (list_any (λ (x : ℕ). k == x) (heard_numbers w)) (has_number w o k there)
+    ]
+
+-- of so many numbers not all were heard
+pub not_all_heard : (w : List Word) (o n : ℕ) → ((k : ℕ) → k < n → is_heard w (command_slot o k) ≡ true) → n ≤ length w
+not_all_heard w o n all =
+    let few = le-length_from_below (heard_numbers w) n (λ k below. has_number w o k (all k below)) in
+    omega (arith, few, fewer_numbers w)
+
+-- b is the least number of the origin at which no command was heard
+pub record IsBase (w : List Word) (o b : ℕ) : Type 0 where
+  pub missing : is_heard w (command_slot o b) ≡ false
+  pub below : (k : ℕ) → k < b → is_heard w (command_slot o k) ≡ true
+
+found_base : (w : List Word) (o : ℕ) (found : Option ℕ)
+    → MatchOption found (NonePasses (is_missing w o) 0 (length w + 1)) (IsFirst (is_missing w o) 0)
+    → IsBase w o (unwrap_or found (length w))
+found_base w o None none =
+    let all = not_all_heard w o (length w + 1) (λ k within. not-false (is_heard w (command_slot o k)) (none k (omega arith) (omega arith))) in
+    absurd (omega (arith, all))
+found_base w o (Some b) first = record {
+  missing = not-true (is_heard w (command_slot o b)) first.passes;
+  below = λ k before. not-false (is_heard w (command_slot o k)) (first.none_before k (omega arith) before);
+}
+
+pub base_is : (w : List Word) (o : ℕ) → IsBase w o (base_of w o)
+unfolding base_of
+base_is w o = found_base w o (find (is_missing w o) (range_with_len 0 (length w + 1))) (find_is (is_missing w o) 0 (length w + 1))
+
+-- there is one base alone
+pub base_from : (w : List Word) (o b : ℕ) → IsBase w o b → base_of w o ≡ b
+base_from w o b is =
+    elim (cases_order (base_of w o) b) [
+      | inl same ↦ same
+      | inr (inl less) ↦ absurd (both_ways _ (base_is w o).missing (is.below (base_of w o) less))
+      | inr (inr more) ↦ absurd (both_ways _ is.missing ((base_is w o).below b more))
+    ]
+
+-- ---- the base never goes back
+
+-- what was heard stays heard
+pub heard_stays : (c : Word) (w : List Word) (s : Slot) → is_heard w s ≡ true → is_heard (c ∷ w) s ≡ true
+heard_stays (Ask v) w s h = h
+heard_stays (Hear q v) w s h = or_right (is_slot q s) (is_heard w s) h
+
+pub base_stays : (seat : Seat) (c : Word) (w : List Word) (o : ℕ) → base_of w o ≤ base_of (c ∷ w) o
+base_stays seat c w o =
+    elim (cases_order (base_of (c ∷ w) o) (base_of w o)) [
+      | inl same ↦ omega arith
+      | inr (inl less) ↦
+          let still = heard_stays c w (command_slot o (base_of (c ∷ w) o)) ((base_is w o).below (base_of (c ∷ w) o) less) in
+          absurd (both_ways _ (base_is (c ∷ w) o).missing still)
+      | inr (inr more) ↦ omega arith
+    ]
+
+-- ---- what was heard lies near the base
+
+near_now : (seat : Seat) (w : List Word) (s : Slot) (o k : ℕ) → MayHear commands seat w s → is_slot s (command_slot o k) ≡ true → k < base_of w o + 64
+near_now seat w s o k may here =
+    let same = same_slot s (command_slot o k) here in
+    let ahead = subst (λ (q : Slot). is_ahead commands seat w q ≡ false) same may.not_ahead in
+    leb-false (base_of w o + 64) k ahead
+
+-- each number that was heard is less than 64 above the base
+pub heard_near : (seat : Seat) (w : List Word) (o k : ℕ) → AreProper commands seat w → is_heard w (command_slot o k) ≡ true → k < base_of w o + 64
+heard_near seat [] o k proper h = absurd cc
+heard_near seat (Ask v ∷ w) o k proper h =
+    let before = heard_near seat w o k proper.1 h in
+    omega (arith, before, base_stays seat (Ask v) w o)
+heard_near seat (Hear s v ∷ w) o k proper h =
+    elim (or_cases (is_slot s (command_slot o k)) (is_heard w (command_slot o k)) h) [
+      | inl here ↦ omega (arith, near_now seat w s o k proper.0 here, base_stays seat (Hear s v) w o)
+      | inr there ↦ omega (arith, heard_near seat w o k proper.1 there, base_stays seat (Hear s v) w o)
+    ]
+
+-- ---- what is said is new
+
+other_number : (me k j : ℕ) → (k ≡ j → ⊥) → is_slot (command_slot me k) (command_slot me j) ≡ false
+other_number me k j other =
+    false_from_ne_true _ (λ same. other (ap (λ (q : Slot). q.a) (same_slot (command_slot me k) (command_slot me j) same)))
+
+-- nothing was said at a number that is still to come
+said_below : (seat : Seat) (w : List Word) (k : ℕ) → asked w ≤ k → is_said (said commands seat w) (command_slot seat.me k) ≡ false
+said_below seat [] k after = refl
+said_below seat (Ask v ∷ w) k after =
+    or_from _ _ (other_number seat.me (asked w) k (λ same. omega (arith, after, same))) (said_below seat w k (omega (arith, after)))
+said_below seat (Hear s v ∷ w) k after = said_below seat w k after
+
+pub says_new : (seat : Seat) (c : Word) (w : List Word) → AreProper commands seat (c ∷ w) → AreNew commands seat w (says_of seat w c)
+says_new seat (Ask v) w proper = (refl, said_below seat w (asked w) (omega arith), refl, tt)
+says_new seat (Hear s v) w proper = tt
+
+-- ---- what is said is in the grammar
+
+class_one : (root : ℕ) → (root ≡ 1) ⊎ (root ≡ 2) → has_class root 1 ≡ true
+unfolding has_class
+class_one root (inl one) = ap (λ (r : ℕ). has_class r 1) one
+class_one root (inr two) = ap (λ (r : ℕ). has_class r 1) two
+
+takes_command : (root origin num : ℕ) → (root ≡ 1) ⊎ (root ≡ 2) → takes_input root (command_slot origin num) ≡ true
+takes_command root origin num (inl one) = ap (λ (r : ℕ). takes_input r (command_slot origin num)) one
+takes_command root origin num (inr two) = ap (λ (r : ℕ). takes_input r (command_slot origin num)) two
+
+root_of : (root : ℕ) → commands.serves root ≡ true → (root ≡ 1) ⊎ (root ≡ 2)
+root_of root serves =
+    elim (or_cases (root == 1) (root == 2) serves) [ inl one ↦ inl (eqb-true root 1 one) | inr two ↦ inr (eqb-true root 2 two) ]
+
+pub says_good : (seat : Seat) (mode : Mode) (c : Word) (w : List Word) → IsSession seat.numbers → seat.me < seat.numbers.n
+    → commands.serves mode.root ≡ true → AreProper commands seat (c ∷ w) → AreGoodWords seat.numbers mode (c ∷ w)
+    → AreGoodSays seat.numbers mode (says_of seat w c)
+says_good seat mode (Ask v) w session below serves proper good =
+    let root = root_of mode.root serves in (
+      command_slot_right seat.numbers mode seat.me (asked w) (class_one mode.root root) below proper.0.number,
+      input_value seat.numbers mode (command_slot seat.me (asked w)) v (takes_command mode.root seat.me (asked w) root) good.0,
+      tt,
+    )
+says_good seat mode (Hear s v) w session below serves proper good = tt
+
+commands_said : (seat : Seat) (c : Word) (w : List Word) → AreInputs seat w c (says_of seat w c)
+commands_said seat (Ask v) w = (λ command. (refl, refl), tt)
+commands_said seat (Hear s v) w = tt
+
+pub command_laws : WordLaws commands
+command_laws = record {
+  says_new = says_new;
+  says_good = says_good;
+  commands_said = λ seat c w proper. commands_said seat c w;
+  completed_stays = λ seat c w. omega arith;
+  base_stays = base_stays;
+}

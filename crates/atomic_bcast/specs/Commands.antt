@@ -1,0 +1,30 @@
+-- The service of commands alone: each input is broadcast at the origin's next number, and nothing is decided.
+use Rattle.std.specs.Prelude.{ℕ, ◌+◌, Bool, false, not, ◌==◌, ◌||◌, List, [], ◌∷◌, length, unwrap_or}
+use Rattle.std.specs.List.{find, range_with_len}
+use Rattle.ritas_base.specs.declared.item.Say.{Say}
+use Rattle.layer_api.specs.Service.{ServiceRules, Seat, Word, Ask, Hear, command_slot, is_heard, asked}
+
+-- whether no command of this origin was delivered at this number
+abbrev pub is_missing : List Word → ℕ → ℕ → Bool
+is_missing w origin num = not (is_heard w (command_slot origin num))
+
+-- the least number of an origin at which nothing was delivered: it is at most as great as there are words
+unfoldable pub base_of : List Word → ℕ → ℕ
+base_of w origin = unwrap_or (find (is_missing w origin) (range_with_len 0 (length w + 1))) (length w)
+
+-- an input is said at the replica's next number
+abbrev pub says_of : Seat → List Word → Word → List Say
+says_of seat w (Ask v) = record { slot = command_slot seat.me (asked w); value = v } ∷ []
+says_of seat w (Hear s v) = []
+
+abbrev pub commands : ServiceRules
+commands = record {
+  serves = λ root. root == 1 || root == 2;
+  says = says_of;
+  opens = λ seat w s. s.class == 1;
+  completed = λ seat w. 0;
+  base = λ seat w origin. base_of w origin;
+  next_number = λ seat w. asked w;
+  given = λ seat w. false;
+  done = λ seat w. [];
+}

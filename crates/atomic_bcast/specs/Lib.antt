@@ -1,0 +1,5 @@
+pub mod Commands
+pub mod CommandLaws
+pub mod Early
+pub mod CmdRoot
+pub mod Rows

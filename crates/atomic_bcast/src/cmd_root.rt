@@ -1,0 +1,190 @@
+ghost use Rattle.std.specs.Prelude.{◌≡◌, ℕ, ◌==◌, ◌&&◌, ◌||◌, not, [], ◌∷◌, ◌++◌, OnOk, OnErr};
+ghost use Rattle.layer_api.specs.Service.{command_slot};
+ghost use Rattle.atomic_bcast.specs.Early.{has_early, Advances, Notes};
+
+use layer_api::Service;
+use ritas_base::{Bytes, Coin, Id, Mem, Params, Say, Slot};
+use std::alloc::Global;
+use std::collections::BTreeSet;
+
+/// There are at most so many replicas.
+const MOST_REPLICAS: usize = 31;
+
+/// Commands are numbered below this.
+const MOST_COMMANDS: u32 = 1_000_000;
+
+/// The service of commands alone, for root services 1 and 2.
+///
+/// Each input is broadcast at the command slot of the replica's next number, from 0. A command that a slot delivers
+/// raises the base of its origin: the least number at which none of the origin's commands was delivered. Nothing is
+/// decided, so there are no rounds, and the identifier log stays empty.
+///
+/// It keeps one number for each origin, and those of the commands that were delivered before others of lower numbers:
+/// in the window of 64 at most 63 for each origin. What a slot delivers costs the logarithm of their number. Numbers
+/// are below 1,000,000, and the replicas at most 31.
+///
+/// The commands are those of the atomic broadcast of Correia, Neves and Veríssimo, "From Consensus to Atomic
+/// Broadcast" (The Computer Journal, 2006), before they are ordered.
+#[derive(Drop)]
+pub struct CmdRoot {
+    numbers: Params,
+    me: u8,
+    inputs: u32,
+    bases: [u32; MOST_REPLICAS],
+    early: BTreeSet<Id>,
+    live: bool,
+}
+
+// Takes a command out, and says whether it was there.
+fn take_early(early: &mut BTreeSet<Id>, origin: u8, num: u32) -> bool
+    ensures there { result ≡ has_early early.old origin num }
+    ensures rest { (o k : ℕ) → has_early early.new o k ≡ (not (o == origin && k == num) && has_early early.old o k) }
+{
+    early.remove(&Id { origin, num })
+}
+
+// Puts a command in.
+fn put_early(early: &mut BTreeSet<Id>, origin: u8, num: u32) -> Result<(), Mem>
+    ensures put { OnOk result
+        ((o k : ℕ) → has_early early.new o k ≡ ((o == origin && k == num) || has_early early.old o k)) }
+{
+    early.insert(Id { origin, num })?;
+    Ok(())
+}
+
+// Takes out the commands of an origin from this base on, up to the first that isn't there. Its number is the new base.
+fn advance(early: &mut BTreeSet<Id>, origin: u8, mut base: u32) -> u32
+    ensures { Advances early.old early.new origin base result }
+{
+    while base < MOST_COMMANDS && take_early(early, origin, base) {
+        base += 1;
+    }
+    base
+}
+
+impl CmdRoot {
+    // Notes that a command was delivered.
+    fn note(&mut self, origin: u8, num: u32) -> Result<(), Mem>
+        ensures kept { self.new ≡ record self.old { bases = self.new.bases; early = self.new.early } }
+        ensures noted { OnOk result
+            (Notes self.old.numbers.n origin num self.old.bases self.new.bases self.old.early self.new.early) }
+    {
+        if origin >= self.numbers.n() || num >= MOST_COMMANDS {
+            return Ok(());
+        }
+        let base = self.bases[origin as usize];
+        if num == base {
+            self.bases[origin as usize] = advance(&mut self.early, origin, num + 1);
+        } else if num > base {
+            put_early(&mut self.early, origin, num)?;
+        }
+        Ok(())
+    }
+
+    // Says the value at the slot of the next command.
+    fn say(&self, alloc: Global, value: &[u8], says: &mut Vec<Say>) -> Result<(), Mem>
+        ensures said { let slot = command_slot self.now.me self.now.inputs in
+            OnOk result (says.new.items ≡ says.old.items ++ record { slot = slot; value = value.now } ∷ []) }
+        ensures err { OnErr result (says.new.items ≡ says.old.items) }
+    {
+        let value = Bytes::from_slice(alloc, value)?;
+        says.push(Say {
+            slot: Slot {
+                class: 1,
+                a: self.inputs,
+                attempt: 0,
+                bround: 0,
+                step: 0,
+                origin: self.me,
+            },
+            value,
+        })?;
+        Ok(())
+    }
+}
+
+impl Service for CmdRoot {
+    ghost use Rattle.atomic_bcast.specs.Commands.{commands};
+    ghost use Rattle.atomic_bcast.specs.CommandLaws.{command_laws};
+    ghost use Rattle.atomic_bcast.specs.CmdRoot.{Stands};
+
+    ghost stands = { Stands };
+
+    ghost rules = { commands };
+
+    ghost live = { λ s. s.live };
+
+    fn serves(root: u8) -> bool {
+        root == 1 || root == 2
+    }
+
+    fn new(alloc: Global, p: &Params, me: u8) -> Result<CmdRoot, Mem> {
+        Ok(CmdRoot {
+            numbers: *p,
+            me,
+            inputs: 0,
+            bases: [0; MOST_REPLICAS],
+            early: BTreeSet::new(alloc),
+            live: true,
+        })
+    }
+
+    fn input(&mut self, alloc: Global, value: &[u8], says: &mut Vec<Say>) -> Result<(), Mem> {
+        let said = self.say(alloc, value, says);
+        match said {
+            Ok(()) => self.inputs = self.inputs.saturating_add(1),
+            Err(_) => self.live = false,
+        }
+        said
+    }
+
+    fn heard<C: Coin>(
+        &mut self,
+        _alloc: Global,
+        _coin: &C,
+        slot: &Slot,
+        _value: &[u8],
+        _says: &mut Vec<Say>,
+    ) -> Result<(), Mem> {
+        if slot.class != 1 || slot.attempt != 0 || slot.bround != 0 || slot.step != 0 {
+            return Ok(());
+        }
+        let noted = self.note(slot.origin, slot.a);
+        if noted.is_err() {
+            self.live = false;
+        }
+        noted
+    }
+
+    fn is_open(&self, slot: &Slot) -> bool {
+        slot.class == 1
+    }
+
+    fn completed(&self) -> u32 {
+        0
+    }
+
+    fn base(&self, origin: u8) -> u32 {
+        self.bases.get(origin as usize).copied().unwrap_or(0)
+    }
+
+    fn next_number(&self) -> u32 {
+        self.inputs
+    }
+
+    fn given(&self) -> bool {
+        false
+    }
+
+    fn done(&self) -> &[Id] {
+        &[]
+    }
+
+    fn live(&self) -> bool {
+        self.live
+    }
+
+    ghost lives = { λ s seat w stands. stands.live };
+
+    ghost word_laws = { command_laws };
+}
