@@ -1,0 +1,15 @@
+use Rattle.std.proofs.Common.{◌≡◌, ◌+◌, ◌≤◌, Bool, length}
+use Rattle.std.specs.VecDeque.{deque_len, deque_capacity}
+use Rattle.ritas_base.specs.declared.item.Item.{Item}
+use Rattle.ooc_buffers.specs.Lists.{released}
+use Rattle.ooc_buffers.specs.Closures.{Computes}
+use Rattle.ooc_buffers.proofs.Peers.{IsReleasing}
+use Rattle.ooc_buffers.proofs.held.release_all.Given as goal
+
+abbrev pub invariant-loop-peer : goal.invariant-loop-peer
+invariant-loop-peer g l = record {
+  capacity : deque_capacity l.inbox ≡ deque_capacity l.initial.inbox;
+  moves : (t : Item → Bool) → Computes g.F.Fn l.test t
+      → deque_len l.initial.inbox + length (released t l.initial.peers) ≤ deque_capacity l.initial.inbox
+      → IsReleasing t l.initial.peers l.peer-index l.peers l.initial.inbox.items l.inbox.items (deque_len l.initial.inbox) (deque_len l.inbox);
+}

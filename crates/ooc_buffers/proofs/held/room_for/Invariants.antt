@@ -1,0 +1,8 @@
+use Rattle.std.proofs.Common.{◌≡◌, Bool, length, take}
+use Rattle.ritas_base.specs.declared.item.Item.{Item}
+use Rattle.ooc_buffers.specs.Lists.{released}
+use Rattle.ooc_buffers.specs.Closures.{Computes}
+use Rattle.ooc_buffers.proofs.held.room_for.Given as goal
+
+abbrev pub invariant-loop-peer : goal.invariant-loop-peer
+invariant-loop-peer g l = (t : Item → Bool) → Computes g.F.Fn l.test t → l.room ≡ length (released t (take l.peer-index l.peers))

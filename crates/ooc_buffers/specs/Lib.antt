@@ -1,0 +1,4 @@
+pub mod Lists
+pub mod Closures
+pub mod Moves
+pub mod Keys

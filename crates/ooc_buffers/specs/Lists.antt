@@ -1,0 +1,53 @@
+-- Held items: one list for each peer, each in the order in which its items were held.
+use Rattle.std.specs.Prelude.{ℕ, Bool, not, ◌&&◌, ◌||◌, List, [], ◌∷◌, ◌++◌, map, filter, slice_index_or, slice_set, sum_by}
+use Rattle.std.specs.List.{list_any}
+use Rattle.std.specs.Str.{bytes_eq}
+use Rattle.ritas_base.specs.declared.item.Kind.TheVariants.{Column}
+use Rattle.ritas_base.specs.declared.item.Item.{Item}
+use Rattle.ritas_base.specs.SlotOrder.{is_slot}
+use Rattle.ritas_base.specs.Messages.{kind_eq}
+
+-- an item that is held, and the length that it was held with
+pub record Kept : Type 0 where
+  pub item : Item
+  pub len : ℕ
+
+-- the items that are held for a peer
+abbrev pub kept_of : List (List Kept) → ℕ → List Kept
+kept_of held peer = slice_index_or held peer []
+
+-- how many bytes are held for a peer
+abbrev pub held_bytes : List (List Kept) → ℕ → ℕ
+held_bytes held peer = sum_by (λ k. k.len) (kept_of held peer)
+
+-- the most that are held for one peer
+abbrev pub most_bytes : ℕ
+most_bytes = 1048576
+
+-- whether two items of one peer are held as one: they are of one kind and slot, and where they are columns, of one value
+abbrev pub is_same : Item → Item → Bool
+is_same a b = kind_eq a.kind b.kind && (is_slot a.slot b.slot && (not (kind_eq a.kind Column) || bytes_eq a.value b.value))
+
+-- whether the item is held
+abbrev pub is_kept : List (List Kept) → Item → Bool
+is_kept held item = list_any (λ k. is_same item k.item) (kept_of held item.from)
+
+-- the item held behind those of its sender
+abbrev pub with_kept : List (List Kept) → Item → ℕ → List (List Kept)
+with_kept held item len = slice_set held item.from (kept_of held item.from ++ record { item = item; len = len } ∷ [])
+
+-- those of one list that pass a test, and those that don't
+abbrev pub passing : (Item → Bool) → List Kept → List Kept
+passing test kept = filter (λ k. test k.item) kept
+
+abbrev pub failing : (Item → Bool) → List Kept → List Kept
+failing test kept = filter (λ k. not (test k.item)) kept
+
+-- all that pass, by peer ascending and for each peer in the order in which they were held
+abbrev pub released : (Item → Bool) → List (List Kept) → List Item
+released test [] = []
+released test (kept ∷ held) = map (λ k. k.item) (passing test kept) ++ released test held
+
+-- what is still held then
+abbrev pub remaining : (Item → Bool) → List (List Kept) → List (List Kept)
+remaining test held = map (failing test) held

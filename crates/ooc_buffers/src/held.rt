@@ -1,0 +1,168 @@
+ghost use Rattle.std.specs.Prelude.{◌≡◌, ℕ, ◌+◌, ◌<◌, ◌≤◌, ◌↔◌, Bool, [], ◌++◌, length, replicate, Err, OnOk, OnErr, IfOk, false};
+ghost use Rattle.std.specs.VecDeque.{deque_len, deque_capacity};
+ghost use Rattle.ritas_base.specs.declared.item.Item.{Item};
+ghost use Rattle.ooc_buffers.specs.Lists.{is_kept, held_bytes, most_bytes, with_kept, released, remaining};
+ghost use Rattle.ooc_buffers.specs.Closures.{Computes};
+
+use crate::peer::Peer;
+use ritas_base::{Item, Mem};
+use std::alloc::Global;
+use std::collections::VecDeque;
+use std::marker::Model;
+
+/// The most bytes that are held for one peer.
+const MOST_BYTES: u64 = 1_048_576;
+
+/// Why an item isn't held.
+#[derive(Clone, Copy, Debug, PartialEq, Eq)]
+pub enum HoldFault {
+    /// So many bytes are held for its sender, and with it they would be more than 1,048,576.
+    HeldFull(u32),
+    /// There was not enough memory.
+    Mem,
+}
+
+impl From<Mem> for HoldFault {
+    ghost use Rattle.std.specs.Prelude.{◌≡◌};
+    ghost use Rattle.ooc_buffers.specs.declared.held.HoldFault.TheVariants as faults;
+
+    ghost from_gives = { λ _ e. e ≡ faults.Mem };
+
+    fn from(_: Mem) -> Self {
+        HoldFault::Mem
+    }
+}
+
+/// Items that came too early, held for each peer in the order in which they came.
+#[derive(Debug, Drop)]
+pub struct Held {
+    peers: Vec<Peer>,
+}
+
+impl Model for Held {
+    ghost use Rattle.std.specs.Prelude.{List};
+    ghost use Rattle.ooc_buffers.specs.Lists.{Kept};
+
+    ghost Value = { List (List Kept) };
+
+    ghost view = { λ h. h.peers.items };
+}
+
+impl Held {
+    /// Nothing is held for any of n peers. The one error is want of memory.
+    pub fn new(alloc: Global, n: u8) -> Result<Held, Mem>
+        ensures { IfOk result (λ h. h ≡ replicate n []) }
+    {
+        let mut peers = Vec::new(alloc);
+        for _peer in 0..n {
+            peers.push(Peer::new(alloc))?;
+        }
+        Ok(Held { peers })
+    }
+
+    /// Holds an item for its sender, behind those that are held for it.
+    ///
+    /// The length is in bytes, and is counted until the item leaves. `HeldFull` is answered exactly where the sender's
+    /// held bytes, which it carries, and the length are more than 1,048,576; otherwise the one error is `Mem`. All
+    /// stays as it was after an error.
+    pub fn hold(&mut self, _alloc: Global, item: Item, len: u32) -> Result<(), HoldFault>
+        requires is_new { is_kept self.old item ≡ false }
+        requires sender { item.from < length self.old }
+        ensures ok { OnOk result (self.new ≡ with_kept self.old item len) }
+        ensures full { (b : ℕ) → (result ≡ Err (HoldFault.HeldFull b)) ↔ ((b ≡ held_bytes self.old item.from) × (most_bytes < b + len)) }
+        ensures err { OnErr result (self.new ≡ self.old) }
+    {
+        let peer = &mut self.peers[item.from as usize];
+        let held = peer.bytes();
+        if u64::from(held) + u64::from(len) > MOST_BYTES {
+            return Err(HoldFault::HeldFull(held));
+        }
+        peer.add(item, len)?;
+        Ok(())
+    }
+
+    /// Whether the item is held: one of its sender, kind and slot, and for a column of its value too.
+    pub fn has(&self, item: &Item) -> bool
+        ensures { result ≡ is_kept self.now item.now }
+    {
+        match self.peers.get(item.from as usize) {
+            Some(peer) => peer.has(item),
+            None => false,
+        }
+    }
+
+    /// For how many peers items are held.
+    pub fn peers(&self) -> usize
+        ensures { result ≡ length self.now }
+    {
+        self.peers.len()
+    }
+
+    /// How many bytes are held for a peer.
+    pub fn bytes(&self, peer: u8) -> u32
+        ensures { result ≡ held_bytes self.now peer }
+    {
+        match self.peers.get(peer as usize) {
+            Some(peer) => peer.bytes(),
+            None => 0,
+        }
+    }
+
+    /// Moves each item for which `is_open` says yes to the back of the inbox, by peer ascending and for each peer in the
+    /// order in which they were held. The others stay, in their order.
+    ///
+    /// The one error is want of memory, after which nothing has moved.
+    pub fn release<F: Fn(&Item) -> bool>(
+        &mut self,
+        _alloc: Global,
+        is_open: F,
+        inbox: &mut VecDeque<Item>,
+    ) -> Result<(), Mem>
+        requires { F.IsAlwaysCallable is_open }
+        ensures moved { (t : Item → Bool) → Computes F.Fn is_open t → OnOk result (inbox.new.items ≡ inbox.old.items ++ released t self.old) }
+        ensures kept { (t : Item → Bool) → Computes F.Fn is_open t → OnOk result (self.new ≡ remaining t self.old) }
+        ensures err { OnErr result ((inbox.new.items ≡ inbox.old.items) × (self.new ≡ self.old)) }
+    {
+        let room = room_for(self.peers.as_slice(), &is_open)?;
+        if room == 0 {
+            return Ok(());
+        }
+        inbox.reserve(room)?;
+        release_all(self.peers.as_mut_slice(), &is_open, inbox);
+        Ok(())
+    }
+
+    /// Drops each item for which `is_past` says yes. The others stay, in their order.
+    pub fn forget<F: Fn(&Item) -> bool>(&mut self, is_past: F)
+        requires { F.IsAlwaysCallable is_past }
+        ensures { (t : Item → Bool) → Computes F.Fn is_past t → self.new ≡ remaining t self.old }
+    {
+        for peer in self.peers.iter_mut() {
+            peer.forget(&is_past);
+        }
+    }
+}
+
+// How many items pass the test.
+fn room_for<F: Fn(&Item) -> bool>(peers: &[Peer], test: &F) -> Result<usize, Mem>
+    requires { F.IsAlwaysCallable test.now }
+    ensures { (t : Item → Bool) → Computes F.Fn test.now t → IfOk result (λ n. n ≡ length (released t peers.now)) }
+{
+    let mut room: usize = 0;
+    for peer in peers {
+        room = room.checked_add(peer.count(test)).ok_or(Mem)?;
+    }
+    Ok(room)
+}
+
+// Moves the items that pass the test to the inbox, which has room for them.
+fn release_all<F: Fn(&Item) -> bool>(peers: &mut [Peer], test: &F, inbox: &mut VecDeque<Item>)
+    requires { F.IsAlwaysCallable test.now }
+    ensures { (t : Item → Bool) → Computes F.Fn test.now t
+        → deque_len inbox.old + length (released t peers.old) ≤ deque_capacity inbox.old
+        → (peers.new ≡ remaining t peers.old) × (inbox.new.items ≡ inbox.old.items ++ released t peers.old) }
+{
+    for peer in peers.iter_mut() {
+        peer.release(test, inbox);
+    }
+}

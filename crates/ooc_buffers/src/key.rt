@@ -1,0 +1,97 @@
+ghost use Rattle.std.specs.Prelude.{◌≡◌, ℕ, ◌+◌, ◌-◌, ◌<◌, ◌^◌, OnOk, OnErr, if◌then◌else◌};
+ghost use Rattle.ritas_base.specs.Messages.{kind_rank};
+ghost use Rattle.ooc_buffers.specs.Keys.{mark_of, key_of, key_eq, count_at};
+ghost use Rattle.ooc_buffers.specs.declared.key.Key.{Key};
+
+use indexmap::IndexMap;
+use ritas_base::{Item, Kind, Mem};
+
+/// What of an item is looked up: its kind and slot, and for a column a mark of its value.
+#[derive(Clone, Copy, Debug, PartialEq, Eq, Hash)]
+pub(crate) struct Key {
+    kind: u8,
+    class: u8,
+    a: u32,
+    attempt: u8,
+    bround: u8,
+    step: u8,
+    origin: u8,
+    mark: u64,
+}
+
+// A kind's place in the order.
+fn rank(kind: Kind) -> u8
+    ensures { result ≡ kind_rank kind }
+{
+    match kind {
+        Kind::Init => 0,
+        Kind::Echo => 1,
+        Kind::Ready => 2,
+        Kind::Send => 3,
+        Kind::Hashes => 4,
+        Kind::Column => 5,
+    }
+}
+
+// The hash FNV-1a of 64 bits, of Fowler, Noll and Vo.
+#[tactic(auto, unfolding(crate::specs::Keys::mark_of))]
+fn mark(value: &[u8]) -> u64
+    ensures { result ≡ mark_of value.now }
+{
+    value.iter().fold(14_695_981_039_346_656_037, |hash, byte| {
+        (hash ^ u64::from(*byte)).wrapping_mul(1_099_511_628_211)
+    })
+}
+
+impl Key {
+    pub(crate) fn of(item: &Item) -> Key
+        ensures { result ≡ key_of item.now }
+    {
+        let mark = match item.kind {
+            Kind::Column => mark(item.value.as_slice()),
+            _ => 0,
+        };
+        Key {
+            kind: rank(item.kind),
+            class: item.slot.class,
+            a: item.slot.a,
+            attempt: item.slot.attempt,
+            bround: item.slot.bround,
+            step: item.slot.step,
+            origin: item.slot.origin,
+            mark,
+        }
+    }
+}
+
+// How many are counted for a key.
+pub(crate) fn count_of(index: &IndexMap<Key, usize>, key: &Key) -> usize
+    ensures { result ≡ count_at index.now key.now }
+{
+    index.get(key).copied().unwrap_or(0)
+}
+
+// Counts one more for a key.
+pub(crate) fn count_in(index: &mut IndexMap<Key, usize>, key: Key) -> Result<(), Mem>
+    requires { count_at index.old key + 1 < 2 ^ 64 }
+    ensures ok { OnOk result ((q : Key) → count_at index.new q ≡ count_at index.old q + (if key_eq q key then 1 else 0)) }
+    ensures err { OnErr result ((q : Key) → count_at index.new q ≡ count_at index.old q) }
+{
+    let count = count_of(index, &key);
+    index.insert(key, count + 1)?;
+    Ok(())
+}
+
+// Counts one less for a key.
+pub(crate) fn count_out(index: &mut IndexMap<Key, usize>, key: &Key)
+    ensures { (q : Key) → count_at index.new q ≡ count_at index.old q - (if key_eq q key.now then 1 else 0) }
+{
+    let count = count_of(index, key);
+    if count > 1 {
+        if let Some(counted) = index.get_mut(key) {
+            *counted = count - 1;
+        }
+    } else {
+        index.swap_remove(key);
+    }
+}
