@@ -1,0 +1,131 @@
+-- What each outcome of a step is, as the abstract core has it.
+use Rattle.std.proofs.Common.{◌≡◌, Bool, true, false, not, cond, Result, Ok, Err, List, [], ◌++◌, refl, sym, ◌∙◌, ap, subst, inr, append-nil}
+use Rattle.ritas_base.specs.declared.item.Item.{Item}
+use Rattle.ritas_base.specs.declared.item.Msg.{Msg}
+use Rattle.layer_api.specs.declared.broadcast.Heard.TheVariants as heard
+use Rattle.ritas_core.specs.declared.answer.Answer.{Answer}
+use Rattle.ritas_core.specs.declared.answer.Answer.TheVariants as answers
+use Rattle.ritas_core.specs.declared.fault.CoreFault.{CoreFault}
+use Rattle.ritas_core.specs.declared.fault.CoreFault.TheVariants as faults
+use Rattle.ritas_core.specs.declared.verdict.Verdict.{Verdict}
+use Rattle.ritas_core.specs.declared.verdict.Verdict.TheVariants as verdicts
+use Rattle.ritas_core.specs.declared.kernel.Core.{Core}
+use Rattle.ritas_core.specs.Rules.{Rules}
+use Rattle.ritas_core.specs.Parts.{Took, parts}
+use Rattle.ritas_core.specs.Checks.{verdict_on, IsGood, IsTakable}
+use Rattle.ritas_core.specs.Machine.{CoreState, What, Frame, Moved, stays, enters, gives, moved_live, moved}
+use Rattle.ritas_core.specs.Stands.{Meaning, CoreStands}
+use Rattle.ritas_core.specs.LayerCalls.{CanTakeItem, RepeatsOne}
+use Rattle.ritas_core.specs.Calls.{Moves, Does}
+use Rattle.ritas_core.specs.CoreCalls.{rules_in, IsLive, StopsCore, TriesItem, IsToTake, DoesJudged}
+use Rattle.ritas_core.proofs.GoodSlots.{slot_origin}
+use Rattle.ritas_core.proofs.CoreSteps.{stops_core}
+use Rattle.ritas_core.proofs.JudgeSteps.{verdict_not_mem}
+
+pub not_false : (b : Bool) → not b ≡ false → b ≡ true
+not_false true h = refl
+not_false false h = cc
+
+pub not_true : (b : Bool) → not b ≡ true → b ≡ false
+not_true true h = cc
+not_true false h = refl
+
+pub nothing_more : (before after_it : List Msg) → after_it ≡ before → after_it ≡ before ++ []
+nothing_more before after_it e = e ∙ sym (append-nil before)
+
+-- ---- the abstract core's move
+pub moved_when_live : (r : Rules) (st : CoreState) (what : What) → st.live ≡ true → moved r st what ≡ moved_live r st what
+moved_when_live r st what live = ap (λ (b : Bool). cond b (moved_live r st what) (stays st st.inbox (Err faults.Stopped))) live
+
+pub frame_moves : (r : Rules) (st : CoreState) (item : Item) (v : Verdict) → st.live ≡ true → verdict_on r (parts r st.history) st.held item ≡ v →
+    moved r st (Frame item) ≡ gives r st item st.inbox v
+frame_moves r st item v live is = moved_when_live r st (Frame item) live ∙ ap (λ (u : Verdict). gives r st item st.inbox u) is
+
+module _ {S B C T : Type 0} (m : Meaning S B C T) where
+  pub moves_by : (old new : Core S B C T) (what : What) (before after_it : List Msg) (result : Result Answer CoreFault) (r : Rules) (st : CoreState) (mv : Moved) →
+      moved r st what ≡ mv → result ≡ mv.answer → after_it ≡ before ++ mv.out → CoreStands m new r mv.state → Moves m old new what before after_it result r st
+  moves_by old new what before after_it result r st mv is answer out state = record {
+    answer = answer ∙ ap (λ (x : Moved). x.answer) (sym is);
+    out = out ∙ ap (λ (x : Moved). before ++ x.out) (sym is);
+    state = subst (λ (x : Moved). CoreStands m new r x.state) (sym is) state;
+  }
+
+  -- a refusal that isn't want of memory
+  pub does_refused : (old new : Core S B C T) (what : What) (before after_it : List Msg) (fault : CoreFault) (r : Rules) (st : CoreState) →
+      (fault ≡ faults.Mem → ⊥) → Moves m old new what before after_it (Err fault) r st → Does m old new what before after_it (Err fault) r st
+  does_refused old new what before after_it faults.NotOrigin r st never moves = moves
+  does_refused old new what before after_it faults.NotForMe r st never moves = moves
+  does_refused old new what before after_it (faults.Past x) r st never moves = moves
+  does_refused old new what before after_it (faults.Ahead x) r st never moves = moves
+  does_refused old new what before after_it (faults.HeldFull x) r st never moves = moves
+  does_refused old new what before after_it faults.InputTaken r st never moves = moves
+  does_refused old new what before after_it (faults.WindowFull x) r st never moves = moves
+  does_refused old new what before after_it (faults.Input x) r st never moves = moves
+  does_refused old new what before after_it faults.Mem r st never moves = absurd (never refl)
+  does_refused old new what before after_it faults.Stopped r st never moves = moves
+
+  -- ---- a refused item, and one that is taken or held already
+  pub refuse_does : (old : Core S B C T) (item : Item) (sent : List Msg) (fault : CoreFault) →
+      DoesJudged m old old (verdicts.Refuse fault) item sent sent (Err fault)
+  refuse_does old item sent fault st is good judged =
+      let r = rules_in m old in
+      does_refused old old (Frame item) sent sent fault r st
+      (λ e. verdict_not_mem r (parts r st.history) st.held item (judged ∙ ap (λ (x : CoreFault). verdicts.Refuse x) e))
+      (moves_by old old (Frame item) sent sent (Err fault) r st (stays st st.inbox (Err fault)) (frame_moves r st item (verdicts.Refuse fault) is.live judged)
+      refl (nothing_more sent sent refl) is.stands)
+
+  pub again_does : (old : Core S B C T) (item : Item) (sent : List Msg) → DoesJudged m old old verdicts.Again item sent sent (Ok answers.Repeat)
+  again_does old item sent st is good judged =
+      let r = rules_in m old in
+      moves_by old old (Frame item) sent sent (Ok answers.Repeat) r st (stays st st.inbox (Ok answers.Repeat)) (frame_moves r st item verdicts.Again is.live judged)
+      refl (nothing_more sent sent refl) is.stands
+
+  -- ---- an open item
+  can_take : (old : Core S B C T) (item : Item) (st : CoreState) → IsLive m old st → IsGood (rules_in m old) item →
+      IsToTake (rules_in m old) (parts (rules_in m old) st.history) st.held item → CanTakeItem m old.layers item (parts (rules_in m old) st.history)
+  can_take old item st is good judged = record {
+    is_own = record { own = is.stands.own; below = is.stands.me };
+    origin = slot_origin old.layers.params old.layers.mode item.slot good.in_grammar.slot;
+    may = judged.may;
+    stood = is.stands.layers is.live;
+  }
+
+  -- its verdict, by whether it repeats one that its slot took
+  verdict_of : (old : Core S B C T) (item : Item) (st : CoreState) (b : Bool) → IsLive m old st → IsGood (rules_in m old) item →
+      IsToTake (rules_in m old) (parts (rules_in m old) st.history) st.held item → RepeatsOne m old.layers item b →
+      verdict_on (rules_in m old) (parts (rules_in m old) st.history) st.held item ≡ cond b verdicts.Again verdicts.Take
+  verdict_of old item st b is good judged counts =
+      judged.verdict ∙ ap (λ (x : Bool). cond x verdicts.Again verdicts.Take) (counts (parts (rules_in m old) st.history) (can_take old item st is good judged))
+
+  pub took_does : (old new : Core S B C T) (item : Item) (before after_it : List Msg) → TriesItem m old new item before after_it (Ok heard.Took) →
+      DoesJudged m old new verdicts.Take item before after_it (Ok answers.Took)
+  took_does old new item before after_it tries st is good judged =
+      let r = rules_in m old in
+      let may : IsTakable r (parts r st.history) item = record {
+        good = good;
+        may = judged.may;
+        is_open = judged.opened;
+        first = tries.1 (parts r st.history) (can_take old item st is good judged);
+      } in
+      moves_by old new (Frame item) before after_it (Ok answers.Took) r st (enters r st (Took item) st.inbox)
+      (frame_moves r st item verdicts.Take is.live (verdict_of old item st false is good judged tries.1))
+      refl (tries.0.out st is may) (tries.0.state st is may)
+
+  pub repeat_does : (old new : Core S B C T) (item : Item) (before after_it : List Msg) → TriesItem m old new item before after_it (Ok heard.Repeat) →
+      DoesJudged m old new verdicts.Take item before after_it (Ok answers.Repeat)
+  repeat_does old new item before after_it tries st is good judged =
+      let r = rules_in m old in
+      moves_by old new (Frame item) before after_it (Ok answers.Repeat) r st (stays st st.inbox (Ok answers.Repeat))
+      (frame_moves r st item verdicts.Again is.live (verdict_of old item st true is good judged tries.1))
+      refl (nothing_more before after_it tries.0.out) (tries.0.state st is)
+
+  pub stops_does : (old mid : Core S B C T) (item : Item) (before after_it : List Msg) → StopsCore old mid before after_it →
+      RepeatsOne m old.layers item false → DoesJudged m old (record mid { stopped = true }) verdicts.Take item before after_it (Err faults.Mem)
+  stops_does old mid item before after_it stops counts st is good judged = record {
+    out = stops.out;
+    live = is.live;
+    state = inr (
+      verdict_of old item st false is good judged counts,
+      stops_core m old (record mid { stopped = true }) (rules_in m old) st stops.seat refl is.stands,
+    );
+  }

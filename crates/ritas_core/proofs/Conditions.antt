@@ -1,0 +1,319 @@
+-- Each entry of a history meets the conditions of the layers. A broadcast was started exactly where its slot was said, a
+-- slot was heard exactly where it has delivered, and all words and calls are in the grammar.
+use Rattle.std.proofs.Common.{◌≡◌, ℕ, Bool, true, false, not, cond, ◌||◌, Option, Some, None, List, [], ◌∷◌, refl, sym, ◌∙◌, ap, subst}
+use Rattle.std.specs.Option.{is_some, option_or}
+use Rattle.std.proofs.Math.Bool.{or_assoc, or-false}
+use Rattle.std.proofs.lemmas.Bool.{not-true}
+use Rattle.std.proofs.lemmas.List.Folds.{list_any-append}
+use Rattle.std.proofs.lemmas.Cmp.{eq_by_cmp_equiv}
+use Rattle.ritas_base.specs.declared.slot.Slot.{Slot}
+use Rattle.ritas_base.specs.declared.mode.Mode.{Mode}
+use Rattle.ritas_base.specs.declared.item.Item.{Item}
+use Rattle.ritas_base.specs.declared.item.Say.{Say}
+use Rattle.ritas_base.specs.Numbers.{Numbers}
+use Rattle.ritas_base.specs.SlotOrder.{is_slot, same_slot, slots_total}
+use Rattle.ritas_base.specs.Shortest.{option_or_none}
+use Rattle.ritas_base.specs.History.{Call, Start, Take, started}
+use Rattle.frame_codec.specs.Format.{Is}
+use Rattle.frame_codec.specs.Grammar.{value}
+use Rattle.layer_api.specs.OneValue.{AreGoodCalls}
+use Rattle.layer_api.specs.Service.{Word, Ask, Hear, said, is_said, is_heard, MayHear, AreProper, AreNew, AreGoodWords, AreGoodSays}
+use Rattle.ritas_core.specs.Rules.{Rules, seat_of, place_at, out_at}
+use Rattle.ritas_core.specs.Casts.{called, started_all, newly, MayStartAll}
+use Rattle.ritas_core.specs.Parts.{Entry, Took, Given, Parts, parts, told_to, heard_at, taken_at, item_delivers}
+use Rattle.ritas_core.specs.Checks.{is_item_past, is_item_ahead, IsTakable, IsGivable, IsHistory}
+use Rattle.ritas_core.specs.Laws.{LayerLaws}
+use Rattle.ritas_core.proofs.TestLaws.{left_false, right_false, left_true, right_true, or_flip}
+use Rattle.ritas_core.proofs.GoodSlots.{slot_number, slot_origin, of_slot}
+
+-- ---- tests
+turned : (s q : Slot) → is_slot s q ≡ is_slot q s
+turned s q = (eq_by_cmp_equiv slots_total).symm s q
+
+none_from : {A : Type 0} (o : Option A) → is_some o ≡ false → o ≡ None
+none_from None h = refl
+none_from (Some x) h = absurd (cc)
+
+either_some : {A : Type 0} (a b : Option A) → is_some (option_or a b) ≡ (is_some a || is_some b)
+either_some None b = refl
+either_some (Some x) b = refl
+
+-- what is newly there was not there before, and is there now
+pub newly_before : (x y : Option (List ℕ)) (v : List ℕ) → newly x y ≡ Some v → x ≡ None
+newly_before None y v h = refl
+newly_before (Some u) y v h = absurd (cc)
+
+pub newly_after : (x y : Option (List ℕ)) (v : List ℕ) → newly x y ≡ Some v → y ≡ Some v
+newly_after None y v h = h
+newly_after (Some u) y v h = absurd (cc)
+
+-- ---- a broadcast was started exactly where its slot was said
+abbrev pub IsStartedWhereSaid : Rules → Parts → Type 0
+IsStartedWhereSaid r p = (s : Slot) → is_some (started (p.calls s)) ≡ is_said (said r.service (seat_of r) p.words) s
+
+start_test : (b : Bool) (v : List ℕ) (h : List Call) → is_some (started (cond b (Start v ∷ h) h)) ≡ (is_some (started h) || b)
+start_test true v h = either_some (started h) (Some v)
+start_test false v h = sym (or-false (is_some (started h)))
+
+take_test : (b : Bool) (item : Item) (h : List Call) → is_some (started (cond b (Take item ∷ h) h)) ≡ is_some (started h)
+take_test true item h = ap is_some (option_or_none (started h))
+take_test false item h = refl
+
+started_test : (says : List Say) (h : Slot → List Call) (s : Slot) →
+    is_some (started (started_all says h s)) ≡ (is_some (started (h s)) || is_said says s)
+started_test [] h s = sym (or-false (is_some (started (h s))))
+started_test (say ∷ says) h s =
+    started_test says (called h say.slot (Start say.value)) s
+    ∙ ap (λ (x : Bool). x || is_said says s) (start_test (is_slot say.slot s) say.value (h s))
+    ∙ or_assoc (is_some (started (h s))) (is_slot say.slot s) (is_said says s)
+
+started_taken : (r : Rules) (item : Item) (p : Parts) → IsStartedWhereSaid r p → IsStartedWhereSaid r (taken_at item p)
+started_taken r item p all s = take_test (is_slot item.slot s) item (p.calls s) ∙ all s
+
+started_told : (r : Rules) (c : Word) (p : Parts) → IsStartedWhereSaid r p → IsStartedWhereSaid r (told_to r c p)
+started_told r c p all s =
+    let new = r.service.says (seat_of r) p.words c in
+    let old = said r.service (seat_of r) p.words in
+    started_test new p.calls s
+    ∙ ap (λ (x : Bool). x || is_said new s) (all s)
+    ∙ or_flip (is_said old s) (is_said new s)
+    ∙ sym (list_any-append (λ (y : Say). is_slot y.slot s) new old)
+
+started_heard : (r : Rules) (s : Slot) (d : Option (List ℕ)) (p : Parts) → IsStartedWhereSaid r p → IsStartedWhereSaid r (heard_at r s d p)
+started_heard r s None p all = all
+started_heard r s (Some v) p all = started_told r (Hear s v) p all
+
+pub started_where_said : (r : Rules) (h : List Entry) → IsStartedWhereSaid r (parts r h)
+started_where_said r [] s = refl
+started_where_said r (Took item ∷ h) s =
+    let p = parts r h in
+    started_heard r item.slot (item_delivers r item p) (taken_at item p) (started_taken r item p (started_where_said r h)) s
+started_where_said r (Given v ∷ h) s = started_told r (Ask v) (parts r h) (started_where_said r h) s
+
+-- ---- a slot was heard exactly where it has delivered
+abbrev pub IsHeardWhereDelivered : Rules → Parts → Type 0
+IsHeardWhereDelivered r p = (s : Slot) → is_heard p.words s ≡ is_some (out_at r.casts s (p.calls s))
+
+start_delivers : (r : Rules) → LayerLaws r → (s : Slot) (h : List Call) (v : List ℕ) (b : Bool) →
+    out_at r.casts s (cond b (Start v ∷ h) h) ≡ out_at r.casts s h
+start_delivers r laws s h v true = (laws.casts s).out_start (place_at r.casts s) r.casts.tags h v
+start_delivers r laws s h v false = refl
+
+starts_deliver : (r : Rules) → LayerLaws r → (says : List Say) (h : Slot → List Call) (s : Slot) →
+    out_at r.casts s (started_all says h s) ≡ out_at r.casts s (h s)
+starts_deliver r laws [] h s = refl
+starts_deliver r laws (say ∷ says) h s =
+    starts_deliver r laws says (called h say.slot (Start say.value)) s ∙ start_delivers r laws s (h s) say.value (is_slot say.slot s)
+
+-- what a slot delivers after an item, by what the item's slot delivers after it
+take_delivers : (r : Rules) (item : Item) (h : Slot → List Call) (s : Slot) (y : Option (List ℕ)) (b : Bool) → is_slot item.slot s ≡ b →
+    out_at r.casts item.slot (Take item ∷ h item.slot) ≡ y →
+    is_some (out_at r.casts s (cond b (Take item ∷ h s) (h s))) ≡ cond b (is_some y) (is_some (out_at r.casts s (h s)))
+take_delivers r item h s y true here is_y =
+    subst (λ (q : Slot). is_some (out_at r.casts q (Take item ∷ h q)) ≡ is_some y) (same_slot item.slot s here) (ap is_some is_y)
+take_delivers r item h s y false here is_y = refl
+
+heard_told : (r : Rules) → LayerLaws r → (v : List ℕ) (p : Parts) → IsHeardWhereDelivered r p → IsHeardWhereDelivered r (told_to r (Ask v) p)
+heard_told r laws v p all s = all s ∙ sym (ap is_some (starts_deliver r laws (r.service.says (seat_of r) p.words (Ask v)) p.calls s))
+
+-- where the item's slot delivers as before
+same_at : (r : Rules) (item : Item) (p : Parts) (s : Slot) (x y : Option (List ℕ)) (b : Bool) → is_slot item.slot s ≡ b →
+    IsHeardWhereDelivered r p → out_at r.casts item.slot (p.calls item.slot) ≡ x → is_some y ≡ is_some x →
+    is_heard p.words s ≡ cond b (is_some y) (is_some (out_at r.casts s (p.calls s)))
+same_at r item p s x y true here all is_x alike =
+    subst (λ (q : Slot). is_heard p.words q ≡ is_some y) (same_slot item.slot s here) (all item.slot ∙ ap is_some is_x ∙ sym alike)
+same_at r item p s x y false here all is_x alike = all s
+
+heard_anew_at : (b : Bool) (u w : Bool) → u ≡ w → (b || u) ≡ cond b true w
+heard_anew_at true u w h = refl
+heard_anew_at false u w h = h
+
+heard_by : (r : Rules) → LayerLaws r → (item : Item) (p : Parts) (x y : Option (List ℕ)) → IsHeardWhereDelivered r p →
+    out_at r.casts item.slot (p.calls item.slot) ≡ x → out_at r.casts item.slot (Take item ∷ p.calls item.slot) ≡ y →
+    IsHeardWhereDelivered r (heard_at r item.slot (newly x y) (taken_at item p))
+heard_by r laws item p (Some w) y all is_x is_y s =
+    let stays = (laws.casts item.slot).out_stays (place_at r.casts item.slot) r.casts.tags (p.calls item.slot) (Take item) w is_x in
+    let alike : is_some y ≡ true = ap is_some (sym is_y ∙ stays) in
+    same_at r item p s (Some w) y (is_slot item.slot s) refl all is_x alike
+    ∙ sym (take_delivers r item p.calls s y (is_slot item.slot s) refl is_y)
+heard_by r laws item p None None all is_x is_y s =
+    same_at r item p s None None (is_slot item.slot s) refl all is_x refl
+    ∙ sym (take_delivers r item p.calls s None (is_slot item.slot s) refl is_y)
+heard_by r laws item p None (Some v) all is_x is_y s =
+    heard_anew_at (is_slot item.slot s) (is_heard p.words s) (is_some (out_at r.casts s (p.calls s))) (all s)
+    ∙ sym (take_delivers r item p.calls s (Some v) (is_slot item.slot s) refl is_y)
+    ∙ sym (ap is_some (starts_deliver r laws (r.service.says (seat_of r) p.words (Hear item.slot v)) (taken_at item p).calls s))
+
+pub heard_where_delivered : (r : Rules) → LayerLaws r → (h : List Entry) → IsHeardWhereDelivered r (parts r h)
+heard_where_delivered r laws [] s = sym (ap is_some ((laws.casts s).out_nothing (place_at r.casts s) r.casts.tags))
+heard_where_delivered r laws (Took item ∷ h) s =
+    let p = parts r h in
+    heard_by r laws item p (out_at r.casts item.slot (p.calls item.slot)) (out_at r.casts item.slot (Take item ∷ p.calls item.slot))
+    (heard_where_delivered r laws h) refl refl s
+heard_where_delivered r laws (Given v ∷ h) s = heard_told r laws v (parts r h) (heard_where_delivered r laws h) s
+
+-- ---- the words met their conditions
+pub may_hear_at : (r : Rules) → LayerLaws r → (p : Parts) → IsHeardWhereDelivered r p → (item : Item) → IsTakable r p item → (v : List ℕ) →
+    item_delivers r item p ≡ Some v → MayHear r.service (seat_of r) p.words item.slot
+may_hear_at r laws p all item may v delivers =
+    let rest = right_true (not (is_item_past r p item)) _ may.is_open in
+    let opens = right_true (not (is_item_ahead r p item)) _ rest in
+    record {
+      origin = slot_origin r.casts.numbers r.mode item.slot may.good.in_grammar.slot;
+      number = slot_number r.casts.numbers r.mode item.slot may.good.in_grammar.slot;
+      not_past = not-true (is_item_past r p item) (left_true (not (is_item_past r p item)) _ may.is_open);
+      not_ahead = not-true (is_item_ahead r p item) (left_true (not (is_item_ahead r p item)) _ rest);
+      is_open = left_true (r.service.opens (seat_of r) p.words item.slot) _ opens;
+      first =
+          all item.slot
+          ∙ ap is_some (newly_before (out_at r.casts item.slot (p.calls item.slot)) (out_at r.casts item.slot (Take item ∷ p.calls item.slot)) v delivers);
+    }
+
+proper_heard : (r : Rules) (p : Parts) (item : Item) (d : Option (List ℕ)) →
+    ((v : List ℕ) → d ≡ Some v → MayHear r.service (seat_of r) p.words item.slot) → AreProper r.service (seat_of r) p.words →
+    AreProper r.service (seat_of r) (heard_at r item.slot d (taken_at item p)).words
+proper_heard r p item None may proper = proper
+proper_heard r p item (Some v) may proper = (may v refl, proper)
+
+pub words_proper : (r : Rules) → LayerLaws r → (h : List Entry) → IsHistory r h → AreProper r.service (seat_of r) (parts r h).words
+words_proper r laws [] met = tt
+words_proper r laws (Took item ∷ h) met =
+    proper_heard r (parts r h) item (item_delivers r item (parts r h))
+    (may_hear_at r laws (parts r h) (heard_where_delivered r laws h) item met.0) (words_proper r laws h met.1)
+words_proper r laws (Given v ∷ h) met = (met.0.may, words_proper r laws h met.1)
+
+-- ---- the words and the calls are in the grammar
+good_called_at : (p : Numbers) (mode : Mode) (h : Slot → List Call) (say : Say) (s : Slot) (b : Bool) → is_slot say.slot s ≡ b →
+    Is (value p mode.root say.slot) say.value → AreGoodCalls p mode s (h s) → AreGoodCalls p mode s (cond b (Start say.value ∷ h s) (h s))
+good_called_at p mode h say s true here good all =
+    (subst (λ (q : Slot). Is (value p mode.root q) say.value) (same_slot say.slot s here) good, all)
+good_called_at p mode h say s false here good all = all
+
+-- one start more
+pub good_called : (p : Numbers) (mode : Mode) (h : Slot → List Call) (say : Say) → Is (value p mode.root say.slot) say.value →
+    ((s : Slot) → AreGoodCalls p mode s (h s)) → (s : Slot) → AreGoodCalls p mode s (called h say.slot (Start say.value) s)
+good_called p mode h say good all s = good_called_at p mode h say s (is_slot say.slot s) refl good (all s)
+
+pub good_starts : (p : Numbers) (mode : Mode) (says : List Say) (h : Slot → List Call) → AreGoodSays p mode says →
+    ((s : Slot) → AreGoodCalls p mode s (h s)) → (s : Slot) → AreGoodCalls p mode s (started_all says h s)
+good_starts p mode [] h good all s = all s
+good_starts p mode (say ∷ says) h good all s =
+    good_starts p mode says (called h say.slot (Start say.value)) good.2 (good_called p mode h say good.1 all) s
+
+good_taken_at : (r : Rules) (p : Parts) (item : Item) (s : Slot) (b : Bool) → is_slot item.slot s ≡ b → IsTakable r p item →
+    AreGoodCalls r.casts.numbers r.mode s (p.calls s) → AreGoodCalls r.casts.numbers r.mode s (cond b (Take item ∷ p.calls s) (p.calls s))
+good_taken_at r p item s true here may all = (same_slot item.slot s here, may.good.in_grammar, all)
+good_taken_at r p item s false here may all = all
+
+pub good_taken : (r : Rules) (p : Parts) (item : Item) → IsTakable r p item → ((s : Slot) → AreGoodCalls r.casts.numbers r.mode s (p.calls s)) →
+    (s : Slot) → AreGoodCalls r.casts.numbers r.mode s ((taken_at item p).calls s)
+good_taken r p item may all s = good_taken_at r p item s (is_slot item.slot s) refl may (all s)
+
+-- all words and calls of these parts
+pub record AreAllGood (r : Rules) (p : Parts) : Type 0 where
+  pub words : AreGoodWords r.casts.numbers r.mode p.words
+  pub calls : (s : Slot) → AreGoodCalls r.casts.numbers r.mode s (p.calls s)
+
+pub good_told : (r : Rules) → LayerLaws r → (c : Word) (p : Parts) → AreProper r.service (seat_of r) (c ∷ p.words) →
+    AreGoodWords r.casts.numbers r.mode (c ∷ p.words) → AreGoodSays r.casts.numbers r.mode (r.service.says (seat_of r) p.words c)
+good_told r laws c p proper good = laws.words.says_good (seat_of r) r.mode c p.words laws.session laws.me laws.serves proper good
+
+-- what an item delivers is in the grammar
+pub good_delivered : (r : Rules) → LayerLaws r → (p : Parts) (item : Item) → IsTakable r p item →
+    ((s : Slot) → AreGoodCalls r.casts.numbers r.mode s (p.calls s)) → (v : List ℕ) → item_delivers r item p ≡ Some v →
+    Is (value r.casts.numbers r.mode.root item.slot) v
+good_delivered r laws p item may all v delivers =
+    (laws.casts item.slot).out_good (place_at r.casts item.slot) r.casts.tags r.mode (Take item ∷ p.calls item.slot) v
+    (of_slot r laws item.slot may.good.in_grammar.slot) (refl, may.good.in_grammar, all item.slot)
+    (newly_after (out_at r.casts item.slot (p.calls item.slot)) (out_at r.casts item.slot (Take item ∷ p.calls item.slot)) v delivers)
+
+good_heard : (r : Rules) → LayerLaws r → (p : Parts) (item : Item) (d : Option (List ℕ)) → IsTakable r p item →
+    ((v : List ℕ) → d ≡ Some v → MayHear r.service (seat_of r) p.words item.slot) →
+    ((v : List ℕ) → d ≡ Some v → Is (value r.casts.numbers r.mode.root item.slot) v) →
+    AreProper r.service (seat_of r) p.words → AreAllGood r p → AreAllGood r (heard_at r item.slot d (taken_at item p))
+good_heard r laws p item None may hears good proper all = record { words = all.words; calls = good_taken r p item may all.calls }
+good_heard r laws p item (Some v) may hears good proper all =
+    let words : AreGoodWords r.casts.numbers r.mode (Hear item.slot v ∷ p.words) = (may.good.in_grammar.slot, good v refl, all.words) in
+    record {
+      words = words;
+      calls = good_starts r.casts.numbers r.mode (r.service.says (seat_of r) p.words (Hear item.slot v)) (taken_at item p).calls
+          (good_told r laws (Hear item.slot v) p (hears v refl, proper) words) (good_taken r p item may all.calls);
+    }
+
+pub all_good : (r : Rules) → LayerLaws r → (h : List Entry) → IsHistory r h → AreAllGood r (parts r h)
+all_good r laws [] met = record { words = tt; calls = λ s. tt }
+all_good r laws (Took item ∷ h) met =
+    let all = all_good r laws h met.1 in
+    good_heard r laws (parts r h) item (item_delivers r item (parts r h)) met.0
+    (may_hear_at r laws (parts r h) (heard_where_delivered r laws h) item met.0)
+    (good_delivered r laws (parts r h) item met.0 all.calls) (words_proper r laws h met.1) all
+all_good r laws (Given v ∷ h) met =
+    let all = all_good r laws h met.1 in
+    let words : AreGoodWords r.casts.numbers r.mode (Ask v ∷ (parts r h).words) = (met.0.in_grammar, all.words) in
+    record {
+      words = words;
+      calls = good_starts r.casts.numbers r.mode (r.service.says (seat_of r) (parts r h).words (Ask v)) (parts r h).calls
+          (good_told r laws (Ask v) (parts r h) (met.0.may, words_proper r laws h met.1) words) all.calls;
+    }
+
+pub words_good : (r : Rules) → LayerLaws r → (h : List Entry) → IsHistory r h → AreGoodWords r.casts.numbers r.mode (parts r h).words
+words_good r laws h met = (all_good r laws h met).words
+
+pub calls_good : (r : Rules) → LayerLaws r → (h : List Entry) → IsHistory r h → (s : Slot) →
+    AreGoodCalls r.casts.numbers r.mode s ((parts r h).calls s)
+calls_good r laws h met = (all_good r laws h met).calls
+
+-- ---- what is newly said may be started
+abbrev AreFree : List Say → (Slot → List Call) → Type 0
+AreFree [] h = Unit {0}
+AreFree (say ∷ says) h = (is_some (started (h say.slot)) ≡ false) × AreFree says h
+
+free_called_at : (h : Slot → List Call) (s : Slot) (v : List ℕ) (b : Bool) → b ≡ false → is_some (started (h s)) ≡ false →
+    is_some (started (cond b (Start v ∷ h s) (h s))) ≡ false
+free_called_at h s v true apart free = cc
+free_called_at h s v false apart free = free
+
+free_called : (says : List Say) (h : Slot → List Call) (x : Slot) (v : List ℕ) → is_said says x ≡ false → AreFree says h →
+    AreFree says (called h x (Start v))
+free_called [] h x v apart free = tt
+free_called (say ∷ says) h x v apart free = (
+  free_called_at h say.slot v (is_slot x say.slot) (turned x say.slot ∙ left_false (is_slot say.slot x) _ apart) free.0,
+  free_called says h x v (right_false (is_slot say.slot x) _ apart) free.1,
+)
+
+free_new : (r : Rules) (w : List Word) (new : List Say) (h : Slot → List Call) →
+    ((s : Slot) → is_some (started (h s)) ≡ is_said (said r.service (seat_of r) w) s) → AreNew r.service (seat_of r) w new → AreFree new h
+free_new r w [] h all fresh = tt
+free_new r w (say ∷ new) h all fresh = (all say.slot ∙ fresh.1, free_new r w new h all fresh.3)
+
+may_start_new : (r : Rules) (w : List Word) (new : List Say) (h : Slot → List Call) → AreNew r.service (seat_of r) w new → AreFree new h →
+    MayStartAll r.casts new h
+may_start_new r w [] h fresh free = tt
+may_start_new r w (say ∷ new) h fresh free = (
+  record { own = sym fresh.0; once = none_from (started (h say.slot)) free.0 },
+  may_start_new r w new (called h say.slot (Start say.value)) fresh.3 (free_called new h say.slot say.value fresh.2 free.1),
+)
+
+may_start_told : (r : Rules) → LayerLaws r → (c : Word) (p : Parts) → IsStartedWhereSaid r p → AreProper r.service (seat_of r) (c ∷ p.words) →
+    MayStartAll r.casts (r.service.says (seat_of r) p.words c) p.calls
+may_start_told r laws c p all proper =
+    let new = r.service.says (seat_of r) p.words c in
+    let fresh = laws.words.says_new (seat_of r) c p.words proper in
+    may_start_new r p.words new p.calls fresh (free_new r p.words new p.calls all fresh)
+
+-- ---- an entry after a history
+pub may_start_given : (r : Rules) → LayerLaws r → (h : List Entry) → IsHistory r h → (v : List ℕ) → IsGivable r (parts r h) v →
+    MayStartAll r.casts (r.service.says (seat_of r) (parts r h).words (Ask v)) (parts r h).calls
+may_start_given r laws h met v may =
+    may_start_told r laws (Ask v) (parts r h) (started_where_said r h) (may.may, words_proper r laws h met)
+
+pub may_hear : (r : Rules) → LayerLaws r → (h : List Entry) → IsHistory r h → (item : Item) → IsTakable r (parts r h) item → (v : List ℕ) →
+    item_delivers r item (parts r h) ≡ Some v → MayHear r.service (seat_of r) (parts r h).words item.slot
+may_hear r laws h met item may v delivers = may_hear_at r laws (parts r h) (heard_where_delivered r laws h) item may v delivers
+
+pub may_start_heard : (r : Rules) → LayerLaws r → (h : List Entry) → IsHistory r h → (item : Item) → IsTakable r (parts r h) item → (v : List ℕ) →
+    item_delivers r item (parts r h) ≡ Some v →
+    MayStartAll r.casts (r.service.says (seat_of r) (parts r h).words (Hear item.slot v)) (taken_at item (parts r h)).calls
+may_start_heard r laws h met item may v delivers =
+    may_start_told r laws (Hear item.slot v) (taken_at item (parts r h)) (started_taken r item (parts r h) (started_where_said r h))
+    (may_hear r laws h met item may v delivers, words_proper r laws h met)

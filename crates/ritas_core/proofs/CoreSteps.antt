@@ -1,0 +1,200 @@
+-- What the steps of a call make of a core.
+use Rattle.std.proofs.Common.{◌≡◌, ℕ, true, not, ◌||◌, Option, Some, None, List, [], ◌∷◌, ◌++◌, refl, sym, ◌∙◌, ap, subst}
+use Rattle.std.proofs.lemmas.List.{length-map}
+use Rattle.ritas_base.specs.declared.item.Item.{Item}
+use Rattle.ritas_base.specs.declared.item.Msg.{Msg}
+use Rattle.ritas_base.specs.declared.mode.Mode.{Mode}
+use Rattle.ritas_base.specs.Numbers.{Numbers}
+use Rattle.layer_api.specs.OneValue.{ValueLaws}
+use Rattle.layer_api.specs.Service.{WordLaws, Ask, Hear}
+use Rattle.ooc_buffers.specs.Lists.{Kept, failing, released, remaining}
+use Rattle.ritas_core.specs.declared.layers.Layers.{Layers}
+use Rattle.ritas_core.specs.declared.kernel.Core.{Core}
+use Rattle.ritas_core.specs.Rules.{Rules, casts_by}
+use Rattle.ritas_core.specs.Parts.{Parts, Entry, Took, Given, parts, taken_at, item_delivers, after, made_by}
+use Rattle.ritas_core.specs.Order.{ordered, own_items, new_messages}
+use Rattle.ritas_core.specs.Checks.{is_open, is_item_past, IsTakable, IsGivable, MayEnter, IsHistory}
+use Rattle.ritas_core.specs.Machine.{CoreState, entered}
+use Rattle.ritas_core.specs.Stands.{Meaning, rules_of, LayersStand, CoreStands}
+use Rattle.ritas_core.specs.LayerCalls.{SameSeat, MayTell, MayFollow, CanTakeItem, CanTell, Tells, TakesItem, is_past_in, is_open_in}
+use Rattle.ritas_core.specs.Calls.{stopped}
+use Rattle.ritas_core.specs.CoreCalls.{rules_in, IsLive, Finishes, EntersCore}
+use Rattle.ritas_core.specs.Laws.{LayerLaws}
+use Rattle.ritas_core.proofs.GoodSlots.{slot_origin}
+use Rattle.ritas_core.proofs.Conditions.{may_start_given, may_hear, may_start_heard}
+use Rattle.ritas_core.proofs.Goodness.{good_remaining, entered_inbox_good, entered_held_good}
+use Rattle.ritas_core.proofs.HeldSteps.{released_same, remaining_same, remaining_twice, past_same, open_same}
+
+-- the service may hear what an item's slot newly delivers by it
+follow_by : (r : Rules) (p : Parts) (item : Item) (d : Option (List ℕ)) →
+    ((v : List ℕ) → d ≡ Some v → MayTell r (Hear item.slot v) (taken_at item p)) → MayFollow r item.slot d (taken_at item p)
+follow_by r p item None tell = tt
+follow_by r p item (Some v) tell = tell v refl
+
+pub may_follow : (r : Rules) → LayerLaws r → (h : List Entry) → IsHistory r h → (item : Item) → IsTakable r (parts r h) item →
+    MayFollow r item.slot (item_delivers r item (parts r h)) (taken_at item (parts r h))
+may_follow r laws h met item may =
+    follow_by r (parts r h) item (item_delivers r item (parts r h))
+    (λ v delivers. (may_hear r laws h met item may v delivers, may_start_heard r laws h met item may v delivers))
+
+module _ {S B C T : Type 0} (m : Meaning S B C T) where
+  rules_from : Numbers → Mode → ℕ → T → C → Rules
+  rules_from p mode me t coin = record { mode = mode; casts = casts_by p me (m.tags t) m.cast; coin = m.bits coin; service = m.service }
+
+  pub same_rules : (old new : Layers S B C T) → SameSeat old new → rules_of m new ≡ rules_of m old
+  unfolding rules_from
+  same_rules old new seat =
+      ap (λ (p : Numbers). rules_from p new.mode new.me new.tagger new.coin) seat.params
+      ∙ ap (λ (mode : Mode). rules_from old.params mode new.me new.tagger new.coin) seat.mode
+      ∙ ap (λ (me : ℕ). rules_from old.params old.mode me new.tagger new.coin) seat.me
+      ∙ ap (λ (t : T). rules_from old.params old.mode old.me t new.coin) seat.tagger
+      ∙ ap (λ (coin : C). rules_from old.params old.mode old.me old.tagger coin) seat.coin
+
+  -- a stopped core stands for its last state, stopped
+  pub stops_core : (old new : Core S B C T) (r : Rules) (st : CoreState) → SameSeat old.layers new.layers → new.stopped ≡ true →
+      CoreStands m old r st → CoreStands m new r (stopped st)
+  stops_core old new r st seat halted stands = record {
+    rules = same_rules old.layers new.layers seat ∙ stands.rules;
+    own = ap (λ (t : T). m.me t) seat.tagger ∙ stands.own;
+    kinds = stands.kinds;
+    session = stands.session;
+    me = stands.me;
+    serves = stands.serves;
+    live = halted;
+    history = stands.history;
+    layers = λ live. absurd (cc);
+    inbox = λ live. absurd (cc);
+    held = λ live. absurd (cc);
+    peers = stands.peers;
+    good_inbox = stands.good_inbox;
+    good_held = stands.good_held;
+  }
+
+module _ {S B C T : Type 0} (m : Meaning S B C T) (values : ValueLaws m.cast) (words : WordLaws m.service) where
+  pub laws_of : (layers : Layers S B C T) (core : Core S B C T) (st : CoreState) → CoreStands m core (rules_of m layers) st → LayerLaws (rules_of m layers)
+  laws_of layers core st stands = record {
+    casts = λ s. values;
+    words = words;
+    session = stands.session;
+    me = stands.me;
+    serves = stands.serves;
+    kinds = stands.kinds;
+  }
+
+  -- an entry of the layers, sent in order, is an entry of the core
+  module _ (old new : Core S B C T) (mid : Layers S B C T) (e : Entry) (made before after_it : List Msg) (st : CoreState)
+      (fin : Finishes m (record old { layers = mid }) new made before after_it)
+      (tagger : mid.tagger ≡ old.layers.tagger)
+      (stands : CoreStands m old (rules_of m mid) st) (live : st.live ≡ true)
+      (may : MayEnter (rules_of m mid) (parts (rules_of m mid) st.history) e)
+      (stood : LayersStand m mid (after (rules_of m mid) e (parts (rules_of m mid) st.history)))
+      (made_is : made ≡ made_by (rules_of m mid) e (parts (rules_of m mid) st.history)) where
+    new_inbox : new.inbox.items ≡ (entered (rules_of m mid) st e st.inbox).inbox
+    new_inbox =
+        let r = rules_of m mid in
+        let p = parts r (e ∷ st.history) in
+        fin.inbox p stood
+        ∙ ap (λ (xs : List Item). (xs ++ own_items mid.me (ordered made)) ++ released (is_open_in m mid p) old.held) (stands.inbox live)
+        ∙ ap (λ (ms : List Msg). (st.inbox ++ own_items mid.me (ordered ms)) ++ released (is_open_in m mid p) old.held) made_is
+        ∙ ap (λ (hs : List (List Kept)). (st.inbox ++ own_items mid.me (new_messages r st.history e)) ++ released (is_open_in m mid p) hs) (stands.held live)
+        ∙ ap (λ (xs : List Item). (st.inbox ++ own_items mid.me (new_messages r st.history e)) ++ xs)
+        (released_same r (is_open_in m mid p) (is_open r p) (open_same m mid (laws_of mid old st stands) p stood) st.held stands.good_held)
+
+    new_held : new.held ≡ (entered (rules_of m mid) st e st.inbox).held
+    new_held =
+        let r = rules_of m mid in
+        let p = parts r (e ∷ st.history) in
+        let laws = laws_of mid old st stands in
+        fin.held p stood
+        ∙ ap (λ (hs : List (List Kept)). remaining (is_past_in m mid p) (remaining (is_open_in m mid p) hs)) (stands.held live)
+        ∙ ap (λ (hs : List (List Kept)). remaining (is_past_in m mid p) hs)
+        (remaining_same r (is_open_in m mid p) (is_open r p) (open_same m mid laws p stood) st.held stands.good_held)
+        ∙ remaining_same r (is_past_in m mid p) (is_item_past r p) (past_same m mid laws p stood) (remaining (is_open r p) st.held)
+        (good_remaining r (is_open r p) st.held stands.good_held)
+        ∙ remaining_twice (is_open r p) (is_item_past r p) st.held
+
+    pub enters_at : CoreStands m new (rules_of m mid) (entered (rules_of m mid) st e st.inbox)
+        × (after_it ≡ before ++ new_messages (rules_of m mid) st.history e)
+    enters_at =
+        let r = rules_of m mid in
+        let laws = laws_of mid old st stands in (
+          record {
+            rules = ap (λ (layers : Layers S B C T). rules_of m layers) fin.layers;
+            own = ap (λ (layers : Layers S B C T). m.me layers.tagger) fin.layers ∙ ap (λ (t : T). m.me t) tagger ∙ stands.own;
+            kinds = stands.kinds;
+            session = stands.session;
+            me = stands.me;
+            serves = stands.serves;
+            live = fin.stopped ∙ stands.live ∙ ap not live;
+            history = (may, stands.history);
+            layers = λ _. subst (λ (layers : Layers S B C T). LayersStand m layers (parts r (e ∷ st.history))) (sym fin.layers) stood;
+            inbox = λ _. new_inbox;
+            held = λ _. new_held;
+            peers = length-map st.held (failing (λ x. is_open r (parts r (e ∷ st.history)) x || is_item_past r (parts r (e ∷ st.history)) x)) ∙ stands.peers;
+            good_inbox = entered_inbox_good r laws st e st.inbox (may, stands.history) stands.good_inbox stands.good_held;
+            good_held = entered_held_good r st e st.inbox stands.good_held;
+          },
+          fin.out ∙ ap (λ (ms : List Msg). before ++ ordered ms) made_is,
+        )
+
+  -- the same for the rules that the layers had before
+  module _ (old new : Core S B C T) (mid : Layers S B C T) (seat : SameSeat old.layers mid) (e : Entry) (made before after_it : List Msg)
+      (fin : Finishes m (record old { layers = mid }) new made before after_it) where
+    abbrev Enough : CoreState → Rules → Type 0
+    Enough st r = CoreStands m old r st × MayEnter r (parts r st.history) e × LayersStand m mid (after r e (parts r st.history))
+        × (made ≡ made_by r e (parts r st.history))
+
+    abbrev Done : CoreState → Rules → Type 0
+    Done st r = CoreStands m new r (entered r st e st.inbox) × (after_it ≡ before ++ new_messages r st.history e)
+
+    pub enters_from : (st : CoreState) → st.live ≡ true → Enough st (rules_of m old.layers) → Done st (rules_of m old.layers)
+    enters_from st live enough =
+        let there = subst (λ (r : Rules). Enough st r) (sym (same_rules m old.layers mid seat)) enough in
+        subst (λ (r : Rules). Done st r) (same_rules m old.layers mid seat)
+        (enters_at old new mid e made before after_it st fin seat.tagger there.0 live there.1 there.2 there.3)
+
+  can_take : (old : Core S B C T) (item : Item) (st : CoreState) → IsLive m old st → IsTakable (rules_in m old) (parts (rules_in m old) st.history) item →
+      CanTakeItem m old.layers item (parts (rules_in m old) st.history)
+  can_take old item st is may = record {
+    is_own = record { own = is.stands.own; below = is.stands.me };
+    origin = slot_origin old.layers.params old.layers.mode item.slot may.good.in_grammar.slot;
+    may = may.may;
+    stood = is.stands.layers is.live;
+  }
+
+  -- an item that was taken
+  pub enters_item : (old new : Core S B C T) (mid : Layers S B C T) (item : Item) (start made before after_it : List Msg) → start ≡ [] →
+      SameSeat old.layers mid → TakesItem m old.layers mid item start made → Finishes m (record old { layers = mid }) new made before after_it →
+      EntersCore m old new (Took item) before after_it
+  enters_item old new mid item start made before after_it none seat takes fin =
+      let r = rules_in m old in
+      let done : (st : CoreState) → IsLive m old st → IsTakable r (parts r st.history) item → Done old new mid seat (Took item) made before after_it fin st r = λ st is may.
+      let follow = may_follow r (laws_of old.layers old st is.stands) st.history is.stands.history item may in
+      let can = can_take old item st is may in
+      enters_from old new mid seat (Took item) made before after_it fin st is.live (
+        is.stands,
+        may,
+        takes.grows (parts r st.history) can follow,
+        takes.made (parts r st.history) can follow ∙ ap (λ (ms : List Msg). ms ++ made_by r (Took item) (parts r st.history)) none,
+      ) in
+      record { state = λ st is may. (done st is may).0; out = λ st is may. (done st is may).1 }
+
+  -- an input that was taken
+  pub enters_input : (old new : Core S B C T) (mid : Layers S B C T) (value : List ℕ) (start made before after_it : List Msg) → start ≡ [] →
+      SameSeat old.layers mid → Tells m old.layers mid (Ask value) start made → Finishes m (record old { layers = mid }) new made before after_it →
+      EntersCore m old new (Given value) before after_it
+  enters_input old new mid value start made before after_it none seat tells fin =
+      let r = rules_in m old in
+      let done : (st : CoreState) → IsLive m old st → IsGivable r (parts r st.history) value → Done old new mid seat (Given value) made before after_it fin st r = λ st is may.
+      let can : CanTell m old.layers (Ask value) (parts r st.history) = record {
+        is_own = record { own = is.stands.own; below = is.stands.me };
+        may = (may.may, may_start_given r (laws_of old.layers old st is.stands) st.history is.stands.history value may);
+        stood = is.stands.layers is.live;
+      } in
+      enters_from old new mid seat (Given value) made before after_it fin st is.live (
+        is.stands,
+        may,
+        tells.grows (parts r st.history) can,
+        tells.made (parts r st.history) can ∙ ap (λ (ms : List Msg). ms ++ made_by r (Given value) (parts r st.history)) none,
+      ) in
+      record { state = λ st is may. (done st is may).0; out = λ st is may. (done st is may).1 }

@@ -1,0 +1,57 @@
+-- What a slot with no fault has, and what an item in the grammar gives its broadcast.
+use Rattle.std.proofs.Common.{◌≡◌, ◌<◌, Bool, true, false, None, List, [], ◌∷◌, refl, sym, ◌∙◌}
+use Rattle.std.proofs.Math.Dec.{ltb}
+use Rattle.std.proofs.lemmas.Bool.{ltb-true}
+use Rattle.ritas_base.specs.declared.slot.Slot.{Slot}
+use Rattle.ritas_base.specs.declared.slot.SlotFault.{SlotFault}
+use Rattle.ritas_base.specs.declared.slot.SlotFault.TheVariants as faults
+use Rattle.ritas_base.specs.declared.mode.Mode.{Mode}
+use Rattle.ritas_base.specs.declared.item.Item.{Item}
+use Rattle.ritas_base.specs.Numbers.{Numbers}
+use Rattle.ritas_base.specs.Slots.{first_failed, slot_fault, within, has_class, has_number, has_attempt, has_count}
+use Rattle.frame_codec.specs.Body.{IsInGrammar}
+use Rattle.layer_api.specs.OneValue.{IsOfSlot}
+use Rattle.ritas_core.specs.Rules.{Rules}
+use Rattle.ritas_core.specs.Laws.{LayerLaws}
+use Rattle.ritas_core.proofs.TestLaws.{left_true}
+
+failed_none : (t : Bool) (x : SlotFault) (rest : List (Bool × SlotFault)) → first_failed ((t, x) ∷ rest) ≡ None → (t ≡ true) × (first_failed rest ≡ None)
+failed_none true x rest e = (refl, e)
+failed_none false x rest e = absurd (cc)
+
+record Fields (p : Numbers) (s : Slot) : Type 0 where
+  number : s.a < 1000000
+  origin : s.origin < p.n
+
+fields : (p : Numbers) (mode : Mode) (s : Slot) → slot_fault p mode s ≡ None → Fields p s
+unfolding slot_fault
+fields p mode s e =
+    let root = mode.root in
+    let rest6 : List (Bool × SlotFault) = (ltb s.origin p.n, faults.Origin) ∷ [] in
+    let rest5 : List (Bool × SlotFault) = (has_count 3 s.class s.step, faults.Step) ∷ rest6 in
+    let rest4 : List (Bool × SlotFault) = (has_count 200 s.class s.bround, faults.Round) ∷ rest5 in
+    let rest3 : List (Bool × SlotFault) = (has_attempt root p.f s.class s.attempt, faults.Attempt) ∷ rest4 in
+    let rest2 : List (Bool × SlotFault) = (has_number root s.a, faults.Number) ∷ rest3 in
+    let a = failed_none (within 1 5 s.class) faults.Class ((has_class root s.class, faults.Closed) ∷ rest2) e in
+    let b = failed_none (has_class root s.class) faults.Closed rest2 a.1 in
+    let c = failed_none (has_number root s.a) faults.Number rest3 b.1 in
+    let d = failed_none (has_attempt root p.f s.class s.attempt) faults.Attempt rest4 c.1 in
+    let g = failed_none (has_count 200 s.class s.bround) faults.Round rest5 d.1 in
+    let h = failed_none (has_count 3 s.class s.step) faults.Step rest6 g.1 in
+    let k = failed_none (ltb s.origin p.n) faults.Origin [] h.1 in
+    record { number = ltb-true s.a 1000000 (left_true _ _ c.0); origin = ltb-true s.origin p.n k.0 }
+
+-- its number is below a million, and its origin is a replica
+pub slot_number : (p : Numbers) (mode : Mode) (s : Slot) → slot_fault p mode s ≡ None → s.a < 1000000
+slot_number p mode s e = (fields p mode s e).number
+
+pub slot_origin : (p : Numbers) (mode : Mode) (s : Slot) → slot_fault p mode s ≡ None → s.origin < p.n
+slot_origin p mode s e = (fields p mode s e).origin
+
+-- the broadcast of a slot with no fault is the slot's
+pub of_slot : (r : Rules) → LayerLaws r → (s : Slot) → slot_fault r.casts.numbers r.mode s ≡ None → IsOfSlot (r.casts.at_slot s) r.casts.numbers r.mode s
+of_slot r laws s right = record { session = laws.session; slot = right; kinds = λ kind has. sym (laws.kinds s kind right) ∙ has }
+
+-- an item in the grammar has a kind of its slot's broadcast
+pub kind_fits : (r : Rules) → LayerLaws r → (item : Item) → IsInGrammar r.casts.numbers r.mode item → (r.casts.at_slot item.slot).has_kind item.kind ≡ true
+kind_fits r laws item good = laws.kinds item.slot item.kind good.slot ∙ good.kind

@@ -1,0 +1,108 @@
+-- What is open and what is past among held items that may be given.
+use Rattle.std.proofs.Common.{◌≡◌, Bool, true, false, not, cond, ◌&&◌, ◌||◌, Option, Some, None, List, [], ◌∷◌, ◌++◌, map, refl, sym, ◌∙◌, ap}
+use Rattle.std.specs.BTreeMap.{get}
+use Rattle.std.proofs.lemmas.Bool.{lt-ltb}
+use Rattle.ritas_base.specs.declared.item.Item.{Item}
+use Rattle.ritas_base.specs.declared.item.Kind.TheVariants.{Column}
+use Rattle.ritas_base.specs.SlotOrder.{slot_cmp}
+use Rattle.ritas_base.specs.Messages.{kind_eq}
+use Rattle.ritas_base.specs.History.{Call}
+use Rattle.ooc_buffers.specs.Lists.{Kept, passing, failing, released, remaining}
+use Rattle.ritas_core.specs.declared.layers.Layers.{Layers}
+use Rattle.ritas_core.specs.Rules.{Rules, seat_of, place_at}
+use Rattle.ritas_core.specs.CastCalls.{ready_or, is_ready_in}
+use Rattle.ritas_core.specs.Parts.{Parts}
+use Rattle.ritas_core.specs.Checks.{is_item_past, is_item_ahead, is_open, IsGood}
+use Rattle.ritas_core.specs.Stands.{Meaning, rules_of, LayersStand, AreGoodKept, AreGoodLists}
+use Rattle.ritas_core.specs.LayerCalls.{is_past_in, is_let_in, is_open_in}
+use Rattle.ritas_core.specs.Laws.{LayerLaws}
+use Rattle.ritas_core.proofs.GoodSlots.{slot_origin, kind_fits}
+
+-- ---- tests that agree on good items
+
+module _ (r : Rules) (s t : Item → Bool) (agree : (x : Item) → IsGood r x → s x ≡ t x) where
+  passing_same : (kept : List Kept) → AreGoodKept r kept → passing s kept ≡ passing t kept
+  passing_same [] good = refl
+  passing_same (x ∷ kept) good =
+      ap (λ (b : Bool). cond b (x ∷ passing s kept) (passing s kept)) (agree x.item good.0)
+      ∙ ap (λ (xs : List Kept). cond (t x.item) (x ∷ xs) xs) (passing_same kept good.1)
+
+  failing_same : (kept : List Kept) → AreGoodKept r kept → failing s kept ≡ failing t kept
+  failing_same [] good = refl
+  failing_same (x ∷ kept) good =
+      ap (λ (b : Bool). cond (not b) (x ∷ failing s kept) (failing s kept)) (agree x.item good.0)
+      ∙ ap (λ (xs : List Kept). cond (not (t x.item)) (x ∷ xs) xs) (failing_same kept good.1)
+
+  pub released_same : (held : List (List Kept)) → AreGoodLists r held → released s held ≡ released t held
+  released_same [] good = refl
+  released_same (kept ∷ held) good =
+      ap (λ (xs : List Kept). map (λ k. k.item) xs ++ released s held) (passing_same kept good.0)
+      ∙ ap (λ (xs : List Item). map (λ k. k.item) (passing t kept) ++ xs) (released_same held good.1)
+
+  pub remaining_same : (held : List (List Kept)) → AreGoodLists r held → remaining s held ≡ remaining t held
+  remaining_same [] good = refl
+  remaining_same (kept ∷ held) good =
+      ap (λ (xs : List Kept). xs ∷ remaining s held) (failing_same kept good.0)
+      ∙ ap (λ (xs : List (List Kept)). failing t kept ∷ xs) (remaining_same held good.1)
+
+-- ---- one test after another
+failing_more : (a b : Bool) (x : Kept) (u v w : List Kept) → v ≡ w → u ≡ w →
+    cond (not a) (cond (not b) (x ∷ v) v) v ≡ cond (not (a || b)) (x ∷ w) w
+failing_more true b x u v w e f = e
+failing_more false true x u v w e f = e
+failing_more false false x u v w e f = ap (λ (l : List Kept). x ∷ l) e
+
+failing_cond : (a : Bool) (s : Item → Bool) (x : Kept) (xs : List Kept) →
+    failing s (cond a (x ∷ xs) xs) ≡ cond a (cond (not (s x.item)) (x ∷ failing s xs) (failing s xs)) (failing s xs)
+failing_cond true s x xs = refl
+failing_cond false s x xs = refl
+
+failing_twice : (first second : Item → Bool) (kept : List Kept) →
+    failing second (failing first kept) ≡ failing (λ x. first x || second x) kept
+failing_twice first second [] = refl
+failing_twice first second (x ∷ kept) =
+    failing_cond (not (first x.item)) second x (failing first kept)
+    ∙ failing_more (first x.item) (second x.item) x (failing second (failing first kept)) (failing second (failing first kept))
+    (failing (λ y. first y || second y) kept) (failing_twice first second kept) (failing_twice first second kept)
+
+pub remaining_twice : (first second : Item → Bool) (held : List (List Kept)) →
+    remaining second (remaining first held) ≡ remaining (λ x. first x || second x) held
+remaining_twice first second [] = refl
+remaining_twice first second (kept ∷ held) =
+    ap (λ (xs : List Kept). xs ∷ remaining second (remaining first held)) (failing_twice first second kept)
+    ∙ ap (λ (xs : List (List Kept)). failing (λ x. first x || second x) kept ∷ xs) (remaining_twice first second held)
+
+-- ---- the tests of the layers
+and_true : (a b : Bool) → a ≡ true → (a && b) ≡ b
+and_true true b e = refl
+and_true false b e = absurd (cc)
+
+ready_of : {B : Type 0} (o : Option B) (early ready : Bool) → (o ≡ None → ready ≡ early) → ready_or o early ready ≡ ready
+ready_of None early ready same = sym (same refl)
+ready_of (Some b) early ready same = refl
+
+module _ {S B C T : Type 0} (m : Meaning S B C T) (layers : Layers S B C T) (laws : LayerLaws (rules_of m layers))
+    (p : Parts) (stood : LayersStand m layers p) where
+  is_ready : (x : Item) → IsGood (rules_of m layers) x →
+      is_ready_in (rules_of m layers).casts layers.casts p.calls x
+      ≡ m.cast.ready (place_at (rules_of m layers).casts x.slot) (rules_of m layers).casts.tags (p.calls x.slot) x
+  is_ready x good =
+      let c = (rules_of m layers).casts in
+      ready_of (get slot_cmp layers.casts x.slot) (not (kind_eq x.kind Column)) (m.cast.ready (place_at c x.slot) c.tags (p.calls x.slot) x)
+      (λ none. ap (λ (h : List Call). m.cast.ready (place_at c x.slot) c.tags h x) (stood.casts.unmade x.slot none)
+      ∙ (laws.casts x.slot).ready_nothing (place_at c x.slot) c.tags x (kind_fits (rules_of m layers) laws x good.in_grammar))
+
+  pub past_same : (x : Item) → IsGood (rules_of m layers) x → is_past_in m layers p x ≡ is_item_past (rules_of m layers) p x
+  past_same x good = and_true _ _ (lt-ltb x.slot.origin layers.params.n (slot_origin layers.params layers.mode x.slot good.in_grammar.slot))
+
+  pub open_same : (x : Item) → IsGood (rules_of m layers) x → is_open_in m layers p x ≡ is_open (rules_of m layers) p x
+  open_same x good =
+      and_true _ _ (lt-ltb x.slot.origin layers.params.n (slot_origin layers.params layers.mode x.slot good.in_grammar.slot))
+      ∙ ap (λ (b : Bool). not (is_item_past (rules_of m layers) p x) && (not (is_item_ahead (rules_of m layers) p x)
+      && (m.service.opens (seat_of (rules_of m layers)) p.words x.slot && b))) (is_ready x good)
+
+  -- an item is let in where its slot is open and its broadcast can take it
+  pub let_same : (x : Item) → IsGood (rules_of m layers) x → is_let_in m layers p x
+      ≡ (m.service.opens (seat_of (rules_of m layers)) p.words x.slot
+      && m.cast.ready (place_at (rules_of m layers).casts x.slot) (rules_of m layers).casts.tags (p.calls x.slot) x)
+  let_same x good = ap (λ (b : Bool). m.service.opens (seat_of (rules_of m layers)) p.words x.slot && b) (is_ready x good)

@@ -1,0 +1,124 @@
+-- What each outcome of holding an item is, as the abstract core has it.
+use Rattle.std.proofs.Common.{◌≡◌, ℕ, ◌+◌, ◌<◌, ◌≤◌, Bool, true, false, not, cond, Ok, Err, List, [], ◌∷◌, ◌++◌, length, refl, sym, ◌∙◌, ap, subst, inl, arith}
+use Rattle.std.proofs.Math.Dec.{leb}
+use Rattle.std.proofs.lemmas.Bool.{leb-true, leb-false, le-leb}
+use Rattle.std.proofs.lemmas.List.{length-set}
+use Rattle.ritas_base.specs.declared.item.Item.{Item}
+use Rattle.ritas_base.specs.declared.item.Msg.{Msg}
+use Rattle.ooc_buffers.specs.Lists.{Kept, kept_of, held_bytes, most_bytes, with_kept}
+use Rattle.ritas_core.specs.declared.answer.Answer.TheVariants as answers
+use Rattle.ritas_core.specs.declared.fault.CoreFault.TheVariants as faults
+use Rattle.ritas_core.specs.declared.verdict.Verdict.TheVariants as verdicts
+use Rattle.ritas_core.specs.declared.kernel.Core.{Core}
+use Rattle.ritas_core.specs.Rules.{Rules}
+use Rattle.ritas_core.specs.Parts.{parts}
+use Rattle.ritas_core.specs.Checks.{body_length, has_room, verdict_on, IsGood}
+use Rattle.ritas_core.specs.Machine.{CoreState, Frame, stays, gives}
+use Rattle.ritas_core.specs.Stands.{Meaning, CoreStands}
+use Rattle.ritas_core.specs.CoreCalls.{rules_in, IsLive, Judged, DoesJudged}
+use Rattle.ritas_core.proofs.Goodness.{good_with_kept}
+use Rattle.ritas_core.proofs.CallSteps.{nothing_more, frame_moves, moves_by}
+
+-- there is room where no fault says otherwise
+room_by : (b : Bool) (bytes len : ℕ) (P : ℕ → Type 0) → leb (bytes + len) most_bytes ≡ b → ((x : ℕ) → P x → ⊥) →
+    ((x : ℕ) → (x ≡ bytes) × (most_bytes < x + len) → P x) → bytes + len ≤ most_bytes
+room_by true bytes len P test never full = leb-true (bytes + len) most_bytes test
+room_by false bytes len P test never full = absurd (never bytes (full bytes (refl, leb-false (bytes + len) most_bytes test)))
+
+pub room_from : (bytes len : ℕ) (P : ℕ → Type 0) → ((x : ℕ) → P x → ⊥) → ((x : ℕ) → (x ≡ bytes) × (most_bytes < x + len) → P x) → bytes + len ≤ most_bytes
+room_from bytes len P never full = room_by (leb (bytes + len) most_bytes) bytes len P refl never full
+
+no_room : (b : Bool) (x y : ℕ) → leb x y ≡ b → y < x → b ≡ false
+no_room true x y test above = let h : x ≤ y = leb-true x y test in absurd (omega arith)
+no_room false x y test above = refl
+
+module _ {S B C T : Type 0} (m : Meaning S B C T) where
+  -- held items that are as they were
+  stays_held : (old : Core S B C T) (h : List (List Kept)) (r : Rules) (st : CoreState) → h ≡ old.held → CoreStands m old r st →
+      CoreStands m (record old { held = h }) r st
+  stays_held old h r st same stands = record {
+    rules = stands.rules;
+    own = stands.own;
+    kinds = stands.kinds;
+    session = stands.session;
+    me = stands.me;
+    serves = stands.serves;
+    live = stands.live;
+    history = stands.history;
+    layers = stands.layers;
+    inbox = stands.inbox;
+    held = λ live. same ∙ stands.held live;
+    peers = stands.peers;
+    good_inbox = stands.good_inbox;
+    good_held = stands.good_held;
+  }
+
+  module _ (old : Core S B C T) (item : Item) (len : ℕ) (h : List (List Kept)) (sent : List Msg)
+      (counted : IsGood (rules_in m old) item → len ≡ body_length item) where
+    -- the verdict, by whether there is room
+    verdict_held : (st : CoreState) (b : Bool) → IsLive m old st → IsGood (rules_in m old) item →
+        Judged (rules_in m old) (parts (rules_in m old) st.history) st.held item verdicts.Hold →
+        leb (held_bytes old.held item.from + len) most_bytes ≡ b →
+        verdict_on (rules_in m old) (parts (rules_in m old) st.history) st.held item
+        ≡ cond b verdicts.Hold (verdicts.Refuse (faults.HeldFull (held_bytes st.held item.from)))
+    verdict_held st b is good judged room =
+        let told : has_room st.held item ≡ b =
+        ap (λ (n : ℕ). leb (held_bytes st.held item.from + n) most_bytes) (sym (counted good))
+        ∙ ap (λ (hs : List (List Kept)). leb (held_bytes hs item.from + len) most_bytes) (sym (is.stands.held is.live))
+        ∙ room in
+        judged ∙ ap (λ (x : Bool). cond x verdicts.Hold (verdicts.Refuse (faults.HeldFull (held_bytes st.held item.from)))) told
+
+    pub hold_does : h ≡ with_kept old.held item len → held_bytes old.held item.from + len ≤ most_bytes →
+        DoesJudged m old (record old { held = h }) verdicts.Hold item sent sent (Ok answers.Held)
+    hold_does holds room st is good judged =
+        let r = rules_in m old in
+        let s = is.stands in
+        moves_by m old (record old { held = h }) (Frame item) sent sent (Ok answers.Held) r st (gives r st item st.inbox verdicts.Hold)
+        (frame_moves r st item verdicts.Hold is.live (verdict_held st true is good judged (le-leb _ _ room)))
+        refl (nothing_more sent sent refl)
+        (record {
+          rules = s.rules;
+          own = s.own;
+          kinds = s.kinds;
+          session = s.session;
+          me = s.me;
+          serves = s.serves;
+          live = s.live ∙ ap not is.live;
+          history = s.history;
+          layers = λ _. s.layers is.live;
+          inbox = λ _. s.inbox is.live;
+          held = λ _. holds
+              ∙ ap (λ (hs : List (List Kept)). with_kept hs item len) (s.held is.live)
+              ∙ ap (λ (n : ℕ). with_kept st.held item n) (counted good);
+          peers = length-set st.held item.from (kept_of st.held item.from ++ record { item = item; len = body_length item } ∷ []) ∙ s.peers;
+          good_inbox = s.good_inbox;
+          good_held = good_with_kept r st.held item (body_length item) s.good_held good;
+        })
+
+    pub full_does : (bytes : ℕ) → h ≡ old.held → bytes ≡ held_bytes old.held item.from → most_bytes < bytes + len →
+        DoesJudged m old (record old { held = h }) verdicts.Hold item sent sent (Err (faults.HeldFull bytes))
+    full_does bytes same is_bytes above st is good judged =
+        let r = rules_in m old in
+        let full : most_bytes < held_bytes old.held item.from + len = subst (λ (x : ℕ). most_bytes < x + len) is_bytes above in
+        let kept : bytes ≡ held_bytes st.held item.from = is_bytes ∙ ap (λ (hs : List (List Kept)). held_bytes hs item.from) (is.stands.held is.live) in
+        moves_by m old (record old { held = h }) (Frame item) sent sent (Err (faults.HeldFull bytes)) r st
+        (stays st st.inbox (Err (faults.HeldFull bytes)))
+        (frame_moves r st item (verdicts.Refuse (faults.HeldFull bytes)) is.live
+        (verdict_held st false is good judged (no_room _ (held_bytes old.held item.from + len) most_bytes refl full)
+        ∙ ap (λ (x : ℕ). verdicts.Refuse (faults.HeldFull x)) (sym kept)))
+        refl (nothing_more sent sent refl) (stays_held old h r st same is.stands)
+
+    pub mem_does : h ≡ old.held → held_bytes old.held item.from + len ≤ most_bytes →
+        DoesJudged m old (record old { held = h }) verdicts.Hold item sent sent (Err faults.Mem)
+    mem_does same room st is good judged = record {
+      out = refl;
+      live = is.live;
+      state = inl (verdict_held st true is good judged (le-leb _ _ room), stays_held old h (rules_in m old) st same is.stands);
+    }
+
+  -- each sender is one of the peers
+  pub held_for : (old : Core S B C T) (item : Item) (st : CoreState) → IsLive m old st → IsGood (rules_in m old) item → length old.held ≤ item.from → ⊥
+  held_for old item st is good out =
+      let n : length old.held ≡ old.layers.params.n = ap length (is.stands.held is.live) ∙ is.stands.peers in
+      let below : item.from < old.layers.params.n = good.sender in
+      absurd (omega arith)

@@ -1,0 +1,24 @@
+-- Tests of two tests.
+use Rattle.std.proofs.Common.{◌≡◌, Bool, true, false, ◌&&◌, ◌||◌, refl}
+
+pub left_false : (a b : Bool) → (a || b) ≡ false → a ≡ false
+left_false true b h = cc
+left_false false b h = refl
+
+pub right_false : (a b : Bool) → (a || b) ≡ false → b ≡ false
+right_false true b h = cc
+right_false false b h = h
+
+pub left_true : (a b : Bool) → (a && b) ≡ true → a ≡ true
+left_true true b h = refl
+left_true false b h = cc
+
+pub right_true : (a b : Bool) → (a && b) ≡ true → b ≡ true
+right_true true b h = h
+right_true false b h = cc
+
+pub or_flip : (a b : Bool) → (a || b) ≡ (b || a)
+or_flip true true = refl
+or_flip true false = refl
+or_flip false true = refl
+or_flip false false = refl

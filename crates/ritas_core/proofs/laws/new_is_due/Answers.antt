@@ -1,0 +1,10 @@
+use Rattle.ritas_core.proofs.CoreLaws.{core_laws}
+use Rattle.ritas_core.proofs.Due as due
+use Rattle.ritas_core.proofs.laws.new_is_due.Goals as goal
+
+pub returns : goal.returns
+returns g c = record {
+  due = λ r is h e m.
+      due.new_is_due r (core_laws g.S.Service.rules g.B.Broadcast.rules r is g.met.S.Service.word_laws g.met.B.Broadcast.value_laws) h e m;
+  order = due.new_in_order;
+}

@@ -1,0 +1,106 @@
+-- What calls on the broadcasts of a replica do, for all calls that they stand for. Each list of calls has the newest first.
+use Rattle.std.specs.Prelude.{◌≡◌, ℕ, ◌<◌, Bool, true, false, not, Option, Some, None, Result, Ok, Err, List, ◌++◌}
+use Rattle.std.specs.BTreeMap.{BTreeMap, get}
+use Rattle.ritas_base.specs.declared.bytes.Mem.{Mem}
+use Rattle.ritas_base.specs.declared.slot.Slot.{Slot}
+use Rattle.ritas_base.specs.declared.item.Item.{Item}
+use Rattle.ritas_base.specs.declared.item.Msg.{Msg}
+use Rattle.ritas_base.specs.declared.item.Say.{Say}
+use Rattle.ritas_base.specs.declared.item.Kind.TheVariants.{Column}
+use Rattle.ritas_base.specs.SlotOrder.{slot_cmp}
+use Rattle.ritas_base.specs.Messages.{Place, kind_eq}
+use Rattle.ritas_base.specs.History.{Call, Start, Take}
+use Rattle.ritas_base.specs.Tags.{Tags}
+use Rattle.layer_api.specs.Broadcast.{BroadcastRules, Tagging, IsTagger, MayStart, MayTake}
+use Rattle.layer_api.specs.BroadcastCalls.{TakesNew, TakesAgain}
+use Rattle.ritas_core.specs.declared.taken.Taken.{Taken}
+use Rattle.ritas_core.specs.declared.taken.Taken.TheVariants.{Took, Repeat}
+use Rattle.ritas_core.specs.Rules.{CastRules, place_at}
+use Rattle.ritas_core.specs.Casts.{CastsStand, MayStartAll, called, started_all, news_at, start_news, newly, delivered_by}
+
+-- the tagger of this number is this replica's, which is one of the session's
+pub record IsOwn (c : CastRules) (number : ℕ) : Type 0 where
+  pub own : number ≡ c.me
+  pub below : c.me < c.numbers.n
+
+-- each value of the map stands for the same calls as before
+abbrev pub StaysSo : {B : Type 0} → (B → Place → Tags → List Call → Type 0) → CastRules → BTreeMap Slot B → BTreeMap Slot B → Type 0
+StaysSo stands c old new = (h : Slot → List Call) → CastsStand stands c old h → CastsStand stands c new h
+
+-- a value may be started at its slot
+pub record CanStart {B : Type 0} (stands : B → Place → Tags → List Call → Type 0) (c : CastRules) (number : ℕ) (casts : BTreeMap Slot B) (say : Say) (h : Slot → List Call) : Type 0 where
+  pub is_own : IsOwn c number
+  pub may : MayStart (place_at c say.slot) (h say.slot)
+  pub stood : CastsStand stands c casts h
+
+-- it was started, and what became due by it is put out
+pub record StartsCast {B : Type 0} (stands : B → Place → Tags → List Call → Type 0) (c : CastRules) (number : ℕ) (old new : BTreeMap Slot B) (say : Say) (before after : List Msg) : Type 0 where
+  pub grows : (h : Slot → List Call) → CanStart stands c number old say h → CastsStand stands c new (called h say.slot (Start say.value))
+  pub made : (h : Slot → List Call) → CanStart stands c number old say h → after ≡ before ++ news_at c say.slot (h say.slot) (Start say.value)
+
+-- these values may be started, one after another
+pub record CanStartAll {B : Type 0} (stands : B → Place → Tags → List Call → Type 0) (c : CastRules) (number : ℕ) (casts : BTreeMap Slot B) (says : List Say) (h : Slot → List Call) : Type 0 where
+  pub is_own : IsOwn c number
+  pub may : MayStartAll c says h
+  pub stood : CastsStand stands c casts h
+
+-- they were started
+pub record StartsCasts {B : Type 0} (stands : B → Place → Tags → List Call → Type 0) (c : CastRules) (number : ℕ) (old new : BTreeMap Slot B) (says : List Say) (before after : List Msg) : Type 0 where
+  pub grows : (h : Slot → List Call) → CanStartAll stands c number old says h → CastsStand stands c new (started_all says h)
+  pub made : (h : Slot → List Call) → CanStartAll stands c number old says h → after ≡ before ++ start_news c says h
+
+-- the broadcast took the item, and newly delivers d
+pub record HearsNew {B : Type 0} (stands : B → Place → Tags → List Call → Type 0) (r : BroadcastRules) (shown : B → Option (List ℕ)) (t : Tagging) (old new : B) (item : Item) (before after : List Msg) (d : Option (List ℕ)) : Type 0 where
+  pub takes : TakesNew stands r t old new item before after
+  pub delivered : d ≡ newly (shown old) (shown new)
+
+-- for want of memory it didn't, and the item doesn't repeat one
+abbrev pub CountsNew : {B : Type 0} → (B → Place → Tags → List Call → Type 0) → BroadcastRules → Tagging → B → Item → Type 0
+CountsNew stands r t old item = (at : Place) (tags : Tags) (h : List Call) → stands old at tags h → IsTagger at tags t → MayTake r at tags h item
+    → r.repeats at tags h item ≡ false
+
+abbrev pub HearsItem : {B : Type 0} → (B → Place → Tags → List Call → Type 0) → BroadcastRules → (B → Option (List ℕ)) → Tagging → B → B → Item → List Msg → List Msg → Result Taken Mem → Type 0
+HearsItem stands r shown t old new item before after (Ok (Took d)) = HearsNew stands r shown t old new item before after d
+HearsItem stands r shown t old new item before after (Ok Repeat) = TakesAgain stands r t old new item before after
+HearsItem stands r shown t old new item before after (Err e) = CountsNew stands r t old item
+
+-- the broadcast of an item's slot may take it
+pub record CanTake {B : Type 0} (stands : B → Place → Tags → List Call → Type 0) (c : CastRules) (number : ℕ) (casts : BTreeMap Slot B) (item : Item) (h : Slot → List Call) : Type 0 where
+  pub is_own : IsOwn c number
+  pub origin : item.slot.origin < c.numbers.n
+  pub may : MayTake (c.at_slot item.slot) (place_at c item.slot) c.tags (h item.slot) item
+  pub stood : CastsStand stands c casts h
+
+-- whether the item repeats one that its slot took
+abbrev pub Repeats : {B : Type 0} → (B → Place → Tags → List Call → Type 0) → CastRules → ℕ → BTreeMap Slot B → Item → Bool → Type 0
+Repeats stands c number old item b = (h : Slot → List Call) → CanTake stands c number old item h
+    → (c.at_slot item.slot).repeats (place_at c item.slot) c.tags (h item.slot) item ≡ b
+
+-- the item was taken, and its slot newly delivers d
+pub record CastsTake {B : Type 0} (stands : B → Place → Tags → List Call → Type 0) (c : CastRules) (number : ℕ) (old new : BTreeMap Slot B) (item : Item) (before after : List Msg) (d : Option (List ℕ)) : Type 0 where
+  pub grows : (h : Slot → List Call) → CanTake stands c number old item h → CastsStand stands c new (called h item.slot (Take item))
+  pub made : (h : Slot → List Call) → CanTake stands c number old item h → after ≡ before ++ news_at c item.slot (h item.slot) (Take item)
+  pub delivered : (h : Slot → List Call) → CanTake stands c number old item h → delivered_by c item.slot (h item.slot) (Take item) ≡ d
+  pub counts : Repeats stands c number old item false
+
+-- the item repeats one, and leaves all as it was
+pub record CastsRepeat {B : Type 0} (stands : B → Place → Tags → List Call → Type 0) (c : CastRules) (number : ℕ) (old new : BTreeMap Slot B) (item : Item) (before after : List Msg) : Type 0 where
+  pub same : StaysSo stands c old new
+  pub made : after ≡ before
+  pub counts : Repeats stands c number old item true
+
+-- each outcome
+abbrev pub CastsHear : {B : Type 0} → (B → Place → Tags → List Call → Type 0) → CastRules → ℕ → BTreeMap Slot B → BTreeMap Slot B → Item → List Msg → List Msg → Result Taken Mem → Type 0
+CastsHear stands c number old new item before after (Ok (Took d)) = CastsTake stands c number old new item before after d
+CastsHear stands c number old new item before after (Ok Repeat) = CastsRepeat stands c number old new item before after
+CastsHear stands c number old new item before after (Err e) = Repeats stands c number old item false
+
+-- whether the broadcast of its slot can take an item yet, and where none is made, whether it isn't a column
+abbrev pub ready_or : {B : Type 0} → Option B → Bool → Bool → Bool
+ready_or None early ready = early
+ready_or (Some b) early ready = ready
+
+abbrev pub is_ready_in : {B : Type 0} → CastRules → BTreeMap Slot B → (Slot → List Call) → Item → Bool
+is_ready_in c casts h item =
+    ready_or (get slot_cmp casts item.slot) (not (kind_eq item.kind Column))
+    ((c.at_slot item.slot).ready (place_at c item.slot) c.tags (h item.slot) item)

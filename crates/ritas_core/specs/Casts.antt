@@ -1,0 +1,49 @@
+-- The calls that the broadcasts of a replica had, and what a call makes due. Each list has the newest first.
+use Rattle.std.specs.Prelude.{◌≡◌, ℕ, Option, Some, None, List, [], ◌∷◌, ◌++◌, if◌then◌else◌}
+use Rattle.std.specs.BTreeMap.{BTreeMap, get}
+use Rattle.ritas_base.specs.declared.slot.Slot.{Slot}
+use Rattle.ritas_base.specs.declared.item.Msg.{Msg}
+use Rattle.ritas_base.specs.declared.item.Say.{Say}
+use Rattle.ritas_base.specs.SlotOrder.{slot_cmp, is_slot}
+use Rattle.ritas_base.specs.Messages.{Place}
+use Rattle.ritas_base.specs.Tags.{Tags}
+use Rattle.ritas_base.specs.History.{Call, Start}
+use Rattle.layer_api.specs.Broadcast.{news, MayStart}
+use Rattle.ritas_core.specs.Rules.{CastRules, place_at, out_at}
+
+-- one call more at a slot
+abbrev pub called : (Slot → List Call) → Slot → Call → Slot → List Call
+called h s c q = if is_slot s q then c ∷ h q else h q
+
+-- a start more at the slot of each say
+abbrev pub started_all : List Say → (Slot → List Call) → Slot → List Call
+started_all [] h = h
+started_all (say ∷ says) h = started_all says (called h say.slot (Start say.value))
+
+-- what becomes due by a call at a slot, after these calls
+abbrev pub news_at : CastRules → Slot → List Call → Call → List Msg
+news_at c s calls call = news (c.at_slot s) (place_at c s) c.tags calls call
+
+-- what becomes due by these starts
+abbrev pub start_news : CastRules → List Say → (Slot → List Call) → List Msg
+start_news c [] h = []
+start_news c (say ∷ says) h = news_at c say.slot (h say.slot) (Start say.value) ++ start_news c says (called h say.slot (Start say.value))
+
+-- what is there afterwards, where nothing was there before
+abbrev pub newly : Option (List ℕ) → Option (List ℕ) → Option (List ℕ)
+newly None after = after
+newly (Some v) after = None
+
+-- what a slot delivers by a call and did not before
+abbrev pub delivered_by : CastRules → Slot → List Call → Call → Option (List ℕ)
+delivered_by c s calls call = newly (out_at c s calls) (out_at c s (call ∷ calls))
+
+-- the map has at each slot a value that stands for the calls there, or none where there were none
+pub record CastsStand {B : Type 0} (stands : B → Place → Tags → List Call → Type 0) (c : CastRules) (casts : BTreeMap Slot B) (h : Slot → List Call) : Type 0 where
+  pub made : (s : Slot) (b : B) → get slot_cmp casts s ≡ Some b → stands b (place_at c s) c.tags (h s)
+  pub unmade : (s : Slot) → get slot_cmp casts s ≡ None → h s ≡ []
+
+-- each of these says may be started when its turn comes
+abbrev pub MayStartAll : CastRules → List Say → (Slot → List Call) → Type 0
+MayStartAll c [] h = Unit {0}
+MayStartAll c (say ∷ says) h = MayStart (place_at c say.slot) (h say.slot) × MayStartAll c says (called h say.slot (Start say.value))

@@ -1,0 +1,94 @@
+-- What the steps of a call on a core do, for the rules that its layers have.
+use Rattle.std.specs.Prelude.{◌≡◌, ℕ, true, false, List, ◌++◌, Result, Ok, Err, if◌then◌else◌}
+use Rattle.ritas_base.specs.declared.bytes.Mem.{Mem}
+use Rattle.ritas_base.specs.declared.item.Item.{Item}
+use Rattle.ritas_base.specs.declared.item.Msg.{Msg}
+use Rattle.layer_api.specs.declared.broadcast.Heard.{Heard}
+use Rattle.layer_api.specs.declared.broadcast.Heard.TheVariants as heard
+use Rattle.layer_api.specs.Broadcast.{MayTake}
+use Rattle.ooc_buffers.specs.Lists.{Kept, held_bytes, released, remaining}
+use Rattle.ritas_core.specs.declared.answer.Answer.{Answer}
+use Rattle.ritas_core.specs.declared.fault.CoreFault.{CoreFault}
+use Rattle.ritas_core.specs.declared.fault.CoreFault.TheVariants as faults
+use Rattle.ritas_core.specs.declared.verdict.Verdict.{Verdict}
+use Rattle.ritas_core.specs.declared.verdict.Verdict.TheVariants as verdicts
+use Rattle.ritas_core.specs.declared.kernel.Core.{Core}
+use Rattle.ritas_core.specs.Rules.{Rules, place_at}
+use Rattle.ritas_core.specs.Parts.{Parts, Entry, Took, Given, parts}
+use Rattle.ritas_core.specs.Order.{ordered, own_items, new_messages}
+use Rattle.ritas_core.specs.Checks.{is_open, is_taken_again, has_room, verdict_on, MayEnter}
+use Rattle.ritas_core.specs.Machine.{CoreState, What, Frame, entered, MayGive}
+use Rattle.ritas_core.specs.Stands.{Meaning, rules_of, LayersStand, CoreStands}
+use Rattle.ritas_core.specs.LayerCalls.{SameSeat, RepeatsOne, is_past_in, is_open_in}
+use Rattle.ritas_core.specs.Calls.{Does}
+
+-- the rules that the layers of a core have
+abbrev pub rules_in : {S B C T : Type 0} → Meaning S B C T → Core S B C T → Rules
+rules_in m core = rules_of m core.layers
+
+-- the core stands for this state, and isn't stopped
+pub record IsLive {S B C T : Type 0} (m : Meaning S B C T) (core : Core S B C T) (st : CoreState) : Type 0 where
+  pub stands : CoreStands m core (rules_in m core) st
+  pub live : st.live ≡ true
+
+-- the messages are put out in their order, what comes to oneself joins the inbox, and then what is open
+pub record Finishes {S B C T : Type 0} (m : Meaning S B C T) (old new : Core S B C T) (made before after : List Msg) : Type 0 where
+  pub layers : new.layers ≡ old.layers
+  pub stopped : new.stopped ≡ old.stopped
+  pub out : after ≡ before ++ ordered made
+  pub inbox : (p : Parts) → LayersStand m old.layers p
+      → new.inbox.items ≡ (old.inbox.items ++ own_items old.layers.me (ordered made)) ++ released (is_open_in m old.layers p) old.held
+  pub held : (p : Parts) → LayersStand m old.layers p
+      → new.held ≡ remaining (is_past_in m old.layers p) (remaining (is_open_in m old.layers p) old.held)
+
+-- for want of memory nothing is put out
+pub record StopsCore {S B C T : Type 0} (old new : Core S B C T) (before after : List Msg) : Type 0 where
+  pub seat : SameSeat old.layers new.layers
+  pub out : after ≡ before
+
+-- an entry was taken, where it met its conditions
+pub record EntersCore {S B C T : Type 0} (m : Meaning S B C T) (old new : Core S B C T) (e : Entry) (before after : List Msg) : Type 0 where
+  pub state : (st : CoreState) → IsLive m old st → MayEnter (rules_in m old) (parts (rules_in m old) st.history) e
+      → CoreStands m new (rules_in m old) (entered (rules_in m old) st e st.inbox)
+  pub out : (st : CoreState) → IsLive m old st → MayEnter (rules_in m old) (parts (rules_in m old) st.history) e
+      → after ≡ before ++ new_messages (rules_in m old) st.history e
+
+-- the item repeats one, and all is as it was
+pub record StaysCore {S B C T : Type 0} (m : Meaning S B C T) (old new : Core S B C T) (before after : List Msg) : Type 0 where
+  pub state : (st : CoreState) → IsLive m old st → CoreStands m new (rules_in m old) st
+  pub out : after ≡ before
+
+-- each outcome of giving an open item to the layers
+abbrev pub TriesItem : {S B C T : Type 0} → Meaning S B C T → Core S B C T → Core S B C T → Item → List Msg → List Msg → Result Heard Mem → Type 0
+TriesItem m old new item before after (Ok heard.Took) = EntersCore m old new (Took item) before after × RepeatsOne m old.layers item false
+TriesItem m old new item before after (Ok heard.Repeat) = StaysCore m old new before after × RepeatsOne m old.layers item true
+TriesItem m old new item before after (Err e) = StopsCore old new before after × RepeatsOne m old.layers item false
+
+-- each outcome of giving an input to the layers
+abbrev pub TriesInput : {S B C T : Type 0} → Meaning S B C T → Core S B C T → Core S B C T → List ℕ → List Msg → List Msg → Result (Unit {0}) Mem → Type 0
+TriesInput m old new value before after (Ok u) = EntersCore m old new (Given value) before after
+TriesInput m old new value before after (Err e) = StopsCore old new before after
+
+-- what the judge tells of an item that is to be taken, if it doesn't repeat one that its slot took
+pub record IsToTake (r : Rules) (p : Parts) (held : List (List Kept)) (item : Item) : Type 0 where
+  pub may : MayTake (r.casts.at_slot item.slot) (place_at r.casts item.slot) r.casts.tags (p.calls item.slot) item
+  pub opened : is_open r p item ≡ true
+  pub verdict : verdict_on r p held item ≡ (if is_taken_again r p item then verdicts.Again else verdicts.Take)
+
+-- of each verdict
+abbrev pub Judged : Rules → Parts → List (List Kept) → Item → Verdict → Type 0
+Judged r p held item (verdicts.Refuse fault) = verdict_on r p held item ≡ verdicts.Refuse fault
+Judged r p held item verdicts.Again = verdict_on r p held item ≡ verdicts.Again
+Judged r p held item verdicts.Hold = verdict_on r p held item ≡ (if has_room held item then verdicts.Hold else verdicts.Refuse (faults.HeldFull (held_bytes held item.from)))
+Judged r p held item verdicts.Take = IsToTake r p held item
+
+-- what a call does for the rules that the layers have
+abbrev pub DoesHere : {S B C T : Type 0} → Meaning S B C T → Core S B C T → Core S B C T → What → List Msg → List Msg → Result Answer CoreFault → Type 0
+DoesHere m old new what before after result = (st : CoreState) → IsLive m old st → MayGive (rules_in m old) what
+    → Does m old new what before after result (rules_in m old) st
+
+-- and for an item of which the judge has told this
+abbrev pub DoesJudged : {S B C T : Type 0} → Meaning S B C T → Core S B C T → Core S B C T → Verdict → Item → List Msg → List Msg → Result Answer CoreFault → Type 0
+DoesJudged m old new verdict item before after result = (st : CoreState) → IsLive m old st → MayGive (rules_in m old) (Frame item)
+    → Judged (rules_in m old) (parts (rules_in m old) st.history) st.held item verdict
+    → Does m old new (Frame item) before after result (rules_in m old) st

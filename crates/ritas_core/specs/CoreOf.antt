@@ -1,0 +1,16 @@
+-- A core whose layers keep their traits' laws.
+use Rattle.std.specs.Prelude.{◌≡◌, ◌<◌, true}
+use Rattle.ritas_base.specs.declared.slot.Slot.{Slot}
+use Rattle.ritas_base.specs.Numbers.{IsSession}
+use Rattle.layer_api.specs.Broadcast.{BroadcastRules}
+use Rattle.layer_api.specs.Service.{ServiceRules}
+use Rattle.ritas_core.specs.Rules.{Rules, KindsFit}
+
+-- the rules are those of a core with this service and this broadcast, of a replica of a session
+pub record IsCoreOf (service : ServiceRules) (cast : BroadcastRules) (r : Rules) : Type 0 where
+  pub words : r.service ≡ service
+  pub casts : (s : Slot) → r.casts.at_slot s ≡ cast
+  pub session : IsSession r.casts.numbers
+  pub me : r.casts.me < r.casts.numbers.n
+  pub serves : service.serves r.mode.root ≡ true
+  pub kinds : KindsFit r.casts.numbers r.mode r.casts.at_slot

@@ -1,0 +1,101 @@
+-- What calls on the layers do, for all parts that they stand for. Each list has the newest first.
+use Rattle.std.specs.Prelude.{◌≡◌, ℕ, ◌+◌, ◌<◌, nat_lt, nat_le, ◌==◌, Bool, true, false, not, ◌&&◌, if◌then◌else◌, Option, Some, None, Result, Ok, Err, List, ◌++◌}
+use Rattle.ritas_base.specs.declared.bytes.Mem.{Mem}
+use Rattle.ritas_base.specs.declared.slot.Slot.{Slot}
+use Rattle.ritas_base.specs.declared.item.Item.{Item}
+use Rattle.ritas_base.specs.declared.item.Msg.{Msg}
+use Rattle.layer_api.specs.declared.broadcast.Heard.{Heard}
+use Rattle.layer_api.specs.declared.broadcast.Heard.TheVariants as heard
+use Rattle.layer_api.specs.Broadcast.{MayTake}
+use Rattle.layer_api.specs.Service.{Word, Ask, Hear, MayAsk, MayHear}
+use Rattle.ritas_core.specs.declared.layers.Layers.{Layers}
+use Rattle.ritas_core.specs.Rules.{Rules, seat_of, place_at}
+use Rattle.ritas_core.specs.Casts.{MayStartAll}
+use Rattle.ritas_core.specs.CastCalls.{IsOwn, is_ready_in}
+use Rattle.ritas_core.specs.Parts.{Parts, Took, told_to, told_news, taken_at, item_delivers, after, made_by}
+use Rattle.ritas_core.specs.Checks.{is_item_past, is_item_ahead, is_taken_again}
+use Rattle.ritas_core.specs.Stands.{Meaning, rules_of, LayersStand}
+
+-- what the service newly says by a word may be started
+abbrev pub MayStartSaid : Rules → Word → Parts → Type 0
+MayStartSaid r word p = MayStartAll r.casts (r.service.says (seat_of r) p.words word) p.calls
+
+-- the service may have a word, and what it newly says by it may be started
+abbrev pub MayTell : Rules → Word → Parts → Type 0
+MayTell r (Ask value) p = MayAsk r.service (seat_of r) p.words × MayStartSaid r (Ask value) p
+MayTell r (Hear s value) p = MayHear r.service (seat_of r) p.words s × MayStartSaid r (Hear s value) p
+
+-- the service may hear what a slot newly delivers, if it does
+abbrev pub MayFollow : Rules → Slot → Option (List ℕ) → Parts → Type 0
+MayFollow r s None p = Unit {0}
+MayFollow r s (Some value) p = MayTell r (Hear s value) p
+
+-- all but the service and the broadcasts stays
+pub record SameSeat {S B C T : Type 0} (old new : Layers S B C T) : Type 0 where
+  pub params : new.params ≡ old.params
+  pub mode : new.mode ≡ old.mode
+  pub me : new.me ≡ old.me
+  pub tagger : new.tagger ≡ old.tagger
+  pub coin : new.coin ≡ old.coin
+
+-- the service may have a word
+pub record CanTell {S B C T : Type 0} (m : Meaning S B C T) (layers : Layers S B C T) (word : Word) (p : Parts) : Type 0 where
+  pub is_own : IsOwn (rules_of m layers).casts (m.me layers.tagger)
+  pub may : MayTell (rules_of m layers) word p
+  pub stood : LayersStand m layers p
+
+-- it had the word, and what became due by it is put out
+pub record Tells {S B C T : Type 0} (m : Meaning S B C T) (old new : Layers S B C T) (word : Word) (before after_it : List Msg) : Type 0 where
+  pub grows : (p : Parts) → CanTell m old word p → LayersStand m new (told_to (rules_of m old) word p)
+  pub made : (p : Parts) → CanTell m old word p → after_it ≡ before ++ told_news (rules_of m old) word p
+
+-- an item may be taken
+pub record CanTakeItem {S B C T : Type 0} (m : Meaning S B C T) (layers : Layers S B C T) (item : Item) (p : Parts) : Type 0 where
+  pub is_own : IsOwn (rules_of m layers).casts (m.me layers.tagger)
+  pub origin : item.slot.origin < layers.params.n
+  pub may : MayTake m.cast (place_at (rules_of m layers).casts item.slot) (rules_of m layers).casts.tags (p.calls item.slot) item
+  pub stood : LayersStand m layers p
+
+-- whether the item repeats one that was taken
+abbrev pub RepeatsOne : {S B C T : Type 0} → Meaning S B C T → Layers S B C T → Item → Bool → Type 0
+RepeatsOne m old item b = (p : Parts) → CanTakeItem m old item p → is_taken_again (rules_of m old) p item ≡ b
+
+-- it was taken, and what became due by it is put out, where the service may hear what its slot newly delivers
+pub record TakesItem {S B C T : Type 0} (m : Meaning S B C T) (old new : Layers S B C T) (item : Item) (before after_it : List Msg) : Type 0 where
+  pub grows : (p : Parts) → CanTakeItem m old item p
+      → MayFollow (rules_of m old) item.slot (item_delivers (rules_of m old) item p) (taken_at item p)
+      → LayersStand m new (after (rules_of m old) (Took item) p)
+  pub made : (p : Parts) → CanTakeItem m old item p
+      → MayFollow (rules_of m old) item.slot (item_delivers (rules_of m old) item p) (taken_at item p)
+      → after_it ≡ before ++ made_by (rules_of m old) (Took item) p
+  pub counts : RepeatsOne m old item false
+
+-- the item repeats one, and leaves all as it was
+pub record RepeatsItem {S B C T : Type 0} (m : Meaning S B C T) (old new : Layers S B C T) (item : Item) (before after_it : List Msg) : Type 0 where
+  pub same : (p : Parts) → LayersStand m old p → LayersStand m new p
+  pub out : after_it ≡ before
+  pub counts : RepeatsOne m old item true
+
+-- each outcome
+abbrev pub GivesItem : {S B C T : Type 0} → Meaning S B C T → Layers S B C T → Layers S B C T → Item → List Msg → List Msg → Result Heard Mem → Type 0
+GivesItem m old new item before after_it (Ok heard.Took) = TakesItem m old new item before after_it
+GivesItem m old new item before after_it (Ok heard.Repeat) = RepeatsItem m old new item before after_it
+GivesItem m old new item before after_it (Err e) = RepeatsOne m old item false
+
+-- whether an item is past, and whether it is open, as the layers tell it of an item whose slot's origin is a replica
+abbrev pub is_past_in : {S B C T : Type 0} → Meaning S B C T → Layers S B C T → Parts → Item → Bool
+is_past_in m layers p item = nat_lt item.slot.origin layers.params.n && is_item_past (rules_of m layers) p item
+
+abbrev pub is_let_in : {S B C T : Type 0} → Meaning S B C T → Layers S B C T → Parts → Item → Bool
+is_let_in m layers p item = m.service.opens (seat_of (rules_of m layers)) p.words item.slot && is_ready_in (rules_of m layers).casts layers.casts p.calls item
+
+abbrev pub is_open_in : {S B C T : Type 0} → Meaning S B C T → Layers S B C T → Parts → Item → Bool
+is_open_in m layers p item =
+    nat_lt item.slot.origin layers.params.n && (not (is_item_past (rules_of m layers) p item) && (not (is_item_ahead (rules_of m layers) p item) && is_let_in m layers p item))
+
+-- what the slot's window is counted from puts it behind the window, or beyond it
+abbrev pub is_behind : Slot → ℕ → Bool
+is_behind s mark = if s.class == 1 then nat_lt (s.a + 64) mark else nat_lt (s.a + 2) mark
+
+abbrev pub is_beyond : Slot → ℕ → Bool
+is_beyond s mark = if s.class == 1 then nat_le (mark + 64) s.a else nat_lt (mark + 4) s.a

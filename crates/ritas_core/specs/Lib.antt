@@ -1,0 +1,15 @@
+pub mod Rules
+pub mod Casts
+pub mod CastCalls
+pub mod Parts
+pub mod Order
+pub mod Checks
+pub mod Machine
+pub mod Stands
+pub mod LayerCalls
+pub mod Judging
+pub mod Calls
+pub mod CoreCalls
+pub mod Shown
+pub mod Laws
+pub mod CoreOf

@@ -1,0 +1,39 @@
+-- What the getters of a core show.
+use Rattle.std.specs.Prelude.{ℕ, Option, Some, None, List, [], ◌∷◌, sum_by}
+use Rattle.ritas_base.specs.declared.item.Item.{Item}
+use Rattle.ritas_base.specs.declared.slot.Slot.{Slot}
+use Rattle.ritas_base.specs.declared.mode.Mode.{Mode}
+use Rattle.ritas_base.specs.Numbers.{Numbers}
+use Rattle.ooc_buffers.specs.Lists.{Kept}
+use Rattle.ritas_core.specs.declared.kernel.Core.{Core}
+use Rattle.ritas_core.specs.Rules.{Rules, out_at}
+use Rattle.ritas_core.specs.Parts.{Entry, parts}
+
+-- the numbers of the session, the mode, the replica and its tagger
+abbrev pub params_of : {S B C T : Type 0} → Core S B C T → Numbers
+params_of core = core.layers.params
+
+abbrev pub mode_of : {S B C T : Type 0} → Core S B C T → Mode
+mode_of core = core.layers.mode
+
+abbrev pub me_of : {S B C T : Type 0} → Core S B C T → ℕ
+me_of core = core.layers.me
+
+abbrev pub tagger_of : {S B C T : Type 0} → Core S B C T → T
+tagger_of core = core.layers.tagger
+
+-- the item that waits first
+abbrev pub front_of : List Item → Option Item
+front_of [] = None
+front_of (item ∷ waiting) = Some item
+
+-- the bytes that are held for one peer, and for all
+abbrev pub bytes_in : List Kept → ℕ
+bytes_in kept = sum_by (λ k. k.len) kept
+
+abbrev pub all_bytes : List (List Kept) → ℕ
+all_bytes held = sum_by bytes_in held
+
+-- what a slot delivered in a history
+abbrev pub delivered_at : Rules → List Entry → Slot → Option (List ℕ)
+delivered_at r h s = out_at r.casts s ((parts r h).calls s)

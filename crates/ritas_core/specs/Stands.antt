@@ -1,0 +1,78 @@
+-- What the values of a core stand for.
+use Rattle.std.specs.Prelude.{◌≡◌, ℕ, ◌<◌, Bool, true, not, List, [], ◌∷◌, length}
+use Rattle.ritas_base.specs.declared.slot.Slot.{Slot}
+use Rattle.ritas_base.specs.Messages.{Place}
+use Rattle.ritas_base.specs.Numbers.{IsSession}
+use Rattle.ritas_base.specs.Tags.{Tags}
+use Rattle.ritas_base.specs.History.{Call}
+use Rattle.layer_api.specs.Broadcast.{BroadcastRules}
+use Rattle.layer_api.specs.Service.{ServiceRules, Seat, Word}
+use Rattle.ooc_buffers.specs.Lists.{Kept}
+use Rattle.ritas_core.specs.declared.layers.Layers.{Layers}
+use Rattle.ritas_core.specs.declared.kernel.Core.{Core}
+use Rattle.ritas_core.specs.Rules.{Rules, casts_by, seat_of, KindsFit}
+use Rattle.ritas_core.specs.Casts.{CastsStand}
+use Rattle.ritas_core.specs.Parts.{Parts, parts}
+use Rattle.ritas_core.specs.Checks.{IsHistory, IsGood}
+use Rattle.ritas_core.specs.Machine.{CoreState, AreGood}
+
+-- what the traits say of a service, a broadcast, a coin and a tagger
+pub record Meaning (S B C T : Type 0) : Type 1 where
+  pub service_stands : S → Seat → List Word → Type 0
+  pub service : ServiceRules
+  pub cast_stands : B → Place → Tags → List Call → Type 0
+  pub cast : BroadcastRules
+  pub bits : C → Slot → Bool
+  pub me : T → ℕ
+  pub tags : T → Tags
+
+abbrev pub meaning : {S B C T : Type 0} → (S → Seat → List Word → Type 0) → ServiceRules → (B → Place → Tags → List Call → Type 0) → BroadcastRules → (C → Slot → Bool) → (T → ℕ) → (T → Tags) → Meaning S B C T
+meaning service_stands service cast_stands cast bits me tags = record {
+  service_stands = service_stands;
+  service = service;
+  cast_stands = cast_stands;
+  cast = cast;
+  bits = bits;
+  me = me;
+  tags = tags;
+}
+
+-- what the layers mean
+abbrev pub rules_of : {S B C T : Type 0} → Meaning S B C T → Layers S B C T → Rules
+rules_of m layers = record {
+  mode = layers.mode;
+  casts = casts_by layers.params layers.me (m.tags layers.tagger) m.cast;
+  coin = m.bits layers.coin;
+  service = m.service;
+}
+
+-- the service and the broadcasts stand for these parts
+pub record LayersStand {S B C T : Type 0} (m : Meaning S B C T) (layers : Layers S B C T) (p : Parts) : Type 0 where
+  pub service : m.service_stands layers.service (seat_of (rules_of m layers)) p.words
+  pub casts : CastsStand m.cast_stands (rules_of m layers).casts layers.casts p.calls
+
+-- the held items may be given
+abbrev pub AreGoodKept : Rules → List Kept → Type 0
+AreGoodKept r [] = Unit {0}
+AreGoodKept r (x ∷ xs) = IsGood r x.item × AreGoodKept r xs
+
+abbrev pub AreGoodLists : Rules → List (List Kept) → Type 0
+AreGoodLists r [] = Unit {0}
+AreGoodLists r (kept ∷ held) = AreGoodKept r kept × AreGoodLists r held
+
+-- the core stands for this state, by these rules. Of a stopped core only that is said
+pub record CoreStands {S B C T : Type 0} (m : Meaning S B C T) (core : Core S B C T) (r : Rules) (st : CoreState) : Type 0 where
+  pub rules : rules_of m core.layers ≡ r
+  pub own : m.me core.layers.tagger ≡ r.casts.me
+  pub kinds : KindsFit r.casts.numbers r.mode r.casts.at_slot
+  pub session : IsSession r.casts.numbers
+  pub me : r.casts.me < r.casts.numbers.n
+  pub serves : r.service.serves r.mode.root ≡ true
+  pub live : core.stopped ≡ not st.live
+  pub history : IsHistory r st.history
+  pub layers : st.live ≡ true → LayersStand m core.layers (parts r st.history)
+  pub inbox : st.live ≡ true → core.inbox.items ≡ st.inbox
+  pub held : st.live ≡ true → core.held ≡ st.held
+  pub peers : length st.held ≡ r.casts.numbers.n
+  pub good_inbox : AreGood r st.inbox
+  pub good_held : AreGoodLists r st.held

@@ -1,0 +1,227 @@
+ghost use Rattle.std.specs.Prelude.{◌≡◌, ◌<◌, ◌^◌};
+ghost use Rattle.ritas_core.specs.Checks.{body_length};
+
+use crate::answer::Answer;
+use crate::fault::CoreFault;
+use crate::judge::judge;
+use crate::layers::Layers;
+use crate::verdict::Verdict;
+use frame_codec::spelled;
+use layer_api::{Broadcast, Heard, Service};
+use ooc_buffers::{Held, HoldFault};
+use ritas_base::{Coin, Item, Mem, Mode, Msg, Params, Tagger};
+use std::alloc::Global;
+use std::collections::{BTreeMap, VecDeque};
+
+/// One replica without its channels: its layers, the items that wait for it, and those that it holds.
+#[derive(Drop)]
+pub struct Core<S: Service, B: Broadcast, C: Coin + Drop, T: Tagger + Drop> {
+    pub(crate) layers: Layers<S, B, C, T>,
+    pub(crate) inbox: VecDeque<Item>,
+    pub(crate) held: Held,
+    pub(crate) stopped: bool,
+}
+
+/// How many bytes an item is spelled with, where a `u32` holds that.
+fn length_of(item: &Item) -> u32
+    ensures { body_length item.now < 2 ^ 32 → result ≡ body_length item.now }
+{
+    let len = item.value.as_slice().len() as u64;
+    u32::try_from(10 + len).unwrap_or(u32::MAX)
+}
+
+impl<S: Service, B: Broadcast, C: Coin + Drop, T: Tagger + Drop> Core<S, B, C, T> {
+    ghost use Rattle.std.specs.Prelude.{◌≡◌, ◌<◌, true, false, List, [], IfOk, replicate};
+    ghost use Rattle.ritas_base.specs.declared.item.Msg.{Msg};
+    ghost use Rattle.ooc_buffers.specs.Lists.{is_kept};
+    ghost use Rattle.ritas_core.specs.declared.verdict.Verdict.TheVariants as verdicts;
+    ghost use Rattle.ritas_core.specs.Rules.{casts_by, KindsFit};
+    ghost use Rattle.ritas_core.specs.Machine.{Frame, Input, Turn, first_state};
+    ghost use Rattle.ritas_core.specs.Stands.{meaning, CoreStands};
+    ghost use Rattle.ritas_core.specs.Calls.{DoesAll};
+    ghost use Rattle.ritas_core.specs.CoreCalls.{DoesHere, DoesJudged};
+
+    /// The core of replica `me`, with no history: nothing waits, and nothing is held. The one error is want of memory.
+    ///
+    /// The tagger is the replica's, the service serves the mode's root service, and the broadcast has exactly the kinds
+    /// that the grammar gives to each slot.
+    pub fn new(alloc: Global, p: Params, mode: Mode, me: u8, t: T, coin: C) -> Result<Self, Mem>
+        requires below { me < p.n }
+        requires own { T.me t ≡ me }
+        requires kinds { KindsFit p mode (λ s. B.rules) }
+        requires serves { S.rules.serves mode.root ≡ true }
+        ensures { let m = meaning S.stands S.rules B.stands B.rules C.bits T.me T.tags in
+            IfOk result (λ core. CoreStands m core (record {
+              mode = mode;
+              casts = casts_by p me (T.tags t) B.rules;
+              coin = C.bits coin;
+              service = S.rules;
+            }) (first_state (replicate p.n []))) }
+    {
+        let held = Held::new(alloc, p.n())?;
+        let service = S::new(alloc, &p, me)?;
+        Ok(Core {
+            layers: Layers {
+                params: p,
+                mode,
+                me,
+                tagger: t,
+                coin,
+                service,
+                casts: BTreeMap::new(alloc),
+            },
+            inbox: VecDeque::new(alloc),
+            held,
+            stopped: false,
+        })
+    }
+
+    // Takes an open item, if it doesn't repeat one that its slot took. For want of memory the core stops.
+    fn take_open(
+        &mut self,
+        alloc: Global,
+        item: &Item,
+        out: &mut Vec<Msg>,
+    ) -> Result<Answer, CoreFault>
+        ensures { let m = meaning S.stands S.rules B.stands B.rules C.bits T.me T.tags in
+            DoesJudged m self.old self.new verdicts.Take item.now out.old.items out.new.items result }
+    {
+        match self.try_take(alloc, item, out) {
+            Ok(Heard::Took) => Ok(Answer::Took),
+            Ok(Heard::Repeat) => Ok(Answer::Repeat),
+            Err(_) => {
+                self.stopped = true;
+                Err(CoreFault::Mem)
+            }
+        }
+    }
+
+    // Holds an item, if there is room for it.
+    fn hold(&mut self, alloc: Global, item: Item) -> Result<Answer, CoreFault>
+        requires { is_kept self.old.held item ≡ false }
+        ensures { let m = meaning S.stands S.rules B.stands B.rules C.bits T.me T.tags in
+            (sent : List Msg) → DoesJudged m self.old self.new verdicts.Hold item sent sent result }
+    {
+        // No such item comes: an item is from a replica.
+        if usize::from(item.from) >= self.held.peers() {
+            return Ok(Answer::Repeat);
+        }
+        // The law that an item's spelling is short.
+        spelled();
+        let len = length_of(&item);
+        match self.held.hold(alloc, item, len) {
+            Ok(()) => Ok(Answer::Held),
+            Err(HoldFault::HeldFull(bytes)) => Err(CoreFault::HeldFull(bytes)),
+            Err(HoldFault::Mem) => Err(CoreFault::Mem),
+        }
+    }
+
+    // Takes, holds or refuses an item. The core isn't stopped.
+    fn step(&mut self, alloc: Global, item: Item, out: &mut Vec<Msg>) -> Result<Answer, CoreFault>
+        ensures { let m = meaning S.stands S.rules B.stands B.rules C.bits T.me T.tags in
+            DoesHere m self.old self.new (Frame item) out.old.items out.new.items result }
+    {
+        match judge(&self.layers, self.held.has(&item), &item) {
+            Verdict::Refuse(fault) => Err(fault),
+            Verdict::Again => Ok(Answer::Repeat),
+            Verdict::Hold => self.hold(alloc, item),
+            Verdict::Take => self.take_open(alloc, &item, out),
+        }
+    }
+
+    // Takes an input that passed the checks. For want of memory the core stops.
+    fn give(&mut self, alloc: Global, value: &[u8], out: &mut Vec<Msg>) -> Result<Answer, CoreFault>
+        ensures { let m = meaning S.stands S.rules B.stands B.rules C.bits T.me T.tags in
+            DoesHere m self.old self.new (Input value.now) out.old.items out.new.items result }
+    {
+        if let Some(fault) = self.layers.input_fault(value) {
+            return Err(fault);
+        }
+        match self.try_input(alloc, value, out) {
+            Ok(()) => Ok(Answer::Took),
+            Err(_) => {
+                self.stopped = true;
+                Err(CoreFault::Mem)
+            }
+        }
+    }
+
+    // Gives the item at the front of the inbox.
+    fn step_front(&mut self, alloc: Global, out: &mut Vec<Msg>) -> Result<Answer, CoreFault>
+        ensures { let m = meaning S.stands S.rules B.stands B.rules C.bits T.me T.tags in
+            DoesHere m self.old self.new Turn out.old.items out.new.items result }
+    {
+        match self.inbox.pop_front() {
+            None => Ok(Answer::Idle),
+            Some(item) => self.step(alloc, item, out),
+        }
+    }
+
+    /// Takes an item, holds it, or refuses it, and appends to `out` the messages that become due by it, by slot, kind and
+    /// receiver.
+    ///
+    /// The item is in the grammar and from a replica of the session. It passes these checks in this order:
+    ///
+    /// - `Stopped`: a step before was without memory.
+    /// - `NotOrigin` and `NotForMe`: the kind's sender, or its receiver, is the slot's origin alone.
+    /// - `Past` and `Ahead`, with what the window is counted from: a command number at least 64 above the least of its
+    ///   origin that isn't finished, or more than 64 below it; a round more than 4 above the number of complete rounds,
+    ///   or more than 2 below it.
+    /// - `Repeat`, an answer: one of its sender, slot and kind was taken or is held; a column that isn't open, where it is
+    ///   held; an open column, where it brings nothing new.
+    /// - Where it isn't open, `HeldFull`, with the sender's held bytes, if these and its own are more than 1,048,576, and
+    ///   else the answer `Held`.
+    ///
+    /// Otherwise the answer is `Took`: the messages for all and for oneself join the inbox, then the held items that are
+    /// open now do, by peer and in their order, and held items that are past are dropped.
+    ///
+    /// `Mem` comes only while an item is held or taken. `out` is then as before. Where the item was to be held, the core
+    /// is as before too; otherwise it is stopped.
+    pub fn take(
+        &mut self,
+        alloc: Global,
+        item: Item,
+        out: &mut Vec<Msg>,
+    ) -> Result<Answer, CoreFault>
+        ensures { let m = meaning S.stands S.rules B.stands B.rules C.bits T.me T.tags in
+            DoesAll m self.old self.new (Frame item) out.old.items out.new.items result }
+    {
+        if self.stopped {
+            return Err(CoreFault::Stopped);
+        }
+        self.step(alloc, item, out)
+    }
+
+    /// Takes an input of the root service, or refuses it, and appends to `out` the messages that become due by it.
+    ///
+    /// The checks, in this order: `Stopped`; `Input`, with the offset of the first byte that is wrong, missing or too
+    /// much; `InputTaken`, where the root service has one instance and has its input; `WindowFull`, with the next number,
+    /// where that is at least 64 above the least that isn't finished, or is 1,000,000. Otherwise the answer is `Took`.
+    ///
+    /// For want of memory `out` is as before, and the core is stopped.
+    pub fn input(
+        &mut self,
+        alloc: Global,
+        bytes: &[u8],
+        out: &mut Vec<Msg>,
+    ) -> Result<Answer, CoreFault>
+        ensures { let m = meaning S.stands S.rules B.stands B.rules C.bits T.me T.tags in
+            DoesAll m self.old self.new (Input bytes.now) out.old.items out.new.items result }
+    {
+        if self.stopped {
+            return Err(CoreFault::Stopped);
+        }
+        self.give(alloc, bytes, out)
+    }
+
+    /// Takes the item at the front out of the inbox, and gives it as `take` does. The answer is `Idle` where none waits.
+    pub fn turn(&mut self, alloc: Global, out: &mut Vec<Msg>) -> Result<Answer, CoreFault>
+        ensures { let m = meaning S.stands S.rules B.stands B.rules C.bits T.me T.tags in
+            DoesAll m self.old self.new Turn out.old.items out.new.items result }
+    {
+        if self.stopped {
+            return Err(CoreFault::Stopped);
+        }
+        self.step_front(alloc, out)
+    }
+}

@@ -1,0 +1,63 @@
+ghost use Rattle.std.specs.Prelude.{◌≡◌, ℕ, ◌+◌, ◌<◌, true, not, ◌&&◌, List, ◌∷◌, Some, None};
+ghost use Rattle.std.specs.Option.{is_some};
+ghost use Rattle.ritas_base.specs.declared.slot.Slot.{Slot};
+ghost use Rattle.ritas_base.specs.declared.item.Msg.{Msg};
+ghost use Rattle.ritas_base.specs.Slots.{slot_fault};
+ghost use Rattle.ritas_base.specs.Messages.{has, item_of};
+ghost use Rattle.ritas_base.specs.History.{started};
+ghost use Rattle.frame_codec.specs.Body.{IsInGrammar};
+ghost use Rattle.layer_api.specs.OneValue.{Has, AreTaken, AreGoodCalls};
+ghost use Rattle.layer_api.specs.Service.{said, is_said, is_heard, AreProper, AreGoodWords};
+ghost use Rattle.ritas_core.specs.Rules.{Rules, seat_of, place_at, out_at};
+ghost use Rattle.ritas_core.specs.Parts.{Entry, parts};
+ghost use Rattle.ritas_core.specs.Order.{new_messages};
+ghost use Rattle.ritas_core.specs.Checks.{IsHistory};
+ghost use Rattle.ritas_core.specs.Laws.{LayerLaws, is_due, InOrder};
+ghost use Rattle.ritas_core.specs.CoreOf.{IsCoreOf};
+
+use layer_api::{Broadcast, Service};
+
+/// What goes out by an entry of a core's history is what is due after it, at any slot, and was not due before. It goes
+/// out in the order of slot, kind and receiver.
+///
+/// It does nothing: its contract is the law.
+pub fn new_is_due<S: Service, B: Broadcast>()
+    ensures due { (r : Rules) → IsCoreOf S.rules B.rules r → (h : List Entry) (e : Entry) (m : Msg) →
+        has (new_messages r h e) m ≡ (is_due r (parts r (e ∷ h)) m && not (is_due r (parts r h) m)) }
+    ensures order { (r : Rules) (h : List Entry) (e : Entry) → InOrder (new_messages r h e) }
+{}
+
+/// A slot that has delivered is in the grammar. A command slot that has delivered lies below the end of its origin's
+/// window, as the service has it now.
+///
+/// It does nothing: its contract is the law.
+pub fn delivered_within<S: Service, B: Broadcast>()
+    ensures grammar { (r : Rules) → IsCoreOf S.rules B.rules r → (h : List Entry) → IsHistory r h → (s : Slot) →
+        is_some (out_at r.casts s ((parts r h).calls s)) ≡ true → slot_fault r.casts.numbers r.mode s ≡ None }
+    ensures window { (r : Rules) → IsCoreOf S.rules B.rules r → (h : List Entry) → IsHistory r h → (s : Slot) → s.class ≡ 1 →
+        is_some (out_at r.casts s ((parts r h).calls s)) ≡ true → s.a < r.service.base (seat_of r) (parts r h).words s.origin + 64 }
+{}
+
+/// Every entry of a history, where it met its own conditions, meets those of the layers, whatever they mean, as long as
+/// they keep their laws.
+///
+/// A broadcast was started exactly where the service said its slot, and a slot was heard exactly where it has delivered.
+/// Each word to the service and each call on a broadcast met its conditions and is in the grammar, and so is each message
+/// that goes out.
+///
+/// It does nothing: its contract is the law.
+pub fn history_laws()
+    ensures started { (r : Rules) (h : List Entry) (s : Slot) →
+        is_some (started ((parts r h).calls s)) ≡ is_said (said r.service (seat_of r) (parts r h).words) s }
+    ensures heard { (r : Rules) → LayerLaws r → (h : List Entry) (s : Slot) →
+        is_heard (parts r h).words s ≡ is_some (out_at r.casts s ((parts r h).calls s)) }
+    ensures words { (r : Rules) → LayerLaws r → (h : List Entry) → IsHistory r h →
+        AreProper r.service (seat_of r) (parts r h).words × AreGoodWords r.casts.numbers r.mode (parts r h).words }
+    ensures calls { (r : Rules) → LayerLaws r → (h : List Entry) → IsHistory r h → (s : Slot) →
+        AreTaken (r.casts.at_slot s) (place_at r.casts s) r.casts.tags ((parts r h).calls s)
+        × AreGoodCalls r.casts.numbers r.mode s ((parts r h).calls s) }
+    ensures due { (r : Rules) → LayerLaws r → (h : List Entry) (e : Entry) (m : Msg) →
+        has (new_messages r h e) m ≡ (is_due r (parts r (e ∷ h)) m && not (is_due r (parts r h) m)) }
+    ensures sent { (r : Rules) → LayerLaws r → (h : List Entry) (e : Entry) → IsHistory r (e ∷ h) → (m : Msg) →
+        Has (new_messages r h e) m → IsInGrammar r.casts.numbers r.mode (item_of r.casts.me m) }
+{}

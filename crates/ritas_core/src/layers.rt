@@ -1,0 +1,184 @@
+use crate::casts::start_casts;
+use crate::fault::CoreFault;
+use crate::hear::{is_ready, take_cast};
+use crate::limits::{is_behind, is_beyond};
+use crate::taken::Taken;
+use frame_codec::input_fault;
+use layer_api::{Broadcast, Heard, Service};
+use ritas_base::{Coin, Item, Mem, Mode, Msg, Params, Slot, Tagger};
+use std::alloc::Global;
+use std::collections::BTreeMap;
+
+/// The service of a replica, its broadcasts by their slots, and what they are given.
+#[derive(Drop)]
+pub struct Layers<S: Service, B: Broadcast, C: Coin + Drop, T: Tagger + Drop> {
+    pub(crate) params: Params,
+    pub(crate) mode: Mode,
+    pub(crate) me: u8,
+    pub(crate) tagger: T,
+    pub(crate) coin: C,
+    pub(crate) service: S,
+    pub(crate) casts: BTreeMap<Slot, B>,
+}
+
+impl<S: Service, B: Broadcast, C: Coin + Drop, T: Tagger + Drop> Layers<S, B, C, T> {
+    ghost use Rattle.std.specs.Prelude.{◌≡◌, ◌<◌, None, OnOk};
+    ghost use Rattle.layer_api.specs.Service.{Ask, Hear};
+    ghost use Rattle.ritas_core.specs.Parts.{Parts};
+    ghost use Rattle.ritas_core.specs.Checks.{mark_of, window_fault, input_check};
+    ghost use Rattle.frame_codec.specs.Inputs.{IsInput};
+    ghost use Rattle.ritas_core.specs.Stands.{meaning, rules_of, LayersStand};
+    ghost use Rattle.ritas_core.specs.LayerCalls.{SameSeat, Tells, GivesItem, is_past_in, is_let_in, is_open_in};
+
+    /// Tells the service what a slot delivered, and starts what it says.
+    fn hear(
+        &mut self,
+        alloc: Global,
+        slot: &Slot,
+        value: &[u8],
+        made: &mut Vec<Msg>,
+    ) -> Result<(), Mem>
+        ensures told { let m = meaning S.stands S.rules B.stands B.rules C.bits T.me T.tags in
+            OnOk result (Tells m self.old self.new (Hear slot.now value.now) made.old.items made.new.items) }
+        ensures same { SameSeat self.old self.new }
+    {
+        let mut says = Vec::new(alloc);
+        self.service
+            .heard(alloc, &self.coin, slot, value, &mut says)?;
+        start_casts(
+            alloc,
+            &self.params,
+            self.me,
+            &self.tagger,
+            &mut self.casts,
+            says.as_slice(),
+            made,
+        )
+    }
+
+    /// Gives the service an input, and starts what it says.
+    pub(crate) fn input(
+        &mut self,
+        alloc: Global,
+        value: &[u8],
+        made: &mut Vec<Msg>,
+    ) -> Result<(), Mem>
+        ensures told { let m = meaning S.stands S.rules B.stands B.rules C.bits T.me T.tags in
+            OnOk result (Tells m self.old self.new (Ask value.now) made.old.items made.new.items) }
+        ensures same { SameSeat self.old self.new }
+    {
+        let mut says = Vec::new(alloc);
+        self.service.input(alloc, value, &mut says)?;
+        start_casts(
+            alloc,
+            &self.params,
+            self.me,
+            &self.tagger,
+            &mut self.casts,
+            says.as_slice(),
+            made,
+        )
+    }
+
+    /// Gives an item to its broadcast, and what is delivered by it to the service.
+    pub(crate) fn take(
+        &mut self,
+        alloc: Global,
+        item: &Item,
+        made: &mut Vec<Msg>,
+    ) -> Result<Heard, Mem>
+        ensures given { let m = meaning S.stands S.rules B.stands B.rules C.bits T.me T.tags in
+            GivesItem m self.old self.new item.now made.old.items made.new.items result }
+        ensures same { SameSeat self.old self.new }
+    {
+        match take_cast(
+            alloc,
+            &self.params,
+            self.me,
+            &self.tagger,
+            &mut self.casts,
+            item,
+            made,
+        )? {
+            Taken::Repeat => Ok(Heard::Repeat),
+            Taken::Took(None) => Ok(Heard::Took),
+            Taken::Took(Some(value)) => {
+                self.hear(alloc, &item.slot, value.as_slice(), made)?;
+                Ok(Heard::Took)
+            }
+        }
+    }
+
+    /// What the window of an item's slot is counted from: the least command number that isn't finished, or how many
+    /// rounds are complete.
+    pub(crate) fn mark(&self, item: &Item) -> u32
+        ensures { let m = meaning S.stands S.rules B.stands B.rules C.bits T.me T.tags in
+            (p : Parts) → LayersStand m self.now p → item.now.slot.origin < self.now.params.n
+            → result ≡ mark_of (rules_of m self.now) p item.now }
+    {
+        if item.slot.class == 1 {
+            self.service.base(item.slot.origin)
+        } else {
+            self.service.completed()
+        }
+    }
+
+    /// Whether an item inside its window may be taken now.
+    pub(crate) fn lets_in(&self, item: &Item) -> bool
+        ensures { (p : Parts) → LayersStand (meaning S.stands S.rules B.stands B.rules C.bits T.me T.tags) self.now p
+            → result ≡ is_let_in (meaning S.stands S.rules B.stands B.rules C.bits T.me T.tags) self.now p item.now }
+    {
+        self.service.is_open(&item.slot) && is_ready(&self.casts, item)
+    }
+
+    /// Whether an item is past.
+    pub(crate) fn is_past(&self, item: &Item) -> bool
+        ensures { (p : Parts) → LayersStand (meaning S.stands S.rules B.stands B.rules C.bits T.me T.tags) self.now p
+            → result ≡ is_past_in (meaning S.stands S.rules B.stands B.rules C.bits T.me T.tags) self.now p item.now }
+    {
+        item.slot.origin < self.params.n() && is_behind(&item.slot, self.mark(item))
+    }
+
+    /// Whether an item is open.
+    pub(crate) fn is_open(&self, item: &Item) -> bool
+        ensures { (p : Parts) → LayersStand (meaning S.stands S.rules B.stands B.rules C.bits T.me T.tags) self.now p
+            → result ≡ is_open_in (meaning S.stands S.rules B.stands B.rules C.bits T.me T.tags) self.now p item.now }
+    {
+        if item.slot.origin >= self.params.n() {
+            return false;
+        }
+        let mark = self.mark(item);
+        !is_behind(&item.slot, mark) && !is_beyond(&item.slot, mark) && self.lets_in(item)
+    }
+
+    /// Why no input may be given now.
+    fn window_fault(&self) -> Option<CoreFault>
+        ensures { let m = meaning S.stands S.rules B.stands B.rules C.bits T.me T.tags in
+            (p : Parts) → LayersStand m self.now p → self.now.me < self.now.params.n
+            → result ≡ window_fault (rules_of m self.now) p }
+    {
+        if self.service.given() {
+            return Some(CoreFault::InputTaken);
+        }
+        let number = self.service.next_number();
+        let base = self.service.base(self.me);
+        if u64::from(number) >= u64::from(base) + 64 || number >= 1_000_000 {
+            return Some(CoreFault::WindowFull(number));
+        }
+        None
+    }
+
+    /// The first check that an input doesn't pass.
+    #[tactic(auto, unfolding(crate::specs::Checks::input_check))]
+    pub(crate) fn input_fault(&self, value: &[u8]) -> Option<CoreFault>
+        ensures exact { let m = meaning S.stands S.rules B.stands B.rules C.bits T.me T.tags in
+            (p : Parts) → LayersStand m self.now p → self.now.me < self.now.params.n
+            → result ≡ input_check (rules_of m self.now) p value.now }
+        ensures good { result ≡ None → IsInput self.now.params self.now.mode value.now }
+    {
+        if let Some(place) = input_fault(&self.params, &self.mode, value) {
+            return Some(CoreFault::Input(place));
+        }
+        self.window_fault()
+    }
+}

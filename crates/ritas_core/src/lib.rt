@@ -1,0 +1,35 @@
+//! The core of one replica: the service, a broadcast at each slot, the items that wait, and those that came too early.
+//!
+//! The core is a deterministic machine. An item, an input or a turn goes in; an answer and messages come out. It has no
+//! clock, no key and no socket. Its steps are those of H. Moniz, N. F. Neves, M. Correia and P. Veríssimo, "RITAS:
+//! Services for Randomized Intrusion Tolerance" (IEEE Transactions on Dependable and Secure Computing, 2011): an item
+//! goes to its slot's broadcast, what that delivers goes to the service, and what the service says is broadcast.
+//!
+//! No history is stored. The contract of each call says: whatever history, inbox and held items the core stands for, it
+//! answers, puts out and becomes what the abstract core in `specs/Machine.antt` does. What goes out is then exactly what
+//! became due, by the laws in `laws`.
+#![tactic(auto)]
+
+mod answer;
+mod casts;
+mod fault;
+mod getters;
+mod hear;
+mod judge;
+mod kernel;
+mod laws;
+mod layers;
+mod limits;
+mod send;
+mod steps;
+mod taken;
+mod verdict;
+
+pub use answer::Answer;
+pub use fault::CoreFault;
+pub use kernel::Core;
+pub use laws::{delivered_within, history_laws, new_is_due};
+pub use verdict::Verdict;
+
+#[cfg(test)]
+mod tests;
