@@ -1,0 +1,8 @@
+pub mod Sealing
+pub mod Sends
+pub mod Moves
+pub mod Counting
+pub mod Passing
+pub mod Opened
+pub mod Made
+pub mod Fresh

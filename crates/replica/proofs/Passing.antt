@@ -1,0 +1,249 @@
+-- A call on a replica, from what its core did and what was passed on.
+use Rattle.std.proofs.Common.{◌≡◌, ℕ, ◌+◌, ◌%◌, ◌^◌, true, false, List, [], ◌∷◌, ◌++◌, length, Some, Result, Ok, Err, inl, inr, refl, sym, ◌∙◌, ap, subst, append-nil, if◌then◌else◌}
+use Rattle.ritas_base.specs.declared.item.Msg.{Msg}
+use Rattle.frame_codec.specs.declared.fault.BodyFault.TheVariants as body
+use Rattle.keyed_channel.specs.KeyRow.{KeyRow}
+use Rattle.ritas_core.specs.declared.answer.Answer.{Answer}
+use Rattle.ritas_core.specs.declared.answer.Answer.TheVariants as answers
+use Rattle.ritas_core.specs.declared.fault.CoreFault.{CoreFault}
+use Rattle.ritas_core.specs.declared.fault.CoreFault.TheVariants as faults
+use Rattle.ritas_core.specs.declared.kernel.Core.{Core}
+use Rattle.ritas_core.specs.Rules.{Rules}
+use Rattle.ritas_core.specs.Parts.{Entry}
+use Rattle.ritas_core.specs.Order.{new_messages}
+use Rattle.ritas_core.specs.Machine.{CoreState, What, Frame, Input, Turn, MayGive, moved, moved_live, stays}
+use Rattle.ritas_core.specs.Stands.{Meaning, CoreStands}
+use Rattle.ritas_core.specs.Calls as calls
+use Rattle.ritas_core.specs.Calls.{left_by, stopped}
+use Rattle.replica.specs.declared.frame.OutFrame.{OutFrame}
+use Rattle.replica.specs.declared.refusal.Refusal.{Refusal}
+use Rattle.replica.specs.declared.refusal.Refusal.TheVariants as refusals
+use Rattle.replica.specs.declared.replica.Replica.{Replica}
+use Rattle.replica.specs.Frames.{frames_of, count_for, new_frames}
+use Rattle.replica.specs.Handling.{Call, handled, framed, core_answer}
+use Rattle.replica.specs.Stands.{Handles, RunsOut, Does, core_call, frames_made}
+use Rattle.replica.specs.Sending.{AreCounts}
+use Rattle.replica.specs.Replica.{ReplicaStands, StandsGoing, AreCounted}
+use Rattle.replica.specs.Steps.{Keeps, PutsOut, Stops, Counts, Finishes}
+use Rattle.replica.proofs.Sends.{mod_more}
+use Rattle.replica.proofs.Counting.{made_more}
+use Rattle.replica.proofs.Moves.{moved_view}
+
+-- the replica with another core
+abbrev pub with_core : {S B C : Type 0} → Replica S B C → Core S B C KeyRow → Replica S B C
+with_core old core = record { core = core; channel = old.channel; counts = old.counts; sent = old.sent; stopped = old.stopped }
+
+-- what a call is given to the core as, and so does
+pub record IsCall (r : Rules) (k : KeyRow) (st : CoreState) (call : Call) (what : What) : Type 0 where
+  pub given : core_call r k call ≡ Some what
+  pub does : handled r k st call ≡ framed r k st (moved r st what)
+
+pub going_of : {S B C : Type 0} (m : Meaning S B C KeyRow) (rep : Replica S B C) (r : Rules) (k : KeyRow) (st : CoreState) →
+    ReplicaStands m rep r k st → rep.stopped ≡ false → StandsGoing m rep r k st
+going_of m rep r k st stands going = elim stands.state [
+  | inl on ↦ on
+  | inr off ↦ let same : true ≡ false = sym off.halted ∙ going in absurd (cc same)
+]
+
+-- the core stands for another state with the same history
+kept : {S B C : Type 0} (m : Meaning S B C KeyRow) (old : Replica S B C) (core : Core S B C KeyRow) (r : Rules) (k : KeyRow) (st after : CoreState) →
+    ReplicaStands m old r k st → StandsGoing m old r k st → CoreStands m core r after → after.history ≡ st.history
+    → (after.live ≡ true → st.live ≡ true) → ReplicaStands m (with_core old core) r k after
+kept m old core r k st after stands on now same live = record {
+  keys = stands.keys;
+  own = stands.own;
+  many = stands.many;
+  state = inl (record {
+    going = on.going;
+    core = now;
+    counted = λ h. let P : List Entry → Type 0 = λ x. AreCounted r k x old.counts old.sent in subst P (sym same) (on.counted (live h));
+  });
+}
+
+-- neither is want of memory
+abbrev NotMem : Result Answer Refusal → Type 0
+NotMem (Err (refusals.Core faults.Mem)) = ⊥
+NotMem (Err (refusals.Body body.Mem)) = ⊥
+NotMem result = Unit {0}
+
+pub does_of : {S B C : Type 0} (m : Meaning S B C KeyRow) (new : Replica S B C) (call : Call) (before after : List OutFrame) (r : Rules) (k : KeyRow) (st : CoreState) (result : Result Answer Refusal) →
+    NotMem result → Handles (ReplicaStands m) new call before after result r k st → Does (ReplicaStands m) new call before after result r k st
+does_of m new call before after r k st (Err (refusals.Core faults.Mem)) bad h = absurd bad
+does_of m new call before after r k st (Err (refusals.Body body.Mem)) bad h = absurd bad
+does_of m new call before after r k st result fine h = h
+
+-- nothing went out, and the replica is as before with the core as it is now
+quiet_handles : {S B C : Type 0} (m : Meaning S B C KeyRow) (old new : Replica S B C) (core : Core S B C KeyRow) (what : What) (call : Call) (ms : List Msg) (before after : List OutFrame) (answer : Result Answer CoreFault) (r : Rules) (k : KeyRow) (st : CoreState) →
+    StandsGoing m old r k st → ReplicaStands m old r k st → IsCall r k st call what → calls.Moves m old.core core what [] ms answer r st
+    → (answer ≡ Ok answers.Took → ⊥) → Keeps (with_core old core) new before after → Handles (ReplicaStands m) new call before after (core_answer answer) r k st
+quiet_handles {S = S} {B = B} {C = C} m old new core what call ms before after answer r k st on stands call_is did other keeps = elim (moved_view r st what) [
+  | inl enters ↦ absurd (other (did.answer ∙ enters.answer))
+  | inr quiet ↦ record {
+    answer = ap core_answer did.answer ∙ ap (λ h. h.answer) (sym call_is.does);
+    out =
+        keeps.out ∙ sym (append-nil before) ∙ ap (λ ms. before ++ frames_of k (count_for r st.history) ms) (sym quiet.out)
+        ∙ ap (λ h. before ++ h.out) (sym call_is.does);
+    state =
+        let P : CoreState → Type 0 = λ x. ReplicaStands m new r k x in
+        let Q : Replica S B C → Type 0 = λ x. ReplicaStands m x r k (moved r st what).state in
+        subst P (ap (λ h. h.state) (sym call_is.does)) (subst Q (sym keeps.same) (kept m old core r k st (moved r st what).state stands on did.state quiet.history quiet.live));
+  }
+]
+
+-- the counts are those with the frames of one entry more
+counted_more : (r : Rules) (k : KeyRow) (h : List Entry) (e : Entry) (xs ys : List ℕ) (sent_before sent : ℕ) (before after : List OutFrame) →
+    AreCounted r k h xs sent_before → Counts k (count_for r h) (new_messages r h e) ys sent_before sent before after → AreCounted r k (e ∷ h) ys sent
+counted_more r k h e xs ys sent_before sent before after was now = record {
+  each = now.each;
+  all =
+      let made = length (new_frames r k h e) in
+      now.all ∙ ap (λ x. (x + made) % 2 ^ 64) was.all ∙ mod_more (frames_made r k h) made (2 ^ 64) ∙ ap (λ x. x % 2 ^ 64) (sym (made_more r k h e));
+}
+
+-- what went out is counted by the keys that the replica stands for
+counts_by : {S B C : Type 0} (old : Replica S B C) (k : KeyRow) (count : ℕ → ℕ) (ms : List Msg) (ys : List ℕ) (sent : ℕ) (before after : List OutFrame) →
+    old.channel ≡ k → AreCounts k.n old.counts count
+    → (AreCounts old.channel.n old.counts count → Counts old.channel count ms ys old.sent sent before after) → Counts k count ms ys old.sent sent before after
+counts_by old k count ms ys sent before after same are counts =
+    let P : KeyRow → Type 0 = λ x. AreCounts x.n old.counts count → Counts x count ms ys old.sent sent before after in
+    subst P same counts are
+
+-- the core took an entry, and the frames went out
+took_handles : {S B C : Type 0} (m : Meaning S B C KeyRow) (old new : Replica S B C) (core : Core S B C KeyRow) (what : What) (call : Call) (ms : List Msg) (before after : List OutFrame) (r : Rules) (k : KeyRow) (st : CoreState) →
+    StandsGoing m old r k st → ReplicaStands m old r k st → IsCall r k st call what → calls.Moves m old.core core what [] ms (Ok answers.Took) r st
+    → PutsOut (with_core old core) new ms before after → Handles (ReplicaStands m) new call before after (Ok answers.Took) r k st
+took_handles {S = S} {B = B} {C = C} m old new core what call ms before after r k st on stands call_is did puts = elim (moved_view r st what) [
+  | inl enters ↦
+      let was = on.counted enters.live in
+      let sent_are : ms ≡ new_messages r st.history enters.entry = did.out ∙ enters.out in
+      let counts = counts_by old k (count_for r st.history) ms new.counts new.sent before after stands.keys was.each (puts.counts (count_for r st.history)) in
+      record {
+        answer = ap core_answer did.answer ∙ ap (λ h. h.answer) (sym call_is.does);
+        out = counts.frames ∙ ap (λ ms. before ++ frames_of k (count_for r st.history) ms) did.out ∙ ap (λ h. before ++ h.out) (sym call_is.does);
+        state =
+            let P : CoreState → Type 0 = λ x. ReplicaStands m new r k x in
+            let Q : Core S B C KeyRow → Type 0 = λ x. CoreStands m x r (moved r st what).state in
+            let R : List Entry → Type 0 = λ h. AreCounted r k h new.counts new.sent in
+            let M : List Msg → Type 0 = λ ms. Counts k (count_for r st.history) ms new.counts old.sent new.sent before after in
+            subst P (ap (λ h. h.state) (sym call_is.does)) (record {
+              keys = puts.keys ∙ stands.keys;
+              own = stands.own;
+              many = stands.many;
+              state = inl (record {
+                going = puts.halted ∙ on.going;
+                core = subst Q (sym puts.core) did.state;
+                counted = λ live. subst R (sym enters.history) (counted_more r k st.history enters.entry old.counts new.counts old.sent new.sent before after was (subst M sent_are counts));
+              });
+            });
+      }
+  | inr quiet ↦ absurd (quiet.answer (sym did.answer))
+]
+
+-- the core took an entry, and the replica is stopped for want of memory
+stops_runs_out : {S B C : Type 0} (m : Meaning S B C KeyRow) (old new : Replica S B C) (core : Core S B C KeyRow) (what : What) (call : Call) (ms : List Msg) (before after : List OutFrame) (r : Rules) (k : KeyRow) (st : CoreState) →
+    ReplicaStands m old r k st → IsCall r k st call what → calls.Moves m old.core core what [] ms (Ok answers.Took) r st
+    → Stops (with_core old core) new before after → RunsOut (ReplicaStands m) new call before after r k st
+stops_runs_out {S = S} {B = B} {C = C} m old new core what call ms before after r k st stands call_is did stops = elim (moved_view r st what) [
+  | inl enters ↦ record {
+    out = stops.out;
+    live = enters.live;
+    what = what;
+    given = call_is.given;
+    state =
+        let Q : Core S B C KeyRow → Type 0 = λ x. CoreStands m x r (moved r st what).state in
+        inr (
+          enters.step,
+          record {
+            keys = stops.keys ∙ stands.keys;
+            own = stands.own;
+            many = stands.many;
+            state = inr (record { halted = stops.halted; dead = refl; inner = (moved r st what).state; core = subst Q (sym stops.core) did.state });
+          },
+        );
+  }
+  | inr quiet ↦ absurd (quiet.answer (sym did.answer))
+]
+
+left_history : (st : CoreState) (what : What) → (left_by st what).history ≡ st.history
+left_history st (Frame item) = refl
+left_history st (Input value) = refl
+left_history st Turn = refl
+
+left_live : (st : CoreState) (what : What) → (left_by st what).live ≡ st.live
+left_live st (Frame item) = refl
+left_live st (Input value) = refl
+left_live st Turn = refl
+
+-- the core was without memory
+core_runs_out : {S B C : Type 0} (m : Meaning S B C KeyRow) (old new : Replica S B C) (core : Core S B C KeyRow) (what : What) (call : Call) (ms : List Msg) (before after : List OutFrame) (r : Rules) (k : KeyRow) (st : CoreState) →
+    StandsGoing m old r k st → ReplicaStands m old r k st → IsCall r k st call what → calls.RunsOut m core what [] ms r st
+    → Keeps (with_core old core) new before after → RunsOut (ReplicaStands m) new call before after r k st
+core_runs_out {S = S} {B = B} {C = C} m old new core what call ms before after r k st on stands call_is did keeps = record {
+  out = keeps.out;
+  live = did.live;
+  what = what;
+  given = call_is.given;
+  state =
+      let P : CoreState → Type 0 = λ x. ReplicaStands m new r k x in
+      let Q : CoreState → Replica S B C → Type 0 = λ x rep. ReplicaStands m rep r k x in
+      elim did.state [
+        | inl holds ↦ inl (
+          holds.0,
+          subst (Q (left_by st what)) (sym keeps.same)
+              (kept m old core r k st (left_by st what) stands on holds.1 (left_history st what) (λ live. sym (left_live st what) ∙ live)),
+        )
+        | inr steps ↦ inr (steps.0, subst (Q (stopped st)) (sym keeps.same) (kept m old core r k st (stopped st) stands on steps.1 refl (λ live. cc)))
+      ];
+}
+
+-- each call on a replica that isn't stopped
+pub passed_on : {S B C : Type 0} (m : Meaning S B C KeyRow) (old new : Replica S B C) (core : Core S B C KeyRow) (what : What) (call : Call) (ms : List Msg) (before after : List OutFrame) (r : Rules) (k : KeyRow) (st : CoreState) (answer : Result Answer CoreFault) (result : Result Answer Refusal) →
+    StandsGoing m old r k st → ReplicaStands m old r k st → IsCall r k st call what → calls.Does m old.core core what [] ms answer r st
+    → Finishes (with_core old core) new answer ms before after result → Does (ReplicaStands m) new call before after result r k st
+passed_on m old new core what call ms before after r k st (Ok answers.Took) (Ok answer) on stands call_is did ends =
+    let P : Answer → Type 0 = λ x. Does (ReplicaStands m) new call before after (Ok x) r k st in
+    subst P (sym ends.0) (took_handles m old new core what call ms before after r k st on stands call_is did ends.1)
+passed_on m old new core what call ms before after r k st (Ok answers.Took) (Err fault) on stands call_is did ends =
+    let P : Refusal → Type 0 = λ x. Does (ReplicaStands m) new call before after (Err x) r k st in
+    subst P (sym ends.0) (stops_runs_out m old new core what call ms before after r k st stands call_is did ends.1)
+passed_on m old new core what call ms before after r k st (Err faults.Mem) result on stands call_is did ends =
+    let P : Result Answer Refusal → Type 0 = λ x. Does (ReplicaStands m) new call before after x r k st in
+    subst P (sym ends.0) (core_runs_out m old new core what call ms before after r k st on stands call_is did ends.1)
+passed_on m old new core what call ms before after r k st (Ok answer) result on stands call_is did ends =
+    let P : Result Answer Refusal → Type 0 = λ x. Does (ReplicaStands m) new call before after x r k st in
+    subst P (sym ends.0) (quiet_handles m old new core what call ms before after (Ok answer) r k st on stands call_is did (λ e. cc) ends.1)
+passed_on m old new core what call ms before after r k st (Err fault) result on stands call_is did ends =
+    let P : Result Answer Refusal → Type 0 = λ x. Does (ReplicaStands m) new call before after x r k st in
+    subst P (sym ends.0) (quiet_handles m old new core what call ms before after (Err fault) r k st on stands call_is did (λ e. cc) ends.1)
+
+-- each call on a replica that isn't stopped
+pub passes : {S B C : Type 0} (m : Meaning S B C KeyRow) (old new : Replica S B C) (core : Core S B C KeyRow) (what : What) (call : Call) (first ms : List Msg) (before after : List OutFrame) (answer : Result Answer CoreFault) (result : Result Answer Refusal) (r : Rules) (k : KeyRow) (st : CoreState) →
+    ReplicaStands m old r k st → old.stopped ≡ false → IsCall r k st call what → MayGive r what → first ≡ []
+    → calls.DoesAll m old.core core what first ms answer → Finishes (with_core old core) new answer ms before after result → Does (ReplicaStands m) new call before after result r k st
+passes m old new core what call first ms before after answer result r k st stands going call_is may none did ends =
+    let on = going_of m old r k st stands going in
+    let P : List Msg → Type 0 = λ x. calls.Does m old.core core what x ms answer r st in
+    passed_on m old new core what call ms before after r k st answer result on stands call_is (subst P none (did r st on.core may)) ends
+
+dead_of : {S B C : Type 0} (m : Meaning S B C KeyRow) (rep : Replica S B C) (r : Rules) (k : KeyRow) (st : CoreState) →
+    ReplicaStands m rep r k st → rep.stopped ≡ true → st.live ≡ false
+dead_of m rep r k st stands halted = elim stands.state [
+  | inl on ↦ let same : true ≡ false = sym halted ∙ on.going in absurd (cc same)
+  | inr off ↦ off.dead
+]
+
+moved_dead : (r : Rules) (st : CoreState) (what : What) → st.live ≡ false → moved r st what ≡ stays st st.inbox (Err faults.Stopped)
+moved_dead r st what dead = ap (λ b. if b then moved_live r st what else stays st st.inbox (Err faults.Stopped)) dead
+
+-- a call that is for the core of a replica that is stopped
+pub halted_handles : {S B C : Type 0} (m : Meaning S B C KeyRow) (rep : Replica S B C) (what : What) (call : Call) (before : List OutFrame) (r : Rules) (k : KeyRow) (st : CoreState) →
+    ReplicaStands m rep r k st → rep.stopped ≡ true → IsCall r k st call what → Handles (ReplicaStands m) rep call before before (Err (refusals.Core faults.Stopped)) r k st
+halted_handles m rep what call before r k st stands halted call_is =
+    let same : handled r k st call ≡ framed r k st (stays st st.inbox (Err faults.Stopped)) =
+    call_is.does ∙ ap (framed r k st) (moved_dead r st what (dead_of m rep r k st stands halted)) in
+    let P : CoreState → Type 0 = λ x. ReplicaStands m rep r k x in
+    record {
+      answer = ap (λ h. h.answer) (sym same);
+      out = sym (append-nil before) ∙ ap (λ h. before ++ h.out) (sym same);
+      state = subst P (ap (λ h. h.state) (sym same)) stands;
+    }

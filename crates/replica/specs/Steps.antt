@@ -1,0 +1,81 @@
+-- What the parts of a call on a replica do: a frame is read, and what the core answers and puts out is passed on.
+use Rattle.std.specs.Prelude.{◌≡◌, ℕ, ◌+◌, ◌%◌, ◌^◌, true, List, ◌++◌, length, Result, Ok, Err}
+use Rattle.ritas_base.specs.declared.item.Item.{Item}
+use Rattle.ritas_base.specs.declared.item.Msg.{Msg}
+use Rattle.frame_codec.specs.declared.fault.BodyFault.{BodyFault}
+use Rattle.frame_codec.specs.declared.fault.BodyFault.TheVariants as body
+use Rattle.frame_codec.specs.Body.{body_answer}
+use Rattle.keyed_channel.specs.KeyRow.{KeyRow}
+use Rattle.keyed_channel.specs.Frames.{Opening, opening}
+use Rattle.ritas_core.specs.declared.answer.Answer.{Answer}
+use Rattle.ritas_core.specs.declared.answer.Answer.TheVariants as answers
+use Rattle.ritas_core.specs.declared.fault.CoreFault.{CoreFault}
+use Rattle.ritas_core.specs.declared.fault.CoreFault.TheVariants as faults
+use Rattle.ritas_core.specs.Rules.{Rules}
+use Rattle.ritas_core.specs.Checks.{IsGood}
+use Rattle.replica.specs.declared.frame.OutFrame.{OutFrame}
+use Rattle.replica.specs.declared.refusal.Refusal.{Refusal}
+use Rattle.replica.specs.declared.refusal.Refusal.TheVariants as refusals
+use Rattle.replica.specs.declared.replica.Replica.{Replica}
+use Rattle.replica.specs.Frames.{frames_of}
+use Rattle.replica.specs.Sending.{AreCounts, counts_with}
+
+-- ---- reading
+
+-- the frame opens, and its body was given this answer
+pub record IsRead (r : Rules) (k : KeyRow) (bytes : List ℕ) (answer : Result Item BodyFault) : Type 0 where
+  pub opened : Opening
+  pub opens : opening k bytes ≡ Ok opened
+  pub body : body_answer r.casts.numbers r.mode opened.from opened.body ≡ answer
+
+pub record FindsItem (r : Rules) (k : KeyRow) (bytes : List ℕ) (item : Item) : Type 0 where
+  pub read : IsRead r k bytes (Ok item)
+  pub good : IsGood r item
+
+-- each outcome of reading a frame
+abbrev pub Reads : Rules → KeyRow → List ℕ → Result Item Refusal → Type 0
+Reads r k bytes (Ok item) = FindsItem r k bytes item
+Reads r k bytes (Err (refusals.Open fault)) = opening k bytes ≡ Err fault
+Reads r k bytes (Err (refusals.Body body.Mem)) = (opened : Opening) × (opening k bytes ≡ Ok opened)
+Reads r k bytes (Err (refusals.Body fault)) = IsRead r k bytes (Err fault)
+Reads r k bytes (Err (refusals.Core fault)) = ⊥
+
+-- ---- passing on what the core answered and put out
+
+-- nothing changed
+pub record Keeps {S B C : Type 0} (old new : Replica S B C) (before after : List OutFrame) : Type 0 where
+  pub same : new ≡ old
+  pub out : after ≡ before
+
+-- the frames of these messages, of which there were as many as count says
+pub record Counts (k : KeyRow) (count : ℕ → ℕ) (ms : List Msg) (xs : List ℕ) (sent_before sent : ℕ) (before after : List OutFrame) : Type 0 where
+  pub frames : after ≡ before ++ frames_of k count ms
+  pub each : AreCounts k.n xs (counts_with count ms)
+  pub all : sent ≡ (sent_before + length (frames_of k count ms)) % 2 ^ 64
+
+-- the frames of these messages went out, and are counted
+pub record PutsOut {S B C : Type 0} (old new : Replica S B C) (ms : List Msg) (before after : List OutFrame) : Type 0 where
+  pub core : new.core ≡ old.core
+  pub keys : new.channel ≡ old.channel
+  pub halted : new.stopped ≡ old.stopped
+  pub counts : (count : ℕ → ℕ) → AreCounts old.channel.n old.counts count → Counts old.channel count ms new.counts old.sent new.sent before after
+
+-- for want of memory none went out, and the replica is stopped
+pub record Stops {S B C : Type 0} (old new : Replica S B C) (before after : List OutFrame) : Type 0 where
+  pub core : new.core ≡ old.core
+  pub keys : new.channel ≡ old.channel
+  pub halted : new.stopped ≡ true
+  pub out : after ≡ before
+
+-- each outcome
+abbrev pub Finishes : {S B C : Type 0} → Replica S B C → Replica S B C → Result Answer CoreFault → List Msg → List OutFrame → List OutFrame → Result Answer Refusal → Type 0
+Finishes old new (Ok answers.Took) ms before after (Ok answer) = (answer ≡ answers.Took) × PutsOut old new ms before after
+Finishes old new (Ok answers.Took) ms before after (Err fault) = (fault ≡ refusals.Core faults.Mem) × Stops old new before after
+Finishes old new (Ok answer) ms before after result = (result ≡ Ok answer) × Keeps old new before after
+Finishes old new (Err fault) ms before after result = (result ≡ Err (refusals.Core fault)) × Keeps old new before after
+
+-- all but the counts is as before
+pub record SameRest {S B C : Type 0} (old new : Replica S B C) : Type 0 where
+  pub core : new.core ≡ old.core
+  pub keys : new.channel ≡ old.channel
+  pub halted : new.stopped ≡ old.stopped

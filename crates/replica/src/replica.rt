@@ -1,0 +1,209 @@
+use crate::frame::OutFrame;
+use crate::refusal::Refusal;
+use crate::sending::send;
+use frame_codec::read_body;
+use keyed_channel::{Channel, Keys};
+use layer_api::{Broadcast, Service};
+use ritas_base::{Coin, Item, Mem, Mode, Msg, Params};
+use ritas_core::{Answer, Core, CoreFault};
+use std::alloc::Global;
+
+/// One replica: it opens frames and reads their bodies, gives its core what they say, and seals what that puts out.
+///
+/// For want of memory to seal a frame it is stopped, whatever its core has done.
+#[derive(Drop)]
+pub struct Replica<S: Service, B: Broadcast, C: Coin + Drop> {
+    core: Core<S, B, C, Keys>,
+    channel: Channel,
+    counts: [u64; 31],
+    sent: u64,
+    stopped: bool,
+}
+
+impl<S: Service, B: Broadcast, C: Coin + Drop> Replica<S, B, C> {
+    ghost use Rattle.std.specs.Prelude.{◌≡◌, ℕ, [], IfOk, replicate, ◌%◌, ◌^◌, true, OnOk, OnErr};
+    ghost use Rattle.keyed_channel.specs.Keyed.{tags_of};
+    ghost use Rattle.keyed_channel.specs.KeyRow.{KeyRow};
+    ghost use Rattle.ritas_core.specs.Rules.{Rules, KindsFit, casts_by};
+    ghost use Rattle.ritas_core.specs.Machine.{CoreState, first_state};
+    ghost use Rattle.ritas_core.specs.Stands.{CoreStands};
+    ghost use Rattle.replica.specs.Handling.{Frame, Input, Turn};
+    ghost use Rattle.replica.specs.Stands.{DoesAll, frames_made};
+    ghost use Rattle.replica.specs.Replica.{ReplicaStands, with_keys};
+    ghost use Rattle.replica.specs.Steps.{Reads, PutsOut, SameRest, Finishes};
+
+    /// The replica that has these keys, before any call. The one error is want of memory.
+    pub fn new(alloc: Global, p: Params, mode: Mode, keys: Keys, coin: C) -> Result<Self, Mem>
+        requires made_for { keys.n ≡ p.n }
+        requires kinds { KindsFit p mode (λ s. B.rules) }
+        requires served { S.rules.serves mode.root ≡ true }
+        ensures { IfOk result (λ replica. ReplicaStands (with_keys S.stands S.rules B.stands B.rules C.bits) replica
+            (record { mode = mode; casts = casts_by p keys.me (tags_of keys) B.rules; coin = C.bits coin; service = S.rules })
+            keys (first_state (replicate p.n []))) }
+    {
+        let core = Core::new(alloc, p, mode, keys.me(), keys, coin)?;
+        let channel = Channel::new(alloc, keys)?;
+        Ok(Replica {
+            core,
+            channel,
+            counts: [0; 31],
+            sent: 0,
+            stopped: false,
+        })
+    }
+
+    // Seals these messages, and appends the frames.
+    fn put_out(&mut self, alloc: Global, msgs: Vec<Msg>, out: &mut Vec<OutFrame>) -> Result<(), Mem>
+        ensures ok { OnOk result (PutsOut self.old self.new msgs.items out.old.items out.new.items) }
+        ensures err { OnErr result (out.new.items ≡ out.old.items) }
+        ensures same { SameRest self.old self.new }
+    {
+        let mut made = Vec::new(alloc);
+        send(alloc, &self.channel, &mut self.counts, msgs, &mut made)?;
+        let number = made.len() as u64;
+        out.append(&mut made)?;
+        self.sent = self.sent.wrapping_add(number);
+        Ok(())
+    }
+
+    // Passes on what the core answered and put out.
+    fn finish(
+        &mut self,
+        alloc: Global,
+        answer: Result<Answer, CoreFault>,
+        msgs: Vec<Msg>,
+        out: &mut Vec<OutFrame>,
+    ) -> Result<Answer, Refusal>
+        ensures { Finishes self.old self.new answer msgs.items out.old.items out.new.items result }
+    {
+        match answer {
+            Ok(Answer::Took) => {
+                if self.put_out(alloc, msgs, out).is_err() {
+                    self.stopped = true;
+                    return Err(Refusal::Core(CoreFault::Mem));
+                }
+                Ok(Answer::Took)
+            }
+            Ok(answer) => Ok(answer),
+            Err(fault) => Err(Refusal::Core(fault)),
+        }
+    }
+
+    // The item that a frame brings.
+    fn read(&self, alloc: Global, bytes: &[u8]) -> Result<Item, Refusal>
+        ensures { (r : Rules) (k : KeyRow) (st : CoreState)
+            → ReplicaStands (with_keys S.stands S.rules B.stands B.rules C.bits) self.now r k st
+            → Reads r k bytes.now result }
+    {
+        let opened = match self.channel.open(bytes) {
+            Ok(opened) => opened,
+            Err(fault) => return Err(Refusal::Open(fault)),
+        };
+        let p = self.core.params();
+        let mode = self.core.mode();
+        match read_body(alloc, p, mode, opened.from, opened.body) {
+            Ok(item) => Ok(item),
+            Err(fault) => Err(Refusal::Body(fault)),
+        }
+    }
+
+    /// Takes bytes that came as a frame: opens it, reads its body, and gives the core the item. The frames that become due
+    /// by it are appended to `out`, in the order of the messages and for each by receiver.
+    ///
+    /// `Open` and `Body` are answered exactly where the frame doesn't open or its body spells no item, also once the
+    /// replica is stopped, and `Core` where the core refuses the item: each leaves the replica and `out` as they were.
+    /// `Body(Mem)` does too. After `Core(Mem)` `out` is as before, and so is the replica where the item was to be held;
+    /// where it was to be taken, the replica is stopped, and the core refuses every later item as `Stopped`.
+    pub fn on_frame(
+        &mut self,
+        alloc: Global,
+        bytes: &[u8],
+        out: &mut Vec<OutFrame>,
+    ) -> Result<Answer, Refusal>
+        ensures { DoesAll (ReplicaStands (with_keys S.stands S.rules B.stands B.rules C.bits))
+            self.old self.new (Frame bytes.now) out.old.items out.new.items result }
+    {
+        let item = self.read(alloc, bytes)?;
+        if self.stopped {
+            return Err(Refusal::Core(CoreFault::Stopped));
+        }
+        let mut msgs = Vec::new(alloc);
+        let answer = self.core.take(alloc, item, &mut msgs);
+        self.finish(alloc, answer, msgs, out)
+    }
+
+    /// Gives the core an input. The frames that become due by it are appended to `out`, in the order of the messages and
+    /// for each by receiver.
+    ///
+    /// The one error is `Core`, which leaves the replica and `out` as they were; but `Core(Mem)` stops the replica.
+    pub fn on_input(
+        &mut self,
+        alloc: Global,
+        bytes: &[u8],
+        out: &mut Vec<OutFrame>,
+    ) -> Result<Answer, Refusal>
+        ensures { DoesAll (ReplicaStands (with_keys S.stands S.rules B.stands B.rules C.bits))
+            self.old self.new (Input bytes.now) out.old.items out.new.items result }
+    {
+        if self.stopped {
+            return Err(Refusal::Core(CoreFault::Stopped));
+        }
+        let mut msgs = Vec::new(alloc);
+        let answer = self.core.input(alloc, bytes, &mut msgs);
+        self.finish(alloc, answer, msgs, out)
+    }
+
+    /// Takes the item at the front of the inbox out of it, and gives it to the core; `Idle` where none waits. The frames
+    /// that become due by it are appended to `out`, in the order of the messages and for each by receiver.
+    ///
+    /// The one error is `Core`, which leaves `out` as it was, and the replica but that the item has left the inbox.
+    /// `Core(Mem)` does the same where the item was to be held; where it was to be taken, the replica is stopped.
+    pub fn on_turn(&mut self, alloc: Global, out: &mut Vec<OutFrame>) -> Result<Answer, Refusal>
+        ensures { DoesAll (ReplicaStands (with_keys S.stands S.rules B.stands B.rules C.bits))
+            self.old self.new Turn out.old.items out.new.items result }
+    {
+        if self.stopped {
+            return Err(Refusal::Core(CoreFault::Stopped));
+        }
+        let mut msgs = Vec::new(alloc);
+        let answer = self.core.turn(alloc, &mut msgs);
+        self.finish(alloc, answer, msgs, out)
+    }
+
+    /// Whether no call was without memory, but for one that only was to read a body or to hold an item.
+    pub fn live(&self) -> bool
+        ensures { (r : Rules) (k : KeyRow) (st : CoreState)
+            → ReplicaStands (with_keys S.stands S.rules B.stands B.rules C.bits) self.now r k st
+            → result ≡ st.live }
+    {
+        !self.stopped && self.core.live()
+    }
+
+    /// The keys of the replica.
+    pub fn keys(&self) -> &Keys
+        ensures { (r : Rules) (k : KeyRow) (st : CoreState)
+            → ReplicaStands (with_keys S.stands S.rules B.stands B.rules C.bits) self.now r k st
+            → result.now ≡ k }
+    {
+        self.channel.keys()
+    }
+
+    /// The core. While the replica is live, the core stands for its state.
+    pub fn core(&self) -> &Core<S, B, C, Keys>
+        ensures { (r : Rules) (k : KeyRow) (st : CoreState)
+            → ReplicaStands (with_keys S.stands S.rules B.stands B.rules C.bits) self.now r k st
+            → st.live ≡ true
+            → CoreStands (with_keys S.stands S.rules B.stands B.rules C.bits) result.now r st }
+    {
+        &self.core
+    }
+
+    /// How many frames the replica made, modulo 2^64. It is told of a live replica.
+    pub fn sent(&self) -> u64
+        ensures { (r : Rules) (k : KeyRow) (st : CoreState)
+            → ReplicaStands (with_keys S.stands S.rules B.stands B.rules C.bits) self.now r k st
+            → st.live ≡ true → result ≡ frames_made r k st.history % 2 ^ 64 }
+    {
+        self.sent
+    }
+}

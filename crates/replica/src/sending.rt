@@ -1,0 +1,90 @@
+//! How messages become frames.
+
+ghost use Rattle.std.specs.Prelude.{◌≡◌, ℕ, not, ◌==◌, ◌&&◌, ◌≤◌, ◌++◌, EachIndex, map, slice_index, OnOk};
+ghost use Rattle.ritas_base.specs.Messages.{reaches};
+ghost use Rattle.replica.specs.Frames.{frame_for, receivers, frames_of};
+ghost use Rattle.replica.specs.Sending.{AreCounts, Sends, raised_at};
+
+use crate::frame::OutFrame;
+use frame_codec::write_body;
+use keyed_channel::Channel;
+use ritas_base::{Item, Mem, Msg, To};
+use std::alloc::Global;
+
+// Whether a message for these receivers comes to replica j.
+fn reaches(to: To, j: usize) -> bool
+    ensures { result ≡ reaches to j }
+{
+    match to {
+        To::All => true,
+        To::One(k) => usize::from(k) == j,
+    }
+}
+
+// Whether a message of replica me for these receivers is sealed for j.
+fn is_receiver(to: To, me: u8, j: u8) -> bool
+    ensures { result ≡ (reaches to j && not (j == me)) }
+{
+    reaches(to, usize::from(j)) && j != me
+}
+
+// Seals a message for each replica that it reaches but this one.
+fn seal_each(
+    alloc: Global,
+    channel: &Channel,
+    counts: &[u64; 31],
+    msg: Msg,
+    made: &mut Vec<OutFrame>,
+) -> Result<(), Mem>
+    ensures few { OnOk result (channel.now.n ≤ 31) }
+    ensures made { OnOk result ((count : ℕ → ℕ) → AreCounts channel.now.n counts.now count
+        → made.new.items ≡ made.old.items ++ map (λ j. frame_for channel.now j (count j) msg) (receivers channel.now msg)) }
+{
+    let keys = channel.keys();
+    let me = keys.me();
+    let to = msg.to;
+    let item = Item {
+        from: me,
+        kind: msg.kind,
+        slot: msg.slot,
+        value: msg.value,
+    };
+    let body = write_body(alloc, &item)?;
+    for j in 0..keys.n() {
+        if is_receiver(to, me, j) {
+            let bytes = channel.seal(alloc, j, counts[usize::from(j)], body.as_slice())?;
+            made.push(OutFrame { to: j, bytes })?;
+        }
+    }
+    Ok(())
+}
+
+// Counts a message for each replica that it reaches.
+fn raise(counts: &mut [u64], to: To)
+    ensures { EachIndex counts.new (λ j. slice_index counts.new j ≡ raised_at to j (slice_index counts.old j)) }
+{
+    for (j, count) in counts.iter_mut().enumerate() {
+        if reaches(to, j) {
+            *count = count.wrapping_add(1);
+        }
+    }
+}
+
+// Appends the frames of these messages, and counts them for each receiver.
+pub(crate) fn send(
+    alloc: Global,
+    channel: &Channel,
+    counts: &mut [u64; 31],
+    msgs: Vec<Msg>,
+    made: &mut Vec<OutFrame>,
+) -> Result<(), Mem>
+    ensures { OnOk result ((count : ℕ → ℕ) → AreCounts channel.now.n counts.old count
+        → Sends channel.now count msgs.items counts.new made.old.items made.new.items) }
+{
+    for msg in msgs {
+        let to = msg.to;
+        seal_each(alloc, channel, counts, msg, made)?;
+        raise(counts, to);
+    }
+    Ok(())
+}
