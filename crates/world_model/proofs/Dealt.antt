@@ -1,0 +1,77 @@
+-- A world whose keys were dealt from one master key keeps to what the law of one value rests on.
+use Rattle.std.proofs.Common.{◌≡◌, ℕ, ◌<◌, Bool, true, false, not, Option, Ok, List, [], ◌∷◌, refl, ap, subst}
+use Rattle.std.proofs.Math.Dec.{eqb, ltb, leb}
+use Rattle.std.proofs.lemmas.Bool.{and_parts, ltb-true, eq-eqb}
+use Rattle.std.specs.Prelude.{length}
+use Rattle.layer_api.specs.Broadcast.{BroadcastRules}
+use Rattle.layer_api.specs.OneValue.{OneValue, ValueLaws}
+use Rattle.layer_api.specs.Service.{ServiceRules, WordLaws}
+use Rattle.keyed_channel.specs.KeyRow.{KeyRow}
+use Rattle.keyed_channel.specs.Keyed.{dealt}
+use Rattle.keyed_channel.specs.declared.frame.OpenFault.{OpenFault}
+use Rattle.keyed_channel.specs.declared.frame.OpenFault.TheVariants as faults
+use Rattle.keyed_channel.specs.Frames.{Opening, opening, opening_but, first_failed, parts_of, version_of, receiver_of, sender_of, is_peer, is_tagged}
+use Rattle.keyed_channel.specs.Laws.{SealedOpens}
+use Rattle.world_model.specs.Agreement.{Channel, Codec, IsSound, WorldLaw}
+use Rattle.world_model.specs.Dealt.{Deal, world_of, IsDeal, IsPlain, DealtLaw}
+
+-- ---- what opens is of another replica
+-- the answer of six tests
+abbrev six : Bool → Bool → Bool → Bool → Bool → Bool → Option OpenFault
+six a b c d e t = first_failed ((a, faults.Short) ∷ (b, faults.Long) ∷ (c, faults.Version) ∷ (d, faults.NotMine) ∷ (e, faults.NoSuchReplica) ∷ (t, faults.BadTag) ∷ [])
+
+opened_by : (a b c d e t : Bool) (x o : Opening) → opening_but (six a b c d e t) x ≡ Ok o → (e ≡ true) × (x ≡ o)
+opened_by false b c d e t x o h = absurd (cc)
+opened_by true false c d e t x o h = absurd (cc)
+opened_by true true false d e t x o h = absurd (cc)
+opened_by true true true false e t x o h = absurd (cc)
+opened_by true true true true false t x o h = absurd (cc)
+opened_by true true true true true false x o h = absurd (cc)
+opened_by true true true true true true x o h = (refl, cc)
+
+opened_peer : (k : KeyRow) (bytes : List ℕ) (o : Opening) → opening k bytes ≡ Ok o → is_peer k o.from ≡ true
+unfolding opening
+opened_peer k bytes o h =
+    let was = opened_by (leb 43 (length bytes)) (leb (length bytes) 16384) (eqb (version_of bytes) 1) (eqb (receiver_of bytes) k.me)
+    (is_peer k (sender_of bytes)) (is_tagged k bytes) (parts_of bytes) o h in
+    subst (λ (x : Opening). is_peer k x.from ≡ true) was.1 was.0
+
+apart : (a b : ℕ) → not (eqb a b) ≡ true → a ≡ b → ⊥
+apart a b h same = let alike : not (eqb a b) ≡ false = ap not (eq-eqb a b same) in absurd (cc)
+
+peer_parts : (k : KeyRow) (j : ℕ) → is_peer k j ≡ true → (j < k.n) × (j ≡ k.me → ⊥)
+peer_parts k j h =
+    let both = and_parts (ltb j k.n) (not (eqb j k.me)) h in
+    (ltb-true j k.n both.0, apart j k.me both.1)
+
+-- ---- the channel
+pub dealt_channel : (service : ServiceRules) (cast : BroadcastRules) (d : Deal) → SealedOpens → Channel (world_of service cast d)
+dealt_channel service cast d sealed_opens = record {
+  opens = λ i j seq body. sealed_opens d.master d.session d.numbers.n i j seq body;
+  opened = λ j bytes o within opens.
+      let k = dealt d.master d.session d.numbers.n j in
+      peer_parts k o.from (opened_peer k bytes o opens);
+  own = λ i within. (refl, refl);
+}
+
+-- ---- the world
+pub dealt_sound : (service : ServiceRules) (cast : BroadcastRules) (d : Deal) → IsPlain cast → IsDeal service cast d → ValueLaws cast → OneValue cast → WordLaws service →
+    SealedOpens → Codec (world_of service cast d) → IsSound (world_of service cast d)
+dealt_sound service cast d plain deal values one words sealed_opens codec = record {
+  session = deal.session;
+  within = deal.within;
+  casts = λ s. values;
+  one_value = λ s. one;
+  words = words;
+  serves = deal.serves;
+  kinds = deal.kinds;
+  channel = dealt_channel service cast d sealed_opens;
+  codec = codec;
+  no_claims = λ s at tags h x. plain.no_claims at tags h x;
+  nothing_met = λ s at tags h. plain.nothing_met at tags h;
+}
+
+pub dealt_law : (service : ServiceRules) (cast : BroadcastRules) → ValueLaws cast → OneValue cast → WordLaws service → SealedOpens →
+    ((d : Deal) → IsDeal service cast d → Codec (world_of service cast d)) → WorldLaw → DealtLaw service cast
+dealt_law service cast values one words sealed_opens codec law d es plain deal holds =
+    law (world_of service cast d) es (dealt_sound service cast d plain deal values one words sealed_opens (codec d deal)) holds

@@ -1,0 +1,131 @@
+-- Whether a frame that came to a replica forges.
+use Rattle.std.proofs.Common.{◌≡◌, ◌≢◌, ℕ, ◌^◌, ◌<◌, ◌≤◌, ◌==◌, Bool, true, false, not, ◌&&◌, nat_le, nat_lt, List, [], ◌∷◌, ◌++◌, length, reverse, Option, Some, None, Result, Ok, Err, refl, sym, ◌∙◌, ap, ap₂, subst, if◌then◌else◌, arith}
+use Rattle.std.specs.List.{list_any}
+use Rattle.std.specs.Str.{bytes_eq}
+use Rattle.std.proofs.lemmas.Bool.{eq-eqb, ne_eqb, ltb-true, leb-true, not-true, false≢true}
+use Rattle.std.proofs.lemmas.List.{length-reverse}
+use Rattle.ritas_base.specs.declared.item.Item.{Item}
+use Rattle.frame_codec.specs.declared.fault.BodyFault.{BodyFault}
+use Rattle.frame_codec.specs.Body.{body_answer}
+use Rattle.keyed_channel.specs.KeyRow.{KeyRow}
+use Rattle.keyed_channel.specs.declared.frame.OpenFault.{OpenFault}
+use Rattle.keyed_channel.specs.declared.frame.OpenFault.TheVariants.{Short, Long, Version, NotMine, NoSuchReplica, BadTag}
+use Rattle.keyed_channel.specs.Frames.{Opening, opening, opening_but, open_fault, parts_of, first_failed, is_tagged, is_peer, version_of, sender_of, receiver_of, seq_of}
+use Rattle.ritas_core.specs.declared.answer.Answer.{Answer}
+use Rattle.ritas_core.specs.declared.fault.CoreFault.{CoreFault}
+use Rattle.ritas_core.specs.Rules.{Rules}
+use Rattle.ritas_core.specs.Machine as core
+use Rattle.ritas_core.specs.Machine.{CoreState, moved}
+use Rattle.replica.specs.Frames.{made_for}
+use Rattle.replica.specs.Handling.{Frame, given_frame, given_body, core_answer}
+use Rattle.world_model.specs.declared.seats.Seats.{Seats}
+use Rattle.world_model.specs.declared.seen.Seen.{Seen}
+use Rattle.world_model.specs.World.{Setting, rules_at, call_at, seen_answer, seen_call}
+use Rattle.world_model.specs.Audit.{is_forged_opening, is_forged_at}
+use Rattle.world_model.specs.FramesMade.{MadeTable, made_in}
+use Rattle.world_model.specs.Stands.{SeatsStand, FramesStand, frames_from}
+use Rattle.world_model.specs.Steps.{is_numbered, is_unmade, is_opened}
+use Rattle.world_model.proofs.Numbered.{made_by_number}
+
+-- ---- what opens
+
+first_and_fifth : (a b c d e t : Bool) →
+    first_failed (((a, Short) ∷ (b, Long) ∷ (c, Version) ∷ (d, NotMine) ∷ (e, NoSuchReplica) ∷ []) ++ (t, BadTag) ∷ []) ≡ None → (a ≡ true) × (e ≡ true)
+first_and_fifth true true true true true t h = (refl, refl)
+first_and_fifth true true true true false t h = cc
+first_and_fifth true true true false e t h = cc
+first_and_fifth true true false d e t h = cc
+first_and_fifth true false c d e t h = cc
+first_and_fifth false b c d e t h = cc
+
+both : (a b : Bool) → (a && b) ≡ true → (a ≡ true) × (b ≡ true)
+both true b h = (refl, h)
+both false b h = cc
+
+no_fault : (fault : Option OpenFault) (parts o : Opening) → opening_but fault parts ≡ Ok o → (fault ≡ None) × (parts ≡ o)
+no_fault None parts o h = (refl, cc)
+no_fault (Some fault) parts o h = cc
+
+pub record IsOpened (k : KeyRow) (bytes : List ℕ) (o : Opening) : Type 0 where
+  pub long : 11 ≤ length bytes
+  pub parts : parts_of bytes ≡ o
+  pub below : sender_of bytes < k.n
+  pub other : sender_of bytes ≢ k.me
+
+what_opened : (k : KeyRow) (bytes : List ℕ) (o : Opening) → opening k bytes ≡ Ok o → IsOpened k bytes o
+unfolding opening
+what_opened k bytes o h =
+    let fine = no_fault (open_fault k bytes) (parts_of bytes) o h in
+    let passed = first_and_fifth (nat_le 43 (length bytes)) (nat_le (length bytes) 16384) (version_of bytes == 1) (receiver_of bytes == k.me) (is_peer k (sender_of bytes)) (is_tagged k bytes) fine.0 in
+    let long : 43 ≤ length bytes = leb-true _ _ passed.0 in
+    let peer = both (nat_lt (sender_of bytes) k.n) (not (sender_of bytes == k.me)) passed.1 in
+    record {
+      long = omega arith;
+      parts = fine.1;
+      below = ltb-true _ _ peer.0;
+      other = λ same. false≢true (sym (not-true (sender_of bytes == k.me) peer.1) ∙ eq-eqb (sender_of bytes) k.me same);
+    }
+
+-- ---- whether the sender had made it
+
+unmade_either : (w : Setting) (states : ℕ → CoreState) (t : MadeTable) (s j : ℕ) (bytes : List ℕ) (b : Bool) → w.is_correct s ≡ b
+    → made_in t s j ≡ frames_from w states s j → length (made_in t s j) < 2 ^ 64 → (s == j) ≡ false
+    → (b && not (is_numbered (made_in t s j) (seq_of bytes) bytes)) ≡ (b && not (list_any (bytes_eq bytes) (made_for (rules_at w s) (w.keys s) (states s).history j)))
+unmade_either w states t s j bytes false e same few other = refl
+unmade_either w states t s j bytes true e same few other =
+    let made = made_for (rules_at w s) (w.keys s) (states s).history j in
+    let is : made_in t s j ≡ reverse made = same ∙ ap₂ (λ x y. if x && not y then reverse made else []) e other in
+    let short : length made < 2 ^ 64 = omega (arith, length-reverse made, ap length is) in
+    ap not (ap (λ xs. is_numbered xs (seq_of bytes) bytes) is ∙ made_by_number (rules_at w s) (w.keys s) (states s).history j bytes (omega arith))
+
+pub unmade_is_forged : (w : Setting) (seats : Seats) (states : ℕ → CoreState) (t : MadeTable) (j : ℕ) (bytes : List ℕ) (o : Opening) → SeatsStand w seats → FramesStand w states t
+    → j < w.numbers.n → IsOpened (w.keys j) bytes o → length (made_in t (sender_of bytes) j) < 2 ^ 64
+    → is_unmade seats.correct t j bytes ≡ is_forged_opening w states j bytes (Ok o)
+unmade_is_forged w seats states t j bytes o seats_stand stand below opened few =
+    let own = seats_stand.own j below in
+    let s = sender_of bytes in
+    let s_below : s < w.numbers.n = subst (λ n. s < n) own.1 opened.below in
+    let other : (s == j) ≡ false = ne_eqb s j (λ e. opened.other (e ∙ sym own.0)) in
+    let P : Opening → Type 0 = λ x. is_unmade seats.correct t j bytes ≡ is_forged_opening w states j bytes (Ok x) in
+    subst P opened.parts
+    (ap (λ b. b && not (is_numbered (made_in t s j) (seq_of bytes) bytes)) (sym (seats_stand.correct s))
+    ∙ unmade_either w states t s j bytes (w.is_correct s) refl (stand.each s j s_below below) few other)
+
+-- ---- as the code tests it
+
+core_opened : (answer : Result Answer CoreFault) → is_opened (seen_answer (core_answer answer)) ≡ true
+core_opened (Ok answer) = refl
+core_opened (Err fault) = refl
+
+body_opened : (r : Rules) (k : KeyRow) (st : CoreState) (read : Result Item BodyFault) → is_opened (seen_answer (given_body r k st read).answer) ≡ true
+body_opened r k st (Ok item) = core_opened (moved r st (core.Frame item)).answer
+body_opened r k st (Err fault) = refl
+
+-- what the code has found: whether the frame isn't made, where it is long enough
+pub record IsFound (correct : ℕ) (t : MadeTable) (j : ℕ) (bytes : List ℕ) (unmade : Bool) : Type 0 where
+  pub value : 11 ≤ length bytes → unmade ≡ is_unmade correct t j bytes
+  pub few : 11 ≤ length bytes → length (made_in t (sender_of bytes) j) < 2 ^ 64
+
+forged_either : (w : Setting) (seats : Seats) (states : ℕ → CoreState) (t : MadeTable) (j : ℕ) (bytes : List ℕ) (unmade : Bool) (opened : Result Opening OpenFault) →
+    SeatsStand w seats → FramesStand w states t → j < w.numbers.n → IsFound seats.correct t j bytes unmade → opening (w.keys j) bytes ≡ opened
+    → (is_opened (seen_answer (given_frame (rules_at w j) (w.keys j) (states j) opened).answer) && unmade) ≡ is_forged_opening w states j bytes opened
+forged_either w seats states t j bytes unmade (Err fault) seats_stand stand below found e = refl
+forged_either w seats states t j bytes unmade (Ok o) seats_stand stand below found e =
+    let was = what_opened (w.keys j) bytes o e in
+    ap (λ b. b && unmade) (body_opened (rules_at w j) (w.keys j) (states j) (body_answer w.numbers w.mode o.from o.body))
+    ∙ found.value was.long ∙ unmade_is_forged w seats states t j bytes o seats_stand stand below was (found.few was.long)
+
+at_correct : (w : Setting) (seats : Seats) (states : ℕ → CoreState) (t : MadeTable) (j : ℕ) (bytes : List ℕ) (unmade b : Bool) →
+    SeatsStand w seats → FramesStand w states t → (w.is_correct j ≡ true → j < w.numbers.n) → IsFound seats.correct t j bytes unmade → w.is_correct j ≡ b
+    → (is_opened (seen_call w states (if b then Some (record { at = j; call = Frame bytes }) else None)) && unmade)
+    ≡ is_forged_at w states (if b then Some (record { at = j; call = Frame bytes }) else None)
+at_correct w seats states t j bytes unmade true seats_stand stand within found e =
+    forged_either w seats states t j bytes unmade (opening (w.keys j) bytes) seats_stand stand (within e) found refl
+at_correct w seats states t j bytes unmade false seats_stand stand within found e = refl
+
+-- a frame that came forges where it opened, and the table hasn't it
+pub forged_is : (w : Setting) (seats : Seats) (states : ℕ → CoreState) (t : MadeTable) (j : ℕ) (bytes : List ℕ) (unmade : Bool) (seen : Seen) →
+    SeatsStand w seats → FramesStand w states t → (w.is_correct j ≡ true → j < w.numbers.n) → IsFound seats.correct t j bytes unmade
+    → seen ≡ seen_call w states (call_at w j (Frame bytes)) → (is_opened seen && unmade) ≡ is_forged_at w states (call_at w j (Frame bytes))
+forged_is w seats states t j bytes unmade seen seats_stand stand within found saw =
+    ap (λ x. is_opened x && unmade) saw ∙ at_correct w seats states t j bytes unmade (w.is_correct j) seats_stand stand within found refl

@@ -1,0 +1,40 @@
+-- Members of lists, by their test and by equality.
+use Rattle.std.proofs.Common.{◌≡◌, ℕ, Bool, true, false, cond, List, [], ◌∷◌, filter, refl, sym, subst, inl, inr}
+use Rattle.std.specs.List.{list_any}
+use Rattle.std.specs.Str.{bytes_eq}
+use Rattle.std.proofs.lemmas.Bool.{or_cases, or_left, or_right}
+use Rattle.std.proofs.lemmas.Slice.Eq.{bytes_eq-Decides}
+use Rattle.ritas_base.specs.declared.item.Msg.{Msg}
+use Rattle.ritas_base.specs.Messages.{msg_eq, has}
+use Rattle.ritas_base.specs.MessagesLaws.{same_message, message_itself}
+use Rattle.layer_api.specs.OneValue.{Has}
+
+pub has_listed : (ms : List Msg) (m : Msg) → has ms m ≡ true → Has ms m
+has_listed [] m e = absurd (cc)
+has_listed (x ∷ ms) m e = elim (or_cases (msg_eq m x) (has ms m) e) [
+  | inl here ↦ inl (sym (same_message m x here))
+  | inr there ↦ inr (has_listed ms m there)
+]
+
+pub listed_has : (ms : List Msg) (m : Msg) → Has ms m → has ms m ≡ true
+listed_has [] m here = elim here [ ]
+listed_has (x ∷ ms) m (inl e) = or_left (msg_eq m x) (has ms m) (subst (λ (y : Msg). msg_eq m y ≡ true) (sym e) (message_itself m))
+listed_has (x ∷ ms) m (inr there) = or_right (msg_eq m x) (has ms m) (listed_has ms m there)
+
+pub bytes_listed : (frames : List (List ℕ)) (bytes : List ℕ) → list_any (bytes_eq bytes) frames ≡ true → Has frames bytes
+bytes_listed [] bytes e = absurd (cc)
+bytes_listed (x ∷ frames) bytes e = elim (or_cases (bytes_eq bytes x) (list_any (bytes_eq bytes) frames) e) [
+  | inl here ↦ inl (sym ((bytes_eq-Decides bytes x).0 here))
+  | inr there ↦ inr (bytes_listed frames bytes there)
+]
+
+has_kept : {X : Type 0} (test : X → Bool) (b : Bool) (y : X) (xs ys : List X) (x : X) → test y ≡ b → (Has ys x → Has xs x × (test x ≡ true)) →
+    Has (cond b (y ∷ ys) ys) x → Has (y ∷ xs) x × (test x ≡ true)
+has_kept test true y xs ys x passes rest (inl e) = (inl e, subst (λ z. test z ≡ true) e passes)
+has_kept test true y xs ys x passes rest (inr there) = let more = rest there in (inr more.0, more.1)
+has_kept test false y xs ys x passes rest there = let more = rest there in (inr more.0, more.1)
+
+-- what passes is there, and passes
+pub has_passing : {X : Type 0} (test : X → Bool) (xs : List X) (x : X) → Has (filter test xs) x → Has xs x × (test x ≡ true)
+has_passing test [] x here = elim here [ ]
+has_passing test (y ∷ xs) x here = has_kept test (test y) y xs (filter test xs) x refl (has_passing test xs x) here

@@ -1,0 +1,23 @@
+use Rattle.std.proofs.Common.{◌≡◌, arith, ◌∙◌, ap}
+use Rattle.keyed_channel.specs.Frames.{sealed}
+use Rattle.world_model.proofs.Happening.{keys_are, keys_there, same_frame}
+use Rattle.world_model.proofs.events.sealed_comes.Goals as goal
+
+pub returns-then-to-n : goal.returns-then-to-n
+returns-then-to-n g c = λ w states seats stand replicas may.
+    let keys = keys_are w c.args.seats.now c.args.from c.from.result c.deref.result.now c.in-Some.keys.now seats may.0 c.from.ensures c.deref.ensures.value
+    c.in-Some.ensures.lookup.3.0 c.in-Some.ensures.lookup.1 in
+    let many : c.in-Some.keys.now.n ≡ w.numbers.n = ap (λ k. k.n) keys ∙ (seats.own c.args.from may.0).1 in
+    absurd (omega arith)
+
+pub returns-in_ok-frame-in-Some : goal.returns-in_ok-frame-in-Some
+returns-in_ok-frame-in-Some g c = λ w states seats stand replicas may.
+    let keys = keys_are w c.args.seats.now c.args.from c.from.result c.deref.result.now c.in-Some.keys.now seats may.0 c.from.ensures c.deref.ensures.value
+    c.in-Some.ensures.lookup.3.0 c.in-Some.ensures.lookup.1 in
+    same_frame _ w states c.args.to c.as_slice.result.now (sealed (w.keys c.args.from) c.args.to 0 c.args.body.now) _ c.frame_comes.result
+    (c.as_slice.ensures ∙ c.in_ok-frame-in-Some.ensures ∙ ap (λ k. sealed k c.args.to 0 c.args.body.now) keys)
+    (c.frame_comes.ensures w states seats stand replicas)
+
+pub returns-in-None : goal.returns-in-None
+returns-in-None g c = λ w states seats stand replicas may.
+    absurd (keys_there w c.args.seats.now c.args.from c.from.result c.deref.result.now seats may.0 c.from.ensures c.deref.ensures.value c.in-None.ensures.lookup.3)

@@ -1,0 +1,7 @@
+use Rattle.std.proofs.Common.{refl}
+use Rattle.world_model.proofs.Happening.{turn_happens}
+use Rattle.world_model.proofs.events.turn_comes.Goals as goal
+
+pub returns : goal.returns
+returns g c = λ w states replicas.
+    turn_happens _ w states c.args.at _ _ c.new-out.result.items c.new-out.ensures.items (c.in_ok-seen.ensures w states replicas) refl refl

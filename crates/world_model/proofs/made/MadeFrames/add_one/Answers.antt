@@ -1,0 +1,8 @@
+use Rattle.std.proofs.Common.{arith}
+use Rattle.world_model.proofs.Tables.{pushed}
+use Rattle.world_model.proofs.made.MadeFrames.add_one.Goals as goal
+
+pub returns-in_ok-push : goal.returns-in_ok-push
+returns-in_ok-push c =
+    pushed (λ frames. frames.items) c.self.inside.n c.args.from c.at-at.result c.self.inside.lists.items c.index_mut.result.now c.push.new.self c.args.frame c.args.self.now
+    c.self.view_is c.at-at.ensures (omega arith) c.index_mut.ensures.value c.in_ok-push.ensures.items

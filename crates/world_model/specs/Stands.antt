@@ -1,0 +1,116 @@
+-- What the value of a world stands for, and what an event does to it.
+use Rattle.std.specs.Prelude.{◌≡◌, ◌≢◌, ℕ, ◌<◌, ◌==◌, ◌&&◌, Bool, true, false, not, List, [], ◌∷◌, length, reverse, Option, Some, None, Result, Ok, Err, if◌then◌else◌}
+use Rattle.std.specs.List.{slice_get}
+use Rattle.ritas_base.specs.declared.bytes.Mem.{Mem}
+use Rattle.ritas_base.specs.declared.event.Event.{Event}
+use Rattle.ritas_base.specs.declared.event.Event.TheVariants as events
+use Rattle.ritas_base.specs.declared.mode.Mode.{Mode}
+use Rattle.ritas_base.specs.Members.{has_member}
+use Rattle.ritas_base.specs.Numbers.{Numbers, IsSession}
+use Rattle.keyed_channel.specs.KeyRow.{KeyRow}
+use Rattle.ritas_core.specs.Machine.{CoreState}
+use Rattle.ritas_core.specs.Stands.{Meaning}
+use Rattle.replica.specs.declared.replica.Replica.{Replica}
+use Rattle.replica.specs.Frames.{made_for}
+use Rattle.replica.specs.Replica.{ReplicaStands}
+use Rattle.world_model.specs.declared.audit.Audit.{Audit}
+use Rattle.world_model.specs.declared.audit.Audit.TheVariants as audits
+use Rattle.world_model.specs.declared.seats.Seats.{Seats}
+use Rattle.world_model.specs.declared.seen.Seen.{Seen}
+use Rattle.world_model.specs.declared.world.World.{World}
+use Rattle.world_model.specs.World.{Setting, rules_at, states_of, seen_of}
+use Rattle.world_model.specs.Audit.{first_broken}
+use Rattle.world_model.specs.FramesMade.{MadeTable, IsSquare, made_in}
+
+-- ---- which world
+
+-- the keys of each of n replicas, in order
+abbrev pub AreKeys : ℕ → List KeyRow → Type 0
+AreKeys n keys = (i : ℕ) (k : KeyRow) → slice_get keys i ≡ Some k → (k.me ≡ i) × (k.n ≡ n)
+
+-- the world of these numbers, mode, correct replicas, and keys and coins of each replica
+pub record IsWorldOf {S B C : Type 0} (m : Meaning S B C KeyRow) (p : Numbers) (root : Mode) (members : ℕ)
+    (rows : List KeyRow) (all_coins : List C) (w : Setting) : Type 0 where
+  pub numbers : w.numbers ≡ p
+  pub mode : w.mode ≡ root
+  pub correct : (i : ℕ) → w.is_correct i ≡ has_member members i
+  pub casts : w.at_slot ≡ (λ s. m.cast)
+  pub service : w.service ≡ m.service
+  pub keys : (i : ℕ) (k : KeyRow) → slice_get rows i ≡ Some k → w.keys i ≡ k
+  pub coins : (i : ℕ) (coin : C) → slice_get all_coins i ≡ Some coin → w.coin i ≡ m.bits coin
+
+-- ---- what a world stands for
+
+-- how many replicas there are, which of them are correct, and their keys
+pub record SeatsStand (w : Setting) (seats : Seats) : Type 0 where
+  pub session : IsSession w.numbers
+  pub numbers : seats.params ≡ w.numbers
+  pub correct : (i : ℕ) → w.is_correct i ≡ has_member seats.correct i
+  pub keys : (i : ℕ) → i < w.numbers.n → slice_get seats.keys.items i ≡ Some (w.keys i)
+  pub own : (i : ℕ) → i < w.numbers.n → ((w.keys i).me ≡ i) × ((w.keys i).n ≡ w.numbers.n)
+
+-- a correct replica, in its state, which isn't stopped
+pub record IsReplica {S B C : Type 0} (m : Meaning S B C KeyRow) (w : Setting) (states : ℕ → CoreState) (i : ℕ)
+    (rep : Replica S B C) : Type 0 where
+  pub correct : w.is_correct i ≡ true
+  pub stands : ReplicaStands m rep (rules_at w i) (w.keys i) (states i)
+  pub live : (states i).live ≡ true
+
+-- there is no replica where it is faulty
+abbrev pub StandsAt : {S B C : Type 0} → Meaning S B C KeyRow → Setting → (ℕ → CoreState) → ℕ → Option (Replica S B C) → Type 0
+StandsAt m w states i None = w.is_correct i ≡ false
+StandsAt m w states i (Some rep) = IsReplica m w states i rep
+
+pub record ReplicasStand {S B C : Type 0} (m : Meaning S B C KeyRow) (w : Setting) (states : ℕ → CoreState)
+    (replicas : List (Option (Replica S B C))) : Type 0 where
+  pub many : length replicas ≡ w.numbers.n
+  pub within : (i : ℕ) → w.is_correct i ≡ true → i < w.numbers.n
+  pub each : (i : ℕ) (place : Option (Replica S B C)) → slice_get replicas i ≡ Some place → StandsAt m w states i place
+
+-- the frames that one replica made for another, the oldest first
+abbrev pub frames_from : Setting → (ℕ → CoreState) → ℕ → ℕ → List (List ℕ)
+frames_from w states i j =
+    if w.is_correct i && not (i == j) then reverse (made_for (rules_at w i) (w.keys i) (states i).history j) else []
+
+pub record FramesStand (w : Setting) (states : ℕ → CoreState) (t : MadeTable) : Type 0 where
+  pub square : IsSquare t w.numbers.n
+  pub each : (i j : ℕ) → i < w.numbers.n → j < w.numbers.n → made_in t i j ≡ frames_from w states i j
+
+-- the first forged event, if there is one, breaks the first premise
+abbrev pub broken_at : Option ℕ → Audit
+broken_at None = audits.Holds
+broken_at (Some k) = audits.Forged k
+
+-- a world that isn't stopped, after these events
+pub record WorldStands {S B C : Type 0} (m : Meaning S B C KeyRow) (world : World S B C) (w : Setting) (es : List Event) : Type 0 where
+  pub seats : SeatsStand w world.seats
+  pub replicas : ReplicasStand m w (states_of w es) world.replicas.items
+  pub made : FramesStand w (states_of w es) world.made
+  pub events : world.events ≡ length es
+  pub broken : broken_at world.forged ≡ first_broken w es
+  pub live : world.live ≡ true
+
+-- whether a world isn't stopped
+abbrev pub is_live : {S B C : Type 0} → World S B C → Bool
+is_live world = world.live
+
+-- ---- what an event does
+
+-- the numbers of an event are those of replicas, and a frame's receiver isn't its sender
+abbrev pub MayHappen : ℕ → Event → Type 0
+MayHappen n (events.Frame to bytes) = to < n
+MayHappen n (events.Input at bytes) = at < n
+MayHappen n (events.Turn at) = at < n
+MayHappen n (events.Pass from to m) = (from < n) × (to < n) × (from ≢ to)
+MayHappen n (events.Sealed from to bytes) = (from < n) × (to < n) × (from ≢ to)
+
+-- what became of the event is answered, and the world stands for the events with it
+pub record Seeing {S B C : Type 0} (m : Meaning S B C KeyRow) (new : World S B C) (w : Setting) (es : List Event) (e : Event)
+    (answer : Seen) : Type 0 where
+  pub seen : answer ≡ seen_of w es e
+  pub stands : WorldStands m new w (e ∷ es)
+
+-- for want of memory nothing more is known of the world
+abbrev pub EventDoes : {S B C : Type 0} → Meaning S B C KeyRow → World S B C → Setting → List Event → Event → Result Seen Mem → Type 0
+EventDoes m new w es e (Ok seen) = Seeing m new w es e seen
+EventDoes m new w es e (Err mem) = Unit {0}
