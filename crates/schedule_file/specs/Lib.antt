@@ -1,0 +1,8 @@
+pub mod Reading
+pub mod FileBytes
+pub mod Place
+pub mod ReadHeader
+pub mod ReadEvents
+pub mod Schedule
+pub mod Spelling
+pub mod Rows

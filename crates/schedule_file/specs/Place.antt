@@ -1,0 +1,28 @@
+-- Where a file stands that is being read in pieces.
+use Rattle.std.specs.Prelude.{ℕ, List, ◌++◌, Option, Some, None, Result, Ok, Err}
+use Rattle.ritas_base.specs.declared.event.Event.{Event}
+use Rattle.schedule_file.specs.declared.fault.FileFault.{FileFault}
+use Rattle.schedule_file.specs.declared.stage.Stage.{Stage}
+use Rattle.schedule_file.specs.declared.stage.Stage.TheVariants.{Open, Ended, Stopped}
+use Rattle.schedule_file.specs.Reading.{Spot}
+
+-- the place in the file, and the bytes that came from the source and were not read
+pub record Held : Type 0 where
+  pub at : ℕ
+  pub bytes : List ℕ
+
+-- the place, and the bytes from there on: those that are held, and those that the source has left
+abbrev pub spot : Held → List ℕ → Spot
+spot held left = record { at = held.at; rest = held.bytes ++ left }
+
+-- what a reader holds, how many replicas its header names, and its stage
+pub record ReaderState : Type 0 where
+  pub held : Held
+  pub n : ℕ
+  pub stage : Stage
+
+-- the stage after an event was read, or the end, or a fault
+abbrev pub stage_after : Result (Option Event) FileFault → Stage
+stage_after (Ok (Some event)) = Open
+stage_after (Ok None) = Ended
+stage_after (Err e) = Stopped e

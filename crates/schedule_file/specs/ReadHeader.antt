@@ -1,0 +1,90 @@
+-- Reading the header of a schedule.
+use Rattle.std.specs.Prelude.{ℕ, ◌*◌, ◌^◌, Bool, ◌&&◌, ◌||◌, Result, Ok, nat_lt, nat_le, ◌==◌, if◌then◌else◌}
+use Rattle.ritas_base.specs.Numbers.{Numbers}
+use Rattle.ritas_base.specs.declared.mode.Vect.{Vect}
+use Rattle.ritas_base.specs.declared.mode.Vect.TheVariants.{Echo, Reliable}
+use Rattle.schedule_file.specs.declared.fault.FileFault.{FileFault}
+use Rattle.schedule_file.specs.declared.fault.FileFault.TheVariants.{Magic, Version}
+use Rattle.schedule_file.specs.declared.fault.FileFault.TheVariants as faults
+use Rattle.schedule_file.specs.declared.header.Header.{Header}
+use Rattle.schedule_file.specs.declared.header.HeaderKeys.{HeaderKeys}
+use Rattle.schedule_file.specs.declared.header.HeaderKeys.TheVariants.{Master}
+use Rattle.schedule_file.specs.Reading.{Spot, ◌>>=◌, test}
+use Rattle.schedule_file.specs.FileBytes.{byte_at, bytes_at, u32_at, u64_at}
+
+-- What a header says: the session, n and f, the root service, the broadcast of VECT, the mask of the correct
+-- replicas, and the keys.
+pub record Heading : Type 0 where
+  pub session : ℕ
+  pub p : Numbers
+  pub root : ℕ
+  pub vect : Vect
+  pub correct : ℕ
+  pub keys : HeaderKeys
+
+abbrev pub heading : Header → Heading
+heading h = record { session = h.session; p = h.p; root = h.mode.root; vect = h.mode.vect; correct = h.correct; keys = h.keys }
+
+-- the root services that are built
+abbrev pub is_built : ℕ → Bool
+is_built root = root == 1
+
+-- the magic word, the version, and the session
+unfoldable pub start_at : Spot → Result (ℕ × Spot) FileFault
+start_at s = do
+  magic ← u32_at s
+  _ ← test (magic.0 == 0x52495453) Magic
+  version ← byte_at magic.1
+  _ ← test (version.0 == 1) Version
+  u64_at version.1
+
+-- n and f
+unfoldable pub numbers_at : Spot → Result (Numbers × Spot) FileFault
+numbers_at s = do
+  n ← byte_at s
+  _ ← test (nat_le 1 n.0 && nat_le n.0 31) (faults.Header 13)
+  f ← byte_at n.1
+  _ ← test (nat_lt (3 * f.0) n.0) (faults.Header 14)
+  Ok (record { n = n.0; f = f.0 }, f.1)
+
+-- the root service
+unfoldable pub root_at : Spot → Result (ℕ × Spot) FileFault
+root_at s = do
+  root ← byte_at s
+  _ ← test (is_built root.0) (faults.Header 15)
+  Ok root
+
+abbrev pub vect_of : ℕ → Vect
+vect_of b = if b == 1 then Echo else Reliable
+
+-- the broadcast of VECT: 1 is the echo broadcast, 2 the reliable one
+unfoldable pub vect_at : Spot → Result (Vect × Spot) FileFault
+vect_at s = do
+  vect ← byte_at s
+  _ ← test (vect.0 == 1 || vect.0 == 2) (faults.Header 16)
+  Ok (vect_of vect.0, vect.1)
+
+-- the mask of the correct replicas, of which there are n at most
+unfoldable pub mask_at : ℕ → Spot → Result (ℕ × Spot) FileFault
+mask_at n s = do
+  mask ← u32_at s
+  _ ← test (nat_lt mask.0 (2 ^ n)) (faults.Header 17)
+  Ok mask
+
+-- the form of the keys, and the master key
+unfoldable pub keys_at : Spot → Result (HeaderKeys × Spot) FileFault
+keys_at s = do
+  form ← byte_at s
+  _ ← test (form.0 == 0) (faults.Header 21)
+  master ← bytes_at 32 form.1
+  Ok (Master master.0, master.1)
+
+unfoldable pub header_at : Spot → Result (Heading × Spot) FileFault
+header_at s = do
+  session ← start_at s
+  p ← numbers_at session.1
+  root ← root_at p.1
+  vect ← vect_at root.1
+  mask ← mask_at p.0.n vect.1
+  keys ← keys_at mask.1
+  Ok (record { session = session.0; p = p.0; root = root.0; vect = vect.0; correct = mask.0; keys = keys.0 }, keys.1)

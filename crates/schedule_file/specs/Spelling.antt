@@ -1,0 +1,86 @@
+-- The bytes of a schedule file.
+use Rattle.std.specs.Prelude.{◌≡◌, ◌≢◌, ℕ, ◌^◌, ◌<◌, ◌≤◌, true, List, [], ◌∷◌, ◌++◌, length, reverse}
+use Rattle.std.specs.List.{flat_map, AllByRecursion}
+use Rattle.std.specs.Int.{w16, w32, w64, to_be_bytes}
+use Rattle.ritas_base.specs.Numbers.{IsSession}
+use Rattle.ritas_base.specs.declared.mode.Vect.{Vect}
+use Rattle.ritas_base.specs.declared.mode.Vect.TheVariants.{Echo, Reliable}
+use Rattle.ritas_base.specs.declared.event.Event.{Event}
+use Rattle.ritas_base.specs.declared.event.Event.TheVariants.{Frame, Input, Turn, Pass, Sealed}
+use Rattle.schedule_file.specs.declared.header.HeaderKeys.{HeaderKeys}
+use Rattle.schedule_file.specs.declared.header.HeaderKeys.TheVariants.{Master}
+use Rattle.schedule_file.specs.FileBytes.{limit}
+use Rattle.schedule_file.specs.ReadHeader.{Heading, is_built}
+
+-- a text behind its length
+abbrev pub sized : List ℕ → List ℕ
+sized bytes = to_be_bytes w16 (length bytes) ++ bytes
+
+abbrev pub event_text : Event → List ℕ
+event_text (Frame to bytes) = 1 ∷ to ∷ [] ++ sized bytes
+event_text (Input at bytes) = 2 ∷ at ∷ [] ++ sized bytes
+event_text (Turn at) = 3 ∷ at ∷ []
+event_text (Pass from to m) = 4 ∷ from ∷ to ∷ [] ++ to_be_bytes w32 m
+event_text (Sealed from to body) = 5 ∷ from ∷ to ∷ [] ++ sized body
+
+abbrev pub vect_byte : Vect → ℕ
+vect_byte Echo = 1
+vect_byte Reliable = 2
+
+-- a master key has form 0
+abbrev pub keys_text : HeaderKeys → List ℕ
+keys_text (Master master) = 0 ∷ master
+
+-- RITS, the version, and the session
+abbrev pub start_text : ℕ → List ℕ
+start_text session = to_be_bytes w32 0x52495453 ++ (1 ∷ [] ++ to_be_bytes w64 session)
+
+abbrev pub header_text : Heading → List ℕ
+header_text h =
+    start_text h.session ++ (h.p.n ∷ h.p.f ∷ [] ++ (h.root ∷ [] ++ (vect_byte h.vect ∷ [] ++ (to_be_bytes w32 h.correct ++ keys_text h.keys))))
+
+-- the file of a header and events, the newest event first
+abbrev pub FileOf : Heading → List Event → List ℕ
+FileOf h es = header_text h ++ (flat_map event_text (reverse es) ++ 0 ∷ [])
+
+-- it without the end mark
+abbrev pub FrontOf : Heading → List Event → List ℕ
+FrontOf h es = header_text h ++ flat_map event_text (reverse es)
+
+-- a sender and another replica, of n
+pub record ArePair (n from to : ℕ) : Type 0 where
+  pub sender : from < n
+  pub receiver : to < n
+  pub other : from ≢ to
+
+-- an event that a file of n replicas may have
+abbrev pub IsEvent : ℕ → Event → Type 0
+IsEvent n (Frame to bytes) = (to < n) × (length bytes < 2 ^ 16)
+IsEvent n (Input at bytes) = (at < n) × (length bytes < 2 ^ 16)
+IsEvent n (Turn at) = at < n
+IsEvent n (Pass from to m) = ArePair n from to × (m < 2 ^ 32)
+IsEvent n (Sealed from to body) = ArePair n from to × (length body < 2 ^ 16)
+
+abbrev pub AreKeys : HeaderKeys → Type 0
+AreKeys (Master master) = length master ≡ 32
+
+-- what each field of a header may be
+pub record IsHeading (h : Heading) : Type 0 where
+  pub session : h.session < 2 ^ 64
+  pub numbers : IsSession h.p
+  pub root : is_built h.root ≡ true
+  pub correct : h.correct < 2 ^ h.p.n
+  pub keys : AreKeys h.keys
+
+-- these bytes are the file of this header and these events
+pub record IsFile (bytes : List ℕ) (h : Heading) (es : List Event) : Type 0 where
+  pub text : bytes ≡ FileOf h es
+  pub header : IsHeading h
+  pub each : AllByRecursion (IsEvent h.p.n) (reverse es)
+  pub size : length bytes ≤ limit
+
+-- these bytes are a header and events, without an end mark
+pub record IsFront (bytes : List ℕ) (h : Heading) (es : List Event) : Type 0 where
+  pub text : bytes ≡ FrontOf h es
+  pub header : IsHeading h
+  pub each : AllByRecursion (IsEvent h.p.n) (reverse es)

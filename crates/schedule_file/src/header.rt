@@ -1,0 +1,23 @@
+use ritas_base::{Mode, Params, SenderSet};
+
+/// What the header of a file says.
+#[derive(Clone, Copy, Debug)]
+pub struct Header {
+    /// The number of the session.
+    pub session: u64,
+    /// How many replicas there are, and how many of them may be faulty.
+    pub p: Params,
+    /// The root service, and the broadcast of VECT.
+    pub mode: Mode,
+    /// The correct replicas, all below n.
+    pub correct: SenderSet,
+    /// The keys of the session.
+    pub keys: HeaderKeys,
+}
+
+/// The keys that a file carries.
+#[derive(Clone, Copy, Debug)]
+pub enum HeaderKeys {
+    /// The master key, of which all keys and coin keys are dealt.
+    Master([u8; 32]),
+}

@@ -1,0 +1,44 @@
+//! The schedule file: what happens to the replicas of a session, event by event.
+//!
+//! A file has a header, events, and an end mark, at most 67,108,864 bytes. Numbers are big-endian.
+//!
+//! | Offset | Field | Rule |
+//! |---|---|---|
+//! | 0 | magic | the bytes `RITS` |
+//! | 4 | version | 1 |
+//! | 5 | session | 8 bytes |
+//! | 13 | n | 1 to 31 |
+//! | 14 | f | n is at least 3f + 1 |
+//! | 15 | root service | 1 |
+//! | 16 | broadcast of VECT | 1 echo, 2 reliable |
+//! | 17 | correct replicas | 4 bytes: bit k stands for replica k, bits below n alone |
+//! | 21 | form of the keys | 0 |
+//! | 22 | master key | 32 bytes |
+//!
+//! | First byte | Event | Fields |
+//! |---|---|---|
+//! | 0 | end mark | none; the file ends here |
+//! | 1 | frame | to (1), length (2), bytes |
+//! | 2 | input | at (1), length (2), bytes |
+//! | 3 | turn | at (1) |
+//! | 4 | pass | from (1), to (1), number of the frame (4) |
+//! | 5 | sealed | from (1), to (1), length (2), body |
+//!
+//! Replicas are below n, and the sender of a frame isn't its receiver. `Reader` reads a file from a source, and answers
+//! its first fault from the left, in whatever pieces the source gives it. `file_laws` says that what is read as a file
+//! is spelled so, and that what is spelled so is read.
+#![tactic(auto)]
+
+mod fault;
+mod header;
+mod pieces;
+mod read_event;
+mod read_header;
+mod reader;
+mod stage;
+#[cfg(test)]
+mod tests;
+
+pub use fault::FileFault;
+pub use header::{Header, HeaderKeys};
+pub use reader::{Reader, file_laws};

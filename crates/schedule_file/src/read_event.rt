@@ -1,0 +1,172 @@
+ghost use Rattle.std.specs.Prelude.{◌<◌, IfOk, IfSome, ◌≡◌, true, Err};
+ghost use Rattle.outside.specs.Faults.{HasCause};
+ghost use Rattle.schedule_file.specs.declared.fault.FileFault.TheVariants.{Read};
+ghost use Rattle.schedule_file.specs.FileBytes.{Gives};
+ghost use Rattle.schedule_file.specs.Place.{spot};
+ghost use Rattle.schedule_file.specs.Spelling.{ArePair, IsEvent};
+ghost use Rattle.schedule_file.specs.ReadEvents.{replica_at, pair_at, frame_at, input_at, turn_at, pass_at, sealed_at, kind_at, event_at};
+
+use crate::fault::FileFault;
+use crate::pieces::{Pieces, test};
+use outside::Source;
+use ritas_base::Event;
+use std::alloc::Global;
+
+#[tactic(auto, using(outside::proofs::Rising::rose_after), unfolding(crate::specs::ReadEvents::replica_at))]
+fn read_replica<S: Source>(
+    pieces: &mut Pieces,
+    source: &mut S,
+    n: u8,
+    begin: u32,
+) -> Result<u8, FileFault>
+    ensures exact { S.tells ≡ true → Gives (λ x. x) result (spot pieces.new (S.left source.new)) (replica_at n begin (spot pieces.old (S.left source.old))) }
+    ensures below { IfOk result (λ at. at < n) }
+    ensures cause { HasCause (S.faults source.old) (S.faults source.new) (result ≡ Err Read) }
+{
+    let at = pieces.byte(source)?;
+    test(at < n, FileFault::Event(begin))?;
+    Ok(at)
+}
+
+#[tactic(auto, using(outside::proofs::Rising::rose_after), unfolding(crate::specs::ReadEvents::pair_at))]
+fn read_pair<S: Source>(
+    pieces: &mut Pieces,
+    source: &mut S,
+    n: u8,
+    begin: u32,
+) -> Result<(u8, u8), FileFault>
+    ensures exact { S.tells ≡ true → Gives (λ x. (x.0, x.1)) result (spot pieces.new (S.left source.new)) (pair_at n begin (spot pieces.old (S.left source.old))) }
+    ensures pair { IfOk result (λ x. ArePair n x.0 x.1) }
+    ensures cause { HasCause (S.faults source.old) (S.faults source.new) (result ≡ Err Read) }
+{
+    let from = read_replica(pieces, source, n, begin)?;
+    let to = read_replica(pieces, source, n, begin)?;
+    test(from != to, FileFault::Event(begin))?;
+    Ok((from, to))
+}
+
+#[tactic(auto, using(outside::proofs::Rising::rose_after), unfolding(crate::specs::ReadEvents::frame_at))]
+fn read_frame<S: Source>(
+    alloc: Global,
+    pieces: &mut Pieces,
+    source: &mut S,
+    n: u8,
+    begin: u32,
+) -> Result<Event, FileFault>
+    ensures exact { S.tells ≡ true → Gives (λ x. x) result (spot pieces.new (S.left source.new)) (frame_at n begin (spot pieces.old (S.left source.old))) }
+    ensures event { IfOk result (IsEvent n) }
+    ensures cause { HasCause (S.faults source.old) (S.faults source.new) (result ≡ Err Read) }
+{
+    let to = read_replica(pieces, source, n, begin)?;
+    let bytes = pieces.text(alloc, source)?;
+    Ok(Event::Frame { to, bytes })
+}
+
+#[tactic(auto, using(outside::proofs::Rising::rose_after), unfolding(crate::specs::ReadEvents::input_at))]
+fn read_input<S: Source>(
+    alloc: Global,
+    pieces: &mut Pieces,
+    source: &mut S,
+    n: u8,
+    begin: u32,
+) -> Result<Event, FileFault>
+    ensures exact { S.tells ≡ true → Gives (λ x. x) result (spot pieces.new (S.left source.new)) (input_at n begin (spot pieces.old (S.left source.old))) }
+    ensures event { IfOk result (IsEvent n) }
+    ensures cause { HasCause (S.faults source.old) (S.faults source.new) (result ≡ Err Read) }
+{
+    let at = read_replica(pieces, source, n, begin)?;
+    let bytes = pieces.text(alloc, source)?;
+    Ok(Event::Input { at, bytes })
+}
+
+#[tactic(auto, using(outside::proofs::Rising::rose_after), unfolding(crate::specs::ReadEvents::turn_at))]
+fn read_turn<S: Source>(
+    pieces: &mut Pieces,
+    source: &mut S,
+    n: u8,
+    begin: u32,
+) -> Result<Event, FileFault>
+    ensures exact { S.tells ≡ true → Gives (λ x. x) result (spot pieces.new (S.left source.new)) (turn_at n begin (spot pieces.old (S.left source.old))) }
+    ensures event { IfOk result (IsEvent n) }
+    ensures cause { HasCause (S.faults source.old) (S.faults source.new) (result ≡ Err Read) }
+{
+    let at = read_replica(pieces, source, n, begin)?;
+    Ok(Event::Turn { at })
+}
+
+#[tactic(auto, using(outside::proofs::Rising::rose_after), unfolding(crate::specs::ReadEvents::pass_at))]
+fn read_pass<S: Source>(
+    pieces: &mut Pieces,
+    source: &mut S,
+    n: u8,
+    begin: u32,
+) -> Result<Event, FileFault>
+    ensures exact { S.tells ≡ true → Gives (λ x. x) result (spot pieces.new (S.left source.new)) (pass_at n begin (spot pieces.old (S.left source.old))) }
+    ensures event { IfOk result (IsEvent n) }
+    ensures cause { HasCause (S.faults source.old) (S.faults source.new) (result ≡ Err Read) }
+{
+    let (from, to) = read_pair(pieces, source, n, begin)?;
+    let m = pieces.number32(source)?;
+    Ok(Event::Pass { from, to, m })
+}
+
+#[tactic(auto, using(outside::proofs::Rising::rose_after), unfolding(crate::specs::ReadEvents::sealed_at))]
+fn read_sealed<S: Source>(
+    alloc: Global,
+    pieces: &mut Pieces,
+    source: &mut S,
+    n: u8,
+    begin: u32,
+) -> Result<Event, FileFault>
+    ensures exact { S.tells ≡ true → Gives (λ x. x) result (spot pieces.new (S.left source.new)) (sealed_at n begin (spot pieces.old (S.left source.old))) }
+    ensures event { IfOk result (IsEvent n) }
+    ensures cause { HasCause (S.faults source.old) (S.faults source.new) (result ≡ Err Read) }
+{
+    let (from, to) = read_pair(pieces, source, n, begin)?;
+    let body = pieces.text(alloc, source)?;
+    Ok(Event::Sealed { from, to, body })
+}
+
+#[tactic(auto, using(outside::proofs::Rising::rose_after), unfolding(crate::specs::ReadEvents::kind_at))]
+fn read_kind<S: Source>(
+    alloc: Global,
+    pieces: &mut Pieces,
+    source: &mut S,
+    n: u8,
+    begin: u32,
+    kind: u8,
+) -> Result<Event, FileFault>
+    ensures exact { S.tells ≡ true → Gives (λ x. x) result (spot pieces.new (S.left source.new)) (kind_at n begin kind (spot pieces.old (S.left source.old))) }
+    ensures event { IfOk result (IsEvent n) }
+    ensures cause { HasCause (S.faults source.old) (S.faults source.new) (result ≡ Err Read) }
+{
+    match kind {
+        1 => read_frame(alloc, pieces, source, n, begin),
+        2 => read_input(alloc, pieces, source, n, begin),
+        3 => read_turn(pieces, source, n, begin),
+        4 => read_pass(pieces, source, n, begin),
+        5 => read_sealed(alloc, pieces, source, n, begin),
+        _ => Err(FileFault::Event(begin)),
+    }
+}
+
+/// The next event, or `None` at the end mark that the end of the file follows.
+#[tactic(auto, using(outside::proofs::Rising::rose_after), unfolding(crate::specs::ReadEvents::event_at))]
+pub fn read_event<S: Source>(
+    alloc: Global,
+    pieces: &mut Pieces,
+    source: &mut S,
+    n: u8,
+) -> Result<Option<Event>, FileFault>
+    ensures exact { S.tells ≡ true → Gives (λ x. x) result (spot pieces.new (S.left source.new)) (event_at n (spot pieces.old (S.left source.old))) }
+    ensures event { IfOk result (λ o. IfSome o (IsEvent n)) }
+    ensures cause { HasCause (S.faults source.old) (S.faults source.new) (result ≡ Err Read) }
+{
+    let begin = pieces.at();
+    let kind = pieces.byte(source)?;
+    if kind == 0 {
+        pieces.end(source)?;
+        return Ok(None);
+    }
+    Ok(Some(read_kind(alloc, pieces, source, n, begin, kind)?))
+}

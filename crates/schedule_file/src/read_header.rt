@@ -1,0 +1,120 @@
+ghost use Rattle.std.specs.Prelude.{◌^◌, ◌≡◌, ◌<◌, ◌≤◌, true, false, Err, IfOk, IsTrue};
+ghost use Rattle.outside.specs.Faults.{HasCause};
+ghost use Rattle.schedule_file.specs.declared.fault.FileFault.TheVariants.{Read};
+ghost use Rattle.schedule_file.specs.FileBytes.{Gives};
+ghost use Rattle.schedule_file.specs.Place.{spot};
+ghost use Rattle.schedule_file.specs.Spelling.{AreKeys, IsHeading};
+ghost use Rattle.ritas_base.specs.Numbers.{IsSession};
+ghost use Rattle.schedule_file.specs.ReadHeader.{heading, is_built, start_at, numbers_at, root_at, vect_at, mask_at, keys_at, header_at};
+
+use crate::fault::FileFault;
+use crate::header::{Header, HeaderKeys};
+use crate::pieces::{Pieces, test};
+use outside::Source;
+use ritas_base::{Mode, Params, SenderSet, Vect};
+
+/// Whether this root service is built.
+fn is_built(root: u8) -> bool
+    ensures value { result ≡ is_built root }
+    ensures root { IsTrue result → (1 ≤ root) × (root ≤ 6) }
+{
+    root == 1
+}
+
+#[tactic(auto, using(outside::proofs::Rising::rose_after), unfolding(crate::specs::ReadHeader::start_at))]
+fn read_start<S: Source>(pieces: &mut Pieces, source: &mut S) -> Result<u64, FileFault>
+    ensures exact { S.tells ≡ true → Gives (λ x. x) result (spot pieces.new (S.left source.new)) (start_at (spot pieces.old (S.left source.old))) }
+    ensures cause { HasCause (S.faults source.old) (S.faults source.new) (result ≡ Err Read) }
+{
+    let magic = pieces.number32(source)?;
+    test(magic == 0x5249_5453, FileFault::Magic)?;
+    let version = pieces.byte(source)?;
+    test(version == 1, FileFault::Version)?;
+    pieces.number64(source)
+}
+
+#[tactic(auto, using(outside::proofs::Rising::rose_after), unfolding(crate::specs::ReadHeader::numbers_at))]
+fn read_numbers<S: Source>(pieces: &mut Pieces, source: &mut S) -> Result<Params, FileFault>
+    ensures exact { S.tells ≡ true → Gives (λ x. x) result (spot pieces.new (S.left source.new)) (numbers_at (spot pieces.old (S.left source.old))) }
+    ensures session { IfOk result IsSession }
+    ensures cause { HasCause (S.faults source.old) (S.faults source.new) (result ≡ Err Read) }
+{
+    let n = pieces.byte(source)?;
+    test(1 <= n && n <= 31, FileFault::Header(13))?;
+    let f = pieces.byte(source)?;
+    match Params::new(n, f) {
+        Ok(p) => Ok(p),
+        Err(_) => Err(FileFault::Header(14)),
+    }
+}
+
+#[tactic(auto, using(outside::proofs::Rising::rose_after), unfolding(crate::specs::ReadHeader::root_at))]
+fn read_root<S: Source>(pieces: &mut Pieces, source: &mut S) -> Result<u8, FileFault>
+    ensures exact { S.tells ≡ true → Gives (λ x. x) result (spot pieces.new (S.left source.new)) (root_at (spot pieces.old (S.left source.old))) }
+    ensures built { IfOk result (λ root. is_built root ≡ true) }
+    ensures root { IfOk result (λ root. (1 ≤ root) × (root ≤ 6)) }
+    ensures cause { HasCause (S.faults source.old) (S.faults source.new) (result ≡ Err Read) }
+{
+    let root = pieces.byte(source)?;
+    test(is_built(root), FileFault::Header(15))?;
+    Ok(root)
+}
+
+#[tactic(auto, using(outside::proofs::Rising::rose_after), unfolding(crate::specs::ReadHeader::vect_at))]
+fn read_vect<S: Source>(pieces: &mut Pieces, source: &mut S) -> Result<Vect, FileFault>
+    ensures exact { S.tells ≡ true → Gives (λ x. x) result (spot pieces.new (S.left source.new)) (vect_at (spot pieces.old (S.left source.old))) }
+    ensures cause { HasCause (S.faults source.old) (S.faults source.new) (result ≡ Err Read) }
+{
+    match pieces.byte(source)? {
+        1 => Ok(Vect::Echo),
+        2 => Ok(Vect::Reliable),
+        _ => Err(FileFault::Header(16)),
+    }
+}
+
+#[tactic(auto, using(outside::proofs::Rising::rose_after), unfolding(crate::specs::ReadHeader::mask_at))]
+fn read_mask<S: Source>(pieces: &mut Pieces, source: &mut S, n: u8) -> Result<SenderSet, FileFault>
+    requires { n < 32 }
+    ensures exact { S.tells ≡ true → Gives (λ x. x) result (spot pieces.new (S.left source.new)) (mask_at n (spot pieces.old (S.left source.old))) }
+    ensures below { IfOk result (λ mask. mask < 2 ^ n) }
+    ensures cause { HasCause (S.faults source.old) (S.faults source.new) (result ≡ Err Read) }
+{
+    let mask = pieces.number32(source)?;
+    test(mask < 1 << n, FileFault::Header(17))?;
+    Ok(SenderSet::from_mask(mask))
+}
+
+#[tactic(auto, using(outside::proofs::Rising::rose_after), unfolding(crate::specs::ReadHeader::keys_at))]
+fn read_keys<S: Source>(pieces: &mut Pieces, source: &mut S) -> Result<HeaderKeys, FileFault>
+    ensures exact { S.tells ≡ true → Gives (λ x. x) result (spot pieces.new (S.left source.new)) (keys_at (spot pieces.old (S.left source.old))) }
+    ensures keys { IfOk result AreKeys }
+    ensures cause { HasCause (S.faults source.old) (S.faults source.new) (result ≡ Err Read) }
+{
+    let form = pieces.byte(source)?;
+    test(form == 0, FileFault::Header(21))?;
+    let mut master = [0; 32];
+    pieces.fill(source, &mut master)?;
+    Ok(HeaderKeys::Master(master))
+}
+
+/// The header, or its first fault.
+#[tactic(auto, using(outside::proofs::Rising::rose_after), unfolding(crate::specs::ReadHeader::header_at))]
+pub fn read_header<S: Source>(pieces: &mut Pieces, source: &mut S) -> Result<Header, FileFault>
+    ensures exact { S.tells ≡ true → Gives heading result (spot pieces.new (S.left source.new)) (header_at (spot pieces.old (S.left source.old))) }
+    ensures header { IfOk result (λ h. IsHeading (heading h)) }
+    ensures cause { HasCause (S.faults source.old) (S.faults source.new) (result ≡ Err Read) }
+{
+    let session = read_start(pieces, source)?;
+    let p = read_numbers(pieces, source)?;
+    let root = read_root(pieces, source)?;
+    let vect = read_vect(pieces, source)?;
+    let correct = read_mask(pieces, source, p.n())?;
+    let keys = read_keys(pieces, source)?;
+    Ok(Header {
+        session,
+        p,
+        mode: Mode { root, vect },
+        correct,
+        keys,
+    })
+}

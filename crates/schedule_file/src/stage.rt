@@ -1,0 +1,12 @@
+use crate::fault::FileFault;
+
+/// How far a file was read.
+#[derive(Clone, Copy, Debug)]
+pub enum Stage {
+    /// Events may follow.
+    Open,
+    /// The end was read.
+    Ended,
+    /// A fault was met.
+    Stopped(FileFault),
+}

@@ -1,0 +1,169 @@
+use crate::{FileFault, HeaderKeys, Reader};
+use outside::{MemSource, Source};
+use ritas_base::{Event, Vect};
+use std::alloc::Global;
+use std::test::*;
+
+// One correct replica, and no event.
+const EMPTY: [u8; 55] = [
+    82, 73, 84, 83, 1, 0, 0, 0, 0, 0, 0, 0, 0, 1, 0, 1, 1, 0, 0, 0, 1, 0, 0, 0, 0, 0, 0, 0, 0, 0,
+    0, 0, 0, 0, 0, 0, 0, 0, 0, 0, 0, 0, 0, 0, 0, 0, 0, 0, 0, 0, 0, 0, 0, 0, 0,
+];
+
+// Two replicas, and one event of each kind.
+const FIVE: [u8; 80] = [
+    82, 73, 84, 83, 1, 0, 0, 0, 0, 0, 0, 0, 7, 2, 0, 1, 2, 0, 0, 0, 2, 0, 9, 0, 0, 0, 0, 0, 0, 0,
+    0, 0, 0, 0, 0, 0, 0, 0, 0, 0, 0, 0, 0, 0, 0, 0, 0, 0, 0, 0, 0, 0, 0, 0, 1, 0, 0, 2, 97, 98, 2,
+    1, 0, 1, 99, 3, 1, 4, 0, 1, 0, 0, 1, 4, 5, 1, 0, 0, 0, 0,
+];
+
+// What a file comes to: how many events, and then its fault, if it has one. What follows is to be answered again.
+fn outcome<S: Source>(alloc: Global, source: &mut S) -> (u32, Option<FileFault>) {
+    let mut reader = match Reader::start(alloc, source) {
+        Ok((_, reader)) => reader,
+        Err(fault) => return (0, Some(fault)),
+    };
+    for count in 0..1_000 {
+        match reader.next(alloc, source) {
+            Ok(Some(_)) => {}
+            Ok(None) => {
+                let stays = matches!(reader.next(alloc, source), Ok(None));
+                return (if stays { count } else { 7_777 }, None);
+            }
+            Err(fault) => {
+                let stays = reader.next(alloc, source).err() == Some(fault);
+                return (if stays { count } else { 7_777 }, Some(fault));
+            }
+        }
+    }
+    (9_999, None)
+}
+
+// One place of the empty file changed, and what follows it.
+#[test]
+fn faults_by_place(rt: HostRuntime) -> Result<(), Fail> {
+    let cases = [
+        (3, 0x58, FileFault::Magic),
+        (4, 3, FileFault::Version),
+        (13, 0, FileFault::Header(13)),
+        (13, 32, FileFault::Header(13)),
+        (14, 1, FileFault::Header(14)),
+        (15, 0, FileFault::Header(15)),
+        (15, 8, FileFault::Header(15)),
+        (16, 0, FileFault::Header(16)),
+        (16, 3, FileFault::Header(16)),
+        (20, 2, FileFault::Header(17)),
+        (21, 2, FileFault::Header(21)),
+        (54, 6, FileFault::Event(54)),
+    ];
+    for (at, value, fault) in cases {
+        let mut bytes = EMPTY;
+        if at < bytes.len() {
+            bytes[at] = value;
+        }
+        let mut source = MemSource::new(rt.alloc(), &bytes, &[])?;
+        assert_eq!(rt; outcome(rt.alloc(), &mut source), (0, Some(fault)));
+    }
+    Ok(())
+}
+
+// Bytes in place of the empty file's end mark.
+#[test]
+fn faults_of_events(rt: HostRuntime) -> Result<(), Fail> {
+    let cases: [(&[u8], (u32, Option<FileFault>)); 8] = [
+        (&[0], (0, None)),
+        (&[0, 0], (0, Some(FileFault::Trailing(55)))),
+        (&[3, 0, 0], (1, None)),
+        (&[3, 0, 3, 1], (1, Some(FileFault::Event(56)))),
+        (&[1, 1], (0, Some(FileFault::Event(54)))),
+        (&[2, 0, 0, 3, 1, 2], (0, Some(FileFault::Truncated(60)))),
+        (&[4, 0, 0], (0, Some(FileFault::Event(54)))),
+        (&[5, 1, 0], (0, Some(FileFault::Event(54)))),
+    ];
+    for (events, want) in cases {
+        let mut bytes = Vec::from_slice(rt.alloc(), &EMPTY[..54])?;
+        bytes.extend_from_slice(events)?;
+        let mut source = MemSource::new(rt.alloc(), &bytes, &[])?;
+        assert_eq!(rt; outcome(rt.alloc(), &mut source), want);
+    }
+    Ok(())
+}
+
+#[test]
+fn truncated_anywhere(rt: HostRuntime) -> Result<(), Fail> {
+    for k in 0..FIVE.len() {
+        let mut source = MemSource::new(rt.alloc(), &FIVE[..k], &[])?;
+        assert_eq!(rt;
+            outcome(rt.alloc(), &mut source).1,
+            Some(FileFault::Truncated(k as u32))
+        );
+    }
+    let mut source = MemSource::new(rt.alloc(), &FIVE, &[])?;
+    assert_eq!(rt; outcome(rt.alloc(), &mut source), (5, None));
+    Ok(())
+}
+
+// A file that comes in several pieces, and a source that fails between them.
+#[test]
+fn pieces(rt: HostRuntime) -> Result<(), Fail> {
+    let mut bytes = Vec::from_slice(rt.alloc(), &EMPTY[..54])?;
+    for _ in 0..4 {
+        bytes.extend_from_slice(&[1, 0, 0x20, 0])?;
+        bytes.extend_from_slice(&[b'x'; 8_192])?;
+    }
+    bytes.push(0)?;
+    let cases: [(&[u64], (u32, Option<FileFault>)); 4] = [
+        (&[], (4, None)),
+        (&[0], (0, Some(FileFault::Read))),
+        (&[1], (0, Some(FileFault::Read))),
+        (&[5], (2, Some(FileFault::Read))),
+    ];
+    for (fails, want) in cases {
+        let mut source = MemSource::new(rt.alloc(), &bytes, fails)?;
+        assert_eq!(rt; outcome(rt.alloc(), &mut source), want);
+    }
+    Ok(())
+}
+
+#[test]
+fn all_fields(rt: HostRuntime) -> Result<(), Fail> {
+    let mut source = MemSource::new(rt.alloc(), &FIVE, &[])?;
+    let (header, mut reader) = Reader::start(rt.alloc(), &mut source)?;
+    assert_eq!(rt; (header.session, header.p.n(), header.p.f()), (7, 2, 0));
+    assert_eq!(rt;
+        (header.mode.root, header.mode.vect, header.correct.mask()),
+        (1, Vect::Reliable, 2)
+    );
+    let HeaderKeys::Master(master) = header.keys;
+    assert_eq!(rt; (master[0], master[1]), (9, 0));
+    let frame = reader.next(rt.alloc(), &mut source);
+    assert!(rt;
+        matches!(&frame, Ok(Some(Event::Frame { to: 0, bytes })) if bytes.as_slice() == b"ab".as_slice())
+    );
+    let input = reader.next(rt.alloc(), &mut source);
+    assert!(rt;
+        matches!(&input, Ok(Some(Event::Input { at: 1, bytes })) if bytes.as_slice() == b"c".as_slice())
+    );
+    assert!(rt;
+        matches!(
+            reader.next(rt.alloc(), &mut source),
+            Ok(Some(Event::Turn { at: 1 }))
+        )
+    );
+    assert!(rt;
+        matches!(
+            reader.next(rt.alloc(), &mut source),
+            Ok(Some(Event::Pass {
+                from: 0,
+                to: 1,
+                m: 260
+            }))
+        )
+    );
+    let sealed = reader.next(rt.alloc(), &mut source);
+    assert!(rt;
+        matches!(&sealed, Ok(Some(Event::Sealed { from: 1, to: 0, body })) if body.as_slice().is_empty())
+    );
+    assert!(rt; matches!(reader.next(rt.alloc(), &mut source), Ok(None)));
+    Ok(())
+}
