@@ -1,0 +1,100 @@
+-- Events that a loop takes one after the other, the newest first: what it has so far, and what reading on gives.
+use Rattle.std.proofs.Common.{◌≡◌, ℕ, suc, ◌-◌, ◌+◌, ◌≤◌, ◌<◌, List, [], ◌∷◌, ◌++◌, reverse, Some, None, Result, Ok, Err, refl, sym, ap, subst, ◌∙◌, append_assoc, arith}
+use Rattle.std.proofs.lemmas.List.{append-nil, reverse-append}
+use Rattle.ritas_base.specs.declared.event.Event.{Event}
+use Rattle.schedule_file.specs.declared.fault.FileFault.{FileFault}
+use Rattle.schedule_file.specs.declared.fault.FileFault.TheVariants.{TooLong}
+use Rattle.schedule_file.specs.Reading.{◌>>=◌, Spot, start_of}
+use Rattle.schedule_file.specs.FileBytes.{limit, Fails}
+use Rattle.schedule_file.specs.ReadHeader.{Heading, header_at}
+use Rattle.schedule_file.specs.ReadEvents.{event_at, events_at}
+use Rattle.schedule_file.specs.Schedule.{file_of}
+use Rattle.schedule_file.specs.Spelling.{IsEvent}
+use Rattle.ritas_base.specs.declared.event.Event.TheVariants.{Frame, Input, Turn, Pass, Sealed}
+use Rattle.world_model.specs.Stands.{MayHappen}
+use Rattle.ritas.specs.Onto.{onto}
+
+regroup : (h : List Event) (e : Event) (read : Result (List Event) FileFault) → onto h (read >>= λ es. Ok (e ∷ es)) ≡ onto (e ∷ h) read
+regroup h e (Ok es) = ap (λ (l : List Event). Ok l) (ap (λ (l : List Event). l ++ h) (reverse-append (e ∷ []) es) ∙ append_assoc (reverse es) (e ∷ []) h)
+regroup h e (Err f) = refl
+
+-- an event was taken
+pub goes_on : (h : List Event) (most i n : ℕ) (s : Spot) (e : Event) (next : Spot) (total : Result (List Event) FileFault) → i < most → event_at n s ≡ Ok (Some e, next)
+    → onto h (events_at (most - i) n s) ≡ total → onto (e ∷ h) (events_at (most - (i + 1)) n next) ≡ total
+unfolding events_at
+goes_on h most i n s e next total lt read so_far =
+    let k : most - i ≡ suc (most - (i + 1)) = omega arith in
+    let one : onto h (events_at (most - i) n s) ≡ onto (e ∷ h) (events_at (most - (i + 1)) n next) = rw (k, read) (regroup h e (events_at (most - (i + 1)) n next)) in
+    sym one ∙ so_far
+
+-- a fault was met
+pub fails : (x : FileFault) (h : List Event) (most i n : ℕ) (s : Spot) (total : Result (List Event) FileFault) → i < most → Fails x (event_at n s)
+    → onto h (events_at (most - i) n s) ≡ total → Fails x total
+unfolding events_at
+fails x h most i n s total lt read so_far = λ own.
+    let k : most - i ≡ suc (most - (i + 1)) = omega arith in
+    let one : onto h (events_at (most - i) n s) ≡ Err x = rw (k, read own) refl in
+    sym so_far ∙ one
+
+-- the end was met
+pub ends : (h : List Event) (most i n : ℕ) (s next : Spot) (total : Result (List Event) FileFault) → i < most → event_at n s ≡ Ok (None, next)
+    → onto h (events_at (most - i) n s) ≡ total → total ≡ Ok h
+unfolding events_at
+ends h most i n s next total lt read so_far =
+    let k : most - i ≡ suc (most - (i + 1)) = omega arith in
+    let one : onto h (events_at (most - i) n s) ≡ Ok h = rw (k, read) refl in
+    sym so_far ∙ one
+
+-- as many events were taken as no file has
+pub too_many : (h : List Event) (most i n : ℕ) (s : Spot) (total : Result (List Event) FileFault) → most ≤ i → onto h (events_at (most - i) n s) ≡ total → total ≡ Err TooLong
+unfolding events_at
+too_many h most i n s total le so_far =
+    let k : most - i ≡ 0 = omega arith in
+    let one : onto h (events_at (most - i) n s) ≡ Err TooLong = rw k refl in
+    sym so_far ∙ one
+
+-- ---- the file
+
+-- events behind a header
+abbrev pub behind : Heading → Result (List Event) FileFault → Result (Heading × List Event) FileFault
+behind h read = read >>= λ es. Ok (h, es)
+
+abbrev reversed : Heading → Result (List Event) FileFault → Result (Heading × List Event) FileFault
+reversed h read = read >>= λ es. Ok (h, reverse es)
+
+all_onto : (h : Heading) (read : Result (List Event) FileFault) → reversed h read ≡ behind h (onto [] read)
+all_onto h (Ok es) = ap (λ (l : List Event). Ok (h, l)) (sym (append-nil (reverse es)))
+all_onto h (Err f) = refl
+
+-- what a file says, once its header was read
+pub file_from : (bytes : List ℕ) (h : Heading) (next : Spot) → header_at (start_of bytes) ≡ Ok (h, next) → file_of bytes ≡ behind h (onto [] (events_at (limit + 1) h.p.n next))
+unfolding file_of
+file_from bytes h next read = rw read (all_onto h (events_at (limit + 1) h.p.n next))
+
+-- a fault of the header is one of the file
+pub file_fails : (bytes : List ℕ) (x : FileFault) → Fails x (header_at (start_of bytes)) → Fails x (file_of bytes)
+unfolding file_of
+file_fails bytes x read = λ own. rw (read own) refl
+
+-- ---- what a header and the events behind it give
+
+pub file_reads : (bytes : List ℕ) (h : Heading) (next : Spot) (n : ℕ) (es : List Event) → n ≡ h.p.n → header_at (start_of bytes) ≡ Ok (h, next)
+    → onto [] (events_at (limit + 1) n next) ≡ Ok es → file_of bytes ≡ Ok (h, es)
+file_reads bytes h next n es same read events =
+    let there : onto [] (events_at (limit + 1) h.p.n next) ≡ Ok es = subst (λ (m : ℕ). onto [] (events_at (limit + 1) m next) ≡ Ok es) same events in
+    file_from bytes h next read ∙ ap (behind h) there
+
+pub events_fail : (bytes : List ℕ) (h : Heading) (next : Spot) (n : ℕ) (x : FileFault) → n ≡ h.p.n → header_at (start_of bytes) ≡ Ok (h, next)
+    → Fails x (onto [] (events_at (limit + 1) n next)) → Fails x (file_of bytes)
+events_fail bytes h next n x same read events = λ own.
+    let there : onto [] (events_at (limit + 1) h.p.n next) ≡ Err x = subst (λ (m : ℕ). onto [] (events_at (limit + 1) m next) ≡ Err x) same (events own) in
+    file_from bytes h next read ∙ ap (behind h) there
+
+-- ---- an event of a file may happen
+
+pub may_happen : (n : ℕ) (e : Event) → IsEvent n e → MayHappen n e
+may_happen n (Frame to bytes) is = is.0
+may_happen n (Input at bytes) is = is.0
+may_happen n (Turn at) is = is
+may_happen n (Pass from to m) is = (is.0.sender, is.0.receiver, is.0.other)
+may_happen n (Sealed from to body) is = (is.0.sender, is.0.receiver, is.0.other)

@@ -1,0 +1,7 @@
+pub mod Feeding
+pub mod Files
+pub mod Deals
+pub mod Written
+pub mod Outs
+pub mod Totals
+pub mod Dealt

@@ -1,0 +1,36 @@
+use Rattle.std.proofs.Common.{sym, ◌∙◌, inl, inr, arith}
+use Rattle.schedule_file.specs.Schedule.{file_of}
+use Rattle.schedule_file.specs.Spelling.{IsFile}
+use Rattle.schedule_file.specs.ReadHeader.{heading}
+use Rattle.world_model.specs.Audit.{audit_of}
+use Rattle.ritas.specs.Layers.{setting_of}
+use Rattle.ritas.proofs.Deals.{plain, is_deal, deal_of, header_of, file_or_fault, fault_above_1, holds_at_0}
+use Rattle.ritas.proofs.run.run.Goals as goal
+
+pub returns-clause-every : goal.returns-clause-every
+returns-clause-every g c = λ words tells h es is not_4.
+    c.run_exactly.ensures.report words tells h es (c.file_laws.ensures.only (g.S.Source.left c.args.input.now) (heading h) es is) not_4
+
+pub returns-clause-only : goal.returns-clause-only
+returns-clause-only g c = λ words tells fits low.
+    let bytes = g.S.Source.left c.args.input.now in
+    elim (file_or_fault (file_of bytes)) [
+      | inl x ↦
+          let is = c.file_laws.ensures.found bytes x.0.0 x.0.1 fits x.1 in
+          let h = header_of x.0.0 is.header in
+          let file : IsFile bytes (heading h.0) x.0.1 = rw h.1 is in
+          let ends = c.run_exactly.ensures.report words tells h.0 x.0.1 (c.file_laws.ensures.only bytes (heading h.0) x.0.1 file) (λ e. omega (arith, e, low)) in
+          (h.0, x.0.1, file, ends.answer (λ e. omega (arith, e, low)) (λ e. omega (arith, e, low)))
+      | inr e ↦
+          let ends = c.run_exactly.ensures.refused words tells e.0 e.1 (λ e. omega (arith, e, low)) in
+          let own = ends.answer (λ e. omega (arith, e, low)) (λ e. omega (arith, e, low)) in
+          absurd (omega (arith, own, low, fault_above_1 e.0))
+    ]
+
+pub returns-clause-agree : goal.returns-clause-agree
+returns-clause-agree g c = λ words tells fits none h es is.
+    let bytes = g.S.Source.left c.args.input.now in
+    let ends = c.run_exactly.ensures.report words tells h es (c.file_laws.ensures.only bytes (heading h) es is) (λ e. omega (arith, e, none)) in
+    let own = ends.answer (λ e. omega (arith, e, none)) (λ e. omega (arith, e, none)) in
+    let holds = holds_at_0 (audit_of (setting_of h) es) (sym own ∙ none) in
+    c.one_value.ensures (deal_of h) es plain (is_deal h is.header) holds

@@ -1,0 +1,5 @@
+pub mod Layers
+pub mod Report
+pub mod Run
+pub mod Replayed
+pub mod Onto

@@ -1,0 +1,148 @@
+-- The texts that the program writes. Lists of events have the newest first.
+use Rattle.std.specs.Prelude.{ℕ, ◌%◌, ◌^◌, List, [], ◌∷◌, ◌++◌, length, filter, codes, decimal, Option, Some, None}
+use Rattle.std.specs.List.{flat_map, range_with_len}
+use Rattle.hex.specs.Hex.{encode_lower}
+use Rattle.ritas_base.specs.declared.event.Event.{Event}
+use Rattle.ritas_base.specs.declared.mode.Vect.{Vect}
+use Rattle.ritas_base.specs.declared.mode.Vect.TheVariants.{Echo, Reliable}
+use Rattle.layer_api.specs.Service.{command_slot}
+use Rattle.keyed_channel.specs.KeyRow.{KeyRow}
+use Rattle.ritas_core.specs.Rules.{Rules}
+use Rattle.ritas_core.specs.Parts.{Entry}
+use Rattle.ritas_core.specs.Machine.{CoreState}
+use Rattle.ritas_core.specs.Shown.{all_bytes, delivered_at}
+use Rattle.replica.specs.Stands.{frames_made}
+use Rattle.schedule_file.specs.declared.fault.FileFault.{FileFault}
+use Rattle.schedule_file.specs.declared.fault.FileFault.TheVariants as faults
+use Rattle.schedule_file.specs.declared.header.Header.{Header}
+use Rattle.world_model.specs.declared.audit.Audit.{Audit}
+use Rattle.world_model.specs.declared.audit.Audit.TheVariants as audits
+use Rattle.world_model.specs.World.{Setting, rules_at, states_of}
+use Rattle.world_model.specs.declared.counts.Counts.{Counts}
+use Rattle.world_model.specs.Counts.{counts_of}
+use Rattle.world_model.specs.Audit.{audit_of}
+use Rattle.ritas.specs.Layers.{setting_of}
+
+abbrev pub end_of_line : List ℕ
+end_of_line = 10 ∷ []
+
+abbrev pub vect_name : Vect → List ℕ
+vect_name Echo = codes "echo"
+vect_name Reliable = codes "reliable"
+
+-- which session it is
+abbrev pub head_line : Header → List ℕ
+head_line h =
+    codes "ritas n=" ++ (decimal h.p.n ++ (codes " f=" ++ (decimal h.p.f ++ (codes " root=" ++ (decimal h.mode.root
+    ++ (codes " vect=" ++ (vect_name h.mode.vect ++ (codes " session=" ++ (decimal h.session ++ end_of_line)))))))))
+
+-- how many events there were, and how many were answered in each way
+abbrev pub answered_part : ℕ → Counts → List ℕ
+answered_part events c =
+    codes "events " ++ (decimal events ++ (codes " took " ++ (decimal c.took ++ (codes " held " ++ (decimal c.held
+    ++ (codes " repeat " ++ (decimal c.repeat ++ (codes " idle " ++ (decimal c.idle ++ (codes " missed " ++ decimal c.missed))))))))))
+
+abbrev pub refused_part : Counts → List ℕ
+refused_part c =
+    codes " open " ++ (decimal c.open_faults ++ (codes " body " ++ (decimal c.body_faults ++ (codes " core "
+    ++ (decimal c.core_faults ++ end_of_line)))))
+
+abbrev pub count_line : ℕ → Counts → List ℕ
+count_line events c = answered_part events c ++ refused_part c
+
+-- how a replica stands: frames made, items that wait, bytes held
+abbrev pub numbers_line : ℕ → ℕ → ℕ → ℕ → List ℕ
+numbers_line i sent inbox held =
+    codes "replica " ++ (decimal i ++ (codes " sent " ++ (decimal sent ++ (codes " inbox " ++ (decimal inbox
+    ++ (codes " held " ++ (decimal held ++ end_of_line)))))))
+
+abbrev pub replica_line : ℕ → ℕ → CoreState → List ℕ
+replica_line i sent st = numbers_line i sent (length st.inbox) (all_bytes st.held)
+
+-- a command that was delivered
+abbrev pub out_line : ℕ → ℕ → Option (List ℕ) → List ℕ
+out_line origin num None = []
+out_line origin num (Some value) =
+    codes "out " ++ (decimal origin ++ (codes "." ++ (decimal num ++ (codes " " ++ (encode_lower value ++ end_of_line)))))
+
+-- how many command numbers there are
+unfoldable pub number_limit : ℕ
+number_limit = 1000000
+
+-- the commands of an origin that a replica delivered, by number
+abbrev pub origin_lines : (ℕ → Option (List ℕ)) → ℕ → List ℕ
+origin_lines outs origin = flat_map (λ num. out_line origin num (outs num)) (range_with_len 0 number_limit)
+
+-- what was delivered in a history of an origin's commands
+abbrev pub outs_of : Rules → List Entry → ℕ → ℕ → Option (List ℕ)
+outs_of r h origin num = delivered_at r h (command_slot origin num)
+
+-- all commands that were delivered in a history, by origin and number
+abbrev pub out_lines : Rules → List Entry → List ℕ
+out_lines r h = flat_map (λ origin. origin_lines (outs_of r h origin) origin) (range_with_len 0 r.casts.numbers.n)
+
+-- how a replica stands that is in this state, and what it delivered
+abbrev pub lines_of : ℕ → Rules → KeyRow → CoreState → List ℕ
+lines_of i r k st = replica_line i (frames_made r k st.history % 2 ^ 64) st ++ out_lines r st.history
+
+abbrev pub replica_lines : Setting → List Event → ℕ → List ℕ
+replica_lines w es i = lines_of i (rules_at w i) (w.keys i) (states_of w es i)
+
+abbrev pub audit_line : Audit → List ℕ
+audit_line audits.Holds = codes "audit holds" ++ end_of_line
+audit_line audits.TooManyFaulty = codes "audit too many faulty" ++ end_of_line
+audit_line (audits.Forged k) = codes "audit forged at " ++ (decimal k ++ end_of_line)
+audit_line (audits.Collision k) = codes "audit collision at " ++ (decimal k ++ end_of_line)
+
+-- the report of a world after these events
+unfoldable pub report_on : Header → Setting → List Event → List ℕ
+report_on h w es =
+    head_line h
+    ++ (count_line (length es) (counts_of w es)
+    ++ (flat_map (replica_lines w es) (filter w.is_correct (range_with_len 0 w.numbers.n))
+    ++ audit_line (audit_of w es)))
+
+-- the report of a schedule
+abbrev pub report : Header → List Event → List ℕ
+report h es = report_on h (setting_of h) es
+
+-- 0 where the audit holds, and else 1
+abbrev pub audit_status : Audit → ℕ
+audit_status audits.Holds = 0
+audit_status audits.TooManyFaulty = 1
+audit_status (audits.Forged k) = 1
+audit_status (audits.Collision k) = 1
+
+abbrev pub report_status : Header → List Event → ℕ
+report_status h es = audit_status (audit_of (setting_of h) es)
+
+-- ---- what is written where there is no report
+
+abbrev pub usage : List ℕ
+usage = codes "usage: ritas replay report|frames, drive report|schedule, keys, node, cluster, submit" ++ end_of_line
+
+abbrev pub placed : List ℕ → ℕ → List ℕ
+placed name place = codes "input " ++ (name ++ (codes " at " ++ (decimal place ++ end_of_line)))
+
+-- the line of a file's fault. A fault of the source or of memory has none
+abbrev pub fault_text : FileFault → List ℕ
+fault_text faults.Magic = placed (codes "magic") 0
+fault_text faults.Version = placed (codes "version") 4
+fault_text (faults.Header p) = placed (codes "header") p
+fault_text (faults.Event p) = placed (codes "event") p
+fault_text (faults.Truncated p) = placed (codes "truncated") p
+fault_text (faults.Trailing p) = placed (codes "trailing") p
+fault_text faults.TooLong = codes "limit 67108864" ++ end_of_line
+fault_text faults.Read = []
+fault_text faults.Mem = []
+
+abbrev pub fault_status : FileFault → ℕ
+fault_status faults.Magic = 3
+fault_status faults.Version = 3
+fault_status (faults.Header p) = 3
+fault_status (faults.Event p) = 3
+fault_status (faults.Truncated p) = 3
+fault_status (faults.Trailing p) = 3
+fault_status faults.TooLong = 7
+fault_status faults.Read = 4
+fault_status faults.Mem = 8

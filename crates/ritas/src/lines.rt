@@ -1,0 +1,143 @@
+//! The lines of a report, and those that are written where there is none.
+ghost use Rattle.std.specs.Prelude.{◌≡◌, ◌++◌, ◌%◌, ◌^◌, IfOk, string_bytes, codes, Some, None};
+ghost use Rattle.ritas.specs.Report.{head_line, answered_part, refused_part, count_line, vect_name, out_line, audit_line, placed, fault_text, fault_status, audit_status, numbers_line};
+
+use ritas_base::Vect;
+use schedule_file::{FileFault, Header};
+use std::alloc::{AllocError, Global};
+use world_model::{Audit, Counts};
+
+fn vect_name(vect: Vect) -> &'static str
+    ensures { result.now ≡ vect_name vect }
+{
+    match vect {
+        Vect::Echo => "echo",
+        Vect::Reliable => "reliable",
+    }
+}
+
+/// The line that says which session it is.
+pub(crate) fn head_line(alloc: Global, header: &Header) -> Result<String, AllocError>
+    ensures { IfOk result (λ s. string_bytes s ≡ head_line header.now) }
+{
+    let n = header.p.n();
+    let f = header.p.f();
+    let root = header.mode.root;
+    let vect = vect_name(header.mode.vect);
+    let session = header.session;
+    format!(in alloc; "ritas n={n} f={f} root={root} vect={vect} session={session}\n")
+}
+
+fn answered_part(alloc: Global, events: u64, counts: &Counts) -> Result<String, AllocError>
+    ensures { IfOk result (λ s. string_bytes s ≡ answered_part events counts.now) }
+{
+    let took = counts.took;
+    let held = counts.held;
+    let repeat = counts.repeat;
+    let idle = counts.idle;
+    let missed = counts.missed;
+    format!(in alloc;
+        "events {events} took {took} held {held} repeat {repeat} idle {idle} missed {missed}"
+    )
+}
+
+fn refused_part(alloc: Global, counts: &Counts) -> Result<String, AllocError>
+    ensures { IfOk result (λ s. string_bytes s ≡ refused_part counts.now) }
+{
+    let open = counts.open_faults;
+    let body = counts.body_faults;
+    let core = counts.core_faults;
+    format!(in alloc; " open {open} body {body} core {core}\n")
+}
+
+/// The line that counts the events and their answers.
+pub(crate) fn count_line(alloc: Global, events: u64, counts: &Counts) -> Result<String, AllocError>
+    ensures { IfOk result (λ s. string_bytes s ≡ count_line events counts.now) }
+{
+    let mut line = answered_part(alloc, events, counts)?;
+    let rest = refused_part(alloc, counts)?;
+    line.push_str(rest.as_str())?;
+    Ok(line)
+}
+
+/// The line that says how a replica stands.
+pub(crate) fn replica_line(
+    alloc: Global,
+    i: u8,
+    sent: u64,
+    inbox: usize,
+    held: u64,
+) -> Result<String, AllocError>
+    ensures { IfOk result (λ s. string_bytes s ≡ numbers_line i sent inbox held) }
+{
+    format!(in alloc; "replica {i} sent {sent} inbox {inbox} held {held}\n")
+}
+
+/// The line of a command that was delivered.
+pub(crate) fn out_line(
+    alloc: Global,
+    origin: u8,
+    num: u32,
+    value: &[u8],
+) -> Result<String, AllocError>
+    ensures { IfOk result (λ s. string_bytes s ≡ out_line origin num (Some value.now)) }
+{
+    let text = hex::encode(alloc, value)?;
+    format!(in alloc; "out {origin}.{num} {text}\n")
+}
+
+/// The line that says what the audit found.
+pub(crate) fn audit_line(alloc: Global, audit: Audit) -> Result<String, AllocError>
+    ensures { IfOk result (λ s. string_bytes s ≡ audit_line audit) }
+{
+    match audit {
+        Audit::Holds => String::from_str(alloc, "audit holds\n"),
+        Audit::TooManyFaulty => String::from_str(alloc, "audit too many faulty\n"),
+        Audit::Forged(k) => format!(in alloc; "audit forged at {k}\n"),
+        Audit::Collision(k) => format!(in alloc; "audit collision at {k}\n"),
+    }
+}
+
+/// The status that an audit gives: 0 where it holds, and else 1.
+pub(crate) fn audit_status(audit: Audit) -> u8
+    ensures { result ≡ audit_status audit }
+{
+    match audit {
+        Audit::Holds => 0,
+        _ => 1,
+    }
+}
+
+/// The line that names a fault of a file and its place.
+pub(crate) fn fault_text(alloc: Global, fault: FileFault) -> Result<String, AllocError>
+    ensures { IfOk result (λ s. string_bytes s ≡ fault_text fault) }
+{
+    match fault {
+        FileFault::Magic => placed(alloc, "magic", 0),
+        FileFault::Version => placed(alloc, "version", 4),
+        FileFault::Header(place) => placed(alloc, "header", place),
+        FileFault::Event(place) => placed(alloc, "event", place),
+        FileFault::Truncated(place) => placed(alloc, "truncated", place),
+        FileFault::Trailing(place) => placed(alloc, "trailing", place),
+        FileFault::TooLong => String::from_str(alloc, "limit 67108864\n"),
+        FileFault::Read | FileFault::Mem => Ok(String::new(alloc)),
+    }
+}
+
+/// The status that a fault of a file gives.
+pub(crate) fn fault_status(fault: FileFault) -> u8
+    ensures { result ≡ fault_status fault }
+{
+    match fault {
+        FileFault::TooLong => 7,
+        FileFault::Read => 4,
+        FileFault::Mem => 8,
+        _ => 3,
+    }
+}
+
+fn placed(alloc: Global, name: &str, place: u32) -> Result<String, AllocError>
+    ensures { IfOk result (λ s. string_bytes s ≡ placed name.now place) }
+{
+    format!(in alloc; "input {name} at {place}\n")
+}

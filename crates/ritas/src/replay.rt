@@ -1,0 +1,107 @@
+//! Reading a schedule, and replaying it as it is read.
+ghost use Rattle.std.specs.Prelude.{◌≡◌, ◌<◌, ◌≤◌, ◌+◌, ◌-◌, ◌^◌, List, [], ◌∷◌, true, Ok, Err, OnOk, IfOk, MatchResult};
+ghost use Rattle.outside.specs.Faults.{HasCause};
+ghost use Rattle.ritas_base.specs.declared.event.Event.{Event};
+ghost use Rattle.schedule_file.specs.declared.fault.FileFault.TheVariants.{Read};
+ghost use Rattle.schedule_file.specs.declared.stage.Stage.TheVariants.{Open};
+ghost use Rattle.schedule_file.specs.FileBytes.{Fails};
+ghost use Rattle.schedule_file.specs.Place.{spot};
+ghost use Rattle.schedule_file.specs.ReadEvents.{events_at};
+ghost use Rattle.schedule_file.specs.ReadHeader.{heading};
+ghost use Rattle.schedule_file.specs.Schedule.{file_of};
+ghost use Rattle.schedule_file.specs.Spelling.{IsHeading};
+ghost use Rattle.world_model.specs.Counts.{total};
+ghost use Rattle.world_model.specs.Stands.{MayHappen};
+ghost use Rattle.ritas.specs.Onto.{onto};
+ghost use Rattle.ritas.specs.Replayed.{StandsFor};
+
+use crate::deal::{deal_coins, deal_keys};
+use atomic_bcast::CmdRoot;
+use keyed_channel::SeedCoin;
+use outside::Source;
+use reliable_bcast::Rb;
+use ritas_base::{Event, Mem};
+use schedule_file::{FileFault, Header, Reader};
+use std::alloc::Global;
+use world_model::{Counts, World};
+
+/// A schedule's header, its world after the events, and how these were answered.
+#[derive(Drop)]
+pub(crate) struct Replayed {
+    pub(crate) header: Header,
+    pub(crate) world: World<CmdRoot, Rb, SeedCoin>,
+    pub(crate) counts: Counts,
+}
+
+impl Replayed {
+    // The world of a header, before any event.
+    fn new(alloc: Global, header: Header) -> Result<Replayed, Mem>
+        requires { IsHeading (heading header) }
+        ensures stands { IfOk result (λ x. StandsFor x []) }
+        ensures header { IfOk result (λ x. x.header ≡ header) }
+        ensures none { IfOk result (λ x. total x.counts ≡ 0) }
+    {
+        let keys = deal_keys(alloc, &header)?;
+        let coins = deal_coins(alloc, &header)?;
+        let world = World::new(alloc, header.p, header.mode, header.correct, keys, coins)?;
+        Ok(Replayed {
+            header,
+            world,
+            counts: Counts::new(),
+        })
+    }
+
+    // Lets one event more happen.
+    fn step(&mut self, alloc: Global, event: &Event) -> Result<(), Mem>
+        requires { total self.old.counts < 2 ^ 64 - 1 }
+        ensures stands { (es : List Event) → StandsFor self.old es → MayHappen self.old.header.p.n event.now
+            → OnOk result (StandsFor self.new (event.now ∷ es)) }
+        ensures header { self.new.header ≡ self.old.header }
+        ensures one { total self.new.counts ≤ total self.old.counts + 1 }
+    {
+        let seen = self.world.event(alloc, event)?;
+        self.counts.count(&seen);
+        Ok(())
+    }
+
+    // Takes the events up to the end of the file.
+    fn play<S: Source>(
+        &mut self,
+        alloc: Global,
+        reader: &mut Reader,
+        input: &mut S,
+    ) -> Result<(), FileFault>
+        requires open { reader.old.stage ≡ Open }
+        requires n { reader.old.n ≡ self.old.header.p.n }
+        requires none { total self.old.counts ≡ 0 }
+        ensures exact { S.tells ≡ true → (before : List Event) → StandsFor self.old before → MatchResult result
+            (λ _. (es : List Event) × StandsFor self.new es
+            × (onto before (events_at 67108865 reader.old.n (spot reader.old.held (S.left input.old))) ≡ Ok es))
+            (λ e. Fails e (onto before (events_at 67108865 reader.old.n (spot reader.old.held (S.left input.old))))) }
+        ensures header { self.new.header ≡ self.old.header }
+        ensures cause { HasCause (S.faults input.old) (S.faults input.new) (result ≡ Err Read) }
+    {
+        for _ in 0..67_108_865u32 {
+            match reader.next(alloc, input)? {
+                None => return Ok(()),
+                Some(event) => self.step(alloc, &event)?,
+            }
+        }
+        Err(FileFault::TooLong)
+    }
+}
+
+/// Reads a schedule to its end, and replays its events as they are read.
+///
+/// `Read` is answered only where the source failed.
+pub(crate) fn load<S: Source>(alloc: Global, input: &mut S) -> Result<Replayed, FileFault>
+    ensures exact { S.tells ≡ true → MatchResult result
+        (λ x. (es : List Event) × (file_of (S.left input.old) ≡ Ok (heading x.header, es)) × StandsFor x es)
+        (λ e. Fails e (file_of (S.left input.old))) }
+    ensures cause { HasCause (S.faults input.old) (S.faults input.new) (result ≡ Err Read) }
+{
+    let (header, mut reader) = Reader::start(alloc, input)?;
+    let mut replayed = Replayed::new(alloc, header)?;
+    replayed.play(alloc, &mut reader, input)?;
+    Ok(replayed)
+}

@@ -1,0 +1,166 @@
+//! The text of a report.
+ghost use Rattle.std.specs.Prelude.{◌≡◌, ◌<◌, ◌++◌, List, true, Some, OnOk, IfOk, string_bytes, filter};
+ghost use Rattle.std.specs.List.{flat_map, range_with_len};
+ghost use Rattle.ritas_base.specs.declared.event.Event.{Event};
+ghost use Rattle.keyed_channel.specs.Keyed.{tags_of};
+ghost use Rattle.keyed_channel.specs.KeyRow.{KeyRow};
+ghost use Rattle.layer_api.specs.Service.{command_slot};
+ghost use Rattle.replica.specs.Replica.{ReplicaStands};
+ghost use Rattle.ritas_core.specs.CoreOf.{IsCoreOf};
+ghost use Rattle.ritas_core.specs.Machine.{CoreState};
+ghost use Rattle.ritas_core.specs.Rules.{Rules};
+ghost use Rattle.ritas_core.specs.Shown.{delivered_at};
+ghost use Rattle.ritas_core.specs.Stands.{meaning, CoreStands};
+ghost use Rattle.world_model.specs.Audit.{audit_of};
+ghost use Rattle.world_model.specs.Stands.{WorldStands};
+ghost use Rattle.world_model.specs.World.{Setting};
+ghost use Rattle.ritas.specs.Layers.{setting_of, AreCoresOf};
+ghost use Rattle.ritas.specs.Replayed.{StandsFor};
+ghost use Rattle.ritas.specs.Report.{out_line, origin_lines, outs_of, out_lines, lines_of, replica_lines, report};
+
+use crate::lines::{audit_line, count_line, head_line, out_line, replica_line};
+use crate::replay::Replayed;
+use keyed_channel::Keys;
+use layer_api::{Broadcast, Service};
+use replica::Replica;
+use ritas_base::{Coin, Slot};
+use ritas_core::{Core, delivered_within};
+use std::alloc::{AllocError, Global};
+use world_model::{Audit, World};
+
+fn command_slot(origin: u8, num: u32) -> Slot
+    ensures { result ≡ command_slot origin num }
+{
+    Slot {
+        class: 1,
+        a: num,
+        attempt: 0,
+        bround: 0,
+        step: 0,
+        origin,
+    }
+}
+
+// Appends the line of a command that was delivered.
+fn add_out(
+    alloc: Global,
+    text: &mut String,
+    origin: u8,
+    num: u32,
+    value: &[u8],
+) -> Result<(), AllocError>
+    ensures { OnOk result (string_bytes text.new ≡ string_bytes text.old ++ out_line origin num (Some value.now)) }
+{
+    let line = out_line(alloc, origin, num, value)?;
+    text.push_str(line.as_str())?;
+    Ok(())
+}
+
+// Appends the line of a command, where a core has delivered it.
+fn add_delivered<S: Service, B: Broadcast, C: Coin + Drop>(
+    alloc: Global,
+    text: &mut String,
+    core: &Core<S, B, C, Keys>,
+    origin: u8,
+    num: u32,
+) -> Result<(), AllocError>
+    ensures { let m = meaning S.stands S.rules B.stands B.rules C.bits (λ k. k.me) tags_of in
+        (r : Rules) (st : CoreState) → CoreStands m core.now r st → st.live ≡ true
+        → OnOk result (string_bytes text.new ≡ string_bytes text.old ++ out_line origin num (delivered_at r st.history (command_slot origin num))) }
+{
+    match core.delivered(&command_slot(origin, num)) {
+        Some(value) => add_out(alloc, text, origin, num, value),
+        None => Ok(()),
+    }
+}
+
+// Appends the lines of an origin's commands that a core has delivered. None has a number beyond the origin's window.
+fn add_origin<S: Service, B: Broadcast, C: Coin + Drop>(
+    alloc: Global,
+    text: &mut String,
+    core: &Core<S, B, C, Keys>,
+    origin: u8,
+) -> Result<(), AllocError>
+    ensures { let m = meaning S.stands S.rules B.stands B.rules C.bits (λ k. k.me) tags_of in
+        (r : Rules) (st : CoreState) → CoreStands m core.now r st → st.live ≡ true → IsCoreOf S.rules B.rules r → origin < r.casts.numbers.n
+        → OnOk result (string_bytes text.new ≡ string_bytes text.old ++ origin_lines (outs_of r st.history origin) origin) }
+{
+    delivered_within::<S, B>();
+    let end = core
+        .service()
+        .base(origin)
+        .saturating_add(64)
+        .min(1_000_000);
+    for num in 0..end {
+        add_delivered(alloc, text, core, origin, num)?;
+    }
+    Ok(())
+}
+
+// Appends the lines of all commands that a core has delivered, by origin and number.
+fn add_outs<S: Service, B: Broadcast, C: Coin + Drop>(
+    alloc: Global,
+    text: &mut String,
+    core: &Core<S, B, C, Keys>,
+) -> Result<(), AllocError>
+    ensures { let m = meaning S.stands S.rules B.stands B.rules C.bits (λ k. k.me) tags_of in
+        (r : Rules) (st : CoreState) → CoreStands m core.now r st → st.live ≡ true → IsCoreOf S.rules B.rules r
+        → OnOk result (string_bytes text.new ≡ string_bytes text.old ++ out_lines r st.history) }
+{
+    for origin in 0..core.params().n() {
+        add_origin(alloc, text, core, origin)?;
+    }
+    Ok(())
+}
+
+// Appends the lines of a replica: how it stands, and what it delivered.
+fn add_replica<S: Service, B: Broadcast, C: Coin + Drop>(
+    alloc: Global,
+    text: &mut String,
+    i: u8,
+    replica: &Replica<S, B, C>,
+) -> Result<(), AllocError>
+    ensures { let m = meaning S.stands S.rules B.stands B.rules C.bits (λ k. k.me) tags_of in
+        (r : Rules) (k : KeyRow) (st : CoreState) → ReplicaStands m replica.now r k st → st.live ≡ true → IsCoreOf S.rules B.rules r
+        → OnOk result (string_bytes text.new ≡ string_bytes text.old ++ lines_of i r k st) }
+{
+    let core = replica.core();
+    let line = replica_line(alloc, i, replica.sent(), core.inbox_len(), core.held())?;
+    text.push_str(line.as_str())?;
+    add_outs(alloc, text, core)
+}
+
+// Appends the lines of the correct replicas of a world, of n.
+fn add_replicas<S: Service, B: Broadcast, C: Coin + Drop>(
+    alloc: Global,
+    text: &mut String,
+    world: &World<S, B, C>,
+    n: u8,
+) -> Result<(), AllocError>
+    ensures { let m = meaning S.stands S.rules B.stands B.rules C.bits (λ k. k.me) tags_of in
+        (w : Setting) (es : List Event) → WorldStands m world.now w es → n ≡ w.numbers.n → AreCoresOf S.rules B.rules w
+        → OnOk result (string_bytes text.new ≡ string_bytes text.old
+        ++ flat_map (replica_lines w es) (filter w.is_correct (range_with_len 0 w.numbers.n))) }
+{
+    for i in 0..n {
+        match world.replica(i) {
+            Some(replica) => add_replica(alloc, text, i, replica)?,
+            None => {}
+        }
+    }
+    Ok(())
+}
+
+/// The report of a schedule, whose audit is this. The one error is want of memory.
+pub(crate) fn report_text(alloc: Global, x: &Replayed, audit: Audit) -> Result<String, AllocError>
+    ensures { (es : List Event) → StandsFor x.now es → audit ≡ audit_of (setting_of x.now.header) es
+        → IfOk result (λ s. string_bytes s ≡ report x.now.header es) }
+{
+    let mut text = head_line(alloc, &x.header)?;
+    let counts = count_line(alloc, x.world.events(), &x.counts)?;
+    text.push_str(counts.as_str())?;
+    add_replicas(alloc, &mut text, &x.world, x.header.p.n())?;
+    let last = audit_line(alloc, audit)?;
+    text.push_str(last.as_str())?;
+    Ok(text)
+}

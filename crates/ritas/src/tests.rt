@@ -1,0 +1,109 @@
+use crate::run::run;
+use outside::{MemSink, MemSource};
+use std::alloc::Global;
+use std::test::*;
+
+// The files and their reports were made from numbers by a model of the protocol that shares nothing with this code, but
+// for `FORGED`, which is `OUTNUMBERED` with replica 1 in its mask.
+
+// one replica: an input, three turns, and an input
+const ALONE: &[u8] =
+    b"RITS\x01\0\0\0\0\0\0\0\0\x01\0\x01\x01\0\0\0\x01\0\0\0\0\0\0\0\0\0\0\0\0\0\0\0\0\0\0\0\0\0\0\0\0\0\0\0\0\0\0\0\0\0\
+\x02\0\0\x01a\x03\0\x03\0\x03\0\x02\0\0\x01b\0";
+
+// two replicas, of which one is correct: an input, a READY from the other for another value, and two turns
+const OUTNUMBERED: &[u8] =
+    b"RITS\x01\0\0\0\0\0\0\0\x01\x02\0\x01\x01\0\0\0\x01\0M\xd1[\xf9)2\xfb\x92\08,gP\0\x06\xc03\x07\xa5m\x9b\xe8\x82\xe2XE;\x12\x80W#\xc5\
+\x02\0\0\x01a\x05\x01\0\0\x0b\x03\x01\0\0\0\0\0\0\0\0b\x03\0\x03\0\0";
+
+const FORGED: &[u8] =
+    b"RITS\x01\0\0\0\0\0\0\0\x01\x02\0\x01\x01\0\0\0\x03\0M\xd1[\xf9)2\xfb\x92\08,gP\0\x06\xc03\x07\xa5m\x9b\xe8\x82\xe2XE;\x12\x80W#\xc5\
+\x02\0\0\x01a\x05\x01\0\0\x0b\x03\x01\0\0\0\0\0\0\0\0b\x03\0\x03\0\0";
+
+// three replicas: an input of one, its turn, and frames that it made, as they come to the others
+const THREE: &[u8] =
+    b"RITS\x01\0\0\0\0\0\0\0\0\x03\0\x01\x01\0\0\0\x07\0\0\0\0\0\0\0\0\0\0\0\0\0\0\0\0\0\0\0\0\0\0\0\0\0\0\0\0\0\0\0\0\0\
+\x02\x01\0\x01b\x03\x01\x03\x01\x04\x01\0\0\0\0\0\x03\0\x04\x01\0\0\0\0\x01\x03\0\x04\x01\x02\0\0\0\0\0";
+
+const ALONE_REPORT: &str = "ritas n=1 f=0 root=1 vect=echo session=0
+events 5 took 5 held 0 repeat 0 idle 0 missed 0 open 0 body 0 core 0
+replica 0 sent 0 inbox 1 held 0
+out 0.0 61
+audit holds
+";
+
+const OUTNUMBERED_REPORT: &str = "ritas n=2 f=0 root=1 vect=echo session=1
+events 4 took 4 held 0 repeat 0 idle 0 missed 0 open 0 body 0 core 0
+replica 0 sent 3 inbox 1 held 0
+out 0.0 62
+audit too many faulty
+";
+
+const FORGED_REPORT: &str = "ritas n=2 f=0 root=1 vect=echo session=1
+events 4 took 4 held 0 repeat 0 idle 0 missed 0 open 0 body 0 core 0
+replica 0 sent 3 inbox 1 held 0
+out 0.0 62
+replica 1 sent 0 inbox 0 held 0
+audit forged at 1
+";
+
+const THREE_REPORT: &str = "ritas n=3 f=0 root=1 vect=echo session=0
+events 8 took 8 held 0 repeat 0 idle 0 missed 0 open 0 body 0 core 0
+replica 0 sent 4 inbox 0 held 0
+out 1.0 62
+replica 1 sent 4 inbox 0 held 0
+replica 2 sent 2 inbox 1 held 0
+audit holds
+";
+
+const USAGE: &str =
+    "usage: ritas replay report|frames, drive report|schedule, keys, node, cluster, submit\n";
+
+// The status, or 99 where the output isn't this text.
+fn status(
+    alloc: Global,
+    second: &str,
+    file: &[u8],
+    room: usize,
+    fails: &[u64],
+    text: &str,
+) -> Result<u8, Fail> {
+    let mut words = Vec::new(alloc);
+    for word in ["ritas", "replay", second] {
+        words.push(String::from_str(alloc, word)?)?;
+    }
+    let mut input = MemSource::new(alloc, file, fails)?;
+    let mut output = MemSink::new(alloc, room, &[])?;
+    let status = run(alloc, &words, &mut input, &mut output);
+    if output.taken() == text.as_bytes() {
+        Ok(status)
+    } else {
+        Ok(99)
+    }
+}
+
+#[test]
+fn reports(rt: HostRuntime) -> Result<(), Fail> {
+    for (file, text, wanted) in [
+        (ALONE, ALONE_REPORT, 0),
+        (OUTNUMBERED, OUTNUMBERED_REPORT, 1),
+        (FORGED, FORGED_REPORT, 1),
+        (THREE, THREE_REPORT, 0),
+        (&ALONE[..70], "input truncated at 70\n", 3),
+        (&ALONE[..3], "input truncated at 3\n", 3),
+    ] {
+        assert_eq!(rt;
+            status(rt.alloc(), "report", file, 1000, &[], text)?,
+            wanted
+        );
+    }
+    Ok(())
+}
+
+#[test]
+fn faults_and_other_words(rt: HostRuntime) -> Result<(), Fail> {
+    assert_eq!(rt; status(rt.alloc(), "report", ALONE, 1000, &[0], "")?, 4);
+    assert_eq!(rt; status(rt.alloc(), "report", ALONE, 5, &[], "ritas")?, 5);
+    assert_eq!(rt; status(rt.alloc(), "rapport", ALONE, 1000, &[0], USAGE)?, 2);
+    Ok(())
+}
