@@ -1,0 +1,5 @@
+pub mod Choices
+pub mod Counts
+pub mod Rules
+pub mod Formulas
+pub mod Joins

@@ -1,0 +1,5 @@
+use Rattle.bracha_validation.proofs.Choices.{picked, set_passes}
+use Rattle.bracha_validation.proofs.laws.set_is_picked.Goals as goal
+
+pub returns : goal.returns
+returns c = λ test m vs. (picked test m vs, set_passes test m vs)

@@ -1,0 +1,4 @@
+pub mod Votes
+pub mod Picks
+pub mod Tallies
+pub mod Rows
