@@ -4,14 +4,9 @@ use Rattle.std.proofs.Common.{sym, ◌∙◌, ap, inl, inr, arith, zero, suc}
 use Rattle.std.specs.BTreeSet.{BTreeSet}
 use Rattle.std.specs.BTreeMap.{is_at}
 use Rattle.std.specs.List.{list_any}
-use Rattle.std.proofs.lemmas.Bool.{both_ways, or_cases, or_left, or_from, and_parts, eqb-true, lt-ltb, le-ltb, false_from_ne_true}
+use Rattle.std.proofs.lemmas.Bool.{both_ways, or_cases, or_from, and_parts, eqb-true, le-ltb, false_from_ne_true}
 use Rattle.ritas_base.specs.declared.id.Id.{Id}
-use Rattle.layer_api.specs.Service.{Seat, Word}
-use Rattle.atomic_bcast.specs.Commands.{base_of}
-use Rattle.atomic_bcast.specs.CommandLaws.{IsBase, base_from}
 use Rattle.atomic_bcast.specs.Early.{id_cmp, has_early, is_known, IsTight, Notes}
-use Rattle.atomic_bcast.specs.CmdRoot.{Stands}
-use Rattle.atomic_bcast.specs.declared.cmd_root.CmdRoot.{CmdRoot}
 
 or_swap : (a b c : Bool) → (a || (b || c)) ≡ (b || (a || c))
 or_swap true true c = refl
@@ -45,19 +40,6 @@ notes_early n origin num bases early early' put above small = record {
     small = λ o k has. small_with (o == origin) k num (has_early early o k) (sym (put o k) ∙ has) small (tight.small o k);
   };
 }
-
-below_itself : (k : ℕ) → nat_lt k k ≡ false
-below_itself k = le-ltb k k (omega arith)
-
--- the base that a value keeps
-pub base_known : (s : CmdRoot) (seat : Seat) (w : List Word) (o : ℕ) → Stands s seat w → o < seat.numbers.n → slice_index s.bases o ≡ base_of w o
-base_known s seat w o stands within =
-    let base : ℕ = slice_index s.bases o in
-    let is : IsBase w o base = record {
-      missing = sym (stands.heard o base within) ∙ or_from _ _ (below_itself base) (stands.tight.missing o within);
-      below = λ k before. sym (stands.heard o k within) ∙ or_left (nat_lt k base) (has_early s.early o k) (lt-ltb k base before);
-    } in
-    sym (base_from w o base is)
 
 -- ---- before any word
 

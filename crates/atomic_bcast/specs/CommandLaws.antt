@@ -12,6 +12,7 @@ use Rattle.ritas_base.specs.SlotOrder.{is_slot, same_slot}
 use Rattle.frame_codec.specs.Inputs.{takes_input}
 use Rattle.frame_codec.proofs.Items.{command_slot_right, input_value}
 use Rattle.layer_api.specs.Service.{Seat, Word, Ask, Hear, command_slot, is_heard, asked, is_said, said, is_ahead, MayHear, AreProper, AreNew, AreGoodWords, AreGoodSays, WordLaws, AreInputs}
+use Rattle.layer_api.specs.OneLog.{OneLog}
 use Rattle.atomic_bcast.specs.Commands.{is_missing, base_of, says_of, commands}
 
 -- ---- the least number that was not heard
@@ -202,4 +203,20 @@ command_laws = record {
   commands_said = λ seat c w proper. commands_said seat c w;
   completed_stays = λ seat c w. omega arith;
   base_stays = base_stays;
+  inputs_said = λ seat mode v w serves has proper. inl refl;
+  done_nothing = λ seat. refl;
+  done_grows = λ seat c w proper. record { more = []; whole = refl; recent = tt };
+  done_once = λ seat w proper. tt;
+  done_heard = λ seat w proper. tt;
+  outcome_stays = λ seat c w d proper e. absurd cc;
+  decided_stays = λ seat c w x d proper e. absurd cc;
+}
+
+-- nothing is decided, so all agree
+pub command_log : OneLog commands
+command_log = record {
+  logs = λ p mode is_correct coins steps run i j ci cj. inl ([], refl);
+  outcomes = λ p mode is_correct coins steps run i j d e ci cj a b. absurd cc;
+  decisions = λ p mode is_correct coins steps run i j x d e ci cj a b. absurd cc;
+  bits = λ p mode is_correct coins steps run i b ci a. absurd cc;
 }

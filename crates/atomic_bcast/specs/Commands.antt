@@ -1,8 +1,8 @@
 -- The service of commands alone: each input is broadcast at the origin's next number, and nothing is decided.
-use Rattle.std.specs.Prelude.{ℕ, ◌+◌, Bool, false, not, ◌==◌, ◌||◌, List, [], ◌∷◌, length, unwrap_or}
+use Rattle.std.specs.Prelude.{ℕ, ◌+◌, Bool, false, not, ◌==◌, ◌||◌, List, [], ◌∷◌, length, unwrap_or, None}
 use Rattle.std.specs.List.{find, range_with_len}
 use Rattle.ritas_base.specs.declared.item.Say.{Say}
-use Rattle.layer_api.specs.Service.{ServiceRules, Seat, Word, Ask, Hear, command_slot, is_heard, asked}
+use Rattle.layer_api.specs.Service.{ServiceRules, Seat, Word, Ask, Hear, Undecided, command_slot, is_heard, asked}
 
 -- whether no command of this origin was delivered at this number
 abbrev pub is_missing : List Word → ℕ → ℕ → Bool
@@ -27,4 +27,6 @@ commands = record {
   next_number = λ seat w. asked w;
   given = λ seat w. false;
   done = λ seat w. [];
+  outcome = λ seat w. Undecided;
+  decided = λ seat w x. None;
 }

@@ -2,7 +2,7 @@ ghost use Rattle.std.specs.Prelude.{◌≡◌, ℕ, ◌==◌, ◌&&◌, ◌||◌
 ghost use Rattle.layer_api.specs.Service.{command_slot};
 ghost use Rattle.atomic_bcast.specs.Early.{has_early, Advances, Notes};
 
-use layer_api::Service;
+use layer_api::{Outcome, Service};
 use ritas_base::{Bytes, Coin, Id, Mem, Params, Say, Slot};
 use std::alloc::Global;
 use std::collections::BTreeSet;
@@ -68,6 +68,7 @@ impl CmdRoot {
         ensures kept { self.new ≡ record self.old { bases = self.new.bases; early = self.new.early } }
         ensures noted { OnOk result
             (Notes self.old.numbers.n origin num self.old.bases self.new.bases self.old.early self.new.early) }
+        ensures lost { OnErr result (self.new.bases ≡ self.old.bases) }
     {
         if origin >= self.numbers.n() || num >= MOST_COMMANDS {
             return Ok(());
@@ -105,14 +106,17 @@ impl CmdRoot {
 
 impl Service for CmdRoot {
     ghost use Rattle.atomic_bcast.specs.Commands.{commands};
-    ghost use Rattle.atomic_bcast.specs.CommandLaws.{command_laws};
+    ghost use Rattle.atomic_bcast.specs.CommandLaws.{command_laws, command_log};
     ghost use Rattle.atomic_bcast.specs.CmdRoot.{Stands};
+    ghost use Rattle.atomic_bcast.specs.Shown.{shown_by, shows_rules};
 
     ghost stands = { Stands };
 
     ghost rules = { commands };
 
     ghost live = { λ s. s.live };
+
+    ghost shown = { shown_by };
 
     fn serves(root: u8) -> bool {
         root == 1 || root == 2
@@ -130,12 +134,16 @@ impl Service for CmdRoot {
     }
 
     fn input(&mut self, alloc: Global, value: &[u8], says: &mut Vec<Say>) -> Result<(), Mem> {
-        let said = self.say(alloc, value, says);
-        match said {
-            Ok(()) => self.inputs = self.inputs.saturating_add(1),
-            Err(_) => self.live = false,
+        match self.say(alloc, value, says) {
+            Ok(()) => {
+                self.inputs = self.inputs.saturating_add(1);
+                Ok(())
+            }
+            Err(mem) => {
+                self.live = false;
+                Err(mem)
+            }
         }
-        said
     }
 
     fn heard<C: Coin>(
@@ -149,11 +157,13 @@ impl Service for CmdRoot {
         if slot.class != 1 || slot.attempt != 0 || slot.bround != 0 || slot.step != 0 {
             return Ok(());
         }
-        let noted = self.note(slot.origin, slot.a);
-        if noted.is_err() {
-            self.live = false;
+        match self.note(slot.origin, slot.a) {
+            Ok(()) => Ok(()),
+            Err(mem) => {
+                self.live = false;
+                Err(mem)
+            }
         }
-        noted
     }
 
     fn is_open(&self, slot: &Slot) -> bool {
@@ -180,11 +190,19 @@ impl Service for CmdRoot {
         &[]
     }
 
+    fn outcome(&self) -> Outcome<'_> {
+        Outcome::Undecided
+    }
+
     fn live(&self) -> bool {
         self.live
     }
 
     ghost lives = { λ s seat w stands. stands.live };
 
+    ghost shows = { shows_rules };
+
     ghost word_laws = { command_laws };
+
+    ghost one_log = { command_log };
 }

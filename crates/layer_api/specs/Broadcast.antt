@@ -7,16 +7,8 @@ use Rattle.ritas_base.specs.declared.item.Msg.{Msg}
 use Rattle.ritas_base.specs.Messages.{Place, without}
 use Rattle.ritas_base.specs.History.{Call, started}
 use Rattle.ritas_base.specs.Tags.{Tags, AgreeAt}
-
--- an entry of an echoer that an item brings and that is valid
-pub record Claim : Type 0 where
-  pub echoer : ℕ
-  pub entry : List ℕ
-
--- something hashed, and its image
-pub record Print : Type 0 where
-  pub input : List ℕ
-  pub image : List ℕ
+use Rattle.frame_codec.specs.Format.{Is}
+use Rattle.frame_codec.specs.Grammar.{hashes, column}
 
 -- the meaning of a broadcast at one place, by what the tagger answers and the calls so far
 pub record BroadcastRules : Type 0 where
@@ -30,10 +22,6 @@ pub record BroadcastRules : Type 0 where
   pub repeats : Place → Tags → List Call → Item → Bool
   -- whether an item can be taken yet
   pub ready : Place → Tags → List Call → Item → Bool
-  -- the valid entries that an item brings
-  pub claims : Place → Tags → List Call → Item → List Claim
-  -- what was hashed
-  pub met : Place → Tags → List Call → List Print
 
 -- what a call makes newly due, in the order of what is due afterwards
 abbrev pub news : BroadcastRules → Place → Tags → List Call → Call → List Msg
@@ -72,6 +60,12 @@ pub record MayStart (at : Place) (h : List Call) : Type 0 where
   pub own : at.me ≡ at.slot.origin
   pub once : started h ≡ None
 
+-- hashes are an entry for each replica, and a column is a mask and a row for each of its places
+abbrev pub IsPayload : ℕ → Kind → List ℕ → Type 0
+IsPayload n kinds.Hashes value = Is (hashes n) value
+IsPayload n kinds.Column value = Is (column n) value
+IsPayload n _ value = Unit {0}
+
 -- an item may be taken: it is of this slot and broadcast, from a replica that may send its kind, to one that may get it
 pub record MayTake (r : BroadcastRules) (at : Place) (tags : Tags) (h : List Call) (i : Item) : Type 0 where
   pub here : i.slot ≡ at.slot
@@ -80,3 +74,4 @@ pub record MayTake (r : BroadcastRules) (at : Place) (tags : Tags) (h : List Cal
   pub origin : is_of_origin i.kind ≡ true → i.from ≡ at.slot.origin
   pub receiver : is_for_origin i.kind ≡ true → at.me ≡ at.slot.origin
   pub in_time : r.ready at tags h i ≡ true
+  pub payload : IsPayload at.numbers.n i.kind i.value

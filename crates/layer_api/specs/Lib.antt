@@ -1,5 +1,11 @@
+pub mod Runs
+pub mod RunsLaws
 pub mod Broadcast
 pub mod BroadcastCalls
+pub mod Entries
 pub mod OneValue
 pub mod Service
 pub mod ServiceCalls
+pub mod OneLog
+pub mod Binary
+pub mod BinaryCalls

@@ -1,8 +1,7 @@
 -- Runs of one slot, and the laws of a broadcast. Lists of calls and of steps have the newest first.
-use Rattle.std.specs.Prelude.{◌≡◌, ℕ, ◌+◌, ◌*◌, ◌<◌, ◌≤◌, ◌==◌, Bool, true, false, not, ◌&&◌, List, [], ◌∷◌, take, drop, Option, Some, None, ⊤, if◌then◌else◌, count_by, Contains, ◌⊎◌}
-use Rattle.std.specs.Str.{bytes_eq}
+use Rattle.std.specs.Prelude.{◌≡◌, ℕ, Bool, true, false, not, List, [], ◌∷◌, Option, Some, None, ⊤}
 use Rattle.ritas_base.specs.declared.slot.Slot.{Slot}
-use Rattle.ritas_base.specs.declared.item.Kind.TheVariants.{Hashes, Column}
+use Rattle.ritas_base.specs.declared.item.Kind.TheVariants.{Column}
 use Rattle.ritas_base.specs.declared.item.Item.{Item}
 use Rattle.ritas_base.specs.declared.item.Msg.{Msg}
 use Rattle.ritas_base.specs.declared.item.Kind.{Kind}
@@ -13,30 +12,11 @@ use Rattle.frame_codec.specs.Format.{Is}
 use Rattle.frame_codec.specs.Grammar.{value}
 use Rattle.frame_codec.specs.Body.{IsInGrammar, is_of_broadcast}
 use Rattle.ritas_base.specs.Messages.{Place, reaches, item_of, kind_eq, has}
-use Rattle.ritas_base.specs.History.{Call, Start, Take, started, replicas}
+use Rattle.ritas_base.specs.History.{Call, Start, Take, started}
 use Rattle.ritas_base.specs.Tags.{Tags}
-use Rattle.layer_api.specs.Broadcast.{BroadcastRules, Claim, Print, MayStart, MayTake}
-
--- a step: a correct replica, and a call on its value
-pub record Step : Type 0 where
-  pub who : ℕ
-  pub call : Call
-
--- the calls of one replica
-abbrev pub calls_of : ℕ → List Step → List Call
-calls_of i [] = []
-calls_of i (x ∷ xs) = if x.who == i then x.call ∷ calls_of i xs else calls_of i xs
-
--- x is in the list
-abbrev pub Has : {X : Type 0} → List X → X → Type 0
-Has [] x = ⊥
-Has (y ∷ ys) x = (y ≡ x) ⊎ Has ys x
-
--- enough replicas are correct
-pub record IsEnough (p : Numbers) (is_correct : ℕ → Bool) : Type 0 where
-  pub session : IsSession p
-  pub within : (i : ℕ) → is_correct i ≡ true → i < p.n
-  pub many : p.n ≤ count_by is_correct (replicas p.n) + p.f
+use Rattle.layer_api.specs.Broadcast.{BroadcastRules, MayStart, MayTake}
+use Rattle.layer_api.specs.Entries.{given, met, is_claim, row_of, Print, IsApart}
+use Rattle.layer_api.specs.Runs.{Step, calls_of, Has, IsEnough}
 
 -- among these messages is the one that the item came from, and it was for replica j
 pub record IsDueTo (due : List Msg) (j : ℕ) (x : Item) : Type 0 where
@@ -44,16 +24,6 @@ pub record IsDueTo (due : List Msg) (j : ℕ) (x : Item) : Type 0 where
   pub listed : Has due message
   pub reached : reaches message.to j ≡ true
   pub same : item_of x.from message ≡ x
-
--- whether a message is of the hashes whose entry for this verifier is the one given
-abbrev pub gives : Msg → ℕ → List ℕ → Bool
-gives m verifier entry = kind_eq m.kind Hashes && bytes_eq (take 32 (drop (32 * verifier) m.value)) entry
-
--- one of these messages gives replica j the entry
-pub record IsGiven (due : List Msg) (j : ℕ) (entry : List ℕ) : Type 0 where
-  pub message : Msg
-  pub listed : Has due message
-  pub given : gives message j entry ≡ true
 
 -- one slot of a session: the broadcast, who is correct, and what each replica's tagger answers
 pub record Group : Type 0 where
@@ -66,32 +36,39 @@ pub record Group : Type 0 where
 abbrev pub place_of : Group → ℕ → Place
 place_of g i = record { numbers = g.numbers; me = i; slot = g.slot }
 
-abbrev pub due_at : Group → ℕ → List Step → List Msg
+abbrev pub due_at : Group → ℕ → List (Step Call) → List Msg
 due_at g i steps = g.rules.due (place_of g i) (g.tags i) (calls_of i steps)
 
-abbrev pub out_at : Group → ℕ → List Step → Option (List ℕ)
+abbrev pub out_at : Group → ℕ → List (Step Call) → Option (List ℕ)
 out_at g i steps = g.rules.out (place_of g i) (g.tags i) (calls_of i steps)
 
+-- the entries that a replica gave
+abbrev pub given_at : Group → ℕ → List (Step Call) → List (List ℕ)
+given_at g i steps = given (place_of g i) (g.tags i) (calls_of i steps)
+
+-- what a replica met
+abbrev pub met_at : Group → ℕ → List (Step Call) → List Print
+met_at g i steps = met (place_of g i) (g.tags i) (calls_of i steps)
+
 -- a call of replica i after these steps meets its conditions; what a correct replica sent was due there before, and
--- each valid entry of a correct echoer stands in a message that was due there before
-abbrev pub IsFed : Group → List Step → ℕ → Call → Type 0
+-- each valid entry of a correct echoer is one that it gave before
+abbrev pub IsFed : Group → List (Step Call) → ℕ → Call → Type 0
 IsFed g steps i (Start v) = MayStart (place_of g i) (calls_of i steps)
 IsFed g steps i (Take x) =
     MayTake g.rules (place_of g i) (g.tags i) (calls_of i steps) x
     × (g.is_correct x.from ≡ true → IsDueTo (due_at g x.from steps) i x)
-    × ((c : Claim) → Has (g.rules.claims (place_of g i) (g.tags i) (calls_of i steps) x) c → g.is_correct c.echoer ≡ true
-    → IsGiven (due_at g c.echoer steps) i c.entry)
+    × ((echoer : ℕ) (entry : List ℕ) → g.is_correct echoer ≡ true
+    → is_claim (place_of g i) (g.tags i) (calls_of i steps) x echoer ≡ true → row_of x.value echoer ≡ Some entry
+    → Has (given_at g echoer steps) entry)
 
-abbrev pub IsRun : Group → List Step → Type 0
+abbrev pub IsRun : Group → List (Step Call) → Type 0
 IsRun g [] = ⊤
 IsRun g (x ∷ xs) = (g.is_correct x.who ≡ true) × IsFed g xs x.who x.call × IsRun g xs
 
 -- nothing that correct replicas hashed collides
-abbrev pub IsClear : Group → List Step → Type 0
+abbrev pub IsClear : Group → List (Step Call) → Type 0
 IsClear g steps = (i j : ℕ) (a c : Print) → g.is_correct i ≡ true → g.is_correct j ≡ true
-    → Has (g.rules.met (place_of g i) (g.tags i) (calls_of i steps)) a
-    → Has (g.rules.met (place_of g j) (g.tags j) (calls_of j steps)) c
-    → a.image ≡ c.image → a.input ≡ c.input
+    → Has (met_at g i steps) a → Has (met_at g j steps) c → IsApart a c
 
 -- all replicas have one digest
 abbrev pub SameDigests : (ℕ → Tags) → Type 0
@@ -100,11 +77,11 @@ SameDigests tags = (i j : ℕ) (m : List ℕ) → (tags i).digest m ≡ (tags j)
 -- the law of one value, of the broadcast with these rules: over every run all outputs of correct replicas are equal,
 -- and where the origin is correct they are what it started
 pub record OneValue (r : BroadcastRules) : Type 0 where
-  pub agree : (p : Numbers) (s : Slot) (is_correct : ℕ → Bool) (tags : ℕ → Tags) (steps : List Step) →
+  pub agree : (p : Numbers) (s : Slot) (is_correct : ℕ → Bool) (tags : ℕ → Tags) (steps : List (Step Call)) →
       let g : Group = record { rules = r; numbers = p; slot = s; is_correct = is_correct; tags = tags } in
       IsEnough p is_correct → SameDigests tags → IsRun g steps → IsClear g steps
       → (i j : ℕ) (v u : List ℕ) → is_correct i ≡ true → is_correct j ≡ true → out_at g i steps ≡ Some v → out_at g j steps ≡ Some u → v ≡ u
-  pub genuine : (p : Numbers) (s : Slot) (is_correct : ℕ → Bool) (tags : ℕ → Tags) (steps : List Step) →
+  pub genuine : (p : Numbers) (s : Slot) (is_correct : ℕ → Bool) (tags : ℕ → Tags) (steps : List (Step Call)) →
       let g : Group = record { rules = r; numbers = p; slot = s; is_correct = is_correct; tags = tags } in
       IsEnough p is_correct → SameDigests tags → IsRun g steps → IsClear g steps
       → (i : ℕ) (v : List ℕ) → is_correct i ≡ true → is_correct s.origin ≡ true → out_at g i steps ≡ Some v
@@ -149,6 +126,3 @@ pub record ValueLaws (r : BroadcastRules) : Type 0 where
   pub repeats_nothing : (at : Place) (tags : Tags) (i : Item) → r.repeats at tags [] i ≡ false
   -- at first all that isn't a column can be taken
   pub ready_nothing : (at : Place) (tags : Tags) (i : Item) → r.has_kind i.kind ≡ true → r.ready at tags [] i ≡ not (kind_eq i.kind Column)
-  -- what was hashed stays
-  pub met_nothing : (at : Place) (tags : Tags) (a : Print) → Has (r.met at tags []) a → ⊥
-  pub met_stays : (at : Place) (tags : Tags) (h : List Call) (c : Call) (a : Print) → Has (r.met at tags h) a → Has (r.met at tags (c ∷ h)) a

@@ -1,12 +1,12 @@
 -- What a service means: its rules on lists of words, the newest first, and when a word may come.
-use Rattle.std.specs.Prelude.{◌≡◌, ℕ, ◌+◌, ◌<◌, ◌≤◌, nat_lt, nat_le, Bool, true, false, not, ◌==◌, ◌||◌, List, [], ◌∷◌, ◌++◌, Option, Some, None, if◌then◌else◌}
+use Rattle.std.specs.Prelude.{◌≡◌, ℕ, ◌+◌, ◌<◌, ◌≤◌, ◌⊎◌, nat_lt, nat_le, Bool, true, false, ◌==◌, ◌&&◌, ◌||◌, List, [], ◌∷◌, ◌++◌, Option, Some, None, if◌then◌else◌}
 use Rattle.std.specs.List.{list_any}
 use Rattle.ritas_base.specs.declared.slot.Slot.{Slot}
 use Rattle.ritas_base.specs.declared.item.Say.{Say}
 use Rattle.ritas_base.specs.declared.id.Id.{Id}
 use Rattle.ritas_base.specs.declared.mode.Mode.{Mode}
 use Rattle.ritas_base.specs.Numbers.{Numbers, IsSession}
-use Rattle.ritas_base.specs.Slots.{slot_fault}
+use Rattle.ritas_base.specs.Slots.{slot_fault, has_class}
 use Rattle.frame_codec.specs.Format.{Is}
 use Rattle.frame_codec.specs.Grammar.{value}
 use Rattle.frame_codec.specs.Inputs.{IsInput}
@@ -22,6 +22,26 @@ pub record Seat : Type 0 where
   pub numbers : Numbers
   pub me : ℕ
   pub coin : Slot → Bool
+
+-- an instance of consensus inside a service: of one bit or of one value, by its round and attempt, or of a vector, by
+-- its round
+pub data Instance : Type 0 where
+  OfBit : ℕ → ℕ → Instance
+  OfValue : ℕ → ℕ → Instance
+  OfVector : ℕ → Instance
+
+-- what an instance decided: a bit, no value, a value, or no vector in any attempt
+pub data Decision : Type 0 where
+  Bit : Bool → Decision
+  Nothing : Decision
+  Value : List ℕ → Decision
+  Spent : Decision
+
+-- what became of a service's one instance: nothing yet, the rounds are over without a decision, or a decision
+pub data Ending : Type 0 where
+  Undecided : Ending
+  Over : Ending
+  Decided : Decision → Ending
 
 -- the slot of a command
 abbrev pub command_slot : ℕ → ℕ → Slot
@@ -57,6 +77,10 @@ pub record ServiceRules : Type 0 where
   pub given : Seat → List Word → Bool
   -- the identifier log, the newest first
   pub done : Seat → List Word → List Id
+  -- what became of the one instance
+  pub outcome : Seat → List Word → Ending
+  -- what each instance inside decided
+  pub decided : Seat → List Word → Instance → Option Decision
 
 -- whether a slot is one of those said
 abbrev pub is_said : List Say → Slot → Bool
@@ -126,6 +150,41 @@ abbrev pub AreInputs : Seat → List Word → Word → List Say → Type 0
 AreInputs seat w c [] = Unit {0}
 AreInputs seat w c (y ∷ ys) = (y.slot.class ≡ 1 → IsInputSaid seat w c y) × AreInputs seat w c ys
 
+-- the list is a part of another, which has more in front: a prefix of what was given in order
+abbrev pub IsPart : {X : Type 0} → List X → List X → Type 0
+IsPart xs ys = (more : List _) × (more ++ xs ≡ ys)
+
+-- whether an identifier is in the list
+abbrev pub has_id : List Id → Id → Bool
+has_id [] x = false
+has_id (y ∷ ys) x = (y.origin == x.origin && y.num == x.num) || has_id ys x
+
+-- each identifier stands there once
+abbrev pub AreDistinct : List Id → Type 0
+AreDistinct [] = Unit {0}
+AreDistinct (x ∷ xs) = (has_id xs x ≡ false) × AreDistinct xs
+
+-- each of these identifiers was heard at its command slot
+abbrev pub AreHeard : List Word → List Id → Type 0
+AreHeard w [] = Unit {0}
+AreHeard w (x ∷ xs) = (is_heard w (command_slot x.origin x.num) ≡ true) × AreHeard w xs
+
+-- the command slot of each lies in the window or ahead of it
+abbrev pub AreRecent : ServiceRules → Seat → List Word → List Id → Type 0
+AreRecent r seat w [] = Unit {0}
+AreRecent r seat w (x ∷ xs) = (is_past r seat w (command_slot x.origin x.num) ≡ false) × AreRecent r seat w xs
+
+-- the log grows at its end alone, by identifiers whose command slots aren't past
+pub record Appends (r : ServiceRules) (seat : Seat) (c : Word) (w : List Word) : Type 0 where
+  pub more : List Id
+  pub whole : more ++ r.done seat w ≡ r.done seat (c ∷ w)
+  pub recent : AreRecent r seat (c ∷ w) more
+
+-- the say is among these
+abbrev pub HasSay : List Say → Say → Type 0
+HasSay [] y = ⊥
+HasSay (x ∷ xs) y = (x ≡ y) ⊎ HasSay xs y
+
 -- laws of a single value, over all words that met their conditions
 pub record WordLaws (r : ServiceRules) : Type 0 where
   -- what is said is at new slots of this replica
@@ -135,6 +194,19 @@ pub record WordLaws (r : ServiceRules) : Type 0 where
       → AreProper r seat (c ∷ w) → AreGoodWords seat.numbers mode (c ∷ w) → AreGoodSays seat.numbers mode (r.says seat w c)
   -- a command slot is said for an input alone, and is that of the replica's next number
   pub commands_said : (seat : Seat) (c : Word) (w : List Word) → AreProper r seat (c ∷ w) → AreInputs seat w c (r.says seat w c)
+  -- in a root service of commands each input is said, in its own call
+  pub inputs_said : (seat : Seat) (mode : Mode) (v : List ℕ) (w : List Word) → r.serves mode.root ≡ true → has_class mode.root 1 ≡ true
+      → AreProper r seat (Ask v ∷ w) → HasSay (r.says seat w (Ask v)) (record { slot = command_slot seat.me (asked w); value = v })
   -- the windows never go back
   pub completed_stays : (seat : Seat) (c : Word) (w : List Word) → r.completed seat w ≤ r.completed seat (c ∷ w)
   pub base_stays : (seat : Seat) (c : Word) (w : List Word) (o : ℕ) → r.base seat w o ≤ r.base seat (c ∷ w) o
+  -- the identifier log grows at its end alone, has each identifier once, and each was heard at its command slot
+  pub done_nothing : (seat : Seat) → r.done seat [] ≡ []
+  pub done_grows : (seat : Seat) (c : Word) (w : List Word) → AreProper r seat (c ∷ w) → Appends r seat c w
+  pub done_once : (seat : Seat) (w : List Word) → AreProper r seat w → AreDistinct (r.done seat w)
+  pub done_heard : (seat : Seat) (w : List Word) → AreProper r seat w → AreHeard w (r.done seat w)
+  -- a decision stays
+  pub outcome_stays : (seat : Seat) (c : Word) (w : List Word) (d : Decision) → AreProper r seat (c ∷ w)
+      → r.outcome seat w ≡ Decided d → r.outcome seat (c ∷ w) ≡ Decided d
+  pub decided_stays : (seat : Seat) (c : Word) (w : List Word) (x : Instance) (d : Decision) → AreProper r seat (c ∷ w)
+      → r.decided seat w x ≡ Some d → r.decided seat (c ∷ w) x ≡ Some d

@@ -1,9 +1,12 @@
 -- What a call on a service's value does, for every list of words that the value stands for.
-use Rattle.std.specs.Prelude.{◌≡◌, ℕ, Bool, true, false, List, ◌∷◌, ◌++◌, Result, Ok, Err}
+use Rattle.std.specs.Prelude.{◌≡◌, ℕ, ◌<◌, ◌⊎◌, Bool, false, List, ◌∷◌, ◌++◌, Result, Ok, Err}
 use Rattle.ritas_base.specs.declared.bytes.Mem.{Mem}
 use Rattle.ritas_base.specs.declared.slot.Slot.{Slot}
 use Rattle.ritas_base.specs.declared.item.Say.{Say}
-use Rattle.layer_api.specs.Service.{ServiceRules, Seat, Word, Ask, Hear, MayAsk, MayHear}
+use Rattle.ritas_base.specs.declared.id.Id.{Id}
+use Rattle.layer_api.specs.declared.outcome.Outcome.{Outcome}
+use Rattle.layer_api.specs.declared.outcome.Outcome.TheVariants as outcomes
+use Rattle.layer_api.specs.Service.{ServiceRules, Seat, Word, Ask, Hear, MayAsk, MayHear, IsPart, Ending, Undecided, Over, Decided, Bit, Nothing, Value, Spent}
 
 -- the seat's coin is this one
 abbrev pub HasCoin : Seat → (Slot → Bool) → Type 0
@@ -21,17 +24,62 @@ pub record Hears {S : Type 0} (stands : S → Seat → List Word → Type 0) (r 
   pub made : (seat : Seat) (w : List Word) → stands old seat w → HasCoin seat bits → MayHear r seat w slot
       → after ≡ before ++ r.says seat w (Hear slot value)
 
+-- what the getters of a service's value answer; the identifier log has the newest first
+pub record ServiceShown : Type 0 where
+  pub opens : Slot → Bool
+  pub completed : ℕ
+  pub base : ℕ → ℕ
+  pub next_number : ℕ
+  pub given : Bool
+  pub done : List Id
+  pub outcome : Ending
+
+-- they answer what the rules say of these words
+pub record Shows (r : ServiceRules) (seat : Seat) (w : List Word) (shown : ServiceShown) : Type 0 where
+  pub opens : (s : Slot) → shown.opens s ≡ r.opens seat w s
+  pub completed : shown.completed ≡ r.completed seat w
+  pub base : (o : ℕ) → o < seat.numbers.n → shown.base o ≡ r.base seat w o
+  pub next_number : shown.next_number ≡ r.next_number seat w
+  pub given : shown.given ≡ r.given seat w
+  pub done : shown.done ≡ r.done seat w
+  pub outcome : shown.outcome ≡ r.outcome seat w
+
+-- after want of memory each answers as after the words before the call, or as after them and the call's; and the
+-- identifier log is between those of the two
+pub record ShowsNear (r : ServiceRules) (seat : Seat) (w : List Word) (c : Word) (shown : ServiceShown) : Type 0 where
+  pub opens : (s : Slot) → (shown.opens s ≡ r.opens seat w s) ⊎ (shown.opens s ≡ r.opens seat (c ∷ w) s)
+  pub completed : (shown.completed ≡ r.completed seat w) ⊎ (shown.completed ≡ r.completed seat (c ∷ w))
+  pub base : (o : ℕ) → o < seat.numbers.n → (shown.base o ≡ r.base seat w o) ⊎ (shown.base o ≡ r.base seat (c ∷ w) o)
+  pub next_number : (shown.next_number ≡ r.next_number seat w) ⊎ (shown.next_number ≡ r.next_number seat (c ∷ w))
+  pub given : (shown.given ≡ r.given seat w) ⊎ (shown.given ≡ r.given seat (c ∷ w))
+  pub done_before : IsPart (r.done seat w) shown.done
+  pub done_after : IsPart shown.done (r.done seat (c ∷ w))
+  pub outcome : (shown.outcome ≡ r.outcome seat w) ⊎ (shown.outcome ≡ r.outcome seat (c ∷ w))
+
 -- for want of memory nothing is put out, and the value is live no more
-pub record Fails {S : Type 0} (is_live : S → Bool) (new : S) (before after : List Say) : Type 0 where
+pub record Fails {S : Type 0} (stands : S → Seat → List Word → Type 0) (r : ServiceRules) (is_live : S → Bool) (shown : S → ServiceShown)
+    (old new : S) (c : Word) (may : Seat → List Word → Type 0) (before after : List Say) : Type 0 where
   pub out : after ≡ before
   pub dead : is_live new ≡ false
+  pub shows : (seat : Seat) (w : List Word) → stands old seat w → may seat w → ShowsNear r seat w c (shown new)
 
 -- each outcome of an input
-abbrev pub Inputs : {S : Type 0} → (S → Seat → List Word → Type 0) → ServiceRules → (S → Bool) → S → S → List ℕ → List Say → List Say → Result (Unit {0}) Mem → Type 0
-Inputs stands r is_live old new value before after (Ok u) = TakesInput stands r old new value before after
-Inputs stands r is_live old new value before after (Err e) = Fails is_live new before after
+abbrev pub Inputs : {S : Type 0} → (S → Seat → List Word → Type 0) → ServiceRules → (S → Bool) → (S → ServiceShown) → S → S → List ℕ → List Say → List Say → Result (Unit {0}) Mem → Type 0
+Inputs stands r is_live shown old new value before after (Ok u) = TakesInput stands r old new value before after
+Inputs stands r is_live shown old new value before after (Err e) =
+    Fails stands r is_live shown old new (Ask value) (λ seat w. MayAsk r seat w) before after
 
 -- each outcome of what a slot delivered
-abbrev pub Heeds : {S : Type 0} → (S → Seat → List Word → Type 0) → ServiceRules → (S → Bool) → (Slot → Bool) → S → S → Slot → List ℕ → List Say → List Say → Result (Unit {0}) Mem → Type 0
-Heeds stands r is_live bits old new slot value before after (Ok u) = Hears stands r bits old new slot value before after
-Heeds stands r is_live bits old new slot value before after (Err e) = Fails is_live new before after
+abbrev pub Heeds : {S : Type 0} → (S → Seat → List Word → Type 0) → ServiceRules → (S → Bool) → (S → ServiceShown) → (Slot → Bool) → S → S → Slot → List ℕ → List Say → List Say → Result (Unit {0}) Mem → Type 0
+Heeds stands r is_live shown bits old new slot value before after (Ok u) = Hears stands r bits old new slot value before after
+Heeds stands r is_live shown bits old new slot value before after (Err e) =
+    Fails stands r is_live shown old new (Hear slot value) (λ seat w. HasCoin seat bits × MayHear r seat w slot) before after
+
+-- what an outcome says
+abbrev pub ending_of : Outcome → Ending
+ending_of outcomes.Undecided = Undecided
+ending_of outcomes.Over = Over
+ending_of (outcomes.Bit b) = Decided (Bit b)
+ending_of outcomes.Nothing = Decided Nothing
+ending_of (outcomes.Value v) = Decided (Value v.now)
+ending_of outcomes.Spent = Decided Spent

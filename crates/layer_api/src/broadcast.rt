@@ -1,6 +1,8 @@
-ghost use Rattle.std.specs.Prelude.{◌≡◌, ℕ, ◌<◌, Bool, true, false, List, [], Option, IfOk};
+ghost use Rattle.std.specs.Prelude.{◌≡◌, ℕ, ◌<◌, ◌==◌, Bool, true, false, List, [], Option, IfOk};
 ghost use Rattle.std.specs.Option.{option_copied};
+ghost use Rattle.ritas_base.specs.declared.item.Kind.{Kind};
 ghost use Rattle.ritas_base.specs.declared.item.Msg.{Msg};
+ghost use Rattle.frame_codec.specs.Body.{is_of_broadcast};
 ghost use Rattle.ritas_base.specs.Messages.{Place};
 ghost use Rattle.ritas_base.specs.History.{Call};
 ghost use Rattle.ritas_base.specs.Tags.{Tags};
@@ -31,8 +33,14 @@ pub trait Broadcast: Drop + Sized {
     /// No call on it was without memory.
     ghost live: { Self → Bool };
 
+    /// The form: 1 reliable, 2 echo.
+    ghost FORM: { ℕ };
+
     /// What `delivered` answers.
     ghost shown: { Self → Option (List ℕ) };
+
+    /// Which broadcast it is: 1 is reliable broadcast, 2 is echo broadcast.
+    const FORM: u8;
 
     /// The part of replica `me` in the broadcast of a slot, before any call. The one error is want of memory.
     fn new(alloc: Global, p: &Params, me: u8, slot: Slot) -> Result<Self, Mem>
@@ -78,6 +86,9 @@ pub trait Broadcast: Drop + Sized {
 
     /// A value that stands for some calls is live, and shows what is delivered after them.
     ghost shows: { (b : Self) (at : Place) (tags : Tags) (h : List Call) → stands b at tags h → (live b ≡ true) × (shown b ≡ rules.out at tags h) };
+
+    /// It has the kinds of its form.
+    ghost kinds: { (kind : Kind) → rules.has_kind kind ≡ is_of_broadcast (FORM == 2) kind };
 
     /// The laws of a single value.
     ghost value_laws: { ValueLaws rules };

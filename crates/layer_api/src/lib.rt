@@ -1,11 +1,18 @@
-//! What the layers promise each other: the traits of a broadcast and of a service, with their laws.
+//! What the layers promise each other: the traits of a broadcast, of a box of binary consensus and of a
+//! service, with their laws.
 //!
 //! Each trait says what its implementations mean on plain lists of calls, the newest first, by one record of rules.
 //! A value stands for a list of calls; no value stores it. A layer above uses a layer by its trait alone.
 #![tactic(auto)]
 
+mod binary_box;
 mod broadcast;
+mod laws;
+mod outcome;
 mod service;
 
+pub use binary_box::BinaryBox;
 pub use broadcast::{Broadcast, Heard};
+pub use laws::inner_runs;
+pub use outcome::Outcome;
 pub use service::Service;

@@ -1,8 +1,10 @@
 ghost use Rattle.std.specs.Prelude.{◌≡◌, ℕ, ◌<◌, Bool, true, List, [], IfOk, reverse};
 ghost use Rattle.ritas_base.specs.declared.id.Id.{Id};
 ghost use Rattle.layer_api.specs.Service.{ServiceRules, Seat, Word, WordLaws};
-ghost use Rattle.layer_api.specs.ServiceCalls.{Inputs, Heeds};
+ghost use Rattle.layer_api.specs.ServiceCalls.{Inputs, Heeds, ServiceShown, Shows, ending_of};
+ghost use Rattle.layer_api.specs.OneLog.{OneLog};
 
+use crate::outcome::Outcome;
 use ritas_base::{Coin, Id, Mem, Params, Say, Slot};
 use std::alloc::Global;
 
@@ -17,6 +19,9 @@ pub trait Service: Drop + Sized {
     /// No call on it was without memory.
     ghost live: { Self → Bool };
 
+    /// What its getters answer.
+    ghost shown: { Self → ServiceShown };
+
     /// Whether the type serves this root service.
     fn serves(root: u8) -> bool
         ensures { result ≡ rules.serves root };
@@ -30,7 +35,7 @@ pub trait Service: Drop + Sized {
     ///
     /// For want of memory `says` is as before, and the value isn't `live`.
     fn input(&mut self, alloc: Global, value: &[u8], says: &mut Vec<Say>) -> Result<(), Mem>
-        ensures { Inputs stands rules live self.old self.new value.now says.old.items says.new.items result };
+        ensures { Inputs stands rules live shown self.old self.new value.now says.old.items says.new.items result };
 
     /// Hears what a slot delivered, and appends the broadcasts that this newly starts. It comes once a slot.
     ///
@@ -43,31 +48,42 @@ pub trait Service: Drop + Sized {
         value: &[u8],
         says: &mut Vec<Say>,
     ) -> Result<(), Mem>
-        ensures { Heeds stands rules live (C.bits coin.now) self.old self.new slot.now value.now says.old.items says.new.items result };
+        ensures { Heeds stands rules live shown (C.bits coin.now) self.old self.new slot.now value.now says.old.items says.new.items result };
 
     /// Whether items of a slot inside the window may be taken.
     fn is_open(&self, slot: &Slot) -> bool
-        ensures { (seat : Seat) (w : List Word) → stands self.now seat w → result ≡ rules.opens seat w slot.now };
+        ensures rules { (seat : Seat) (w : List Word) → stands self.now seat w → result ≡ rules.opens seat w slot.now }
+        ensures shown { result ≡ (shown self.now).opens slot.now };
 
     /// How many rounds are complete.
     fn completed(&self) -> u32
-        ensures { (seat : Seat) (w : List Word) → stands self.now seat w → result ≡ rules.completed seat w };
+        ensures rules { (seat : Seat) (w : List Word) → stands self.now seat w → result ≡ rules.completed seat w }
+        ensures shown { result ≡ (shown self.now).completed };
 
     /// The least command number of an origin that isn't finished.
     fn base(&self, origin: u8) -> u32
-        ensures { (seat : Seat) (w : List Word) → stands self.now seat w → origin < seat.numbers.n → result ≡ rules.base seat w origin };
+        ensures rules { (seat : Seat) (w : List Word) → stands self.now seat w → origin < seat.numbers.n → result ≡ rules.base seat w origin }
+        ensures shown { result ≡ (shown self.now).base origin };
 
     /// The number that the next input gets.
     fn next_number(&self) -> u32
-        ensures { (seat : Seat) (w : List Word) → stands self.now seat w → result ≡ rules.next_number seat w };
+        ensures rules { (seat : Seat) (w : List Word) → stands self.now seat w → result ≡ rules.next_number seat w }
+        ensures shown { result ≡ (shown self.now).next_number };
 
     /// Whether the one input of a root service with one instance is there.
     fn given(&self) -> bool
-        ensures { (seat : Seat) (w : List Word) → stands self.now seat w → result ≡ rules.given seat w };
+        ensures rules { (seat : Seat) (w : List Word) → stands self.now seat w → result ≡ rules.given seat w }
+        ensures shown { result ≡ (shown self.now).given };
 
     /// The identifier log, the oldest first.
     fn done(&self) -> &[Id]
-        ensures { (seat : Seat) (w : List Word) → stands self.now seat w → result.now ≡ reverse (rules.done seat w) };
+        ensures rules { (seat : Seat) (w : List Word) → stands self.now seat w → result.now ≡ reverse (rules.done seat w) }
+        ensures shown { result.now ≡ reverse (shown self.now).done };
+
+    /// What became of the one instance.
+    fn outcome(&self) -> Outcome<'_>
+        ensures rules { (seat : Seat) (w : List Word) → stands self.now seat w → ending_of result ≡ rules.outcome seat w }
+        ensures shown { ending_of result ≡ (shown self.now).outcome };
 
     /// Whether no call on this value answered want of memory.
     fn live(&self) -> bool
@@ -76,6 +92,12 @@ pub trait Service: Drop + Sized {
     /// A value that stands for some words is live.
     ghost lives: { (s : Self) (seat : Seat) (w : List Word) → stands s seat w → live s ≡ true };
 
+    /// And its getters answer what the rules say.
+    ghost shows: { (s : Self) (seat : Seat) (w : List Word) → stands s seat w → Shows rules seat w (shown s) };
+
     /// The laws of a single value.
     ghost word_laws: { WordLaws rules };
+
+    /// The law of one log, over every run of correct replicas.
+    ghost one_log: { OneLog rules };
 }

@@ -1,5 +1,5 @@
 -- Bracha's reliable broadcast at one slot, as the calls on a replica's value tell it.
-use Rattle.std.specs.Prelude.{ℕ, Bool, true, false, ◌||◌, List, [], ◌++◌, Option, is_some, nat_le}
+use Rattle.std.specs.Prelude.{ℕ, Bool, true, false, ◌||◌, List, ◌++◌, Option, is_some, nat_le}
 use Rattle.std.specs.List.{find}
 use Rattle.ritas_base.specs.declared.item.Kind.{Kind}
 use Rattle.ritas_base.specs.declared.item.Kind.TheVariants as kinds
@@ -57,6 +57,4 @@ bracha = record {
   out = λ at tags h. out_of at h;
   repeats = λ at tags h i. is_some (first h i.from i.kind);
   ready = λ at tags h i. true;
-  claims = λ at tags h i. [];
-  met = λ at tags h. [];
 }

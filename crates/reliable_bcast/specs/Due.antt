@@ -11,7 +11,7 @@ use Rattle.ritas_base.specs.History.{Call, told, start_of, first, started}
 use Rattle.ritas_base.specs.HistoryLaws.{first_stays}
 use Rattle.ritas_base.specs.Messages.{Place, msg_eq, has, to_all}
 use Rattle.ritas_base.specs.MessagesLaws.{message, message_itself, has_append, to_all_has, to_all_itself}
-use Rattle.layer_api.specs.OneValue.{Has}
+use Rattle.layer_api.specs.Runs.{Has}
 use Rattle.reliable_bcast.specs.Bracha.{is_reliable, some_backed, ready_value, due_of}
 
 -- the value that is due with a kind

@@ -15,7 +15,8 @@ use Rattle.ritas_base.specs.HistoryLaws.{told_item, voters_stay, voters_are, is_
 use Rattle.ritas_base.specs.Messages.{Place}
 use Rattle.ritas_base.specs.Quorums.{meet_two, meet_three}
 use Rattle.ritas_base.specs.Tags.{Tags}
-use Rattle.layer_api.specs.OneValue.{Step, calls_of, IsEnough, Group, place_of, IsFed, IsRun, OneValue}
+use Rattle.layer_api.specs.Runs.{Step, calls_of, IsEnough}
+use Rattle.layer_api.specs.OneValue.{Group, place_of, IsFed, IsRun, OneValue}
 use Rattle.reliable_bcast.specs.Bracha.{bracha, is_backed, is_carried, some_backed, some_carried, ready_value, out_of, due_of}
 use Rattle.reliable_bcast.specs.Due.{value_due, value_stays, due_is, listed_has}
 
@@ -32,30 +33,30 @@ module _ (p : Numbers) (s : Slot) (is_correct : ℕ → Bool) (tags : ℕ → Ta
   abbrev group : Group
   group = record { rules = bracha; numbers = p; slot = s; is_correct = is_correct; tags = tags }
 
-  abbrev Run : List Step → Type 0
+  abbrev Run : List (Step Call) → Type 0
   Run xs = IsRun group xs
 
-  abbrev IsDueAt : ℕ → List Step → Kind → List ℕ → Type 0
+  abbrev IsDueAt : ℕ → List (Step Call) → Kind → List ℕ → Type 0
   IsDueAt k xs kind v = value_due (place_of group k) (calls_of k xs) kind ≡ Some v
 
   -- a fact that each call keeps is kept by a step
-  kept_by : (P : List Call → Type 0) → ((c : Call) (h : List Call) → P h → P (c ∷ h)) → (i : ℕ) (x : Step) (xs : List Step)
+  kept_by : (P : List Call → Type 0) → ((c : Call) (h : List Call) → P h → P (c ∷ h)) → (i : ℕ) (x : Step Call) (xs : List (Step Call))
       → P (calls_of i xs) → P (calls_of i (x ∷ xs))
   kept_by P more i x xs h = cond_both (x.who == i) (x.call ∷ calls_of i xs) (calls_of i xs) P (λ q. more x.call (calls_of i xs) h) (λ q. h)
 
-  due_step : (k : ℕ) (x : Step) (xs : List Step) (kind : Kind) (v : List ℕ) → IsDueAt k xs kind v → IsDueAt k (x ∷ xs) kind v
+  due_step : (k : ℕ) (x : Step Call) (xs : List (Step Call)) (kind : Kind) (v : List ℕ) → IsDueAt k xs kind v → IsDueAt k (x ∷ xs) kind v
   due_step k x xs kind v = kept_by (λ h. value_due (place_of group k) h kind ≡ Some v) (λ c h. value_stays (place_of group k) c h kind v) k x xs
 
-  abbrev before : List Step → List Step
+  abbrev before : List (Step Call) → List (Step Call)
   before [] = []
   before (x ∷ xs) = xs
 
-  due_before : (k : ℕ) (xs : List Step) (kind : Kind) (v : List ℕ) → IsDueAt k (before xs) kind v → IsDueAt k xs kind v
+  due_before : (k : ℕ) (xs : List (Step Call)) (kind : Kind) (v : List ℕ) → IsDueAt k (before xs) kind v → IsDueAt k xs kind v
   due_before k [] kind v e = e
   due_before k (x ∷ xs) kind v e = due_step k x xs kind v e
 
   -- an item of a correct replica was due there
-  item_due : (xs : List Step) (i k : ℕ) (y : Item) (kind : Kind) (v : List ℕ) → is_correct k ≡ true → IsFed group xs i (Take y)
+  item_due : (xs : List (Step Call)) (i k : ℕ) (y : Item) (kind : Kind) (v : List ℕ) → is_correct k ≡ true → IsFed group xs i (Take y)
       → (y.from ≡ k) × (y.kind ≡ kind) × (y.value ≡ v) → IsDueAt k xs kind v
   item_due xs i k y kind v correct fed told =
       let d = fed.1 (ap is_correct told.0 ∙ correct) in
@@ -65,7 +66,7 @@ module _ (p : Numbers) (s : Slot) (is_correct : ℕ → Bool) (tags : ℕ → Ta
       (subst (λ (l : Kind). IsDueAt y.from xs l d.message.value) (ap (λ (z : Item). z.kind) d.same ∙ told.1) due.value))
 
   -- what a correct replica has as the first of a kind from a correct one was due there before
-  first_due : (i k : ℕ) (kind : Kind) (v : List ℕ) → is_correct k ≡ true → (xs : List Step) → Run xs
+  first_due : (i k : ℕ) (kind : Kind) (v : List ℕ) → is_correct k ≡ true → (xs : List (Step Call)) → Run xs
       → first (calls_of i xs) k kind ≡ Some v → IsDueAt k (before xs) kind v
   first_due i k kind v correct [] run e = absurd (cc)
   first_due i k kind v correct (x ∷ xs) run e = go (x.who == i) refl e (λ q. due_before k xs kind v (first_due i k kind v correct xs run.2 q))
@@ -82,12 +83,12 @@ module _ (p : Numbers) (s : Slot) (is_correct : ℕ → Bool) (tags : ℕ → Ta
       go false e q older = older q
 
   -- some correct replica has a quorum of ECHO voters for v
-  pub record IsEchoed (xs : List Step) (v : List ℕ) : Type 0 where
+  pub record IsEchoed (xs : List (Step Call)) (v : List ℕ) : Type 0 where
     pub at : ℕ
     pub correct : is_correct at ≡ true
     pub many : quorum_of p ≤ voters p.n (calls_of at xs) Echo v
 
-  echoed_step : (x : Step) (xs : List Step) (v : List ℕ) → IsEchoed xs v → IsEchoed (x ∷ xs) v
+  echoed_step : (x : Step Call) (xs : List (Step Call)) (v : List ℕ) → IsEchoed xs v → IsEchoed (x ∷ xs) v
   echoed_step x xs v t =
       record {
         at = t.at;
@@ -113,7 +114,7 @@ module _ (p : Numbers) (s : Slot) (is_correct : ℕ → Bool) (tags : ℕ → Ta
       record { voter = met.member; correct = met.second; voted = is_value_is v (first h met.member kind) met.first }
 
   -- a value for which READY is due at a correct replica is echoed
-  ready_echoed : (xs : List Step) → Run xs → (i : ℕ) (v : List ℕ) → is_correct i ≡ true → ready_value p (calls_of i xs) ≡ Some v → IsEchoed xs v
+  ready_echoed : (xs : List (Step Call)) → Run xs → (i : ℕ) (v : List ℕ) → is_correct i ≡ true → ready_value p (calls_of i xs) ≡ Some v → IsEchoed xs v
   ready_echoed [] run i v correct e = absurd (cc)
   ready_echoed (x ∷ xs) run i v correct e = go (x.who == i) refl e (λ k ck q. echoed_step x xs v (ready_echoed xs run.2 k v ck q))
     where
@@ -139,14 +140,14 @@ module _ (p : Numbers) (s : Slot) (is_correct : ℕ → Bool) (tags : ℕ → Ta
       go false t q ih = ih i correct q
 
   -- what is delivered is echoed
-  out_echoed : (xs : List Step) → Run xs → (i : ℕ) (v : List ℕ) → out_of (place_of group i) (calls_of i xs) ≡ Some v → IsEchoed xs v
+  out_echoed : (xs : List (Step Call)) → Run xs → (i : ℕ) (v : List ℕ) → out_of (place_of group i) (calls_of i xs) ≡ Some v → IsEchoed xs v
   out_echoed xs run i v e =
       let many = out_voted (place_of group i) (calls_of i xs) v e in
       let one = correct_voter Ready v (calls_of i xs) (omega (arith, many)) in
       ready_echoed xs run one.voter v one.correct (due_before one.voter xs Ready v (first_due i one.voter Ready v one.correct xs run one.voted))
 
   -- two quorums of ECHO voters share a correct one, whose first INIT both are for
-  echoed_same : (xs : List Step) → Run xs → (v u : List ℕ) → IsEchoed xs v → IsEchoed xs u → v ≡ u
+  echoed_same : (xs : List (Step Call)) → Run xs → (v u : List ℕ) → IsEchoed xs v → IsEchoed xs u → v ≡ u
   echoed_same xs run v u a b =
       let all = enough.many in
       let many_v = a.many in
@@ -164,7 +165,7 @@ module _ (p : Numbers) (s : Slot) (is_correct : ℕ → Bool) (tags : ℕ → Ta
       same_Some v u (sym init_v ∙ init_u)
 
   -- a correct origin started what is echoed
-  echoed_started : (xs : List Step) → Run xs → (v : List ℕ) → is_correct s.origin ≡ true → IsEchoed xs v → started (calls_of s.origin xs) ≡ Some v
+  echoed_started : (xs : List (Step Call)) → Run xs → (v : List ℕ) → is_correct s.origin ≡ true → IsEchoed xs v → started (calls_of s.origin xs) ≡ Some v
   echoed_started xs run v correct a =
       let many = a.many in
       let session = enough.session.enough in

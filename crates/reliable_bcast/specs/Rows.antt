@@ -1,19 +1,25 @@
 -- Worked rows: four replicas, one of which may be faulty. Of a list of calls or steps the newest is first.
-use Rattle.std.specs.Prelude.{◌≡◌, ℕ, Bool, true, ◌&&◌, nat_lt, List, [], ◌∷◌, Some, None, refl}
-use Rattle.std.proofs.Common.{arith, inl, inr, sym}
-use Rattle.std.proofs.lemmas.Bool.{or_cases, and_parts, ltb-true}
+use Rattle.std.specs.Prelude.{◌≡◌, ℕ, Bool, true, ◌==◌, ◌&&◌, nat_lt, List, [], ◌∷◌, Some, None, Option, refl, ⊤, false}
+use Rattle.std.specs.Option.{option_or}
+use Rattle.std.proofs.Common.{arith, inl, inr, sym, subst, ap, ◌∙◌}
+use Rattle.std.proofs.lemmas.Bool.{or_cases, and_parts, ltb-true, cond_both, both_ways}
 use Rattle.ritas_base.specs.declared.item.Kind.{Kind}
-use Rattle.ritas_base.specs.declared.item.Kind.TheVariants.{Init, Echo, Ready}
+use Rattle.ritas_base.specs.declared.item.Kind.TheVariants as kinds
+use Rattle.ritas_base.specs.declared.item.Kind.TheVariants.{Init, Echo, Ready, Send, Column}
 use Rattle.ritas_base.specs.declared.item.Item.{Item}
 use Rattle.ritas_base.specs.declared.item.Msg.{Msg}
 use Rattle.ritas_base.specs.declared.slot.Slot.{Slot}
 use Rattle.ritas_base.specs.Numbers.{Numbers}
-use Rattle.ritas_base.specs.History.{Call, Start, Take}
-use Rattle.ritas_base.specs.Messages.{Place, msg_cmp, msg_eq, has, without, to_all}
+use Rattle.ritas_base.specs.History.{Call, Start, Take, told}
+use Rattle.ritas_base.specs.Shortest.{option_or_none}
+use Rattle.ritas_base.specs.Messages.{Place, msg_cmp, msg_eq, has, kind_eq, without, to_all}
 use Rattle.ritas_base.specs.MessagesLaws.{message, same_message}
 use Rattle.ritas_base.specs.Tags.{Tags}
 use Rattle.layer_api.specs.Broadcast.{news, is_of_origin, is_for_origin}
-use Rattle.layer_api.specs.OneValue.{Step, Has, Group, due_at, out_at, IsEnough, IsRun, IsClear, SameDigests}
+use Rattle.layer_api.specs.Broadcast.{IsPayload}
+use Rattle.layer_api.specs.Entries.{sent, prints_for}
+use Rattle.layer_api.specs.Runs.{Step, Has, calls_of, IsEnough}
+use Rattle.layer_api.specs.OneValue.{Group, place_of, due_at, out_at, IsRun, IsClear, SameDigests}
 use Rattle.reliable_bcast.specs.Bracha.{bracha, is_reliable, due_of, out_of}
 
 abbrev numbers : Numbers
@@ -99,11 +105,11 @@ delivered_at_three_readies = refl
 abbrev pub group : Group
 group = record { rules = bracha; numbers = numbers; slot = slot; is_correct = λ k. nat_lt k 3; tags = λ k. tags }
 
-abbrev hears : ℕ → ℕ → Kind → Step
+abbrev hears : ℕ → ℕ → Kind → Step Call
 hears i k kind = record { who = i; call = heard k kind a }
 
 -- 0 starts, all hear INIT, 0 and 1 hear three ECHOs, 2 hears two READYs, 0 hears three
-abbrev pub talk : List Step
+abbrev pub talk : List (Step Call)
 talk =
     hears 0 2 Ready ∷ hears 0 1 Ready ∷ hears 0 0 Ready
     ∷ hears 2 1 Ready ∷ hears 2 0 Ready
@@ -123,11 +129,41 @@ enough =
 pub one_digest : SameDigests group.tags
 one_digest = λ i j m. refl
 
+-- no call of these brings a SEND
+abbrev AreQuiet : List (Step Call) → Type 0
+AreQuiet [] = ⊤
+AreQuiet (x ∷ xs) = (told 0 Send x.call ≡ None) × AreQuiet xs
+
+nothing_sent : (steps : List (Step Call)) → AreQuiet steps → (i : ℕ) → sent (place_of group i) (calls_of i steps) ≡ None
+nothing_sent [] quiet i = refl
+nothing_sent (x ∷ xs) quiet i =
+    cond_both (x.who == i) (x.call ∷ calls_of i xs) (calls_of i xs) (λ h. sent (place_of group i) h ≡ None)
+    (λ q. ap (option_or (sent (place_of group i) (calls_of i xs))) quiet.0 ∙ (option_or_none (sent (place_of group i) (calls_of i xs)) ∙ nothing_sent xs quiet.1 i))
+    (λ q. nothing_sent xs quiet.1 i)
+
 pub clear : IsClear group talk
-clear = λ i j x y ci cj there. absurd there
+clear = λ i j x y ci cj there.
+    let quiet : AreQuiet talk = (refl, (refl, (refl, (refl, (refl, (refl, (refl, (refl, (refl, (refl, (refl, (refl, (refl, (refl, (refl, tt))))))))))))))) in
+    absurd (subst (λ (o : Option (List ℕ)). Has (prints_for (place_of group i) tags o) x) (nothing_sent talk quiet i) there)
+
+not_column : (kind : Kind) → is_reliable kind ≡ true → kind_eq kind Column ≡ false
+not_column kinds.Init e = refl
+not_column kinds.Echo e = refl
+not_column kinds.Ready e = refl
+not_column kinds.Send e = absurd cc
+not_column kinds.Hashes e = absurd cc
+not_column kinds.Column e = absurd cc
+
+no_payload : (kind : Kind) → is_reliable kind ≡ true → (v : List ℕ) → IsPayload 4 kind v
+no_payload kinds.Init e v = tt
+no_payload kinds.Echo e v = tt
+no_payload kinds.Ready e v = tt
+no_payload kinds.Send e v = absurd cc
+no_payload kinds.Hashes e v = absurd cc
+no_payload kinds.Column e v = absurd cc
 
 -- the steps are a run
-pub record Told (steps : List Step) : Type 0 where
+pub record Told (steps : List (Step Call)) : Type 0 where
   pub run : IsRun group steps
 
 listed : (ms : List Msg) (m : Msg) → has ms m ≡ true → Has ms m
@@ -136,10 +172,10 @@ listed (x ∷ ms) m e =
     elim (or_cases (msg_eq m x) (has ms m) e) [ inl here ↦ inl (sym (same_message m x here)) | inr later ↦ inr (listed ms m later) ]
 
 -- i is correct, k is a replica, and what i hears of it was due there
-abbrev is_said : List Step → ℕ → ℕ → Kind → Bool
+abbrev is_said : List (Step Call) → ℕ → ℕ → Kind → Bool
 is_said steps i k kind = (nat_lt i 3 && nat_lt k 4) && has (due_at group k steps) (message slot kind a)
 
-hear : {steps : List Step} → Told steps → (i k : ℕ) (kind : Kind) → is_reliable kind ≡ true → (is_of_origin kind ≡ true → k ≡ 0) → (is_for_origin kind ≡ true → i ≡ 0)
+hear : {steps : List (Step Call)} → Told steps → (i k : ℕ) (kind : Kind) → is_reliable kind ≡ true → (is_of_origin kind ≡ true → k ≡ 0) → (is_for_origin kind ≡ true → i ≡ 0)
     → is_said steps i k kind ≡ true → Told (hears i k kind ∷ steps)
 hear {steps} told i k kind reliable origin receiver said =
     let whole = and_parts (nat_lt i 3 && nat_lt k 4) (has (due_at group k steps) (message slot kind a)) said in
@@ -148,21 +184,21 @@ hear {steps} told i k kind reliable origin receiver said =
       run = (
         both.0,
         (
-          record { here = refl; kind = reliable; sender = ltb-true k 4 both.1; origin = origin; receiver = receiver; in_time = refl },
+          record { here = refl; kind = reliable; sender = ltb-true k 4 both.1; origin = origin; receiver = receiver; in_time = refl; payload = no_payload kind reliable a },
           λ correct. record { message = message slot kind a; listed = listed (due_at group k steps) (message slot kind a) whole.1; reached = refl; same = refl },
-          λ claim there correct. absurd there,
+          λ echoer entry correct claim row. absurd (both_ways (kind_eq kind Column) (not_column kind reliable) (and_parts (kind_eq kind Column) _ claim).0),
         ),
         told.run,
       );
     }
 
-init : {steps : List Step} → Told steps → (i : ℕ) → is_said steps i 0 Init ≡ true → Told (hears i 0 Init ∷ steps)
+init : {steps : List (Step Call)} → Told steps → (i : ℕ) → is_said steps i 0 Init ≡ true → Told (hears i 0 Init ∷ steps)
 init told i said = hear told i 0 Init refl (λ e. refl) (λ e. absurd (cc)) said
 
-echo : {steps : List Step} → Told steps → (i k : ℕ) → is_said steps i k Echo ≡ true → Told (hears i k Echo ∷ steps)
+echo : {steps : List (Step Call)} → Told steps → (i k : ℕ) → is_said steps i k Echo ≡ true → Told (hears i k Echo ∷ steps)
 echo told i k said = hear told i k Echo refl (λ e. absurd (cc)) (λ e. absurd (cc)) said
 
-ready : {steps : List Step} → Told steps → (i k : ℕ) → is_said steps i k Ready ≡ true → Told (hears i k Ready ∷ steps)
+ready : {steps : List (Step Call)} → Told steps → (i k : ℕ) → is_said steps i k Ready ≡ true → Told (hears i k Ready ∷ steps)
 ready told i k said = hear told i k Ready refl (λ e. absurd (cc)) (λ e. absurd (cc)) said
 
 begun : Told (record { who = 0; call = Start a } ∷ [])

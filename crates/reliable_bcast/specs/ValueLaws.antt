@@ -1,5 +1,5 @@
 -- The laws of a single value, over the rules of reliable broadcast.
-use Rattle.std.specs.Prelude.{◌≡◌, true, not, refl, [], ◌∷◌}
+use Rattle.std.specs.Prelude.{◌≡◌, true, false, not, refl, [], ◌∷◌}
 use Rattle.std.proofs.Common.{ap}
 use Rattle.ritas_base.specs.declared.item.Kind.{Kind}
 use Rattle.ritas_base.specs.declared.item.Kind.TheVariants as kinds
@@ -8,6 +8,7 @@ use Rattle.ritas_base.specs.declared.item.Msg.{Msg}
 use Rattle.ritas_base.specs.History.{Start}
 use Rattle.ritas_base.specs.Messages.{kind_eq}
 use Rattle.ritas_base.specs.Shortest.{at_shortest_stays}
+use Rattle.frame_codec.specs.Body.{is_of_broadcast}
 use Rattle.layer_api.specs.OneValue.{ValueLaws}
 use Rattle.reliable_bcast.specs.Bracha.{bracha, some_carried, due_of}
 use Rattle.reliable_bcast.specs.Steps.{out_quiet}
@@ -36,6 +37,13 @@ value_laws_of_bracha =
       out_good = λ at tags mode h v of_slot good e. out_good at mode h v of_slot good e;
       repeats_nothing = λ at tags i. refl;
       ready_nothing = λ at tags i has_it. at_first i.kind has_it;
-      met_nothing = λ at tags a there. there;
-      met_stays = λ at tags h c a there. absurd there;
     }
+
+-- the kinds of reliable broadcast are those of its form
+pub kinds_of_bracha : (kind : Kind) → bracha.has_kind kind ≡ is_of_broadcast false kind
+kinds_of_bracha kinds.Init = refl
+kinds_of_bracha kinds.Echo = refl
+kinds_of_bracha kinds.Ready = refl
+kinds_of_bracha kinds.Send = refl
+kinds_of_bracha kinds.Hashes = refl
+kinds_of_bracha kinds.Column = refl

@@ -3,7 +3,7 @@ ghost use Rattle.std.proofs.Common.{ap};
 ghost use Rattle.reliable_bcast.specs.declared.rb.Rb.{Rb};
 ghost use Rattle.reliable_bcast.specs.Bracha.{bracha};
 ghost use Rattle.reliable_bcast.specs.State.{state_of};
-ghost use Rattle.reliable_bcast.specs.ValueLaws.{value_laws_of_bracha};
+ghost use Rattle.reliable_bcast.specs.ValueLaws.{value_laws_of_bracha, kinds_of_bracha};
 ghost use Rattle.reliable_bcast.specs.OneValue.{one_value_of_bracha};
 
 use crate::rb::Rb;
@@ -16,15 +16,21 @@ impl Broadcast for Rb {
 
     ghost rules = { bracha };
 
+    ghost FORM = { 1 };
+
     ghost live = { λ b. b.live };
 
     ghost shown = { λ b. b.delivered };
 
     ghost shows = { λ b at tags h e. (ap (λ (x : Rb). x.live) e, ap (λ (x : Rb). x.delivered) e) };
 
+    ghost kinds = { kinds_of_bracha };
+
     ghost value_laws = { value_laws_of_bracha };
 
     ghost one_value = { one_value_of_bracha };
+
+    const FORM: u8 = 1;
 
     fn new(alloc: Global, p: &Params, _me: u8, slot: Slot) -> Result<Rb, Mem> {
         Ok(Rb::make(alloc, p, slot))

@@ -17,12 +17,12 @@ zeros (suc n) zero = refl
 zeros (suc n) (suc j) = zeros n j
 
 -- nothing is counted, and it isn't stopped
-pub record IsFresh {S B C : Type 0} (rep : Replica S B C) : Type 0 where
+pub record IsFresh {S E C : Type 0} (rep : Replica S E C) : Type 0 where
   pub going : rep.stopped ≡ false
   pub each : (j : ℕ) → slice_index rep.counts j ≡ 0
   pub all : rep.sent ≡ 0
 
-pub fresh_stands : {S B C : Type 0} (m : Meaning S B C KeyRow) (rep : Replica S B C) (r : Rules) (k : KeyRow) (held : List (List Kept)) →
+pub fresh_stands : {S E C : Type 0} (m : Meaning S E C KeyRow) (rep : Replica S E C) (r : Rules) (k : KeyRow) (held : List (List Kept)) →
     IsFresh rep → rep.channel ≡ k → k.me ≡ r.casts.me → k.n ≡ r.casts.numbers.n → CoreStands m rep.core r (first_state held)
     → ReplicaStands m rep r k (first_state held)
 fresh_stands m rep r k held fresh keys own many stands = record {

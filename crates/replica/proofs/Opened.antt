@@ -62,7 +62,7 @@ found_call r k st bytes item found = record {
   does = ap (given_frame r k st) found.read.opens ∙ ap (given_body r k st) found.read.body;
 }
 
-refused_handles : {S B C : Type 0} (m : Meaning S B C KeyRow) (rep : Replica S B C) (bytes : List ℕ) (before : List OutFrame) (r : Rules) (k : KeyRow) (st : CoreState) (refusal : Refusal) →
+refused_handles : {S E C : Type 0} (m : Meaning S E C KeyRow) (rep : Replica S E C) (bytes : List ℕ) (before : List OutFrame) (r : Rules) (k : KeyRow) (st : CoreState) (refusal : Refusal) →
     ReplicaStands m rep r k st → handled r k st (Frame bytes) ≡ refused st refusal → Handles (ReplicaStands m) rep (Frame bytes) before before (Err refusal) r k st
 refused_handles m rep bytes before r k st refusal stands same =
     let P : CoreState → Type 0 = λ x. ReplicaStands m rep r k x in
@@ -73,7 +73,7 @@ refused_handles m rep bytes before r k st refusal stands same =
     }
 
 -- a frame that brings no item
-pub refuses : {S B C : Type 0} (m : Meaning S B C KeyRow) (rep : Replica S B C) (bytes : List ℕ) (before : List OutFrame) (r : Rules) (k : KeyRow) (st : CoreState) (refusal : Refusal) →
+pub refuses : {S E C : Type 0} (m : Meaning S E C KeyRow) (rep : Replica S E C) (bytes : List ℕ) (before : List OutFrame) (r : Rules) (k : KeyRow) (st : CoreState) (refusal : Refusal) →
     ReplicaStands m rep r k st → Reads r k bytes (Err refusal) → Does (ReplicaStands m) rep (Frame bytes) before before (Err refusal) r k st
 refuses m rep bytes before r k st (refusals.Core fault) stands read = absurd read
 refuses m rep bytes before r k st (refusals.Open fault) stands read =
@@ -86,7 +86,7 @@ refuses m rep bytes before r k st (refusals.Body fault) stands read =
 -- ---- reading
 
 -- the core stands for some state by these rules, whether the replica is stopped or not
-pub core_of : {S B C : Type 0} (m : Meaning S B C KeyRow) (rep : Replica S B C) (r : Rules) (k : KeyRow) (st : CoreState) →
+pub core_of : {S E C : Type 0} (m : Meaning S E C KeyRow) (rep : Replica S E C) (r : Rules) (k : KeyRow) (st : CoreState) →
     ReplicaStands m rep r k st → (inner : CoreState) × CoreStands m rep.core r inner
 core_of m rep r k st stands = elim stands.state [ inl on ↦ (st, on.core) | inr off ↦ (off.inner, off.core) ]
 

@@ -30,7 +30,7 @@ use Rattle.replica.proofs.Counting.{made_more}
 use Rattle.replica.proofs.Moves.{moved_view}
 
 -- the replica with another core
-abbrev pub with_core : {S B C : Type 0} → Replica S B C → Core S B C KeyRow → Replica S B C
+abbrev pub with_core : {S E C : Type 0} → Replica S E C → Core S E C KeyRow → Replica S E C
 with_core old core = record { core = core; channel = old.channel; counts = old.counts; sent = old.sent; stopped = old.stopped }
 
 -- what a call is given to the core as, and so does
@@ -38,7 +38,7 @@ pub record IsCall (r : Rules) (k : KeyRow) (st : CoreState) (call : Call) (what 
   pub given : core_call r k call ≡ Some what
   pub does : handled r k st call ≡ framed r k st (moved r st what)
 
-pub going_of : {S B C : Type 0} (m : Meaning S B C KeyRow) (rep : Replica S B C) (r : Rules) (k : KeyRow) (st : CoreState) →
+pub going_of : {S E C : Type 0} (m : Meaning S E C KeyRow) (rep : Replica S E C) (r : Rules) (k : KeyRow) (st : CoreState) →
     ReplicaStands m rep r k st → rep.stopped ≡ false → StandsGoing m rep r k st
 going_of m rep r k st stands going = elim stands.state [
   | inl on ↦ on
@@ -46,7 +46,7 @@ going_of m rep r k st stands going = elim stands.state [
 ]
 
 -- the core stands for another state with the same history
-kept : {S B C : Type 0} (m : Meaning S B C KeyRow) (old : Replica S B C) (core : Core S B C KeyRow) (r : Rules) (k : KeyRow) (st after : CoreState) →
+kept : {S E C : Type 0} (m : Meaning S E C KeyRow) (old : Replica S E C) (core : Core S E C KeyRow) (r : Rules) (k : KeyRow) (st after : CoreState) →
     ReplicaStands m old r k st → StandsGoing m old r k st → CoreStands m core r after → after.history ≡ st.history
     → (after.live ≡ true → st.live ≡ true) → ReplicaStands m (with_core old core) r k after
 kept m old core r k st after stands on now same live = record {
@@ -66,17 +66,17 @@ NotMem (Err (refusals.Core faults.Mem)) = ⊥
 NotMem (Err (refusals.Body body.Mem)) = ⊥
 NotMem result = Unit {0}
 
-pub does_of : {S B C : Type 0} (m : Meaning S B C KeyRow) (new : Replica S B C) (call : Call) (before after : List OutFrame) (r : Rules) (k : KeyRow) (st : CoreState) (result : Result Answer Refusal) →
+pub does_of : {S E C : Type 0} (m : Meaning S E C KeyRow) (new : Replica S E C) (call : Call) (before after : List OutFrame) (r : Rules) (k : KeyRow) (st : CoreState) (result : Result Answer Refusal) →
     NotMem result → Handles (ReplicaStands m) new call before after result r k st → Does (ReplicaStands m) new call before after result r k st
 does_of m new call before after r k st (Err (refusals.Core faults.Mem)) bad h = absurd bad
 does_of m new call before after r k st (Err (refusals.Body body.Mem)) bad h = absurd bad
 does_of m new call before after r k st result fine h = h
 
 -- nothing went out, and the replica is as before with the core as it is now
-quiet_handles : {S B C : Type 0} (m : Meaning S B C KeyRow) (old new : Replica S B C) (core : Core S B C KeyRow) (what : What) (call : Call) (ms : List Msg) (before after : List OutFrame) (answer : Result Answer CoreFault) (r : Rules) (k : KeyRow) (st : CoreState) →
+quiet_handles : {S E C : Type 0} (m : Meaning S E C KeyRow) (old new : Replica S E C) (core : Core S E C KeyRow) (what : What) (call : Call) (ms : List Msg) (before after : List OutFrame) (answer : Result Answer CoreFault) (r : Rules) (k : KeyRow) (st : CoreState) →
     StandsGoing m old r k st → ReplicaStands m old r k st → IsCall r k st call what → calls.Moves m old.core core what [] ms answer r st
     → (answer ≡ Ok answers.Took → ⊥) → Keeps (with_core old core) new before after → Handles (ReplicaStands m) new call before after (core_answer answer) r k st
-quiet_handles {S = S} {B = B} {C = C} m old new core what call ms before after answer r k st on stands call_is did other keeps = elim (moved_view r st what) [
+quiet_handles {S = S} {E = E} {C = C} m old new core what call ms before after answer r k st on stands call_is did other keeps = elim (moved_view r st what) [
   | inl enters ↦ absurd (other (did.answer ∙ enters.answer))
   | inr quiet ↦ record {
     answer = ap core_answer did.answer ∙ ap (λ h. h.answer) (sym call_is.does);
@@ -85,7 +85,7 @@ quiet_handles {S = S} {B = B} {C = C} m old new core what call ms before after a
         ∙ ap (λ h. before ++ h.out) (sym call_is.does);
     state =
         let P : CoreState → Type 0 = λ x. ReplicaStands m new r k x in
-        let Q : Replica S B C → Type 0 = λ x. ReplicaStands m x r k (moved r st what).state in
+        let Q : Replica S E C → Type 0 = λ x. ReplicaStands m x r k (moved r st what).state in
         subst P (ap (λ h. h.state) (sym call_is.does)) (subst Q (sym keeps.same) (kept m old core r k st (moved r st what).state stands on did.state quiet.history quiet.live));
   }
 ]
@@ -101,7 +101,7 @@ counted_more r k h e xs ys sent_before sent before after was now = record {
 }
 
 -- what went out is counted by the keys that the replica stands for
-counts_by : {S B C : Type 0} (old : Replica S B C) (k : KeyRow) (count : ℕ → ℕ) (ms : List Msg) (ys : List ℕ) (sent : ℕ) (before after : List OutFrame) →
+counts_by : {S E C : Type 0} (old : Replica S E C) (k : KeyRow) (count : ℕ → ℕ) (ms : List Msg) (ys : List ℕ) (sent : ℕ) (before after : List OutFrame) →
     old.channel ≡ k → AreCounts k.n old.counts count
     → (AreCounts old.channel.n old.counts count → Counts old.channel count ms ys old.sent sent before after) → Counts k count ms ys old.sent sent before after
 counts_by old k count ms ys sent before after same are counts =
@@ -109,10 +109,10 @@ counts_by old k count ms ys sent before after same are counts =
     subst P same counts are
 
 -- the core took an entry, and the frames went out
-took_handles : {S B C : Type 0} (m : Meaning S B C KeyRow) (old new : Replica S B C) (core : Core S B C KeyRow) (what : What) (call : Call) (ms : List Msg) (before after : List OutFrame) (r : Rules) (k : KeyRow) (st : CoreState) →
+took_handles : {S E C : Type 0} (m : Meaning S E C KeyRow) (old new : Replica S E C) (core : Core S E C KeyRow) (what : What) (call : Call) (ms : List Msg) (before after : List OutFrame) (r : Rules) (k : KeyRow) (st : CoreState) →
     StandsGoing m old r k st → ReplicaStands m old r k st → IsCall r k st call what → calls.Moves m old.core core what [] ms (Ok answers.Took) r st
     → PutsOut (with_core old core) new ms before after → Handles (ReplicaStands m) new call before after (Ok answers.Took) r k st
-took_handles {S = S} {B = B} {C = C} m old new core what call ms before after r k st on stands call_is did puts = elim (moved_view r st what) [
+took_handles {S = S} {E = E} {C = C} m old new core what call ms before after r k st on stands call_is did puts = elim (moved_view r st what) [
   | inl enters ↦
       let was = on.counted enters.live in
       let sent_are : ms ≡ new_messages r st.history enters.entry = did.out ∙ enters.out in
@@ -122,7 +122,7 @@ took_handles {S = S} {B = B} {C = C} m old new core what call ms before after r 
         out = counts.frames ∙ ap (λ ms. before ++ frames_of k (count_for r st.history) ms) did.out ∙ ap (λ h. before ++ h.out) (sym call_is.does);
         state =
             let P : CoreState → Type 0 = λ x. ReplicaStands m new r k x in
-            let Q : Core S B C KeyRow → Type 0 = λ x. CoreStands m x r (moved r st what).state in
+            let Q : Core S E C KeyRow → Type 0 = λ x. CoreStands m x r (moved r st what).state in
             let R : List Entry → Type 0 = λ h. AreCounted r k h new.counts new.sent in
             let M : List Msg → Type 0 = λ ms. Counts k (count_for r st.history) ms new.counts old.sent new.sent before after in
             subst P (ap (λ h. h.state) (sym call_is.does)) (record {
@@ -140,17 +140,17 @@ took_handles {S = S} {B = B} {C = C} m old new core what call ms before after r 
 ]
 
 -- the core took an entry, and the replica is stopped for want of memory
-stops_runs_out : {S B C : Type 0} (m : Meaning S B C KeyRow) (old new : Replica S B C) (core : Core S B C KeyRow) (what : What) (call : Call) (ms : List Msg) (before after : List OutFrame) (r : Rules) (k : KeyRow) (st : CoreState) →
+stops_runs_out : {S E C : Type 0} (m : Meaning S E C KeyRow) (old new : Replica S E C) (core : Core S E C KeyRow) (what : What) (call : Call) (ms : List Msg) (before after : List OutFrame) (r : Rules) (k : KeyRow) (st : CoreState) →
     ReplicaStands m old r k st → IsCall r k st call what → calls.Moves m old.core core what [] ms (Ok answers.Took) r st
     → Stops (with_core old core) new before after → RunsOut (ReplicaStands m) new call before after r k st
-stops_runs_out {S = S} {B = B} {C = C} m old new core what call ms before after r k st stands call_is did stops = elim (moved_view r st what) [
+stops_runs_out {S = S} {E = E} {C = C} m old new core what call ms before after r k st stands call_is did stops = elim (moved_view r st what) [
   | inl enters ↦ record {
     out = stops.out;
     live = enters.live;
     what = what;
     given = call_is.given;
     state =
-        let Q : Core S B C KeyRow → Type 0 = λ x. CoreStands m x r (moved r st what).state in
+        let Q : Core S E C KeyRow → Type 0 = λ x. CoreStands m x r (moved r st what).state in
         inr (
           enters.step,
           record {
@@ -175,17 +175,17 @@ left_live st (Input value) = refl
 left_live st Turn = refl
 
 -- the core was without memory
-core_runs_out : {S B C : Type 0} (m : Meaning S B C KeyRow) (old new : Replica S B C) (core : Core S B C KeyRow) (what : What) (call : Call) (ms : List Msg) (before after : List OutFrame) (r : Rules) (k : KeyRow) (st : CoreState) →
+core_runs_out : {S E C : Type 0} (m : Meaning S E C KeyRow) (old new : Replica S E C) (core : Core S E C KeyRow) (what : What) (call : Call) (ms : List Msg) (before after : List OutFrame) (r : Rules) (k : KeyRow) (st : CoreState) →
     StandsGoing m old r k st → ReplicaStands m old r k st → IsCall r k st call what → calls.RunsOut m core what [] ms r st
     → Keeps (with_core old core) new before after → RunsOut (ReplicaStands m) new call before after r k st
-core_runs_out {S = S} {B = B} {C = C} m old new core what call ms before after r k st on stands call_is did keeps = record {
+core_runs_out {S = S} {E = E} {C = C} m old new core what call ms before after r k st on stands call_is did keeps = record {
   out = keeps.out;
   live = did.live;
   what = what;
   given = call_is.given;
   state =
       let P : CoreState → Type 0 = λ x. ReplicaStands m new r k x in
-      let Q : CoreState → Replica S B C → Type 0 = λ x rep. ReplicaStands m rep r k x in
+      let Q : CoreState → Replica S E C → Type 0 = λ x rep. ReplicaStands m rep r k x in
       elim did.state [
         | inl holds ↦ inl (
           holds.0,
@@ -197,7 +197,7 @@ core_runs_out {S = S} {B = B} {C = C} m old new core what call ms before after r
 }
 
 -- each call on a replica that isn't stopped
-pub passed_on : {S B C : Type 0} (m : Meaning S B C KeyRow) (old new : Replica S B C) (core : Core S B C KeyRow) (what : What) (call : Call) (ms : List Msg) (before after : List OutFrame) (r : Rules) (k : KeyRow) (st : CoreState) (answer : Result Answer CoreFault) (result : Result Answer Refusal) →
+pub passed_on : {S E C : Type 0} (m : Meaning S E C KeyRow) (old new : Replica S E C) (core : Core S E C KeyRow) (what : What) (call : Call) (ms : List Msg) (before after : List OutFrame) (r : Rules) (k : KeyRow) (st : CoreState) (answer : Result Answer CoreFault) (result : Result Answer Refusal) →
     StandsGoing m old r k st → ReplicaStands m old r k st → IsCall r k st call what → calls.Does m old.core core what [] ms answer r st
     → Finishes (with_core old core) new answer ms before after result → Does (ReplicaStands m) new call before after result r k st
 passed_on m old new core what call ms before after r k st (Ok answers.Took) (Ok answer) on stands call_is did ends =
@@ -217,7 +217,7 @@ passed_on m old new core what call ms before after r k st (Err fault) result on 
     subst P (sym ends.0) (quiet_handles m old new core what call ms before after (Err fault) r k st on stands call_is did (λ e. cc) ends.1)
 
 -- each call on a replica that isn't stopped
-pub passes : {S B C : Type 0} (m : Meaning S B C KeyRow) (old new : Replica S B C) (core : Core S B C KeyRow) (what : What) (call : Call) (first ms : List Msg) (before after : List OutFrame) (answer : Result Answer CoreFault) (result : Result Answer Refusal) (r : Rules) (k : KeyRow) (st : CoreState) →
+pub passes : {S E C : Type 0} (m : Meaning S E C KeyRow) (old new : Replica S E C) (core : Core S E C KeyRow) (what : What) (call : Call) (first ms : List Msg) (before after : List OutFrame) (answer : Result Answer CoreFault) (result : Result Answer Refusal) (r : Rules) (k : KeyRow) (st : CoreState) →
     ReplicaStands m old r k st → old.stopped ≡ false → IsCall r k st call what → MayGive r what → first ≡ []
     → calls.DoesAll m old.core core what first ms answer → Finishes (with_core old core) new answer ms before after result → Does (ReplicaStands m) new call before after result r k st
 passes m old new core what call first ms before after answer result r k st stands going call_is may none did ends =
@@ -225,7 +225,7 @@ passes m old new core what call first ms before after answer result r k st stand
     let P : List Msg → Type 0 = λ x. calls.Does m old.core core what x ms answer r st in
     passed_on m old new core what call ms before after r k st answer result on stands call_is (subst P none (did r st on.core may)) ends
 
-dead_of : {S B C : Type 0} (m : Meaning S B C KeyRow) (rep : Replica S B C) (r : Rules) (k : KeyRow) (st : CoreState) →
+dead_of : {S E C : Type 0} (m : Meaning S E C KeyRow) (rep : Replica S E C) (r : Rules) (k : KeyRow) (st : CoreState) →
     ReplicaStands m rep r k st → rep.stopped ≡ true → st.live ≡ false
 dead_of m rep r k st stands halted = elim stands.state [
   | inl on ↦ let same : true ≡ false = sym halted ∙ on.going in absurd (cc same)
@@ -236,7 +236,7 @@ moved_dead : (r : Rules) (st : CoreState) (what : What) → st.live ≡ false �
 moved_dead r st what dead = ap (λ b. if b then moved_live r st what else stays st st.inbox (Err faults.Stopped)) dead
 
 -- a call that is for the core of a replica that is stopped
-pub halted_handles : {S B C : Type 0} (m : Meaning S B C KeyRow) (rep : Replica S B C) (what : What) (call : Call) (before : List OutFrame) (r : Rules) (k : KeyRow) (st : CoreState) →
+pub halted_handles : {S E C : Type 0} (m : Meaning S E C KeyRow) (rep : Replica S E C) (what : What) (call : Call) (before : List OutFrame) (r : Rules) (k : KeyRow) (st : CoreState) →
     ReplicaStands m rep r k st → rep.stopped ≡ true → IsCall r k st call what → Handles (ReplicaStands m) rep call before before (Err (refusals.Core faults.Stopped)) r k st
 halted_handles m rep what call before r k st stands halted call_is =
     let same : handled r k st call ≡ framed r k st (stays st st.inbox (Err faults.Stopped)) =

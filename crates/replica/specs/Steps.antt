@@ -43,7 +43,7 @@ Reads r k bytes (Err (refusals.Core fault)) = ⊥
 -- ---- passing on what the core answered and put out
 
 -- nothing changed
-pub record Keeps {S B C : Type 0} (old new : Replica S B C) (before after : List OutFrame) : Type 0 where
+pub record Keeps {S E C : Type 0} (old new : Replica S E C) (before after : List OutFrame) : Type 0 where
   pub same : new ≡ old
   pub out : after ≡ before
 
@@ -54,28 +54,28 @@ pub record Counts (k : KeyRow) (count : ℕ → ℕ) (ms : List Msg) (xs : List 
   pub all : sent ≡ (sent_before + length (frames_of k count ms)) % 2 ^ 64
 
 -- the frames of these messages went out, and are counted
-pub record PutsOut {S B C : Type 0} (old new : Replica S B C) (ms : List Msg) (before after : List OutFrame) : Type 0 where
+pub record PutsOut {S E C : Type 0} (old new : Replica S E C) (ms : List Msg) (before after : List OutFrame) : Type 0 where
   pub core : new.core ≡ old.core
   pub keys : new.channel ≡ old.channel
   pub halted : new.stopped ≡ old.stopped
   pub counts : (count : ℕ → ℕ) → AreCounts old.channel.n old.counts count → Counts old.channel count ms new.counts old.sent new.sent before after
 
 -- for want of memory none went out, and the replica is stopped
-pub record Stops {S B C : Type 0} (old new : Replica S B C) (before after : List OutFrame) : Type 0 where
+pub record Stops {S E C : Type 0} (old new : Replica S E C) (before after : List OutFrame) : Type 0 where
   pub core : new.core ≡ old.core
   pub keys : new.channel ≡ old.channel
   pub halted : new.stopped ≡ true
   pub out : after ≡ before
 
 -- each outcome
-abbrev pub Finishes : {S B C : Type 0} → Replica S B C → Replica S B C → Result Answer CoreFault → List Msg → List OutFrame → List OutFrame → Result Answer Refusal → Type 0
+abbrev pub Finishes : {S E C : Type 0} → Replica S E C → Replica S E C → Result Answer CoreFault → List Msg → List OutFrame → List OutFrame → Result Answer Refusal → Type 0
 Finishes old new (Ok answers.Took) ms before after (Ok answer) = (answer ≡ answers.Took) × PutsOut old new ms before after
 Finishes old new (Ok answers.Took) ms before after (Err fault) = (fault ≡ refusals.Core faults.Mem) × Stops old new before after
 Finishes old new (Ok answer) ms before after result = (result ≡ Ok answer) × Keeps old new before after
 Finishes old new (Err fault) ms before after result = (result ≡ Err (refusals.Core fault)) × Keeps old new before after
 
 -- all but the counts is as before
-pub record SameRest {S B C : Type 0} (old new : Replica S B C) : Type 0 where
+pub record SameRest {S E C : Type 0} (old new : Replica S E C) : Type 0 where
   pub core : new.core ≡ old.core
   pub keys : new.channel ≡ old.channel
   pub halted : new.stopped ≡ old.stopped

@@ -12,19 +12,19 @@ use std::alloc::Global;
 ///
 /// For want of memory to seal a frame it is stopped, whatever its core has done.
 #[derive(Drop)]
-pub struct Replica<S: Service, B: Broadcast, C: Coin + Drop> {
-    core: Core<S, B, C, Keys>,
+pub struct Replica<S: Service, E: Broadcast, C: Coin + Drop> {
+    core: Core<S, E, C, Keys>,
     channel: Channel,
     counts: [u64; 31],
     sent: u64,
     stopped: bool,
 }
 
-impl<S: Service, B: Broadcast, C: Coin + Drop> Replica<S, B, C> {
+impl<S: Service, E: Broadcast, C: Coin + Drop> Replica<S, E, C> {
     ghost use Rattle.std.specs.Prelude.{◌≡◌, ℕ, [], IfOk, replicate, ◌%◌, ◌^◌, true, OnOk, OnErr};
     ghost use Rattle.keyed_channel.specs.Keyed.{tags_of};
     ghost use Rattle.keyed_channel.specs.KeyRow.{KeyRow};
-    ghost use Rattle.ritas_core.specs.Rules.{Rules, KindsFit, casts_by};
+    ghost use Rattle.ritas_core.specs.Rules.{Rules, other_form, casts_by};
     ghost use Rattle.ritas_core.specs.Machine.{CoreState, first_state};
     ghost use Rattle.ritas_core.specs.Stands.{CoreStands};
     ghost use Rattle.replica.specs.Handling.{Frame, Input, Turn};
@@ -33,12 +33,15 @@ impl<S: Service, B: Broadcast, C: Coin + Drop> Replica<S, B, C> {
     ghost use Rattle.replica.specs.Steps.{Reads, PutsOut, SameRest, Finishes};
 
     /// The replica that has these keys, before any call. The one error is want of memory.
+    ///
+    /// The service serves the mode's root service, and the form of the other broadcast is 2 in root service 2 or where VECT
+    /// goes by echo broadcast, and otherwise 1.
     pub fn new(alloc: Global, p: Params, mode: Mode, keys: Keys, coin: C) -> Result<Self, Mem>
         requires made_for { keys.n ≡ p.n }
-        requires kinds { KindsFit p mode (λ s. B.rules) }
+        requires form { E.FORM ≡ other_form mode }
         requires served { S.rules.serves mode.root ≡ true }
-        ensures { IfOk result (λ replica. ReplicaStands (with_keys S.stands S.rules B.stands B.rules C.bits) replica
-            (record { mode = mode; casts = casts_by p keys.me (tags_of keys) B.rules; coin = C.bits coin; service = S.rules })
+        ensures { IfOk result (λ replica. ReplicaStands (with_keys S.stands S.rules E.stands E.rules C.bits) replica
+            (record { mode = mode; casts = casts_by mode p keys.me (tags_of keys) E.rules; coin = C.bits coin; service = S.rules })
             keys (first_state (replicate p.n []))) }
     {
         let core = Core::new(alloc, p, mode, keys.me(), keys, coin)?;
@@ -92,7 +95,7 @@ impl<S: Service, B: Broadcast, C: Coin + Drop> Replica<S, B, C> {
     // The item that a frame brings.
     fn read(&self, alloc: Global, bytes: &[u8]) -> Result<Item, Refusal>
         ensures { (r : Rules) (k : KeyRow) (st : CoreState)
-            → ReplicaStands (with_keys S.stands S.rules B.stands B.rules C.bits) self.now r k st
+            → ReplicaStands (with_keys S.stands S.rules E.stands E.rules C.bits) self.now r k st
             → Reads r k bytes.now result }
     {
         let opened = match self.channel.open(bytes) {
@@ -120,7 +123,7 @@ impl<S: Service, B: Broadcast, C: Coin + Drop> Replica<S, B, C> {
         bytes: &[u8],
         out: &mut Vec<OutFrame>,
     ) -> Result<Answer, Refusal>
-        ensures { DoesAll (ReplicaStands (with_keys S.stands S.rules B.stands B.rules C.bits))
+        ensures { DoesAll (ReplicaStands (with_keys S.stands S.rules E.stands E.rules C.bits))
             self.old self.new (Frame bytes.now) out.old.items out.new.items result }
     {
         let item = self.read(alloc, bytes)?;
@@ -142,7 +145,7 @@ impl<S: Service, B: Broadcast, C: Coin + Drop> Replica<S, B, C> {
         bytes: &[u8],
         out: &mut Vec<OutFrame>,
     ) -> Result<Answer, Refusal>
-        ensures { DoesAll (ReplicaStands (with_keys S.stands S.rules B.stands B.rules C.bits))
+        ensures { DoesAll (ReplicaStands (with_keys S.stands S.rules E.stands E.rules C.bits))
             self.old self.new (Input bytes.now) out.old.items out.new.items result }
     {
         if self.stopped {
@@ -159,7 +162,7 @@ impl<S: Service, B: Broadcast, C: Coin + Drop> Replica<S, B, C> {
     /// The one error is `Core`, which leaves `out` as it was, and the replica but that the item has left the inbox.
     /// `Core(Mem)` does the same where the item was to be held; where it was to be taken, the replica is stopped.
     pub fn on_turn(&mut self, alloc: Global, out: &mut Vec<OutFrame>) -> Result<Answer, Refusal>
-        ensures { DoesAll (ReplicaStands (with_keys S.stands S.rules B.stands B.rules C.bits))
+        ensures { DoesAll (ReplicaStands (with_keys S.stands S.rules E.stands E.rules C.bits))
             self.old self.new Turn out.old.items out.new.items result }
     {
         if self.stopped {
@@ -173,7 +176,7 @@ impl<S: Service, B: Broadcast, C: Coin + Drop> Replica<S, B, C> {
     /// Whether no call was without memory, but for one that only was to read a body or to hold an item.
     pub fn live(&self) -> bool
         ensures { (r : Rules) (k : KeyRow) (st : CoreState)
-            → ReplicaStands (with_keys S.stands S.rules B.stands B.rules C.bits) self.now r k st
+            → ReplicaStands (with_keys S.stands S.rules E.stands E.rules C.bits) self.now r k st
             → result ≡ st.live }
     {
         !self.stopped && self.core.live()
@@ -182,18 +185,18 @@ impl<S: Service, B: Broadcast, C: Coin + Drop> Replica<S, B, C> {
     /// The keys of the replica.
     pub fn keys(&self) -> &Keys
         ensures { (r : Rules) (k : KeyRow) (st : CoreState)
-            → ReplicaStands (with_keys S.stands S.rules B.stands B.rules C.bits) self.now r k st
+            → ReplicaStands (with_keys S.stands S.rules E.stands E.rules C.bits) self.now r k st
             → result.now ≡ k }
     {
         self.channel.keys()
     }
 
     /// The core. While the replica is live, the core stands for its state.
-    pub fn core(&self) -> &Core<S, B, C, Keys>
+    pub fn core(&self) -> &Core<S, E, C, Keys>
         ensures { (r : Rules) (k : KeyRow) (st : CoreState)
-            → ReplicaStands (with_keys S.stands S.rules B.stands B.rules C.bits) self.now r k st
+            → ReplicaStands (with_keys S.stands S.rules E.stands E.rules C.bits) self.now r k st
             → st.live ≡ true
-            → CoreStands (with_keys S.stands S.rules B.stands B.rules C.bits) result.now r st }
+            → CoreStands (with_keys S.stands S.rules E.stands E.rules C.bits) result.now r st }
     {
         &self.core
     }
@@ -201,7 +204,7 @@ impl<S: Service, B: Broadcast, C: Coin + Drop> Replica<S, B, C> {
     /// How many frames the replica made, modulo 2^64. It is told of a live replica.
     pub fn sent(&self) -> u64
         ensures { (r : Rules) (k : KeyRow) (st : CoreState)
-            → ReplicaStands (with_keys S.stands S.rules B.stands B.rules C.bits) self.now r k st
+            → ReplicaStands (with_keys S.stands S.rules E.stands E.rules C.bits) self.now r k st
             → st.live ≡ true → result ≡ frames_made r k st.history % 2 ^ 64 }
     {
         self.sent

@@ -1,24 +1,24 @@
 -- The world of a header is one of keys that were dealt, with layers that serve its mode.
-use Rattle.std.proofs.Common.{◌≡◌, ℕ, ◌<◌, ◌≤◌, Bool, true, false, None, List, [], ◌∷◌, refl, sym, ◌∙◌, ap, inl, inr, arith}
-use Rattle.std.specs.Prelude.{◌==◌, ◌⊎◌, nat_lt, Result, Ok, Err}
-use Rattle.std.proofs.lemmas.Bool.{cases_Bool, cases_lt, eqb-true}
+use Rattle.std.proofs.Common.{◌≡◌, ℕ, ◌<◌, ◌≤◌, Bool, true, false, cond, List, refl, sym, ap, inl, inr, arith}
+use Rattle.std.specs.Prelude.{◌==◌, ◌⊎◌, Result, Ok, Err}
+use Rattle.std.proofs.lemmas.Bool.{cases_Bool, cases_lt, or_cases, eqb-true, cond-true, cond-false}
 use Rattle.std.proofs.lemmas.Nat.Bits.{bit_at_above}
 use Rattle.std.specs.Int.{bit_at}
 use Rattle.ritas_base.specs.declared.event.Event.{Event}
-use Rattle.ritas_base.specs.declared.item.Kind.{Kind}
-use Rattle.ritas_base.specs.declared.item.Kind.TheVariants as kinds
 use Rattle.ritas_base.specs.declared.mode.Mode.{Mode}
-use Rattle.ritas_base.specs.declared.slot.Slot.{Slot}
-use Rattle.ritas_base.specs.declared.slot.SlotFault.{SlotFault}
-use Rattle.ritas_base.specs.declared.slot.SlotFault.TheVariants as slot_faults
+use Rattle.ritas_base.specs.declared.mode.Vect.{Vect}
+use Rattle.ritas_base.specs.declared.mode.Vect.TheVariants.{Echo, Reliable}
 use Rattle.ritas_base.specs.Members.{has_member}
-use Rattle.ritas_base.specs.Numbers.{Numbers}
-use Rattle.ritas_base.specs.Slots.{first_failed, slot_fault, within, has_class, has_number, has_attempt, has_count, by_echo}
-use Rattle.frame_codec.specs.Body.{is_of_broadcast}
+use Rattle.layer_api.specs.Broadcast.{BroadcastRules}
+use Rattle.layer_api.specs.Service.{ServiceRules}
 use Rattle.keyed_channel.specs.Keyed.{coin_bit}
-use Rattle.reliable_bcast.specs.Bracha.{bracha, is_reliable}
+use Rattle.reliable_bcast.specs.Bracha.{bracha}
+use Rattle.reliable_bcast.specs.ValueLaws.{kinds_of_bracha}
+use Rattle.echo_bcast.specs.Matrix.{echo}
+use Rattle.echo_bcast.specs.ValueLaws.{kinds_of_echo}
 use Rattle.atomic_bcast.specs.Commands.{commands}
-use Rattle.ritas_core.specs.Rules.{KindsFit}
+use Rattle.ritas_core.specs.Rules.{HasForm, other_form}
+use Rattle.ritas_core.specs.RulesLaws.{kinds_fit}
 use Rattle.schedule_file.specs.declared.fault.FileFault.{FileFault}
 use Rattle.schedule_file.specs.declared.fault.FileFault.TheVariants as faults
 use Rattle.schedule_file.specs.declared.header.Header.{Header}
@@ -26,54 +26,45 @@ use Rattle.schedule_file.specs.ReadHeader.{Heading, heading}
 use Rattle.schedule_file.specs.Spelling.{IsHeading}
 use Rattle.world_model.specs.declared.audit.Audit.{Audit}
 use Rattle.world_model.specs.declared.audit.Audit.TheVariants as audits
-use Rattle.world_model.specs.Dealt.{Deal, IsDeal, IsPlain}
-use Rattle.ritas.specs.Layers.{master_of, coin_to, setting_of, AreCoresOf}
+use Rattle.world_model.specs.Dealt.{Deal, IsDeal}
+use Rattle.ritas.specs.Layers.{master_of, coin_to, other_of, setting_by, setting_of, AreCoresOf}
 use Rattle.ritas.specs.Report.{audit_status, fault_status}
 
 -- ---- the layers
 
-first_holds : (t : Bool) (x : SlotFault) (rest : List (Bool × SlotFault)) → first_failed ((t, x) ∷ rest) ≡ None → (t ≡ true) × (first_failed rest ≡ None)
-first_holds true x rest e = (refl, e)
-first_holds false x rest e = absurd (cc)
-
--- a slot with no fault has a class of its root service
-class_served : (p : Numbers) (mode : Mode) (s : Slot) → slot_fault p mode s ≡ None → has_class mode.root s.class ≡ true
-unfolding slot_fault
-class_served p mode s e =
-    let rest : List (Bool × SlotFault) =
-    (has_number mode.root s.a, slot_faults.Number) ∷ (has_attempt mode.root p.f s.class s.attempt, slot_faults.Attempt) ∷ (has_count 200 s.class s.bround, slot_faults.Round)
-    ∷ (has_count 3 s.class s.step, slot_faults.Step) ∷ (nat_lt s.origin p.n, slot_faults.Origin) ∷ [] in
-    let first = first_holds (within 1 5 s.class) slot_faults.Class ((has_class mode.root s.class, slot_faults.Closed) ∷ rest) e in
-    (first_holds (has_class mode.root s.class) slot_faults.Closed rest first.1).0
-
--- no slot of root service 1 has the echo broadcast
-no_echo : (mode : Mode) (s : Slot) → mode.root ≡ 1 → has_class mode.root s.class ≡ true → by_echo mode s ≡ false
-unfolding by_echo has_class
-no_echo mode s root served =
-    elim (cases_Bool (s.class == 1)) [
-      | inl one ↦ rw (one, root) refl
-      | inr other ↦
-          elim (cases_Bool (s.class == 4)) [
-            | inl four ↦ absurd (let none = rw (root, eqb-true s.class 4 four) at served in cc)
-            | inr neither ↦ rw (other, neither) refl
-          ]
+-- the broadcast beside the reliable one has the form of its mode
+pub has_form : (mode : Mode) → HasForm mode (other_of mode)
+has_form mode kind =
+    elim (cases_Bool (other_form mode == 2)) [
+      | inl two ↦ rw two (kinds_of_echo kind)
+      | inr one ↦ rw one (kinds_of_bracha kind)
     ]
 
-reliable_kind : (kind : Kind) → is_reliable kind ≡ is_of_broadcast false kind
-reliable_kind kinds.Init = refl
-reliable_kind kinds.Echo = refl
-reliable_kind kinds.Ready = refl
-reliable_kind kinds.Send = refl
-reliable_kind kinds.Hashes = refl
-reliable_kind kinds.Column = refl
+abbrev form_by : Bool → Vect → ℕ
+form_by two vect = cond two 2 (elim vect [ Echo ↦ 2 | Reliable ↦ 1 ])
 
-pub kinds_fit : (p : Numbers) (mode : Mode) → mode.root ≡ 1 → KindsFit p mode (λ s. bracha)
-kinds_fit p mode root s kind fine =
-    reliable_kind kind ∙ ap (λ (b : Bool). is_of_broadcast b kind) (sym (no_echo mode s root (class_served p mode s fine)))
+one_by : (two : Bool) (vect : Vect) → (form_by two vect == 2) ≡ false → 1 ≡ form_by two vect
+one_by true vect e = absurd cc
+one_by false Echo e = absurd cc
+one_by false Reliable e = refl
 
--- reliable broadcast hashes nothing
-pub plain : IsPlain bracha
-plain = record { no_claims = λ at tags h x. refl; nothing_met = λ at tags h. refl }
+-- a form that isn't 2 is 1
+pub form_one : (mode : Mode) → (other_form mode == 2) ≡ false → 1 ≡ other_form mode
+unfolding other_form
+form_one mode e = one_by (mode.root == 2) mode.vect e
+
+-- which broadcast that is
+pub other_is_echo : (mode : Mode) → (other_form mode == 2) ≡ true → other_of mode ≡ echo
+other_is_echo mode two = cond-true (other_form mode == 2) echo bracha two
+
+pub other_is_bracha : (mode : Mode) → (other_form mode == 2) ≡ false → other_of mode ≡ bracha
+other_is_bracha mode one = cond-false (other_form mode == 2) echo bracha one
+
+pub with_echo : (h : Header) → (other_form h.mode == 2) ≡ true → setting_by commands echo h ≡ setting_of h
+with_echo h two = ap (λ (b : Bool). setting_by commands (cond b echo bracha) h) (sym two)
+
+pub with_bracha : (h : Header) → (other_form h.mode == 2) ≡ false → setting_by commands bracha h ≡ setting_of h
+with_bracha h one = ap (λ (b : Bool). setting_by commands (cond b echo bracha) h) (sym one)
 
 -- ---- the session
 
@@ -89,8 +80,9 @@ member_within h is i member =
           absurd (omega (arith, none, one))
     ]
 
-pub root_one : (h : Heading) → IsHeading h → h.root ≡ 1
-root_one h is = eqb-true h.root 1 is.root
+-- a root service that is built is one of the first two
+root_of : (h : Heading) → IsHeading h → (h.root ≡ 1) ⊎ (h.root ≡ 2)
+root_of h is = elim (or_cases (h.root == 1) (h.root == 2) is.root) [ inl one ↦ inl (eqb-true h.root 1 one) | inr two ↦ inr (eqb-true h.root 2 two) ]
 
 abbrev pub deal_of : Header → Deal
 deal_of h = record {
@@ -102,33 +94,35 @@ deal_of h = record {
   session = h.session;
 }
 
-pub is_deal : (h : Header) → IsHeading (heading h) → IsDeal commands bracha (deal_of h)
-is_deal h is = record {
+pub is_deal : (h : Header) → IsHeading (heading h) → (other : BroadcastRules) → HasForm h.mode other → IsDeal commands other (deal_of h)
+is_deal h is other form = record {
   session = is.numbers;
   within = member_within h is;
-  serves = rw (root_one (heading h) is) refl;
-  kinds = kinds_fit h.p h.mode (root_one (heading h) is);
+  serves = is.root;
+  form = form;
 }
 
--- its correct replicas have these layers
-pub cores_of : (h : Header) → IsHeading (heading h) → AreCoresOf commands bracha (setting_of h)
-cores_of h is i correct = record {
+-- its correct replicas have cores of these layers
+pub cores_of : (service : ServiceRules) (other : BroadcastRules) (h : Header) → IsHeading (heading h) → service.serves h.mode.root ≡ true
+    → HasForm h.mode other → AreCoresOf service other (setting_by service other h)
+cores_of service other h is serves form i correct = record {
   words = refl;
   casts = λ s. refl;
   session = is.numbers;
   me = member_within h is i correct;
-  serves = rw (root_one (heading h) is) refl;
-  kinds = kinds_fit h.p h.mode (root_one (heading h) is);
+  serves = serves;
+  kinds = kinds_fit h.p h.mode other form;
 }
 
 -- each heading that a file may have is that of a header
 pub header_of : (k : Heading) → IsHeading k → (h : Header) × (heading h ≡ k)
 header_of k is =
-    let root = root_one k is in
+    let low : 1 ≤ k.root = elim (root_of k is) [ inl one ↦ omega (arith, one) | inr two ↦ omega (arith, two) ] in
+    let high : k.root ≤ 6 = elim (root_of k is) [ inl one ↦ omega (arith, one) | inr two ↦ omega (arith, two) ] in
     let h : Header = record {
       session = k.session;
       p = k.p;
-      mode = record { root = k.root; vect = k.vect; low = omega (arith, root); high = omega (arith, root) };
+      mode = record { root = k.root; vect = k.vect; low = low; high = high };
       correct = k.correct;
       keys = k.keys;
     } in

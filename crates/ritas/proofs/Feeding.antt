@@ -1,5 +1,5 @@
 -- Events that a loop takes one after the other, the newest first: what it has so far, and what reading on gives.
-use Rattle.std.proofs.Common.{◌≡◌, ℕ, suc, ◌-◌, ◌+◌, ◌≤◌, ◌<◌, List, [], ◌∷◌, ◌++◌, reverse, Some, None, Result, Ok, Err, refl, sym, ap, subst, ◌∙◌, append_assoc, arith}
+use Rattle.std.proofs.Common.{◌≡◌, ℕ, suc, ◌-◌, ◌+◌, ◌≤◌, ◌<◌, List, [], ◌∷◌, ◌++◌, reverse, Some, None, Result, Ok, Err, refl, sym, ap, ◌∙◌, append_assoc, arith}
 use Rattle.std.proofs.lemmas.List.{append-nil, reverse-append}
 use Rattle.ritas_base.specs.declared.event.Event.{Event}
 use Rattle.schedule_file.specs.declared.fault.FileFault.{FileFault}
@@ -13,6 +13,7 @@ use Rattle.schedule_file.specs.Spelling.{IsEvent}
 use Rattle.ritas_base.specs.declared.event.Event.TheVariants.{Frame, Input, Turn, Pass, Sealed}
 use Rattle.world_model.specs.Stands.{MayHappen}
 use Rattle.ritas.specs.Onto.{onto}
+use Rattle.ritas.proofs.Files.{heading_in, events_in}
 
 regroup : (h : List Event) (e : Event) (read : Result (List Event) FileFault) → onto h (read >>= λ es. Ok (e ∷ es)) ≡ onto (e ∷ h) read
 regroup h e (Ok es) = ap (λ (l : List Event). Ok l) (ap (λ (l : List Event). l ++ h) (reverse-append (e ∷ []) es) ∙ append_assoc (reverse es) (e ∷ []) h)
@@ -76,19 +77,33 @@ pub file_fails : (bytes : List ℕ) (x : FileFault) → Fails x (header_at (star
 unfolding file_of
 file_fails bytes x read = λ own. rw (read own) refl
 
--- ---- what a header and the events behind it give
+abbrev pub events_of : List Event → Result (List Event) FileFault → List Event
+events_of d (Ok es) = es
+events_of d (Err x) = d
 
-pub file_reads : (bytes : List ℕ) (h : Heading) (next : Spot) (n : ℕ) (es : List Event) → n ≡ h.p.n → header_at (start_of bytes) ≡ Ok (h, next)
-    → onto [] (events_at (limit + 1) n next) ≡ Ok es → file_of bytes ≡ Ok (h, es)
-file_reads bytes h next n es same read events =
-    let there : onto [] (events_at (limit + 1) h.p.n next) ≡ Ok es = subst (λ (m : ℕ). onto [] (events_at (limit + 1) m next) ≡ Ok es) same events in
-    file_from bytes h next read ∙ ap (behind h) there
+-- a list that isn't read has one fault
+pub list_fault : (read : Result (List Event) FileFault) (x y : FileFault) → read ≡ Err x → read ≡ Err y → x ≡ y
+list_fault (Ok es) x y a b = absurd cc
+list_fault (Err z) x y a b = cc
 
-pub events_fail : (bytes : List ℕ) (h : Heading) (next : Spot) (n : ℕ) (x : FileFault) → n ≡ h.p.n → header_at (start_of bytes) ≡ Ok (h, next)
-    → Fails x (onto [] (events_at (limit + 1) n next)) → Fails x (file_of bytes)
-events_fail bytes h next n x same read events = λ own.
-    let there : onto [] (events_at (limit + 1) h.p.n next) ≡ Err x = subst (λ (m : ℕ). onto [] (events_at (limit + 1) m next) ≡ Err x) same (events own) in
-    file_from bytes h next read ∙ ap (behind h) there
+-- a file has one fault
+pub fault_of : (read : Result (Heading × List Event) FileFault) (x y : FileFault) → read ≡ Err x → read ≡ Err y → x ≡ y
+fault_of (Ok h) x y a b = absurd cc
+fault_of (Err z) x y a b = cc
+
+-- what a header and the events behind it give
+
+pub header_behind : (k h : Heading) (read : Result (List Event) FileFault) (es : List Event) → behind k read ≡ Ok (h, es) → k ≡ h
+header_behind k h (Ok ds) es e = ap (heading_in k) e
+header_behind k h (Err x) es e = absurd cc
+
+pub events_behind : (k h : Heading) (read : Result (List Event) FileFault) (es : List Event) → behind k read ≡ Ok (h, es) → read ≡ Ok es
+events_behind k h (Ok ds) es e = ap (λ (l : List Event). Ok l) (ap (events_in []) e)
+events_behind k h (Err x) es e = absurd cc
+
+pub fault_behind : (k : Heading) (read : Result (List Event) FileFault) (x : FileFault) → behind k read ≡ Err x → read ≡ Err x
+fault_behind k (Ok ds) x e = absurd cc
+fault_behind k (Err y) x e = cc
 
 -- ---- an event of a file may happen
 

@@ -25,11 +25,11 @@ same_bounds h l m a b = ap₂ (header_by h) (le_prop l m) (le_prop a b)
 same_from : (h : Header) (k : Heading) → heading h ≡ k → (l : 1 ≤ k.root) (a : k.root ≤ 6) → h ≡ header_by k l a
 same_from h k e = subst (λ (k : Heading). (l : 1 ≤ k.root) (a : k.root ≤ 6) → h ≡ header_by k l a) e (λ l a. same_bounds (heading h) h.mode.low l h.mode.high a)
 
-abbrev heading_in : Heading → Result (Heading × List Event) FileFault → Heading
+abbrev pub heading_in : Heading → Result (Heading × List Event) FileFault → Heading
 heading_in d (Ok x) = x.0
 heading_in d (Err e) = d
 
-abbrev events_in : List Event → Result (Heading × List Event) FileFault → List Event
+abbrev pub events_in : List Event → Result (Heading × List Event) FileFault → List Event
 events_in d (Ok x) = x.1
 events_in d (Err e) = d
 

@@ -1,14 +1,14 @@
 -- The texts that the program writes. Lists of events have the newest first.
-use Rattle.std.specs.Prelude.{ℕ, ◌%◌, ◌^◌, List, [], ◌∷◌, ◌++◌, length, filter, codes, decimal, Option, Some, None}
+use Rattle.std.specs.Prelude.{ℕ, true, false, nat_le, if◌then◌else◌, ◌%◌, ◌^◌, List, [], ◌∷◌, ◌++◌, length, filter, codes, decimal, Option, Some, None}
 use Rattle.std.specs.List.{flat_map, range_with_len}
 use Rattle.hex.specs.Hex.{encode_lower}
 use Rattle.ritas_base.specs.declared.event.Event.{Event}
 use Rattle.ritas_base.specs.declared.mode.Vect.{Vect}
 use Rattle.ritas_base.specs.declared.mode.Vect.TheVariants.{Echo, Reliable}
-use Rattle.layer_api.specs.Service.{command_slot}
+use Rattle.layer_api.specs.Service.{command_slot, Ending, Undecided, Over, Decided, Bit, Nothing, Value, Spent}
 use Rattle.keyed_channel.specs.KeyRow.{KeyRow}
-use Rattle.ritas_core.specs.Rules.{Rules}
-use Rattle.ritas_core.specs.Parts.{Entry}
+use Rattle.ritas_core.specs.Rules.{Rules, seat_of}
+use Rattle.ritas_core.specs.Parts.{Entry, parts}
 use Rattle.ritas_core.specs.Machine.{CoreState}
 use Rattle.ritas_core.specs.Shown.{all_bytes, delivered_at}
 use Rattle.replica.specs.Stands.{frames_made}
@@ -81,9 +81,23 @@ outs_of r h origin num = delivered_at r h (command_slot origin num)
 abbrev pub out_lines : Rules → List Entry → List ℕ
 out_lines r h = flat_map (λ origin. origin_lines (outs_of r h origin) origin) (range_with_len 0 r.casts.numbers.n)
 
--- how a replica stands that is in this state, and what it delivered
+-- what became of the one instance of a root service
+abbrev pub ending_line : Ending → List ℕ
+ending_line Undecided = codes "undecided" ++ end_of_line
+ending_line Over = codes "over" ++ end_of_line
+ending_line (Decided (Bit false)) = codes "decision 0" ++ end_of_line
+ending_line (Decided (Bit true)) = codes "decision 1" ++ end_of_line
+ending_line (Decided Nothing) = codes "none" ++ end_of_line
+ending_line (Decided (Value v)) = codes "decision " ++ (encode_lower v ++ end_of_line)
+ending_line (Decided Spent) = codes "spent" ++ end_of_line
+
+-- root services 1 and 2 show what they delivered, and those with one instance what became of it
+abbrev pub service_lines : Rules → List Entry → List ℕ
+service_lines r h = if nat_le r.mode.root 2 then out_lines r h else ending_line (r.service.outcome (seat_of r) (parts r h).words)
+
+-- how a replica stands that is in this state, and what its service shows
 abbrev pub lines_of : ℕ → Rules → KeyRow → CoreState → List ℕ
-lines_of i r k st = replica_line i (frames_made r k st.history % 2 ^ 64) st ++ out_lines r st.history
+lines_of i r k st = replica_line i (frames_made r k st.history % 2 ^ 64) st ++ service_lines r st.history
 
 abbrev pub replica_lines : Setting → List Event → ℕ → List ℕ
 replica_lines w es i = lines_of i (rules_at w i) (w.keys i) (states_of w es i)
@@ -113,8 +127,11 @@ audit_status audits.TooManyFaulty = 1
 audit_status (audits.Forged k) = 1
 audit_status (audits.Collision k) = 1
 
+abbrev pub status_on : Setting → List Event → ℕ
+status_on w es = audit_status (audit_of w es)
+
 abbrev pub report_status : Header → List Event → ℕ
-report_status h es = audit_status (audit_of (setting_of h) es)
+report_status h es = status_on (setting_of h) es
 
 -- ---- what is written where there is no report
 

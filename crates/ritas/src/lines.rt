@@ -1,7 +1,10 @@
 //! The lines of a report, and those that are written where there is none.
 ghost use Rattle.std.specs.Prelude.{◌≡◌, ◌++◌, ◌%◌, ◌^◌, IfOk, string_bytes, codes, Some, None};
-ghost use Rattle.ritas.specs.Report.{head_line, answered_part, refused_part, count_line, vect_name, out_line, audit_line, placed, fault_text, fault_status, audit_status, numbers_line};
+ghost use Rattle.layer_api.specs.Service.{Decided, Value};
+ghost use Rattle.layer_api.specs.ServiceCalls.{ending_of};
+ghost use Rattle.ritas.specs.Report.{head_line, answered_part, refused_part, count_line, vect_name, out_line, ending_line, audit_line, placed, fault_text, fault_status, audit_status, numbers_line};
 
+use layer_api::Outcome;
 use ritas_base::Vect;
 use schedule_file::{FileFault, Header};
 use std::alloc::{AllocError, Global};
@@ -84,6 +87,28 @@ pub(crate) fn out_line(
 {
     let text = hex::encode(alloc, value)?;
     format!(in alloc; "out {origin}.{num} {text}\n")
+}
+
+/// The line that says what became of the one instance of a root service.
+pub(crate) fn ending_line(alloc: Global, outcome: Outcome<'_>) -> Result<String, AllocError>
+    ensures { IfOk result (λ s. string_bytes s ≡ ending_line (ending_of outcome.entry)) }
+{
+    match outcome {
+        Outcome::Undecided => String::from_str(alloc, "undecided\n"),
+        Outcome::Over => String::from_str(alloc, "over\n"),
+        Outcome::Bit(false) => String::from_str(alloc, "decision 0\n"),
+        Outcome::Bit(true) => String::from_str(alloc, "decision 1\n"),
+        Outcome::Nothing => String::from_str(alloc, "none\n"),
+        Outcome::Value(value) => decision_line(alloc, value),
+        Outcome::Spent => String::from_str(alloc, "spent\n"),
+    }
+}
+
+fn decision_line(alloc: Global, value: &[u8]) -> Result<String, AllocError>
+    ensures { IfOk result (λ s. string_bytes s ≡ ending_line (Decided (Value value.now))) }
+{
+    let text = hex::encode(alloc, value)?;
+    format!(in alloc; "decision {text}\n")
 }
 
 /// The line that says what the audit found.

@@ -41,8 +41,8 @@ pub frame_moves : (r : Rules) (st : CoreState) (item : Item) (v : Verdict) → s
     moved r st (Frame item) ≡ gives r st item st.inbox v
 frame_moves r st item v live is = moved_when_live r st (Frame item) live ∙ ap (λ (u : Verdict). gives r st item st.inbox u) is
 
-module _ {S B C T : Type 0} (m : Meaning S B C T) where
-  pub moves_by : (old new : Core S B C T) (what : What) (before after_it : List Msg) (result : Result Answer CoreFault) (r : Rules) (st : CoreState) (mv : Moved) →
+module _ {S E C T : Type 0} (m : Meaning S E C T) where
+  pub moves_by : (old new : Core S E C T) (what : What) (before after_it : List Msg) (result : Result Answer CoreFault) (r : Rules) (st : CoreState) (mv : Moved) →
       moved r st what ≡ mv → result ≡ mv.answer → after_it ≡ before ++ mv.out → CoreStands m new r mv.state → Moves m old new what before after_it result r st
   moves_by old new what before after_it result r st mv is answer out state = record {
     answer = answer ∙ ap (λ (x : Moved). x.answer) (sym is);
@@ -51,7 +51,7 @@ module _ {S B C T : Type 0} (m : Meaning S B C T) where
   }
 
   -- a refusal that isn't want of memory
-  pub does_refused : (old new : Core S B C T) (what : What) (before after_it : List Msg) (fault : CoreFault) (r : Rules) (st : CoreState) →
+  pub does_refused : (old new : Core S E C T) (what : What) (before after_it : List Msg) (fault : CoreFault) (r : Rules) (st : CoreState) →
       (fault ≡ faults.Mem → ⊥) → Moves m old new what before after_it (Err fault) r st → Does m old new what before after_it (Err fault) r st
   does_refused old new what before after_it faults.NotOrigin r st never moves = moves
   does_refused old new what before after_it faults.NotForMe r st never moves = moves
@@ -65,7 +65,7 @@ module _ {S B C T : Type 0} (m : Meaning S B C T) where
   does_refused old new what before after_it faults.Stopped r st never moves = moves
 
   -- ---- a refused item, and one that is taken or held already
-  pub refuse_does : (old : Core S B C T) (item : Item) (sent : List Msg) (fault : CoreFault) →
+  pub refuse_does : (old : Core S E C T) (item : Item) (sent : List Msg) (fault : CoreFault) →
       DoesJudged m old old (verdicts.Refuse fault) item sent sent (Err fault)
   refuse_does old item sent fault st is good judged =
       let r = rules_in m old in
@@ -74,14 +74,14 @@ module _ {S B C T : Type 0} (m : Meaning S B C T) where
       (moves_by old old (Frame item) sent sent (Err fault) r st (stays st st.inbox (Err fault)) (frame_moves r st item (verdicts.Refuse fault) is.live judged)
       refl (nothing_more sent sent refl) is.stands)
 
-  pub again_does : (old : Core S B C T) (item : Item) (sent : List Msg) → DoesJudged m old old verdicts.Again item sent sent (Ok answers.Repeat)
+  pub again_does : (old : Core S E C T) (item : Item) (sent : List Msg) → DoesJudged m old old verdicts.Again item sent sent (Ok answers.Repeat)
   again_does old item sent st is good judged =
       let r = rules_in m old in
       moves_by old old (Frame item) sent sent (Ok answers.Repeat) r st (stays st st.inbox (Ok answers.Repeat)) (frame_moves r st item verdicts.Again is.live judged)
       refl (nothing_more sent sent refl) is.stands
 
   -- ---- an open item
-  can_take : (old : Core S B C T) (item : Item) (st : CoreState) → IsLive m old st → IsGood (rules_in m old) item →
+  can_take : (old : Core S E C T) (item : Item) (st : CoreState) → IsLive m old st → IsGood (rules_in m old) item →
       IsToTake (rules_in m old) (parts (rules_in m old) st.history) st.held item → CanTakeItem m old.layers item (parts (rules_in m old) st.history)
   can_take old item st is good judged = record {
     is_own = record { own = is.stands.own; below = is.stands.me };
@@ -91,13 +91,13 @@ module _ {S B C T : Type 0} (m : Meaning S B C T) where
   }
 
   -- its verdict, by whether it repeats one that its slot took
-  verdict_of : (old : Core S B C T) (item : Item) (st : CoreState) (b : Bool) → IsLive m old st → IsGood (rules_in m old) item →
+  verdict_of : (old : Core S E C T) (item : Item) (st : CoreState) (b : Bool) → IsLive m old st → IsGood (rules_in m old) item →
       IsToTake (rules_in m old) (parts (rules_in m old) st.history) st.held item → RepeatsOne m old.layers item b →
       verdict_on (rules_in m old) (parts (rules_in m old) st.history) st.held item ≡ cond b verdicts.Again verdicts.Take
   verdict_of old item st b is good judged counts =
       judged.verdict ∙ ap (λ (x : Bool). cond x verdicts.Again verdicts.Take) (counts (parts (rules_in m old) st.history) (can_take old item st is good judged))
 
-  pub took_does : (old new : Core S B C T) (item : Item) (before after_it : List Msg) → TriesItem m old new item before after_it (Ok heard.Took) →
+  pub took_does : (old new : Core S E C T) (item : Item) (before after_it : List Msg) → TriesItem m old new item before after_it (Ok heard.Took) →
       DoesJudged m old new verdicts.Take item before after_it (Ok answers.Took)
   took_does old new item before after_it tries st is good judged =
       let r = rules_in m old in
@@ -111,7 +111,7 @@ module _ {S B C T : Type 0} (m : Meaning S B C T) where
       (frame_moves r st item verdicts.Take is.live (verdict_of old item st false is good judged tries.1))
       refl (tries.0.out st is may) (tries.0.state st is may)
 
-  pub repeat_does : (old new : Core S B C T) (item : Item) (before after_it : List Msg) → TriesItem m old new item before after_it (Ok heard.Repeat) →
+  pub repeat_does : (old new : Core S E C T) (item : Item) (before after_it : List Msg) → TriesItem m old new item before after_it (Ok heard.Repeat) →
       DoesJudged m old new verdicts.Take item before after_it (Ok answers.Repeat)
   repeat_does old new item before after_it tries st is good judged =
       let r = rules_in m old in
@@ -119,7 +119,7 @@ module _ {S B C T : Type 0} (m : Meaning S B C T) where
       (frame_moves r st item verdicts.Again is.live (verdict_of old item st true is good judged tries.1))
       refl (nothing_more before after_it tries.0.out) (tries.0.state st is)
 
-  pub stops_does : (old mid : Core S B C T) (item : Item) (before after_it : List Msg) → StopsCore old mid before after_it →
+  pub stops_does : (old mid : Core S E C T) (item : Item) (before after_it : List Msg) → StopsCore old mid before after_it →
       RepeatsOne m old.layers item false → DoesJudged m old (record mid { stopped = true }) verdicts.Take item before after_it (Err faults.Mem)
   stops_does old mid item before after_it stops counts st is good judged = record {
     out = stops.out;

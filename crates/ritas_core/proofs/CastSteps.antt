@@ -9,11 +9,17 @@ use Rattle.ritas_base.specs.Numbers.{Numbers}
 use Rattle.ritas_base.specs.declared.bytes.Mem.{Mem}
 use Rattle.ritas_base.specs.declared.item.Item.{Item}
 use Rattle.ritas_base.specs.declared.item.Msg.{Msg}
-use Rattle.ritas_base.specs.History.{Call, Take}
+use Rattle.ritas_base.specs.History.{Call, Start, Take}
+use Rattle.ritas_base.specs.declared.item.Say.{Say}
 use Rattle.layer_api.specs.Broadcast.{BroadcastRules, IsTagger}
-use Rattle.ritas_core.specs.Rules.{CastRules, casts_by, place_at}
+use Rattle.layer_api.specs.BroadcastCalls.{Starts}
+use Rattle.ritas_base.specs.declared.mode.Mode.{Mode}
+use Rattle.ritas_core.specs.declared.cast.Cast.{Cast}
+use Rattle.ritas_core.specs.Rules.{CastRules, by_other, casts_by, place_at}
+use Rattle.ritas_core.specs.Cast.{CastStands, CastStandsAt, rules_by, shown_by}
 use Rattle.ritas_core.specs.Casts.{CastsStand, called, newly}
-use Rattle.ritas_core.specs.CastCalls.{StaysSo, CanTake, HearsItem, CastsHear}
+use Rattle.ritas_core.specs.CastCalls.{StaysSo, CanStart, StartsCast, CanTake, HearsItem, CastsHear}
+use Rattle.ritas_core.proofs.OneCast.{shows_at}
 use Rattle.ritas_core.specs.declared.taken.Taken.{Taken}
 use Rattle.ritas_core.specs.declared.taken.Taken.TheVariants.{Took, Repeat}
 
@@ -68,39 +74,65 @@ newly_shown : (a b a2 b2 : Option (List ℕ)) → a ≡ a2 → b ≡ b2 → newl
 newly_shown a b a2 b2 p q = cc
 
 -- an item given to the value at its slot is given to the map
-module _ {B : Type 0} (stands : B → Place → Tags → List Call → Type 0) (rules : BroadcastRules) (live : B → Bool) (shown : B → Option (List ℕ))
-    (shows : (b : B) (at : Place) (tags : Tags) (h : List Call) → stands b at tags h → (live b ≡ true) × (shown b ≡ rules.out at tags h))
-    (numbers : Numbers) (me number : ℕ) (tags : Tags) (m0 m n : BTreeMap Slot B) (item : Item) (old new : B)
-    (stays : StaysSo stands (casts_by numbers me tags rules) m0 m)
+module _ {E : Type 0} (mode : Mode) (stands : E → Place → Tags → List Call → Type 0) (rules : BroadcastRules) (live : E → Bool) (shown : E → Option (List ℕ))
+    (shows : (e : E) (at : Place) (tags : Tags) (h : List Call) → stands e at tags h → (live e ≡ true) × (shown e ≡ rules.out at tags h))
+    (numbers : Numbers) (me number : ℕ) (tags : Tags) (m0 m n : BTreeMap Slot (Cast E)) (item : Item) (old new : Cast E)
+    (stays : StaysSo (CastStandsAt mode stands) (casts_by mode numbers me tags rules) m0 m)
     (found : get slot_cmp m item.slot ≡ Some old)
     (put : (q : Slot) → get slot_cmp n q ≡ cond (is_slot item.slot q) (Some new) (get slot_cmp m q)) where
-  tagger_of : (h : Slot → List Call) → CanTake stands (casts_by numbers me tags rules) number m0 item h
-      → IsTagger (place_at (casts_by numbers me tags rules) item.slot) tags (record { me = number; tags = tags })
+  tagger_of : (h : Slot → List Call) → CanTake (CastStandsAt mode stands) (casts_by mode numbers me tags rules) number m0 item h
+      → IsTagger (place_at (casts_by mode numbers me tags rules) item.slot) tags (record { me = number; tags = tags })
   tagger_of h can = record { own = can.is_own.own; alike = record { digest = λ _. refl; entry = λ _ _ _ _ _ _ _. refl } }
 
-  stood_there : (h : Slot → List Call) → CanTake stands (casts_by numbers me tags rules) number m0 item h
-      → stands old (place_at (casts_by numbers me tags rules) item.slot) tags (h item.slot)
+  stood_there : (h : Slot → List Call) → CanTake (CastStandsAt mode stands) (casts_by mode numbers me tags rules) number m0 item h
+      → CastStandsAt mode stands old (place_at (casts_by mode numbers me tags rules) item.slot) tags (h item.slot)
   stood_there h can = (stays h can.stood).made item.slot old found
 
   pub casts_hear : (before after : List Msg) (r : Result Taken Mem) →
-      HearsItem stands rules shown (record { me = number; tags = tags }) old new item before after r →
-      CastsHear stands (casts_by numbers me tags rules) number m0 n item before after r
+      HearsItem (CastStands (by_other mode item.slot) stands) (rules_by (by_other mode item.slot) rules) (shown_by shown)
+      (record { me = number; tags = tags }) old new item before after r →
+      CastsHear (CastStandsAt mode stands) (casts_by mode numbers me tags rules) number m0 n item before after r
   casts_hear before after (Ok (Took d)) hears = record {
-    grows = λ h can. casts_called stands (casts_by numbers me tags rules) m n h item.slot (Take item) new put
+    grows = λ h can. casts_called (CastStandsAt mode stands) (casts_by mode numbers me tags rules) m n h item.slot (Take item) new put
         (hears.takes.grows _ tags (h item.slot) (stood_there h can) (tagger_of h can) can.may) (stays h can.stood);
     made = λ h can. hears.takes.made _ tags (h item.slot) (stood_there h can) (tagger_of h can) can.may;
     delivered = λ h can.
         newly_shown _ _ _ _
-        (shows old (place_at (casts_by numbers me tags rules) item.slot) tags (h item.slot) (stood_there h can)).1
-        (shows new (place_at (casts_by numbers me tags rules) item.slot) tags (Take item ∷ h item.slot)
-        (hears.takes.grows _ tags (h item.slot) (stood_there h can) (tagger_of h can) can.may)).1
+        (shows_at stands rules live shown shows (by_other mode item.slot) old (place_at (casts_by mode numbers me tags rules) item.slot) tags (h item.slot) (stood_there h can))
+        (shows_at stands rules live shown shows (by_other mode item.slot) new (place_at (casts_by mode numbers me tags rules) item.slot) tags (Take item ∷ h item.slot)
+        (hears.takes.grows _ tags (h item.slot) (stood_there h can) (tagger_of h can) can.may))
         ∙ sym hears.delivered;
     counts = λ h can. hears.takes.counts _ tags (h item.slot) (stood_there h can) (tagger_of h can) can.may;
   }
   casts_hear before after (Ok Repeat) hears = record {
-    same = λ h stood. casts_put stands (casts_by numbers me tags rules) m n h h item.slot new put (λ q _. refl)
+    same = λ h stood. casts_put (CastStandsAt mode stands) (casts_by mode numbers me tags rules) m n h h item.slot new put (λ q _. refl)
         (hears.same _ tags (h item.slot) ((stays h stood).made item.slot old found)) (stays h stood);
     made = hears.out;
     counts = λ h can. hears.counts _ tags (h item.slot) (stood_there h can) (tagger_of h can) can.may;
   }
   casts_hear before after (Err e) hears = λ h can. hears _ tags (h item.slot) (stood_there h can) (tagger_of h can) can.may
+
+-- a value started at its slot is started in the map
+pub casts_start : {E : Type 0} (mode : Mode) (stands : E → Place → Tags → List Call → Type 0) (rules : BroadcastRules)
+    (numbers : Numbers) (me number : ℕ) (tags : Tags) (m0 m n : BTreeMap Slot (Cast E)) (say : Say) (old new : Cast E) →
+    StaysSo (CastStandsAt mode stands) (casts_by mode numbers me tags rules) m0 m →
+    get slot_cmp m say.slot ≡ Some old →
+    ((q : Slot) → get slot_cmp n q ≡ cond (is_slot say.slot q) (Some new) (get slot_cmp m q)) →
+    (value : List ℕ) → value ≡ say.value → (before after : List Msg) →
+    Starts (CastStands (by_other mode say.slot) stands) (rules_by (by_other mode say.slot) rules)
+    (record { me = number; tags = tags }) old new value before after →
+    StartsCast (CastStandsAt mode stands) (casts_by mode numbers me tags rules) number m0 n say before after
+casts_start {E} mode stands rules numbers me number tags m0 m n say old new stays found put value same before after started_it =
+    let c = casts_by mode numbers me tags rules in
+    let starts = subst (λ (v : List ℕ). Starts (CastStands (by_other mode say.slot) stands) (rules_by (by_other mode say.slot) rules)
+    (record { me = number; tags = tags }) old new v before after) same started_it in
+    let tagger : (h : Slot → List Call) → CanStart (CastStandsAt mode stands) c number m0 say h
+    → IsTagger (place_at c say.slot) tags (record { me = number; tags = tags }) = λ h can.
+    record { own = can.is_own.own; alike = record { digest = λ _. refl; entry = λ _ _ _ _ _ _ _. refl } } in
+    let stood : (h : Slot → List Call) → CanStart (CastStandsAt mode stands) c number m0 say h
+    → CastStandsAt mode stands old (place_at c say.slot) tags (h say.slot) = λ h can. (stays h can.stood).made say.slot old found in
+    record {
+      grows = λ h can. casts_called (CastStandsAt mode stands) c m n h say.slot (Start say.value) new put
+          (starts.grows _ tags (h say.slot) (stood h can) (tagger h can) can.may) (stays h can.stood);
+      made = λ h can. starts.made _ tags (h say.slot) (stood h can) (tagger h can) can.may;
+    }

@@ -11,6 +11,7 @@ use Rattle.ooc_buffers.specs.Lists.{Kept, failing, released, remaining}
 use Rattle.ritas_core.specs.declared.layers.Layers.{Layers}
 use Rattle.ritas_core.specs.declared.kernel.Core.{Core}
 use Rattle.ritas_core.specs.Rules.{Rules, casts_by}
+use Rattle.ritas_core.specs.RulesLaws.{laws_at}
 use Rattle.ritas_core.specs.Parts.{Parts, Entry, Took, Given, parts, taken_at, item_delivers, after, made_by}
 use Rattle.ritas_core.specs.Order.{ordered, own_items, new_messages}
 use Rattle.ritas_core.specs.Checks.{is_open, is_item_past, IsTakable, IsGivable, MayEnter, IsHistory}
@@ -37,11 +38,11 @@ may_follow r laws h met item may =
     follow_by r (parts r h) item (item_delivers r item (parts r h))
     (λ v delivers. (may_hear r laws h met item may v delivers, may_start_heard r laws h met item may v delivers))
 
-module _ {S B C T : Type 0} (m : Meaning S B C T) where
+module _ {S E C T : Type 0} (m : Meaning S E C T) where
   rules_from : Numbers → Mode → ℕ → T → C → Rules
-  rules_from p mode me t coin = record { mode = mode; casts = casts_by p me (m.tags t) m.cast; coin = m.bits coin; service = m.service }
+  rules_from p mode me t coin = record { mode = mode; casts = casts_by mode p me (m.tags t) m.cast; coin = m.bits coin; service = m.service }
 
-  pub same_rules : (old new : Layers S B C T) → SameSeat old new → rules_of m new ≡ rules_of m old
+  pub same_rules : (old new : Layers S E C T) → SameSeat old new → rules_of m new ≡ rules_of m old
   unfolding rules_from
   same_rules old new seat =
       ap (λ (p : Numbers). rules_from p new.mode new.me new.tagger new.coin) seat.params
@@ -51,7 +52,7 @@ module _ {S B C T : Type 0} (m : Meaning S B C T) where
       ∙ ap (λ (coin : C). rules_from old.params old.mode old.me old.tagger coin) seat.coin
 
   -- a stopped core stands for its last state, stopped
-  pub stops_core : (old new : Core S B C T) (r : Rules) (st : CoreState) → SameSeat old.layers new.layers → new.stopped ≡ true →
+  pub stops_core : (old new : Core S E C T) (r : Rules) (st : CoreState) → SameSeat old.layers new.layers → new.stopped ≡ true →
       CoreStands m old r st → CoreStands m new r (stopped st)
   stops_core old new r st seat halted stands = record {
     rules = same_rules old.layers new.layers seat ∙ stands.rules;
@@ -70,10 +71,10 @@ module _ {S B C T : Type 0} (m : Meaning S B C T) where
     good_held = stands.good_held;
   }
 
-module _ {S B C T : Type 0} (m : Meaning S B C T) (values : ValueLaws m.cast) (words : WordLaws m.service) where
-  pub laws_of : (layers : Layers S B C T) (core : Core S B C T) (st : CoreState) → CoreStands m core (rules_of m layers) st → LayerLaws (rules_of m layers)
+module _ {S E C T : Type 0} (m : Meaning S E C T) (values : ValueLaws m.cast) (words : WordLaws m.service) where
+  pub laws_of : (layers : Layers S E C T) (core : Core S E C T) (st : CoreState) → CoreStands m core (rules_of m layers) st → LayerLaws (rules_of m layers)
   laws_of layers core st stands = record {
-    casts = λ s. values;
+    casts = laws_at layers.mode m.cast values;
     words = words;
     session = stands.session;
     me = stands.me;
@@ -82,7 +83,7 @@ module _ {S B C T : Type 0} (m : Meaning S B C T) (values : ValueLaws m.cast) (w
   }
 
   -- an entry of the layers, sent in order, is an entry of the core
-  module _ (old new : Core S B C T) (mid : Layers S B C T) (e : Entry) (made before after_it : List Msg) (st : CoreState)
+  module _ (old new : Core S E C T) (mid : Layers S E C T) (e : Entry) (made before after_it : List Msg) (st : CoreState)
       (fin : Finishes m (record old { layers = mid }) new made before after_it)
       (tagger : mid.tagger ≡ old.layers.tagger)
       (stands : CoreStands m old (rules_of m mid) st) (live : st.live ≡ true)
@@ -119,15 +120,15 @@ module _ {S B C T : Type 0} (m : Meaning S B C T) (values : ValueLaws m.cast) (w
         let r = rules_of m mid in
         let laws = laws_of mid old st stands in (
           record {
-            rules = ap (λ (layers : Layers S B C T). rules_of m layers) fin.layers;
-            own = ap (λ (layers : Layers S B C T). m.me layers.tagger) fin.layers ∙ ap (λ (t : T). m.me t) tagger ∙ stands.own;
+            rules = ap (λ (layers : Layers S E C T). rules_of m layers) fin.layers;
+            own = ap (λ (layers : Layers S E C T). m.me layers.tagger) fin.layers ∙ ap (λ (t : T). m.me t) tagger ∙ stands.own;
             kinds = stands.kinds;
             session = stands.session;
             me = stands.me;
             serves = stands.serves;
             live = fin.stopped ∙ stands.live ∙ ap not live;
             history = (may, stands.history);
-            layers = λ _. subst (λ (layers : Layers S B C T). LayersStand m layers (parts r (e ∷ st.history))) (sym fin.layers) stood;
+            layers = λ _. subst (λ (layers : Layers S E C T). LayersStand m layers (parts r (e ∷ st.history))) (sym fin.layers) stood;
             inbox = λ _. new_inbox;
             held = λ _. new_held;
             peers = length-map st.held (failing (λ x. is_open r (parts r (e ∷ st.history)) x || is_item_past r (parts r (e ∷ st.history)) x)) ∙ stands.peers;
@@ -138,7 +139,7 @@ module _ {S B C T : Type 0} (m : Meaning S B C T) (values : ValueLaws m.cast) (w
         )
 
   -- the same for the rules that the layers had before
-  module _ (old new : Core S B C T) (mid : Layers S B C T) (seat : SameSeat old.layers mid) (e : Entry) (made before after_it : List Msg)
+  module _ (old new : Core S E C T) (mid : Layers S E C T) (seat : SameSeat old.layers mid) (e : Entry) (made before after_it : List Msg)
       (fin : Finishes m (record old { layers = mid }) new made before after_it) where
     abbrev Enough : CoreState → Rules → Type 0
     Enough st r = CoreStands m old r st × MayEnter r (parts r st.history) e × LayersStand m mid (after r e (parts r st.history))
@@ -153,7 +154,7 @@ module _ {S B C T : Type 0} (m : Meaning S B C T) (values : ValueLaws m.cast) (w
         subst (λ (r : Rules). Done st r) (same_rules m old.layers mid seat)
         (enters_at old new mid e made before after_it st fin seat.tagger there.0 live there.1 there.2 there.3)
 
-  can_take : (old : Core S B C T) (item : Item) (st : CoreState) → IsLive m old st → IsTakable (rules_in m old) (parts (rules_in m old) st.history) item →
+  can_take : (old : Core S E C T) (item : Item) (st : CoreState) → IsLive m old st → IsTakable (rules_in m old) (parts (rules_in m old) st.history) item →
       CanTakeItem m old.layers item (parts (rules_in m old) st.history)
   can_take old item st is may = record {
     is_own = record { own = is.stands.own; below = is.stands.me };
@@ -163,7 +164,7 @@ module _ {S B C T : Type 0} (m : Meaning S B C T) (values : ValueLaws m.cast) (w
   }
 
   -- an item that was taken
-  pub enters_item : (old new : Core S B C T) (mid : Layers S B C T) (item : Item) (start made before after_it : List Msg) → start ≡ [] →
+  pub enters_item : (old new : Core S E C T) (mid : Layers S E C T) (item : Item) (start made before after_it : List Msg) → start ≡ [] →
       SameSeat old.layers mid → TakesItem m old.layers mid item start made → Finishes m (record old { layers = mid }) new made before after_it →
       EntersCore m old new (Took item) before after_it
   enters_item old new mid item start made before after_it none seat takes fin =
@@ -180,7 +181,7 @@ module _ {S B C T : Type 0} (m : Meaning S B C T) (values : ValueLaws m.cast) (w
       record { state = λ st is may. (done st is may).0; out = λ st is may. (done st is may).1 }
 
   -- an input that was taken
-  pub enters_input : (old new : Core S B C T) (mid : Layers S B C T) (value : List ℕ) (start made before after_it : List Msg) → start ≡ [] →
+  pub enters_input : (old new : Core S E C T) (mid : Layers S E C T) (value : List ℕ) (start made before after_it : List Msg) → start ≡ [] →
       SameSeat old.layers mid → Tells m old.layers mid (Ask value) start made → Finishes m (record old { layers = mid }) new made before after_it →
       EntersCore m old new (Given value) before after_it
   enters_input old new mid value start made before after_it none seat tells fin =

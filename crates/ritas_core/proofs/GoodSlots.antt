@@ -1,5 +1,5 @@
 -- What a slot with no fault has, and what an item in the grammar gives its broadcast.
-use Rattle.std.proofs.Common.{◌≡◌, ◌<◌, Bool, true, false, None, List, [], ◌∷◌, refl, sym, ◌∙◌}
+use Rattle.std.proofs.Common.{◌≡◌, ℕ, ◌<◌, Bool, true, false, None, List, [], ◌∷◌, refl, sym, ◌∙◌}
 use Rattle.std.proofs.Math.Dec.{ltb}
 use Rattle.std.proofs.lemmas.Bool.{ltb-true}
 use Rattle.ritas_base.specs.declared.slot.Slot.{Slot}
@@ -9,7 +9,12 @@ use Rattle.ritas_base.specs.declared.mode.Mode.{Mode}
 use Rattle.ritas_base.specs.declared.item.Item.{Item}
 use Rattle.ritas_base.specs.Numbers.{Numbers}
 use Rattle.ritas_base.specs.Slots.{first_failed, slot_fault, within, has_class, has_number, has_attempt, has_count}
+use Rattle.ritas_base.specs.declared.item.Kind.{Kind}
+use Rattle.ritas_base.specs.declared.item.Kind.TheVariants as kinds
+use Rattle.frame_codec.specs.Format.{Is}
+use Rattle.frame_codec.specs.Grammar.{payload}
 use Rattle.frame_codec.specs.Body.{IsInGrammar}
+use Rattle.layer_api.specs.Broadcast.{IsPayload}
 use Rattle.layer_api.specs.OneValue.{IsOfSlot}
 use Rattle.ritas_core.specs.Rules.{Rules}
 use Rattle.ritas_core.specs.Laws.{LayerLaws}
@@ -55,3 +60,16 @@ of_slot r laws s right = record { session = laws.session; slot = right; kinds = 
 -- an item in the grammar has a kind of its slot's broadcast
 pub kind_fits : (r : Rules) → LayerLaws r → (item : Item) → IsInGrammar r.casts.numbers r.mode item → (r.casts.at_slot item.slot).has_kind item.kind ≡ true
 kind_fits r laws item good = laws.kinds item.slot item.kind good.slot ∙ good.kind
+
+-- and a payload of its kind
+payload_by : (p : Numbers) (root : ℕ) (kind : Kind) (s : Slot) (v : List ℕ) → Is (payload p root kind s) v → IsPayload p.n kind v
+unfolding payload
+payload_by p root kinds.Init s v is = tt
+payload_by p root kinds.Echo s v is = tt
+payload_by p root kinds.Ready s v is = tt
+payload_by p root kinds.Send s v is = tt
+payload_by p root kinds.Hashes s v is = is
+payload_by p root kinds.Column s v is = is
+
+pub payload_fits : (r : Rules) (item : Item) → IsInGrammar r.casts.numbers r.mode item → IsPayload r.casts.numbers.n item.kind item.value
+payload_fits r item good = payload_by r.casts.numbers r.mode.root item.kind item.slot item.value good.payload_is

@@ -8,7 +8,8 @@ use Rattle.ritas_base.specs.Slots.{slot_fault}
 use Rattle.ritas_base.specs.Messages.{has, without, reaches, item_of}
 use Rattle.ritas_base.specs.History.{Call, Start, Take}
 use Rattle.frame_codec.specs.Body.{IsInGrammar}
-use Rattle.layer_api.specs.OneValue.{Has, AreGoodCalls}
+use Rattle.layer_api.specs.Runs.{Has}
+use Rattle.layer_api.specs.OneValue.{AreGoodCalls}
 use Rattle.layer_api.specs.Service.{Word, Ask, Hear, AreProper, AreGoodWords, AreGoodSays}
 use Rattle.ooc_buffers.specs.Lists.{Kept, kept_of, with_kept, passing, released, remaining}
 use Rattle.ritas_core.specs.Rules.{Rules, seat_of, place_at, due_at}

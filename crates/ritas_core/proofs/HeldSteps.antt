@@ -81,15 +81,15 @@ ready_of : {B : Type 0} (o : Option B) (early ready : Bool) → (o ≡ None → 
 ready_of None early ready same = sym (same refl)
 ready_of (Some b) early ready same = refl
 
-module _ {S B C T : Type 0} (m : Meaning S B C T) (layers : Layers S B C T) (laws : LayerLaws (rules_of m layers))
+module _ {S E C T : Type 0} (m : Meaning S E C T) (layers : Layers S E C T) (laws : LayerLaws (rules_of m layers))
     (p : Parts) (stood : LayersStand m layers p) where
   is_ready : (x : Item) → IsGood (rules_of m layers) x →
       is_ready_in (rules_of m layers).casts layers.casts p.calls x
-      ≡ m.cast.ready (place_at (rules_of m layers).casts x.slot) (rules_of m layers).casts.tags (p.calls x.slot) x
+      ≡ ((rules_of m layers).casts.at_slot x.slot).ready (place_at (rules_of m layers).casts x.slot) (rules_of m layers).casts.tags (p.calls x.slot) x
   is_ready x good =
       let c = (rules_of m layers).casts in
-      ready_of (get slot_cmp layers.casts x.slot) (not (kind_eq x.kind Column)) (m.cast.ready (place_at c x.slot) c.tags (p.calls x.slot) x)
-      (λ none. ap (λ (h : List Call). m.cast.ready (place_at c x.slot) c.tags h x) (stood.casts.unmade x.slot none)
+      ready_of (get slot_cmp layers.casts x.slot) (not (kind_eq x.kind Column)) ((c.at_slot x.slot).ready (place_at c x.slot) c.tags (p.calls x.slot) x)
+      (λ none. ap (λ (h : List Call). (c.at_slot x.slot).ready (place_at c x.slot) c.tags h x) (stood.casts.unmade x.slot none)
       ∙ (laws.casts x.slot).ready_nothing (place_at c x.slot) c.tags x (kind_fits (rules_of m layers) laws x good.in_grammar))
 
   pub past_same : (x : Item) → IsGood (rules_of m layers) x → is_past_in m layers p x ≡ is_item_past (rules_of m layers) p x
@@ -104,5 +104,5 @@ module _ {S B C T : Type 0} (m : Meaning S B C T) (layers : Layers S B C T) (law
   -- an item is let in where its slot is open and its broadcast can take it
   pub let_same : (x : Item) → IsGood (rules_of m layers) x → is_let_in m layers p x
       ≡ (m.service.opens (seat_of (rules_of m layers)) p.words x.slot
-      && m.cast.ready (place_at (rules_of m layers).casts x.slot) (rules_of m layers).casts.tags (p.calls x.slot) x)
+      && ((rules_of m layers).casts.at_slot x.slot).ready (place_at (rules_of m layers).casts x.slot) (rules_of m layers).casts.tags (p.calls x.slot) x)
   let_same x good = ap (λ (b : Bool). m.service.opens (seat_of (rules_of m layers)) p.words x.slot && b) (is_ready x good)

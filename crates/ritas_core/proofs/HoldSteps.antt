@@ -32,9 +32,9 @@ no_room : (b : Bool) (x y : ℕ) → leb x y ≡ b → y < x → b ≡ false
 no_room true x y test above = let h : x ≤ y = leb-true x y test in absurd (omega arith)
 no_room false x y test above = refl
 
-module _ {S B C T : Type 0} (m : Meaning S B C T) where
+module _ {S E C T : Type 0} (m : Meaning S E C T) where
   -- held items that are as they were
-  stays_held : (old : Core S B C T) (h : List (List Kept)) (r : Rules) (st : CoreState) → h ≡ old.held → CoreStands m old r st →
+  stays_held : (old : Core S E C T) (h : List (List Kept)) (r : Rules) (st : CoreState) → h ≡ old.held → CoreStands m old r st →
       CoreStands m (record old { held = h }) r st
   stays_held old h r st same stands = record {
     rules = stands.rules;
@@ -53,7 +53,7 @@ module _ {S B C T : Type 0} (m : Meaning S B C T) where
     good_held = stands.good_held;
   }
 
-  module _ (old : Core S B C T) (item : Item) (len : ℕ) (h : List (List Kept)) (sent : List Msg)
+  module _ (old : Core S E C T) (item : Item) (len : ℕ) (h : List (List Kept)) (sent : List Msg)
       (counted : IsGood (rules_in m old) item → len ≡ body_length item) where
     -- the verdict, by whether there is room
     verdict_held : (st : CoreState) (b : Bool) → IsLive m old st → IsGood (rules_in m old) item →
@@ -117,7 +117,7 @@ module _ {S B C T : Type 0} (m : Meaning S B C T) where
     }
 
   -- each sender is one of the peers
-  pub held_for : (old : Core S B C T) (item : Item) (st : CoreState) → IsLive m old st → IsGood (rules_in m old) item → length old.held ≤ item.from → ⊥
+  pub held_for : (old : Core S E C T) (item : Item) (st : CoreState) → IsLive m old st → IsGood (rules_in m old) item → length old.held ≤ item.from → ⊥
   held_for old item st is good out =
       let n : length old.held ≡ old.layers.params.n = ap length (is.stands.held is.live) ∙ is.stands.peers in
       let below : item.from < old.layers.params.n = good.sender in

@@ -20,7 +20,7 @@ use Rattle.ritas_core.specs.Judging.{inside_verdict, window_verdict, unless_faul
 use Rattle.ritas_core.specs.CoreCalls.{IsToTake, Judged}
 use Rattle.ritas_core.specs.Laws.{LayerLaws}
 use Rattle.ritas_core.proofs.TestLaws.{right_true}
-use Rattle.ritas_core.proofs.GoodSlots.{kind_fits}
+use Rattle.ritas_core.proofs.GoodSlots.{kind_fits, payload_fits}
 use Rattle.ritas_core.proofs.Verdicts.{is_not_origin, is_not_for, by_tests, verdict_by, is_repeat_by}
 use Rattle.ritas_core.proofs.HeldSteps.{let_same}
 
@@ -95,7 +95,7 @@ verdict_not_mem r p held item h =
     never_mem (is_not_origin item) (is_not_for r.casts.me item) (is_item_past r p item) (is_item_ahead r p item) _ _ _ _ _
     (sym (verdict_by r p held item _ _ _ _ _ _ _ refl refl refl refl refl refl refl) ∙ h)
 
-module _ {S B C T : Type 0} (m : Meaning S B C T) (layers : Layers S B C T) (laws : LayerLaws (rules_of m layers))
+module _ {S E C T : Type 0} (m : Meaning S E C T) (layers : Layers S E C T) (laws : LayerLaws (rules_of m layers))
     (p : Parts) (stood : LayersStand m layers p) (held : List (List Kept)) (item : Item) (good : IsGood (rules_of m layers) item) where
   open_is : is_open (rules_of m layers) p item
       ≡ opens_by (is_item_past (rules_of m layers) p item) (is_item_ahead (rules_of m layers) p item) (is_let_in m layers p item)
@@ -113,7 +113,7 @@ module _ {S B C T : Type 0} (m : Meaning S B C T) (layers : Layers S B C T) (law
       (kind_eq item.kind Column) (is_kept held item) (is_taken_again r p item) (has_room held item) (mark_of r p item) (held_bytes held item.from)
 
   may_take : judged_in m layers p (is_kept held item) item ≡ verdicts.Take →
-      MayTake m.cast (place_at (rules_of m layers).casts item.slot) (rules_of m layers).casts.tags (p.calls item.slot) item
+      MayTake ((rules_of m layers).casts.at_slot item.slot) (place_at (rules_of m layers).casts item.slot) (rules_of m layers).casts.tags (p.calls item.slot) item
   may_take takes =
       let r = rules_of m layers in
       let told = takes_by (is_not_origin item) (is_not_for r.casts.me item) (is_item_past r p item) (is_item_ahead r p item) (is_let_in m layers p item)
@@ -125,6 +125,7 @@ module _ {S B C T : Type 0} (m : Meaning S B C T) (layers : Layers S B C T) (law
         sender = good.sender;
         origin = λ only. eqb-true item.from item.slot.origin (from_neither (is_of_origin item.kind) (eqb item.from item.slot.origin) told.origin only);
         receiver = λ only. eqb-true r.casts.me item.slot.origin (from_neither (is_for_origin item.kind) (eqb r.casts.me item.slot.origin) told.receiver only);
+        payload = payload_fits r item good.in_grammar;
         in_time = right_true (m.service.opens (seat_of r) p.words item.slot) _ (sym (let_same m layers laws p stood item good) ∙ let_in);
       }
 

@@ -7,6 +7,8 @@ use Rattle.ritas_base.specs.declared.item.Msg.{Msg}
 use Rattle.ritas_base.specs.History.{Take}
 use Rattle.layer_api.specs.Service.{Hear}
 use Rattle.ritas_core.specs.declared.layers.Layers.{Layers}
+use Rattle.ritas_core.specs.declared.cast.Cast.{Cast}
+use Rattle.ritas_core.specs.Cast.{CastStandsAt}
 use Rattle.ritas_core.specs.Casts.{news_at}
 use Rattle.ritas_core.specs.CastCalls.{CanTake, CastsTake}
 use Rattle.ritas_core.specs.Parts.{Parts, Took, told_news, heard_at, heard_news, taken_at, item_delivers, made_by}
@@ -14,12 +16,12 @@ use Rattle.ritas_core.specs.Stands.{Meaning, rules_of, LayersStand}
 use Rattle.ritas_core.specs.LayerCalls.{MayFollow, CanTakeItem, CanTell, Tells, TakesItem}
 use Rattle.ritas_core.proofs.Starts.{appended_more}
 
-module _ {S B C T : Type 0} (m : Meaning S B C T) (old new : Layers S B C T) (casts : BTreeMap Slot B) (item : Item)
+module _ {S E C T : Type 0} (m : Meaning S E C T) (old new : Layers S E C T) (casts : BTreeMap Slot (Cast E)) (item : Item)
     (before between after_it : List Msg) (value told_value : List ℕ)
-    (takes : CastsTake m.cast_stands (rules_of m old).casts (m.me old.tagger) old.casts casts item before between (Some value))
+    (takes : CastsTake (CastStandsAt old.mode m.cast_stands) (rules_of m old).casts (m.me old.tagger) old.casts casts item before between (Some value))
     (same : told_value ≡ value)
     (tells : Tells m (record old { casts = casts }) new (Hear item.slot told_value) between after_it) where
-  can_take : (p : Parts) → CanTakeItem m old item p → CanTake m.cast_stands (rules_of m old).casts (m.me old.tagger) old.casts item p.calls
+  can_take : (p : Parts) → CanTakeItem m old item p → CanTake (CastStandsAt old.mode m.cast_stands) (rules_of m old).casts (m.me old.tagger) old.casts item p.calls
   can_take p can = record { is_own = can.is_own; origin = can.origin; may = can.may; stood = can.stood.casts }
 
   delivers : (p : Parts) → CanTakeItem m old item p → item_delivers (rules_of m old) item p ≡ Some told_value

@@ -7,7 +7,8 @@ pub mod Due
 pub mod Window
 pub mod CallsTaken
 pub mod CoreLaws
-pub mod CastSteps
+pub mod OneCast
+mod CastSteps
 pub mod Starts
 pub mod LayerSteps
 pub mod SendSteps

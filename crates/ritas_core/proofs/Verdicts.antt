@@ -17,7 +17,7 @@ use Rattle.ritas_core.specs.Parts.{Parts, Entry, parts}
 use Rattle.ritas_core.specs.Checks.{mark_of, is_item_past, is_item_ahead, is_open, is_taken_again, is_repeat, has_room, verdict_on, window_fault, input_fault_or, input_check, IsGood, IsTakable, IsGivable, IsHistory}
 use Rattle.ritas_core.specs.Laws.{LayerLaws}
 use Rattle.ritas_core.proofs.TestLaws.{left_false, right_true}
-use Rattle.ritas_core.proofs.GoodSlots.{kind_fits}
+use Rattle.ritas_core.proofs.GoodSlots.{payload_fits, kind_fits}
 
 -- ---- tests
 from_neither : (a b : Bool) → (a && not b) ≡ false → a ≡ true → b ≡ true
@@ -159,6 +159,7 @@ takable_by r laws p held item good taken = record {
     sender = good.sender;
     origin = λ only. eqb-true item.from item.slot.origin (from_neither (is_of_origin item.kind) (eqb item.from item.slot.origin) taken.origin only);
     receiver = λ only. eqb-true r.casts.me item.slot.origin (from_neither (is_for_origin item.kind) (eqb r.casts.me item.slot.origin) taken.receiver only);
+    payload = payload_fits r item good.in_grammar;
     in_time = ready_from (not (is_item_past r p item)) (not (is_item_ahead r p item)) (r.service.opens (seat_of r) p.words item.slot)
         ((r.casts.at_slot item.slot).ready (place_at r.casts item.slot) r.casts.tags (p.calls item.slot) item) taken.opened;
   };

@@ -45,23 +45,23 @@ check_not_mem r p value h =
     (leb (r.service.base (seat_of r) p.words r.casts.me + 64) next) (leb 1000000 next) next
     (sym (input_check_by r p value _ _ _ _ refl refl refl refl) ∙ h)
 
-module _ {S B C T : Type 0} (m : Meaning S B C T) where
+module _ {S E C T : Type 0} (m : Meaning S E C T) where
   -- ---- a stopped core, and one that isn't
-  pub stopped_does : (old : Core S B C T) (what : What) (sent : List Msg) → old.stopped ≡ true → DoesAll m old old what sent sent (Err faults.Stopped)
+  pub stopped_does : (old : Core S E C T) (what : What) (sent : List Msg) → old.stopped ≡ true → DoesAll m old old what sent sent (Err faults.Stopped)
   stopped_does old what sent halted r st stands give =
       let dead : st.live ≡ false = not_true st.live (sym stands.live ∙ halted) in
       moves_by m old old what sent sent (Err faults.Stopped) r st (stays st st.inbox (Err faults.Stopped))
       (ap (λ (b : Bool). cond b (moved_live r st what) (stays st st.inbox (Err faults.Stopped))) dead)
       refl (nothing_more sent sent refl) stands
 
-  pub all_from : (old new : Core S B C T) (what : What) (before after_it : List Msg) (result : Result Answer CoreFault) → old.stopped ≡ false →
+  pub all_from : (old new : Core S E C T) (what : What) (before after_it : List Msg) (result : Result Answer CoreFault) → old.stopped ≡ false →
       DoesHere m old new what before after_it result → DoesAll m old new what before after_it result
   all_from old new what before after_it result running here r st stands give =
       subst (λ (q : Rules). CoreStands m old q st → MayGive q what → Does m old new what before after_it result q st) stands.rules
       (λ stands give. here st (record { stands = stands; live = not_false st.live (sym stands.live ∙ running) }) give) stands give
 
   -- ---- a turn
-  module _ (old new : Core S B C T) (r : Rules) (before after_it : List Msg) (live : Bool) (history : List Entry) (item : Item) (rest : List Item) (held : List (List Kept))
+  module _ (old new : Core S E C T) (r : Rules) (before after_it : List Msg) (live : Bool) (history : List Entry) (item : Item) (rest : List Item) (held : List (List Kept))
       (running : live ≡ true) (good : AreGood r (item ∷ rest)) where
     abbrev At : CoreState
     At = record { live = live; history = history; inbox = item ∷ rest; held = held }
@@ -80,7 +80,7 @@ module _ {S B C T : Type 0} (m : Meaning S B C T) where
         moved_when_live r Left (Frame item) running ∙ gives_same (verdict_on r (parts r history) held item)
         ∙ sym (moved_when_live r At Turn running)
 
-    moves_turned : (mid : Core S B C T) (result : Result Answer CoreFault) → Moves m mid new (Frame item) before after_it result r Left →
+    moves_turned : (mid : Core S E C T) (result : Result Answer CoreFault) → Moves m mid new (Frame item) before after_it result r Left →
         Moves m old new Turn before after_it result r At
     moves_turned mid result moves =
         moves_by m old new Turn before after_it result r At (moved r Left (Frame item)) (sym moved_same) moves.answer moves.out moves.state
@@ -110,7 +110,7 @@ module _ {S B C T : Type 0} (m : Meaning S B C T) where
       state = elim runs.state [ inl a ↦ inl a | inr b ↦ inr (b.0, halted_same b.1) ];
     }
 
-    pub does_turned : (mid : Core S B C T) (result : Result Answer CoreFault) → Does m mid new (Frame item) before after_it result r Left →
+    pub does_turned : (mid : Core S E C T) (result : Result Answer CoreFault) → Does m mid new (Frame item) before after_it result r Left →
         Does m old new Turn before after_it result r At
     does_turned mid (Ok x) does = moves_turned mid (Ok x) does
     does_turned mid (Err faults.NotOrigin) does = moves_turned mid _ does
@@ -125,22 +125,22 @@ module _ {S B C T : Type 0} (m : Meaning S B C T) where
     does_turned mid (Err faults.Stopped) does = moves_turned mid _ does
 
   -- a turn gives the item at the front to the core that is left
-  module _ (old mid new : Core S B C T) (item : Item) (before after_it : List Msg) (result : Result Answer CoreFault)
+  module _ (old mid new : Core S E C T) (item : Item) (before after_it : List Msg) (result : Result Answer CoreFault)
       (front : old.inbox.items ≡ item ∷ mid.inbox.items)
       (same_layers : mid.layers ≡ old.layers) (same_held : mid.held ≡ old.held) (same_stopped : mid.stopped ≡ old.stopped)
       (here : DoesHere m mid new (Frame item) before after_it result) where
     left_stands : (r : Rules) (st : CoreState) → CoreStands m old r st → st.live ≡ true → st.inbox ≡ item ∷ mid.inbox.items →
         CoreStands m mid r (record { live = st.live; history = st.history; inbox = mid.inbox.items; held = st.held })
     left_stands r st stands live whole = record {
-      rules = ap (λ (layers : Layers S B C T). rules_of m layers) same_layers ∙ stands.rules;
-      own = ap (λ (layers : Layers S B C T). m.me layers.tagger) same_layers ∙ stands.own;
+      rules = ap (λ (layers : Layers S E C T). rules_of m layers) same_layers ∙ stands.rules;
+      own = ap (λ (layers : Layers S E C T). m.me layers.tagger) same_layers ∙ stands.own;
       kinds = stands.kinds;
       session = stands.session;
       me = stands.me;
       serves = stands.serves;
       live = same_stopped ∙ stands.live;
       history = stands.history;
-      layers = λ live. subst (λ (layers : Layers S B C T). LayersStand m layers (parts r st.history)) (sym same_layers) (stands.layers live);
+      layers = λ live. subst (λ (layers : Layers S E C T). LayersStand m layers (parts r st.history)) (sym same_layers) (stands.layers live);
       inbox = λ _. refl;
       held = λ live. same_held ∙ stands.held live;
       peers = stands.peers;
@@ -163,21 +163,21 @@ module _ {S B C T : Type 0} (m : Meaning S B C T) where
         (does_turned old new r before after_it st.live st.history item mid.inbox.items st.held live good mid result done)
 
     pub turn_does : DoesHere m old new Turn before after_it result
-    turn_does st is tt = turned_at (rules_in m old) (ap (λ (layers : Layers S B C T). rules_of m layers) same_layers) st is.stands is.live
+    turn_does st is tt = turned_at (rules_in m old) (ap (λ (layers : Layers S E C T). rules_of m layers) same_layers) st is.stands is.live
 
-  pub idle_does : (old new : Core S B C T) (sent : List Msg) → old.inbox.items ≡ [] → new ≡ old → DoesHere m old new Turn sent sent (Ok answers.Idle)
+  pub idle_does : (old new : Core S E C T) (sent : List Msg) → old.inbox.items ≡ [] → new ≡ old → DoesHere m old new Turn sent sent (Ok answers.Idle)
   idle_does old new sent none same st is give =
       let r = rules_in m old in
       let empty : st.inbox ≡ [] = sym (is.stands.inbox is.live) ∙ none in
       let stays_so : CoreStands m new r (record { live = st.live; history = st.history; inbox = []; held = st.held }) =
       subst (λ (xs : List Item). CoreStands m new r (record { live = st.live; history = st.history; inbox = xs; held = st.held })) empty
-      (subst (λ (core : Core S B C T). CoreStands m core r st) (sym same) is.stands) in
+      (subst (λ (core : Core S E C T). CoreStands m core r st) (sym same) is.stands) in
       moves_by m old new Turn sent sent (Ok answers.Idle) r st (stays st [] (Ok answers.Idle))
       (moved_when_live r st Turn is.live ∙ ap (λ (xs : List Item). turned r st xs) empty)
       refl (nothing_more sent sent refl) stays_so
 
   -- ---- an input
-  pub input_refused : (old : Core S B C T) (value : List ℕ) (sent : List Msg) (fault : CoreFault) →
+  pub input_refused : (old : Core S E C T) (value : List ℕ) (sent : List Msg) (fault : CoreFault) →
       ((p : Parts) → LayersStand m old.layers p → old.layers.me < old.layers.params.n → Some fault ≡ input_check (rules_in m old) p value) →
       DoesHere m old old (Input value) sent sent (Err fault)
   input_refused old value sent fault told st is give =
@@ -189,13 +189,13 @@ module _ {S B C T : Type 0} (m : Meaning S B C T) where
       (moved_when_live r st (Input value) is.live ∙ ap (λ (o : Option CoreFault). given_input r st value o) check)
       refl (nothing_more sent sent refl) is.stands)
 
-  module _ (old : Core S B C T) (value : List ℕ)
+  module _ (old : Core S E C T) (value : List ℕ)
       (told : (p : Parts) → LayersStand m old.layers p → old.layers.me < old.layers.params.n → None ≡ input_check (rules_in m old) p value)
       (good : IsInput old.layers.params old.layers.mode value) where
     free : (st : CoreState) → IsLive m old st → input_check (rules_in m old) (parts (rules_in m old) st.history) value ≡ None
     free st is = sym (told (parts (rules_in m old) st.history) (is.stands.layers is.live) is.stands.me)
 
-    pub input_does : (new : Core S B C T) (before after_it : List Msg) → EntersCore m old new (Given value) before after_it →
+    pub input_does : (new : Core S E C T) (before after_it : List Msg) → EntersCore m old new (Given value) before after_it →
         DoesHere m old new (Input value) before after_it (Ok answers.Took)
     input_does new before after_it enters_it st is give =
         let r = rules_in m old in
@@ -204,7 +204,7 @@ module _ {S B C T : Type 0} (m : Meaning S B C T) where
         (moved_when_live r st (Input value) is.live ∙ ap (λ (o : Option CoreFault). given_input r st value o) (free st is))
         refl (enters_it.out st is may) (enters_it.state st is may)
 
-    pub input_stops : (mid : Core S B C T) (before after_it : List Msg) → StopsCore old mid before after_it →
+    pub input_stops : (mid : Core S E C T) (before after_it : List Msg) → StopsCore old mid before after_it →
         DoesHere m old (record mid { stopped = true }) (Input value) before after_it (Err faults.Mem)
     input_stops mid before after_it stops st is give = record {
       out = stops.out;
@@ -212,9 +212,9 @@ module _ {S B C T : Type 0} (m : Meaning S B C T) where
       state = inr (free st is, stops_core m old (record mid { stopped = true }) (rules_in m old) st stops.seat refl is.stands);
     }
 
-module _ {S B C T : Type 0} (m : Meaning S B C T) (values : ValueLaws m.cast) (words : WordLaws m.service) where
+module _ {S E C T : Type 0} (m : Meaning S E C T) (values : ValueLaws m.cast) (words : WordLaws m.service) where
   -- what is done with an item by what the judge tells
-  pub here_from : (old new : Core S B C T) (v : Verdict) (kept : Bool) (item : Item) (before after_it : List Msg) (result : Result Answer CoreFault) →
+  pub here_from : (old new : Core S E C T) (v : Verdict) (kept : Bool) (item : Item) (before after_it : List Msg) (result : Result Answer CoreFault) →
       ((p : Parts) → LayersStand m old.layers p → item.slot.origin < old.layers.params.n → v ≡ judged_in m old.layers p kept item) →
       kept ≡ is_kept old.held item →
       DoesJudged m old new v item before after_it result → DoesHere m old new (Frame item) before after_it result

@@ -14,7 +14,7 @@ use Rattle.ritas_core.specs.Machine.{CoreState, What, Frame, Input, Turn, moved,
 use Rattle.ritas_core.specs.Stands.{Meaning, CoreStands}
 
 -- the call answered, put out and left what the abstract core does
-pub record Moves {S B C T : Type 0} (m : Meaning S B C T) (old new : Core S B C T) (what : What) (before after : List Msg) (result : Result Answer CoreFault) (r : Rules) (st : CoreState) : Type 0 where
+pub record Moves {S E C T : Type 0} (m : Meaning S E C T) (old new : Core S E C T) (what : What) (before after : List Msg) (result : Result Answer CoreFault) (r : Rules) (st : CoreState) : Type 0 where
   pub answer : result ≡ (moved r st what).answer
   pub out : after ≡ before ++ (moved r st what).out
   pub state : CoreStands m new r (moved r st what).state
@@ -60,16 +60,16 @@ left_by st Turn = record { live = st.live; history = st.history; inbox = rest_of
 
 -- For want of memory nothing goes out. Where an item was to be held, all is as before, but that a turn's item has left
 -- the inbox; in any other step the core is stopped.
-pub record RunsOut {S B C T : Type 0} (m : Meaning S B C T) (new : Core S B C T) (what : What) (before after : List Msg) (r : Rules) (st : CoreState) : Type 0 where
+pub record RunsOut {S E C T : Type 0} (m : Meaning S E C T) (new : Core S E C T) (what : What) (before after : List Msg) (r : Rules) (st : CoreState) : Type 0 where
   pub out : after ≡ before
   pub live : st.live ≡ true
   pub state : (IsHolding r st what × CoreStands m new r (left_by st what)) ⊎ (IsStep r st what × CoreStands m new r (stopped st))
 
 -- each outcome of a call
-abbrev pub Does : {S B C T : Type 0} → Meaning S B C T → Core S B C T → Core S B C T → What → List Msg → List Msg → Result Answer CoreFault → Rules → CoreState → Type 0
+abbrev pub Does : {S E C T : Type 0} → Meaning S E C T → Core S E C T → Core S E C T → What → List Msg → List Msg → Result Answer CoreFault → Rules → CoreState → Type 0
 Does m old new what before after (Err faults.Mem) r st = RunsOut m new what before after r st
 Does m old new what before after result r st = Moves m old new what before after result r st
 
 -- whatever state the core stands for, where this may be given
-abbrev pub DoesAll : {S B C T : Type 0} → Meaning S B C T → Core S B C T → Core S B C T → What → List Msg → List Msg → Result Answer CoreFault → Type 0
+abbrev pub DoesAll : {S E C T : Type 0} → Meaning S E C T → Core S E C T → Core S E C T → What → List Msg → List Msg → Result Answer CoreFault → Type 0
 DoesAll m old new what before after result = (r : Rules) (st : CoreState) → CoreStands m old r st → MayGive r what → Does m old new what before after result r st

@@ -23,16 +23,16 @@ use Rattle.ritas_core.specs.LayerCalls.{SameSeat, RepeatsOne, is_past_in, is_ope
 use Rattle.ritas_core.specs.Calls.{Does}
 
 -- the rules that the layers of a core have
-abbrev pub rules_in : {S B C T : Type 0} → Meaning S B C T → Core S B C T → Rules
+abbrev pub rules_in : {S E C T : Type 0} → Meaning S E C T → Core S E C T → Rules
 rules_in m core = rules_of m core.layers
 
 -- the core stands for this state, and isn't stopped
-pub record IsLive {S B C T : Type 0} (m : Meaning S B C T) (core : Core S B C T) (st : CoreState) : Type 0 where
+pub record IsLive {S E C T : Type 0} (m : Meaning S E C T) (core : Core S E C T) (st : CoreState) : Type 0 where
   pub stands : CoreStands m core (rules_in m core) st
   pub live : st.live ≡ true
 
 -- the messages are put out in their order, what comes to oneself joins the inbox, and then what is open
-pub record Finishes {S B C T : Type 0} (m : Meaning S B C T) (old new : Core S B C T) (made before after : List Msg) : Type 0 where
+pub record Finishes {S E C T : Type 0} (m : Meaning S E C T) (old new : Core S E C T) (made before after : List Msg) : Type 0 where
   pub layers : new.layers ≡ old.layers
   pub stopped : new.stopped ≡ old.stopped
   pub out : after ≡ before ++ ordered made
@@ -42,30 +42,30 @@ pub record Finishes {S B C T : Type 0} (m : Meaning S B C T) (old new : Core S B
       → new.held ≡ remaining (is_past_in m old.layers p) (remaining (is_open_in m old.layers p) old.held)
 
 -- for want of memory nothing is put out
-pub record StopsCore {S B C T : Type 0} (old new : Core S B C T) (before after : List Msg) : Type 0 where
+pub record StopsCore {S E C T : Type 0} (old new : Core S E C T) (before after : List Msg) : Type 0 where
   pub seat : SameSeat old.layers new.layers
   pub out : after ≡ before
 
 -- an entry was taken, where it met its conditions
-pub record EntersCore {S B C T : Type 0} (m : Meaning S B C T) (old new : Core S B C T) (e : Entry) (before after : List Msg) : Type 0 where
+pub record EntersCore {S E C T : Type 0} (m : Meaning S E C T) (old new : Core S E C T) (e : Entry) (before after : List Msg) : Type 0 where
   pub state : (st : CoreState) → IsLive m old st → MayEnter (rules_in m old) (parts (rules_in m old) st.history) e
       → CoreStands m new (rules_in m old) (entered (rules_in m old) st e st.inbox)
   pub out : (st : CoreState) → IsLive m old st → MayEnter (rules_in m old) (parts (rules_in m old) st.history) e
       → after ≡ before ++ new_messages (rules_in m old) st.history e
 
 -- the item repeats one, and all is as it was
-pub record StaysCore {S B C T : Type 0} (m : Meaning S B C T) (old new : Core S B C T) (before after : List Msg) : Type 0 where
+pub record StaysCore {S E C T : Type 0} (m : Meaning S E C T) (old new : Core S E C T) (before after : List Msg) : Type 0 where
   pub state : (st : CoreState) → IsLive m old st → CoreStands m new (rules_in m old) st
   pub out : after ≡ before
 
 -- each outcome of giving an open item to the layers
-abbrev pub TriesItem : {S B C T : Type 0} → Meaning S B C T → Core S B C T → Core S B C T → Item → List Msg → List Msg → Result Heard Mem → Type 0
+abbrev pub TriesItem : {S E C T : Type 0} → Meaning S E C T → Core S E C T → Core S E C T → Item → List Msg → List Msg → Result Heard Mem → Type 0
 TriesItem m old new item before after (Ok heard.Took) = EntersCore m old new (Took item) before after × RepeatsOne m old.layers item false
 TriesItem m old new item before after (Ok heard.Repeat) = StaysCore m old new before after × RepeatsOne m old.layers item true
 TriesItem m old new item before after (Err e) = StopsCore old new before after × RepeatsOne m old.layers item false
 
 -- each outcome of giving an input to the layers
-abbrev pub TriesInput : {S B C T : Type 0} → Meaning S B C T → Core S B C T → Core S B C T → List ℕ → List Msg → List Msg → Result (Unit {0}) Mem → Type 0
+abbrev pub TriesInput : {S E C T : Type 0} → Meaning S E C T → Core S E C T → Core S E C T → List ℕ → List Msg → List Msg → Result (Unit {0}) Mem → Type 0
 TriesInput m old new value before after (Ok u) = EntersCore m old new (Given value) before after
 TriesInput m old new value before after (Err e) = StopsCore old new before after
 
@@ -83,12 +83,12 @@ Judged r p held item verdicts.Hold = verdict_on r p held item ≡ (if has_room h
 Judged r p held item verdicts.Take = IsToTake r p held item
 
 -- what a call does for the rules that the layers have
-abbrev pub DoesHere : {S B C T : Type 0} → Meaning S B C T → Core S B C T → Core S B C T → What → List Msg → List Msg → Result Answer CoreFault → Type 0
+abbrev pub DoesHere : {S E C T : Type 0} → Meaning S E C T → Core S E C T → Core S E C T → What → List Msg → List Msg → Result Answer CoreFault → Type 0
 DoesHere m old new what before after result = (st : CoreState) → IsLive m old st → MayGive (rules_in m old) what
     → Does m old new what before after result (rules_in m old) st
 
 -- and for an item of which the judge has told this
-abbrev pub DoesJudged : {S B C T : Type 0} → Meaning S B C T → Core S B C T → Core S B C T → Verdict → Item → List Msg → List Msg → Result Answer CoreFault → Type 0
+abbrev pub DoesJudged : {S E C T : Type 0} → Meaning S E C T → Core S E C T → Core S E C T → Verdict → Item → List Msg → List Msg → Result Answer CoreFault → Type 0
 DoesJudged m old new verdict item before after result = (st : CoreState) → IsLive m old st → MayGive (rules_in m old) (Frame item)
     → Judged (rules_in m old) (parts (rules_in m old) st.history) st.held item verdict
     → Does m old new (Frame item) before after result (rules_in m old) st

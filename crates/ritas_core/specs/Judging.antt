@@ -38,7 +38,7 @@ unless_fault (Some fault) verdict = verdicts.Refuse fault
 unless_fault None verdict = verdict
 
 -- what the layers tell of an item
-abbrev pub judged_in : {S B C T : Type 0} → Meaning S B C T → Layers S B C T → Parts → Bool → Item → Verdict
+abbrev pub judged_in : {S E C T : Type 0} → Meaning S E C T → Layers S E C T → Parts → Bool → Item → Verdict
 judged_in m layers p kept item =
     unless_fault (misdirection layers.me item)
     (window_verdict (is_item_past (rules_of m layers) p item) (is_item_ahead (rules_of m layers) p item) (mark_of (rules_of m layers) p item)

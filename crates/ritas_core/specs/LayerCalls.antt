@@ -31,7 +31,7 @@ MayFollow r s None p = Unit {0}
 MayFollow r s (Some value) p = MayTell r (Hear s value) p
 
 -- all but the service and the broadcasts stays
-pub record SameSeat {S B C T : Type 0} (old new : Layers S B C T) : Type 0 where
+pub record SameSeat {S E C T : Type 0} (old new : Layers S E C T) : Type 0 where
   pub params : new.params ≡ old.params
   pub mode : new.mode ≡ old.mode
   pub me : new.me ≡ old.me
@@ -39,29 +39,29 @@ pub record SameSeat {S B C T : Type 0} (old new : Layers S B C T) : Type 0 where
   pub coin : new.coin ≡ old.coin
 
 -- the service may have a word
-pub record CanTell {S B C T : Type 0} (m : Meaning S B C T) (layers : Layers S B C T) (word : Word) (p : Parts) : Type 0 where
+pub record CanTell {S E C T : Type 0} (m : Meaning S E C T) (layers : Layers S E C T) (word : Word) (p : Parts) : Type 0 where
   pub is_own : IsOwn (rules_of m layers).casts (m.me layers.tagger)
   pub may : MayTell (rules_of m layers) word p
   pub stood : LayersStand m layers p
 
 -- it had the word, and what became due by it is put out
-pub record Tells {S B C T : Type 0} (m : Meaning S B C T) (old new : Layers S B C T) (word : Word) (before after_it : List Msg) : Type 0 where
+pub record Tells {S E C T : Type 0} (m : Meaning S E C T) (old new : Layers S E C T) (word : Word) (before after_it : List Msg) : Type 0 where
   pub grows : (p : Parts) → CanTell m old word p → LayersStand m new (told_to (rules_of m old) word p)
   pub made : (p : Parts) → CanTell m old word p → after_it ≡ before ++ told_news (rules_of m old) word p
 
 -- an item may be taken
-pub record CanTakeItem {S B C T : Type 0} (m : Meaning S B C T) (layers : Layers S B C T) (item : Item) (p : Parts) : Type 0 where
+pub record CanTakeItem {S E C T : Type 0} (m : Meaning S E C T) (layers : Layers S E C T) (item : Item) (p : Parts) : Type 0 where
   pub is_own : IsOwn (rules_of m layers).casts (m.me layers.tagger)
   pub origin : item.slot.origin < layers.params.n
-  pub may : MayTake m.cast (place_at (rules_of m layers).casts item.slot) (rules_of m layers).casts.tags (p.calls item.slot) item
+  pub may : MayTake ((rules_of m layers).casts.at_slot item.slot) (place_at (rules_of m layers).casts item.slot) (rules_of m layers).casts.tags (p.calls item.slot) item
   pub stood : LayersStand m layers p
 
 -- whether the item repeats one that was taken
-abbrev pub RepeatsOne : {S B C T : Type 0} → Meaning S B C T → Layers S B C T → Item → Bool → Type 0
+abbrev pub RepeatsOne : {S E C T : Type 0} → Meaning S E C T → Layers S E C T → Item → Bool → Type 0
 RepeatsOne m old item b = (p : Parts) → CanTakeItem m old item p → is_taken_again (rules_of m old) p item ≡ b
 
 -- it was taken, and what became due by it is put out, where the service may hear what its slot newly delivers
-pub record TakesItem {S B C T : Type 0} (m : Meaning S B C T) (old new : Layers S B C T) (item : Item) (before after_it : List Msg) : Type 0 where
+pub record TakesItem {S E C T : Type 0} (m : Meaning S E C T) (old new : Layers S E C T) (item : Item) (before after_it : List Msg) : Type 0 where
   pub grows : (p : Parts) → CanTakeItem m old item p
       → MayFollow (rules_of m old) item.slot (item_delivers (rules_of m old) item p) (taken_at item p)
       → LayersStand m new (after (rules_of m old) (Took item) p)
@@ -71,25 +71,25 @@ pub record TakesItem {S B C T : Type 0} (m : Meaning S B C T) (old new : Layers 
   pub counts : RepeatsOne m old item false
 
 -- the item repeats one, and leaves all as it was
-pub record RepeatsItem {S B C T : Type 0} (m : Meaning S B C T) (old new : Layers S B C T) (item : Item) (before after_it : List Msg) : Type 0 where
+pub record RepeatsItem {S E C T : Type 0} (m : Meaning S E C T) (old new : Layers S E C T) (item : Item) (before after_it : List Msg) : Type 0 where
   pub same : (p : Parts) → LayersStand m old p → LayersStand m new p
   pub out : after_it ≡ before
   pub counts : RepeatsOne m old item true
 
 -- each outcome
-abbrev pub GivesItem : {S B C T : Type 0} → Meaning S B C T → Layers S B C T → Layers S B C T → Item → List Msg → List Msg → Result Heard Mem → Type 0
+abbrev pub GivesItem : {S E C T : Type 0} → Meaning S E C T → Layers S E C T → Layers S E C T → Item → List Msg → List Msg → Result Heard Mem → Type 0
 GivesItem m old new item before after_it (Ok heard.Took) = TakesItem m old new item before after_it
 GivesItem m old new item before after_it (Ok heard.Repeat) = RepeatsItem m old new item before after_it
 GivesItem m old new item before after_it (Err e) = RepeatsOne m old item false
 
 -- whether an item is past, and whether it is open, as the layers tell it of an item whose slot's origin is a replica
-abbrev pub is_past_in : {S B C T : Type 0} → Meaning S B C T → Layers S B C T → Parts → Item → Bool
+abbrev pub is_past_in : {S E C T : Type 0} → Meaning S E C T → Layers S E C T → Parts → Item → Bool
 is_past_in m layers p item = nat_lt item.slot.origin layers.params.n && is_item_past (rules_of m layers) p item
 
-abbrev pub is_let_in : {S B C T : Type 0} → Meaning S B C T → Layers S B C T → Parts → Item → Bool
+abbrev pub is_let_in : {S E C T : Type 0} → Meaning S E C T → Layers S E C T → Parts → Item → Bool
 is_let_in m layers p item = m.service.opens (seat_of (rules_of m layers)) p.words item.slot && is_ready_in (rules_of m layers).casts layers.casts p.calls item
 
-abbrev pub is_open_in : {S B C T : Type 0} → Meaning S B C T → Layers S B C T → Parts → Item → Bool
+abbrev pub is_open_in : {S E C T : Type 0} → Meaning S E C T → Layers S E C T → Parts → Item → Bool
 is_open_in m layers p item =
     nat_lt item.slot.origin layers.params.n && (not (is_item_past (rules_of m layers) p item) && (not (is_item_ahead (rules_of m layers) p item) && is_let_in m layers p item))
 

@@ -1,4 +1,6 @@
 pub mod Rules
+pub mod RulesLaws
+pub mod Cast
 pub mod Casts
 pub mod CastCalls
 pub mod Parts

@@ -10,16 +10,16 @@ use Rattle.ritas_core.specs.Rules.{Rules, out_at}
 use Rattle.ritas_core.specs.Parts.{Entry, parts}
 
 -- the numbers of the session, the mode, the replica and its tagger
-abbrev pub params_of : {S B C T : Type 0} → Core S B C T → Numbers
+abbrev pub params_of : {S E C T : Type 0} → Core S E C T → Numbers
 params_of core = core.layers.params
 
-abbrev pub mode_of : {S B C T : Type 0} → Core S B C T → Mode
+abbrev pub mode_of : {S E C T : Type 0} → Core S E C T → Mode
 mode_of core = core.layers.mode
 
-abbrev pub me_of : {S B C T : Type 0} → Core S B C T → ℕ
+abbrev pub me_of : {S E C T : Type 0} → Core S E C T → ℕ
 me_of core = core.layers.me
 
-abbrev pub tagger_of : {S B C T : Type 0} → Core S B C T → T
+abbrev pub tagger_of : {S E C T : Type 0} → Core S E C T → T
 tagger_of core = core.layers.tagger
 
 -- the item that waits first

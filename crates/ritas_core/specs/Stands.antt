@@ -11,22 +11,23 @@ use Rattle.ooc_buffers.specs.Lists.{Kept}
 use Rattle.ritas_core.specs.declared.layers.Layers.{Layers}
 use Rattle.ritas_core.specs.declared.kernel.Core.{Core}
 use Rattle.ritas_core.specs.Rules.{Rules, casts_by, seat_of, KindsFit}
+use Rattle.ritas_core.specs.Cast.{CastStandsAt}
 use Rattle.ritas_core.specs.Casts.{CastsStand}
 use Rattle.ritas_core.specs.Parts.{Parts, parts}
 use Rattle.ritas_core.specs.Checks.{IsHistory, IsGood}
 use Rattle.ritas_core.specs.Machine.{CoreState, AreGood}
 
--- what the traits say of a service, a broadcast, a coin and a tagger
-pub record Meaning (S B C T : Type 0) : Type 1 where
+-- what the traits say of a service, of the broadcast beside the reliable one, of a coin and a tagger
+pub record Meaning (S E C T : Type 0) : Type 1 where
   pub service_stands : S → Seat → List Word → Type 0
   pub service : ServiceRules
-  pub cast_stands : B → Place → Tags → List Call → Type 0
+  pub cast_stands : E → Place → Tags → List Call → Type 0
   pub cast : BroadcastRules
   pub bits : C → Slot → Bool
   pub me : T → ℕ
   pub tags : T → Tags
 
-abbrev pub meaning : {S B C T : Type 0} → (S → Seat → List Word → Type 0) → ServiceRules → (B → Place → Tags → List Call → Type 0) → BroadcastRules → (C → Slot → Bool) → (T → ℕ) → (T → Tags) → Meaning S B C T
+abbrev pub meaning : {S E C T : Type 0} → (S → Seat → List Word → Type 0) → ServiceRules → (E → Place → Tags → List Call → Type 0) → BroadcastRules → (C → Slot → Bool) → (T → ℕ) → (T → Tags) → Meaning S E C T
 meaning service_stands service cast_stands cast bits me tags = record {
   service_stands = service_stands;
   service = service;
@@ -38,18 +39,18 @@ meaning service_stands service cast_stands cast bits me tags = record {
 }
 
 -- what the layers mean
-abbrev pub rules_of : {S B C T : Type 0} → Meaning S B C T → Layers S B C T → Rules
+abbrev pub rules_of : {S E C T : Type 0} → Meaning S E C T → Layers S E C T → Rules
 rules_of m layers = record {
   mode = layers.mode;
-  casts = casts_by layers.params layers.me (m.tags layers.tagger) m.cast;
+  casts = casts_by layers.mode layers.params layers.me (m.tags layers.tagger) m.cast;
   coin = m.bits layers.coin;
   service = m.service;
 }
 
 -- the service and the broadcasts stand for these parts
-pub record LayersStand {S B C T : Type 0} (m : Meaning S B C T) (layers : Layers S B C T) (p : Parts) : Type 0 where
+pub record LayersStand {S E C T : Type 0} (m : Meaning S E C T) (layers : Layers S E C T) (p : Parts) : Type 0 where
   pub service : m.service_stands layers.service (seat_of (rules_of m layers)) p.words
-  pub casts : CastsStand m.cast_stands (rules_of m layers).casts layers.casts p.calls
+  pub casts : CastsStand (CastStandsAt layers.mode m.cast_stands) (rules_of m layers).casts layers.casts p.calls
 
 -- the held items may be given
 abbrev pub AreGoodKept : Rules → List Kept → Type 0
@@ -61,7 +62,7 @@ AreGoodLists r [] = Unit {0}
 AreGoodLists r (kept ∷ held) = AreGoodKept r kept × AreGoodLists r held
 
 -- the core stands for this state, by these rules. Of a stopped core only that is said
-pub record CoreStands {S B C T : Type 0} (m : Meaning S B C T) (core : Core S B C T) (r : Rules) (st : CoreState) : Type 0 where
+pub record CoreStands {S E C T : Type 0} (m : Meaning S E C T) (core : Core S E C T) (r : Rules) (st : CoreState) : Type 0 where
   pub rules : rules_of m core.layers ≡ r
   pub own : m.me core.layers.tagger ≡ r.casts.me
   pub kinds : KindsFit r.casts.numbers r.mode r.casts.at_slot

@@ -4,7 +4,7 @@ use crate::kernel::Core;
 use layer_api::{Broadcast, Service};
 use ritas_base::{Coin, Item, Mode, Params, Slot, Tagger};
 
-impl<S: Service, B: Broadcast, C: Coin + Drop, T: Tagger + Drop> Core<S, B, C, T> {
+impl<S: Service, E: Broadcast, C: Coin + Drop, T: Tagger + Drop> Core<S, E, C, T> {
     ghost use Rattle.std.specs.Prelude.{◌≡◌, true, length};
     ghost use Rattle.std.specs.Option.{option_copied};
     ghost use Rattle.ooc_buffers.specs.Lists.{held_bytes};
@@ -17,7 +17,7 @@ impl<S: Service, B: Broadcast, C: Coin + Drop, T: Tagger + Drop> Core<S, B, C, T
     /// The numbers of the session.
     pub fn params(&self) -> &Params
         ensures value { result.now ≡ params_of self.now }
-        ensures rules { let m = meaning S.stands S.rules B.stands B.rules C.bits T.me T.tags in
+        ensures rules { let m = meaning S.stands S.rules E.stands E.rules C.bits T.me T.tags in
             (r : Rules) (st : CoreState) → CoreStands m self.now r st → result.now ≡ r.casts.numbers }
     {
         &self.layers.params
@@ -26,7 +26,7 @@ impl<S: Service, B: Broadcast, C: Coin + Drop, T: Tagger + Drop> Core<S, B, C, T
     /// The root service, and the switch for VECT.
     pub fn mode(&self) -> &Mode
         ensures value { result.now ≡ mode_of self.now }
-        ensures rules { let m = meaning S.stands S.rules B.stands B.rules C.bits T.me T.tags in
+        ensures rules { let m = meaning S.stands S.rules E.stands E.rules C.bits T.me T.tags in
             (r : Rules) (st : CoreState) → CoreStands m self.now r st → result.now ≡ r.mode }
     {
         &self.layers.mode
@@ -35,7 +35,7 @@ impl<S: Service, B: Broadcast, C: Coin + Drop, T: Tagger + Drop> Core<S, B, C, T
     /// The number of this replica.
     pub fn me(&self) -> u8
         ensures value { result ≡ me_of self.now }
-        ensures rules { let m = meaning S.stands S.rules B.stands B.rules C.bits T.me T.tags in
+        ensures rules { let m = meaning S.stands S.rules E.stands E.rules C.bits T.me T.tags in
             (r : Rules) (st : CoreState) → CoreStands m self.now r st → result ≡ r.casts.me }
     {
         self.layers.me
@@ -44,7 +44,7 @@ impl<S: Service, B: Broadcast, C: Coin + Drop, T: Tagger + Drop> Core<S, B, C, T
     /// What this replica tags with.
     pub fn tagger(&self) -> &T
         ensures value { result.now ≡ tagger_of self.now }
-        ensures rules { let m = meaning S.stands S.rules B.stands B.rules C.bits T.me T.tags in
+        ensures rules { let m = meaning S.stands S.rules E.stands E.rules C.bits T.me T.tags in
             (r : Rules) (st : CoreState) → CoreStands m self.now r st
             → (T.me result.now ≡ r.casts.me) × (T.tags result.now ≡ r.casts.tags) }
     {
@@ -53,7 +53,7 @@ impl<S: Service, B: Broadcast, C: Coin + Drop, T: Tagger + Drop> Core<S, B, C, T
 
     /// How many items wait.
     pub fn inbox_len(&self) -> usize
-        ensures { let m = meaning S.stands S.rules B.stands B.rules C.bits T.me T.tags in
+        ensures { let m = meaning S.stands S.rules E.stands E.rules C.bits T.me T.tags in
             (r : Rules) (st : CoreState) → CoreStands m self.now r st → st.live ≡ true → result ≡ length st.inbox }
     {
         self.inbox.len()
@@ -61,7 +61,7 @@ impl<S: Service, B: Broadcast, C: Coin + Drop, T: Tagger + Drop> Core<S, B, C, T
 
     /// The item that waits first, which the next turn takes.
     pub fn inbox_front(&self) -> Option<&Item>
-        ensures { let m = meaning S.stands S.rules B.stands B.rules C.bits T.me T.tags in
+        ensures { let m = meaning S.stands S.rules E.stands E.rules C.bits T.me T.tags in
             (r : Rules) (st : CoreState) → CoreStands m self.now r st → st.live ≡ true
             → option_copied result ≡ front_of st.inbox }
     {
@@ -70,7 +70,7 @@ impl<S: Service, B: Broadcast, C: Coin + Drop, T: Tagger + Drop> Core<S, B, C, T
 
     /// How many bytes are held, over all peers.
     pub fn held(&self) -> u64
-        ensures { let m = meaning S.stands S.rules B.stands B.rules C.bits T.me T.tags in
+        ensures { let m = meaning S.stands S.rules E.stands E.rules C.bits T.me T.tags in
             (r : Rules) (st : CoreState) → CoreStands m self.now r st → st.live ≡ true → result ≡ all_bytes st.held }
     {
         let mut sum: u64 = 0;
@@ -82,7 +82,7 @@ impl<S: Service, B: Broadcast, C: Coin + Drop, T: Tagger + Drop> Core<S, B, C, T
 
     /// How many bytes are held for one peer.
     pub fn held_of(&self, peer: u8) -> u32
-        ensures { let m = meaning S.stands S.rules B.stands B.rules C.bits T.me T.tags in
+        ensures { let m = meaning S.stands S.rules E.stands E.rules C.bits T.me T.tags in
             (r : Rules) (st : CoreState) → CoreStands m self.now r st → st.live ≡ true
             → result ≡ held_bytes st.held peer }
     {
@@ -91,7 +91,7 @@ impl<S: Service, B: Broadcast, C: Coin + Drop, T: Tagger + Drop> Core<S, B, C, T
 
     /// The service.
     pub fn service(&self) -> &S
-        ensures { let m = meaning S.stands S.rules B.stands B.rules C.bits T.me T.tags in
+        ensures { let m = meaning S.stands S.rules E.stands E.rules C.bits T.me T.tags in
             (r : Rules) (st : CoreState) → CoreStands m self.now r st → st.live ≡ true
             → S.stands result.now (seat_of r) (parts r st.history).words }
     {
@@ -100,7 +100,7 @@ impl<S: Service, B: Broadcast, C: Coin + Drop, T: Tagger + Drop> Core<S, B, C, T
 
     /// What a slot delivered, if it did.
     pub fn delivered(&self, slot: &Slot) -> Option<&[u8]>
-        ensures { let m = meaning S.stands S.rules B.stands B.rules C.bits T.me T.tags in
+        ensures { let m = meaning S.stands S.rules E.stands E.rules C.bits T.me T.tags in
             (r : Rules) (st : CoreState) → CoreStands m self.now r st → st.live ≡ true
             → option_copied result ≡ delivered_at r st.history slot.now }
     {
@@ -112,7 +112,7 @@ impl<S: Service, B: Broadcast, C: Coin + Drop, T: Tagger + Drop> Core<S, B, C, T
 
     /// Whether no call on this core was without memory, but for one that only was to hold an item.
     pub fn live(&self) -> bool
-        ensures { let m = meaning S.stands S.rules B.stands B.rules C.bits T.me T.tags in
+        ensures { let m = meaning S.stands S.rules E.stands E.rules C.bits T.me T.tags in
             (r : Rules) (st : CoreState) → CoreStands m self.now r st → result ≡ st.live }
     {
         !self.stopped

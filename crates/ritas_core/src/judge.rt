@@ -59,12 +59,12 @@ fn judge_inside(is_let_in: bool, is_kept: bool, item: &Item) -> Verdict
 
 /// What is done with an item: `Take` where it is open, whether or not it repeats one that its slot took, and `Hold`
 /// where it isn't open and not held yet, whether or not there is room for it.
-pub(crate) fn judge<S: Service, B: Broadcast, C: Coin + Drop, T: Tagger + Drop>(
-    layers: &Layers<S, B, C, T>,
+pub(crate) fn judge<S: Service, E: Broadcast, C: Coin + Drop, T: Tagger + Drop>(
+    layers: &Layers<S, E, C, T>,
     is_kept: bool,
     item: &Item,
 ) -> Verdict
-    ensures result { let m = meaning S.stands S.rules B.stands B.rules C.bits T.me T.tags in
+    ensures result { let m = meaning S.stands S.rules E.stands E.rules C.bits T.me T.tags in
         (p : Parts) → LayersStand m layers.now p → item.now.slot.origin < layers.now.params.n
         → result ≡ judged_in m layers.now p is_kept item.now }
     ensures fresh { result ≡ Hold → is_kept ≡ false }

@@ -15,8 +15,8 @@ use std::collections::{BTreeMap, VecDeque};
 
 /// One replica without its channels: its layers, the items that wait for it, and those that it holds.
 #[derive(Drop)]
-pub struct Core<S: Service, B: Broadcast, C: Coin + Drop, T: Tagger + Drop> {
-    pub(crate) layers: Layers<S, B, C, T>,
+pub struct Core<S: Service, E: Broadcast, C: Coin + Drop, T: Tagger + Drop> {
+    pub(crate) layers: Layers<S, E, C, T>,
     pub(crate) inbox: VecDeque<Item>,
     pub(crate) held: Held,
     pub(crate) stopped: bool,
@@ -30,12 +30,12 @@ fn length_of(item: &Item) -> u32
     u32::try_from(10 + len).unwrap_or(u32::MAX)
 }
 
-impl<S: Service, B: Broadcast, C: Coin + Drop, T: Tagger + Drop> Core<S, B, C, T> {
+impl<S: Service, E: Broadcast, C: Coin + Drop, T: Tagger + Drop> Core<S, E, C, T> {
     ghost use Rattle.std.specs.Prelude.{◌≡◌, ◌<◌, true, false, List, [], IfOk, replicate};
     ghost use Rattle.ritas_base.specs.declared.item.Msg.{Msg};
     ghost use Rattle.ooc_buffers.specs.Lists.{is_kept};
     ghost use Rattle.ritas_core.specs.declared.verdict.Verdict.TheVariants as verdicts;
-    ghost use Rattle.ritas_core.specs.Rules.{casts_by, KindsFit};
+    ghost use Rattle.ritas_core.specs.Rules.{casts_by, other_form};
     ghost use Rattle.ritas_core.specs.Machine.{Frame, Input, Turn, first_state};
     ghost use Rattle.ritas_core.specs.Stands.{meaning, CoreStands};
     ghost use Rattle.ritas_core.specs.Calls.{DoesAll};
@@ -43,17 +43,18 @@ impl<S: Service, B: Broadcast, C: Coin + Drop, T: Tagger + Drop> Core<S, B, C, T
 
     /// The core of replica `me`, with no history: nothing waits, and nothing is held. The one error is want of memory.
     ///
-    /// The tagger is the replica's, the service serves the mode's root service, and the broadcast has exactly the kinds
-    /// that the grammar gives to each slot.
+    /// The tagger is the replica's, the service serves the mode's root service, and the form of the other broadcast, by
+    /// which VECTs go and the commands of root service 2, is 2 in root service 2 or where VECT goes by echo broadcast, and
+    /// otherwise 1.
     pub fn new(alloc: Global, p: Params, mode: Mode, me: u8, t: T, coin: C) -> Result<Self, Mem>
         requires below { me < p.n }
         requires own { T.me t ≡ me }
-        requires kinds { KindsFit p mode (λ s. B.rules) }
+        requires form { E.FORM ≡ other_form mode }
         requires serves { S.rules.serves mode.root ≡ true }
-        ensures { let m = meaning S.stands S.rules B.stands B.rules C.bits T.me T.tags in
+        ensures { let m = meaning S.stands S.rules E.stands E.rules C.bits T.me T.tags in
             IfOk result (λ core. CoreStands m core (record {
               mode = mode;
-              casts = casts_by p me (T.tags t) B.rules;
+              casts = casts_by mode p me (T.tags t) E.rules;
               coin = C.bits coin;
               service = S.rules;
             }) (first_state (replicate p.n []))) }
@@ -83,7 +84,7 @@ impl<S: Service, B: Broadcast, C: Coin + Drop, T: Tagger + Drop> Core<S, B, C, T
         item: &Item,
         out: &mut Vec<Msg>,
     ) -> Result<Answer, CoreFault>
-        ensures { let m = meaning S.stands S.rules B.stands B.rules C.bits T.me T.tags in
+        ensures { let m = meaning S.stands S.rules E.stands E.rules C.bits T.me T.tags in
             DoesJudged m self.old self.new verdicts.Take item.now out.old.items out.new.items result }
     {
         match self.try_take(alloc, item, out) {
@@ -99,7 +100,7 @@ impl<S: Service, B: Broadcast, C: Coin + Drop, T: Tagger + Drop> Core<S, B, C, T
     // Holds an item, if there is room for it.
     fn hold(&mut self, alloc: Global, item: Item) -> Result<Answer, CoreFault>
         requires { is_kept self.old.held item ≡ false }
-        ensures { let m = meaning S.stands S.rules B.stands B.rules C.bits T.me T.tags in
+        ensures { let m = meaning S.stands S.rules E.stands E.rules C.bits T.me T.tags in
             (sent : List Msg) → DoesJudged m self.old self.new verdicts.Hold item sent sent result }
     {
         // No such item comes: an item is from a replica.
@@ -118,7 +119,7 @@ impl<S: Service, B: Broadcast, C: Coin + Drop, T: Tagger + Drop> Core<S, B, C, T
 
     // Takes, holds or refuses an item. The core isn't stopped.
     fn step(&mut self, alloc: Global, item: Item, out: &mut Vec<Msg>) -> Result<Answer, CoreFault>
-        ensures { let m = meaning S.stands S.rules B.stands B.rules C.bits T.me T.tags in
+        ensures { let m = meaning S.stands S.rules E.stands E.rules C.bits T.me T.tags in
             DoesHere m self.old self.new (Frame item) out.old.items out.new.items result }
     {
         match judge(&self.layers, self.held.has(&item), &item) {
@@ -131,7 +132,7 @@ impl<S: Service, B: Broadcast, C: Coin + Drop, T: Tagger + Drop> Core<S, B, C, T
 
     // Takes an input that passed the checks. For want of memory the core stops.
     fn give(&mut self, alloc: Global, value: &[u8], out: &mut Vec<Msg>) -> Result<Answer, CoreFault>
-        ensures { let m = meaning S.stands S.rules B.stands B.rules C.bits T.me T.tags in
+        ensures { let m = meaning S.stands S.rules E.stands E.rules C.bits T.me T.tags in
             DoesHere m self.old self.new (Input value.now) out.old.items out.new.items result }
     {
         if let Some(fault) = self.layers.input_fault(value) {
@@ -148,7 +149,7 @@ impl<S: Service, B: Broadcast, C: Coin + Drop, T: Tagger + Drop> Core<S, B, C, T
 
     // Gives the item at the front of the inbox.
     fn step_front(&mut self, alloc: Global, out: &mut Vec<Msg>) -> Result<Answer, CoreFault>
-        ensures { let m = meaning S.stands S.rules B.stands B.rules C.bits T.me T.tags in
+        ensures { let m = meaning S.stands S.rules E.stands E.rules C.bits T.me T.tags in
             DoesHere m self.old self.new Turn out.old.items out.new.items result }
     {
         match self.inbox.pop_front() {
@@ -183,7 +184,7 @@ impl<S: Service, B: Broadcast, C: Coin + Drop, T: Tagger + Drop> Core<S, B, C, T
         item: Item,
         out: &mut Vec<Msg>,
     ) -> Result<Answer, CoreFault>
-        ensures { let m = meaning S.stands S.rules B.stands B.rules C.bits T.me T.tags in
+        ensures { let m = meaning S.stands S.rules E.stands E.rules C.bits T.me T.tags in
             DoesAll m self.old self.new (Frame item) out.old.items out.new.items result }
     {
         if self.stopped {
@@ -205,7 +206,7 @@ impl<S: Service, B: Broadcast, C: Coin + Drop, T: Tagger + Drop> Core<S, B, C, T
         bytes: &[u8],
         out: &mut Vec<Msg>,
     ) -> Result<Answer, CoreFault>
-        ensures { let m = meaning S.stands S.rules B.stands B.rules C.bits T.me T.tags in
+        ensures { let m = meaning S.stands S.rules E.stands E.rules C.bits T.me T.tags in
             DoesAll m self.old self.new (Input bytes.now) out.old.items out.new.items result }
     {
         if self.stopped {
@@ -216,7 +217,7 @@ impl<S: Service, B: Broadcast, C: Coin + Drop, T: Tagger + Drop> Core<S, B, C, T
 
     /// Takes the item at the front out of the inbox, and gives it as `take` does. The answer is `Idle` where none waits.
     pub fn turn(&mut self, alloc: Global, out: &mut Vec<Msg>) -> Result<Answer, CoreFault>
-        ensures { let m = meaning S.stands S.rules B.stands B.rules C.bits T.me T.tags in
+        ensures { let m = meaning S.stands S.rules E.stands E.rules C.bits T.me T.tags in
             DoesAll m self.old self.new Turn out.old.items out.new.items result }
     {
         if self.stopped {

@@ -1,14 +1,18 @@
 ghost use Rattle.std.specs.Prelude.{◌≡◌, ℕ, ◌+◌, ◌<◌, true, not, ◌&&◌, List, ◌∷◌, Some, None};
 ghost use Rattle.std.specs.Option.{is_some};
 ghost use Rattle.ritas_base.specs.declared.slot.Slot.{Slot};
+ghost use Rattle.ritas_base.specs.declared.mode.Mode.{Mode};
+ghost use Rattle.ritas_base.specs.Numbers.{Numbers};
 ghost use Rattle.ritas_base.specs.declared.item.Msg.{Msg};
 ghost use Rattle.ritas_base.specs.Slots.{slot_fault};
 ghost use Rattle.ritas_base.specs.Messages.{has, item_of};
 ghost use Rattle.ritas_base.specs.History.{started};
 ghost use Rattle.frame_codec.specs.Body.{IsInGrammar};
-ghost use Rattle.layer_api.specs.OneValue.{Has, AreTaken, AreGoodCalls};
+ghost use Rattle.layer_api.specs.Broadcast.{BroadcastRules};
+ghost use Rattle.layer_api.specs.Runs.{Has};
+ghost use Rattle.layer_api.specs.OneValue.{AreTaken, AreGoodCalls};
 ghost use Rattle.layer_api.specs.Service.{said, is_said, is_heard, AreProper, AreGoodWords};
-ghost use Rattle.ritas_core.specs.Rules.{Rules, seat_of, place_at, out_at};
+ghost use Rattle.ritas_core.specs.Rules.{Rules, seat_of, place_at, out_at, at_slot_of, KindsFit, HasForm};
 ghost use Rattle.ritas_core.specs.Parts.{Entry, parts};
 ghost use Rattle.ritas_core.specs.Order.{new_messages};
 ghost use Rattle.ritas_core.specs.Checks.{IsHistory};
@@ -21,8 +25,8 @@ use layer_api::{Broadcast, Service};
 /// out in the order of slot, kind and receiver.
 ///
 /// It does nothing: its contract is the law.
-pub fn new_is_due<S: Service, B: Broadcast>()
-    ensures due { (r : Rules) → IsCoreOf S.rules B.rules r → (h : List Entry) (e : Entry) (m : Msg) →
+pub fn new_is_due<S: Service, E: Broadcast>()
+    ensures due { (r : Rules) → IsCoreOf S.rules E.rules r → (h : List Entry) (e : Entry) (m : Msg) →
         has (new_messages r h e) m ≡ (is_due r (parts r (e ∷ h)) m && not (is_due r (parts r h) m)) }
     ensures order { (r : Rules) (h : List Entry) (e : Entry) → InOrder (new_messages r h e) }
 {}
@@ -31,10 +35,10 @@ pub fn new_is_due<S: Service, B: Broadcast>()
 /// window, as the service has it now.
 ///
 /// It does nothing: its contract is the law.
-pub fn delivered_within<S: Service, B: Broadcast>()
-    ensures grammar { (r : Rules) → IsCoreOf S.rules B.rules r → (h : List Entry) → IsHistory r h → (s : Slot) →
+pub fn delivered_within<S: Service, E: Broadcast>()
+    ensures grammar { (r : Rules) → IsCoreOf S.rules E.rules r → (h : List Entry) → IsHistory r h → (s : Slot) →
         is_some (out_at r.casts s ((parts r h).calls s)) ≡ true → slot_fault r.casts.numbers r.mode s ≡ None }
-    ensures window { (r : Rules) → IsCoreOf S.rules B.rules r → (h : List Entry) → IsHistory r h → (s : Slot) → s.class ≡ 1 →
+    ensures window { (r : Rules) → IsCoreOf S.rules E.rules r → (h : List Entry) → IsHistory r h → (s : Slot) → s.class ≡ 1 →
         is_some (out_at r.casts s ((parts r h).calls s)) ≡ true → s.a < r.service.base (seat_of r) (parts r h).words s.origin + 64 }
 {}
 
@@ -60,4 +64,13 @@ pub fn history_laws()
         has (new_messages r h e) m ≡ (is_due r (parts r (e ∷ h)) m && not (is_due r (parts r h) m)) }
     ensures sent { (r : Rules) → LayerLaws r → (h : List Entry) (e : Entry) → IsHistory r (e ∷ h) → (m : Msg) →
         Has (new_messages r h e) m → IsInGrammar r.casts.numbers r.mode (item_of r.casts.me m) }
+{}
+
+/// The broadcast of each slot has exactly the kinds that the grammar gives to it, where the other broadcast has the form
+/// of the mode.
+///
+/// It does nothing: its contract is the law.
+pub fn kinds_fit()
+    ensures { (numbers : Numbers) (mode : Mode) (other : BroadcastRules) → HasForm mode other →
+        KindsFit numbers mode (at_slot_of mode other) }
 {}

@@ -1,3 +1,4 @@
+use crate::cast::Cast;
 use crate::casts::start_casts;
 use crate::fault::CoreFault;
 use crate::hear::{is_ready, take_cast};
@@ -11,17 +12,17 @@ use std::collections::BTreeMap;
 
 /// The service of a replica, its broadcasts by their slots, and what they are given.
 #[derive(Drop)]
-pub struct Layers<S: Service, B: Broadcast, C: Coin + Drop, T: Tagger + Drop> {
+pub struct Layers<S: Service, E: Broadcast, C: Coin + Drop, T: Tagger + Drop> {
     pub(crate) params: Params,
     pub(crate) mode: Mode,
     pub(crate) me: u8,
     pub(crate) tagger: T,
     pub(crate) coin: C,
     pub(crate) service: S,
-    pub(crate) casts: BTreeMap<Slot, B>,
+    pub(crate) casts: BTreeMap<Slot, Cast<E>>,
 }
 
-impl<S: Service, B: Broadcast, C: Coin + Drop, T: Tagger + Drop> Layers<S, B, C, T> {
+impl<S: Service, E: Broadcast, C: Coin + Drop, T: Tagger + Drop> Layers<S, E, C, T> {
     ghost use Rattle.std.specs.Prelude.{◌≡◌, ◌<◌, None, OnOk};
     ghost use Rattle.layer_api.specs.Service.{Ask, Hear};
     ghost use Rattle.ritas_core.specs.Parts.{Parts};
@@ -38,7 +39,7 @@ impl<S: Service, B: Broadcast, C: Coin + Drop, T: Tagger + Drop> Layers<S, B, C,
         value: &[u8],
         made: &mut Vec<Msg>,
     ) -> Result<(), Mem>
-        ensures told { let m = meaning S.stands S.rules B.stands B.rules C.bits T.me T.tags in
+        ensures told { let m = meaning S.stands S.rules E.stands E.rules C.bits T.me T.tags in
             OnOk result (Tells m self.old self.new (Hear slot.now value.now) made.old.items made.new.items) }
         ensures same { SameSeat self.old self.new }
     {
@@ -48,6 +49,7 @@ impl<S: Service, B: Broadcast, C: Coin + Drop, T: Tagger + Drop> Layers<S, B, C,
         start_casts(
             alloc,
             &self.params,
+            &self.mode,
             self.me,
             &self.tagger,
             &mut self.casts,
@@ -63,7 +65,7 @@ impl<S: Service, B: Broadcast, C: Coin + Drop, T: Tagger + Drop> Layers<S, B, C,
         value: &[u8],
         made: &mut Vec<Msg>,
     ) -> Result<(), Mem>
-        ensures told { let m = meaning S.stands S.rules B.stands B.rules C.bits T.me T.tags in
+        ensures told { let m = meaning S.stands S.rules E.stands E.rules C.bits T.me T.tags in
             OnOk result (Tells m self.old self.new (Ask value.now) made.old.items made.new.items) }
         ensures same { SameSeat self.old self.new }
     {
@@ -72,6 +74,7 @@ impl<S: Service, B: Broadcast, C: Coin + Drop, T: Tagger + Drop> Layers<S, B, C,
         start_casts(
             alloc,
             &self.params,
+            &self.mode,
             self.me,
             &self.tagger,
             &mut self.casts,
@@ -87,13 +90,14 @@ impl<S: Service, B: Broadcast, C: Coin + Drop, T: Tagger + Drop> Layers<S, B, C,
         item: &Item,
         made: &mut Vec<Msg>,
     ) -> Result<Heard, Mem>
-        ensures given { let m = meaning S.stands S.rules B.stands B.rules C.bits T.me T.tags in
+        ensures given { let m = meaning S.stands S.rules E.stands E.rules C.bits T.me T.tags in
             GivesItem m self.old self.new item.now made.old.items made.new.items result }
         ensures same { SameSeat self.old self.new }
     {
         match take_cast(
             alloc,
             &self.params,
+            &self.mode,
             self.me,
             &self.tagger,
             &mut self.casts,
@@ -112,7 +116,7 @@ impl<S: Service, B: Broadcast, C: Coin + Drop, T: Tagger + Drop> Layers<S, B, C,
     /// What the window of an item's slot is counted from: the least command number that isn't finished, or how many
     /// rounds are complete.
     pub(crate) fn mark(&self, item: &Item) -> u32
-        ensures { let m = meaning S.stands S.rules B.stands B.rules C.bits T.me T.tags in
+        ensures { let m = meaning S.stands S.rules E.stands E.rules C.bits T.me T.tags in
             (p : Parts) → LayersStand m self.now p → item.now.slot.origin < self.now.params.n
             → result ≡ mark_of (rules_of m self.now) p item.now }
     {
@@ -125,24 +129,24 @@ impl<S: Service, B: Broadcast, C: Coin + Drop, T: Tagger + Drop> Layers<S, B, C,
 
     /// Whether an item inside its window may be taken now.
     pub(crate) fn lets_in(&self, item: &Item) -> bool
-        ensures { (p : Parts) → LayersStand (meaning S.stands S.rules B.stands B.rules C.bits T.me T.tags) self.now p
-            → result ≡ is_let_in (meaning S.stands S.rules B.stands B.rules C.bits T.me T.tags) self.now p item.now }
+        ensures { (p : Parts) → LayersStand (meaning S.stands S.rules E.stands E.rules C.bits T.me T.tags) self.now p
+            → result ≡ is_let_in (meaning S.stands S.rules E.stands E.rules C.bits T.me T.tags) self.now p item.now }
     {
         self.service.is_open(&item.slot) && is_ready(&self.casts, item)
     }
 
     /// Whether an item is past.
     pub(crate) fn is_past(&self, item: &Item) -> bool
-        ensures { (p : Parts) → LayersStand (meaning S.stands S.rules B.stands B.rules C.bits T.me T.tags) self.now p
-            → result ≡ is_past_in (meaning S.stands S.rules B.stands B.rules C.bits T.me T.tags) self.now p item.now }
+        ensures { (p : Parts) → LayersStand (meaning S.stands S.rules E.stands E.rules C.bits T.me T.tags) self.now p
+            → result ≡ is_past_in (meaning S.stands S.rules E.stands E.rules C.bits T.me T.tags) self.now p item.now }
     {
         item.slot.origin < self.params.n() && is_behind(&item.slot, self.mark(item))
     }
 
     /// Whether an item is open.
     pub(crate) fn is_open(&self, item: &Item) -> bool
-        ensures { (p : Parts) → LayersStand (meaning S.stands S.rules B.stands B.rules C.bits T.me T.tags) self.now p
-            → result ≡ is_open_in (meaning S.stands S.rules B.stands B.rules C.bits T.me T.tags) self.now p item.now }
+        ensures { (p : Parts) → LayersStand (meaning S.stands S.rules E.stands E.rules C.bits T.me T.tags) self.now p
+            → result ≡ is_open_in (meaning S.stands S.rules E.stands E.rules C.bits T.me T.tags) self.now p item.now }
     {
         if item.slot.origin >= self.params.n() {
             return false;
@@ -153,7 +157,7 @@ impl<S: Service, B: Broadcast, C: Coin + Drop, T: Tagger + Drop> Layers<S, B, C,
 
     /// Why no input may be given now.
     fn window_fault(&self) -> Option<CoreFault>
-        ensures { let m = meaning S.stands S.rules B.stands B.rules C.bits T.me T.tags in
+        ensures { let m = meaning S.stands S.rules E.stands E.rules C.bits T.me T.tags in
             (p : Parts) → LayersStand m self.now p → self.now.me < self.now.params.n
             → result ≡ window_fault (rules_of m self.now) p }
     {
@@ -171,7 +175,7 @@ impl<S: Service, B: Broadcast, C: Coin + Drop, T: Tagger + Drop> Layers<S, B, C,
     /// The first check that an input doesn't pass.
     #[tactic(auto, unfolding(crate::specs::Checks::input_check))]
     pub(crate) fn input_fault(&self, value: &[u8]) -> Option<CoreFault>
-        ensures exact { let m = meaning S.stands S.rules B.stands B.rules C.bits T.me T.tags in
+        ensures exact { let m = meaning S.stands S.rules E.stands E.rules C.bits T.me T.tags in
             (p : Parts) → LayersStand m self.now p → self.now.me < self.now.params.n
             → result ≡ input_check (rules_of m self.now) p value.now }
         ensures good { result ≡ None → IsInput self.now.params self.now.mode value.now }

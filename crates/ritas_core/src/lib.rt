@@ -3,7 +3,8 @@
 //! The core is a deterministic machine. An item, an input or a turn goes in; an answer and messages come out. It has no
 //! clock, no key and no socket. Its steps are those of H. Moniz, N. F. Neves, M. Correia and P. Veríssimo, "RITAS:
 //! Services for Randomized Intrusion Tolerance" (IEEE Transactions on Dependable and Secure Computing, 2011): an item
-//! goes to its slot's broadcast, what that delivers goes to the service, and what the service says is broadcast.
+//! goes to its slot's broadcast, what that delivers goes to the service, and what the service says is broadcast. That is
+//! reliable broadcast, but for VECTs and the commands of root service 2, which go by the core's other broadcast.
 //!
 //! No history is stored. The contract of each call says: whatever history, inbox and held items the core stands for, it
 //! answers, puts out and becomes what the abstract core in `specs/Machine.antt` does. What goes out is then exactly what
@@ -11,6 +12,7 @@
 #![tactic(auto)]
 
 mod answer;
+mod cast;
 mod casts;
 mod fault;
 mod getters;
@@ -28,7 +30,7 @@ mod verdict;
 pub use answer::Answer;
 pub use fault::CoreFault;
 pub use kernel::Core;
-pub use laws::{delivered_within, history_laws, new_is_due};
+pub use laws::{delivered_within, history_laws, kinds_fit, new_is_due};
 pub use verdict::Verdict;
 
 #[cfg(test)]

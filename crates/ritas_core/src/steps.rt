@@ -16,16 +16,16 @@ use std::alloc::Global;
 use std::collections::VecDeque;
 
 /// Moves the held items that are open to the back of the inbox, and drops those that are past.
-fn release<S: Service, B: Broadcast, C: Coin + Drop, T: Tagger + Drop>(
+fn release<S: Service, E: Broadcast, C: Coin + Drop, T: Tagger + Drop>(
     alloc: Global,
-    layers: &Layers<S, B, C, T>,
+    layers: &Layers<S, E, C, T>,
     held: &mut Held,
     inbox: &mut VecDeque<Item>,
 ) -> Result<(), Mem>
-    ensures inbox { let m = meaning S.stands S.rules B.stands B.rules C.bits T.me T.tags in
+    ensures inbox { let m = meaning S.stands S.rules E.stands E.rules C.bits T.me T.tags in
         OnOk result ((p : Parts) → LayersStand m layers.now p
         → inbox.new.items ≡ inbox.old.items ++ released (is_open_in m layers.now p) held.old) }
-    ensures held { let m = meaning S.stands S.rules B.stands B.rules C.bits T.me T.tags in
+    ensures held { let m = meaning S.stands S.rules E.stands E.rules C.bits T.me T.tags in
         OnOk result ((p : Parts) → LayersStand m layers.now p
         → held.new ≡ remaining (is_past_in m layers.now p) (remaining (is_open_in m layers.now p) held.old)) }
 {
@@ -34,7 +34,7 @@ fn release<S: Service, B: Broadcast, C: Coin + Drop, T: Tagger + Drop>(
     Ok(())
 }
 
-impl<S: Service, B: Broadcast, C: Coin + Drop, T: Tagger + Drop> Core<S, B, C, T> {
+impl<S: Service, E: Broadcast, C: Coin + Drop, T: Tagger + Drop> Core<S, E, C, T> {
     ghost use Rattle.std.specs.Prelude.{◌≡◌, false, OnOk, OnErr};
     ghost use Rattle.ritas_core.specs.Stands.{meaning};
     ghost use Rattle.ritas_core.specs.CoreCalls.{Finishes, StopsCore, TriesItem, TriesInput};
@@ -42,7 +42,7 @@ impl<S: Service, B: Broadcast, C: Coin + Drop, T: Tagger + Drop> Core<S, B, C, T
     /// Puts out what was made, in order, and moves what comes to oneself and then what is open to the inbox. For want of
     /// memory nothing is put out.
     fn finish(&mut self, alloc: Global, made: Vec<Msg>, out: &mut Vec<Msg>) -> Result<(), Mem>
-        ensures ok { let m = meaning S.stands S.rules B.stands B.rules C.bits T.me T.tags in
+        ensures ok { let m = meaning S.stands S.rules E.stands E.rules C.bits T.me T.tags in
             OnOk result (Finishes m self.old self.new made.items out.old.items out.new.items) }
         ensures err { OnErr result (StopsCore self.old self.new out.old.items out.new.items) }
     {
@@ -60,7 +60,7 @@ impl<S: Service, B: Broadcast, C: Coin + Drop, T: Tagger + Drop> Core<S, B, C, T
         item: &Item,
         out: &mut Vec<Msg>,
     ) -> Result<Heard, Mem>
-        ensures { let m = meaning S.stands S.rules B.stands B.rules C.bits T.me T.tags in
+        ensures { let m = meaning S.stands S.rules E.stands E.rules C.bits T.me T.tags in
             TriesItem m self.old self.new item.now out.old.items out.new.items result }
     {
         let mut made = Vec::new(alloc);
@@ -80,7 +80,7 @@ impl<S: Service, B: Broadcast, C: Coin + Drop, T: Tagger + Drop> Core<S, B, C, T
         value: &[u8],
         out: &mut Vec<Msg>,
     ) -> Result<(), Mem>
-        ensures { let m = meaning S.stands S.rules B.stands B.rules C.bits T.me T.tags in
+        ensures { let m = meaning S.stands S.rules E.stands E.rules C.bits T.me T.tags in
             TriesInput m self.old self.new value.now out.old.items out.new.items result }
     {
         let mut made = Vec::new(alloc);

@@ -1,7 +1,7 @@
 ghost use Rattle.std.specs.Prelude.{◌≡◌, ◌<◌, replicate};
 
 use super::*;
-use layer_api::{Broadcast, Heard, Service};
+use layer_api::{Broadcast, Heard, Outcome, Service};
 use ritas_base::{Bytes, Coin, Id, Item, Kind, Mem, Mode, Msg, Params, Say, Slot, Tagger, Vect};
 use std::alloc::Global;
 
@@ -39,27 +39,40 @@ impl Coin for Zeros {
     }
 }
 
-/// A service that takes every input, says nothing, and lets in commands alone.
+/// A service that has its input, says nothing, and lets in all but steps of consensus.
 #[derive(Drop)]
 struct Mute;
 
 impl Service for Mute {
-    ghost use Rattle.std.specs.Prelude.{true, false, ◌==◌, []};
+    ghost use Rattle.std.specs.Prelude.{true, false, not, ◌==◌, [], None};
+    ghost use Rattle.layer_api.specs.Service.{Undecided};
 
     ghost stands = { λ s seat w. Unit {0} };
 
     ghost rules = { record {
       serves = λ root. true;
       says = λ seat w c. [];
-      opens = λ seat w s. s.class == 1;
+      opens = λ seat w s. not (s.class == 5);
       completed = λ seat w. 0;
       base = λ seat w o. 0;
       next_number = λ seat w. 0;
-      given = λ seat w. false;
+      given = λ seat w. true;
       done = λ seat w. [];
+      outcome = λ seat w. Undecided;
+      decided = λ seat w x. None;
     } };
 
     ghost live = { λ s. true };
+
+    ghost shown = { λ s. record {
+      opens = λ q. not (q.class == 5);
+      completed = 0;
+      base = λ o. 0;
+      next_number = 0;
+      given = true;
+      done = [];
+      outcome = Undecided;
+    } };
 
     fn serves(_root: u8) -> bool {
         true
@@ -85,7 +98,7 @@ impl Service for Mute {
     }
 
     fn is_open(&self, slot: &Slot) -> bool {
-        slot.class == 1
+        slot.class != 5
     }
 
     fn completed(&self) -> u32 {
@@ -101,11 +114,15 @@ impl Service for Mute {
     }
 
     fn given(&self) -> bool {
-        false
+        true
     }
 
     fn done(&self) -> &[Id] {
         &[]
+    }
+
+    fn outcome(&self) -> Outcome<'_> {
+        Outcome::Undecided
     }
 
     fn live(&self) -> bool {
@@ -113,20 +130,47 @@ impl Service for Mute {
     }
 
     ghost use Rattle.std.specs.Prelude.{refl};
+    ghost use Rattle.std.proofs.Common.{sym, inl};
     ghost use Rattle.std.proofs.Math.Nat.{le_refl};
+    ghost use Rattle.std.proofs.lemmas.Bool.{false≢true};
+    ghost use Rattle.std.proofs.lemmas.Option.{none-some};
 
     ghost lives = { λ s seat w stood. refl };
+
+    ghost shows = { λ s seat w stood. record {
+      opens = λ q. refl;
+      completed = refl;
+      base = λ o within. refl;
+      next_number = refl;
+      given = refl;
+      done = refl;
+      outcome = refl;
+    } };
 
     ghost word_laws = { record {
       says_new = λ seat c w met. tt;
       says_good = λ seat mode c w session me serves met good. tt;
       commands_said = λ seat c w met. tt;
+      inputs_said = λ seat mode v w serves there met. absurd (false≢true (sym met.0.first));
       completed_stays = λ seat c w. le_refl 0;
       base_stays = λ seat c w o. le_refl 0;
+      done_nothing = λ seat. refl;
+      done_grows = λ seat c w met. record { more = []; whole = refl; recent = tt };
+      done_once = λ seat w met. tt;
+      done_heard = λ seat w met. tt;
+      outcome_stays = λ seat c w d met e. e;
+      decided_stays = λ seat c w x d met e. e;
+    } };
+
+    ghost one_log = { record {
+      logs = λ p mode is_correct coins steps run i j ci cj. inl ([], refl);
+      outcomes = λ p mode is_correct coins steps run i j d e ci cj a b. absurd Prim.cc;
+      decisions = λ p mode is_correct coins steps run i j x d e ci cj a b. absurd (none-some d a);
+      bits = λ p mode is_correct coins steps run i b ci a. absurd Prim.cc;
     } };
 }
 
-/// A broadcast that says nothing and delivers nothing.
+/// A broadcast of form 1 that takes all items, says nothing and delivers nothing.
 #[derive(Drop)]
 struct Deaf;
 
@@ -144,13 +188,15 @@ impl Broadcast for Deaf {
       out = λ at tags h. None;
       repeats = λ at tags h i. false;
       ready = λ at tags h i. not (kind_eq i.kind Column);
-      claims = λ at tags h i. [];
-      met = λ at tags h. [];
     } };
 
     ghost live = { λ b. true };
 
+    ghost FORM = { 1 };
+
     ghost shown = { λ b. None };
+
+    const FORM: u8 = 1;
 
     fn new(_alloc: Global, _p: &Params, _me: u8, _slot: Slot) -> Result<Deaf, Mem> {
         Ok(Deaf)
@@ -196,6 +242,8 @@ impl Broadcast for Deaf {
 
     ghost shows = { λ b at tags h stood. (refl, refl) };
 
+    ghost kinds = { λ kind. refl };
+
     ghost value_laws = { record {
       out_nothing = λ at tags. refl;
       out_start = λ at tags h v. refl;
@@ -208,8 +256,6 @@ impl Broadcast for Deaf {
       out_good = λ at tags mode h v of good e. absurd (none-some v e);
       repeats_nothing = λ at tags i. refl;
       ready_nothing = λ at tags i kind. refl;
-      met_nothing = λ at tags a e. e;
-      met_stays = λ at tags h c a e. e;
     } };
 
     ghost one_value = { record {
@@ -245,7 +291,7 @@ fn item(
     })
 }
 
-// Root service 6 with every broadcast reliable, which the kinds of `Deaf` fit.
+// Root service 6 where VECTs go by `Deaf`, which has the form of reliable broadcast.
 fn new_core(alloc: Global, p: Params) -> Result<Core<Mute, Deaf, Zeros, Zeros>, Mem>
     requires { 0 < p.n }
 {
@@ -255,7 +301,8 @@ fn new_core(alloc: Global, p: Params) -> Result<Core<Mute, Deaf, Zeros, Zeros>, 
     }
 }
 
-// Replica 0 of 4: commands are let in, and steps of consensus are held.
+// Replica 0 of 4: commands and VECTs are let in, and steps of consensus are held. Reliable broadcast tells a repeat, which
+// `Deaf` doesn't.
 #[test]
 fn each_check_has_its_answer(rt: HostRuntime) {
     let alloc = rt.alloc();
@@ -268,21 +315,33 @@ fn each_check_has_its_answer(rt: HostRuntime) {
         (1, Kind::Init, 1, 64, Err(CoreFault::Ahead(0))),
         (1, Kind::Init, 5, 5, Err(CoreFault::Ahead(0))),
         (1, Kind::Init, 1, 63, Ok(Answer::Took)),
+        (1, Kind::Init, 1, 63, Ok(Answer::Repeat)),
+        (1, Kind::Init, 4, 4, Ok(Answer::Took)),
+        (1, Kind::Init, 4, 4, Ok(Answer::Took)),
         (1, Kind::Echo, 5, 4, Ok(Answer::Held)),
         (1, Kind::Echo, 5, 4, Ok(Answer::Repeat)),
     ];
     for (from, kind, class, a, answer) in table {
-        let value: &[u8] = if class == 5 { &[1] } else { b"12345678" };
+        let value: &[u8] = match class {
+            1 => b"12345678",
+            4 => b"",
+            _ => &[1],
+        };
         let item = item(alloc, from, kind, class, a, 1, value).expect(&rt, "item");
         assert_eq!(rt; core.take(alloc, item, &mut out), answer);
     }
-    assert_eq!(rt; core.input(alloc, b"12345678", &mut out), Ok(Answer::Took));
+    assert_eq!(rt;
+        core.input(alloc, b"12345678", &mut out),
+        Err(CoreFault::InputTaken)
+    );
     assert_eq!(rt;
         core.input(alloc, b"1234567", &mut out),
         Err(CoreFault::Input(7))
     );
+    assert!(rt; out.len() == 1 && core.inbox_len() == 1 && core.inbox_front().is_some());
+    assert_eq!(rt; core.turn(alloc, &mut out), Ok(Answer::Took));
     assert_eq!(rt; core.turn(alloc, &mut out), Ok(Answer::Idle));
-    assert!(rt; out.is_empty() && core.live());
+    assert!(rt; out.len() == 1 && core.live());
     assert_eq!(rt;
         (core.held(), core.held_of(1), core.held_of(2)),
         (11, 11, 0)
@@ -296,7 +355,7 @@ fn each_check_has_its_answer(rt: HostRuntime) {
         step: 0,
         origin: 1,
     };
-    assert!(rt; core.delivered(&slot).is_none() && !core.service().given());
+    assert!(rt; core.delivered(&slot).is_none() && core.service().given());
     assert_eq!(rt;
         (
             core.params().n(),
@@ -309,4 +368,5 @@ fn each_check_has_its_answer(rt: HostRuntime) {
     new_is_due::<Mute, Deaf>();
     delivered_within::<Mute, Deaf>();
     history_laws();
+    kinds_fit();
 }

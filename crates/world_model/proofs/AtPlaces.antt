@@ -88,13 +88,13 @@ correct_call : (w : Setting) (at : ℕ) (call : Call) → w.is_correct at ≡ tr
 correct_call w at call right = ap (λ b. if b then Some (record { at = at; call = call }) else None) right
 
 -- nothing happens where no correct replica is
-pub missed_call : {S B C : Type 0} (m : Meaning S B C KeyRow) (w : Setting) (states : ℕ → CoreState) (at : ℕ) (call : Call) (replicas : List (Option (Replica S B C))) (before : List OutFrame) →
+pub missed_call : {S E C : Type 0} (m : Meaning S E C KeyRow) (w : Setting) (states : ℕ → CoreState) (at : ℕ) (call : Call) (replicas : List (Option (Replica S E C))) (before : List OutFrame) →
     ReplicasStand m w states replicas → w.is_correct at ≡ false → Calls m w states (call_at w at call) replicas before before seen_as.Missed
 missed_call m w states at call replicas before stand faulty =
     let P : Option CallAt → Type 0 = λ c. Calls m w states c replicas before before seen_as.Missed in
     subst P (sym (faulty_call w at call faulty)) (record { seen = refl; out = sym (append-nil before); replicas = stand })
 
-pub past_is_faulty : {S B C : Type 0} (m : Meaning S B C KeyRow) (w : Setting) (states : ℕ → CoreState) (at : ℕ) (replicas : List (Option (Replica S B C))) →
+pub past_is_faulty : {S E C : Type 0} (m : Meaning S E C KeyRow) (w : Setting) (states : ℕ → CoreState) (at : ℕ) (replicas : List (Option (Replica S E C))) →
     ReplicasStand m w states replicas → length replicas ≤ at → w.is_correct at ≡ false
 past_is_faulty m w states at replicas stand past =
     elim (w.is_correct at) as (λ b. w.is_correct at ≡ b → w.is_correct at ≡ false) [
@@ -116,7 +116,7 @@ get_set_other (x ∷ xs) (suc i) zero y other = refl
 get_set_other (x ∷ xs) (suc i) (suc k) y other = get_set_other xs i k y (λ e. other (ap suc e))
 
 -- a correct replica is as after a call
-called_place : {S B C : Type 0} (m : Meaning S B C KeyRow) (w : Setting) (states : ℕ → CoreState) (at : ℕ) (call : Call) (new : Replica S B C) →
+called_place : {S E C : Type 0} (m : Meaning S E C KeyRow) (w : Setting) (states : ℕ → CoreState) (at : ℕ) (call : Call) (new : Replica S E C) →
     w.is_correct at ≡ true → ReplicaStands m new (rules_at w at) (w.keys at) (handled_at w states (record { at = at; call = call })).state → (states at).live ≡ true
     → IsReplica m w (after_call w states (Some (record { at = at; call = call }))) at new
 called_place m w states at call new right stands live =
@@ -129,7 +129,7 @@ called_place m w states at call new right stands live =
     }
 
 -- the others are as before
-other_place : {S B C : Type 0} (m : Meaning S B C KeyRow) (w : Setting) (states : ℕ → CoreState) (c : CallAt) (i : ℕ) (place : Option (Replica S B C)) →
+other_place : {S E C : Type 0} (m : Meaning S E C KeyRow) (w : Setting) (states : ℕ → CoreState) (c : CallAt) (i : ℕ) (place : Option (Replica S E C)) →
     (c.at ≡ i → ⊥) → StandsAt m w states i place → StandsAt m w (after_call w states (Some c)) i place
 other_place m w states c i None other faulty = faulty
 other_place m w states c i (Some rep) other is =
@@ -140,11 +140,11 @@ other_place m w states c i (Some rep) other is =
       live = ap (λ st. st.live) same ∙ is.live;
     }
 
-called_replicas : {S B C : Type 0} (m : Meaning S B C KeyRow) (w : Setting) (states : ℕ → CoreState) (at : ℕ) (call : Call) (replicas : List (Option (Replica S B C))) (old new : Replica S B C) →
+called_replicas : {S E C : Type 0} (m : Meaning S E C KeyRow) (w : Setting) (states : ℕ → CoreState) (at : ℕ) (call : Call) (replicas : List (Option (Replica S E C))) (old new : Replica S E C) →
     ReplicasStand m w states replicas → slice_get replicas at ≡ Some (Some old) → w.is_correct at ≡ true
     → ReplicaStands m new (rules_at w at) (w.keys at) (handled_at w states (record { at = at; call = call })).state → (states at).live ≡ true
     → ReplicasStand m w (after_call w states (Some (record { at = at; call = call }))) (slice_set replicas at (Some new))
-called_replicas {S = S} {B = B} {C = C} m w states at call replicas old new stand there right stands live =
+called_replicas {S = S} {E = E} {C = C} m w states at call replicas old new stand there right stands live =
     let c : CallAt = record { at = at; call = call } in
     record {
       many = length-set replicas at (Some new) ∙ stand.many;
@@ -154,7 +154,7 @@ called_replicas {S = S} {B = B} {C = C} m w states at call replicas old new stan
             let here : slice_get (slice_set replicas at (Some new)) at ≡ Some (Some new) = get_set_same replicas at (Some old) (Some new) there in
             let is_new : Some new ≡ place = same_Some (Some new) place (sym here ∙ ap (slice_get (slice_set replicas at (Some new))) same.1 ∙ e) in
             let P : ℕ → Type 0 = λ k. StandsAt m w (after_call w states (Some c)) k (Some new) in
-            let Q : Option (Replica S B C) → Type 0 = λ x. StandsAt m w (after_call w states (Some c)) i x in
+            let Q : Option (Replica S E C) → Type 0 = λ x. StandsAt m w (after_call w states (Some c)) i x in
             subst Q is_new (subst P same.1 (called_place m w states at call new right stands live))
         | inr other ↦ other_place m w states c i place other.1
             (stand.each i place (sym (get_set_other replicas at i (Some new) (λ h. other.1 (sym h))) ∙ e))
@@ -162,11 +162,11 @@ called_replicas {S = S} {B = B} {C = C} m w states at call replicas old new stan
     }
 
 -- the replica answered
-answered : {S B C : Type 0} (m : Meaning S B C KeyRow) (w : Setting) (states : ℕ → CoreState) (at : ℕ) (call : Call) (replicas : List (Option (Replica S B C))) (old new : Replica S B C) (before after : List OutFrame) (answer : Result Answer Refusal) (result : Result Seen Mem) →
+answered : {S E C : Type 0} (m : Meaning S E C KeyRow) (w : Setting) (states : ℕ → CoreState) (at : ℕ) (call : Call) (replicas : List (Option (Replica S E C))) (old new : Replica S E C) (before after : List OutFrame) (answer : Result Answer Refusal) (result : Result Seen Mem) →
     ReplicasStand m w states replicas → slice_get replicas at ≡ Some (Some old)
     → ((r : Rules) (k : KeyRow) (st : CoreState) → ReplicaStands m old r k st → Handles (ReplicaStands m) new call before after answer r k st)
     → result ≡ Ok (seen_answer answer) → CallsOr m w states (call_at w at call) (slice_set replicas at (Some new)) before after result
-answered {S = S} {B = B} {C = C} m w states at call replicas old new before after answer result stand there does saw =
+answered {S = S} {E = E} {C = C} m w states at call replicas old new before after answer result stand there does saw =
     let is : IsReplica m w states at old = stand.each at (Some old) there in
     let did = does (rules_at w at) (w.keys at) (states at) is.stands in
     let P : Result Seen Mem → Type 0 = λ x. CallsOr m w states (call_at w at call) (slice_set replicas at (Some new)) before after x in
@@ -177,13 +177,13 @@ answered {S = S} {B = B} {C = C} m w states at call replicas old new before afte
       replicas = called_replicas m w states at call replicas old new stand there is.correct did.state is.live;
     }))
 
-wants : {S B C : Type 0} (m : Meaning S B C KeyRow) (w : Setting) (states : ℕ → CoreState) (c : Option CallAt) (replicas : List (Option (Replica S B C))) (before after : List OutFrame) (result : Result Seen Mem) →
+wants : {S E C : Type 0} (m : Meaning S E C KeyRow) (w : Setting) (states : ℕ → CoreState) (c : Option CallAt) (replicas : List (Option (Replica S E C))) (before after : List OutFrame) (result : Result Seen Mem) →
     IsWant result → CallsOr m w states c replicas before after result
 wants m w states c replicas before after (Ok seen) want = absurd want
 wants m w states c replicas before after (Err mem) want = tt
 
 -- each call on the replica at a place
-called : {S B C : Type 0} (m : Meaning S B C KeyRow) (w : Setting) (states : ℕ → CoreState) (at : ℕ) (call : Call) (replicas : List (Option (Replica S B C))) (old new : Replica S B C) (before after : List OutFrame) (answer : Result Answer Refusal) (result : Result Seen Mem) →
+called : {S E C : Type 0} (m : Meaning S E C KeyRow) (w : Setting) (states : ℕ → CoreState) (at : ℕ) (call : Call) (replicas : List (Option (Replica S E C))) (old new : Replica S E C) (before after : List OutFrame) (answer : Result Answer Refusal) (result : Result Seen Mem) →
     ReplicasStand m w states replicas → slice_get replicas at ≡ Some (Some old) → DoesAll (ReplicaStands m) old new call before after answer
     → Sees answer result → CallsOr m w states (call_at w at call) (slice_set replicas at (Some new)) before after result
 called m w states at call replicas old new before after (Err (refusals.Core faults.Mem)) result stand there does saw =
@@ -196,7 +196,7 @@ called m w states at call replicas old new before after answer result stand ther
 -- ---- as the code has it
 
 -- a call where a replica is
-pub called_at : {S B C : Type 0} (m : Meaning S B C KeyRow) (w : Setting) (states : ℕ → CoreState) (at place : ℕ) (call : Call) (replicas : List (Option (Replica S B C))) (here : Option (Replica S B C)) (old new : Replica S B C) (before after : List OutFrame) (answer : Result Answer Refusal) (result : Result Seen Mem) →
+pub called_at : {S E C : Type 0} (m : Meaning S E C KeyRow) (w : Setting) (states : ℕ → CoreState) (at place : ℕ) (call : Call) (replicas : List (Option (Replica S E C))) (here : Option (Replica S E C)) (old new : Replica S E C) (before after : List OutFrame) (answer : Result Answer Refusal) (result : Result Seen Mem) →
     ReplicasStand m w states replicas → place ≡ at → place < length replicas → slice_index_or replicas place here ≡ Some old
     → DoesAll (ReplicaStands m) old new call before after answer → Sees answer result
     → CallsOr m w states (call_at w at call) (slice_set replicas place (Some new)) before after result
@@ -206,17 +206,17 @@ called_at m w states at place call replicas here old new before after answer res
     subst P e (called m w states place call replicas old new before after answer result stand there does saw)
 
 -- a call where no replica is
-pub none_at : {S B C : Type 0} (m : Meaning S B C KeyRow) (w : Setting) (states : ℕ → CoreState) (at place : ℕ) (call : Call) (replicas : List (Option (Replica S B C))) (here : Option (Replica S B C)) (before : List OutFrame) →
+pub none_at : {S E C : Type 0} (m : Meaning S E C KeyRow) (w : Setting) (states : ℕ → CoreState) (at place : ℕ) (call : Call) (replicas : List (Option (Replica S E C))) (here : Option (Replica S E C)) (before : List OutFrame) →
     ReplicasStand m w states replicas → place ≡ at → place < length replicas → slice_index_or replicas place here ≡ None
     → Calls m w states (call_at w at call) (slice_set replicas place (slice_index_or replicas place here)) before before seen_as.Missed
-none_at {S = S} {B = B} {C = C} m w states at place call replicas here before stand e within none =
+none_at {S = S} {E = E} {C = C} m w states at place call replicas here before stand e within none =
     let there : slice_get replicas place ≡ Some None = slice_get-get_or replicas place here within ∙ ap (λ x. Some x) none in
     let faulty : w.is_correct place ≡ false = stand.each place None there in
-    let P : List (Option (Replica S B C)) → Type 0 = λ xs. Calls m w states (call_at w at call) xs before before seen_as.Missed in
+    let P : List (Option (Replica S E C)) → Type 0 = λ xs. Calls m w states (call_at w at call) xs before before seen_as.Missed in
     subst P (sym (set-get_or replicas place here)) (missed_call m w states at call replicas before stand (subst (λ k. w.is_correct k ≡ false) e faulty))
 
 -- a call past all replicas
-pub past_at : {S B C : Type 0} (m : Meaning S B C KeyRow) (w : Setting) (states : ℕ → CoreState) (at place : ℕ) (call : Call) (replicas : List (Option (Replica S B C))) (before : List OutFrame) →
+pub past_at : {S E C : Type 0} (m : Meaning S E C KeyRow) (w : Setting) (states : ℕ → CoreState) (at place : ℕ) (call : Call) (replicas : List (Option (Replica S E C))) (before : List OutFrame) →
     ReplicasStand m w states replicas → place ≡ at → length replicas ≤ place → Calls m w states (call_at w at call) replicas before before seen_as.Missed
 past_at m w states at place call replicas before stand e past =
     missed_call m w states at call replicas before stand (past_is_faulty m w states at replicas stand (subst (λ k. length replicas ≤ k) e past))

@@ -16,7 +16,7 @@ use Rattle.world_model.specs.declared.audit.Audit.TheVariants as audits
 use Rattle.world_model.specs.declared.world.World.{World}
 use Rattle.world_model.specs.World.{Setting}
 use Rattle.world_model.specs.Audit.{first_broken, has_too_many, audit_of}
-use Rattle.world_model.specs.Stands.{broken_at, WorldStands}
+use Rattle.world_model.specs.Stands.{WorldStands}
 
 -- ---- counting
 
@@ -54,12 +54,12 @@ correct_count test mask n same within most =
 
 -- ---- the audit
 
-counted : {S B C : Type 0} (m : Meaning S B C KeyRow) (world : World S B C) (w : Setting) (es : List Event) → WorldStands m world w es
+counted : {S E C : Type 0} (m : Meaning S E C KeyRow) (world : World S E C) (w : Setting) (es : List Event) → WorldStands m world w es
     → count_by w.is_correct (replicas w.numbers.n) ≡ member_count 32 world.seats.correct
 counted m world w es stand =
     correct_count w.is_correct world.seats.correct w.numbers.n stand.seats.correct stand.replicas.within stand.seats.session.most
 
-pub too_many_is : {S B C : Type 0} (m : Meaning S B C KeyRow) (world : World S B C) (w : Setting) (es : List Event) (count wait : ℕ) → WorldStands m world w es
+pub too_many_is : {S E C : Type 0} (m : Meaning S E C KeyRow) (world : World S E C) (w : Setting) (es : List Event) (count wait : ℕ) → WorldStands m world w es
     → count ≡ member_count 32 world.seats.correct → wait ≡ wait_of world.seats.params → count < wait → audits.TooManyFaulty ≡ audit_of w es
 too_many_is m world w es count wait stand count_is wait_is less =
     let all : count_by w.is_correct (replicas w.numbers.n) ≡ count = counted m world w es stand ∙ sym count_is in
@@ -67,10 +67,10 @@ too_many_is m world w es count wait stand count_is wait_is less =
     let many : has_too_many w ≡ true = lt-ltb (count_by w.is_correct (replicas w.numbers.n)) (wait_of w.numbers) (omega arith) in
     ap (λ b. if b then audits.TooManyFaulty else first_broken w es) (sym many)
 
-pub enough_is : {S B C : Type 0} (m : Meaning S B C KeyRow) (world : World S B C) (w : Setting) (es : List Event) (count wait : ℕ) (result : Audit) → WorldStands m world w es
-    → count ≡ member_count 32 world.seats.correct → wait ≡ wait_of world.seats.params → wait ≤ count → result ≡ broken_at world.forged → result ≡ audit_of w es
+pub enough_is : {S E C : Type 0} (m : Meaning S E C KeyRow) (world : World S E C) (w : Setting) (es : List Event) (count wait : ℕ) (result : Audit) → WorldStands m world w es
+    → count ≡ member_count 32 world.seats.correct → wait ≡ wait_of world.seats.params → wait ≤ count → result ≡ world.watch.verdict → result ≡ audit_of w es
 enough_is m world w es count wait result stand count_is wait_is enough is =
     let all : count_by w.is_correct (replicas w.numbers.n) ≡ count = counted m world w es stand ∙ sym count_is in
     let need : wait_of w.numbers ≡ wait = ap wait_of (sym stand.seats.numbers) ∙ sym wait_is in
     let few : has_too_many w ≡ false = le-ltb (count_by w.is_correct (replicas w.numbers.n)) (wait_of w.numbers) (omega arith) in
-    is ∙ stand.broken ∙ ap (λ b. if b then audits.TooManyFaulty else first_broken w es) (sym few)
+    is ∙ stand.watch.found ∙ ap (λ b. if b then audits.TooManyFaulty else first_broken w es) (sym few)

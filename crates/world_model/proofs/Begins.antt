@@ -12,18 +12,24 @@ use Rattle.layer_api.specs.Broadcast.{BroadcastRules}
 use Rattle.layer_api.specs.Service.{ServiceRules}
 use Rattle.keyed_channel.specs.KeyRow.{KeyRow}
 use Rattle.keyed_channel.specs.Keyed.{tags_of}
-use Rattle.ritas_core.specs.Rules.{Rules}
+use Rattle.ritas_core.specs.Rules.{Rules, at_slot_of}
 use Rattle.ritas_core.specs.Machine.{first_state}
 use Rattle.ritas_core.specs.Stands.{Meaning}
 use Rattle.replica.specs.declared.replica.Replica.{Replica}
 use Rattle.replica.specs.Replica.{ReplicaStands}
 use Rattle.world_model.specs.declared.seats.Seats.{Seats}
 use Rattle.world_model.specs.World.{Setting, rules_at, states_of}
-use Rattle.world_model.specs.Audit.{first_broken}
+use Rattle.world_model.specs.declared.audit.Audit.TheVariants as audits
+use Rattle.world_model.specs.declared.watch.Watch.{Watch}
+use Rattle.world_model.specs.Audit.{first_broken, prints_at}
+use Rattle.world_model.specs.Hashed.{digest_at, HashedStand}
+use Rattle.world_model.specs.Watch.{WatchStands}
+use Rattle.world_model.proofs.Prints.{nothing_there}
+use Rattle.world_model.proofs.Meeting.{stand_within}
 use Rattle.world_model.specs.FramesMade.{MadeTable, made_in}
 use Rattle.world_model.specs.declared.world.World.{World}
 use Rattle.world_model.proofs.Tables.{place_within}
-use Rattle.world_model.specs.Stands.{IsWorldOf, AreKeys, SeatsStand, StandsAt, ReplicasStand, FramesStand, broken_at, WorldStands}
+use Rattle.world_model.specs.Stands.{IsWorldOf, AreKeys, SeatsStand, StandsAt, ReplicasStand, FramesStand, WorldStands}
 use Rattle.world_model.specs.Steps.{IsFirst, AreFirst, rules_with}
 
 get_there : {X : Type 0} (xs : List X) (i : ℕ) → i < length xs → (x : X) × (slice_get xs i ≡ Some x)
@@ -53,15 +59,15 @@ same_rules mode numbers me tags at_slot coin service mode' numbers' me' tags' at
     ∙ ap (λ x. rules_from mode' numbers' me' tags' x coin service) e ∙ ap (λ x. rules_from mode' numbers' me' tags' at_slot' x service) f
     ∙ ap (λ x. rules_from mode' numbers' me' tags' at_slot' coin' x) g
 
-first_rules : {S B C : Type 0} (m : Meaning S B C KeyRow) (p : Numbers) (root : Mode) (members : ℕ) (rows : List KeyRow) (coins : List C) (w : Setting) (i : ℕ) (k : KeyRow) (coin : C) →
+first_rules : {S E C : Type 0} (m : Meaning S E C KeyRow) (p : Numbers) (root : Mode) (members : ℕ) (rows : List KeyRow) (coins : List C) (w : Setting) (i : ℕ) (k : KeyRow) (coin : C) →
     ((x : KeyRow) → m.tags x ≡ tags_of x) → IsWorldOf m p root members rows coins w → k.me ≡ i → slice_get rows i ≡ Some k → slice_get coins i ≡ Some coin
     → rules_with m p root k coin ≡ rules_at w i
 unfolding rules_from
 first_rules m p root members rows coins w i k coin tags is own row_is coin_is =
-    same_rules root p k.me (m.tags k) (λ s. m.cast) (m.bits coin) m.service w.mode w.numbers i (tags_of (w.keys i)) w.at_slot (w.coin i) w.service
+    same_rules root p k.me (m.tags k) (at_slot_of root m.cast) (m.bits coin) m.service w.mode w.numbers i (tags_of (w.keys i)) w.at_slot (w.coin i) w.service
     (sym is.mode) (sym is.numbers) own (tags k ∙ ap tags_of (sym (is.keys i k row_is))) (sym is.casts) (sym (is.coins i coin coin_is)) (sym is.service)
 
-first_place : {S B C : Type 0} (m : Meaning S B C KeyRow) (p : Numbers) (root : Mode) (members : ℕ) (rows : List KeyRow) (coins : List C) (w : Setting) (i : ℕ) (k : KeyRow) (coin : C) (place : Option (Replica S B C)) →
+first_place : {S E C : Type 0} (m : Meaning S E C KeyRow) (p : Numbers) (root : Mode) (members : ℕ) (rows : List KeyRow) (coins : List C) (w : Setting) (i : ℕ) (k : KeyRow) (coin : C) (place : Option (Replica S E C)) →
     ((x : KeyRow) → m.tags x ≡ tags_of x) → IsWorldOf m p root members rows coins w → k.me ≡ i → slice_get rows i ≡ Some k → slice_get coins i ≡ Some coin
     → IsFirst m p root members k coin place → StandsAt m w (states_of w []) i place
 unfolding states_of
@@ -78,14 +84,15 @@ first_place m p root members rows coins w i k coin (Some rep) tags is own row_is
 
 -- ---- what it stands for
 
-pub begins_seats : {S B C : Type 0} (m : Meaning S B C KeyRow) (p : Numbers) (root : Mode) (members : ℕ) (rows : List KeyRow) (coins : List C) (w : Setting) (seats : Seats) →
-    IsWorldOf m p root members rows coins w → IsGiven C p members rows coins → seats.params ≡ p → seats.correct ≡ members → seats.keys.items ≡ rows → SeatsStand w seats
-begins_seats m p root members rows coins w seats is given same_p same_members same_rows =
+pub begins_seats : {S E C : Type 0} (m : Meaning S E C KeyRow) (p : Numbers) (root : Mode) (members : ℕ) (rows : List KeyRow) (coins : List C) (w : Setting) (seats : Seats) →
+    IsWorldOf m p root members rows coins w → IsGiven C p members rows coins → seats.params ≡ p → seats.mode ≡ root → seats.correct ≡ members → seats.keys.items ≡ rows → SeatsStand w seats
+begins_seats m p root members rows coins w seats is given same_p same_mode same_members same_rows =
     let many : w.numbers.n ≡ p.n = ap (λ x. x.n) is.numbers in
     let rows_many = given.rows_many in
     record {
       session = let P : Numbers → Type 0 = λ x. IsSession x in subst P (sym is.numbers) given.session;
       numbers = same_p ∙ sym is.numbers;
+      mode = same_mode ∙ sym is.mode;
       correct = λ i. is.correct i ∙ ap (λ x. has_member x i) (sym same_members);
       keys = λ i below.
           let there = get_there rows i (omega arith) in
@@ -97,7 +104,7 @@ begins_seats m p root members rows coins w seats is given same_p same_members sa
           (ap (λ k. k.me) same ∙ are.0, ap (λ k. k.n) same ∙ are.1 ∙ sym many);
     }
 
-pub begins_replicas : {S B C : Type 0} (m : Meaning S B C KeyRow) (p : Numbers) (root : Mode) (members : ℕ) (rows : List KeyRow) (coins : List C) (w : Setting) (places : List (Option (Replica S B C))) →
+pub begins_replicas : {S E C : Type 0} (m : Meaning S E C KeyRow) (p : Numbers) (root : Mode) (members : ℕ) (rows : List KeyRow) (coins : List C) (w : Setting) (places : List (Option (Replica S E C))) →
     ((x : KeyRow) → m.tags x ≡ tags_of x) → IsWorldOf m p root members rows coins w → IsGiven C p members rows coins → AreFirst m p root members rows coins places
     → ReplicasStand m w (states_of w []) places
 begins_replicas m p root members rows coins w places tags is given are =
@@ -132,23 +139,39 @@ begins_frames w n t many is = record {
       ∙ none_from (w.is_correct i) (i == j) [] refl;
 }
 
-pub begins : {S B C : Type 0} (m : Meaning S B C KeyRow) (p : Numbers) (root : Mode) (members : ℕ) (rows : List KeyRow) (coins : List C) (world : World S B C) (w : Setting) →
+-- a watch before any event
+pub record IsFresh (watch : Watch) : Type 0 where
+  pub verdict : watch.verdict ≡ audits.Holds
+  pub sent : (s : Slot) (i : ℕ) → digest_at watch.sent.digests s i ≡ None
+  pub hashed : HashedStand watch.hashed []
+
+begins_watch : (w : Setting) (watch : Watch) → IsFresh watch → WatchStands w (states_of w []) (first_broken w []) watch
+unfolding states_of first_broken
+begins_watch w watch fresh = record {
+  found = fresh.verdict;
+  tables = λ holds. record {
+    sent = λ i s right. fresh.sent s i;
+    hashed = stand_within watch.hashed [] (prints_at w (states_of w [])) (λ p here. elim here [ ]) (λ p here. absurd (nothing_there w (states_of w []) (λ i. refl) p here)) fresh.hashed;
+  };
+}
+
+pub begins : {S E C : Type 0} (m : Meaning S E C KeyRow) (p : Numbers) (root : Mode) (members : ℕ) (rows : List KeyRow) (coins : List C) (world : World S E C) (w : Setting) →
     ((x : KeyRow) → m.tags x ≡ tags_of x) → IsGiven C p members rows coins → AreFirst m p root members rows coins world.replicas.items
-    → world.seats.params ≡ p → world.seats.correct ≡ members → world.seats.keys.items ≡ rows → world.made ≡ record { n = p.n; lists = replicate (p.n * p.n) [] }
-    → world.events ≡ 0 → world.forged ≡ None → world.live ≡ true → IsWorldOf m p root members rows coins w → WorldStands m world w []
+    → world.seats.params ≡ p → world.seats.mode ≡ root → world.seats.correct ≡ members → world.seats.keys.items ≡ rows → world.made ≡ record { n = p.n; lists = replicate (p.n * p.n) [] }
+    → world.events ≡ 0 → IsFresh world.watch → world.live ≡ true → IsWorldOf m p root members rows coins w → WorldStands m world w []
 unfolding first_broken
-begins m p root members rows coins world w tags given are same_p same_members same_rows made events forged live is = record {
-  seats = begins_seats m p root members rows coins w world.seats is given same_p same_members same_rows;
+begins m p root members rows coins world w tags given are same_p same_mode same_members same_rows made events fresh live is = record {
+  seats = begins_seats m p root members rows coins w world.seats is given same_p same_mode same_members same_rows;
   replicas = begins_replicas m p root members rows coins w world.replicas.items tags is given are;
   made = begins_frames w p.n world.made (ap (λ x. x.n) is.numbers) made;
   events = events;
-  broken = ap broken_at forged;
+  watch = begins_watch w world.watch fresh;
   live = live;
 }
 
 -- ---- as the code has it
 
-pub same_keys : {S B C : Type 0} (m : Meaning S B C KeyRow) (p : Numbers) (root : Mode) (members : ℕ) (rows all : List KeyRow) (coins : List C) (places : List (Option (Replica S B C))) →
+pub same_keys : {S E C : Type 0} (m : Meaning S E C KeyRow) (p : Numbers) (root : Mode) (members : ℕ) (rows all : List KeyRow) (coins : List C) (places : List (Option (Replica S E C))) →
     rows ≡ all → AreFirst m p root members rows coins places → AreFirst m p root members all coins places
 same_keys m p root members rows all coins places same are =
     let P : List KeyRow → Type 0 = λ xs. AreFirst m p root members xs coins places in

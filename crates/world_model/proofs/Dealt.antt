@@ -1,10 +1,11 @@
--- A world whose keys were dealt from one master key keeps to what the law of one value rests on.
-use Rattle.std.proofs.Common.{◌≡◌, ℕ, ◌<◌, Bool, true, false, not, Option, Ok, List, [], ◌∷◌, refl, ap, subst}
+-- A world whose keys were dealt from one master key keeps to what the law of agreement rests on.
+use Rattle.std.proofs.Common.{◌≡◌, ℕ, ◌<◌, Bool, true, false, not, Option, Ok, List, [], ◌∷◌, refl, ap, subst, if◌then◌else◌}
 use Rattle.std.proofs.Math.Dec.{eqb, ltb, leb}
 use Rattle.std.proofs.lemmas.Bool.{and_parts, ltb-true, eq-eqb}
 use Rattle.std.specs.Prelude.{length}
 use Rattle.layer_api.specs.Broadcast.{BroadcastRules}
 use Rattle.layer_api.specs.OneValue.{OneValue, ValueLaws}
+use Rattle.layer_api.specs.OneLog.{OneLog}
 use Rattle.layer_api.specs.Service.{ServiceRules, WordLaws}
 use Rattle.keyed_channel.specs.KeyRow.{KeyRow}
 use Rattle.keyed_channel.specs.Keyed.{dealt}
@@ -12,8 +13,13 @@ use Rattle.keyed_channel.specs.declared.frame.OpenFault.{OpenFault}
 use Rattle.keyed_channel.specs.declared.frame.OpenFault.TheVariants as faults
 use Rattle.keyed_channel.specs.Frames.{Opening, opening, opening_but, first_failed, parts_of, version_of, receiver_of, sender_of, is_peer, is_tagged}
 use Rattle.keyed_channel.specs.Laws.{SealedOpens}
-use Rattle.world_model.specs.Agreement.{Channel, Codec, IsSound, WorldLaw}
-use Rattle.world_model.specs.Dealt.{Deal, world_of, IsDeal, IsPlain, DealtLaw}
+use Rattle.world_model.specs.Agreement.{Channel, Codec, IsSound}
+use Rattle.world_model.specs.Agree.{AgreeLaw}
+use Rattle.reliable_bcast.specs.Bracha.{bracha}
+use Rattle.reliable_bcast.specs.ValueLaws.{value_laws_of_bracha}
+use Rattle.ritas_core.specs.Rules.{by_other}
+use Rattle.ritas_core.specs.RulesLaws.{kinds_fit}
+use Rattle.world_model.specs.Dealt.{Deal, world_of, IsDeal, DealtLaw}
 
 -- ---- what opens is of another replica
 -- the answer of six tests
@@ -45,8 +51,8 @@ peer_parts k j h =
     (ltb-true j k.n both.0, apart j k.me both.1)
 
 -- ---- the channel
-pub dealt_channel : (service : ServiceRules) (cast : BroadcastRules) (d : Deal) → SealedOpens → Channel (world_of service cast d)
-dealt_channel service cast d sealed_opens = record {
+pub dealt_channel : (service : ServiceRules) (other : BroadcastRules) (d : Deal) → SealedOpens → Channel (world_of service other d)
+dealt_channel service other d sealed_opens = record {
   opens = λ i j seq body. sealed_opens d.master d.session d.numbers.n i j seq body;
   opened = λ j bytes o within opens.
       let k = dealt d.master d.session d.numbers.n j in
@@ -55,23 +61,30 @@ dealt_channel service cast d sealed_opens = record {
 }
 
 -- ---- the world
-pub dealt_sound : (service : ServiceRules) (cast : BroadcastRules) (d : Deal) → IsPlain cast → IsDeal service cast d → ValueLaws cast → OneValue cast → WordLaws service →
-    SealedOpens → Codec (world_of service cast d) → IsSound (world_of service cast d)
-dealt_sound service cast d plain deal values one words sealed_opens codec = record {
+-- each slot has the other broadcast, or the reliable one
+values_at : (b : Bool) (other : BroadcastRules) → ValueLaws other → ValueLaws (if b then other else bracha)
+values_at true other values = values
+values_at false other values = value_laws_of_bracha
+
+one_at : (b : Bool) (other : BroadcastRules) → OneValue other → OneValue bracha → OneValue (if b then other else bracha)
+one_at true other one one_of_bracha = one
+one_at false other one one_of_bracha = one_of_bracha
+
+pub dealt_sound : (service : ServiceRules) (other : BroadcastRules) (d : Deal) → IsDeal service other d → ValueLaws other → OneValue other → OneValue bracha → WordLaws service →
+    SealedOpens → Codec (world_of service other d) → IsSound (world_of service other d)
+dealt_sound service other d deal values one one_of_bracha words sealed_opens codec = record {
   session = deal.session;
   within = deal.within;
-  casts = λ s. values;
-  one_value = λ s. one;
+  casts = λ s. values_at (by_other d.mode s) other values;
+  one_value = λ s. one_at (by_other d.mode s) other one one_of_bracha;
   words = words;
   serves = deal.serves;
-  kinds = deal.kinds;
-  channel = dealt_channel service cast d sealed_opens;
+  kinds = kinds_fit d.numbers d.mode other deal.form;
+  channel = dealt_channel service other d sealed_opens;
   codec = codec;
-  no_claims = λ s at tags h x. plain.no_claims at tags h x;
-  nothing_met = λ s at tags h. plain.nothing_met at tags h;
 }
 
-pub dealt_law : (service : ServiceRules) (cast : BroadcastRules) → ValueLaws cast → OneValue cast → WordLaws service → SealedOpens →
-    ((d : Deal) → IsDeal service cast d → Codec (world_of service cast d)) → WorldLaw → DealtLaw service cast
-dealt_law service cast values one words sealed_opens codec law d es plain deal holds =
-    law (world_of service cast d) es (dealt_sound service cast d plain deal values one words sealed_opens (codec d deal)) holds
+pub dealt_law : (service : ServiceRules) (other : BroadcastRules) → ValueLaws other → OneValue other → OneValue bracha → WordLaws service → OneLog service → SealedOpens →
+    ((d : Deal) → IsDeal service other d → Codec (world_of service other d)) → AgreeLaw → DealtLaw service other
+dealt_law service other values one one_of_bracha words log sealed_opens codec law d es deal holds =
+    law (world_of service other d) es (dealt_sound service other d deal values one one_of_bracha words sealed_opens (codec d deal)) log holds

@@ -21,7 +21,8 @@ use Rattle.replica.specs.Handling.{Frame, given_frame, given_body, core_answer}
 use Rattle.world_model.specs.declared.seats.Seats.{Seats}
 use Rattle.world_model.specs.declared.seen.Seen.{Seen}
 use Rattle.world_model.specs.World.{Setting, rules_at, call_at, seen_answer, seen_call}
-use Rattle.world_model.specs.Audit.{is_forged_opening, is_forged_at}
+use Rattle.world_model.specs.Audit.{is_forged_opening}
+use Rattle.world_model.specs.Watch.{is_forged_frame}
 use Rattle.world_model.specs.FramesMade.{MadeTable, made_in}
 use Rattle.world_model.specs.Stands.{SeatsStand, FramesStand, frames_from}
 use Rattle.world_model.specs.Steps.{is_numbered, is_unmade, is_opened}
@@ -47,12 +48,13 @@ no_fault None parts o h = (refl, cc)
 no_fault (Some fault) parts o h = cc
 
 pub record IsOpened (k : KeyRow) (bytes : List ℕ) (o : Opening) : Type 0 where
+  pub whole : 43 ≤ length bytes
   pub long : 11 ≤ length bytes
   pub parts : parts_of bytes ≡ o
   pub below : sender_of bytes < k.n
   pub other : sender_of bytes ≢ k.me
 
-what_opened : (k : KeyRow) (bytes : List ℕ) (o : Opening) → opening k bytes ≡ Ok o → IsOpened k bytes o
+pub what_opened : (k : KeyRow) (bytes : List ℕ) (o : Opening) → opening k bytes ≡ Ok o → IsOpened k bytes o
 unfolding opening
 what_opened k bytes o h =
     let fine = no_fault (open_fault k bytes) (parts_of bytes) o h in
@@ -60,6 +62,7 @@ what_opened k bytes o h =
     let long : 43 ≤ length bytes = leb-true _ _ passed.0 in
     let peer = both (nat_lt (sender_of bytes) k.n) (not (sender_of bytes == k.me)) passed.1 in
     record {
+      whole = long;
       long = omega arith;
       parts = fine.1;
       below = ltb-true _ _ peer.0;
@@ -118,7 +121,7 @@ forged_either w seats states t j bytes unmade (Ok o) seats_stand stand below fou
 at_correct : (w : Setting) (seats : Seats) (states : ℕ → CoreState) (t : MadeTable) (j : ℕ) (bytes : List ℕ) (unmade b : Bool) →
     SeatsStand w seats → FramesStand w states t → (w.is_correct j ≡ true → j < w.numbers.n) → IsFound seats.correct t j bytes unmade → w.is_correct j ≡ b
     → (is_opened (seen_call w states (if b then Some (record { at = j; call = Frame bytes }) else None)) && unmade)
-    ≡ is_forged_at w states (if b then Some (record { at = j; call = Frame bytes }) else None)
+    ≡ is_forged_frame w states (if b then Some (record { at = j; call = Frame bytes }) else None)
 at_correct w seats states t j bytes unmade true seats_stand stand within found e =
     forged_either w seats states t j bytes unmade (opening (w.keys j) bytes) seats_stand stand (within e) found refl
 at_correct w seats states t j bytes unmade false seats_stand stand within found e = refl
@@ -126,6 +129,6 @@ at_correct w seats states t j bytes unmade false seats_stand stand within found 
 -- a frame that came forges where it opened, and the table hasn't it
 pub forged_is : (w : Setting) (seats : Seats) (states : ℕ → CoreState) (t : MadeTable) (j : ℕ) (bytes : List ℕ) (unmade : Bool) (seen : Seen) →
     SeatsStand w seats → FramesStand w states t → (w.is_correct j ≡ true → j < w.numbers.n) → IsFound seats.correct t j bytes unmade
-    → seen ≡ seen_call w states (call_at w j (Frame bytes)) → (is_opened seen && unmade) ≡ is_forged_at w states (call_at w j (Frame bytes))
+    → seen ≡ seen_call w states (call_at w j (Frame bytes)) → (is_opened seen && unmade) ≡ is_forged_frame w states (call_at w j (Frame bytes))
 forged_is w seats states t j bytes unmade seen seats_stand stand within found saw =
     ap (λ x. is_opened x && unmade) saw ∙ at_correct w seats states t j bytes unmade (w.is_correct j) seats_stand stand within found refl

@@ -2,9 +2,10 @@
 use Rattle.std.proofs.Common.{◌≡◌, ◌≢◌, ℕ, ◌<◌, ◌≤◌, Bool, true, false, not, ◌&&◌, List, [], ◌++◌, length, reverse, Option, Some, None, Result, refl, sym, ◌∙◌, ap, subst, if◌then◌else◌, slice_index_or}
 use Rattle.std.specs.List.{slice_get}
 use Rattle.std.proofs.lemmas.Bool.{ne_eqb}
-use Rattle.std.proofs.lemmas.Option.{slice_get-get_or, slice_get_past, same_Some}
+use Rattle.std.proofs.lemmas.Option.{slice_get-get_or, slice_get_past}
 use Rattle.ritas_base.specs.declared.bytes.Mem.{Mem}
 use Rattle.ritas_base.specs.declared.event.Event.{Event}
+use Rattle.ritas_base.specs.declared.item.Item.{Item}
 use Rattle.ritas_base.specs.declared.event.Event.TheVariants as events
 use Rattle.keyed_channel.specs.KeyRow.{KeyRow}
 use Rattle.ritas_core.specs.Machine.{CoreState}
@@ -17,11 +18,12 @@ use Rattle.world_model.specs.declared.happened.Happened.{Happened}
 use Rattle.world_model.specs.declared.seats.Seats.{Seats}
 use Rattle.world_model.specs.declared.seen.Seen.TheVariants as seen_as
 use Rattle.world_model.specs.World.{Setting, rules_at, CallAt, call_at, frame_at, passed, call_of}
-use Rattle.world_model.specs.Audit.{is_forged_at}
+use Rattle.world_model.specs.Watch.{IsAt, is_forged_frame}
 use Rattle.world_model.specs.FramesMade.{MadeTable, made_in}
 use Rattle.world_model.specs.Stands.{SeatsStand, ReplicasStand, FramesStand, MayHappen}
-use Rattle.world_model.specs.Steps.{Calls, frames_out, IsAt, Happens, HappensOr, is_opened}
+use Rattle.world_model.specs.Steps.{Calls, frames_out, is_took, IsFront, IsFrameItem, Happens, HappensOr, is_opened}
 use Rattle.world_model.proofs.Forging.{IsFound, forged_is}
+use Rattle.world_model.proofs.Takings.{IsItemOf, good_none, frame_item_is, input_item_is, turn_item_is}
 
 at_either : (w : Setting) (at : ℕ) (call : Call) (b : Bool) → w.is_correct at ≡ b → IsAt w (if b then Some (record { at = at; call = call }) else None) at
 at_either w at call true e = (refl, e)
@@ -30,46 +32,46 @@ at_either w at call false e = tt
 at_call : (w : Setting) (at : ℕ) (call : Call) → IsAt w (call_at w at call) at
 at_call w at call = at_either w at call (w.is_correct at) refl
 
-happens : {S B C : Type 0} (m : Meaning S B C KeyRow) (w : Setting) (states : ℕ → CoreState) (at : ℕ) (call : Call) (places : List (Option (Replica S B C))) (happened : Happened) (before : List OutFrame) →
-    before ≡ [] → Calls m w states (call_at w at call) places before happened.out.items happened.seen → happened.at ≡ at → happened.forged ≡ is_forged_at w states (call_at w at call)
-    → Happens m w states (call_at w at call) places happened
-happens m w states at call places happened before none calls e forged = record {
-  at = subst (IsAt w (call_at w at call)) (sym e) (at_call w at call);
+happens : {S E C : Type 0} (m : Meaning S E C KeyRow) (w : Setting) (states : ℕ → CoreState) (at : ℕ) (call : Call) (places : List (Option (Replica S E C))) (happened : Happened) (before : List OutFrame) →
+    before ≡ [] → Calls m w states (call_at w at call) places before happened.out.items happened.seen → happened.at ≡ at → happened.forged ≡ is_forged_frame w states (call_at w at call)
+    → IsItemOf w states (call_at w at call) happened.taken → Happens m w states (call_at w at call) places happened
+happens m w states at call places happened before none calls e forged taken = record {
+  told = record { place = subst (IsAt w (call_at w at call)) (sym e) (at_call w at call); frame = forged; item = taken.is; good = taken.good };
   seen = calls.seen;
-  forged = forged;
   out = let P : List OutFrame → Type 0 = λ x. happened.out.items ≡ x ++ frames_out w states (call_at w at call) in subst P none calls.out;
   replicas = calls.replicas;
 }
 
 -- a frame
-pub frame_happens : {S B C : Type 0} (m : Meaning S B C KeyRow) (w : Setting) (seats : Seats) (states : ℕ → CoreState) (t : MadeTable) (at : ℕ) (bytes : List ℕ) (old places : List (Option (Replica S B C))) (happened : Happened) (before : List OutFrame) (unmade : Bool) →
+pub frame_happens : {S E C : Type 0} (m : Meaning S E C KeyRow) (w : Setting) (seats : Seats) (states : ℕ → CoreState) (t : MadeTable) (at : ℕ) (bytes : List ℕ) (old places : List (Option (Replica S E C))) (happened : Happened) (before : List OutFrame) (unmade : Bool) →
     SeatsStand w seats → FramesStand w states t → ReplicasStand m w states old → before ≡ [] → Calls m w states (call_at w at (Frame bytes)) places before happened.out.items happened.seen
     → happened.at ≡ at → IsFound seats.correct t at bytes unmade → happened.forged ≡ (is_opened happened.seen && unmade)
-    → Happens m w states (call_at w at (Frame bytes)) places happened
-frame_happens m w seats states t at bytes old places happened before unmade seats_stand stand replicas none calls e found forged =
+    → IsFrameItem seats.params seats.mode happened.seen bytes happened.taken → Happens m w states (call_at w at (Frame bytes)) places happened
+frame_happens m w seats states t at bytes old places happened before unmade seats_stand stand replicas none calls e found forged item =
     happens m w states at (Frame bytes) places happened before none calls e
     (forged ∙ forged_is w seats states t at bytes unmade happened.seen seats_stand stand (replicas.within at) found calls.seen)
+    (frame_item_is w seats states at bytes happened.taken happened.seen seats_stand item calls.seen)
 
--- neither an input nor a turn forges
-input_forges : (w : Setting) (states : ℕ → CoreState) (at : ℕ) (bytes : List ℕ) (b : Bool) → false ≡ is_forged_at w states (if b then Some (record { at = at; call = Input bytes }) else None)
+-- neither an input nor a turn forges by a frame
+input_forges : (w : Setting) (states : ℕ → CoreState) (at : ℕ) (bytes : List ℕ) (b : Bool) → false ≡ is_forged_frame w states (if b then Some (record { at = at; call = Input bytes }) else None)
 input_forges w states at bytes true = refl
 input_forges w states at bytes false = refl
 
-turn_forges : (w : Setting) (states : ℕ → CoreState) (at : ℕ) (b : Bool) → false ≡ is_forged_at w states (if b then Some (record { at = at; call = Turn }) else None)
+turn_forges : (w : Setting) (states : ℕ → CoreState) (at : ℕ) (b : Bool) → false ≡ is_forged_frame w states (if b then Some (record { at = at; call = Turn }) else None)
 turn_forges w states at true = refl
 turn_forges w states at false = refl
 
-pub input_happens : {S B C : Type 0} (m : Meaning S B C KeyRow) (w : Setting) (states : ℕ → CoreState) (at : ℕ) (bytes : List ℕ) (places : List (Option (Replica S B C))) (happened : Happened) (before : List OutFrame) →
-    before ≡ [] → Calls m w states (call_at w at (Input bytes)) places before happened.out.items happened.seen → happened.at ≡ at → happened.forged ≡ false
+pub input_happens : {S E C : Type 0} (m : Meaning S E C KeyRow) (w : Setting) (states : ℕ → CoreState) (at : ℕ) (bytes : List ℕ) (places : List (Option (Replica S E C))) (happened : Happened) (before : List OutFrame) →
+    before ≡ [] → Calls m w states (call_at w at (Input bytes)) places before happened.out.items happened.seen → happened.at ≡ at → happened.forged ≡ false → happened.taken ≡ None
     → Happens m w states (call_at w at (Input bytes)) places happened
-input_happens m w states at bytes places happened before none calls e forged =
-    happens m w states at (Input bytes) places happened before none calls e (forged ∙ input_forges w states at bytes (w.is_correct at))
+input_happens m w states at bytes places happened before none calls e forged taken =
+    happens m w states at (Input bytes) places happened before none calls e (forged ∙ input_forges w states at bytes (w.is_correct at)) (input_item_is w states at bytes happened.taken taken)
 
-pub turn_happens : {S B C : Type 0} (m : Meaning S B C KeyRow) (w : Setting) (states : ℕ → CoreState) (at : ℕ) (places : List (Option (Replica S B C))) (happened : Happened) (before : List OutFrame) →
+pub turn_happens : {S E C : Type 0} (m : Meaning S E C KeyRow) (w : Setting) (states : ℕ → CoreState) (at : ℕ) (places : List (Option (Replica S E C))) (happened : Happened) (before : List OutFrame) (front : Option Item) →
     before ≡ [] → Calls m w states (call_at w at Turn) places before happened.out.items happened.seen → happened.at ≡ at → happened.forged ≡ false
-    → Happens m w states (call_at w at Turn) places happened
-turn_happens m w states at places happened before none calls e forged =
-    happens m w states at Turn places happened before none calls e (forged ∙ turn_forges w states at (w.is_correct at))
+    → (w.is_correct at ≡ true → IsFront w states at front) → happened.taken ≡ (if is_took happened.seen then front else None) → Happens m w states (call_at w at Turn) places happened
+turn_happens m w states at places happened before front none calls e forged first taken =
+    happens m w states at Turn places happened before none calls e (forged ∙ turn_forges w states at (w.is_correct at)) (turn_item_is w states at happened.taken front happened.seen first taken calls.seen)
 
 -- ---- a frame that passes
 
@@ -86,7 +88,7 @@ passed_is w states t from to k stand from_below to_below other =
     ∙ from_either (w.is_correct from) made k
 
 -- the one of this number is the frame
-pub frame_passes_is : {S B C : Type 0} (m : Meaning S B C KeyRow) (w : Setting) (states : ℕ → CoreState) (t : MadeTable) (from to k : ℕ) (list : List (List ℕ)) (frame bytes : List ℕ) (places : List (Option (Replica S B C))) (result : Result Happened Mem) →
+pub frame_passes_is : {S E C : Type 0} (m : Meaning S E C KeyRow) (w : Setting) (states : ℕ → CoreState) (t : MadeTable) (from to k : ℕ) (list : List (List ℕ)) (frame bytes : List ℕ) (places : List (Option (Replica S E C))) (result : Result Happened Mem) →
     FramesStand w states t → from < w.numbers.n → to < w.numbers.n → from ≢ to → list ≡ made_in t from to → k < length list → frame ≡ slice_index_or list k frame → bytes ≡ frame
     → HappensOr m w states (call_at w to (Frame bytes)) places result → HappensOr m w states (frame_at w to (passed w states from to k)) places result
 frame_passes_is m w states t from to k list frame bytes places result stand from_below to_below other is within read same does =
@@ -96,44 +98,26 @@ frame_passes_is m w states t from to k list frame bytes places result stand from
     subst P there does
 
 -- nothing happens
-nothing_happens : {S B C : Type 0} (m : Meaning S B C KeyRow) (w : Setting) (states : ℕ → CoreState) (places : List (Option (Replica S B C))) (happened : Happened) (c : Option CallAt) →
-    ReplicasStand m w states places → happened.seen ≡ seen_as.Missed → happened.forged ≡ false → happened.out.items ≡ [] → c ≡ None
+nothing_happens : {S E C : Type 0} (m : Meaning S E C KeyRow) (w : Setting) (states : ℕ → CoreState) (places : List (Option (Replica S E C))) (happened : Happened) (c : Option CallAt) →
+    ReplicasStand m w states places → happened.seen ≡ seen_as.Missed → happened.forged ≡ false → happened.taken ≡ None → happened.out.items ≡ [] → c ≡ None
     → Happens m w states c places happened
-nothing_happens m w states places happened c replicas seen forged out none =
+nothing_happens m w states places happened c replicas seen forged taken out none =
     let P : Option CallAt → Type 0 = λ x. Happens m w states x places happened in
-    subst P (sym none) (record { at = tt; seen = seen; forged = forged; out = out; replicas = replicas })
+    subst P (sym none) (record { told = record { place = tt; frame = forged; item = taken; good = good_none w happened.taken taken }; seen = seen; out = out; replicas = replicas })
 
-pub none_passes : {S B C : Type 0} (m : Meaning S B C KeyRow) (w : Setting) (states : ℕ → CoreState) (t : MadeTable) (from to k : ℕ) (list : List (List ℕ)) (places : List (Option (Replica S B C))) (happened : Happened) →
+pub none_passes : {S E C : Type 0} (m : Meaning S E C KeyRow) (w : Setting) (states : ℕ → CoreState) (t : MadeTable) (from to k : ℕ) (list : List (List ℕ)) (places : List (Option (Replica S E C))) (happened : Happened) →
     ReplicasStand m w states places → FramesStand w states t → from < w.numbers.n → to < w.numbers.n → from ≢ to → list ≡ made_in t from to → length list ≤ k
-    → happened.seen ≡ seen_as.Missed → happened.forged ≡ false → happened.out.items ≡ []
+    → happened.seen ≡ seen_as.Missed → happened.forged ≡ false → happened.taken ≡ None → happened.out.items ≡ []
     → Happens m w states (frame_at w to (passed w states from to k)) places happened
-none_passes m w states t from to k list places happened replicas stand from_below to_below other is past seen forged out =
+none_passes m w states t from to k list places happened replicas stand from_below to_below other is past seen forged taken out =
     let none : passed w states from to k ≡ None =
     sym (passed_is w states t from to k stand from_below to_below other) ∙ ap (λ xs. slice_get xs k) (sym is) ∙ slice_get_past list k past in
-    nothing_happens m w states places happened (frame_at w to (passed w states from to k)) replicas seen forged out (ap (frame_at w to) none)
+    nothing_happens m w states places happened (frame_at w to (passed w states from to k)) replicas seen forged taken out (ap (frame_at w to) none)
 
 -- ---- a frame that is sealed
 
--- the keys that were read are the sender's
-pub keys_are : (w : Setting) (seats : Seats) (from place : ℕ) (list : List KeyRow) (keys : KeyRow) → SeatsStand w seats → from < w.numbers.n → place ≡ from → list ≡ seats.keys.items
-    → place < length list → keys ≡ slice_index_or list place keys → keys ≡ w.keys from
-keys_are w seats from place list keys stand below at is within read =
-    let P : List KeyRow → Type 0 = λ xs. slice_get xs from ≡ Some (w.keys from) in
-    let Q : ℕ → Type 0 = λ k. slice_get list k ≡ Some (w.keys from) in
-    let there : slice_get list place ≡ Some (w.keys from) = subst Q (sym at) (subst P (sym is) (stand.keys from below)) in
-    same_Some keys (w.keys from) (ap (λ x. Some x) read ∙ sym (slice_get-get_or list place keys within) ∙ there)
-
--- there are keys for each sender
-pub keys_there : (w : Setting) (seats : Seats) (from place : ℕ) (list : List KeyRow) → SeatsStand w seats → from < w.numbers.n → place ≡ from → list ≡ seats.keys.items → length list ≤ place → ⊥
-keys_there w seats from place list stand below at is past =
-    let P : List KeyRow → Type 0 = λ xs. slice_get xs from ≡ Some (w.keys from) in
-    let Q : ℕ → Type 0 = λ k. slice_get list k ≡ Some (w.keys from) in
-    let there : slice_get list place ≡ Some (w.keys from) = subst Q (sym at) (subst P (sym is) (stand.keys from below)) in
-    let none : None ≡ Some (w.keys from) = sym (slice_get_past list place past) ∙ there in
-    cc
-
 -- what is said of some bytes is said of the same
-pub same_frame : {S B C : Type 0} (m : Meaning S B C KeyRow) (w : Setting) (states : ℕ → CoreState) (to : ℕ) (bytes frame : List ℕ) (places : List (Option (Replica S B C))) (result : Result Happened Mem) →
+pub same_frame : {S E C : Type 0} (m : Meaning S E C KeyRow) (w : Setting) (states : ℕ → CoreState) (to : ℕ) (bytes frame : List ℕ) (places : List (Option (Replica S E C))) (result : Result Happened Mem) →
     bytes ≡ frame → HappensOr m w states (call_at w to (Frame bytes)) places result → HappensOr m w states (call_at w to (Frame frame)) places result
 same_frame m w states to bytes frame places result same does =
     let P : List ℕ → Type 0 = λ x. HappensOr m w states (call_at w to (Frame x)) places result in
@@ -141,19 +125,19 @@ same_frame m w states to bytes frame places result same does =
 
 -- ---- by event
 
-pub by_event : {S B C : Type 0} (m : Meaning S B C KeyRow) (w : Setting) (states : ℕ → CoreState) (e which : Event) (places : List (Option (Replica S B C))) (result : Result Happened Mem) →
+pub by_event : {S E C : Type 0} (m : Meaning S E C KeyRow) (w : Setting) (states : ℕ → CoreState) (e which : Event) (places : List (Option (Replica S E C))) (result : Result Happened Mem) →
     e ≡ which → (MayHappen w.numbers.n which → HappensOr m w states (call_of w states which) places result) → MayHappen w.numbers.n e → HappensOr m w states (call_of w states e) places result
 by_event m w states e which places result is does =
     let P : Event → Type 0 = λ x. MayHappen w.numbers.n x → HappensOr m w states (call_of w states x) places result in
     subst P (sym is) does
 
-pub same_input : {S B C : Type 0} (m : Meaning S B C KeyRow) (w : Setting) (states : ℕ → CoreState) (at : ℕ) (bytes input : List ℕ) (places : List (Option (Replica S B C))) (result : Result Happened Mem) →
+pub same_input : {S E C : Type 0} (m : Meaning S E C KeyRow) (w : Setting) (states : ℕ → CoreState) (at : ℕ) (bytes input : List ℕ) (places : List (Option (Replica S E C))) (result : Result Happened Mem) →
     bytes ≡ input → HappensOr m w states (call_at w at (Input bytes)) places result → HappensOr m w states (call_at w at (Input input)) places result
 same_input m w states at bytes input places result same does =
     let P : List ℕ → Type 0 = λ x. HappensOr m w states (call_at w at (Input x)) places result in
     subst P same does
 
-pub same_body : {S B C : Type 0} (m : Meaning S B C KeyRow) (w : Setting) (states : ℕ → CoreState) (from to : ℕ) (bytes body : List ℕ) (places : List (Option (Replica S B C))) (result : Result Happened Mem) →
+pub same_body : {S E C : Type 0} (m : Meaning S E C KeyRow) (w : Setting) (states : ℕ → CoreState) (from to : ℕ) (bytes body : List ℕ) (places : List (Option (Replica S E C))) (result : Result Happened Mem) →
     bytes ≡ body → HappensOr m w states (call_of w states (events.Sealed from to bytes)) places result → HappensOr m w states (call_of w states (events.Sealed from to body)) places result
 same_body m w states from to bytes body places result same does =
     let P : List ℕ → Type 0 = λ x. HappensOr m w states (call_of w states (events.Sealed from to x)) places result in

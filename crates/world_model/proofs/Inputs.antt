@@ -8,7 +8,7 @@ use Rattle.ritas_base.specs.declared.item.Say.{Say}
 use Rattle.ritas_base.specs.SlotOrder.{is_slot, same_slot}
 use Rattle.ritas_base.specs.Shortest.{option_or_none, option_or_some}
 use Rattle.ritas_base.specs.History.{Call, Start, Take, started}
-use Rattle.layer_api.specs.OneValue.{Has}
+use Rattle.layer_api.specs.Runs.{Has}
 use Rattle.layer_api.specs.Service.{Seat, Word, Ask, Hear, asked, command_slot, IsInputSaid, AreInputs, AreProper}
 use Rattle.ritas_core.specs.Rules.{Rules, seat_of}
 use Rattle.ritas_core.specs.Casts.{called, started_all}
@@ -20,11 +20,11 @@ use Rattle.world_model.specs.Agreement.{inputs_of, input_at}
 
 -- ---- the value that was started
 -- one of these says is this value at this slot
-record IsSaidOf (says : List Say) (s : Slot) (v : List ℕ) : Type 0 where
-  say : Say
-  listed : Has says say
-  here : say.slot ≡ s
-  what : say.value ≡ v
+pub record IsSaidOf (says : List Say) (s : Slot) (v : List ℕ) : Type 0 where
+  pub say : Say
+  pub listed : Has says say
+  pub here : say.slot ≡ s
+  pub what : say.value ≡ v
 
 start_from : (say : Say) (says : List Say) (h : List Call) (s : Slot) (v : List ℕ) (b : Bool) → is_slot say.slot s ≡ b →
     started (cond b (Start say.value ∷ h) h) ≡ Some v → (started h ≡ Some v) ⊎ IsSaidOf (say ∷ says) s v
@@ -34,7 +34,7 @@ start_from say says h s v true here e = elim (option_or_some (started h) (Some s
 ]
 start_from say says h s v false here e = inl e
 
-started_from : (says : List Say) (h : Slot → List Call) (s : Slot) (v : List ℕ) → started (started_all says h s) ≡ Some v →
+pub started_from : (says : List Say) (h : Slot → List Call) (s : Slot) (v : List ℕ) → started (started_all says h s) ≡ Some v →
     (started (h s) ≡ Some v) ⊎ IsSaidOf says s v
 started_from [] h s v e = inl e
 started_from (say ∷ says) h s v e = elim (started_from says (called h say.slot (Start say.value)) s v e) [
@@ -42,7 +42,7 @@ started_from (say ∷ says) h s v e = elim (started_from says (called h say.slot
   | inr x ↦ inr (record { say = x.say; listed = inr x.listed; here = x.here; what = x.what })
 ]
 
-take_started : (b : Bool) (item : Item) (h : List Call) (v : List ℕ) → started (cond b (Take item ∷ h) h) ≡ Some v → started h ≡ Some v
+pub take_started : (b : Bool) (item : Item) (h : List Call) (v : List ℕ) → started (cond b (Take item ∷ h) h) ≡ Some v → started h ≡ Some v
 take_started true item h v e = sym (option_or_none (started h)) ∙ e
 take_started false item h v e = e
 

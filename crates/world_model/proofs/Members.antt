@@ -7,7 +7,7 @@ use Rattle.std.proofs.lemmas.Slice.Eq.{bytes_eq-Decides}
 use Rattle.ritas_base.specs.declared.item.Msg.{Msg}
 use Rattle.ritas_base.specs.Messages.{msg_eq, has}
 use Rattle.ritas_base.specs.MessagesLaws.{same_message, message_itself}
-use Rattle.layer_api.specs.OneValue.{Has}
+use Rattle.layer_api.specs.Runs.{Has}
 
 pub has_listed : (ms : List Msg) (m : Msg) → has ms m ≡ true → Has ms m
 has_listed [] m e = absurd (cc)

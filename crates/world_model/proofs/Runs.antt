@@ -7,8 +7,10 @@ use Rattle.ritas_base.specs.declared.item.Item.{Item}
 use Rattle.ritas_base.specs.declared.item.Say.{Say}
 use Rattle.ritas_base.specs.SlotOrder.{is_slot, same_slot}
 use Rattle.ritas_base.specs.History.{Call, Start, Take}
-use Rattle.layer_api.specs.Broadcast.{Claim, MayStart, MayTake}
-use Rattle.layer_api.specs.OneValue.{Step, calls_of, Has, IsDueTo, Group, place_of, IsFed, IsRun}
+use Rattle.layer_api.specs.Broadcast.{MayStart, MayTake}
+use Rattle.layer_api.specs.Entries.{given, is_claim, row_of}
+use Rattle.layer_api.specs.Runs.{Step, calls_of, Has}
+use Rattle.layer_api.specs.OneValue.{IsDueTo, Group, IsFed, IsRun}
 use Rattle.layer_api.specs.Service.{Ask, Hear}
 use Rattle.keyed_channel.specs.Keyed.{tags_of}
 use Rattle.ritas_core.specs.Rules.{seat_of, place_at, due_at}
@@ -18,7 +20,6 @@ use Rattle.ritas_core.specs.Checks.{IsHistory, MayEnter}
 use Rattle.ritas_core.specs.Laws.{LayerLaws}
 use Rattle.ritas_core.proofs.Conditions.{may_start_given, may_start_heard}
 use Rattle.world_model.specs.World.{Setting, rules_at}
-use Rattle.world_model.specs.Agreement.{IsSound}
 
 -- one slot of a world
 abbrev pub group_at : Setting → Slot → Group
@@ -26,25 +27,25 @@ group_at w s = record { rules = w.at_slot s; numbers = w.numbers; slot = s; is_c
 
 -- the calls that correct replicas had at a slot are those of a run
 pub record RunAt (w : Setting) (calls : ℕ → Slot → List Call) (s : Slot) : Type 0 where
-  pub steps : List Step
+  pub steps : List (Step Call)
   pub run : IsRun (group_at w s) steps
   pub same : (k : ℕ) → w.is_correct k ≡ true → calls_of k steps ≡ calls k s
 
 -- so are these calls of replica i, with those that the others had
 pub record RunWith (w : Setting) (i : ℕ) (own : List Call) (others : ℕ → Slot → List Call) (s : Slot) : Type 0 where
-  pub steps : List Step
+  pub steps : List (Step Call)
   pub run : IsRun (group_at w s) steps
   pub mine : calls_of i steps ≡ own
   pub rest : (k : ℕ) → w.is_correct k ≡ true → eqb i k ≡ false → calls_of k steps ≡ others k s
 
 -- ---- one step more
-abbrev step_of : ℕ → Call → Step
+abbrev step_of : ℕ → Call → Step Call
 step_of i c = record { who = i; call = c }
 
-step_mine : (i : ℕ) (c : Call) (xs : List Step) → calls_of i (step_of i c ∷ xs) ≡ c ∷ calls_of i xs
+step_mine : (i : ℕ) (c : Call) (xs : List (Step Call)) → calls_of i (step_of i c ∷ xs) ≡ c ∷ calls_of i xs
 step_mine i c xs = cond-true (eqb i i) (c ∷ calls_of i xs) (calls_of i xs) (eq-eqb i i refl)
 
-step_other : (i k : ℕ) (c : Call) (xs : List Step) → eqb i k ≡ false → calls_of k (step_of i c ∷ xs) ≡ calls_of k xs
+step_other : (i k : ℕ) (c : Call) (xs : List (Step Call)) → eqb i k ≡ false → calls_of k (step_of i c ∷ xs) ≡ calls_of k xs
 step_other i k c xs apart = cond-false (eqb i k) (c ∷ calls_of k xs) (calls_of k xs) apart
 
 run_step : (w : Setting) (i : ℕ) → w.is_correct i ≡ true → (own : List Call) (others : ℕ → Slot → List Call) (s : Slot) (c : Call) →
@@ -78,32 +79,42 @@ run_starts w i correct (say ∷ says) own others may run =
     (λ s. started_at w i correct own others say.slot s say.value (is_slot say.slot s) refl may.0 (run s))
 
 -- ---- an item
--- what the item's sender, if it is correct, has due
-abbrev pub IsBacked : Setting → (ℕ → Slot → List Call) → ℕ → Item → Type 0
-IsBacked w calls i x = w.is_correct x.from ≡ true → IsDueTo (due_at (rules_at w x.from).casts x.slot (calls x.from x.slot)) i x
+-- what the item's sender, if it is correct, has due; and each valid entry of a correct echoer was given by it
+pub record IsBacked (w : Setting) (calls : ℕ → Slot → List Call) (i : ℕ) (x : Item) : Type 0 where
+  pub due : w.is_correct x.from ≡ true → IsDueTo (due_at (rules_at w x.from).casts x.slot (calls x.from x.slot)) i x
+  pub given : (echoer : ℕ) (entry : List ℕ) → w.is_correct echoer ≡ true
+      → is_claim (place_at (rules_at w i).casts x.slot) (tags_of (w.keys i)) (calls i x.slot) x echoer ≡ true → row_of x.value echoer ≡ Some entry
+      → Has (given (place_at (rules_at w echoer).casts x.slot) (tags_of (w.keys echoer)) (calls echoer x.slot)) entry
 
-fed_take : (w : Setting) → IsSound w → (i : ℕ) → w.is_correct i ≡ true → (calls : ℕ → Slot → List Call) (item : Item) (s : Slot) → item.slot ≡ s →
+fed_take : (w : Setting) (i : ℕ) → w.is_correct i ≡ true → (calls : ℕ → Slot → List Call) (item : Item) (s : Slot) → item.slot ≡ s →
     MayTake (w.at_slot item.slot) (place_at (rules_at w i).casts item.slot) (tags_of (w.keys i)) (calls i item.slot) item →
     IsBacked w calls i item → (x : RunAt w calls s) → IsFed (group_at w s) x.steps i (Take item)
-fed_take w sound i correct calls item s here may backed x =
+fed_take w i correct calls item s here may backed x =
     let at : MayTake (w.at_slot s) (place_at (rules_at w i).casts s) (tags_of (w.keys i)) (calls i s) item =
     subst (λ (t : Slot). MayTake (w.at_slot t) (place_at (rules_at w i).casts t) (tags_of (w.keys i)) (calls i t) item) here may in
     let due : w.is_correct item.from ≡ true → IsDueTo (due_at (rules_at w item.from).casts s (calls item.from s)) i item =
-    λ good. subst (λ (t : Slot). IsDueTo (due_at (rules_at w item.from).casts t (calls item.from t)) i item) here (backed good) in (
+    λ good. subst (λ (t : Slot). IsDueTo (due_at (rules_at w item.from).casts t (calls item.from t)) i item) here (backed.due good) in
+    let gave : (echoer : ℕ) (entry : List ℕ) → w.is_correct echoer ≡ true
+    → is_claim (place_at (rules_at w i).casts s) (tags_of (w.keys i)) (calls i s) item echoer ≡ true → row_of item.value echoer ≡ Some entry
+    → Has (given (place_at (rules_at w echoer).casts s) (tags_of (w.keys echoer)) (calls echoer s)) entry =
+    subst (λ (t : Slot). (echoer : ℕ) (entry : List ℕ) → w.is_correct echoer ≡ true
+    → is_claim (place_at (rules_at w i).casts t) (tags_of (w.keys i)) (calls i t) item echoer ≡ true → row_of item.value echoer ≡ Some entry
+    → Has (given (place_at (rules_at w echoer).casts t) (tags_of (w.keys echoer)) (calls echoer t)) entry) here backed.given in (
       subst (λ (cs : List Call). MayTake (w.at_slot s) (place_at (rules_at w i).casts s) (tags_of (w.keys i)) cs item) (sym (x.same i correct)) at,
       λ good. subst (λ (cs : List Call). IsDueTo (due_at (rules_at w item.from).casts s cs) i item) (sym (x.same item.from good)) (due good),
-      λ c claimed good. absurd (subst (λ (cs : List Claim). Has cs c)
-          (sound.no_claims s (place_of (group_at w s) i) (tags_of (w.keys i)) (calls_of i x.steps) item) claimed),
+      λ echoer entry good claimed row.
+          subst (λ (cs : List Call). Has (given (place_at (rules_at w echoer).casts s) (tags_of (w.keys echoer)) cs) entry) (sym (x.same echoer good))
+          (gave echoer entry good (subst (λ (cs : List Call). is_claim (place_at (rules_at w i).casts s) (tags_of (w.keys i)) cs item echoer ≡ true) (x.same i correct) claimed) row),
     )
 
-taken_here : (w : Setting) → IsSound w → (i : ℕ) → w.is_correct i ≡ true → (calls : ℕ → Slot → List Call) (item : Item) (s : Slot) (b : Bool) →
+taken_here : (w : Setting) (i : ℕ) → w.is_correct i ≡ true → (calls : ℕ → Slot → List Call) (item : Item) (s : Slot) (b : Bool) →
     is_slot item.slot s ≡ b →
     MayTake (w.at_slot item.slot) (place_at (rules_at w i).casts item.slot) (tags_of (w.keys i)) (calls i item.slot) item →
     IsBacked w calls i item → RunAt w calls s → RunWith w i (cond b (Take item ∷ calls i s) (calls i s)) calls s
-taken_here w sound i correct calls item s true here may backed x =
+taken_here w i correct calls item s true here may backed x =
     run_step w i correct (calls i s) calls s (Take item) (run_from w i correct calls s x)
-    (fed_take w sound i correct calls item s (same_slot item.slot s here) may backed x)
-taken_here w sound i correct calls item s false here may backed x = run_from w i correct calls s x
+    (fed_take w i correct calls item s (same_slot item.slot s here) may backed x)
+taken_here w i correct calls item s false here may backed x = run_from w i correct calls s x
 
 -- ---- an entry
 -- the calls of each replica with these histories
@@ -127,16 +138,16 @@ run_heard w i correct histories item (Some v) may run =
     let p = parts r (histories i) in
     run_starts w i correct (r.service.says (seat_of r) p.words (Hear item.slot v)) (taken_at item p).calls (calls_after w histories) (may v refl) run
 
-pub run_entry : (w : Setting) → IsSound w → (i : ℕ) → w.is_correct i ≡ true → LayerLaws (rules_at w i) → (histories : ℕ → List Entry) →
+pub run_entry : (w : Setting) (i : ℕ) → w.is_correct i ≡ true → LayerLaws (rules_at w i) → (histories : ℕ → List Entry) →
     IsHistory (rules_at w i) (histories i) → (e : Entry) → MayEnter (rules_at w i) (parts (rules_at w i) (histories i)) e →
     IsBackedEntry w (calls_after w histories) i e → ((s : Slot) → RunAt w (calls_after w histories) s) →
     (s : Slot) → RunWith w i ((parts (rules_at w i) (e ∷ histories i)).calls s) (calls_after w histories) s
-run_entry w sound i correct laws histories met (Took item) may backed run =
+run_entry w i correct laws histories met (Took item) may backed run =
     let r = rules_at w i in
     let p = parts r (histories i) in
     run_heard w i correct histories item (item_delivers r item p) (may_start_heard r laws (histories i) met item may)
-    (λ s. taken_here w sound i correct (calls_after w histories) item s (is_slot item.slot s) refl may.may backed (run s))
-run_entry w sound i correct laws histories met (Given v) may backed run =
+    (λ s. taken_here w i correct (calls_after w histories) item s (is_slot item.slot s) refl may.may backed (run s))
+run_entry w i correct laws histories met (Given v) may backed run =
     let r = rules_at w i in
     let p = parts r (histories i) in
     run_starts w i correct (r.service.says (seat_of r) p.words (Ask v)) p.calls (calls_after w histories)

@@ -5,7 +5,8 @@ use Rattle.ritas_base.specs.declared.slot.Slot.{Slot}
 use Rattle.ritas_base.specs.declared.item.Item.{Item}
 use Rattle.ritas_base.specs.declared.item.Msg.{Msg}
 use Rattle.ritas_base.specs.Messages.{reaches, item_of}
-use Rattle.layer_api.specs.OneValue.{Has, IsDueTo}
+use Rattle.layer_api.specs.OneValue.{IsDueTo}
+use Rattle.layer_api.specs.Runs.{Has}
 use Rattle.frame_codec.specs.Body.{IsInGrammar}
 use Rattle.keyed_channel.specs.KeyRow.{KeyRow}
 use Rattle.keyed_channel.specs.Frames.{sealed}

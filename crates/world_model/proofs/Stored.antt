@@ -3,7 +3,7 @@ use Rattle.std.proofs.Common.{◌≡◌, ℕ, zero, suc, Bool, true, false, not,
 use Rattle.ritas_base.specs.declared.item.Item.{Item}
 use Rattle.ritas_base.specs.declared.item.Msg.{Msg}
 use Rattle.ritas_base.specs.Messages.{reaches, item_of}
-use Rattle.layer_api.specs.OneValue.{Has}
+use Rattle.layer_api.specs.Runs.{Has}
 use Rattle.ooc_buffers.specs.Lists.{Kept, kept_of, with_kept, passing, released, remaining}
 use Rattle.ritas_core.specs.Order.{sent_to, own_items}
 

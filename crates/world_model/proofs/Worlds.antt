@@ -2,18 +2,21 @@
 -- each item that they store is in the grammar and was due at its sender, if that is correct, and their calls are runs.
 use Rattle.std.proofs.Common.{◌≡◌, ℕ, ◌<◌, ◌≤◌, Bool, true, false, not, ◌&&◌, ◌||◌, cond, Option, Some, None, Result, Ok, Err, List, [], ◌∷◌, ◌++◌, length, refl, sym, ◌∙◌, ap, subst, arith}
 use Rattle.std.proofs.Math.Dec.{eqb}
-use Rattle.std.proofs.lemmas.Bool.{eq-eqb, eqb-true}
+use Rattle.std.proofs.lemmas.Bool.{eq-eqb, eqb-true, or_parts}
 use Rattle.ritas_base.specs.declared.event.Event.{Event}
 use Rattle.ritas_base.specs.declared.event.Event.TheVariants as events
 use Rattle.ritas_base.specs.declared.slot.Slot.{Slot}
 use Rattle.ritas_base.specs.declared.item.Item.{Item}
 use Rattle.ritas_base.specs.declared.item.Msg.{Msg}
 use Rattle.ritas_base.specs.Messages.{reaches, item_of}
-use Rattle.layer_api.specs.OneValue.{Has}
+use Rattle.ritas_base.specs.History.{replicas}
+use Rattle.layer_api.specs.Runs.{Has}
+use Rattle.layer_api.specs.Entries.{is_claim, row_of}
 use Rattle.frame_codec.specs.declared.fault.BodyFault.{BodyFault}
 use Rattle.frame_codec.specs.Body.{spelling, body_answer}
 use Rattle.frame_codec.specs.Inputs.{IsInput, input_format, input_fault}
 use Rattle.frame_codec.proofs.Readings.{none_is}
+use Rattle.keyed_channel.specs.Keyed.{tags_of}
 use Rattle.keyed_channel.specs.Frames.{Opening, opening, sealed}
 use Rattle.keyed_channel.specs.declared.frame.OpenFault.{OpenFault}
 use Rattle.ritas_core.specs.declared.fault.CoreFault.{CoreFault}
@@ -35,12 +38,14 @@ use Rattle.replica.specs.Handling.{Call, Frame, Input, Turn, given_body, given_f
 use Rattle.world_model.specs.World.{Setting, rules_at, CallAt, call_at, frame_at, passed, call_of, handled_at, after_call, states_of}
 use Rattle.world_model.specs.declared.audit.Audit.{Audit}
 use Rattle.world_model.specs.declared.audit.Audit.TheVariants as audits
-use Rattle.world_model.specs.Audit.{has_made, is_forged_opening, is_forged_call, is_forged_at, is_forged, judged, first_broken}
+use Rattle.world_model.specs.Audit.{has_made, is_forged_opening, is_forged_call, newest_item, calls_at, place_in, given_by, is_among, is_made_up, is_forged_item, taken_by, is_forged_at, is_forged, is_colliding, broken_by, judged, first_broken}
 use Rattle.world_model.specs.Agreement.{IsSound}
 use Rattle.world_model.proofs.Members.{bytes_listed}
 use Rattle.world_model.proofs.Stored.{AreAll, AreAllHeld, all_map, all_held_map, all_append, all_own, all_released, all_remaining, all_with_kept, none_held}
 use Rattle.world_model.proofs.Sent.{IsSent, sent_later, sent_is_due, new_due, made_sent}
-use Rattle.world_model.proofs.Runs.{RunAt, RunWith, run_from, IsBackedEntry, calls_after, run_entry, run_joined}
+use Rattle.world_model.proofs.Anywhere.{none_of, has_number}
+use Rattle.world_model.proofs.Prints.{none_yet}
+use Rattle.world_model.proofs.Runs.{RunAt, RunWith, run_from, IsBacked, IsBackedEntry, calls_after, run_entry, run_joined}
 
 pub layer_laws : (w : Setting) → IsSound w → (i : ℕ) → w.is_correct i ≡ true → LayerLaws (rules_at w i)
 layer_laws w sound i correct = record {
@@ -216,25 +221,71 @@ next_enters w sound states world i correct e waiting may backed all =
           (all_own P i (new_messages r h e) (own_fine w sound old i correct e met)))
           (all_released P (is_open r (parts r (e ∷ h))) (states i).held kept);
       held = all_remaining P (λ x. is_open r (parts r (e ∷ h)) x || is_item_past r (parts r (e ∷ h)) x) (states i).held kept;
-      run = run_entry w sound i correct laws old (world.met i correct) e may backed world.run;
+      run = run_entry w i correct laws old (world.met i correct) e may backed world.run;
     }
+
+-- ---- what isn't forged
+-- what isn't made up was given
+first_fails : (a b : Bool) → (a && b) ≡ false → a ≡ true → b ≡ false
+first_fails true b h e = h
+first_fails false b h e = absurd (cc)
+
+-- what isn't forged was made
+made_so : (a b : Bool) → (a && not b) ≡ false → a ≡ true → b ≡ true
+made_so true true h e = refl
+made_so true false h e = absurd (cc)
+made_so false b h e = absurd (cc)
+
+row_given : (entries : List (List ℕ)) (row : Option (List ℕ)) (entry : List ℕ) → is_among entries row ≡ true → row ≡ Some entry → Has entries entry
+row_given entries None entry among is = absurd (cc)
+row_given entries (Some found) entry among is =
+    let same : found ≡ entry = cc in
+    subst (λ (x : List ℕ). Has entries x) same (bytes_listed entries found among)
+
+-- no valid entry of a correct echoer in an item is made up
+unforged_given : (w : Setting) → IsSound w → (states : ℕ → CoreState) (i : ℕ) (item : Item) → is_forged_item w states i (Some item) ≡ false →
+    (echoer : ℕ) (entry : List ℕ) → w.is_correct echoer ≡ true →
+    is_claim (place_in w i item.slot) (tags_of (w.keys i)) (calls_at w states i item.slot) item echoer ≡ true → row_of item.value echoer ≡ Some entry →
+    Has (given_by w states echoer item.slot) entry
+unforged_given w sound states i item honest echoer entry good claimed row =
+    let claim = is_claim (place_in w i item.slot) (tags_of (w.keys i)) (calls_at w states i item.slot) item echoer in
+    let among = is_among (given_by w states echoer item.slot) (row_of item.value echoer) in
+    let fair : is_made_up w states i item echoer ≡ false =
+    none_of (is_made_up w states i item) (replicas w.numbers.n) honest echoer (has_number 0 w.numbers.n echoer (omega arith) (let below = sound.within echoer good in omega arith)) in
+    row_given (given_by w states echoer item.slot) (row_of item.value echoer) entry
+    (made_so claim among (first_fails (w.is_correct echoer) (claim && not among) fair good) claimed) row
+
+-- the newest entry is the one more
+newest_taken : (h : List Entry) (item : Item) → newest_item h (Took item ∷ h) ≡ Some item
+newest_taken h item = ap (λ b. cond b (Some item) None) (eq-eqb (length h) (length h) refl)
+
+-- the item that a state's history has more than that of replica i isn't forged
+abbrev IsHonest : Setting → (ℕ → CoreState) → ℕ → CoreState → Type 0
+IsHonest w states i st = is_forged_item w states i (newest_item (states i).history st.history) ≡ false
+
+taken_backed : (w : Setting) → IsSound w → (states : ℕ → CoreState) (i : ℕ) (item : Item) → IsFine w (histories_of states) i item →
+    is_forged_item w states i (newest_item (states i).history (Took item ∷ (states i).history)) ≡ false → IsBacked w (calls_after w (histories_of states)) i item
+taken_backed w sound states i item fine honest = record {
+  due = λ good. sent_is_due (rules_at w item.from) (states item.from).history i item refl (fine.sent good);
+  given = unforged_given w sound states i item (ap (is_forged_item w states i) (sym (newest_taken (states i).history item)) ∙ honest);
+}
 
 -- ---- calls on the core
 next_item : (w : Setting) → IsSound w → (states : ℕ → CoreState) → IsWorld w states → (i : ℕ) → w.is_correct i ≡ true → (item : Item) (waiting : List Item) →
     IsFine w (histories_of states) i item → AreAll (IsFine w (histories_of states) i) waiting → (v : Verdict) →
     verdict_on (rules_at w i) (parts (rules_at w i) (states i).history) (states i).held item ≡ v →
-    IsNext w states i (gives (rules_at w i) (states i) item waiting v).state
-next_item w sound states world i correct item waiting fine all (verdicts.Refuse fault) is =
+    IsHonest w states i (gives (rules_at w i) (states i) item waiting v).state → IsNext w states i (gives (rules_at w i) (states i) item waiting v).state
+next_item w sound states world i correct item waiting fine all (verdicts.Refuse fault) is honest =
     next_stays w states world i correct (gives (rules_at w i) (states i) item waiting (verdicts.Refuse fault)).state refl all (world.held i correct)
-next_item w sound states world i correct item waiting fine all verdicts.Again is =
+next_item w sound states world i correct item waiting fine all verdicts.Again is honest =
     next_stays w states world i correct (gives (rules_at w i) (states i) item waiting verdicts.Again).state refl all (world.held i correct)
-next_item w sound states world i correct item waiting fine all verdicts.Hold is =
+next_item w sound states world i correct item waiting fine all verdicts.Hold is honest =
     next_stays w states world i correct (gives (rules_at w i) (states i) item waiting verdicts.Hold).state refl all
     (all_with_kept (IsFine w (histories_of states) i) (states i).held item (body_length item) (world.held i correct) fine)
-next_item w sound states world i correct item waiting fine all verdicts.Take is =
+next_item w sound states world i correct item waiting fine all verdicts.Take is honest =
     next_enters w sound states world i correct (Took item) waiting
     (takable_from (rules_at w i) (layer_laws w sound i correct) (states i).history (world.met i correct) (states i).held item fine.good is)
-    (λ good. sent_is_due (rules_at w item.from) (states item.from).history i item refl (fine.sent good)) all
+    (taken_backed w sound states i item fine honest) all
 
 fault_none : (o : Option ℕ) (fault : Option CoreFault) → input_fault_or o fault ≡ None → o ≡ None
 fault_none None fault e = refl
@@ -256,12 +307,13 @@ next_input w sound states world i correct v None is =
     next_enters w sound states world i correct (Given v) (states i).inbox (givable_from r p v (input_good r p v is) is) tt (world.waiting i correct)
 
 next_turn : (w : Setting) → IsSound w → (states : ℕ → CoreState) → IsWorld w states → (i : ℕ) → w.is_correct i ≡ true → (inbox : List Item) →
-    AreAll (IsFine w (histories_of states) i) inbox → IsNext w states i (turned (rules_at w i) (states i) inbox).state
-next_turn w sound states world i correct [] all =
+    AreAll (IsFine w (histories_of states) i) inbox → IsHonest w states i (turned (rules_at w i) (states i) inbox).state →
+    IsNext w states i (turned (rules_at w i) (states i) inbox).state
+next_turn w sound states world i correct [] all honest =
     next_stays w states world i correct (turned (rules_at w i) (states i) []).state refl tt (world.held i correct)
-next_turn w sound states world i correct (item ∷ waiting) all =
+next_turn w sound states world i correct (item ∷ waiting) all honest =
     next_item w sound states world i correct item waiting all.0 all.1
-    (verdict_on (rules_at w i) (parts (rules_at w i) (states i).history) (states i).held item) refl
+    (verdict_on (rules_at w i) (parts (rules_at w i) (states i).history) (states i).held item) refl honest
 
 -- what a call on the core may give
 abbrev IsFineCall : Setting → (ℕ → List Entry) → ℕ → What → Type 0
@@ -270,34 +322,32 @@ IsFineCall w histories i (core.Input v) = Unit {0}
 IsFineCall w histories i core.Turn = Unit {0}
 
 next_live : (w : Setting) → IsSound w → (states : ℕ → CoreState) → IsWorld w states → (i : ℕ) → w.is_correct i ≡ true → (what : What) →
-    IsFineCall w (histories_of states) i what → IsNext w states i (moved_live (rules_at w i) (states i) what).state
-next_live w sound states world i correct (core.Frame item) fine =
+    IsFineCall w (histories_of states) i what → IsHonest w states i (moved_live (rules_at w i) (states i) what).state →
+    IsNext w states i (moved_live (rules_at w i) (states i) what).state
+next_live w sound states world i correct (core.Frame item) fine honest =
     next_item w sound states world i correct item (states i).inbox fine (world.waiting i correct)
-    (verdict_on (rules_at w i) (parts (rules_at w i) (states i).history) (states i).held item) refl
-next_live w sound states world i correct (core.Input v) fine =
+    (verdict_on (rules_at w i) (parts (rules_at w i) (states i).history) (states i).held item) refl honest
+next_live w sound states world i correct (core.Input v) fine honest =
     next_input w sound states world i correct v (input_check (rules_at w i) (parts (rules_at w i) (states i).history) v) refl
-next_live w sound states world i correct core.Turn fine = next_turn w sound states world i correct (states i).inbox (world.waiting i correct)
+next_live w sound states world i correct core.Turn fine honest =
+    next_turn w sound states world i correct (states i).inbox (world.waiting i correct) honest
 
 next_same : (w : Setting) (states : ℕ → CoreState) → IsWorld w states → (i : ℕ) → w.is_correct i ≡ true → IsNext w states i (states i)
 next_same w states world i correct = next_stays w states world i correct (states i) refl (world.waiting i correct) (world.held i correct)
 
 next_moved_if : (w : Setting) → IsSound w → (states : ℕ → CoreState) → IsWorld w states → (i : ℕ) → w.is_correct i ≡ true → (what : What) →
     IsFineCall w (histories_of states) i what → (live : Bool) →
+    IsHonest w states i (cond live (moved_live (rules_at w i) (states i) what) (core.stays (states i) (states i).inbox (Err faults.Stopped))).state →
     IsNext w states i (cond live (moved_live (rules_at w i) (states i) what) (core.stays (states i) (states i).inbox (Err faults.Stopped))).state
-next_moved_if w sound states world i correct what fine true = next_live w sound states world i correct what fine
-next_moved_if w sound states world i correct what fine false = next_same w states world i correct
+next_moved_if w sound states world i correct what fine true honest = next_live w sound states world i correct what fine honest
+next_moved_if w sound states world i correct what fine false honest = next_same w states world i correct
 
 next_moved : (w : Setting) → IsSound w → (states : ℕ → CoreState) → IsWorld w states → (i : ℕ) → w.is_correct i ≡ true → (what : What) →
-    IsFineCall w (histories_of states) i what → IsNext w states i (moved (rules_at w i) (states i) what).state
-next_moved w sound states world i correct what fine = next_moved_if w sound states world i correct what fine (states i).live
+    IsFineCall w (histories_of states) i what → IsHonest w states i (moved (rules_at w i) (states i) what).state →
+    IsNext w states i (moved (rules_at w i) (states i) what).state
+next_moved w sound states world i correct what fine honest = next_moved_if w sound states world i correct what fine (states i).live honest
 
 -- ---- frames
--- what isn't forged was made
-made_so : (a b : Bool) → (a && not b) ≡ false → a ≡ true → b ≡ true
-made_so true true h e = refl
-made_so true false h e = absurd (cc)
-made_so false b h e = absurd (cc)
-
 abbrev opened_as : Opening → Result Opening OpenFault
 opened_as o = Ok o
 
@@ -346,28 +396,30 @@ opened_fine w sound states world i correct bytes o item opens honest reads =
 
 next_body : (w : Setting) → IsSound w → (states : ℕ → CoreState) → IsWorld w states → (i : ℕ) → w.is_correct i ≡ true → (bytes : List ℕ) (o : Opening) →
     opening (w.keys i) bytes ≡ Ok o → is_forged_opening w states i bytes (Ok o) ≡ false → (b : Result Item BodyFault) →
-    body_answer w.numbers w.mode o.from o.body ≡ b → IsNext w states i (given_body (rules_at w i) (w.keys i) (states i) b).state
-next_body w sound states world i correct bytes o opens honest (Ok item) is =
-    next_moved w sound states world i correct (core.Frame item) (opened_fine w sound states world i correct bytes o item opens honest is)
-next_body w sound states world i correct bytes o opens honest (Err fault) is = next_same w states world i correct
+    body_answer w.numbers w.mode o.from o.body ≡ b → IsHonest w states i (given_body (rules_at w i) (w.keys i) (states i) b).state →
+    IsNext w states i (given_body (rules_at w i) (w.keys i) (states i) b).state
+next_body w sound states world i correct bytes o opens made (Ok item) is honest =
+    next_moved w sound states world i correct (core.Frame item) (opened_fine w sound states world i correct bytes o item opens made is) honest
+next_body w sound states world i correct bytes o opens made (Err fault) is honest = next_same w states world i correct
 
 next_frame : (w : Setting) → IsSound w → (states : ℕ → CoreState) → IsWorld w states → (i : ℕ) → w.is_correct i ≡ true → (bytes : List ℕ) (o : Result Opening OpenFault) →
-    opening (w.keys i) bytes ≡ o → is_forged_opening w states i bytes o ≡ false →
+    opening (w.keys i) bytes ≡ o → is_forged_opening w states i bytes o ≡ false → IsHonest w states i (given_frame (rules_at w i) (w.keys i) (states i) o).state →
     IsNext w states i (given_frame (rules_at w i) (w.keys i) (states i) o).state
-next_frame w sound states world i correct bytes (Ok o) is honest =
-    next_body w sound states world i correct bytes o is honest (body_answer w.numbers w.mode o.from o.body) refl
-next_frame w sound states world i correct bytes (Err fault) is honest = next_same w states world i correct
+next_frame w sound states world i correct bytes (Ok o) is made honest =
+    next_body w sound states world i correct bytes o is made (body_answer w.numbers w.mode o.from o.body) refl honest
+next_frame w sound states world i correct bytes (Err fault) is made honest = next_same w states world i correct
 
 -- ---- a call on a replica
 next_handled : (w : Setting) → IsSound w → (states : ℕ → CoreState) → IsWorld w states → (i : ℕ) → w.is_correct i ≡ true → (call : Call) →
-    is_forged_call w states i call ≡ false → IsNext w states i (handled (rules_at w i) (w.keys i) (states i) call).state
-next_handled w sound states world i correct (Frame bytes) honest =
-    next_frame w sound states world i correct bytes (opening (w.keys i) bytes) refl honest
-next_handled w sound states world i correct (Input v) honest = next_moved w sound states world i correct (core.Input v) tt
-next_handled w sound states world i correct Turn honest = next_moved w sound states world i correct core.Turn tt
+    is_forged_call w states i call ≡ false → IsHonest w states i (handled (rules_at w i) (w.keys i) (states i) call).state →
+    IsNext w states i (handled (rules_at w i) (w.keys i) (states i) call).state
+next_handled w sound states world i correct (Frame bytes) made honest =
+    next_frame w sound states world i correct bytes (opening (w.keys i) bytes) refl made honest
+next_handled w sound states world i correct (Input v) made honest = next_moved w sound states world i correct (core.Input v) tt honest
+next_handled w sound states world i correct Turn made honest = next_moved w sound states world i correct core.Turn tt honest
 
 -- the call is on a correct replica
-abbrev IsAtCorrect : Setting → Option CallAt → Type 0
+abbrev pub IsAtCorrect : Setting → Option CallAt → Type 0
 IsAtCorrect w None = Unit {0}
 IsAtCorrect w (Some c) = w.is_correct c.at ≡ true
 
@@ -382,7 +434,7 @@ passed_at : (w : Setting) (j : ℕ) (frame : Option (List ℕ)) → IsAtCorrect 
 passed_at w j None = tt
 passed_at w j (Some bytes) = called_at w j (Frame bytes)
 
-event_at : (w : Setting) (states : ℕ → CoreState) (e : Event) → IsAtCorrect w (call_of w states e)
+pub event_at : (w : Setting) (states : ℕ → CoreState) (e : Event) → IsAtCorrect w (call_of w states e)
 event_at w states (events.Frame to bytes) = called_at w to (Frame bytes)
 event_at w states (events.Input at bytes) = called_at w at (Input bytes)
 event_at w states (events.Turn at) = called_at w at Turn
@@ -393,7 +445,8 @@ world_called : (w : Setting) → IsSound w → (states : ℕ → CoreState) → 
     is_forged_at w states c ≡ false → IsWorld w (after_call w states c)
 world_called w sound states world None correct honest = world
 world_called w sound states world (Some c) correct honest =
-    world_with w states world c.at (handled_at w states c).state (next_handled w sound states world c.at correct c.call honest)
+    let parts = or_parts (is_forged_call w states c.at c.call) (is_forged_item w states c.at (taken_by w states c)) honest in
+    world_with w states world c.at (handled_at w states c).state (next_handled w sound states world c.at correct c.call parts.0 parts.1)
 
 -- ---- events
 world_first : (w : Setting) → IsWorld w (states_of w [])
@@ -405,16 +458,25 @@ world_first w = record {
   run = λ s. record { steps = []; run = tt; same = λ k correct. refl };
 }
 
-judged_holds : (a : Audit) (b : Bool) (k : ℕ) → judged a b k ≡ audits.Holds → (a ≡ audits.Holds) × (b ≡ false)
-judged_holds audits.Holds true k e = absurd (cc)
-judged_holds audits.Holds false k e = (refl, refl)
-judged_holds audits.TooManyFaulty b k e = absurd (cc)
-judged_holds (audits.Forged j) b k e = absurd (cc)
-judged_holds (audits.Collision j) b k e = absurd (cc)
+pub judged_holds : (a : Audit) (forged collides : Bool) (k : ℕ) → judged a (broken_by forged collides k) ≡ audits.Holds →
+    (a ≡ audits.Holds) × (forged ≡ false) × (collides ≡ false)
+judged_holds audits.Holds true collides k e = absurd (cc)
+judged_holds audits.Holds false true k e = absurd (cc)
+judged_holds audits.Holds false false k e = (refl, refl, refl)
+judged_holds audits.TooManyFaulty forged collides k e = absurd (cc)
+judged_holds (audits.Forged j) forged collides k e = absurd (cc)
+judged_holds (audits.Collision j) forged collides k e = absurd (cc)
 
 pub world_after : (w : Setting) → IsSound w → (es : List Event) → first_broken w es ≡ audits.Holds → IsWorld w (states_of w es)
 unfolding states_of first_broken
 world_after w sound [] holds = world_first w
 world_after w sound (e ∷ es) holds =
-    let before = judged_holds (first_broken w es) (is_forged w es e) (length es) holds in
+    let before = judged_holds (first_broken w es) (is_forged w es e) (is_colliding w (e ∷ es)) (length es) holds in
     world_called w sound (states_of w es) (world_after w sound es before.0) (call_of w (states_of w es) e) (event_at w (states_of w es) e) before.1
+
+-- nothing that was hashed collides
+pub none_collide_after : (w : Setting) (es : List Event) → first_broken w es ≡ audits.Holds → is_colliding w es ≡ false
+unfolding states_of first_broken
+none_collide_after w [] holds = none_yet w (states_of w []) (λ i. refl)
+none_collide_after w (e ∷ es) holds =
+    (judged_holds (first_broken w es) (is_forged w es e) (is_colliding w (e ∷ es)) (length es) holds).2

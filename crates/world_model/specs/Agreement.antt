@@ -4,9 +4,6 @@ use Rattle.ritas_base.specs.declared.event.Event.{Event}
 use Rattle.ritas_base.specs.declared.slot.Slot.{Slot}
 use Rattle.ritas_base.specs.declared.item.Item.{Item}
 use Rattle.ritas_base.specs.Numbers.{IsSession}
-use Rattle.ritas_base.specs.Messages.{Place}
-use Rattle.ritas_base.specs.Tags.{Tags}
-use Rattle.ritas_base.specs.History.{Call as BroadcastCall}
 use Rattle.layer_api.specs.OneValue.{OneValue, ValueLaws}
 use Rattle.layer_api.specs.Service.{WordLaws, command_slot}
 use Rattle.frame_codec.specs.Body.{IsInGrammar, spelling, body_answer}
@@ -62,9 +59,6 @@ pub record IsSound (w : Setting) : Type 0 where
   pub kinds : KindsFit w.numbers w.mode w.at_slot
   pub channel : Channel w
   pub codec : Codec w
-  -- no broadcast hashes, nor brings entries of other replicas: so of reliable broadcast
-  pub no_claims : (s : Slot) (at : Place) (tags : Tags) (h : List BroadcastCall) (x : Item) → (w.at_slot s).claims at tags h x ≡ []
-  pub nothing_met : (s : Slot) (at : Place) (tags : Tags) (h : List BroadcastCall) → (w.at_slot s).met at tags h ≡ []
 
 -- At each slot all correct replicas that deliver a value deliver one, and a correct origin's is its input of that number.
 pub record OneValueEach (w : Setting) (es : List Event) : Type 0 where

@@ -3,6 +3,9 @@ pub mod FramesMade
 pub mod Counts
 pub mod Audit
 pub mod Agreement
+pub mod Agree
 pub mod Dealt
 pub mod Stands
 pub mod Steps
+pub mod Hashed
+pub mod Watch

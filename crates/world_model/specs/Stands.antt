@@ -9,18 +9,18 @@ use Rattle.ritas_base.specs.Members.{has_member}
 use Rattle.ritas_base.specs.Numbers.{Numbers, IsSession}
 use Rattle.keyed_channel.specs.KeyRow.{KeyRow}
 use Rattle.ritas_core.specs.Machine.{CoreState}
+use Rattle.ritas_core.specs.Rules.{at_slot_of}
 use Rattle.ritas_core.specs.Stands.{Meaning}
 use Rattle.replica.specs.declared.replica.Replica.{Replica}
 use Rattle.replica.specs.Frames.{made_for}
 use Rattle.replica.specs.Replica.{ReplicaStands}
-use Rattle.world_model.specs.declared.audit.Audit.{Audit}
-use Rattle.world_model.specs.declared.audit.Audit.TheVariants as audits
 use Rattle.world_model.specs.declared.seats.Seats.{Seats}
 use Rattle.world_model.specs.declared.seen.Seen.{Seen}
 use Rattle.world_model.specs.declared.world.World.{World}
 use Rattle.world_model.specs.World.{Setting, rules_at, states_of, seen_of}
 use Rattle.world_model.specs.Audit.{first_broken}
 use Rattle.world_model.specs.FramesMade.{MadeTable, IsSquare, made_in}
+use Rattle.world_model.specs.Watch.{WatchStands}
 
 -- ---- which world
 
@@ -29,43 +29,44 @@ abbrev pub AreKeys : ℕ → List KeyRow → Type 0
 AreKeys n keys = (i : ℕ) (k : KeyRow) → slice_get keys i ≡ Some k → (k.me ≡ i) × (k.n ≡ n)
 
 -- the world of these numbers, mode, correct replicas, and keys and coins of each replica
-pub record IsWorldOf {S B C : Type 0} (m : Meaning S B C KeyRow) (p : Numbers) (root : Mode) (members : ℕ)
+pub record IsWorldOf {S E C : Type 0} (m : Meaning S E C KeyRow) (p : Numbers) (root : Mode) (members : ℕ)
     (rows : List KeyRow) (all_coins : List C) (w : Setting) : Type 0 where
   pub numbers : w.numbers ≡ p
   pub mode : w.mode ≡ root
   pub correct : (i : ℕ) → w.is_correct i ≡ has_member members i
-  pub casts : w.at_slot ≡ (λ s. m.cast)
+  pub casts : w.at_slot ≡ at_slot_of root m.cast
   pub service : w.service ≡ m.service
   pub keys : (i : ℕ) (k : KeyRow) → slice_get rows i ≡ Some k → w.keys i ≡ k
   pub coins : (i : ℕ) (coin : C) → slice_get all_coins i ≡ Some coin → w.coin i ≡ m.bits coin
 
 -- ---- what a world stands for
 
--- how many replicas there are, which of them are correct, and their keys
+-- how many replicas there are, in which mode, which of them are correct, and their keys
 pub record SeatsStand (w : Setting) (seats : Seats) : Type 0 where
   pub session : IsSession w.numbers
   pub numbers : seats.params ≡ w.numbers
+  pub mode : seats.mode ≡ w.mode
   pub correct : (i : ℕ) → w.is_correct i ≡ has_member seats.correct i
   pub keys : (i : ℕ) → i < w.numbers.n → slice_get seats.keys.items i ≡ Some (w.keys i)
   pub own : (i : ℕ) → i < w.numbers.n → ((w.keys i).me ≡ i) × ((w.keys i).n ≡ w.numbers.n)
 
 -- a correct replica, in its state, which isn't stopped
-pub record IsReplica {S B C : Type 0} (m : Meaning S B C KeyRow) (w : Setting) (states : ℕ → CoreState) (i : ℕ)
-    (rep : Replica S B C) : Type 0 where
+pub record IsReplica {S E C : Type 0} (m : Meaning S E C KeyRow) (w : Setting) (states : ℕ → CoreState) (i : ℕ)
+    (rep : Replica S E C) : Type 0 where
   pub correct : w.is_correct i ≡ true
   pub stands : ReplicaStands m rep (rules_at w i) (w.keys i) (states i)
   pub live : (states i).live ≡ true
 
 -- there is no replica where it is faulty
-abbrev pub StandsAt : {S B C : Type 0} → Meaning S B C KeyRow → Setting → (ℕ → CoreState) → ℕ → Option (Replica S B C) → Type 0
+abbrev pub StandsAt : {S E C : Type 0} → Meaning S E C KeyRow → Setting → (ℕ → CoreState) → ℕ → Option (Replica S E C) → Type 0
 StandsAt m w states i None = w.is_correct i ≡ false
 StandsAt m w states i (Some rep) = IsReplica m w states i rep
 
-pub record ReplicasStand {S B C : Type 0} (m : Meaning S B C KeyRow) (w : Setting) (states : ℕ → CoreState)
-    (replicas : List (Option (Replica S B C))) : Type 0 where
+pub record ReplicasStand {S E C : Type 0} (m : Meaning S E C KeyRow) (w : Setting) (states : ℕ → CoreState)
+    (replicas : List (Option (Replica S E C))) : Type 0 where
   pub many : length replicas ≡ w.numbers.n
   pub within : (i : ℕ) → w.is_correct i ≡ true → i < w.numbers.n
-  pub each : (i : ℕ) (place : Option (Replica S B C)) → slice_get replicas i ≡ Some place → StandsAt m w states i place
+  pub each : (i : ℕ) (place : Option (Replica S E C)) → slice_get replicas i ≡ Some place → StandsAt m w states i place
 
 -- the frames that one replica made for another, the oldest first
 abbrev pub frames_from : Setting → (ℕ → CoreState) → ℕ → ℕ → List (List ℕ)
@@ -76,22 +77,17 @@ pub record FramesStand (w : Setting) (states : ℕ → CoreState) (t : MadeTable
   pub square : IsSquare t w.numbers.n
   pub each : (i j : ℕ) → i < w.numbers.n → j < w.numbers.n → made_in t i j ≡ frames_from w states i j
 
--- the first forged event, if there is one, breaks the first premise
-abbrev pub broken_at : Option ℕ → Audit
-broken_at None = audits.Holds
-broken_at (Some k) = audits.Forged k
-
 -- a world that isn't stopped, after these events
-pub record WorldStands {S B C : Type 0} (m : Meaning S B C KeyRow) (world : World S B C) (w : Setting) (es : List Event) : Type 0 where
+pub record WorldStands {S E C : Type 0} (m : Meaning S E C KeyRow) (world : World S E C) (w : Setting) (es : List Event) : Type 0 where
   pub seats : SeatsStand w world.seats
   pub replicas : ReplicasStand m w (states_of w es) world.replicas.items
   pub made : FramesStand w (states_of w es) world.made
   pub events : world.events ≡ length es
-  pub broken : broken_at world.forged ≡ first_broken w es
+  pub watch : WatchStands w (states_of w es) (first_broken w es) world.watch
   pub live : world.live ≡ true
 
 -- whether a world isn't stopped
-abbrev pub is_live : {S B C : Type 0} → World S B C → Bool
+abbrev pub is_live : {S E C : Type 0} → World S E C → Bool
 is_live world = world.live
 
 -- ---- what an event does
@@ -105,12 +101,12 @@ MayHappen n (events.Pass from to m) = (from < n) × (to < n) × (from ≢ to)
 MayHappen n (events.Sealed from to bytes) = (from < n) × (to < n) × (from ≢ to)
 
 -- what became of the event is answered, and the world stands for the events with it
-pub record Seeing {S B C : Type 0} (m : Meaning S B C KeyRow) (new : World S B C) (w : Setting) (es : List Event) (e : Event)
+pub record Seeing {S E C : Type 0} (m : Meaning S E C KeyRow) (new : World S E C) (w : Setting) (es : List Event) (e : Event)
     (answer : Seen) : Type 0 where
   pub seen : answer ≡ seen_of w es e
   pub stands : WorldStands m new w (e ∷ es)
 
 -- for want of memory nothing more is known of the world
-abbrev pub EventDoes : {S B C : Type 0} → Meaning S B C KeyRow → World S B C → Setting → List Event → Event → Result Seen Mem → Type 0
+abbrev pub EventDoes : {S E C : Type 0} → Meaning S E C KeyRow → World S E C → Setting → List Event → Event → Result Seen Mem → Type 0
 EventDoes m new w es e (Ok seen) = Seeing m new w es e seen
 EventDoes m new w es e (Err mem) = Unit {0}

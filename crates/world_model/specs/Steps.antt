@@ -1,18 +1,22 @@
--- What the parts of an event do: the first replicas, a call on one of them, and whether a frame forges.
-use Rattle.std.specs.Prelude.{◌≡◌, ℕ, ◌&&◌, Bool, true, false, not, List, [], ◌++◌, length, replicate, Option, Some, None, Result, Ok, Err}
+-- What the parts of an event do: the first replicas, a call on one of them, whether a frame forges, and what was taken.
+use Rattle.std.specs.Prelude.{◌≡◌, ℕ, ◌≤◌, ◌&&◌, Bool, true, false, not, List, [], ◌++◌, length, replicate, Option, Some, None, Result, Ok, Err}
 use Rattle.std.specs.List.{slice_get}
 use Rattle.std.specs.Str.{bytes_eq}
 use Rattle.ritas_base.specs.declared.bytes.Mem.{Mem}
+use Rattle.ritas_base.specs.declared.item.Item.{Item}
 use Rattle.ritas_base.specs.declared.mode.Mode.{Mode}
 use Rattle.ritas_base.specs.Members.{has_member}
-use Rattle.ritas_base.specs.Numbers.{Numbers}
+use Rattle.ritas_base.specs.Numbers.{Numbers, IsSession}
 use Rattle.frame_codec.specs.declared.fault.BodyFault.TheVariants as body
 use Rattle.keyed_channel.specs.KeyRow.{KeyRow}
-use Rattle.keyed_channel.specs.Frames.{sender_of, seq_of}
+use Rattle.frame_codec.specs.Body.{body_answer}
+use Rattle.keyed_channel.specs.Frames.{sender_of, seq_of, body_of}
 use Rattle.ritas_core.specs.declared.answer.Answer.{Answer}
+use Rattle.ritas_core.specs.declared.answer.Answer.TheVariants as answers
 use Rattle.ritas_core.specs.declared.fault.CoreFault.TheVariants as faults
 use Rattle.ritas_core.specs.Machine.{CoreState, first_state}
 use Rattle.ritas_core.specs.Rules.{Rules, casts_by}
+use Rattle.ritas_core.specs.Shown.{front_of}
 use Rattle.ritas_core.specs.Stands.{Meaning}
 use Rattle.replica.specs.declared.frame.OutFrame.{OutFrame}
 use Rattle.replica.specs.declared.refusal.Refusal.{Refusal}
@@ -23,28 +27,28 @@ use Rattle.world_model.specs.declared.happened.Happened.{Happened}
 use Rattle.world_model.specs.declared.seen.Seen.{Seen}
 use Rattle.world_model.specs.declared.seen.Seen.TheVariants as seen_as
 use Rattle.world_model.specs.World.{Setting, CallAt, handled_at, after_call, seen_answer, seen_call}
-use Rattle.world_model.specs.Audit.{is_forged_at}
+use Rattle.world_model.specs.Watch.{watched, IsGoodIf, IsTold}
 use Rattle.world_model.specs.FramesMade.{MadeTable, made_in}
 use Rattle.world_model.specs.Stands.{ReplicasStand}
 
 -- ---- the first replicas
 
 -- what the layers mean at a replica with these keys and this coin
-abbrev pub rules_with : {S B C : Type 0} → Meaning S B C KeyRow → Numbers → Mode → KeyRow → C → Rules
+abbrev pub rules_with : {S E C : Type 0} → Meaning S E C KeyRow → Numbers → Mode → KeyRow → C → Rules
 rules_with m p root k coin =
-    record { mode = root; casts = casts_by p k.me (m.tags k) m.cast; coin = m.bits coin; service = m.service }
+    record { mode = root; casts = casts_by root p k.me (m.tags k) m.cast; coin = m.bits coin; service = m.service }
 
 -- the replica with these keys and this coin before any call, where it is correct
-abbrev pub IsFirst : {S B C : Type 0} → Meaning S B C KeyRow → Numbers → Mode → ℕ → KeyRow → C → Option (Replica S B C) → Type 0
+abbrev pub IsFirst : {S E C : Type 0} → Meaning S E C KeyRow → Numbers → Mode → ℕ → KeyRow → C → Option (Replica S E C) → Type 0
 IsFirst m p root members k coin None = has_member members k.me ≡ false
 IsFirst m p root members k coin (Some rep) =
     (has_member members k.me ≡ true) × ReplicaStands m rep (rules_with m p root k coin) k (first_state (replicate p.n []))
 
 -- there is a place for each of these coins, with the keys and the coin of its number
-pub record AreFirst {S B C : Type 0} (m : Meaning S B C KeyRow) (p : Numbers) (root : Mode) (members : ℕ)
-    (rows : List KeyRow) (all_coins : List C) (places : List (Option (Replica S B C))) : Type 0 where
+pub record AreFirst {S E C : Type 0} (m : Meaning S E C KeyRow) (p : Numbers) (root : Mode) (members : ℕ)
+    (rows : List KeyRow) (all_coins : List C) (places : List (Option (Replica S E C))) : Type 0 where
   pub many : length places ≡ length all_coins
-  pub each : (i : ℕ) (k : KeyRow) (coin : C) (place : Option (Replica S B C)) → slice_get rows i ≡ Some k
+  pub each : (i : ℕ) (k : KeyRow) (coin : C) (place : Option (Replica S E C)) → slice_get rows i ≡ Some k
       → slice_get all_coins i ≡ Some coin → slice_get places i ≡ Some place → IsFirst m p root members k coin place
 
 -- ---- a call
@@ -55,15 +59,15 @@ frames_out w states None = []
 frames_out w states (Some c) = (handled_at w states c).out
 
 -- a call was answered so, made these frames behind those before, and left these replicas
-pub record Calls {S B C : Type 0} (m : Meaning S B C KeyRow) (w : Setting) (states : ℕ → CoreState) (c : Option CallAt)
-    (places : List (Option (Replica S B C))) (before after : List OutFrame) (answer : Seen) : Type 0 where
+pub record Calls {S E C : Type 0} (m : Meaning S E C KeyRow) (w : Setting) (states : ℕ → CoreState) (c : Option CallAt)
+    (places : List (Option (Replica S E C))) (before after : List OutFrame) (answer : Seen) : Type 0 where
   pub seen : answer ≡ seen_call w states c
   pub out : after ≡ before ++ frames_out w states c
   pub replicas : ReplicasStand m w (after_call w states c) places
 
 -- each outcome of a call: for want of memory nothing is known
-abbrev pub CallsOr : {S B C : Type 0} → Meaning S B C KeyRow → Setting → (ℕ → CoreState) → Option CallAt
-    → List (Option (Replica S B C)) → List OutFrame → List OutFrame → Result Seen Mem → Type 0
+abbrev pub CallsOr : {S E C : Type 0} → Meaning S E C KeyRow → Setting → (ℕ → CoreState) → Option CallAt
+    → List (Option (Replica S E C)) → List OutFrame → List OutFrame → Result Seen Mem → Type 0
 CallsOr m w states c places before after (Ok seen) = Calls m w states c places before after seen
 CallsOr m w states c places before after (Err mem) = Unit {0}
 
@@ -98,22 +102,34 @@ is_opened seen_as.Missed = false
 is_opened (seen_as.Refused (refusals.Open fault)) = false
 is_opened seen = true
 
+-- ---- the item that was taken
+
+-- whether an event was seen to be taken
+abbrev pub is_took : Seen → Bool
+is_took (seen_as.Answered answers.Took) = true
+is_took seen = false
+
+-- the item at the front of a replica's inbox, where the audit looks at it
+pub record IsFront (w : Setting) (states : ℕ → CoreState) (at : ℕ) (front : Option Item) : Type 0 where
+  pub is : front ≡ watched (front_of (states at).inbox)
+  pub good : IsGoodIf w front
+
+-- the item of a frame's body, where the frame was taken and the audit looks at the item
+pub record IsFrameItem (p : Numbers) (mode : Mode) (seen : Seen) (bytes : List ℕ) (found : Option Item) : Type 0 where
+  pub missed : is_took seen ≡ false → found ≡ None
+  pub took : (item : Item) → is_took seen ≡ true → IsSession p → 43 ≤ length bytes
+      → body_answer p mode (sender_of bytes) (body_of bytes) ≡ Ok item → found ≡ watched (Some item)
+
 -- ---- an event
 
--- a call is at this replica, which is correct
-abbrev pub IsAt : Setting → Option CallAt → ℕ → Type 0
-IsAt w None at = Unit {0}
-IsAt w (Some c) at = (c.at ≡ at) × (w.is_correct at ≡ true)
-
-pub record Happens {S B C : Type 0} (m : Meaning S B C KeyRow) (w : Setting) (states : ℕ → CoreState) (c : Option CallAt)
-    (places : List (Option (Replica S B C))) (happened : Happened) : Type 0 where
-  pub at : IsAt w c happened.at
+pub record Happens {S E C : Type 0} (m : Meaning S E C KeyRow) (w : Setting) (states : ℕ → CoreState) (c : Option CallAt)
+    (places : List (Option (Replica S E C))) (happened : Happened) : Type 0 where
+  pub told : IsTold w states c happened.at happened.forged happened.taken
   pub seen : happened.seen ≡ seen_call w states c
-  pub forged : happened.forged ≡ is_forged_at w states c
   pub out : happened.out.items ≡ frames_out w states c
   pub replicas : ReplicasStand m w (after_call w states c) places
 
-abbrev pub HappensOr : {S B C : Type 0} → Meaning S B C KeyRow → Setting → (ℕ → CoreState) → Option CallAt
-    → List (Option (Replica S B C)) → Result Happened Mem → Type 0
+abbrev pub HappensOr : {S E C : Type 0} → Meaning S E C KeyRow → Setting → (ℕ → CoreState) → Option CallAt
+    → List (Option (Replica S E C)) → Result Happened Mem → Type 0
 HappensOr m w states c places (Ok happened) = Happens m w states c places happened
 HappensOr m w states c places (Err mem) = Unit {0}

@@ -5,9 +5,11 @@ pub enum Audit {
     Holds,
     /// More than f replicas are faulty.
     TooManyFaulty,
-    /// The event of this number, from 0, is the first that gave a correct replica a frame which opens as from a
-    /// correct replica that hadn't made it.
+    /// The event of this number, from 0, is the first that forged: it gave a correct replica a frame which opens as from a
+    /// correct replica that hadn't made it, or made one take a column with a valid entry of a correct replica that hadn't
+    /// given it.
     Forged(u64),
-    /// The event of this number, from 0, is the first at which two different hashed inputs have one image.
+    /// The event of this number, from 0, is the first after which two different things that correct replicas hashed have
+    /// one image.
     Collision(u64),
 }

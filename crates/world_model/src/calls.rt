@@ -30,16 +30,16 @@ fn seen(answer: Result<Answer, Refusal>) -> Result<Seen, Mem>
 }
 
 /// Gives a frame to the replica at a place.
-pub(crate) fn give_frame<S: Service, B: Broadcast, C: Coin + Drop>(
+pub(crate) fn give_frame<S: Service, E: Broadcast, C: Coin + Drop>(
     alloc: Global,
-    replicas: &mut [Option<Replica<S, B, C>>],
+    replicas: &mut [Option<Replica<S, E, C>>],
     at: u8,
     bytes: &[u8],
     out: &mut Vec<OutFrame>,
 ) -> Result<Seen, Mem>
     ensures { (w : Setting) (states : ℕ → CoreState)
-        → ReplicasStand (meaning S.stands S.rules B.stands B.rules C.bits (λ k. k.me) tags_of) w states replicas.old
-        → CallsOr (meaning S.stands S.rules B.stands B.rules C.bits (λ k. k.me) tags_of) w states
+        → ReplicasStand (meaning S.stands S.rules E.stands E.rules C.bits (λ k. k.me) tags_of) w states replicas.old
+        → CallsOr (meaning S.stands S.rules E.stands E.rules C.bits (λ k. k.me) tags_of) w states
         (call_at w at (Frame bytes.now)) replicas.new out.old.items out.new.items result }
 {
     let place = usize::from(at);
@@ -53,16 +53,16 @@ pub(crate) fn give_frame<S: Service, B: Broadcast, C: Coin + Drop>(
 }
 
 /// Gives an input to the replica at a place.
-pub(crate) fn give_input<S: Service, B: Broadcast, C: Coin + Drop>(
+pub(crate) fn give_input<S: Service, E: Broadcast, C: Coin + Drop>(
     alloc: Global,
-    replicas: &mut [Option<Replica<S, B, C>>],
+    replicas: &mut [Option<Replica<S, E, C>>],
     at: u8,
     bytes: &[u8],
     out: &mut Vec<OutFrame>,
 ) -> Result<Seen, Mem>
     ensures { (w : Setting) (states : ℕ → CoreState)
-        → ReplicasStand (meaning S.stands S.rules B.stands B.rules C.bits (λ k. k.me) tags_of) w states replicas.old
-        → CallsOr (meaning S.stands S.rules B.stands B.rules C.bits (λ k. k.me) tags_of) w states
+        → ReplicasStand (meaning S.stands S.rules E.stands E.rules C.bits (λ k. k.me) tags_of) w states replicas.old
+        → CallsOr (meaning S.stands S.rules E.stands E.rules C.bits (λ k. k.me) tags_of) w states
         (call_at w at (Input bytes.now)) replicas.new out.old.items out.new.items result }
 {
     let place = usize::from(at);
@@ -76,15 +76,15 @@ pub(crate) fn give_input<S: Service, B: Broadcast, C: Coin + Drop>(
 }
 
 /// Gives a turn to the replica at a place.
-pub(crate) fn give_turn<S: Service, B: Broadcast, C: Coin + Drop>(
+pub(crate) fn give_turn<S: Service, E: Broadcast, C: Coin + Drop>(
     alloc: Global,
-    replicas: &mut [Option<Replica<S, B, C>>],
+    replicas: &mut [Option<Replica<S, E, C>>],
     at: u8,
     out: &mut Vec<OutFrame>,
 ) -> Result<Seen, Mem>
     ensures { (w : Setting) (states : ℕ → CoreState)
-        → ReplicasStand (meaning S.stands S.rules B.stands B.rules C.bits (λ k. k.me) tags_of) w states replicas.old
-        → CallsOr (meaning S.stands S.rules B.stands B.rules C.bits (λ k. k.me) tags_of) w states
+        → ReplicasStand (meaning S.stands S.rules E.stands E.rules C.bits (λ k. k.me) tags_of) w states replicas.old
+        → CallsOr (meaning S.stands S.rules E.stands E.rules C.bits (λ k. k.me) tags_of) w states
         (call_at w at Turn) replicas.new out.old.items out.new.items result }
 {
     let place = usize::from(at);

@@ -14,6 +14,7 @@ use crate::happened::Happened;
 use crate::made::MadeFrames;
 use crate::seats::Seats;
 use crate::seen::Seen;
+use crate::taken::{frame_item, front_item, if_took};
 use keyed_channel::seal;
 use layer_api::{Broadcast, Service};
 use replica::{Refusal, Replica};
@@ -32,41 +33,43 @@ fn is_opened_and(seen: &Seen, is_unmade: bool) -> bool
 }
 
 // A frame comes to a replica. It forges where it opens as from a correct replica that hadn't made it.
-fn frame_comes<S: Service, B: Broadcast, C: Coin + Drop>(
+fn frame_comes<S: Service, E: Broadcast, C: Coin + Drop>(
     alloc: Global,
     seats: &Seats,
     made: &MadeFrames,
-    replicas: &mut [Option<Replica<S, B, C>>],
+    replicas: &mut [Option<Replica<S, E, C>>],
     to: u8,
     bytes: &[u8],
 ) -> Result<Happened, Mem>
     ensures { (w : Setting) (states : ℕ → CoreState) → SeatsStand w seats.now → FramesStand w states made.now
-        → ReplicasStand (meaning S.stands S.rules B.stands B.rules C.bits (λ k. k.me) tags_of) w states replicas.old
-        → HappensOr (meaning S.stands S.rules B.stands B.rules C.bits (λ k. k.me) tags_of) w states
+        → ReplicasStand (meaning S.stands S.rules E.stands E.rules C.bits (λ k. k.me) tags_of) w states replicas.old
+        → HappensOr (meaning S.stands S.rules E.stands E.rules C.bits (λ k. k.me) tags_of) w states
         (call_at w to (Frame bytes.now)) replicas.new result }
 {
     let mut out = Vec::new(alloc);
     let seen = give_frame(alloc, replicas, to, bytes, &mut out)?;
     let is_unmade = seats.is_unmade(made, to, bytes);
     let forged = is_opened_and(&seen, is_unmade);
+    let taken = frame_item(alloc, &seats.params, &seats.mode, &seen, bytes)?;
     Ok(Happened {
         at: to,
         seen,
         forged,
+        taken,
         out,
     })
 }
 
 // An input comes to a replica.
-fn input_comes<S: Service, B: Broadcast, C: Coin + Drop>(
+fn input_comes<S: Service, E: Broadcast, C: Coin + Drop>(
     alloc: Global,
-    replicas: &mut [Option<Replica<S, B, C>>],
+    replicas: &mut [Option<Replica<S, E, C>>],
     at: u8,
     bytes: &[u8],
 ) -> Result<Happened, Mem>
     ensures { (w : Setting) (states : ℕ → CoreState)
-        → ReplicasStand (meaning S.stands S.rules B.stands B.rules C.bits (λ k. k.me) tags_of) w states replicas.old
-        → HappensOr (meaning S.stands S.rules B.stands B.rules C.bits (λ k. k.me) tags_of) w states
+        → ReplicasStand (meaning S.stands S.rules E.stands E.rules C.bits (λ k. k.me) tags_of) w states replicas.old
+        → HappensOr (meaning S.stands S.rules E.stands E.rules C.bits (λ k. k.me) tags_of) w states
         (call_at w at (Input bytes.now)) replicas.new result }
 {
     let mut out = Vec::new(alloc);
@@ -75,45 +78,49 @@ fn input_comes<S: Service, B: Broadcast, C: Coin + Drop>(
         at,
         seen,
         forged: false,
+        taken: None,
         out,
     })
 }
 
 // A replica takes a turn.
-fn turn_comes<S: Service, B: Broadcast, C: Coin + Drop>(
+fn turn_comes<S: Service, E: Broadcast, C: Coin + Drop>(
     alloc: Global,
-    replicas: &mut [Option<Replica<S, B, C>>],
+    replicas: &mut [Option<Replica<S, E, C>>],
     at: u8,
 ) -> Result<Happened, Mem>
     ensures { (w : Setting) (states : ℕ → CoreState)
-        → ReplicasStand (meaning S.stands S.rules B.stands B.rules C.bits (λ k. k.me) tags_of) w states replicas.old
-        → HappensOr (meaning S.stands S.rules B.stands B.rules C.bits (λ k. k.me) tags_of) w states
+        → ReplicasStand (meaning S.stands S.rules E.stands E.rules C.bits (λ k. k.me) tags_of) w states replicas.old
+        → HappensOr (meaning S.stands S.rules E.stands E.rules C.bits (λ k. k.me) tags_of) w states
         (call_at w at Turn) replicas.new result }
 {
+    let front = front_item(alloc, replicas, at)?;
     let mut out = Vec::new(alloc);
     let seen = give_turn(alloc, replicas, at, &mut out)?;
+    let taken = if_took(&seen, front);
     Ok(Happened {
         at,
         seen,
         forged: false,
+        taken,
         out,
     })
 }
 
 // A frame that one replica made for another comes to it, if there is one of this number.
-fn frame_passes<S: Service, B: Broadcast, C: Coin + Drop>(
+fn frame_passes<S: Service, E: Broadcast, C: Coin + Drop>(
     alloc: Global,
     seats: &Seats,
     made: &MadeFrames,
-    replicas: &mut [Option<Replica<S, B, C>>],
+    replicas: &mut [Option<Replica<S, E, C>>],
     from: u8,
     to: u8,
     number: u32,
 ) -> Result<Happened, Mem>
     ensures { (w : Setting) (states : ℕ → CoreState) → SeatsStand w seats.now → FramesStand w states made.now
-        → ReplicasStand (meaning S.stands S.rules B.stands B.rules C.bits (λ k. k.me) tags_of) w states replicas.old
+        → ReplicasStand (meaning S.stands S.rules E.stands E.rules C.bits (λ k. k.me) tags_of) w states replicas.old
         → MayHappen w.numbers.n (Event.Pass from to number)
-        → HappensOr (meaning S.stands S.rules B.stands B.rules C.bits (λ k. k.me) tags_of) w states
+        → HappensOr (meaning S.stands S.rules E.stands E.rules C.bits (λ k. k.me) tags_of) w states
         (call_of w states (Event.Pass from to number)) replicas.new result }
 {
     match made.frames(from, to).get(number as usize) {
@@ -123,19 +130,19 @@ fn frame_passes<S: Service, B: Broadcast, C: Coin + Drop>(
 }
 
 // A frame that seals a body with the sender's keys comes to a replica.
-fn sealed_comes<S: Service, B: Broadcast, C: Coin + Drop>(
+fn sealed_comes<S: Service, E: Broadcast, C: Coin + Drop>(
     alloc: Global,
     seats: &Seats,
     made: &MadeFrames,
-    replicas: &mut [Option<Replica<S, B, C>>],
+    replicas: &mut [Option<Replica<S, E, C>>],
     from: u8,
     to: u8,
     body: &[u8],
 ) -> Result<Happened, Mem>
     ensures { (w : Setting) (states : ℕ → CoreState) → SeatsStand w seats.now → FramesStand w states made.now
-        → ReplicasStand (meaning S.stands S.rules B.stands B.rules C.bits (λ k. k.me) tags_of) w states replicas.old
+        → ReplicasStand (meaning S.stands S.rules E.stands E.rules C.bits (λ k. k.me) tags_of) w states replicas.old
         → MayHappen w.numbers.n (Event.Sealed from to body.now)
-        → HappensOr (meaning S.stands S.rules B.stands B.rules C.bits (λ k. k.me) tags_of) w states
+        → HappensOr (meaning S.stands S.rules E.stands E.rules C.bits (λ k. k.me) tags_of) w states
         (call_of w states (Event.Sealed from to body.now)) replicas.new result }
 {
     match seats.keys.get(usize::from(from)) {
@@ -151,17 +158,17 @@ fn sealed_comes<S: Service, B: Broadcast, C: Coin + Drop>(
 }
 
 /// What an event does to the replicas. The one error is want of memory.
-pub(crate) fn happen<S: Service, B: Broadcast, C: Coin + Drop>(
+pub(crate) fn happen<S: Service, E: Broadcast, C: Coin + Drop>(
     alloc: Global,
     seats: &Seats,
     made: &MadeFrames,
-    replicas: &mut [Option<Replica<S, B, C>>],
+    replicas: &mut [Option<Replica<S, E, C>>],
     ev: &Event,
 ) -> Result<Happened, Mem>
     ensures { (w : Setting) (states : ℕ → CoreState) → SeatsStand w seats.now → FramesStand w states made.now
-        → ReplicasStand (meaning S.stands S.rules B.stands B.rules C.bits (λ k. k.me) tags_of) w states replicas.old
+        → ReplicasStand (meaning S.stands S.rules E.stands E.rules C.bits (λ k. k.me) tags_of) w states replicas.old
         → MayHappen w.numbers.n ev.now
-        → HappensOr (meaning S.stands S.rules B.stands B.rules C.bits (λ k. k.me) tags_of) w states
+        → HappensOr (meaning S.stands S.rules E.stands E.rules C.bits (λ k. k.me) tags_of) w states
         (call_of w states ev.now) replicas.new result }
 {
     match ev {

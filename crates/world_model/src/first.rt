@@ -2,7 +2,7 @@
 
 ghost use Rattle.std.specs.Prelude.{◌≡◌, ◌≤◌, true, length, IfOk};
 ghost use Rattle.keyed_channel.specs.Keyed.{tags_of};
-ghost use Rattle.ritas_core.specs.Rules.{KindsFit};
+ghost use Rattle.ritas_core.specs.Rules.{other_form};
 ghost use Rattle.ritas_core.specs.Stands.{meaning};
 ghost use Rattle.world_model.specs.Stands.{AreKeys};
 ghost use Rattle.world_model.specs.Steps.{IsFirst, AreFirst};
@@ -14,19 +14,19 @@ use ritas_base::{Coin, Mem, Mode, Params, SenderSet};
 use std::alloc::Global;
 
 // The replica with these keys and this coin, where it is correct.
-fn first_replica<S: Service, B: Broadcast, C: Coin + Drop>(
+fn first_replica<S: Service, E: Broadcast, C: Coin + Drop>(
     alloc: Global,
     p: Params,
     mode: Mode,
     correct: SenderSet,
     keys: Keys,
     coin: C,
-) -> Result<Option<Replica<S, B, C>>, Mem>
+) -> Result<Option<Replica<S, E, C>>, Mem>
     requires made_for { keys.n ≡ p.n }
-    requires kinds { KindsFit p mode (λ s. B.rules) }
+    requires form { E.FORM ≡ other_form mode }
     requires served { S.rules.serves mode.root ≡ true }
     ensures { IfOk result (λ place.
-        IsFirst (meaning S.stands S.rules B.stands B.rules C.bits (λ k. k.me) tags_of) p mode correct keys coin place) }
+        IsFirst (meaning S.stands S.rules E.stands E.rules C.bits (λ k. k.me) tags_of) p mode correct keys coin place) }
 {
     if correct.has(keys.me()) {
         Ok(Some(Replica::new(alloc, p, mode, keys, coin)?))
@@ -36,21 +36,21 @@ fn first_replica<S: Service, B: Broadcast, C: Coin + Drop>(
 }
 
 /// A place for each coin, with the replica of its number where that is correct.
-pub(crate) fn first_replicas<S: Service, B: Broadcast, C: Coin + Drop>(
+pub(crate) fn first_replicas<S: Service, E: Broadcast, C: Coin + Drop>(
     alloc: Global,
     p: Params,
     mode: Mode,
     correct: SenderSet,
     keys: &[Keys],
     coins: Vec<C>,
-) -> Result<Vec<Option<Replica<S, B, C>>>, Mem>
+) -> Result<Vec<Option<Replica<S, E, C>>>, Mem>
     requires few { length keys.now ≤ 31 }
     requires rows { length keys.now ≡ length coins.items }
     requires own { AreKeys p.n keys.now }
-    requires kinds { KindsFit p mode (λ s. B.rules) }
+    requires form { E.FORM ≡ other_form mode }
     requires served { S.rules.serves mode.root ≡ true }
     ensures { IfOk result (λ places.
-        AreFirst (meaning S.stands S.rules B.stands B.rules C.bits (λ k. k.me) tags_of)
+        AreFirst (meaning S.stands S.rules E.stands E.rules C.bits (λ k. k.me) tags_of)
         p mode correct keys.now coins.items places.items) }
 {
     let mut places = Vec::new(alloc);

@@ -1,25 +1,39 @@
 ghost use Rattle.world_model.specs.Agreement.{WorldLaw};
+ghost use Rattle.world_model.specs.Agree.{AgreeLaw};
 ghost use Rattle.world_model.specs.Dealt.{DealtLaw};
 
 use layer_api::{Broadcast, Service};
 
 /// In every world at each slot all correct replicas that deliver a value deliver the same one, and what they deliver at
 /// a command slot of a correct replica is its input of that number, as long as the audit holds: at least n - f replicas
-/// are correct, and no event gives a correct replica a frame that opens as from a correct replica which hadn't made it.
+/// are correct; no event gives a correct replica a frame that opens as from a correct replica which hadn't made it, or
+/// makes it take a column with a valid entry of a correct replica which hadn't given it; and no two different things that
+/// correct replicas hashed have one image.
 ///
 /// It does nothing: its contract is the law. `IsSound` says what the world's layers, channel and codec keep to.
 pub fn one_value_each()
     ensures { WorldLaw }
 {}
 
-/// The same law of every world with this service and this broadcast whose keys were dealt from one master key, where
-/// the broadcast hashes nothing: its layers, channel and codec keep to what `one_value_each` rests on.
+/// In every world whose audit holds, of the identifier logs of two correct replicas one is a prefix of the other; what
+/// became of their instances is equal where both are decided, and so is what they decided in each instance inside; and a
+/// bit that is decided was an input of some correct replica. What they deliver is as `one_value_each` says.
+///
+/// It does nothing: its contract is the law. It rests on what `one_value_each` does, and on the service's own law over
+/// its runs, `OneLog`.
+pub fn agreement_each()
+    ensures { AgreeLaw }
+{}
+
+/// The same law of every world with this service, this broadcast beside the reliable one, and keys that were dealt from
+/// one master key: its layers, channel and codec keep to what `agreement_each` rests on.
 ///
 /// It does nothing: its contract is the law.
-pub fn one_value<S: Service, B: Broadcast>()
-    ensures { DealtLaw S.rules B.rules }
+pub fn agreement<S: Service, E: Broadcast>()
+    ensures { DealtLaw S.rules E.rules }
 {
     keyed_channel::sealed_opens();
     frame_codec::spelled();
-    one_value_each();
+    reliable_bcast::one_value();
+    agreement_each();
 }

@@ -12,28 +12,40 @@
 //!
 //! `specs/World.antt` says what events do, in the words of one abstract replica, and `World` is proved to do that: each
 //! answer, each frame made and each state, after every schedule. What may be rested on is said by the audit: it holds
-//! where at least n - f replicas are correct, and no event gives a correct replica a frame that opens as from a correct
-//! one which hadn't made it. Where it holds, correct replicas agree: `one_value_each`, and `one_value` for a service, a
-//! broadcast that hashes nothing, and keys dealt from one master key.
+//! where at least n - f replicas are correct, and no event forges or collides. An event forges that gives a correct replica
+//! a frame which opens as from a correct one that hadn't made it, or makes it take a column with a valid entry of a correct
+//! replica that hadn't given it; it collides where then two different things that correct replicas hashed have one image.
+//! Where the audit holds, correct replicas agree: on the value of each broadcast (`one_value_each`), and on logs, outcomes
+//! and decisions (`agreement_each`); `agreement` says so for a service, a broadcast beside the reliable one, and keys
+//! dealt from one master key.
 //!
-//! That no forged frame comes is no part of what is proved: it is what the keyed tags are for. The audit finds one by the
-//! number in the frame, in the time of one comparison.
+//! That nothing is forged or collides is no part of what is proved: it is what the keyed tags and the hash are for. The
+//! audit finds a forged frame by its number, in the time of one comparison. At each SEND and column that is taken it makes
+//! the entries anew, and looks in tables of what was sent and hashed: its work at an event doesn't grow with the schedule,
+//! but for the depth of these tables.
 #![tactic(auto)]
 
 mod audit;
 mod calls;
 mod counts;
+mod digests;
 mod events;
 mod first;
 mod happened;
+mod hashed;
 mod laws;
 mod made;
+mod rows;
 mod seats;
 mod seen;
+mod taken;
+#[cfg(test)]
+mod tests;
+mod watch;
 mod world;
 
 pub use audit::Audit;
 pub use counts::Counts;
-pub use laws::{one_value, one_value_each};
+pub use laws::{agreement, agreement_each, one_value_each};
 pub use seen::Seen;
 pub use world::World;

@@ -5,12 +5,13 @@ ghost use Rattle.world_model.specs.Steps.{is_numbered, is_unmade};
 
 use crate::made::MadeFrames;
 use keyed_channel::Keys;
-use ritas_base::{Bytes, Params, SenderSet};
+use ritas_base::{Bytes, Mode, Params, SenderSet};
 
-/// How many replicas there are, which of them are correct, and the keys of each.
+/// How many replicas there are, in which mode, which of them are correct, and the keys of each.
 #[derive(Drop)]
 pub(crate) struct Seats {
     pub(crate) params: Params,
+    pub(crate) mode: Mode,
     pub(crate) correct: SenderSet,
     pub(crate) keys: Vec<Keys>,
 }

@@ -4,6 +4,7 @@ use crate::first::first_replicas;
 use crate::made::MadeFrames;
 use crate::seats::Seats;
 use crate::seen::Seen;
+use crate::watch::Watch;
 use keyed_channel::Keys;
 use layer_api::{Broadcast, Service};
 use replica::Replica;
@@ -13,46 +14,21 @@ use std::alloc::Global;
 /// A world: its correct replicas, and the frames that they made for each other. A faulty replica has no value here:
 /// what it sends is what the events say. Each event happens to one replica, and changes nothing where that is faulty.
 #[derive(Drop)]
-pub struct World<S: Service, B: Broadcast, C: Coin + Drop> {
+pub struct World<S: Service, E: Broadcast, C: Coin + Drop> {
     seats: Seats,
-    replicas: Vec<Option<Replica<S, B, C>>>,
+    replicas: Vec<Option<Replica<S, E, C>>>,
     made: MadeFrames,
+    watch: Watch,
     events: u64,
-    forged: Option<u64>,
     live: bool,
 }
 
-ghost use Rattle.std.specs.Prelude.{◌≡◌};
-ghost use Rattle.world_model.specs.Audit.{judged};
-ghost use Rattle.world_model.specs.Stands.{broken_at};
-
-// The first event that forged, with one more event.
-fn first_forged(first: Option<u64>, is_forged: bool, number: u64) -> Option<u64>
-    ensures { broken_at result ≡ judged (broken_at first) is_forged number }
-{
-    match first {
-        Some(number) => Some(number),
-        None if is_forged => Some(number),
-        None => None,
-    }
-}
-
-// What the first event that forged breaks.
-fn broken(first: Option<u64>) -> Audit
-    ensures { result ≡ broken_at first }
-{
-    match first {
-        Some(number) => Audit::Forged(number),
-        None => Audit::Holds,
-    }
-}
-
-impl<S: Service, B: Broadcast, C: Coin + Drop> World<S, B, C> {
+impl<S: Service, E: Broadcast, C: Coin + Drop> World<S, E, C> {
     ghost use Rattle.std.specs.Prelude.{◌≡◌, ℕ, ◌-◌, ◌^◌, ◌<◌, true, false, List, [], length, IfOk, OnOk, OnErr, MatchOption};
     ghost use Rattle.ritas_base.specs.declared.event.Event.{Event};
     ghost use Rattle.ritas_base.specs.Members.{has_member};
     ghost use Rattle.keyed_channel.specs.Keyed.{tags_of};
-    ghost use Rattle.ritas_core.specs.Rules.{KindsFit};
+    ghost use Rattle.ritas_core.specs.Rules.{other_form};
     ghost use Rattle.ritas_core.specs.Stands.{meaning};
     ghost use Rattle.world_model.specs.World.{Setting, states_of};
     ghost use Rattle.world_model.specs.Audit.{audit_of};
@@ -73,25 +49,26 @@ impl<S: Service, B: Broadcast, C: Coin + Drop> World<S, B, C> {
         requires tosses { length coins.items ≡ p.n }
         requires own { AreKeys p.n keys.items }
         requires within { (i : ℕ) → has_member correct i ≡ true → i < p.n }
-        requires kinds { KindsFit p mode (λ s. B.rules) }
+        requires form { E.FORM ≡ other_form mode }
         requires served { S.rules.serves mode.root ≡ true }
         ensures { IfOk result (λ world. (w : Setting)
-            → IsWorldOf (meaning S.stands S.rules B.stands B.rules C.bits (λ k. k.me) tags_of)
+            → IsWorldOf (meaning S.stands S.rules E.stands E.rules C.bits (λ k. k.me) tags_of)
             p mode correct keys.items coins.items w
-            → WorldStands (meaning S.stands S.rules B.stands B.rules C.bits (λ k. k.me) tags_of) world w []) }
+            → WorldStands (meaning S.stands S.rules E.stands E.rules C.bits (λ k. k.me) tags_of) world w []) }
     {
         let replicas = first_replicas(alloc, p, mode, correct, keys.as_slice(), coins)?;
         let made = MadeFrames::new(alloc, p.n())?;
         Ok(World {
             seats: Seats {
                 params: p,
+                mode,
                 correct,
                 keys,
             },
             replicas,
             made,
+            watch: Watch::new(alloc),
             events: 0,
-            forged: None,
             live: true,
         })
     }
@@ -101,9 +78,9 @@ impl<S: Service, B: Broadcast, C: Coin + Drop> World<S, B, C> {
     /// event too.
     pub fn event(&mut self, alloc: Global, ev: &Event) -> Result<Seen, Mem>
         ensures does { (w : Setting) (es : List Event)
-            → WorldStands (meaning S.stands S.rules B.stands B.rules C.bits (λ k. k.me) tags_of) self.old w es
+            → WorldStands (meaning S.stands S.rules E.stands E.rules C.bits (λ k. k.me) tags_of) self.old w es
             → MayHappen w.numbers.n ev.now → length es < 2 ^ 64 - 1
-            → EventDoes (meaning S.stands S.rules B.stands B.rules C.bits (λ k. k.me) tags_of) self.new w es ev.now result }
+            → EventDoes (meaning S.stands S.rules E.stands E.rules C.bits (λ k. k.me) tags_of) self.new w es ev.now result }
         ensures stops { OnErr result (is_live self.new ≡ false) }
         ensures stopped { OnOk result (is_live self.old ≡ true) }
     {
@@ -119,7 +96,14 @@ impl<S: Service, B: Broadcast, C: Coin + Drop> World<S, B, C> {
             ev,
         )?;
         self.made.add(happened.at, happened.out)?;
-        self.forged = first_forged(self.forged, happened.forged, self.events);
+        self.watch.judge(
+            alloc,
+            &self.seats,
+            happened.at,
+            happened.forged,
+            happened.taken.as_ref(),
+            self.events,
+        )?;
         self.events = self.events.wrapping_add(1);
         self.live = true;
         Ok(happened.seen)
@@ -132,26 +116,26 @@ impl<S: Service, B: Broadcast, C: Coin + Drop> World<S, B, C> {
         self.live
     }
 
-    /// Whether the world's premises held: at least n - f replicas are correct, and no event forged. If not, the first
-    /// event that breaks one.
+    /// Whether the world's premises held: at least n - f replicas are correct, and no event forged or collided. If not, the
+    /// first event that breaks one; one that does both forged.
     pub fn audit(&self) -> Audit
         ensures { (w : Setting) (es : List Event)
-            → WorldStands (meaning S.stands S.rules B.stands B.rules C.bits (λ k. k.me) tags_of) self.now w es
+            → WorldStands (meaning S.stands S.rules E.stands E.rules C.bits (λ k. k.me) tags_of) self.now w es
             → result ≡ audit_of w es }
     {
         if self.seats.correct.len() < self.seats.params.wait() {
             return Audit::TooManyFaulty;
         }
-        broken(self.forged)
+        self.watch.verdict()
     }
 
     /// The replica of this number, where it is correct.
-    pub fn replica(&self, i: u8) -> Option<&Replica<S, B, C>>
+    pub fn replica(&self, i: u8) -> Option<&Replica<S, E, C>>
         ensures { (w : Setting) (es : List Event)
-            → WorldStands (meaning S.stands S.rules B.stands B.rules C.bits (λ k. k.me) tags_of) self.now w es
+            → WorldStands (meaning S.stands S.rules E.stands E.rules C.bits (λ k. k.me) tags_of) self.now w es
             → MatchOption result
             (w.is_correct i ≡ false)
-            (λ replica. IsReplica (meaning S.stands S.rules B.stands B.rules C.bits (λ k. k.me) tags_of)
+            (λ replica. IsReplica (meaning S.stands S.rules E.stands E.rules C.bits (λ k. k.me) tags_of)
             w (states_of w es) i replica.now) }
     {
         match self.replicas.get(usize::from(i)) {
@@ -164,7 +148,7 @@ impl<S: Service, B: Broadcast, C: Coin + Drop> World<S, B, C> {
     /// itself.
     pub fn frames_made(&self, from: u8, to: u8) -> &[Bytes]
         ensures { (w : Setting) (es : List Event)
-            → WorldStands (meaning S.stands S.rules B.stands B.rules C.bits (λ k. k.me) tags_of) self.now w es
+            → WorldStands (meaning S.stands S.rules E.stands E.rules C.bits (λ k. k.me) tags_of) self.now w es
             → from < w.numbers.n → to < w.numbers.n → result.now ≡ frames_from w (states_of w es) from to }
     {
         self.made.frames(from, to)
@@ -173,7 +157,7 @@ impl<S: Service, B: Broadcast, C: Coin + Drop> World<S, B, C> {
     /// How many events happened.
     pub fn events(&self) -> u64
         ensures { (w : Setting) (es : List Event)
-            → WorldStands (meaning S.stands S.rules B.stands B.rules C.bits (λ k. k.me) tags_of) self.now w es
+            → WorldStands (meaning S.stands S.rules E.stands E.rules C.bits (λ k. k.me) tags_of) self.now w es
             → result ≡ length es }
     {
         self.events

@@ -20,7 +20,7 @@ returns g c = λ r st stands live core within.
     let line : ℕ → List ℕ = λ num. out_line c.args.origin num (outs num) in
     let words = (parts r st.history).words in
     let base : c.base.result ≡ r.service.base (seat_of r) words c.args.origin =
-    c.base.ensures (seat_of r) words (c.service.ensures r st stands live) within
+    c.base.ensures.rules (seat_of r) words (c.service.ensures r st stands live) within
     ∙ ap (λ (s : ServiceRules). s.base (seat_of r) words c.args.origin) (sym core.words) in
     let window = c.delivered_within.ensures.window r core st.history stands.history in
     let quiet : (j : ℕ) → 0 + c.loop-num.num ≤ j → j < 0 + number_limit → line j ≡ [] =

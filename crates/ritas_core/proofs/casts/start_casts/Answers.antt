@@ -6,6 +6,7 @@ use Rattle.ritas_base.specs.declared.slot.Slot.{Slot}
 use Rattle.ritas_base.specs.declared.item.Say.{Say}
 use Rattle.ritas_base.specs.History.{Call, Start}
 use Rattle.ritas_core.specs.Rules.{casts_by}
+use Rattle.ritas_core.specs.Cast.{CastStandsAt}
 use Rattle.ritas_core.specs.Casts.{CastsStand, started_all, start_news, news_at}
 use Rattle.ritas_core.specs.CastCalls.{CanStartAll, CanStart}
 use Rattle.ritas_core.proofs.Starts.{started_more, start_news_more, appended_more, may_start_at}
@@ -13,20 +14,20 @@ use Rattle.ritas_core.proofs.casts.start_casts.Goals as goal
 
 pub loop-say-preserved : goal.loop-say-preserved
 loop-say-preserved g c =
-    let b = g.B.Broadcast in
+    let b = g.E.Broadcast in
     let t = g.T.Tagger in
-    let rules = casts_by c.args.p.now c.args.me (t.tags c.args.t.now) b.rules in
+    let rules = casts_by c.args.mode.now c.args.p.now c.args.me (t.tags c.args.t.now) b.rules in
     let says = c.args.says.now in
     let i = c.loop-say.say-index in
     let say = c.say-item.result in
     let more : take (i + 1) says ≡ take i says ++ say ∷ [] = take_more says i say c.loop-say-test.true ∙ ap (λ x. take i says ++ x ∷ []) (sym c.say-item.is) in
     let here : slice_get says i ≡ Some say = slice_get_read says (length says) i say refl c.loop-say-test.true c.say-item.is in
-    let can : (h : Slot → List Call) → CanStartAll b.stands rules (t.me c.args.t.now) c.args.casts.now says h
-    → CanStart b.stands rules (t.me c.args.t.now) c.loop-say.casts say (started_all (take i says) h) = λ h all.
+    let can : (h : Slot → List Call) → CanStartAll (CastStandsAt c.args.mode.now b.stands) rules (t.me c.args.t.now) c.args.casts.now says h
+    → CanStart (CastStandsAt c.args.mode.now b.stands) rules (t.me c.args.t.now) c.loop-say.casts say (started_all (take i says) h) = λ h all.
     record { is_own = all.is_own; may = may_start_at rules says i say h here all.may; stood = c.loop-say.invariant.stands h all } in
     record {
       stands = λ h all.
-          subst (λ (k : Slot → List Call). CastsStand b.stands rules c.start_cast.new.casts k)
+          subst (λ (k : Slot → List Call). CastsStand (CastStandsAt c.args.mode.now b.stands) rules c.start_cast.new.casts k)
           (sym (ap (λ (xs : List Say). started_all xs h) more ∙ started_more (take i says) say h))
           (c.in_ok-start_cast.ensures.grows (started_all (take i says) h) (can h all));
       made = λ h all.

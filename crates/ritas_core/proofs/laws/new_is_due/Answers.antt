@@ -5,6 +5,6 @@ use Rattle.ritas_core.proofs.laws.new_is_due.Goals as goal
 pub returns : goal.returns
 returns g c = record {
   due = λ r is h e m.
-      due.new_is_due r (core_laws g.S.Service.rules g.B.Broadcast.rules r is g.met.S.Service.word_laws g.met.B.Broadcast.value_laws) h e m;
+      due.new_is_due r (core_laws g.S.Service.rules g.E.Broadcast.rules r is g.met.S.Service.word_laws g.met.E.Broadcast.value_laws) h e m;
   order = due.new_in_order;
 }

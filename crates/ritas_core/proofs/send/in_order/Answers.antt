@@ -1,5 +1,4 @@
 use Rattle.std.proofs.Common.{◌∙◌, ap, sym, []}
-use Rattle.ritas_base.specs.declared.item.Msg.{Msg}
 use Rattle.ritas_core.specs.Order.{inserted}
 use Rattle.ritas_core.proofs.SendSteps.{ordered_more}
 use Rattle.ritas_core.proofs.send.in_order.Goals as goal

@@ -1,26 +1,18 @@
-use Rattle.std.proofs.Common.{◌≡◌, ℕ, Bool, true, false, cond, ◌&&◌, refl, ap, sym, ◌∙◌}
+use Rattle.std.proofs.Common.{◌≡◌, ℕ, cond, sym, ◌∙◌, ap}
 use Rattle.std.proofs.Math.Dec.{eqb}
-use Rattle.ritas_base.specs.declared.slot.Slot.{Slot}
 use Rattle.ritas_base.specs.declared.mode.Mode.{Mode}
 use Rattle.ritas_base.specs.declared.mode.Vect.{Vect}
 use Rattle.ritas_base.specs.declared.mode.Vect.TheVariants.{Echo, Reliable}
-use Rattle.ritas_base.specs.Slots.{by_echo}
-use Rattle.frame_codec.specs.Body.{is_of_broadcast}
+use Rattle.ritas_core.specs.Rules.{other_form}
 use Rattle.ritas_core.proofs.tests.new_core.Goals as goal
 
-neither : (a b : Bool) → cond a false (b && false) ≡ false
-neither true b = refl
-neither false true = refl
-neither false false = refl
+form_is : (mode : Mode) → mode.root ≡ 6 → mode.vect ≡ Reliable → other_form mode ≡ 1
+unfolding other_form
+form_is mode root vect =
+    ap (λ (n : ℕ). cond (eqb n 2) 2 (elim mode.vect [ Echo ↦ 2 | Reliable ↦ 1 ])) root
+    ∙ ap (λ (v : Vect). elim v [ Echo ↦ 2 | Reliable ↦ 1 ]) vect
 
-all_reliable : (mode : Mode) (s : Slot) → mode.root ≡ 6 → mode.vect ≡ Reliable → by_echo mode s ≡ false
-unfolding by_echo
-all_reliable mode s root vect =
-    ap (λ (n : ℕ). cond (eqb s.class 1) (eqb n 2) (eqb s.class 4 && (elim mode.vect [ Echo ↦ true | Reliable ↦ false ]))) root
-    ∙ ap (λ (v : Vect). cond (eqb s.class 1) false (eqb s.class 4 && (elim v [ Echo ↦ true | Reliable ↦ false ]))) vect
-    ∙ neither (eqb s.class 1) (eqb s.class 4)
-
-pub new-requires-in-Some-clause-kinds : goal.new-requires-in-Some-clause-kinds
-new-requires-in-Some-clause-kinds c = λ s kind right.
+pub new-requires-in-Some-clause-form : goal.new-requires-in-Some-clause-form
+new-requires-in-Some-clause-form c =
     let is = c.in-Some.ensures.some in
-    ap (λ (b : Bool). is_of_broadcast b kind) (sym (all_reliable c.in-Some.mode s is.0 is.1))
+    sym (form_is c.in-Some.mode is.0 is.1)

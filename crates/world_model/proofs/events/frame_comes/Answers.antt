@@ -6,4 +6,4 @@ pub returns : goal.returns
 returns g c = λ w states seats stand replicas.
     frame_happens _ w c.args.seats.now states c.args.made.now c.args.to c.args.bytes.now c.args.replicas.now _ _ c.new-out.result.items c.is_unmade-is_unmade.result
     seats stand replicas c.new-out.ensures.items (c.in_ok-seen.ensures w states replicas) refl
-    (record { value = c.is_unmade-is_unmade.ensures.value; few = c.is_unmade-is_unmade.ensures.few }) c.is_opened_and-forged.ensures
+    (record { value = c.is_unmade-is_unmade.ensures.value; few = c.is_unmade-is_unmade.ensures.few }) c.is_opened_and-forged.ensures c.in_ok-taken.ensures

@@ -10,4 +10,4 @@ returns-in-Some g c = λ w states seats stand replicas may.
 pub returns-in-None : goal.returns-in-None
 returns-in-None g c = λ w states seats stand replicas may.
     none_passes _ w states c.args.made.now c.args.from c.args.to c.args.number c.frames.result.now _ c.nothing.result
-    replicas stand may.0 may.1 may.2 c.frames.ensures c.in-None.ensures.lookup.3 c.nothing.ensures.seen c.nothing.ensures.forged c.nothing.ensures.out
+    replicas stand may.0 may.1 may.2 c.frames.ensures c.in-None.ensures.lookup.3 c.nothing.ensures.seen c.nothing.ensures.forged c.nothing.ensures.taken c.nothing.ensures.out

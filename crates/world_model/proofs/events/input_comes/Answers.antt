@@ -4,4 +4,4 @@ use Rattle.world_model.proofs.events.input_comes.Goals as goal
 
 pub returns : goal.returns
 returns g c = λ w states replicas.
-    input_happens _ w states c.args.at c.args.bytes.now _ _ c.new-out.result.items c.new-out.ensures.items (c.in_ok-seen.ensures w states replicas) refl refl
+    input_happens _ w states c.args.at c.args.bytes.now _ _ c.new-out.result.items c.new-out.ensures.items (c.in_ok-seen.ensures w states replicas) refl refl refl

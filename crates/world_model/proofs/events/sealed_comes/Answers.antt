@@ -1,6 +1,7 @@
 use Rattle.std.proofs.Common.{◌≡◌, arith, ◌∙◌, ap}
 use Rattle.keyed_channel.specs.Frames.{sealed}
-use Rattle.world_model.proofs.Happening.{keys_are, keys_there, same_frame}
+use Rattle.world_model.proofs.KeysAt.{keys_are, keys_there}
+use Rattle.world_model.proofs.Happening.{same_frame}
 use Rattle.world_model.proofs.events.sealed_comes.Goals as goal
 
 pub returns-then-to-n : goal.returns-then-to-n

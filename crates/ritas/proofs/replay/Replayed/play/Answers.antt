@@ -9,7 +9,7 @@ pub returns-in_err-next-clause-exact : goal.returns-in_err-next-clause-exact
 returns-in_err-next-clause-exact g c = λ tells before stands.
     let p = err_from_is_err_and c.from_residual.result c.from_residual.ensures.1 in
     let so_far = c.loop.invariant.5 tells before stands in
-    rw (p.1, p.2) (fails c.in_err-next.field-0.0 so_far.0 67108865 c.loop.counter c.loop.reader.n (spot c.loop.reader.held (g.S.Source.left c.loop.input)) _
+    rw (p.1, p.2) (fails c.in_err-next.field-0.0 so_far.0 67108865 c.loop.counter c.loop.reader.n (spot c.loop.reader.held (g.I.Source.left c.loop.input)) _
     c.loop-test.true (c.in_err-next.ensures.exact c.loop.invariant.0 tells) so_far.2)
 
 pub returns-in-None-clause-exact : goal.returns-in-None-clause-exact
@@ -18,8 +18,8 @@ returns-in-None-clause-exact g c = λ tells before stands.
     let read = rw c.in-None.is at (c.in_ok-next.ensures.exact c.loop.invariant.0 tells) in (
       so_far.0,
       so_far.1,
-      ends so_far.0 67108865 c.loop.counter c.loop.reader.n (spot c.loop.reader.held (g.S.Source.left c.loop.input))
-          (spot c.next.new.self.held (g.S.Source.left c.next.new.src)) _ c.loop-test.true read so_far.2,
+      ends so_far.0 67108865 c.loop.counter c.loop.reader.n (spot c.loop.reader.held (g.I.Source.left c.loop.input))
+          (spot c.next.new.self.held (g.I.Source.left c.next.new.src)) _ c.loop-test.true read so_far.2,
     )
 
 pub loop-preserved : goal.loop-preserved
@@ -36,12 +36,12 @@ loop-preserved g c =
       λ tells before stands.
           let so_far = c.loop.invariant.5 tells before stands in
           let read = rw c.in-Some.is at (c.in_ok-next.ensures.exact c.loop.invariant.0 tells) in
-          let more = goes_on so_far.0 67108865 c.loop.counter c.loop.reader.n (spot c.loop.reader.held (g.S.Source.left c.loop.input)) c.in-Some.event
-          (spot c.next.new.self.held (g.S.Source.left c.next.new.src)) _ c.loop-test.true read so_far.2 in
+          let more = goes_on so_far.0 67108865 c.loop.counter c.loop.reader.n (spot c.loop.reader.held (g.I.Source.left c.loop.input)) c.in-Some.event
+          (spot c.next.new.self.held (g.I.Source.left c.next.new.src)) _ c.loop-test.true read so_far.2 in
           (c.in-Some.event ∷ so_far.0, c.in_ok-step-in-Some.ensures.stands so_far.0 so_far.1 may, rw c.in_ok-next.ensures.n more),
     )
 
 pub returns-clause-exact : goal.returns-clause-exact
 returns-clause-exact g c = λ tells before stands own.
     let so_far = c.loop.invariant.5 tells before stands in
-    too_many so_far.0 67108865 c.loop.counter c.loop.reader.n (spot c.loop.reader.held (g.S.Source.left c.loop.input)) _ c.loop-test.false so_far.2
+    too_many so_far.0 67108865 c.loop.counter c.loop.reader.n (spot c.loop.reader.held (g.I.Source.left c.loop.input)) _ c.loop-test.false so_far.2

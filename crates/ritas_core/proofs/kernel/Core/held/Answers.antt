@@ -7,8 +7,8 @@ use Rattle.ritas_core.proofs.kernel.Core.held.Goals as goal
 
 pub returns : goal.returns
 returns g c =
-    let b = g.B.Broadcast in
-    let m : Meaning g.row.S.Denot g.row.B.Denot g.row.C.Denot g.row.T.Denot =
+    let b = g.E.Broadcast in
+    let m : Meaning g.row.S.Denot g.row.E.Denot g.row.C.Denot g.row.T.Denot =
     meaning g.S.Service.stands g.S.Service.rules b.stands b.rules g.C.Coin.bits g.T.Tagger.me g.T.Tagger.tags in
     let core = c.args.self.now in
     let whole : core.layers.params.n ≡ c.loop-peer.peer = omega arith in

@@ -18,8 +18,8 @@ is_other_fault x h = cc
 
 pub returns-in-Ok : goal.returns-in-Ok
 returns-in-Ok g c =
-    let b = g.B.Broadcast in
-    let m : Meaning g.row.S.Denot g.row.B.Denot g.row.C.Denot g.row.T.Denot =
+    let b = g.E.Broadcast in
+    let m : Meaning g.row.S.Denot g.row.E.Denot g.row.C.Denot g.row.T.Denot =
     meaning g.S.Service.stands g.S.Service.rules b.stands b.rules g.C.Coin.bits g.T.Tagger.me g.T.Tagger.tags in
     let old = c.args.self.now in
     let counted : IsGood (rules_of m old.layers) c.args.item → c.length_of-len.result ≡ body_length c.args.item = λ good.
@@ -31,8 +31,8 @@ returns-in-Ok g c =
 
 pub returns-in-Err-HeldFull : goal.returns-in-Err-HeldFull
 returns-in-Err-HeldFull g c =
-    let b = g.B.Broadcast in
-    let m : Meaning g.row.S.Denot g.row.B.Denot g.row.C.Denot g.row.T.Denot =
+    let b = g.E.Broadcast in
+    let m : Meaning g.row.S.Denot g.row.E.Denot g.row.C.Denot g.row.T.Denot =
     meaning g.S.Service.stands g.S.Service.rules b.stands b.rules g.C.Coin.bits g.T.Tagger.me g.T.Tagger.tags in
     let old = c.args.self.now in
     let counted : IsGood (rules_of m old.layers) c.args.item → c.length_of-len.result ≡ body_length c.args.item = λ good.
@@ -44,8 +44,8 @@ returns-in-Err-HeldFull g c =
 
 pub returns-in-Err-Mem : goal.returns-in-Err-Mem
 returns-in-Err-Mem g c =
-    let b = g.B.Broadcast in
-    let m : Meaning g.row.S.Denot g.row.B.Denot g.row.C.Denot g.row.T.Denot =
+    let b = g.E.Broadcast in
+    let m : Meaning g.row.S.Denot g.row.E.Denot g.row.C.Denot g.row.T.Denot =
     meaning g.S.Service.stands g.S.Service.rules b.stands b.rules g.C.Coin.bits g.T.Tagger.me g.T.Tagger.tags in
     let old = c.args.self.now in
     let counted : IsGood (rules_of m old.layers) c.args.item → c.length_of-len.result ≡ body_length c.args.item = λ good.

@@ -1,5 +1,6 @@
 use Rattle.std.proofs.Common.{◌∙◌, ap, refl, rules, replicate, []}
 use Rattle.std.proofs.lemmas.List.{length-replicate}
+use Rattle.ritas_core.specs.RulesLaws.{kinds_fit, form_of}
 use Rattle.ritas_core.proofs.Goodness.{good_none_held}
 use Rattle.ritas_core.proofs.kernel.Core.new.Goals as goal
 
@@ -7,7 +8,7 @@ pub returns : goal.returns
 returns g c = record {
   rules = refl;
   own = c.requires.own;
-  kinds = c.requires.kinds;
+  kinds = kinds_fit _ _ g.E.Broadcast.rules (form_of _ g.E.Broadcast.rules g.E.Broadcast.FORM g.met.E.Broadcast.kinds c.requires.form);
   session = c.n.ensures.session;
   me = c.requires.below;
   serves = c.requires.serves;

@@ -5,8 +5,8 @@ use Rattle.ritas_core.proofs.kernel.Core.step_front.Goals as goal
 
 pub returns-in-Some : goal.returns-in-Some
 returns-in-Some g c =
-    let b = g.B.Broadcast in
-    let m : Meaning g.row.S.Denot g.row.B.Denot g.row.C.Denot g.row.T.Denot =
+    let b = g.E.Broadcast in
+    let m : Meaning g.row.S.Denot g.row.E.Denot g.row.C.Denot g.row.T.Denot =
     meaning g.S.Service.stands g.S.Service.rules b.stands b.rules g.C.Coin.bits g.T.Tagger.me g.T.Tagger.tags in
     let old = c.args.self.now in
     turn_does m old (record old { inbox = c.pop_front.new.self }) c.step.new.self c.in-Some.item c.args.out.now.items c.step.new.out.items c.step.result

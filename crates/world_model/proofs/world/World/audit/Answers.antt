@@ -6,4 +6,4 @@ pub returns-then-len-wait : goal.returns-then-len-wait
 returns-then-len-wait g c = λ w es stand. too_many_is _ c.args.self.now w es c.len.result c.wait.result stand c.len.ensures c.wait.ensures (omega arith)
 
 pub returns : goal.returns
-returns g c = λ w es stand. enough_is _ c.args.self.now w es c.len.result c.wait.result c.broken.result stand c.len.ensures c.wait.ensures (omega arith) c.broken.ensures
+returns g c = λ w es stand. enough_is _ c.args.self.now w es c.len.result c.wait.result c.verdict.result stand c.len.ensures c.wait.ensures (omega arith) c.verdict.ensures

@@ -1,0 +1,7 @@
+mod Bits
+mod ColumnSteps
+mod EntrySteps
+mod News
+mod Steps
+mod Calls
+mod Reading

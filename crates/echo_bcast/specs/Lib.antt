@@ -1,0 +1,11 @@
+pub mod Matrix
+pub mod Members
+pub mod Due
+pub mod OneValue
+pub mod Columns
+pub mod Good
+pub mod State
+pub mod Shown
+pub mod Reading
+pub mod ValueLaws
+pub mod Rows

@@ -1,0 +1,58 @@
+-- What a value shows is what is delivered after the calls that it stands for.
+use Rattle.std.specs.Prelude.{◌≡◌, ℕ, zero, suc, ◌≤◌, ◌+◌, ◌-◌, Bool, ◌&&◌, nat_lt, nat_le, List, Option, Some, None, count_by, if◌then◌else◌, refl}
+use Rattle.std.proofs.Common.{sym, ◌∙◌, ap, arith, inl, inr}
+use Rattle.std.specs.List.{range_with_len}
+use Rattle.std.proofs.lemmas.Bool.{cases_Bool, lt-ltb, le-ltb}
+use Rattle.ritas_base.specs.Numbers.{Numbers, quorum_of}
+use Rattle.ritas_base.specs.Members.{has_member, member_count}
+use Rattle.ritas_base.specs.History.{Call, replicas}
+use Rattle.ritas_base.specs.Messages.{Place}
+use Rattle.ritas_base.specs.Quorums.{count_yes, count_no, count_same}
+use Rattle.ritas_base.specs.Tags.{Tags}
+use Rattle.layer_api.specs.Entries.{sent}
+use Rattle.echo_bcast.specs.declared.eb.Eb.{Eb}
+use Rattle.echo_bcast.specs.Matrix.{is_good, out_of}
+use Rattle.echo_bcast.specs.State.{Keeps, sent_as, value_of, shown_of}
+
+-- none from n on
+none_above : (p : ℕ → Bool) (n from count : ℕ) → n ≤ from → count_by (λ k. nat_lt k n && p k) (range_with_len from count) ≡ 0
+none_above p n from zero past = refl
+none_above p n from (suc count) past =
+    count_no (λ k. nat_lt k n && p k) from (range_with_len (from + 1) count) (ap (λ (b : Bool). b && p from) (le-ltb from n past))
+    ∙ none_above p n (from + 1) count (omega (arith, past))
+
+below_alone : (p : ℕ → Bool) (n more from count : ℕ) → from + count ≡ n → count_by (λ k. nat_lt k n && p k) (range_with_len from (count + more)) ≡ count_by p (range_with_len from count)
+below_alone p n more from zero e = ap (λ (m : ℕ). count_by (λ k. nat_lt k n && p k) (range_with_len from m)) (let m : 0 + more ≡ more = omega arith in m) ∙ none_above p n from more (omega (arith, e))
+below_alone p n more from (suc count) e =
+    let q : ℕ → Bool = λ k. nat_lt k n && p k in
+    let same : q from ≡ p from = ap (λ (b : Bool). b && p from) (lt-ltb from n (omega (arith, e))) in
+    let next : from + 1 + count ≡ n = omega (arith, e) in
+    let later = below_alone p n more (from + 1) count next in
+    ap (λ (m : ℕ). count_by q (range_with_len from m)) (let m : suc count + more ≡ suc (count + more) = omega arith in m)
+    ∙ elim (cases_Bool (p from)) [
+      | inl is_in ↦
+          count_yes q from (range_with_len (from + 1) (count + more)) (same ∙ is_in)
+          ∙ (ap (λ (m : ℕ). 1 + m) later ∙ sym (count_yes p from (range_with_len (from + 1) count) is_in))
+      | inr is_out ↦ count_no q from (range_with_len (from + 1) (count + more)) (same ∙ is_out) ∙ (later ∙ sym (count_no p from (range_with_len (from + 1) count) is_out))
+    ]
+
+-- the members of a set that are all below n, counted
+pub members_are : (n mask : ℕ) (p : ℕ → Bool) → n ≤ 32 → ((k : ℕ) → has_member mask k ≡ (nat_lt k n && p k)) → member_count 32 mask ≡ count_by p (replicas n)
+unfolding member_count
+members_are n mask p most same =
+    let all : n + (32 - n) ≡ 32 = omega (arith, most) in
+    count_same (has_member mask) (λ k. nat_lt k n && p k) same (range_with_len 0 32)
+    ∙ (ap (λ (m : ℕ). count_by (λ k. nat_lt k n && p k) (range_with_len 0 m)) (sym all) ∙ below_alone p n (32 - n) 0 n (omega arith))
+
+pub value_is : (tags : Tags) (o : Option (List ℕ)) → value_of (sent_as tags o) ≡ o
+value_is tags None = refl
+value_is tags (Some m) = refl
+
+pub shows_out : (b : Eb) (at : Place) (tags : Tags) (h : List Call) → Keeps b at tags h → shown_of b ≡ out_of at tags h
+shows_out b at tags h keeps =
+    let session = keeps.session in
+    let good = is_good at tags h in
+    let many : member_count 32 b.good ≡ count_by good (replicas at.numbers.n) = members_are at.numbers.n b.good good (omega (arith, session.most)) keeps.good in
+    ap (λ (p : Numbers). if nat_le (quorum_of p) (member_count 32 b.good) then value_of b.sent else None) keeps.params
+    ∙ (ap (λ (m : ℕ). if nat_le (quorum_of at.numbers) m then value_of b.sent else None) many
+    ∙ ap (λ (o : Option (List ℕ)). if nat_le (quorum_of at.numbers) (count_by good (replicas at.numbers.n)) then o else None) (ap value_of keeps.sent_is ∙ value_is tags (sent at h)))

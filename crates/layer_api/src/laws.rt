@@ -1,0 +1,8 @@
+ghost use Rattle.layer_api.specs.OneLog.{InnerRuns};
+
+/// In the run that the steps of a layer make of an inner part, each replica's calls are those that its own steps make.
+///
+/// It does nothing: its contract is the law.
+pub fn inner_runs()
+    ensures { InnerRuns }
+{}

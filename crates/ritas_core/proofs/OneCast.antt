@@ -1,0 +1,119 @@
+-- The broadcast of one slot does what the one inside it does: reliable broadcast, or the other one.
+use Rattle.std.proofs.Common.{◌≡◌, ℕ, Bool, true, false, cond, Option, Result, Ok, Err, List, ◌∷◌, ◌++◌, refl, sym, ◌∙◌, ap, subst}
+use Rattle.ritas_base.specs.declared.bytes.Mem.{Mem}
+use Rattle.ritas_base.specs.declared.item.Item.{Item}
+use Rattle.ritas_base.specs.declared.item.Msg.{Msg}
+use Rattle.ritas_base.specs.Messages.{Place}
+use Rattle.ritas_base.specs.Tags.{Tags}
+use Rattle.ritas_base.specs.History.{Call, Take}
+use Rattle.layer_api.specs.declared.broadcast.Heard.{Heard}
+use Rattle.layer_api.specs.declared.broadcast.Heard.TheVariants.{Took, Repeat}
+use Rattle.layer_api.specs.Broadcast.{BroadcastRules, Tagging, IsTagger, MayTake, news}
+use Rattle.layer_api.specs.BroadcastCalls.{TakesNew, TakesAgain, TakesNone, Takes, ShowsEither}
+use Rattle.reliable_bcast.specs.declared.rb.Rb.{Rb}
+use Rattle.reliable_bcast.specs.Bracha.{bracha}
+use Rattle.reliable_bcast.specs.State.{state_of}
+use Rattle.ritas_core.specs.declared.cast.Cast.{Cast}
+use Rattle.ritas_core.specs.declared.cast.Cast.TheVariants.{Plain, Other}
+use Rattle.ritas_core.specs.Cast.{CastStands, rules_by, is_live, shown_by}
+
+-- a value that stands for calls where one inside does, by the same rules
+module _ {A B : Type 0} (stands : A → Place → Tags → List Call → Type 0) (r : BroadcastRules) (live : A → Bool) (shown : A → Option (List ℕ))
+    (stands_out : B → Place → Tags → List Call → Type 0) (r_out : BroadcastRules) (live_out : B → Bool) (shown_out : B → Option (List ℕ))
+    (wrap : A → B) (Fits : Type 0) (same : Fits → r ≡ r_out)
+    (down : (a : A) (at : Place) (tags : Tags) (h : List Call) → stands_out (wrap a) at tags h → Fits × stands a at tags h)
+    (up : (a : A) (at : Place) (tags : Tags) (h : List Call) → Fits → stands a at tags h → stands_out (wrap a) at tags h)
+    (live_same : (a : A) → live_out (wrap a) ≡ live a) (shown_same : (a : A) → shown_out (wrap a) ≡ shown a)
+    (t : Tagging) (old new : A) (before after : List Msg) where
+  back : {at : Place} {tags : Tags} {h : List Call} (item : Item) → Fits → MayTake r_out at tags h item → MayTake r at tags h item
+  back {at} {tags} {h} item fits may = subst (λ (x : BroadcastRules). MayTake x at tags h item) (sym (same fits)) may
+
+  -- a take
+  counts_out : (item : Item) (b : Bool) →
+      ((at : Place) (tags : Tags) (h : List Call) → stands old at tags h → IsTagger at tags t → MayTake r at tags h item → r.repeats at tags h item ≡ b) →
+      (at : Place) (tags : Tags) (h : List Call) → stands_out (wrap old) at tags h → IsTagger at tags t → MayTake r_out at tags h item
+      → r_out.repeats at tags h item ≡ b
+  counts_out item b counts at tags h stood tagger may =
+      let inside = down old at tags h stood in
+      subst (λ (x : BroadcastRules). x.repeats at tags h item ≡ b) (same inside.0) (counts at tags h inside.1 tagger (back item inside.0 may))
+
+  takes_new : (item : Item) → TakesNew stands r t old new item before after → TakesNew stands_out r_out t (wrap old) (wrap new) item before after
+  takes_new item takes = record {
+    grows = λ at tags h stood tagger may.
+        let inside = down old at tags h stood in
+        up new at tags (Take item ∷ h) inside.0 (takes.grows at tags h inside.1 tagger (back item inside.0 may));
+    made = λ at tags h stood tagger may.
+        let inside = down old at tags h stood in
+        subst (λ (x : BroadcastRules). after ≡ before ++ news x at tags h (Take item)) (same inside.0) (takes.made at tags h inside.1 tagger (back item inside.0 may));
+    counts = counts_out item false takes.counts;
+  }
+
+  takes_again : (item : Item) → TakesAgain stands r t old new item before after → TakesAgain stands_out r_out t (wrap old) (wrap new) item before after
+  takes_again item takes = record {
+    same = λ at tags h stood.
+        let inside = down old at tags h stood in
+        up new at tags h inside.0 (takes.same at tags h inside.1);
+    out = takes.out;
+    counts = counts_out item true takes.counts;
+  }
+
+  takes_none : (item : Item) → TakesNone stands r live shown t old new item before after →
+      TakesNone stands_out r_out live_out shown_out t (wrap old) (wrap new) item before after
+  takes_none item takes = record {
+    dies = record {
+      out = takes.dies.out;
+      dead = live_same new ∙ takes.dies.dead;
+      shows = λ at tags h stood tagger may.
+          let inside = down old at tags h stood in
+          subst (λ (x : BroadcastRules). ShowsEither (x.out at tags) h (Take item) (shown_out (wrap new))) (same inside.0)
+          (subst (λ (o : Option (List ℕ)). ShowsEither (r.out at tags) h (Take item) o) (sym (shown_same new))
+          (takes.dies.shows at tags h inside.1 tagger (back item inside.0 may)));
+    };
+    counts = counts_out item false takes.counts;
+  }
+
+  pub takes_out : (item : Item) (result : Result Heard Mem) → Takes stands r live shown t old new item before after result →
+      Takes stands_out r_out live_out shown_out t (wrap old) (wrap new) item before after result
+  takes_out item (Ok Took) does = takes_new item does
+  takes_out item (Ok Repeat) does = takes_again item does
+  takes_out item (Err e) does = takes_none item does
+
+-- reliable broadcast, and the other one
+abbrev pub RbStands : Rb → Place → Tags → List Call → Type 0
+RbStands b at tags h = b ≡ state_of at h
+
+plain_rules : (is_other : Bool) (rules : BroadcastRules) → is_other ≡ false → bracha ≡ rules_by is_other rules
+plain_rules is_other rules plain = ap (λ (b : Bool). cond b rules bracha) (sym plain)
+
+other_rules : (is_other : Bool) (rules : BroadcastRules) → is_other ≡ true → rules ≡ rules_by is_other rules
+other_rules is_other rules other = ap (λ (b : Bool). cond b rules bracha) (sym other)
+
+module _ {E : Type 0} (stands : E → Place → Tags → List Call → Type 0) (rules : BroadcastRules) (live : E → Bool) (shown : E → Option (List ℕ)) where
+  -- what it shows is what is delivered after the calls that it stands for
+  pub shows_at : ((e : E) (at : Place) (tags : Tags) (h : List Call) → stands e at tags h → (live e ≡ true) × (shown e ≡ rules.out at tags h)) →
+      (is_other : Bool) (cast : Cast E) (at : Place) (tags : Tags) (h : List Call) → CastStands is_other stands cast at tags h →
+      shown_by shown cast ≡ (rules_by is_other rules).out at tags h
+  shows_at shows is_other (Plain b) at tags h stood =
+      ap (λ (x : Rb). x.delivered) stood.1 ∙ ap (λ (x : BroadcastRules). x.out at tags h) (plain_rules is_other rules stood.0)
+  shows_at shows is_other (Other e) at tags h stood =
+      (shows e at tags h stood.1).1 ∙ ap (λ (x : BroadcastRules). x.out at tags h) (other_rules is_other rules stood.0)
+
+  -- whether reliable broadcast can take an item yet
+  pub plain_ready : (is_other : Bool) (cast : Cast E) (b : Rb) → cast ≡ Plain b → (item : Item) (answer : Bool) →
+      ((at : Place) (tags : Tags) (h : List Call) → b ≡ state_of at h → answer ≡ bracha.ready at tags h item) →
+      (at : Place) (tags : Tags) (h : List Call) → CastStands is_other stands cast at tags h →
+      answer ≡ (rules_by is_other rules).ready at tags h item
+  plain_ready is_other cast b is item answer ready at tags h stood =
+      let inside = subst (λ (x : Cast E). CastStands is_other stands x at tags h) is stood in
+      subst (λ (x : BroadcastRules). answer ≡ x.ready at tags h item) (plain_rules is_other rules inside.0) (ready at tags h inside.1)
+
+  module _ (is_other : Bool) (t : Tagging) (before after : List Msg) where
+    pub plain_takes : (cast : Cast E) (old new : Rb) → cast ≡ Plain old → (item : Item) (result : Result Heard Mem) →
+        Takes (λ b at tags h. b ≡ state_of at h) bracha (λ b. b.live) (λ b. b.delivered) t old new item before after result →
+        Takes (CastStands is_other stands) (rules_by is_other rules) (is_live live) (shown_by shown) t cast (Plain new) item before after result
+    plain_takes cast old new is item result does =
+        subst (λ (x : Cast E). Takes (CastStands is_other stands) (rules_by is_other rules) (is_live live) (shown_by shown) t x (Plain new) item before after result) (sym is)
+        (takes_out (λ (b : Rb) at tags h. b ≡ state_of at h) bracha (λ b. b.live) (λ b. b.delivered)
+        (CastStands is_other stands) (rules_by is_other rules) (is_live live) (shown_by shown) (λ b. Plain b)
+        (is_other ≡ false) (plain_rules is_other rules) (λ a at tags h stood. stood) (λ a at tags h plain stood. (plain, stood)) (λ a. refl) (λ a. refl)
+        t old new before after item result does)

@@ -1,0 +1,109 @@
+ghost use Rattle.std.specs.Prelude.{◌≡◌, ◌<◌, Bool, List, [], IfOk};
+ghost use Rattle.std.specs.Option.{option_copied};
+ghost use Rattle.ritas_base.specs.Messages.{Place};
+ghost use Rattle.ritas_base.specs.History.{Call};
+ghost use Rattle.ritas_base.specs.Tags.{Tags};
+ghost use Rattle.layer_api.specs.BroadcastCalls.{Started, Takes};
+ghost use Rattle.ritas_core.specs.Rules.{by_other};
+ghost use Rattle.ritas_core.specs.Cast.{CastStands, CastStandsAt, rules_by, is_live, shown_by};
+
+use layer_api::{Broadcast, Heard};
+use reliable_bcast::Rb;
+use ritas_base::{Item, Mem, Mode, Msg, Params, Slot, Tagger};
+use std::alloc::Global;
+
+/// The broadcast of a slot: reliable broadcast, or the core's other one.
+#[derive(Drop)]
+pub enum Cast<E> {
+    Plain(Rb),
+    Other(E),
+}
+
+/// Whether a slot goes by the core's other broadcast.
+#[tactic(auto, unfolding(crate::specs::Rules::by_other))]
+fn goes_by_other(mode: &Mode, slot: &Slot) -> bool
+    ensures { result ≡ by_other mode.now slot.now }
+{
+    if slot.class == 1 {
+        mode.root == 2
+    } else {
+        slot.class == 4
+    }
+}
+
+impl<E: Broadcast> Cast<E> {
+    /// The part of replica `me` in the broadcast of a slot, before any call.
+    pub(crate) fn make(
+        alloc: Global,
+        p: &Params,
+        mode: &Mode,
+        me: u8,
+        slot: Slot,
+    ) -> Result<Self, Mem>
+        requires me_below { me < p.now.n }
+        requires origin_below { slot.origin < p.now.n }
+        ensures { IfOk result (λ cast. (tags : Tags) →
+            CastStandsAt mode.now E.stands cast (record { numbers = p.now; me = me; slot = slot }) tags []) }
+    {
+        if goes_by_other(mode, &slot) {
+            Ok(Cast::Other(E::new(alloc, p, me, slot)?))
+        } else {
+            Ok(Cast::Plain(Rb::new(alloc, p, me, slot)?))
+        }
+    }
+
+    /// Broadcasts a value.
+    pub(crate) fn start<T: Tagger>(
+        &mut self,
+        alloc: Global,
+        t: &T,
+        value: &[u8],
+        out: &mut Vec<Msg>,
+    ) -> Result<(), Mem>
+        ensures { (other : Bool) → Started (CastStands other E.stands) (rules_by other E.rules) (is_live E.live) (shown_by E.shown)
+            (record { me = T.me t.now; tags = T.tags t.now }) self.old self.new value.now out.old.items out.new.items result }
+    {
+        match self {
+            Cast::Plain(cast) => cast.start(alloc, t, value, out),
+            Cast::Other(cast) => cast.start(alloc, t, value, out),
+        }
+    }
+
+    /// Takes an item.
+    pub(crate) fn take<T: Tagger>(
+        &mut self,
+        alloc: Global,
+        t: &T,
+        item: &Item,
+        out: &mut Vec<Msg>,
+    ) -> Result<Heard, Mem>
+        ensures { (other : Bool) → Takes (CastStands other E.stands) (rules_by other E.rules) (is_live E.live) (shown_by E.shown)
+            (record { me = T.me t.now; tags = T.tags t.now }) self.old self.new item.now out.old.items out.new.items result }
+    {
+        match self {
+            Cast::Plain(cast) => cast.take(alloc, t, item, out),
+            Cast::Other(cast) => cast.take(alloc, t, item, out),
+        }
+    }
+
+    /// Whether an item of this slot and broadcast can be taken yet.
+    pub(crate) fn ready_for(&self, item: &Item) -> bool
+        ensures { (other : Bool) (at : Place) (tags : Tags) (h : List Call) → CastStands other E.stands self.now at tags h
+            → result ≡ (rules_by other E.rules).ready at tags h item.now }
+    {
+        match self {
+            Cast::Plain(cast) => cast.ready_for(item),
+            Cast::Other(cast) => cast.ready_for(item),
+        }
+    }
+
+    /// What is delivered, if anything is.
+    pub(crate) fn delivered(&self) -> Option<&[u8]>
+        ensures { option_copied result ≡ shown_by E.shown self.now }
+    {
+        match self {
+            Cast::Plain(cast) => cast.delivered(),
+            Cast::Other(cast) => cast.delivered(),
+        }
+    }
+}

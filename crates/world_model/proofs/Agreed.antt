@@ -1,0 +1,43 @@
+-- The law of agreement over every world, from the law of its service.
+use Rattle.std.proofs.Common.{List, [], ◌∷◌, ◌⊎◌, ◌∙◌, ap, subst}
+use Rattle.layer_api.specs.Runs.{calls_of, Has}
+use Rattle.layer_api.specs.Service.{Word, Ask, IsPart}
+use Rattle.layer_api.specs.OneLog.{IsRunOf, bit_byte}
+use Rattle.ritas_core.specs.Rules.{seat_of}
+use Rattle.world_model.specs.World.{rules_at}
+use Rattle.world_model.specs.Audit.{has_too_many, first_broken}
+use Rattle.world_model.specs.Agreement.{history_of}
+use Rattle.world_model.specs.Agree.{log_of, AgreeLaw}
+use Rattle.world_model.proofs.Law.{audit_parts, enough_of, world_law}
+use Rattle.world_model.proofs.Said.{asked_given}
+use Rattle.world_model.proofs.Words.{session_of, words_after}
+
+pub agree_law : AgreeLaw
+agree_law w es sound one holds =
+    let audit = audit_parts (has_too_many w) (first_broken w es) holds in
+    let x = words_after w sound audit.0 es audit.1 in
+    let run : IsRunOf (session_of w) x.steps = record { enough = enough_of w sound audit.0; serves = sound.serves; fed = x.fed } in
+    record {
+      values = world_law w es sound holds;
+      logs = λ i j left right.
+          subst (λ (ws : List Word). IsPart (w.service.done (seat_of (rules_at w i)) ws) (log_of w es j) ⊎ IsPart (log_of w es j) (w.service.done (seat_of (rules_at w i)) ws))
+          (x.same i left)
+          (subst (λ (ws : List Word).
+          IsPart (w.service.done (seat_of (rules_at w i)) (calls_of i x.steps)) (w.service.done (seat_of (rules_at w j)) ws)
+          ⊎ IsPart (w.service.done (seat_of (rules_at w j)) ws) (w.service.done (seat_of (rules_at w i)) (calls_of i x.steps)))
+          (x.same j right) (one.logs w.numbers w.mode w.is_correct w.coin x.steps run i j left right));
+      outcomes = λ i j d e left right out_i out_j.
+          one.outcomes w.numbers w.mode w.is_correct w.coin x.steps run i j d e left right
+          (ap (w.service.outcome (seat_of (rules_at w i))) (x.same i left) ∙ out_i) (ap (w.service.outcome (seat_of (rules_at w j))) (x.same j right) ∙ out_j);
+      decisions = λ i j place d e left right out_i out_j.
+          one.decisions w.numbers w.mode w.is_correct w.coin x.steps run i j place d e left right
+          (ap (λ (ws : List Word). w.service.decided (seat_of (rules_at w i)) ws place) (x.same i left) ∙ out_i)
+          (ap (λ (ws : List Word). w.service.decided (seat_of (rules_at w j)) ws place) (x.same j right) ∙ out_j);
+      bits = λ i b correct out.
+          let from = one.bits w.numbers w.mode w.is_correct w.coin x.steps run i b correct (ap (w.service.outcome (seat_of (rules_at w i))) (x.same i correct) ∙ out) in (
+            from.0,
+            from.1,
+            asked_given (rules_at w from.0) (history_of w es from.0) (bit_byte b ∷ [])
+                (subst (λ (ws : List Word). Has ws (Ask (bit_byte b ∷ []))) (x.same from.0 from.1) from.2),
+          );
+    }

@@ -1,0 +1,301 @@
+-- One digest, message or entry more in a table.
+use Rattle.std.proofs.Common.{◌≡◌, ℕ, Bool, true, false, not, ◌&&◌, List, ◌∷◌, Option, Some, None, refl, sym, ◌∙◌, ap, ap₂, subst, inl, inr, cond, if◌then◌else◌}
+use Rattle.std.specs.Cmp.{IsTotalOrder, nat_cmp_total, then_total, on_total}
+use Rattle.std.proofs.lemmas.Cmp.{tied_itself}
+use Rattle.std.proofs.lemmas.Map.Lookups.{CmpEqualImpliesEq, exact_pairs, exact_unsigned}
+use Rattle.std.specs.BTreeMap.{BTreeMap, get, is_at}
+use Rattle.std.specs.Ordering.{nat_cmp, is_eq}
+use Rattle.std.specs.Str.{bytes_eq}
+use Rattle.std.specs.List.{list_any}
+use Rattle.std.specs.Option.{option_or, is_some}
+use Rattle.std.proofs.lemmas.Bool.{eq-eqb, false≢true}
+use Rattle.std.proofs.lemmas.Slice.Eq.{bytes_eq-Decides}
+use Rattle.std.proofs.lemmas.Map.Text.{is_eq-slice_cmp}
+use Rattle.ritas_base.specs.declared.slot.Slot.{Slot}
+use Rattle.ritas_base.specs.SlotOrder.{slot_cmp, slot_itself, exact_slots, slots_total, equal_from}
+use Rattle.layer_api.specs.Runs.{Has}
+use Rattle.layer_api.specs.Entries.{EntryInput, Print, OfMessage, OfEntry}
+use Rattle.world_model.specs.declared.digests.SlotAt.{SlotAt}
+use Rattle.world_model.specs.declared.hashed.HashedEntry.{HashedEntry}
+use Rattle.world_model.specs.declared.hashed.Hashed.{Hashed}
+use Rattle.world_model.specs.Hashed.{at_cmp, digest_at, is_same_at, image_cmp, input_of, input_in, message_at, input_at, HashedStand, Clash, Adds}
+use Rattle.world_model.specs.Audit.{is_same_input, clashes, collide}
+use Rattle.world_model.proofs.Prints.{same_input}
+use Rattle.world_model.proofs.Anywhere.{all_fail, any_of}
+
+-- ---- one image
+
+pub is_image : (d e : List ℕ) → is_at (image_cmp d) e ≡ bytes_eq d e
+is_image d e = is_eq-slice_cmp d e
+
+same_bytes : (a b : List ℕ) → bytes_eq a b ≡ true → a ≡ b
+same_bytes a b e = (bytes_eq-Decides a b).0 e
+
+pub bytes_itself : (a : List ℕ) → bytes_eq a a ≡ true
+bytes_itself a = (bytes_eq-Decides a a).1 refl
+
+-- ---- a digest more
+
+exact_at : CmpEqualImpliesEq at_cmp
+exact_at a b h = ap (λ (x : Slot × ℕ). record { slot = x.0; replica = x.1 }) (exact_pairs slot_cmp nat_cmp exact_slots exact_unsigned (a.slot, a.replica) (b.slot, b.replica) h)
+
+at_total : IsTotalOrder at_cmp
+at_total = then_total (on_total (λ x. x.slot) slots_total) (on_total (λ x. x.replica) nat_cmp_total)
+
+pub same_at : (s : Slot) (i : ℕ) (q : Slot) (j : ℕ) → is_same_at s i q j ≡ true → (s ≡ q) × (i ≡ j)
+same_at s i q j h =
+    let same : record { slot = s; replica = i } ≡ record { slot = q; replica = j } = exact_at (record { slot = s; replica = i }) (record { slot = q; replica = j }) (equal_from (at_cmp (record { slot = s; replica = i }) (record { slot = q; replica = j })) h) in
+    (ap (λ (x : SlotAt). x.slot) same, ap (λ (x : SlotAt). x.replica) same)
+
+pub at_itself : (s : Slot) (i : ℕ) → is_same_at s i s i ≡ true
+at_itself s i = ap is_eq (tied_itself at_total (record { slot = s; replica = i }))
+
+some_stays : (o : Option (List ℕ)) (d : List ℕ) → is_some o ≡ true → o ≡ option_or o (Some d)
+some_stays None d h = absurd (cc)
+some_stays (Some x) d h = refl
+
+none_then : (o : Option (List ℕ)) (d : List ℕ) → is_some o ≡ false → Some d ≡ option_or o (Some d)
+none_then None d h = refl
+none_then (Some x) d h = absurd (cc)
+
+-- where there is one, it stays
+kept_at : (m : BTreeMap SlotAt (List ℕ)) (s : Slot) (i : ℕ) (d : List ℕ) (q : Slot) (j : ℕ) (b : Bool) → is_some (digest_at m s i) ≡ true → is_same_at s i q j ≡ b →
+    digest_at m q j ≡ (if b then option_or (digest_at m q j) (Some d) else digest_at m q j)
+kept_at m s i d q j true there here =
+    let same = same_at s i q j here in
+    some_stays (digest_at m q j) d (ap₂ (λ (x : Slot) (y : ℕ). is_some (digest_at m x y)) (sym same.0) (sym same.1) ∙ there)
+kept_at m s i d q j false there here = refl
+
+pub digest_kept : (m : BTreeMap SlotAt (List ℕ)) (s : Slot) (i : ℕ) (d : List ℕ) → is_some (digest_at m s i) ≡ true → (q : Slot) (j : ℕ) →
+    digest_at m q j ≡ (if is_same_at s i q j then option_or (digest_at m q j) (Some d) else digest_at m q j)
+digest_kept m s i d there q j = kept_at m s i d q j (is_same_at s i q j) there refl
+
+-- where there is none, there is this one
+put_at : (m n : BTreeMap SlotAt (List ℕ)) (s : Slot) (i : ℕ) (d : List ℕ) (q : Slot) (j : ℕ) (b : Bool) → is_some (digest_at m s i) ≡ false → is_same_at s i q j ≡ b →
+    digest_at n q j ≡ cond b (Some d) (digest_at m q j) → digest_at n q j ≡ (if b then option_or (digest_at m q j) (Some d) else digest_at m q j)
+put_at m n s i d q j true none here put =
+    let same = same_at s i q j here in
+    put ∙ none_then (digest_at m q j) d (ap₂ (λ (x : Slot) (y : ℕ). is_some (digest_at m x y)) (sym same.0) (sym same.1) ∙ none)
+put_at m n s i d q j false none here put = put
+
+pub digest_put : (m n : BTreeMap SlotAt (List ℕ)) (s : Slot) (i : ℕ) (d : List ℕ) → is_some (digest_at m s i) ≡ false →
+    ((x : SlotAt) → get at_cmp n x ≡ cond (is_at (at_cmp (record { slot = s; replica = i })) x) (Some d) (get at_cmp m x)) → (q : Slot) (j : ℕ) →
+    digest_at n q j ≡ (if is_same_at s i q j then option_or (digest_at m q j) (Some d) else digest_at m q j)
+digest_put m n s i d none put q j = put_at m n s i d q j (is_same_at s i q j) none refl (put (record { slot = q; replica = j }))
+
+-- ---- a print more
+
+not_same : (a b : List ℕ) → bytes_eq b a ≡ false → bytes_eq a b ≡ false
+not_same a b apart = differ (bytes_eq a b) refl
+  where
+    differ : (c : Bool) → bytes_eq a b ≡ c → bytes_eq a b ≡ false
+    differ true same = absurd (false≢true (sym apart ∙ (ap (bytes_eq b) (same_bytes a b same) ∙ bytes_itself b)))
+    differ false other = other
+
+-- a message's
+one_message : (m v : List ℕ) → (x : Option (List ℕ)) → x ≡ Some m → x ≡ Some v → m ≡ v
+one_message m v x a b = cc
+
+-- what clashes
+pub clash_messages : (m v d : List ℕ) → bytes_eq m v ≡ false → clashes (OfMessage m d) (OfMessage v d) ≡ true
+clash_messages m v d apart = ap₂ (λ a b. a && not b) (bytes_itself d) apart
+
+pub clash_entries : (x y : EntryInput) (e : List ℕ) → is_same_input x y ≡ false → clashes (OfEntry x e) (OfEntry y e) ≡ true
+clash_entries x y e apart = ap₂ (λ a b. a && not b) (bytes_itself e) apart
+
+input_itself : (x : EntryInput) → is_same_input x x ≡ true
+input_itself x =
+    ap₂ (λ a b. a && b) (ap₂ (λ a b. a && b) (slot_itself x.slot) (ap₂ (λ a b. a && b) (eq-eqb x.echoer x.echoer refl) (eq-eqb x.verifier x.verifier refl)))
+    (bytes_itself x.digest)
+
+-- prints that are all in a table don't clash
+apart_messages : (h : Hashed) (prints : List Print) → HashedStand h prints → (m v d e : List ℕ) → Has prints (OfMessage m d) → Has prints (OfMessage v e) → (b : Bool) → bytes_eq d e ≡ b →
+    (b && not (bytes_eq m v)) ≡ false
+apart_messages h prints stand m v d e one other true same =
+    let image = same_bytes d e same in
+    let alike = one_message m v (message_at h e) (ap (message_at h) (sym image) ∙ stand.messages m d one) (stand.messages v e other) in
+    ap not (ap (bytes_eq m) (sym alike) ∙ bytes_itself m)
+apart_messages h prints stand m v d e one other false same = refl
+
+one_input : (x y : EntryInput) (o : Option EntryInput) → o ≡ Some x → o ≡ Some y → x ≡ y
+one_input x y o a b = cc
+
+apart_entries : (h : Hashed) (prints : List Print) → HashedStand h prints → (x y : EntryInput) (d e : List ℕ) → Has prints (OfEntry x d) → Has prints (OfEntry y e) → (b : Bool) → bytes_eq d e ≡ b →
+    (b && not (is_same_input x y)) ≡ false
+apart_entries h prints stand x y d e one other true same =
+    let image = same_bytes d e same in
+    let alike = one_input x y (input_at h e) (ap (input_at h) (sym image) ∙ stand.entries x d one) (stand.entries y e other) in
+    ap not (ap (is_same_input x) (sym alike) ∙ input_itself x)
+apart_entries h prints stand x y d e one other false same = refl
+
+apart_prints : (h : Hashed) (prints : List Print) → HashedStand h prints → (a c : Print) → Has prints a → Has prints c → clashes a c ≡ false
+apart_prints h prints stand (OfMessage m d) (OfMessage v e) one other = apart_messages h prints stand m v d e one other (bytes_eq d e) refl
+apart_prints h prints stand (OfEntry x d) (OfEntry y e) one other = apart_entries h prints stand x y d e one other (bytes_eq d e) refl
+apart_prints h prints stand (OfMessage m d) (OfEntry y e) one other = refl
+apart_prints h prints stand (OfEntry x d) (OfMessage v e) one other = refl
+
+pub none_collide : (h : Hashed) (prints : List Print) → HashedStand h prints → collide prints ≡ false
+none_collide h prints stand =
+    all_fail (λ a. list_any (clashes a) prints) prints
+    (λ a one. all_fail (clashes a) prints (λ c other. apart_prints h prints stand a c one other))
+
+-- one that clashes with another collides
+pub clash_collides : (p : Print) (prints all : List Print) → Has all p → ((x : Print) → Has prints x → Has all x) → Clash p prints → collide all ≡ true
+clash_collides p prints all here within clash =
+    any_of (λ a. list_any (clashes a) all) all p here (any_of (clashes p) all clash.other (within clash.other clash.listed) clash.differ)
+
+-- ---- as the code has it
+
+image_itself : (d : List ℕ) → is_at (image_cmp d) d ≡ true
+image_itself d = is_image d d ∙ bytes_itself d
+
+one_image : (d e : List ℕ) → is_at (image_cmp d) e ≡ true → d ≡ e
+one_image d e h = same_bytes d e (sym (is_image d e) ∙ h)
+
+-- a message that is there
+message_again : (h : Hashed) (prints : List Print) → HashedStand h prints → (m d : List ℕ) → message_at h d ≡ Some m → HashedStand h (OfMessage m d ∷ prints)
+message_again h prints stand m d found = record {
+  messages = λ v e here. elim here [
+    | inl same ↦
+        let value : m ≡ v = cc in
+        let image : d ≡ e = cc in
+        ap (message_at h) (sym image) ∙ found ∙ ap (λ (x : List ℕ). Some x) value
+    | inr there ↦ stand.messages v e there
+  ];
+  no_other_message = λ v e is. inr (stand.no_other_message v e is);
+  entries = λ x e here. elim here [
+    | inl same ↦ absurd (cc)
+    | inr there ↦ stand.entries x e there
+  ];
+  no_other_entry = λ x e is. inr (stand.no_other_entry x e is);
+}
+
+message_either : (h : Hashed) (prints : List Print) (m d other : List ℕ) (b : Bool) → message_at h d ≡ Some other → bytes_eq other m ≡ b → HashedStand h prints → Adds h (OfMessage m d) prints (not b)
+message_either h prints m d other true found same stand =
+    message_again h prints stand m d (found ∙ ap (λ (x : List ℕ). Some x) (same_bytes other m same))
+message_either h prints m d other false found apart stand = record {
+  other = OfMessage other d;
+  listed = stand.no_other_message other d found;
+  differ = clash_messages m other d (not_same m other apart);
+}
+
+pub message_found : (h : Hashed) (m d other : List ℕ) (clash : Bool) → message_at h d ≡ Some other → clash ≡ not (bytes_eq other m) → (prints : List Print) → HashedStand h prints → Adds h (OfMessage m d) prints clash
+message_found h m d other clash found is prints stand =
+    let P : Bool → Type 0 = λ b. Adds h (OfMessage m d) prints b in
+    subst P (sym is) (message_either h prints m d other (bytes_eq other m) found refl stand)
+
+-- a message more
+module _ (h n : Hashed) (m d : List ℕ) (none : message_at h d ≡ None) (same : n.entries ≡ h.entries)
+    (put : (e : List ℕ) → message_at n e ≡ cond (is_at (image_cmp d) e) (Some m) (message_at h e)) where
+  message_kept : (v e : List ℕ) (b : Bool) → is_at (image_cmp d) e ≡ b → message_at n e ≡ cond b (Some m) (message_at h e) → message_at h e ≡ Some v → message_at n e ≡ Some v
+  message_kept v e true here now there =
+      let image = one_image d e here in
+      let missing : None ≡ Some v = sym none ∙ (ap (message_at h) image ∙ there) in
+      absurd (cc)
+  message_kept v e false here now there = now ∙ there
+
+  message_new : (prints : List Print) → HashedStand h prints → (v e : List ℕ) (b : Bool) → is_at (image_cmp d) e ≡ b → message_at n e ≡ cond b (Some m) (message_at h e) → message_at n e ≡ Some v →
+      Has (OfMessage m d ∷ prints) (OfMessage v e)
+  message_new prints stand v e true here now is = inl (ap₂ (λ (x y : List ℕ). OfMessage x y) (one_message m v (message_at n e) now is) (one_image d e here))
+  message_new prints stand v e false here now is = inr (stand.no_other_message v e (sym now ∙ is))
+
+  pub message_put : (prints : List Print) → HashedStand h prints → HashedStand n (OfMessage m d ∷ prints)
+  message_put prints stand = record {
+    messages = λ v e here. elim here [
+      | inl one ↦
+          let value : m ≡ v = cc in
+          let image : d ≡ e = cc in
+          ap (message_at n) (sym image) ∙ put d ∙ ap (λ b. cond b (Some m) (message_at h d)) (image_itself d) ∙ ap (λ (x : List ℕ). Some x) value
+      | inr there ↦ message_kept v e (is_at (image_cmp d) e) refl (put e) (stand.messages v e there)
+    ];
+    no_other_message = λ v e is. message_new prints stand v e (is_at (image_cmp d) e) refl (put e) is;
+    entries = λ x e here. elim here [
+      | inl one ↦ absurd (cc)
+      | inr there ↦ ap (λ (es : BTreeMap (List ℕ) HashedEntry). input_in (get image_cmp es e)) same ∙ stand.entries x e there
+    ];
+    no_other_entry = λ x e is. inr (stand.no_other_entry x e (sym (ap (λ (es : BTreeMap (List ℕ) HashedEntry). input_in (get image_cmp es e)) same) ∙ is));
+  }
+
+-- an entry that is there
+entry_again : (h : Hashed) (prints : List Print) → HashedStand h prints → (x : EntryInput) (d : List ℕ) → input_at h d ≡ Some x → HashedStand h (OfEntry x d ∷ prints)
+entry_again h prints stand x d found = record {
+  messages = λ v e here. elim here [
+    | inl same ↦ absurd (cc)
+    | inr there ↦ stand.messages v e there
+  ];
+  no_other_message = λ v e is. inr (stand.no_other_message v e is);
+  entries = λ y e here. elim here [
+    | inl same ↦
+        let value : x ≡ y = cc in
+        let image : d ≡ e = cc in
+        ap (input_at h) (sym image) ∙ found ∙ ap (λ (z : EntryInput). Some z) value
+    | inr there ↦ stand.entries y e there
+  ];
+  no_other_entry = λ y e is. inr (stand.no_other_entry y e is);
+}
+
+apart_inputs : (x y : EntryInput) (b : Bool) → is_same_input x y ≡ b → (x ≡ y → ⊥) → is_same_input x y ≡ false
+apart_inputs x y true same apart = absurd (apart (same_input x y same))
+apart_inputs x y false same apart = same
+
+entry_either : (h : Hashed) (prints : List Print) (x : EntryInput) (d : List ℕ) (other : EntryInput) (clash : Bool) → input_at h d ≡ Some other →
+    (clash ≡ false → other ≡ x) → (clash ≡ true → other ≡ x → ⊥) → HashedStand h prints → Adds h (OfEntry x d) prints clash
+entry_either h prints x d other false found same apart stand = entry_again h prints stand x d (found ∙ ap (λ (z : EntryInput). Some z) (same refl))
+entry_either h prints x d other true found same apart stand = record {
+  other = OfEntry other d;
+  listed = stand.no_other_entry other d found;
+  differ = clash_entries x other d (apart_inputs x other (is_same_input x other) refl (λ e. apart refl (sym e)));
+}
+
+pub input_as : HashedEntry → EntryInput
+input_as x = input_of x
+
+one_entry : (x y : HashedEntry) → input_of x ≡ input_of y → x ≡ y
+one_entry x y e = ap (λ (z : EntryInput). record { slot = z.slot; echoer = z.echoer; verifier = z.verifier; digest = z.digest }) e
+
+pub entry_found : (h : Hashed) (input : HashedEntry) (d : List ℕ) (other : HashedEntry) (clash : Bool) → get image_cmp h.entries d ≡ Some other →
+    (clash ≡ false → other ≡ input) → (clash ≡ true → other ≡ input → ⊥) → (prints : List Print) → HashedStand h prints → Adds h (OfEntry (input_of input) d) prints clash
+entry_found h input d other clash found same apart prints stand =
+    entry_either h prints (input_of input) d (input_of other) clash (ap input_in found) (λ no. ap input_of (same no)) (λ yes e. apart yes (one_entry other input e)) stand
+
+-- an entry more
+input_cond : (b : Bool) (x : HashedEntry) (o : Option HashedEntry) → input_in (cond b (Some x) o) ≡ cond b (Some (input_of x)) (input_in o)
+input_cond true x o = refl
+input_cond false x o = refl
+
+module _ (h n : Hashed) (x : EntryInput) (d : List ℕ) (none : input_at h d ≡ None) (same : n.messages ≡ h.messages)
+    (put : (e : List ℕ) → input_at n e ≡ cond (is_at (image_cmp d) e) (Some x) (input_at h e)) where
+  entry_kept : (y : EntryInput) (e : List ℕ) (b : Bool) → is_at (image_cmp d) e ≡ b → input_at n e ≡ cond b (Some x) (input_at h e) → input_at h e ≡ Some y → input_at n e ≡ Some y
+  entry_kept y e true here now there =
+      let image = one_image d e here in
+      let missing : None ≡ Some y = sym none ∙ (ap (input_at h) image ∙ there) in
+      absurd (cc)
+  entry_kept y e false here now there = now ∙ there
+
+  entry_new : (prints : List Print) → HashedStand h prints → (y : EntryInput) (e : List ℕ) (b : Bool) → is_at (image_cmp d) e ≡ b → input_at n e ≡ cond b (Some x) (input_at h e) → input_at n e ≡ Some y →
+      Has (OfEntry x d ∷ prints) (OfEntry y e)
+  entry_new prints stand y e true here now is = inl (ap₂ (λ (z : EntryInput) (i : List ℕ). OfEntry z i) (one_input x y (input_at n e) now is) (one_image d e here))
+  entry_new prints stand y e false here now is = inr (stand.no_other_entry y e (sym now ∙ is))
+
+  pub entry_put : (prints : List Print) → HashedStand h prints → HashedStand n (OfEntry x d ∷ prints)
+  entry_put prints stand = record {
+    messages = λ v e here. elim here [
+      | inl one ↦ absurd (cc)
+      | inr there ↦ ap (λ (ms : BTreeMap (List ℕ) (List ℕ)). get image_cmp ms e) same ∙ stand.messages v e there
+    ];
+    no_other_message = λ v e is. inr (stand.no_other_message v e (sym (ap (λ (ms : BTreeMap (List ℕ) (List ℕ)). get image_cmp ms e) same) ∙ is));
+    entries = λ y e here. elim here [
+      | inl one ↦
+          let value : x ≡ y = cc in
+          let image : d ≡ e = cc in
+          ap (input_at n) (sym image) ∙ put d ∙ ap (λ b. cond b (Some x) (input_at h d)) (image_itself d) ∙ ap (λ (z : EntryInput). Some z) value
+      | inr there ↦ entry_kept y e (is_at (image_cmp d) e) refl (put e) (stand.entries y e there)
+    ];
+    no_other_entry = λ y e is. entry_new prints stand y e (is_at (image_cmp d) e) refl (put e) is;
+  }
+
+pub input_put : (h n : Hashed) (input : HashedEntry) (d : List ℕ) → get image_cmp h.entries d ≡ None → n.messages ≡ h.messages →
+    ((e : List ℕ) → get image_cmp n.entries e ≡ cond (is_at (image_cmp d) e) (Some input) (get image_cmp h.entries e)) →
+    (prints : List Print) → HashedStand h prints → HashedStand n (OfEntry (input_of input) d ∷ prints)
+input_put h n input d none same put =
+    entry_put h n (input_of input) d (ap input_in none) same (λ e. ap input_in (put e) ∙ input_cond (is_at (image_cmp d) e) input (get image_cmp h.entries e))

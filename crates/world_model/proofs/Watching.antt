@@ -1,0 +1,639 @@
+-- A call, as the watch of a world is told of it.
+use Rattle.std.proofs.Common.{◌≡◌, ◌≢◌, ℕ, ◌<◌, Bool, true, false, not, ◌==◌, ◌&&◌, ◌||◌, cond, Option, Some, None, List, [], ◌∷◌, ◌++◌, map, refl, sym, ◌∙◌, ap, ap₂, subst, inl, inr, arith, if◌then◌else◌}
+use Rattle.std.specs.List.{list_any, range_with_len}
+use Rattle.std.specs.Option.{option_or}
+use Rattle.std.proofs.lemmas.Bool.{and_parts, or_parts, eq-eqb, eqb-true, false≢true}
+use Rattle.ritas_base.specs.declared.slot.Slot.{Slot}
+use Rattle.ritas_base.specs.declared.item.Item.{Item}
+use Rattle.ritas_base.specs.declared.item.Kind.{Kind}
+use Rattle.ritas_base.specs.declared.item.Kind.TheVariants.{Send, Column}
+use Rattle.ritas_base.specs.declared.item.Kind.TheVariants as kinds
+use Rattle.ritas_base.specs.declared.mode.Mode.{Mode}
+use Rattle.ritas_base.specs.Numbers.{Numbers}
+use Rattle.ritas_base.specs.SlotOrder.{is_slot, same_slot, slot_itself}
+use Rattle.ritas_base.specs.Shortest.{option_or_none}
+use Rattle.ritas_base.specs.Messages.{Place, kind_eq}
+use Rattle.ritas_base.specs.History.{Call, Take, told, is_value, replicas}
+use Rattle.ritas_base.specs.Tags.{Tags}
+use Rattle.frame_codec.specs.Format.{Is}
+use Rattle.frame_codec.specs.Grammar.{column as column_of, payload}
+use Rattle.frame_codec.specs.Body.{IsInGrammar}
+use Rattle.layer_api.specs.Runs.{Has}
+use Rattle.layer_api.specs.Entries.{sent, row_of, is_claim, is_valid_for, given, Print, OfMessage, OfEntry, prints_of}
+use Rattle.layer_api.specs.Entries as entries
+use Rattle.keyed_channel.specs.KeyRow.{KeyRow}
+use Rattle.keyed_channel.specs.Keyed.{tags_of}
+use Rattle.ritas_core.specs.Rules.{Rules, place_at}
+use Rattle.ritas_core.specs.Parts.{Entry, Took, Given, parts}
+use Rattle.ritas_core.specs.Machine.{CoreState}
+use Rattle.world_model.specs.declared.audit.Audit.{Audit}
+use Rattle.world_model.specs.declared.audit.Audit.TheVariants as audits
+use Rattle.world_model.specs.declared.seats.Seats.{Seats}
+use Rattle.world_model.specs.declared.watch.Watch.{Watch}
+use Rattle.world_model.specs.World.{Setting, rules_at, CallAt, handled_at, after_call}
+use Rattle.world_model.specs.Audit.{newest_item, taken_by, calls_at, place_in, given_by, is_among, is_made_up, is_forged_item, is_forged_at, prints_in, prints_by, prints_at, collide, broken_by}
+use Rattle.world_model.specs.Hashed.{digest_at, is_same_at, HashedStand, prints_with, print_of, entries_for, is_unknown, Meets}
+use Rattle.world_model.specs.Stands.{SeatsStand}
+use Rattle.world_model.specs.Watch.{IsAt, item_taken, is_watched, watched, is_forged_frame, IsTold, digest_for, TablesStand, WatchStands, verdict_after, digest_said, MeetsSend}
+use Rattle.world_model.proofs.Anywhere.{all_fail, any_of, has_left, has_right, has_either, has_among, among_from, has_number}
+use Rattle.world_model.proofs.Prints.{sent_taken, sent_given}
+use Rattle.world_model.proofs.HashedSteps.{none_collide, same_at, at_itself}
+use Rattle.world_model.proofs.Meeting.{Within, collide_within, stand_within}
+use Rattle.world_model.proofs.Histories.{Grew, grew, newest_taken, history_taken}
+
+-- ---- a replica that takes no SEND
+
+-- nothing more was sent to the replica, nor met by it
+pub record IsQuiet (w : Setting) (before after : ℕ → CoreState) (i : ℕ) : Type 0 where
+  pub sends : (s : Slot) → sent (place_in w i s) (calls_at w after i s) ≡ sent (place_in w i s) (calls_at w before i s)
+  pub prints : prints_in (rules_at w i) (after i).history ≡ prints_in (rules_at w i) (before i).history
+
+abbrev sends_in : Setting → ℕ → Slot → List Entry → Option (List ℕ)
+sends_in w i s h = sent (place_in w i s) ((parts (rules_at w i) h).calls s)
+
+-- an item that isn't a SEND brings nothing
+unsent : (item : Item) (origin : ℕ) (same : Bool) → kind_eq item.kind Send ≡ false → (if same && kind_eq item.kind Send then Some item.value else None) ≡ None
+unsent item origin true other = ap (λ b. if b then Some item.value else None) other
+unsent item origin false other = refl
+
+brings_none : (at : Place) (item : Item) (cs : List Call) (b : Bool) → kind_eq item.kind Send ≡ false → sent at (cond b (Take item ∷ cs) cs) ≡ sent at cs
+brings_none at item cs true other =
+    ap (option_or (sent at cs)) (unsent item at.slot.origin (item.from == at.slot.origin) other) ∙ option_or_none (sent at cs)
+brings_none at item cs false other = refl
+
+quiet_taken : (w : Setting) (i : ℕ) (h : List Entry) (item : Item) (s : Slot) → kind_eq item.kind Send ≡ false → sends_in w i s (Took item ∷ h) ≡ sends_in w i s h
+quiet_taken w i h item s other =
+    sent_taken (rules_at w i) (place_in w i s) h item s ∙ brings_none (place_in w i s) item ((parts (rules_at w i) h).calls s) (is_slot item.slot s) other
+
+print_none : (r : Rules) (h : List Entry) (item : Item) → kind_eq item.kind Send ≡ false → prints_in r (Took item ∷ h) ≡ prints_in r h
+print_none r h item other = ap (λ b. (if b then prints_of (place_at r.casts item.slot) r.casts.tags item.value else []) ++ prints_in r h) other
+
+-- the histories of a replica
+quiet_from : (w : Setting) (before after : ℕ → CoreState) (i : ℕ) (h : List Entry) → (after i).history ≡ h →
+    ((s : Slot) → sends_in w i s h ≡ sends_in w i s (before i).history) → prints_in (rules_at w i) h ≡ prints_in (rules_at w i) (before i).history → IsQuiet w before after i
+quiet_from w before after i h is sends prints = record {
+  sends = λ s. ap (sends_in w i s) is ∙ sends s;
+  prints = ap (prints_in (rules_at w i)) is ∙ prints;
+}
+
+quiet_entry : (w : Setting) (before after : ℕ → CoreState) (i : ℕ) (e : Entry) → (after i).history ≡ e ∷ (before i).history →
+    ((item : Item) → e ≡ Took item → kind_eq item.kind Send ≡ false) → IsQuiet w before after i
+quiet_entry w before after i (Given v) is other =
+    quiet_from w before after i (Given v ∷ (before i).history) is (λ s. sent_given (rules_at w i) (place_in w i s) (before i).history v s) refl
+quiet_entry w before after i (Took item) is other =
+    quiet_from w before after i (Took item ∷ (before i).history) is
+    (λ s. quiet_taken w i (before i).history item s (other item refl)) (print_none (rules_at w i) (before i).history item (other item refl))
+
+-- ---- the states after a call
+
+called_state : (w : Setting) (states : ℕ → CoreState) (c : CallAt) → after_call w states (Some c) c.at ≡ (handled_at w states c).state
+called_state w states c = ap (λ b. if b then (handled_at w states c).state else states c.at) (eq-eqb c.at c.at refl)
+
+other_state : (w : Setting) (states : ℕ → CoreState) (c : CallAt) (i : ℕ) → (c.at == i) ≡ false → after_call w states (Some c) i ≡ states i
+other_state w states c i other = ap (λ b. if b then (handled_at w states c).state else states i) other
+
+quiet_other : (w : Setting) (states : ℕ → CoreState) (c : CallAt) (i : ℕ) → (c.at == i) ≡ false → IsQuiet w states (after_call w states (Some c)) i
+quiet_other w states c i other =
+    quiet_from w states (after_call w states (Some c)) i (states i).history (ap (λ st. st.history) (other_state w states c i other)) (λ s. refl) refl
+
+-- the entry that a call puts on the history is the item that it makes taken
+entry_taken : (w : Setting) (states : ℕ → CoreState) (c : CallAt) (e : Entry) → (handled_at w states c).state.history ≡ e ∷ (states c.at).history → (item : Item) → e ≡ Took item →
+    taken_by w states c ≡ Some item
+entry_taken w states c e is item same =
+    ap (newest_item (states c.at).history) (is ∙ ap (λ (x : Entry). x ∷ (states c.at).history) same) ∙ newest_taken (states c.at).history item
+
+quiet_called : (w : Setting) (states : ℕ → CoreState) (c : CallAt) → ((item : Item) → taken_by w states c ≡ Some item → kind_eq item.kind Send ≡ false) →
+    Grew (states c.at).history (handled_at w states c).state.history → IsQuiet w states (after_call w states (Some c)) c.at
+quiet_called w states c other (inl same) =
+    quiet_from w states (after_call w states (Some c)) c.at (states c.at).history (ap (λ st. st.history) (called_state w states c) ∙ same) (λ s. refl) refl
+quiet_called w states c other (inr more) =
+    quiet_entry w states (after_call w states (Some c)) c.at more.0 (ap (λ st. st.history) (called_state w states c) ∙ more.1)
+    (λ item same. other item (entry_taken w states c more.0 more.1 item same))
+
+quiet_at : (w : Setting) (states : ℕ → CoreState) (c : CallAt) → ((item : Item) → taken_by w states c ≡ Some item → kind_eq item.kind Send ≡ false) → (i : ℕ) (b : Bool) →
+    (c.at == i) ≡ b → IsQuiet w states (after_call w states (Some c)) i
+quiet_at w states c other i true here =
+    subst (λ (k : ℕ). IsQuiet w states (after_call w states (Some c)) k) (eqb-true c.at i here)
+    (quiet_called w states c other (grew (rules_at w c.at) (w.keys c.at) (states c.at) c.call))
+quiet_at w states c other i false apart = quiet_other w states c i apart
+
+quiet_all : (w : Setting) (states : ℕ → CoreState) (c : Option CallAt) → ((item : Item) → item_taken w states c ≡ Some item → kind_eq item.kind Send ≡ false) → (i : ℕ) →
+    IsQuiet w states (after_call w states c) i
+quiet_all w states None other i = record { sends = λ s. refl; prints = refl }
+quiet_all w states (Some c) other i = quiet_at w states c other i (c.at == i) refl
+
+-- ---- the tables stay
+
+prints_same : (w : Setting) (one other : ℕ → CoreState) → ((i : ℕ) → prints_in (rules_at w i) (one i).history ≡ prints_in (rules_at w i) (other i).history) →
+    Within (prints_at w one) (prints_at w other)
+prints_same w one other same p here =
+    let from = among_from (prints_by w one) (replicas w.numbers.n) p here in
+    has_among (prints_by w other) (replicas w.numbers.n) from.element p from.listed
+    (subst (λ ps. Has (if w.is_correct from.element then ps else []) p) (same from.element) from.inside)
+
+pub tables_stay : (w : Setting) (states : ℕ → CoreState) (c : Option CallAt) (watch : Watch) → ((item : Item) → item_taken w states c ≡ Some item → kind_eq item.kind Send ≡ false) →
+    TablesStand w states watch → TablesStand w (after_call w states c) watch
+tables_stay w states c watch other stand = record {
+  sent = λ i s right. stand.sent i s right ∙ ap (digest_for (tags_of (w.keys i))) (sym ((quiet_all w states c other i).sends s));
+  hashed = stand_within watch.hashed (prints_at w states) (prints_at w (after_call w states c))
+      (prints_same w states (after_call w states c) (λ i. sym (quiet_all w states c other i).prints))
+      (prints_same w (after_call w states c) states (λ i. (quiet_all w states c other i).prints)) stand.hashed;
+}
+
+-- ---- columns
+
+-- the entries that the table's digest gives are those that the replica gave
+entries_same : (k : KeyRow) (at : Place) → at.me ≡ k.me → at.numbers.n ≡ k.n → (o : Option (List ℕ)) →
+    entries_for k at.slot (digest_for (tags_of k) o) ≡ entries.entries_for at (tags_of k) o
+entries_same k at me n None = refl
+entries_same k at me n (Some m) =
+    ap₂ (λ x y. map (λ v. (tags_of k).entry at.slot x v ((tags_of k).digest m)) (replicas y)) (sym me) (sym n)
+
+valid_same : (w : Setting) (states : ℕ → CoreState) (at echoer : ℕ) (m digest : List ℕ) (x : Item) → (w.keys at).me ≡ at → (w.keys echoer).me ≡ echoer →
+    sent (place_in w at x.slot) (calls_at w states at x.slot) ≡ Some m → digest ≡ (tags_of (w.keys at)).digest m →
+    entries.is_valid (place_in w at x.slot) (tags_of (w.keys at)) m x.value echoer
+    ≡ is_valid_for (place_in w at x.slot) (tags_of (w.keys at)) (sent (place_in w at x.slot) (calls_at w states at x.slot)) x.value echoer
+valid_same w states at echoer m digest x me own said is =
+    ap (λ o. is_valid_for (place_in w at x.slot) (tags_of (w.keys at)) o x.value echoer) (sym said)
+
+unknown_at : (w : Setting) (at echoer : ℕ) (m digest : List ℕ) (x : Item) (given given' : Option (List ℕ)) → (w.keys at).me ≡ at → (w.keys echoer).me ≡ echoer →
+    digest ≡ (tags_of (w.keys at)).digest m → given ≡ given' →
+    is_unknown (w.keys at) digest (w.keys echoer) given x.slot x.value
+    ≡ (entries.is_valid (place_in w at x.slot) (tags_of (w.keys at)) m x.value echoer && not (is_among (entries_for (w.keys echoer) x.slot given') (row_of x.value echoer)))
+unknown_at w at echoer m digest x given given' me own is same =
+    ap₂ (λ (e : ℕ) (j : ℕ). is_value ((tags_of (w.keys at)).entry x.slot e j digest) (row_of x.value e) && not (is_among (entries_for (w.keys echoer) x.slot given) (row_of x.value e))) own me
+    ∙ ap₂ (λ (d : List ℕ) (g : Option (List ℕ)). is_value ((tags_of (w.keys at)).entry x.slot echoer at d) (row_of x.value echoer) && not (is_among (entries_for (w.keys echoer) x.slot g) (row_of x.value echoer))) is same
+
+-- what the tables say of an echoer is what the events say
+pub unknown_is : (w : Setting) (states : ℕ → CoreState) (watch : Watch) (at echoer : ℕ) (m digest : List ℕ) (x : Item) (k e : KeyRow) (given : Option (List ℕ)) →
+    ((w.keys at).me ≡ at) → ((w.keys echoer).me ≡ echoer) × ((w.keys echoer).n ≡ w.numbers.n) → TablesStand w states watch → w.is_correct echoer ≡ true →
+    k ≡ w.keys at → e ≡ w.keys echoer → given ≡ digest_at watch.sent.digests x.slot echoer →
+    sent (place_in w at x.slot) (calls_at w states at x.slot) ≡ Some m → digest ≡ (tags_of (w.keys at)).digest m → kind_eq x.kind Column ≡ true →
+    is_unknown k digest e given x.slot x.value ≡ is_made_up w states at x echoer
+unknown_is w states watch at echoer m digest x k e given me own stand right k_is e_is given_is said is column =
+    let said_there = sent (place_in w echoer x.slot) (calls_at w states echoer x.slot) in
+    let known : given ≡ digest_for (tags_of (w.keys echoer)) said_there = given_is ∙ stand.sent echoer x.slot right in
+    let listed : entries_for (w.keys echoer) x.slot (digest_for (tags_of (w.keys echoer)) said_there) ≡ given_by w states echoer x.slot =
+    entries_same (w.keys echoer) (place_in w echoer x.slot) (sym own.0) (sym own.1) said_there in
+    let valid = entries.is_valid (place_in w at x.slot) (tags_of (w.keys at)) m x.value echoer in
+    ap₂ (λ (a : KeyRow) (b : KeyRow). is_unknown a digest b given x.slot x.value) k_is e_is
+    ∙ unknown_at w at echoer m digest x given (digest_for (tags_of (w.keys echoer)) said_there) me own.0 is known
+    ∙ ap₂ (λ v rows. v && not (is_among rows (row_of x.value echoer))) (valid_same w states at echoer m digest x me own.0 said is) listed
+    ∙ ap₂ (λ a b. a && ((b && is_valid_for (place_in w at x.slot) (tags_of (w.keys at)) (sent (place_in w at x.slot) (calls_at w states at x.slot)) x.value echoer)
+    && not (is_among (given_by w states echoer x.slot) (row_of x.value echoer)))) (sym right) (sym column)
+
+-- of no message that was sent no entry is valid
+claims_none : (at : Place) (tags : Tags) (o : Option (List ℕ)) (column : List ℕ) (echoer : ℕ) (b : Bool) → o ≡ None → (b && is_valid_for at tags o column echoer) ≡ false
+claims_none at tags None column echoer true none = refl
+claims_none at tags None column echoer false none = refl
+claims_none at tags (Some m) column echoer b none = absurd (cc)
+
+both_false : (a b c : Bool) → b ≡ false → (a && (b && c)) ≡ false
+both_false true false c e = refl
+both_false false false c e = refl
+both_false a true c e = absurd (cc)
+
+pub unsent_fair : (w : Setting) (states : ℕ → CoreState) (at : ℕ) (x : Item) → sent (place_in w at x.slot) (calls_at w states at x.slot) ≡ None → is_forged_item w states at (Some x) ≡ false
+unsent_fair w states at x none =
+    all_fail (is_made_up w states at x) (replicas w.numbers.n)
+    (λ echoer here. both_false (w.is_correct echoer) (is_claim (place_in w at x.slot) (tags_of (w.keys at)) (calls_at w states at x.slot) x echoer)
+    (not (is_among (given_by w states echoer x.slot) (row_of x.value echoer)))
+    (claims_none (place_in w at x.slot) (tags_of (w.keys at)) (sent (place_in w at x.slot) (calls_at w states at x.slot)) x.value echoer (kind_eq x.kind Column) none))
+
+-- no other item than a column forges
+pub other_fair : (w : Setting) (states : ℕ → CoreState) (at : ℕ) (x : Item) → kind_eq x.kind Column ≡ false → is_forged_item w states at (Some x) ≡ false
+other_fair w states at x other =
+    all_fail (is_made_up w states at x) (replicas w.numbers.n)
+    (λ echoer here. both_false (w.is_correct echoer) (is_claim (place_in w at x.slot) (tags_of (w.keys at)) (calls_at w states at x.slot) x echoer)
+    (not (is_among (given_by w states echoer x.slot) (row_of x.value echoer)))
+    (ap (λ b. b && is_valid_for (place_in w at x.slot) (tags_of (w.keys at)) (sent (place_in w at x.slot) (calls_at w states at x.slot)) x.value echoer) other))
+
+-- ---- what the audit looks at
+
+watched_some : (x : Item) (y : Item) (b : Bool) → is_watched x.kind ≡ b → (if b then Some x else None) ≡ Some y → (is_watched y.kind ≡ true) × (x ≡ y)
+watched_some x y true is e = let same : x ≡ y = cc in (subst (λ (z : Item). is_watched z.kind ≡ true) same is, same)
+watched_some x y false is e = absurd (cc)
+
+pub watched_is : (o : Option Item) (y : Item) → watched o ≡ Some y → (is_watched y.kind ≡ true) × (o ≡ Some y)
+watched_is None y e = absurd (cc)
+watched_is (Some x) y e = let is = watched_some x y (is_watched x.kind) refl e in (is.0, ap (λ (z : Item). Some z) is.1)
+
+unwatched_some : (x : Item) (b : Bool) → is_watched x.kind ≡ b → (if b then Some x else None) ≡ None → is_watched x.kind ≡ false
+unwatched_some x true is e = absurd (cc)
+unwatched_some x false is e = is
+
+pub unwatched : (o : Option Item) (x : Item) → watched o ≡ None → o ≡ Some x → is_watched x.kind ≡ false
+unwatched None x e is = absurd (cc)
+unwatched (Some y) x e is = let same : y ≡ x = cc in subst (λ (z : Item). is_watched z.kind ≡ false) same (unwatched_some y (is_watched y.kind) refl e)
+
+neither : (kind : Kind) → is_watched kind ≡ false → (kind_eq kind Send ≡ false) × (kind_eq kind Column ≡ false)
+neither kind e = or_parts (kind_eq kind Send) (kind_eq kind Column) e
+
+-- ---- whether a call forges
+
+fair_item : (w : Setting) (states : ℕ → CoreState) (at : ℕ) (o : Option Item) → watched o ≡ None → is_forged_item w states at o ≡ false
+fair_item w states at None none = refl
+fair_item w states at (Some x) none = other_fair w states at x (neither x.kind (unwatched (Some x) x none refl)).1
+
+pub fair_call : (w : Setting) (states : ℕ → CoreState) (c : Option CallAt) → is_forged_frame w states c ≡ false → watched (item_taken w states c) ≡ None → is_forged_at w states c ≡ false
+fair_call w states None fair none = refl
+fair_call w states (Some c) fair none = ap₂ (λ a b. a || b) fair (fair_item w states c.at (taken_by w states c) none)
+
+pub forged_call : (w : Setting) (states : ℕ → CoreState) (c : Option CallAt) → is_forged_frame w states c ≡ true → is_forged_at w states c ≡ true
+forged_call w states None forged = forged
+forged_call w states (Some c) forged = ap (λ a. a || is_forged_item w states c.at (taken_by w states c)) forged
+
+-- the call is at a correct replica, which takes the item
+pub record IsTaking (w : Setting) (states : ℕ → CoreState) (c : Option CallAt) (at : ℕ) (x : Item) : Type 0 where
+  pub call : CallAt
+  pub called : c ≡ Some call
+  pub place : call.at ≡ at
+  pub right : w.is_correct at ≡ true
+  pub taken : taken_by w states call ≡ Some x
+
+pub is_taking : (w : Setting) (states : ℕ → CoreState) (c : Option CallAt) (at : ℕ) (x : Item) → IsAt w c at → item_taken w states c ≡ Some x → IsTaking w states c at x
+is_taking w states None at x is e = absurd (cc)
+is_taking w states (Some call) at x is e = record { call = call; called = refl; place = is.0; right = is.1; taken = e }
+
+pub taking_forges : (w : Setting) (states : ℕ → CoreState) (c : Option CallAt) (at : ℕ) (x : Item) → IsTaking w states c at x → is_forged_frame w states c ≡ false →
+    is_forged_at w states c ≡ is_forged_item w states at (Some x)
+taking_forges w states c at x is fair =
+    let P : Option CallAt → Type 0 = λ d. is_forged_frame w states d ≡ false → is_forged_at w states d ≡ is_forged_item w states at (Some x) in
+    subst P (sym is.called) (λ now. ap₂ (λ a b. a || b) now (ap₂ (λ j o. is_forged_item w states j o) is.place is.taken)) fair
+
+-- ---- the verdict
+
+pub stays_broken : (w : Setting) (states : ℕ → CoreState) (c : Option CallAt) (verdict : Audit) (watch : Watch) (number : ℕ) → verdict ≢ audits.Holds → WatchStands w states verdict watch →
+    WatchStands w (after_call w states c) (verdict_after w states c verdict number) watch
+stays_broken w states c audits.Holds watch number broken stand = absurd (broken refl)
+stays_broken w states c audits.TooManyFaulty watch number broken stand = record { found = stand.found; tables = λ e. absurd (broken e) }
+stays_broken w states c (audits.Forged k) watch number broken stand = record { found = stand.found; tables = λ e. absurd (broken e) }
+stays_broken w states c (audits.Collision k) watch number broken stand = record { found = stand.found; tables = λ e. absurd (broken e) }
+
+broken_at_once : (w : Setting) (after : ℕ → CoreState) (verdict now : Audit) (watch : Watch) → verdict ≡ now → now ≢ audits.Holds → watch.verdict ≡ now → WatchStands w after verdict watch
+broken_at_once w after verdict now watch is broken found = record { found = found ∙ sym is; tables = λ e. absurd (broken (sym is ∙ e)) }
+
+forged_apart : (k : ℕ) → audits.Forged k ≢ audits.Holds
+forged_apart k e = cc
+
+collision_apart : (k : ℕ) → audits.Collision k ≢ audits.Holds
+collision_apart k e = cc
+
+pub now_forged : (w : Setting) (states : ℕ → CoreState) (c : Option CallAt) (watch : Watch) (number : ℕ) → is_forged_at w states c ≡ true → watch.verdict ≡ audits.Forged number →
+    WatchStands w (after_call w states c) (verdict_after w states c audits.Holds number) watch
+now_forged w states c watch number forged found =
+    broken_at_once w (after_call w states c) (verdict_after w states c audits.Holds number) (audits.Forged number) watch
+    (ap (λ b. broken_by b (collide (prints_at w (after_call w states c))) number) forged) (forged_apart number) found
+
+pub now_collides : (w : Setting) (states : ℕ → CoreState) (c : Option CallAt) (watch : Watch) (number : ℕ) → is_forged_at w states c ≡ false → collide (prints_at w (after_call w states c)) ≡ true →
+    watch.verdict ≡ audits.Collision number → WatchStands w (after_call w states c) (verdict_after w states c audits.Holds number) watch
+now_collides w states c watch number fair clash found =
+    broken_at_once w (after_call w states c) (verdict_after w states c audits.Holds number) (audits.Collision number) watch
+    (ap₂ (λ a b. broken_by a b number) fair clash) (collision_apart number) found
+
+pub still_holds : (w : Setting) (states : ℕ → CoreState) (c : Option CallAt) (watch : Watch) (number : ℕ) → is_forged_at w states c ≡ false → TablesStand w (after_call w states c) watch →
+    watch.verdict ≡ audits.Holds → WatchStands w (after_call w states c) (verdict_after w states c audits.Holds number) watch
+still_holds w states c watch number fair stand found =
+    let none = none_collide watch.hashed (prints_at w (after_call w states c)) stand.hashed in
+    let holds : verdict_after w states c audits.Holds number ≡ audits.Holds = ap₂ (λ a b. broken_by a b number) fair none in
+    record { found = found ∙ sym holds; tables = λ e. stand }
+
+-- nothing that the audit looks at was taken
+pub nothing_watched : (w : Setting) (states : ℕ → CoreState) (c : Option CallAt) (watch : Watch) (number : ℕ) → is_forged_frame w states c ≡ false → watched (item_taken w states c) ≡ None →
+    WatchStands w states audits.Holds watch → WatchStands w (after_call w states c) (verdict_after w states c audits.Holds number) watch
+nothing_watched w states c watch number fair none stand =
+    still_holds w states c watch number (fair_call w states c fair none)
+    (tables_stay w states c watch (λ item is. (neither item.kind (unwatched (item_taken w states c) item none is)).0) (stand.tables refl)) stand.found
+
+-- ---- columns, as the code has it
+
+digest_none : (tags : Tags) (o : Option (List ℕ)) → digest_for tags o ≡ None → o ≡ None
+digest_none tags None e = refl
+digest_none tags (Some m) e = absurd (cc)
+
+-- the message of a digest
+pub record IsSaid (tags : Tags) (o : Option (List ℕ)) (digest : List ℕ) : Type 0 where
+  pub message : List ℕ
+  pub said : o ≡ Some message
+  pub same : digest ≡ tags.digest message
+
+digest_some : (tags : Tags) (o : Option (List ℕ)) (d : List ℕ) → digest_for tags o ≡ Some d → IsSaid tags o d
+digest_some tags None d e = absurd (cc)
+digest_some tags (Some m) d e = record { message = m; said = refl; same = cc }
+
+pub undigested_fair : (w : Setting) (states : ℕ → CoreState) (watch : Watch) (at : ℕ) (x : Item) (found : Option (List ℕ)) → TablesStand w states watch → w.is_correct at ≡ true →
+    found ≡ digest_at watch.sent.digests x.slot at → found ≡ None → false ≡ is_forged_item w states at (Some x)
+undigested_fair w states watch at x found stand right is none =
+    sym (unsent_fair w states at x
+    (digest_none (tags_of (w.keys at)) (sent (place_in w at x.slot) (calls_at w states at x.slot)) (sym (stand.sent at x.slot right) ∙ (sym is ∙ none))))
+
+pub digest_is : (w : Setting) (states : ℕ → CoreState) (watch : Watch) (at : ℕ) (x : Item) (found : Option (List ℕ)) (d : List ℕ) → TablesStand w states watch → w.is_correct at ≡ true →
+    found ≡ digest_at watch.sent.digests x.slot at → found ≡ Some d → IsSaid (tags_of (w.keys at)) (sent (place_in w at x.slot) (calls_at w states at x.slot)) d
+digest_is w states watch at x found d stand right is some =
+    digest_some (tags_of (w.keys at)) (sent (place_in w at x.slot) (calls_at w states at x.slot)) d (sym (stand.sent at x.slot right) ∙ (sym is ∙ some))
+
+pub some_made_up : (w : Setting) (states : ℕ → CoreState) (at : ℕ) (x : Item) (echoer : ℕ) → echoer < w.numbers.n → is_made_up w states at x echoer ≡ true → true ≡ is_forged_item w states at (Some x)
+some_made_up w states at x echoer below made =
+    sym (any_of (is_made_up w states at x) (replicas w.numbers.n) echoer (has_number 0 w.numbers.n echoer (omega arith) (omega arith)) made)
+
+pub none_made_up : (w : Setting) (states : ℕ → CoreState) (at : ℕ) (x : Item) (n : ℕ) → n ≡ w.numbers.n → list_any (is_made_up w states at x) (range_with_len 0 n) ≡ false →
+    false ≡ is_forged_item w states at (Some x)
+none_made_up w states at x n all none = sym (subst (λ (k : ℕ). list_any (is_made_up w states at x) (range_with_len 0 k) ≡ false) all none)
+
+-- ---- SENDs
+
+-- what the replica with its keys meets
+met_with : (w : Setting) (at : ℕ) (s : Slot) (m : List ℕ) → (w.keys at).me ≡ at → (w.keys at).n ≡ w.numbers.n →
+    prints_with (w.keys at) s m ≡ prints_of (place_in w at s) (tags_of (w.keys at)) m
+met_with w at s m me n =
+    let k = w.keys at in
+    let d = (tags_of k).digest m in
+    ap₂ (λ (i : ℕ) (count : ℕ). OfMessage m d ∷ map (λ v. print_of k s d i v) (replicas count) ++ map (λ e. print_of k s d e i) (replicas count)) me n
+
+-- the replica took a SEND
+pub record TakesSend (w : Setting) (states : ℕ → CoreState) (c : CallAt) (x : Item) : Type 0 where
+  pub right : w.is_correct c.at ≡ true
+  pub below : c.at < w.numbers.n
+  pub history : (handled_at w states c).state.history ≡ Took x ∷ (states c.at).history
+  pub kind : kind_eq x.kind Send ≡ true
+
+history_after : (w : Setting) (states : ℕ → CoreState) (c : CallAt) (x : Item) → TakesSend w states c x → (after_call w states (Some c) c.at).history ≡ Took x ∷ (states c.at).history
+history_after w states c x takes = ap (λ st. st.history) (called_state w states c) ∙ takes.history
+
+-- what it met
+prints_after : (w : Setting) (states : ℕ → CoreState) (c : CallAt) (x : Item) → TakesSend w states c x →
+    prints_by w (after_call w states (Some c)) c.at ≡ prints_of (place_in w c.at x.slot) (tags_of (w.keys c.at)) x.value ++ prints_in (rules_at w c.at) (states c.at).history
+prints_after w states c x takes =
+    let r = rules_at w c.at in
+    ap₂ (λ b h. if b then prints_in r h else []) takes.right (history_after w states c x takes)
+    ∙ ap (λ b. (if b then prints_of (place_in w c.at x.slot) (tags_of (w.keys c.at)) x.value else []) ++ prints_in r (states c.at).history) takes.kind
+
+prints_before : (w : Setting) (states : ℕ → CoreState) (i : ℕ) → w.is_correct i ≡ true → prints_by w states i ≡ prints_in (rules_at w i) (states i).history
+prints_before w states i right = ap (λ b. if b then prints_in (rules_at w i) (states i).history else []) right
+
+prints_other : (w : Setting) (states : ℕ → CoreState) (c : CallAt) (i : ℕ) → (c.at == i) ≡ false → prints_by w (after_call w states (Some c)) i ≡ prints_by w states i
+prints_other w states c i other = ap (λ ps. if w.is_correct i then ps else []) (quiet_other w states c i other).prints
+
+new_prints : Setting → CallAt → Item → List Print
+new_prints w c x = prints_of (place_in w c.at x.slot) (tags_of (w.keys c.at)) x.value
+
+after_from : (w : Setting) (states : ℕ → CoreState) (c : CallAt) (x : Item) → TakesSend w states c x → (i : ℕ) (p : Print) → Has (replicas w.numbers.n) i → (b : Bool) → (c.at == i) ≡ b →
+    Has (prints_by w (after_call w states (Some c)) i) p → Has (prints_of (place_in w c.at x.slot) (tags_of (w.keys c.at)) x.value ++ prints_at w states) p
+after_from w states c x takes i p listed true here inside =
+    let new = prints_of (place_in w c.at x.slot) (tags_of (w.keys c.at)) x.value in
+    let same = eqb-true c.at i here in
+    let now : Has (prints_by w (after_call w states (Some c)) c.at) p = subst (λ (k : ℕ). Has (prints_by w (after_call w states (Some c)) k) p) (sym same) inside in
+    elim (has_either new (prints_in (rules_at w c.at) (states c.at).history) p (subst (λ ps. Has ps p) (prints_after w states c x takes) now)) [
+      | inl first ↦ has_left new (prints_at w states) p first
+      | inr older ↦ has_right new (prints_at w states) p
+          (has_among (prints_by w states) (replicas w.numbers.n) c.at p (has_number 0 w.numbers.n c.at (omega arith) (let below = takes.below in omega arith))
+          (subst (λ ps. Has ps p) (sym (prints_before w states c.at takes.right)) older))
+    ]
+after_from w states c x takes i p listed false other inside =
+    has_right (prints_of (place_in w c.at x.slot) (tags_of (w.keys c.at)) x.value) (prints_at w states) p
+    (has_among (prints_by w states) (replicas w.numbers.n) i p listed (subst (λ ps. Has ps p) (prints_other w states c i other) inside))
+
+after_within : (w : Setting) (states : ℕ → CoreState) (c : CallAt) (x : Item) → TakesSend w states c x →
+    Within (prints_at w (after_call w states (Some c))) (prints_of (place_in w c.at x.slot) (tags_of (w.keys c.at)) x.value ++ prints_at w states)
+after_within w states c x takes p here =
+    let from = among_from (prints_by w (after_call w states (Some c))) (replicas w.numbers.n) p here in
+    after_from w states c x takes from.element p from.listed (c.at == from.element) refl from.inside
+
+at_taker : (w : Setting) (states : ℕ → CoreState) (c : CallAt) (x : Item) → TakesSend w states c x → (p : Print) →
+    Has (prints_of (place_in w c.at x.slot) (tags_of (w.keys c.at)) x.value ++ prints_in (rules_at w c.at) (states c.at).history) p → Has (prints_at w (after_call w states (Some c))) p
+at_taker w states c x takes p inside =
+    has_among (prints_by w (after_call w states (Some c))) (replicas w.numbers.n) c.at p (has_number 0 w.numbers.n c.at (omega arith) (let below = takes.below in omega arith))
+    (subst (λ ps. Has ps p) (sym (prints_after w states c x takes)) inside)
+
+older_there : (w : Setting) (states : ℕ → CoreState) (c : CallAt) (x : Item) → TakesSend w states c x → (i : ℕ) (p : Print) → Has (replicas w.numbers.n) i → (b : Bool) → (c.at == i) ≡ b →
+    Has (prints_by w states i) p → Has (prints_at w (after_call w states (Some c))) p
+older_there w states c x takes i p listed true here inside =
+    let same = eqb-true c.at i here in
+    let there : Has (prints_by w states c.at) p = subst (λ (k : ℕ). Has (prints_by w states k) p) (sym same) inside in
+    at_taker w states c x takes p
+    (has_right (prints_of (place_in w c.at x.slot) (tags_of (w.keys c.at)) x.value) (prints_in (rules_at w c.at) (states c.at).history) p
+    (subst (λ ps. Has ps p) (prints_before w states c.at takes.right) there))
+older_there w states c x takes i p listed false other inside =
+    has_among (prints_by w (after_call w states (Some c))) (replicas w.numbers.n) i p listed (subst (λ ps. Has ps p) (sym (prints_other w states c i other)) inside)
+
+within_after : (w : Setting) (states : ℕ → CoreState) (c : CallAt) (x : Item) → TakesSend w states c x →
+    Within (prints_of (place_in w c.at x.slot) (tags_of (w.keys c.at)) x.value ++ prints_at w states) (prints_at w (after_call w states (Some c)))
+within_after w states c x takes p here =
+    let new = prints_of (place_in w c.at x.slot) (tags_of (w.keys c.at)) x.value in
+    elim (has_either new (prints_at w states) p here) [
+      | inl first ↦ at_taker w states c x takes p (has_left new (prints_in (rules_at w c.at) (states c.at).history) p first)
+      | inr older ↦
+          let from = among_from (prints_by w states) (replicas w.numbers.n) p older in
+          older_there w states c x takes from.element p from.listed (c.at == from.element) refl from.inside
+    ]
+
+-- what was sent to it
+digest_either : (tags : Tags) (o : Option (List ℕ)) (m : List ℕ) (b : Bool) →
+    digest_for tags (option_or o (if b then Some m else None)) ≡ option_or (digest_for tags o) (if b then Some (tags.digest m) else None)
+digest_either tags None m true = refl
+digest_either tags None m false = refl
+digest_either tags (Some v) m true = refl
+digest_either tags (Some v) m false = refl
+
+said_here : (w : Setting) (states : ℕ → CoreState) (c : CallAt) (x : Item) → TakesSend w states c x → (s : Slot) (b : Bool) → is_slot x.slot s ≡ b →
+    digest_for (tags_of (w.keys c.at)) (sends_in w c.at s (Took x ∷ (states c.at).history))
+    ≡ (if b then option_or (digest_for (tags_of (w.keys c.at)) (sends_in w c.at s (states c.at).history)) (digest_said (w.keys c.at) x)
+    else digest_for (tags_of (w.keys c.at)) (sends_in w c.at s (states c.at).history))
+said_here w states c x takes s true here =
+    let tags = tags_of (w.keys c.at) in
+    let h = (states c.at).history in
+    let same = same_slot x.slot s here in
+    ap (digest_for tags) (sent_taken (rules_at w c.at) (place_in w c.at s) h x s ∙ ap (λ b. sent (place_in w c.at s) (cond b (Take x ∷ (parts (rules_at w c.at) h).calls s) ((parts (rules_at w c.at) h).calls s))) here)
+    ∙ ap (λ b. digest_for tags (option_or (sends_in w c.at s h) (if x.from == s.origin && b then Some x.value else None))) takes.kind
+    ∙ ap (λ b. digest_for tags (option_or (sends_in w c.at s h) (if b then Some x.value else None))) (and_true (x.from == s.origin))
+    ∙ digest_either tags (sends_in w c.at s h) x.value (x.from == s.origin)
+    ∙ ap (λ (q : Slot). option_or (digest_for tags (sends_in w c.at s h)) (if x.from == q.origin then Some (tags.digest x.value) else None)) (sym same)
+  where
+    and_true : (b : Bool) → (b && true) ≡ b
+    and_true true = refl
+    and_true false = refl
+said_here w states c x takes s false other =
+    ap (digest_for (tags_of (w.keys c.at))) (sent_taken (rules_at w c.at) (place_in w c.at s) (states c.at).history x s
+    ∙ ap (λ b. sent (place_in w c.at s) (cond b (Take x ∷ (parts (rules_at w c.at) (states c.at).history).calls s) ((parts (rules_at w c.at) (states c.at).history).calls s))) other)
+
+said_there : (w : Setting) (states : ℕ → CoreState) (c : CallAt) (x : Item) → TakesSend w states c x → (i : ℕ) (s : Slot) (b : Bool) → (c.at == i) ≡ b →
+    digest_for (tags_of (w.keys i)) (sent (place_in w i s) (calls_at w (after_call w states (Some c)) i s))
+    ≡ (if b && is_slot x.slot s then option_or (digest_for (tags_of (w.keys i)) (sent (place_in w i s) (calls_at w states i s))) (digest_said (w.keys c.at) x)
+    else digest_for (tags_of (w.keys i)) (sent (place_in w i s) (calls_at w states i s)))
+said_there w states c x takes i s true here =
+    subst (λ (k : ℕ). digest_for (tags_of (w.keys k)) (sent (place_in w k s) (calls_at w (after_call w states (Some c)) k s))
+    ≡ (if is_slot x.slot s then option_or (digest_for (tags_of (w.keys k)) (sent (place_in w k s) (calls_at w states k s))) (digest_said (w.keys c.at) x)
+    else digest_for (tags_of (w.keys k)) (sent (place_in w k s) (calls_at w states k s)))) (eqb-true c.at i here)
+    (ap (λ h. digest_for (tags_of (w.keys c.at)) (sends_in w c.at s h)) (history_after w states c x takes) ∙ said_here w states c x takes s (is_slot x.slot s) refl)
+said_there w states c x takes i s false other = ap (digest_for (tags_of (w.keys i))) ((quiet_other w states c i other).sends s)
+
+-- one slot at one replica
+at_parts : (s q : Slot) (i j : ℕ) (b : Bool) → is_same_at s i q j ≡ b → (i == j && is_slot s q) ≡ b
+at_parts s q i j true same =
+    let is = same_at s i q j same in
+    ap₂ (λ a b. a && b) (eq-eqb i j is.1) (subst (λ (x : Slot). is_slot s x ≡ true) is.0 (slot_itself s))
+at_parts s q i j false apart = differ (i == j && is_slot s q) refl
+  where
+    differ : (b : Bool) → (i == j && is_slot s q) ≡ b → (i == j && is_slot s q) ≡ false
+    differ false e = e
+    differ true e =
+        let both = and_parts (i == j) (is_slot s q) e in
+        let same : is_same_at s i q j ≡ true =
+        subst (λ (k : ℕ). is_same_at s i q k ≡ true) (eqb-true i j both.0) (subst (λ (x : Slot). is_same_at s i x i ≡ true) (same_slot s q both.1) (at_itself s i)) in
+        absurd (false≢true (sym apart ∙ same))
+
+pub sent_after : (w : Setting) (states : ℕ → CoreState) (c : CallAt) (x : Item) (old new : Watch) (k : KeyRow) → TakesSend w states c x → TablesStand w states old → k ≡ w.keys c.at →
+    ((s : Slot) (i : ℕ) → digest_at new.sent.digests s i ≡ (if is_same_at x.slot c.at s i then option_or (digest_at old.sent.digests s i) (digest_said k x) else digest_at old.sent.digests s i)) →
+    (i : ℕ) (s : Slot) → w.is_correct i ≡ true → digest_at new.sent.digests s i ≡ digest_for (tags_of (w.keys i)) (sent (place_in w i s) (calls_at w (after_call w states (Some c)) i s))
+sent_after w states c x old new k takes stand keys put i s right =
+    put s i
+    ∙ ap₂ (λ b d. if b then option_or d (digest_said k x) else d) (sym (at_parts x.slot s c.at i (is_same_at x.slot c.at s i) refl)) (stand.sent i s right)
+    ∙ ap (λ (y : KeyRow). if c.at == i && is_slot x.slot s then option_or (digest_for (tags_of (w.keys i)) (sent (place_in w i s) (calls_at w states i s))) (digest_said y x)
+    else digest_for (tags_of (w.keys i)) (sent (place_in w i s) (calls_at w states i s))) keys
+    ∙ sym (said_there w states c x takes i s (c.at == i) refl)
+
+-- ---- an item that the audit looks at
+
+-- what holds of a call that made a replica take an item, where nothing broke before
+pub record IsItem (w : Setting) (states : ℕ → CoreState) (c : Option CallAt) (at : ℕ) (x : Item) (watch : Watch) : Type 0 where
+  pub taking : IsTaking w states c at x
+  pub below : at < w.numbers.n
+  pub fair : is_forged_frame w states c ≡ false
+  pub good : IsInGrammar w.numbers w.mode x
+  pub watched : is_watched x.kind ≡ true
+  pub holds : watch.verdict ≡ audits.Holds
+  pub tables : TablesStand w states watch
+
+pub item_is : (w : Setting) (states : ℕ → CoreState) (c : Option CallAt) (at : ℕ) (x : Item) (watch : Watch) → ((i : ℕ) → w.is_correct i ≡ true → i < w.numbers.n) → IsTold w states c at false (Some x) →
+    WatchStands w states audits.Holds watch → IsItem w states c at x watch
+item_is w states c at x watch within told stand =
+    let is = watched_is (item_taken w states c) x (sym told.item) in
+    let taking = is_taking w states c at x told.place is.1 in
+    record {
+      taking = taking;
+      below = within at taking.right;
+      fair = sym told.frame;
+      good = told.good;
+      watched = is.0;
+      holds = stand.found;
+      tables = stand.tables refl;
+    }
+
+-- what it forges
+item_forges : (w : Setting) (states : ℕ → CoreState) (c : Option CallAt) (at : ℕ) (x : Item) (watch : Watch) → IsItem w states c at x watch → is_forged_at w states c ≡ is_forged_item w states at (Some x)
+item_forges w states c at x watch is = taking_forges w states c at x is.taking is.fair
+
+takes_send : (w : Setting) (states : ℕ → CoreState) (c : Option CallAt) (at : ℕ) (x : Item) (watch : Watch) → (is : IsItem w states c at x watch) → kind_eq x.kind Send ≡ true → TakesSend w states is.taking.call x
+takes_send w states c at x watch is kind =
+    let call = is.taking.call in
+    record {
+      right = ap w.is_correct is.taking.place ∙ is.taking.right;
+      below = subst (λ (k : ℕ). k < w.numbers.n) (sym is.taking.place) is.below;
+      history = history_taken (states call.at).history (handled_at w states call).state.history x (grew (rules_at w call.at) (w.keys call.at) (states call.at) call.call) is.taking.taken;
+      kind = kind;
+    }
+
+send_no_column : (kind : Kind) → kind_eq kind Send ≡ true → kind_eq kind Column ≡ false
+send_no_column kinds.Init e = absurd (cc)
+send_no_column kinds.Echo e = absurd (cc)
+send_no_column kinds.Ready e = absurd (cc)
+send_no_column kinds.Send e = refl
+send_no_column kinds.Hashes e = absurd (cc)
+send_no_column kinds.Column e = absurd (cc)
+
+column_no_send : (kind : Kind) → kind_eq kind Column ≡ true → kind_eq kind Send ≡ false
+column_no_send kinds.Init e = absurd (cc)
+column_no_send kinds.Echo e = absurd (cc)
+column_no_send kinds.Ready e = absurd (cc)
+column_no_send kinds.Send e = absurd (cc)
+column_no_send kinds.Hashes e = absurd (cc)
+column_no_send kinds.Column e = refl
+
+send_fair : (w : Setting) (states : ℕ → CoreState) (c : Option CallAt) (at : ℕ) (x : Item) (watch : Watch) → IsItem w states c at x watch → kind_eq x.kind Send ≡ true → is_forged_at w states c ≡ false
+send_fair w states c at x watch is kind = item_forges w states c at x watch is ∙ other_fair w states at x (send_no_column x.kind kind)
+
+-- what the maps met, by the place
+meets_here : (w : Setting) (states : ℕ → CoreState) (seats : Seats) (at : ℕ) (x : Item) (old new : Watch) (k : KeyRow) (clash : Bool) → SeatsStand w seats → at < w.numbers.n → k ≡ w.keys at → TablesStand w states old →
+    MeetsSend old new k at x clash → Meets new.hashed (prints_of (place_in w at x.slot) (tags_of (w.keys at)) x.value) (prints_at w states) clash
+meets_here w states seats at x old new k clash seats_stand below keys stand meets =
+    let own = seats_stand.own at below in
+    subst (λ (ps : List Print). Meets new.hashed ps (prints_at w states) clash)
+    (ap (λ (y : KeyRow). prints_with y x.slot x.value) keys ∙ met_with w at x.slot x.value own.0 own.1)
+    (meets.hashed (prints_at w states) stand.hashed)
+
+pub send_collides : (w : Setting) (states : ℕ → CoreState) (c : Option CallAt) (at : ℕ) (x : Item) (old mid new : Watch) (seats : Seats) (k : KeyRow) (clash : Bool) (number : ℕ) →
+    SeatsStand w seats → IsItem w states c at x old → kind_eq x.kind Send ≡ true → k ≡ w.keys at → MeetsSend old mid k at x clash → clash ≡ true → new.verdict ≡ audits.Collision number →
+    WatchStands w (after_call w states c) (verdict_after w states c audits.Holds number) new
+send_collides w states c at x old mid new seats k clash number seats_stand is kind keys meets clashed found =
+    let P : Bool → Type 0 = λ b. Meets mid.hashed (prints_of (place_in w at x.slot) (tags_of (w.keys at)) x.value) (prints_at w states) b in
+    let colliding : collide (prints_of (place_in w at x.slot) (tags_of (w.keys at)) x.value ++ prints_at w states) ≡ true =
+    subst P clashed (meets_here w states seats at x old mid k clash seats_stand is.below keys is.tables meets) in
+    let call = is.taking.call in
+    let there : collide (prints_of (place_in w call.at x.slot) (tags_of (w.keys call.at)) x.value ++ prints_at w states) ≡ true =
+    subst (λ (i : ℕ). collide (prints_of (place_in w i x.slot) (tags_of (w.keys i)) x.value ++ prints_at w states) ≡ true) (sym is.taking.place) colliding in
+    let after : collide (prints_at w (after_call w states (Some call))) ≡ true =
+    collide_within (prints_of (place_in w call.at x.slot) (tags_of (w.keys call.at)) x.value ++ prints_at w states) (prints_at w (after_call w states (Some call)))
+    (within_after w states call x (takes_send w states c at x old is kind)) there in
+    now_collides w states c new number (send_fair w states c at x old is kind)
+    (ap (λ (d : Option CallAt). collide (prints_at w (after_call w states d))) is.taking.called ∙ after) found
+
+send_tables : (w : Setting) (states : ℕ → CoreState) (c : Option CallAt) (at : ℕ) (x : Item) (old new : Watch) (seats : Seats) (k : KeyRow) (clash : Bool) →
+    SeatsStand w seats → (is : IsItem w states c at x old) → kind_eq x.kind Send ≡ true → k ≡ w.keys at → MeetsSend old new k at x clash → clash ≡ false →
+    TablesStand w (after_call w states (Some is.taking.call)) new
+send_tables w states c at x old new seats k clash seats_stand is kind keys meets apart =
+    let call = is.taking.call in
+    let takes = takes_send w states c at x old is kind in
+    let P : Bool → Type 0 = λ b. Meets new.hashed (prints_of (place_in w at x.slot) (tags_of (w.keys at)) x.value) (prints_at w states) b in
+    let here : HashedStand new.hashed (prints_of (place_in w at x.slot) (tags_of (w.keys at)) x.value ++ prints_at w states) =
+    subst P apart (meets_here w states seats at x old new k clash seats_stand is.below keys is.tables meets) in
+    let there : HashedStand new.hashed (prints_of (place_in w call.at x.slot) (tags_of (w.keys call.at)) x.value ++ prints_at w states) =
+    subst (λ (i : ℕ). HashedStand new.hashed (prints_of (place_in w i x.slot) (tags_of (w.keys i)) x.value ++ prints_at w states)) (sym is.taking.place) here in
+    record {
+      sent = sent_after w states call x old new k takes is.tables (keys ∙ ap w.keys (sym is.taking.place))
+          (subst (λ (j : ℕ). (s : Slot) (i : ℕ) → digest_at new.sent.digests s i ≡ (if is_same_at x.slot j s i then option_or (digest_at old.sent.digests s i) (digest_said k x) else digest_at old.sent.digests s i))
+          (sym is.taking.place) (meets.sent apart));
+      hashed = stand_within new.hashed (prints_of (place_in w call.at x.slot) (tags_of (w.keys call.at)) x.value ++ prints_at w states) (prints_at w (after_call w states (Some call)))
+          (within_after w states call x takes) (after_within w states call x takes) there;
+    }
+
+pub send_holds : (w : Setting) (states : ℕ → CoreState) (c : Option CallAt) (at : ℕ) (x : Item) (old new : Watch) (seats : Seats) (k : KeyRow) (clash : Bool) (number : ℕ) →
+    SeatsStand w seats → IsItem w states c at x old → kind_eq x.kind Send ≡ true → k ≡ w.keys at → MeetsSend old new k at x clash → clash ≡ false →
+    WatchStands w (after_call w states c) (verdict_after w states c audits.Holds number) new
+send_holds w states c at x old new seats k clash number seats_stand is kind keys meets apart =
+    still_holds w states c new number (send_fair w states c at x old is kind)
+    (subst (λ (d : Option CallAt). TablesStand w (after_call w states d) new) (sym is.taking.called) (send_tables w states c at x old new seats k clash seats_stand is kind keys meets apart))
+    (meets.verdict ∙ is.holds)
+
+-- the value of a column that was taken
+column_by_kind : (p : Numbers) (root : ℕ) (kind : Kind) (s : Slot) (value : List ℕ) → kind_eq kind Column ≡ true → Is (payload p root kind s) value → Is (column_of p.n) value
+unfolding payload
+column_by_kind p root kinds.Init s value e is = absurd (cc)
+column_by_kind p root kinds.Echo s value e is = absurd (cc)
+column_by_kind p root kinds.Ready s value e is = absurd (cc)
+column_by_kind p root kinds.Send s value e is = absurd (cc)
+column_by_kind p root kinds.Hashes s value e is = absurd (cc)
+column_by_kind p root kinds.Column s value e is = is
+
+pub column_good : (p : Numbers) (mode : Mode) (x : Item) → kind_eq x.kind Column ≡ true → IsInGrammar p mode x → Is (column_of p.n) x.value
+column_good p mode x kind good = column_by_kind p mode.root x.kind x.slot x.value kind good.payload_is
+
+pub column_forges : (w : Setting) (states : ℕ → CoreState) (c : Option CallAt) (at : ℕ) (x : Item) (old new : Watch) (forges : Bool) (number : ℕ) →
+    IsItem w states c at x old → forges ≡ is_forged_item w states at (Some x) → forges ≡ true → new.verdict ≡ audits.Forged number →
+    WatchStands w (after_call w states c) (verdict_after w states c audits.Holds number) new
+column_forges w states c at x old new forges number is says forged found =
+    now_forged w states c new number (item_forges w states c at x old is ∙ sym says ∙ forged) found
+
+pub column_holds : (w : Setting) (states : ℕ → CoreState) (c : Option CallAt) (at : ℕ) (x : Item) (watch : Watch) (forges : Bool) (number : ℕ) →
+    IsItem w states c at x watch → kind_eq x.kind Column ≡ true → forges ≡ is_forged_item w states at (Some x) → forges ≡ false →
+    WatchStands w (after_call w states c) (verdict_after w states c audits.Holds number) watch
+column_holds w states c at x watch forges number is kind says fair =
+    still_holds w states c watch number (item_forges w states c at x watch is ∙ sym says ∙ fair)
+    (tables_stay w states c watch (λ item taken. same_kind item (item_taken_is item taken)) is.tables) is.holds
+  where
+    item_taken_is : (item : Item) → item_taken w states c ≡ Some item → x ≡ item
+    item_taken_is item taken =
+        let same : Some x ≡ Some item = sym (ap (item_taken w states) is.taking.called ∙ is.taking.taken) ∙ taken in
+        cc
+
+    same_kind : (item : Item) → x ≡ item → kind_eq item.kind Send ≡ false
+    same_kind item same = subst (λ (y : Item). kind_eq y.kind Send ≡ false) same (column_no_send x.kind kind)

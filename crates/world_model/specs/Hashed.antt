@@ -1,0 +1,108 @@
+-- What a world keeps of the messages that were sent, and what its tables stand for.
+use Rattle.std.specs.Prelude.{◌≡◌, ℕ, Bool, true, false, not, ◌&&◌, List, [], ◌∷◌, ◌++◌, map, Option, Some, None}
+use Rattle.std.specs.declared.cmp.Ordering.{Ordering}
+use Rattle.std.specs.Ordering.{nat_cmp, then_cmp, on}
+use Rattle.std.specs.Cmp.Lexicographic.{slice_cmp}
+use Rattle.std.specs.BTreeMap.{BTreeMap, get, is_at}
+use Rattle.std.specs.Str.{bytes_eq}
+use Rattle.ritas_base.specs.declared.slot.Slot.{Slot}
+use Rattle.ritas_base.specs.SlotOrder.{slot_cmp}
+use Rattle.ritas_base.specs.History.{replicas, is_value}
+use Rattle.layer_api.specs.Runs.{Has}
+use Rattle.layer_api.specs.Entries.{row_of, EntryInput, Print, OfMessage, OfEntry}
+use Rattle.keyed_channel.specs.KeyRow.{KeyRow}
+use Rattle.keyed_channel.specs.Keyed.{tags_of}
+use Rattle.world_model.specs.Audit.{is_among, clashes, collide}
+use Rattle.world_model.specs.declared.digests.SlotAt.{SlotAt}
+use Rattle.world_model.specs.declared.hashed.HashedEntry.{HashedEntry}
+use Rattle.world_model.specs.declared.hashed.Hashed.{Hashed}
+
+-- ---- entries
+
+-- the entries that the replica with these keys gives of a message with this digest
+abbrev pub entries_with : KeyRow → Slot → List ℕ → List (List ℕ)
+entries_with k s digest = map (λ verifier. (tags_of k).entry s k.me verifier digest) (replicas k.n)
+
+abbrev pub entries_for : KeyRow → Slot → Option (List ℕ) → List (List ℕ)
+entries_for k s None = []
+entries_for k s (Some digest) = entries_with k s digest
+
+-- whether a row is the entry of an echoer for the replica with these keys
+abbrev pub is_entry_for : KeyRow → Slot → List ℕ → ℕ → List ℕ → Bool
+is_entry_for k s digest echoer row = bytes_eq row ((tags_of k).entry s echoer k.me digest)
+
+-- whether a column has a valid entry of the replica with the second keys for the one with the first, which had this
+-- digest, where that replica hadn't given it: it had the second digest, if there is one
+abbrev pub is_unknown : KeyRow → List ℕ → KeyRow → Option (List ℕ) → Slot → List ℕ → Bool
+is_unknown k digest echoer given s column =
+    is_value ((tags_of k).entry s echoer.me k.me digest) (row_of column echoer.me)
+    && not (is_among (entries_for echoer s given) (row_of column echoer.me))
+
+-- ---- digests of messages that were sent
+
+abbrev pub at_cmp : SlotAt → SlotAt → Ordering
+at_cmp = then_cmp (on (λ x. x.slot) slot_cmp) (on (λ x. x.replica) nat_cmp)
+
+abbrev pub digest_at : BTreeMap SlotAt (List ℕ) → Slot → ℕ → Option (List ℕ)
+digest_at digests s i = get at_cmp digests (record { slot = s; replica = i })
+
+-- the two are one slot at one replica
+abbrev pub is_same_at : Slot → ℕ → Slot → ℕ → Bool
+is_same_at s i q j = is_at (at_cmp (record { slot = s; replica = i })) (record { slot = q; replica = j })
+
+-- ---- what was hashed
+
+abbrev pub image_cmp : List ℕ → List ℕ → Ordering
+image_cmp = slice_cmp nat_cmp
+
+abbrev pub input_of : HashedEntry → EntryInput
+input_of x = record { slot = x.slot; echoer = x.echoer; verifier = x.verifier; digest = x.digest }
+
+abbrev pub input_in : Option HashedEntry → Option EntryInput
+input_in None = None
+input_in (Some x) = Some (input_of x)
+
+abbrev pub message_at : Hashed → List ℕ → Option (List ℕ)
+message_at hashed digest = get image_cmp hashed.messages digest
+
+abbrev pub input_at : Hashed → List ℕ → Option EntryInput
+input_at hashed entry = input_in (get image_cmp hashed.entries entry)
+
+-- the maps have these prints, and no others
+pub record HashedStand (hashed : Hashed) (prints : List Print) : Type 0 where
+  pub messages : (m d : List ℕ) → Has prints (OfMessage m d) → message_at hashed d ≡ Some m
+  pub no_other_message : (m d : List ℕ) → message_at hashed d ≡ Some m → Has prints (OfMessage m d)
+  pub entries : (x : EntryInput) (e : List ℕ) → Has prints (OfEntry x e) → input_at hashed e ≡ Some x
+  pub no_other_entry : (x : EntryInput) (e : List ℕ) → input_at hashed e ≡ Some x → Has prints (OfEntry x e)
+
+-- another of these prints clashes with this one
+pub record Clash (p : Print) (prints : List Print) : Type 0 where
+  pub other : Print
+  pub listed : Has prints other
+  pub differ : clashes p other ≡ true
+
+-- one print more
+abbrev pub Adds : Hashed → Print → List Print → Bool → Type 0
+Adds new p prints true = Clash p prints
+Adds new p prints false = HashedStand new (p ∷ prints)
+
+-- these prints more
+abbrev pub Meets : Hashed → List Print → List Print → Bool → Type 0
+Meets new more prints true = collide (more ++ prints) ≡ true
+Meets new more prints false = HashedStand new (more ++ prints)
+
+-- the print of an entry that the replica with these keys can make
+abbrev pub print_of : KeyRow → Slot → List ℕ → ℕ → ℕ → Print
+print_of k s digest echoer verifier =
+    OfEntry (record { slot = s; echoer = echoer; verifier = verifier; digest = digest }) ((tags_of k).entry s echoer verifier digest)
+
+-- those of the entries that it and another have of each other
+abbrev pub both_of : KeyRow → Slot → List ℕ → ℕ → List Print
+both_of k s digest other = print_of k s digest other k.me ∷ print_of k s digest k.me other ∷ []
+
+-- what the replica with these keys meets at a message
+abbrev pub prints_with : KeyRow → Slot → List ℕ → List Print
+prints_with k s m =
+    OfMessage m ((tags_of k).digest m)
+    ∷ map (λ verifier. print_of k s ((tags_of k).digest m) k.me verifier) (replicas k.n)
+    ++ map (λ echoer. print_of k s ((tags_of k).digest m) echoer k.me) (replicas k.n)

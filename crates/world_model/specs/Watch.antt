@@ -1,0 +1,91 @@
+-- What a world keeps for its audit: the verdict so far and, while nothing broke, tables of what was sent and hashed.
+use Rattle.std.specs.Prelude.{◌≡◌, ℕ, Bool, true, false, ◌||◌, ◌==◌, List, Option, Some, None, if◌then◌else◌}
+use Rattle.std.specs.Option.{option_or}
+use Rattle.ritas_base.specs.declared.slot.Slot.{Slot}
+use Rattle.ritas_base.specs.declared.item.Item.{Item}
+use Rattle.ritas_base.specs.declared.item.Kind.{Kind}
+use Rattle.ritas_base.specs.declared.item.Kind.TheVariants.{Send, Column}
+use Rattle.ritas_base.specs.Messages.{kind_eq}
+use Rattle.ritas_base.specs.Tags.{Tags}
+use Rattle.frame_codec.specs.Body.{IsInGrammar}
+use Rattle.layer_api.specs.Entries.{sent, Print}
+use Rattle.keyed_channel.specs.KeyRow.{KeyRow}
+use Rattle.keyed_channel.specs.Keyed.{tags_of}
+use Rattle.ritas_core.specs.Machine.{CoreState}
+use Rattle.world_model.specs.declared.audit.Audit.{Audit}
+use Rattle.world_model.specs.declared.audit.Audit.TheVariants as audits
+use Rattle.world_model.specs.declared.watch.Watch.{Watch}
+use Rattle.world_model.specs.World.{Setting, CallAt, after_call}
+use Rattle.world_model.specs.Audit.{is_forged_call, taken_by, calls_at, place_in, is_forged_at, prints_at, collide, broken_by, judged}
+use Rattle.world_model.specs.Hashed.{digest_at, is_same_at, HashedStand, prints_with, Meets}
+
+-- ---- what a call made a replica take
+
+abbrev pub item_taken : Setting → (ℕ → CoreState) → Option CallAt → Option Item
+item_taken w states None = None
+item_taken w states (Some c) = taken_by w states c
+
+-- the audit looks at SENDs and columns
+abbrev pub is_watched : Kind → Bool
+is_watched kind = kind_eq kind Send || kind_eq kind Column
+
+abbrev pub watched : Option Item → Option Item
+watched None = None
+watched (Some x) = if is_watched x.kind then Some x else None
+
+abbrev pub IsGoodIf : Setting → Option Item → Type 0
+IsGoodIf w None = Unit {0}
+IsGoodIf w (Some x) = IsInGrammar w.numbers w.mode x
+
+-- whether the frame of a call forges
+abbrev pub is_forged_frame : Setting → (ℕ → CoreState) → Option CallAt → Bool
+is_forged_frame w states None = false
+is_forged_frame w states (Some c) = is_forged_call w states c.at c.call
+
+-- a call is at this replica, which is correct
+abbrev pub IsAt : Setting → Option CallAt → ℕ → Type 0
+IsAt w None at = Unit {0}
+IsAt w (Some c) at = (c.at ≡ at) × (w.is_correct at ≡ true)
+
+-- what is told of a call: at which replica it was, whether its frame forges, and the item that it made the replica take,
+-- where the audit looks at it
+pub record IsTold (w : Setting) (states : ℕ → CoreState) (c : Option CallAt) (at : ℕ) (forged : Bool) (taken : Option Item) : Type 0 where
+  pub place : IsAt w c at
+  pub frame : forged ≡ is_forged_frame w states c
+  pub item : taken ≡ watched (item_taken w states c)
+  pub good : IsGoodIf w taken
+
+-- ---- the tables
+
+abbrev pub digest_for : Tags → Option (List ℕ) → Option (List ℕ)
+digest_for tags None = None
+digest_for tags (Some m) = Some (tags.digest m)
+
+-- the tables have the digest of the message that was sent to each correct replica at each slot, and what they met
+pub record TablesStand (w : Setting) (states : ℕ → CoreState) (watch : Watch) : Type 0 where
+  pub sent : (i : ℕ) (s : Slot) → w.is_correct i ≡ true
+      → digest_at watch.sent.digests s i ≡ digest_for (tags_of (w.keys i)) (sent (place_in w i s) (calls_at w states i s))
+  pub hashed : HashedStand watch.hashed (prints_at w states)
+
+-- this is the verdict, and the tables are kept up while the premises hold
+pub record WatchStands (w : Setting) (states : ℕ → CoreState) (verdict : Audit) (watch : Watch) : Type 0 where
+  pub found : watch.verdict ≡ verdict
+  pub tables : verdict ≡ audits.Holds → TablesStand w states watch
+
+-- the verdict after one call more, of this number
+abbrev pub verdict_after : Setting → (ℕ → CoreState) → Option CallAt → Audit → ℕ → Audit
+verdict_after w states c verdict number =
+    judged verdict (broken_by (is_forged_at w states c) (collide (prints_at w (after_call w states c))) number)
+
+-- ---- a SEND
+
+-- the digest of the message that an item brings, where it is from the origin
+abbrev pub digest_said : KeyRow → Item → Option (List ℕ)
+digest_said k x = if x.from == x.slot.origin then Some ((tags_of k).digest x.value) else None
+
+-- the replica with these keys took a SEND
+pub record MeetsSend (old new : Watch) (k : KeyRow) (at : ℕ) (x : Item) (clash : Bool) : Type 0 where
+  pub verdict : new.verdict ≡ old.verdict
+  pub hashed : (prints : List Print) → HashedStand old.hashed prints → Meets new.hashed (prints_with k x.slot x.value) prints clash
+  pub sent : clash ≡ false → (s : Slot) (i : ℕ) → digest_at new.sent.digests s i
+      ≡ (if is_same_at x.slot at s i then option_or (digest_at old.sent.digests s i) (digest_said k x) else digest_at old.sent.digests s i)

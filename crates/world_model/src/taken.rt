@@ -1,0 +1,154 @@
+//! Which SEND or column a call made a replica take: the audit looks at no other item.
+
+ghost use Rattle.std.specs.Prelude.{◌≡◌, ℕ, ◌==◌, ◌||◌, true, Some, None, Ok, IfOk, if◌then◌else◌};
+ghost use Rattle.std.specs.Option.{option_copied};
+ghost use Rattle.ritas_base.specs.declared.item.Item.{Item as an_item};
+ghost use Rattle.ritas_base.specs.declared.mode.Mode.{Mode};
+ghost use Rattle.ritas_base.specs.Numbers.{Numbers, IsSession};
+ghost use Rattle.frame_codec.specs.Body.{body_answer};
+ghost use Rattle.keyed_channel.specs.Keyed.{tags_of};
+ghost use Rattle.ritas_core.specs.Machine.{CoreState};
+ghost use Rattle.ritas_core.specs.Stands.{meaning};
+ghost use Rattle.world_model.specs.World.{Setting};
+ghost use Rattle.world_model.specs.Watch.{is_watched, watched};
+ghost use Rattle.world_model.specs.Stands.{ReplicasStand};
+ghost use Rattle.world_model.specs.Steps.{is_took, IsFront, IsFrameItem};
+
+use crate::seen::Seen;
+use frame_codec::{BodyFault, read_body};
+use layer_api::{Broadcast, Service};
+use replica::Replica;
+use ritas_base::{Coin, Item, Kind, Mem, Mode, Params};
+use ritas_core::Answer;
+use std::alloc::Global;
+
+// Whether the audit looks at items of this kind.
+fn is_watched(kind: Kind) -> bool
+    ensures { result ≡ is_watched kind }
+{
+    match kind {
+        Kind::Send | Kind::Column => true,
+        _ => false,
+    }
+}
+
+// Whether an event was seen to be taken.
+fn is_took(seen: &Seen) -> bool
+    ensures { result ≡ is_took seen.now }
+{
+    match seen {
+        Seen::Answered(Answer::Took) => true,
+        _ => false,
+    }
+}
+
+// A copy of an item. The one error is want of memory.
+fn copied(alloc: Global, item: &Item) -> Result<Item, Mem>
+    ensures { IfOk result (λ copy. copy ≡ item.now) }
+{
+    let value = item.value.copy(alloc)?;
+    Ok(Item {
+        from: item.from,
+        kind: item.kind,
+        slot: item.slot,
+        value,
+    })
+}
+
+// A copy of an item, if there is one and the audit looks at it.
+fn watched(alloc: Global, item: Option<&Item>) -> Result<Option<Item>, Mem>
+    ensures { IfOk result (λ found. found ≡ watched (option_copied item.entry)) }
+{
+    match item {
+        Some(item) => {
+            if !is_watched(item.kind) {
+                return Ok(None);
+            }
+            Ok(Some(copied(alloc, item)?))
+        }
+        None => Ok(None),
+    }
+}
+
+/// The item at the front of a replica's inbox, where the audit looks at it. The one error is want of memory.
+pub(crate) fn front_item<S: Service, E: Broadcast, C: Coin + Drop>(
+    alloc: Global,
+    replicas: &[Option<Replica<S, E, C>>],
+    at: u8,
+) -> Result<Option<Item>, Mem>
+    ensures { IfOk result (λ front. (w : Setting) (states : ℕ → CoreState)
+        → ReplicasStand (meaning S.stands S.rules E.stands E.rules C.bits (λ k. k.me) tags_of) w states replicas.now
+        → w.is_correct at ≡ true → IsFront w states at front) }
+{
+    let place = usize::from(at);
+    if place >= replicas.len() {
+        return Ok(None);
+    }
+    match &replicas[place] {
+        Some(replica) => watched(alloc, replica.core().inbox_front()),
+        None => Ok(None),
+    }
+}
+
+// Whether the audit looks at items whose bodies begin so.
+fn is_watched_byte(byte: u8) -> bool
+    ensures { result ≡ (byte == 4 || byte == 6) }
+{
+    byte == 4 || byte == 6
+}
+
+// Whether the audit looks at the item that a body spells.
+fn is_watched_body(body: &[u8]) -> bool
+    ensures { (p : Numbers) (mode : Mode) (from : ℕ) (item : an_item) → IsSession p
+        → body_answer p mode from body.now ≡ Ok item → result ≡ is_watched item.kind }
+{
+    if body.is_empty() {
+        return false;
+    }
+    is_watched_byte(body[0])
+}
+
+// The item that a body spells, if it does and the audit looks at it. The one error is want of memory.
+fn body_item(
+    alloc: Global,
+    p: &Params,
+    mode: &Mode,
+    from: u8,
+    body: &[u8],
+) -> Result<Option<Item>, Mem>
+    ensures { IfOk result (λ found. (item : an_item) → IsSession p.now
+        → body_answer p.now mode.now from body.now ≡ Ok item → found ≡ watched (Some item)) }
+{
+    if !is_watched_body(body) {
+        return Ok(None);
+    }
+    match read_body(alloc, p, mode, from, body) {
+        Ok(item) => Ok(Some(item)),
+        Err(BodyFault::Mem) => Err(Mem),
+        Err(_) => Ok(None),
+    }
+}
+
+/// The item that a frame's body spells, where the frame was seen to be taken and the audit looks at the item. The one error
+/// is want of memory.
+pub(crate) fn frame_item(
+    alloc: Global,
+    p: &Params,
+    mode: &Mode,
+    seen: &Seen,
+    bytes: &[u8],
+) -> Result<Option<Item>, Mem>
+    ensures { IfOk result (λ found. IsFrameItem p.now mode.now seen.now bytes.now found) }
+{
+    if !is_took(seen) || bytes.len() < 43 {
+        return Ok(None);
+    }
+    body_item(alloc, p, mode, bytes[1], &bytes[11..bytes.len() - 32])
+}
+
+/// The item, where the event was seen to be taken.
+pub(crate) fn if_took(seen: &Seen, item: Option<Item>) -> Option<Item>
+    ensures { result ≡ (if is_took seen.now then item else None) }
+{
+    if is_took(seen) { item } else { None }
+}
