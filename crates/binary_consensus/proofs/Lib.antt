@@ -1,0 +1,6 @@
+mod Lines
+mod Turning
+mod Hearing
+mod Moves
+mod Boxes
+mod RootCalls

@@ -1,0 +1,43 @@
+-- A box's own numbers and slots, and those of its bench.
+use Rattle.std.proofs.Common.{◌≡◌, ℕ, ◌<◌, ◌==◌, Bool, List, Option, Some, None, if◌then◌else◌, ne_eqb, refl, sym, ◌∙◌, ap, subst, arith}
+use Rattle.std.specs.Option.{option_or}
+use Rattle.ritas_base.specs.declared.slot.Slot.{Slot}
+use Rattle.ritas_base.specs.Numbers.{Numbers, wait_of}
+use Rattle.layer_api.specs.Service.{Word}
+use Rattle.layer_api.specs.Binary.{Bench}
+use Rattle.layer_api.specs.BinaryCalls.{HasTosses}
+use Rattle.bracha_validation.specs.declared.tally.Tally.{Tally}
+use Rattle.bracha_validation.specs.Tallies.{IsTally}
+use Rattle.binary_consensus.specs.Steps.{step_slot, heard, accepted}
+use Rattle.binary_consensus.specs.Consensus.{decides}
+use Rattle.binary_consensus.specs.Stays.{next_said}
+use Rattle.binary_consensus.specs.Counts.{Heard, counted}
+use Rattle.binary_consensus.specs.Going.{own_slot, IsPart, AreHeard, Leaves}
+use Rattle.binary_consensus.specs.declared.part.Part.{Part}
+use Rattle.binary_consensus.specs.declared.leaving.Left.{Left}
+use Rattle.binary_consensus.proofs.Hearing.{counted_tally}
+
+pub own_is : (part : Part) (p : Numbers) (at : Bench) (t : ℕ) → IsPart part p at → own_slot part t ≡ step_slot at t at.me
+own_is part p at t is = rw (is.me, is.a, is.attempt) refl
+
+-- the counts of what is accepted at a step
+pub tally_now : (part : Part) (line : Heard) (at : Bench) (w : List Word) (t : ℕ) (votes : Tally) → IsPart part line.numbers at → AreHeard at line.votes w → t < 600
+    → votes ≡ counted line.numbers line.votes t → IsTally votes (accepted at.numbers (heard at w) t)
+tally_now part line at w t votes is are l e =
+    subst (λ (x : Tally). IsTally x (accepted at.numbers (heard at w) t)) (sym (e ∙ ap (λ (p : Numbers). counted p line.votes t) is.numbers))
+    (counted_tally at line.votes w are t l)
+
+pub wait_is : (part : Part) (line : Heard) (at : Bench) (p : Numbers) (wait : ℕ) → IsPart part line.numbers at → p ≡ line.numbers → wait ≡ wait_of p → wait ≡ wait_of at.numbers
+wait_is part line at p wait is e q = q ∙ (ap wait_of e ∙ ap wait_of is.numbers)
+
+pub leaves_at : (part : Part) (line : Heard) (p : Numbers) (at : Bench) (bits : Slot → Bool) (t : ℕ) (votes : Tally) (known : Option Bool) (left : Left) (vs : List ℕ)
+    → Leaves part p bits t votes known left → p ≡ line.numbers → IsPart part line.numbers at → HasTosses at bits → IsTally votes vs
+    → (left.decided ≡ option_or known (decides at.numbers t (Some vs))) × (left.next ≡ (if t == 599 then None else next_said at t known (Some vs)))
+leaves_at part line p at bits t votes known left vs leaves e is tosses tally =
+    let h = leaves at vs (subst (λ (q : Numbers). IsPart part q at) (sym e) is) tosses tally in
+    (h.0 ∙ ap (λ (q : Numbers). option_or known (decides q t (Some vs))) (e ∙ is.numbers), h.1)
+
+-- a vote follows a step that is not the last
+pub next_at : (at : Bench) (t : ℕ) (known : Option Bool) (vs : List ℕ) (v : ℕ) → t < 599 → Some v ≡ (if t == 599 then None else next_said at t known (Some vs))
+    → Some v ≡ next_said at t known (Some vs)
+next_at at t known vs v l e = e ∙ ap (λ (b : Bool). if b then None else next_said at t known (Some vs)) (ne_eqb t 599 (λ q. omega (arith, q, l)))

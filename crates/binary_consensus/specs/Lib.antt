@@ -1,0 +1,15 @@
+pub mod Steps
+pub mod Consensus
+pub mod Root
+pub mod Rows
+pub mod Counts
+pub mod Acceptance
+pub mod Lock
+pub mod Runs
+pub mod Stays
+pub mod Going
+pub mod Stands
+pub mod BoxLaws
+pub mod RootLaws
+pub mod RootLog
+pub mod RootStands

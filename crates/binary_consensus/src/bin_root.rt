@@ -1,0 +1,124 @@
+ghost use Rattle.std.specs.Prelude.{◌≡◌};
+ghost use Rattle.binary_consensus.specs.Root.{vote_byte};
+
+use crate::part::line_of;
+use layer_api::{BinaryBox, Outcome, Service};
+use ritas_base::{Coin, Id, Mem, Params, Say, Slot};
+use std::alloc::Global;
+
+/// Binary consensus as a root service, for root service 3: one instance, over any box.
+///
+/// Its input is the byte of a bit, which it proposes. It has one round and attempt, of number 0, no commands and no
+/// identifier log.
+#[derive(Drop)]
+pub struct BinRoot<B: BinaryBox> {
+    inner: B,
+    given: bool,
+}
+
+// The vote that a value is at a step.
+fn vote_byte(slot: &Slot, value: &[u8]) -> u8
+    ensures { result ≡ vote_byte slot.now value.now }
+{
+    let limit = if slot.step == 3 { 3 } else { 2 };
+    match value.first() {
+        Some(&vote) if vote < limit => vote,
+        _ => 0,
+    }
+}
+
+impl<B: BinaryBox> Service for BinRoot<B> {
+    ghost use Rattle.std.specs.Prelude.{◌≡◌};
+    ghost use Rattle.binary_consensus.specs.Root.{bench_of, bit_words, binary_root};
+    ghost use Rattle.binary_consensus.specs.RootLaws.{root_word_laws};
+    ghost use Rattle.binary_consensus.specs.RootLog.{root_one_log};
+    ghost use Rattle.binary_consensus.specs.RootStands.{RootStands, root_shown, root_shows};
+
+    ghost stands = { RootStands B.stands };
+
+    ghost rules = { binary_root B.rules };
+
+    ghost live = { λ s. B.live s.inner };
+
+    ghost shown = { λ s. root_shown (B.shown s.inner) s.given };
+
+    fn serves(root: u8) -> bool {
+        root == 3
+    }
+
+    fn new(alloc: Global, p: &Params, me: u8) -> Result<BinRoot<B>, Mem> {
+        Ok(BinRoot {
+            inner: B::new(alloc, p, me, 0, 0)?,
+            given: false,
+        })
+    }
+
+    fn input(&mut self, alloc: Global, value: &[u8], says: &mut Vec<Say>) -> Result<(), Mem> {
+        let taken = self.inner.propose(alloc, value == [1].as_slice(), says);
+        if taken.is_ok() {
+            self.given = true;
+        }
+        taken
+    }
+
+    fn heard<C: Coin>(
+        &mut self,
+        alloc: Global,
+        coin: &C,
+        slot: &Slot,
+        value: &[u8],
+        says: &mut Vec<Say>,
+    ) -> Result<(), Mem> {
+        self.inner
+            .heard(alloc, coin, slot, vote_byte(slot, value), says)
+    }
+
+    fn is_open(&self, slot: &Slot) -> bool {
+        self.given
+            && slot.class == 5
+            && slot.a == 0
+            && slot.attempt == 0
+            && line_of(slot).is_some()
+            && u16::from(slot.bround) <= u16::from(self.inner.round()) + 1
+    }
+
+    fn completed(&self) -> u32 {
+        0
+    }
+
+    fn base(&self, _origin: u8) -> u32 {
+        0
+    }
+
+    fn next_number(&self) -> u32 {
+        0
+    }
+
+    fn given(&self) -> bool {
+        self.given
+    }
+
+    fn done(&self) -> &[Id] {
+        &[]
+    }
+
+    fn outcome(&self) -> Outcome<'_> {
+        match self.inner.decision() {
+            Some(bit) => Outcome::Bit(bit),
+            None if self.inner.rounds_over() => Outcome::Over,
+            None => Outcome::Undecided,
+        }
+    }
+
+    fn live(&self) -> bool {
+        self.inner.live()
+    }
+
+    ghost lives = { λ s seat w stands. (B.shows s.inner (bench_of seat) (bit_words w) stands.inner).0 };
+
+    ghost shows = { λ s seat w stands. root_shows B.rules seat w (B.shown s.inner) s.given stands.given (B.shows s.inner (bench_of seat) (bit_words w) stands.inner).1 };
+
+    ghost word_laws = { root_word_laws B.rules B.box_laws };
+
+    ghost one_log = { root_one_log B.rules B.one_bit };
+}
