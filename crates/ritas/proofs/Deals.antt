@@ -1,7 +1,7 @@
 -- The world of a header is one of keys that were dealt, with layers that serve its mode.
-use Rattle.std.proofs.Common.{◌≡◌, ℕ, ◌<◌, ◌≤◌, Bool, true, false, cond, List, refl, sym, ap, inl, inr, arith}
+use Rattle.std.proofs.Common.{◌≡◌, ℕ, ◌<◌, ◌≤◌, Bool, true, false, cond, ◌||◌, List, refl, sym, ap, inl, inr, arith}
 use Rattle.std.specs.Prelude.{◌==◌, ◌⊎◌, Result, Ok, Err}
-use Rattle.std.proofs.lemmas.Bool.{cases_Bool, cases_lt, or_cases, eqb-true, cond-true, cond-false}
+use Rattle.std.proofs.lemmas.Bool.{cases_Bool, cases_lt, eqb-true, cond-true, cond-false}
 use Rattle.std.proofs.lemmas.Nat.Bits.{bit_at_above}
 use Rattle.std.specs.Int.{bit_at}
 use Rattle.ritas_base.specs.declared.event.Event.{Event}
@@ -17,6 +17,8 @@ use Rattle.reliable_bcast.specs.ValueLaws.{kinds_of_bracha}
 use Rattle.echo_bcast.specs.Matrix.{echo}
 use Rattle.echo_bcast.specs.ValueLaws.{kinds_of_echo}
 use Rattle.atomic_bcast.specs.Commands.{commands}
+use Rattle.binary_consensus.specs.Consensus.{binary}
+use Rattle.binary_consensus.specs.Root.{binary_root}
 use Rattle.ritas_core.specs.Rules.{HasForm, other_form}
 use Rattle.ritas_core.specs.RulesLaws.{kinds_fit}
 use Rattle.schedule_file.specs.declared.fault.FileFault.{FileFault}
@@ -60,11 +62,28 @@ other_is_echo mode two = cond-true (other_form mode == 2) echo bracha two
 pub other_is_bracha : (mode : Mode) → (other_form mode == 2) ≡ false → other_of mode ≡ bracha
 other_is_bracha mode one = cond-false (other_form mode == 2) echo bracha one
 
-pub with_echo : (h : Header) → (other_form h.mode == 2) ≡ true → setting_by commands echo h ≡ setting_of h
-with_echo h two = ap (λ (b : Bool). setting_by commands (cond b echo bracha) h) (sym two)
+pub with_echo : (service : ServiceRules) (h : Header) → (other_form h.mode == 2) ≡ true → setting_by service echo h ≡ setting_by service (other_of h.mode) h
+with_echo service h two = ap (λ (b : Bool). setting_by service (cond b echo bracha) h) (sym two)
 
-pub with_bracha : (h : Header) → (other_form h.mode == 2) ≡ false → setting_by commands bracha h ≡ setting_of h
-with_bracha h one = ap (λ (b : Bool). setting_by commands (cond b echo bracha) h) (sym one)
+pub with_bracha : (service : ServiceRules) (h : Header) → (other_form h.mode == 2) ≡ false → setting_by service bracha h ≡ setting_by service (other_of h.mode) h
+with_bracha service h one = ap (λ (b : Bool). setting_by service (cond b echo bracha) h) (sym one)
+
+-- which service a root service has
+pub with_binary : (h : Header) → (h.mode.root == 3) ≡ true → setting_by (binary_root binary) (other_of h.mode) h ≡ setting_of h
+with_binary h three = ap (λ (b : Bool). setting_by (cond b (binary_root binary) commands) (other_of h.mode) h) (sym three)
+
+pub with_commands : (h : Header) → (h.mode.root == 3) ≡ false → setting_by commands (other_of h.mode) h ≡ setting_of h
+with_commands h other = ap (λ (b : Bool). setting_by (cond b (binary_root binary) commands) (other_of h.mode) h) (sym other)
+
+serves_by : (one two three : Bool) → (one || (two || three)) ≡ true → three ≡ false → (one || two) ≡ true
+serves_by true two three e none = refl
+serves_by false true three e none = refl
+serves_by false false true e none = absurd cc
+serves_by false false false e none = absurd cc
+
+-- a root service that is built, and isn't binary consensus, is one of commands
+pub serves_commands : (h : Header) → IsHeading (heading h) → (h.mode.root == 3) ≡ false → commands.serves h.mode.root ≡ true
+serves_commands h is other = serves_by (h.mode.root == 1) (h.mode.root == 2) (h.mode.root == 3) is.root other
 
 -- ---- the session
 
@@ -80,9 +99,15 @@ member_within h is i member =
           absurd (omega (arith, none, one))
     ]
 
--- a root service that is built is one of the first two
-root_of : (h : Heading) → IsHeading h → (h.root ≡ 1) ⊎ (h.root ≡ 2)
-root_of h is = elim (or_cases (h.root == 1) (h.root == 2) is.root) [ inl one ↦ inl (eqb-true h.root 1 one) | inr two ↦ inr (eqb-true h.root 2 two) ]
+root_by : (root : ℕ) (one two three : Bool) → (root == 1) ≡ one → (root == 2) ≡ two → (root == 3) ≡ three → (one || (two || three)) ≡ true → (1 ≤ root) × (root ≤ 6)
+root_by root true two three a b c e = let is = eqb-true root 1 a in (omega (arith, is), omega (arith, is))
+root_by root false true three a b c e = let is = eqb-true root 2 b in (omega (arith, is), omega (arith, is))
+root_by root false false true a b c e = let is = eqb-true root 3 c in (omega (arith, is), omega (arith, is))
+root_by root false false false a b c e = absurd cc
+
+-- a root service that is built is one of the six
+root_of : (h : Heading) → IsHeading h → (1 ≤ h.root) × (h.root ≤ 6)
+root_of h is = root_by h.root (h.root == 1) (h.root == 2) (h.root == 3) refl refl refl is.root
 
 abbrev pub deal_of : Header → Deal
 deal_of h = record {
@@ -94,11 +119,12 @@ deal_of h = record {
   session = h.session;
 }
 
-pub is_deal : (h : Header) → IsHeading (heading h) → (other : BroadcastRules) → HasForm h.mode other → IsDeal commands other (deal_of h)
-is_deal h is other form = record {
+pub is_deal : (service : ServiceRules) (h : Header) → IsHeading (heading h) → service.serves h.mode.root ≡ true → (other : BroadcastRules) → HasForm h.mode other
+    → IsDeal service other (deal_of h)
+is_deal service h is serves other form = record {
   session = is.numbers;
   within = member_within h is;
-  serves = is.root;
+  serves = serves;
   form = form;
 }
 
@@ -117,12 +143,11 @@ cores_of service other h is serves form i correct = record {
 -- each heading that a file may have is that of a header
 pub header_of : (k : Heading) → IsHeading k → (h : Header) × (heading h ≡ k)
 header_of k is =
-    let low : 1 ≤ k.root = elim (root_of k is) [ inl one ↦ omega (arith, one) | inr two ↦ omega (arith, two) ] in
-    let high : k.root ≤ 6 = elim (root_of k is) [ inl one ↦ omega (arith, one) | inr two ↦ omega (arith, two) ] in
+    let bounds = root_of k is in
     let h : Header = record {
       session = k.session;
       p = k.p;
-      mode = record { root = k.root; vect = k.vect; low = low; high = high };
+      mode = record { root = k.root; vect = k.vect; low = bounds.0; high = bounds.1 };
       correct = k.correct;
       keys = k.keys;
     } in

@@ -1,3 +1,4 @@
+mod Agreed
 pub mod Feeding
 pub mod Files
 pub mod Deals

@@ -10,6 +10,8 @@ use Rattle.keyed_channel.specs.KeyRow.{KeyRow}
 use Rattle.reliable_bcast.specs.Bracha.{bracha}
 use Rattle.echo_bcast.specs.Matrix.{echo}
 use Rattle.atomic_bcast.specs.Commands.{commands}
+use Rattle.binary_consensus.specs.Consensus.{binary}
+use Rattle.binary_consensus.specs.Root.{binary_root}
 use Rattle.ritas_core.specs.Rules.{other_form, at_slot_of}
 use Rattle.ritas_core.specs.Stands.{Meaning, meaning}
 use Rattle.schedule_file.specs.declared.header.Header.{Header}
@@ -51,9 +53,13 @@ setting_by service other h = record {
   keys = dealt_to h;
 }
 
--- the world of a header: commands, and the broadcasts of its mode
+-- the service of a root service
+abbrev pub service_of : ℕ → ServiceRules
+service_of root = if root == 3 then binary_root binary else commands
+
+-- the world of a header: the service of its root service, and the broadcasts of its mode
 abbrev pub setting_of : Header → Setting
-setting_of h = setting_by commands (other_of h.mode) h
+setting_of h = setting_by (service_of h.mode.root) (other_of h.mode) h
 
 -- the correct replicas of a world have cores of this service and this broadcast
 abbrev pub AreCoresOf : ServiceRules → BroadcastRules → Setting → Type 0

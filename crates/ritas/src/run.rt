@@ -18,7 +18,7 @@ ghost use Rattle.schedule_file.specs.Place.{spot};
 ghost use Rattle.schedule_file.specs.ReadEvents.{events_at};
 ghost use Rattle.schedule_file.specs.Spelling.{IsHeading};
 ghost use Rattle.ritas.specs.Onto.{onto};
-ghost use Rattle.ritas.specs.Layers.{setting_by, setting_of, layers_by};
+ghost use Rattle.ritas.specs.Layers.{setting_by, setting_of, layers_by, other_of};
 ghost use Rattle.ritas.specs.Replayed.{StandsFor};
 ghost use Rattle.ritas.specs.Report.{usage, report, report_on, report_status, status_on, fault_text, fault_status};
 ghost use Rattle.ritas.specs.Run.{IsReplay};
@@ -28,6 +28,7 @@ use crate::replay::{Replayed, load};
 use crate::report::report_text;
 use crate::words::is_replay;
 use atomic_bcast::CmdRoot;
+use binary_consensus::{Bin, BinRoot};
 use echo_bcast::Eb;
 use layer_api::{Broadcast, Service};
 use outside::{Sink, Source, write_all};
@@ -141,6 +142,35 @@ fn has_echo(mode: &Mode) -> bool
     }
 }
 
+// The answer to a schedule whose header was read, in a world of this service and the broadcasts of its mode.
+fn replay_with<S: Service, I: Source, K: Sink>(
+    alloc: Global,
+    header: Header,
+    reader: &mut Reader,
+    input: &mut I,
+    output: &mut K,
+) -> u8
+    requires heading { IsHeading (heading header) }
+    requires serves { S.rules.serves header.mode.root ≡ true }
+    requires open { reader.old.stage ≡ Open }
+    requires n { reader.old.n ≡ header.p.n }
+    ensures report { let w = setting_by S.rules (other_of header.mode) header in I.tells ≡ true → (es : List Event)
+        → onto [] (events_at 67108865 reader.old.n (spot reader.old.held (I.left input.old))) ≡ Ok es → result ≢ 4
+        → Ends 5 8 (status_on w es) (report_on header w es) K.tells (K.taken output.old) (K.taken output.new) (K.faults output.old) (K.faults output.new) result }
+    ensures refused { I.tells ≡ true → (e : FileFault) → onto [] (events_at 67108865 reader.old.n (spot reader.old.held (I.left input.old))) ≡ Err e → result ≢ 4
+        → Ends 5 8 (fault_status e) (fault_text e) K.tells (K.taken output.old) (K.taken output.new) (K.faults output.old) (K.faults output.new) result }
+    ensures input_fault { result ≡ 4 → Rose (I.faults input.old) (I.faults input.new) }
+    ensures nothing { result ≡ 4 → K.tells ≡ true → K.taken output.new ≡ K.taken output.old }
+    ensures output_fault { result ≡ 5 → Rose (K.faults output.old) (K.faults output.new) }
+    ensures replays { result ≢ 2 }
+{
+    if has_echo(&header.mode) {
+        replay_as::<S, Eb, I, K>(alloc, header, reader, input, output)
+    } else {
+        replay_as::<S, Rb, I, K>(alloc, header, reader, input, output)
+    }
+}
+
 // The answer to a schedule whose header was read.
 fn replay_events<I: Source, K: Sink>(
     alloc: Global,
@@ -161,10 +191,10 @@ fn replay_events<I: Source, K: Sink>(
     ensures output_fault { result ≡ 5 → Rose (K.faults output.old) (K.faults output.new) }
     ensures replays { result ≢ 2 }
 {
-    if has_echo(&header.mode) {
-        replay_as::<CmdRoot, Eb, I, K>(alloc, header, reader, input, output)
+    if header.mode.root == 3 {
+        replay_with::<BinRoot<Bin>, I, K>(alloc, header, reader, input, output)
     } else {
-        replay_as::<CmdRoot, Rb, I, K>(alloc, header, reader, input, output)
+        replay_with::<CmdRoot, I, K>(alloc, header, reader, input, output)
     }
 }
 
@@ -270,5 +300,7 @@ pub fn run<S: Source, K: Sink>(
     file_laws();
     agreement::<CmdRoot, Rb>();
     agreement::<CmdRoot, Eb>();
+    agreement::<BinRoot<Bin>, Rb>();
+    agreement::<BinRoot<Bin>, Eb>();
     run_exactly(alloc, words, input, output)
 }

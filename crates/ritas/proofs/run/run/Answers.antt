@@ -1,18 +1,21 @@
-use Rattle.std.proofs.Common.{◌≡◌, sym, ◌∙◌, subst, inl, inr, arith}
+use Rattle.std.proofs.Common.{◌≡◌, true, sym, ◌∙◌, inl, inr, arith}
 use Rattle.std.specs.Prelude.{◌==◌}
 use Rattle.std.proofs.lemmas.Bool.{cases_Bool}
+use Rattle.layer_api.specs.Service.{ServiceRules}
 use Rattle.reliable_bcast.specs.Bracha.{bracha}
 use Rattle.echo_bcast.specs.Matrix.{echo}
-use Rattle.ritas_core.specs.Rules.{HasForm, other_form}
-use Rattle.world_model.specs.declared.audit.Audit.TheVariants.{Holds}
-use Rattle.world_model.specs.World.{Setting}
-use Rattle.world_model.specs.Agree.{Agree}
+use Rattle.atomic_bcast.specs.Commands.{commands}
+use Rattle.binary_consensus.specs.Consensus.{binary}
+use Rattle.binary_consensus.specs.Root.{binary_root}
 use Rattle.schedule_file.specs.Schedule.{file_of}
 use Rattle.schedule_file.specs.Spelling.{IsFile}
 use Rattle.schedule_file.specs.ReadHeader.{heading}
+use Rattle.world_model.specs.Agree.{Agree}
 use Rattle.world_model.specs.Audit.{audit_of}
-use Rattle.ritas.specs.Layers.{setting_of}
-use Rattle.ritas.proofs.Deals.{has_form, other_is_echo, other_is_bracha, with_echo, with_bracha, is_deal, deal_of, header_of, file_or_fault, fault_above_1, holds_at_0}
+use Rattle.world_model.specs.Dealt.{DealtLaw}
+use Rattle.ritas.specs.Layers.{other_of, setting_by, setting_of}
+use Rattle.ritas.proofs.Agreed.{agree_by}
+use Rattle.ritas.proofs.Deals.{with_binary, with_commands, serves_commands, header_of, file_or_fault, fault_above_1, holds_at_0}
 use Rattle.ritas.proofs.run.run.Goals as goal
 
 pub returns-clause-every : goal.returns-clause-every
@@ -41,15 +44,10 @@ returns-clause-agree g c = λ words tells fits none h es is.
     let ends = c.run_exactly.ensures.report words tells h es (c.file_laws.ensures.only bytes (heading h) es is) (λ e. omega (arith, e, none)) in
     let own = ends.answer (λ e. omega (arith, e, none)) (λ e. omega (arith, e, none)) in
     let holds = holds_at_0 (audit_of (setting_of h) es) (sym own ∙ none) in
-    elim (cases_Bool (other_form h.mode == 2)) [
-      | inl two ↦
-          let same = with_echo h two in
-          let form = subst (HasForm h.mode) (other_is_echo h.mode two) (has_form h.mode) in
-          subst (λ (w : Setting). Agree w es) same
-          (c.agreement-2.ensures (deal_of h) es (is_deal h is.header echo form) (subst (λ (w : Setting). audit_of w es ≡ Holds) (sym same) holds))
-      | inr one ↦
-          let same = with_bracha h one in
-          let form = subst (HasForm h.mode) (other_is_bracha h.mode one) (has_form h.mode) in
-          subst (λ (w : Setting). Agree w es) same
-          (c.agreement.ensures (deal_of h) es (is_deal h is.header bracha form) (subst (λ (w : Setting). audit_of w es ≡ Holds) (sym same) holds))
+    let agree : (service : ServiceRules) → service.serves h.mode.root ≡ true → DealtLaw service bracha → DealtLaw service echo
+    → setting_by service (other_of h.mode) h ≡ setting_of h → Agree (setting_of h) es =
+    λ service serves plain echoed same. agree_by service h es is.header serves plain echoed same holds in
+    elim (cases_Bool (h.mode.root == 3)) [
+      | inl three ↦ agree (binary_root binary) three c.agreement-3.ensures c.agreement-4.ensures (with_binary h three)
+      | inr other ↦ agree commands (serves_commands h is.header other) c.agreement.ensures c.agreement-2.ensures (with_commands h other)
     ]

@@ -2,7 +2,7 @@ use Rattle.std.proofs.Common.{◌≡◌, true, false, sym, ◌∙◌}
 use Rattle.std.specs.Prelude.{◌==◌}
 use Rattle.ritas_core.specs.Rules.{other_form}
 use Rattle.ritas.proofs.Deals.{form_one, with_echo, with_bracha}
-use Rattle.ritas.proofs.run.replay_events.Goals as goal
+use Rattle.ritas.proofs.run.replay_with.Goals as goal
 
 pub replay_as-requires-else-has_echo-clause-form : goal.replay_as-requires-else-has_echo-clause-form
 replay_as-requires-else-has_echo-clause-form g c = form_one c.args.header.mode (sym c.has_echo.ensures ∙ c.if-has_echo.false)
@@ -10,9 +10,9 @@ replay_as-requires-else-has_echo-clause-form g c = form_one c.args.header.mode (
 pub returns-then-has_echo-clause-report : goal.returns-then-has_echo-clause-report
 returns-then-has_echo-clause-report g c = λ tells es read not_4.
     let two : (other_form c.args.header.mode == 2) ≡ true = sym c.has_echo.ensures ∙ c.if-has_echo.true in
-    rw (with_echo c.args.header two) at (c.replay_as.ensures.report tells es read not_4)
+    rw (with_echo g.S.Service.rules c.args.header two) at (c.replay_as.ensures.report tells es read not_4)
 
 pub returns-else-has_echo-clause-report : goal.returns-else-has_echo-clause-report
 returns-else-has_echo-clause-report g c = λ tells es read not_4.
     let one : (other_form c.args.header.mode == 2) ≡ false = sym c.has_echo.ensures ∙ c.if-has_echo.false in
-    rw (with_bracha c.args.header one) at (c.replay_as-else-has_echo.ensures.report tells es read not_4)
+    rw (with_bracha g.S.Service.rules c.args.header one) at (c.replay_as-else-has_echo.ensures.report tells es read not_4)
