@@ -2,10 +2,13 @@ pub mod Numbers
 pub mod Members
 pub mod Slots
 pub mod SlotOrder
+pub mod Events
 pub mod Messages
 pub mod Tags
 pub mod History
 pub mod Shortest
 pub mod Quorums
+pub mod RangeLaws
 pub mod HistoryLaws
 pub mod MessagesLaws
+pub mod Rows

@@ -48,6 +48,21 @@ pub struct Say {
     pub value: Bytes,
 }
 
+impl Item {
+    /// A copy of this item. The one error is want of memory.
+    pub fn copy(&self, alloc: Global) -> Result<Item, Mem>
+        ensures { IfOk result (λ item. item ≡ self.now) }
+    {
+        let value = self.value.copy(alloc)?;
+        Ok(Item {
+            from: self.from,
+            kind: self.kind,
+            slot: self.slot,
+            value,
+        })
+    }
+}
+
 impl Msg {
     /// The item that this message of a sender is at its receivers. The one error is want of memory.
     pub fn to_item(&self, alloc: Global, from: u8) -> Result<Item, Mem>

@@ -60,7 +60,8 @@ fn is_count(is_step: bool, high: u8, x: u8) -> bool
 }
 
 impl Slot {
-    /// The nine bytes of the slot: class, number (big-endian), try, round, step, origin.
+    /// The nine bytes of the slot: class, number (big-endian), try, round, step, origin. Slots are ordered as these bytes
+    /// are (`order_of_bytes`).
     pub fn bytes(&self) -> [u8; 9]
         ensures { result ≡ slot_bytes self.now }
     {
