@@ -1,7 +1,7 @@
 -- What a box of binary consensus means: its rules on lists of words, the newest first, when a word may come, and its law.
 -- A proposal is the word `Ask` of a bit's byte; what a slot delivered is the word `Hear` of one byte: 0, 1 or, in step 3,
 -- 2 for unmarked.
-use Rattle.std.specs.Prelude.{◌≡◌, ℕ, ◌+◌, ◌<◌, ◌≤◌, Bool, true, false, ◌==◌, List, [], ◌∷◌, ◌++◌, Option, Some, ⊤, if◌then◌else◌}
+use Rattle.std.specs.Prelude.{◌≡◌, ℕ, ◌+◌, ◌<◌, ◌≤◌, Bool, true, false, ◌==◌, List, [], ◌∷◌, ◌++◌, Option, Some, ⊤, ◌⊎◌, if◌then◌else◌}
 use Rattle.ritas_base.specs.declared.slot.Slot.{Slot}
 use Rattle.ritas_base.specs.declared.item.Say.{Say}
 use Rattle.ritas_base.specs.Numbers.{Numbers}
@@ -74,11 +74,20 @@ AreVotesSaid at before (y ∷ ys) =
     IsStepSlot at y.slot × (y.slot.origin ≡ at.me) × ((vote : ℕ) × (y.value ≡ vote ∷ []) × (vote < vote_limit y.slot.step))
     × (is_said before y.slot ≡ false) × (is_said ys y.slot ≡ false) × AreVotesSaid at before ys
 
+-- this replica's slot of a step
+abbrev pub step_slot : Bench → ℕ → ℕ → Slot
+step_slot at round step = record { class = 5; a = at.a; attempt = at.attempt; bround = round; step = step; origin = at.me }
+
 -- laws of a single value, over all words that met their conditions
 pub record BoxLaws (r : BinaryRules) : Type 0 where
   pub says_new : (at : Bench) (c : Word) (w : List Word) → AreVotes r at (c ∷ w) → AreVotesSaid at (bits_said r at w) (r.says at w c)
   pub decision_stays : (at : Bench) (c : Word) (w : List Word) (b : Bool) → AreVotes r at (c ∷ w)
       → r.decision at w ≡ Some b → r.decision at (c ∷ w) ≡ Some b
+  -- the round is the greatest whose first step was said, and 0 where none was
+  pub round_said : (at : Bench) (w : List Word) → AreVotes r at w
+      → (r.round at w ≡ 0) ⊎ (is_said (bits_said r at w) (step_slot at (r.round at w) 1) ≡ true)
+  pub round_greatest : (at : Bench) (w : List Word) (round : ℕ) → AreVotes r at w
+      → is_said (bits_said r at w) (step_slot at round 1) ≡ true → round ≤ r.round at w
   pub round_stays : (at : Bench) (c : Word) (w : List Word) → AreVotes r at (c ∷ w) → r.round at w ≤ r.round at (c ∷ w)
 
 -- one instance: which replicas are correct, and what their coins toss

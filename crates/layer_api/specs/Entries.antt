@@ -1,14 +1,13 @@
 -- Entries: what the replicas of an echo broadcast hash of a message, give to the origin, and find again in its columns.
 -- Lists of calls have the newest first.
-use Rattle.std.specs.Prelude.{◌≡◌, ℕ, Bool, false, ◌&&◌, List, [], ◌∷◌, ◌++◌, map, drop, Option, Some, None}
-use Rattle.std.specs.Int.RustNames.{count_ones}
+use Rattle.std.specs.Prelude.{◌≡◌, ℕ, Bool, false, ◌&&◌, List, [], ◌∷◌, ◌++◌, ◌*◌, map, take, drop, Option, Some, None}
 use Rattle.ritas_base.specs.declared.slot.Slot.{Slot}
 use Rattle.ritas_base.specs.declared.item.Kind.TheVariants.{Send, Column}
 use Rattle.ritas_base.specs.declared.item.Item.{Item}
 use Rattle.ritas_base.specs.Messages.{Place, kind_eq}
 use Rattle.ritas_base.specs.History.{Call, first, is_value, replicas}
 use Rattle.ritas_base.specs.Tags.{Tags}
-use Rattle.frame_codec.specs.Values.{mask_of, at_place, rows_in}
+use Rattle.frame_codec.specs.Values.{row_of}
 
 -- the entry of a message for an echoer and a verifier
 abbrev pub entry_of : Place → Tags → ℕ → ℕ → List ℕ → List ℕ
@@ -30,9 +29,9 @@ entries_for at tags (Some m) = entries_of at tags m
 abbrev pub given : Place → Tags → List Call → List (List ℕ)
 given at tags h = entries_for at tags (sent at h)
 
--- the row that a column has for an echoer, if it has one
-abbrev pub row_of : List ℕ → ℕ → Option (List ℕ)
-row_of column echoer = at_place (mask_of column) (rows_in (count_ones (mask_of column)) (drop 4 column)) echoer
+-- entry k of HASHES, which is for verifier k
+abbrev pub entry_in : ℕ → List ℕ → List ℕ
+entry_in k value = take 32 (drop (32 * k) value)
 
 -- whether a column has, for an echoer, the valid entry of a message: the one of the echoer and of this replica
 abbrev pub is_valid : Place → Tags → List ℕ → List ℕ → ℕ → Bool

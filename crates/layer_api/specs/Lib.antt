@@ -1,9 +1,12 @@
 pub mod Runs
 pub mod RunsLaws
+pub mod HasLaws
 pub mod Broadcast
 pub mod BroadcastCalls
 pub mod Entries
 pub mod OneValue
+pub mod OnceLaws
+pub mod EntryLaws
 pub mod Service
 pub mod ServiceCalls
 pub mod OneLog

@@ -1,9 +1,11 @@
 -- Runs of one slot, and the laws of a broadcast. Lists of calls and of steps have the newest first.
-use Rattle.std.specs.Prelude.{◌≡◌, ℕ, Bool, true, false, not, List, [], ◌∷◌, Option, Some, None, ⊤}
+use Rattle.std.specs.Prelude.{◌≡◌, ℕ, ◌<◌, Bool, true, false, not, List, [], ◌∷◌, Option, Some, None, is_some, ⊤}
 use Rattle.ritas_base.specs.declared.slot.Slot.{Slot}
 use Rattle.ritas_base.specs.declared.item.Kind.TheVariants.{Column}
 use Rattle.ritas_base.specs.declared.item.Item.{Item}
 use Rattle.ritas_base.specs.declared.item.Msg.{Msg}
+use Rattle.ritas_base.specs.declared.item.To.{To}
+use Rattle.ritas_base.specs.declared.item.To.TheVariants.{All, One}
 use Rattle.ritas_base.specs.declared.item.Kind.{Kind}
 use Rattle.ritas_base.specs.declared.mode.Mode.{Mode}
 use Rattle.ritas_base.specs.Numbers.{Numbers, IsSession}
@@ -12,10 +14,11 @@ use Rattle.frame_codec.specs.Format.{Is}
 use Rattle.frame_codec.specs.Grammar.{value}
 use Rattle.frame_codec.specs.Body.{IsInGrammar, is_of_broadcast}
 use Rattle.ritas_base.specs.Messages.{Place, reaches, item_of, kind_eq, has}
-use Rattle.ritas_base.specs.History.{Call, Start, Take, started}
+use Rattle.ritas_base.specs.History.{Call, Start, Take, started, first}
 use Rattle.ritas_base.specs.Tags.{Tags}
 use Rattle.layer_api.specs.Broadcast.{BroadcastRules, MayStart, MayTake}
-use Rattle.layer_api.specs.Entries.{given, met, is_claim, row_of, Print, IsApart}
+use Rattle.layer_api.specs.Entries.{given, met, is_claim, Print, IsApart}
+use Rattle.frame_codec.specs.Values.{row_of}
 use Rattle.layer_api.specs.Runs.{Step, calls_of, Has, IsEnough}
 
 -- among these messages is the one that the item came from, and it was for replica j
@@ -93,6 +96,22 @@ AreTaken r at tags [] = ⊤
 AreTaken r at tags (Start v ∷ h) = MayStart at h × AreTaken r at tags h
 AreTaken r at tags (Take x ∷ h) = MayTake r at tags h x × AreTaken r at tags h
 
+-- no item of these repeats one that was taken before it
+abbrev pub AreFirst : BroadcastRules → Place → Tags → List Call → Type 0
+AreFirst r at tags [] = ⊤
+AreFirst r at tags (Start v ∷ h) = AreFirst r at tags h
+AreFirst r at tags (Take x ∷ h) = (r.repeats at tags h x ≡ false) × AreFirst r at tags h
+
+-- a message is for all, or for one of n replicas
+abbrev pub IsReceiver : ℕ → To → Type 0
+IsReceiver n All = ⊤
+IsReceiver n (One k) = k < n
+
+-- each message stands there once
+abbrev pub IsOnce : List Msg → Type 0
+IsOnce [] = ⊤
+IsOnce (m ∷ ms) = (has ms m ≡ false) × IsOnce ms
+
 -- the values started, and the items taken, are in the grammar of this slot
 abbrev pub AreGoodCalls : Numbers → Mode → Slot → List Call → Type 0
 AreGoodCalls p mode s [] = ⊤
@@ -117,12 +136,18 @@ pub record ValueLaws (r : BroadcastRules) : Type 0 where
   pub due_stays : (at : Place) (tags : Tags) (h : List Call) (c : Call) (m : Msg) → has (r.due at tags h) m ≡ true → has (r.due at tags (c ∷ h)) m ≡ true
   pub due_slot : (at : Place) (tags : Tags) (h : List Call) (m : Msg) → has (r.due at tags h) m ≡ true → m.slot ≡ at.slot
   pub due_kind : (at : Place) (tags : Tags) (h : List Call) (m : Msg) → Has (r.due at tags h) m → r.has_kind m.kind ≡ true
+  pub due_to : (at : Place) (tags : Tags) (h : List Call) (m : Msg) → at.slot.origin < at.numbers.n → Has (r.due at tags h) m → IsReceiver at.numbers.n m.to
+  -- and it is due once, where no item was taken twice
+  pub due_once : (at : Place) (tags : Tags) (h : List Call) → AreTaken r at tags h → AreFirst r at tags h → IsOnce (r.due at tags h)
   -- where the values started and the items taken are in the grammar, each message and what is delivered are
   pub due_good : (at : Place) (tags : Tags) (mode : Mode) (h : List Call) (m : Msg) → IsOfSlot r at.numbers mode at.slot → AreGoodCalls at.numbers mode at.slot h
       → Has (r.due at tags h) m → IsInGrammar at.numbers mode (item_of at.me m)
   pub out_good : (at : Place) (tags : Tags) (mode : Mode) (h : List Call) (v : List ℕ) → IsOfSlot r at.numbers mode at.slot → AreGoodCalls at.numbers mode at.slot h
       → r.out at tags h ≡ Some v → Is (value at.numbers mode.root at.slot) v
-  -- nothing is repeated at first
+  -- nothing is repeated at first; an item that isn't a column repeats exactly where one of its kind and sender was taken
   pub repeats_nothing : (at : Place) (tags : Tags) (i : Item) → r.repeats at tags [] i ≡ false
-  -- at first all that isn't a column can be taken
+  pub repeats_is : (at : Place) (tags : Tags) (h : List Call) (i : Item) → kind_eq i.kind Column ≡ false
+      → r.repeats at tags h i ≡ is_some (first h i.from i.kind)
+  -- at first all that isn't a column can be taken, and what can be taken still can be later
+  pub ready_stays : (at : Place) (tags : Tags) (h : List Call) (c : Call) (i : Item) → r.ready at tags h i ≡ true → r.ready at tags (c ∷ h) i ≡ true
   pub ready_nothing : (at : Place) (tags : Tags) (i : Item) → r.has_kind i.kind ≡ true → r.ready at tags [] i ≡ not (kind_eq i.kind Column)

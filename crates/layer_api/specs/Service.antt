@@ -1,12 +1,12 @@
 -- What a service means: its rules on lists of words, the newest first, and when a word may come.
-use Rattle.std.specs.Prelude.{◌≡◌, ℕ, ◌+◌, ◌<◌, ◌≤◌, ◌⊎◌, nat_lt, nat_le, Bool, true, false, ◌==◌, ◌&&◌, ◌||◌, List, [], ◌∷◌, ◌++◌, Option, Some, None, if◌then◌else◌}
+use Rattle.std.specs.Prelude.{◌≡◌, ℕ, ◌+◌, ◌<◌, ◌≤◌, ◌⊎◌, nat_lt, nat_le, Bool, true, false, not, ◌==◌, ◌&&◌, ◌||◌, List, [], ◌∷◌, ◌++◌, length, Option, Some, None, ⊤, if◌then◌else◌}
 use Rattle.std.specs.List.{list_any}
 use Rattle.ritas_base.specs.declared.slot.Slot.{Slot}
 use Rattle.ritas_base.specs.declared.item.Say.{Say}
 use Rattle.ritas_base.specs.declared.id.Id.{Id}
 use Rattle.ritas_base.specs.declared.mode.Mode.{Mode}
 use Rattle.ritas_base.specs.Numbers.{Numbers, IsSession}
-use Rattle.ritas_base.specs.Slots.{slot_fault, has_class}
+use Rattle.ritas_base.specs.Slots.{slot_fault, has_class, within, command_slot}
 use Rattle.frame_codec.specs.Format.{Is}
 use Rattle.frame_codec.specs.Grammar.{value}
 use Rattle.frame_codec.specs.Inputs.{IsInput}
@@ -17,9 +17,10 @@ pub data Word : Type 0 where
   Ask : List ℕ → Word
   Hear : Slot → List ℕ → Word
 
--- the replica that a service's value is for, and its coin
+-- the session and the replica that a service's value is for, and its coin
 pub record Seat : Type 0 where
   pub numbers : Numbers
+  pub mode : Mode
   pub me : ℕ
   pub coin : Slot → Bool
 
@@ -42,10 +43,6 @@ pub data Ending : Type 0 where
   Undecided : Ending
   Over : Ending
   Decided : Decision → Ending
-
--- the slot of a command
-abbrev pub command_slot : ℕ → ℕ → Slot
-command_slot origin num = record { class = 1; a = num; attempt = 0; bround = 0; step = 0; origin = origin }
 
 -- whether the slot was heard
 abbrev pub is_heard : List Word → Slot → Bool
@@ -86,6 +83,11 @@ pub record ServiceRules : Type 0 where
 abbrev pub is_said : List Say → Slot → Bool
 is_said says s = list_any (λ y. is_slot y.slot s) says
 
+-- the value that is said at a slot, if one is: that of the first of these says that is at it
+abbrev pub said_value : List Say → Slot → Option (List ℕ)
+said_value [] s = None
+said_value (y ∷ ys) s = if is_slot y.slot s then Some y.value else said_value ys s
+
 -- all that was said
 abbrev pub said : ServiceRules → Seat → List Word → List Say
 said r seat [] = []
@@ -99,14 +101,22 @@ is_past r seat w s = if s.class == 1 then nat_lt (s.a + 64) (r.base seat w s.ori
 abbrev pub is_ahead : ServiceRules → Seat → List Word → Slot → Bool
 is_ahead r seat w s = if s.class == 1 then nat_le (r.base seat w s.origin + 64) s.a else nat_lt (r.completed seat w + 4) s.a
 
--- an input may be given: the one of a root service with one instance isn't there, and the next number lies in the window
-pub record MayAsk (r : ServiceRules) (seat : Seat) (w : List Word) : Type 0 where
+-- an input of the root service may be given: the one of a root service with one instance isn't there, and the next number lies in
+-- the window
+pub record MayAsk (r : ServiceRules) (seat : Seat) (w : List Word) (v : List ℕ) : Type 0 where
+  pub session : IsSession seat.numbers
+  pub served : r.serves seat.mode.root ≡ true
+  pub good : IsInput seat.numbers seat.mode v
   pub first : r.given seat w ≡ false
   pub room : r.next_number seat w < r.base seat w seat.me + 64
   pub number : r.next_number seat w < 1000000
 
--- a slot is heard once, inside the window, and while its items may be taken
-pub record MayHear (r : ServiceRules) (seat : Seat) (w : List Word) (s : Slot) : Type 0 where
+-- a slot of the root service is heard once, inside the window, while its items may be taken, and with a value of its grammar
+pub record MayHear (r : ServiceRules) (seat : Seat) (w : List Word) (s : Slot) (v : List ℕ) : Type 0 where
+  pub session : IsSession seat.numbers
+  pub served : r.serves seat.mode.root ≡ true
+  pub right : slot_fault seat.numbers seat.mode s ≡ None
+  pub good : Is (value seat.numbers seat.mode.root s) v
   pub origin : s.origin < seat.numbers.n
   pub number : s.a < 1000000
   pub not_past : is_past r seat w s ≡ false
@@ -117,8 +127,8 @@ pub record MayHear (r : ServiceRules) (seat : Seat) (w : List Word) (s : Slot) :
 -- the conditions that each of these words met
 abbrev pub AreProper : ServiceRules → Seat → List Word → Type 0
 AreProper r seat [] = Unit {0}
-AreProper r seat (Ask v ∷ w) = MayAsk r seat w × AreProper r seat w
-AreProper r seat (Hear s v ∷ w) = MayHear r seat w s × AreProper r seat w
+AreProper r seat (Ask v ∷ w) = MayAsk r seat w v × AreProper r seat w
+AreProper r seat (Hear s v ∷ w) = MayHear r seat w s v × AreProper r seat w
 
 -- each is at one of the replica's own slots, where nothing was said before nor is by another of them
 abbrev pub AreNew : ServiceRules → Seat → List Word → List Say → Type 0
@@ -185,21 +195,66 @@ abbrev pub HasSay : List Say → Say → Type 0
 HasSay [] y = ⊥
 HasSay (x ∷ xs) y = (x ≡ y) ⊎ HasSay xs y
 
+-- whether a command of an origin is finished: it is in the identifier log in root service 6, and else it was delivered
+abbrev pub is_finished : ServiceRules → Seat → List Word → ℕ → ℕ → Bool
+is_finished r seat w origin num =
+    if seat.mode.root == 6 then has_id (r.done seat w) (record { origin = origin; num = num }) else is_heard w (command_slot origin num)
+
+-- b is the least number that isn't finished
+pub record IsBase (finished : ℕ → Bool) (b : ℕ) : Type 0 where
+  pub missing : finished b ≡ false
+  pub below : (k : ℕ) → k < b → finished k ≡ true
+
+-- a root service that has one instance, and one input for it
+abbrev pub has_instance : ℕ → Bool
+has_instance root = within 3 5 root
+
+-- what may become of the one instance of a root service; root service 6 has none, but that the vector consensus of its round
+-- may be spent
+abbrev pub IsEnding : ℕ → Ending → Type 0
+IsEnding root Undecided = ⊤
+IsEnding root Over = root ≡ 3
+IsEnding root (Decided (Bit b)) = root ≡ 3
+IsEnding root (Decided Nothing) = root ≡ 4
+IsEnding root (Decided (Value v)) = (root ≡ 4) ⊎ (root ≡ 5)
+IsEnding root (Decided Spent) = (root ≡ 5) ⊎ (root ≡ 6)
+
+-- what the getters mean, in each root service
+pub record Meanings (r : ServiceRules) (seat : Seat) (w : List Word) : Type 0 where
+  -- the inputs taken, in the root services of commands, and 0 in the others
+  pub next_number : r.next_number seat w ≡ (if has_class seat.mode.root 1 then asked w else 0)
+  -- the one input is there
+  pub given : r.given seat w ≡ (has_instance seat.mode.root && not (asked w == 0))
+  -- rounds are those of root service 6
+  pub completed : nat_le seat.mode.root 5 ≡ true → r.completed seat w ≡ 0
+  -- the least command number of an origin that isn't finished, and 0 where there are no commands
+  pub base : (o : ℕ) → has_class seat.mode.root 1 ≡ true → IsBase (is_finished r seat w o) (r.base seat w o)
+  pub base_none : (o : ℕ) → has_instance seat.mode.root ≡ true → r.base seat w o ≡ 0
+  -- the identifier log is that of root service 6; it is never longer than there are numbers
+  pub done : nat_le seat.mode.root 5 ≡ true → r.done seat w ≡ []
+  pub done_few : length (r.done seat w) ≤ 31000000
+  pub outcome : IsEnding seat.mode.root (r.outcome seat w)
+
 -- laws of a single value, over all words that met their conditions
 pub record WordLaws (r : ServiceRules) : Type 0 where
+  -- each getter is what its root service says
+  pub meanings : (seat : Seat) (w : List Word) → IsSession seat.numbers → r.serves seat.mode.root ≡ true → AreProper r seat w → Meanings r seat w
+  -- what is open stays open, as long as its window isn't past
+  pub opens_stays : (seat : Seat) (c : Word) (w : List Word) (s : Slot) → AreProper r seat (c ∷ w) → r.opens seat w s ≡ true
+      → is_past r seat (c ∷ w) s ≡ false → r.opens seat (c ∷ w) s ≡ true
   -- what is said is at new slots of this replica
   pub says_new : (seat : Seat) (c : Word) (w : List Word) → AreProper r seat (c ∷ w) → AreNew r seat w (r.says seat w c)
-  -- and in the grammar, where all that came is
-  pub says_good : (seat : Seat) (mode : Mode) (c : Word) (w : List Word) → IsSession seat.numbers → seat.me < seat.numbers.n → r.serves mode.root ≡ true
-      → AreProper r seat (c ∷ w) → AreGoodWords seat.numbers mode (c ∷ w) → AreGoodSays seat.numbers mode (r.says seat w c)
+  -- and in the grammar
+  pub says_good : (seat : Seat) (c : Word) (w : List Word) → seat.me < seat.numbers.n
+      → AreProper r seat (c ∷ w) → AreGoodSays seat.numbers seat.mode (r.says seat w c)
   -- a command slot is said for an input alone, and is that of the replica's next number
   pub commands_said : (seat : Seat) (c : Word) (w : List Word) → AreProper r seat (c ∷ w) → AreInputs seat w c (r.says seat w c)
   -- in a root service of commands each input is said, in its own call
-  pub inputs_said : (seat : Seat) (mode : Mode) (v : List ℕ) (w : List Word) → r.serves mode.root ≡ true → has_class mode.root 1 ≡ true
+  pub inputs_said : (seat : Seat) (v : List ℕ) (w : List Word) → has_class seat.mode.root 1 ≡ true
       → AreProper r seat (Ask v ∷ w) → HasSay (r.says seat w (Ask v)) (record { slot = command_slot seat.me (asked w); value = v })
   -- the windows never go back
-  pub completed_stays : (seat : Seat) (c : Word) (w : List Word) → r.completed seat w ≤ r.completed seat (c ∷ w)
-  pub base_stays : (seat : Seat) (c : Word) (w : List Word) (o : ℕ) → r.base seat w o ≤ r.base seat (c ∷ w) o
+  pub completed_stays : (seat : Seat) (c : Word) (w : List Word) → AreProper r seat (c ∷ w) → r.completed seat w ≤ r.completed seat (c ∷ w)
+  pub base_stays : (seat : Seat) (c : Word) (w : List Word) (o : ℕ) → AreProper r seat (c ∷ w) → r.base seat w o ≤ r.base seat (c ∷ w) o
   -- the identifier log grows at its end alone, has each identifier once, and each was heard at its command slot
   pub done_nothing : (seat : Seat) → r.done seat [] ≡ []
   pub done_grows : (seat : Seat) (c : Word) (w : List Word) → AreProper r seat (c ∷ w) → Appends r seat c w

@@ -14,14 +14,14 @@ HasCoin seat bits = (s : Slot) → seat.coin s ≡ bits s
 
 -- the input was taken, and what is newly said is put out
 pub record TakesInput {S : Type 0} (stands : S → Seat → List Word → Type 0) (r : ServiceRules) (old new : S) (value : List ℕ) (before after : List Say) : Type 0 where
-  pub grows : (seat : Seat) (w : List Word) → stands old seat w → MayAsk r seat w → stands new seat (Ask value ∷ w)
-  pub made : (seat : Seat) (w : List Word) → stands old seat w → MayAsk r seat w → after ≡ before ++ r.says seat w (Ask value)
+  pub grows : (seat : Seat) (w : List Word) → stands old seat w → MayAsk r seat w value → stands new seat (Ask value ∷ w)
+  pub made : (seat : Seat) (w : List Word) → stands old seat w → MayAsk r seat w value → after ≡ before ++ r.says seat w (Ask value)
 
 -- what a slot delivered was heard, and what is newly said is put out
 pub record Hears {S : Type 0} (stands : S → Seat → List Word → Type 0) (r : ServiceRules) (bits : Slot → Bool) (old new : S) (slot : Slot) (value : List ℕ) (before after : List Say) : Type 0 where
-  pub grows : (seat : Seat) (w : List Word) → stands old seat w → HasCoin seat bits → MayHear r seat w slot
+  pub grows : (seat : Seat) (w : List Word) → stands old seat w → HasCoin seat bits → MayHear r seat w slot value
       → stands new seat (Hear slot value ∷ w)
-  pub made : (seat : Seat) (w : List Word) → stands old seat w → HasCoin seat bits → MayHear r seat w slot
+  pub made : (seat : Seat) (w : List Word) → stands old seat w → HasCoin seat bits → MayHear r seat w slot value
       → after ≡ before ++ r.says seat w (Hear slot value)
 
 -- what the getters of a service's value answer; the identifier log has the newest first
@@ -44,17 +44,21 @@ pub record Shows (r : ServiceRules) (seat : Seat) (w : List Word) (shown : Servi
   pub done : shown.done ≡ r.done seat w
   pub outcome : shown.outcome ≡ r.outcome seat w
 
--- after want of memory each answers as after the words before the call, or as after them and the call's; and the
--- identifier log is between those of the two
-pub record ShowsNear (r : ServiceRules) (seat : Seat) (w : List Word) (c : Word) (shown : ServiceShown) : Type 0 where
-  pub opens : (s : Slot) → (shown.opens s ≡ r.opens seat w s) ⊎ (shown.opens s ≡ r.opens seat (c ∷ w) s)
-  pub completed : (shown.completed ≡ r.completed seat w) ⊎ (shown.completed ≡ r.completed seat (c ∷ w))
-  pub base : (o : ℕ) → o < seat.numbers.n → (shown.base o ≡ r.base seat w o) ⊎ (shown.base o ≡ r.base seat (c ∷ w) o)
-  pub next_number : (shown.next_number ≡ r.next_number seat w) ⊎ (shown.next_number ≡ r.next_number seat (c ∷ w))
-  pub given : (shown.given ≡ r.given seat w) ⊎ (shown.given ≡ r.given seat (c ∷ w))
+-- each answers as after the first of two lists of words, or as after the second; and the identifier log is between those of
+-- the two
+pub record ShowsBetween (r : ServiceRules) (seat : Seat) (w later : List Word) (shown : ServiceShown) : Type 0 where
+  pub opens : (s : Slot) → (shown.opens s ≡ r.opens seat w s) ⊎ (shown.opens s ≡ r.opens seat later s)
+  pub completed : (shown.completed ≡ r.completed seat w) ⊎ (shown.completed ≡ r.completed seat later)
+  pub base : (o : ℕ) → o < seat.numbers.n → (shown.base o ≡ r.base seat w o) ⊎ (shown.base o ≡ r.base seat later o)
+  pub next_number : (shown.next_number ≡ r.next_number seat w) ⊎ (shown.next_number ≡ r.next_number seat later)
+  pub given : (shown.given ≡ r.given seat w) ⊎ (shown.given ≡ r.given seat later)
   pub done_before : IsPart (r.done seat w) shown.done
-  pub done_after : IsPart shown.done (r.done seat (c ∷ w))
-  pub outcome : (shown.outcome ≡ r.outcome seat w) ⊎ (shown.outcome ≡ r.outcome seat (c ∷ w))
+  pub done_after : IsPart shown.done (r.done seat later)
+  pub outcome : (shown.outcome ≡ r.outcome seat w) ⊎ (shown.outcome ≡ r.outcome seat later)
+
+-- after want of memory they do so with the words before the call, and with these and the call's
+abbrev pub ShowsNear : ServiceRules → Seat → List Word → Word → ServiceShown → Type 0
+ShowsNear r seat w c shown = ShowsBetween r seat w (c ∷ w) shown
 
 -- for want of memory nothing is put out, and the value is live no more
 pub record Fails {S : Type 0} (stands : S → Seat → List Word → Type 0) (r : ServiceRules) (is_live : S → Bool) (shown : S → ServiceShown)
@@ -67,13 +71,13 @@ pub record Fails {S : Type 0} (stands : S → Seat → List Word → Type 0) (r 
 abbrev pub Inputs : {S : Type 0} → (S → Seat → List Word → Type 0) → ServiceRules → (S → Bool) → (S → ServiceShown) → S → S → List ℕ → List Say → List Say → Result (Unit {0}) Mem → Type 0
 Inputs stands r is_live shown old new value before after (Ok u) = TakesInput stands r old new value before after
 Inputs stands r is_live shown old new value before after (Err e) =
-    Fails stands r is_live shown old new (Ask value) (λ seat w. MayAsk r seat w) before after
+    Fails stands r is_live shown old new (Ask value) (λ seat w. MayAsk r seat w value) before after
 
 -- each outcome of what a slot delivered
 abbrev pub Heeds : {S : Type 0} → (S → Seat → List Word → Type 0) → ServiceRules → (S → Bool) → (S → ServiceShown) → (Slot → Bool) → S → S → Slot → List ℕ → List Say → List Say → Result (Unit {0}) Mem → Type 0
 Heeds stands r is_live shown bits old new slot value before after (Ok u) = Hears stands r bits old new slot value before after
 Heeds stands r is_live shown bits old new slot value before after (Err e) =
-    Fails stands r is_live shown old new (Hear slot value) (λ seat w. HasCoin seat bits × MayHear r seat w slot) before after
+    Fails stands r is_live shown old new (Hear slot value) (λ seat w. HasCoin seat bits × MayHear r seat w slot value) before after
 
 -- what an outcome says
 abbrev pub ending_of : Outcome → Ending

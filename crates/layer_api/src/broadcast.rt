@@ -1,4 +1,4 @@
-ghost use Rattle.std.specs.Prelude.{◌≡◌, ℕ, ◌<◌, ◌==◌, Bool, true, false, List, [], Option, IfOk};
+ghost use Rattle.std.specs.Prelude.{◌≡◌, ℕ, ◌<◌, ◌==◌, Bool, true, false, List, [], IfOk};
 ghost use Rattle.std.specs.Option.{option_copied};
 ghost use Rattle.ritas_base.specs.declared.item.Kind.{Kind};
 ghost use Rattle.ritas_base.specs.declared.item.Msg.{Msg};
@@ -7,8 +7,9 @@ ghost use Rattle.ritas_base.specs.Messages.{Place};
 ghost use Rattle.ritas_base.specs.History.{Call};
 ghost use Rattle.ritas_base.specs.Tags.{Tags};
 ghost use Rattle.layer_api.specs.Broadcast.{BroadcastRules, Tagging};
-ghost use Rattle.layer_api.specs.BroadcastCalls.{Started, Takes};
+ghost use Rattle.layer_api.specs.BroadcastCalls.{CastShown, ShowsCast, Started, Takes};
 ghost use Rattle.layer_api.specs.OneValue.{ValueLaws, OneValue};
+ghost use Rattle.layer_api.specs.EntryLaws.{EntryLaws};
 
 use ritas_base::{Item, Mem, Msg, Params, Slot, Tagger};
 use std::alloc::Global;
@@ -36,8 +37,8 @@ pub trait Broadcast: Drop + Sized {
     /// The form: 1 reliable, 2 echo.
     ghost FORM: { ℕ };
 
-    /// What `delivered` answers.
-    ghost shown: { Self → Option (List ℕ) };
+    /// What its getters answer.
+    ghost shown: { Self → CastShown };
 
     /// Which broadcast it is: 1 is reliable broadcast, 2 is echo broadcast.
     const FORM: u8;
@@ -74,24 +75,27 @@ pub trait Broadcast: Drop + Sized {
 
     /// Whether an item of this slot and broadcast can be taken yet.
     fn ready_for(&self, item: &Item) -> bool
-        ensures { (at : Place) (tags : Tags) (h : List Call) → stands self.now at tags h → result ≡ rules.ready at tags h item.now };
+        ensures { result ≡ (shown self.now).ready item.now };
 
     /// What is delivered, if anything is.
     fn delivered(&self) -> Option<&[u8]>
-        ensures { option_copied result ≡ shown self.now };
+        ensures { option_copied result ≡ (shown self.now).out };
 
     /// Whether no call on this value answered want of memory.
     fn live(&self) -> bool
         ensures { result ≡ live self.now };
 
-    /// A value that stands for some calls is live, and shows what is delivered after them.
-    ghost shows: { (b : Self) (at : Place) (tags : Tags) (h : List Call) → stands b at tags h → (live b ≡ true) × (shown b ≡ rules.out at tags h) };
+    /// A value that stands for some calls is live, and its getters answer what the rules say.
+    ghost shows: { (b : Self) (at : Place) (tags : Tags) (h : List Call) → stands b at tags h → (live b ≡ true) × ShowsCast rules at tags h (shown b) };
 
     /// It has the kinds of its form.
     ghost kinds: { (kind : Kind) → rules.has_kind kind ≡ is_of_broadcast (FORM == 2) kind };
 
     /// The laws of a single value.
     ghost value_laws: { ValueLaws rules };
+
+    /// Where the entries come from that its messages carry.
+    ghost entry_laws: { EntryLaws rules };
 
     /// The law of one value, over every run of correct replicas.
     ghost one_value: { OneValue rules };
