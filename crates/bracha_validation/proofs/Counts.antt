@@ -1,5 +1,5 @@
 -- Sets of votes by their counts.
-use Rattle.std.proofs.Common.{◌≡◌, ℕ, zero, suc, ◌+◌, ◌*◌, ◌<◌, ◌≤◌, Bool, true, false, not, ◌&&◌, ◌==◌, List, [], ◌∷◌, ◌++◌, replicate, length, count_by, cond, refl, ◌∙◌, ap, arith, eqb-true, ne_eqb}
+use Rattle.std.proofs.Common.{◌≡◌, ℕ, zero, suc, ◌+◌, ◌*◌, ◌<◌, ◌≤◌, Bool, true, ◌==◌, List, [], ◌∷◌, ◌++◌, replicate, length, cond, ◌∙◌, ap, arith, ne_eqb}
 use Rattle.std.proofs.lemmas.Bool.{or_left, or_right}
 use Rattle.std.proofs.lemmas.List.{length-append, length-replicate}
 use Rattle.std.proofs.lemmas.List.Folds.{sum_by-replicate}
@@ -8,25 +8,7 @@ use Rattle.ritas_base.specs.Quorums.{count_no}
 use Rattle.bracha_validation.specs.declared.tally.Tally.{Tally}
 use Rattle.bracha_validation.specs.Votes.{votes, some_set}
 use Rattle.bracha_validation.specs.Tallies.{vote_count, tally_votes, IsTally}
-use Rattle.bracha_validation.proofs.Choices.{picked, one_more, fewer}
-
--- votes that are no bit
-abbrev pub no_bit : ℕ → Bool
-no_bit x = not (x == 0) && not (x == 1)
-
--- a bit or no bit
-pub length_three : (xs : List ℕ) → length xs ≡ votes 0 xs + votes 1 xs + count_by no_bit xs
-length_three [] = refl
-length_three (x ∷ xs) = go (x == 0) (x == 1) refl refl (one_more (λ y. y == 0) x xs) (one_more (λ y. y == 1) x xs) (one_more no_bit x xs) (length_three xs)
-  where
-    go : (a b : Bool) → (x == 0) ≡ a → (x == 1) ≡ b
-        → votes 0 (x ∷ xs) ≡ cond a 1 0 + votes 0 xs → votes 1 (x ∷ xs) ≡ cond b 1 0 + votes 1 xs
-        → count_by no_bit (x ∷ xs) ≡ cond (not a && not b) 1 0 + count_by no_bit xs
-        → length xs ≡ votes 0 xs + votes 1 xs + count_by no_bit xs → length (x ∷ xs) ≡ votes 0 (x ∷ xs) + votes 1 (x ∷ xs) + count_by no_bit (x ∷ xs)
-    go true true p q a b c e = let l = eqb-true x 0 p in let m = eqb-true x 1 q in absurd (omega arith)
-    go true false p q a b c e = omega arith
-    go false true p q a b c e = omega arith
-    go false false p q a b c e = omega arith
+use Rattle.bracha_validation.specs.PickLaws.{picked, one_more, fewer, no_bit, length_three}
 
 -- a set of m votes that passes has no more votes of each value than there are
 pub record FoundSet (test : List ℕ → Bool) (m z o u : ℕ) : Type 0 where

@@ -6,7 +6,7 @@ use Rattle.bracha_validation.specs.declared.tally.Tally.{Tally}
 use Rattle.bracha_validation.specs.Votes.{votes, gives, may_give}
 use Rattle.bracha_validation.specs.Tallies.{vote_count, tally_votes, IsTally}
 use Rattle.bracha_validation.proofs.Counts.{FoundSet, PassesAll, set_found, set_made, tally_is}
-use Rattle.bracha_validation.proofs.Rules.{first_gives, second_gives, third_gives, first_may, second_may, third_may, gives_same}
+use Rattle.bracha_validation.specs.RuleLaws.{first_gives, second_gives, third_gives, first_may, second_may, third_may, gives_same}
 
 same_bool : (a b : Bool) → (a ≡ true → b ≡ true) → (b ≡ true → a ≡ true) → a ≡ b
 same_bool true b f g = sym (f refl)

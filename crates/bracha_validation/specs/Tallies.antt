@@ -1,7 +1,8 @@
 -- Votes and their counts.
 use Rattle.std.specs.Prelude.{◌≡◌, ℕ, ◌+◌, List, ◌++◌, length, replicate}
 use Rattle.bracha_validation.specs.declared.tally.Tally.{Tally}
-use Rattle.bracha_validation.specs.Votes.{votes}
+use Rattle.ritas_base.specs.Numbers.{Numbers}
+use Rattle.bracha_validation.specs.Votes.{votes, may_give}
 
 abbrev pub vote_count : Tally → ℕ
 vote_count t = t.zeros + t.ones + t.nones
@@ -16,3 +17,8 @@ pub record IsTally (t : Tally) (vs : List ℕ) : Type 0 where
   pub ones : votes 1 vs ≡ t.ones
   pub nones : votes 2 vs ≡ t.nones
   pub all : length vs ≡ vote_count t
+
+-- whether some set of n - f votes gives a value depends on the counts of the votes alone
+abbrev pub DependsOnCounts : Type 0
+DependsOnCounts =
+    (p : Numbers) (step value : ℕ) (t : Tally) (vs : List ℕ) → IsTally t vs → may_give p step value vs ≡ may_give p step value (tally_votes t)

@@ -1,16 +1,16 @@
 ghost use Rattle.std.specs.Prelude.{◌≡◌, ℕ, Bool, true, List, ◌↔◌};
 ghost use Rattle.ritas_base.specs.Numbers.{Numbers};
 ghost use Rattle.bracha_validation.specs.declared.tally.Tally.{Tally};
-ghost use Rattle.bracha_validation.specs.Votes.{some_set, may_give};
-ghost use Rattle.bracha_validation.specs.Tallies.{tally_votes, IsTally};
+ghost use Rattle.bracha_validation.specs.Votes.{some_set, gives};
+ghost use Rattle.bracha_validation.specs.Tallies.{tally_votes, IsTally, DependsOnCounts};
 ghost use Rattle.bracha_validation.specs.Picks.{PassingSet};
+ghost use Rattle.bracha_validation.specs.RuleLaws.{FirstSays, SecondSays, ThirdSays};
 
 /// Whether some set of n - f votes gives a value depends on the counts of the votes alone, in whatever order they stand.
 ///
 /// It does nothing: its contract is the law.
 pub fn set_of_votes()
-    ensures same { (p : Numbers) (step value : ℕ) (t : Tally) (vs : List ℕ) → IsTally t vs
-        → may_give p step value vs ≡ may_give p step value (tally_votes t) }
+    ensures same { DependsOnCounts }
     ensures itself { (t : Tally) → IsTally t (tally_votes t) }
 {}
 
@@ -19,4 +19,13 @@ pub fn set_of_votes()
 /// It does nothing: its contract is the law.
 pub fn set_is_picked()
     ensures { (test : List ℕ → Bool) (m : ℕ) (vs : List ℕ) → (some_set test m vs ≡ true) ↔ PassingSet test m vs }
+{}
+
+/// What the rule of each step gives, in inequalities of counts.
+///
+/// It does nothing: its contract is the law.
+pub fn rules_by_counts()
+    ensures first { (p : Numbers) (vs : List ℕ) (value : ℕ) → (gives p 1 vs value ≡ true) ↔ FirstSays vs value }
+    ensures second { (p : Numbers) (vs : List ℕ) (value : ℕ) → (gives p 2 vs value ≡ true) ↔ SecondSays p vs value }
+    ensures third { (p : Numbers) (vs : List ℕ) (value : ℕ) → (gives p 3 vs value ≡ true) ↔ ThirdSays p vs value }
 {}

@@ -14,5 +14,5 @@ mod tally;
 mod tests;
 
 pub use following::may_follow;
-pub use laws::{set_is_picked, set_of_votes};
+pub use laws::{rules_by_counts, set_is_picked, set_of_votes};
 pub use tally::Tally;

@@ -15,6 +15,7 @@ fn tally(zeros: u8, ones: u8, nones: u8) -> Tally
 fn votes_of_four(rt: HostRuntime) {
     set_of_votes();
     set_is_picked();
+    rules_by_counts();
     let p = Params::new(4, 1).unwrap();
     assert!(rt; !may_follow(&p, 3, 1, &tally(1, 2, 0)) && may_follow(&p, 3, 1, &tally(1, 3, 0)));
     assert!(rt; !may_follow(&p, 2, 0, &tally(1, 2, 0)));

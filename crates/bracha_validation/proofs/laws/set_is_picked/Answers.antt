@@ -1,4 +1,4 @@
-use Rattle.bracha_validation.proofs.Choices.{picked, set_passes}
+use Rattle.bracha_validation.specs.PickLaws.{picked, set_passes}
 use Rattle.bracha_validation.proofs.laws.set_is_picked.Goals as goal
 
 pub returns : goal.returns

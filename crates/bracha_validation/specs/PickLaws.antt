@@ -1,8 +1,9 @@
--- The literal choice of a set, as a relation.
-use Rattle.std.proofs.Common.{◌≡◌, ℕ, zero, suc, ◌≤◌, ◌+◌, Bool, true, List, [], ◌∷◌, length, count_by, cond, refl, sym, ap, subst, inl, inr, arith}
+-- The choice of a set as it stands in the rules, and as a relation; and counts of votes.
+use Rattle.std.specs.Prelude.{◌≡◌, ℕ, zero, suc, ◌≤◌, ◌+◌, ◌==◌, ◌&&◌, Bool, true, false, not, List, [], ◌∷◌, length, count_by, cond, refl}
+use Rattle.std.proofs.Common.{sym, ap, subst, inl, inr, arith, eqb-true}
 use Rattle.std.proofs.lemmas.Bool.{or_cases, or_left, or_right}
 use Rattle.std.proofs.lemmas.List.Sums.{sum_by-cons}
-use Rattle.bracha_validation.specs.Votes.{some_set}
+use Rattle.bracha_validation.specs.Votes.{votes, some_set}
 use Rattle.bracha_validation.specs.Picks.{IsPick, PassingSet}
 
 one_more_choice : (ys : List ℕ) (v : ℕ) (vs : List ℕ) → IsPick ys vs → IsPick ys (v ∷ vs)
@@ -48,3 +49,21 @@ fewer s (y ∷ ys) (v ∷ vs) (inl here) =
 fewer s (y ∷ ys) (v ∷ vs) (inr there) =
     let b = one_more s v vs in
     omega (arith, b, fewer s (y ∷ ys) vs there)
+
+-- votes that are no bit
+abbrev pub no_bit : ℕ → Bool
+no_bit x = not (x == 0) && not (x == 1)
+
+-- a bit or no bit
+pub length_three : (xs : List ℕ) → length xs ≡ votes 0 xs + votes 1 xs + count_by no_bit xs
+length_three [] = refl
+length_three (x ∷ xs) = go (x == 0) (x == 1) refl refl (one_more (λ y. y == 0) x xs) (one_more (λ y. y == 1) x xs) (one_more no_bit x xs) (length_three xs)
+  where
+    go : (a b : Bool) → (x == 0) ≡ a → (x == 1) ≡ b
+        → votes 0 (x ∷ xs) ≡ cond a 1 0 + votes 0 xs → votes 1 (x ∷ xs) ≡ cond b 1 0 + votes 1 xs
+        → count_by no_bit (x ∷ xs) ≡ cond (not a && not b) 1 0 + count_by no_bit xs
+        → length xs ≡ votes 0 xs + votes 1 xs + count_by no_bit xs → length (x ∷ xs) ≡ votes 0 (x ∷ xs) + votes 1 (x ∷ xs) + count_by no_bit (x ∷ xs)
+    go true true p q a b c e = let l = eqb-true x 0 p in let m = eqb-true x 1 q in absurd (omega arith)
+    go true false p q a b c e = omega arith
+    go false true p q a b c e = omega arith
+    go false false p q a b c e = omega arith

@@ -1,5 +1,6 @@
 -- What the rule of each step gives, in inequalities of counts.
-use Rattle.std.proofs.Common.{◌≡◌, ℕ, ◌+◌, ◌*◌, ◌<◌, ◌≤◌, Bool, true, false, ◌==◌, nat_le, nat_lt, if◌then◌else◌, List, length, Some, None, ◌⊎◌, inl, inr, refl, sym, arith, eq-eqb, eqb-true}
+use Rattle.std.specs.Prelude.{◌≡◌, ℕ, ◌+◌, ◌*◌, ◌<◌, ◌≤◌, Bool, true, false, ◌==◌, nat_le, nat_lt, if◌then◌else◌, List, length, Some, None, ◌⊎◌, refl}
+use Rattle.std.proofs.Common.{inl, inr, sym, arith, eq-eqb, eqb-true}
 use Rattle.std.proofs.lemmas.Bool.{leb-true, leb-false, ltb-true, ltb-false, le-leb}
 use Rattle.ritas_base.specs.Numbers.{Numbers}
 use Rattle.bracha_validation.specs.Votes.{votes, is_given, gives}
@@ -8,12 +9,14 @@ use Rattle.bracha_validation.specs.Votes.{votes, is_given, gives}
 abbrev pub FirstSays : List ℕ → ℕ → Type 0
 FirstSays ys v = ((length ys < 2 * votes 1 ys) × (v ≡ 1)) ⊎ ((2 * votes 1 ys ≤ length ys) × (v ≡ 0))
 
+-- those of step 2
 abbrev pub SecondSays : Numbers → List ℕ → ℕ → Type 0
 SecondSays p ys v =
     ((p.n < 2 * votes 0 ys) × (v ≡ 0))
     ⊎ ((2 * votes 0 ys ≤ p.n) × (p.n < 2 * votes 1 ys) × (v ≡ 1))
     ⊎ ((2 * votes 0 ys ≤ p.n) × (2 * votes 1 ys ≤ p.n) × (v ≡ 2))
 
+-- those of step 3, where a coin gives both bits
 abbrev pub ThirdSays : Numbers → List ℕ → ℕ → Type 0
 ThirdSays p ys v =
     ((p.f < votes 0 ys) × (v ≡ 0))
