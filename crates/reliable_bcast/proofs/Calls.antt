@@ -12,7 +12,7 @@ use Rattle.ritas_base.specs.Tags.{Tags}
 use Rattle.layer_api.specs.declared.broadcast.Heard.{Heard}
 use Rattle.layer_api.specs.declared.broadcast.Heard.TheVariants.{Took, Repeat}
 use Rattle.layer_api.specs.Broadcast.{Tagging, MayTake}
-use Rattle.layer_api.specs.BroadcastCalls.{Started, Takes}
+use Rattle.layer_api.specs.BroadcastCalls.{CastShown, Started, Takes}
 use Rattle.reliable_bcast.specs.declared.rb.Rb.{Rb}
 use Rattle.reliable_bcast.specs.Bracha.{bracha}
 use Rattle.reliable_bcast.specs.State.{state_of, after_item, says_item, counts_item, Hears}
@@ -24,8 +24,11 @@ Stands b at tags h = b ≡ state_of at h
 abbrev pub is_live : Rb → Bool
 is_live b = b.live
 
-abbrev pub shown : Rb → Option (List ℕ)
-shown b = b.delivered
+abbrev pub shown : Rb → CastShown
+shown b = record { out = b.delivered; ready = λ i. true }
+
+abbrev delivered : Rb → Option (List ℕ)
+delivered b = b.delivered
 
 step : (b : Rb) (i : Item) (at : Place) (tags : Tags) (h : List Call) → b ≡ state_of at h → MayTake bracha at tags h i → counts_item i.kind b i.from ≡ true
     → IsStep at tags h (Take i) (after_item i.kind b i) (says_item i.kind b i)
@@ -70,10 +73,13 @@ heard_half t old new i before after (Err x) e hears =
         out = hears.out;
         dead = refl;
         shows = λ at tags h stands tagger may.
-            elim hears.shows [
-              | inl same ↦ inl (same ∙ ap shown stands)
-              | inr more ↦ inr (more ∙ ap shown (step old i at tags h stands may hears.counts).state)
-            ];
+            record {
+              out = elim hears.shows [
+                | inl same ↦ inl (same ∙ ap delivered stands)
+                | inr more ↦ inr (more ∙ ap delivered (step old i at tags h stands may hears.counts).state)
+              ];
+              ready = λ i. inl refl;
+            };
       };
       counts = λ at tags h stands tagger may. opposites _ (bracha.repeats at tags h i) false (counted old i at tags h stands may) hears.counts;
     }

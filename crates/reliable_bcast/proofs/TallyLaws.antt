@@ -13,7 +13,7 @@ use Rattle.std.proofs.lemmas.List.Elements.{recursion_from_All}
 use Rattle.std.proofs.lemmas.Nat.Bits.{bit_at-zero}
 use Rattle.std.proofs.lemmas.Option.{none-some}
 use Rattle.ritas_base.specs.Members.{has_member, member_count}
-use Rattle.ritas_base.proofs.Masks.{range_more}
+use Rattle.ritas_base.specs.RangeLaws.{range_more}
 use Rattle.ritas_base.specs.History.{replicas, is_value}
 use Rattle.ritas_base.specs.Quorums.{count_by-map, count_same, count_none}
 use Rattle.reliable_bcast.specs.declared.votes.Ballot.{Ballot}

@@ -1,9 +1,9 @@
-ghost use Rattle.std.specs.Prelude.{◌≡◌};
+ghost use Rattle.std.specs.Prelude.{◌≡◌, true, refl};
 ghost use Rattle.std.proofs.Common.{ap};
 ghost use Rattle.reliable_bcast.specs.declared.rb.Rb.{Rb};
 ghost use Rattle.reliable_bcast.specs.Bracha.{bracha};
 ghost use Rattle.reliable_bcast.specs.State.{state_of};
-ghost use Rattle.reliable_bcast.specs.ValueLaws.{value_laws_of_bracha, kinds_of_bracha};
+ghost use Rattle.reliable_bcast.specs.ValueLaws.{value_laws_of_bracha, entry_laws_of_bracha, kinds_of_bracha};
 ghost use Rattle.reliable_bcast.specs.OneValue.{one_value_of_bracha};
 
 use crate::rb::Rb;
@@ -20,13 +20,15 @@ impl Broadcast for Rb {
 
     ghost live = { λ b. b.live };
 
-    ghost shown = { λ b. b.delivered };
+    ghost shown = { λ b. record { out = b.delivered; ready = λ i. true } };
 
-    ghost shows = { λ b at tags h e. (ap (λ (x : Rb). x.live) e, ap (λ (x : Rb). x.delivered) e) };
+    ghost shows = { λ b at tags h e. (ap (λ (x : Rb). x.live) e, record { out = ap (λ (x : Rb). x.delivered) e; ready = λ i. refl }) };
 
     ghost kinds = { kinds_of_bracha };
 
     ghost value_laws = { value_laws_of_bracha };
+
+    ghost entry_laws = { entry_laws_of_bracha };
 
     ghost one_value = { one_value_of_bracha };
 
