@@ -1,15 +1,12 @@
 -- Masks that have the same members are one.
-use Rattle.std.specs.Prelude.{◌≡◌, ℕ, zero, suc, ◌<◌, ◌+◌, ◌*◌, ◌%◌, ◌^◌, Bool, true, false, ◌==◌, List, map, Option, None, is_some, cond, refl}
-use Rattle.std.proofs.Common.{sym, ◌∙◌, ap, arith, get_or}
+use Rattle.std.specs.Prelude.{◌≡◌, ℕ, zero, suc, ◌<◌, ◌+◌, ◌*◌, ◌%◌, ◌^◌, ◌==◌, refl}
+use Rattle.std.proofs.Common.{sym, ◌∙◌, ap, arith}
 use Rattle.std.specs.Int.{bit_at}
 use Rattle.std.proofs.lemmas.Nat.{mod-pow-add}
 use Rattle.std.proofs.lemmas.Nat.Bits.{bit_at-lt}
-use Rattle.std.proofs.lemmas.Simd.{bit_mask_l}
 use Rattle.std.proofs.Math.Nat.{mod-eq_of_lt}
 use Rattle.std.proofs.Math.Numerals.{one-add}
-use Rattle.std.proofs.Math.ListN.{get_or-map}
 use Rattle.ritas_base.specs.Members.{has_member}
-use Rattle.echo_bcast.specs.Matrix.{senders_of}
 
 digit : (x y : ℕ) → x < 2 → y < 2 → (x == 1) ≡ (y == 1) → x ≡ y
 digit zero zero h k e = refl
@@ -33,13 +30,3 @@ unfolding has_member
 same_mask a b small_a small_b same =
     let low = same_below 32 a b (λ k lt. digit (bit_at a k) (bit_at b k) (bit_at-lt a k) (bit_at-lt b k) (same k)) in
     sym (mod-eq_of_lt small_a) ∙ (low ∙ mod-eq_of_lt small_b)
-
-bit_of : (b : Bool) → (cond {A = ℕ} b 1 0 == 1) ≡ b
-bit_of true = refl
-bit_of false = refl
-
--- the members of the senders' mask
-pub senders_have : (hs : List (Option (List ℕ))) (k : ℕ) → has_member (senders_of hs) k ≡ is_some (get_or hs k None)
-unfolding has_member
-senders_have hs k =
-    ap (λ (x : ℕ). x == 1) (bit_mask_l (map is_some hs) k) ∙ (bit_of (get_or (map is_some hs) k false) ∙ get_or-map is_some hs k None)

@@ -3,7 +3,7 @@ use Rattle.std.specs.Prelude.{◌≡◌, ℕ, ◌<◌, Bool, true, false, not, �
 use Rattle.std.proofs.Common.{sym, ◌∙◌, ap, subst, inl, get_or}
 use Rattle.std.proofs.lemmas.List.{append-nil, length-replicate, get_or-replicate}
 use Rattle.std.proofs.lemmas.List.FromFn.{fill_by_all}
-use Rattle.std.proofs.lemmas.Bool.{both_ways, cond-true, cond-false, lt-ltb}
+use Rattle.std.proofs.lemmas.Bool.{both_ways, cond-true, lt-ltb}
 use Rattle.ritas_base.specs.declared.bytes.Mem.{Mem}
 use Rattle.ritas_base.specs.declared.item.Kind.{Kind}
 use Rattle.ritas_base.specs.declared.item.Kind.TheVariants as kinds
@@ -13,7 +13,7 @@ use Rattle.ritas_base.specs.declared.item.Msg.{Msg}
 use Rattle.ritas_base.specs.declared.slot.Slot.{Slot}
 use Rattle.ritas_base.specs.Numbers.{Numbers, IsSession}
 use Rattle.ritas_base.specs.Members.{has_member}
-use Rattle.ritas_base.specs.History.{Call, Take, first, firsts}
+use Rattle.ritas_base.specs.History.{Call, Start, Take, first, firsts}
 use Rattle.ritas_base.specs.HistoryLaws.{firsts_at, length-firsts}
 use Rattle.ritas_base.specs.Messages.{Place, kind_eq, to_all}
 use Rattle.ritas_base.specs.Tags.{Tags}
@@ -22,14 +22,15 @@ use Rattle.layer_api.specs.declared.broadcast.Heard.TheVariants.{Took, Repeat}
 use Rattle.layer_api.specs.Broadcast.{Tagging, MayTake, is_of_origin, is_for_origin, IsPayload}
 use Rattle.frame_codec.specs.Format.{Is}
 use Rattle.frame_codec.specs.Grammar.{column}
-use Rattle.layer_api.specs.BroadcastCalls.{Started, Takes}
+use Rattle.layer_api.specs.BroadcastCalls.{CastShown, ShowsCastNear, Started, Takes}
 use Rattle.layer_api.specs.Entries.{sent}
 use Rattle.echo_bcast.specs.declared.eb.Eb.{Eb}
 use Rattle.echo_bcast.specs.Matrix.{echo, hashes_in, columns_of, has_news, repeats_one, is_of_echo}
 use Rattle.echo_bcast.specs.State.{Keeps, shown_of, is_awaited, Nothing, HearsSend, HearsHashes, HearsColumn, HearsColumnOk, Hears}
-use Rattle.echo_bcast.specs.Shown.{shows_out}
+use Rattle.echo_bcast.specs.Once.{repeats_other, not_there}
+use Rattle.echo_bcast.specs.Shown.{some_as, shows_cast}
 use Rattle.echo_bcast.proofs.News.{news_start, news_send, news_column, news_hashes}
-use Rattle.echo_bcast.proofs.Steps.{kept_start, kept_send, kept_hashes, kept_column, message_is, some_as, none_as, sent_as_kept, news_is}
+use Rattle.echo_bcast.proofs.Steps.{kept_start, kept_send, kept_hashes, kept_column, message_is, none_as, sent_as_kept, news_is}
 
 abbrev pub is_live : Eb → Bool
 is_live b = b.live
@@ -37,12 +38,21 @@ is_live b = b.live
 abbrev TakesAs : Tagging → Eb → Eb → Item → List Msg → List Msg → Result Heard Mem → Type 0
 TakesAs t old new x before after r = Takes Keeps echo is_live shown_of t old new x before after r
 
+-- what shows as before the call
+shows_before : (old new : Eb) (at : Place) (tags : Tags) (h : List Call) (c : Call) → Keeps old at tags h → shown_of new ≡ shown_of old
+    → ShowsCastNear echo at tags h c (shown_of new)
+shows_before old new at tags h c keeps same =
+    let was = shows_cast old at tags h keeps in
+    record {
+      out = inl (ap (λ (s : CastShown). s.out) same ∙ was.out);
+      ready = λ i. inl (ap (λ (s : CastShown). s.ready i) same ∙ was.ready i);
+    }
+
 -- ---- repeats, by kind
 
-repeats_other : (at : Place) (tags : Tags) (h : List Call) (x : Item) (kind : Kind) → x.kind ≡ kind → kind_eq kind Column ≡ false → repeats_one at tags h x ≡ is_some (first h x.from kind)
-repeats_other at tags h x kind same other =
-    cond-false (kind_eq x.kind Column) (is_some (sent at h) && not (has_news at tags h x)) (is_some (first h x.from x.kind)) (ap (λ (k : Kind). kind_eq k Column) same ∙ other)
-    ∙ ap (λ (k : Kind). is_some (first h x.from k)) same
+repeats_kind : (at : Place) (tags : Tags) (h : List Call) (x : Item) (kind : Kind) → x.kind ≡ kind → kind_eq kind Column ≡ false → repeats_one at tags h x ≡ is_some (first h x.from kind)
+repeats_kind at tags h x kind same other =
+    repeats_other at tags h x (ap (λ (k : Kind). kind_eq k Column) same ∙ other) ∙ ap (λ (k : Kind). is_some (first h x.from k)) same
 
 repeats_column : (at : Place) (tags : Tags) (h : List Call) (x : Item) → x.kind ≡ Column → repeats_one at tags h x ≡ (is_some (sent at h) && not (has_news at tags h x))
 repeats_column at tags h x same =
@@ -54,7 +64,7 @@ from_origin : (at : Place) (tags : Tags) (h : List Call) (x : Item) → x.kind �
 from_origin at tags h x kind may = may.origin (ap (λ (k : Kind). is_of_origin k) kind)
 
 repeats_send : (at : Place) (tags : Tags) (h : List Call) (x : Item) → x.kind ≡ Send → MayTake echo at tags h x → repeats_one at tags h x ≡ is_some (sent at h)
-repeats_send at tags h x kind may = repeats_other at tags h x Send kind refl ∙ ap (λ (k : ℕ). is_some (first h k Send)) (from_origin at tags h x kind may)
+repeats_send at tags h x kind may = repeats_kind at tags h x Send kind refl ∙ ap (λ (k : ℕ). is_some (first h k Send)) (from_origin at tags h x kind may)
 
 unsent : (b : Eb) (at : Place) (tags : Tags) (h : List Call) → b.sent ≡ None → Keeps b at tags h → sent at h ≡ None
 unsent b at tags h none keeps = none_as tags (sent at h) (sym keeps.sent_is ∙ none)
@@ -90,7 +100,7 @@ half_send t old new x before after (Err y) kind e hears =
       dies = record {
         out = hears.1.1;
         dead = refl;
-        shows = λ at tags h keeps tagger may. inl (ap shown_of hears.1.0 ∙ shows_out old at tags h keeps);
+        shows = λ at tags h keeps tagger may. shows_before old new at tags h (Take x) keeps (ap (λ (b : Eb). shown_of b) hears.1.0);
       };
       counts = λ at tags h keeps tagger may. repeats_send at tags h x kind may ∙ ap is_some (unsent old at tags h hears.0 keeps);
     }
@@ -116,14 +126,10 @@ opposite true false p e q = ap not q
 opposite false true p e q = ap not q
 opposite false false p e q = absurd (cc)
 
-not_there : {A : Type 0} (o : Option A) → is_some o ≡ false → o ≡ None
-not_there None e = refl
-not_there (Some x) e = absurd (cc)
-
 repeats_hashes : (b : Eb) (at : Place) (tags : Tags) (h : List Call) (x : Item) (awaits : Bool) → x.kind ≡ Hashes → Keeps b at tags h → MayTake echo at tags h x
     → is_awaited b.hashes.items x.from ≡ awaits → repeats_one at tags h x ≡ not awaits
 repeats_hashes b at tags h x awaits kind keeps may is =
-    repeats_other at tags h x Hashes kind refl
+    repeats_kind at tags h x Hashes kind refl
     ∙ opposite (is_awaited b.hashes.items x.from) (is_some (first h x.from Hashes)) (awaited_is b at tags h x.from keeps may.sender) awaits is
 
 new_hashes : (b : Eb) (at : Place) (tags : Tags) (h : List Call) (x : Item) → Keeps b at tags h → MayTake echo at tags h x
@@ -169,7 +175,7 @@ half_hashes t old new x before after (Err y) kind e hears =
       dies = record {
         out = hears.2;
         dead = refl;
-        shows = λ at tags h keeps tagger may. inl (ap shown_of hears.1 ∙ shows_out old at tags h keeps);
+        shows = λ at tags h keeps tagger may. shows_before old new at tags h (Take x) keeps (ap (λ (b : Eb). shown_of b) hears.1);
       };
       counts = λ at tags h keeps tagger may. repeats_hashes old at tags h x true kind keeps may hears.0;
     }
@@ -270,7 +276,7 @@ pub started_half : (t : Tagging) (old : Eb) (value : List ℕ) (before after : L
     → OnErr r (after ≡ before) → Started Keeps echo is_live shown_of t old (record old { live = false }) value before after r
 started_half t old value before after (Ok u) e out = absurd (cc)
 started_half t old value before after (Err x) e out =
-    record { out = out; dead = refl; shows = λ at tags h keeps tagger may. inl (shows_out old at tags h keeps) }
+    record { out = out; dead = refl; shows = λ at tags h keeps tagger may. shows_before old old at tags h (Start value) keeps refl }
 
 -- ---- the value before any call
 

@@ -9,7 +9,8 @@ use Rattle.std.specs.Int.RustNames.{count_ones}
 use Rattle.ritas_base.specs.declared.slot.Slot.{Slot}
 use Rattle.ritas_base.specs.Numbers.{Numbers, wait_of}
 use Rattle.ritas_base.specs.History.{replicas}
-use Rattle.echo_bcast.specs.Matrix.{entry_in, rows_for, senders_of, column_for, columns_of}
+use Rattle.layer_api.specs.Entries.{entry_in}
+use Rattle.echo_bcast.specs.Matrix.{rows_for, senders_of, column_for, columns_of}
 use Rattle.echo_bcast.specs.Columns.{senders_ones}
 
 -- the bytes of a row, where there is one

@@ -20,12 +20,11 @@ use Rattle.frame_codec.specs.Values.{mask_of}
 use Rattle.layer_api.specs.Entries.{sent}
 use Rattle.layer_api.specs.Broadcast.{news}
 use Rattle.layer_api.specs.Runs.{Has}
+use Rattle.layer_api.specs.HasLaws.{has_left, has_listed, has_right, listed_has}
 use Rattle.echo_bcast.specs.Matrix.{echo, hashes_for, hashes_in, senders_of, brings_hashes, column_for, columns_of, columns_at, columns_due, due_of, rows_for}
-use Rattle.echo_bcast.specs.Members.{has_left, has_right, listed_has, has_listed}
 use Rattle.echo_bcast.specs.Due.{IsDue, OfSend, OfHashes, OfColumn, IsColumnOf, due_is, columns_of_is}
-use Rattle.echo_bcast.specs.Columns.{column_mask}
+use Rattle.echo_bcast.specs.Columns.{column_mask, senders_have}
 use Rattle.ritas_base.specs.HistoryLaws.{length-firsts}
-use Rattle.echo_bcast.proofs.Bits.{senders_have}
 
 -- ---- the parts of what is due, old and new
 

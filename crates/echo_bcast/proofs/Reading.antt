@@ -18,15 +18,14 @@ use Rattle.ritas_base.specs.Tags.{Tags}
 use Rattle.layer_api.specs.Broadcast.{MayTake}
 use Rattle.layer_api.specs.Entries.{sent, given, entries_for, is_claim, is_valid, is_valid_for}
 use Rattle.layer_api.specs.Runs.{Has}
+use Rattle.layer_api.specs.HasLaws.{has_left, has_right}
 use Rattle.layer_api.specs.OneValue.{AreTaken}
 use Rattle.echo_bcast.specs.Matrix.{echo, as_entry, hashes_bytes, hashes_for, columns_due, due_of, is_good}
-use Rattle.echo_bcast.specs.Members.{has_left, has_right}
 use Rattle.echo_bcast.specs.Due.{IsDue, OfSend, OfHashes, OfColumn, due_is}
-use Rattle.echo_bcast.specs.Columns.{as_entry_is}
+use Rattle.echo_bcast.specs.Columns.{as_entry_is, senders_have}
 use Rattle.echo_bcast.specs.OneValue.{out_is}
 use Rattle.echo_bcast.specs.ValueLaws.{good_stays}
 use Rattle.echo_bcast.specs.Reading.{CarriesGiven, HashesCarry, IsShownGood, GoodIs, SendersAre}
-use Rattle.echo_bcast.proofs.Bits.{senders_have}
 
 -- ---- HASHES
 

@@ -16,7 +16,8 @@ use Rattle.ritas_base.specs.HistoryLaws.{told_not_this, firsts_same, firsts_vote
 use Rattle.ritas_base.specs.Messages.{Place, kind_eq}
 use Rattle.ritas_base.specs.Tags.{Tags}
 use Rattle.layer_api.specs.Broadcast.{Tagging, IsTagger}
-use Rattle.layer_api.specs.Entries.{sent, entry_of, entries_of, row_of, is_claim, is_valid_for}
+use Rattle.layer_api.specs.Entries.{sent, entry_of, entries_of, is_claim, is_valid_for}
+use Rattle.frame_codec.specs.Values.{row_of}
 use Rattle.echo_bcast.specs.declared.eb.Eb.{Eb}
 use Rattle.echo_bcast.specs.declared.eb.Sent.{Sent}
 use Rattle.echo_bcast.specs.Matrix.{hashes_bytes, hashes_for, is_good, has_news}
@@ -29,10 +30,6 @@ use Rattle.echo_bcast.proofs.News.{sent_kept, sent_now}
 -- an item that isn't a column makes no echoer good
 pub good_kept : (at : Place) (tags : Tags) (h : List Call) (x : Item) (k : ℕ) → kind_eq x.kind Column ≡ false → is_good at tags (Take x ∷ h) k ≡ is_good at tags h k
 good_kept at tags h x k other = ap (λ (b : Bool). (b && is_valid_for at tags (sent at h) x.value k) || is_good at tags h k) other
-
-pub some_as : (tags : Tags) (o : Option (List ℕ)) → is_some (sent_as tags o) ≡ is_some o
-some_as tags None = refl
-some_as tags (Some m) = refl
 
 pub none_as : (tags : Tags) (o : Option (List ℕ)) → sent_as tags o ≡ None → o ≡ None
 none_as tags None e = refl

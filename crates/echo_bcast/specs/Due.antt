@@ -11,8 +11,8 @@ use Rattle.ritas_base.specs.MessagesLaws.{message}
 use Rattle.ritas_base.specs.Tags.{Tags}
 use Rattle.layer_api.specs.Entries.{sent, entries_of}
 use Rattle.layer_api.specs.Runs.{Has}
+use Rattle.layer_api.specs.HasLaws.{has_either, has_map}
 use Rattle.echo_bcast.specs.Matrix.{hashes_bytes, hashes_for, hashes_in, brings_hashes, column_for, columns_of, columns_at, columns_due, due_of}
-use Rattle.echo_bcast.specs.Members.{has_either, has_map}
 
 -- SEND of what was started, to all
 pub record IsSend (at : Place) (h : List Call) (m : Msg) : Type 0 where
@@ -40,14 +40,14 @@ pub data IsDue (at : Place) (tags : Tags) (h : List Call) (m : Msg) : Type 0 whe
   OfHashes : IsHashes at tags h m → IsDue at tags h m
   OfColumn : IsColumnOf at h m → IsDue at tags h m
 
-send_is : (at : Place) (h : List Call) (o : Option (List ℕ)) (m : Msg) → started h ≡ o → Has (to_all at.slot Send o) m → IsSend at h m
+pub send_is : (at : Place) (h : List Call) (o : Option (List ℕ)) (m : Msg) → started h ≡ o → Has (to_all at.slot Send o) m → IsSend at h m
 send_is at h None m e there = absurd there
 send_is at h (Some v) m e (inl same) =
     let value : v ≡ m.value = ap (λ (x : Msg). x.value) same in
     record { whole = sym same ∙ ap (message at.slot Send) value; value = e ∙ ap Some value }
 send_is at h (Some v) m e (inr later) = absurd later
 
-hashes_is : (at : Place) (tags : Tags) (h : List Call) (o : Option (List ℕ)) (m : Msg) → sent at h ≡ o → Has (hashes_for at tags o) m → IsHashes at tags h m
+pub hashes_is : (at : Place) (tags : Tags) (h : List Call) (o : Option (List ℕ)) (m : Msg) → sent at h ≡ o → Has (hashes_for at tags o) m → IsHashes at tags h m
 hashes_is at tags h None m e there = absurd there
 hashes_is at tags h (Some v) m e (inl same) = record { sent_here = v; was_sent = e; whole = sym same }
 hashes_is at tags h (Some v) m e (inr later) = absurd later
@@ -64,7 +64,7 @@ column_now at h m true there =
     record { later = []; prefix = h; prefix_is = refl; enough = found.0; receiver = found.1.0; within = found.1.1; whole = sym found.1.2 }
 column_now at h m false there = absurd there
 
-column_is : (at : Place) (h : List Call) (m : Msg) → Has (columns_at at h) m → IsColumnOf at h m
+pub column_is : (at : Place) (h : List Call) (m : Msg) → Has (columns_at at h) m → IsColumnOf at h m
 column_is at [] m there = absurd there
 column_is at (c ∷ h) m there =
     elim (has_either (if brings_hashes c then columns_of at.numbers at.slot (hashes_in at (c ∷ h)) else []) (columns_at at h) m there) [
@@ -74,7 +74,7 @@ column_is at (c ∷ h) m there =
           record { later = c ∷ g.later; prefix = g.prefix; prefix_is = ap (λ (l : List Call). c ∷ l) g.prefix_is; enough = g.enough; receiver = g.receiver; within = g.within; whole = g.whole }
     ]
 
-column_due : (at : Place) (h : List Call) (m : Msg) (b : Bool) → Has (if b then columns_at at h else []) m → IsColumnOf at h m
+pub column_due : (at : Place) (h : List Call) (m : Msg) (b : Bool) → Has (if b then columns_at at h else []) m → IsColumnOf at h m
 column_due at h m true there = column_is at h m there
 column_due at h m false there = absurd there
 

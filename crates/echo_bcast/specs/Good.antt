@@ -24,9 +24,9 @@ use Rattle.frame_codec.specs.Body.{IsInGrammar}
 use Rattle.layer_api.specs.Entries.{sent, entries_of, entry_of}
 use Rattle.layer_api.specs.OneValue.{AreGoodCalls, IsOfSlot}
 use Rattle.echo_bcast.specs.Matrix.{echo, hashes_in, hashes_bytes, column_for}
-use Rattle.echo_bcast.specs.Due.{IsDue, OfSend, OfHashes, OfColumn}
+use Rattle.echo_bcast.specs.Due.{IsDue, OfSend, OfHashes, OfColumn, IsColumnOf}
 use Rattle.echo_bcast.specs.Members.{replica_below}
-use Rattle.echo_bcast.specs.Columns.{hashes_good, hashes_long, are_long, column_good}
+use Rattle.echo_bcast.specs.Columns.{hashes_good, hashes_long, AreLong, are_long, column_good}
 
 -- the value of an item of the slot is the payload of its kind
 payload_good : (p : Numbers) (mode : Mode) (s : Slot) (x : Item) (kind : Kind) (v : List ℕ) → x.slot ≡ s → IsInGrammar p mode x → x.kind ≡ kind → x.value ≡ v
@@ -90,6 +90,15 @@ made_good at mode m of_slot kind here good =
     record { session = of_slot.session; slot = of_slot.slot; kind = of_slot.kinds m.kind kind; payload_is = good } in
     subst (λ (q : Slot). IsInGrammar at.numbers mode (record { from = at.me; kind = m.kind; slot = q; value = m.value })) (sym here) whole
 
+-- each HASHES before a column is an entry for each replica
+pub columns_long : (at : Place) (mode : Mode) (h : List Call) (m : Msg) → AreGoodCalls at.numbers mode at.slot h → (s : IsColumnOf at h m) → AreLong at.numbers.n (hashes_in at s.prefix)
+columns_long at mode h m good s =
+    let n = at.numbers.n in
+    let p = at.numbers in
+    let before : AreGoodCalls p mode at.slot s.prefix = good_prefix p mode at.slot s.later s.prefix (subst (λ (l : List Call). AreGoodCalls p mode at.slot l) (sym s.prefix_is) good) in
+    are_long n (λ k. first s.prefix k Hashes)
+    (λ k v e. hashes_long n v (of_hashes p mode.root at.slot v (first_good p mode at.slot s.prefix k Hashes v before e))) (replicas n)
+
 pub due_good : (at : Place) (tags : Tags) (mode : Mode) (h : List Call) (m : Msg) → IsOfSlot echo at.numbers mode at.slot → AreGoodCalls at.numbers mode at.slot h
     → IsDue at tags h m → IsInGrammar at.numbers mode (item_of at.me m)
 due_good at tags mode h m of_slot good (OfSend s) =
@@ -106,9 +115,7 @@ due_good at tags mode h m of_slot good (OfColumn s) =
     let n = at.numbers.n in
     let p = at.numbers in
     let hs = hashes_in at s.prefix in
-    let before : AreGoodCalls p mode at.slot s.prefix = good_prefix p mode at.slot s.later s.prefix (subst (λ (l : List Call). AreGoodCalls p mode at.slot l) (sym s.prefix_is) good) in
-    let long = are_long n (λ k. first s.prefix k Hashes)
-    (λ k v e. hashes_long n v (of_hashes p mode.root at.slot v (first_good p mode at.slot s.prefix k Hashes v before e))) (replicas n) in
+    let long = columns_long at mode h m good s in
     let session = of_slot.session in
     let many = leb-true (wait_of p) (count_by is_some hs) s.enough in
     let some : 1 ≤ count_by is_some hs = omega (arith, many, session.some, session.enough) in

@@ -7,5 +7,7 @@ pub mod Good
 pub mod State
 pub mod Shown
 pub mod Reading
+pub mod Once
 pub mod ValueLaws
+pub mod EntryLaws
 pub mod Rows

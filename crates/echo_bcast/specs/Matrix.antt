@@ -1,5 +1,5 @@
 -- Matrix echo broadcast at one slot, as the calls on a replica's value tell it. Lists of calls have the newest first.
-use Rattle.std.specs.Prelude.{ℕ, Bool, true, false, not, ◌==◌, ◌&&◌, ◌||◌, ◌*◌, List, [], ◌∷◌, ◌++◌, map, take, drop, replicate, Option, Some, None, is_some, nat_le, count_by, if◌then◌else◌}
+use Rattle.std.specs.Prelude.{ℕ, Bool, true, false, not, ◌==◌, ◌&&◌, ◌||◌, List, [], ◌∷◌, ◌++◌, map, take, replicate, Option, Some, None, is_some, nat_le, count_by, if◌then◌else◌}
 use Rattle.std.specs.List.{flat_map, list_any}
 use Rattle.std.specs.Simd.Lanes.{mask_l}
 use Rattle.ritas_base.specs.declared.item.Kind.{Kind}
@@ -15,7 +15,7 @@ use Rattle.ritas_base.specs.Messages.{Place, kind_eq, to_all}
 use Rattle.ritas_base.specs.Tags.{Tags}
 use Rattle.frame_codec.specs.Values.{column_bytes}
 use Rattle.layer_api.specs.Broadcast.{BroadcastRules}
-use Rattle.layer_api.specs.Entries.{sent, entries_of, is_claim}
+use Rattle.layer_api.specs.Entries.{sent, entries_of, entry_in, is_claim}
 
 -- ---- HASHES
 
@@ -42,10 +42,6 @@ hashes_in at h = firsts at.numbers.n h Hashes
 -- those whose HASHES are there: bit k stands for replica k
 abbrev pub senders_of : List (Option (List ℕ)) → ℕ
 senders_of hs = mask_l (map is_some hs)
-
--- entry k of HASHES
-abbrev pub entry_in : ℕ → List ℕ → List ℕ
-entry_in k value = take 32 (drop (32 * k) value)
 
 -- entry k of the HASHES of each that sent some, ascending
 abbrev pub rows_for : ℕ → List (Option (List ℕ)) → List (List ℕ)

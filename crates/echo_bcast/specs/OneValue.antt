@@ -14,11 +14,13 @@ use Rattle.ritas_base.specs.HistoryLaws.{first_stays, told_item, is_value_is}
 use Rattle.ritas_base.specs.Messages.{Place, kind_eq}
 use Rattle.ritas_base.specs.Quorums.{meet_three}
 use Rattle.ritas_base.specs.Tags.{Tags}
-use Rattle.layer_api.specs.Entries.{sent, given, entries_for, entry_of, row_of, is_valid_for, is_claim, prints_for, entry_print, EntryInput, Print, OfMessage}
+use Rattle.layer_api.specs.Entries.{sent, given, entries_for, entry_of, is_valid_for, is_claim, prints_for, entry_print, EntryInput, Print, OfMessage}
+use Rattle.frame_codec.specs.Values.{row_of}
 use Rattle.layer_api.specs.Runs.{Step, Has, calls_of, IsEnough}
+use Rattle.layer_api.specs.HasLaws.{has_left, has_map, has_right, map_has}
 use Rattle.layer_api.specs.OneValue.{Group, place_of, met_at, IsFed, IsRun, IsClear, OneValue}
 use Rattle.echo_bcast.specs.Matrix.{echo, is_good, out_of}
-use Rattle.echo_bcast.specs.Members.{has_left, has_right, has_map, map_has, has_replica}
+use Rattle.echo_bcast.specs.Members.{has_replica}
 use Rattle.echo_bcast.specs.Due.{send_due}
 
 -- what is delivered was sent here, and an echo quorum is good

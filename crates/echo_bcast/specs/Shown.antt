@@ -1,18 +1,21 @@
--- What a value shows is what is delivered after the calls that it stands for.
-use Rattle.std.specs.Prelude.{◌≡◌, ℕ, zero, suc, ◌≤◌, ◌+◌, ◌-◌, Bool, ◌&&◌, nat_lt, nat_le, List, Option, Some, None, count_by, if◌then◌else◌, refl}
+-- What a value shows is what the rules say after the calls that it stands for.
+use Rattle.std.specs.Prelude.{◌≡◌, ℕ, zero, suc, ◌≤◌, ◌+◌, ◌-◌, Bool, not, ◌&&◌, ◌||◌, nat_lt, nat_le, List, Option, Some, None, is_some, count_by, if◌then◌else◌, refl}
 use Rattle.std.proofs.Common.{sym, ◌∙◌, ap, arith, inl, inr}
 use Rattle.std.specs.List.{range_with_len}
 use Rattle.std.proofs.lemmas.Bool.{cases_Bool, lt-ltb, le-ltb}
+use Rattle.ritas_base.specs.declared.item.Kind.TheVariants.{Column}
+use Rattle.ritas_base.specs.declared.item.Item.{Item}
 use Rattle.ritas_base.specs.Numbers.{Numbers, quorum_of}
 use Rattle.ritas_base.specs.Members.{has_member, member_count}
 use Rattle.ritas_base.specs.History.{Call, replicas}
-use Rattle.ritas_base.specs.Messages.{Place}
+use Rattle.ritas_base.specs.Messages.{Place, kind_eq}
 use Rattle.ritas_base.specs.Quorums.{count_yes, count_no, count_same}
 use Rattle.ritas_base.specs.Tags.{Tags}
+use Rattle.layer_api.specs.BroadcastCalls.{ShowsCast}
 use Rattle.layer_api.specs.Entries.{sent}
 use Rattle.echo_bcast.specs.declared.eb.Eb.{Eb}
-use Rattle.echo_bcast.specs.Matrix.{is_good, out_of}
-use Rattle.echo_bcast.specs.State.{Keeps, sent_as, value_of, shown_of}
+use Rattle.echo_bcast.specs.Matrix.{echo, is_good, out_of, is_ready}
+use Rattle.echo_bcast.specs.State.{Keeps, sent_as, value_of, delivered_of, is_ready_at, shown_of}
 
 -- none from n on
 none_above : (p : ℕ → Bool) (n from count : ℕ) → n ≤ from → count_by (λ k. nat_lt k n && p k) (range_with_len from count) ≡ 0
@@ -48,7 +51,7 @@ pub value_is : (tags : Tags) (o : Option (List ℕ)) → value_of (sent_as tags 
 value_is tags None = refl
 value_is tags (Some m) = refl
 
-pub shows_out : (b : Eb) (at : Place) (tags : Tags) (h : List Call) → Keeps b at tags h → shown_of b ≡ out_of at tags h
+shows_out : (b : Eb) (at : Place) (tags : Tags) (h : List Call) → Keeps b at tags h → delivered_of b ≡ out_of at tags h
 shows_out b at tags h keeps =
     let session = keeps.session in
     let good = is_good at tags h in
@@ -56,3 +59,14 @@ shows_out b at tags h keeps =
     ap (λ (p : Numbers). if nat_le (quorum_of p) (member_count 32 b.good) then value_of b.sent else None) keeps.params
     ∙ (ap (λ (m : ℕ). if nat_le (quorum_of at.numbers) m then value_of b.sent else None) many
     ∙ ap (λ (o : Option (List ℕ)). if nat_le (quorum_of at.numbers) (count_by good (replicas at.numbers.n)) then o else None) (ap value_of keeps.sent_is ∙ value_is tags (sent at h)))
+
+pub some_as : (tags : Tags) (o : Option (List ℕ)) → is_some (sent_as tags o) ≡ is_some o
+some_as tags None = refl
+some_as tags (Some m) = refl
+
+shows_ready : (b : Eb) (at : Place) (tags : Tags) (h : List Call) (x : Item) → Keeps b at tags h → is_ready_at b x ≡ is_ready at h x
+shows_ready b at tags h x keeps =
+    ap (λ (there : Bool). not (kind_eq x.kind Column) || there) (ap is_some keeps.sent_is ∙ some_as tags (sent at h))
+
+pub shows_cast : (b : Eb) (at : Place) (tags : Tags) (h : List Call) → Keeps b at tags h → ShowsCast echo at tags h (shown_of b)
+shows_cast b at tags h keeps = record { out = shows_out b at tags h keeps; ready = λ x. shows_ready b at tags h x keeps }

@@ -12,14 +12,16 @@ use Rattle.ritas_base.specs.declared.slot.Slot.{Slot}
 use Rattle.ritas_base.specs.Numbers.{IsSession, quorum_of}
 use Rattle.ritas_base.specs.Members.{has_member, member_count}
 use Rattle.ritas_base.specs.History.{Call, is_value, replicas}
-use Rattle.ritas_base.specs.Messages.{Place}
+use Rattle.ritas_base.specs.Messages.{Place, kind_eq}
 use Rattle.ritas_base.specs.Tags.{Tags}
 use Rattle.frame_codec.specs.Format.{Is}
 use Rattle.frame_codec.specs.Grammar.{column}
 use Rattle.layer_api.specs.declared.broadcast.Heard.{Heard}
 use Rattle.layer_api.specs.declared.broadcast.Heard.TheVariants.{Took, Repeat}
 use Rattle.layer_api.specs.Broadcast.{Tagging}
-use Rattle.layer_api.specs.Entries.{sent, row_of}
+use Rattle.frame_codec.specs.Values.{row_of}
+use Rattle.layer_api.specs.BroadcastCalls.{CastShown}
+use Rattle.layer_api.specs.Entries.{sent}
 use Rattle.echo_bcast.specs.declared.eb.Sent.{Sent}
 use Rattle.echo_bcast.specs.declared.eb.Eb.{Eb}
 use Rattle.echo_bcast.specs.Matrix.{hashes_bytes, hashes_in, columns_of, is_good}
@@ -45,8 +47,16 @@ value_of None = None
 value_of (Some s) = Some s.value
 
 -- what is delivered
-abbrev pub shown_of : Eb → Option (List ℕ)
-shown_of b = if nat_le (quorum_of b.params) (member_count 32 b.good) then value_of b.sent else None
+abbrev pub delivered_of : Eb → Option (List ℕ)
+delivered_of b = if nat_le (quorum_of b.params) (member_count 32 b.good) then value_of b.sent else None
+
+-- whether an item can be taken yet
+abbrev pub is_ready_at : Eb → Item → Bool
+is_ready_at b x = not (kind_eq x.kind kinds.Column) || is_some b.sent
+
+-- what the getters answer
+abbrev pub shown_of : Eb → CastShown
+shown_of b = record { out = delivered_of b; ready = λ x. is_ready_at b x }
 
 -- ---- HASHES of a tagger
 

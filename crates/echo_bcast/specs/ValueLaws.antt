@@ -1,10 +1,11 @@
 -- The laws of a single value, over the rules of echo broadcast.
-use Rattle.std.specs.Prelude.{◌≡◌, ℕ, Bool, true, false, not, ◌==◌, ◌||◌, List, [], ◌∷◌, ◌++◌, Option, Some, None, count_by, nat_le, if◌then◌else◌, refl}
+use Rattle.std.specs.Prelude.{◌≡◌, ℕ, ◌<◌, Bool, true, false, not, ◌==◌, ◌||◌, List, [], ◌∷◌, ◌++◌, Option, Some, None, is_some, count_by, nat_le, if◌then◌else◌, refl}
 use Rattle.std.proofs.Common.{sym, ◌∙◌, ap, subst, inl, inr, arith}
 use Rattle.std.proofs.lemmas.Bool.{or_right, le-leb, cond-true}
 use Rattle.ritas_base.specs.declared.item.Kind.{Kind}
 use Rattle.ritas_base.specs.declared.item.Kind.TheVariants as kinds
 use Rattle.ritas_base.specs.declared.item.Kind.TheVariants.{Send, Column}
+use Rattle.ritas_base.specs.declared.item.To.{To}
 use Rattle.ritas_base.specs.declared.item.Msg.{Msg}
 use Rattle.ritas_base.specs.History.{Call, Start, Take, told, start_of, started, replicas}
 use Rattle.ritas_base.specs.HistoryLaws.{first_stays}
@@ -16,11 +17,13 @@ use Rattle.ritas_base.specs.Tags.{Tags}
 use Rattle.frame_codec.specs.Body.{is_of_broadcast}
 use Rattle.layer_api.specs.Entries.{sent, is_claim}
 use Rattle.layer_api.specs.Runs.{Has}
-use Rattle.layer_api.specs.OneValue.{ValueLaws}
+use Rattle.layer_api.specs.HasLaws.{has_either, has_left, has_listed, has_right, listed_has}
+use Rattle.layer_api.specs.OneValue.{ValueLaws, IsReceiver}
 use Rattle.echo_bcast.specs.Matrix.{echo, hashes_for, columns_at, columns_due, due_of, is_good, out_of, is_of_echo}
-use Rattle.echo_bcast.specs.Members.{has_left, has_right, has_either, listed_has, has_listed}
+use Rattle.echo_bcast.specs.Members.{replica_below}
 use Rattle.echo_bcast.specs.Due.{IsDue, OfSend, OfHashes, OfColumn, due_is}
 use Rattle.echo_bcast.specs.OneValue.{out_is}
+use Rattle.echo_bcast.specs.Once.{repeats_other, stays_there, due_once}
 use Rattle.echo_bcast.specs.Good.{due_good, out_good}
 
 -- ---- what is due stays
@@ -65,6 +68,12 @@ no_columns_yet : (b : Bool) → ◌≡◌ {A = List Msg} (if b then [] else []) 
 no_columns_yet true = refl
 no_columns_yet false = refl
 
+due_to : (at : Place) (tags : Tags) (h : List Call) (m : Msg) → at.slot.origin < at.numbers.n → IsDue at tags h m → IsReceiver at.numbers.n m.to
+due_to at tags h m origin (OfSend s) = subst (λ (to : To). IsReceiver at.numbers.n to) (ap (λ (x : Msg). x.to) (sym s.whole)) tt
+due_to at tags h m origin (OfHashes s) = subst (λ (to : To). IsReceiver at.numbers.n to) (ap (λ (x : Msg). x.to) (sym s.whole)) origin
+due_to at tags h m origin (OfColumn s) =
+    subst (λ (to : To). IsReceiver at.numbers.n to) (ap (λ (x : Msg). x.to) (sym s.whole)) (replica_below at.numbers.n s.receiver s.within)
+
 -- ---- what is delivered
 
 pub good_stays : (at : Place) (tags : Tags) (c : Call) (h : List Call) (echoer : ℕ) → is_good at tags h echoer ≡ true → is_good at tags (c ∷ h) echoer ≡ true
@@ -93,6 +102,11 @@ or_nothing : (b : Bool) → (b || false) ≡ b
 or_nothing true = refl
 or_nothing false = refl
 
+-- once the SEND is there a column can be taken
+ready_stays : (at : Place) (h : List Call) (c : Call) (b : Bool) → (b || is_some (sent at h)) ≡ true → (b || is_some (sent at (c ∷ h))) ≡ true
+ready_stays at h c true e = refl
+ready_stays at h c false e = stays_there (sent at h) (told at.slot.origin Send c) e
+
 pub value_laws_of_echo : ValueLaws echo
 value_laws_of_echo =
     record {
@@ -103,9 +117,13 @@ value_laws_of_echo =
       due_stays = λ at tags h c m e. listed_has (due_of at tags (c ∷ h)) m (due_stays at tags h c m (has_listed (due_of at tags h) m e));
       due_slot = λ at tags h m e. due_slot at tags h m (due_is at tags h m (has_listed (due_of at tags h) m e));
       due_kind = λ at tags h m there. due_kind at tags h m (due_is at tags h m there);
+      due_to = λ at tags h m origin there. due_to at tags h m origin (due_is at tags h m there);
+      due_once = λ at tags h taken first_ones. due_once at tags h taken first_ones;
       due_good = λ at tags mode h m of_slot good there. due_good at tags mode h m of_slot good (due_is at tags h m there);
       out_good = λ at tags mode h v of_slot good e. out_good at mode h v good (out_is at tags h v e).1;
       repeats_nothing = λ at tags i. false_both (kind_eq i.kind Column);
+      repeats_is = λ at tags h i other. repeats_other at tags h i other;
+      ready_stays = λ at tags h c i e. ready_stays at h c (not (kind_eq i.kind Column)) e;
       ready_nothing = λ at tags i has_it. or_nothing (not (kind_eq i.kind Column));
     }
 

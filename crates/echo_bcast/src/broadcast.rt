@@ -2,8 +2,9 @@ ghost use Rattle.std.specs.Prelude.{◌≡◌};
 ghost use Rattle.echo_bcast.specs.declared.eb.Eb.{Eb};
 ghost use Rattle.echo_bcast.specs.Matrix.{echo};
 ghost use Rattle.echo_bcast.specs.State.{Keeps, shown_of};
-ghost use Rattle.echo_bcast.specs.Shown.{shows_out};
+ghost use Rattle.echo_bcast.specs.Shown.{shows_cast};
 ghost use Rattle.echo_bcast.specs.ValueLaws.{value_laws_of_echo, kinds_of_echo};
+ghost use Rattle.echo_bcast.specs.EntryLaws.{entry_laws_of_echo};
 ghost use Rattle.echo_bcast.specs.OneValue.{one_value_of_echo};
 
 use crate::eb::Eb;
@@ -22,11 +23,13 @@ impl Broadcast for Eb {
 
     ghost shown = { λ b. shown_of b };
 
-    ghost shows = { λ b at tags h keeps. (keeps.live, shows_out b at tags h keeps) };
+    ghost shows = { λ b at tags h keeps. (keeps.live, shows_cast b at tags h keeps) };
 
     ghost kinds = { kinds_of_echo };
 
     ghost value_laws = { value_laws_of_echo };
+
+    ghost entry_laws = { entry_laws_of_echo };
 
     ghost one_value = { one_value_of_echo };
 

@@ -3,7 +3,8 @@
 ghost use Rattle.std.specs.Prelude.{◌≡◌, ◌≤◌, length, map, IfOk};
 ghost use Rattle.ritas_base.specs.History.{replicas};
 ghost use Rattle.frame_codec.specs.Values.{column_bytes};
-ghost use Rattle.echo_bcast.specs.Matrix.{senders_of, entry_in, rows_for, column_for, columns_of};
+ghost use Rattle.layer_api.specs.Entries.{entry_in};
+ghost use Rattle.echo_bcast.specs.Matrix.{senders_of, rows_for, column_for, columns_of};
 
 use ritas_base::{Bytes, Kind, Mem, Msg, Params, SenderSet, Slot, To};
 use std::alloc::Global;
@@ -36,7 +37,9 @@ fn entry_in(value: &[u8], k: u8) -> &[u8]
 fn column_for(alloc: Global, hashes: &[Option<Bytes>], senders: u32, k: u8) -> Result<Bytes, Mem>
     ensures { IfOk result (λ bytes. bytes ≡ column_bytes senders (rows_for k hashes.now)) }
 {
-    let mut out = Vec::new(alloc);
+    // Room for the rows, so that the vector doesn't grow by copies.
+    let rows = senders.count_ones() as usize;
+    let mut out = Vec::with_capacity(alloc, 4 + 32 * rows)?;
     out.extend_from_slice(&senders.to_be_bytes())?;
     for value in hashes {
         if let Some(value) = value {
@@ -55,11 +58,11 @@ pub(crate) fn columns_of(
 ) -> Result<Vec<Msg>, Mem>
     ensures { IfOk result (λ columns. length hashes.now ≡ p.now.n → columns.items ≡ columns_of p.now slot.now hashes.now) }
 {
-    let mut columns = Vec::new(alloc);
     let senders = senders_of(hashes, p.n());
     if senders.count_ones() < u32::from(p.wait()) {
-        return Ok(columns);
+        return Ok(Vec::new(alloc));
     }
+    let mut columns = Vec::with_capacity(alloc, usize::from(p.n()))?;
     for k in 0..p.n() {
         columns.push(Msg {
             to: To::One(k),

@@ -4,7 +4,7 @@ ghost use Rattle.ritas_base.specs.declared.item.Kind.TheVariants.{Send};
 ghost use Rattle.ritas_base.specs.Messages.{to_all};
 ghost use Rattle.ritas_base.specs.Numbers.{IsSession};
 ghost use Rattle.ritas_base.specs.Members.{has_member};
-ghost use Rattle.echo_bcast.specs.State.{shown_of, Hears, HearsSend, HearsHashes, HearsColumn};
+ghost use Rattle.echo_bcast.specs.State.{delivered_of, Hears, HearsSend, HearsHashes, HearsColumn};
 
 use crate::columns::columns_of;
 use crate::entries::{hashes_of, is_column, judged};
@@ -157,7 +157,7 @@ impl Eb {
 
     /// What is delivered.
     pub(crate) fn value(&self) -> Option<&[u8]>
-        ensures { option_copied result ≡ shown_of self.now }
+        ensures { option_copied result ≡ delivered_of self.now }
     {
         if self.good.len() < self.params.q() {
             return None;

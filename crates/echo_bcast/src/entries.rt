@@ -35,7 +35,7 @@ pub(crate) fn hashes_of<T: Tagger>(
     ensures { IfOk result (λ bytes. bytes
         ≡ hashes_bytes (tagged (record { me = T.me t.now; tags = T.tags t.now }) slot.now n digest.now)) }
 {
-    let mut out = Vec::new(alloc);
+    let mut out = Vec::with_capacity(alloc, 32 * usize::from(n))?;
     for verifier in 0..n {
         out.extend_from_slice(&entry_for(t, slot, verifier, digest))?;
     }

@@ -29,7 +29,7 @@ returns-then-senders-from c = λ len.
     let is : c.senders_of-senders.result ≡ senders_of c.args.hashes.now = c.senders_of-senders.ensures (len ∙ sym c.n.ensures.value) in
     let few = c.if-senders-from.true in
     let wait = c.from.ensures ∙ c.wait.ensures in
-    c.new-columns.ensures.items
+    c.new.ensures.items
     ∙ sym (no_columns c.args.p.now c.args.slot.now c.args.hashes.now
     (subst (λ (m : ℕ). count_ones m < wait_of c.args.p.now) is (subst (λ (w : ℕ). count_ones c.senders_of-senders.result < w) wait few)))
 

@@ -4,8 +4,8 @@ use Rattle.std.proofs.lemmas.Bool.{cases_lt, lt-ltb, le-ltb}
 use Rattle.std.proofs.lemmas.List.{get_or_past}
 use Rattle.ritas_base.specs.Members.{has_member}
 use Rattle.echo_bcast.specs.Matrix.{senders_of}
-use Rattle.echo_bcast.specs.Columns.{senders_small}
-use Rattle.echo_bcast.proofs.Bits.{same_mask, senders_have}
+use Rattle.echo_bcast.specs.Columns.{senders_small, senders_have}
+use Rattle.echo_bcast.proofs.Bits.{same_mask}
 use Rattle.echo_bcast.proofs.columns.senders_of.Goals as goal
 
 -- past the last there is nothing
