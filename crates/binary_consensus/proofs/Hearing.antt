@@ -15,9 +15,8 @@ use Rattle.layer_api.specs.OneLog.{value_at}
 use Rattle.layer_api.specs.Binary.{Bench}
 use Rattle.bracha_validation.specs.declared.tally.Tally.{Tally}
 use Rattle.bracha_validation.specs.Votes.{votes, may_give}
-use Rattle.bracha_validation.specs.Tallies.{vote_count, tally_votes, IsTally}
-use Rattle.bracha_validation.proofs.Choices.{one_more}
-use Rattle.bracha_validation.proofs.Formulas.{same_counts}
+use Rattle.bracha_validation.specs.Tallies.{vote_count, tally_votes, IsTally, DependsOnCounts}
+use Rattle.bracha_validation.specs.PickLaws.{one_more}
 use Rattle.binary_consensus.specs.Steps.{step_of, step_slot, vote_heard, heard, passed, push, listed, accepted}
 use Rattle.binary_consensus.specs.Acceptance.{holds, count_listed}
 use Rattle.binary_consensus.specs.Runs.{one_step}
@@ -91,12 +90,12 @@ others_passed test a ks =
 kept_votes : (b : Bool) (n m : ℕ) → n ≡ m → kept b n ≡ kept b m
 kept_votes b n m e = ap (kept b) e
 
-taken_tally : (p : Numbers) (t : ℕ) (before heard : Tally) (vs : List ℕ) (a : ℕ → Option ℕ) (ks : List ℕ) → IsTally before vs → IsTally heard (listed a ks)
+taken_tally : DependsOnCounts → (p : Numbers) (t : ℕ) (before heard : Tally) (vs : List ℕ) (a : ℕ → Option ℕ) (ks : List ℕ) → IsTally before vs → IsTally heard (listed a ks)
     → IsTally (taken p (suc t) before heard) (listed (λ k. passed (λ v. may_give p (step_of t) v vs) (a k)) ks)
-taken_tally p t before heard vs a ks is tally =
+taken_tally alone p t before heard vs a ks is tally =
     let test : ℕ → Bool = λ v. may_give p (step_of t) v vs in
     let value : (v n : ℕ) → votes v (listed a ks) ≡ n → votes v (listed (λ k. passed test (a k)) ks) ≡ kept (may_give p (step_of t) v (tally_votes before)) n =
-    λ v n e. votes_passed v test a ks ∙ (ap (kept (test v)) e ∙ ap (λ (b : Bool). kept b n) (same_counts p (step_of t) v before vs is)) in
+    λ v n e. votes_passed v test a ks ∙ (ap (kept (test v)) e ∙ ap (λ (b : Bool). kept b n) (alone p (step_of t) v before vs is)) in
     let z = value 0 heard.zeros tally.zeros in
     let o = value 1 heard.ones tally.ones in
     let u = value 2 heard.nones tally.nones in
@@ -107,12 +106,12 @@ taken_tally p t before heard vs a ks is tally =
     record { zeros = z; ones = o; nones = u; all = omega (arith, z, o, u, all, some, rest, tz, to, tu, ta) }
 
 -- the counts of what is accepted
-pub counted_tally : (at : Bench) (hs : List Tally) (w : List Word) → AreHeard at hs w → (t : ℕ) → t < 600
+pub counted_tally : DependsOnCounts → (at : Bench) (hs : List Tally) (w : List Word) → AreHeard at hs w → (t : ℕ) → t < 600
     → IsTally (counted at.numbers hs t) (accepted at.numbers (heard at w) t)
-counted_tally at hs w are zero l = are zero l
-counted_tally at hs w are (suc t) l =
-    taken_tally at.numbers t (counted at.numbers hs t) (tally_at hs (suc t)) (accepted at.numbers (heard at w) t) (heard at w (suc t)) (replicas at.numbers.n)
-    (counted_tally at hs w are t (omega arith)) (are (suc t) l)
+counted_tally alone at hs w are zero l = are zero l
+counted_tally alone at hs w are (suc t) l =
+    taken_tally alone at.numbers t (counted at.numbers hs t) (tally_at hs (suc t)) (accepted at.numbers (heard at w) t) (heard at w (suc t)) (replicas at.numbers.n)
+    (counted_tally alone at hs w are t (omega arith)) (are (suc t) l)
 
 -- ---- one more vote
 

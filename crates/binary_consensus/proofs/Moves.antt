@@ -7,7 +7,7 @@ use Rattle.layer_api.specs.Service.{Word}
 use Rattle.layer_api.specs.Binary.{Bench}
 use Rattle.layer_api.specs.BinaryCalls.{HasTosses}
 use Rattle.bracha_validation.specs.declared.tally.Tally.{Tally}
-use Rattle.bracha_validation.specs.Tallies.{IsTally}
+use Rattle.bracha_validation.specs.Tallies.{IsTally, DependsOnCounts}
 use Rattle.binary_consensus.specs.Steps.{step_slot, heard, accepted}
 use Rattle.binary_consensus.specs.Consensus.{decides}
 use Rattle.binary_consensus.specs.Stays.{next_said}
@@ -21,11 +21,11 @@ pub own_is : (part : Part) (p : Numbers) (at : Bench) (t : ℕ) → IsPart part 
 own_is part p at t is = rw (is.me, is.a, is.attempt) refl
 
 -- the counts of what is accepted at a step
-pub tally_now : (part : Part) (line : Heard) (at : Bench) (w : List Word) (t : ℕ) (votes : Tally) → IsPart part line.numbers at → AreHeard at line.votes w → t < 600
+pub tally_now : DependsOnCounts → (part : Part) (line : Heard) (at : Bench) (w : List Word) (t : ℕ) (votes : Tally) → IsPart part line.numbers at → AreHeard at line.votes w → t < 600
     → votes ≡ counted line.numbers line.votes t → IsTally votes (accepted at.numbers (heard at w) t)
-tally_now part line at w t votes is are l e =
+tally_now alone part line at w t votes is are l e =
     subst (λ (x : Tally). IsTally x (accepted at.numbers (heard at w) t)) (sym (e ∙ ap (λ (p : Numbers). counted p line.votes t) is.numbers))
-    (counted_tally at line.votes w are t l)
+    (counted_tally alone at line.votes w are t l)
 
 pub wait_is : (part : Part) (line : Heard) (at : Bench) (p : Numbers) (wait : ℕ) → IsPart part line.numbers at → p ≡ line.numbers → wait ≡ wait_of p → wait ≡ wait_of at.numbers
 wait_is part line at p wait is e q = q ∙ (ap wait_of e ∙ ap wait_of is.numbers)

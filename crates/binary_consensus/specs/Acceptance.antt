@@ -7,8 +7,8 @@ use Rattle.ritas_base.specs.History.{replicas}
 use Rattle.ritas_base.specs.Quorums.{count_yes, count_no}
 use Rattle.layer_api.specs.OneLog.{bit_byte}
 use Rattle.bracha_validation.specs.Votes.{votes, gives}
-use Rattle.bracha_validation.proofs.Choices.{picked, one_more, fewer}
-use Rattle.bracha_validation.proofs.Rules.{FirstSays, SecondSays, ThirdSays, first_gives, second_gives, third_gives}
+use Rattle.bracha_validation.specs.PickLaws.{picked, one_more, fewer}
+use Rattle.bracha_validation.specs.RuleLaws.{FirstSays, SecondSays, ThirdSays, first_gives, second_gives, third_gives}
 use Rattle.binary_consensus.specs.Steps.{step_of, passed, push, listed, accepts}
 
 -- a vote that passes is there

@@ -1,7 +1,7 @@
 -- The laws of a single value: what is said is new, at a step of this replica and with a vote of that step.
-use Rattle.std.specs.Prelude.{◌≡◌, ℕ, zero, suc, ◌+◌, ◌*◌, ◌<◌, ◌≤◌, ◌==◌, nat_le, nat_lt, Bool, true, false, ◌&&◌, ◌||◌, if◌then◌else◌, List, [], ◌∷◌, ◌++◌, length, Option, Some, None, is_some, option_map, unwrap_or, refl, ◌⊎◌}
-use Rattle.std.proofs.Common.{sym, ◌∙◌, ap, subst, inl, inr, arith}
-use Rattle.std.proofs.lemmas.Bool.{or_from, cases_Bool, eqb-true, eq-eqb, both_ways, false_from_ne_true}
+use Rattle.std.specs.Prelude.{◌≡◌, ℕ, zero, suc, ◌+◌, ◌*◌, ◌/◌, ◌%◌, ◌<◌, ◌≤◌, ◌==◌, nat_le, nat_lt, Bool, true, false, ◌&&◌, ◌||◌, if◌then◌else◌, List, [], ◌∷◌, ◌++◌, length, Option, Some, None, is_some, option_map, unwrap_or, refl, ◌⊎◌}
+use Rattle.std.proofs.Common.{sym, ◌∙◌, ap, ap₂, subst, inl, inr, arith}
+use Rattle.std.proofs.lemmas.Bool.{or_from, or_cases, or_left, or_right, cases_Bool, cases_order, cases_lt, eqb-true, eq-eqb, both_ways, false_from_ne_true}
 use Rattle.ritas_base.specs.declared.slot.Slot.{Slot}
 use Rattle.ritas_base.specs.declared.item.Say.{Say}
 use Rattle.ritas_base.specs.Numbers.{Numbers}
@@ -9,13 +9,13 @@ use Rattle.ritas_base.specs.Shortest.{option_or_some}
 use Rattle.ritas_base.specs.SlotOrder.{is_slot, same_slot, slot_itself}
 use Rattle.layer_api.specs.Service.{Word, Ask, Hear, is_said}
 use Rattle.layer_api.specs.OneLog.{bit_byte}
-use Rattle.layer_api.specs.Binary.{Bench, IsStepSlot, vote_limit, AreVotes, bits_said, AreVotesSaid, BoxLaws}
+use Rattle.layer_api.specs.Binary.{Bench, IsStepSlot, vote_limit, AreVotes, bits_said, AreVotesSaid, BoxLaws, step_slot as slot_at}
 use Rattle.bracha_validation.specs.Votes.{votes, majority, marked, backed, rule}
 use Rattle.binary_consensus.specs.Steps.{step_of, step_slot, vote_in}
-use Rattle.binary_consensus.specs.Consensus.{proposal, left, next_vote, said, decided_below, rounds, steps, newly, says_below, binary}
+use Rattle.binary_consensus.specs.Consensus.{proposal, left, next_vote, said, decided_below, rounds, steps, newly, says_below, round_below, binary}
 use Rattle.binary_consensus.specs.Acceptance.{step_next}
 use Rattle.binary_consensus.specs.Runs.{one_step}
-use Rattle.binary_consensus.specs.Stays.{unsaid, decided_stays, round_stays}
+use Rattle.binary_consensus.specs.Stays.{silent, unsaid, clash, decided_stays, round_stays}
 
 -- ---- votes of their step
 
@@ -194,9 +194,134 @@ steps_are : steps ≡ 600
 unfolding steps
 steps_are = refl
 
+-- ---- what is said was put out
+
+out_before : (xs ys : List Say) (s : Slot) → is_said ys s ≡ true → is_said (xs ++ ys) s ≡ true
+out_before [] ys s h = h
+out_before (x ∷ xs) ys s h = or_right (is_slot x.slot s) (is_said (xs ++ ys) s) (out_before xs ys s h)
+
+out_after : (xs ys : List Say) (s : Slot) → is_said xs s ≡ true → is_said (xs ++ ys) s ≡ true
+out_after [] ys s h = absurd cc
+out_after (x ∷ xs) ys s h =
+    elim (or_cases (is_slot x.slot s) (is_said xs s) h) [
+      | inl here ↦ or_left (is_slot x.slot s) (is_said (xs ++ ys) s) here
+      | inr there ↦ or_right (is_slot x.slot s) (is_said (xs ++ ys) s) (out_after xs ys s there)
+    ]
+
+newly_out : (slot : Slot) (before after : Option ℕ) (v : ℕ) → before ≡ None → after ≡ Some v → is_said (newly slot before after) slot ≡ true
+newly_out slot None None v e f = absurd cc
+newly_out slot None (Some u) v e f = or_left (is_slot slot slot) false (slot_itself slot)
+newly_out slot (Some u) after v e f = absurd cc
+
+-- a word says at a step what is said there after it, and was not before
+says_out : (at : Bench) (n t : ℕ) (w : List Word) (c : Word) (v : ℕ) → t < n → said at t w ≡ None → said at t (c ∷ w) ≡ Some v
+    → is_said (says_below at n w c) (step_slot at t at.me) ≡ true
+says_out at zero t w c v l e f = absurd (omega arith)
+says_out at (suc n) t w c v l e f =
+    elim (cases_order n t) [
+      | inl same ↦
+          out_before (says_below at n w c) _ (step_slot at t at.me)
+          (subst (λ (m : ℕ). is_said (newly (step_slot at m at.me) (said at m w) (said at m (c ∷ w))) (step_slot at t at.me) ≡ true) (sym same)
+          (newly_out (step_slot at t at.me) (said at t w) (said at t (c ∷ w)) v e f))
+      | inr (inl less) ↦ absurd (omega arith)
+      | inr (inr more) ↦ out_after (says_below at n w c) _ (step_slot at t at.me) (says_out at n t w c v more e f)
+    ]
+
+-- what is said at a step was put out
+put_out : (at : Bench) (t : ℕ) (w : List Word) (v : ℕ) → t < 600 → said at t w ≡ Some v → is_said (bits_said binary at w) (step_slot at t at.me) ≡ true
+put_out at t [] v l q = clash at (said at t []) v (silent at t) q
+put_out at t (c ∷ w) v l q = go (said at t w) refl (λ u r. put_out at t w u l r)
+  where
+    go : (o : Option ℕ) → said at t w ≡ o → ((u : ℕ) → said at t w ≡ Some u → is_said (bits_said binary at w) (step_slot at t at.me) ≡ true)
+        → is_said (says_below at steps w c ++ bits_said binary at w) (step_slot at t at.me) ≡ true
+    go None e before =
+        out_after (says_below at steps w c) (bits_said binary at w) (step_slot at t at.me)
+        (says_out at steps t w c v (let e = steps_are in omega arith) e q)
+    go (Some u) e before = out_before (says_below at steps w c) (bits_said binary at w) (step_slot at t at.me) (before u e)
+
+-- nothing is put out at a step past the last
+none_out : (at : Bench) (t : ℕ) (w : List Word) → 600 ≤ t → is_said (bits_said binary at w) (step_slot at t at.me) ≡ false
+none_out at t [] l = refl
+none_out at t (c ∷ w) l =
+    said_in (says_below at steps w c) _ _ (says_nothing_at at steps t w c (let e = steps_are in omega arith)) (none_out at t w l)
+
+-- ---- the round
+
+rounds_are : rounds ≡ 200
+unfolding rounds
+rounds_are = refl
+
+-- x is a round below n whose first step is said, from 1
+record IsRound (at : Bench) (n : ℕ) (w : List Word) (x : ℕ) : Type 0 where
+  before : ℕ
+  within : before < n
+  same : x ≡ suc before
+  vote : ℕ
+  is_said : said at (3 * before) w ≡ Some vote
+
+round_has : (at : Bench) (n : ℕ) (w : List Word) → (round_below at n w ≡ 0) ⊎ IsRound at n w (round_below at n w)
+round_has at zero w = inl refl
+round_has at (suc n) w = go (said at (3 * n) w) refl (round_has at n w)
+  where
+    go : (o : Option ℕ) → said at (3 * n) w ≡ o → (round_below at n w ≡ 0) ⊎ IsRound at n w (round_below at n w)
+        → ((if is_some o then suc n else round_below at n w) ≡ 0) ⊎ IsRound at (suc n) w (if is_some o then suc n else round_below at n w)
+    go (Some v) e less = inr (record { before = n; within = omega arith; same = refl; vote = v; is_said = e })
+    go None e (inl none) = inl none
+    go None e (inr h) =
+        let l = h.within in inr (record { before = h.before; within = omega arith; same = h.same; vote = h.vote; is_said = h.is_said })
+
+round_reaches : (at : Bench) (n r : ℕ) (w : List Word) (v : ℕ) → r < n → said at (3 * r) w ≡ Some v → r + 1 ≤ round_below at n w
+round_reaches at zero r w v l q = absurd (omega arith)
+round_reaches at (suc n) r w v l q = go (said at (3 * n) w) refl (λ m. round_reaches at n r w v m q)
+  where
+    go : (o : Option ℕ) → said at (3 * n) w ≡ o → (r < n → r + 1 ≤ round_below at n w) → r + 1 ≤ (if is_some o then suc n else round_below at n w)
+    go (Some u) e less = omega arith
+    go None e less =
+        elim (cases_order r n) [
+          | inl same ↦ clash at (said at (3 * n) w) v e (subst (λ (m : ℕ). said at (3 * m) w ≡ Some v) same q)
+          | inr (inl below) ↦ less below
+          | inr (inr above) ↦ absurd (omega arith)
+        ]
+
+first_slot : (at : Bench) (r x : ℕ) → x ≡ suc r → step_slot at (3 * r) at.me ≡ slot_at at x 1
+first_slot at r x e =
+    let round : 3 * r / 3 + 1 ≡ x = omega arith in
+    let step : 3 * r % 3 + 1 ≡ 1 = omega arith in
+    ap₂ (λ (b s : ℕ). let slot : Slot = record { class = 5; a = at.a; attempt = at.attempt; bround = b; step = s; origin = at.me } in slot) round step
+
+round_said : (at : Bench) (w : List Word) → (round_below at rounds w ≡ 0) ⊎ (is_said (bits_said binary at w) (slot_at at (round_below at rounds w) 1) ≡ true)
+round_said at w =
+    elim (round_has at rounds w) [
+      | inl none ↦ inl none
+      | inr h ↦
+          let l = h.within in let e = rounds_are in
+          inr (subst (λ (s : Slot). is_said (bits_said binary at w) s ≡ true) (first_slot at h.before (round_below at rounds w) h.same)
+          (put_out at (3 * h.before) w h.vote (omega arith) h.is_said))
+    ]
+
+round_greatest : (at : Bench) (w : List Word) (round : ℕ) → is_said (bits_said binary at w) (slot_at at round 1) ≡ true → round ≤ round_below at rounds w
+round_greatest at w zero h = omega arith
+round_greatest at w (suc r) h =
+    elim (cases_lt (3 * r) 600) [
+      | inl below ↦ go (said at (3 * r) w) refl below
+      | inr past ↦ absurd (both_ways _ (none_out at (3 * r) w (omega arith)) out)
+    ]
+  where
+    out : is_said (bits_said binary at w) (step_slot at (3 * r) at.me) ≡ true
+    out = subst (λ (s : Slot). is_said (bits_said binary at w) s ≡ true) (sym (first_slot at r (suc r) refl)) h
+
+    go : (o : Option ℕ) → said at (3 * r) w ≡ o → 3 * r < 600 → suc r ≤ round_below at rounds w
+    go None e below = absurd (both_ways _ (unsaid_before at (3 * r) w e) out)
+    go (Some v) e below =
+        let e' = rounds_are in
+        let m = round_reaches at rounds r w v (omega arith) e in
+        omega (arith, m)
+
 pub box_laws_hold : BoxLaws binary
 box_laws_hold = record {
   says_new = λ at c w votes. says_new at steps w c (let e = steps_are in omega arith) votes;
   decision_stays = λ at c w b votes q. decided_stays at steps c w b q;
+  round_said = λ at w votes. round_said at w;
+  round_greatest = λ at w round votes. round_greatest at w round;
   round_stays = λ at c w votes. round_stays at rounds c w;
 }

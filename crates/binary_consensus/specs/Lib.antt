@@ -1,6 +1,7 @@
 pub mod Steps
 pub mod Consensus
 pub mod Root
+pub mod Bits
 pub mod Rows
 pub mod Counts
 pub mod Acceptance

@@ -9,8 +9,8 @@ use Rattle.ritas_base.specs.History.{replicas}
 use Rattle.ritas_base.specs.Quorums.{count_no, count_none, meet_two}
 use Rattle.layer_api.specs.OneLog.{bit_byte}
 use Rattle.bracha_validation.specs.Votes.{votes, gives}
-use Rattle.bracha_validation.proofs.Choices.{one_more}
-use Rattle.bracha_validation.proofs.Rules.{ThirdSays, second_gives, third_gives}
+use Rattle.bracha_validation.specs.PickLaws.{one_more}
+use Rattle.bracha_validation.specs.RuleLaws.{ThirdSays, second_gives, third_gives}
 use Rattle.binary_consensus.specs.Steps.{step_of, accepts}
 use Rattle.binary_consensus.specs.Acceptance.{holds, holds_some, holds_is, is, count_of, accepts_heard, accepts_follows, third_follows_second, all_give}
 

@@ -1,29 +1,14 @@
--- Binary consensus as a root service: one instance, of number 0 and attempt 0, whose input is a bit's byte.
-use Rattle.std.specs.Prelude.{ℕ, ◌+◌, Bool, not, ◌==◌, ◌&&◌, nat_lt, nat_le, if◌then◌else◌, List, [], ◌∷◌, Option, Some, None, option_map}
-use Rattle.std.specs.Str.{bytes_eq}
+-- Binary consensus as a root service: one instance, of number 0 and attempt 0, with the service's own words. An input is a
+-- bit's byte, and what is heard at a step is the byte of a vote.
+use Rattle.std.specs.Prelude.{ℕ, ◌+◌, Bool, not, ◌==◌, ◌&&◌, nat_le, if◌then◌else◌, List, [], Option, Some, None, option_map}
 use Rattle.ritas_base.specs.declared.slot.Slot.{Slot}
 use Rattle.ritas_base.specs.Slots.{within}
-use Rattle.layer_api.specs.Service.{ServiceRules, Seat, Word, Ask, Hear, Instance, OfBit, OfValue, OfVector, Decision, Bit, Ending, Undecided, Over, Decided, asked}
-use Rattle.layer_api.specs.OneLog.{bit_byte}
-use Rattle.layer_api.specs.Binary.{BinaryRules, Bench, vote_limit}
+use Rattle.layer_api.specs.Service.{ServiceRules, Seat, Word, Instance, OfBit, OfValue, OfVector, Decision, Bit, Ending, Undecided, Over, Decided, asked}
+use Rattle.layer_api.specs.Binary.{BinaryRules, Bench}
 
 -- the bench of the one instance
 abbrev pub bench_of : Seat → Bench
 bench_of seat = record { numbers = seat.numbers; me = seat.me; a = 0; attempt = 0; coin = seat.coin }
-
--- the vote of a value at a step: its first byte, where that is a vote of the step, else 0
-abbrev pub vote_byte : Slot → List ℕ → ℕ
-vote_byte s [] = 0
-vote_byte s (v ∷ vs) = if nat_lt v (vote_limit s.step) then v else 0
-
--- the word of the instance that a word of the service makes
-abbrev pub bit_word : Word → Word
-bit_word (Ask value) = Ask (bit_byte (bytes_eq value (1 ∷ [])) ∷ [])
-bit_word (Hear s value) = Hear s (vote_byte s value ∷ [])
-
-abbrev pub bit_words : List Word → List Word
-bit_words [] = []
-bit_words (c ∷ w) = bit_word c ∷ bit_words w
 
 -- whether the input is there
 abbrev pub is_given : List Word → Bool
@@ -49,13 +34,13 @@ decided_in o (OfVector a) = None
 abbrev pub binary_root : BinaryRules → ServiceRules
 binary_root b = record {
   serves = λ root. root == 3;
-  says = λ seat w c. b.says (bench_of seat) (bit_words w) (bit_word c);
-  opens = λ seat w s. opens_at (is_given w) (b.round (bench_of seat) (bit_words w)) s;
+  says = λ seat w c. b.says (bench_of seat) w c;
+  opens = λ seat w s. opens_at (is_given w) (b.round (bench_of seat) w) s;
   completed = λ seat w. 0;
   base = λ seat w origin. 0;
   next_number = λ seat w. 0;
   given = λ seat w. is_given w;
   done = λ seat w. [];
-  outcome = λ seat w. ending (b.decision (bench_of seat) (bit_words w)) (b.over (bench_of seat) (bit_words w));
-  decided = λ seat w x. decided_in (b.decision (bench_of seat) (bit_words w)) x;
+  outcome = λ seat w. ending (b.decision (bench_of seat) w) (b.over (bench_of seat) w);
+  decided = λ seat w x. decided_in (b.decision (bench_of seat) w) x;
 }

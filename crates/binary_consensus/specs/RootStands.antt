@@ -1,17 +1,17 @@
 -- What a value of the root service stands for, and what its getters answer.
-use Rattle.std.specs.Prelude.{◌≡◌, ℕ, ◌+◌, ◌≤◌, Bool, true, false, not, List, [], ◌∷◌, refl, ◌⊎◌}
-use Rattle.std.proofs.Common.{sym, ◌∙◌, ap, ap₂, inl, inr, arith, ne_eqb}
+use Rattle.std.specs.Prelude.{◌≡◌, ℕ, ◌≤◌, Bool, false, List, [], ◌∷◌, refl, ◌⊎◌}
+use Rattle.std.proofs.Common.{sym, ◌∙◌, ap, ap₂, inl, inr}
 use Rattle.ritas_base.specs.declared.slot.Slot.{Slot}
-use Rattle.layer_api.specs.Service.{Seat, Word, Ask, asked, MayAsk}
+use Rattle.layer_api.specs.Service.{Seat, Word, asked}
 use Rattle.layer_api.specs.ServiceCalls.{ServiceShown, Shows, ShowsNear}
 use Rattle.layer_api.specs.Binary.{BinaryRules, Bench}
 use Rattle.layer_api.specs.BinaryCalls.{BoxShown, ShowsBox, ShowsBoxNear}
-use Rattle.binary_consensus.specs.Root.{bench_of, bit_word, bit_words, is_given, opens_at, ending, binary_root}
+use Rattle.binary_consensus.specs.Root.{bench_of, is_given, opens_at, ending, binary_root}
 use Rattle.binary_consensus.specs.declared.bin_root.BinRoot.{BinRoot}
 
--- the box stands for the words of the instance
+-- the box stands for the words
 pub record RootStands {B : Type 0} (stands : B → Bench → List Word → Type 0) (s : BinRoot B) (seat : Seat) (w : List Word) : Type 0 where
-  pub inner : stands s.inner (bench_of seat) (bit_words w)
+  pub inner : stands s.inner (bench_of seat) w
   pub given : s.given ≡ is_given w
   pub once : asked w ≤ 1
 
@@ -27,7 +27,7 @@ root_shown shown given = record {
 }
 
 pub root_shows : (b : BinaryRules) (seat : Seat) (w : List Word) (shown : BoxShown) (given : Bool) → given ≡ is_given w
-    → ShowsBox b (bench_of seat) (bit_words w) shown → Shows (binary_root b) seat w (root_shown shown given)
+    → ShowsBox b (bench_of seat) w shown → Shows (binary_root b) seat w (root_shown shown given)
 root_shows b seat w shown given e s = record {
   opens = λ q. ap₂ (λ (g : Bool) (r : ℕ). opens_at g r q) e s.round;
   completed = refl;
@@ -41,7 +41,7 @@ root_shows b seat w shown given e s = record {
 -- after want of memory: the box answers as before or with the word, and no input was taken
 pub root_shows_near : (b : BinaryRules) (seat : Seat) (w : List Word) (c : Word) (shown : BoxShown) (given : Bool) → given ≡ is_given w
     → (is_given w ≡ false) ⊎ (is_given (c ∷ w) ≡ is_given w)
-    → ShowsBoxNear b (bench_of seat) (bit_words w) (bit_word c) shown → ShowsNear (binary_root b) seat w c (root_shown shown given)
+    → ShowsBoxNear b (bench_of seat) w c shown → ShowsNear (binary_root b) seat w c (root_shown shown given)
 root_shows_near b seat w c shown given e same s = record {
   opens = λ q. opens q same;
   completed = inl refl;
@@ -56,17 +56,9 @@ root_shows_near b seat w c shown given e same s = record {
     opens : (q : Slot) → (is_given w ≡ false) ⊎ (is_given (c ∷ w) ≡ is_given w)
         → (opens_at given shown.round q ≡ (binary_root b).opens seat w q) ⊎ (opens_at given shown.round q ≡ (binary_root b).opens seat (c ∷ w) q)
     opens q (inl none) =
-        inl (ap (λ (g : Bool). opens_at g shown.round q) (e ∙ none) ∙ sym (ap (λ (g : Bool). opens_at g (b.round (bench_of seat) (bit_words w)) q) none))
+        inl (ap (λ (g : Bool). opens_at g shown.round q) (e ∙ none) ∙ sym (ap (λ (g : Bool). opens_at g (b.round (bench_of seat) w) q) none))
     opens q (inr g) =
         elim s.round [
           | inl r ↦ inl (ap₂ (λ (g : Bool) (n : ℕ). opens_at g n q) e r)
           | inr r ↦ inr (ap₂ (λ (g : Bool) (n : ℕ). opens_at g n q) (e ∙ sym g) r)
         ]
-
--- no input was taken where one may be given
-pub not_given_yet : (b : BinaryRules) (seat : Seat) (w : List Word) → MayAsk (binary_root b) seat w → is_given w ≡ false
-not_given_yet b seat w may = may.first
-
--- the input is there after it was given
-pub given_now : (w : List Word) (v : List ℕ) → true ≡ is_given (Ask v ∷ w)
-given_now w v = sym (ap not (ne_eqb (asked w + 1) 0 (λ e. omega (arith, e))))

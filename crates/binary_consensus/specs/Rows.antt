@@ -1,11 +1,13 @@
 -- Worked rows.
-use Rattle.std.specs.Prelude.{◌≡◌, ℕ, true, false, List, [], ◌∷◌, Some, None, refl}
+use Rattle.std.specs.Prelude.{◌≡◌, ℕ, Bool, true, false, List, [], ◌∷◌, Some, None, refl}
+use Rattle.ritas_base.specs.declared.slot.Slot.{Slot}
 use Rattle.ritas_base.specs.declared.item.Say.{Say}
+use Rattle.ritas_base.specs.SlotOrder.{is_slot}
 use Rattle.layer_api.specs.Service.{Word, Ask, Hear}
 use Rattle.layer_api.specs.Binary.{Bench}
 use Rattle.binary_consensus.specs.Steps.{step_slot, heard, accepts, accepted}
-use Rattle.binary_consensus.specs.Consensus.{said, decided_below, round_below, says_below}
-use Rattle.binary_consensus.specs.Root.{vote_byte, bit_word}
+use Rattle.binary_consensus.specs.Consensus.{next_vote, verdict, said, decided_below, round_below, says_below}
+use Rattle.binary_consensus.specs.Root.{opens_at}
 
 -- replica 0, whose coin is always 0
 abbrev bench : ℕ → ℕ → Bench
@@ -86,16 +88,94 @@ split_is_tossed = refl
 split_undecided : decided_below four 3 split ≡ None
 split_undecided = refl
 
--- ---- the root service
+-- ---- the coin
 
-input_of_a_bit : bit_word (Ask (1 ∷ [])) ≡ Ask (1 ∷ [])
-input_of_a_bit = refl
+-- replica 0 of four, whose coin is this one
+abbrev tossing : (Slot → Bool) → Bench
+tossing coin = record { numbers = record { n = 4; f = 1 }; me = 0; a = 7; attempt = 1; coin = coin }
 
-other_bytes_are_zero : bit_word (Ask (1 ∷ 1 ∷ [])) ≡ Ask (0 ∷ [])
-other_bytes_are_zero = refl
+-- what follows split votes is what the coin gives
+coin_of_one : said (tossing (λ s. true)) 3 split ≡ Some 1
+coin_of_one = refl
 
-unmarked_in_step_three : vote_byte (step_slot four 2 1) (2 ∷ []) ≡ 2
-unmarked_in_step_three = refl
+coin_of_zero : said (tossing (λ s. false)) 3 split ≡ Some 0
+coin_of_zero = refl
 
-unmarked_in_step_two : vote_byte (step_slot four 1 1) (2 ∷ []) ≡ 0
-unmarked_in_step_two = refl
+-- it is tossed at the replica's own slot of the third step
+coin_of_its_slot : said (tossing (λ s. is_slot s (record { class = 5; a = 7; attempt = 1; bround = 1; step = 3; origin = 0 }))) 3 split ≡ Some 1
+coin_of_its_slot = refl
+
+coin_of_the_next_round : said (tossing (λ s. is_slot s (record { class = 5; a = 7; attempt = 1; bround = 2; step = 1; origin = 0 }))) 3 split ≡ Some 0
+coin_of_the_next_round = refl
+
+-- one vote for a bit is too few to take it, and two are enough, whatever the coin
+one_vote_tosses : next_vote (tossing (λ s. false)) 2 (1 ∷ 2 ∷ 2 ∷ []) ≡ 0
+one_vote_tosses = refl
+
+one_vote_tosses_again : next_vote (tossing (λ s. true)) 2 (0 ∷ 2 ∷ 2 ∷ []) ≡ 1
+one_vote_tosses_again = refl
+
+two_ones_are_taken : next_vote (tossing (λ s. false)) 2 (1 ∷ 2 ∷ 1 ∷ []) ≡ 1
+two_ones_are_taken = refl
+
+two_zeros_are_taken : next_vote (tossing (λ s. true)) 2 (0 ∷ 2 ∷ 0 ∷ []) ≡ 0
+two_zeros_are_taken = refl
+
+-- ---- a decision takes 2f + 1 votes
+
+three_ones_decide : verdict four.numbers 3 (1 ∷ 1 ∷ 1 ∷ []) ≡ Some true
+three_ones_decide = refl
+
+two_ones_do_not : verdict four.numbers 3 (1 ∷ 1 ∷ 2 ∷ []) ≡ None
+two_ones_do_not = refl
+
+three_zeros_decide : verdict four.numbers 3 (0 ∷ 0 ∷ 0 ∷ []) ≡ Some false
+three_zeros_decide = refl
+
+two_zeros_do_not : verdict four.numbers 3 (0 ∷ 2 ∷ 0 ∷ []) ≡ None
+two_zeros_do_not = refl
+
+second_steps_decide_nothing : verdict four.numbers 2 (1 ∷ 1 ∷ 1 ∷ []) ≡ None
+second_steps_decide_nothing = refl
+
+-- three votes of the third step, where a one and an unmarked vote may both follow
+abbrev thirds : ℕ → ℕ → ℕ → List Word
+thirds a b c =
+    vote four 2 2 c ∷ vote four 2 1 b ∷ vote four 2 0 a ∷ vote four 1 3 0 ∷ vote four 1 2 1 ∷ vote four 1 1 1 ∷ vote four 1 0 1
+    ∷ vote four 0 3 0 ∷ vote four 0 2 0 ∷ vote four 0 1 1 ∷ vote four 0 0 1 ∷ propose 1 ∷ []
+
+ones_decide : decided_below four 3 (thirds 1 1 1) ≡ Some true
+ones_decide = refl
+
+two_of_three_decide_nothing : decided_below four 3 (thirds 1 1 2) ≡ None
+two_of_three_decide_nothing = refl
+
+two_of_three_go_on : said four 3 (thirds 1 1 2) ≡ Some 1
+two_of_three_go_on = refl
+
+-- ---- which slots the root service has open
+
+abbrev round_slot : ℕ → Slot
+round_slot round = record { class = 5; a = 0; attempt = 0; bround = round; step = 1; origin = 3 }
+
+shut_before_the_input : opens_at false 0 (round_slot 1) ≡ false
+shut_before_the_input = refl
+
+-- up to one round ahead
+open_rounds : (opens_at true 4 (round_slot 1) ≡ true) × (opens_at true 4 (round_slot 4) ≡ true) × (opens_at true 4 (round_slot 5) ≡ true)
+open_rounds = (refl, refl, refl)
+
+two_rounds_ahead : opens_at true 4 (round_slot 6) ≡ false
+two_rounds_ahead = refl
+
+-- from 1 to 200
+rounds_that_are_there : (opens_at true 200 (round_slot 0) ≡ false) × (opens_at true 200 (round_slot 200) ≡ true) × (opens_at true 200 (round_slot 201) ≡ false)
+rounds_that_are_there = (refl, refl, refl)
+
+-- of one instance, at three steps
+other_slots :
+    (opens_at true 1 (record { class = 4; a = 0; attempt = 0; bround = 1; step = 1; origin = 3 }) ≡ false)
+    × (opens_at true 1 (record { class = 5; a = 1; attempt = 0; bround = 1; step = 1; origin = 3 }) ≡ false)
+    × (opens_at true 1 (record { class = 5; a = 0; attempt = 1; bround = 1; step = 1; origin = 3 }) ≡ false)
+    × (opens_at true 1 (record { class = 5; a = 0; attempt = 0; bround = 1; step = 4; origin = 3 }) ≡ false)
+other_slots = (refl, refl, refl, refl)

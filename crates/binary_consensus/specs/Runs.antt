@@ -15,8 +15,8 @@ use Rattle.layer_api.specs.Service.{Word, Ask, Hear, HasSay}
 use Rattle.layer_api.specs.OneLog.{value_at, bit_byte}
 use Rattle.layer_api.specs.Binary.{Bench, Jury, bench_at, IsFedVote, IsWellVoted, vote_limit, bits_said, OneBit}
 use Rattle.bracha_validation.specs.Votes.{votes}
-use Rattle.bracha_validation.proofs.Counts.{no_bit, length_three}
-use Rattle.bracha_validation.proofs.Rules.{FirstSays, first_gives}
+use Rattle.bracha_validation.specs.PickLaws.{no_bit, length_three}
+use Rattle.bracha_validation.specs.RuleLaws.{FirstSays, first_gives}
 use Rattle.binary_consensus.specs.Steps.{step_of, step_slot, vote_in, vote_heard, heard, accepts, accepted}
 use Rattle.binary_consensus.specs.Consensus.{proposal, enough_at, left, verdict, decides, stage, said, decided_below, steps, newly, says_below, decision, binary}
 use Rattle.binary_consensus.specs.Acceptance.{holds, holds_some, holds_is, is, count_of, count_listed, accepts_follows}

@@ -1,5 +1,4 @@
-ghost use Rattle.std.specs.Prelude.{◌≡◌};
-ghost use Rattle.binary_consensus.specs.Root.{vote_byte};
+ghost use Rattle.std.specs.Prelude.{◌≡◌, ℕ, [], ◌∷◌};
 
 use crate::part::line_of;
 use layer_api::{BinaryBox, Outcome, Service};
@@ -16,20 +15,16 @@ pub struct BinRoot<B: BinaryBox> {
     given: bool,
 }
 
-// The vote that a value is at a step.
-fn vote_byte(slot: &Slot, value: &[u8]) -> u8
-    ensures { result ≡ vote_byte slot.now value.now }
+// The vote that a value of one byte is.
+fn vote_of(value: &[u8]) -> u8
+    ensures { (vote : ℕ) → value.now ≡ vote ∷ [] → result ≡ vote }
 {
-    let limit = if slot.step == 3 { 3 } else { 2 };
-    match value.first() {
-        Some(&vote) if vote < limit => vote,
-        _ => 0,
-    }
+    value.first().copied().unwrap_or(0)
 }
 
 impl<B: BinaryBox> Service for BinRoot<B> {
     ghost use Rattle.std.specs.Prelude.{◌≡◌};
-    ghost use Rattle.binary_consensus.specs.Root.{bench_of, bit_words, binary_root};
+    ghost use Rattle.binary_consensus.specs.Root.{bench_of, binary_root};
     ghost use Rattle.binary_consensus.specs.RootLaws.{root_word_laws};
     ghost use Rattle.binary_consensus.specs.RootLog.{root_one_log};
     ghost use Rattle.binary_consensus.specs.RootStands.{RootStands, root_shown, root_shows};
@@ -69,8 +64,7 @@ impl<B: BinaryBox> Service for BinRoot<B> {
         value: &[u8],
         says: &mut Vec<Say>,
     ) -> Result<(), Mem> {
-        self.inner
-            .heard(alloc, coin, slot, vote_byte(slot, value), says)
+        self.inner.heard(alloc, coin, slot, vote_of(value), says)
     }
 
     fn is_open(&self, slot: &Slot) -> bool {
@@ -114,9 +108,9 @@ impl<B: BinaryBox> Service for BinRoot<B> {
         self.inner.live()
     }
 
-    ghost lives = { λ s seat w stands. (B.shows s.inner (bench_of seat) (bit_words w) stands.inner).0 };
+    ghost lives = { λ s seat w stands. (B.shows s.inner (bench_of seat) w stands.inner).0 };
 
-    ghost shows = { λ s seat w stands. root_shows B.rules seat w (B.shown s.inner) s.given stands.given (B.shows s.inner (bench_of seat) (bit_words w) stands.inner).1 };
+    ghost shows = { λ s seat w stands. root_shows B.rules seat w (B.shown s.inner) s.given stands.given (B.shows s.inner (bench_of seat) w stands.inner).1 };
 
     ghost word_laws = { root_word_laws B.rules B.box_laws };
 

@@ -9,7 +9,8 @@ pub fn one_bit()
     ensures { OneBit binary }
 {}
 
-/// The laws of a single value: what is said is new and a vote of its step, a decision stays, and rounds never go back.
+/// The laws of a single value: what is said is new and a vote of its step, a decision stays, and the round is the greatest
+/// whose first step was said.
 ///
 /// It does nothing: its contract is the law.
 pub fn box_laws()
