@@ -1,30 +1,31 @@
 -- The laws of the service of commands: what is said is new, and the base is the least number that was not heard.
-use Rattle.std.specs.Prelude.{◌≡◌, ℕ, ◌+◌, ◌<◌, ◌≤◌, Bool, true, false, ◌==◌, List, [], ◌∷◌, Option, Some, None, MatchOption, length, unwrap_or, refl, ◌⊎◌}
+use Rattle.std.specs.Prelude.{◌≡◌, ℕ, ◌+◌, ◌<◌, ◌≤◌, Bool, true, false, ◌==◌, ◌&&◌, not, List, [], ◌∷◌, Option, Some, None, MatchOption, length, unwrap_or, refl, ◌⊎◌}
 use Rattle.std.proofs.Common.{sym, ◌∙◌, ap, subst, inl, inr, arith, zero, suc}
 use Rattle.std.specs.List.{find, range_with_len, list_any}
-use Rattle.std.proofs.lemmas.Bool.{cases_Bool, cases_order, or_cases, or_left, or_right, or_from, not-true, not-false, eq-eqb, eqb-true, leb-false, both_ways, cond-true, cond-false, false_from_ne_true}
+use Rattle.std.proofs.lemmas.Bool.{cases_Bool, cases_order, or_cases, or_left, or_right, or_from, not-true, not-false, eq-eqb, eqb-true, lt-ltb, leb-false, both_ways, cond-true, cond-false, false_from_ne_true}
 use Rattle.std.proofs.lemmas.Map.Steps.{le-length_from_below}
 use Rattle.ritas_base.specs.declared.slot.Slot.{Slot}
 use Rattle.ritas_base.specs.declared.mode.Mode.{Mode}
-use Rattle.ritas_base.specs.Numbers.{IsSession}
-use Rattle.ritas_base.specs.Slots.{has_class}
+use Rattle.ritas_base.specs.Numbers.{Numbers}
+use Rattle.ritas_base.specs.Slots.{has_class, slot_fault, command_slot}
 use Rattle.ritas_base.specs.SlotOrder.{is_slot, same_slot}
-use Rattle.frame_codec.specs.Inputs.{takes_input}
-use Rattle.frame_codec.proofs.Items.{command_slot_right, input_value}
-use Rattle.layer_api.specs.Service.{Seat, Word, Ask, Hear, command_slot, is_heard, asked, is_said, said, is_ahead, MayHear, AreProper, AreNew, AreGoodWords, AreGoodSays, WordLaws, AreInputs}
+use Rattle.frame_codec.specs.Format.{Is}
+use Rattle.frame_codec.specs.Grammar.{value}
+use Rattle.frame_codec.specs.Inputs.{IsInput, input_format}
+use Rattle.layer_api.specs.Service.{Seat, Word, Ask, Hear, is_heard, asked, is_said, said, is_ahead, MayHear, AreProper, AreNew, AreGoodSays, WordLaws, AreInputs, IsBase, is_finished, has_instance, Meanings}
 use Rattle.layer_api.specs.OneLog.{OneLog}
-use Rattle.atomic_bcast.specs.Commands.{is_missing, base_of, says_of, commands}
+use Rattle.atomic_bcast.specs.Commands.{is_heard_from, is_missing, base_of, says_of, commands}
 
 -- ---- the least number that was not heard
 
 -- b is the least number from a on that passes
-record IsFirst (p : ℕ → Bool) (a b : ℕ) : Type 0 where
-  passes : p b ≡ true
-  «from» : a ≤ b
-  none_before : (k : ℕ) → a ≤ k → k < b → p k ≡ false
+pub record IsFirst (p : ℕ → Bool) (a b : ℕ) : Type 0 where
+  pub passes : p b ≡ true
+  pub «from» : a ≤ b
+  pub none_before : (k : ℕ) → a ≤ k → k < b → p k ≡ false
 
 -- no number of these passes
-abbrev NonePasses : (ℕ → Bool) → ℕ → ℕ → Type 0
+abbrev pub NonePasses : (ℕ → Bool) → ℕ → ℕ → Type 0
 NonePasses p a n = (k : ℕ) → a ≤ k → k < a + n → p k ≡ false
 
 at_or_after : (p : ℕ → Bool) (a k : ℕ) → p a ≡ false → a ≤ k → (a + 1 ≤ k → p k ≡ false) → p k ≡ false
@@ -44,7 +45,7 @@ find_later p a n (Some b) fails later = record {
   none_before = λ k here before. at_or_after p a k fails here (λ after. later.none_before k after before);
 }
 
-find_is : (p : ℕ → Bool) (a n : ℕ) → MatchOption (find p (range_with_len a n)) (NonePasses p a n) (IsFirst p a)
+pub find_is : (p : ℕ → Bool) (a n : ℕ) → MatchOption (find p (range_with_len a n)) (NonePasses p a n) (IsFirst p a)
 find_is p a zero = λ k here within. absurd (omega arith)
 find_is p a (suc n) =
     elim (cases_Bool (p a)) [
@@ -83,14 +84,9 @@ not_all_heard w o n all =
     let few = le-length_from_below (heard_numbers w) n (λ k below. has_number w o k (all k below)) in
     omega (arith, few, fewer_numbers w)
 
--- b is the least number of the origin at which no command was heard
-pub record IsBase (w : List Word) (o b : ℕ) : Type 0 where
-  pub missing : is_heard w (command_slot o b) ≡ false
-  pub below : (k : ℕ) → k < b → is_heard w (command_slot o k) ≡ true
-
 found_base : (w : List Word) (o : ℕ) (found : Option ℕ)
     → MatchOption found (NonePasses (is_missing w o) 0 (length w + 1)) (IsFirst (is_missing w o) 0)
-    → IsBase w o (unwrap_or found (length w))
+    → IsBase (is_heard_from w o) (unwrap_or found (length w))
 found_base w o None none =
     let all = not_all_heard w o (length w + 1) (λ k within. not-false (is_heard w (command_slot o k)) (none k (omega arith) (omega arith))) in
     absurd (omega (arith, all))
@@ -99,12 +95,12 @@ found_base w o (Some b) first = record {
   below = λ k before. not-false (is_heard w (command_slot o k)) (first.none_before k (omega arith) before);
 }
 
-pub base_is : (w : List Word) (o : ℕ) → IsBase w o (base_of w o)
+pub base_is : (w : List Word) (o : ℕ) → IsBase (is_heard_from w o) (base_of w o)
 unfolding base_of
 base_is w o = found_base w o (find (is_missing w o) (range_with_len 0 (length w + 1))) (find_is (is_missing w o) 0 (length w + 1))
 
 -- there is one base alone
-pub base_from : (w : List Word) (o b : ℕ) → IsBase w o b → base_of w o ≡ b
+pub base_from : (w : List Word) (o b : ℕ) → IsBase (is_heard_from w o) b → base_of w o ≡ b
 base_from w o b is =
     elim (cases_order (base_of w o) b) [
       | inl same ↦ same
@@ -131,8 +127,8 @@ base_stays seat c w o =
 
 -- ---- what was heard lies near the base
 
-near_now : (seat : Seat) (w : List Word) (s : Slot) (o k : ℕ) → MayHear commands seat w s → is_slot s (command_slot o k) ≡ true → k < base_of w o + 64
-near_now seat w s o k may here =
+near_now : (seat : Seat) (w : List Word) (s : Slot) (o k : ℕ) (v : List ℕ) → MayHear commands seat w s v → is_slot s (command_slot o k) ≡ true → k < base_of w o + 64
+near_now seat w s o k v may here =
     let same = same_slot s (command_slot o k) here in
     let ahead = subst (λ (q : Slot). is_ahead commands seat w q ≡ false) same may.not_ahead in
     leb-false (base_of w o + 64) k ahead
@@ -145,7 +141,7 @@ heard_near seat (Ask v ∷ w) o k proper h =
     omega (arith, before, base_stays seat (Ask v) w o)
 heard_near seat (Hear s v ∷ w) o k proper h =
     elim (or_cases (is_slot s (command_slot o k)) (is_heard w (command_slot o k)) h) [
-      | inl here ↦ omega (arith, near_now seat w s o k proper.0 here, base_stays seat (Hear s v) w o)
+      | inl here ↦ omega (arith, near_now seat w s o k v proper.0 here, base_stays seat (Hear s v) w o)
       | inr there ↦ omega (arith, heard_near seat w o k proper.1 there, base_stays seat (Hear s v) w o)
     ]
 
@@ -166,44 +162,90 @@ pub says_new : (seat : Seat) (c : Word) (w : List Word) → AreProper commands s
 says_new seat (Ask v) w proper = (refl, said_below seat w (asked w) (omega arith), refl, tt)
 says_new seat (Hear s v) w proper = tt
 
--- ---- what is said is in the grammar
-
-class_one : (root : ℕ) → (root ≡ 1) ⊎ (root ≡ 2) → has_class root 1 ≡ true
-unfolding has_class
-class_one root (inl one) = ap (λ (r : ℕ). has_class r 1) one
-class_one root (inr two) = ap (λ (r : ℕ). has_class r 1) two
-
-takes_command : (root origin num : ℕ) → (root ≡ 1) ⊎ (root ≡ 2) → takes_input root (command_slot origin num) ≡ true
-takes_command root origin num (inl one) = ap (λ (r : ℕ). takes_input r (command_slot origin num)) one
-takes_command root origin num (inr two) = ap (λ (r : ℕ). takes_input r (command_slot origin num)) two
+-- ---- the root services of commands
 
 root_of : (root : ℕ) → commands.serves root ≡ true → (root ≡ 1) ⊎ (root ≡ 2)
 root_of root serves =
     elim (or_cases (root == 1) (root == 2) serves) [ inl one ↦ inl (eqb-true root 1 one) | inr two ↦ inr (eqb-true root 2 two) ]
 
-pub says_good : (seat : Seat) (mode : Mode) (c : Word) (w : List Word) → IsSession seat.numbers → seat.me < seat.numbers.n
-    → commands.serves mode.root ≡ true → AreProper commands seat (c ∷ w) → AreGoodWords seat.numbers mode (c ∷ w)
-    → AreGoodSays seat.numbers mode (says_of seat w c)
-says_good seat mode (Ask v) w session below serves proper good =
-    let root = root_of mode.root serves in (
-      command_slot_right seat.numbers mode seat.me (asked w) (class_one mode.root root) below proper.0.number,
-      input_value seat.numbers mode (command_slot seat.me (asked w)) v (takes_command mode.root seat.me (asked w) root) good.0,
-      tt,
-    )
-says_good seat mode (Hear s v) w session below serves proper good = tt
+-- what holds in root services 1 and 2 holds where commands are served
+in_both : (P : ℕ → Type 0) → P 1 → P 2 → (root : ℕ) → commands.serves root ≡ true → P root
+in_both P one two root serves = elim (root_of root serves) [ inl e ↦ subst P (sym e) one | inr e ↦ subst P (sym e) two ]
+
+has_commands : (root : ℕ) → commands.serves root ≡ true → has_class root 1 ≡ true
+unfolding has_class
+has_commands root serves = let P : ℕ → Type 0 = λ r. has_class r 1 ≡ true in in_both P refl refl root serves
+
+no_instance : (root : ℕ) → commands.serves root ≡ true → has_instance root ≡ false
+no_instance root serves = let P : ℕ → Type 0 = λ r. has_instance r ≡ false in in_both P refl refl root serves
+
+no_log : (root : ℕ) → commands.serves root ≡ true → (root == 6) ≡ false
+no_log root serves = let P : ℕ → Type 0 = λ r. (r == 6) ≡ false in in_both P refl refl root serves
+
+-- ---- what is said is in the grammar
+
+-- a command's slot is right
+slot_right : (p : Numbers) (mode : Mode) (origin num : ℕ) → commands.serves mode.root ≡ true → origin < p.n → num < 1000000
+    → slot_fault p mode (command_slot origin num) ≡ None
+unfolding slot_fault has_class
+slot_right p mode origin num serves below small =
+    elim (root_of mode.root serves) [
+      | inl e ↦ rw (e, lt-ltb num 1000000 small, or_right (num == 0) true refl, lt-ltb origin p.n below) refl
+      | inr e ↦ rw (e, lt-ltb num 1000000 small, or_right (num == 0) true refl, lt-ltb origin p.n below) refl
+    ]
+
+-- an input is a command's value
+is_command : (p : Numbers) (mode : Mode) (origin num : ℕ) (v : List ℕ) → commands.serves mode.root ≡ true → IsInput p mode v
+    → Is (value p mode.root (command_slot origin num)) v
+unfolding value input_format
+is_command p mode origin num v serves good =
+    let P : ℕ → Type 0 = λ r. Is (input_format p r) v → Is (value p r (command_slot origin num)) v in
+    in_both P (λ h. h) (λ h. h) mode.root serves good
+
+pub says_good : (seat : Seat) (c : Word) (w : List Word) → seat.me < seat.numbers.n → AreProper commands seat (c ∷ w)
+    → AreGoodSays seat.numbers seat.mode (says_of seat w c)
+says_good seat (Ask v) w below proper = (
+  slot_right seat.numbers seat.mode seat.me (asked w) proper.0.served below proper.0.number,
+  is_command seat.numbers seat.mode seat.me (asked w) v proper.0.served proper.0.good,
+  tt,
+)
+says_good seat (Hear s v) w below proper = tt
 
 commands_said : (seat : Seat) (c : Word) (w : List Word) → AreInputs seat w c (says_of seat w c)
 commands_said seat (Ask v) w = (λ command. (refl, refl), tt)
 commands_said seat (Hear s v) w = tt
 
+-- ---- what the getters mean
+
+finished_is : (seat : Seat) (w : List Word) (o k : ℕ) → commands.serves seat.mode.root ≡ true
+    → is_finished commands seat w o k ≡ is_heard_from w o k
+finished_is seat w o k serves = cond-false (seat.mode.root == 6) false (is_heard_from w o k) (no_log seat.mode.root serves)
+
+pub meanings : (seat : Seat) (w : List Word) → commands.serves seat.mode.root ≡ true → Meanings commands seat w
+meanings seat w serves = record {
+  next_number = sym (cond-true (has_class seat.mode.root 1) (asked w) 0 (has_commands seat.mode.root serves));
+  given = sym (ap (λ (b : Bool). b && not (asked w == 0)) (no_instance seat.mode.root serves));
+  completed = λ low. refl;
+  base = λ o has. record {
+    missing = finished_is seat w o (base_of w o) serves ∙ (base_is w o).missing;
+    below = λ k before. finished_is seat w o k serves ∙ (base_is w o).below k before;
+  };
+  base_none = λ o one. absurd (both_ways _ (no_instance seat.mode.root serves) one);
+  done = λ low. refl;
+  done_few = omega arith;
+  outcome = tt;
+}
+
 pub command_laws : WordLaws commands
 command_laws = record {
+  meanings = λ seat w session serves proper. meanings seat w serves;
+  opens_stays = λ seat c w s proper opens past. opens;
   says_new = says_new;
   says_good = says_good;
   commands_said = λ seat c w proper. commands_said seat c w;
-  completed_stays = λ seat c w. omega arith;
-  base_stays = base_stays;
-  inputs_said = λ seat mode v w serves has proper. inl refl;
+  completed_stays = λ seat c w proper. omega arith;
+  base_stays = λ seat c w o proper. base_stays seat c w o;
+  inputs_said = λ seat v w has proper. inl refl;
   done_nothing = λ seat. refl;
   done_grows = λ seat c w proper. record { more = []; whole = refl; recent = tt };
   done_once = λ seat w proper. tt;
@@ -219,4 +261,5 @@ command_log = record {
   outcomes = λ p mode is_correct coins steps run i j d e ci cj a b. absurd cc;
   decisions = λ p mode is_correct coins steps run i j x d e ci cj a b. absurd cc;
   bits = λ p mode is_correct coins steps run i b ci a. absurd cc;
+  proposals = λ p mode is_correct coins steps run four i v ci a. absurd cc;
 }

@@ -2,11 +2,16 @@
 use Rattle.std.specs.Prelude.{ℕ, ◌+◌, Bool, false, not, ◌==◌, ◌||◌, List, [], ◌∷◌, length, unwrap_or, None}
 use Rattle.std.specs.List.{find, range_with_len}
 use Rattle.ritas_base.specs.declared.item.Say.{Say}
-use Rattle.layer_api.specs.Service.{ServiceRules, Seat, Word, Ask, Hear, Undecided, command_slot, is_heard, asked}
+use Rattle.layer_api.specs.Service.{ServiceRules, Seat, Word, Ask, Hear, Undecided, is_heard, asked}
+use Rattle.ritas_base.specs.Slots.{command_slot}
 
--- whether no command of this origin was delivered at this number
+-- whether the origin's command of this number was delivered
+abbrev pub is_heard_from : List Word → ℕ → ℕ → Bool
+is_heard_from w origin num = is_heard w (command_slot origin num)
+
+-- and whether it wasn't
 abbrev pub is_missing : List Word → ℕ → ℕ → Bool
-is_missing w origin num = not (is_heard w (command_slot origin num))
+is_missing w origin num = not (is_heard_from w origin num)
 
 -- the least number of an origin at which nothing was delivered: it is at most as great as there are words
 unfoldable pub base_of : List Word → ℕ → ℕ

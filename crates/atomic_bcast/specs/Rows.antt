@@ -1,6 +1,7 @@
 -- Worked rows.
 use Rattle.std.specs.Prelude.{◌≡◌, List, [], ◌∷◌, refl}
-use Rattle.layer_api.specs.Service.{Word, Hear, command_slot}
+use Rattle.layer_api.specs.Service.{Word, Hear}
+use Rattle.ritas_base.specs.Slots.{command_slot}
 use Rattle.atomic_bcast.specs.Commands.{base_of}
 
 -- replica 1's commands 0, 2 and 1 were delivered, in this order: its base goes 0, 1, 1, 3

@@ -2,10 +2,10 @@
 use Rattle.std.specs.Prelude.{◌≡◌, ℕ, ◌<◌, nat_lt, false, ◌==◌, List, [], slice_index, refl}
 use Rattle.std.proofs.Common.{sym, ◌∙◌, inl, arith}
 use Rattle.std.proofs.lemmas.Bool.{or_left, or_from, lt-ltb, le-ltb}
-use Rattle.layer_api.specs.Service.{Seat, Word, Undecided}
+use Rattle.layer_api.specs.Service.{Seat, Word, Undecided, IsBase}
 use Rattle.layer_api.specs.ServiceCalls.{ServiceShown, Shows, ShowsNear}
-use Rattle.atomic_bcast.specs.Commands.{base_of, commands}
-use Rattle.atomic_bcast.specs.CommandLaws.{IsBase, base_from}
+use Rattle.atomic_bcast.specs.Commands.{is_heard_from, base_of, commands}
+use Rattle.atomic_bcast.specs.CommandLaws.{base_from}
 use Rattle.atomic_bcast.specs.Early.{has_early}
 use Rattle.atomic_bcast.specs.CmdRoot.{Stands}
 use Rattle.atomic_bcast.specs.declared.cmd_root.CmdRoot.{CmdRoot}
@@ -32,7 +32,7 @@ below_itself k = le-ltb k k (omega arith)
 pub base_known : (s : CmdRoot) (seat : Seat) (w : List Word) (o : ℕ) → Stands s seat w → o < seat.numbers.n → slice_index s.bases o ≡ base_of w o
 base_known s seat w o stands within =
     let base : ℕ = slice_index s.bases o in
-    let is : IsBase w o base = record {
+    let is : IsBase (is_heard_from w o) base = record {
       missing = sym (stands.heard o base within) ∙ or_from _ _ (below_itself base) (stands.tight.missing o within);
       below = λ k before. sym (stands.heard o k within) ∙ or_left (nat_lt k base) (has_early s.early o k) (lt-ltb k base before);
     } in

@@ -1,5 +1,5 @@
 ghost use Rattle.std.specs.Prelude.{◌≡◌, ℕ, ◌==◌, ◌&&◌, ◌||◌, not, [], ◌∷◌, ◌++◌, OnOk, OnErr};
-ghost use Rattle.layer_api.specs.Service.{command_slot};
+ghost use Rattle.ritas_base.specs.Slots.{command_slot};
 ghost use Rattle.atomic_bcast.specs.Early.{has_early, Advances, Notes};
 
 use layer_api::{Outcome, Service};

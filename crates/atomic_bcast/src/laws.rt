@@ -1,6 +1,7 @@
 ghost use Rattle.std.specs.Prelude.{◌≡◌, ℕ, ◌+◌, ◌<◌, List, [], ◌∷◌, true, false};
 ghost use Rattle.ritas_base.specs.declared.item.Say.{Say};
-ghost use Rattle.layer_api.specs.Service.{Seat, Word, Ask, command_slot, is_heard, asked, AreProper};
+ghost use Rattle.layer_api.specs.Service.{Seat, Word, Ask, is_heard, asked, AreProper};
+ghost use Rattle.ritas_base.specs.Slots.{command_slot};
 ghost use Rattle.atomic_bcast.specs.Commands.{base_of, commands};
 
 /// The law of what is said: to an input the service says that input, alone, at the command slot of the next number.
