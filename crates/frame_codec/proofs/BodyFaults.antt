@@ -1,5 +1,5 @@
 -- Each body is of one case, and its fault is that of the case.
-use Rattle.std.proofs.Common.{◌≡◌, ℕ, ◌-◌, ◌<◌, ◌≤◌, Bool, true, false, cond, ltb, eqb, List, length, drop, Option, Some, None, Result, Ok, Err, refl, sym, ap, subst, ◌∙◌, arith, inl, inr, ◌⊎◌}
+use Rattle.std.proofs.Common.{◌≡◌, ℕ, ◌-◌, ◌<◌, ◌≤◌, Bool, true, false, ltb, eqb, List, length, drop, Option, Some, None, Result, Ok, Err, refl, sym, ap, subst, ◌∙◌, arith, inl, inr}
 use Rattle.std.specs.Prelude.{◌↔◌}
 use Rattle.std.proofs.lemmas.Bool.{ltb-false, ltb-true, lt-ltb, le-ltb, eqb-false, ne_eqb}
 use Rattle.ritas_base.specs.Numbers.{Numbers}
@@ -13,7 +13,7 @@ use Rattle.frame_codec.specs.declared.fault.BodyFault.{BodyFault}
 use Rattle.frame_codec.specs.declared.fault.BodyFault.TheVariants as faults
 use Rattle.frame_codec.specs.Format.{read}
 use Rattle.frame_codec.specs.Grammar.{payload}
-use Rattle.frame_codec.specs.Body.{kind_at, slot_at, is_of_broadcast, head_answer, body_answer}
+use Rattle.frame_codec.specs.Body.{kind_at, slot_at, is_of_broadcast, head_answer, body_answer, Answers}
 use Rattle.frame_codec.specs.Faults.{HasSlot, HasHead, IsKindFault, IsSlotFault, IsPayloadFault, IsRestFault}
 
 abbrev reading : Numbers → Mode → Kind → List ℕ → Result (List ℕ) ℕ
@@ -118,6 +118,22 @@ found_at : (p : Numbers) (mode : Mode) (from : ℕ) (bytes : List ℕ) (answer :
 found_at p mode from bytes answer e =
     let f = by_kind p mode from bytes (kind_at bytes) refl in
     subst (Finding p mode bytes) (sym f.1 ∙ e) f.2
+
+-- ---- what is returned where a step fails
+
+-- the fault of the whole answer isn't want of memory
+answers_fault : (p : Numbers) (mode : Mode) (from : ℕ) (bytes : List ℕ) (fault : BodyFault) → body_answer p mode from bytes ≡ Err fault
+    → Answers (Err fault) (body_answer p mode from bytes)
+answers_fault p mode from bytes faults.Kind e = e
+answers_fault p mode from bytes (faults.Slot x) e = e
+answers_fault p mode from bytes (faults.Payload offset) e = e
+answers_fault p mode from bytes (faults.Rest offset) e = e
+answers_fault p mode from bytes faults.Mem e = absurd (found_at p mode from bytes (Err faults.Mem) e)
+
+pub head_fails : (p : Numbers) (mode : Mode) (from : ℕ) (bytes : List ℕ) (fault : BodyFault) → head_answer p mode bytes ≡ Err fault
+    → Answers (Err fault) (body_answer p mode from bytes)
+unfolding body_answer
+head_fails p mode from bytes fault wrong = answers_fault p mode from bytes fault (rw wrong refl)
 
 -- ---- both ways
 

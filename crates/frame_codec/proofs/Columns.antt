@@ -4,15 +4,18 @@ use Rattle.std.proofs.Common.{◌≡◌, ℕ, zero, suc, ◌+◌, ◌*◌, ◌^�
 use Rattle.std.specs.List.{flat_map, slice_get, AllByRecursion}
 use Rattle.std.specs.Int.{w32, to_be_bytes, from_be_bytes}
 use Rattle.std.specs.Int.RustNames.{count_ones}
-use Rattle.std.proofs.lemmas.Bool.{ne_eqb}
-use Rattle.std.proofs.lemmas.List.{take_at, drop_at, drop-drop, append-nil, length-append, length-drop, length-take-le, take-append-drop, nil_from_length}
+use Rattle.std.specs.Prelude.{◌==◌, Option, None}
+use Rattle.std.proofs.lemmas.Bool.{eq-eqb, ne_eqb, cond-true, cond-false}
+use Rattle.std.proofs.lemmas.List.{take_at, drop_at, drop-drop, append-nil, length-append, length-drop, length-take, length-take-le, take-append-drop, nil_from_length}
 use Rattle.std.proofs.lemmas.List.Concat.{flat_map-cons}
 use Rattle.std.proofs.lemmas.Nat.{be_bytes_4, from_be_bytes-to_be_bytes_4}
+use Rattle.ritas_base.specs.Members.{has_member, member_count}
 use Rattle.ritas_base.specs.Numbers.{Numbers, support_of}
 use Rattle.frame_codec.specs.Format.{Format, Done, Number, Is}
 use Rattle.frame_codec.specs.Grammar.{is_places, class3, vect, column}
-use Rattle.frame_codec.specs.Values.{IsBytes, IsColumn, IsVect, mask_of, entry_bytes, entries_in, vector_bytes, vect_bytes, column_bytes, rows_in}
-use Rattle.frame_codec.proofs.Parts.{vect_from}
+use Rattle.frame_codec.specs.Values.{IsBytes, IsColumn, IsVect, mask_of, at_place, entry_bytes, entries_in, vector_bytes, vect_bytes, column_bytes, rows_in, if_whole, row_of}
+use Rattle.frame_codec.specs.RowLaws.{whole_place}
+use Rattle.frame_codec.proofs.Parts.{vect_from, column_parts}
 use Rattle.frame_codec.proofs.Vectors.{IsBytes-take, mask_again, entries_again}
 
 unless_none : (t : Bool) (w : Format) (text : List ℕ) → t ≡ false → Is w text → Is (cond t Done w) text
@@ -80,6 +83,15 @@ rows_get (suc count) (suc at) bytes lt =
     let next : 32 + 32 * at ≡ 32 * suc at = omega arith in
     rows_get count at (drop 32 bytes) (omega arith) ∙ ap (λ (l : List ℕ). Some (take 32 l)) (drop-drop (32 * at) 32 bytes ∙ ap (λ (n : ℕ). drop n bytes) next)
 
+-- where the bytes end before the end of a row, no row is given
+pub short_row : (count at : ℕ) (bytes : List ℕ) → length bytes < 32 * at + 32 → if_whole (slice_get (rows_in count bytes) at) ≡ None
+unfolding rows_in
+short_row zero at bytes lt = refl
+short_row (suc count) zero bytes lt =
+    let short : length (take 32 bytes) ≡ 32 → ⊥ = λ e. omega (arith, e, length-take 32 bytes, lt) in
+    cond-false (length (take 32 bytes) == 32) (Some (take 32 bytes)) None (ne_eqb (length (take 32 bytes)) 32 short)
+short_row (suc count) (suc at) bytes lt = short_row count at (drop 32 bytes) (omega (arith, length-drop 32 bytes, lt))
+
 record AreRows (count : ℕ) (rows : List (List ℕ)) (text : List ℕ) : Type 0 where
   spelled : text ≡ flat_map (λ row. row) rows
   one_each : length rows ≡ count
@@ -120,6 +132,13 @@ column_is n value fits (f, r, parts, four, ok, (b, nothing, parts2, len, ok2, ni
     } in
     let at_mask = subst (λ (l : List ℕ). IsColumn n (from_be_bytes w32 l) (rows_in (count_ones (from_be_bytes w32 l)) r) value) (sym first) made in
     subst (λ (l : List ℕ). IsColumn n (from_be_bytes w32 (take 4 value)) (rows_in (count_ones (from_be_bytes w32 (take 4 value))) l) value) (sym tail) at_mask
+
+-- in a column each row is whole
+pub row_at : (n : ℕ) (value : List ℕ) (k : ℕ) → Is (column n) value
+    → row_of value k ≡ at_place (mask_of value) (rows_in (count_ones (mask_of value)) (drop 4 value)) k
+row_at n value k is =
+    let are = rows_are (count_ones (mask_of value)) (drop 4 value) (column_parts n value is).1 in
+    whole_place (mask_of value) k (rows_in (count_ones (mask_of value)) (drop 4 value)) are.right
 
 -- ---- what is written is read again
 

@@ -2,7 +2,7 @@
 use Rattle.std.proofs.Common.{◌≡◌, ℕ, ◌<◌, ◌≤◌, ◌&&◌, ◌||◌, Bool, true, false, not, cond, eqb, leb, ltb, List, length, None, Result, Ok, refl, sym, ap, subst, ◌∙◌, arith, inl, inr, ◌⊎◌}
 use Rattle.std.proofs.lemmas.Bool.{eqb-true, leb-true, lt-ltb, and_parts, and_from, or_right}
 use Rattle.ritas_base.specs.Numbers.{Numbers, IsSession}
-use Rattle.ritas_base.specs.Slots.{within, has_class, has_number, slot_fault, by_echo}
+use Rattle.ritas_base.specs.Slots.{within, has_class, has_number, slot_fault, by_echo, command_slot}
 use Rattle.ritas_base.specs.declared.slot.Slot.{Slot}
 use Rattle.ritas_base.specs.declared.mode.Mode.{Mode}
 use Rattle.ritas_base.specs.declared.item.Item.{Item}
@@ -12,7 +12,7 @@ use Rattle.frame_codec.specs.declared.fault.BodyFault.{BodyFault}
 use Rattle.frame_codec.specs.Format.{Format, Is}
 use Rattle.frame_codec.specs.Grammar.{class1, class2, class3, bit, value, payload}
 use Rattle.frame_codec.specs.Body.{IsInGrammar, Spells, spelling, body_answer, is_of_broadcast, carries_value}
-use Rattle.frame_codec.specs.Inputs.{IsInput, input_format, takes_input, command_slot, first_kind}
+use Rattle.frame_codec.specs.Inputs.{IsInput, input_format, takes_input, first_kind}
 use Rattle.frame_codec.proofs.Bodies.{spells_answer}
 use Rattle.frame_codec.proofs.Spans.{value_below}
 

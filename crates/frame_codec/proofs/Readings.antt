@@ -4,7 +4,8 @@ use Rattle.std.proofs.lemmas.Bool.{eqb-true}
 use Rattle.std.proofs.lemmas.List.{nil_from_length}
 use Rattle.std.specs.Prelude.{IsNone, ◌↔◌}
 use Rattle.frame_codec.specs.Format.{Format, Is, read}
-use Rattle.frame_codec.specs.Inputs.{fault_offset}
+use Rattle.frame_codec.specs.Inputs.{fault_offset, input_format}
+use Rattle.frame_codec.specs.Laws.{InputsFaultless}
 use Rattle.frame_codec.proofs.Formats.{read_is, is_read}
 
 abbrev the_rest : List ℕ → Result (List ℕ) ℕ
@@ -34,3 +35,6 @@ some_none x e = cc
 pub none_is : (format : Format) (text : List ℕ) (o : Option ℕ) → o ≡ fault_offset (length text) (read format text) → IsNone o ↔ Is format text
 none_is format text None e = (λ _. right_is format text (sym e), λ is. refl)
 none_is format text (Some x) e = (λ none. absurd cc, λ is. absurd (some_none x (e ∙ is_right format text is)))
+
+pub faultless : InputsFaultless
+faultless p mode bytes = (right_is (input_format p mode.root) bytes, is_right (input_format p mode.root) bytes)

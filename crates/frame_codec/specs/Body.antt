@@ -119,8 +119,8 @@ body_answer p mode from bytes = do
   unless (payload_fault (length bytes) (read (payload p mode.root head.0 head.1) (drop 10 bytes)))
       (Ok (record { from = from; kind = head.0; slot = head.1; value = drop 10 bytes }))
 
--- What a function returned is this answer, unless memory ran out.
+-- What a function returned is this answer, or it has run out of memory where the answer is an item.
 abbrev pub Answers : Result Item BodyFault → Result Item BodyFault → Type 0
 Answers (Ok item) answer = answer ≡ Ok item
-Answers (Err faults.Mem) answer = Unit {0}
+Answers (Err faults.Mem) answer = (item : Item) × (answer ≡ Ok item)
 Answers (Err fault) answer = answer ≡ Err fault

@@ -36,10 +36,6 @@ takes_input root s =
     else if root == 5 then s.class == 2
     else s.class == 1
 
--- the slot of an origin's command of this number
-abbrev pub command_slot : ℕ → ℕ → Slot
-command_slot origin num = record { class = 1; a = num; attempt = 0; bround = 0; step = 0; origin = origin }
-
 -- the kind that begins a broadcast
 abbrev pub first_kind : Bool → Kind
 first_kind echo = if echo then Send else Init

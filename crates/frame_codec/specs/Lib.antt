@@ -5,4 +5,6 @@ pub mod Faults
 pub mod Inputs
 pub mod Rows
 pub mod Values
+pub mod RowLaws
 pub mod Ids
+pub mod Laws

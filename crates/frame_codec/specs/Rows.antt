@@ -1,7 +1,9 @@
 -- Some bodies and their answers, and some inputs and what is wrong with them, where there are four replicas and one may
 -- be faulty.
-use Rattle.std.specs.Prelude.{◌≡◌, ℕ, List, [], ◌∷◌, Some, None, Result, Ok, Err, replicate, refl}
+use Rattle.std.specs.Prelude.{◌≡◌, ℕ, List, [], ◌∷◌, ◌++◌, take, Some, None, Result, Ok, Err, replicate, refl}
 use Rattle.std.proofs.Common.{lit≤}
+use Rattle.std.specs.Int.RustNames.{count_ones}
+use Rattle.ritas_base.specs.Members.{has_member, member_count}
 use Rattle.ritas_base.specs.Numbers.{Numbers}
 use Rattle.ritas_base.specs.Slots.{has_class, slot_fault, by_echo}
 use Rattle.ritas_base.specs.declared.slot.SlotFault.TheVariants.{Class, Closed, Number, Attempt, Round, Step, Origin, Whole}
@@ -14,6 +16,7 @@ use Rattle.frame_codec.specs.declared.fault.BodyFault.TheVariants.{Kind, Slot as
 use Rattle.frame_codec.specs.Grammar.{ids_from, ids, class1, class2, class3, vect, bit, value, payload}
 use Rattle.frame_codec.specs.Body.{slot_of, head_answer, body_answer}
 use Rattle.frame_codec.specs.Inputs.{input_format, input_fault}
+use Rattle.frame_codec.specs.Values.{mask_of, at_place, rows_in, row_of}
 
 abbrev four : Numbers
 four = record { n = 4; f = 1 }
@@ -183,3 +186,21 @@ request_without_payload = refl
 request_too_long : input_fault four six (replicate 4097 0) ≡ Some 4096
 unfolding input_format class1 class2 class3 bit
 request_too_long = refl
+
+-- ---- rows of columns
+
+-- the column of replicas 0 and 2
+abbrev two_rows : List ℕ
+two_rows = 0 ∷ 0 ∷ 0 ∷ 5 ∷ replicate 32 7 ++ replicate 32 8
+
+row_of_two : row_of two_rows 2 ≡ Some (replicate 32 8)
+unfolding at_place mask_of rows_in has_member member_count count_ones
+row_of_two = refl
+
+row_of_another : row_of two_rows 1 ≡ None
+unfolding at_place mask_of rows_in has_member member_count count_ones
+row_of_another = refl
+
+row_that_is_cut : row_of (take 67 two_rows) 2 ≡ None
+unfolding at_place mask_of rows_in has_member member_count count_ones
+row_that_is_cut = refl

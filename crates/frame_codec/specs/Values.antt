@@ -1,5 +1,5 @@
 -- What stands in values: identifiers, entries by place, rows by place; and how these are written.
-use Rattle.std.specs.Prelude.{◌≡◌, ◌<◌, true, slice_index, ℕ, zero, suc, ◌≤◌, ◌/◌, List, [], ◌∷◌, ◌++◌, length, take, drop, Option, None, if◌then◌else◌}
+use Rattle.std.specs.Prelude.{◌≡◌, ◌<◌, ◌==◌, true, slice_index, ℕ, zero, suc, ◌≤◌, ◌/◌, List, [], ◌∷◌, ◌++◌, length, take, drop, Option, Some, None, if◌then◌else◌}
 use Rattle.std.specs.List.{flat_map, slice_get, filter, range_with_len, AllByRecursion}
 use Rattle.std.specs.Int.RustNames.{count_ones}
 use Rattle.std.specs.Int.{w16, w32, to_be_bytes, from_be_bytes}
@@ -74,6 +74,15 @@ column_bytes mask rows = to_be_bytes w32 mask ++ flat_map (λ row. row) rows
 unfoldable pub rows_in : ℕ → List ℕ → List (List ℕ)
 rows_in zero bytes = []
 rows_in (suc count) bytes = take 32 bytes ∷ rows_in count (drop 32 bytes)
+
+-- a row, if it is whole
+abbrev pub if_whole : Option (List ℕ) → Option (List ℕ)
+if_whole None = None
+if_whole (Some row) = if length row == 32 then Some row else None
+
+-- the whole row that a column has for an echoer, if it has one
+abbrev pub row_of : List ℕ → ℕ → Option (List ℕ)
+row_of column echoer = if_whole (at_place (mask_of column) (rows_in (count_ones (mask_of column)) (drop 4 column)) echoer)
 
 -- ---- VECTs that aren't none
 

@@ -2,7 +2,7 @@
 
 ghost use Rattle.std.specs.Prelude.{◌≡◌, ◌↔◌, ℕ, ◌<◌, ◌≤◌, List, length, true, false, None, Ok, Err};
 ghost use Rattle.ritas_base.specs.Numbers.{Numbers, IsSession};
-ghost use Rattle.ritas_base.specs.Slots.{has_class, slot_fault, by_echo};
+ghost use Rattle.ritas_base.specs.Slots.{has_class, slot_fault, by_echo, command_slot};
 ghost use Rattle.ritas_base.specs.declared.slot.Slot.{Slot};
 ghost use Rattle.ritas_base.specs.declared.mode.Mode.{Mode};
 ghost use Rattle.ritas_base.specs.declared.item.Item.{Item};
@@ -12,17 +12,18 @@ ghost use Rattle.frame_codec.specs.Faults.{IsKindFault, IsSlotFault, IsPayloadFa
 ghost use Rattle.frame_codec.specs.Format.{Is};
 ghost use Rattle.frame_codec.specs.Grammar.{value};
 ghost use Rattle.frame_codec.specs.Body.{Spells, IsInGrammar, spelling, body_answer, is_of_broadcast, carries_value};
-ghost use Rattle.frame_codec.specs.Inputs.{IsInput, takes_input, command_slot, first_kind};
+ghost use Rattle.frame_codec.specs.Inputs.{IsInput, first_kind};
+ghost use Rattle.frame_codec.specs.Laws.{AnswersGood, AnswersSpelled, InputsFaultless, InputsAreValues, CommandSlotsRight};
 
 /// An item of the grammar is read again from its one spelling, which has at most 15,952 bytes; bytes spell one item, and
-/// what they are answered as is in the grammar, from the sender.
+/// what they are answered as is in the grammar, from the sender, and is what they spell.
 pub fn spelled()
     ensures spells { (p : Numbers) (mode : Mode) (item : Item) → IsInGrammar p mode item
         → Spells p mode item.from (spelling item) item }
     ensures read { (p : Numbers) (mode : Mode) (from : ℕ) (item : Item) → IsInGrammar p mode item
         → body_answer p mode from (spelling item) ≡ Ok (record item { from = from }) }
-    ensures answered { (p : Numbers) (mode : Mode) (from : ℕ) (bytes : List ℕ) (item : Item) → IsSession p
-        → body_answer p mode from bytes ≡ Ok item → IsInGrammar p mode item × (item.from ≡ from) }
+    ensures answered { AnswersGood }
+    ensures spelling { AnswersSpelled }
     ensures one { (p : Numbers) (mode : Mode) (from : ℕ) (bytes : List ℕ) (a b : Item)
         → Spells p mode from bytes a → Spells p mode from bytes b → a ≡ b }
     ensures short { (p : Numbers) (mode : Mode) (item : Item) → IsInGrammar p mode item → length (spelling item) ≤ 15952 }
@@ -60,12 +61,15 @@ pub fn same_value()
         → Is (value p mode.root item.slot) item.value → IsInGrammar p mode item }
 {}
 
+/// Nothing is wrong with bytes exactly where they are an input of the root service.
+pub fn right_input()
+    ensures { InputsFaultless }
+{}
+
 /// An input is the value of the slots that it is for: in root services 1, 2 and 6 of an origin's command.
 pub fn input_is_value()
-    ensures value { (p : Numbers) (mode : Mode) (s : Slot) (bytes : List ℕ) → takes_input mode.root s ≡ true
-        → IsInput p mode bytes → Is (value p mode.root s) bytes }
-    ensures slot { (p : Numbers) (mode : Mode) (origin num : ℕ) → has_class mode.root 1 ≡ true → origin < p.n
-        → num < 1000000 → slot_fault p mode (command_slot origin num) ≡ None }
+    ensures value { InputsAreValues }
+    ensures slot { CommandSlotsRight }
     ensures command { (p : Numbers) (mode : Mode) (item : Item) (num : ℕ) → IsSession p → has_class mode.root 1 ≡ true
         → item.slot ≡ command_slot item.slot.origin num → item.slot.origin < p.n → num < 1000000
         → item.kind ≡ first_kind (by_echo mode item.slot) → IsInput p mode item.value → IsInGrammar p mode item }

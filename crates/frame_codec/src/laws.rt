@@ -12,7 +12,7 @@ ghost use Rattle.frame_codec.specs.Grammar.{ids, vector, vect, column, class2, c
 ghost use Rattle.frame_codec.specs.Ids.{AreIds};
 ghost use Rattle.frame_codec.specs.Values.{IsBytes, ids_bytes, ids_of, mask_of, places, at_place};
 ghost use Rattle.frame_codec.specs.Values.{IsVector, entries_in, vector_bytes};
-ghost use Rattle.frame_codec.specs.Values.{IsColumn, rows_in, column_bytes, IsVect, vect_bytes};
+ghost use Rattle.frame_codec.specs.Values.{IsColumn, rows_in, row_of, column_bytes, IsVect, vect_bytes};
 
 /// A value is an identifier list exactly where it spells some identifiers that are one in words: at most 64, ascending,
 /// of replicas, of numbers below 1,000,000, and at most 64 / n of one origin.
@@ -52,7 +52,8 @@ pub fn vect_law()
         → (mask_of (vect_bytes mask inner) ≡ mask) × (drop 4 (vect_bytes mask inner) ≡ inner) }
 {}
 
-/// A value is a column exactly where it is a mask and one row of 32 bytes for each of its places.
+/// A value is a column exactly where it is a mask and one row of 32 bytes for each of its places. Each of its rows is
+/// whole.
 pub fn column_law()
     ensures written { (n mask : ℕ) (rows : List (List ℕ)) → mask < 2 ^ 32 → is_places n 1 mask ≡ true
         → length rows ≡ count_ones mask → AllByRecursion (λ row. length row ≡ 32) rows
@@ -62,6 +63,8 @@ pub fn column_law()
     ensures again { (mask : ℕ) (rows : List (List ℕ)) → mask < 2 ^ 32 → length rows ≡ count_ones mask
         → AllByRecursion (λ row. length row ≡ 32) rows
         → (mask_of (column_bytes mask rows) ≡ mask) × (rows_in (count_ones mask) (drop 4 (column_bytes mask rows)) ≡ rows) }
+    ensures rows { (n : ℕ) (value : List ℕ) (k : ℕ) → Is (column n) value
+        → row_of value k ≡ at_place (mask_of value) (rows_in (count_ones (mask_of value)) (drop 4 value)) k }
 {}
 
 /// A mask below a power of two has members below its exponent alone, and what stands for a place is found by its number

@@ -46,7 +46,7 @@ mod reading;
 mod values;
 mod writing;
 
-pub use body_laws::{body_faults, input_is_value, same_value, spelled};
+pub use body_laws::{body_faults, input_is_value, right_input, same_value, spelled};
 pub use fault::BodyFault;
 pub use inputs::input_fault;
 pub use laws::{class2_is_short, column_law, list_law, place_law, vect_law, vector_law};

@@ -159,6 +159,7 @@ fn values_that_are_read(rt: HostRuntime) {
         row[i] = i as u8 + 1;
     }
     assert!(rt; has_row(1, &row) && !has_row(0, &row));
+    assert!(rt; column_entry(&[0, 0, 0, 2, 7], 1).is_none() && column_entry(&[0, 0], 1).is_none());
     assert!(rt; has_parts(SenderSet::from_mask(3), b"xy"));
 }
 

@@ -7,8 +7,8 @@ ghost use Rattle.std.specs.List.{slice_get};
 ghost use Rattle.std.specs.Int.RustNames.{count_ones};
 ghost use Rattle.ritas_base.specs.Numbers.{Numbers};
 ghost use Rattle.frame_codec.specs.Format.{Is};
-ghost use Rattle.frame_codec.specs.Grammar.{vector, vect, column};
-ghost use Rattle.frame_codec.specs.Values.{ids_of, mask_of, at_place, entries_in, rows_in};
+ghost use Rattle.frame_codec.specs.Grammar.{vector, vect};
+ghost use Rattle.frame_codec.specs.Values.{ids_of, mask_of, at_place, entries_in, row_of};
 ghost use Rattle.frame_codec.specs.Values.{len_in, entry_in, after_entry, HasEntries, nth_entry};
 
 use crate::ids::id_from;
@@ -99,17 +99,21 @@ pub fn vect_parts(value: &[u8]) -> Option<(SenderSet, &[u8])>
     Some(split_mask(value))
 }
 
-/// The row of a column at replica k's place; `None` exactly where it has no such place. Condition: the value is a
-/// column.
+/// The row of a column at replica k's place; `None` exactly where it has no such place, or where its row there isn't
+/// whole. So it is of any bytes.
 pub fn column_entry(value: &[u8], k: u8) -> Option<&[u8]>
-    requires { (n : ℕ) × Is (column n) value.now }
-    ensures { option_copied result
-        ≡ at_place (mask_of value.now) (rows_in (count_ones (mask_of value.now)) (drop 4 value.now)) k }
+    ensures { option_copied result ≡ row_of value.now k }
 {
+    if value.len() < 4 {
+        return None;
+    }
     let (places, rest) = split_mask(value);
     if !places.has(k) {
         return None;
     }
     let start = 32 * places.rank(k) as usize;
+    if rest.len() < start + 32 {
+        return None;
+    }
     Some(&rest[start..start + 32])
 }

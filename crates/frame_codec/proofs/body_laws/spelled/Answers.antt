@@ -1,4 +1,4 @@
-use Rattle.frame_codec.proofs.Bodies.{answer_good}
+use Rattle.frame_codec.proofs.Bodies.{answer_good, answer_spells}
 use Rattle.frame_codec.proofs.Items.{item_spells, item_again, one_item, spelling_short}
 use Rattle.frame_codec.proofs.body_laws.spelled.Goals as goal
 
@@ -16,3 +16,6 @@ returns-clause-short c = spelling_short
 
 pub returns-clause-answered : goal.returns-clause-answered
 returns-clause-answered c = answer_good
+
+pub returns-clause-spelling : goal.returns-clause-spelling
+returns-clause-spelling c = answer_spells

@@ -1,14 +1,35 @@
-use Rattle.std.proofs.Common.{◌≡◌, ◌^◌, ◌+◌, ◌-◌, ◌*◌, ◌≤◌, ◌<◌, arith, length, drop, ◌∙◌, refl, sym, ap, subst, true, ℕ}
+use Rattle.std.proofs.Common.{◌≡◌, ◌^◌, ◌+◌, ◌-◌, ◌*◌, ◌≤◌, ◌<◌, arith, length, drop, take, ◌∙◌, refl, sym, ap, subst, true, false, ℕ, Bool, List, cond}
+use Rattle.std.specs.Prelude.{Option, None}
+use Rattle.std.specs.List.{slice_get}
 use Rattle.std.specs.Int.RustNames.{count_ones}
+use Rattle.std.proofs.lemmas.List.{length-drop, length-take-le}
 use Rattle.ritas_base.specs.Members.{has_member, member_count}
-use Rattle.frame_codec.specs.Values.{mask_of, at_place}
+use Rattle.frame_codec.specs.Values.{mask_of, at_place, rows_in, if_whole, row_of}
 use Rattle.frame_codec.proofs.Places.{members_below}
-use Rattle.frame_codec.proofs.Parts.{column_parts}
-use Rattle.frame_codec.proofs.Columns.{rows_get}
+use Rattle.frame_codec.specs.RowLaws.{whole_row}
+use Rattle.frame_codec.proofs.Columns.{rows_get, short_row}
 use Rattle.frame_codec.proofs.values.column_entry.Goals as goal
 
-pub split_mask-places-requires : goal.split_mask-places-requires
-split_mask-places-requires c = (column_parts c.requires.0 c.args.value.now c.requires.1).0
+-- no row is given where it isn't whole
+short_at : (value : List ℕ) (k : ℕ) → length (drop 4 value) < 32 * member_count k (mask_of value) + 32 → row_of value k ≡ None
+unfolding at_place
+short_at value k short =
+    let mask = mask_of value in
+    at_most (has_member mask k) (slice_get (rows_in (count_ones mask) (drop 4 value)) (member_count k mask)) (short_row (count_ones mask) (member_count k mask) (drop 4 value) short)
+  where
+    at_most : (b : Bool) (o : Option (List ℕ)) → if_whole o ≡ None → if_whole (cond b o None) ≡ None
+    at_most true o e = e
+    at_most false o e = refl
+
+pub returns-then-value-lt4 : goal.returns-then-value-lt4
+returns-then-value-lt4 c =
+    let v = c.args.value.now in
+    sym (short_at v c.args.k (omega (arith, length-drop 4 v, c.if-value-lt4.true)))
+
+pub returns-then-not-has : goal.returns-then-not-has
+unfolding at_place
+returns-then-not-has c =
+    rw (ap (λ (x : ℕ). has_member x c.args.k) (sym c.split_mask-places.ensures.mask) ∙ sym c.has.ensures ∙ c.if-not-has.true) refl
 
 pub rank-requires : goal.rank-requires
 rank-requires c =
@@ -16,23 +37,11 @@ rank-requires c =
     let small = subst (λ (x : ℕ). x < 2 ^ 32) (sym c.split_mask-places.ensures.mask) c.split_mask-places.ensures.small in
     members_below c.split_mask-places.result.0 32 c.args.k small has
 
-pub returns-then-not-has : goal.returns-then-not-has
-unfolding at_place
-returns-then-not-has c =
-    rw (ap (λ (x : ℕ). has_member x c.args.k) (sym c.split_mask-places.ensures.mask) ∙ sym c.has.ensures ∙ c.if-not-has.true) refl
-
-pub slice_bounds-result-end : goal.slice_bounds-result-end
-slice_bounds-result-end c =
+pub returns-then-rest-start : goal.returns-then-rest-start
+returns-then-rest-start c =
     let v = c.args.value.now in
-    let k = c.args.k in
-    let mask = mask_of v in
-    let m = c.split_mask-places.ensures.mask in
-    let has : has_member mask k ≡ true = ap (λ (x : ℕ). has_member x k) (sym m) ∙ sym c.has.ensures ∙ c.if-not-has.false in
-    let rank : c.rank.result ≡ member_count k mask = c.rank.ensures.value ∙ ap (member_count k) m in
-    let below : c.rank.result < count_ones mask = subst (λ (x : ℕ). c.rank.result < count_ones x) m (c.rank.ensures.below (sym c.has.ensures ∙ c.if-not-has.false)) in
-    let rows = (column_parts c.requires.0 v c.requires.1).1 in
-    let bound : 32 * c.rank.result + 32 ≤ length c.split_mask-places.result.1.now = omega (arith, below, rows, ap length c.split_mask-places.ensures.rest) in
-    bound
+    let rank : c.rank.result ≡ member_count c.args.k (mask_of v) = c.rank.ensures.value ∙ ap (member_count c.args.k) c.split_mask-places.ensures.mask in
+    sym (short_at v c.args.k (omega (arith, rank, ap length c.split_mask-places.ensures.rest, c.if-rest-start.true)))
 
 pub returns : goal.returns
 unfolding at_place
@@ -45,5 +54,8 @@ returns c =
     let rank : c.rank.result ≡ member_count k mask = c.rank.ensures.value ∙ ap (member_count k) m in
     let below : c.rank.result < count_ones mask = subst (λ (x : ℕ). c.rank.result < count_ones x) m (c.rank.ensures.below (sym c.has.ensures ∙ c.if-not-has.false)) in
     let lt : member_count k mask < count_ones mask = omega (arith, rank, below) in
+    let start = 32 * member_count k mask in
+    let long : 32 ≤ length (drop start (drop 4 v)) = omega (arith, rank, ap length c.split_mask-places.ensures.rest, length-drop start (drop 4 v), c.if-rest-start.false) in
+    let whole = whole_row (take 32 (drop start (drop 4 v))) (length-take-le 32 (drop start (drop 4 v)) long) in
     let width : 32 * c.rank.result + 32 - 32 * c.rank.result ≡ 32 = omega arith in
-    rw (has, rows_get (count_ones mask) (member_count k mask) (drop 4 v) lt, width, c.split_mask-places.ensures.rest, rank) refl
+    rw (has, rows_get (count_ones mask) (member_count k mask) (drop 4 v) lt, whole, width, c.split_mask-places.ensures.rest, rank) refl
