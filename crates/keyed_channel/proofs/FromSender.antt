@@ -13,7 +13,7 @@ use Rattle.keyed_channel.specs.Hmac.{hmac_of}
 use Rattle.keyed_channel.specs.KeyRow.{KeyRow, key_with}
 use Rattle.keyed_channel.specs.Keyed.{dealt}
 use Rattle.keyed_channel.specs.Frames.{frame_front, sealed, front_of, tag_of, version_of, sender_of, receiver_of, seq_of, body_of, parts_of, is_peer, is_tagged, plain_fault, Opening}
-use Rattle.keyed_channel.specs.Laws.{OpensSealed}
+use Rattle.keyed_channel.specs.Laws.{OpenedFromPeer, OpensSealed}
 use Rattle.keyed_channel.proofs.Opens.{five, opening_ok}
 use Rattle.keyed_channel.proofs.Dealt.{key_with-dealt, pair_key_swapped}
 
@@ -117,3 +117,20 @@ opens_sealed_holds master session n j bytes o j_in small opens =
     let t = opening_ok (dealt master session n j) bytes o opens in
     let P : Opening → Type 0 = λ x. IsFromSender master session n j bytes x in
     subst P t.2 (from_sender master session n j bytes j_in small t.0 t.1)
+
+-- ---- what opens, whatever the keys
+
+abbrev IsFromPeer : KeyRow → List ℕ → Opening → Type 0
+IsFromPeer k bytes o = (o.from < k.n) × (o.from ≢ k.me) × (receiver_of bytes ≡ k.me)
+
+from_peer : (k : KeyRow) (bytes : List ℕ) → plain_fault k bytes ≡ None → IsFromPeer k bytes (parts_of bytes)
+from_peer k bytes plain =
+    let tests = passed k bytes plain in
+    let peer = both_true (nat_lt (sender_of bytes) k.n) (not (sender_of bytes == k.me)) tests.peer in
+    (ltb-true (sender_of bytes) k.n peer.0, eqb-false (sender_of bytes) k.me (not_true (sender_of bytes == k.me) peer.1), eqb-true _ _ tests.mine)
+
+pub opened_from_peer_holds : OpenedFromPeer
+opened_from_peer_holds k bytes o opens =
+    let t = opening_ok k bytes o opens in
+    let P : Opening → Type 0 = λ x. IsFromPeer k bytes x in
+    subst P t.2 (from_peer k bytes t.0)

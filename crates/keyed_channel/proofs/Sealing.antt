@@ -12,9 +12,9 @@ use Rattle.keyed_channel.specs.Hmac.{hmac_of, pad}
 use Rattle.keyed_channel.specs.KeyRow.{key_with}
 use Rattle.keyed_channel.specs.Keyed.{dealt}
 use Rattle.keyed_channel.specs.Frames.{frame_front, sealed, front_of, tag_of, version_of, sender_of, receiver_of, seq_of, body_of, parts_of, is_peer, is_tagged, plain_fault, Opening}
-use Rattle.keyed_channel.specs.Laws.{SealedLength, SealedLong, SealedOpens}
+use Rattle.keyed_channel.specs.Laws.{OpensAsSealed, SealedLength, SealedLong, SealedOpens}
 use Rattle.keyed_channel.specs.declared.frame.OpenFault.TheVariants.{Long}
-use Rattle.keyed_channel.proofs.Opens.{five_pass, too_long, opening_plain, opening_tagged}
+use Rattle.keyed_channel.proofs.Opens.{five_pass, too_long, opening_plain, opening_ok, opening_tagged}
 use Rattle.keyed_channel.proofs.Dealt.{key_with-dealt, pair_key_swapped}
 
 -- a tag has 32 bytes
@@ -51,6 +51,13 @@ parts_are from to seq body tag small long =
     let said : body_of bytes ≡ body = ap (λ k. take k (body ++ tag)) at ∙ take-append_seam body tag in
     let opening_of : ℕ → List ℕ → Opening = λ q b. record { from = from; seq = q; body = b } in
     ap₂ opening_of number said
+
+-- what opens are the parts
+pub opens_as_sealed_holds : OpensAsSealed
+opens_as_sealed_holds a b to seq body o small opens =
+    let front = frame_front a.me to seq body in
+    let t = opening_ok b (sealed a to seq body) o opens in
+    sym t.2 ∙ parts_are a.me to seq body (hmac_of (key_with a to) front) small (length-hmac_of (key_with a to) front)
 
 -- ---- what doesn't open, and what does
 

@@ -1,5 +1,6 @@
 -- The keys of one replica.
-use Rattle.std.specs.Prelude.{◌≡◌, ℕ, ◌-◌, ◌<◌, ◌≤◌, List, ◌++◌, length, drop, replicate, slice_index_or}
+use Rattle.std.specs.Prelude.{◌≡◌, ℕ, Bool, ◌==◌, ◌&&◌, ◌-◌, ◌<◌, ◌≤◌, List, ◌++◌, length, drop, replicate, slice_index_or}
+use Rattle.std.specs.Str.{bytes_eq}
 
 -- the replica's number, the number of replicas, and the key that it shares with each replica: 31 places, and those
 -- from n on are zero
@@ -25,3 +26,7 @@ pub record IsKeyRow (k : KeyRow) : Type 0 where
 -- the key that is shared with replica j
 abbrev pub key_with : KeyRow → ℕ → List ℕ
 key_with k j = slice_index_or k.row j zero_key
+
+-- whether two replicas have one session, and one key for each other
+abbrev pub shares_key : KeyRow → KeyRow → Bool
+shares_key a b = a.session == b.session && bytes_eq (key_with a b.me) (key_with b a.me)

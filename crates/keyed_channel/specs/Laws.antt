@@ -1,9 +1,9 @@
--- What holds of keys that were dealt from one master key, and of the frames sealed with them.
+-- What holds of any row of keys and its frames, and of keys that were dealt from one master key.
 use Rattle.std.specs.Prelude.{◌≡◌, ◌≢◌, ℕ, ◌+◌, ◌^◌, ◌<◌, ◌≤◌, ◌⊎◌, List, length, slice_index, Ok, Err}
 use Rattle.ritas_base.specs.declared.slot.Slot.{Slot}
 use Rattle.keyed_channel.specs.KeyRow.{KeyRow}
 use Rattle.keyed_channel.specs.Keyed.{pair_key, dealt, entry_of, tags_of}
-use Rattle.keyed_channel.specs.Frames.{sealed, opening, Opening}
+use Rattle.keyed_channel.specs.Frames.{sealed, receiver_of, opening, Opening}
 use Rattle.keyed_channel.specs.declared.frame.OpenFault.TheVariants.{Long}
 
 -- what i seals for j opens at j
@@ -16,6 +16,16 @@ abbrev pub OpensSealed : Type 0
 OpensSealed = (master : List ℕ) (session n j : ℕ) (bytes : List ℕ) (o : Opening) → j < n → ((k : ℕ) → slice_index bytes k < 256)
     → opening (dealt master session n j) bytes ≡ Ok o
     → (o.from < n) × (o.from ≢ j) × (bytes ≡ sealed (dealt master session n o.from) j o.seq o.body)
+
+-- whatever two rows of keys these are: a frame that opens says what was sealed
+abbrev pub OpensAsSealed : Type 0
+OpensAsSealed = (a b : KeyRow) (to seq : ℕ) (body : List ℕ) (o : Opening) → seq < 2 ^ 64
+    → opening b (sealed a to seq body) ≡ Ok o → o ≡ record { from = a.me; seq = seq; body = body }
+
+-- whatever opens was addressed to this replica, as from another one
+abbrev pub OpenedFromPeer : Type 0
+OpenedFromPeer = (k : KeyRow) (bytes : List ℕ) (o : Opening) → opening k bytes ≡ Ok o
+    → (o.from < k.n) × (o.from ≢ k.me) × (receiver_of bytes ≡ k.me)
 
 -- a frame has 43 bytes beside its body
 abbrev pub SealedLength : Type 0

@@ -1,17 +1,19 @@
 ghost use Rattle.std.specs.Prelude.{◌≡◌, ◌<◌, IfOk, MatchResult, Ok, Err};
 ghost use Rattle.keyed_channel.specs.Hmac.{hmac_of};
-ghost use Rattle.keyed_channel.specs.KeyRow.{key_with};
+ghost use Rattle.keyed_channel.specs.KeyRow.{key_with, shares_key};
+ghost use Rattle.keyed_channel.specs.Keyed.{entry_of, tags_of};
 ghost use Rattle.keyed_channel.specs.Frames.{sealed, opening};
 
 use crate::frame::{OpenFault, Opened, TAG_LEN, check, front, parts, tagged};
 use crate::hashed_key::HashedKey;
 use crate::keys::Keys;
-use ritas_base::{Bytes, Mem};
+use crate::tags::digest;
+use ritas_base::{Bytes, Mem, Slot, Tagger};
 use std::alloc::Global;
 use std::marker::Model;
 
 /// The keys of one replica, with the pads of each key hashed once. It seals and opens as `seal` and `open_frame` do
-/// with those keys, in about half of their time for a short frame.
+/// with those keys, in about half of their time for a short frame, and as a tagger it answers as they do.
 #[derive(Drop)]
 pub struct Channel {
     keys: Keys,
@@ -49,6 +51,14 @@ impl Channel {
         &self.keys
     }
 
+    /// Whether this replica and another have one session, and one key for each other.
+    pub fn shares_key(&self, other: &Channel) -> bool
+        ensures { result ≡ shares_key self.now other.now }
+    {
+        let key = self.keys.key(other.keys.me());
+        self.keys.session() == other.keys.session() && key == other.keys.key(self.keys.me())
+    }
+
     // The tag of a text under the key that is shared with replica j.
     fn tag(&self, j: u8, text: &[u8]) -> [u8; 32]
         requires { j < self.now.n }
@@ -80,5 +90,32 @@ impl Channel {
             return Err(OpenFault::BadTag);
         }
         Ok(parts(bytes))
+    }
+}
+
+impl Tagger for Channel {
+    ghost me = { λ k. k.me };
+
+    ghost tags = { tags_of };
+
+    fn me(&self) -> u8 {
+        self.keys.me()
+    }
+
+    fn entry(&self, slot: &Slot, echoer: u8, verifier: u8, d: &[u8; 32]) -> [u8; 32] {
+        let other = if echoer == self.keys.me() {
+            verifier
+        } else {
+            echoer
+        };
+        // No pad is kept for the numbers from n on, which no replica has.
+        match self.hashed.get(other as usize) {
+            Some(key) => key.entry(self.keys.session(), slot, echoer, verifier, d),
+            None => self.keys.entry(slot, echoer, verifier, d),
+        }
+    }
+
+    fn digest(&self, bytes: &[u8]) -> [u8; 32] {
+        digest(bytes)
     }
 }

@@ -1,7 +1,8 @@
 ghost use Rattle.std.specs.Prelude.{◌≡◌, ◌<◌, ◌≤◌, length};
 ghost use Rattle.keyed_channel.specs.KeyRow.{IsKeyRow, filled_row, key_with};
-ghost use Rattle.keyed_channel.specs.Keyed.{pair_key, dealt_keys, dealt, entry_of, tags_of};
+ghost use Rattle.keyed_channel.specs.Keyed.{pair_key, dealt_keys, dealt, tags_of};
 
+use crate::hashed_key::HashedKey;
 use crate::tags::{digest, finished, inner, outer};
 use ritas_base::{Params, Slot, Tagger};
 use sha2::Digest;
@@ -127,26 +128,6 @@ impl Keys {
     }
 }
 
-// The entry of an echoer for a verifier over a digest, at a slot, under the key that the two share.
-fn entry_under(
-    key: &[u8; 32],
-    session: u64,
-    slot: &Slot,
-    echoer: u8,
-    verifier: u8,
-    d: &[u8; 32],
-) -> [u8; 32]
-    ensures { result ≡ entry_of key.now session slot.now echoer verifier d.now }
-{
-    let text = inner(key)
-        .chain_update([0x45])
-        .chain_update(session.to_be_bytes())
-        .chain_update(slot.bytes())
-        .chain_update([echoer, verifier])
-        .chain_update(d);
-    finished(text, outer(key))
-}
-
 impl Tagger for Keys {
     ghost me = { λ k. k.me };
 
@@ -158,7 +139,7 @@ impl Tagger for Keys {
 
     fn entry(&self, slot: &Slot, echoer: u8, verifier: u8, d: &[u8; 32]) -> [u8; 32] {
         let other = if echoer == self.me { verifier } else { echoer };
-        entry_under(self.key(other), self.session, slot, echoer, verifier, d)
+        HashedKey::new(self.key(other)).entry(self.session, slot, echoer, verifier, d)
     }
 
     fn digest(&self, bytes: &[u8]) -> [u8; 32] {

@@ -1,4 +1,4 @@
-ghost use Rattle.keyed_channel.specs.Laws.{EntriesAgree, EntryByPair, OpensSealed, SealedLength, SealedLong, SealedOpens};
+ghost use Rattle.keyed_channel.specs.Laws.{EntriesAgree, EntryByPair, OpenedFromPeer, OpensAsSealed, OpensSealed, SealedLength, SealedLong, SealedOpens};
 
 /// A law: what replica i seals for replica j, both with keys dealt from one master key, opens at j as from i, with the
 /// same sequence number and body. The body has at most 16,341 bytes.
@@ -10,6 +10,17 @@ pub fn sealed_opens()
 /// replica, seals for j with that sequence number and body.
 pub fn opens_sealed()
     ensures { OpensSealed }
+{}
+
+/// A law for every two rows of keys: where a sealed frame opens, it says its sender's number, its sequence number and
+/// its body. Nothing is asked of the keys or of who is to receive it.
+pub fn opens_as_sealed()
+    ensures { OpensAsSealed }
+{}
+
+/// A law for every row of keys: what opens is as from another of the n replicas, and addressed to this one.
+pub fn opened_from_peer()
+    ensures { OpenedFromPeer }
 {}
 
 /// A law: a frame has 43 bytes more than its body.

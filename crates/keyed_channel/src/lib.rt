@@ -15,9 +15,10 @@
 //! A frame is what its tag is of, and then the tag's 32 bytes. The contracts say each of these byte for byte. `seal`
 //! gives exactly that frame; `open_frame` gives the first fault that the bytes have, and their parts where they have
 //! none. So what one replica seals opens at the other (`sealed_opens`), and what opens is the very frame that its sender
-//! seals (`opens_sealed`). That nobody without the key makes up such a tag is no part of what is proved.
+//! seals (`opens_sealed`); and with whatever keys, what opens of a sealed frame is what was sealed (`opens_as_sealed`).
+//! That nobody without the key makes up such a tag is no part of what is proved.
 //!
-//! `Channel` seals and opens with the same contracts, and hashes the pads of each key once. Nothing is said of how long a
+//! `Channel` seals, opens and tags entries with the same contracts, and hashes the pads of each key once. Nothing is said of how long a
 //! call takes, and so nothing of what its time tells about a key.
 #![tactic(auto)]
 
@@ -36,6 +37,7 @@ pub use coin::{SeedCoin, coin_key};
 pub use frame::{OpenFault, Opened, open_frame, seal};
 pub use keys::Keys;
 pub use laws::{
-    entries_agree, entry_by_pair, opens_sealed, sealed_length, sealed_long, sealed_opens,
+    entries_agree, entry_by_pair, opened_from_peer, opens_as_sealed, opens_sealed, sealed_length,
+    sealed_long, sealed_opens,
 };
 pub use tags::{digest, hmac};

@@ -105,6 +105,31 @@ fn a_channel_opens(rt: HostRuntime) -> Result<(), Fail> {
     Ok(())
 }
 
+// The last of them has no key of its own in a session of four.
+#[test]
+fn a_channel_tags(rt: HostRuntime) -> Result<(), Fail> {
+    let keys = dealt(&rt, 1);
+    let channel = Channel::new(rt.alloc(), keys)?;
+    assert_eq!(rt; keys.me(), 1);
+    assert_eq!(rt; Tagger::me(&channel), 1);
+    assert_eq!(rt; channel.digest(b"abc").as_slice(), ABC.as_slice());
+    assert_eq!(rt;
+        channel.entry(&SLOT, 3, 1, ABC).as_slice(),
+        ENTRY.as_slice()
+    );
+    for other in [0_u8, 1, 2, 3, 4, 30] {
+        assert!(rt; other < 31);
+        let given = channel.entry(&SLOT, 1, other, ABC);
+        assert_eq!(rt;
+            given.as_slice(),
+            keys.entry(&SLOT, 1, other, ABC).as_slice()
+        );
+        let got = channel.entry(&SLOT, other, 1, ABC);
+        assert_eq!(rt; got.as_slice(), keys.entry(&SLOT, other, 1, ABC).as_slice());
+    }
+    Ok(())
+}
+
 #[test]
 fn a_row_of_keys(rt: HostRuntime) -> Result<(), Fail> {
     let p = Params::new(4, 1)?;
