@@ -1,12 +1,13 @@
 -- What is released, list by list.
-use Rattle.std.specs.Prelude.{◌≡◌, ℕ, ◌+◌, ◌<◌, ◌≤◌, ◌-◌, Bool, not, cond, List, [], ◌∷◌, ◌++◌, length, map, take, drop, refl}
+use Rattle.std.specs.Prelude.{◌≡◌, ℕ, ◌+◌, ◌<◌, ◌≤◌, ◌-◌, nat_lt, Bool, not, cond, List, [], ◌∷◌, ◌++◌, length, map, take, drop, refl}
 use Rattle.std.proofs.Common.{sym, ◌∙◌, ap, ap₂, inl, inr, arith, append_assoc, length-append, get_or}
 use Rattle.std.proofs.Math.ListN.{set}
-use Rattle.std.proofs.lemmas.Bool.{cases_Bool, cond-true, cond-false}
+use Rattle.std.proofs.lemmas.Bool.{cases_Bool, cond-true, cond-false, lt-ltb}
 use Rattle.std.proofs.lemmas.List.Edits.{map_over_more}
 use Rattle.std.proofs.lemmas.List.{take_more, take-append-drop, append-nil, length-map, length-take-le, get_or-append_right, get_or-drop}
 use Rattle.ritas_base.specs.declared.item.Item.{Item}
-use Rattle.ooc_buffers.specs.Lists.{Kept, passing, failing, released, remaining}
+use Rattle.ritas_base.specs.Quorums.{count_yes, count_no}
+use Rattle.ooc_buffers.specs.Lists.{Kept, passing, failing, released, remaining, busy_peers}
 
 -- the items of one list that pass
 abbrev pub open_items : (Item → Bool) → List Kept → List Item
@@ -62,6 +63,17 @@ none_released t (kept ∷ held) none =
     ap₂ (λ (l : List Kept) (ls : List (List Kept)). l ∷ ls)
     (all_fail t kept (omega (arith, none, sum, few)))
     (none_released t held (omega (arith, none, sum, few)))
+
+-- where nothing is held for any peer, nothing is released, and all stays
+pub idle_released : (t : Item → Bool) (held : List (List Kept)) → busy_peers held ≡ 0 → released t held ≡ []
+idle_released t [] idle = refl
+idle_released t ([] ∷ held) idle = idle_released t held (sym (count_no (λ (ks : List Kept). nat_lt 0 (length ks)) [] held refl) ∙ idle)
+idle_released t ((k ∷ kept) ∷ held) idle =
+    let one = count_yes (λ (ks : List Kept). nat_lt 0 (length ks)) (k ∷ kept) held (lt-ltb 0 (length (k ∷ kept)) (omega arith)) in
+    absurd (omega (arith, one, idle))
+
+pub idle_remaining : (t : Item → Bool) (held : List (List Kept)) → busy_peers held ≡ 0 → remaining t held ≡ held
+idle_remaining t held idle = none_released t held (ap length (idle_released t held idle))
 
 -- a list that wasn't come to yet is as it was
 pub next_same : (f : List Kept → List Kept) (xs ys : List (List Kept)) (i : ℕ) (d : List Kept) → i < length xs

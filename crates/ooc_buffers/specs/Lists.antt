@@ -1,5 +1,5 @@
 -- Held items: one list for each peer, each in the order in which its items were held.
-use Rattle.std.specs.Prelude.{ℕ, Bool, not, ◌&&◌, ◌||◌, List, [], ◌∷◌, ◌++◌, map, filter, slice_index_or, slice_set, sum_by}
+use Rattle.std.specs.Prelude.{ℕ, ◌+◌, nat_le, nat_lt, Bool, not, ◌&&◌, ◌||◌, List, [], ◌∷◌, ◌++◌, map, filter, slice_index_or, slice_set, length, count_by, sum_by, Option, Some, None, if◌then◌else◌}
 use Rattle.std.specs.List.{list_any}
 use Rattle.std.specs.Str.{bytes_eq}
 use Rattle.ritas_base.specs.declared.item.Kind.TheVariants.{Column}
@@ -20,9 +20,17 @@ kept_of held peer = slice_index_or held peer []
 abbrev pub held_bytes : List (List Kept) → ℕ → ℕ
 held_bytes held peer = sum_by (λ k. k.len) (kept_of held peer)
 
+-- for how many peers something is held
+abbrev pub busy_peers : List (List Kept) → ℕ
+busy_peers held = count_by (λ kept. nat_lt 0 (length kept)) held
+
 -- the most that are held for one peer
 abbrev pub most_bytes : ℕ
 most_bytes = 1048576
+
+-- the bytes that are held for a peer, where these and so many more are too many
+abbrev pub bytes_if_full : ℕ → ℕ → Option ℕ
+bytes_if_full held len = if nat_le (held + len) most_bytes then None else Some held
 
 -- whether two items of one peer are held as one: they are of one kind and slot, and where they are columns, of one value
 abbrev pub is_same : Item → Item → Bool

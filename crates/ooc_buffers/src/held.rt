@@ -1,7 +1,7 @@
 ghost use Rattle.std.specs.Prelude.{◌≡◌, ℕ, ◌+◌, ◌<◌, ◌≤◌, ◌↔◌, Bool, [], ◌++◌, length, replicate, Err, OnOk, OnErr, IfOk, false};
 ghost use Rattle.std.specs.VecDeque.{deque_len, deque_capacity};
 ghost use Rattle.ritas_base.specs.declared.item.Item.{Item};
-ghost use Rattle.ooc_buffers.specs.Lists.{is_kept, held_bytes, most_bytes, with_kept, released, remaining};
+ghost use Rattle.ooc_buffers.specs.Lists.{is_kept, held_bytes, most_bytes, bytes_if_full, with_kept, released, remaining, busy_peers};
 ghost use Rattle.ooc_buffers.specs.Closures.{Computes};
 
 use crate::peer::Peer;
@@ -33,10 +33,23 @@ impl From<Mem> for HoldFault {
     }
 }
 
+// The held bytes, where these and so many more are too many.
+fn too_many(held: u32, len: u32) -> Option<u32>
+    ensures { result ≡ bytes_if_full held len }
+{
+    if u64::from(held) + u64::from(len) > MOST_BYTES {
+        Some(held)
+    } else {
+        None
+    }
+}
+
 /// Items that came too early, held for each peer in the order in which they came.
 #[derive(Debug, Drop)]
 pub struct Held {
     peers: Vec<Peer>,
+    // For how many peers something is held: where it is for none, nobody goes over them.
+    busy: usize,
 }
 
 impl Model for Held {
@@ -46,6 +59,11 @@ impl Model for Held {
     ghost Value = { List (List Kept) };
 
     ghost view = { λ h. h.peers.items };
+
+    ghost use Rattle.std.specs.Prelude.{◌≡◌};
+    ghost use Rattle.ooc_buffers.specs.Lists.{busy_peers};
+
+    ghost invariant = { λ h. h.busy ≡ busy_peers h.peers.items };
 }
 
 impl Held {
@@ -57,7 +75,7 @@ impl Held {
         for _peer in 0..n {
             peers.push(Peer::new(alloc))?;
         }
-        Ok(Held { peers })
+        Ok(Held { peers, busy: 0 })
     }
 
     /// Holds an item for its sender, behind those that are held for it.
@@ -73,12 +91,22 @@ impl Held {
         ensures err { OnErr result (self.new ≡ self.old) }
     {
         let peer = &mut self.peers[item.from as usize];
-        let held = peer.bytes();
-        if u64::from(held) + u64::from(len) > MOST_BYTES {
+        if let Some(held) = too_many(peer.bytes(), len) {
             return Err(HoldFault::HeldFull(held));
         }
+        let was_empty = peer.is_empty();
         peer.add(item, len)?;
+        if was_empty {
+            self.busy += 1;
+        }
         Ok(())
+    }
+
+    /// How many bytes are held for a peer, where these and so many more are too many to hold.
+    pub fn full_for(&self, peer: u8, len: u32) -> Option<u32>
+        ensures { result ≡ bytes_if_full (held_bytes self.now peer) len }
+    {
+        too_many(self.bytes(peer), len)
     }
 
     /// Whether the item is held: one of its sender, kind and slot, and for a column of its value too.
@@ -123,12 +151,16 @@ impl Held {
         ensures kept { (t : Item → Bool) → Computes F.Fn is_open t → OnOk result (self.new ≡ remaining t self.old) }
         ensures err { OnErr result ((inbox.new.items ≡ inbox.old.items) × (self.new ≡ self.old)) }
     {
+        if self.busy == 0 {
+            return Ok(());
+        }
         let room = room_for(self.peers.as_slice(), &is_open)?;
         if room == 0 {
             return Ok(());
         }
         inbox.reserve(room)?;
         release_all(self.peers.as_mut_slice(), &is_open, inbox);
+        self.busy = busy_peers(self.peers.as_slice());
         Ok(())
     }
 
@@ -137,10 +169,21 @@ impl Held {
         requires { F.IsAlwaysCallable is_past }
         ensures { (t : Item → Bool) → Computes F.Fn is_past t → self.new ≡ remaining t self.old }
     {
+        if self.busy == 0 {
+            return;
+        }
         for peer in self.peers.iter_mut() {
             peer.forget(&is_past);
         }
+        self.busy = busy_peers(self.peers.as_slice());
     }
+}
+
+// For how many peers something is held.
+fn busy_peers(peers: &[Peer]) -> usize
+    ensures { result ≡ busy_peers peers.now }
+{
+    peers.iter().filter(|peer| !peer.is_empty()).count()
 }
 
 // How many items pass the test.

@@ -10,7 +10,8 @@
 //!
 //! Each list stands in a ring with an index beside it: how many of its items have one kind and slot, and for columns
 //! one mark of the value. So to hold an item, to look for one and to ask for the held bytes costs a look-up; only for
-//! a column whose mark is there the list is searched. To release or to forget goes once round each list, in place.
+//! a column whose mark is there the list is searched. To release or to forget goes once round each list, in place, and
+//! round none where nothing is held for any peer.
 #![tactic(auto)]
 
 mod held;

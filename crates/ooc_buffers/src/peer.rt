@@ -1,4 +1,4 @@
-ghost use Rattle.std.specs.Prelude.{◌≡◌, ℕ, ◌+◌, ◌<◌, ◌≤◌, ◌^◌, Bool, true, false, List, [], ◌∷◌, ◌++◌, map, length, sum_by, OnOk, OnErr, if◌then◌else◌};
+ghost use Rattle.std.specs.Prelude.{◌≡◌, ℕ, ◌+◌, ◌<◌, ◌≤◌, ◌^◌, Bool, true, false, not, nat_lt, List, [], ◌∷◌, ◌++◌, map, length, sum_by, OnOk, OnErr, if◌then◌else◌};
 ghost use Rattle.std.specs.List.{list_any};
 ghost use Rattle.std.specs.VecDeque.{deque_len, deque_capacity};
 ghost use Rattle.ritas_base.specs.declared.item.Item.{Item};
@@ -139,6 +139,13 @@ impl Peer {
         }
     }
 
+    // Whether nothing is held.
+    pub(crate) fn is_empty(&self) -> bool
+        ensures { result ≡ not (nat_lt 0 (length self.now)) }
+    {
+        self.entries.is_empty()
+    }
+
     // How many bytes are held.
     pub(crate) fn bytes(&self) -> u32
         ensures { result ≡ sum_by (λ k. k.len) self.now }
@@ -150,6 +157,9 @@ impl Peer {
     pub(crate) fn has(&self, item: &Item) -> bool
         ensures { result ≡ list_any (λ k. is_same item.now k.item) self.now }
     {
+        if self.entries.is_empty() {
+            return false;
+        }
         if count_of(&self.index, &Key::of(item)) == 0 {
             return false;
         }

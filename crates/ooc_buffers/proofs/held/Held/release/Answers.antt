@@ -1,7 +1,18 @@
-use Rattle.std.proofs.Common.{◌≡◌, sym, ◌∙◌, ap, length, List}
-use Rattle.ooc_buffers.specs.Lists.{Kept, released}
-use Rattle.ooc_buffers.proofs.Peers.{none_released}
+use Rattle.std.proofs.Common.{◌≡◌, ◌++◌, sym, ◌∙◌, ap, length, List}
+use Rattle.std.proofs.lemmas.List.{append-nil}
+use Rattle.ritas_base.specs.declared.item.Item.{Item}
+use Rattle.ooc_buffers.specs.Lists.{Kept, released, busy_peers}
+use Rattle.ooc_buffers.proofs.Peers.{none_released, idle_released, idle_remaining}
 use Rattle.ooc_buffers.proofs.held.Held.release.Goals as goal
+
+pub returns-then-self-eq0-clause-moved : goal.returns-then-self-eq0-clause-moved
+returns-then-self-eq0-clause-moved g c = λ t computes.
+    let idle : busy_peers c.args.self.now ≡ 0 = sym (ap busy_peers c.self.view_is) ∙ (sym c.self.invariant ∙ c.if-self-eq0.true) in
+    sym (append-nil c.args.inbox.now.items) ∙ ap (λ (l : List Item). c.args.inbox.now.items ++ l) (sym (idle_released t c.args.self.now idle))
+
+pub returns-then-self-eq0-clause-kept : goal.returns-then-self-eq0-clause-kept
+returns-then-self-eq0-clause-kept g c = λ t computes.
+    sym (idle_remaining t c.args.self.now (sym (ap busy_peers c.self.view_is) ∙ (sym c.self.invariant ∙ c.if-self-eq0.true)))
 
 pub returns-then-room-eq0-clause-kept : goal.returns-then-room-eq0-clause-kept
 returns-then-room-eq0-clause-kept g c = λ t computes.
