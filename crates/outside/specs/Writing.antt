@@ -1,5 +1,5 @@
 -- How a text is written to a sink.
-use Rattle.std.specs.Prelude.{◌≡◌, ◌≢◌, ◌≤◌, ℕ, List, ◌++◌, Bool, true, Result, OnOk}
+use Rattle.std.specs.Prelude.{◌≡◌, ◌≤◌, ℕ, List, ◌++◌, Bool, true, Result, OnOk}
 use Rattle.outside.specs.Faults.{Rose}
 
 -- new is old and then a front of the text
@@ -16,12 +16,3 @@ pub record Writes {E : Type 0} (text : List ℕ) (tells : Bool) (old new : List 
   pub front : tells ≡ true → TookFront old new text
   pub later : before ≤ now
   pub cause : failed → Rose before now
-
--- The call answered its own answer and wrote the whole text. Or it answered that the sink failed, or that memory
--- ran out, and wrote a front of the text.
-pub record Ends {A : Type 0} (failed wanting own : A) (text : List ℕ) (tells : Bool) (old new : List ℕ) (before now : ℕ) (result : A) : Type 0 where
-  pub answer : result ≢ failed → result ≢ wanting → result ≡ own
-  pub whole : tells ≡ true → result ≢ failed → result ≢ wanting → new ≡ old ++ text
-  pub front : tells ≡ true → TookFront old new text
-  pub later : before ≤ now
-  pub cause : result ≡ failed → Rose before now
