@@ -1,5 +1,5 @@
 -- What each outcome of a step is, as the abstract core has it.
-use Rattle.std.proofs.Common.{◌≡◌, Bool, true, false, not, cond, Result, Ok, Err, List, [], ◌++◌, refl, sym, ◌∙◌, ap, subst, inr, append-nil}
+use Rattle.std.proofs.Common.{◌≡◌, Bool, true, false, not, cond, Option, Result, Ok, Err, List, [], ◌++◌, refl, sym, ◌∙◌, ap, subst, inr, append-nil}
 use Rattle.ritas_base.specs.declared.item.Item.{Item}
 use Rattle.ritas_base.specs.declared.item.Msg.{Msg}
 use Rattle.layer_api.specs.declared.broadcast.Heard.TheVariants as heard
@@ -11,15 +11,16 @@ use Rattle.ritas_core.specs.declared.verdict.Verdict.{Verdict}
 use Rattle.ritas_core.specs.declared.verdict.Verdict.TheVariants as verdicts
 use Rattle.ritas_core.specs.declared.kernel.Core.{Core}
 use Rattle.ritas_core.specs.Rules.{Rules}
-use Rattle.ritas_core.specs.Parts.{Took, parts}
+use Rattle.ritas_core.specs.Parts.{Entry, Took, parts}
 use Rattle.ritas_core.specs.Checks.{verdict_on, IsGood, IsTakable}
-use Rattle.ritas_core.specs.Machine.{CoreState, What, Frame, Moved, stays, enters, gives, moved_live, moved}
-use Rattle.ritas_core.specs.Stands.{Meaning, CoreStands}
+use Rattle.ritas_core.specs.Machine.{CoreState, What, Frame, Moved, with_entry, stays, enters, gives, moved_live, moved}
+use Rattle.ritas_core.specs.Stands.{Meaning, LayersStand, LayersShow, CoreStands}
 use Rattle.ritas_core.specs.LayerCalls.{CanTakeItem, RepeatsOne}
 use Rattle.ritas_core.specs.Calls.{Moves, Does}
-use Rattle.ritas_core.specs.CoreCalls.{rules_in, IsLive, StopsCore, TriesItem, IsToTake, DoesJudged}
+use Rattle.ritas_core.specs.CoreCalls.{rules_in, IsLive, StopsCore, EntersCore, GivesLayers, IsToTake, DoesJudged}
 use Rattle.ritas_core.proofs.GoodSlots.{slot_origin}
-use Rattle.ritas_core.proofs.CoreSteps.{stops_core}
+use Rattle.ritas_core.proofs.CoreSteps.{same_rules, stops_core}
+use Rattle.ritas_core.proofs.ShownLayers.{MeansWell, layers_show}
 use Rattle.ritas_core.proofs.JudgeSteps.{verdict_not_mem}
 
 pub not_false : (b : Bool) → not b ≡ false → b ≡ true
@@ -97,35 +98,66 @@ module _ {S E C T : Type 0} (m : Meaning S E C T) where
   verdict_of old item st b is good judged counts =
       judged.verdict ∙ ap (λ (x : Bool). cond x verdicts.Again verdicts.Take) (counts (parts (rules_in m old) st.history) (can_take old item st is good judged))
 
-  pub took_does : (old new : Core S E C T) (item : Item) (before after_it : List Msg) → TriesItem m old new item before after_it (Ok heard.Took) →
-      DoesJudged m old new verdicts.Take item before after_it (Ok answers.Took)
-  took_does old new item before after_it tries st is good judged =
+  may_take : (old : Core S E C T) (item : Item) (st : CoreState) → IsLive m old st → IsGood (rules_in m old) item →
+      IsToTake (rules_in m old) (parts (rules_in m old) st.history) st.held item → RepeatsOne m old.layers item false →
+      IsTakable (rules_in m old) (parts (rules_in m old) st.history) item
+  may_take old item st is good judged counts = record {
+    good = good;
+    may = judged.may;
+    is_open = judged.opened;
+    first = counts (parts (rules_in m old) st.history) (can_take old item st is good judged);
+  }
+
+  pub took_does : (old new : Core S E C T) (item : Item) (before after_it : List Msg) → EntersCore m old new (Took item) before after_it →
+      RepeatsOne m old.layers item false → DoesJudged m old new verdicts.Take item before after_it (Ok answers.Took)
+  took_does old new item before after_it enters_it counts st is good judged =
       let r = rules_in m old in
-      let may : IsTakable r (parts r st.history) item = record {
-        good = good;
-        may = judged.may;
-        is_open = judged.opened;
-        first = tries.1 (parts r st.history) (can_take old item st is good judged);
-      } in
+      let may = may_take old item st is good judged counts in
       moves_by old new (Frame item) before after_it (Ok answers.Took) r st (enters r st (Took item) st.inbox)
-      (frame_moves r st item verdicts.Take is.live (verdict_of old item st false is good judged tries.1))
-      refl (tries.0.out st is may) (tries.0.state st is may)
+      (frame_moves r st item verdicts.Take is.live (verdict_of old item st false is good judged counts))
+      refl (enters_it.out st is may) (enters_it.state st is may)
 
-  pub repeat_does : (old new : Core S E C T) (item : Item) (before after_it : List Msg) → TriesItem m old new item before after_it (Ok heard.Repeat) →
-      DoesJudged m old new verdicts.Take item before after_it (Ok answers.Repeat)
-  repeat_does old new item before after_it tries st is good judged =
+  -- the layers may have changed, and stand for the same
+  stays_core : MeansWell m → (old new : Core S E C T) (item : Item) (made : List Msg) (st : CoreState) → GivesLayers m old new item made (Ok heard.Repeat) → IsLive m old st →
+      CoreStands m new (rules_in m old) st
+  stays_core well old new item made st gives_it is =
+      let same = same_rules m old.layers new.layers gives_it.seat in
+      let stood : LayersStand m new.layers (parts (rules_in m old) st.history) = gives_it.given.same (parts (rules_in m old) st.history) (is.stands.layers is.live) in
+      subst (λ (core : Core S E C T). CoreStands m core (rules_in m old) st) (sym gives_it.rest) (record {
+        rules = same;
+        own = ap (λ (t : T). m.me t) gives_it.seat.tagger ∙ is.stands.own;
+        kinds = is.stands.kinds;
+        session = is.stands.session;
+        me = is.stands.me;
+        serves = is.stands.serves;
+        live = is.stands.live;
+        history = is.stands.history;
+        layers = λ _. stood;
+        lost = is.stands.lost;
+        shows = subst (λ (o : Option Entry). LayersShow m new.layers (rules_in m old) (parts (rules_in m old) st.history) (parts (rules_in m old) (with_entry o st.history)))
+            (sym (is.stands.lost is.live)) (layers_show m well new.layers (rules_in m old) same (parts (rules_in m old) st.history) stood);
+        inbox = is.stands.inbox;
+        held = is.stands.held;
+        peers = is.stands.peers;
+        good_inbox = is.stands.good_inbox;
+        good_held = is.stands.good_held;
+      })
+
+  pub repeat_does : MeansWell m → (old new : Core S E C T) (item : Item) (made sent : List Msg) → GivesLayers m old new item made (Ok heard.Repeat) →
+      DoesJudged m old new verdicts.Take item sent sent (Ok answers.Repeat)
+  repeat_does well old new item made sent gives_it st is good judged =
       let r = rules_in m old in
-      moves_by old new (Frame item) before after_it (Ok answers.Repeat) r st (stays st st.inbox (Ok answers.Repeat))
-      (frame_moves r st item verdicts.Again is.live (verdict_of old item st true is good judged tries.1))
-      refl (nothing_more before after_it tries.0.out) (tries.0.state st is)
+      moves_by old new (Frame item) sent sent (Ok answers.Repeat) r st (stays st st.inbox (Ok answers.Repeat))
+      (frame_moves r st item verdicts.Again is.live (verdict_of old item st true is good judged gives_it.given.counts))
+      refl (nothing_more sent sent refl) (stays_core well old new item made st gives_it is)
 
-  pub stops_does : (old mid : Core S E C T) (item : Item) (before after_it : List Msg) → StopsCore old mid before after_it →
+  pub stops_does : (old mid : Core S E C T) (item : Item) (before after_it : List Msg) → StopsCore m old mid (Took item) before after_it →
       RepeatsOne m old.layers item false → DoesJudged m old (record mid { stopped = true }) verdicts.Take item before after_it (Err faults.Mem)
   stops_does old mid item before after_it stops counts st is good judged = record {
     out = stops.out;
     live = is.live;
     state = inr (
       verdict_of old item st false is good judged counts,
-      stops_core m old (record mid { stopped = true }) (rules_in m old) st stops.seat refl is.stands,
+      stops_core m old mid (Took item) before after_it st (Frame item) refl stops is (may_take old item st is good judged counts),
     );
   }

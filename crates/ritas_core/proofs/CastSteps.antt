@@ -1,6 +1,7 @@
 -- A call at one slot keeps what the map of broadcasts stands for.
-use Rattle.std.proofs.Common.{◌≡◌, ℕ, Bool, true, false, Option, Some, None, Result, Ok, Err, List, [], ◌∷◌, cond, ap, refl, sym, ◌∙◌, subst}
-use Rattle.std.specs.BTreeMap.{BTreeMap, get}
+use Rattle.std.proofs.Common.{◌≡◌, ℕ, Bool, true, false, Option, Some, None, Result, Ok, Err, List, [], ◌∷◌, ◌⊎◌, inl, inr, cond, ap, refl, sym, ◌∙◌, subst}
+use Rattle.std.specs.BTreeMap.{BTreeMap, get, is_at, IsUnchanged}
+use Rattle.std.specs.Map.{lookup}
 use Rattle.ritas_base.specs.declared.slot.Slot.{Slot}
 use Rattle.ritas_base.specs.SlotOrder.{slot_cmp, is_slot, same_slot, slot_itself}
 use Rattle.ritas_base.specs.Messages.{Place}
@@ -11,15 +12,18 @@ use Rattle.ritas_base.specs.declared.item.Item.{Item}
 use Rattle.ritas_base.specs.declared.item.Msg.{Msg}
 use Rattle.ritas_base.specs.History.{Call, Start, Take}
 use Rattle.ritas_base.specs.declared.item.Say.{Say}
-use Rattle.layer_api.specs.Broadcast.{BroadcastRules, IsTagger}
-use Rattle.layer_api.specs.BroadcastCalls.{Starts}
+use Rattle.layer_api.specs.Broadcast.{BroadcastRules, IsTagger, MayStart}
+use Rattle.layer_api.specs.BroadcastCalls.{CastShown, ShowsCast, Starts, Dies}
 use Rattle.ritas_base.specs.declared.mode.Mode.{Mode}
 use Rattle.ritas_core.specs.declared.cast.Cast.{Cast}
-use Rattle.ritas_core.specs.Rules.{CastRules, by_other, casts_by, place_at}
-use Rattle.ritas_core.specs.Cast.{CastStands, CastStandsAt, rules_by, shown_by}
+use Rattle.ritas_core.specs.Rules.{CastRules, by_other, casts_by, place_at, out_at}
+use Rattle.ritas_core.specs.Cast.{CastStands, CastStandsAt, rules_by, is_live, shown_by}
 use Rattle.ritas_core.specs.Casts.{CastsStand, called, newly}
-use Rattle.ritas_core.specs.CastCalls.{StaysSo, CanStart, StartsCast, CanTake, HearsItem, CastsHear}
+use Rattle.ritas_core.specs.CastCalls.{CanStart, StartsCast, StartsNone, CanTake, HearsItem, CastsFail, CastsHear}
+use Rattle.layer_api.specs.OneValue.{ValueLaws}
+use Rattle.ritas_core.specs.RulesLaws.{laws_at}
 use Rattle.ritas_core.proofs.OneCast.{shows_at}
+use Rattle.ritas_core.proofs.ShownCasts.{stands_shown, same_shown, put_shown, put_either}
 use Rattle.ritas_core.specs.declared.taken.Taken.{Taken}
 use Rattle.ritas_core.specs.declared.taken.Taken.TheVariants.{Took, Repeat}
 
@@ -73,66 +77,141 @@ casts_called stands c m n h s call e put stood all =
 newly_shown : (a b a2 b2 : Option (List ℕ)) → a ≡ a2 → b ≡ b2 → newly a2 b2 ≡ newly a b
 newly_shown a b a2 b2 p q = cc
 
+-- a value stands for the calls of a slot, whatever calls the map stands for
+abbrev pub StandsThere : {E : Type 0} → Mode → (E → Place → Tags → List Call → Type 0) → BroadcastRules → Numbers → ℕ → Tags → BTreeMap Slot (Cast E) → Slot → Cast E → Type 0
+StandsThere mode stands rules numbers me tags m s e = (h : Slot → List Call) → CastsStand (CastStandsAt mode stands) (casts_by mode numbers me tags rules) m h
+    → CastStandsAt mode stands e (place_at (casts_by mode numbers me tags rules) s) tags (h s)
+
+-- the value that is found there does, and where none is, one that had no calls
+pub there_found : {E : Type 0} (mode : Mode) (stands : E → Place → Tags → List Call → Type 0) (rules : BroadcastRules) (numbers : Numbers) (me : ℕ) (tags : Tags)
+    (m : BTreeMap Slot (Cast E)) (s : Slot) (e : Cast E) → get slot_cmp m s ≡ Some e → StandsThere mode stands rules numbers me tags m s e
+there_found mode stands rules numbers me tags m s e found h stood = stood.made s e found
+
+pub there_new : {E : Type 0} (mode : Mode) (stands : E → Place → Tags → List Call → Type 0) (rules : BroadcastRules) (numbers : Numbers) (me : ℕ) (tags : Tags)
+    (m : BTreeMap Slot (Cast E)) (s : Slot) (e : Cast E) → get slot_cmp m s ≡ None
+    → CastStandsAt mode stands e (place_at (casts_by mode numbers me tags rules) s) tags [] → StandsThere mode stands rules numbers me tags m s e
+there_new mode stands rules numbers me tags m s e none fresh h stood =
+    subst (λ (l : List Call). CastStandsAt mode stands e (place_at (casts_by mode numbers me tags rules) s) tags l) (sym (stood.unmade s none)) fresh
+
 -- an item given to the value at its slot is given to the map
-module _ {E : Type 0} (mode : Mode) (stands : E → Place → Tags → List Call → Type 0) (rules : BroadcastRules) (live : E → Bool) (shown : E → Option (List ℕ))
-    (shows : (e : E) (at : Place) (tags : Tags) (h : List Call) → stands e at tags h → (live e ≡ true) × (shown e ≡ rules.out at tags h))
-    (numbers : Numbers) (me number : ℕ) (tags : Tags) (m0 m n : BTreeMap Slot (Cast E)) (item : Item) (old new : Cast E)
-    (stays : StaysSo (CastStandsAt mode stands) (casts_by mode numbers me tags rules) m0 m)
-    (found : get slot_cmp m item.slot ≡ Some old)
+module _ {E : Type 0} (mode : Mode) (stands : E → Place → Tags → List Call → Type 0) (rules : BroadcastRules) (live : E → Bool) (shown : E → CastShown)
+    (shows : (e : E) (at : Place) (tags : Tags) (h : List Call) → stands e at tags h → (live e ≡ true) × ShowsCast rules at tags h (shown e))
+    (numbers : Numbers) (me number : ℕ) (tags : Tags) (m n : BTreeMap Slot (Cast E)) (item : Item) (old new : Cast E)
+    (there : StandsThere mode stands rules numbers me tags m item.slot old)
     (put : (q : Slot) → get slot_cmp n q ≡ cond (is_slot item.slot q) (Some new) (get slot_cmp m q)) where
-  tagger_of : (h : Slot → List Call) → CanTake (CastStandsAt mode stands) (casts_by mode numbers me tags rules) number m0 item h
+  tagger_of : (h : Slot → List Call) → CanTake (CastStandsAt mode stands) (casts_by mode numbers me tags rules) number m item h
       → IsTagger (place_at (casts_by mode numbers me tags rules) item.slot) tags (record { me = number; tags = tags })
   tagger_of h can = record { own = can.is_own.own; alike = record { digest = λ _. refl; entry = λ _ _ _ _ _ _ _. refl } }
 
-  stood_there : (h : Slot → List Call) → CanTake (CastStandsAt mode stands) (casts_by mode numbers me tags rules) number m0 item h
+  stood_there : (h : Slot → List Call) → CanTake (CastStandsAt mode stands) (casts_by mode numbers me tags rules) number m item h
       → CastStandsAt mode stands old (place_at (casts_by mode numbers me tags rules) item.slot) tags (h item.slot)
-  stood_there h can = (stays h can.stood).made item.slot old found
+  stood_there h can = there h can.stood
 
-  pub casts_hear : (before after : List Msg) (r : Result Taken Mem) →
+  pub casts_hear : ValueLaws rules → (before after : List Msg) (r : Result Taken Mem) →
       HearsItem (CastStands (by_other mode item.slot) stands) (rules_by (by_other mode item.slot) rules) (shown_by shown)
       (record { me = number; tags = tags }) old new item before after r →
-      CastsHear (CastStandsAt mode stands) (casts_by mode numbers me tags rules) number m0 n item before after r
-  casts_hear before after (Ok (Took d)) hears = record {
+      CastsHear (CastStandsAt mode stands) (shown_by shown) (casts_by mode numbers me tags rules) number m n item before after r
+  casts_hear values before after (Ok (Took d)) hears = record {
     grows = λ h can. casts_called (CastStandsAt mode stands) (casts_by mode numbers me tags rules) m n h item.slot (Take item) new put
-        (hears.takes.grows _ tags (h item.slot) (stood_there h can) (tagger_of h can) can.may) (stays h can.stood);
+        (hears.takes.grows _ tags (h item.slot) (stood_there h can) (tagger_of h can) can.may) can.stood;
     made = λ h can. hears.takes.made _ tags (h item.slot) (stood_there h can) (tagger_of h can) can.may;
     delivered = λ h can.
         newly_shown _ _ _ _
-        (shows_at stands rules live shown shows (by_other mode item.slot) old (place_at (casts_by mode numbers me tags rules) item.slot) tags (h item.slot) (stood_there h can))
+        (shows_at stands rules live shown shows (by_other mode item.slot) old (place_at (casts_by mode numbers me tags rules) item.slot) tags (h item.slot) (stood_there h can)).out
         (shows_at stands rules live shown shows (by_other mode item.slot) new (place_at (casts_by mode numbers me tags rules) item.slot) tags (Take item ∷ h item.slot)
-        (hears.takes.grows _ tags (h item.slot) (stood_there h can) (tagger_of h can) can.may))
+        (hears.takes.grows _ tags (h item.slot) (stood_there h can) (tagger_of h can) can.may)).out
         ∙ sym hears.delivered;
     counts = λ h can. hears.takes.counts _ tags (h item.slot) (stood_there h can) (tagger_of h can) can.may;
   }
-  casts_hear before after (Ok Repeat) hears = record {
+  casts_hear values before after (Ok Repeat) hears = record {
     same = λ h stood. casts_put (CastStandsAt mode stands) (casts_by mode numbers me tags rules) m n h h item.slot new put (λ q _. refl)
-        (hears.same _ tags (h item.slot) ((stays h stood).made item.slot old found)) (stays h stood);
+        (hears.same _ tags (h item.slot) (there h stood)) stood;
     made = hears.out;
     counts = λ h can. hears.counts _ tags (h item.slot) (stood_there h can) (tagger_of h can) can.may;
   }
-  casts_hear before after (Err e) hears = λ h can. hears _ tags (h item.slot) (stood_there h can) (tagger_of h can) can.may
+  casts_hear values before after (Err e) hears = record {
+    shows = λ h can.
+        let c = casts_by mode numbers me tags rules in
+        put_either mode stands rules live shown shows values numbers me tags m n h item.slot new
+        (stands_shown mode stands rules live shown shows values numbers me tags m h can.stood) put (called h item.slot (Take item))
+        (subst (λ (l : List Call). ((shown_by shown new).out ≡ out_at c item.slot (h item.slot)) ⊎ ((shown_by shown new).out ≡ out_at c item.slot l))
+        (sym (called_here h item.slot (Take item)))
+        (hears.shows (place_at c item.slot) tags (h item.slot) (stood_there h can) (tagger_of h can) can.may));
+    counts = λ h can. hears.counts _ tags (h item.slot) (stood_there h can) (tagger_of h can) can.may;
+  }
+
+-- a value that wasn't started at its slot for want of memory shows there what it did
+pub casts_missed : {E : Type 0} (mode : Mode) (stands : E → Place → Tags → List Call → Type 0) (rules : BroadcastRules) (live : E → Bool) (shown : E → CastShown)
+    (shows : (e : E) (at : Place) (tags : Tags) (h : List Call) → stands e at tags h → (live e ≡ true) × ShowsCast rules at tags h (shown e)) → ValueLaws rules →
+    (numbers : Numbers) (me number : ℕ) (tags : Tags) (m n : BTreeMap Slot (Cast E)) (say : Say) (old new : Cast E) →
+    StandsThere mode stands rules numbers me tags m say.slot old →
+    ((q : Slot) → get slot_cmp n q ≡ cond (is_slot say.slot q) (Some new) (get slot_cmp m q)) →
+    (value : List ℕ) (before after : List Msg) →
+    Dies (CastStands (by_other mode say.slot) stands) (rules_by (by_other mode say.slot) rules) (is_live live) (shown_by shown)
+    (record { me = number; tags = tags }) old new (Start value) (λ at tags h. MayStart at h) before after →
+    StartsNone (CastStandsAt mode stands) (shown_by shown) (casts_by mode numbers me tags rules) number m n say
+casts_missed {E} mode stands rules live shown shows values numbers me number tags m n say old new there put value before after dies h can =
+    let c = casts_by mode numbers me tags rules in
+    let tagger : IsTagger (place_at c say.slot) tags (record { me = number; tags = tags }) =
+    record { own = can.is_own.own; alike = record { digest = λ _. refl; entry = λ _ _ _ _ _ _ _. refl } } in
+    let near = (dies.shows (place_at c say.slot) tags (h say.slot) (there h can.stood) tagger can.may).out in
+    let shown_there : (shown_by shown new).out ≡ out_at c say.slot (h say.slot) = elim near [
+      | inl e ↦ e
+      | inr e ↦ e ∙ (laws_at mode rules values say.slot).out_start (place_at c say.slot) tags (h say.slot) value
+    ] in
+    put_shown mode stands rules live shown shows values numbers me tags m n h say.slot new
+    (stands_shown mode stands rules live shown shows values numbers me tags m h can.stood) put shown_there
 
 -- a value started at its slot is started in the map
 pub casts_start : {E : Type 0} (mode : Mode) (stands : E → Place → Tags → List Call → Type 0) (rules : BroadcastRules)
-    (numbers : Numbers) (me number : ℕ) (tags : Tags) (m0 m n : BTreeMap Slot (Cast E)) (say : Say) (old new : Cast E) →
-    StaysSo (CastStandsAt mode stands) (casts_by mode numbers me tags rules) m0 m →
-    get slot_cmp m say.slot ≡ Some old →
+    (numbers : Numbers) (me number : ℕ) (tags : Tags) (m n : BTreeMap Slot (Cast E)) (say : Say) (old new : Cast E) →
+    StandsThere mode stands rules numbers me tags m say.slot old →
     ((q : Slot) → get slot_cmp n q ≡ cond (is_slot say.slot q) (Some new) (get slot_cmp m q)) →
     (value : List ℕ) → value ≡ say.value → (before after : List Msg) →
     Starts (CastStands (by_other mode say.slot) stands) (rules_by (by_other mode say.slot) rules)
     (record { me = number; tags = tags }) old new value before after →
-    StartsCast (CastStandsAt mode stands) (casts_by mode numbers me tags rules) number m0 n say before after
-casts_start {E} mode stands rules numbers me number tags m0 m n say old new stays found put value same before after started_it =
+    StartsCast (CastStandsAt mode stands) (casts_by mode numbers me tags rules) number m n say before after
+casts_start {E} mode stands rules numbers me number tags m n say old new there put value same before after started_it =
     let c = casts_by mode numbers me tags rules in
     let starts = subst (λ (v : List ℕ). Starts (CastStands (by_other mode say.slot) stands) (rules_by (by_other mode say.slot) rules)
     (record { me = number; tags = tags }) old new v before after) same started_it in
-    let tagger : (h : Slot → List Call) → CanStart (CastStandsAt mode stands) c number m0 say h
+    let tagger : (h : Slot → List Call) → CanStart (CastStandsAt mode stands) c number m say h
     → IsTagger (place_at c say.slot) tags (record { me = number; tags = tags }) = λ h can.
     record { own = can.is_own.own; alike = record { digest = λ _. refl; entry = λ _ _ _ _ _ _ _. refl } } in
-    let stood : (h : Slot → List Call) → CanStart (CastStandsAt mode stands) c number m0 say h
-    → CastStandsAt mode stands old (place_at c say.slot) tags (h say.slot) = λ h can. (stays h can.stood).made say.slot old found in
+    let stood : (h : Slot → List Call) → CanStart (CastStandsAt mode stands) c number m say h
+    → CastStandsAt mode stands old (place_at c say.slot) tags (h say.slot) = λ h can. there h can.stood in
     record {
       grows = λ h can. casts_called (CastStandsAt mode stands) c m n h say.slot (Start say.value) new put
-          (starts.grows _ tags (h say.slot) (stood h can) (tagger h can) can.may) (stays h can.stood);
+          (starts.grows _ tags (h say.slot) (stood h can) (tagger h can) can.may) can.stood;
       made = λ h can. starts.made _ tags (h say.slot) (stood h can) (tagger h can) can.may;
     }
+
+-- maps with the same entries have the same value at each slot
+pub same_at : {B : Type 0} (m n : BTreeMap Slot B) → IsUnchanged m n → (q : Slot) → get slot_cmp n q ≡ get slot_cmp m q
+same_at {B} m n same q = ap (λ (es : List (Slot × B)). lookup (is_at (slot_cmp q)) es) same
+
+-- an item for which no value could be made, or kept
+pub casts_unmade : {E : Type 0} (mode : Mode) (stands : E → Place → Tags → List Call → Type 0) (rules : BroadcastRules) (live : E → Bool) (shown : E → CastShown)
+    (shows : (e : E) (at : Place) (tags : Tags) (h : List Call) → stands e at tags h → (live e ≡ true) × ShowsCast rules at tags h (shown e)) → ValueLaws rules →
+    (numbers : Numbers) (me number : ℕ) (tags : Tags) (m n : BTreeMap Slot (Cast E)) (item : Item) →
+    get slot_cmp m item.slot ≡ None → ((s : Slot) → get slot_cmp n s ≡ get slot_cmp m s) →
+    CastsFail (CastStandsAt mode stands) (shown_by shown) (casts_by mode numbers me tags rules) number m n item
+casts_unmade {E} mode stands rules live shown shows values numbers me number tags m n item none same =
+    let c = casts_by mode numbers me tags rules in
+    record {
+      shows = λ h can s. inl (same_shown mode stands rules live shown shows values numbers me tags m n h
+          (stands_shown mode stands rules live shown shows values numbers me tags m h can.stood) same s);
+      counts = λ h can.
+          ap (λ (l : List Call). (c.at_slot item.slot).repeats (place_at c item.slot) tags l item) (can.stood.unmade item.slot none)
+          ∙ (laws_at mode rules values item.slot).repeats_nothing (place_at c item.slot) tags item;
+    }
+
+-- a say for which none could be
+pub casts_unstarted : {E : Type 0} (mode : Mode) (stands : E → Place → Tags → List Call → Type 0) (rules : BroadcastRules) (live : E → Bool) (shown : E → CastShown)
+    (shows : (e : E) (at : Place) (tags : Tags) (h : List Call) → stands e at tags h → (live e ≡ true) × ShowsCast rules at tags h (shown e)) → ValueLaws rules →
+    (numbers : Numbers) (me number : ℕ) (tags : Tags) (m n : BTreeMap Slot (Cast E)) (say : Say) →
+    ((s : Slot) → get slot_cmp n s ≡ get slot_cmp m s) →
+    StartsNone (CastStandsAt mode stands) (shown_by shown) (casts_by mode numbers me tags rules) number m n say
+casts_unstarted mode stands rules live shown shows values numbers me number tags m n say same h can =
+    same_shown mode stands rules live shown shows values numbers me tags m n h
+    (stands_shown mode stands rules live shown shows values numbers me tags m h can.stood) same

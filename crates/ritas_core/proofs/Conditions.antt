@@ -1,6 +1,6 @@
 -- Each entry of a history meets the conditions of the layers. A broadcast was started exactly where its slot was said, a
 -- slot was heard exactly where it has delivered, and all words and calls are in the grammar.
-use Rattle.std.proofs.Common.{◌≡◌, ℕ, Bool, true, false, not, cond, ◌||◌, Option, Some, None, List, [], ◌∷◌, refl, sym, ◌∙◌, ap, subst}
+use Rattle.std.proofs.Common.{◌≡◌, ℕ, Bool, true, false, not, cond, ◌||◌, Option, Some, None, List, [], ◌∷◌, ◌++◌, refl, sym, ◌∙◌, ap, subst}
 use Rattle.std.specs.Option.{is_some, option_or}
 use Rattle.std.proofs.Math.Bool.{or_assoc, or-false}
 use Rattle.std.proofs.lemmas.Bool.{not-true}
@@ -12,15 +12,16 @@ use Rattle.ritas_base.specs.declared.item.Item.{Item}
 use Rattle.ritas_base.specs.declared.item.Say.{Say}
 use Rattle.ritas_base.specs.Numbers.{Numbers}
 use Rattle.ritas_base.specs.SlotOrder.{is_slot, same_slot, slots_total}
-use Rattle.ritas_base.specs.Shortest.{option_or_none}
+use Rattle.ritas_base.specs.Shortest.{option_or_none, option_or_assoc}
 use Rattle.ritas_base.specs.History.{Call, Start, Take, started}
 use Rattle.frame_codec.specs.Format.{Is}
 use Rattle.frame_codec.specs.Grammar.{value}
 use Rattle.layer_api.specs.OneValue.{AreGoodCalls}
-use Rattle.layer_api.specs.Service.{Word, Ask, Hear, said, is_said, is_heard, MayHear, AreProper, AreNew, AreGoodWords, AreGoodSays}
+use Rattle.layer_api.specs.Service.{Word, Ask, Hear, said, is_said, said_value, is_heard, MayHear, AreProper, AreNew, AreGoodWords, AreGoodSays}
 use Rattle.ritas_core.specs.Rules.{Rules, seat_of, place_at, out_at}
 use Rattle.ritas_core.specs.Casts.{called, started_all, newly, MayStartAll}
 use Rattle.ritas_core.specs.Parts.{Entry, Took, Given, Parts, parts, told_to, heard_at, taken_at, item_delivers}
+use Rattle.ritas_core.specs.PartsLaws.{newly_before, newly_after}
 use Rattle.ritas_core.specs.Checks.{is_item_past, is_item_ahead, IsTakable, IsGivable, IsHistory}
 use Rattle.ritas_core.specs.Laws.{LayerLaws}
 use Rattle.ritas_core.proofs.TestLaws.{left_false, right_false, left_true, right_true, or_flip}
@@ -37,15 +38,6 @@ none_from (Some x) h = absurd (cc)
 either_some : {A : Type 0} (a b : Option A) → is_some (option_or a b) ≡ (is_some a || is_some b)
 either_some None b = refl
 either_some (Some x) b = refl
-
--- what is newly there was not there before, and is there now
-pub newly_before : (x y : Option (List ℕ)) (v : List ℕ) → newly x y ≡ Some v → x ≡ None
-newly_before None y v h = refl
-newly_before (Some u) y v h = absurd (cc)
-
-pub newly_after : (x y : Option (List ℕ)) (v : List ℕ) → newly x y ≡ Some v → y ≡ Some v
-newly_after None y v h = h
-newly_after (Some u) y v h = absurd (cc)
 
 -- ---- a broadcast was started exactly where its slot was said
 abbrev pub IsStartedWhereSaid : Rules → Parts → Type 0
@@ -89,6 +81,85 @@ started_where_said r (Took item ∷ h) s =
     let p = parts r h in
     started_heard r item.slot (item_delivers r item p) (taken_at item p) (started_taken r item p (started_where_said r h)) s
 started_where_said r (Given v ∷ h) s = started_told r (Ask v) (parts r h) (started_where_said r h) s
+
+-- ---- and with the value that was said there
+value_at_head : (b : Bool) (v : List ℕ) (rest : Option (List ℕ)) → option_or (cond b (Some v) None) rest ≡ cond b (Some v) rest
+value_at_head true v rest = refl
+value_at_head false v rest = refl
+
+start_value : (b : Bool) (v : List ℕ) (h : List Call) → started (cond b (Start v ∷ h) h) ≡ option_or (started h) (cond b (Some v) None)
+start_value true v h = refl
+start_value false v h = sym (option_or_none (started h))
+
+-- what was started before stands, and else what is said first
+starts_value : (says : List Say) (h : Slot → List Call) (s : Slot) → started (started_all says h s) ≡ option_or (started (h s)) (said_value says s)
+starts_value [] h s = sym (option_or_none (started (h s)))
+starts_value (say ∷ says) h s =
+    starts_value says (called h say.slot (Start say.value)) s
+    ∙ ap (λ (o : Option (List ℕ)). option_or o (said_value says s)) (start_value (is_slot say.slot s) say.value (h s))
+    ∙ sym (option_or_assoc (started (h s)) (cond (is_slot say.slot s) (Some say.value) None) (said_value says s))
+    ∙ ap (option_or (started (h s))) (value_at_head (is_slot say.slot s) say.value (said_value says s))
+
+either_value : (b : Bool) (v : List ℕ) (o u : Option (List ℕ)) → cond b (Some v) (option_or o u) ≡ option_or (cond b (Some v) o) u
+either_value true v o u = refl
+either_value false v o u = refl
+
+said_value-append : (xs ys : List Say) (s : Slot) → said_value (xs ++ ys) s ≡ option_or (said_value xs s) (said_value ys s)
+said_value-append [] ys s = refl
+said_value-append (x ∷ xs) ys s =
+    ap (λ (o : Option (List ℕ)). cond (is_slot x.slot s) (Some x.value) o) (said_value-append xs ys s)
+    ∙ either_value (is_slot x.slot s) x.value (said_value xs s) (said_value ys s)
+
+unsaid_value_by : (b : Bool) (v : List ℕ) (o : Option (List ℕ)) (rest : Bool) → (b || rest) ≡ false → (rest ≡ false → o ≡ None) → cond b (Some v) o ≡ None
+unsaid_value_by true v o rest h none = absurd (cc)
+unsaid_value_by false v o rest h none = none h
+
+unsaid_value : (says : List Say) (s : Slot) → is_said says s ≡ false → said_value says s ≡ None
+unsaid_value [] s h = refl
+unsaid_value (x ∷ xs) s h = unsaid_value_by (is_slot x.slot s) x.value (said_value xs s) (is_said xs s) h (unsaid_value xs s)
+
+-- what is newly said is at slots where nothing was said before
+new_value_by : (r : Rules) (w : List Word) (y : Say) (s : Slot) (v : List ℕ) (o : Option (List ℕ)) (b : Bool) → is_slot y.slot s ≡ b →
+    is_said (said r.service (seat_of r) w) y.slot ≡ false → (o ≡ Some v → is_said (said r.service (seat_of r) w) s ≡ false) →
+    cond b (Some y.value) o ≡ Some v → is_said (said r.service (seat_of r) w) s ≡ false
+new_value_by r w y s v o true here new rest h = subst (λ (q : Slot). is_said (said r.service (seat_of r) w) q ≡ false) (same_slot y.slot s here) new
+new_value_by r w y s v o false here new rest h = rest h
+
+new_value : (r : Rules) (w : List Word) (new : List Say) → AreNew r.service (seat_of r) w new → (s : Slot) (v : List ℕ) → said_value new s ≡ Some v →
+    is_said (said r.service (seat_of r) w) s ≡ false
+new_value r w [] fresh s v h = absurd (cc)
+new_value r w (y ∷ ys) fresh s v h =
+    new_value_by r w y s v (said_value ys s) (is_slot y.slot s) refl fresh.1 (new_value r w ys fresh.3 s v) h
+
+either_way : (old new : Option (List ℕ)) → ((v : List ℕ) → new ≡ Some v → old ≡ None) → option_or old new ≡ option_or new old
+either_way old None apart = option_or_none old
+either_way old (Some v) apart = ap (λ (o : Option (List ℕ)). option_or o (Some v)) (apart v refl)
+
+abbrev pub StartedIsSaid : Rules → Parts → Type 0
+StartedIsSaid r p = (s : Slot) → started (p.calls s) ≡ said_value (said r.service (seat_of r) p.words) s
+
+value_taken : (r : Rules) (item : Item) (p : Parts) → StartedIsSaid r p → StartedIsSaid r (taken_at item p)
+value_taken r item p all s = take_value (is_slot item.slot s) (p.calls s) ∙ all s
+  where
+    take_value : (b : Bool) (h : List Call) → started (cond b (Take item ∷ h) h) ≡ started h
+    take_value true h = option_or_none (started h)
+    take_value false h = refl
+
+value_told : (r : Rules) → LayerLaws r → (c : Word) (p : Parts) → AreProper r.service (seat_of r) (c ∷ p.words) → StartedIsSaid r p →
+    StartedIsSaid r (told_to r c p)
+value_told r laws c p proper all s =
+    let new = r.service.says (seat_of r) p.words c in
+    let old = said r.service (seat_of r) p.words in
+    starts_value new p.calls s
+    ∙ ap (λ (o : Option (List ℕ)). option_or o (said_value new s)) (all s)
+    ∙ either_way (said_value old s) (said_value new s)
+    (λ v there. unsaid_value old s (new_value r p.words new (laws.words.says_new (seat_of r) c p.words proper) s v there))
+    ∙ sym (said_value-append new old s)
+
+value_heard : (r : Rules) → LayerLaws r → (s : Slot) (d : Option (List ℕ)) (p : Parts) →
+    ((v : List ℕ) → d ≡ Some v → AreProper r.service (seat_of r) (Hear s v ∷ p.words)) → StartedIsSaid r p → StartedIsSaid r (heard_at r s d p)
+value_heard r laws s None p proper all = all
+value_heard r laws s (Some v) p proper all = value_told r laws (Hear s v) p (proper v refl) all
 
 -- ---- a slot was heard exactly where it has delivered
 abbrev pub IsHeardWhereDelivered : Rules → Parts → Type 0
@@ -154,11 +225,15 @@ heard_where_delivered r laws (Given v ∷ h) s = heard_told r laws v (parts r h)
 
 -- ---- the words met their conditions
 pub may_hear_at : (r : Rules) → LayerLaws r → (p : Parts) → IsHeardWhereDelivered r p → (item : Item) → IsTakable r p item → (v : List ℕ) →
-    item_delivers r item p ≡ Some v → MayHear r.service (seat_of r) p.words item.slot
-may_hear_at r laws p all item may v delivers =
+    item_delivers r item p ≡ Some v → Is (value r.casts.numbers r.mode.root item.slot) v → MayHear r.service (seat_of r) p.words item.slot v
+may_hear_at r laws p all item may v delivers good =
     let rest = right_true (not (is_item_past r p item)) _ may.is_open in
     let opens = right_true (not (is_item_ahead r p item)) _ rest in
     record {
+      session = laws.session;
+      served = laws.serves;
+      right = may.good.in_grammar.slot;
+      good = good;
       origin = slot_origin r.casts.numbers r.mode item.slot may.good.in_grammar.slot;
       number = slot_number r.casts.numbers r.mode item.slot may.good.in_grammar.slot;
       not_past = not-true (is_item_past r p item) (left_true (not (is_item_past r p item)) _ may.is_open);
@@ -170,17 +245,10 @@ may_hear_at r laws p all item may v delivers =
     }
 
 proper_heard : (r : Rules) (p : Parts) (item : Item) (d : Option (List ℕ)) →
-    ((v : List ℕ) → d ≡ Some v → MayHear r.service (seat_of r) p.words item.slot) → AreProper r.service (seat_of r) p.words →
+    ((v : List ℕ) → d ≡ Some v → MayHear r.service (seat_of r) p.words item.slot v) → AreProper r.service (seat_of r) p.words →
     AreProper r.service (seat_of r) (heard_at r item.slot d (taken_at item p)).words
 proper_heard r p item None may proper = proper
 proper_heard r p item (Some v) may proper = (may v refl, proper)
-
-pub words_proper : (r : Rules) → LayerLaws r → (h : List Entry) → IsHistory r h → AreProper r.service (seat_of r) (parts r h).words
-words_proper r laws [] met = tt
-words_proper r laws (Took item ∷ h) met =
-    proper_heard r (parts r h) item (item_delivers r item (parts r h))
-    (may_hear_at r laws (parts r h) (heard_where_delivered r laws h) item met.0) (words_proper r laws h met.1)
-words_proper r laws (Given v ∷ h) met = (met.0.may, words_proper r laws h met.1)
 
 -- ---- the words and the calls are in the grammar
 good_called_at : (p : Numbers) (mode : Mode) (h : Slot → List Call) (say : Say) (s : Slot) (b : Bool) → is_slot say.slot s ≡ b →
@@ -211,12 +279,13 @@ good_taken r p item may all s = good_taken_at r p item s (is_slot item.slot s) r
 
 -- all words and calls of these parts
 pub record AreAllGood (r : Rules) (p : Parts) : Type 0 where
+  pub proper : AreProper r.service (seat_of r) p.words
   pub words : AreGoodWords r.casts.numbers r.mode p.words
   pub calls : (s : Slot) → AreGoodCalls r.casts.numbers r.mode s (p.calls s)
 
 pub good_told : (r : Rules) → LayerLaws r → (c : Word) (p : Parts) → AreProper r.service (seat_of r) (c ∷ p.words) →
-    AreGoodWords r.casts.numbers r.mode (c ∷ p.words) → AreGoodSays r.casts.numbers r.mode (r.service.says (seat_of r) p.words c)
-good_told r laws c p proper good = laws.words.says_good (seat_of r) r.mode c p.words laws.session laws.me laws.serves proper good
+    AreGoodSays r.casts.numbers r.mode (r.service.says (seat_of r) p.words c)
+good_told r laws c p proper = laws.words.says_good (seat_of r) c p.words laws.me proper
 
 -- what an item delivers is in the grammar
 pub good_delivered : (r : Rules) → LayerLaws r → (p : Parts) (item : Item) → IsTakable r p item →
@@ -228,33 +297,38 @@ good_delivered r laws p item may all v delivers =
     (newly_after (out_at r.casts item.slot (p.calls item.slot)) (out_at r.casts item.slot (Take item ∷ p.calls item.slot)) v delivers)
 
 good_heard : (r : Rules) → LayerLaws r → (p : Parts) (item : Item) (d : Option (List ℕ)) → IsTakable r p item →
-    ((v : List ℕ) → d ≡ Some v → MayHear r.service (seat_of r) p.words item.slot) →
+    ((v : List ℕ) → d ≡ Some v → MayHear r.service (seat_of r) p.words item.slot v) →
     ((v : List ℕ) → d ≡ Some v → Is (value r.casts.numbers r.mode.root item.slot) v) →
-    AreProper r.service (seat_of r) p.words → AreAllGood r p → AreAllGood r (heard_at r item.slot d (taken_at item p))
-good_heard r laws p item None may hears good proper all = record { words = all.words; calls = good_taken r p item may all.calls }
-good_heard r laws p item (Some v) may hears good proper all =
+    AreAllGood r p → AreAllGood r (heard_at r item.slot d (taken_at item p))
+good_heard r laws p item None may hears good all = record { proper = all.proper; words = all.words; calls = good_taken r p item may all.calls }
+good_heard r laws p item (Some v) may hears good all =
     let words : AreGoodWords r.casts.numbers r.mode (Hear item.slot v ∷ p.words) = (may.good.in_grammar.slot, good v refl, all.words) in
     record {
+      proper = (hears v refl, all.proper);
       words = words;
       calls = good_starts r.casts.numbers r.mode (r.service.says (seat_of r) p.words (Hear item.slot v)) (taken_at item p).calls
-          (good_told r laws (Hear item.slot v) p (hears v refl, proper) words) (good_taken r p item may all.calls);
+          (good_told r laws (Hear item.slot v) p (hears v refl, all.proper)) (good_taken r p item may all.calls);
     }
 
 pub all_good : (r : Rules) → LayerLaws r → (h : List Entry) → IsHistory r h → AreAllGood r (parts r h)
-all_good r laws [] met = record { words = tt; calls = λ s. tt }
+all_good r laws [] met = record { proper = tt; words = tt; calls = λ s. tt }
 all_good r laws (Took item ∷ h) met =
     let all = all_good r laws h met.1 in
+    let good = good_delivered r laws (parts r h) item met.0 all.calls in
     good_heard r laws (parts r h) item (item_delivers r item (parts r h)) met.0
-    (may_hear_at r laws (parts r h) (heard_where_delivered r laws h) item met.0)
-    (good_delivered r laws (parts r h) item met.0 all.calls) (words_proper r laws h met.1) all
+    (λ v delivers. may_hear_at r laws (parts r h) (heard_where_delivered r laws h) item met.0 v delivers (good v delivers)) good all
 all_good r laws (Given v ∷ h) met =
     let all = all_good r laws h met.1 in
     let words : AreGoodWords r.casts.numbers r.mode (Ask v ∷ (parts r h).words) = (met.0.in_grammar, all.words) in
     record {
+      proper = (met.0.may, all.proper);
       words = words;
       calls = good_starts r.casts.numbers r.mode (r.service.says (seat_of r) (parts r h).words (Ask v)) (parts r h).calls
-          (good_told r laws (Ask v) (parts r h) (met.0.may, words_proper r laws h met.1) words) all.calls;
+          (good_told r laws (Ask v) (parts r h) (met.0.may, all.proper)) all.calls;
     }
+
+pub words_proper : (r : Rules) → LayerLaws r → (h : List Entry) → IsHistory r h → AreProper r.service (seat_of r) (parts r h).words
+words_proper r laws h met = (all_good r laws h met).proper
 
 pub words_good : (r : Rules) → LayerLaws r → (h : List Entry) → IsHistory r h → AreGoodWords r.casts.numbers r.mode (parts r h).words
 words_good r laws h met = (all_good r laws h met).words
@@ -262,6 +336,21 @@ words_good r laws h met = (all_good r laws h met).words
 pub calls_good : (r : Rules) → LayerLaws r → (h : List Entry) → IsHistory r h → (s : Slot) →
     AreGoodCalls r.casts.numbers r.mode s ((parts r h).calls s)
 calls_good r laws h met = (all_good r laws h met).calls
+
+-- ---- what was started is what was said
+pub started_is_said : (r : Rules) → LayerLaws r → (h : List Entry) → IsHistory r h → StartedIsSaid r (parts r h)
+started_is_said r laws [] met = λ s. refl
+started_is_said r laws (Took item ∷ h) met =
+    let p = parts r h in
+    value_heard r laws item.slot (item_delivers r item p) (taken_at item p)
+    (λ v delivers. (
+      may_hear_at r laws p (heard_where_delivered r laws h) item met.0 v delivers
+          (good_delivered r laws p item met.0 (calls_good r laws h met.1) v delivers),
+      words_proper r laws h met.1,
+    ))
+    (value_taken r item p (started_is_said r laws h met.1))
+started_is_said r laws (Given v ∷ h) met =
+    value_told r laws (Ask v) (parts r h) (met.0.may, words_proper r laws h met.1) (started_is_said r laws h met.1)
 
 -- ---- what is newly said may be started
 abbrev AreFree : List Say → (Slot → List Call) → Type 0
@@ -308,8 +397,9 @@ may_start_given r laws h met v may =
     may_start_told r laws (Ask v) (parts r h) (started_where_said r h) (may.may, words_proper r laws h met)
 
 pub may_hear : (r : Rules) → LayerLaws r → (h : List Entry) → IsHistory r h → (item : Item) → IsTakable r (parts r h) item → (v : List ℕ) →
-    item_delivers r item (parts r h) ≡ Some v → MayHear r.service (seat_of r) (parts r h).words item.slot
-may_hear r laws h met item may v delivers = may_hear_at r laws (parts r h) (heard_where_delivered r laws h) item may v delivers
+    item_delivers r item (parts r h) ≡ Some v → MayHear r.service (seat_of r) (parts r h).words item.slot v
+may_hear r laws h met item may v delivers =
+    may_hear_at r laws (parts r h) (heard_where_delivered r laws h) item may v delivers (good_delivered r laws (parts r h) item may (all_good r laws h met).calls v delivers)
 
 pub may_start_heard : (r : Rules) → LayerLaws r → (h : List Entry) → IsHistory r h → (item : Item) → IsTakable r (parts r h) item → (v : List ℕ) →
     item_delivers r item (parts r h) ≡ Some v →

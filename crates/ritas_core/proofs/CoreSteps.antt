@@ -5,8 +5,7 @@ use Rattle.ritas_base.specs.declared.item.Item.{Item}
 use Rattle.ritas_base.specs.declared.item.Msg.{Msg}
 use Rattle.ritas_base.specs.declared.mode.Mode.{Mode}
 use Rattle.ritas_base.specs.Numbers.{Numbers}
-use Rattle.layer_api.specs.OneValue.{ValueLaws}
-use Rattle.layer_api.specs.Service.{WordLaws, Ask, Hear}
+use Rattle.layer_api.specs.Service.{Ask, Hear}
 use Rattle.ooc_buffers.specs.Lists.{Kept, failing, released, remaining}
 use Rattle.ritas_core.specs.declared.layers.Layers.{Layers}
 use Rattle.ritas_core.specs.declared.kernel.Core.{Core}
@@ -15,13 +14,14 @@ use Rattle.ritas_core.specs.RulesLaws.{laws_at}
 use Rattle.ritas_core.specs.Parts.{Parts, Entry, Took, Given, parts, taken_at, item_delivers, after, made_by}
 use Rattle.ritas_core.specs.Order.{ordered, own_items, new_messages}
 use Rattle.ritas_core.specs.Checks.{is_open, is_item_past, IsTakable, IsGivable, MayEnter, IsHistory}
-use Rattle.ritas_core.specs.Machine.{CoreState, entered}
-use Rattle.ritas_core.specs.Stands.{Meaning, rules_of, LayersStand, CoreStands}
+use Rattle.ritas_core.specs.Machine.{CoreState, What, with_entry, entered}
+use Rattle.ritas_core.specs.Stands.{Meaning, rules_of, LayersStand, LayersShow, CoreStands}
 use Rattle.ritas_core.specs.LayerCalls.{SameSeat, MayTell, MayFollow, CanTakeItem, CanTell, Tells, TakesItem, is_past_in, is_open_in}
-use Rattle.ritas_core.specs.Calls.{stopped}
-use Rattle.ritas_core.specs.CoreCalls.{rules_in, IsLive, Finishes, EntersCore}
+use Rattle.ritas_core.specs.Calls.{entry_of, stopped}
+use Rattle.ritas_core.specs.CoreCalls.{rules_in, IsLive, Finishes, Withdraws, StopsCore, EntersCore}
 use Rattle.ritas_core.specs.Laws.{LayerLaws}
 use Rattle.ritas_core.proofs.GoodSlots.{slot_origin}
+use Rattle.ritas_core.proofs.ShownLayers.{MeansWell, layers_show, layers_later, entry_part}
 use Rattle.ritas_core.proofs.Conditions.{may_start_given, may_hear, may_start_heard}
 use Rattle.ritas_core.proofs.Goodness.{good_remaining, entered_inbox_good, entered_held_good}
 use Rattle.ritas_core.proofs.HeldSteps.{released_same, remaining_same, remaining_twice, past_same, open_same}
@@ -52,30 +52,36 @@ module _ {S E C T : Type 0} (m : Meaning S E C T) where
       ∙ ap (λ (coin : C). rules_from old.params old.mode old.me old.tagger coin) seat.coin
 
   -- a stopped core stands for its last state, stopped
-  pub stops_core : (old new : Core S E C T) (r : Rules) (st : CoreState) → SameSeat old.layers new.layers → new.stopped ≡ true →
-      CoreStands m old r st → CoreStands m new r (stopped st)
-  stops_core old new r st seat halted stands = record {
-    rules = same_rules old.layers new.layers seat ∙ stands.rules;
-    own = ap (λ (t : T). m.me t) seat.tagger ∙ stands.own;
-    kinds = stands.kinds;
-    session = stands.session;
-    me = stands.me;
-    serves = stands.serves;
-    live = halted;
-    history = stands.history;
-    layers = λ live. absurd (cc);
-    inbox = λ live. absurd (cc);
-    held = λ live. absurd (cc);
-    peers = stands.peers;
-    good_inbox = stands.good_inbox;
-    good_held = stands.good_held;
-  }
+  pub stops_core : (old new : Core S E C T) (e : Entry) (before after_it : List Msg) (st : CoreState) (what : What) → entry_of st what ≡ Some e →
+      StopsCore m old new e before after_it → IsLive m old st → MayEnter (rules_in m old) (parts (rules_in m old) st.history) e →
+      CoreStands m (record new { stopped = true }) (rules_in m old) (stopped st what)
+  stops_core old new e before after_it st what given stops is may =
+      let r = rules_in m old in
+      let stands = is.stands in
+      record {
+        rules = same_rules old.layers new.layers stops.seat;
+        own = ap (λ (t : T). m.me t) stops.seat.tagger ∙ stands.own;
+        kinds = stands.kinds;
+        session = stands.session;
+        me = stands.me;
+        serves = stands.serves;
+        live = refl;
+        history = stands.history;
+        layers = λ live. absurd (cc);
+        lost = λ live. absurd (cc);
+        shows = subst (λ (o : Option Entry). LayersShow m new.layers r (parts r st.history) (parts r (with_entry o st.history))) (sym given) (stops.shows st is may);
+        inbox = stops.inbox ∙ stands.inbox;
+        held = stops.held ∙ stands.held;
+        peers = stands.peers;
+        good_inbox = stands.good_inbox;
+        good_held = stands.good_held;
+      }
 
-module _ {S E C T : Type 0} (m : Meaning S E C T) (values : ValueLaws m.cast) (words : WordLaws m.service) where
+module _ {S E C T : Type 0} (m : Meaning S E C T) (well : MeansWell m) where
   pub laws_of : (layers : Layers S E C T) (core : Core S E C T) (st : CoreState) → CoreStands m core (rules_of m layers) st → LayerLaws (rules_of m layers)
   laws_of layers core st stands = record {
-    casts = laws_at layers.mode m.cast values;
-    words = words;
+    casts = laws_at layers.mode m.cast well.values;
+    words = well.words;
     session = stands.session;
     me = stands.me;
     serves = stands.serves;
@@ -95,9 +101,9 @@ module _ {S E C T : Type 0} (m : Meaning S E C T) (values : ValueLaws m.cast) (w
         let r = rules_of m mid in
         let p = parts r (e ∷ st.history) in
         fin.inbox p stood
-        ∙ ap (λ (xs : List Item). (xs ++ own_items mid.me (ordered made)) ++ released (is_open_in m mid p) old.held) (stands.inbox live)
+        ∙ ap (λ (xs : List Item). (xs ++ own_items mid.me (ordered made)) ++ released (is_open_in m mid p) old.held) stands.inbox
         ∙ ap (λ (ms : List Msg). (st.inbox ++ own_items mid.me (ordered ms)) ++ released (is_open_in m mid p) old.held) made_is
-        ∙ ap (λ (hs : List (List Kept)). (st.inbox ++ own_items mid.me (new_messages r st.history e)) ++ released (is_open_in m mid p) hs) (stands.held live)
+        ∙ ap (λ (hs : List (List Kept)). (st.inbox ++ own_items mid.me (new_messages r st.history e)) ++ released (is_open_in m mid p) hs) stands.held
         ∙ ap (λ (xs : List Item). (st.inbox ++ own_items mid.me (new_messages r st.history e)) ++ xs)
         (released_same r (is_open_in m mid p) (is_open r p) (open_same m mid (laws_of mid old st stands) p stood) st.held stands.good_held)
 
@@ -107,7 +113,7 @@ module _ {S E C T : Type 0} (m : Meaning S E C T) (values : ValueLaws m.cast) (w
         let p = parts r (e ∷ st.history) in
         let laws = laws_of mid old st stands in
         fin.held p stood
-        ∙ ap (λ (hs : List (List Kept)). remaining (is_past_in m mid p) (remaining (is_open_in m mid p) hs)) (stands.held live)
+        ∙ ap (λ (hs : List (List Kept)). remaining (is_past_in m mid p) (remaining (is_open_in m mid p) hs)) stands.held
         ∙ ap (λ (hs : List (List Kept)). remaining (is_past_in m mid p) hs)
         (remaining_same r (is_open_in m mid p) (is_open r p) (open_same m mid laws p stood) st.held stands.good_held)
         ∙ remaining_same r (is_past_in m mid p) (is_item_past r p) (past_same m mid laws p stood) (remaining (is_open r p) st.held)
@@ -129,8 +135,11 @@ module _ {S E C T : Type 0} (m : Meaning S E C T) (values : ValueLaws m.cast) (w
             live = fin.stopped ∙ stands.live ∙ ap not live;
             history = (may, stands.history);
             layers = λ _. subst (λ (layers : Layers S E C T). LayersStand m layers (parts r (e ∷ st.history))) (sym fin.layers) stood;
-            inbox = λ _. new_inbox;
-            held = λ _. new_held;
+            lost = λ _. refl;
+            shows = subst (λ (layers : Layers S E C T). LayersShow m layers r (parts r (e ∷ st.history)) (parts r (e ∷ st.history))) (sym fin.layers)
+                (layers_show m well mid r refl (parts r (e ∷ st.history)) stood);
+            inbox = new_inbox;
+            held = new_held;
             peers = length-map st.held (failing (λ x. is_open r (parts r (e ∷ st.history)) x || is_item_past r (parts r (e ∷ st.history)) x)) ∙ stands.peers;
             good_inbox = entered_inbox_good r laws st e st.inbox (may, stands.history) stands.good_inbox stands.good_held;
             good_held = entered_held_good r st e st.inbox stands.good_held;
@@ -154,7 +163,7 @@ module _ {S E C T : Type 0} (m : Meaning S E C T) (values : ValueLaws m.cast) (w
         subst (λ (r : Rules). Done st r) (same_rules m old.layers mid seat)
         (enters_at old new mid e made before after_it st fin seat.tagger there.0 live there.1 there.2 there.3)
 
-  can_take : (old : Core S E C T) (item : Item) (st : CoreState) → IsLive m old st → IsTakable (rules_in m old) (parts (rules_in m old) st.history) item →
+  pub can_take : (old : Core S E C T) (item : Item) (st : CoreState) → IsLive m old st → IsTakable (rules_in m old) (parts (rules_in m old) st.history) item →
       CanTakeItem m old.layers item (parts (rules_in m old) st.history)
   can_take old item st is may = record {
     is_own = record { own = is.stands.own; below = is.stands.me };
@@ -162,6 +171,24 @@ module _ {S E C T : Type 0} (m : Meaning S E C T) (values : ValueLaws m.cast) (w
     may = may.may;
     stood = is.stands.layers is.live;
   }
+
+  -- an entry of the layers, where there was no memory for what it makes due
+  pub stops_after : (old new : Core S E C T) (mid : Layers S E C T) (e : Entry) (before after_it : List Msg) → SameSeat old.layers mid →
+      Withdraws (record old { layers = mid }) new before after_it →
+      ((st : CoreState) → IsLive m old st → MayEnter (rules_in m old) (parts (rules_in m old) st.history) e →
+      LayersStand m mid (parts (rules_in m old) (e ∷ st.history))) → StopsCore m old new e before after_it
+  stops_after old new mid e before after_it seat back stood =
+      let r = rules_in m old in
+      record {
+        seat = subst (λ (layers : Layers S E C T). SameSeat old.layers layers) (sym back.layers) seat;
+        shows = λ st is may.
+            subst (λ (layers : Layers S E C T). LayersShow m layers r (parts r st.history) (parts r (e ∷ st.history))) (sym back.layers)
+            (layers_later m well mid r (same_rules m old.layers mid seat) (parts r st.history) (parts r (e ∷ st.history)) (stood st is may)
+            (entry_part r (laws_of old.layers old st is.stands) st.history e (may, is.stands.history)));
+        inbox = back.inbox;
+        held = back.held;
+        out = back.out;
+      }
 
   -- an item that was taken
   pub enters_item : (old new : Core S E C T) (mid : Layers S E C T) (item : Item) (start made before after_it : List Msg) → start ≡ [] →
@@ -180,6 +207,14 @@ module _ {S E C T : Type 0} (m : Meaning S E C T) (values : ValueLaws m.cast) (w
       ) in
       record { state = λ st is may. (done st is may).0; out = λ st is may. (done st is may).1 }
 
+  pub can_tell : (old : Core S E C T) (value : List ℕ) (st : CoreState) → IsLive m old st → IsGivable (rules_in m old) (parts (rules_in m old) st.history) value →
+      CanTell m old.layers (Ask value) (parts (rules_in m old) st.history)
+  can_tell old value st is may = record {
+    is_own = record { own = is.stands.own; below = is.stands.me };
+    may = (may.may, may_start_given (rules_in m old) (laws_of old.layers old st is.stands) st.history is.stands.history value may);
+    stood = is.stands.layers is.live;
+  }
+
   -- an input that was taken
   pub enters_input : (old new : Core S E C T) (mid : Layers S E C T) (value : List ℕ) (start made before after_it : List Msg) → start ≡ [] →
       SameSeat old.layers mid → Tells m old.layers mid (Ask value) start made → Finishes m (record old { layers = mid }) new made before after_it →
@@ -187,11 +222,7 @@ module _ {S E C T : Type 0} (m : Meaning S E C T) (values : ValueLaws m.cast) (w
   enters_input old new mid value start made before after_it none seat tells fin =
       let r = rules_in m old in
       let done : (st : CoreState) → IsLive m old st → IsGivable r (parts r st.history) value → Done old new mid seat (Given value) made before after_it fin st r = λ st is may.
-      let can : CanTell m old.layers (Ask value) (parts r st.history) = record {
-        is_own = record { own = is.stands.own; below = is.stands.me };
-        may = (may.may, may_start_given r (laws_of old.layers old st is.stands) st.history is.stands.history value may);
-        stood = is.stands.layers is.live;
-      } in
+      let can = can_tell old value st is may in
       enters_from old new mid seat (Given value) made before after_it fin st is.live (
         is.stands,
         may,

@@ -23,7 +23,7 @@ use Rattle.ritas_core.specs.Laws.{LayerLaws, is_due, NoneBefore, InOrder}
 use Rattle.ritas_core.proofs.TestLaws.{or_flip}
 
 -- what is there now and was not
-abbrev is_new : Bool → Bool → Bool
+abbrev pub is_new : Bool → Bool → Bool
 is_new was now = now && not was
 
 -- ---- tests
@@ -75,7 +75,7 @@ has-without xs (y ∷ ys) m =
 
 -- ---- one call
 -- whether the message is due, at its slot, after these calls
-abbrev is_due_at : Rules → (Slot → List Call) → Msg → Bool
+abbrev pub is_due_at : Rules → (Slot → List Call) → Msg → Bool
 is_due_at r h m = has (due_at r.casts m.slot (h m.slot)) m
 
 call_news_at : (r : Rules) → LayerLaws r → (h : Slot → List Call) (s : Slot) (c : Call) (m : Msg) (b : Bool) → is_slot s m.slot ≡ b →
@@ -92,7 +92,7 @@ call_news_at r laws h s c m false here =
     let clash : true ≡ false = sym itself ∙ here in cc) in
     ap (λ (x : Bool). x && not (has (due_at r.casts s (h s)) m)) gone ∙ sym (and_not (is_due_at r h m))
 
-call_news : (r : Rules) → LayerLaws r → (h : Slot → List Call) (s : Slot) (c : Call) (m : Msg) →
+pub call_news : (r : Rules) → LayerLaws r → (h : Slot → List Call) (s : Slot) (c : Call) (m : Msg) →
     has (news_at r.casts s (h s) c) m ≡ is_new (is_due_at r h m) (is_due_at r (called h s c) m)
 call_news r laws h s c m =
     has-without (due_at r.casts s (h s)) (due_at r.casts s (c ∷ h s)) m ∙ call_news_at r laws h s c m (is_slot s m.slot) refl
@@ -113,7 +113,7 @@ starts_stay r laws [] h m due = due
 starts_stay r laws (say ∷ says) h m due =
     starts_stay r laws says (called h say.slot (Start say.value)) m (call_stays r laws h say.slot (Start say.value) m due)
 
-starts_new : (r : Rules) → LayerLaws r → (says : List Say) (h : Slot → List Call) (m : Msg) →
+pub starts_new : (r : Rules) → LayerLaws r → (says : List Say) (h : Slot → List Call) (m : Msg) →
     has (start_news r.casts says h) m ≡ is_new (is_due_at r h m) (is_due_at r (started_all says h) m)
 starts_new r laws [] h m = sym (and_not (is_due_at r h m))
 starts_new r laws (say ∷ says) h m =
@@ -130,7 +130,7 @@ heard_stays : (r : Rules) → LayerLaws r → (s : Slot) (d : Option (List ℕ))
 heard_stays r laws s None p m due = due
 heard_stays r laws s (Some v) p m due = starts_stay r laws (r.service.says (seat_of r) p.words (Hear s v)) p.calls m due
 
-heard_new : (r : Rules) → LayerLaws r → (s : Slot) (d : Option (List ℕ)) (p : Parts) (m : Msg) →
+pub heard_new : (r : Rules) → LayerLaws r → (s : Slot) (d : Option (List ℕ)) (p : Parts) (m : Msg) →
     has (heard_news r s d p) m ≡ is_new (is_due r p m) (is_due r (heard_at r s d p) m)
 heard_new r laws s None p m = sym (and_not (is_due r p m))
 heard_new r laws s (Some v) p m = starts_new r laws (r.service.says (seat_of r) p.words (Hear s v)) p.calls m
@@ -161,7 +161,7 @@ has-inserted_at : (x y m : Msg) (xs : List Msg) (b : Bool) → has (inserted xs 
 has-inserted_at x y m xs true rest = or_turn (msg_eq m y) (msg_eq m x) (has xs m) ∙ sym (or_assoc (msg_eq m x) (has xs m) (msg_eq m y))
 has-inserted_at x y m xs false rest = ap (λ (z : Bool). msg_eq m x || z) rest ∙ sym (or_assoc (msg_eq m x) (has xs m) (msg_eq m y))
 
-has-inserted : (xs : List Msg) (y m : Msg) → has (inserted xs y) m ≡ (has xs m || msg_eq m y)
+pub has-inserted : (xs : List Msg) (y m : Msg) → has (inserted xs y) m ≡ (has xs m || msg_eq m y)
 has-inserted [] y m = or_flip (msg_eq m y) false
 has-inserted (x ∷ xs) y m = has-inserted_at x y m xs (is_before y x) (has-inserted xs y m)
 

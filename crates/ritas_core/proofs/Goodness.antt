@@ -9,8 +9,9 @@ use Rattle.ritas_base.specs.Messages.{has, without, reaches, item_of}
 use Rattle.ritas_base.specs.History.{Call, Start, Take}
 use Rattle.frame_codec.specs.Body.{IsInGrammar}
 use Rattle.layer_api.specs.Runs.{Has}
+use Rattle.layer_api.specs.HasLaws.{has_either}
 use Rattle.layer_api.specs.OneValue.{AreGoodCalls}
-use Rattle.layer_api.specs.Service.{Word, Ask, Hear, AreProper, AreGoodWords, AreGoodSays}
+use Rattle.layer_api.specs.Service.{Word, Ask, Hear, AreProper, AreGoodSays}
 use Rattle.ooc_buffers.specs.Lists.{Kept, kept_of, with_kept, passing, released, remaining}
 use Rattle.ritas_core.specs.Rules.{Rules, seat_of, place_at, due_at}
 use Rattle.ritas_core.specs.Casts.{called, start_news, news_at}
@@ -21,13 +22,7 @@ use Rattle.ritas_core.specs.Machine.{CoreState, entered, AreGood}
 use Rattle.ritas_core.specs.Stands.{AreGoodKept, AreGoodLists}
 use Rattle.ritas_core.specs.Laws.{LayerLaws}
 use Rattle.ritas_core.proofs.GoodSlots.{of_slot}
-use Rattle.ritas_core.proofs.Conditions.{words_proper, all_good, good_told, good_called, good_taken, may_hear, good_delivered}
-
--- ---- members of lists
-pub has_append : {X : Type 0} (xs ys : List X) (x : X) → Has (xs ++ ys) x → Has xs x ⊎ Has ys x
-has_append [] ys x here = inr here
-has_append (y ∷ xs) ys x (inl e) = inl (inl e)
-has_append (y ∷ xs) ys x (inr here) = elim (has_append xs ys x here) [ inl a ↦ inl (inr a) | inr b ↦ inr b ]
+use Rattle.ritas_core.proofs.Conditions.{words_proper, all_good, good_told, good_called, good_taken, may_hear}
 
 has_kept : {X : Type 0} (b : Bool) (y : X) (xs ys : List X) (x : X) → (Has ys x → Has xs x) → Has (cond b (y ∷ ys) ys) x → Has (y ∷ xs) x
 has_kept true y xs ys x rest (inl e) = inl e
@@ -74,7 +69,7 @@ news_good r laws s calls c right good m here =
     (has_without_from (due_at r.casts s calls) (due_at r.casts s (c ∷ calls)) m here)
 
 append_in_grammar : (r : Rules) (xs ys : List Msg) → AreInGrammar r xs → AreInGrammar r ys → AreInGrammar r (xs ++ ys)
-append_in_grammar r xs ys left right m here = elim (has_append xs ys m here) [ inl a ↦ left m a | inr b ↦ right m b ]
+append_in_grammar r xs ys left right m here = elim (has_either xs ys m here) [ inl a ↦ left m a | inr b ↦ right m b ]
 
 starts_good : (r : Rules) → LayerLaws r → (says : List Say) (h : Slot → List Call) → AreGoodSays r.casts.numbers r.mode says →
     ((s : Slot) → AreGoodCalls r.casts.numbers r.mode s (h s)) → AreInGrammar r (start_news r.casts says h)
@@ -84,11 +79,10 @@ starts_good r laws (say ∷ says) h good all =
     (news_good r laws say.slot (h say.slot) (Start say.value) good.0 (good.1, all say.slot))
     (starts_good r laws says (called h say.slot (Start say.value)) good.2 (good_called r.casts.numbers r.mode h say good.1 all))
 
-told_good : (r : Rules) → LayerLaws r → (c : Word) (p : Parts) → AreProper r.service (seat_of r) (c ∷ p.words) →
-    AreGoodWords r.casts.numbers r.mode (c ∷ p.words) → ((s : Slot) → AreGoodCalls r.casts.numbers r.mode s (p.calls s)) →
+told_good : (r : Rules) → LayerLaws r → (c : Word) (p : Parts) → AreProper r.service (seat_of r) (c ∷ p.words) → ((s : Slot) → AreGoodCalls r.casts.numbers r.mode s (p.calls s)) →
     AreInGrammar r (told_news r c p)
-told_good r laws c p proper good all =
-    starts_good r laws (r.service.says (seat_of r) p.words c) p.calls (good_told r laws c p proper good) all
+told_good r laws c p proper all =
+    starts_good r laws (r.service.says (seat_of r) p.words c) p.calls (good_told r laws c p proper) all
 
 heard_good : (r : Rules) → LayerLaws r → (s : Slot) (d : Option (List ℕ)) (p : Parts) →
     ((v : List ℕ) → d ≡ Some v → AreInGrammar r (told_news r (Hear s v) p)) → AreInGrammar r (heard_news r s d p)
@@ -104,11 +98,10 @@ made_good r laws h (Took item) met =
     (heard_good r laws item.slot (item_delivers r item p) (taken_at item p) (λ v delivers.
     told_good r laws (Hear item.slot v) (taken_at item p)
     (may_hear r laws h met.1 item met.0 v delivers, words_proper r laws h met.1)
-    (met.0.good.in_grammar.slot, good_delivered r laws p item met.0 all.calls v delivers, all.words)
     (good_taken r p item met.0 all.calls)))
 made_good r laws h (Given v) met =
     let all = all_good r laws h met.1 in
-    told_good r laws (Ask v) (parts r h) (met.0.may, words_proper r laws h met.1) (met.0.in_grammar, all.words) all.calls
+    told_good r laws (Ask v) (parts r h) (met.0.may, words_proper r laws h met.1) all.calls
 
 -- each message that goes out by an entry is in the grammar
 pub good_messages : (r : Rules) → LayerLaws r → (h : List Entry) (e : Entry) → IsHistory r (e ∷ h) → (m : Msg) → Has (new_messages r h e) m →

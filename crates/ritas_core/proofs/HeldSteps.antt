@@ -1,6 +1,7 @@
 -- What is open and what is past among held items that may be given.
 use Rattle.std.proofs.Common.{◌≡◌, Bool, true, false, not, cond, ◌&&◌, ◌||◌, Option, Some, None, List, [], ◌∷◌, ◌++◌, map, refl, sym, ◌∙◌, ap}
 use Rattle.std.specs.BTreeMap.{get}
+use Rattle.std.specs.Option.{is_some}
 use Rattle.std.proofs.lemmas.Bool.{lt-ltb}
 use Rattle.ritas_base.specs.declared.item.Item.{Item}
 use Rattle.ritas_base.specs.declared.item.Kind.TheVariants.{Column}
@@ -10,13 +11,14 @@ use Rattle.ritas_base.specs.History.{Call}
 use Rattle.ooc_buffers.specs.Lists.{Kept, passing, failing, released, remaining}
 use Rattle.ritas_core.specs.declared.layers.Layers.{Layers}
 use Rattle.ritas_core.specs.Rules.{Rules, seat_of, place_at}
-use Rattle.ritas_core.specs.CastCalls.{ready_or, is_ready_in}
+use Rattle.ritas_core.specs.CastCalls.{is_ready_in}
 use Rattle.ritas_core.specs.Parts.{Parts}
 use Rattle.ritas_core.specs.Checks.{is_item_past, is_item_ahead, is_open, IsGood}
 use Rattle.ritas_core.specs.Stands.{Meaning, rules_of, LayersStand, AreGoodKept, AreGoodLists}
 use Rattle.ritas_core.specs.LayerCalls.{is_past_in, is_let_in, is_open_in}
 use Rattle.ritas_core.specs.Laws.{LayerLaws}
 use Rattle.ritas_core.proofs.GoodSlots.{slot_origin, kind_fits}
+use Rattle.ritas_core.proofs.Lookup.{ready_always}
 
 -- ---- tests that agree on good items
 
@@ -77,9 +79,12 @@ and_true : (a b : Bool) → a ≡ true → (a && b) ≡ b
 and_true true b e = refl
 and_true false b e = absurd (cc)
 
-ready_of : {B : Type 0} (o : Option B) (early ready : Bool) → (o ≡ None → ready ≡ early) → ready_or o early ready ≡ ready
-ready_of None early ready same = sym (same refl)
-ready_of (Some b) early ready same = refl
+-- only a column isn't taken at any time, and none is where no broadcast is made
+ready_by : {B : Type 0} (o : Option B) (column ready : Bool) → (column ≡ false → ready ≡ true) → (o ≡ None → ready ≡ not column) →
+    (not column || (is_some o && ready)) ≡ ready
+ready_by o false ready other none = sym (other refl)
+ready_by None true ready other none = sym (none refl)
+ready_by (Some b) true ready other none = refl
 
 module _ {S E C T : Type 0} (m : Meaning S E C T) (layers : Layers S E C T) (laws : LayerLaws (rules_of m layers))
     (p : Parts) (stood : LayersStand m layers p) where
@@ -88,7 +93,8 @@ module _ {S E C T : Type 0} (m : Meaning S E C T) (layers : Layers S E C T) (law
       ≡ ((rules_of m layers).casts.at_slot x.slot).ready (place_at (rules_of m layers).casts x.slot) (rules_of m layers).casts.tags (p.calls x.slot) x
   is_ready x good =
       let c = (rules_of m layers).casts in
-      ready_of (get slot_cmp layers.casts x.slot) (not (kind_eq x.kind Column)) ((c.at_slot x.slot).ready (place_at c x.slot) c.tags (p.calls x.slot) x)
+      ready_by (get slot_cmp layers.casts x.slot) (kind_eq x.kind Column) ((c.at_slot x.slot).ready (place_at c x.slot) c.tags (p.calls x.slot) x)
+      (ready_always (c.at_slot x.slot) (laws.casts x.slot) (place_at c x.slot) c.tags (p.calls x.slot) x (kind_fits (rules_of m layers) laws x good.in_grammar))
       (λ none. ap (λ (h : List Call). (c.at_slot x.slot).ready (place_at c x.slot) c.tags h x) (stood.casts.unmade x.slot none)
       ∙ (laws.casts x.slot).ready_nothing (place_at c x.slot) c.tags x (kind_fits (rules_of m layers) laws x good.in_grammar))
 

@@ -1,20 +1,20 @@
 -- What each outcome of holding an item is, as the abstract core has it.
-use Rattle.std.proofs.Common.{◌≡◌, ℕ, ◌+◌, ◌<◌, ◌≤◌, Bool, true, false, not, cond, Ok, Err, List, [], ◌∷◌, ◌++◌, length, refl, sym, ◌∙◌, ap, subst, inl, arith}
+use Rattle.std.proofs.Common.{◌≡◌, ℕ, ◌+◌, ◌<◌, ◌≤◌, Bool, true, false, not, cond, Option, Some, None, if◌then◌else◌, Ok, Err, List, [], ◌∷◌, ◌++◌, length, refl, sym, ◌∙◌, ap, subst, inl, arith}
 use Rattle.std.proofs.Math.Dec.{leb}
 use Rattle.std.proofs.lemmas.Bool.{leb-true, leb-false, le-leb}
 use Rattle.std.proofs.lemmas.List.{length-set}
 use Rattle.ritas_base.specs.declared.item.Item.{Item}
 use Rattle.ritas_base.specs.declared.item.Msg.{Msg}
-use Rattle.ooc_buffers.specs.Lists.{Kept, kept_of, held_bytes, most_bytes, with_kept}
+use Rattle.ooc_buffers.specs.Lists.{Kept, kept_of, held_bytes, most_bytes, bytes_if_full, with_kept}
 use Rattle.ritas_core.specs.declared.answer.Answer.TheVariants as answers
 use Rattle.ritas_core.specs.declared.fault.CoreFault.TheVariants as faults
 use Rattle.ritas_core.specs.declared.verdict.Verdict.TheVariants as verdicts
 use Rattle.ritas_core.specs.declared.kernel.Core.{Core}
 use Rattle.ritas_core.specs.Rules.{Rules}
-use Rattle.ritas_core.specs.Parts.{parts}
+use Rattle.ritas_core.specs.Parts.{Entry, parts}
 use Rattle.ritas_core.specs.Checks.{body_length, has_room, verdict_on, IsGood}
-use Rattle.ritas_core.specs.Machine.{CoreState, Frame, stays, gives}
-use Rattle.ritas_core.specs.Stands.{Meaning, CoreStands}
+use Rattle.ritas_core.specs.Machine.{CoreState, Frame, with_entry, stays, gives}
+use Rattle.ritas_core.specs.Stands.{Meaning, LayersShow, CoreStands}
 use Rattle.ritas_core.specs.CoreCalls.{rules_in, IsLive, Judged, DoesJudged}
 use Rattle.ritas_core.proofs.Goodness.{good_with_kept}
 use Rattle.ritas_core.proofs.CallSteps.{nothing_more, frame_moves, moves_by}
@@ -27,6 +27,17 @@ room_by false bytes len P test never full = absurd (never bytes (full bytes (ref
 
 pub room_from : (bytes len : ℕ) (P : ℕ → Type 0) → ((x : ℕ) → P x → ⊥) → ((x : ℕ) → (x ≡ bytes) × (most_bytes < x + len) → P x) → bytes + len ≤ most_bytes
 room_from bytes len P never full = room_by (leb (bytes + len) most_bytes) bytes len P refl never full
+
+-- too many bytes are held where the look-up says so
+full_by : (b : Bool) (held len bytes : ℕ) → leb (held + len) most_bytes ≡ b → Some bytes ≡ (if b then None else Some held) →
+    (bytes ≡ held) × (most_bytes < bytes + len)
+full_by true held len bytes test is = absurd (cc)
+full_by false held len bytes test is =
+    let same : bytes ≡ held = cc in
+    (same, subst (λ (x : ℕ). most_bytes < x + len) (sym same) (leb-false (held + len) most_bytes test))
+
+pub full_from : (held len bytes : ℕ) → Some bytes ≡ bytes_if_full held len → (bytes ≡ held) × (most_bytes < bytes + len)
+full_from held len bytes is = full_by (leb (held + len) most_bytes) held len bytes refl is
 
 no_room : (b : Bool) (x y : ℕ) → leb x y ≡ b → y < x → b ≡ false
 no_room true x y test above = let h : x ≤ y = leb-true x y test in absurd (omega arith)
@@ -46,8 +57,10 @@ module _ {S E C T : Type 0} (m : Meaning S E C T) where
     live = stands.live;
     history = stands.history;
     layers = stands.layers;
+    lost = stands.lost;
+    shows = stands.shows;
     inbox = stands.inbox;
-    held = λ live. same ∙ stands.held live;
+    held = same ∙ stands.held;
     peers = stands.peers;
     good_inbox = stands.good_inbox;
     good_held = stands.good_held;
@@ -64,7 +77,7 @@ module _ {S E C T : Type 0} (m : Meaning S E C T) where
     verdict_held st b is good judged room =
         let told : has_room st.held item ≡ b =
         ap (λ (n : ℕ). leb (held_bytes st.held item.from + n) most_bytes) (sym (counted good))
-        ∙ ap (λ (hs : List (List Kept)). leb (held_bytes hs item.from + len) most_bytes) (sym (is.stands.held is.live))
+        ∙ ap (λ (hs : List (List Kept)). leb (held_bytes hs item.from + len) most_bytes) (sym is.stands.held)
         ∙ room in
         judged ∙ ap (λ (x : Bool). cond x verdicts.Hold (verdicts.Refuse (faults.HeldFull (held_bytes st.held item.from)))) told
 
@@ -86,9 +99,11 @@ module _ {S E C T : Type 0} (m : Meaning S E C T) where
           live = s.live ∙ ap not is.live;
           history = s.history;
           layers = λ _. s.layers is.live;
-          inbox = λ _. s.inbox is.live;
-          held = λ _. holds
-              ∙ ap (λ (hs : List (List Kept)). with_kept hs item len) (s.held is.live)
+          lost = λ _. refl;
+          shows = subst (λ (o : Option Entry). LayersShow m old.layers r (parts r st.history) (parts r (with_entry o st.history))) (s.lost is.live) s.shows;
+          inbox = s.inbox;
+          held = holds
+              ∙ ap (λ (hs : List (List Kept)). with_kept hs item len) s.held
               ∙ ap (λ (n : ℕ). with_kept st.held item n) (counted good);
           peers = length-set st.held item.from (kept_of st.held item.from ++ record { item = item; len = body_length item } ∷ []) ∙ s.peers;
           good_inbox = s.good_inbox;
@@ -100,7 +115,7 @@ module _ {S E C T : Type 0} (m : Meaning S E C T) where
     full_does bytes same is_bytes above st is good judged =
         let r = rules_in m old in
         let full : most_bytes < held_bytes old.held item.from + len = subst (λ (x : ℕ). most_bytes < x + len) is_bytes above in
-        let kept : bytes ≡ held_bytes st.held item.from = is_bytes ∙ ap (λ (hs : List (List Kept)). held_bytes hs item.from) (is.stands.held is.live) in
+        let kept : bytes ≡ held_bytes st.held item.from = is_bytes ∙ ap (λ (hs : List (List Kept)). held_bytes hs item.from) is.stands.held in
         moves_by m old (record old { held = h }) (Frame item) sent sent (Err (faults.HeldFull bytes)) r st
         (stays st st.inbox (Err (faults.HeldFull bytes)))
         (frame_moves r st item (verdicts.Refuse (faults.HeldFull bytes)) is.live
@@ -119,6 +134,6 @@ module _ {S E C T : Type 0} (m : Meaning S E C T) where
   -- each sender is one of the peers
   pub held_for : (old : Core S E C T) (item : Item) (st : CoreState) → IsLive m old st → IsGood (rules_in m old) item → length old.held ≤ item.from → ⊥
   held_for old item st is good out =
-      let n : length old.held ≡ old.layers.params.n = ap length (is.stands.held is.live) ∙ is.stands.peers in
+      let n : length old.held ≡ old.layers.params.n = ap length is.stands.held ∙ is.stands.peers in
       let below : item.from < old.layers.params.n = good.sender in
       absurd (omega arith)

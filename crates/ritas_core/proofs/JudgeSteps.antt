@@ -13,7 +13,7 @@ use Rattle.ritas_core.specs.declared.verdict.Verdict.TheVariants as verdicts
 use Rattle.ritas_core.specs.declared.layers.Layers.{Layers}
 use Rattle.ritas_core.specs.Rules.{Rules, seat_of, place_at}
 use Rattle.ritas_core.specs.Parts.{Parts}
-use Rattle.ritas_core.specs.Checks.{mark_of, is_item_past, is_item_ahead, is_open, is_taken_again, has_room, verdict_on, IsGood}
+use Rattle.ritas_core.specs.Checks.{mark_of, is_item_past, is_item_ahead, is_open, is_taken_again, is_repeat, is_found, has_room, verdict_on, IsGood}
 use Rattle.ritas_core.specs.Stands.{Meaning, rules_of, LayersStand}
 use Rattle.ritas_core.specs.LayerCalls.{is_let_in}
 use Rattle.ritas_core.specs.Judging.{inside_verdict, window_verdict, unless_fault, judged_in}
@@ -21,7 +21,7 @@ use Rattle.ritas_core.specs.CoreCalls.{IsToTake, Judged}
 use Rattle.ritas_core.specs.Laws.{LayerLaws}
 use Rattle.ritas_core.proofs.TestLaws.{right_true}
 use Rattle.ritas_core.proofs.GoodSlots.{kind_fits, payload_fits}
-use Rattle.ritas_core.proofs.Verdicts.{is_not_origin, is_not_for, by_tests, verdict_by, is_repeat_by}
+use Rattle.ritas_core.proofs.Verdicts.{is_not_origin, is_not_for, by_tests, verdict_by, is_found_by}
 use Rattle.ritas_core.proofs.HeldSteps.{let_same}
 
 -- the verdict of the tests of the layers alone
@@ -42,6 +42,12 @@ opens_by past ahead let_in = not past && (not ahead && let_in)
 
 abbrev repeats_by : Bool → Bool → Bool → Bool → Bool
 repeats_by opened again column kept = cond opened (again || (not column && kept)) kept
+
+-- where it isn't past, a repeat is what is looked up
+looked_up : (a b c d again found opened room : Bool) (mark bytes : ℕ) → (c ≡ false → again ≡ found) →
+    by_tests a b c d again opened room mark bytes ≡ by_tests a b c d found opened room mark bytes
+looked_up a b true d again found opened room mark bytes same = refl
+looked_up a b false d again found opened room mark bytes same = ap (λ (x : Bool). by_tests a b false d x opened room mark bytes) (same refl)
 
 settles : (a b c d e column kept again room : Bool) (mark bytes : ℕ) →
     by_tests a b c d (repeats_by (opens_by c d e) again column kept) (opens_by c d e) room mark bytes
@@ -96,7 +102,8 @@ verdict_not_mem r p held item h =
     (sym (verdict_by r p held item _ _ _ _ _ _ _ refl refl refl refl refl refl refl) ∙ h)
 
 module _ {S E C T : Type 0} (m : Meaning S E C T) (layers : Layers S E C T) (laws : LayerLaws (rules_of m layers))
-    (p : Parts) (stood : LayersStand m layers p) (held : List (List Kept)) (item : Item) (good : IsGood (rules_of m layers) item) where
+    (p : Parts) (stood : LayersStand m layers p) (held : List (List Kept)) (item : Item) (good : IsGood (rules_of m layers) item)
+    (found : is_item_past (rules_of m layers) p item ≡ false → is_repeat (rules_of m layers) p held item ≡ is_found (rules_of m layers) p held item) where
   open_is : is_open (rules_of m layers) p item
       ≡ opens_by (is_item_past (rules_of m layers) p item) (is_item_ahead (rules_of m layers) p item) (is_let_in m layers p item)
   open_is = ap (λ (b : Bool). opens_by (is_item_past (rules_of m layers) p item) (is_item_ahead (rules_of m layers) p item) b)
@@ -106,9 +113,11 @@ module _ {S E C T : Type 0} (m : Meaning S E C T) (layers : Layers S E C T) (law
       ≡ settled (judged_in m layers p (is_kept held item) item) (is_taken_again (rules_of m layers) p item) (has_room held item) (held_bytes held item.from)
   verdict_is =
       let r = rules_of m layers in
-      verdict_by r p held item (is_not_origin item) (is_not_for r.casts.me item) (is_item_past r p item) (is_item_ahead r p item) _ _ (has_room held item)
-      refl refl refl refl
-      (is_repeat_by r p held item _ (is_taken_again r p item) (kind_eq item.kind Column) (is_kept held item) open_is refl refl refl) open_is refl
+      verdict_by r p held item (is_not_origin item) (is_not_for r.casts.me item) (is_item_past r p item) (is_item_ahead r p item) (is_repeat r p held item) _
+      (has_room held item) refl refl refl refl refl open_is refl
+      ∙ looked_up (is_not_origin item) (is_not_for r.casts.me item) (is_item_past r p item) (is_item_ahead r p item) (is_repeat r p held item) _ _ (has_room held item)
+      (mark_of r p item) (held_bytes held item.from)
+      (λ near. found near ∙ is_found_by r p held item _ (is_taken_again r p item) (kind_eq item.kind Column) (is_kept held item) open_is refl refl refl)
       ∙ settles (is_not_origin item) (is_not_for r.casts.me item) (is_item_past r p item) (is_item_ahead r p item) (is_let_in m layers p item)
       (kind_eq item.kind Column) (is_kept held item) (is_taken_again r p item) (has_room held item) (mark_of r p item) (held_bytes held item.from)
 

@@ -12,15 +12,15 @@ use Rattle.ritas_core.specs.Cast.{CastStandsAt}
 use Rattle.ritas_core.specs.Casts.{news_at}
 use Rattle.ritas_core.specs.CastCalls.{CanTake, CastsTake}
 use Rattle.ritas_core.specs.Parts.{Parts, Took, told_news, heard_at, heard_news, taken_at, item_delivers, made_by}
-use Rattle.ritas_core.specs.Stands.{Meaning, rules_of, LayersStand}
-use Rattle.ritas_core.specs.LayerCalls.{MayFollow, CanTakeItem, CanTell, Tells, TakesItem}
+use Rattle.ritas_core.specs.Stands.{Meaning, rules_of, LayersStand, LayersShow}
+use Rattle.ritas_core.specs.LayerCalls.{MayFollow, CanTakeItem, CanTell, Tells, TellsNone, TakesItem, TakesNone}
 use Rattle.ritas_core.proofs.Starts.{appended_more}
+use Rattle.ritas_core.proofs.ShownLayers.{MeansWell, heard_fails}
 
 module _ {S E C T : Type 0} (m : Meaning S E C T) (old new : Layers S E C T) (casts : BTreeMap Slot (Cast E)) (item : Item)
     (before between after_it : List Msg) (value told_value : List ℕ)
     (takes : CastsTake (CastStandsAt old.mode m.cast_stands) (rules_of m old).casts (m.me old.tagger) old.casts casts item before between (Some value))
-    (same : told_value ≡ value)
-    (tells : Tells m (record old { casts = casts }) new (Hear item.slot told_value) between after_it) where
+    (same : told_value ≡ value) where
   can_take : (p : Parts) → CanTakeItem m old item p → CanTake (CastStandsAt old.mode m.cast_stands) (rules_of m old).casts (m.me old.tagger) old.casts item p.calls
   can_take p can = record { is_own = can.is_own; origin = can.origin; may = can.may; stood = can.stood.casts }
 
@@ -35,8 +35,8 @@ module _ {S E C T : Type 0} (m : Meaning S E C T) (old new : Layers S E C T) (ca
     stood = record { service = can.stood.service; casts = takes.grows p.calls (can_take p can) };
   }
 
-  pub heard_item : TakesItem m old new item before after_it
-  heard_item = record {
+  pub heard_item : Tells m (record old { casts = casts }) new (Hear item.slot told_value) between after_it → TakesItem m old new item before after_it
+  heard_item tells = record {
     grows = λ p can may.
         subst (λ (d : Option (List ℕ)). LayersStand m new (heard_at (rules_of m old) item.slot d (taken_at item p))) (sym (delivers p can))
         (tells.grows (taken_at item p) (can_tell p can may));
@@ -48,5 +48,14 @@ module _ {S E C T : Type 0} (m : Meaning S E C T) (old new : Layers S E C T) (ca
         (takes.made p.calls (can_take p can))
         (tells.made (taken_at item p) (can_tell p can may))
         (ap (λ (d : Option (List ℕ)). news_at (rules_of m old).casts item.slot (p.calls item.slot) (Take item) ++ heard_news (rules_of m old) item.slot d (taken_at item p)) (delivers p can));
+    counts = λ p can. takes.counts p.calls (can_take p can);
+  }
+
+  -- for want of memory it didn't
+  pub heard_none : MeansWell m → TellsNone m (record old { casts = casts }) new (Hear item.slot told_value) → TakesNone m old new item
+  heard_none well tells = record {
+    shows = λ p can may proper.
+        subst (λ (d : Option (List ℕ)). LayersShow m new (rules_of m old) p (heard_at (rules_of m old) item.slot d (taken_at item p))) (sym (delivers p can))
+        (heard_fails m well old new item p told_value (tells (taken_at item p) (can_tell p can may) proper));
     counts = λ p can. takes.counts p.calls (can_take p can);
   }

@@ -1,5 +1,5 @@
 -- The broadcast of one slot does what the one inside it does: reliable broadcast, or the other one.
-use Rattle.std.proofs.Common.{◌≡◌, ℕ, Bool, true, false, cond, Option, Result, Ok, Err, List, ◌∷◌, ◌++◌, refl, sym, ◌∙◌, ap, subst}
+use Rattle.std.proofs.Common.{◌≡◌, Bool, true, false, cond, Result, Ok, Err, List, ◌∷◌, ◌++◌, refl, sym, ◌∙◌, ap, subst}
 use Rattle.ritas_base.specs.declared.bytes.Mem.{Mem}
 use Rattle.ritas_base.specs.declared.item.Item.{Item}
 use Rattle.ritas_base.specs.declared.item.Msg.{Msg}
@@ -9,7 +9,7 @@ use Rattle.ritas_base.specs.History.{Call, Take}
 use Rattle.layer_api.specs.declared.broadcast.Heard.{Heard}
 use Rattle.layer_api.specs.declared.broadcast.Heard.TheVariants.{Took, Repeat}
 use Rattle.layer_api.specs.Broadcast.{BroadcastRules, Tagging, IsTagger, MayTake, news}
-use Rattle.layer_api.specs.BroadcastCalls.{TakesNew, TakesAgain, TakesNone, Takes, ShowsEither}
+use Rattle.layer_api.specs.BroadcastCalls.{TakesNew, TakesAgain, TakesNone, Takes, CastShown, ShowsCast, ShowsCastNear}
 use Rattle.reliable_bcast.specs.declared.rb.Rb.{Rb}
 use Rattle.reliable_bcast.specs.Bracha.{bracha}
 use Rattle.reliable_bcast.specs.State.{state_of}
@@ -18,8 +18,8 @@ use Rattle.ritas_core.specs.declared.cast.Cast.TheVariants.{Plain, Other}
 use Rattle.ritas_core.specs.Cast.{CastStands, rules_by, is_live, shown_by}
 
 -- a value that stands for calls where one inside does, by the same rules
-module _ {A B : Type 0} (stands : A → Place → Tags → List Call → Type 0) (r : BroadcastRules) (live : A → Bool) (shown : A → Option (List ℕ))
-    (stands_out : B → Place → Tags → List Call → Type 0) (r_out : BroadcastRules) (live_out : B → Bool) (shown_out : B → Option (List ℕ))
+module _ {A B : Type 0} (stands : A → Place → Tags → List Call → Type 0) (r : BroadcastRules) (live : A → Bool) (shown : A → CastShown)
+    (stands_out : B → Place → Tags → List Call → Type 0) (r_out : BroadcastRules) (live_out : B → Bool) (shown_out : B → CastShown)
     (wrap : A → B) (Fits : Type 0) (same : Fits → r ≡ r_out)
     (down : (a : A) (at : Place) (tags : Tags) (h : List Call) → stands_out (wrap a) at tags h → Fits × stands a at tags h)
     (up : (a : A) (at : Place) (tags : Tags) (h : List Call) → Fits → stands a at tags h → stands_out (wrap a) at tags h)
@@ -65,8 +65,8 @@ module _ {A B : Type 0} (stands : A → Place → Tags → List Call → Type 0)
       dead = live_same new ∙ takes.dies.dead;
       shows = λ at tags h stood tagger may.
           let inside = down old at tags h stood in
-          subst (λ (x : BroadcastRules). ShowsEither (x.out at tags) h (Take item) (shown_out (wrap new))) (same inside.0)
-          (subst (λ (o : Option (List ℕ)). ShowsEither (r.out at tags) h (Take item) o) (sym (shown_same new))
+          subst (λ (x : BroadcastRules). ShowsCastNear x at tags h (Take item) (shown_out (wrap new))) (same inside.0)
+          (subst (λ (o : CastShown). ShowsCastNear r at tags h (Take item) o) (sym (shown_same new))
           (takes.dies.shows at tags h inside.1 tagger (back item inside.0 may)));
     };
     counts = counts_out item false takes.counts;
@@ -82,38 +82,33 @@ module _ {A B : Type 0} (stands : A → Place → Tags → List Call → Type 0)
 abbrev pub RbStands : Rb → Place → Tags → List Call → Type 0
 RbStands b at tags h = b ≡ state_of at h
 
+abbrev pub RbShown : Rb → CastShown
+RbShown b = record { out = b.delivered; ready = λ i. true }
+
 plain_rules : (is_other : Bool) (rules : BroadcastRules) → is_other ≡ false → bracha ≡ rules_by is_other rules
 plain_rules is_other rules plain = ap (λ (b : Bool). cond b rules bracha) (sym plain)
 
 other_rules : (is_other : Bool) (rules : BroadcastRules) → is_other ≡ true → rules ≡ rules_by is_other rules
 other_rules is_other rules other = ap (λ (b : Bool). cond b rules bracha) (sym other)
 
-module _ {E : Type 0} (stands : E → Place → Tags → List Call → Type 0) (rules : BroadcastRules) (live : E → Bool) (shown : E → Option (List ℕ)) where
-  -- what it shows is what is delivered after the calls that it stands for
-  pub shows_at : ((e : E) (at : Place) (tags : Tags) (h : List Call) → stands e at tags h → (live e ≡ true) × (shown e ≡ rules.out at tags h)) →
+module _ {E : Type 0} (stands : E → Place → Tags → List Call → Type 0) (rules : BroadcastRules) (live : E → Bool) (shown : E → CastShown) where
+  -- its getters answer what the rules say of the calls that it stands for
+  pub shows_at : ((e : E) (at : Place) (tags : Tags) (h : List Call) → stands e at tags h → (live e ≡ true) × ShowsCast rules at tags h (shown e)) →
       (is_other : Bool) (cast : Cast E) (at : Place) (tags : Tags) (h : List Call) → CastStands is_other stands cast at tags h →
-      shown_by shown cast ≡ (rules_by is_other rules).out at tags h
+      ShowsCast (rules_by is_other rules) at tags h (shown_by shown cast)
   shows_at shows is_other (Plain b) at tags h stood =
-      ap (λ (x : Rb). x.delivered) stood.1 ∙ ap (λ (x : BroadcastRules). x.out at tags h) (plain_rules is_other rules stood.0)
+      subst (λ (x : BroadcastRules). ShowsCast x at tags h (shown_by shown (Plain b))) (plain_rules is_other rules stood.0)
+      (record { out = ap (λ (x : Rb). x.delivered) stood.1; ready = λ i. refl })
   shows_at shows is_other (Other e) at tags h stood =
-      (shows e at tags h stood.1).1 ∙ ap (λ (x : BroadcastRules). x.out at tags h) (other_rules is_other rules stood.0)
-
-  -- whether reliable broadcast can take an item yet
-  pub plain_ready : (is_other : Bool) (cast : Cast E) (b : Rb) → cast ≡ Plain b → (item : Item) (answer : Bool) →
-      ((at : Place) (tags : Tags) (h : List Call) → b ≡ state_of at h → answer ≡ bracha.ready at tags h item) →
-      (at : Place) (tags : Tags) (h : List Call) → CastStands is_other stands cast at tags h →
-      answer ≡ (rules_by is_other rules).ready at tags h item
-  plain_ready is_other cast b is item answer ready at tags h stood =
-      let inside = subst (λ (x : Cast E). CastStands is_other stands x at tags h) is stood in
-      subst (λ (x : BroadcastRules). answer ≡ x.ready at tags h item) (plain_rules is_other rules inside.0) (ready at tags h inside.1)
+      subst (λ (x : BroadcastRules). ShowsCast x at tags h (shown e)) (other_rules is_other rules stood.0) (shows e at tags h stood.1).1
 
   module _ (is_other : Bool) (t : Tagging) (before after : List Msg) where
     pub plain_takes : (cast : Cast E) (old new : Rb) → cast ≡ Plain old → (item : Item) (result : Result Heard Mem) →
-        Takes (λ b at tags h. b ≡ state_of at h) bracha (λ b. b.live) (λ b. b.delivered) t old new item before after result →
+        Takes (λ b at tags h. b ≡ state_of at h) bracha (λ b. b.live) RbShown t old new item before after result →
         Takes (CastStands is_other stands) (rules_by is_other rules) (is_live live) (shown_by shown) t cast (Plain new) item before after result
     plain_takes cast old new is item result does =
         subst (λ (x : Cast E). Takes (CastStands is_other stands) (rules_by is_other rules) (is_live live) (shown_by shown) t x (Plain new) item before after result) (sym is)
-        (takes_out (λ (b : Rb) at tags h. b ≡ state_of at h) bracha (λ b. b.live) (λ b. b.delivered)
+        (takes_out (λ (b : Rb) at tags h. b ≡ state_of at h) bracha (λ b. b.live) RbShown
         (CastStands is_other stands) (rules_by is_other rules) (is_live live) (shown_by shown) (λ b. Plain b)
         (is_other ≡ false) (plain_rules is_other rules) (λ a at tags h stood. stood) (λ a at tags h plain stood. (plain, stood)) (λ a. refl) (λ a. refl)
         t old new before after item result does)

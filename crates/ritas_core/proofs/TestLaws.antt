@@ -1,5 +1,5 @@
--- Tests of two tests.
-use Rattle.std.proofs.Common.{◌≡◌, Bool, true, false, ◌&&◌, ◌||◌, refl}
+-- Tests of two tests, and a fact for an outcome.
+use Rattle.std.proofs.Common.{◌≡◌, Bool, true, false, ◌&&◌, ◌||◌, Result, Ok, Err, OnOk, OnErr, refl}
 
 pub left_false : (a b : Bool) → (a || b) ≡ false → a ≡ false
 left_false true b h = cc
@@ -22,3 +22,16 @@ or_flip true true = refl
 or_flip true false = refl
 or_flip false true = refl
 or_flip false false = refl
+
+pub on_err_here : {A E P : Type 0} (r : Result A E) → P → OnErr r P
+on_err_here (Ok x) p = tt
+on_err_here (Err e) p = p
+
+-- a fact for each outcome, from the equation that says which it is
+pub on_ok_by : {A E P : Type 0} (r : Result A E) → ((x : A) → r ≡ Ok x → P) → OnOk r P
+on_ok_by (Ok x) p = p x refl
+on_ok_by (Err e) p = tt
+
+pub on_err_by : {A E P : Type 0} (r : Result A E) → ((e : E) → r ≡ Err e → P) → OnErr r P
+on_err_by (Ok x) p = tt
+on_err_by (Err e) p = p e refl

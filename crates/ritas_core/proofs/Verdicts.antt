@@ -2,6 +2,7 @@
 use Rattle.std.proofs.Common.{◌≡◌, ℕ, ◌+◌, Bool, true, false, not, cond, ◌&&◌, ◌||◌, Option, Some, None, List, refl, sym, ◌∙◌, ap}
 use Rattle.std.proofs.Math.Dec.{eqb, leb}
 use Rattle.std.proofs.lemmas.Bool.{eqb-true, leb-false}
+use Rattle.ritas_base.specs.Numbers.{IsSession}
 use Rattle.ritas_base.specs.declared.item.Item.{Item}
 use Rattle.ritas_base.specs.declared.item.Kind.TheVariants.{Column}
 use Rattle.ritas_base.specs.Messages.{kind_eq}
@@ -14,7 +15,7 @@ use Rattle.ritas_core.specs.declared.verdict.Verdict.{Verdict}
 use Rattle.ritas_core.specs.declared.verdict.Verdict.TheVariants as verdicts
 use Rattle.ritas_core.specs.Rules.{Rules, seat_of, place_at}
 use Rattle.ritas_core.specs.Parts.{Parts, Entry, parts}
-use Rattle.ritas_core.specs.Checks.{mark_of, is_item_past, is_item_ahead, is_open, is_taken_again, is_repeat, has_room, verdict_on, window_fault, input_fault_or, input_check, IsGood, IsTakable, IsGivable, IsHistory}
+use Rattle.ritas_core.specs.Checks.{mark_of, is_item_past, is_item_ahead, is_open, is_taken_again, was_taken, is_repeat, is_found, has_room, verdict_on, window_fault, input_fault_or, input_check, IsGood, IsTakable, IsGivable, IsHistory}
 use Rattle.ritas_core.specs.Laws.{LayerLaws}
 use Rattle.ritas_core.proofs.TestLaws.{left_false, right_true}
 use Rattle.ritas_core.proofs.GoodSlots.{payload_fits, kind_fits}
@@ -102,11 +103,11 @@ pub verdict_full : (r : Rules) (p : Parts) (held : List (List Kept)) (item : Ite
     has_room held item ≡ false → verdict_on r p held item ≡ verdicts.Refuse (faults.HeldFull (held_bytes held item.from))
 verdict_full r p held item a b c d e f g = verdict_by r p held item _ _ _ _ _ _ _ a b c d e f g
 
--- the tests of a repeat, and of what is open
-pub is_repeat_by : (r : Rules) (p : Parts) (held : List (List Kept)) (item : Item) (opened again column kept : Bool) →
+-- the tests of what is looked up, and of what is open
+pub is_found_by : (r : Rules) (p : Parts) (held : List (List Kept)) (item : Item) (opened again column kept : Bool) →
     is_open r p item ≡ opened → is_taken_again r p item ≡ again → kind_eq item.kind Column ≡ column → is_kept held item ≡ kept →
-    is_repeat r p held item ≡ cond opened (again || (not column && kept)) kept
-is_repeat_by r p held item a b c d is_a is_b is_c is_d =
+    is_found r p held item ≡ cond opened (again || (not column && kept)) kept
+is_found_by r p held item a b c d is_a is_b is_c is_d =
     ap (λ (x : Bool). cond x (is_taken_again r p item || (not (kind_eq item.kind Column) && is_kept held item)) (is_kept held item)) is_a
     ∙ ap (λ (x : Bool). cond a (x || (not (kind_eq item.kind Column) && is_kept held item)) (is_kept held item)) is_b
     ∙ ap (λ (x : Bool). cond a (b || (not x && is_kept held item)) (is_kept held item)) is_c
@@ -141,9 +142,12 @@ taken_from false false false false false true g mark bytes h = record { origin =
 taken_from false false false false false false true mark bytes h = absurd (cc)
 taken_from false false false false false false false mark bytes h = absurd (cc)
 
-not_again : (opened again rest kept : Bool) → opened ≡ true → cond opened (again || rest) kept ≡ false → again ≡ false
-not_again true again rest kept e h = left_false again rest h
-not_again false again rest kept e h = absurd (cc)
+-- what is open and repeats nothing was not taken before
+not_again : (column opened again taken kept : Bool) → opened ≡ true → (column ≡ false → again ≡ taken) →
+    cond column (cond opened again kept) (taken || kept) ≡ false → again ≡ false
+not_again true true again taken kept e same h = h
+not_again true false again taken kept e same h = absurd (cc)
+not_again false opened again taken kept e same h = same refl ∙ left_false taken kept h
 
 ready_from : (a b c d : Bool) → (a && (b && (c && d))) ≡ true → d ≡ true
 ready_from a b c d h = right_true c d (right_true b (c && d) (right_true a (b && (c && d)) h))
@@ -164,7 +168,8 @@ takable_by r laws p held item good taken = record {
         ((r.casts.at_slot item.slot).ready (place_at r.casts item.slot) r.casts.tags (p.calls item.slot) item) taken.opened;
   };
   is_open = taken.opened;
-  first = not_again (is_open r p item) (is_taken_again r p item) (not (kind_eq item.kind Column) && is_kept held item) (is_kept held item) taken.opened taken.first;
+  first = not_again (kind_eq item.kind Column) (is_open r p item) (is_taken_again r p item) (was_taken p item) (is_kept held item) taken.opened
+      ((laws.casts item.slot).repeats_is (place_at r.casts item.slot) r.casts.tags (p.calls item.slot) item) taken.first;
 }
 
 pub takable_from : (r : Rules) → LayerLaws r → (h : List Entry) → IsHistory r h → (held : List (List Kept)) (item : Item) → IsGood r item →
@@ -193,9 +198,9 @@ rest_none : (o : Option ℕ) (rest : Option CoreFault) → input_fault_or o rest
 rest_none None rest h = h
 rest_none (Some place) rest h = absurd (cc)
 
-pub givable_from : (r : Rules) (p : Parts) (v : List ℕ) → IsInput r.casts.numbers r.mode v → input_check r p v ≡ None → IsGivable r p v
+pub givable_from : (r : Rules) (p : Parts) (v : List ℕ) → IsSession r.casts.numbers → r.service.serves r.mode.root ≡ true → IsInput r.casts.numbers r.mode v → input_check r p v ≡ None → IsGivable r p v
 unfolding input_check
-givable_from r p v good free =
+givable_from r p v session served good free =
     let next = r.service.next_number (seat_of r) p.words in
     let base = r.service.base (seat_of r) p.words r.casts.me in
     let inside = inside_from (r.service.given (seat_of r) p.words) (leb (base + 64) next) (leb 1000000 next) next
@@ -203,6 +208,9 @@ givable_from r p v good free =
     record {
       in_grammar = good;
       may = record {
+        session = session;
+        served = served;
+        good = good;
         first = inside.given;
         room = leb-false (base + 64) next inside.full;
         number = leb-false 1000000 next inside.high;

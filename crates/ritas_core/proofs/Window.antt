@@ -38,11 +38,11 @@ heard_within : (r : ServiceRules) → WordLaws r → (seat : Seat) (w : List Wor
 heard_within r laws seat [] proper s h one = absurd (cc)
 heard_within r laws seat (Ask v ∷ w) proper s h one =
     further s.a (r.base seat w s.origin) (r.base seat (Ask v ∷ w) s.origin) (heard_within r laws seat w proper.1 s h one)
-    (laws.base_stays seat (Ask v) w s.origin)
+    (laws.base_stays seat (Ask v) w s.origin proper)
 heard_within r laws seat (Hear q v ∷ w) proper s h one =
     further s.a (r.base seat w s.origin) (r.base seat (Hear q v ∷ w) s.origin)
     (heard_or (is_slot q s) r seat w q s refl proper.0.not_ahead one h (λ before. heard_within r laws seat w proper.1 s before one))
-    (laws.base_stays seat (Hear q v) w s.origin)
+    (laws.base_stays seat (Hear q v) w s.origin proper)
 
 -- ---- a heard slot has no fault
 right_or : (b : Bool) (p : Numbers) (mode : Mode) (w : List Word) (q s : Slot) → is_slot q s ≡ b → slot_fault p mode q ≡ None →

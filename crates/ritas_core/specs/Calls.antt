@@ -1,5 +1,5 @@
 -- What each call on a core does, for every state that the core stands for.
-use Rattle.std.specs.Prelude.{◌≡◌, true, false, List, [], ◌∷◌, ◌++◌, None, Result, Err, ◌⊎◌}
+use Rattle.std.specs.Prelude.{◌≡◌, true, false, List, [], ◌∷◌, ◌++◌, Option, Some, None, Result, Err, ◌⊎◌}
 use Rattle.ritas_base.specs.declared.item.Item.{Item}
 use Rattle.ritas_base.specs.declared.item.Msg.{Msg}
 use Rattle.ritas_core.specs.declared.answer.Answer.{Answer}
@@ -8,7 +8,7 @@ use Rattle.ritas_core.specs.declared.fault.CoreFault.TheVariants as faults
 use Rattle.ritas_core.specs.declared.kernel.Core.{Core}
 use Rattle.ritas_core.specs.declared.verdict.Verdict.TheVariants as verdicts
 use Rattle.ritas_core.specs.Rules.{Rules}
-use Rattle.ritas_core.specs.Parts.{parts}
+use Rattle.ritas_core.specs.Parts.{Entry, Took, Given, parts}
 use Rattle.ritas_core.specs.Checks.{verdict_on, input_check}
 use Rattle.ritas_core.specs.Machine.{CoreState, What, Frame, Input, Turn, moved, MayGive}
 use Rattle.ritas_core.specs.Stands.{Meaning, CoreStands}
@@ -19,9 +19,19 @@ pub record Moves {S E C T : Type 0} (m : Meaning S E C T) (old new : Core S E C 
   pub out : after ≡ before ++ (moved r st what).out
   pub state : CoreStands m new r (moved r st what).state
 
--- the core is stopped, with its history and what waits as they were
-abbrev pub stopped : CoreState → CoreState
-stopped st = record { live = false; history = st.history; inbox = st.inbox; held = st.held }
+-- what a call would take
+abbrev pub front_entry : List Item → Option Entry
+front_entry [] = None
+front_entry (item ∷ waiting) = Some (Took item)
+
+abbrev pub entry_of : CoreState → What → Option Entry
+entry_of st (Frame item) = Some (Took item)
+entry_of st (Input value) = Some (Given value)
+entry_of st Turn = front_entry st.inbox
+
+-- the call stopped the core: all is as it was, and what it would have taken is lost
+abbrev pub stopped : CoreState → What → CoreState
+stopped st what = record st { live = false; lost = entry_of st what }
 
 -- whether a call would take an item or an input, or would hold an item: only then can it be without memory
 abbrev pub TakesItem : Rules → CoreState → Item → Type 0
@@ -48,22 +58,12 @@ IsHolding r st (Frame item) = HoldsItem r st item
 IsHolding r st (Input value) = ⊥
 IsHolding r st Turn = HoldsFront r st st.inbox
 
--- what waits after a turn was without memory to hold its item
-abbrev pub rest_of : List Item → List Item
-rest_of [] = []
-rest_of (item ∷ waiting) = waiting
-
-abbrev pub left_by : CoreState → What → CoreState
-left_by st (Frame item) = st
-left_by st (Input value) = st
-left_by st Turn = record { live = st.live; history = st.history; inbox = rest_of st.inbox; held = st.held }
-
--- For want of memory nothing goes out. Where an item was to be held, all is as before, but that a turn's item has left
--- the inbox; in any other step the core is stopped.
+-- For want of memory nothing goes out. Where an item was to be held, all is as before; in any other step the core is
+-- stopped.
 pub record RunsOut {S E C T : Type 0} (m : Meaning S E C T) (new : Core S E C T) (what : What) (before after : List Msg) (r : Rules) (st : CoreState) : Type 0 where
   pub out : after ≡ before
   pub live : st.live ≡ true
-  pub state : (IsHolding r st what × CoreStands m new r (left_by st what)) ⊎ (IsStep r st what × CoreStands m new r (stopped st))
+  pub state : (IsHolding r st what × CoreStands m new r st) ⊎ (IsStep r st what × CoreStands m new r (stopped st what))
 
 -- each outcome of a call
 abbrev pub Does : {S E C T : Type 0} → Meaning S E C T → Core S E C T → Core S E C T → What → List Msg → List Msg → Result Answer CoreFault → Rules → CoreState → Type 0

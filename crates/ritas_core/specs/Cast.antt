@@ -1,11 +1,12 @@
 -- The broadcast of one slot, which is reliable broadcast or a core's other one. It is one broadcast, whose rules depend on
 -- which of the two it is.
-use Rattle.std.specs.Prelude.{◌≡◌, ℕ, Bool, true, false, List, Option, if◌then◌else◌}
+use Rattle.std.specs.Prelude.{◌≡◌, Bool, true, false, List, if◌then◌else◌}
 use Rattle.ritas_base.specs.declared.mode.Mode.{Mode}
 use Rattle.ritas_base.specs.Messages.{Place}
 use Rattle.ritas_base.specs.History.{Call}
 use Rattle.ritas_base.specs.Tags.{Tags}
 use Rattle.layer_api.specs.Broadcast.{BroadcastRules}
+use Rattle.layer_api.specs.BroadcastCalls.{CastShown}
 use Rattle.reliable_bcast.specs.Bracha.{bracha}
 use Rattle.reliable_bcast.specs.State.{state_of}
 use Rattle.ritas_core.specs.declared.cast.Cast.{Cast}
@@ -30,7 +31,7 @@ abbrev pub is_live : {E : Type 0} → (E → Bool) → Cast E → Bool
 is_live live (Plain b) = b.live
 is_live live (Other e) = live e
 
--- what it shows as delivered
-abbrev pub shown_by : {E : Type 0} → (E → Option (List ℕ)) → Cast E → Option (List ℕ)
-shown_by shown (Plain b) = b.delivered
+-- what its getters answer: reliable broadcast can take any item
+abbrev pub shown_by : {E : Type 0} → (E → CastShown) → Cast E → CastShown
+shown_by shown (Plain b) = record { out = b.delivered; ready = λ i. true }
 shown_by shown (Other e) = shown e

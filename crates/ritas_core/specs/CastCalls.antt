@@ -1,6 +1,7 @@
 -- What calls on the broadcasts of a replica do, for all calls that they stand for. Each list of calls has the newest first.
-use Rattle.std.specs.Prelude.{◌≡◌, ℕ, ◌<◌, Bool, true, false, not, Option, Some, None, Result, Ok, Err, List, ◌++◌}
+use Rattle.std.specs.Prelude.{◌≡◌, ℕ, ◌<◌, Bool, true, false, not, ◌&&◌, ◌||◌, Option, Result, Ok, Err, List, ◌++◌, ◌⊎◌, ◌∷◌}
 use Rattle.std.specs.BTreeMap.{BTreeMap, get}
+use Rattle.std.specs.Option.{is_some}
 use Rattle.ritas_base.specs.declared.bytes.Mem.{Mem}
 use Rattle.ritas_base.specs.declared.slot.Slot.{Slot}
 use Rattle.ritas_base.specs.declared.item.Item.{Item}
@@ -12,11 +13,11 @@ use Rattle.ritas_base.specs.Messages.{Place, kind_eq}
 use Rattle.ritas_base.specs.History.{Call, Start, Take}
 use Rattle.ritas_base.specs.Tags.{Tags}
 use Rattle.layer_api.specs.Broadcast.{BroadcastRules, Tagging, IsTagger, MayStart, MayTake}
-use Rattle.layer_api.specs.BroadcastCalls.{TakesNew, TakesAgain}
+use Rattle.layer_api.specs.BroadcastCalls.{CastShown, TakesNew, TakesAgain}
 use Rattle.ritas_core.specs.declared.taken.Taken.{Taken}
 use Rattle.ritas_core.specs.declared.taken.Taken.TheVariants.{Took, Repeat}
 use Rattle.ritas_core.specs.Rules.{CastRules, place_at}
-use Rattle.ritas_core.specs.Casts.{CastsStand, MayStartAll, called, started_all, news_at, start_news, newly, delivered_by}
+use Rattle.ritas_core.specs.Casts.{CastsStand, CastsShowAt, CastsShow, MayStartAll, called, started_all, news_at, start_news, newly, delivered_by}
 
 -- the tagger of this number is this replica's, which is one of the session's
 pub record IsOwn (c : CastRules) (number : ℕ) : Type 0 where
@@ -38,6 +39,10 @@ pub record StartsCast {B : Type 0} (stands : B → Place → Tags → List Call 
   pub grows : (h : Slot → List Call) → CanStart stands c number old say h → CastsStand stands c new (called h say.slot (Start say.value))
   pub made : (h : Slot → List Call) → CanStart stands c number old say h → after ≡ before ++ news_at c say.slot (h say.slot) (Start say.value)
 
+-- for want of memory it wasn't, and each slot shows what it delivered
+abbrev pub StartsNone : {B : Type 0} → (B → Place → Tags → List Call → Type 0) → (B → CastShown) → CastRules → ℕ → BTreeMap Slot B → BTreeMap Slot B → Say → Type 0
+StartsNone stands shown c number old new say = (h : Slot → List Call) → CanStart stands c number old say h → CastsShowAt shown c new h
+
 -- these values may be started, one after another
 pub record CanStartAll {B : Type 0} (stands : B → Place → Tags → List Call → Type 0) (c : CastRules) (number : ℕ) (casts : BTreeMap Slot B) (says : List Say) (h : Slot → List Call) : Type 0 where
   pub is_own : IsOwn c number
@@ -49,20 +54,26 @@ pub record StartsCasts {B : Type 0} (stands : B → Place → Tags → List Call
   pub grows : (h : Slot → List Call) → CanStartAll stands c number old says h → CastsStand stands c new (started_all says h)
   pub made : (h : Slot → List Call) → CanStartAll stands c number old says h → after ≡ before ++ start_news c says h
 
+-- for want of memory not all were, and each slot shows what it delivered
+abbrev pub StartsFewer : {B : Type 0} → (B → Place → Tags → List Call → Type 0) → (B → CastShown) → CastRules → ℕ → BTreeMap Slot B → BTreeMap Slot B → List Say → Type 0
+StartsFewer stands shown c number old new says = (h : Slot → List Call) → CanStartAll stands c number old says h → CastsShowAt shown c new h
+
 -- the broadcast took the item, and newly delivers d
-pub record HearsNew {B : Type 0} (stands : B → Place → Tags → List Call → Type 0) (r : BroadcastRules) (shown : B → Option (List ℕ)) (t : Tagging) (old new : B) (item : Item) (before after : List Msg) (d : Option (List ℕ)) : Type 0 where
+pub record HearsNew {B : Type 0} (stands : B → Place → Tags → List Call → Type 0) (r : BroadcastRules) (shown : B → CastShown) (t : Tagging) (old new : B) (item : Item) (before after : List Msg) (d : Option (List ℕ)) : Type 0 where
   pub takes : TakesNew stands r t old new item before after
-  pub delivered : d ≡ newly (shown old) (shown new)
+  pub delivered : d ≡ newly (shown old).out (shown new).out
 
--- for want of memory it didn't, and the item doesn't repeat one
-abbrev pub CountsNew : {B : Type 0} → (B → Place → Tags → List Call → Type 0) → BroadcastRules → Tagging → B → Item → Type 0
-CountsNew stands r t old item = (at : Place) (tags : Tags) (h : List Call) → stands old at tags h → IsTagger at tags t → MayTake r at tags h item
-    → r.repeats at tags h item ≡ false
+-- for want of memory it shows what it delivered, or what it does with the item; and the item doesn't repeat one
+pub record HearsNone {B : Type 0} (stands : B → Place → Tags → List Call → Type 0) (r : BroadcastRules) (shown : B → CastShown) (t : Tagging) (old new : B) (item : Item) : Type 0 where
+  pub shows : (at : Place) (tags : Tags) (h : List Call) → stands old at tags h → IsTagger at tags t → MayTake r at tags h item
+      → ((shown new).out ≡ r.out at tags h) ⊎ ((shown new).out ≡ r.out at tags (Take item ∷ h))
+  pub counts : (at : Place) (tags : Tags) (h : List Call) → stands old at tags h → IsTagger at tags t → MayTake r at tags h item
+      → r.repeats at tags h item ≡ false
 
-abbrev pub HearsItem : {B : Type 0} → (B → Place → Tags → List Call → Type 0) → BroadcastRules → (B → Option (List ℕ)) → Tagging → B → B → Item → List Msg → List Msg → Result Taken Mem → Type 0
+abbrev pub HearsItem : {B : Type 0} → (B → Place → Tags → List Call → Type 0) → BroadcastRules → (B → CastShown) → Tagging → B → B → Item → List Msg → List Msg → Result Taken Mem → Type 0
 HearsItem stands r shown t old new item before after (Ok (Took d)) = HearsNew stands r shown t old new item before after d
 HearsItem stands r shown t old new item before after (Ok Repeat) = TakesAgain stands r t old new item before after
-HearsItem stands r shown t old new item before after (Err e) = CountsNew stands r t old item
+HearsItem stands r shown t old new item before after (Err e) = HearsNone stands r shown t old new item
 
 -- the broadcast of an item's slot may take it
 pub record CanTake {B : Type 0} (stands : B → Place → Tags → List Call → Type 0) (c : CastRules) (number : ℕ) (casts : BTreeMap Slot B) (item : Item) (h : Slot → List Call) : Type 0 where
@@ -89,18 +100,20 @@ pub record CastsRepeat {B : Type 0} (stands : B → Place → Tags → List Call
   pub made : after ≡ before
   pub counts : Repeats stands c number old item true
 
+-- for want of memory each slot shows what it delivered, or what it does with the item; and the item doesn't repeat one
+pub record CastsFail {B : Type 0} (stands : B → Place → Tags → List Call → Type 0) (shown : B → CastShown) (c : CastRules) (number : ℕ) (old new : BTreeMap Slot B) (item : Item) : Type 0 where
+  pub shows : (h : Slot → List Call) → CanTake stands c number old item h → CastsShow shown c new h (called h item.slot (Take item))
+  pub counts : Repeats stands c number old item false
+
 -- each outcome
-abbrev pub CastsHear : {B : Type 0} → (B → Place → Tags → List Call → Type 0) → CastRules → ℕ → BTreeMap Slot B → BTreeMap Slot B → Item → List Msg → List Msg → Result Taken Mem → Type 0
-CastsHear stands c number old new item before after (Ok (Took d)) = CastsTake stands c number old new item before after d
-CastsHear stands c number old new item before after (Ok Repeat) = CastsRepeat stands c number old new item before after
-CastsHear stands c number old new item before after (Err e) = Repeats stands c number old item false
+abbrev pub CastsHear : {B : Type 0} → (B → Place → Tags → List Call → Type 0) → (B → CastShown) → CastRules → ℕ → BTreeMap Slot B → BTreeMap Slot B → Item → List Msg → List Msg → Result Taken Mem → Type 0
+CastsHear stands shown c number old new item before after (Ok (Took d)) = CastsTake stands c number old new item before after d
+CastsHear stands shown c number old new item before after (Ok Repeat) = CastsRepeat stands c number old new item before after
+CastsHear stands shown c number old new item before after (Err e) = CastsFail stands shown c number old new item
 
--- whether the broadcast of its slot can take an item yet, and where none is made, whether it isn't a column
-abbrev pub ready_or : {B : Type 0} → Option B → Bool → Bool → Bool
-ready_or None early ready = early
-ready_or (Some b) early ready = ready
-
+-- whether the broadcast of its slot can take an item yet: one that isn't a column at any time, and a column where the
+-- broadcast is made and can
 abbrev pub is_ready_in : {B : Type 0} → CastRules → BTreeMap Slot B → (Slot → List Call) → Item → Bool
 is_ready_in c casts h item =
-    ready_or (get slot_cmp casts item.slot) (not (kind_eq item.kind Column))
-    ((c.at_slot item.slot).ready (place_at c item.slot) c.tags (h item.slot) item)
+    not (kind_eq item.kind Column)
+    || (is_some (get slot_cmp casts item.slot) && (c.at_slot item.slot).ready (place_at c item.slot) c.tags (h item.slot) item)

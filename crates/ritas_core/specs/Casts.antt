@@ -1,5 +1,5 @@
 -- The calls that the broadcasts of a replica had, and what a call makes due. Each list has the newest first.
-use Rattle.std.specs.Prelude.{◌≡◌, ℕ, Option, Some, None, List, [], ◌∷◌, ◌++◌, if◌then◌else◌}
+use Rattle.std.specs.Prelude.{◌≡◌, ℕ, ◌⊎◌, Option, Some, None, List, [], ◌∷◌, ◌++◌, if◌then◌else◌}
 use Rattle.std.specs.BTreeMap.{BTreeMap, get}
 use Rattle.ritas_base.specs.declared.slot.Slot.{Slot}
 use Rattle.ritas_base.specs.declared.item.Msg.{Msg}
@@ -9,6 +9,7 @@ use Rattle.ritas_base.specs.Messages.{Place}
 use Rattle.ritas_base.specs.Tags.{Tags}
 use Rattle.ritas_base.specs.History.{Call, Start}
 use Rattle.layer_api.specs.Broadcast.{news, MayStart}
+use Rattle.layer_api.specs.BroadcastCalls.{CastShown}
 use Rattle.ritas_core.specs.Rules.{CastRules, place_at, out_at}
 
 -- one call more at a slot
@@ -47,3 +48,17 @@ pub record CastsStand {B : Type 0} (stands : B → Place → Tags → List Call 
 abbrev pub MayStartAll : CastRules → List Say → (Slot → List Call) → Type 0
 MayStartAll c [] h = Unit {0}
 MayStartAll c (say ∷ says) h = MayStart (place_at c say.slot) (h say.slot) × MayStartAll c says (called h say.slot (Start say.value))
+
+-- what the value at a slot shows as delivered; where there is none, nothing is
+abbrev pub shown_out : {B : Type 0} → (B → CastShown) → Option B → Option (List ℕ)
+shown_out shown None = None
+shown_out shown (Some b) = (shown b).out
+
+-- each slot shows what it delivers by these calls
+abbrev pub CastsShowAt : {B : Type 0} → (B → CastShown) → CastRules → BTreeMap Slot B → (Slot → List Call) → Type 0
+CastsShowAt shown c casts h = (s : Slot) → shown_out shown (get slot_cmp casts s) ≡ out_at c s (h s)
+
+-- or by these or later ones
+abbrev pub CastsShow : {B : Type 0} → (B → CastShown) → CastRules → BTreeMap Slot B → (Slot → List Call) → (Slot → List Call) → Type 0
+CastsShow shown c casts h later =
+    (s : Slot) → (shown_out shown (get slot_cmp casts s) ≡ out_at c s (h s)) ⊎ (shown_out shown (get slot_cmp casts s) ≡ out_at c s (later s))

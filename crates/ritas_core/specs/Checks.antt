@@ -1,8 +1,9 @@
 -- The checks that an item and an input pass, in their order.
-use Rattle.std.specs.Prelude.{◌≡◌, ℕ, ◌+◌, ◌<◌, Bool, true, false, not, ◌==◌, ◌&&◌, ◌||◌, nat_le, List, ◌∷◌, [], length, Option, Some, None, if◌then◌else◌}
+use Rattle.std.specs.Prelude.{is_some, ◌≡◌, ℕ, ◌+◌, ◌<◌, Bool, true, false, not, ◌==◌, ◌&&◌, ◌||◌, nat_le, List, ◌∷◌, [], length, Option, Some, None, if◌then◌else◌}
 use Rattle.ritas_base.specs.declared.item.Item.{Item}
 use Rattle.ritas_base.specs.declared.item.Kind.TheVariants.{Column}
 use Rattle.ritas_base.specs.Messages.{kind_eq}
+use Rattle.ritas_base.specs.History.{first}
 use Rattle.layer_api.specs.Broadcast.{is_of_origin, is_for_origin, MayTake}
 use Rattle.layer_api.specs.Service.{MayAsk, is_past, is_ahead}
 use Rattle.frame_codec.specs.Body.{IsInGrammar, spelling}
@@ -31,14 +32,27 @@ is_open r p item =
     not (is_item_past r p item) && (not (is_item_ahead r p item)
     && (r.service.opens (seat_of r) p.words item.slot && (r.casts.at_slot item.slot).ready (place_at r.casts item.slot) r.casts.tags (p.calls item.slot) item))
 
--- an open item repeats one that its slot took
+-- the broadcast of an item's slot says that the item repeats one that it took
 abbrev pub is_taken_again : Rules → Parts → Item → Bool
 is_taken_again r p item = (r.casts.at_slot item.slot).repeats (place_at r.casts item.slot) r.casts.tags (p.calls item.slot) item
 
--- whether an item repeats one that was taken or is held. What isn't open was never taken; and a column that is open
--- repeats another only where it brings nothing new
+-- an item of this kind and sender was taken at the item's slot
+abbrev pub was_taken : Parts → Item → Bool
+was_taken p item = is_some (first (p.calls item.slot) item.from item.kind)
+
+-- whether an item repeats another. A column does, where it is open, exactly where its broadcast says so: it brings no valid
+-- entry of a new echoer; and where it isn't open, exactly where an equal one is held. Any other item does exactly where one
+-- of its kind and sender was taken at its slot, or is held
 abbrev pub is_repeat : Rules → Parts → List (List Kept) → Item → Bool
 is_repeat r p held item =
+    if kind_eq item.kind Column
+    then (if is_open r p item then is_taken_again r p item else is_kept held item)
+    else (was_taken p item || is_kept held item)
+
+-- what a core looks up for that: the broadcast of an open item, and the held items where the item isn't open or isn't a
+-- column
+abbrev pub is_found : Rules → Parts → List (List Kept) → Item → Bool
+is_found r p held item =
     if is_open r p item
     then is_taken_again r p item || (not (kind_eq item.kind Column) && is_kept held item)
     else is_kept held item
@@ -92,7 +106,7 @@ pub record IsTakable (r : Rules) (p : Parts) (item : Item) : Type 0 where
 
 pub record IsGivable (r : Rules) (p : Parts) (value : List ℕ) : Type 0 where
   pub in_grammar : IsInput r.casts.numbers r.mode value
-  pub may : MayAsk r.service (seat_of r) p.words
+  pub may : MayAsk r.service (seat_of r) p.words value
 
 abbrev pub MayEnter : Rules → Parts → Entry → Type 0
 MayEnter r p (Took item) = IsTakable r p item

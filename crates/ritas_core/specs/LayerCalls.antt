@@ -7,14 +7,14 @@ use Rattle.ritas_base.specs.declared.item.Msg.{Msg}
 use Rattle.layer_api.specs.declared.broadcast.Heard.{Heard}
 use Rattle.layer_api.specs.declared.broadcast.Heard.TheVariants as heard
 use Rattle.layer_api.specs.Broadcast.{MayTake}
-use Rattle.layer_api.specs.Service.{Word, Ask, Hear, MayAsk, MayHear}
+use Rattle.layer_api.specs.Service.{Word, Ask, Hear, MayAsk, MayHear, AreProper}
 use Rattle.ritas_core.specs.declared.layers.Layers.{Layers}
 use Rattle.ritas_core.specs.Rules.{Rules, seat_of, place_at}
 use Rattle.ritas_core.specs.Casts.{MayStartAll}
 use Rattle.ritas_core.specs.CastCalls.{IsOwn, is_ready_in}
 use Rattle.ritas_core.specs.Parts.{Parts, Took, told_to, told_news, taken_at, item_delivers, after, made_by}
 use Rattle.ritas_core.specs.Checks.{is_item_past, is_item_ahead, is_taken_again}
-use Rattle.ritas_core.specs.Stands.{Meaning, rules_of, LayersStand}
+use Rattle.ritas_core.specs.Stands.{Meaning, rules_of, LayersStand, LayersShow}
 
 -- what the service newly says by a word may be started
 abbrev pub MayStartSaid : Rules → Word → Parts → Type 0
@@ -22,8 +22,8 @@ MayStartSaid r word p = MayStartAll r.casts (r.service.says (seat_of r) p.words 
 
 -- the service may have a word, and what it newly says by it may be started
 abbrev pub MayTell : Rules → Word → Parts → Type 0
-MayTell r (Ask value) p = MayAsk r.service (seat_of r) p.words × MayStartSaid r (Ask value) p
-MayTell r (Hear s value) p = MayHear r.service (seat_of r) p.words s × MayStartSaid r (Hear s value) p
+MayTell r (Ask value) p = MayAsk r.service (seat_of r) p.words value × MayStartSaid r (Ask value) p
+MayTell r (Hear s value) p = MayHear r.service (seat_of r) p.words s value × MayStartSaid r (Hear s value) p
 
 -- the service may hear what a slot newly delivers, if it does
 abbrev pub MayFollow : Rules → Slot → Option (List ℕ) → Parts → Type 0
@@ -48,6 +48,11 @@ pub record CanTell {S E C T : Type 0} (m : Meaning S E C T) (layers : Layers S E
 pub record Tells {S E C T : Type 0} (m : Meaning S E C T) (old new : Layers S E C T) (word : Word) (before after_it : List Msg) : Type 0 where
   pub grows : (p : Parts) → CanTell m old word p → LayersStand m new (told_to (rules_of m old) word p)
   pub made : (p : Parts) → CanTell m old word p → after_it ≡ before ++ told_news (rules_of m old) word p
+
+-- for want of memory what the layers show lies between what they were called with and that with the word
+abbrev pub TellsNone : {S E C T : Type 0} → Meaning S E C T → Layers S E C T → Layers S E C T → Word → Type 0
+TellsNone m old new word = (p : Parts) → CanTell m old word p → AreProper m.service (seat_of (rules_of m old)) p.words
+    → LayersShow m new (rules_of m old) p (told_to (rules_of m old) word p)
 
 -- an item may be taken
 pub record CanTakeItem {S E C T : Type 0} (m : Meaning S E C T) (layers : Layers S E C T) (item : Item) (p : Parts) : Type 0 where
@@ -76,11 +81,18 @@ pub record RepeatsItem {S E C T : Type 0} (m : Meaning S E C T) (old new : Layer
   pub out : after_it ≡ before
   pub counts : RepeatsOne m old item true
 
+-- for want of memory what the layers show lies between what they were called with and that with the item
+pub record TakesNone {S E C T : Type 0} (m : Meaning S E C T) (old new : Layers S E C T) (item : Item) : Type 0 where
+  pub shows : (p : Parts) → CanTakeItem m old item p
+      → MayFollow (rules_of m old) item.slot (item_delivers (rules_of m old) item p) (taken_at item p) → AreProper m.service (seat_of (rules_of m old)) p.words
+      → LayersShow m new (rules_of m old) p (after (rules_of m old) (Took item) p)
+  pub counts : RepeatsOne m old item false
+
 -- each outcome
 abbrev pub GivesItem : {S E C T : Type 0} → Meaning S E C T → Layers S E C T → Layers S E C T → Item → List Msg → List Msg → Result Heard Mem → Type 0
 GivesItem m old new item before after_it (Ok heard.Took) = TakesItem m old new item before after_it
 GivesItem m old new item before after_it (Ok heard.Repeat) = RepeatsItem m old new item before after_it
-GivesItem m old new item before after_it (Err e) = RepeatsOne m old item false
+GivesItem m old new item before after_it (Err e) = TakesNone m old new item
 
 -- whether an item is past, and whether it is open, as the layers tell it of an item whose slot's origin is a replica
 abbrev pub is_past_in : {S E C T : Type 0} → Meaning S E C T → Layers S E C T → Parts → Item → Bool

@@ -4,6 +4,7 @@ pub mod Cast
 pub mod Casts
 pub mod CastCalls
 pub mod Parts
+pub mod PartsLaws
 pub mod Order
 pub mod Checks
 pub mod Machine
@@ -15,3 +16,4 @@ pub mod CoreCalls
 pub mod Shown
 pub mod Laws
 pub mod CoreOf
+pub mod Rows

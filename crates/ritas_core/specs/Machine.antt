@@ -20,6 +20,16 @@ pub record CoreState : Type 0 where
   pub history : List Entry
   pub inbox : List Item
   pub held : List (List Kept)
+  -- what the call that stopped it would have taken; a live core, and one stopped from outside, has none
+  pub lost : Option Entry
+
+-- the history with the lost entry, if there is one
+abbrev pub with_entry : Option Entry → List Entry → List Entry
+with_entry None h = h
+with_entry (Some e) h = e ∷ h
+
+abbrev pub with_lost : CoreState → List Entry
+with_lost st = with_entry st.lost st.history
 
 -- what a call does
 pub record Moved : Type 0 where
@@ -36,7 +46,7 @@ pub data What : Type 0 where
 -- nothing but these waiting items changed
 abbrev pub stays : CoreState → List Item → Result Answer CoreFault → Moved
 stays st waiting answer = record {
-  state = record { live = st.live; history = st.history; inbox = waiting; held = st.held };
+  state = record st { inbox = waiting };
   answer = answer;
   out = [];
 }
@@ -44,8 +54,9 @@ stays st waiting answer = record {
 -- an entry is taken: what becomes due goes out, what is for oneself joins the inbox, then the held items that are
 -- open do, by peer and in their order, and those that are past are dropped
 abbrev pub entered : Rules → CoreState → Entry → List Item → CoreState
-entered r st e waiting = record {
+entered r st e waiting = record st {
   live = true;
+  lost = None;
   history = e ∷ st.history;
   inbox = (waiting ++ own_items r.casts.me (new_messages r st.history e)) ++ released (is_open r (parts r (e ∷ st.history))) st.held;
   held = remaining (λ x. is_open r (parts r (e ∷ st.history)) x || is_item_past r (parts r (e ∷ st.history)) x) st.held;
@@ -59,7 +70,7 @@ abbrev pub gives : Rules → CoreState → Item → List Item → Verdict → Mo
 gives r st item waiting (verdicts.Refuse fault) = stays st waiting (Err fault)
 gives r st item waiting verdicts.Again = stays st waiting (Ok answers.Repeat)
 gives r st item waiting verdicts.Hold = record {
-  state = record { live = true; history = st.history; inbox = waiting; held = with_kept st.held item (body_length item) };
+  state = record st { live = true; lost = None; inbox = waiting; held = with_kept st.held item (body_length item) };
   answer = Ok answers.Held;
   out = [];
 }
@@ -88,7 +99,7 @@ moved r st what = if st.live then moved_live r st what else stays st st.inbox (E
 
 -- the state of a new core, which has a list for each of n peers
 abbrev pub first_state : List (List Kept) → CoreState
-first_state held = record { live = true; history = []; inbox = []; held = held }
+first_state held = record { live = true; history = []; inbox = []; held = held; lost = None }
 
 -- what may be given
 abbrev pub MayGive : Rules → What → Type 0

@@ -1,5 +1,5 @@
 -- The order in which a call's messages go out, and those that go to oneself.
-use Rattle.std.specs.Prelude.{ℕ, Bool, List, [], ◌∷◌, map, filter, if◌then◌else◌}
+use Rattle.std.specs.Prelude.{◌≡◌, ℕ, Bool, List, [], ◌∷◌, ◌++◌, map, filter, if◌then◌else◌}
 use Rattle.std.specs.Ordering.{nat_cmp, ordering_then, is_lt}
 use Rattle.ritas_base.specs.declared.item.Item.{Item}
 use Rattle.ritas_base.specs.declared.item.Msg.{Msg}
@@ -37,3 +37,7 @@ sent_to j ms = filter (λ m. reaches m.to j) ms
 -- the items that come to oneself
 abbrev pub own_items : ℕ → List Msg → List Item
 own_items me ms = map (item_of me) (sent_to me ms)
+
+-- the new list is the old one, with more behind it
+abbrev pub Extends : {X : Type 0} → List X → List X → Type 0
+Extends {X} old new = (more : List X) × (new ≡ old ++ more)

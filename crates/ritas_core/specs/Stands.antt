@@ -1,38 +1,45 @@
 -- What the values of a core stand for.
-use Rattle.std.specs.Prelude.{◌≡◌, ℕ, ◌<◌, Bool, true, not, List, [], ◌∷◌, length}
+use Rattle.std.specs.Prelude.{◌≡◌, ℕ, ◌<◌, Bool, true, not, None, List, [], ◌∷◌, length}
 use Rattle.ritas_base.specs.declared.slot.Slot.{Slot}
 use Rattle.ritas_base.specs.Messages.{Place}
 use Rattle.ritas_base.specs.Numbers.{IsSession}
 use Rattle.ritas_base.specs.Tags.{Tags}
 use Rattle.ritas_base.specs.History.{Call}
 use Rattle.layer_api.specs.Broadcast.{BroadcastRules}
+use Rattle.layer_api.specs.BroadcastCalls.{CastShown}
 use Rattle.layer_api.specs.Service.{ServiceRules, Seat, Word}
+use Rattle.layer_api.specs.ServiceCalls.{ServiceShown, ShowsBetween}
 use Rattle.ooc_buffers.specs.Lists.{Kept}
 use Rattle.ritas_core.specs.declared.layers.Layers.{Layers}
 use Rattle.ritas_core.specs.declared.kernel.Core.{Core}
 use Rattle.ritas_core.specs.Rules.{Rules, casts_by, seat_of, KindsFit}
-use Rattle.ritas_core.specs.Cast.{CastStandsAt}
-use Rattle.ritas_core.specs.Casts.{CastsStand}
+use Rattle.ritas_core.specs.Cast.{CastStandsAt, shown_by}
+use Rattle.ritas_core.specs.Casts.{CastsStand, CastsShow}
 use Rattle.ritas_core.specs.Parts.{Parts, parts}
 use Rattle.ritas_core.specs.Checks.{IsHistory, IsGood}
-use Rattle.ritas_core.specs.Machine.{CoreState, AreGood}
+use Rattle.ritas_core.specs.Machine.{CoreState, with_lost, AreGood}
 
 -- what the traits say of a service, of the broadcast beside the reliable one, of a coin and a tagger
 pub record Meaning (S E C T : Type 0) : Type 1 where
   pub service_stands : S → Seat → List Word → Type 0
   pub service : ServiceRules
+  pub service_shown : S → ServiceShown
   pub cast_stands : E → Place → Tags → List Call → Type 0
   pub cast : BroadcastRules
+  pub cast_shown : E → CastShown
   pub bits : C → Slot → Bool
   pub me : T → ℕ
   pub tags : T → Tags
 
-abbrev pub meaning : {S E C T : Type 0} → (S → Seat → List Word → Type 0) → ServiceRules → (E → Place → Tags → List Call → Type 0) → BroadcastRules → (C → Slot → Bool) → (T → ℕ) → (T → Tags) → Meaning S E C T
-meaning service_stands service cast_stands cast bits me tags = record {
+abbrev pub meaning : {S E C T : Type 0} → (S → Seat → List Word → Type 0) → ServiceRules → (S → ServiceShown)
+    → (E → Place → Tags → List Call → Type 0) → BroadcastRules → (E → CastShown) → (C → Slot → Bool) → (T → ℕ) → (T → Tags) → Meaning S E C T
+meaning service_stands service service_shown cast_stands cast cast_shown bits me tags = record {
   service_stands = service_stands;
   service = service;
+  service_shown = service_shown;
   cast_stands = cast_stands;
   cast = cast;
+  cast_shown = cast_shown;
   bits = bits;
   me = me;
   tags = tags;
@@ -52,6 +59,12 @@ pub record LayersStand {S E C T : Type 0} (m : Meaning S E C T) (layers : Layers
   pub service : m.service_stands layers.service (seat_of (rules_of m layers)) p.words
   pub casts : CastsStand (CastStandsAt layers.mode m.cast_stands) (rules_of m layers).casts layers.casts p.calls
 
+-- what the layers show lies between two parts: the service shows what it does by the words of the one or of the other, and
+-- each slot that it delivered what it did by the calls of the one or of the other
+pub record LayersShow {S E C T : Type 0} (m : Meaning S E C T) (layers : Layers S E C T) (r : Rules) (p later : Parts) : Type 0 where
+  pub service : ShowsBetween r.service (seat_of r) p.words later.words (m.service_shown layers.service)
+  pub casts : CastsShow (shown_by m.cast_shown) r.casts layers.casts p.calls later.calls
+
 -- the held items may be given
 abbrev pub AreGoodKept : Rules → List Kept → Type 0
 AreGoodKept r [] = Unit {0}
@@ -61,7 +74,8 @@ abbrev pub AreGoodLists : Rules → List (List Kept) → Type 0
 AreGoodLists r [] = Unit {0}
 AreGoodLists r (kept ∷ held) = AreGoodKept r kept × AreGoodLists r held
 
--- the core stands for this state, by these rules. Of a stopped core only that is said
+-- the core stands for this state, by these rules; a stopped core keeps what waits and what is held, and what its layers show
+-- lies between its history and that with what the stop lost
 pub record CoreStands {S E C T : Type 0} (m : Meaning S E C T) (core : Core S E C T) (r : Rules) (st : CoreState) : Type 0 where
   pub rules : rules_of m core.layers ≡ r
   pub own : m.me core.layers.tagger ≡ r.casts.me
@@ -72,8 +86,10 @@ pub record CoreStands {S E C T : Type 0} (m : Meaning S E C T) (core : Core S E 
   pub live : core.stopped ≡ not st.live
   pub history : IsHistory r st.history
   pub layers : st.live ≡ true → LayersStand m core.layers (parts r st.history)
-  pub inbox : st.live ≡ true → core.inbox.items ≡ st.inbox
-  pub held : st.live ≡ true → core.held ≡ st.held
+  pub lost : st.live ≡ true → st.lost ≡ None
+  pub shows : LayersShow m core.layers r (parts r st.history) (parts r (with_lost st))
+  pub inbox : core.inbox.items ≡ st.inbox
+  pub held : core.held ≡ st.held
   pub peers : length st.held ≡ r.casts.numbers.n
   pub good_inbox : AreGood r st.inbox
   pub good_held : AreGoodLists r st.held

@@ -88,8 +88,7 @@ impl<E: Broadcast> Cast<E> {
 
     /// Whether an item of this slot and broadcast can be taken yet.
     pub(crate) fn ready_for(&self, item: &Item) -> bool
-        ensures { (other : Bool) (at : Place) (tags : Tags) (h : List Call) → CastStands other E.stands self.now at tags h
-            → result ≡ (rules_by other E.rules).ready at tags h item.now }
+        ensures { result ≡ (shown_by E.shown self.now).ready item.now }
     {
         match self {
             Cast::Plain(cast) => cast.ready_for(item),
@@ -99,7 +98,7 @@ impl<E: Broadcast> Cast<E> {
 
     /// What is delivered, if anything is.
     pub(crate) fn delivered(&self) -> Option<&[u8]>
-        ensures { option_copied result ≡ shown_by E.shown self.now }
+        ensures { option_copied result ≡ (shown_by E.shown self.now).out }
     {
         match self {
             Cast::Plain(cast) => cast.delivered(),

@@ -1,10 +1,10 @@
-ghost use Rattle.std.specs.Prelude.{◌≡◌, ◌<◌, None, OnOk, OnErr, IsSome};
+ghost use Rattle.std.specs.Prelude.{◌≡◌, ◌<◌, None, OnOk, OnErr};
 ghost use Rattle.std.specs.BTreeMap.{get};
 ghost use Rattle.ritas_base.specs.SlotOrder.{slot_cmp};
 ghost use Rattle.ritas_base.specs.Tags.{Tags};
 ghost use Rattle.ritas_core.specs.Rules.{casts_by};
-ghost use Rattle.ritas_core.specs.Cast.{CastStandsAt};
-ghost use Rattle.ritas_core.specs.CastCalls.{StaysSo, StartsCast, StartsCasts};
+ghost use Rattle.ritas_core.specs.Cast.{CastStandsAt, shown_by};
+ghost use Rattle.ritas_core.specs.CastCalls.{StartsCast, StartsNone, StartsCasts, StartsFewer};
 
 use crate::cast::Cast;
 use layer_api::Broadcast;
@@ -12,25 +12,28 @@ use ritas_base::{Mem, Mode, Msg, Params, Say, Slot, Tagger};
 use std::alloc::Global;
 use std::collections::BTreeMap;
 
-/// Sees that there is a broadcast at the slot.
-pub(crate) fn make_cast<E: Broadcast>(
+/// Makes the broadcast of a say's slot, where none is there, and starts it.
+fn start_first<E: Broadcast, T: Tagger>(
     alloc: Global,
     p: &Params,
     mode: &Mode,
     me: u8,
+    t: &T,
     casts: &mut BTreeMap<Slot, Cast<E>>,
-    slot: Slot,
+    say: &Say,
+    made: &mut Vec<Msg>,
 ) -> Result<(), Mem>
     requires me_below { me < p.now.n }
-    requires origin_below { slot.origin < p.now.n }
-    ensures stands { OnOk result ((tags : Tags) → StaysSo (CastStandsAt mode.now E.stands) (casts_by mode.now p.now me tags E.rules) casts.old casts.new) }
-    ensures made { OnOk result (IsSome (get slot_cmp casts.new slot)) }
-    ensures missed { OnErr result (get slot_cmp casts.old slot ≡ None) }
+    requires origin_below { say.now.slot.origin < p.now.n }
+    requires unmade { get slot_cmp casts.old say.now.slot ≡ None }
+    ensures ok { let c = casts_by mode.now p.now me (T.tags t.now) E.rules in
+        OnOk result (StartsCast (CastStandsAt mode.now E.stands) c (T.me t.now) casts.old casts.new say.now made.old.items made.new.items) }
+    ensures err { let c = casts_by mode.now p.now me (T.tags t.now) E.rules in
+        OnErr result (StartsNone (CastStandsAt mode.now E.stands) (shown_by E.shown) c (T.me t.now) casts.old casts.new say.now) }
 {
-    if !casts.contains_key(&slot) {
-        let cast = Cast::make(alloc, p, mode, me, slot)?;
-        casts.insert(slot, cast)?;
-    }
+    let mut cast = Cast::make(alloc, p, mode, me, say.slot)?;
+    cast.start(alloc, t, say.value.as_slice(), made)?;
+    casts.insert(say.slot, cast)?;
     Ok(())
 }
 
@@ -45,18 +48,19 @@ fn start_cast<E: Broadcast, T: Tagger>(
     say: &Say,
     made: &mut Vec<Msg>,
 ) -> Result<(), Mem>
-    ensures { let c = casts_by mode.now p.now me (T.tags t.now) E.rules in
+    ensures ok { let c = casts_by mode.now p.now me (T.tags t.now) E.rules in
         OnOk result (StartsCast (CastStandsAt mode.now E.stands) c (T.me t.now) casts.old casts.new say.now made.old.items made.new.items) }
+    ensures err { let c = casts_by mode.now p.now me (T.tags t.now) E.rules in
+        OnErr result (StartsNone (CastStandsAt mode.now E.stands) (shown_by E.shown) c (T.me t.now) casts.old casts.new say.now) }
 {
     // No such say comes: a say is at one of the replica's own slots.
     if me >= p.n() || say.slot.origin >= p.n() {
         return Ok(());
     }
-    make_cast(alloc, p, mode, me, casts, say.slot)?;
-    if let Some(cast) = casts.get_mut(&say.slot) {
-        cast.start(alloc, t, say.value.as_slice(), made)?;
+    match casts.get_mut(&say.slot) {
+        Some(cast) => cast.start(alloc, t, say.value.as_slice(), made),
+        None => start_first(alloc, p, mode, me, t, casts, say, made),
     }
-    Ok(())
 }
 
 /// Starts the broadcasts of these says, in order.
@@ -70,8 +74,10 @@ pub(crate) fn start_casts<E: Broadcast, T: Tagger>(
     says: &[Say],
     made: &mut Vec<Msg>,
 ) -> Result<(), Mem>
-    ensures { let c = casts_by mode.now p.now me (T.tags t.now) E.rules in
+    ensures ok { let c = casts_by mode.now p.now me (T.tags t.now) E.rules in
         OnOk result (StartsCasts (CastStandsAt mode.now E.stands) c (T.me t.now) casts.old casts.new says.now made.old.items made.new.items) }
+    ensures err { let c = casts_by mode.now p.now me (T.tags t.now) E.rules in
+        OnErr result (StartsFewer (CastStandsAt mode.now E.stands) (shown_by E.shown) c (T.me t.now) casts.old casts.new says.now) }
 {
     for say in says {
         start_cast(alloc, p, mode, me, t, casts, say, made)?;

@@ -5,19 +5,20 @@ use layer_api::{Broadcast, Service};
 use ritas_base::{Coin, Item, Mode, Params, Slot, Tagger};
 
 impl<S: Service, E: Broadcast, C: Coin + Drop, T: Tagger + Drop> Core<S, E, C, T> {
-    ghost use Rattle.std.specs.Prelude.{◌≡◌, true, length};
+    ghost use Rattle.std.specs.Prelude.{◌≡◌, ◌⊎◌, true, length};
     ghost use Rattle.std.specs.Option.{option_copied};
+    ghost use Rattle.layer_api.specs.ServiceCalls.{ShowsBetween};
     ghost use Rattle.ooc_buffers.specs.Lists.{held_bytes};
     ghost use Rattle.ritas_core.specs.Rules.{Rules, seat_of};
     ghost use Rattle.ritas_core.specs.Parts.{parts};
-    ghost use Rattle.ritas_core.specs.Machine.{CoreState};
+    ghost use Rattle.ritas_core.specs.Machine.{CoreState, with_lost};
     ghost use Rattle.ritas_core.specs.Stands.{meaning, CoreStands};
     ghost use Rattle.ritas_core.specs.Shown.{params_of, mode_of, me_of, tagger_of, front_of, all_bytes, delivered_at};
 
     /// The numbers of the session.
     pub fn params(&self) -> &Params
         ensures value { result.now ≡ params_of self.now }
-        ensures rules { let m = meaning S.stands S.rules E.stands E.rules C.bits T.me T.tags in
+        ensures rules { let m = meaning S.stands S.rules S.shown E.stands E.rules E.shown C.bits T.me T.tags in
             (r : Rules) (st : CoreState) → CoreStands m self.now r st → result.now ≡ r.casts.numbers }
     {
         &self.layers.params
@@ -26,7 +27,7 @@ impl<S: Service, E: Broadcast, C: Coin + Drop, T: Tagger + Drop> Core<S, E, C, T
     /// The root service, and the switch for VECT.
     pub fn mode(&self) -> &Mode
         ensures value { result.now ≡ mode_of self.now }
-        ensures rules { let m = meaning S.stands S.rules E.stands E.rules C.bits T.me T.tags in
+        ensures rules { let m = meaning S.stands S.rules S.shown E.stands E.rules E.shown C.bits T.me T.tags in
             (r : Rules) (st : CoreState) → CoreStands m self.now r st → result.now ≡ r.mode }
     {
         &self.layers.mode
@@ -35,7 +36,7 @@ impl<S: Service, E: Broadcast, C: Coin + Drop, T: Tagger + Drop> Core<S, E, C, T
     /// The number of this replica.
     pub fn me(&self) -> u8
         ensures value { result ≡ me_of self.now }
-        ensures rules { let m = meaning S.stands S.rules E.stands E.rules C.bits T.me T.tags in
+        ensures rules { let m = meaning S.stands S.rules S.shown E.stands E.rules E.shown C.bits T.me T.tags in
             (r : Rules) (st : CoreState) → CoreStands m self.now r st → result ≡ r.casts.me }
     {
         self.layers.me
@@ -44,7 +45,7 @@ impl<S: Service, E: Broadcast, C: Coin + Drop, T: Tagger + Drop> Core<S, E, C, T
     /// What this replica tags with.
     pub fn tagger(&self) -> &T
         ensures value { result.now ≡ tagger_of self.now }
-        ensures rules { let m = meaning S.stands S.rules E.stands E.rules C.bits T.me T.tags in
+        ensures rules { let m = meaning S.stands S.rules S.shown E.stands E.rules E.shown C.bits T.me T.tags in
             (r : Rules) (st : CoreState) → CoreStands m self.now r st
             → (T.me result.now ≡ r.casts.me) × (T.tags result.now ≡ r.casts.tags) }
     {
@@ -53,16 +54,16 @@ impl<S: Service, E: Broadcast, C: Coin + Drop, T: Tagger + Drop> Core<S, E, C, T
 
     /// How many items wait.
     pub fn inbox_len(&self) -> usize
-        ensures { let m = meaning S.stands S.rules E.stands E.rules C.bits T.me T.tags in
-            (r : Rules) (st : CoreState) → CoreStands m self.now r st → st.live ≡ true → result ≡ length st.inbox }
+        ensures { let m = meaning S.stands S.rules S.shown E.stands E.rules E.shown C.bits T.me T.tags in
+            (r : Rules) (st : CoreState) → CoreStands m self.now r st → result ≡ length st.inbox }
     {
         self.inbox.len()
     }
 
     /// The item that waits first, which the next turn takes.
     pub fn inbox_front(&self) -> Option<&Item>
-        ensures { let m = meaning S.stands S.rules E.stands E.rules C.bits T.me T.tags in
-            (r : Rules) (st : CoreState) → CoreStands m self.now r st → st.live ≡ true
+        ensures { let m = meaning S.stands S.rules S.shown E.stands E.rules E.shown C.bits T.me T.tags in
+            (r : Rules) (st : CoreState) → CoreStands m self.now r st
             → option_copied result ≡ front_of st.inbox }
     {
         self.inbox.front()
@@ -70,8 +71,8 @@ impl<S: Service, E: Broadcast, C: Coin + Drop, T: Tagger + Drop> Core<S, E, C, T
 
     /// How many bytes are held, over all peers.
     pub fn held(&self) -> u64
-        ensures { let m = meaning S.stands S.rules E.stands E.rules C.bits T.me T.tags in
-            (r : Rules) (st : CoreState) → CoreStands m self.now r st → st.live ≡ true → result ≡ all_bytes st.held }
+        ensures { let m = meaning S.stands S.rules S.shown E.stands E.rules E.shown C.bits T.me T.tags in
+            (r : Rules) (st : CoreState) → CoreStands m self.now r st → result ≡ all_bytes st.held }
     {
         let mut sum: u64 = 0;
         for peer in 0..self.layers.params.n() {
@@ -82,25 +83,32 @@ impl<S: Service, E: Broadcast, C: Coin + Drop, T: Tagger + Drop> Core<S, E, C, T
 
     /// How many bytes are held for one peer.
     pub fn held_of(&self, peer: u8) -> u32
-        ensures { let m = meaning S.stands S.rules E.stands E.rules C.bits T.me T.tags in
-            (r : Rules) (st : CoreState) → CoreStands m self.now r st → st.live ≡ true
+        ensures { let m = meaning S.stands S.rules S.shown E.stands E.rules E.shown C.bits T.me T.tags in
+            (r : Rules) (st : CoreState) → CoreStands m self.now r st
             → result ≡ held_bytes st.held peer }
     {
         self.held.bytes(peer)
     }
 
-    /// The service.
+    /// The service. Each of its getters answers as after the core's history, or, once the core is stopped, as after that with
+    /// what the stop lost.
     pub fn service(&self) -> &S
-        ensures { let m = meaning S.stands S.rules E.stands E.rules C.bits T.me T.tags in
+        ensures shown { let m = meaning S.stands S.rules S.shown E.stands E.rules E.shown C.bits T.me T.tags in
+            (r : Rules) (st : CoreState) → CoreStands m self.now r st
+            → ShowsBetween r.service (seat_of r) (parts r st.history).words (parts r (with_lost st)).words (S.shown result.now) }
+        ensures live { let m = meaning S.stands S.rules S.shown E.stands E.rules E.shown C.bits T.me T.tags in
             (r : Rules) (st : CoreState) → CoreStands m self.now r st → st.live ≡ true
             → S.stands result.now (seat_of r) (parts r st.history).words }
     {
         &self.layers.service
     }
 
-    /// What a slot delivered, if it did.
+    /// What a slot delivered, if it did: by the core's history, or, once the core is stopped, by that with what the stop lost.
     pub fn delivered(&self, slot: &Slot) -> Option<&[u8]>
-        ensures { let m = meaning S.stands S.rules E.stands E.rules C.bits T.me T.tags in
+        ensures shown { let m = meaning S.stands S.rules S.shown E.stands E.rules E.shown C.bits T.me T.tags in
+            (r : Rules) (st : CoreState) → CoreStands m self.now r st
+            → (option_copied result ≡ delivered_at r st.history slot.now) ⊎ (option_copied result ≡ delivered_at r (with_lost st) slot.now) }
+        ensures live { let m = meaning S.stands S.rules S.shown E.stands E.rules E.shown C.bits T.me T.tags in
             (r : Rules) (st : CoreState) → CoreStands m self.now r st → st.live ≡ true
             → option_copied result ≡ delivered_at r st.history slot.now }
     {
@@ -112,7 +120,7 @@ impl<S: Service, E: Broadcast, C: Coin + Drop, T: Tagger + Drop> Core<S, E, C, T
 
     /// Whether no call on this core was without memory, but for one that only was to hold an item.
     pub fn live(&self) -> bool
-        ensures { let m = meaning S.stands S.rules E.stands E.rules C.bits T.me T.tags in
+        ensures { let m = meaning S.stands S.rules S.shown E.stands E.rules E.shown C.bits T.me T.tags in
             (r : Rules) (st : CoreState) → CoreStands m self.now r st → result ≡ st.live }
     {
         !self.stopped

@@ -1,6 +1,8 @@
-ghost use Rattle.std.specs.Prelude.{◌≡◌, List, ℕ, Bool, true, IfOk, None, if◌then◌else◌};
+ghost use Rattle.std.specs.Prelude.{◌≡◌, ◌<◌, List, ℕ, Bool, true, IfOk, None, if◌then◌else◌};
+ghost use Rattle.std.specs.BTreeMap.{get};
 ghost use Rattle.ritas_base.specs.declared.slot.Slot.{Slot};
 ghost use Rattle.ritas_base.specs.declared.mode.Mode.{Mode};
+ghost use Rattle.ritas_base.specs.SlotOrder.{slot_cmp};
 ghost use Rattle.ritas_base.specs.History.{Call};
 ghost use Rattle.ritas_base.specs.Numbers.{Numbers};
 ghost use Rattle.ritas_base.specs.Tags.{Tags};
@@ -10,7 +12,6 @@ ghost use Rattle.ritas_core.specs.Casts.{CastsStand};
 ghost use Rattle.ritas_core.specs.CastCalls.{HearsItem, CastsHear, is_ready_in};
 
 use crate::cast::Cast;
-use crate::casts::make_cast;
 use crate::taken::Taken;
 use layer_api::{Broadcast, Heard};
 use ritas_base::{Bytes, Item, Kind, Mem, Mode, Msg, Params, Slot, Tagger};
@@ -23,7 +24,7 @@ fn newly_delivered<E: Broadcast>(
     had: bool,
     cast: &Cast<E>,
 ) -> Result<Option<Bytes>, Mem>
-    ensures { IfOk result (λ d. d ≡ (if had then None else shown_by E.shown cast.now)) }
+    ensures { IfOk result (λ d. d ≡ (if had then None else (shown_by E.shown cast.now).out)) }
 {
     if had {
         return Ok(None);
@@ -52,6 +53,29 @@ fn hear<E: Broadcast, T: Tagger>(
     }
 }
 
+/// Makes the broadcast of an item's slot, where none is there, and gives it the item.
+fn take_first<E: Broadcast, T: Tagger>(
+    alloc: Global,
+    p: &Params,
+    mode: &Mode,
+    me: u8,
+    t: &T,
+    casts: &mut BTreeMap<Slot, Cast<E>>,
+    item: &Item,
+    made: &mut Vec<Msg>,
+) -> Result<Taken, Mem>
+    requires me_below { me < p.now.n }
+    requires origin_below { item.now.slot.origin < p.now.n }
+    requires unmade { get slot_cmp casts.old item.now.slot ≡ None }
+    ensures { let c = casts_by mode.now p.now me (T.tags t.now) E.rules in
+        CastsHear (CastStandsAt mode.now E.stands) (shown_by E.shown) c (T.me t.now) casts.old casts.new item.now made.old.items made.new.items result }
+{
+    let mut cast = Cast::make(alloc, p, mode, me, item.slot)?;
+    let taken = hear(alloc, t, &mut cast, item, made)?;
+    casts.insert(item.slot, cast)?;
+    Ok(taken)
+}
+
 /// Gives an item to the broadcast of its slot, which is made if it isn't there.
 pub(crate) fn take_cast<E: Broadcast, T: Tagger>(
     alloc: Global,
@@ -64,27 +88,30 @@ pub(crate) fn take_cast<E: Broadcast, T: Tagger>(
     made: &mut Vec<Msg>,
 ) -> Result<Taken, Mem>
     ensures { let c = casts_by mode.now p.now me (T.tags t.now) E.rules in
-        CastsHear (CastStandsAt mode.now E.stands) c (T.me t.now) casts.old casts.new item.now made.old.items made.new.items result }
+        CastsHear (CastStandsAt mode.now E.stands) (shown_by E.shown) c (T.me t.now) casts.old casts.new item.now made.old.items made.new.items result }
 {
     // No such item comes: the origin of a slot in the grammar is a replica.
     if me >= p.n() || item.slot.origin >= p.n() {
         return Ok(Taken::Repeat);
     }
-    make_cast(alloc, p, mode, me, casts, item.slot)?;
     match casts.get_mut(&item.slot) {
         Some(cast) => hear(alloc, t, cast, item, made),
-        None => Ok(Taken::Repeat),
+        None => take_first(alloc, p, mode, me, t, casts, item, made),
     }
 }
 
-/// Whether the broadcast of its slot can take an item yet. Where none is made, it can't take a column.
+/// Whether the broadcast of its slot can take an item yet. Only a column isn't taken at any time, so nothing else is
+/// looked up.
 pub(crate) fn is_ready<E: Broadcast>(casts: &BTreeMap<Slot, Cast<E>>, item: &Item) -> bool
     ensures { (mode : Mode) (numbers : Numbers) (me : ℕ) (tags : Tags) (h : Slot → List Call) →
         let c = casts_by mode numbers me tags E.rules in
         CastsStand (CastStandsAt mode E.stands) c casts.now h → result ≡ is_ready_in c casts.now h item.now }
 {
+    if item.kind != Kind::Column {
+        return true;
+    }
     match casts.get(&item.slot) {
         Some(cast) => cast.ready_for(item),
-        None => item.kind != Kind::Column,
+        None => false,
     }
 }

@@ -64,7 +64,7 @@ pub(crate) fn judge<S: Service, E: Broadcast, C: Coin + Drop, T: Tagger + Drop>(
     is_kept: bool,
     item: &Item,
 ) -> Verdict
-    ensures result { let m = meaning S.stands S.rules E.stands E.rules C.bits T.me T.tags in
+    ensures result { let m = meaning S.stands S.rules S.shown E.stands E.rules E.shown C.bits T.me T.tags in
         (p : Parts) → LayersStand m layers.now p → item.now.slot.origin < layers.now.params.n
         → result ≡ judged_in m layers.now p is_kept item.now }
     ensures fresh { result ≡ Hold → is_kept ≡ false }

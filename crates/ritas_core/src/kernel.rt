@@ -1,13 +1,15 @@
 ghost use Rattle.std.specs.Prelude.{◌≡◌, ◌<◌, ◌^◌};
 ghost use Rattle.ritas_core.specs.Checks.{body_length};
+ghost use Rattle.ritas_core.specs.CoreCalls.{is_mem};
 
 use crate::answer::Answer;
 use crate::fault::CoreFault;
 use crate::judge::judge;
 use crate::layers::Layers;
+use crate::steps::take_front;
 use crate::verdict::Verdict;
 use frame_codec::spelled;
-use layer_api::{Broadcast, Heard, Service};
+use layer_api::{Broadcast, Service};
 use ooc_buffers::{Held, HoldFault};
 use ritas_base::{Coin, Item, Mem, Mode, Msg, Params, Tagger};
 use std::alloc::Global;
@@ -30,8 +32,16 @@ fn length_of(item: &Item) -> u32
     u32::try_from(10 + len).unwrap_or(u32::MAX)
 }
 
+/// Whether there was not enough memory.
+fn is_mem(answer: &Result<Answer, CoreFault>) -> bool
+    ensures { result ≡ is_mem answer.now }
+{
+    matches!(answer, Err(CoreFault::Mem))
+}
+
 impl<S: Service, E: Broadcast, C: Coin + Drop, T: Tagger + Drop> Core<S, E, C, T> {
-    ghost use Rattle.std.specs.Prelude.{◌≡◌, ◌<◌, true, false, List, [], IfOk, replicate};
+    ghost use Rattle.std.specs.Prelude.{◌≡◌, ◌<◌, true, false, List, [], ◌∷◌, IfOk, replicate};
+    ghost use Rattle.ritas_base.specs.declared.item.Item.{Item};
     ghost use Rattle.ritas_base.specs.declared.item.Msg.{Msg};
     ghost use Rattle.ooc_buffers.specs.Lists.{is_kept};
     ghost use Rattle.ritas_core.specs.declared.verdict.Verdict.TheVariants as verdicts;
@@ -39,7 +49,8 @@ impl<S: Service, E: Broadcast, C: Coin + Drop, T: Tagger + Drop> Core<S, E, C, T
     ghost use Rattle.ritas_core.specs.Machine.{Frame, Input, Turn, first_state};
     ghost use Rattle.ritas_core.specs.Stands.{meaning, CoreStands};
     ghost use Rattle.ritas_core.specs.Calls.{DoesAll};
-    ghost use Rattle.ritas_core.specs.CoreCalls.{DoesHere, DoesJudged};
+    ghost use Rattle.ritas_core.specs.Shown.{tagger_of};
+    ghost use Rattle.ritas_core.specs.CoreCalls.{DoesHere, DoesJudged, GivesFront, CopiesToHold, IsTold, FrontIsTold};
 
     /// The core of replica `me`, with no history: nothing waits, and nothing is held. The one error is want of memory.
     ///
@@ -51,13 +62,14 @@ impl<S: Service, E: Broadcast, C: Coin + Drop, T: Tagger + Drop> Core<S, E, C, T
         requires own { T.me t ≡ me }
         requires form { E.FORM ≡ other_form mode }
         requires serves { S.rules.serves mode.root ≡ true }
-        ensures { let m = meaning S.stands S.rules E.stands E.rules C.bits T.me T.tags in
+        ensures stands { let m = meaning S.stands S.rules S.shown E.stands E.rules E.shown C.bits T.me T.tags in
             IfOk result (λ core. CoreStands m core (record {
               mode = mode;
               casts = casts_by mode p me (T.tags t) E.rules;
               coin = C.bits coin;
               service = S.rules;
             }) (first_state (replicate p.n []))) }
+        ensures tagger { IfOk result (λ core. tagger_of core ≡ t) }
     {
         let held = Held::new(alloc, p.n())?;
         let service = S::new(alloc, &p, me)?;
@@ -77,31 +89,12 @@ impl<S: Service, E: Broadcast, C: Coin + Drop, T: Tagger + Drop> Core<S, E, C, T
         })
     }
 
-    // Takes an open item, if it doesn't repeat one that its slot took. For want of memory the core stops.
-    fn take_open(
-        &mut self,
-        alloc: Global,
-        item: &Item,
-        out: &mut Vec<Msg>,
-    ) -> Result<Answer, CoreFault>
-        ensures { let m = meaning S.stands S.rules E.stands E.rules C.bits T.me T.tags in
-            DoesJudged m self.old self.new verdicts.Take item.now out.old.items out.new.items result }
-    {
-        match self.try_take(alloc, item, out) {
-            Ok(Heard::Took) => Ok(Answer::Took),
-            Ok(Heard::Repeat) => Ok(Answer::Repeat),
-            Err(_) => {
-                self.stopped = true;
-                Err(CoreFault::Mem)
-            }
-        }
-    }
-
     // Holds an item, if there is room for it.
     fn hold(&mut self, alloc: Global, item: Item) -> Result<Answer, CoreFault>
         requires { is_kept self.old.held item ≡ false }
-        ensures { let m = meaning S.stands S.rules E.stands E.rules C.bits T.me T.tags in
+        ensures does { let m = meaning S.stands S.rules S.shown E.stands E.rules E.shown C.bits T.me T.tags in
             (sent : List Msg) → DoesJudged m self.old self.new verdicts.Hold item sent sent result }
+        ensures tagger { tagger_of self.new ≡ tagger_of self.old }
     {
         // No such item comes: an item is from a replica.
         if usize::from(item.from) >= self.held.peers() {
@@ -117,23 +110,68 @@ impl<S: Service, E: Broadcast, C: Coin + Drop, T: Tagger + Drop> Core<S, E, C, T
         }
     }
 
+    // A copy of the item at the front of the inbox, which is to be held, if there is room for it.
+    fn copy_front(&self, alloc: Global) -> Result<Item, CoreFault>
+        ensures { let m = meaning S.stands S.rules S.shown E.stands E.rules E.shown C.bits T.me T.tags in
+            (item : Item) (rest : List Item) → self.now.inbox.items ≡ item ∷ rest → CopiesToHold m self.now item result }
+    {
+        let Some(item) = self.inbox.front() else {
+            // No such inbox comes.
+            return Err(CoreFault::Mem);
+        };
+        // The law that an item's spelling is short.
+        spelled();
+        if let Some(bytes) = self.held.full_for(item.from, length_of(item)) {
+            return Err(CoreFault::HeldFull(bytes));
+        }
+        match item.copy(alloc) {
+            Ok(copy) => Ok(copy),
+            Err(_) => Err(CoreFault::Mem),
+        }
+    }
+
+    // What is done with an item.
+    fn judged(&self, item: &Item) -> Verdict
+        ensures { let m = meaning S.stands S.rules S.shown E.stands E.rules E.shown C.bits T.me T.tags in
+            IsTold m self.now item.now result }
+    {
+        judge(&self.layers, self.held.has(item), item)
+    }
+
+    // What is done with the item at the front of the inbox.
+    fn judged_front(&self) -> Option<Verdict>
+        ensures { let m = meaning S.stands S.rules S.shown E.stands E.rules E.shown C.bits T.me T.tags in
+            FrontIsTold m self.now result }
+    {
+        match self.inbox.front() {
+            Some(item) => Some(self.judged(item)),
+            None => None,
+        }
+    }
+
     // Takes, holds or refuses an item. The core isn't stopped.
     fn step(&mut self, alloc: Global, item: Item, out: &mut Vec<Msg>) -> Result<Answer, CoreFault>
-        ensures { let m = meaning S.stands S.rules E.stands E.rules C.bits T.me T.tags in
+        ensures does { let m = meaning S.stands S.rules S.shown E.stands E.rules E.shown C.bits T.me T.tags in
             DoesHere m self.old self.new (Frame item) out.old.items out.new.items result }
+        ensures tagger { tagger_of self.new ≡ tagger_of self.old }
     {
-        match judge(&self.layers, self.held.has(&item), &item) {
+        match self.judged(&item) {
             Verdict::Refuse(fault) => Err(fault),
             Verdict::Again => Ok(Answer::Repeat),
             Verdict::Hold => self.hold(alloc, item),
-            Verdict::Take => self.take_open(alloc, &item, out),
+            Verdict::Take => {
+                let mut made = Vec::new(alloc);
+                let heard = self.layers.take(alloc, &item, &mut made);
+                self.pass_on(alloc, heard, made, out)
+            }
         }
     }
 
     // Takes an input that passed the checks. For want of memory the core stops.
     fn give(&mut self, alloc: Global, value: &[u8], out: &mut Vec<Msg>) -> Result<Answer, CoreFault>
-        ensures { let m = meaning S.stands S.rules E.stands E.rules C.bits T.me T.tags in
+        ensures does { let m = meaning S.stands S.rules S.shown E.stands E.rules E.shown C.bits T.me T.tags in
             DoesHere m self.old self.new (Input value.now) out.old.items out.new.items result }
+        ensures tagger { tagger_of self.new ≡ tagger_of self.old }
     {
         if let Some(fault) = self.layers.input_fault(value) {
             return Err(fault);
@@ -147,15 +185,40 @@ impl<S: Service, E: Broadcast, C: Coin + Drop, T: Tagger + Drop> Core<S, E, C, T
         }
     }
 
-    // Gives the item at the front of the inbox.
-    fn step_front(&mut self, alloc: Global, out: &mut Vec<Msg>) -> Result<Answer, CoreFault>
-        ensures { let m = meaning S.stands S.rules E.stands E.rules C.bits T.me T.tags in
-            DoesHere m self.old self.new Turn out.old.items out.new.items result }
+    // Takes, holds or refuses the item at the front of the inbox, which stays there.
+    fn give_front(&mut self, alloc: Global, out: &mut Vec<Msg>) -> Result<Answer, CoreFault>
+        ensures does { let m = meaning S.stands S.rules S.shown E.stands E.rules E.shown C.bits T.me T.tags in
+            GivesFront m self.old self.new out.old.items out.new.items result }
+        ensures tagger { tagger_of self.new ≡ tagger_of self.old }
     {
-        match self.inbox.pop_front() {
+        match self.judged_front() {
             None => Ok(Answer::Idle),
-            Some(item) => self.step(alloc, item, out),
+            Some(Verdict::Refuse(fault)) => Err(fault),
+            Some(Verdict::Again) => Ok(Answer::Repeat),
+            Some(Verdict::Hold) => match self.copy_front(alloc) {
+                Ok(copy) => self.hold(alloc, copy),
+                Err(fault) => Err(fault),
+            },
+            Some(Verdict::Take) => {
+                let mut made = Vec::new(alloc);
+                let heard = take_front(alloc, &mut self.layers, &self.inbox, &mut made);
+                self.pass_on(alloc, heard, made, out)
+            }
         }
+    }
+
+    // Gives the item at the front of the inbox, which leaves it, but for want of memory.
+    fn step_front(&mut self, alloc: Global, out: &mut Vec<Msg>) -> Result<Answer, CoreFault>
+        ensures does { let m = meaning S.stands S.rules S.shown E.stands E.rules E.shown C.bits T.me T.tags in
+            DoesHere m self.old self.new Turn out.old.items out.new.items result }
+        ensures tagger { tagger_of self.new ≡ tagger_of self.old }
+    {
+        let answer = self.give_front(alloc, out);
+        if is_mem(&answer) {
+            return answer;
+        }
+        self.inbox.pop_front();
+        answer
     }
 
     /// Takes an item, holds it, or refuses it, and appends to `out` the messages that become due by it, by slot, kind and
@@ -177,15 +240,16 @@ impl<S: Service, E: Broadcast, C: Coin + Drop, T: Tagger + Drop> Core<S, E, C, T
     /// open now do, by peer and in their order, and held items that are past are dropped.
     ///
     /// `Mem` comes only while an item is held or taken. `out` is then as before. Where the item was to be held, the core
-    /// is as before too; otherwise it is stopped.
+    /// is as before too; otherwise it is stopped, and keeps what waits and what is held.
     pub fn take(
         &mut self,
         alloc: Global,
         item: Item,
         out: &mut Vec<Msg>,
     ) -> Result<Answer, CoreFault>
-        ensures { let m = meaning S.stands S.rules E.stands E.rules C.bits T.me T.tags in
+        ensures does { let m = meaning S.stands S.rules S.shown E.stands E.rules E.shown C.bits T.me T.tags in
             DoesAll m self.old self.new (Frame item) out.old.items out.new.items result }
+        ensures tagger { tagger_of self.new ≡ tagger_of self.old }
     {
         if self.stopped {
             return Err(CoreFault::Stopped);
@@ -199,15 +263,16 @@ impl<S: Service, E: Broadcast, C: Coin + Drop, T: Tagger + Drop> Core<S, E, C, T
     /// much; `InputTaken`, where the root service has one instance and has its input; `WindowFull`, with the next number,
     /// where that is at least 64 above the least that isn't finished, or is 1,000,000. Otherwise the answer is `Took`.
     ///
-    /// For want of memory `out` is as before, and the core is stopped.
+    /// For want of memory `out` is as before, and the core is stopped, and keeps what waits and what is held.
     pub fn input(
         &mut self,
         alloc: Global,
         bytes: &[u8],
         out: &mut Vec<Msg>,
     ) -> Result<Answer, CoreFault>
-        ensures { let m = meaning S.stands S.rules E.stands E.rules C.bits T.me T.tags in
+        ensures does { let m = meaning S.stands S.rules S.shown E.stands E.rules E.shown C.bits T.me T.tags in
             DoesAll m self.old self.new (Input bytes.now) out.old.items out.new.items result }
+        ensures tagger { tagger_of self.new ≡ tagger_of self.old }
     {
         if self.stopped {
             return Err(CoreFault::Stopped);
@@ -215,10 +280,12 @@ impl<S: Service, E: Broadcast, C: Coin + Drop, T: Tagger + Drop> Core<S, E, C, T
         self.give(alloc, bytes, out)
     }
 
-    /// Takes the item at the front out of the inbox, and gives it as `take` does. The answer is `Idle` where none waits.
+    /// Takes the item at the front out of the inbox, and gives it as `take` does. The answer is `Idle` where none waits. For
+    /// want of memory the item stays at the front.
     pub fn turn(&mut self, alloc: Global, out: &mut Vec<Msg>) -> Result<Answer, CoreFault>
-        ensures { let m = meaning S.stands S.rules E.stands E.rules C.bits T.me T.tags in
+        ensures does { let m = meaning S.stands S.rules S.shown E.stands E.rules E.shown C.bits T.me T.tags in
             DoesAll m self.old self.new Turn out.old.items out.new.items result }
+        ensures tagger { tagger_of self.new ≡ tagger_of self.old }
     {
         if self.stopped {
             return Err(CoreFault::Stopped);

@@ -5,30 +5,33 @@ ghost use Rattle.ritas_base.specs.declared.mode.Mode.{Mode};
 ghost use Rattle.ritas_base.specs.Numbers.{Numbers};
 ghost use Rattle.ritas_base.specs.declared.item.Msg.{Msg};
 ghost use Rattle.ritas_base.specs.Slots.{slot_fault};
-ghost use Rattle.ritas_base.specs.Messages.{has, item_of};
-ghost use Rattle.ritas_base.specs.History.{started};
-ghost use Rattle.frame_codec.specs.Body.{IsInGrammar};
+ghost use Rattle.ritas_base.specs.Messages.{has};
 ghost use Rattle.layer_api.specs.Broadcast.{BroadcastRules};
 ghost use Rattle.layer_api.specs.Runs.{Has};
-ghost use Rattle.layer_api.specs.OneValue.{AreTaken, AreGoodCalls};
-ghost use Rattle.layer_api.specs.Service.{said, is_said, is_heard, AreProper, AreGoodWords};
-ghost use Rattle.ritas_core.specs.Rules.{Rules, seat_of, place_at, out_at, at_slot_of, KindsFit, HasForm};
+ghost use Rattle.layer_api.specs.OneValue.{IsReceiver, IsOnce};
+ghost use Rattle.ritas_core.specs.Rules.{Rules, seat_of, out_at, at_slot_of, KindsFit, HasForm};
 ghost use Rattle.ritas_core.specs.Parts.{Entry, parts};
 ghost use Rattle.ritas_core.specs.Order.{new_messages};
 ghost use Rattle.ritas_core.specs.Checks.{IsHistory};
-ghost use Rattle.ritas_core.specs.Laws.{LayerLaws, is_due, InOrder};
+ghost use Rattle.ritas_core.specs.Laws.{is_due, InOrder};
+ghost use Rattle.ritas_core.specs.Laws.{StartsWhereSaid, StartsWhatWasSaid, HearsWhereDelivered, WordsAreProper, WordsAreGood, CallsAreTaken, CallsAreFirst, CallsAreGood};
+ghost use Rattle.ritas_core.specs.Laws.{NewIsDue, DueStays, NewIsGood, MayStartGiven, MayHearTaken, MayStartHeard, TakenIsTakable, GivenIsGivable, FoundIsRepeat};
 ghost use Rattle.ritas_core.specs.CoreOf.{IsCoreOf};
 
 use layer_api::{Broadcast, Service};
 
 /// What goes out by an entry of a core's history is what is due after it, at any slot, and was not due before. It goes
-/// out in the order of slot, kind and receiver.
+/// out in the order of slot, kind and receiver, each message once, and to all or to a replica.
 ///
 /// It does nothing: its contract is the law.
 pub fn new_is_due<S: Service, E: Broadcast>()
     ensures due { (r : Rules) → IsCoreOf S.rules E.rules r → (h : List Entry) (e : Entry) (m : Msg) →
         has (new_messages r h e) m ≡ (is_due r (parts r (e ∷ h)) m && not (is_due r (parts r h) m)) }
     ensures order { (r : Rules) (h : List Entry) (e : Entry) → InOrder (new_messages r h e) }
+    ensures once { (r : Rules) → IsCoreOf S.rules E.rules r → (h : List Entry) (e : Entry) → IsHistory r (e ∷ h) →
+        IsOnce (new_messages r h e) }
+    ensures receiver { (r : Rules) → IsCoreOf S.rules E.rules r → (h : List Entry) (e : Entry) → IsHistory r (e ∷ h) → (m : Msg) →
+        Has (new_messages r h e) m → IsReceiver r.casts.numbers.n m.to }
 {}
 
 /// A slot that has delivered is in the grammar. A command slot that has delivered lies below the end of its origin's
@@ -45,25 +48,43 @@ pub fn delivered_within<S: Service, E: Broadcast>()
 /// Every entry of a history, where it met its own conditions, meets those of the layers, whatever they mean, as long as
 /// they keep their laws.
 ///
-/// A broadcast was started exactly where the service said its slot, and a slot was heard exactly where it has delivered.
-/// Each word to the service and each call on a broadcast met its conditions and is in the grammar, and so is each message
-/// that goes out.
+/// A broadcast was started exactly where the service said its slot, with the value said there, and a slot was heard
+/// exactly where it has delivered. Each word to the service and each call on a broadcast met its conditions and is in the
+/// grammar, and so is each message that goes out. No item repeats an earlier one, and what is due stays due.
 ///
 /// It does nothing: its contract is the law.
 pub fn history_laws()
-    ensures started { (r : Rules) (h : List Entry) (s : Slot) →
-        is_some (started ((parts r h).calls s)) ≡ is_said (said r.service (seat_of r) (parts r h).words) s }
-    ensures heard { (r : Rules) → LayerLaws r → (h : List Entry) (s : Slot) →
-        is_heard (parts r h).words s ≡ is_some (out_at r.casts s ((parts r h).calls s)) }
-    ensures words { (r : Rules) → LayerLaws r → (h : List Entry) → IsHistory r h →
-        AreProper r.service (seat_of r) (parts r h).words × AreGoodWords r.casts.numbers r.mode (parts r h).words }
-    ensures calls { (r : Rules) → LayerLaws r → (h : List Entry) → IsHistory r h → (s : Slot) →
-        AreTaken (r.casts.at_slot s) (place_at r.casts s) r.casts.tags ((parts r h).calls s)
-        × AreGoodCalls r.casts.numbers r.mode s ((parts r h).calls s) }
-    ensures due { (r : Rules) → LayerLaws r → (h : List Entry) (e : Entry) (m : Msg) →
-        has (new_messages r h e) m ≡ (is_due r (parts r (e ∷ h)) m && not (is_due r (parts r h) m)) }
-    ensures sent { (r : Rules) → LayerLaws r → (h : List Entry) (e : Entry) → IsHistory r (e ∷ h) → (m : Msg) →
-        Has (new_messages r h e) m → IsInGrammar r.casts.numbers r.mode (item_of r.casts.me m) }
+    ensures starts { StartsWhereSaid }
+    ensures started { StartsWhatWasSaid }
+    ensures heard { HearsWhereDelivered }
+    ensures proper { WordsAreProper }
+    ensures words { WordsAreGood }
+    ensures taken { CallsAreTaken }
+    ensures first { CallsAreFirst }
+    ensures calls { CallsAreGood }
+    ensures due { NewIsDue }
+    ensures due_stays { DueStays }
+    ensures sent { NewIsGood }
+{}
+
+/// What an entry makes the layers do may be done: what the service newly says may be started, and it may hear what an
+/// item's slot newly delivers.
+///
+/// It does nothing: its contract is the law.
+pub fn entry_laws()
+    ensures given { MayStartGiven }
+    ensures hears { MayHearTaken }
+    ensures heard { MayStartHeard }
+{}
+
+/// What passes all checks meets the conditions of an entry. What a core looks up of an item, which is its broadcast only
+/// where it is open, and else the held items alone, tells whether it repeats another.
+///
+/// It does nothing: its contract is the law.
+pub fn verdict_laws()
+    ensures takable { TakenIsTakable }
+    ensures givable { GivenIsGivable }
+    ensures repeats { FoundIsRepeat }
 {}
 
 /// The broadcast of each slot has exactly the kinds that the grammar gives to it, where the other broadcast has the form

@@ -23,13 +23,13 @@ pub struct Layers<S: Service, E: Broadcast, C: Coin + Drop, T: Tagger + Drop> {
 }
 
 impl<S: Service, E: Broadcast, C: Coin + Drop, T: Tagger + Drop> Layers<S, E, C, T> {
-    ghost use Rattle.std.specs.Prelude.{◌≡◌, ◌<◌, None, OnOk};
+    ghost use Rattle.std.specs.Prelude.{◌≡◌, ◌<◌, None, OnOk, OnErr};
     ghost use Rattle.layer_api.specs.Service.{Ask, Hear};
     ghost use Rattle.ritas_core.specs.Parts.{Parts};
     ghost use Rattle.ritas_core.specs.Checks.{mark_of, window_fault, input_check};
     ghost use Rattle.frame_codec.specs.Inputs.{IsInput};
     ghost use Rattle.ritas_core.specs.Stands.{meaning, rules_of, LayersStand};
-    ghost use Rattle.ritas_core.specs.LayerCalls.{SameSeat, Tells, GivesItem, is_past_in, is_let_in, is_open_in};
+    ghost use Rattle.ritas_core.specs.LayerCalls.{SameSeat, Tells, TellsNone, GivesItem, is_past_in, is_let_in, is_open_in};
 
     /// Tells the service what a slot delivered, and starts what it says.
     fn hear(
@@ -39,8 +39,10 @@ impl<S: Service, E: Broadcast, C: Coin + Drop, T: Tagger + Drop> Layers<S, E, C,
         value: &[u8],
         made: &mut Vec<Msg>,
     ) -> Result<(), Mem>
-        ensures told { let m = meaning S.stands S.rules E.stands E.rules C.bits T.me T.tags in
+        ensures told { let m = meaning S.stands S.rules S.shown E.stands E.rules E.shown C.bits T.me T.tags in
             OnOk result (Tells m self.old self.new (Hear slot.now value.now) made.old.items made.new.items) }
+        ensures missed { let m = meaning S.stands S.rules S.shown E.stands E.rules E.shown C.bits T.me T.tags in
+            OnErr result (TellsNone m self.old self.new (Hear slot.now value.now)) }
         ensures same { SameSeat self.old self.new }
     {
         let mut says = Vec::new(alloc);
@@ -65,8 +67,10 @@ impl<S: Service, E: Broadcast, C: Coin + Drop, T: Tagger + Drop> Layers<S, E, C,
         value: &[u8],
         made: &mut Vec<Msg>,
     ) -> Result<(), Mem>
-        ensures told { let m = meaning S.stands S.rules E.stands E.rules C.bits T.me T.tags in
+        ensures told { let m = meaning S.stands S.rules S.shown E.stands E.rules E.shown C.bits T.me T.tags in
             OnOk result (Tells m self.old self.new (Ask value.now) made.old.items made.new.items) }
+        ensures missed { let m = meaning S.stands S.rules S.shown E.stands E.rules E.shown C.bits T.me T.tags in
+            OnErr result (TellsNone m self.old self.new (Ask value.now)) }
         ensures same { SameSeat self.old self.new }
     {
         let mut says = Vec::new(alloc);
@@ -90,7 +94,7 @@ impl<S: Service, E: Broadcast, C: Coin + Drop, T: Tagger + Drop> Layers<S, E, C,
         item: &Item,
         made: &mut Vec<Msg>,
     ) -> Result<Heard, Mem>
-        ensures given { let m = meaning S.stands S.rules E.stands E.rules C.bits T.me T.tags in
+        ensures given { let m = meaning S.stands S.rules S.shown E.stands E.rules E.shown C.bits T.me T.tags in
             GivesItem m self.old self.new item.now made.old.items made.new.items result }
         ensures same { SameSeat self.old self.new }
     {
@@ -116,7 +120,7 @@ impl<S: Service, E: Broadcast, C: Coin + Drop, T: Tagger + Drop> Layers<S, E, C,
     /// What the window of an item's slot is counted from: the least command number that isn't finished, or how many
     /// rounds are complete.
     pub(crate) fn mark(&self, item: &Item) -> u32
-        ensures { let m = meaning S.stands S.rules E.stands E.rules C.bits T.me T.tags in
+        ensures { let m = meaning S.stands S.rules S.shown E.stands E.rules E.shown C.bits T.me T.tags in
             (p : Parts) → LayersStand m self.now p → item.now.slot.origin < self.now.params.n
             → result ≡ mark_of (rules_of m self.now) p item.now }
     {
@@ -129,24 +133,24 @@ impl<S: Service, E: Broadcast, C: Coin + Drop, T: Tagger + Drop> Layers<S, E, C,
 
     /// Whether an item inside its window may be taken now.
     pub(crate) fn lets_in(&self, item: &Item) -> bool
-        ensures { (p : Parts) → LayersStand (meaning S.stands S.rules E.stands E.rules C.bits T.me T.tags) self.now p
-            → result ≡ is_let_in (meaning S.stands S.rules E.stands E.rules C.bits T.me T.tags) self.now p item.now }
+        ensures { (p : Parts) → LayersStand (meaning S.stands S.rules S.shown E.stands E.rules E.shown C.bits T.me T.tags) self.now p
+            → result ≡ is_let_in (meaning S.stands S.rules S.shown E.stands E.rules E.shown C.bits T.me T.tags) self.now p item.now }
     {
         self.service.is_open(&item.slot) && is_ready(&self.casts, item)
     }
 
     /// Whether an item is past.
     pub(crate) fn is_past(&self, item: &Item) -> bool
-        ensures { (p : Parts) → LayersStand (meaning S.stands S.rules E.stands E.rules C.bits T.me T.tags) self.now p
-            → result ≡ is_past_in (meaning S.stands S.rules E.stands E.rules C.bits T.me T.tags) self.now p item.now }
+        ensures { (p : Parts) → LayersStand (meaning S.stands S.rules S.shown E.stands E.rules E.shown C.bits T.me T.tags) self.now p
+            → result ≡ is_past_in (meaning S.stands S.rules S.shown E.stands E.rules E.shown C.bits T.me T.tags) self.now p item.now }
     {
         item.slot.origin < self.params.n() && is_behind(&item.slot, self.mark(item))
     }
 
     /// Whether an item is open.
     pub(crate) fn is_open(&self, item: &Item) -> bool
-        ensures { (p : Parts) → LayersStand (meaning S.stands S.rules E.stands E.rules C.bits T.me T.tags) self.now p
-            → result ≡ is_open_in (meaning S.stands S.rules E.stands E.rules C.bits T.me T.tags) self.now p item.now }
+        ensures { (p : Parts) → LayersStand (meaning S.stands S.rules S.shown E.stands E.rules E.shown C.bits T.me T.tags) self.now p
+            → result ≡ is_open_in (meaning S.stands S.rules S.shown E.stands E.rules E.shown C.bits T.me T.tags) self.now p item.now }
     {
         if item.slot.origin >= self.params.n() {
             return false;
@@ -157,7 +161,7 @@ impl<S: Service, E: Broadcast, C: Coin + Drop, T: Tagger + Drop> Layers<S, E, C,
 
     /// Why no input may be given now.
     fn window_fault(&self) -> Option<CoreFault>
-        ensures { let m = meaning S.stands S.rules E.stands E.rules C.bits T.me T.tags in
+        ensures { let m = meaning S.stands S.rules S.shown E.stands E.rules E.shown C.bits T.me T.tags in
             (p : Parts) → LayersStand m self.now p → self.now.me < self.now.params.n
             → result ≡ window_fault (rules_of m self.now) p }
     {
@@ -175,7 +179,7 @@ impl<S: Service, E: Broadcast, C: Coin + Drop, T: Tagger + Drop> Layers<S, E, C,
     /// The first check that an input doesn't pass.
     #[tactic(auto, unfolding(crate::specs::Checks::input_check))]
     pub(crate) fn input_fault(&self, value: &[u8]) -> Option<CoreFault>
-        ensures exact { let m = meaning S.stands S.rules E.stands E.rules C.bits T.me T.tags in
+        ensures exact { let m = meaning S.stands S.rules S.shown E.stands E.rules E.shown C.bits T.me T.tags in
             (p : Parts) → LayersStand m self.now p → self.now.me < self.now.params.n
             → result ≡ input_check (rules_of m self.now) p value.now }
         ensures good { result ≡ None → IsInput self.now.params self.now.mode value.now }

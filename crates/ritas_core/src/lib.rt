@@ -30,7 +30,7 @@ mod verdict;
 pub use answer::Answer;
 pub use fault::CoreFault;
 pub use kernel::Core;
-pub use laws::{delivered_within, history_laws, kinds_fit, new_is_due};
+pub use laws::{delivered_within, entry_laws, history_laws, kinds_fit, new_is_due, verdict_laws};
 pub use verdict::Verdict;
 
 #[cfg(test)]

@@ -1,6 +1,6 @@
 ghost use Rattle.std.specs.Prelude.{◌≡◌, ◌++◌, [], ◌∷◌, OnOk, OnErr, IfOk};
 ghost use Rattle.ritas_base.specs.Messages.{reaches};
-ghost use Rattle.ritas_core.specs.Order.{is_before, inserted, ordered, own_items};
+ghost use Rattle.ritas_core.specs.Order.{is_before, inserted, ordered, own_items, Extends};
 
 use ritas_base::{Item, Mem, Msg, To};
 use std::alloc::Global;
@@ -26,7 +26,8 @@ fn reaches(to: To, me: u8) -> bool
 
 /// The item that comes to oneself goes to the back of the inbox.
 fn keep_one(alloc: Global, me: u8, m: &Msg, inbox: &mut VecDeque<Item>) -> Result<(), Mem>
-    ensures { OnOk result (inbox.new.items ≡ inbox.old.items ++ own_items me (m.now ∷ [])) }
+    ensures ok { OnOk result (inbox.new.items ≡ inbox.old.items ++ own_items me (m.now ∷ [])) }
+    ensures err { OnErr result (inbox.new.items ≡ inbox.old.items) }
 {
     if reaches(m.to, me) {
         let item = m.to_item(alloc, me)?;
@@ -35,14 +36,15 @@ fn keep_one(alloc: Global, me: u8, m: &Msg, inbox: &mut VecDeque<Item>) -> Resul
     Ok(())
 }
 
-/// The items that come to oneself go to the back of the inbox.
+/// The items that come to oneself go to the back of the inbox; for want of memory only some of them.
 pub(crate) fn keep_own(
     alloc: Global,
     me: u8,
     sent: &[Msg],
     inbox: &mut VecDeque<Item>,
 ) -> Result<(), Mem>
-    ensures { OnOk result (inbox.new.items ≡ inbox.old.items ++ own_items me sent.now) }
+    ensures ok { OnOk result (inbox.new.items ≡ inbox.old.items ++ own_items me sent.now) }
+    ensures err { OnErr result (Extends inbox.old.items inbox.new.items) }
 {
     for m in sent {
         keep_one(alloc, me, m, inbox)?;

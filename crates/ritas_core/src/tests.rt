@@ -1,7 +1,8 @@
 ghost use Rattle.std.specs.Prelude.{◌≡◌, ◌<◌, replicate};
 
 use super::*;
-use layer_api::{Broadcast, Heard, Outcome, Service};
+use layer_api::{Outcome, Service};
+use reliable_bcast::Rb;
 use ritas_base::{Bytes, Coin, Id, Item, Kind, Mem, Mode, Msg, Params, Say, Slot, Tagger, Vect};
 use std::alloc::Global;
 
@@ -39,24 +40,26 @@ impl Coin for Zeros {
     }
 }
 
-/// A service that has its input, says nothing, and lets in all but steps of consensus.
+/// A service of vector consensus that says nothing, and lets in all but steps of consensus.
 #[derive(Drop)]
-struct Mute;
+struct Mute {
+    given: bool,
+}
 
 impl Service for Mute {
-    ghost use Rattle.std.specs.Prelude.{true, false, not, ◌==◌, [], None};
-    ghost use Rattle.layer_api.specs.Service.{Undecided};
+    ghost use Rattle.std.specs.Prelude.{◌≡◌, true, false, not, ◌==◌, [], None};
+    ghost use Rattle.layer_api.specs.Service.{Undecided, asked};
 
-    ghost stands = { λ s seat w. Unit {0} };
+    ghost stands = { λ s seat w. s.given ≡ not (asked w == 0) };
 
     ghost rules = { record {
-      serves = λ root. true;
+      serves = λ root. root == 5;
       says = λ seat w c. [];
       opens = λ seat w s. not (s.class == 5);
       completed = λ seat w. 0;
       base = λ seat w o. 0;
       next_number = λ seat w. 0;
-      given = λ seat w. true;
+      given = λ seat w. not (asked w == 0);
       done = λ seat w. [];
       outcome = λ seat w. Undecided;
       decided = λ seat w x. None;
@@ -69,20 +72,21 @@ impl Service for Mute {
       completed = 0;
       base = λ o. 0;
       next_number = 0;
-      given = true;
+      given = s.given;
       done = [];
       outcome = Undecided;
     } };
 
-    fn serves(_root: u8) -> bool {
-        true
+    fn serves(root: u8) -> bool {
+        root == 5
     }
 
     fn new(_alloc: Global, _p: &Params, _me: u8) -> Result<Mute, Mem> {
-        Ok(Mute)
+        Ok(Mute { given: false })
     }
 
     fn input(&mut self, _alloc: Global, _value: &[u8], _says: &mut Vec<Say>) -> Result<(), Mem> {
+        self.given = true;
         Ok(())
     }
 
@@ -114,7 +118,7 @@ impl Service for Mute {
     }
 
     fn given(&self) -> bool {
-        true
+        self.given
     }
 
     fn done(&self) -> &[Id] {
@@ -129,11 +133,13 @@ impl Service for Mute {
         true
     }
 
-    ghost use Rattle.std.specs.Prelude.{refl};
-    ghost use Rattle.std.proofs.Common.{sym, inl};
+    ghost use Rattle.std.specs.Prelude.{ℕ, ◌&&◌, refl, if◌then◌else◌};
+    ghost use Rattle.std.proofs.Common.{ap, sym, subst, inl, lit≤};
     ghost use Rattle.std.proofs.Math.Nat.{le_refl};
-    ghost use Rattle.std.proofs.lemmas.Bool.{false≢true};
+    ghost use Rattle.std.proofs.lemmas.Bool.{false≢true, eqb-true};
     ghost use Rattle.std.proofs.lemmas.Option.{none-some};
+    ghost use Rattle.ritas_base.specs.Slots.{has_class};
+    ghost use Rattle.layer_api.specs.Service.{has_instance};
 
     ghost lives = { λ s seat w stood. refl };
 
@@ -142,18 +148,30 @@ impl Service for Mute {
       completed = refl;
       base = λ o within. refl;
       next_number = refl;
-      given = refl;
+      given = stood;
       done = refl;
       outcome = refl;
     } };
 
     ghost word_laws = { record {
+      meanings = λ seat w session serves met. let five = eqb-true seat.mode.root 5 serves in record {
+        next_number = unfold has_class in ap (λ (n : ℕ). if has_class n 1 then asked w else 0) (sym five);
+        given = ap (λ (n : ℕ). has_instance n && not (asked w == 0)) (sym five);
+        completed = λ low. refl;
+        base = λ o there. absurd (false≢true (unfold has_class in subst (λ (n : ℕ). has_class n 1 ≡ true) five there));
+        base_none = λ o there. refl;
+        done = λ low. refl;
+        done_few = lit≤ tt;
+        outcome = tt;
+      };
+      opens_stays = λ seat c w s met was near. was;
       says_new = λ seat c w met. tt;
-      says_good = λ seat mode c w session me serves met good. tt;
+      says_good = λ seat c w me met. tt;
       commands_said = λ seat c w met. tt;
-      inputs_said = λ seat mode v w serves there met. absurd (false≢true (sym met.0.first));
-      completed_stays = λ seat c w. le_refl 0;
-      base_stays = λ seat c w o. le_refl 0;
+      inputs_said = λ seat v w there met.
+          absurd (false≢true (unfold has_class in subst (λ (n : ℕ). has_class n 1 ≡ true) (eqb-true seat.mode.root 5 met.0.served) there));
+      completed_stays = λ seat c w met. le_refl 0;
+      base_stays = λ seat c w o met. le_refl 0;
       done_nothing = λ seat. refl;
       done_grows = λ seat c w met. record { more = []; whole = refl; recent = tt };
       done_once = λ seat w met. tt;
@@ -167,100 +185,7 @@ impl Service for Mute {
       outcomes = λ p mode is_correct coins steps run i j d e ci cj a b. absurd Prim.cc;
       decisions = λ p mode is_correct coins steps run i j x d e ci cj a b. absurd (none-some d a);
       bits = λ p mode is_correct coins steps run i b ci a. absurd Prim.cc;
-    } };
-}
-
-/// A broadcast of form 1 that takes all items, says nothing and delivers nothing.
-#[derive(Drop)]
-struct Deaf;
-
-impl Broadcast for Deaf {
-    ghost use Rattle.std.specs.Prelude.{true, false, not, [], None};
-    ghost use Rattle.ritas_base.specs.declared.item.Kind.TheVariants.{Column};
-    ghost use Rattle.ritas_base.specs.Messages.{kind_eq};
-    ghost use Rattle.frame_codec.specs.Body.{is_of_broadcast};
-
-    ghost stands = { λ b at tags h. Unit {0} };
-
-    ghost rules = { record {
-      has_kind = is_of_broadcast false;
-      due = λ at tags h. [];
-      out = λ at tags h. None;
-      repeats = λ at tags h i. false;
-      ready = λ at tags h i. not (kind_eq i.kind Column);
-    } };
-
-    ghost live = { λ b. true };
-
-    ghost FORM = { 1 };
-
-    ghost shown = { λ b. None };
-
-    const FORM: u8 = 1;
-
-    fn new(_alloc: Global, _p: &Params, _me: u8, _slot: Slot) -> Result<Deaf, Mem> {
-        Ok(Deaf)
-    }
-
-    #[tactic(auto, unfolding(ritas_base::specs::Messages::without))]
-    fn start<T: Tagger>(
-        &mut self,
-        _alloc: Global,
-        _t: &T,
-        _value: &[u8],
-        _out: &mut Vec<Msg>,
-    ) -> Result<(), Mem> {
-        Ok(())
-    }
-
-    #[tactic(auto, unfolding(ritas_base::specs::Messages::without))]
-    fn take<T: Tagger>(
-        &mut self,
-        _alloc: Global,
-        _t: &T,
-        _item: &Item,
-        _out: &mut Vec<Msg>,
-    ) -> Result<Heard, Mem> {
-        Ok(Heard::Took)
-    }
-
-    fn ready_for(&self, item: &Item) -> bool {
-        item.kind != Kind::Column
-    }
-
-    fn delivered(&self) -> Option<&[u8]> {
-        None
-    }
-
-    fn live(&self) -> bool {
-        true
-    }
-
-    ghost use Rattle.std.specs.Prelude.{refl};
-    ghost use Rattle.std.proofs.lemmas.Bool.{false≢true};
-    ghost use Rattle.std.proofs.lemmas.Option.{none-some};
-
-    ghost shows = { λ b at tags h stood. (refl, refl) };
-
-    ghost kinds = { λ kind. refl };
-
-    ghost value_laws = { record {
-      out_nothing = λ at tags. refl;
-      out_start = λ at tags h v. refl;
-      out_stays = λ at tags h c v e. e;
-      due_nothing = λ at tags. refl;
-      due_stays = λ at tags h c m e. e;
-      due_slot = λ at tags h m e. absurd (false≢true e);
-      due_kind = λ at tags h m e. absurd e;
-      due_good = λ at tags mode h m of good e. absurd e;
-      out_good = λ at tags mode h v of good e. absurd (none-some v e);
-      repeats_nothing = λ at tags i. refl;
-      ready_nothing = λ at tags i kind. refl;
-    } };
-
-    ghost one_value = { record {
-      agree = λ p s is_correct tags steps enough same run clear i j v u ci cj oi oj. absurd (none-some v oi);
-      genuine = λ p s is_correct tags steps enough same run clear i v ci co oi. absurd (none-some v oi);
+      proposals = λ p mode is_correct coins steps run root i v ci a. absurd Prim.cc;
     } };
 }
 
@@ -269,14 +194,13 @@ fn item(
     from: u8,
     kind: Kind,
     class: u8,
-    a: u32,
     origin: u8,
     value: &[u8],
 ) -> Result<Item, Mem> {
     let step = u8::from(class == 5);
     let slot = Slot {
         class,
-        a,
+        a: 0,
         attempt: 0,
         bround: step,
         step,
@@ -291,18 +215,17 @@ fn item(
     })
 }
 
-// Root service 6 where VECTs go by `Deaf`, which has the form of reliable broadcast.
-fn new_core(alloc: Global, p: Params) -> Result<Core<Mute, Deaf, Zeros, Zeros>, Mem>
+// Vector consensus where VECTs go by reliable broadcast too.
+fn new_core(alloc: Global, p: Params) -> Result<Core<Mute, Rb, Zeros, Zeros>, Mem>
     requires { 0 < p.n }
 {
-    match Mode::new(6, Vect::Reliable) {
+    match Mode::new(5, Vect::Reliable) {
         None => Err(Mem),
         Some(mode) => Core::new(alloc, p, mode, 0, Zeros { me: 0 }, Zeros { me: 0 }),
     }
 }
 
-// Replica 0 of 4: commands and VECTs are let in, and steps of consensus are held. Reliable broadcast tells a repeat, which
-// `Deaf` doesn't.
+// Replica 0 of 4: values and VECTs are let in, and steps of consensus are held.
 #[test]
 fn each_check_has_its_answer(rt: HostRuntime) {
     let alloc = rt.alloc();
@@ -310,46 +233,45 @@ fn each_check_has_its_answer(rt: HostRuntime) {
     let mut core = new_core(alloc, p).expect(&rt, "new");
     let mut out: Vec<Msg> = Vec::new(alloc);
     let table = [
-        (2, Kind::Init, 1, 0, Err(CoreFault::NotOrigin)),
-        (1, Kind::Hashes, 1, 0, Err(CoreFault::NotForMe)),
-        (1, Kind::Init, 1, 64, Err(CoreFault::Ahead(0))),
-        (1, Kind::Init, 5, 5, Err(CoreFault::Ahead(0))),
-        (1, Kind::Init, 1, 63, Ok(Answer::Took)),
-        (1, Kind::Init, 1, 63, Ok(Answer::Repeat)),
-        (1, Kind::Init, 4, 4, Ok(Answer::Took)),
-        (1, Kind::Init, 4, 4, Ok(Answer::Took)),
-        (1, Kind::Echo, 5, 4, Ok(Answer::Held)),
-        (1, Kind::Echo, 5, 4, Ok(Answer::Repeat)),
+        (2, Kind::Init, 2, Err(CoreFault::NotOrigin)),
+        (1, Kind::Hashes, 4, Err(CoreFault::NotForMe)),
+        (1, Kind::Init, 2, Ok(Answer::Took)),
+        (1, Kind::Init, 2, Ok(Answer::Repeat)),
+        (1, Kind::Init, 4, Ok(Answer::Took)),
+        (1, Kind::Init, 4, Ok(Answer::Repeat)),
+        (1, Kind::Echo, 5, Ok(Answer::Held)),
+        (1, Kind::Echo, 5, Ok(Answer::Repeat)),
     ];
-    for (from, kind, class, a, answer) in table {
+    for (from, kind, class, answer) in table {
         let value: &[u8] = match class {
-            1 => b"12345678",
+            2 => b"12345678",
             4 => b"",
             _ => &[1],
         };
-        let item = item(alloc, from, kind, class, a, 1, value).expect(&rt, "item");
+        let item = item(alloc, from, kind, class, 1, value).expect(&rt, "item");
         assert_eq!(rt; core.take(alloc, item, &mut out), answer);
     }
-    assert_eq!(rt;
-        core.input(alloc, b"12345678", &mut out),
-        Err(CoreFault::InputTaken)
-    );
-    assert_eq!(rt;
-        core.input(alloc, b"1234567", &mut out),
-        Err(CoreFault::Input(7))
-    );
-    assert!(rt; out.len() == 1 && core.inbox_len() == 1 && core.inbox_front().is_some());
+    let inputs: [(&[u8], Result<Answer, CoreFault>); 3] = [
+        (b"", Err(CoreFault::Input(0))),
+        (b"12345678", Ok(Answer::Took)),
+        (b"12345678", Err(CoreFault::InputTaken)),
+    ];
+    for (input, answer) in inputs {
+        assert_eq!(rt; core.input(alloc, input, &mut out), answer);
+    }
+    assert!(rt; out.len() == 2 && core.inbox_len() == 2 && core.inbox_front().is_some());
+    assert_eq!(rt; core.turn(alloc, &mut out), Ok(Answer::Took));
     assert_eq!(rt; core.turn(alloc, &mut out), Ok(Answer::Took));
     assert_eq!(rt; core.turn(alloc, &mut out), Ok(Answer::Idle));
-    assert!(rt; out.len() == 1 && core.live());
+    assert!(rt; out.len() == 2 && core.live());
     assert_eq!(rt;
         (core.held(), core.held_of(1), core.held_of(2)),
         (11, 11, 0)
     );
     assert!(rt; core.inbox_len() == 0 && core.inbox_front().is_none());
     let slot = Slot {
-        class: 1,
-        a: 63,
+        class: 2,
+        a: 0,
         attempt: 0,
         bround: 0,
         step: 0,
@@ -363,10 +285,12 @@ fn each_check_has_its_answer(rt: HostRuntime) {
             core.me(),
             core.tagger().me()
         ),
-        (4, 6, 0, 0)
+        (4, 5, 0, 0)
     );
-    new_is_due::<Mute, Deaf>();
-    delivered_within::<Mute, Deaf>();
+    new_is_due::<Mute, Rb>();
+    delivered_within::<Mute, Rb>();
     history_laws();
+    entry_laws();
+    verdict_laws();
     kinds_fit();
 }

@@ -6,7 +6,7 @@ use Rattle.ritas_base.specs.declared.mode.Vect.TheVariants.{Echo, Reliable}
 use Rattle.ritas_core.specs.Rules.{other_form}
 use Rattle.ritas_core.proofs.tests.new_core.Goals as goal
 
-form_is : (mode : Mode) → mode.root ≡ 6 → mode.vect ≡ Reliable → other_form mode ≡ 1
+form_is : (mode : Mode) → mode.root ≡ 5 → mode.vect ≡ Reliable → other_form mode ≡ 1
 unfolding other_form
 form_is mode root vect =
     ap (λ (n : ℕ). cond (eqb n 2) 2 (elim mode.vect [ Echo ↦ 2 | Reliable ↦ 1 ])) root

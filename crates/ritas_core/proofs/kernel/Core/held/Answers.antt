@@ -9,10 +9,10 @@ pub returns : goal.returns
 returns g c =
     let b = g.E.Broadcast in
     let m : Meaning g.row.S.Denot g.row.E.Denot g.row.C.Denot g.row.T.Denot =
-    meaning g.S.Service.stands g.S.Service.rules b.stands b.rules g.C.Coin.bits g.T.Tagger.me g.T.Tagger.tags in
+    meaning g.S.Service.stands g.S.Service.rules g.S.Service.shown b.stands b.rules b.shown g.C.Coin.bits g.T.Tagger.me g.T.Tagger.tags in
     let core = c.args.self.now in
     let whole : core.layers.params.n ≡ c.loop-peer.peer = omega arith in
-    λ r st stands running. c.loop-peer.invariant.sum ∙ bytes_all m core c.loop-peer.peer whole r st stands running
+    λ r st stands. c.loop-peer.invariant.sum ∙ bytes_all m core c.loop-peer.peer whole r st stands
 
 pub loop-peer-preserved : goal.loop-peer-preserved
 loop-peer-preserved g c =

@@ -16,11 +16,11 @@ is_no_fault u x h = cc
 is_other_fault : (x : ℕ) → ◌≡◌ {A = Answer} (Err faults.Mem) (Err (faults.HeldFull x)) → ⊥
 is_other_fault x h = cc
 
-pub returns-in-Ok : goal.returns-in-Ok
-returns-in-Ok g c =
+pub returns-in-Ok-clause-does : goal.returns-in-Ok-clause-does
+returns-in-Ok-clause-does g c =
     let b = g.E.Broadcast in
     let m : Meaning g.row.S.Denot g.row.E.Denot g.row.C.Denot g.row.T.Denot =
-    meaning g.S.Service.stands g.S.Service.rules b.stands b.rules g.C.Coin.bits g.T.Tagger.me g.T.Tagger.tags in
+    meaning g.S.Service.stands g.S.Service.rules g.S.Service.shown b.stands b.rules b.shown g.C.Coin.bits g.T.Tagger.me g.T.Tagger.tags in
     let old = c.args.self.now in
     let counted : IsGood (rules_of m old.layers) c.args.item → c.length_of-len.result ≡ body_length c.args.item = λ good.
     let short = c.spelled.ensures.short old.layers.params old.layers.mode c.args.item good.in_grammar in
@@ -29,11 +29,11 @@ returns-in-Ok g c =
     (room_from (held_bytes old.held c.args.item.from) c.length_of-len.result (λ (x : ℕ). ◌≡◌ {A = Answer} (Ok c.in-Ok.field-0) (Err (faults.HeldFull x)))
     (is_no_fault c.in-Ok.field-0) (λ x above. (c.in-Ok.ensures.full x).1 above))
 
-pub returns-in-Err-HeldFull : goal.returns-in-Err-HeldFull
-returns-in-Err-HeldFull g c =
+pub returns-in-Err-HeldFull-clause-does : goal.returns-in-Err-HeldFull-clause-does
+returns-in-Err-HeldFull-clause-does g c =
     let b = g.E.Broadcast in
     let m : Meaning g.row.S.Denot g.row.E.Denot g.row.C.Denot g.row.T.Denot =
-    meaning g.S.Service.stands g.S.Service.rules b.stands b.rules g.C.Coin.bits g.T.Tagger.me g.T.Tagger.tags in
+    meaning g.S.Service.stands g.S.Service.rules g.S.Service.shown b.stands b.rules b.shown g.C.Coin.bits g.T.Tagger.me g.T.Tagger.tags in
     let old = c.args.self.now in
     let counted : IsGood (rules_of m old.layers) c.args.item → c.length_of-len.result ≡ body_length c.args.item = λ good.
     let short = c.spelled.ensures.short old.layers.params old.layers.mode c.args.item good.in_grammar in
@@ -42,11 +42,11 @@ returns-in-Err-HeldFull g c =
     let full = (e.full c.in-Err-HeldFull.bytes).0 (ap (λ (f : HoldFault). Err f) c.in-Err-HeldFull.field-0-is) in
     λ sent. full_does m old c.args.item c.length_of-len.result c.hold.new.self sent counted c.in-Err-HeldFull.bytes e.err full.0 full.1
 
-pub returns-in-Err-Mem : goal.returns-in-Err-Mem
-returns-in-Err-Mem g c =
+pub returns-in-Err-Mem-clause-does : goal.returns-in-Err-Mem-clause-does
+returns-in-Err-Mem-clause-does g c =
     let b = g.E.Broadcast in
     let m : Meaning g.row.S.Denot g.row.E.Denot g.row.C.Denot g.row.T.Denot =
-    meaning g.S.Service.stands g.S.Service.rules b.stands b.rules g.C.Coin.bits g.T.Tagger.me g.T.Tagger.tags in
+    meaning g.S.Service.stands g.S.Service.rules g.S.Service.shown b.stands b.rules b.shown g.C.Coin.bits g.T.Tagger.me g.T.Tagger.tags in
     let old = c.args.self.now in
     let counted : IsGood (rules_of m old.layers) c.args.item → c.length_of-len.result ≡ body_length c.args.item = λ good.
     let short = c.spelled.ensures.short old.layers.params old.layers.mode c.args.item good.in_grammar in

@@ -1,23 +1,50 @@
 use Rattle.std.proofs.Common.{◌∙◌, ap, refl, rules, replicate, []}
 use Rattle.std.proofs.lemmas.List.{length-replicate}
+use Rattle.ritas_core.specs.declared.layers.Layers.{Layers}
+use Rattle.ritas_core.specs.Parts.{nothing}
+use Rattle.ritas_core.specs.Stands.{Meaning, meaning, rules_of, LayersStand}
+use Rattle.ritas_core.proofs.ShownLayers.{MeansWell, layers_show}
 use Rattle.ritas_core.specs.RulesLaws.{kinds_fit, form_of}
 use Rattle.ritas_core.proofs.Goodness.{good_none_held}
 use Rattle.ritas_core.proofs.kernel.Core.new.Goals as goal
 
-pub returns : goal.returns
-returns g c = record {
-  rules = refl;
-  own = c.requires.own;
-  kinds = kinds_fit _ _ g.E.Broadcast.rules (form_of _ g.E.Broadcast.rules g.E.Broadcast.FORM g.met.E.Broadcast.kinds c.requires.form);
-  session = c.n.ensures.session;
-  me = c.requires.below;
-  serves = c.requires.serves;
-  live = refl;
-  history = tt;
-  layers = λ _. search rules;
-  inbox = λ _. c.new-4.ensures.items;
-  held = λ _. c.in_ok-held.ensures ∙ ap (λ n. replicate n []) c.n.ensures.value;
-  peers = length-replicate _ _;
-  good_inbox = tt;
-  good_held = good_none_held _ _;
-}
+pub returns-clause-stands : goal.returns-clause-stands
+returns-clause-stands g c =
+    let b = g.E.Broadcast in
+    let m : Meaning g.row.S.Denot g.row.E.Denot g.row.C.Denot g.row.T.Denot =
+    meaning g.S.Service.stands g.S.Service.rules g.S.Service.shown b.stands b.rules b.shown g.C.Coin.bits g.T.Tagger.me g.T.Tagger.tags in
+    let well : MeansWell m = record {
+      values = g.met.E.Broadcast.value_laws;
+      words = g.met.S.Service.word_laws;
+      service_shows = g.met.S.Service.shows;
+      live = b.live;
+      cast_shows = g.met.E.Broadcast.shows;
+    } in
+    let layers : Layers g.row.S.Denot g.row.E.Denot g.row.C.Denot g.row.T.Denot = record {
+      params = c.args.p;
+      mode = c.args.mode;
+      me = c.args.me;
+      tagger = c.args.t;
+      coin = c.args.coin;
+      service = c.in_ok-service.service;
+      casts = c.new-3.result;
+    } in
+    let stood : LayersStand m layers nothing = search rules in
+    record {
+      rules = refl;
+      own = c.requires.own;
+      kinds = kinds_fit _ _ g.E.Broadcast.rules (form_of _ g.E.Broadcast.rules g.E.Broadcast.FORM g.met.E.Broadcast.kinds c.requires.form);
+      session = c.n.ensures.session;
+      me = c.requires.below;
+      serves = c.requires.serves;
+      live = refl;
+      history = tt;
+      layers = λ _. stood;
+      lost = λ _. refl;
+      shows = layers_show m well layers (rules_of m layers) refl nothing stood;
+      inbox = c.new-4.ensures.items;
+      held = c.in_ok-held.ensures ∙ ap (λ n. replicate n []) c.n.ensures.value;
+      peers = length-replicate _ _;
+      good_inbox = tt;
+      good_held = good_none_held _ _;
+    }

@@ -1,0 +1,172 @@
+-- What the layers of a core show.
+use Rattle.std.proofs.Common.{◌≡◌, ℕ, Bool, true, Option, Some, None, List, [], ◌∷◌, ◌++◌, inl, inr, refl, sym, ◌∙◌, subst}
+use Rattle.std.specs.BTreeMap.{BTreeMap}
+use Rattle.ritas_base.specs.declared.slot.Slot.{Slot}
+use Rattle.ritas_base.specs.declared.item.Item.{Item}
+use Rattle.ritas_base.specs.declared.item.Say.{Say}
+use Rattle.ritas_base.specs.Messages.{Place}
+use Rattle.ritas_base.specs.Tags.{Tags}
+use Rattle.ritas_base.specs.History.{Call}
+use Rattle.layer_api.specs.BroadcastCalls.{ShowsCast}
+use Rattle.layer_api.specs.OneValue.{ValueLaws}
+use Rattle.layer_api.specs.Service.{ServiceRules, Seat, Word, Ask, Hear, WordLaws, AreProper, IsPart}
+use Rattle.layer_api.specs.ServiceCalls.{ServiceShown, Shows, ShowsBetween}
+use Rattle.ritas_core.specs.declared.layers.Layers.{Layers}
+use Rattle.ritas_core.specs.declared.cast.Cast.{Cast}
+use Rattle.ritas_core.specs.Rules.{Rules, seat_of, out_at}
+use Rattle.ritas_core.specs.Cast.{CastStandsAt, shown_by}
+use Rattle.ritas_core.specs.Casts.{CastsShowAt}
+use Rattle.ritas_core.specs.CastCalls.{CanTake, CastsFail}
+use Rattle.ritas_core.specs.Parts.{Parts, Entry, Took, Given, parts, told_to, heard_at, taken_at, item_delivers, after}
+use Rattle.ritas_core.specs.Checks.{IsHistory}
+use Rattle.ritas_core.specs.Laws.{LayerLaws}
+use Rattle.ritas_core.specs.Stands.{Meaning, rules_of, LayersStand, LayersShow}
+use Rattle.ritas_core.specs.LayerCalls.{MayTell, MayFollow, CanTell, TellsNone, CanTakeItem, TakesNone}
+use Rattle.ritas_core.proofs.Conditions.{words_proper}
+use Rattle.ritas_core.proofs.ShownCasts.{stands_shown, out_started}
+
+-- the traits' laws hold of what they say
+pub record MeansWell {S E C T : Type 0} (m : Meaning S E C T) : Type 0 where
+  pub values : ValueLaws m.cast
+  pub words : WordLaws m.service
+  pub service_shows : (s : S) (seat : Seat) (w : List Word) → m.service_stands s seat w → Shows m.service seat w (m.service_shown s)
+  pub live : E → Bool
+  pub cast_shows : (e : E) (at : Place) (tags : Tags) (h : List Call) → m.cast_stands e at tags h → (live e ≡ true) × ShowsCast m.cast at tags h (m.cast_shown e)
+
+-- ---- what a service shows
+part_itself : {X : Type 0} (xs : List X) → IsPart xs xs
+part_itself xs = ([], refl)
+
+between_now : (r : ServiceRules) (seat : Seat) (w later : List Word) (shown : ServiceShown) → IsPart (r.done seat w) (r.done seat later) → Shows r seat w shown →
+    ShowsBetween r seat w later shown
+between_now r seat w later shown part shows = record {
+  opens = λ s. inl (shows.opens s);
+  completed = inl shows.completed;
+  base = λ o within. inl (shows.base o within);
+  next_number = inl shows.next_number;
+  given = inl shows.given;
+  done_before = subst (λ xs. IsPart (r.done seat w) xs) (sym shows.done) (part_itself (r.done seat w));
+  done_after = subst (λ xs. IsPart xs (r.done seat later)) (sym shows.done) part;
+  outcome = inl shows.outcome;
+}
+
+between_later : (r : ServiceRules) (seat : Seat) (w later : List Word) (shown : ServiceShown) → IsPart (r.done seat w) (r.done seat later) → Shows r seat later shown →
+    ShowsBetween r seat w later shown
+between_later r seat w later shown part shows = record {
+  opens = λ s. inr (shows.opens s);
+  completed = inr shows.completed;
+  base = λ o within. inr (shows.base o within);
+  next_number = inr shows.next_number;
+  given = inr shows.given;
+  done_before = subst (λ xs. IsPart (r.done seat w) xs) (sym shows.done) part;
+  done_after = subst (λ xs. IsPart xs (r.done seat later)) (sym shows.done) (part_itself (r.done seat later));
+  outcome = inr shows.outcome;
+}
+
+-- ---- the identifier log only grows
+done_part : (r : ServiceRules) → WordLaws r → (seat : Seat) (c : Word) (w : List Word) → AreProper r seat (c ∷ w) → IsPart (r.done seat w) (r.done seat (c ∷ w))
+done_part r laws seat c w proper = let grows = laws.done_grows seat c w proper in (grows.more, grows.whole)
+
+heard_part : (r : Rules) → WordLaws r.service → (s : Slot) (d : Option (List ℕ)) (p : Parts) → AreProper r.service (seat_of r) (heard_at r s d p).words →
+    IsPart (r.service.done (seat_of r) p.words) (r.service.done (seat_of r) (heard_at r s d p).words)
+heard_part r laws s None p proper = part_itself (r.service.done (seat_of r) p.words)
+heard_part r laws s (Some v) p proper = done_part r.service laws (seat_of r) (Hear s v) p.words proper
+
+pub entry_part : (r : Rules) → LayerLaws r → (h : List Entry) (e : Entry) → IsHistory r (e ∷ h) →
+    IsPart (r.service.done (seat_of r) (parts r h).words) (r.service.done (seat_of r) (parts r (e ∷ h)).words)
+entry_part r laws h (Took item) met =
+    heard_part r laws.words item.slot (item_delivers r item (parts r h)) (taken_at item (parts r h)) (words_proper r laws (Took item ∷ h) met)
+entry_part r laws h (Given v) met = done_part r.service laws.words (seat_of r) (Ask v) (parts r h).words (words_proper r laws (Given v ∷ h) met)
+
+-- words with one more that may come are proper
+proper_told : (r : Rules) (word : Word) (p : Parts) → MayTell r word p → AreProper r.service (seat_of r) p.words → AreProper r.service (seat_of r) (word ∷ p.words)
+proper_told r (Ask v) p may proper = (may.0, proper)
+proper_told r (Hear s v) p may proper = (may.0, proper)
+
+proper_heard : (r : Rules) (s : Slot) (d : Option (List ℕ)) (p : Parts) → MayFollow r s d p → AreProper r.service (seat_of r) p.words →
+    AreProper r.service (seat_of r) (heard_at r s d p).words
+proper_heard r s None p may proper = proper
+proper_heard r s (Some v) p may proper = (may.0, proper)
+
+module _ {S E C T : Type 0} (m : Meaning S E C T) (well : MeansWell m) where
+  -- ---- layers that stand for some parts
+  exact : (layers : Layers S E C T) (p : Parts) → LayersStand m layers p → CastsShowAt (shown_by m.cast_shown) (rules_of m layers).casts layers.casts p.calls
+  exact layers p stood =
+      stands_shown layers.mode m.cast_stands m.cast well.live m.cast_shown well.cast_shows well.values layers.params layers.me (m.tags layers.tagger) layers.casts p.calls stood.casts
+
+  pub layers_show : (layers : Layers S E C T) (r : Rules) → rules_of m layers ≡ r → (p : Parts) → LayersStand m layers p → LayersShow m layers r p p
+  layers_show layers r same p stood =
+      let seat = seat_of (rules_of m layers) in
+      subst (λ (q : Rules). LayersShow m layers q p p) same (record {
+        service = between_now m.service seat p.words p.words (m.service_shown layers.service) (part_itself (m.service.done seat p.words))
+            (well.service_shows layers.service seat p.words stood.service);
+        casts = λ s. inl (exact layers p stood s);
+      })
+
+  -- the later ones of two
+  pub layers_later : (layers : Layers S E C T) (r : Rules) → rules_of m layers ≡ r → (p later : Parts) → LayersStand m layers later →
+      IsPart (r.service.done (seat_of r) p.words) (r.service.done (seat_of r) later.words) → LayersShow m layers r p later
+  layers_later layers r same p later stood part =
+      let seat = seat_of (rules_of m layers) in
+      subst (λ (q : Rules). IsPart (q.service.done (seat_of q) p.words) (q.service.done (seat_of q) later.words) → LayersShow m layers q p later) same
+      (λ part. record {
+        service = between_later m.service seat p.words later.words (m.service_shown layers.service) part
+            (well.service_shows layers.service seat later.words stood.service);
+        casts = λ s. inr (exact layers later stood s);
+      }) part
+
+  -- ---- a word that the service had no memory for, or what it says to that
+  pub service_fails : (old : Layers S E C T) (service : S) (word : Word) →
+      ((p : Parts) → CanTell m old word p → ShowsBetween m.service (seat_of (rules_of m old)) p.words (word ∷ p.words) (m.service_shown service)) →
+      TellsNone m old (record old { service = service }) word
+  service_fails old service word near p can proper = record { service = near p can; casts = λ s. inl (exact old p can.stood s) }
+
+  pub starts_fail : (old : Layers S E C T) (service : S) (casts : BTreeMap Slot (Cast E)) (word : Word) →
+      ((p : Parts) → CanTell m old word p → m.service_stands service (seat_of (rules_of m old)) (word ∷ p.words)) →
+      ((p : Parts) → CanTell m old word p → CastsShowAt (shown_by m.cast_shown) (rules_of m old).casts casts p.calls) →
+      TellsNone m old (record old { service = service; casts = casts }) word
+  starts_fail old service casts word grows fewer p can proper =
+      let seat = seat_of (rules_of m old) in
+      record {
+        service = between_later m.service seat p.words (word ∷ p.words) (m.service_shown service)
+            (done_part m.service well.words seat word p.words (proper_told (rules_of m old) word p can.may proper))
+            (well.service_shows service seat (word ∷ p.words) (grows p can));
+        casts = λ s. inl (fewer p can s);
+      }
+
+  -- ---- an item that its broadcast had no memory for
+  out_heard : (layers : Layers S E C T) (x : Slot) (d : Option (List ℕ)) (p : Parts) (s : Slot) →
+      out_at (rules_of m layers).casts s ((heard_at (rules_of m layers) x d p).calls s) ≡ out_at (rules_of m layers).casts s (p.calls s)
+  out_heard layers x None p s = refl
+  out_heard layers x (Some v) p s =
+      out_started layers.mode m.cast_stands m.cast well.live m.cast_shown well.cast_shows well.values layers.params layers.me (m.tags layers.tagger)
+      (m.service.says (seat_of (rules_of m layers)) p.words (Hear x v)) p.calls s
+
+  pub cast_fails : (old : Layers S E C T) (casts : BTreeMap Slot (Cast E)) (item : Item) →
+      CastsFail (CastStandsAt old.mode m.cast_stands) (shown_by m.cast_shown) (rules_of m old).casts (m.me old.tagger) old.casts casts item →
+      TakesNone m old (record old { casts = casts }) item
+  cast_fails old casts item fails =
+      let r = rules_of m old in
+      let can_take : (p : Parts) → CanTakeItem m old item p → CanTake (CastStandsAt old.mode m.cast_stands) r.casts (m.me old.tagger) old.casts item p.calls = λ p can.
+      record { is_own = can.is_own; origin = can.origin; may = can.may; stood = can.stood.casts } in
+      record {
+        shows = λ p can follow proper.
+            let d = item_delivers r item p in
+            let q = taken_at item p in
+            record {
+              service = between_now m.service (seat_of r) p.words (heard_at r item.slot d q).words (m.service_shown old.service)
+                  (heard_part r well.words item.slot d q (proper_heard r item.slot d q follow proper))
+                  (well.service_shows old.service (seat_of r) p.words can.stood.service);
+              casts = λ s. elim (fails.shows p.calls (can_take p can) s) [ inl e ↦ inl e | inr e ↦ inr (e ∙ sym (out_heard old item.slot d q s)) ];
+            };
+        counts = λ p can. fails.counts p.calls (can_take p can);
+      }
+
+  -- an item that was taken by its broadcast, where the service had no memory for what that delivers, or for what it says
+  pub heard_fails : (old new : Layers S E C T) (item : Item) (p : Parts) (v : List ℕ) →
+      LayersShow m new (rules_of m old) (taken_at item p) (told_to (rules_of m old) (Hear item.slot v) (taken_at item p)) →
+      LayersShow m new (rules_of m old) p (told_to (rules_of m old) (Hear item.slot v) (taken_at item p))
+  heard_fails old new item p v shows = record {
+    service = shows.service;
+    casts = λ s. elim (shows.casts s) [ inl e ↦ inr (e ∙ sym (out_heard old item.slot (Some v) (taken_at item p) s)) | inr e ↦ inr e ];
+  }
