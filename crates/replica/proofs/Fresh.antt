@@ -5,6 +5,7 @@ use Rattle.keyed_channel.specs.KeyRow.{KeyRow}
 use Rattle.ooc_buffers.specs.Lists.{Kept}
 use Rattle.ritas_core.specs.Rules.{Rules}
 use Rattle.ritas_core.specs.Machine.{first_state}
+use Rattle.ritas_core.specs.Shown.{tagger_of}
 use Rattle.ritas_core.specs.Stands.{Meaning, CoreStands}
 use Rattle.replica.specs.declared.replica.Replica.{Replica}
 use Rattle.replica.specs.Stands.{peers}
@@ -23,7 +24,7 @@ pub record IsFresh {S E C : Type 0} (rep : Replica S E C) : Type 0 where
   pub all : rep.sent ≡ 0
 
 pub fresh_stands : {S E C : Type 0} (m : Meaning S E C KeyRow) (rep : Replica S E C) (r : Rules) (k : KeyRow) (held : List (List Kept)) →
-    IsFresh rep → rep.channel ≡ k → k.me ≡ r.casts.me → k.n ≡ r.casts.numbers.n → CoreStands m rep.core r (first_state held)
+    IsFresh rep → tagger_of rep.core ≡ k → k.me ≡ r.casts.me → k.n ≡ r.casts.numbers.n → CoreStands m rep.core r (first_state held)
     → ReplicaStands m rep r k (first_state held)
 fresh_stands m rep r k held fresh keys own many stands = record {
   keys = keys;
@@ -32,7 +33,7 @@ fresh_stands m rep r k held fresh keys own many stands = record {
   state = inl (record {
     going = fresh.going;
     core = stands;
-    counted = λ live. record {
+    counted = record {
       each = record { each = λ j below. fresh.each j };
       all = fresh.all ∙ sym (ap (λ x. x % 2 ^ 64) (sum_none (peers k)));
     };

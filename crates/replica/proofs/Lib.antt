@@ -1,6 +1,5 @@
 pub mod Sealing
 pub mod Sends
-pub mod Moves
 pub mod Counting
 pub mod Passing
 pub mod Opened

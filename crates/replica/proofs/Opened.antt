@@ -21,7 +21,7 @@ use Rattle.replica.specs.declared.refusal.Refusal.TheVariants as refusals
 use Rattle.replica.specs.declared.replica.Replica.{Replica}
 use Rattle.replica.specs.Handling.{Frame, handled, given_frame, given_body, refused}
 use Rattle.replica.specs.Stands.{Handles, Does, frame_given, body_given}
-use Rattle.replica.specs.Replica.{ReplicaStands}
+use Rattle.replica.specs.Replica.{ReplicaStands, revived}
 use Rattle.replica.specs.Steps.{Reads, FindsItem}
 use Rattle.replica.proofs.Passing.{IsCall}
 
@@ -79,7 +79,16 @@ refuses m rep bytes before r k st (refusals.Core fault) stands read = absurd rea
 refuses m rep bytes before r k st (refusals.Open fault) stands read =
     refused_handles m rep bytes before r k st (refusals.Open fault) stands (ap (given_frame r k st) read)
 refuses m rep bytes before r k st (refusals.Body body.Mem) stands read =
-    record { out = refl; state = stands; bytes = bytes; opened = read.0; frame = refl; opens = read.1 }
+    record {
+      out = refl;
+      state = stands;
+      bytes = bytes;
+      opened = read.1.opened;
+      frame = refl;
+      opens = read.1.opens;
+      item = read.0;
+      spells = read.1.body;
+    }
 refuses m rep bytes before r k st (refusals.Body fault) stands read =
     refused_handles m rep bytes before r k st (refusals.Body fault) stands (ap (given_frame r k st) read.opens ∙ ap (given_body r k st) read.body)
 
@@ -88,7 +97,7 @@ refuses m rep bytes before r k st (refusals.Body fault) stands read =
 -- the core stands for some state by these rules, whether the replica is stopped or not
 pub core_of : {S E C : Type 0} (m : Meaning S E C KeyRow) (rep : Replica S E C) (r : Rules) (k : KeyRow) (st : CoreState) →
     ReplicaStands m rep r k st → (inner : CoreState) × CoreStands m rep.core r inner
-core_of m rep r k st stands = elim stands.state [ inl on ↦ (st, on.core) | inr off ↦ (off.inner, off.core) ]
+core_of m rep r k st stands = elim stands.state [ inl on ↦ (st, on.core) | inr off ↦ ((moved r (revived st) off.ahead.what).state, off.ahead.stands) ]
 
 -- a frame opened, and its body is read with the numbers and the mode of the rules
 pub record IsOpened (r : Rules) (k : KeyRow) (p : Numbers) (mode : Mode) (bytes : List ℕ) (o : Opening) : Type 0 where
@@ -116,7 +125,14 @@ found_item r k p mode bytes o item is_open spells read =
 
 pub unread : (r : Rules) (k : KeyRow) (p : Numbers) (mode : Mode) (bytes : List ℕ) (o : Opening) (fault : BodyFault) →
     IsOpened r k p mode bytes o → Answers (Err fault) (body_answer p mode o.from o.body) → Reads r k bytes (Err (refusals.Body fault))
-unread r k p mode bytes o body.Mem is_open read = (o, is_open.opens)
+unread r k p mode bytes o body.Mem is_open read = (
+  read.0,
+  record {
+    opened = o;
+    opens = is_open.opens;
+    body = ap₂ (λ q u. body_answer q u o.from o.body) (sym is_open.numbers) (sym is_open.mode_is) ∙ read.1;
+  },
+)
 unread r k p mode bytes o fault is_open read = record {
   opened = o;
   opens = is_open.opens;

@@ -1,5 +1,5 @@
 -- A call on a replica, from what its core did and what was passed on.
-use Rattle.std.proofs.Common.{◌≡◌, ℕ, ◌+◌, ◌%◌, ◌^◌, true, false, List, [], ◌∷◌, ◌++◌, length, Some, Result, Ok, Err, inl, inr, refl, sym, ◌∙◌, ap, subst, append-nil, if◌then◌else◌}
+use Rattle.std.proofs.Common.{◌≡◌, ℕ, ◌+◌, ◌%◌, ◌^◌, Bool, true, false, List, [], ◌∷◌, ◌++◌, length, Option, Some, None, Result, Ok, Err, inl, inr, refl, sym, ◌∙◌, ap, subst, append-nil, if◌then◌else◌}
 use Rattle.ritas_base.specs.declared.item.Msg.{Msg}
 use Rattle.frame_codec.specs.declared.fault.BodyFault.TheVariants as body
 use Rattle.keyed_channel.specs.KeyRow.{KeyRow}
@@ -11,10 +11,11 @@ use Rattle.ritas_core.specs.declared.kernel.Core.{Core}
 use Rattle.ritas_core.specs.Rules.{Rules}
 use Rattle.ritas_core.specs.Parts.{Entry}
 use Rattle.ritas_core.specs.Order.{new_messages}
-use Rattle.ritas_core.specs.Machine.{CoreState, What, Frame, Input, Turn, MayGive, moved, moved_live, stays}
+use Rattle.ritas_core.specs.Machine.{CoreState, What, MayGive, moved, moved_live, stays}
 use Rattle.ritas_core.specs.Stands.{Meaning, CoreStands}
+use Rattle.ritas_core.specs.Shown.{tagger_of}
 use Rattle.ritas_core.specs.Calls as calls
-use Rattle.ritas_core.specs.Calls.{left_by, stopped}
+use Rattle.ritas_core.specs.Calls.{IsStep, entry_of, stopped}
 use Rattle.replica.specs.declared.frame.OutFrame.{OutFrame}
 use Rattle.replica.specs.declared.refusal.Refusal.{Refusal}
 use Rattle.replica.specs.declared.refusal.Refusal.TheVariants as refusals
@@ -23,15 +24,15 @@ use Rattle.replica.specs.Frames.{frames_of, count_for, new_frames}
 use Rattle.replica.specs.Handling.{Call, handled, framed, core_answer}
 use Rattle.replica.specs.Stands.{Handles, RunsOut, Does, core_call, frames_made}
 use Rattle.replica.specs.Sending.{AreCounts}
-use Rattle.replica.specs.Replica.{ReplicaStands, StandsGoing, AreCounted}
+use Rattle.replica.specs.Replica.{ReplicaStands, StandsGoing, AreCounted, revived}
 use Rattle.replica.specs.Steps.{Keeps, PutsOut, Stops, Counts, Finishes}
 use Rattle.replica.proofs.Sends.{mod_more}
 use Rattle.replica.proofs.Counting.{made_more}
-use Rattle.replica.proofs.Moves.{moved_view}
+use Rattle.replica.specs.MovesLaws.{moved_view}
 
 -- the replica with another core
 abbrev pub with_core : {S E C : Type 0} → Replica S E C → Core S E C KeyRow → Replica S E C
-with_core old core = record { core = core; channel = old.channel; counts = old.counts; sent = old.sent; stopped = old.stopped }
+with_core old core = record { core = core; counts = old.counts; sent = old.sent; stopped = old.stopped }
 
 -- what a call is given to the core as, and so does
 pub record IsCall (r : Rules) (k : KeyRow) (st : CoreState) (call : Call) (what : What) : Type 0 where
@@ -47,16 +48,16 @@ going_of m rep r k st stands going = elim stands.state [
 
 -- the core stands for another state with the same history
 kept : {S E C : Type 0} (m : Meaning S E C KeyRow) (old : Replica S E C) (core : Core S E C KeyRow) (r : Rules) (k : KeyRow) (st after : CoreState) →
-    ReplicaStands m old r k st → StandsGoing m old r k st → CoreStands m core r after → after.history ≡ st.history
-    → (after.live ≡ true → st.live ≡ true) → ReplicaStands m (with_core old core) r k after
-kept m old core r k st after stands on now same live = record {
-  keys = stands.keys;
+    ReplicaStands m old r k st → StandsGoing m old r k st → tagger_of core ≡ k → CoreStands m core r after → after.history ≡ st.history
+    → ReplicaStands m (with_core old core) r k after
+kept m old core r k st after stands on keys now same = record {
+  keys = keys;
   own = stands.own;
   many = stands.many;
   state = inl (record {
     going = on.going;
     core = now;
-    counted = λ h. let P : List Entry → Type 0 = λ x. AreCounted r k x old.counts old.sent in subst P (sym same) (on.counted (live h));
+    counted = let P : List Entry → Type 0 = λ x. AreCounted r k x old.counts old.sent in subst P (sym same) on.counted;
   });
 }
 
@@ -74,9 +75,9 @@ does_of m new call before after r k st result fine h = h
 
 -- nothing went out, and the replica is as before with the core as it is now
 quiet_handles : {S E C : Type 0} (m : Meaning S E C KeyRow) (old new : Replica S E C) (core : Core S E C KeyRow) (what : What) (call : Call) (ms : List Msg) (before after : List OutFrame) (answer : Result Answer CoreFault) (r : Rules) (k : KeyRow) (st : CoreState) →
-    StandsGoing m old r k st → ReplicaStands m old r k st → IsCall r k st call what → calls.Moves m old.core core what [] ms answer r st
+    StandsGoing m old r k st → ReplicaStands m old r k st → tagger_of core ≡ k → IsCall r k st call what → calls.Moves m old.core core what [] ms answer r st
     → (answer ≡ Ok answers.Took → ⊥) → Keeps (with_core old core) new before after → Handles (ReplicaStands m) new call before after (core_answer answer) r k st
-quiet_handles {S = S} {E = E} {C = C} m old new core what call ms before after answer r k st on stands call_is did other keeps = elim (moved_view r st what) [
+quiet_handles {S = S} {E = E} {C = C} m old new core what call ms before after answer r k st on stands keys call_is did other keeps = elim (moved_view r st what) [
   | inl enters ↦ absurd (other (did.answer ∙ enters.answer))
   | inr quiet ↦ record {
     answer = ap core_answer did.answer ∙ ap (λ h. h.answer) (sym call_is.does);
@@ -86,7 +87,7 @@ quiet_handles {S = S} {E = E} {C = C} m old new core what call ms before after a
     state =
         let P : CoreState → Type 0 = λ x. ReplicaStands m new r k x in
         let Q : Replica S E C → Type 0 = λ x. ReplicaStands m x r k (moved r st what).state in
-        subst P (ap (λ h. h.state) (sym call_is.does)) (subst Q (sym keeps.same) (kept m old core r k st (moved r st what).state stands on did.state quiet.history quiet.live));
+        subst P (ap (λ h. h.state) (sym call_is.does)) (subst Q (sym keeps.same) (kept m old core r k st (moved r st what).state stands on keys did.state quiet.history));
   }
 ]
 
@@ -102,21 +103,21 @@ counted_more r k h e xs ys sent_before sent before after was now = record {
 
 -- what went out is counted by the keys that the replica stands for
 counts_by : {S E C : Type 0} (old : Replica S E C) (k : KeyRow) (count : ℕ → ℕ) (ms : List Msg) (ys : List ℕ) (sent : ℕ) (before after : List OutFrame) →
-    old.channel ≡ k → AreCounts k.n old.counts count
-    → (AreCounts old.channel.n old.counts count → Counts old.channel count ms ys old.sent sent before after) → Counts k count ms ys old.sent sent before after
+    tagger_of old.core ≡ k → AreCounts k.n old.counts count
+    → (AreCounts (tagger_of old.core).n old.counts count → Counts (tagger_of old.core) count ms ys old.sent sent before after) → Counts k count ms ys old.sent sent before after
 counts_by old k count ms ys sent before after same are counts =
     let P : KeyRow → Type 0 = λ x. AreCounts x.n old.counts count → Counts x count ms ys old.sent sent before after in
     subst P same counts are
 
 -- the core took an entry, and the frames went out
 took_handles : {S E C : Type 0} (m : Meaning S E C KeyRow) (old new : Replica S E C) (core : Core S E C KeyRow) (what : What) (call : Call) (ms : List Msg) (before after : List OutFrame) (r : Rules) (k : KeyRow) (st : CoreState) →
-    StandsGoing m old r k st → ReplicaStands m old r k st → IsCall r k st call what → calls.Moves m old.core core what [] ms (Ok answers.Took) r st
+    StandsGoing m old r k st → ReplicaStands m old r k st → tagger_of core ≡ k → IsCall r k st call what → calls.Moves m old.core core what [] ms (Ok answers.Took) r st
     → PutsOut (with_core old core) new ms before after → Handles (ReplicaStands m) new call before after (Ok answers.Took) r k st
-took_handles {S = S} {E = E} {C = C} m old new core what call ms before after r k st on stands call_is did puts = elim (moved_view r st what) [
+took_handles {S = S} {E = E} {C = C} m old new core what call ms before after r k st on stands keys call_is did puts = elim (moved_view r st what) [
   | inl enters ↦
-      let was = on.counted enters.live in
+      let was = on.counted in
       let sent_are : ms ≡ new_messages r st.history enters.entry = did.out ∙ enters.out in
-      let counts = counts_by old k (count_for r st.history) ms new.counts new.sent before after stands.keys was.each (puts.counts (count_for r st.history)) in
+      let counts = counts_by (with_core old core) k (count_for r st.history) ms new.counts new.sent before after keys was.each (puts.counts (count_for r st.history)) in
       record {
         answer = ap core_answer did.answer ∙ ap (λ h. h.answer) (sym call_is.does);
         out = counts.frames ∙ ap (λ ms. before ++ frames_of k (count_for r st.history) ms) did.out ∙ ap (λ h. before ++ h.out) (sym call_is.does);
@@ -126,24 +127,29 @@ took_handles {S = S} {E = E} {C = C} m old new core what call ms before after r 
             let R : List Entry → Type 0 = λ h. AreCounted r k h new.counts new.sent in
             let M : List Msg → Type 0 = λ ms. Counts k (count_for r st.history) ms new.counts old.sent new.sent before after in
             subst P (ap (λ h. h.state) (sym call_is.does)) (record {
-              keys = puts.keys ∙ stands.keys;
+              keys = ap tagger_of puts.core ∙ keys;
               own = stands.own;
               many = stands.many;
               state = inl (record {
                 going = puts.halted ∙ on.going;
                 core = subst Q (sym puts.core) did.state;
-                counted = λ live. subst R (sym enters.history) (counted_more r k st.history enters.entry old.counts new.counts old.sent new.sent before after was (subst M sent_are counts));
+                counted = subst R (sym enters.history) (counted_more r k st.history enters.entry old.counts new.counts old.sent new.sent before after was (subst M sent_are counts));
               });
             });
       }
   | inr quiet ↦ absurd (quiet.answer (sym did.answer))
 ]
 
+-- the state before a call is that to which the stopped one is brought back
+revived_is : (st : CoreState) (what : What) → st.live ≡ true → st.lost ≡ None → revived (stopped st what) ≡ st
+revived_is st what live lost =
+    ap (λ (b : Bool). record st { live = b; lost = None }) (sym live) ∙ ap (λ (o : Option Entry). record st { lost = o }) (sym lost)
+
 -- the core took an entry, and the replica is stopped for want of memory
 stops_runs_out : {S E C : Type 0} (m : Meaning S E C KeyRow) (old new : Replica S E C) (core : Core S E C KeyRow) (what : What) (call : Call) (ms : List Msg) (before after : List OutFrame) (r : Rules) (k : KeyRow) (st : CoreState) →
-    ReplicaStands m old r k st → IsCall r k st call what → calls.Moves m old.core core what [] ms (Ok answers.Took) r st
+    StandsGoing m old r k st → ReplicaStands m old r k st → tagger_of core ≡ k → IsCall r k st call what → calls.Moves m old.core core what [] ms (Ok answers.Took) r st
     → Stops (with_core old core) new before after → RunsOut (ReplicaStands m) new call before after r k st
-stops_runs_out {S = S} {E = E} {C = C} m old new core what call ms before after r k st stands call_is did stops = elim (moved_view r st what) [
+stops_runs_out {S = S} {E = E} {C = C} m old new core what call ms before after r k st on stands keys call_is did stops = elim (moved_view r st what) [
   | inl enters ↦ record {
     out = stops.out;
     live = enters.live;
@@ -151,34 +157,35 @@ stops_runs_out {S = S} {E = E} {C = C} m old new core what call ms before after 
     given = call_is.given;
     state =
         let Q : Core S E C KeyRow → Type 0 = λ x. CoreStands m x r (moved r st what).state in
+        let same = sym (revived_is st what enters.live (on.core.lost enters.live)) in
         inr (
           enters.step,
           record {
-            keys = stops.keys ∙ stands.keys;
+            keys = ap tagger_of stops.core ∙ keys;
             own = stands.own;
             many = stands.many;
-            state = inr (record { halted = stops.halted; dead = refl; inner = (moved r st what).state; core = subst Q (sym stops.core) did.state });
+            state = inr (record {
+              halted = stops.halted;
+              dead = refl;
+              ahead = record {
+                what = what;
+                step = subst (λ (x : CoreState). IsStep r x what) same enters.step;
+                lost = ap (λ (x : CoreState). entry_of x what) same;
+                stands = subst (λ (x : CoreState). CoreStands m new.core r (moved r x what).state) same (subst Q (sym stops.core) did.state);
+              };
+              sent = stops.sent ∙ on.counted.all;
+            });
           },
         );
   }
   | inr quiet ↦ absurd (quiet.answer (sym did.answer))
 ]
 
-left_history : (st : CoreState) (what : What) → (left_by st what).history ≡ st.history
-left_history st (Frame item) = refl
-left_history st (Input value) = refl
-left_history st Turn = refl
-
-left_live : (st : CoreState) (what : What) → (left_by st what).live ≡ st.live
-left_live st (Frame item) = refl
-left_live st (Input value) = refl
-left_live st Turn = refl
-
 -- the core was without memory
 core_runs_out : {S E C : Type 0} (m : Meaning S E C KeyRow) (old new : Replica S E C) (core : Core S E C KeyRow) (what : What) (call : Call) (ms : List Msg) (before after : List OutFrame) (r : Rules) (k : KeyRow) (st : CoreState) →
-    StandsGoing m old r k st → ReplicaStands m old r k st → IsCall r k st call what → calls.RunsOut m core what [] ms r st
+    StandsGoing m old r k st → ReplicaStands m old r k st → tagger_of core ≡ k → IsCall r k st call what → calls.RunsOut m core what [] ms r st
     → Keeps (with_core old core) new before after → RunsOut (ReplicaStands m) new call before after r k st
-core_runs_out {S = S} {E = E} {C = C} m old new core what call ms before after r k st on stands call_is did keeps = record {
+core_runs_out {S = S} {E = E} {C = C} m old new core what call ms before after r k st on stands keys call_is did keeps = record {
   out = keeps.out;
   live = did.live;
   what = what;
@@ -187,43 +194,42 @@ core_runs_out {S = S} {E = E} {C = C} m old new core what call ms before after r
       let P : CoreState → Type 0 = λ x. ReplicaStands m new r k x in
       let Q : CoreState → Replica S E C → Type 0 = λ x rep. ReplicaStands m rep r k x in
       elim did.state [
-        | inl holds ↦ inl (
-          holds.0,
-          subst (Q (left_by st what)) (sym keeps.same)
-              (kept m old core r k st (left_by st what) stands on holds.1 (left_history st what) (λ live. sym (left_live st what) ∙ live)),
+        | inl holds ↦ inl (holds.0, subst (Q st) (sym keeps.same) (kept m old core r k st st stands on keys holds.1 refl))
+        | inr steps ↦ inr (
+          steps.0,
+          subst (Q (stopped st what)) (sym keeps.same) (kept m old core r k st (stopped st what) stands on keys steps.1 refl),
         )
-        | inr steps ↦ inr (steps.0, subst (Q (stopped st)) (sym keeps.same) (kept m old core r k st (stopped st) stands on steps.1 refl (λ live. cc)))
       ];
 }
 
 -- each call on a replica that isn't stopped
 pub passed_on : {S E C : Type 0} (m : Meaning S E C KeyRow) (old new : Replica S E C) (core : Core S E C KeyRow) (what : What) (call : Call) (ms : List Msg) (before after : List OutFrame) (r : Rules) (k : KeyRow) (st : CoreState) (answer : Result Answer CoreFault) (result : Result Answer Refusal) →
-    StandsGoing m old r k st → ReplicaStands m old r k st → IsCall r k st call what → calls.Does m old.core core what [] ms answer r st
+    StandsGoing m old r k st → ReplicaStands m old r k st → tagger_of core ≡ k → IsCall r k st call what → calls.Does m old.core core what [] ms answer r st
     → Finishes (with_core old core) new answer ms before after result → Does (ReplicaStands m) new call before after result r k st
-passed_on m old new core what call ms before after r k st (Ok answers.Took) (Ok answer) on stands call_is did ends =
+passed_on m old new core what call ms before after r k st (Ok answers.Took) (Ok answer) on stands keys call_is did ends =
     let P : Answer → Type 0 = λ x. Does (ReplicaStands m) new call before after (Ok x) r k st in
-    subst P (sym ends.0) (took_handles m old new core what call ms before after r k st on stands call_is did ends.1)
-passed_on m old new core what call ms before after r k st (Ok answers.Took) (Err fault) on stands call_is did ends =
+    subst P (sym ends.0) (took_handles m old new core what call ms before after r k st on stands keys call_is did ends.1)
+passed_on m old new core what call ms before after r k st (Ok answers.Took) (Err fault) on stands keys call_is did ends =
     let P : Refusal → Type 0 = λ x. Does (ReplicaStands m) new call before after (Err x) r k st in
-    subst P (sym ends.0) (stops_runs_out m old new core what call ms before after r k st stands call_is did ends.1)
-passed_on m old new core what call ms before after r k st (Err faults.Mem) result on stands call_is did ends =
+    subst P (sym ends.0) (stops_runs_out m old new core what call ms before after r k st on stands keys call_is did ends.1)
+passed_on m old new core what call ms before after r k st (Err faults.Mem) result on stands keys call_is did ends =
     let P : Result Answer Refusal → Type 0 = λ x. Does (ReplicaStands m) new call before after x r k st in
-    subst P (sym ends.0) (core_runs_out m old new core what call ms before after r k st on stands call_is did ends.1)
-passed_on m old new core what call ms before after r k st (Ok answer) result on stands call_is did ends =
+    subst P (sym ends.0) (core_runs_out m old new core what call ms before after r k st on stands keys call_is did ends.1)
+passed_on m old new core what call ms before after r k st (Ok answer) result on stands keys call_is did ends =
     let P : Result Answer Refusal → Type 0 = λ x. Does (ReplicaStands m) new call before after x r k st in
-    subst P (sym ends.0) (quiet_handles m old new core what call ms before after (Ok answer) r k st on stands call_is did (λ e. cc) ends.1)
-passed_on m old new core what call ms before after r k st (Err fault) result on stands call_is did ends =
+    subst P (sym ends.0) (quiet_handles m old new core what call ms before after (Ok answer) r k st on stands keys call_is did (λ e. cc) ends.1)
+passed_on m old new core what call ms before after r k st (Err fault) result on stands keys call_is did ends =
     let P : Result Answer Refusal → Type 0 = λ x. Does (ReplicaStands m) new call before after x r k st in
-    subst P (sym ends.0) (quiet_handles m old new core what call ms before after (Err fault) r k st on stands call_is did (λ e. cc) ends.1)
+    subst P (sym ends.0) (quiet_handles m old new core what call ms before after (Err fault) r k st on stands keys call_is did (λ e. cc) ends.1)
 
 -- each call on a replica that isn't stopped
 pub passes : {S E C : Type 0} (m : Meaning S E C KeyRow) (old new : Replica S E C) (core : Core S E C KeyRow) (what : What) (call : Call) (first ms : List Msg) (before after : List OutFrame) (answer : Result Answer CoreFault) (result : Result Answer Refusal) (r : Rules) (k : KeyRow) (st : CoreState) →
-    ReplicaStands m old r k st → old.stopped ≡ false → IsCall r k st call what → MayGive r what → first ≡ []
+    ReplicaStands m old r k st → old.stopped ≡ false → IsCall r k st call what → MayGive r what → tagger_of core ≡ tagger_of old.core → first ≡ []
     → calls.DoesAll m old.core core what first ms answer → Finishes (with_core old core) new answer ms before after result → Does (ReplicaStands m) new call before after result r k st
-passes m old new core what call first ms before after answer result r k st stands going call_is may none did ends =
+passes m old new core what call first ms before after answer result r k st stands going call_is may same none did ends =
     let on = going_of m old r k st stands going in
     let P : List Msg → Type 0 = λ x. calls.Does m old.core core what x ms answer r st in
-    passed_on m old new core what call ms before after r k st answer result on stands call_is (subst P none (did r st on.core may)) ends
+    passed_on m old new core what call ms before after r k st answer result on stands (same ∙ stands.keys) call_is (subst P none (did r st on.core may)) ends
 
 dead_of : {S E C : Type 0} (m : Meaning S E C KeyRow) (rep : Replica S E C) (r : Rules) (k : KeyRow) (st : CoreState) →
     ReplicaStands m rep r k st → rep.stopped ≡ true → st.live ≡ false

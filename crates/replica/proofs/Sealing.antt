@@ -3,7 +3,7 @@ use Rattle.std.proofs.Common.{◌≡◌, ℕ, ◌+◌, Bool, true, false, cond, 
 use Rattle.std.specs.List.{range_with_len}
 use Rattle.std.proofs.lemmas.List.Elements.{filter-append}
 use Rattle.std.proofs.lemmas.List.{map-append}
-use Rattle.ritas_base.proofs.Masks.{range_more}
+use Rattle.ritas_base.specs.RangeLaws.{range_more}
 use Rattle.replica.specs.declared.frame.OutFrame.{OutFrame}
 
 map_one : (p : ℕ → Bool) (f : ℕ → OutFrame) (j : ℕ) → map f (filter p (j ∷ [])) ≡ cond (p j) (f j ∷ []) []

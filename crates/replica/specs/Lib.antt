@@ -6,3 +6,4 @@ pub mod Replica
 pub mod Steps
 pub mod Laws
 pub mod Rows
+pub mod MovesLaws

@@ -1,16 +1,21 @@
 -- What the value of a replica stands for.
-use Rattle.std.specs.Prelude.{◌≡◌, ℕ, ◌%◌, ◌^◌, Bool, true, false, List, ◌⊎◌}
+use Rattle.std.specs.Prelude.{◌≡◌, ℕ, ◌%◌, ◌^◌, Bool, true, false, List, None, ◌⊎◌}
 use Rattle.ritas_base.specs.declared.slot.Slot.{Slot}
 use Rattle.ritas_base.specs.Messages.{Place}
 use Rattle.ritas_base.specs.Tags.{Tags}
 use Rattle.ritas_base.specs.History.{Call}
 use Rattle.layer_api.specs.Broadcast.{BroadcastRules}
+use Rattle.layer_api.specs.BroadcastCalls.{CastShown}
 use Rattle.layer_api.specs.Service.{ServiceRules, Seat, Word}
+use Rattle.layer_api.specs.ServiceCalls.{ServiceShown}
 use Rattle.keyed_channel.specs.Keyed.{tags_of}
 use Rattle.keyed_channel.specs.KeyRow.{KeyRow}
 use Rattle.ritas_core.specs.Rules.{Rules}
 use Rattle.ritas_core.specs.Parts.{Entry}
-use Rattle.ritas_core.specs.Machine.{CoreState}
+use Rattle.ritas_core.specs.Machine.{CoreState, What, moved}
+use Rattle.ritas_core.specs.Calls.{IsStep, entry_of}
+use Rattle.ritas_core.specs.declared.kernel.Core.{Core}
+use Rattle.ritas_core.specs.Shown.{tagger_of}
 use Rattle.ritas_core.specs.Stands.{Meaning, meaning, CoreStands}
 use Rattle.replica.specs.declared.replica.Replica.{Replica}
 use Rattle.replica.specs.Frames.{count_for}
@@ -18,9 +23,10 @@ use Rattle.replica.specs.Stands.{frames_made}
 use Rattle.replica.specs.Sending.{AreCounts}
 
 -- what the traits say of a service, of the broadcast beside the reliable one and of a coin, with a replica's keys as the tagger
-abbrev pub with_keys : {S E C : Type 0} → (S → Seat → List Word → Type 0) → ServiceRules → (E → Place → Tags → List Call → Type 0) → BroadcastRules → (C → Slot → Bool)
-    → Meaning S E C KeyRow
-with_keys service_stands service cast_stands cast bits = meaning service_stands service cast_stands cast bits (λ k. k.me) tags_of
+abbrev pub with_keys : {S E C : Type 0} → (S → Seat → List Word → Type 0) → ServiceRules → (S → ServiceShown)
+    → (E → Place → Tags → List Call → Type 0) → BroadcastRules → (E → CastShown) → (C → Slot → Bool) → Meaning S E C KeyRow
+with_keys service_stands service service_shown cast_stands cast cast_shown bits =
+    meaning service_stands service service_shown cast_stands cast cast_shown bits (λ k. k.me) tags_of
 
 -- the frames made are counted, modulo 2^64, for each receiver and all together
 pub record AreCounted (r : Rules) (k : KeyRow) (h : List Entry) (counts : List ℕ) (sent : ℕ) : Type 0 where
@@ -31,18 +37,29 @@ pub record AreCounted (r : Rules) (k : KeyRow) (h : List Entry) (counts : List �
 pub record StandsGoing {S E C : Type 0} (m : Meaning S E C KeyRow) (rep : Replica S E C) (r : Rules) (k : KeyRow) (st : CoreState) : Type 0 where
   pub going : rep.stopped ≡ false
   pub core : CoreStands m rep.core r st
-  pub counted : st.live ≡ true → AreCounted r k st.history rep.counts rep.sent
+  pub counted : AreCounted r k st.history rep.counts rep.sent
 
--- it was without memory to seal a frame, whatever its core stands for
-pub record StandsStopped {S E C : Type 0} (m : Meaning S E C KeyRow) (rep : Replica S E C) (r : Rules) (st : CoreState) : Type 0 where
+-- the state before the call that stopped it
+abbrev pub revived : CoreState → CoreState
+revived st = record st { live = true; lost = None }
+
+-- the core did what the replica lost: a call on it that took an entry
+pub record StandsAhead {S E C : Type 0} (m : Meaning S E C KeyRow) (core : Core S E C KeyRow) (r : Rules) (st : CoreState) : Type 0 where
+  pub what : What
+  pub step : IsStep r (revived st) what
+  pub lost : st.lost ≡ entry_of (revived st) what
+  pub stands : CoreStands m core r (moved r (revived st) what).state
+
+-- it was without memory to seal a frame: it keeps its state and made no frame, and its core is ahead of it
+pub record StandsStopped {S E C : Type 0} (m : Meaning S E C KeyRow) (rep : Replica S E C) (r : Rules) (k : KeyRow) (st : CoreState) : Type 0 where
   pub halted : rep.stopped ≡ true
   pub dead : st.live ≡ false
-  pub inner : CoreState
-  pub core : CoreStands m rep.core r inner
+  pub ahead : StandsAhead m rep.core r st
+  pub sent : rep.sent ≡ frames_made r k st.history % 2 ^ 64
 
 -- the replica stands for this state, by these rules and keys
 pub record ReplicaStands {S E C : Type 0} (m : Meaning S E C KeyRow) (rep : Replica S E C) (r : Rules) (k : KeyRow) (st : CoreState) : Type 0 where
-  pub keys : rep.channel ≡ k
+  pub keys : tagger_of rep.core ≡ k
   pub own : k.me ≡ r.casts.me
   pub many : k.n ≡ r.casts.numbers.n
-  pub state : StandsGoing m rep r k st ⊎ StandsStopped m rep r st
+  pub state : StandsGoing m rep r k st ⊎ StandsStopped m rep r k st

@@ -14,7 +14,7 @@ use Rattle.ritas_core.specs.Rules.{Rules}
 use Rattle.ritas_core.specs.Parts.{Entry}
 use Rattle.ritas_core.specs.Machine as core
 use Rattle.ritas_core.specs.Machine.{CoreState, What}
-use Rattle.ritas_core.specs.Calls.{IsStep, IsHolding, left_by, stopped}
+use Rattle.ritas_core.specs.Calls.{IsStep, IsHolding, stopped}
 use Rattle.replica.specs.declared.frame.OutFrame.{OutFrame}
 use Rattle.replica.specs.declared.refusal.Refusal.{Refusal}
 use Rattle.replica.specs.declared.refusal.Refusal.TheVariants as refusals
@@ -50,16 +50,16 @@ pub record Handles {R : Type 0} (Stands : R → Rules → KeyRow → CoreState �
   pub out : after ≡ before ++ (handled r k st call).out
   pub state : Stands new r k (handled r k st call).state
 
--- For want of memory no frame goes out. It comes only where an item was to be held, which leaves all as before, but that
--- a turn's item has left the inbox, or in a step, which stops the replica.
+-- For want of memory no frame goes out. It comes only where an item was to be held, which leaves all as before, or in a
+-- step, which stops the replica.
 pub record RunsOut {R : Type 0} (Stands : R → Rules → KeyRow → CoreState → Type 0) (new : R) (call : Call) (before after : List OutFrame) (r : Rules) (k : KeyRow) (st : CoreState) : Type 0 where
   pub out : after ≡ before
   pub live : st.live ≡ true
   pub what : What
   pub given : core_call r k call ≡ Some what
-  pub state : (IsHolding r st what × Stands new r k (left_by st what)) ⊎ (IsStep r st what × Stands new r k (stopped st))
+  pub state : (IsHolding r st what × Stands new r k st) ⊎ (IsStep r st what × Stands new r k (stopped st what))
 
--- For want of memory to read a body nothing changed. It comes only where the frame opens.
+-- For want of memory to read a body nothing changed. It comes only where the frame opens, and its body spells an item.
 pub record ReadsNone {R : Type 0} (Stands : R → Rules → KeyRow → CoreState → Type 0) (new : R) (call : Call) (before after : List OutFrame) (r : Rules) (k : KeyRow) (st : CoreState) : Type 0 where
   pub out : after ≡ before
   pub state : Stands new r k st
@@ -67,6 +67,8 @@ pub record ReadsNone {R : Type 0} (Stands : R → Rules → KeyRow → CoreState
   pub opened : Opening
   pub frame : call ≡ Frame bytes
   pub opens : opening k bytes ≡ Ok opened
+  pub item : Item
+  pub spells : body_answer r.casts.numbers r.mode opened.from opened.body ≡ Ok item
 
 -- each outcome of a call
 abbrev pub Does : {R : Type 0} → (R → Rules → KeyRow → CoreState → Type 0) → R → Call → List OutFrame → List OutFrame → Result Answer Refusal → Rules → KeyRow → CoreState → Type 0

@@ -13,6 +13,7 @@ use Rattle.ritas_core.specs.declared.fault.CoreFault.{CoreFault}
 use Rattle.ritas_core.specs.declared.fault.CoreFault.TheVariants as faults
 use Rattle.ritas_core.specs.Rules.{Rules}
 use Rattle.ritas_core.specs.Checks.{IsGood}
+use Rattle.ritas_core.specs.Shown.{tagger_of}
 use Rattle.replica.specs.declared.frame.OutFrame.{OutFrame}
 use Rattle.replica.specs.declared.refusal.Refusal.{Refusal}
 use Rattle.replica.specs.declared.refusal.Refusal.TheVariants as refusals
@@ -36,7 +37,7 @@ pub record FindsItem (r : Rules) (k : KeyRow) (bytes : List ℕ) (item : Item) :
 abbrev pub Reads : Rules → KeyRow → List ℕ → Result Item Refusal → Type 0
 Reads r k bytes (Ok item) = FindsItem r k bytes item
 Reads r k bytes (Err (refusals.Open fault)) = opening k bytes ≡ Err fault
-Reads r k bytes (Err (refusals.Body body.Mem)) = (opened : Opening) × (opening k bytes ≡ Ok opened)
+Reads r k bytes (Err (refusals.Body body.Mem)) = (item : Item) × IsRead r k bytes (Ok item)
 Reads r k bytes (Err (refusals.Body fault)) = IsRead r k bytes (Err fault)
 Reads r k bytes (Err (refusals.Core fault)) = ⊥
 
@@ -56,15 +57,14 @@ pub record Counts (k : KeyRow) (count : ℕ → ℕ) (ms : List Msg) (xs : List 
 -- the frames of these messages went out, and are counted
 pub record PutsOut {S E C : Type 0} (old new : Replica S E C) (ms : List Msg) (before after : List OutFrame) : Type 0 where
   pub core : new.core ≡ old.core
-  pub keys : new.channel ≡ old.channel
   pub halted : new.stopped ≡ old.stopped
-  pub counts : (count : ℕ → ℕ) → AreCounts old.channel.n old.counts count → Counts old.channel count ms new.counts old.sent new.sent before after
+  pub counts : (count : ℕ → ℕ) → AreCounts (tagger_of old.core).n old.counts count → Counts (tagger_of old.core) count ms new.counts old.sent new.sent before after
 
 -- for want of memory none went out, and the replica is stopped
 pub record Stops {S E C : Type 0} (old new : Replica S E C) (before after : List OutFrame) : Type 0 where
   pub core : new.core ≡ old.core
-  pub keys : new.channel ≡ old.channel
   pub halted : new.stopped ≡ true
+  pub sent : new.sent ≡ old.sent
   pub out : after ≡ before
 
 -- each outcome
@@ -77,5 +77,4 @@ Finishes old new (Err fault) ms before after result = (result ≡ Err (refusals.
 -- all but the counts is as before
 pub record SameRest {S E C : Type 0} (old new : Replica S E C) : Type 0 where
   pub core : new.core ≡ old.core
-  pub keys : new.channel ≡ old.channel
   pub halted : new.stopped ≡ old.stopped

@@ -13,15 +13,14 @@ use std::alloc::Global;
 /// For want of memory to seal a frame it is stopped, whatever its core has done.
 #[derive(Drop)]
 pub struct Replica<S: Service, E: Broadcast, C: Coin + Drop> {
-    core: Core<S, E, C, Keys>,
-    channel: Channel,
+    core: Core<S, E, C, Channel>,
     counts: [u64; 31],
     sent: u64,
     stopped: bool,
 }
 
 impl<S: Service, E: Broadcast, C: Coin + Drop> Replica<S, E, C> {
-    ghost use Rattle.std.specs.Prelude.{◌≡◌, ℕ, [], IfOk, replicate, ◌%◌, ◌^◌, true, OnOk, OnErr};
+    ghost use Rattle.std.specs.Prelude.{◌≡◌, ℕ, [], IfOk, replicate, ◌%◌, ◌^◌, true, OnOk, OnErr, ◌⊎◌};
     ghost use Rattle.keyed_channel.specs.Keyed.{tags_of};
     ghost use Rattle.keyed_channel.specs.KeyRow.{KeyRow};
     ghost use Rattle.ritas_core.specs.Rules.{Rules, other_form, casts_by};
@@ -29,7 +28,7 @@ impl<S: Service, E: Broadcast, C: Coin + Drop> Replica<S, E, C> {
     ghost use Rattle.ritas_core.specs.Stands.{CoreStands};
     ghost use Rattle.replica.specs.Handling.{Frame, Input, Turn};
     ghost use Rattle.replica.specs.Stands.{DoesAll, frames_made};
-    ghost use Rattle.replica.specs.Replica.{ReplicaStands, with_keys};
+    ghost use Rattle.replica.specs.Replica.{ReplicaStands, StandsAhead, with_keys};
     ghost use Rattle.replica.specs.Steps.{Reads, PutsOut, SameRest, Finishes};
 
     /// The replica that has these keys, before any call. The one error is want of memory.
@@ -40,15 +39,14 @@ impl<S: Service, E: Broadcast, C: Coin + Drop> Replica<S, E, C> {
         requires made_for { keys.n ≡ p.n }
         requires form { E.FORM ≡ other_form mode }
         requires served { S.rules.serves mode.root ≡ true }
-        ensures { IfOk result (λ replica. ReplicaStands (with_keys S.stands S.rules E.stands E.rules C.bits) replica
+        ensures { IfOk result (λ replica. ReplicaStands (with_keys S.stands S.rules S.shown E.stands E.rules E.shown C.bits) replica
             (record { mode = mode; casts = casts_by mode p keys.me (tags_of keys) E.rules; coin = C.bits coin; service = S.rules })
             keys (first_state (replicate p.n []))) }
     {
-        let core = Core::new(alloc, p, mode, keys.me(), keys, coin)?;
         let channel = Channel::new(alloc, keys)?;
+        let core = Core::new(alloc, p, mode, keys.me(), channel, coin)?;
         Ok(Replica {
             core,
-            channel,
             counts: [0; 31],
             sent: 0,
             stopped: false,
@@ -58,11 +56,11 @@ impl<S: Service, E: Broadcast, C: Coin + Drop> Replica<S, E, C> {
     // Seals these messages, and appends the frames.
     fn put_out(&mut self, alloc: Global, msgs: Vec<Msg>, out: &mut Vec<OutFrame>) -> Result<(), Mem>
         ensures ok { OnOk result (PutsOut self.old self.new msgs.items out.old.items out.new.items) }
-        ensures err { OnErr result (out.new.items ≡ out.old.items) }
+        ensures err { OnErr result ((out.new.items ≡ out.old.items) × (self.new.sent ≡ self.old.sent)) }
         ensures same { SameRest self.old self.new }
     {
         let mut made = Vec::new(alloc);
-        send(alloc, &self.channel, &mut self.counts, msgs, &mut made)?;
+        send(alloc, self.core.tagger(), &mut self.counts, msgs, &mut made)?;
         let number = made.len() as u64;
         out.append(&mut made)?;
         self.sent = self.sent.wrapping_add(number);
@@ -95,10 +93,10 @@ impl<S: Service, E: Broadcast, C: Coin + Drop> Replica<S, E, C> {
     // The item that a frame brings.
     fn read(&self, alloc: Global, bytes: &[u8]) -> Result<Item, Refusal>
         ensures { (r : Rules) (k : KeyRow) (st : CoreState)
-            → ReplicaStands (with_keys S.stands S.rules E.stands E.rules C.bits) self.now r k st
+            → ReplicaStands (with_keys S.stands S.rules S.shown E.stands E.rules E.shown C.bits) self.now r k st
             → Reads r k bytes.now result }
     {
-        let opened = match self.channel.open(bytes) {
+        let opened = match self.core.tagger().open(bytes) {
             Ok(opened) => opened,
             Err(fault) => return Err(Refusal::Open(fault)),
         };
@@ -116,14 +114,14 @@ impl<S: Service, E: Broadcast, C: Coin + Drop> Replica<S, E, C> {
     /// `Open` and `Body` are answered exactly where the frame doesn't open or its body spells no item, also once the
     /// replica is stopped, and `Core` where the core refuses the item: each leaves the replica and `out` as they were.
     /// `Body(Mem)` does too. After `Core(Mem)` `out` is as before, and so is the replica where the item was to be held;
-    /// where it was to be taken, the replica is stopped, and the core refuses every later item as `Stopped`.
+    /// where it was to be taken, the replica is stopped, and refuses every later item as `Stopped`.
     pub fn on_frame(
         &mut self,
         alloc: Global,
         bytes: &[u8],
         out: &mut Vec<OutFrame>,
     ) -> Result<Answer, Refusal>
-        ensures { DoesAll (ReplicaStands (with_keys S.stands S.rules E.stands E.rules C.bits))
+        ensures { DoesAll (ReplicaStands (with_keys S.stands S.rules S.shown E.stands E.rules E.shown C.bits))
             self.old self.new (Frame bytes.now) out.old.items out.new.items result }
     {
         let item = self.read(alloc, bytes)?;
@@ -145,7 +143,7 @@ impl<S: Service, E: Broadcast, C: Coin + Drop> Replica<S, E, C> {
         bytes: &[u8],
         out: &mut Vec<OutFrame>,
     ) -> Result<Answer, Refusal>
-        ensures { DoesAll (ReplicaStands (with_keys S.stands S.rules E.stands E.rules C.bits))
+        ensures { DoesAll (ReplicaStands (with_keys S.stands S.rules S.shown E.stands E.rules E.shown C.bits))
             self.old self.new (Input bytes.now) out.old.items out.new.items result }
     {
         if self.stopped {
@@ -160,9 +158,9 @@ impl<S: Service, E: Broadcast, C: Coin + Drop> Replica<S, E, C> {
     /// that become due by it are appended to `out`, in the order of the messages and for each by receiver.
     ///
     /// The one error is `Core`, which leaves `out` as it was, and the replica but that the item has left the inbox.
-    /// `Core(Mem)` does the same where the item was to be held; where it was to be taken, the replica is stopped.
+    /// `Core(Mem)` leaves all as it was where the item was to be held; where it was to be taken, the replica is stopped.
     pub fn on_turn(&mut self, alloc: Global, out: &mut Vec<OutFrame>) -> Result<Answer, Refusal>
-        ensures { DoesAll (ReplicaStands (with_keys S.stands S.rules E.stands E.rules C.bits))
+        ensures { DoesAll (ReplicaStands (with_keys S.stands S.rules S.shown E.stands E.rules E.shown C.bits))
             self.old self.new Turn out.old.items out.new.items result }
     {
         if self.stopped {
@@ -176,7 +174,7 @@ impl<S: Service, E: Broadcast, C: Coin + Drop> Replica<S, E, C> {
     /// Whether no call was without memory, but for one that only was to read a body or to hold an item.
     pub fn live(&self) -> bool
         ensures { (r : Rules) (k : KeyRow) (st : CoreState)
-            → ReplicaStands (with_keys S.stands S.rules E.stands E.rules C.bits) self.now r k st
+            → ReplicaStands (with_keys S.stands S.rules S.shown E.stands E.rules E.shown C.bits) self.now r k st
             → result ≡ st.live }
     {
         !self.stopped && self.core.live()
@@ -185,27 +183,32 @@ impl<S: Service, E: Broadcast, C: Coin + Drop> Replica<S, E, C> {
     /// The keys of the replica.
     pub fn keys(&self) -> &Keys
         ensures { (r : Rules) (k : KeyRow) (st : CoreState)
-            → ReplicaStands (with_keys S.stands S.rules E.stands E.rules C.bits) self.now r k st
+            → ReplicaStands (with_keys S.stands S.rules S.shown E.stands E.rules E.shown C.bits) self.now r k st
             → result.now ≡ k }
     {
-        self.channel.keys()
+        self.core.tagger().keys()
     }
 
-    /// The core. While the replica is live, the core stands for its state.
-    pub fn core(&self) -> &Core<S, E, C, Keys>
-        ensures { (r : Rules) (k : KeyRow) (st : CoreState)
-            → ReplicaStands (with_keys S.stands S.rules E.stands E.rules C.bits) self.now r k st
+    /// The core. It stands for the replica's state, but where the replica was without memory to seal a frame: there the core
+    /// is ahead by what the replica lost. What it tags with is the replica's channel.
+    pub fn core(&self) -> &Core<S, E, C, Channel>
+        ensures live { (r : Rules) (k : KeyRow) (st : CoreState)
+            → ReplicaStands (with_keys S.stands S.rules S.shown E.stands E.rules E.shown C.bits) self.now r k st
             → st.live ≡ true
-            → CoreStands (with_keys S.stands S.rules E.stands E.rules C.bits) result.now r st }
+            → CoreStands (with_keys S.stands S.rules S.shown E.stands E.rules E.shown C.bits) result.now r st }
+        ensures near { (r : Rules) (k : KeyRow) (st : CoreState)
+            → ReplicaStands (with_keys S.stands S.rules S.shown E.stands E.rules E.shown C.bits) self.now r k st
+            → CoreStands (with_keys S.stands S.rules S.shown E.stands E.rules E.shown C.bits) result.now r st
+            ⊎ StandsAhead (with_keys S.stands S.rules S.shown E.stands E.rules E.shown C.bits) result.now r st }
     {
         &self.core
     }
 
-    /// How many frames the replica made, modulo 2^64. It is told of a live replica.
+    /// How many frames the replica made, modulo 2^64.
     pub fn sent(&self) -> u64
         ensures { (r : Rules) (k : KeyRow) (st : CoreState)
-            → ReplicaStands (with_keys S.stands S.rules E.stands E.rules C.bits) self.now r k st
-            → st.live ≡ true → result ≡ frames_made r k st.history % 2 ^ 64 }
+            → ReplicaStands (with_keys S.stands S.rules S.shown E.stands E.rules E.shown C.bits) self.now r k st
+            → result ≡ frames_made r k st.history % 2 ^ 64 }
     {
         self.sent
     }

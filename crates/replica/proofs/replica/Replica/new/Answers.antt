@@ -1,8 +1,10 @@
-use Rattle.std.proofs.Common.{refl}
+use Rattle.std.proofs.Common.{refl, ◌∙◌}
 use Rattle.replica.proofs.Fresh.{fresh_stands, zeros}
 use Rattle.replica.proofs.replica.Replica.new.Goals as goal
 
 pub returns : goal.returns
 returns g c =
-    let stands = rw c.me.ensures.value at (c.in_ok-core.ensures {u = tt}) in
-    fresh_stands _ _ _ _ _ (record { going = refl; each = λ j. zeros 31 j; all = refl }) (c.in_ok-channel.ensures {u = tt}) refl c.requires.made_for stands
+    let core = c.in_ok-core.ensures {u = tt} in
+    let same = c.in_ok-channel.ensures {u = tt} in
+    let stands = rw (c.me.ensures.value, same) at core.stands in
+    fresh_stands _ _ _ _ _ (record { going = refl; each = λ j. zeros 31 j; all = refl }) (core.tagger ∙ same) refl c.requires.made_for stands

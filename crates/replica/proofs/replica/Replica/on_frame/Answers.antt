@@ -20,4 +20,4 @@ pub returns : goal.returns
 returns g c = λ r k st stands.
     let found = c.in_ok-item.ensures {u = tt} r k st stands in
     passes _ _ _ _ (core.Frame c.in_ok-item.item) (Frame c.args.bytes.now) _ _ _ _ _ _ r k st stands c.if-self.false (found_call r k st c.args.bytes.now c.in_ok-item.item found) found.good
-    c.new-msgs.ensures.items c.take-answer.ensures c.finish.ensures
+    c.take-answer.ensures.tagger c.new-msgs.ensures.items c.take-answer.ensures.does c.finish.ensures
