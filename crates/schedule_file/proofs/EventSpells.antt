@@ -4,6 +4,7 @@ use Rattle.std.specs.Prelude.{nat_lt, not, ◌==◌, ◌≢◌}
 use Rattle.std.specs.Int.{w32, to_be_bytes}
 use Rattle.std.proofs.lemmas.Bool.{eqb-true, eq-eqb, ne_eqb, ltb-true, lt-ltb}
 use Rattle.std.proofs.lemmas.List.{append-nil}
+use Rattle.ritas_base.specs.Events.{MayHappen}
 use Rattle.ritas_base.specs.declared.event.Event.{Event}
 use Rattle.ritas_base.specs.declared.event.Event.TheVariants.{Frame, Input, Turn, Pass, Sealed}
 use Rattle.schedule_file.specs.declared.fault.FileFault.{FileFault}
@@ -11,7 +12,7 @@ use Rattle.schedule_file.specs.declared.fault.FileFault.TheVariants as faults
 use Rattle.schedule_file.specs.Reading.{Spot}
 use Rattle.schedule_file.specs.FileBytes.{limit, byte_at, u32_at, text_at}
 use Rattle.schedule_file.specs.ReadEvents.{replica_at, pair_at, frame_at, input_at, turn_at, pass_at, sealed_at, kind_at}
-use Rattle.schedule_file.specs.Spelling.{sized, event_text, ArePair, IsEvent}
+use Rattle.schedule_file.specs.Spelling.{sized, event_text, IsEvent}
 use Rattle.schedule_file.proofs.Spells.{Spells, Both, Nothing, as_spells, then_spells, guard_spells, done_spells}
 use Rattle.schedule_file.proofs.FileSpells.{byte_spells, u32_spells, text_spells, IsSized, IsNumber}
 
@@ -29,7 +30,7 @@ replica_spells n p = as_spells (IsReplica n)
 
 -- ---- two replicas
 
-not_equal : (a b : ℕ) → not (a == b) ≡ true → a ≢ b
+pub not_equal : (a b : ℕ) → not (a == b) ≡ true → a ≢ b
 not_equal a b h e = not_true (a == b) (eq-eqb a b e) h
   where
     not_true : (t : Bool) → t ≡ true → not t ≡ true → ⊥
@@ -37,7 +38,7 @@ not_equal a b h e = not_true (a == b) (eq-eqb a b e) h
     not_true false e h = cc
 
 abbrev pub IsPairText : ℕ → ℕ × ℕ → List ℕ → Type 0
-IsPairText n x text = (text ≡ x.0 ∷ x.1 ∷ []) × ArePair n x.0 x.1
+IsPairText n x text = (text ≡ x.0 ∷ x.1 ∷ []) × MayHappen n (Pass x.0 x.1 0)
 
 pub pair_spells : (n p : ℕ) → Spells limit (pair_at n p) (IsPairText n)
 unfolding pair_at
@@ -47,12 +48,12 @@ pair_spells n p = as_spells (IsPairText n)
     let b = r.second in
     let made : IsPairText n (r.value, b.value) text = (
       rw (r.parts, r.first.0, b.parts, b.first.0, b.second.1.1) refl,
-      record { sender = r.first.1; receiver = b.first.1; other = not_equal _ _ b.second.0 },
+      (r.first.1, b.first.1, not_equal _ _ b.second.0),
     ) in
     subst (λ (y : ℕ × ℕ). IsPairText n y text) b.second.1.0 made)
     (λ x text r.
-    let other : not (x.0 == x.1) ≡ true = rw (ne_eqb _ _ r.1.other) refl in
-    record { value = x.0; front = x.0 ∷ []; back = x.1 ∷ []; first = (refl, r.1.sender); second = record { value = x.1; front = x.1 ∷ []; back = []; first = (refl, r.1.receiver); second = (other, (refl, refl)); parts = refl }; parts = r.0 })
+    let other : not (x.0 == x.1) ≡ true = rw (ne_eqb _ _ r.1.2) refl in
+    record { value = x.0; front = x.0 ∷ []; back = x.1 ∷ []; first = (refl, r.1.0); second = record { value = x.1; front = x.1 ∷ []; back = []; first = (refl, r.1.1); second = (other, (refl, refl)); parts = refl }; parts = r.0 })
 
 -- ---- an event, by its first byte and what follows it
 
@@ -118,7 +119,7 @@ input_spells n p = as_spells (IsBody n 2)
     (input_from n)
 
 turn_from : (n : ℕ) (e : Event) (text : List ℕ) → IsBody n 3 e text → Both (IsReplica n) (λ at. Nothing (Turn at)) e text
-turn_from n (Turn at) text r = record { value = at; front = at ∷ []; back = []; first = (refl, r.is_event); second = (refl, refl); parts = r.is_text }
+turn_from n (Turn at) text r = record { value = at; front = at ∷ []; back = []; first = (refl, r.is_event.0); second = (refl, refl); parts = r.is_text }
 turn_from n (Frame to bytes) text r = absurd (omega (arith, r.is_kind))
 turn_from n (Input at bytes) text r = absurd (omega (arith, r.is_kind))
 turn_from n (Pass from to m) text r = absurd (omega (arith, r.is_kind))
@@ -129,7 +130,7 @@ unfolding turn_at
 turn_spells n p = as_spells (IsBody n 3)
     (then_spells (replica_at n p) (λ at. Ok (Turn at.0, at.1)) (replica_spells n p) (λ at. done_spells (Turn at)))
     (λ e text fits r.
-    let made : IsBody n 3 (Turn r.value) text = record { is_kind = refl; is_text = rw (r.parts, r.first.0, r.second.1) refl; is_event = r.first.1 } in
+    let made : IsBody n 3 (Turn r.value) text = record { is_kind = refl; is_text = rw (r.parts, r.first.0, r.second.1) refl; is_event = (r.first.1, tt) } in
     subst (λ (y : Event). IsBody n 3 y text) r.second.0 made)
     (turn_from n)
 

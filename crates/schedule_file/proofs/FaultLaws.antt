@@ -13,7 +13,8 @@ use Rattle.schedule_file.specs.FileBytes.{limit, is_outside, byte_at, end_from, 
 use Rattle.schedule_file.specs.ReadHeader.{Heading, header_at}
 use Rattle.schedule_file.specs.ReadEvents.{kind_at, some_event, no_event, event_of, event_at, events_then, events_at}
 use Rattle.schedule_file.specs.Schedule.{file_of}
-use Rattle.schedule_file.specs.Spelling.{header_text, event_text, FileOf, FrontOf, IsEvent, IsHeading, IsFile, IsFront}
+use Rattle.schedule_file.specs.Spelling.{header_text, event_text, FileOf, FrontOf, IsEvent, IsHeading}
+use Rattle.schedule_file.specs.Faults.{IsTrailingFault}
 use Rattle.schedule_file.proofs.Spells.{back_fits, Took}
 use Rattle.schedule_file.proofs.FileSpells.{byte_spells}
 use Rattle.schedule_file.proofs.HeaderSpells.{header_spells}
@@ -95,6 +96,9 @@ pub record StopsAt (n : ℕ) (s : Spot) (f : FileFault) : Type 0 where
   pub each : AllByRecursion (IsEvent n) es
   pub at : mid.at ≡ s.at + length (flat_map event_text es)
   pub stop : IsStop mid f
+  pub reads : event_at n mid ≡ Err f
+  pub fits : IsBytes mid.rest
+  pub low : mid.at ≤ limit
 
 stops_then : (k n : ℕ) (s next : Spot) (o : Option Event) (f : FileFault)
     → ((t : Spot) → limit < k + t.at → t.at ≤ limit → IsBytes t.rest → events_at k n t ≡ Err f → StopsAt n t f)
@@ -112,16 +116,19 @@ stops_then k n s next (Some x) f ih fuel low fits there e =
             each = (there.1, more.each);
             at = rw flat_map-cons (omega (arith, more.at, there.0.at, length-append (event_text x) (flat_map event_text more.es)));
             stop = more.stop;
+            reads = more.reads;
+            fits = more.fits;
+            low = more.low;
           }
       | inr h ↦ absurd (let no = h.2 in cc)
     ]
 
-events_stop : (k n : ℕ) (s : Spot) (f : FileFault) → limit < k + s.at → s.at ≤ limit → IsBytes s.rest → events_at k n s ≡ Err f → StopsAt n s f
+pub events_stop : (k n : ℕ) (s : Spot) (f : FileFault) → limit < k + s.at → s.at ≤ limit → IsBytes s.rest → events_at k n s ≡ Err f → StopsAt n s f
 unfolding events_at
 events_stop zero n s f fuel low fits e = absurd (omega arith)
 events_stop (suc k) n s f fuel low fits e =
     elim (bind_err (event_at n s) (λ event. events_then event.0 (events_at k n event.1)) f e) [
-      | inl h ↦ record { es = []; mid = s; bytes = refl; each = tt; at = omega arith; stop = event_stop n s f low fits h }
+      | inl h ↦ record { es = []; mid = s; bytes = refl; each = tt; at = omega arith; stop = event_stop n s f low fits h; reads = h; fits = fits; low = low }
       | inr h ↦ stops_then k n s h.0.1 h.0.0 f (λ t. events_stop k n t f) fuel low fits (event_there n s h.0.0 h.0.1 low fits h.1) h.2
     ]
 
@@ -130,7 +137,7 @@ events_stop (suc k) n s f fuel low fits e =
 joined : (bytes text rest head events mid : List ℕ) → bytes ≡ text ++ rest → text ≡ head → rest ≡ events ++ mid → bytes ≡ (head ++ events) ++ mid
 joined bytes text rest head events mid p q r = p ∙ rw (q, r) (sym (append_assoc head events mid))
 
-marked : (head events tail : List ℕ) → (head ++ events) ++ (0 ∷ tail) ≡ (head ++ (events ++ 0 ∷ [])) ++ tail
+pub marked : (head events tail : List ℕ) → (head ++ events) ++ (0 ∷ tail) ≡ (head ++ (events ++ 0 ∷ [])) ++ tail
 marked head events tail = simp append_assoc
 
 -- a header and events were read, and then a fault was met
@@ -143,8 +150,11 @@ pub record FileStop (bytes : List ℕ) (f : FileFault) : Type 0 where
   pub each : AllByRecursion (IsEvent h.p.n) (reverse es)
   pub at : mid.at ≡ length (FrontOf h es)
   pub stop : IsStop mid f
+  pub reads : event_at h.p.n mid ≡ Err f
+  pub fits : IsBytes mid.rest
+  pub low : mid.at ≤ limit
 
-file_stop : (bytes : List ℕ) (f : FileFault) → IsBytes bytes → file_of bytes ≡ Err f → Named IsOfHeader (start_of bytes) f ⊎ FileStop bytes f
+pub file_stop : (bytes : List ℕ) (f : FileFault) → IsBytes bytes → file_of bytes ≡ Err f → Named IsOfHeader (start_of bytes) f ⊎ FileStop bytes f
 unfolding file_of
 file_stop bytes f fits e =
     elim (bind_err (header_at (start_of bytes)) (λ header. events_at (limit + 1) header.0.p.n header.1 >>= λ events. Ok (header.0, reverse events)) f e) [
@@ -163,6 +173,9 @@ file_stop bytes f fits e =
               each = rw back more.each;
               at = rw back (omega (arith, more.at, head.took.at, ap length head.is.0, length-append (header_text h.0.0) (flat_map event_text more.es)));
               stop = more.stop;
+              reads = more.reads;
+              fits = more.fits;
+              low = more.low;
             })
         | inr k ↦ absurd (let no = k.2 in cc)
       ]
@@ -171,11 +184,11 @@ file_stop bytes f fits e =
 whole_length : (bytes : List ℕ) (f : FileFault) (s : FileStop bytes f) → length bytes ≡ s.mid.at + length s.mid.rest
 whole_length bytes f s = ap length s.is ∙ omega (arith, s.at, length-append (FrontOf s.h s.es) s.mid.rest)
 
-pub cut_at : (bytes : List ℕ) (p : ℕ) → IsBytes bytes → file_of bytes ≡ Err (faults.Truncated p) → p ≡ length bytes
+pub cut_at : (bytes : List ℕ) (p : ℕ) → IsBytes bytes → file_of bytes ≡ Err (faults.Truncated p) → (p ≡ length bytes) × (p ≤ limit)
 cut_at bytes p fits e =
     elim (file_stop bytes (faults.Truncated p) fits e) [
-      | inl h ↦ omega (arith, h)
-      | inr s ↦ omega (arith, s.stop, whole_length bytes (faults.Truncated p) s)
+      | inl h ↦ (omega (arith, h.0), h.1)
+      | inr s ↦ (omega (arith, s.stop.0, whole_length bytes (faults.Truncated p) s), s.stop.1)
     ]
 
 pub too_long : (bytes : List ℕ) → IsBytes bytes → file_of bytes ≡ Err faults.TooLong → limit < length bytes
@@ -185,16 +198,7 @@ too_long bytes fits e =
       | inr s ↦ omega (arith, s.stop, whole_length bytes faults.TooLong s)
     ]
 
-pub event_at_place : (bytes : List ℕ) (p : ℕ) → IsBytes bytes → file_of bytes ≡ Err (faults.Event p) → (h : Heading) × (es : List Event) × IsFront (take p bytes) h es
-event_at_place bytes p fits e =
-    elim (file_stop bytes (faults.Event p) fits e) [
-      | inl h ↦ absurd h
-      | inr s ↦
-          let place : p ≡ length (FrontOf s.h s.es) = omega (arith, s.stop, s.at) in
-          (s.h, s.es, record { text = ap (take p) s.is ∙ take_at (FrontOf s.h s.es) s.mid.rest p (sym place); header = s.header; each = s.each })
-    ]
-
-pub trailing_at_place : (bytes : List ℕ) (p : ℕ) → IsBytes bytes → file_of bytes ≡ Err (faults.Trailing p) → (p < length bytes) × (h : Heading) × (es : List Event) × IsFile (take p bytes) h es
+pub trailing_at_place : (bytes : List ℕ) (p : ℕ) → IsBytes bytes → file_of bytes ≡ Err (faults.Trailing p) → IsTrailingFault bytes p
 trailing_at_place bytes p fits e =
     elim (file_stop bytes (faults.Trailing p) fits e) [
       | inl h ↦ absurd h
@@ -206,6 +210,7 @@ trailing_at_place bytes p fits e =
           let long : length (FileOf s.h s.es) ≡ p = omega (arith, s.stop.at, s.at, length-append text events, length-append text (events ++ 0 ∷ []), length-append events (0 ∷ [])) in
           let front : take p bytes ≡ FileOf s.h s.es = ap (take p) whole ∙ take_at (FileOf s.h s.es) tail p long in (
             omega (arith, ap length whole, length-append (FileOf s.h s.es) tail, long, s.stop.some),
+            s.stop.low,
             s.h,
             s.es,
             record { text = front; header = s.header; each = s.each; size = rw front (omega (arith, long, s.stop.low)) },

@@ -22,7 +22,7 @@ Named own s faults.Magic = own faults.Magic
 Named own s faults.Version = own faults.Version
 Named own s (faults.Header k) = own (faults.Header k)
 Named own s (faults.Event p) = own (faults.Event p)
-Named own s (faults.Truncated p) = p ≡ s.at + length s.rest
+Named own s (faults.Truncated p) = (p ≡ s.at + length s.rest) × (p ≤ limit)
 Named own s (faults.Trailing p) = ⊥
 Named own s faults.TooLong = limit < s.at + length s.rest
 Named own s faults.Read = ⊥
@@ -43,13 +43,13 @@ moved own s mid text faults.Magic took h = h
 moved own s mid text faults.Version took h = h
 moved own s mid text (faults.Header k) took h = h
 moved own s mid text (faults.Event p) took h = h
-moved own s mid text (faults.Truncated p) took h = omega (arith, h, took.at, ap length took.bytes, length-append text mid.rest)
+moved own s mid text (faults.Truncated p) took h = (omega (arith, h.0, took.at, ap length took.bytes, length-append text mid.rest), h.1)
 moved own s mid text (faults.Trailing p) took h = h
 moved own s mid text faults.TooLong took h = omega (arith, h, took.at, ap length took.bytes, length-append text mid.rest)
 moved own s mid text faults.Read took h = h
 moved own s mid text faults.Mem took h = h
 
-then_names : {A B : Type 0} {own : FileFault → Type 0} {R : A → List ℕ → Type 0} {first : Spot → Result (A × Spot) FileFault} (second : A × Spot → Result (B × Spot) FileFault)
+pub then_names : {A B : Type 0} {own : FileFault → Type 0} {R : A → List ℕ → Type 0} {first : Spot → Result (A × Spot) FileFault} (second : A × Spot → Result (B × Spot) FileFault)
     → Spells limit first R → Names own first → ((a : A) → Names own (λ s. second (a, s))) → Names own (λ s. first s >>= second)
 then_names {own = own} {first = first} second spells p q = record {
   names = λ s f low fits e. elim (bind_err (first s) second f e) [
@@ -67,7 +67,7 @@ guard_names : {B : Type 0} {own : FileFault → Type 0} (holds : Bool) (f : File
 guard_names true f second is p = record { names = λ s g low fits e. p.names s g low fits e }
 guard_names {own = own} false f second is p = record { names = λ s g low fits e. subst (λ (x : FileFault). Named own s x) (err_is f g e) (is s) }
 
-done_names : {A : Type 0} {own : FileFault → Type 0} (a : A) → Names own (λ s. Ok (a, s))
+pub done_names : {A : Type 0} {own : FileFault → Type 0} (a : A) → Names own (λ s. Ok (a, s))
 done_names a = record { names = λ s f low fits e. absurd cc }
 
 choose_names : {B : Type 0} {own : FileFault → Type 0} (t : Bool) (first second : Spot → Result (B × Spot) FileFault) → Names own first → Names own second → Names own (λ s. cond t (first s) (second s))
@@ -82,13 +82,13 @@ late own at b rest false x f is e =
     let past : limit ≤ at = ltb-false at limit is in
     subst (λ (y : FileFault). Named own (record { at = at; rest = b ∷ rest }) y) (err_is faults.TooLong f e) (omega (arith, past))
 
-byte_named : (own : FileFault → Type 0) (at : ℕ) (bytes : List ℕ) (f : FileFault) → byte_from at bytes ≡ Err f → Named own (record { at = at; rest = bytes }) f
-byte_named own at [] f e = subst (λ (y : FileFault). Named own (record { at = at; rest = [] }) y) (err_is (faults.Truncated at) f e) (omega arith)
-byte_named own at (b ∷ rest) f e = late own at b rest (nat_lt at limit) (b, record { at = at + 1; rest = rest }) f refl e
+byte_named : (own : FileFault → Type 0) (at : ℕ) (bytes : List ℕ) (f : FileFault) → at ≤ limit → byte_from at bytes ≡ Err f → Named own (record { at = at; rest = bytes }) f
+byte_named own at [] f low e = subst (λ (y : FileFault). Named own (record { at = at; rest = [] }) y) (err_is (faults.Truncated at) f e) (omega arith, low)
+byte_named own at (b ∷ rest) f low e = late own at b rest (nat_lt at limit) (b, record { at = at + 1; rest = rest }) f refl e
 
 pub byte_names : {own : FileFault → Type 0} → Names own byte_at
 unfolding byte_at
-byte_names {own = own} = record { names = λ s f low fits e. byte_named own s.at s.rest f e }
+byte_names {own = own} = record { names = λ s f low fits e. byte_named own s.at s.rest f low e }
 
 bytes_names : {own : FileFault → Type 0} (n : ℕ) → Names own (bytes_at n)
 unfolding bytes_at
@@ -99,7 +99,7 @@ u16_names : {own : FileFault → Type 0} → Names own u16_at
 unfolding u16_at
 u16_names = then_names (λ b. Ok (from_be_bytes w16 b.0, b.1)) (bytes_spells 2) (bytes_names 2) (λ b. done_names (from_be_bytes w16 b))
 
-u32_names : {own : FileFault → Type 0} → Names own u32_at
+pub u32_names : {own : FileFault → Type 0} → Names own u32_at
 unfolding u32_at
 u32_names = then_names (λ b. Ok (from_be_bytes w32 b.0, b.1)) (bytes_spells 4) (bytes_names 4) (λ b. done_names (from_be_bytes w32 b))
 
@@ -107,7 +107,7 @@ u64_names : {own : FileFault → Type 0} → Names own u64_at
 unfolding u64_at
 u64_names = then_names (λ b. Ok (from_be_bytes w64 b.0, b.1)) (bytes_spells 8) (bytes_names 8) (λ b. done_names (from_be_bytes w64 b))
 
-text_names : {own : FileFault → Type 0} → Names own text_at
+pub text_names : {own : FileFault → Type 0} → Names own text_at
 unfolding text_at
 text_names = then_names (λ len. bytes_at len.0 len.1) u16_spells u16_names (λ len. bytes_names len)
 

@@ -74,7 +74,7 @@ some_kind (Turn at) = refl
 some_kind (Pass from to m) = refl
 some_kind (Sealed from to body) = refl
 
-event_again : (n at : ℕ) (e : Event) (rest : List ℕ) → IsEvent n e → at + length (event_text e) ≤ limit → event_at n (record { at = at; rest = event_text e ++ rest }) ≡ Ok (Some e, record { at = at + length (event_text e); rest = rest })
+pub event_again : (n at : ℕ) (e : Event) (rest : List ℕ) → IsEvent n e → at + length (event_text e) ≤ limit → event_at n (record { at = at; rest = event_text e ++ rest }) ≡ Ok (Some e, record { at = at + length (event_text e); rest = rest })
 unfolding event_at
 event_again n at e rest is le =
     let kind = kind_of e in
@@ -137,7 +137,7 @@ events_again (suc k) n at (e ∷ es) each long le =
     let more = events_again k n (at + length (event_text e)) es each.1 (omega arith) (omega arith) in
     ap (λ (t : List ℕ). events_at (suc k) n (record { at = at; rest = t })) (grouped e es) ∙ rw (one, more) refl
 
-no_more : (es : List Event) → length es ≤ length (flat_map event_text es)
+pub no_more : (es : List Event) → length es ≤ length (flat_map event_text es)
 no_more [] = omega arith
 no_more (e ∷ es) = rw flat_map-cons (omega (arith, length-append (event_text e) (flat_map event_text es), ap length (text_is e), no_more es))
 

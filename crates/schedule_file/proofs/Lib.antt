@@ -5,4 +5,7 @@ pub mod HeaderSpells
 pub mod EventSpells
 pub mod FileLaws
 pub mod FaultPlaces
+pub mod FieldFaults
+pub mod EventFaults
 pub mod FaultLaws
+pub mod FileFaults

@@ -5,4 +5,5 @@ pub mod ReadHeader
 pub mod ReadEvents
 pub mod Schedule
 pub mod Spelling
+pub mod Faults
 pub mod Rows

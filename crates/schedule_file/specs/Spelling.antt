@@ -1,7 +1,8 @@
 -- The bytes of a schedule file.
-use Rattle.std.specs.Prelude.{◌≡◌, ◌≢◌, ℕ, ◌^◌, ◌<◌, ◌≤◌, true, List, [], ◌∷◌, ◌++◌, length, reverse}
+use Rattle.std.specs.Prelude.{◌≡◌, ℕ, ◌^◌, ◌<◌, ◌≤◌, true, List, [], ◌∷◌, ◌++◌, length, reverse}
 use Rattle.std.specs.List.{flat_map, AllByRecursion}
 use Rattle.std.specs.Int.{w16, w32, w64, to_be_bytes}
+use Rattle.ritas_base.specs.Events.{MayHappen}
 use Rattle.ritas_base.specs.Numbers.{IsSession}
 use Rattle.ritas_base.specs.declared.mode.Vect.{Vect}
 use Rattle.ritas_base.specs.declared.mode.Vect.TheVariants.{Echo, Reliable}
@@ -47,19 +48,17 @@ FileOf h es = header_text h ++ (flat_map event_text (reverse es) ++ 0 ∷ [])
 abbrev pub FrontOf : Heading → List Event → List ℕ
 FrontOf h es = header_text h ++ flat_map event_text (reverse es)
 
--- a sender and another replica, of n
-pub record ArePair (n from to : ℕ) : Type 0 where
-  pub sender : from < n
-  pub receiver : to < n
-  pub other : from ≢ to
+-- the lengths and numbers of an event fit their fields
+abbrev pub IsSized : Event → Type 0
+IsSized (Frame to bytes) = length bytes < 2 ^ 16
+IsSized (Input at bytes) = length bytes < 2 ^ 16
+IsSized (Turn at) = Unit {0}
+IsSized (Pass from to m) = m < 2 ^ 32
+IsSized (Sealed from to body) = length body < 2 ^ 16
 
 -- an event that a file of n replicas may have
 abbrev pub IsEvent : ℕ → Event → Type 0
-IsEvent n (Frame to bytes) = (to < n) × (length bytes < 2 ^ 16)
-IsEvent n (Input at bytes) = (at < n) × (length bytes < 2 ^ 16)
-IsEvent n (Turn at) = at < n
-IsEvent n (Pass from to m) = ArePair n from to × (m < 2 ^ 32)
-IsEvent n (Sealed from to body) = ArePair n from to × (length body < 2 ^ 16)
+IsEvent n e = MayHappen n e × IsSized e
 
 abbrev pub AreKeys : HeaderKeys → Type 0
 AreKeys (Master master) = length master ≡ 32

@@ -26,11 +26,12 @@
 //!
 //! Replicas are below n, and the sender of a frame isn't its receiver. `Reader` reads a file from a source, and answers
 //! its first fault from the left, in whatever pieces the source gives it. `file_laws` says that what is read as a file
-//! is spelled so, and that what is spelled so is read.
+//! is spelled so, and that what is spelled so is read; `file_faults` says when each fault comes.
 #![tactic(auto)]
 
 mod fault;
 mod header;
+mod laws;
 mod pieces;
 mod read_event;
 mod read_header;
@@ -41,4 +42,5 @@ mod tests;
 
 pub use fault::FileFault;
 pub use header::{Header, HeaderKeys};
-pub use reader::{Reader, file_laws};
+pub use laws::{file_faults, file_laws};
+pub use reader::Reader;

@@ -1,4 +1,4 @@
-ghost use Rattle.std.specs.Prelude.{◌^◌, ◌≡◌, ◌<◌, ◌≤◌, ◌+◌, ◌++◌, [], true, false, Ok, Err, length, take, IfOk, IfErr, IsErr, MatchResult, ◌≢◌};
+ghost use Rattle.std.specs.Prelude.{◌^◌, ◌≡◌, ◌<◌, ◌≤◌, ◌+◌, ◌-◌, ◌++◌, [], true, false, Ok, Err, length, take, drop, IfOk, IfErr, IsOk, IsErr, OnOk, MatchResult, ◌≢◌};
 ghost use Rattle.std.specs.Bool.{OnTrue, OnFalse};
 ghost use Rattle.outside.specs.Faults.{HasCause};
 ghost use Rattle.schedule_file.specs.declared.fault.FileFault.TheVariants.{Read};
@@ -15,10 +15,11 @@ use std::marker::Model;
 // A file has at most so many bytes.
 const LIMIT: u32 = 67_108_864;
 
-/// What came of a file and wasn't read. Contracts see its place and its bytes.
+/// What came of a file and wasn't read, at most 65,536 bytes: room for the longest text, so that memory is taken for a text
+/// only once all of it came. Contracts see its place and its bytes.
 #[derive(Drop)]
 pub struct Pieces {
-    piece: [u8; 4096],
+    piece: [u8; 65_536],
     from: usize,
     to: usize,
     at: u32,
@@ -32,7 +33,7 @@ impl Model for Pieces {
 
     ghost view = { λ p. record { at = p.at; bytes = drop p.from (take p.to p.piece) } };
 
-    ghost invariant = { λ p. (p.to ≤ 4096) × (p.at ≤ 67108864) };
+    ghost invariant = { λ p. (p.from ≤ p.to) × (p.to ≤ 65536) × (p.at ≤ 67108864) };
 }
 
 /// A condition, and the fault where it doesn't hold.
@@ -42,13 +43,27 @@ pub fn test(holds: bool, fault: FileFault) -> Result<(), FileFault>
     if holds { Ok(()) } else { Err(fault) }
 }
 
+/// Moves a part of a buffer to its front, and says how many bytes it has.
+fn move_to_front(piece: &mut [u8], from: usize, to: usize) -> usize
+    requires order { from ≤ to }
+    requires within { to ≤ length piece.old }
+    ensures part { take result piece.new ≡ drop from (take to piece.old) }
+    ensures len { result ≡ to - from }
+{
+    if from == 0 {
+        return to;
+    }
+    piece.copy_within(from..to, 0);
+    to - from
+}
+
 impl Pieces {
     /// Nothing came yet.
     pub fn new() -> Pieces
         ensures { result ≡ record { at = 0; bytes = [] } }
     {
         Pieces {
-            piece: [0; 4096],
+            piece: [0; 65_536],
             from: 0,
             to: 0,
             at: 0,
@@ -62,6 +77,64 @@ impl Pieces {
         self.at
     }
 
+    /// How many bytes are held.
+    fn len(&self) -> usize
+        ensures { result ≡ length self.now.bytes }
+    {
+        self.to - self.from
+    }
+
+    /// The next bytes, which are held.
+    fn front(&self, len: usize) -> &[u8]
+        requires { len ≤ length self.now.bytes }
+        ensures { result.now ≡ take len self.now.bytes }
+    {
+        &self.piece[self.from..self.from + len]
+    }
+
+    /// Goes on behind bytes that are held.
+    fn skip(&mut self, len: usize)
+        requires held { len ≤ length self.old.bytes }
+        requires low { self.old.at + len ≤ limit }
+        ensures { self.new ≡ record { at = self.old.at + len; bytes = drop len self.old.bytes } }
+    {
+        self.from += len;
+        self.at += len as u32;
+    }
+
+    /// Reads once behind what is held, and says how many bytes came.
+    fn read_on<S: Source>(&mut self, source: &mut S) -> Result<usize, Failed>
+        requires { length self.old.bytes < 65536 }
+        ensures same { S.tells ≡ true → IfOk result (λ _. self.new.bytes ++ S.left source.new ≡ self.old.bytes ++ S.left source.old) }
+        ensures more { IfOk result (λ k. length self.new.bytes ≡ length self.old.bytes + k) }
+        ensures end { S.tells ≡ true → IfOk result (λ k. k ≡ 0 → S.left source.new ≡ []) }
+        ensures at { self.new.at ≡ self.old.at }
+        ensures cause { HasCause (S.faults source.old) (S.faults source.new) (IsErr result) }
+    {
+        self.to = move_to_front(&mut self.piece, self.from, self.to);
+        self.from = 0;
+        let count = source.read(&mut self.piece[self.to..])?;
+        self.to += count;
+        Ok(count)
+    }
+
+    /// Reads until so many bytes are held, or to the end of the source.
+    fn gather<S: Source>(&mut self, source: &mut S, len: usize) -> Result<(), Failed>
+        requires { len ≤ 65536 }
+        ensures same { S.tells ≡ true → OnOk result (self.new.bytes ++ S.left source.new ≡ self.old.bytes ++ S.left source.old) }
+        ensures enough { S.tells ≡ true → OnOk result (length self.new.bytes < len → S.left source.new ≡ []) }
+        ensures at { self.new.at ≡ self.old.at }
+        ensures cause { HasCause (S.faults source.old) (S.faults source.new) (IsErr result) }
+    {
+        while self.len() < len {
+            let came = self.read_on(source)?;
+            if came == 0 {
+                return Ok(());
+            }
+        }
+        Ok(())
+    }
+
     /// Whether a byte is held, after a read of the source where none was.
     fn refill<S: Source>(&mut self, source: &mut S) -> Result<bool, Failed>
         ensures same { S.tells ≡ true → IfOk result (λ _. self.new.bytes ++ S.left source.new ≡ self.old.bytes ++ S.left source.old) }
@@ -70,13 +143,8 @@ impl Pieces {
         ensures at { self.new.at ≡ self.old.at }
         ensures cause { HasCause (S.faults source.old) (S.faults source.new) (IsErr result) }
     {
-        if self.from < self.to {
-            return Ok(true);
-        }
-        self.from = 0;
-        self.to = 0;
-        self.to = source.read(&mut self.piece)?;
-        Ok(self.to > 0)
+        self.gather(source, 1)?;
+        Ok(self.len() > 0)
     }
 
     /// Whether a byte follows that may be looked at. Nothing is read.
@@ -86,6 +154,7 @@ impl Pieces {
         ensures none { S.tells ≡ true → IfOk result (λ b. OnFalse b (self.new.bytes ++ S.left source.new ≡ [])) }
         ensures err { S.tells ≡ true → IfErr result (λ e. e ≢ Read → (e ≡ FileFault.TooLong) × (limit ≤ self.old.at) × (0 < length (self.old.bytes ++ S.left source.old))) }
         ensures at { self.new.at ≡ self.old.at }
+        ensures memory { result ≢ Err FileFault.Mem }
         ensures cause { HasCause (S.faults source.old) (S.faults source.new) (result ≡ Err Read) }
     {
         if !self.refill(source)? {
@@ -101,6 +170,7 @@ impl Pieces {
     #[tactic(auto, unfolding(crate::specs::FileBytes::byte_at))]
     pub fn byte<S: Source>(&mut self, source: &mut S) -> Result<u8, FileFault>
         ensures exact { S.tells ≡ true → Gives (λ b. b) result (spot self.new (S.left source.new)) (byte_at (spot self.old (S.left source.old))) }
+        ensures memory { result ≢ Err FileFault.Mem }
         ensures cause { HasCause (S.faults source.old) (S.faults source.new) (result ≡ Err Read) }
     {
         if !self.has_more(source)? {
@@ -116,6 +186,7 @@ impl Pieces {
     #[tactic(auto, using(crate::proofs::Chunks::trailing_at), unfolding(crate::specs::FileBytes::end_at))]
     pub fn end<S: Source>(&mut self, source: &mut S) -> Result<(), FileFault>
         ensures exact { S.tells ≡ true → Gives (λ b. b) result (spot self.new (S.left source.new)) (end_at (spot self.old (S.left source.old))) }
+        ensures memory { result ≢ Err FileFault.Mem }
         ensures cause { HasCause (S.faults source.old) (S.faults source.new) (result ≡ Err Read) }
     {
         if self.has_more(source)? {
@@ -124,44 +195,46 @@ impl Pieces {
         Ok(())
     }
 
-    /// Takes bytes for the front of a buffer, at least one, and says how many.
-    #[tactic(auto, unfolding(crate::specs::FileBytes::byte_at))]
-    fn take_some<S: Source>(&mut self, source: &mut S, out: &mut [u8]) -> Result<usize, FileFault>
-        requires { 0 < length out.old }
-        ensures some { IfOk result (λ k. (0 < k) × (k ≤ length out.old)) }
-        ensures taken { S.tells ≡ true → IfOk result (λ k.
-            self.old.bytes ++ S.left source.old ≡ take k out.new ++ (self.new.bytes ++ S.left source.new)) }
-        ensures at { IfOk result (λ k. (self.new.at ≡ self.old.at + k) × (self.new.at ≤ limit)) }
-        ensures err { S.tells ≡ true → IfErr result (λ e. Fails e (byte_at (spot self.old (S.left source.old)))) }
+    /// Tests that so many bytes follow, which are then held. Nothing is read.
+    fn hold<S: Source>(&mut self, source: &mut S, len: usize) -> Result<(), FileFault>
+        requires { len ≤ 65536 }
+        ensures same { S.tells ≡ true → OnOk result (spot self.new (S.left source.new) ≡ spot self.old (S.left source.old)) }
+        ensures held { OnOk result (len ≤ length self.new.bytes) }
+        ensures low { OnOk result (self.new.at + len ≤ limit) }
+        ensures err { S.tells ≡ true → IfErr result (λ e. Fails e (bytes_at len (spot self.old (S.left source.old)))) }
+        ensures memory { result ≢ Err FileFault.Mem }
         ensures cause { HasCause (S.faults source.old) (S.faults source.new) (result ≡ Err Read) }
     {
-        if !self.has_more(source)? {
-            return Err(FileFault::Truncated(self.at));
+        self.gather(source, len)?;
+        let have = self.len().min(len);
+        if have > (LIMIT - self.at) as usize {
+            return Err(FileFault::TooLong);
         }
-        let low = (LIMIT - self.at) as usize;
-        let count = out.len().min(self.to - self.from).min(low);
-        out[..count].copy_from_slice(&self.piece[self.from..self.from + count]);
-        self.from += count;
-        self.at += count as u32;
-        Ok(count)
+        if have < len {
+            return Err(FileFault::Truncated(self.at + have as u32));
+        }
+        Ok(())
     }
 
     /// Fills a buffer with the next bytes.
+    #[tactic(auto, using(crate::proofs::Chunks::held_read))]
     pub fn fill<S: Source>(&mut self, source: &mut S, out: &mut [u8]) -> Result<(), FileFault>
+        requires { length out.old ≤ 65536 }
         ensures exact { S.tells ≡ true → Gives (λ _. out.new) result (spot self.new (S.left source.new))
             (bytes_at (length out.old) (spot self.old (S.left source.old))) }
+        ensures memory { result ≢ Err FileFault.Mem }
         ensures cause { HasCause (S.faults source.old) (S.faults source.new) (result ≡ Err Read) }
     {
-        let mut done = 0;
-        while done < out.len() {
-            done += self.take_some(source, &mut out[done..])?;
-        }
+        self.hold(source, out.len())?;
+        out.copy_from_slice(self.front(out.len()));
+        self.skip(out.len());
         Ok(())
     }
 
     #[tactic(auto, unfolding(crate::specs::FileBytes::u16_at))]
     pub fn number16<S: Source>(&mut self, source: &mut S) -> Result<u16, FileFault>
         ensures exact { S.tells ≡ true → Gives (λ b. b) result (spot self.new (S.left source.new)) (u16_at (spot self.old (S.left source.old))) }
+        ensures memory { result ≢ Err FileFault.Mem }
         ensures cause { HasCause (S.faults source.old) (S.faults source.new) (result ≡ Err Read) }
     {
         let mut bytes = [0; 2];
@@ -172,6 +245,7 @@ impl Pieces {
     #[tactic(auto, unfolding(crate::specs::FileBytes::u32_at))]
     pub fn number32<S: Source>(&mut self, source: &mut S) -> Result<u32, FileFault>
         ensures exact { S.tells ≡ true → Gives (λ b. b) result (spot self.new (S.left source.new)) (u32_at (spot self.old (S.left source.old))) }
+        ensures memory { result ≢ Err FileFault.Mem }
         ensures cause { HasCause (S.faults source.old) (S.faults source.new) (result ≡ Err Read) }
     {
         let mut bytes = [0; 4];
@@ -182,6 +256,7 @@ impl Pieces {
     #[tactic(auto, unfolding(crate::specs::FileBytes::u64_at))]
     pub fn number64<S: Source>(&mut self, source: &mut S) -> Result<u64, FileFault>
         ensures exact { S.tells ≡ true → Gives (λ b. b) result (spot self.new (S.left source.new)) (u64_at (spot self.old (S.left source.old))) }
+        ensures memory { result ≢ Err FileFault.Mem }
         ensures cause { HasCause (S.faults source.old) (S.faults source.new) (result ≡ Err Read) }
     {
         let mut bytes = [0; 8];
@@ -189,7 +264,8 @@ impl Pieces {
         Ok(u64::from_be_bytes(bytes))
     }
 
-    /// So many bytes.
+    /// So many bytes. Memory is taken only once all of them came.
+    #[tactic(auto, using(crate::proofs::Chunks::held_read))]
     fn bytes<S: Source>(
         &mut self,
         alloc: Global,
@@ -198,11 +274,13 @@ impl Pieces {
     ) -> Result<Bytes, FileFault>
         ensures exact { S.tells ≡ true → Gives (λ v. v) result (spot self.new (S.left source.new)) (bytes_at len (spot self.old (S.left source.old))) }
         ensures len { IfOk result (λ v. length v ≡ len) }
+        ensures memory { S.tells ≡ true → result ≡ Err FileFault.Mem → IsOk (bytes_at len (spot self.old (S.left source.old))) }
         ensures cause { HasCause (S.faults source.old) (S.faults source.new) (result ≡ Err Read) }
     {
-        let mut bytes = vec![in alloc; 0; len as usize]?;
-        self.fill(source, bytes.as_mut_slice())?;
-        Ok(Bytes::from_vec(bytes))
+        self.hold(source, len as usize)?;
+        let bytes = Bytes::from_slice(alloc, self.front(len as usize))?;
+        self.skip(len as usize);
+        Ok(bytes)
     }
 
     /// A text behind its length, of two bytes.
@@ -210,6 +288,7 @@ impl Pieces {
     pub fn text<S: Source>(&mut self, alloc: Global, source: &mut S) -> Result<Bytes, FileFault>
         ensures exact { S.tells ≡ true → Gives (λ v. v) result (spot self.new (S.left source.new)) (text_at (spot self.old (S.left source.old))) }
         ensures len { IfOk result (λ v. length v < 2 ^ 16) }
+        ensures memory { S.tells ≡ true → result ≡ Err FileFault.Mem → IsOk (text_at (spot self.old (S.left source.old))) }
         ensures cause { HasCause (S.faults source.old) (S.faults source.new) (result ≡ Err Read) }
     {
         let len = self.number16(source)?;

@@ -1,9 +1,9 @@
-ghost use Rattle.std.specs.Prelude.{◌<◌, IfOk, IfSome, ◌≡◌, true, Err};
+ghost use Rattle.std.specs.Prelude.{◌<◌, IfOk, IfSome, IsOk, ◌≡◌, ◌≢◌, true, Err};
 ghost use Rattle.outside.specs.Faults.{HasCause};
 ghost use Rattle.schedule_file.specs.declared.fault.FileFault.TheVariants.{Read};
 ghost use Rattle.schedule_file.specs.FileBytes.{Gives};
 ghost use Rattle.schedule_file.specs.Place.{spot};
-ghost use Rattle.schedule_file.specs.Spelling.{ArePair, IsEvent};
+ghost use Rattle.schedule_file.specs.Spelling.{IsEvent};
 ghost use Rattle.schedule_file.specs.ReadEvents.{replica_at, pair_at, frame_at, input_at, turn_at, pass_at, sealed_at, kind_at, event_at};
 
 use crate::fault::FileFault;
@@ -21,6 +21,7 @@ fn read_replica<S: Source>(
 ) -> Result<u8, FileFault>
     ensures exact { S.tells ≡ true → Gives (λ x. x) result (spot pieces.new (S.left source.new)) (replica_at n begin (spot pieces.old (S.left source.old))) }
     ensures below { IfOk result (λ at. at < n) }
+    ensures memory { result ≢ Err FileFault.Mem }
     ensures cause { HasCause (S.faults source.old) (S.faults source.new) (result ≡ Err Read) }
 {
     let at = pieces.byte(source)?;
@@ -36,7 +37,8 @@ fn read_pair<S: Source>(
     begin: u32,
 ) -> Result<(u8, u8), FileFault>
     ensures exact { S.tells ≡ true → Gives (λ x. (x.0, x.1)) result (spot pieces.new (S.left source.new)) (pair_at n begin (spot pieces.old (S.left source.old))) }
-    ensures pair { IfOk result (λ x. ArePair n x.0 x.1) }
+    ensures pair { IfOk result (λ x. (x.0 < n) × (x.1 < n) × (x.0 ≢ x.1)) }
+    ensures memory { result ≢ Err FileFault.Mem }
     ensures cause { HasCause (S.faults source.old) (S.faults source.new) (result ≡ Err Read) }
 {
     let from = read_replica(pieces, source, n, begin)?;
@@ -55,6 +57,7 @@ fn read_frame<S: Source>(
 ) -> Result<Event, FileFault>
     ensures exact { S.tells ≡ true → Gives (λ x. x) result (spot pieces.new (S.left source.new)) (frame_at n begin (spot pieces.old (S.left source.old))) }
     ensures event { IfOk result (IsEvent n) }
+    ensures memory { S.tells ≡ true → result ≡ Err FileFault.Mem → IsOk (frame_at n begin (spot pieces.old (S.left source.old))) }
     ensures cause { HasCause (S.faults source.old) (S.faults source.new) (result ≡ Err Read) }
 {
     let to = read_replica(pieces, source, n, begin)?;
@@ -72,6 +75,7 @@ fn read_input<S: Source>(
 ) -> Result<Event, FileFault>
     ensures exact { S.tells ≡ true → Gives (λ x. x) result (spot pieces.new (S.left source.new)) (input_at n begin (spot pieces.old (S.left source.old))) }
     ensures event { IfOk result (IsEvent n) }
+    ensures memory { S.tells ≡ true → result ≡ Err FileFault.Mem → IsOk (input_at n begin (spot pieces.old (S.left source.old))) }
     ensures cause { HasCause (S.faults source.old) (S.faults source.new) (result ≡ Err Read) }
 {
     let at = read_replica(pieces, source, n, begin)?;
@@ -88,6 +92,7 @@ fn read_turn<S: Source>(
 ) -> Result<Event, FileFault>
     ensures exact { S.tells ≡ true → Gives (λ x. x) result (spot pieces.new (S.left source.new)) (turn_at n begin (spot pieces.old (S.left source.old))) }
     ensures event { IfOk result (IsEvent n) }
+    ensures memory { result ≢ Err FileFault.Mem }
     ensures cause { HasCause (S.faults source.old) (S.faults source.new) (result ≡ Err Read) }
 {
     let at = read_replica(pieces, source, n, begin)?;
@@ -103,6 +108,7 @@ fn read_pass<S: Source>(
 ) -> Result<Event, FileFault>
     ensures exact { S.tells ≡ true → Gives (λ x. x) result (spot pieces.new (S.left source.new)) (pass_at n begin (spot pieces.old (S.left source.old))) }
     ensures event { IfOk result (IsEvent n) }
+    ensures memory { result ≢ Err FileFault.Mem }
     ensures cause { HasCause (S.faults source.old) (S.faults source.new) (result ≡ Err Read) }
 {
     let (from, to) = read_pair(pieces, source, n, begin)?;
@@ -120,6 +126,7 @@ fn read_sealed<S: Source>(
 ) -> Result<Event, FileFault>
     ensures exact { S.tells ≡ true → Gives (λ x. x) result (spot pieces.new (S.left source.new)) (sealed_at n begin (spot pieces.old (S.left source.old))) }
     ensures event { IfOk result (IsEvent n) }
+    ensures memory { S.tells ≡ true → result ≡ Err FileFault.Mem → IsOk (sealed_at n begin (spot pieces.old (S.left source.old))) }
     ensures cause { HasCause (S.faults source.old) (S.faults source.new) (result ≡ Err Read) }
 {
     let (from, to) = read_pair(pieces, source, n, begin)?;
@@ -138,6 +145,7 @@ fn read_kind<S: Source>(
 ) -> Result<Event, FileFault>
     ensures exact { S.tells ≡ true → Gives (λ x. x) result (spot pieces.new (S.left source.new)) (kind_at n begin kind (spot pieces.old (S.left source.old))) }
     ensures event { IfOk result (IsEvent n) }
+    ensures memory { S.tells ≡ true → result ≡ Err FileFault.Mem → IsOk (kind_at n begin kind (spot pieces.old (S.left source.old))) }
     ensures cause { HasCause (S.faults source.old) (S.faults source.new) (result ≡ Err Read) }
 {
     match kind {
@@ -160,6 +168,7 @@ pub fn read_event<S: Source>(
 ) -> Result<Option<Event>, FileFault>
     ensures exact { S.tells ≡ true → Gives (λ x. x) result (spot pieces.new (S.left source.new)) (event_at n (spot pieces.old (S.left source.old))) }
     ensures event { IfOk result (λ o. IfSome o (IsEvent n)) }
+    ensures memory { S.tells ≡ true → result ≡ Err FileFault.Mem → IsOk (event_at n (spot pieces.old (S.left source.old))) }
     ensures cause { HasCause (S.faults source.old) (S.faults source.new) (result ≡ Err Read) }
 {
     let begin = pieces.at();

@@ -1,4 +1,4 @@
-ghost use Rattle.std.specs.Prelude.{◌^◌, ◌≡◌, ◌<◌, ◌≤◌, true, false, Err, IfOk, IsTrue};
+ghost use Rattle.std.specs.Prelude.{◌^◌, ◌≡◌, ◌≢◌, ◌<◌, ◌≤◌, true, false, Err, IfOk, IsTrue};
 ghost use Rattle.outside.specs.Faults.{HasCause};
 ghost use Rattle.schedule_file.specs.declared.fault.FileFault.TheVariants.{Read};
 ghost use Rattle.schedule_file.specs.FileBytes.{Gives};
@@ -24,6 +24,7 @@ fn is_built(root: u8) -> bool
 #[tactic(auto, using(outside::proofs::Rising::rose_after), unfolding(crate::specs::ReadHeader::start_at))]
 fn read_start<S: Source>(pieces: &mut Pieces, source: &mut S) -> Result<u64, FileFault>
     ensures exact { S.tells ≡ true → Gives (λ x. x) result (spot pieces.new (S.left source.new)) (start_at (spot pieces.old (S.left source.old))) }
+    ensures memory { result ≢ Err FileFault.Mem }
     ensures cause { HasCause (S.faults source.old) (S.faults source.new) (result ≡ Err Read) }
 {
     let magic = pieces.number32(source)?;
@@ -37,6 +38,7 @@ fn read_start<S: Source>(pieces: &mut Pieces, source: &mut S) -> Result<u64, Fil
 fn read_numbers<S: Source>(pieces: &mut Pieces, source: &mut S) -> Result<Params, FileFault>
     ensures exact { S.tells ≡ true → Gives (λ x. x) result (spot pieces.new (S.left source.new)) (numbers_at (spot pieces.old (S.left source.old))) }
     ensures session { IfOk result IsSession }
+    ensures memory { result ≢ Err FileFault.Mem }
     ensures cause { HasCause (S.faults source.old) (S.faults source.new) (result ≡ Err Read) }
 {
     let n = pieces.byte(source)?;
@@ -53,6 +55,7 @@ fn read_root<S: Source>(pieces: &mut Pieces, source: &mut S) -> Result<u8, FileF
     ensures exact { S.tells ≡ true → Gives (λ x. x) result (spot pieces.new (S.left source.new)) (root_at (spot pieces.old (S.left source.old))) }
     ensures built { IfOk result (λ root. is_built root ≡ true) }
     ensures root { IfOk result (λ root. (1 ≤ root) × (root ≤ 6)) }
+    ensures memory { result ≢ Err FileFault.Mem }
     ensures cause { HasCause (S.faults source.old) (S.faults source.new) (result ≡ Err Read) }
 {
     let root = pieces.byte(source)?;
@@ -63,6 +66,7 @@ fn read_root<S: Source>(pieces: &mut Pieces, source: &mut S) -> Result<u8, FileF
 #[tactic(auto, using(outside::proofs::Rising::rose_after), unfolding(crate::specs::ReadHeader::vect_at))]
 fn read_vect<S: Source>(pieces: &mut Pieces, source: &mut S) -> Result<Vect, FileFault>
     ensures exact { S.tells ≡ true → Gives (λ x. x) result (spot pieces.new (S.left source.new)) (vect_at (spot pieces.old (S.left source.old))) }
+    ensures memory { result ≢ Err FileFault.Mem }
     ensures cause { HasCause (S.faults source.old) (S.faults source.new) (result ≡ Err Read) }
 {
     match pieces.byte(source)? {
@@ -77,6 +81,7 @@ fn read_mask<S: Source>(pieces: &mut Pieces, source: &mut S, n: u8) -> Result<Se
     requires { n < 32 }
     ensures exact { S.tells ≡ true → Gives (λ x. x) result (spot pieces.new (S.left source.new)) (mask_at n (spot pieces.old (S.left source.old))) }
     ensures below { IfOk result (λ mask. mask < 2 ^ n) }
+    ensures memory { result ≢ Err FileFault.Mem }
     ensures cause { HasCause (S.faults source.old) (S.faults source.new) (result ≡ Err Read) }
 {
     let mask = pieces.number32(source)?;
@@ -88,6 +93,7 @@ fn read_mask<S: Source>(pieces: &mut Pieces, source: &mut S, n: u8) -> Result<Se
 fn read_keys<S: Source>(pieces: &mut Pieces, source: &mut S) -> Result<HeaderKeys, FileFault>
     ensures exact { S.tells ≡ true → Gives (λ x. x) result (spot pieces.new (S.left source.new)) (keys_at (spot pieces.old (S.left source.old))) }
     ensures keys { IfOk result AreKeys }
+    ensures memory { result ≢ Err FileFault.Mem }
     ensures cause { HasCause (S.faults source.old) (S.faults source.new) (result ≡ Err Read) }
 {
     let form = pieces.byte(source)?;
@@ -102,6 +108,7 @@ fn read_keys<S: Source>(pieces: &mut Pieces, source: &mut S) -> Result<HeaderKey
 pub fn read_header<S: Source>(pieces: &mut Pieces, source: &mut S) -> Result<Header, FileFault>
     ensures exact { S.tells ≡ true → Gives heading result (spot pieces.new (S.left source.new)) (header_at (spot pieces.old (S.left source.old))) }
     ensures header { IfOk result (λ h. IsHeading (heading h)) }
+    ensures memory { result ≢ Err FileFault.Mem }
     ensures cause { HasCause (S.faults source.old) (S.faults source.new) (result ≡ Err Read) }
 {
     let session = read_start(pieces, source)?;

@@ -1,14 +1,13 @@
-ghost use Rattle.std.specs.Prelude.{◌<◌, length, take, false, ◌≡◌, ◌≢◌, ◌≤◌, true, Ok, Err, None, IfOk, IfSome, MatchResult};
+ghost use Rattle.std.specs.Prelude.{◌≡◌, ◌≢◌, true, Ok, Err, None, IfOk, IfSome, IsOk, MatchResult};
 ghost use Rattle.outside.specs.Faults.{HasCause};
 ghost use Rattle.schedule_file.specs.declared.fault.FileFault.TheVariants.{Read};
 ghost use Rattle.schedule_file.specs.declared.stage.Stage.TheVariants.{Open, Ended, Stopped};
-ghost use Rattle.schedule_file.specs.Reading.{start_of, IsBytes};
-ghost use Rattle.schedule_file.specs.FileBytes.{Gives, Fails, is_outside, limit};
+ghost use Rattle.schedule_file.specs.Reading.{start_of};
+ghost use Rattle.schedule_file.specs.FileBytes.{Gives, Fails};
 ghost use Rattle.schedule_file.specs.Place.{spot, stage_after};
 ghost use Rattle.schedule_file.specs.ReadHeader.{heading, header_at};
 ghost use Rattle.schedule_file.specs.ReadEvents.{event_at};
-ghost use Rattle.schedule_file.specs.Schedule.{file_of};
-ghost use Rattle.schedule_file.specs.Spelling.{IsHeading, IsEvent, IsFile, IsFront};
+ghost use Rattle.schedule_file.specs.Spelling.{IsHeading, IsEvent};
 
 use crate::fault::FileFault;
 use crate::header::Header;
@@ -40,7 +39,7 @@ impl Model for Reader {
 
 impl Reader {
     /// Reads the header of a file, which begins at the source's next byte. The answer is that of the bytes that the
-    /// source has left, in whatever pieces it gives them.
+    /// source has left, in whatever pieces it gives them. It takes no memory.
     ///
     /// `Read` is answered only where the source failed.
     pub fn start<S: Source>(_alloc: Global, src: &mut S) -> Result<(Header, Reader), FileFault>
@@ -49,6 +48,7 @@ impl Reader {
             (λ e. Fails e (header_at (start_of (S.left src.old)))) }
         ensures ready { IfOk result (λ x. (x.1.stage ≡ Open) × (x.1.n ≡ x.0.p.n)) }
         ensures header { IfOk result (λ x. IsHeading (heading x.0)) }
+        ensures memory { result ≢ Err FileFault.Mem }
         ensures cause { HasCause (S.faults src.old) (S.faults src.new) (result ≡ Err Read) }
     {
         let mut pieces = Pieces::new();
@@ -63,7 +63,8 @@ impl Reader {
 
     /// The next event, or `None` where the end mark was read and the source then gave its end. The answer is that of
     /// the bytes that the reader holds followed by those that the source has left. It needs no source any more after
-    /// `None`, which each later call answers too, nor after a fault, which each later call answers again.
+    /// `None`, which each later call answers too, nor after a fault, which each later call answers again. `Mem` comes
+    /// only where there is an event: a file with a fault is answered it.
     ///
     /// `Read` is answered only where the source failed in this call, or an earlier call answered it.
     pub fn next<S: Source>(
@@ -76,6 +77,10 @@ impl Reader {
         ensures stage { self.old.stage ≡ Open → self.new.stage ≡ stage_after result }
         ensures event { IfOk result (λ o. IfSome o (IsEvent self.old.n)) }
         ensures n { self.new.n ≡ self.old.n }
+
+        // Memory is wanted only where the next event is whole and right.
+        ensures memory { self.old.stage ≡ Open → S.tells ≡ true → result ≡ Err FileFault.Mem
+            → IsOk (event_at self.old.n (spot self.old.held (S.left src.old))) }
 
         // Where the file ended or has a fault, the answer stays, and the source isn't read.
         ensures ended { self.old.stage ≡ Ended → result ≡ Ok None }
@@ -98,19 +103,3 @@ impl Reader {
         result
     }
 }
-
-/// The laws of a file, for every list of bytes. What is read as a header and events is spelled so, and what is spelled
-/// so is read as it. A fault is where it says: the file ends there, a byte follows a whole file there, or a header and
-/// events end there. A file has no fault of a source or of memory.
-pub fn file_laws()
-    ensures found { (bytes : _) (h : _) (es : _) → IsBytes bytes → file_of bytes ≡ Ok (h, es) → IsFile bytes h es }
-    ensures only { (bytes : _) (h : _) (es : _) → IsFile bytes h es → file_of bytes ≡ Ok (h, es) }
-
-    ensures truncated { (bytes : _) (p : _) → IsBytes bytes → file_of bytes ≡ Err (FileFault.Truncated p) → p ≡ length bytes }
-    ensures trailing { (bytes : _) (p : _) → IsBytes bytes → file_of bytes ≡ Err (FileFault.Trailing p) →
-        (p < length bytes) × (h : _) × (es : _) × IsFile (take p bytes) h es }
-    ensures event { (bytes : _) (p : _) → IsBytes bytes → file_of bytes ≡ Err (FileFault.Event p) →
-        (h : _) × (es : _) × IsFront (take p bytes) h es }
-    ensures too_long { (bytes : _) → IsBytes bytes → file_of bytes ≡ Err FileFault.TooLong → limit < length bytes }
-    ensures own { (bytes : _) (e : _) → IsBytes bytes → file_of bytes ≡ Err e → is_outside e ≡ false }
-{}

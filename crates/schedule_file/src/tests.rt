@@ -103,20 +103,22 @@ fn truncated_anywhere(rt: HostRuntime) -> Result<(), Fail> {
     Ok(())
 }
 
-// A file that comes in several pieces, and a source that fails between them.
+// A file that comes in five pieces, since 65,536 bytes are held at most, and a source that fails before one of them.
 #[test]
 fn pieces(rt: HostRuntime) -> Result<(), Fail> {
     let mut bytes = Vec::from_slice(rt.alloc(), &EMPTY[..54])?;
+    let text = vec![in rt.alloc(); b'x'; 32_768]?;
     for _ in 0..4 {
-        bytes.extend_from_slice(&[1, 0, 0x20, 0])?;
-        bytes.extend_from_slice(&[b'x'; 8_192])?;
+        bytes.extend_from_slice(&[1, 0, 0x80, 0])?;
+        bytes.extend_from_slice(&text)?;
     }
     bytes.push(0)?;
-    let cases: [(&[u64], (u32, Option<FileFault>)); 4] = [
+    let cases: [(&[u64], (u32, Option<FileFault>)); 5] = [
         (&[], (4, None)),
         (&[0], (0, Some(FileFault::Read))),
-        (&[1], (0, Some(FileFault::Read))),
-        (&[5], (2, Some(FileFault::Read))),
+        (&[1], (1, Some(FileFault::Read))),
+        (&[2], (2, Some(FileFault::Read))),
+        (&[4], (4, Some(FileFault::Read))),
     ];
     for (fails, want) in cases {
         let mut source = MemSource::new(rt.alloc(), &bytes, fails)?;
