@@ -1,24 +1,28 @@
 -- The law of agreement over every world, from the law of its service.
-use Rattle.std.proofs.Common.{List, [], ◌∷◌, ◌⊎◌, ◌∙◌, ap, subst}
+use Rattle.std.proofs.Common.{◌≡◌, List, [], ◌∷◌, ◌⊎◌, ◌∙◌, ap, subst}
 use Rattle.layer_api.specs.Runs.{calls_of, Has}
 use Rattle.layer_api.specs.Service.{Word, Ask, IsPart}
-use Rattle.layer_api.specs.OneLog.{IsRunOf, bit_byte}
+use Rattle.layer_api.specs.OneLog.{OneLog, IsRunOf, bit_byte}
 use Rattle.ritas_core.specs.Rules.{seat_of}
-use Rattle.world_model.specs.World.{rules_at}
-use Rattle.world_model.specs.Audit.{has_too_many, first_broken}
+use Rattle.ritas_base.specs.declared.event.Event.{Event}
+use Rattle.world_model.specs.declared.audit.Audit.TheVariants.{Holds}
+use Rattle.world_model.specs.World.{Setting, rules_at}
+use Rattle.world_model.specs.Audit.{has_too_many, first_broken, audit_of}
 use Rattle.world_model.specs.Agreement.{history_of}
-use Rattle.world_model.specs.Agree.{log_of, AgreeLaw}
-use Rattle.world_model.proofs.Law.{audit_parts, enough_of, world_law}
+use Rattle.world_model.specs.Agree.{log_of, Agree, AgreeLaw}
+use Rattle.world_model.proofs.Law.{audit_parts, enough_of, law_of}
 use Rattle.world_model.proofs.Said.{asked_given}
 use Rattle.world_model.proofs.Words.{session_of, words_after}
+use Rattle.world_model.proofs.Below.{CoreLaws, IsSoundOver}
 
-pub agree_law : AgreeLaw
-agree_law w es sound one holds =
+-- of one world
+agree_of : (w : Setting) (es : List Event) → IsSoundOver w → OneLog w.service → audit_of w es ≡ Holds → Agree w es
+agree_of w es sound one holds =
     let audit = audit_parts (has_too_many w) (first_broken w es) holds in
     let x = words_after w sound audit.0 es audit.1 in
-    let run : IsRunOf (session_of w) x.steps = record { enough = enough_of w sound audit.0; serves = sound.serves; fed = x.fed } in
+    let run : IsRunOf (session_of w) x.steps = record { enough = enough_of w sound audit.0; serves = sound.world.serves; fed = x.fed } in
     record {
-      values = world_law w es sound holds;
+      values = law_of w es sound holds;
       logs = λ i j left right.
           subst (λ (ws : List Word). IsPart (w.service.done (seat_of (rules_at w i)) ws) (log_of w es j) ⊎ IsPart (log_of w es j) (w.service.done (seat_of (rules_at w i)) ws))
           (x.same i left)
@@ -40,4 +44,14 @@ agree_law w es sound one holds =
             asked_given (rules_at w from.0) (history_of w es from.0) (bit_byte b ∷ [])
                 (subst (λ (ws : List Word). Has ws (Ask (bit_byte b ∷ []))) (x.same from.0 from.1) from.2),
           );
+      proposals = λ four i v correct out.
+          let from = one.proposals w.numbers w.mode w.is_correct w.coin x.steps run four i v correct (ap (w.service.outcome (seat_of (rules_at w i))) (x.same i correct) ∙ out) in (
+            from.0,
+            from.1,
+            asked_given (rules_at w from.0) (history_of w es from.0) v (subst (λ (ws : List Word). Has ws (Ask v)) (x.same from.0 from.1) from.2),
+          );
     }
+
+-- and of every world
+pub agree_law : CoreLaws → AgreeLaw
+agree_law core w es sound one holds = agree_of w es (record { world = sound; core = core }) one holds

@@ -1,11 +1,12 @@
 -- Lists that have an element which passes a test, and members of lists.
-use Rattle.std.proofs.Common.{◌≡◌, ℕ, zero, suc, ◌+◌, ◌<◌, ◌≤◌, Bool, true, false, ◌||◌, List, [], ◌∷◌, ◌++◌, map, flat_map, refl, sym, ◌∙◌, ap, subst, inl, inr, ◌⊎◌, arith}
+use Rattle.std.proofs.Common.{◌≡◌, ℕ, zero, suc, ◌+◌, ◌<◌, ◌≤◌, Bool, true, false, ◌||◌, List, [], ◌∷◌, map, flat_map, refl, sym, ◌∙◌, ap, subst, inl, inr, arith}
 use Rattle.std.proofs.Math.Nat.{eq-or-lt_of_le}
 use Rattle.std.specs.List.{list_any, range_with_len}
 use Rattle.std.proofs.lemmas.Bool.{or_cases, or_parts, or_left, or_right}
 use Rattle.std.proofs.lemmas.List.Folds.{list_any-append, list_any_at}
 use Rattle.std.proofs.lemmas.List.FromFn.{map-range_with_len_more, get_or-map-range_with_len, length-map-range_with_len}
 use Rattle.layer_api.specs.Runs.{Has}
+use Rattle.layer_api.specs.HasLaws.{has_either, has_left, has_right}
 
 -- ---- tests
 
@@ -51,28 +52,6 @@ any_at test f n k below passes =
     (ap test (get_or-map-range_with_len f 0 n k k (f k) below (omega arith)) ∙ passes)
 
 -- ---- members
-
-pub has_left : {X : Type 0} (xs ys : List X) (x : X) → Has xs x → Has (xs ++ ys) x
-has_left [] ys x here = elim here [ ]
-has_left (y ∷ xs) ys x (inl e) = inl e
-has_left (y ∷ xs) ys x (inr there) = inr (has_left xs ys x there)
-
-pub has_right : {X : Type 0} (xs ys : List X) (x : X) → Has ys x → Has (xs ++ ys) x
-has_right [] ys x there = there
-has_right (y ∷ xs) ys x there = inr (has_right xs ys x there)
-
-pub has_either : {X : Type 0} (xs ys : List X) (x : X) → Has (xs ++ ys) x → Has xs x ⊎ Has ys x
-has_either [] ys x there = inr there
-has_either (y ∷ xs) ys x (inl e) = inl (inl e)
-has_either (y ∷ xs) ys x (inr there) = elim (has_either xs ys x there) [
-  | inl left ↦ inl (inr left)
-  | inr right ↦ inr right
-]
-
-pub has_mapped : {X Y : Type 0} (f : X → Y) (xs : List X) (x : X) → Has xs x → Has (map f xs) (f x)
-has_mapped f [] x here = elim here [ ]
-has_mapped f (y ∷ xs) x (inl e) = inl (ap f e)
-has_mapped f (y ∷ xs) x (inr there) = inr (has_mapped f xs x there)
 
 -- one of these is mapped to y
 pub record IsImage {X Y : Type 0} (f : X → Y) (xs : List X) (y : Y) : Type 0 where

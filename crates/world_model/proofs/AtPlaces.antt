@@ -1,10 +1,10 @@
 -- A call on the replica at a place of a world.
-use Rattle.std.proofs.Common.{◌≡◌, ℕ, zero, suc, ◌<◌, ◌≤◌, Bool, true, false, List, [], ◌∷◌, length, Option, Some, None, Result, Ok, Err, refl, sym, ◌∙◌, ap, subst, arith, append-nil, if◌then◌else◌, slice_set, slice_index_or, inl, inr}
+use Rattle.std.proofs.Common.{◌≡◌, ℕ, ◌<◌, ◌≤◌, Bool, true, false, List, [], ◌∷◌, length, Option, Some, None, Result, Ok, Err, refl, sym, ◌∙◌, ap, subst, arith, append-nil, if◌then◌else◌, slice_set, slice_index_or, inl, inr}
 use Rattle.std.specs.List.{slice_get}
 use Rattle.std.proofs.lemmas.Bool.{eq-eqb, ne_eqb}
 use Rattle.std.proofs.lemmas.Bool.Decides.{eqb_tells}
-use Rattle.std.proofs.lemmas.List.{length-set, set-get_or, get_or-set_same}
-use Rattle.std.proofs.lemmas.Option.{slice_get_within, slice_get-get_or, same_Some}
+use Rattle.std.proofs.lemmas.List.{length-set, set-get_or}
+use Rattle.std.proofs.lemmas.Option.{slice_get-get_or, same_Some}
 use Rattle.ritas_base.specs.declared.bytes.Mem.{Mem}
 use Rattle.ritas_base.specs.declared.item.Item.{Item}
 use Rattle.frame_codec.specs.declared.fault.BodyFault.{BodyFault}
@@ -29,13 +29,14 @@ use Rattle.replica.specs.declared.refusal.Refusal.{Refusal}
 use Rattle.replica.specs.declared.refusal.Refusal.TheVariants as refusals
 use Rattle.replica.specs.declared.replica.Replica.{Replica}
 use Rattle.replica.specs.Handling.{Call, Frame, Input, Turn, handled, given_frame, given_body}
-use Rattle.replica.specs.Stands.{Handles, DoesAll}
+use Rattle.replica.specs.Stands.{Handles, RunsOut, ReadsNone, DoesAll}
 use Rattle.replica.specs.Replica.{ReplicaStands}
 use Rattle.world_model.specs.declared.seen.Seen.{Seen}
 use Rattle.world_model.specs.declared.seen.Seen.TheVariants as seen_as
 use Rattle.world_model.specs.World.{Setting, rules_at, CallAt, call_at, handled_at, after_call, seen_answer}
-use Rattle.world_model.specs.Stands.{StandsAt, IsReplica, ReplicasStand}
+use Rattle.world_model.specs.Stands.{StandsAt, IsReplica, IsLeft, ReplicasStand}
 use Rattle.world_model.specs.Steps.{Calls, CallsOr, Sees, IsWant}
+use Rattle.world_model.proofs.Left.{none_past, get_set_same, get_set_other, left_called}
 
 -- ---- what isn't stopped goes on
 
@@ -96,24 +97,7 @@ missed_call m w states at call replicas before stand faulty =
 
 pub past_is_faulty : {S E C : Type 0} (m : Meaning S E C KeyRow) (w : Setting) (states : ℕ → CoreState) (at : ℕ) (replicas : List (Option (Replica S E C))) →
     ReplicasStand m w states replicas → length replicas ≤ at → w.is_correct at ≡ false
-past_is_faulty m w states at replicas stand past =
-    elim (w.is_correct at) as (λ b. w.is_correct at ≡ b → w.is_correct at ≡ false) [
-      | true ↦ λ right. let within = stand.within at right in let many = stand.many in absurd (omega arith)
-      | false ↦ λ faulty. faulty
-    ] refl
-
-get_set_same : {X : Type 0} (xs : List X) (i : ℕ) (x y : X) → slice_get xs i ≡ Some x → slice_get (slice_set xs i y) i ≡ Some y
-get_set_same xs i x y e =
-    let within : i < length xs = slice_get_within xs i x e in
-    let long : length (slice_set xs i y) ≡ length xs = length-set xs i y in
-    slice_get-get_or (slice_set xs i y) i y (omega arith) ∙ ap (λ z. Some z) (get_or-set_same xs i y y within)
-
-get_set_other : {X : Type 0} (xs : List X) (i k : ℕ) (y : X) → (k ≡ i → ⊥) → slice_get (slice_set xs i y) k ≡ slice_get xs k
-get_set_other [] i k y other = refl
-get_set_other (x ∷ xs) zero zero y other = absurd (other refl)
-get_set_other (x ∷ xs) zero (suc k) y other = refl
-get_set_other (x ∷ xs) (suc i) zero y other = refl
-get_set_other (x ∷ xs) (suc i) (suc k) y other = get_set_other xs i k y (λ e. other (ap suc e))
+past_is_faulty m w states at replicas stand past = let many = stand.many in none_past w at stand.within (omega arith)
 
 -- a correct replica is as after a call
 called_place : {S E C : Type 0} (m : Meaning S E C KeyRow) (w : Setting) (states : ℕ → CoreState) (at : ℕ) (call : Call) (new : Replica S E C) →
@@ -177,19 +161,44 @@ answered {S = S} {E = E} {C = C} m w states at call replicas old new before afte
       replicas = called_replicas m w states at call replicas old new stand there is.correct did.state is.live;
     }))
 
-wants : {S E C : Type 0} (m : Meaning S E C KeyRow) (w : Setting) (states : ℕ → CoreState) (c : Option CallAt) (replicas : List (Option (Replica S E C))) (before after : List OutFrame) (result : Result Seen Mem) →
-    IsWant result → CallsOr m w states c replicas before after result
-wants m w states c replicas before after (Ok seen) want = absurd want
-wants m w states c replicas before after (Err mem) want = tt
+-- it was without memory, and is as it was, or stopped
+wants : {S E C : Type 0} (m : Meaning S E C KeyRow) (w : Setting) (states : ℕ → CoreState) (at : ℕ) (call : Call) (replicas : List (Option (Replica S E C))) (old new : Replica S E C) (before after : List OutFrame) (result : Result Seen Mem) →
+    ReplicasStand m w states replicas → slice_get replicas at ≡ Some (Some old)
+    → IsLeft m w states (after_call w states (call_at w at call)) (call_at w at call) at new → IsWant result → CallsOr m w states (call_at w at call) (slice_set replicas at (Some new)) before after result
+wants m w states at call replicas old new before after (Ok seen) stand there left want = absurd want
+wants m w states at call replicas old new before after (Err mem) stand there left want =
+    left_called m w states (after_call w states (call_at w at call)) (call_at w at call) at replicas old new stand there left
+
+ran_out : {S E C : Type 0} (m : Meaning S E C KeyRow) (w : Setting) (states : ℕ → CoreState) (at : ℕ) (call : Call) (old new : Replica S E C) (before after : List OutFrame) →
+    IsReplica m w states at old → RunsOut (ReplicaStands m) new call before after (rules_at w at) (w.keys at) (states at)
+    → IsLeft m w states (after_call w states (call_at w at call)) (call_at w at call) at new
+ran_out m w states at call old new before after is did = elim did.state [
+  | inl held ↦ inl (record { correct = is.correct; stands = held.1; live = is.live })
+  | inr step ↦ inr (inr (record {
+    correct = is.correct;
+    live = is.live;
+    call = call;
+    called = correct_call w at call is.correct;
+    what = did.what;
+    given = did.given;
+    step = step.0;
+    stands = step.1;
+  }))
+]
 
 -- each call on the replica at a place
 called : {S E C : Type 0} (m : Meaning S E C KeyRow) (w : Setting) (states : ℕ → CoreState) (at : ℕ) (call : Call) (replicas : List (Option (Replica S E C))) (old new : Replica S E C) (before after : List OutFrame) (answer : Result Answer Refusal) (result : Result Seen Mem) →
     ReplicasStand m w states replicas → slice_get replicas at ≡ Some (Some old) → DoesAll (ReplicaStands m) old new call before after answer
     → Sees answer result → CallsOr m w states (call_at w at call) (slice_set replicas at (Some new)) before after result
 called m w states at call replicas old new before after (Err (refusals.Core faults.Mem)) result stand there does saw =
-    wants m w states (call_at w at call) (slice_set replicas at (Some new)) before after result saw
+    let is : IsReplica m w states at old = stand.each at (Some old) there in
+    wants m w states at call replicas old new before after result stand there
+    (ran_out m w states at call old new before after is (does (rules_at w at) (w.keys at) (states at) is.stands)) saw
 called m w states at call replicas old new before after (Err (refusals.Body body.Mem)) result stand there does saw =
-    wants m w states (call_at w at call) (slice_set replicas at (Some new)) before after result saw
+    let is : IsReplica m w states at old = stand.each at (Some old) there in
+    let did : ReadsNone (ReplicaStands m) new call before after (rules_at w at) (w.keys at) (states at) = does (rules_at w at) (w.keys at) (states at) is.stands in
+    wants m w states at call replicas old new before after result stand there
+    (inl (record { correct = is.correct; stands = did.state; live = is.live })) saw
 called m w states at call replicas old new before after answer result stand there does saw =
     answered m w states at call replicas old new before after answer result stand there does saw
 

@@ -8,7 +8,7 @@ use Rattle.ritas_base.specs.declared.event.Event.{Event}
 use Rattle.ritas_base.specs.Members.{has_member, member_count}
 use Rattle.ritas_base.specs.Numbers.{wait_of}
 use Rattle.ritas_base.specs.History.{replicas}
-use Rattle.ritas_base.proofs.Masks.{range_more}
+use Rattle.ritas_base.specs.RangeLaws.{range_more}
 use Rattle.keyed_channel.specs.KeyRow.{KeyRow}
 use Rattle.ritas_core.specs.Stands.{Meaning}
 use Rattle.world_model.specs.declared.audit.Audit.{Audit}
@@ -16,7 +16,7 @@ use Rattle.world_model.specs.declared.audit.Audit.TheVariants as audits
 use Rattle.world_model.specs.declared.world.World.{World}
 use Rattle.world_model.specs.World.{Setting}
 use Rattle.world_model.specs.Audit.{first_broken, has_too_many, audit_of}
-use Rattle.world_model.specs.Stands.{WorldStands}
+use Rattle.world_model.specs.Stands.{SeatsStand, WorldStands, WorldStopped}
 
 -- ---- counting
 
@@ -54,23 +54,35 @@ correct_count test mask n same within most =
 
 -- ---- the audit
 
-counted : {S E C : Type 0} (m : Meaning S E C KeyRow) (world : World S E C) (w : Setting) (es : List Event) → WorldStands m world w es
-    → count_by w.is_correct (replicas w.numbers.n) ≡ member_count 32 world.seats.correct
-counted m world w es stand =
-    correct_count w.is_correct world.seats.correct w.numbers.n stand.seats.correct stand.replicas.within stand.seats.session.most
+-- what an audit is answered from: the seats, of which those of the correct replicas are below n, and the verdict so far
+pub record IsAudited (S E C : Type 0) (world : World S E C) (w : Setting) (es : List Event) : Type 0 where
+  pub seats : SeatsStand w world.seats
+  pub within : (i : ℕ) → w.is_correct i ≡ true → i < w.numbers.n
+  pub verdict : world.watch.verdict ≡ first_broken w es
 
-pub too_many_is : {S E C : Type 0} (m : Meaning S E C KeyRow) (world : World S E C) (w : Setting) (es : List Event) (count wait : ℕ) → WorldStands m world w es
+pub going_audited : {S E C : Type 0} (m : Meaning S E C KeyRow) (world : World S E C) (w : Setting) (es : List Event) → WorldStands m world w es → IsAudited S E C world w es
+going_audited m world w es stand = record { seats = stand.seats; within = stand.replicas.within; verdict = stand.watch.found }
+
+pub stopped_audited : {S E C : Type 0} (m : Meaning S E C KeyRow) (world : World S E C) (w : Setting) (es : List Event) (e : Event) → WorldStopped m world w es e → IsAudited S E C world w es
+stopped_audited m world w es e stand = record { seats = stand.seats; within = stand.replicas.within; verdict = stand.verdict }
+
+counted : {S E C : Type 0} (world : World S E C) (w : Setting) (es : List Event) → IsAudited S E C world w es
+    → count_by w.is_correct (replicas w.numbers.n) ≡ member_count 32 world.seats.correct
+counted world w es stand =
+    correct_count w.is_correct world.seats.correct w.numbers.n stand.seats.correct stand.within stand.seats.session.most
+
+pub too_many_is : {S E C : Type 0} (world : World S E C) (w : Setting) (es : List Event) (count wait : ℕ) → IsAudited S E C world w es
     → count ≡ member_count 32 world.seats.correct → wait ≡ wait_of world.seats.params → count < wait → audits.TooManyFaulty ≡ audit_of w es
-too_many_is m world w es count wait stand count_is wait_is less =
-    let all : count_by w.is_correct (replicas w.numbers.n) ≡ count = counted m world w es stand ∙ sym count_is in
+too_many_is world w es count wait stand count_is wait_is less =
+    let all : count_by w.is_correct (replicas w.numbers.n) ≡ count = counted world w es stand ∙ sym count_is in
     let need : wait_of w.numbers ≡ wait = ap wait_of (sym stand.seats.numbers) ∙ sym wait_is in
     let many : has_too_many w ≡ true = lt-ltb (count_by w.is_correct (replicas w.numbers.n)) (wait_of w.numbers) (omega arith) in
     ap (λ b. if b then audits.TooManyFaulty else first_broken w es) (sym many)
 
-pub enough_is : {S E C : Type 0} (m : Meaning S E C KeyRow) (world : World S E C) (w : Setting) (es : List Event) (count wait : ℕ) (result : Audit) → WorldStands m world w es
+pub enough_is : {S E C : Type 0} (world : World S E C) (w : Setting) (es : List Event) (count wait : ℕ) (result : Audit) → IsAudited S E C world w es
     → count ≡ member_count 32 world.seats.correct → wait ≡ wait_of world.seats.params → wait ≤ count → result ≡ world.watch.verdict → result ≡ audit_of w es
-enough_is m world w es count wait result stand count_is wait_is enough is =
-    let all : count_by w.is_correct (replicas w.numbers.n) ≡ count = counted m world w es stand ∙ sym count_is in
+enough_is world w es count wait result stand count_is wait_is enough is =
+    let all : count_by w.is_correct (replicas w.numbers.n) ≡ count = counted world w es stand ∙ sym count_is in
     let need : wait_of w.numbers ≡ wait = ap wait_of (sym stand.seats.numbers) ∙ sym wait_is in
     let few : has_too_many w ≡ false = le-ltb (count_by w.is_correct (replicas w.numbers.n)) (wait_of w.numbers) (omega arith) in
-    is ∙ stand.watch.found ∙ ap (λ b. if b then audits.TooManyFaulty else first_broken w es) (sym few)
+    is ∙ stand.verdict ∙ ap (λ b. if b then audits.TooManyFaulty else first_broken w es) (sym few)

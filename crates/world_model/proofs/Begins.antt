@@ -12,7 +12,7 @@ use Rattle.layer_api.specs.Broadcast.{BroadcastRules}
 use Rattle.layer_api.specs.Service.{ServiceRules}
 use Rattle.keyed_channel.specs.KeyRow.{KeyRow}
 use Rattle.keyed_channel.specs.Keyed.{tags_of}
-use Rattle.ritas_core.specs.Rules.{Rules, at_slot_of}
+use Rattle.ritas_core.specs.Rules.{Rules, HasForm, at_slot_of}
 use Rattle.ritas_core.specs.Machine.{first_state}
 use Rattle.ritas_core.specs.Stands.{Meaning}
 use Rattle.replica.specs.declared.replica.Replica.{Replica}
@@ -22,13 +22,14 @@ use Rattle.world_model.specs.World.{Setting, rules_at, states_of}
 use Rattle.world_model.specs.declared.audit.Audit.TheVariants as audits
 use Rattle.world_model.specs.declared.watch.Watch.{Watch}
 use Rattle.world_model.specs.Audit.{first_broken, prints_at}
-use Rattle.world_model.specs.Hashed.{digest_at, HashedStand}
+use Rattle.world_model.specs.Hashed.{met_at, HashedStand}
 use Rattle.world_model.specs.Watch.{WatchStands}
 use Rattle.world_model.proofs.Prints.{nothing_there}
 use Rattle.world_model.proofs.Meeting.{stand_within}
 use Rattle.world_model.specs.FramesMade.{MadeTable, made_in}
 use Rattle.world_model.specs.declared.world.World.{World}
 use Rattle.world_model.proofs.Tables.{place_within}
+use Rattle.world_model.specs.EveryWorld.{IsWorld}
 use Rattle.world_model.specs.Stands.{IsWorldOf, AreKeys, SeatsStand, StandsAt, ReplicasStand, FramesStand, WorldStands}
 use Rattle.world_model.specs.Steps.{IsFirst, AreFirst, rules_with}
 
@@ -104,6 +105,19 @@ begins_seats m p root members rows coins w seats is given same_p same_mode same_
           (ap (λ k. k.me) same ∙ are.0, ap (λ k. k.n) same ∙ are.1 ∙ sym many);
     }
 
+-- which kind of world it is
+begins_kind : {S E C : Type 0} (m : Meaning S E C KeyRow) (p : Numbers) (root : Mode) (members : ℕ) (rows : List KeyRow) (coins : List C) (w : Setting) (seats : Seats) →
+    IsWorldOf m p root members rows coins w → IsGiven C p members rows coins → m.service.serves root.root ≡ true → HasForm root m.cast → SeatsStand w seats → IsWorld m.service m.cast w
+begins_kind m p root members rows coins w seats is given serves form stand = record {
+  session = stand.session;
+  within = λ i right. subst (λ x. i < x.n) (sym is.numbers) (given.within i (sym (is.correct i) ∙ right));
+  words = is.service;
+  casts = λ s. ap (λ f. f s) is.casts ∙ ap (λ mode. at_slot_of mode m.cast s) (sym is.mode);
+  serves = subst (λ mode. m.service.serves mode.root ≡ true) (sym is.mode) serves;
+  form = subst (λ mode. HasForm mode m.cast) (sym is.mode) form;
+  own = stand.own;
+}
+
 pub begins_replicas : {S E C : Type 0} (m : Meaning S E C KeyRow) (p : Numbers) (root : Mode) (members : ℕ) (rows : List KeyRow) (coins : List C) (w : Setting) (places : List (Option (Replica S E C))) →
     ((x : KeyRow) → m.tags x ≡ tags_of x) → IsWorldOf m p root members rows coins w → IsGiven C p members rows coins → AreFirst m p root members rows coins places
     → ReplicasStand m w (states_of w []) places
@@ -142,7 +156,7 @@ begins_frames w n t many is = record {
 -- a watch before any event
 pub record IsFresh (watch : Watch) : Type 0 where
   pub verdict : watch.verdict ≡ audits.Holds
-  pub sent : (s : Slot) (i : ℕ) → digest_at watch.sent.digests s i ≡ None
+  pub sent : (s : Slot) (i : ℕ) → met_at watch.sent.table s i ≡ None
   pub hashed : HashedStand watch.hashed []
 
 begins_watch : (w : Setting) (watch : Watch) → IsFresh watch → WatchStands w (states_of w []) (first_broken w []) watch
@@ -156,18 +170,21 @@ begins_watch w watch fresh = record {
 }
 
 pub begins : {S E C : Type 0} (m : Meaning S E C KeyRow) (p : Numbers) (root : Mode) (members : ℕ) (rows : List KeyRow) (coins : List C) (world : World S E C) (w : Setting) →
-    ((x : KeyRow) → m.tags x ≡ tags_of x) → IsGiven C p members rows coins → AreFirst m p root members rows coins world.replicas.items
+    ((x : KeyRow) → m.tags x ≡ tags_of x) → IsGiven C p members rows coins → m.service.serves root.root ≡ true → HasForm root m.cast → AreFirst m p root members rows coins world.replicas.items
     → world.seats.params ≡ p → world.seats.mode ≡ root → world.seats.correct ≡ members → world.seats.keys.items ≡ rows → world.made ≡ record { n = p.n; lists = replicate (p.n * p.n) [] }
     → world.events ≡ 0 → IsFresh world.watch → world.live ≡ true → IsWorldOf m p root members rows coins w → WorldStands m world w []
 unfolding first_broken
-begins m p root members rows coins world w tags given are same_p same_mode same_members same_rows made events fresh live is = record {
-  seats = begins_seats m p root members rows coins w world.seats is given same_p same_mode same_members same_rows;
-  replicas = begins_replicas m p root members rows coins w world.replicas.items tags is given are;
-  made = begins_frames w p.n world.made (ap (λ x. x.n) is.numbers) made;
-  events = events;
-  watch = begins_watch w world.watch fresh;
-  live = live;
-}
+begins m p root members rows coins world w tags given serves form are same_p same_mode same_members same_rows made events fresh live is =
+    let seats = begins_seats m p root members rows coins w world.seats is given same_p same_mode same_members same_rows in record {
+      going = is.going;
+      kind = begins_kind m p root members rows coins w world.seats is given serves form seats;
+      seats = seats;
+      replicas = begins_replicas m p root members rows coins w world.replicas.items tags is given are;
+      made = begins_frames w p.n world.made (ap (λ x. x.n) is.numbers) made;
+      events = events;
+      watch = begins_watch w world.watch fresh;
+      live = live;
+    }
 
 -- ---- as the code has it
 

@@ -10,7 +10,7 @@ use Rattle.ritas_base.specs.declared.mode.Mode.{Mode}
 use Rattle.ritas_base.specs.Numbers.{Numbers, IsSession}
 use Rattle.frame_codec.specs.Body.{kind_byte, spelling, body_answer}
 use Rattle.frame_codec.specs.Values.{IsBytes}
-use Rattle.frame_codec.proofs.Bodies.{answer_spells}
+use Rattle.frame_codec.specs.Laws.{AnswersSpelled}
 use Rattle.keyed_channel.specs.KeyRow.{KeyRow}
 use Rattle.ritas_core.specs.Shown.{front_of}
 use Rattle.ritas_core.specs.Machine.{CoreState, AreGood}
@@ -32,16 +32,16 @@ by_byte kinds.Hashes = refl
 by_byte kinds.Column = refl
 
 -- a body begins with its kind
-pub watched_byte : (p : Numbers) (mode : Mode) (from : ℕ) (body : List ℕ) (item : Item) (byte : ℕ) (result : Bool) → IsSession p → IsBytes body → body_answer p mode from body ≡ Ok item →
+pub watched_byte : AnswersSpelled → (p : Numbers) (mode : Mode) (from : ℕ) (body : List ℕ) (item : Item) (byte : ℕ) (result : Bool) → IsSession p → IsBytes body → body_answer p mode from body ≡ Ok item →
     byte ≡ slice_index body 0 → result ≡ (byte == 4 || byte == 6) → result ≡ is_watched item.kind
-watched_byte p mode from body item byte result session fits reads first is =
-    let spells = answer_spells p mode from body item session fits reads in
+watched_byte spelled p mode from body item byte result session fits reads first is =
+    let spells = spelled p mode from body item session fits reads in
     let here : byte ≡ kind_byte item.kind = first ∙ ap (λ (xs : List ℕ). slice_index xs 0) spells.is_spelling in
     is ∙ ap (λ (b : ℕ). b == 4 || b == 6) here ∙ by_byte item.kind
 
-pub no_body : (p : Numbers) (mode : Mode) (from : ℕ) (body : List ℕ) (item : Item) → IsSession p → IsBytes body → body_answer p mode from body ≡ Ok item → (length body == 0) ≡ true → ⊥
-no_body p mode from body item session fits reads none =
-    let spells = answer_spells p mode from body item session fits reads in
+pub no_body : AnswersSpelled → (p : Numbers) (mode : Mode) (from : ℕ) (body : List ℕ) (item : Item) → IsSession p → IsBytes body → body_answer p mode from body ≡ Ok item → (length body == 0) ≡ true → ⊥
+no_body spelled p mode from body item session fits reads none =
+    let spells = spelled p mode from body item session fits reads in
     let empty : length body ≡ 0 = eqb-true (length body) 0 none in
     let some : length body ≡ length (spelling item) = ap length spells.is_spelling in
     absurd (omega (arith, empty, some))

@@ -1,38 +1,74 @@
 -- A world after one event more.
-use Rattle.std.proofs.Common.{◌≡◌, ℕ, ◌+◌, ◌-◌, ◌<◌, ◌%◌, ◌^◌, true, false, ◌≤◌, List, ◌∷◌, length, Option, Some, None, Bor, sym, ◌∙◌, ap, ap₂, subst, arith, slice_index_or}
+use Rattle.std.proofs.Common.{◌≡◌, ℕ, ◌+◌, ◌-◌, ◌<◌, ◌%◌, ◌^◌, Bool, true, false, not, ◌&&◌, ◌≤◌, List, ◌∷◌, length, Option, Some, None, Result, Ok, Err, Bor, refl, sym, ◌∙◌, ap, ap₂, subst, arith, slice_index_or}
+use Rattle.std.specs.Result.{IsErr}
 use Rattle.std.specs.List.{slice_get}
 use Rattle.std.specs.Option.{MatchOption, option_copied}
 use Rattle.std.proofs.lemmas.Option.{slice_get-get_or}
+use Rattle.ritas_base.specs.declared.bytes.Mem.{Mem}
 use Rattle.ritas_base.specs.declared.event.Event.{Event}
 use Rattle.keyed_channel.specs.KeyRow.{KeyRow}
 use Rattle.ritas_core.specs.Machine.{CoreState}
 use Rattle.ritas_core.specs.Stands.{Meaning}
+use Rattle.replica.specs.Laws.{MadeByEntry}
 use Rattle.replica.specs.declared.frame.OutFrame.{OutFrame}
 use Rattle.replica.specs.declared.replica.Replica.{Replica}
 use Rattle.world_model.specs.declared.happened.Happened.{Happened}
+use Rattle.world_model.specs.declared.seen.Seen.{Seen}
 use Rattle.world_model.specs.declared.seats.Seats.{Seats}
 use Rattle.world_model.specs.declared.world.World.{World}
-use Rattle.world_model.specs.World.{Setting, CallAt, call_of, handled_at, states_of, after_call}
+use Rattle.world_model.specs.declared.watch.Watch.{Watch}
+use Rattle.world_model.specs.World.{Setting, CallAt, call_of, handled_at, states_of, states_before, after_call}
 use Rattle.world_model.specs.declared.audit.Audit.{Audit}
 use Rattle.world_model.specs.Audit.{first_broken}
 use Rattle.world_model.specs.FramesMade.{MadeTable, with_frames}
-use Rattle.world_model.specs.Stands.{SeatsStand, StandsAt, IsReplica, ReplicasStand, FramesStand, WorldStands, Seeing}
+use Rattle.world_model.specs.Stands.{EventDoes, NoneStops, SeatsStand, StandsAt, IsReplica, ReplicasStand, ReplicasLeft, FramesStand, WorldStands, WorldStopped, Seeing}
 use Rattle.world_model.specs.Watch.{IsAt, IsTold, WatchStands, verdict_after}
 use Rattle.world_model.specs.Steps.{frames_out, Happens}
 use Rattle.world_model.proofs.AtPlaces.{past_is_faulty}
 use Rattle.world_model.proofs.TableAfter.{table_after}
 
 -- the table after a call, if there is one
-table_next : (w : Setting) (seats : Seats) (states : ℕ → CoreState) (c : Option CallAt) (t : MadeTable) (at : ℕ) (out : List OutFrame) → SeatsStand w seats → FramesStand w states t
+table_next : MadeByEntry → (w : Setting) (seats : Seats) (states : ℕ → CoreState) (c : Option CallAt) (t : MadeTable) (at : ℕ) (out : List OutFrame) → SeatsStand w seats → FramesStand w states t
     → ((i : ℕ) → w.is_correct i ≡ true → i < w.numbers.n) → IsAt w c at → out ≡ frames_out w states c → FramesStand w (after_call w states c) (with_frames t at out)
-table_next w seats states None t at out seats_stand stand within is none =
+table_next made_by w seats states None t at out seats_stand stand within is none =
     let P : List OutFrame → Type 0 = λ x. FramesStand w states (with_frames t at x) in
     subst P (sym none) stand
-table_next w seats states (Some c) t at out seats_stand stand within is made =
+table_next made_by w seats states (Some c) t at out seats_stand stand within is made =
     let P : List OutFrame → Type 0 = λ x. FramesStand w (after_call w states (Some c)) (with_frames t at x) in
     let Q : ℕ → Type 0 = λ i. FramesStand w (after_call w states (Some c)) (with_frames t i (handled_at w states c).out) in
     let right : w.is_correct c.at ≡ true = ap w.is_correct is.0 ∙ is.1 in
-    subst P (sym made) (subst Q is.0 (table_after w seats states c t seats_stand stand (within c.at right) right))
+    subst P (sym made) (subst Q is.0 (table_after made_by w seats states c t seats_stand stand (within c.at right) right))
+
+-- ---- where no replica is stopped between events, the next event finds them as they are
+
+and_true : (b : Bool) → b ≡ (b && true)
+and_true true = refl
+and_true false = refl
+
+not_halted : (state : CoreState) (stopped : Bool) → stopped ≡ false → state ≡ record state { live = state.live && not stopped }
+not_halted state stopped none =
+    ap (λ (b : Bool). record state { live = b }) (and_true state.live ∙ ap (λ (b : Bool). state.live && not b) (sym none))
+
+pub found_as_left : (w : Setting) (es : List Event) → NoneStops w → states_of w es ≡ states_before w es
+found_as_left w es going = λ t i. not_halted (states_of w es i) (w.stops (length es) i) (going (length es) i) t
+
+pub replicas_before : {S E C : Type 0} (m : Meaning S E C KeyRow) (w : Setting) (es : List Event) (places : List (Option (Replica S E C))) → NoneStops w
+    → ReplicasStand m w (states_of w es) places → ReplicasStand m w (states_before w es) places
+replicas_before {S = S} {E = E} {C = C} m w es places going stand =
+    let P : (ℕ → CoreState) → Type 0 = λ states. ReplicasStand m w states places in
+    subst P (found_as_left w es going) stand
+
+pub frames_before : (w : Setting) (es : List Event) (t : MadeTable) → NoneStops w → FramesStand w (states_of w es) t → FramesStand w (states_before w es) t
+frames_before w es t going stand =
+    let P : (ℕ → CoreState) → Type 0 = λ states. FramesStand w states t in
+    subst P (found_as_left w es going) stand
+
+watch_before : (w : Setting) (es : List Event) (verdict : Audit) (watch : Watch) → NoneStops w → WatchStands w (states_of w es) verdict watch → WatchStands w (states_before w es) verdict watch
+watch_before w es verdict watch going stand =
+    let P : (ℕ → CoreState) → Type 0 = λ states. WatchStands w states verdict watch in
+    subst P (found_as_left w es going) stand
+
+-- ---- one event more
 
 -- the fields of the world after an event
 pub record IsNext {S E C : Type 0} (old new : World S E C) (happened : Happened) : Type 0 where
@@ -44,28 +80,66 @@ pub record IsNext {S E C : Type 0} (old new : World S E C) (happened : Happened)
       → WatchStands w (after_call w states c) (verdict_after w states c verdict old.events) new.watch
   pub live : new.live ≡ true
 
-pub continues : {S E C : Type 0} (m : Meaning S E C KeyRow) (old new : World S E C) (w : Setting) (es : List Event) (e : Event) (places : List (Option (Replica S E C))) (happened : Happened) →
-    WorldStands m old w es → length es < 2 ^ 64 - 1 → Happens m w (states_of w es) (call_of w (states_of w es) e) places happened
+pub continues : {S E C : Type 0} → MadeByEntry → (m : Meaning S E C KeyRow) (old new : World S E C) (w : Setting) (es : List Event) (e : Event) (places : List (Option (Replica S E C))) (happened : Happened) →
+    WorldStands m old w es → length es < 2 ^ 64 - 1 → Happens m w (states_before w es) (call_of w (states_before w es) e) places happened
     → (length places ≡ length old.replicas.items → new.replicas.items ≡ places) → IsNext old new happened → Seeing m new w es e happened.seen
 unfolding states_of first_broken
-continues {S = S} {E = E} {C = C} m old new w es e places happened stand few happens same next =
+continues {S = S} {E = E} {C = C} made_by m old new w es e places happened stand few happens same next =
     let events = stand.events in
+    let before = states_before w es in
+    let call = call_of w before e in
     let P : Seats → Type 0 = λ x. SeatsStand w x in
     let R : List (Option (Replica S E C)) → Type 0 = λ xs. ReplicasStand m w (states_of w (e ∷ es)) xs in
     let Q : MadeTable → Type 0 = λ t. FramesStand w (states_of w (e ∷ es)) t in
     record {
       seen = happens.seen;
       stands = record {
+        kind = stand.kind;
+        going = stand.going;
         seats = subst P (sym next.seats) stand.seats;
         replicas = subst R (sym (same (happens.replicas.many ∙ sym stand.replicas.many))) happens.replicas;
         made = subst Q (sym next.made)
-            (table_next w old.seats (states_of w es) (call_of w (states_of w es) e) old.made happened.at happened.out.items stand.seats stand.made stand.replicas.within happens.told.place happens.out);
+            (table_next made_by w old.seats before call old.made happened.at happened.out.items stand.seats (frames_before w es old.made stand.going stand.made) stand.replicas.within happens.told.place happens.out);
         events = next.events ∙ omega arith;
-        watch = subst (λ (k : ℕ). WatchStands w (after_call w (states_of w es) (call_of w (states_of w es) e)) (verdict_after w (states_of w es) (call_of w (states_of w es) e) (first_broken w es) k) new.watch) stand.events
-            (next.watch w (states_of w es) (call_of w (states_of w es) e) (first_broken w es) stand.seats stand.replicas.within happens.told stand.watch);
+        watch = subst (λ (k : ℕ). WatchStands w (after_call w before call) (verdict_after w before call (first_broken w es) k) new.watch) stand.events
+            (next.watch w before call (first_broken w es) stand.seats stand.replicas.within happens.told (watch_before w es (first_broken w es) old.watch stand.going stand.watch));
         live = next.live;
       };
     }
+
+-- ---- an event that was without memory
+
+-- the fields of the world after it
+pub record IsHalted {S E C : Type 0} (old new : World S E C) : Type 0 where
+  pub seats : new.seats ≡ old.seats
+  pub made : new.made ≡ old.made
+  pub events : new.events ≡ old.events
+  pub verdict : new.watch.verdict ≡ old.watch.verdict
+  pub live : new.live ≡ false
+
+pub halts : {S E C : Type 0} (m : Meaning S E C KeyRow) (old new : World S E C) (w : Setting) (es : List Event) (e : Event) (places : List (Option (Replica S E C))) →
+    WorldStands m old w es → ReplicasLeft m w (states_before w es) (after_call w (states_before w es) (call_of w (states_before w es) e)) (call_of w (states_before w es) e) places
+    → (length places ≡ length old.replicas.items → new.replicas.items ≡ places) → IsHalted old new → WorldStopped m new w es e
+unfolding states_of
+halts {S = S} {E = E} {C = C} m old new w es e places stand left same halted =
+    let P : Seats → Type 0 = λ x. SeatsStand w x in
+    let Q : MadeTable → Type 0 = λ t. FramesStand w (states_of w es) t in
+    let R : List (Option (Replica S E C)) → Type 0 = λ xs. ReplicasLeft m w (states_of w es) (states_of w (e ∷ es)) (call_of w (states_of w es) e) xs in
+    let B : (ℕ → CoreState) → Type 0 = λ states. ReplicasLeft m w states (states_of w (e ∷ es)) (call_of w states e) places in
+    record {
+      kind = stand.kind;
+      seats = subst P (sym halted.seats) stand.seats;
+      replicas = subst R (sym (same (left.many ∙ sym stand.replicas.many))) (subst B (sym (found_as_left w es stand.going)) left);
+      made = subst Q (sym halted.made) stand.made;
+      events = halted.events ∙ stand.events;
+      verdict = halted.verdict ∙ stand.watch.found;
+      live = halted.live;
+    }
+
+pub event_stops : {S E C : Type 0} (m : Meaning S E C KeyRow) (new : World S E C) (w : Setting) (es : List Event) (e : Event) (result : Result Seen Mem) →
+    IsErr result → WorldStopped m new w es e → EventDoes m new w es e result
+event_stops m new w es e (Ok seen) err stopped = absurd (cc)
+event_stops m new w es e (Err mem) err stopped = stopped
 
 -- ---- the replica at a place
 

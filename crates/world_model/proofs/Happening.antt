@@ -7,6 +7,7 @@ use Rattle.ritas_base.specs.declared.bytes.Mem.{Mem}
 use Rattle.ritas_base.specs.declared.event.Event.{Event}
 use Rattle.ritas_base.specs.declared.item.Item.{Item}
 use Rattle.ritas_base.specs.declared.event.Event.TheVariants as events
+use Rattle.frame_codec.specs.Laws.{AnswersGood}
 use Rattle.keyed_channel.specs.KeyRow.{KeyRow}
 use Rattle.ritas_core.specs.Machine.{CoreState}
 use Rattle.ritas_core.specs.Stands.{Meaning}
@@ -20,7 +21,8 @@ use Rattle.world_model.specs.declared.seen.Seen.TheVariants as seen_as
 use Rattle.world_model.specs.World.{Setting, rules_at, CallAt, call_at, frame_at, passed, call_of}
 use Rattle.world_model.specs.Watch.{IsAt, is_forged_frame}
 use Rattle.world_model.specs.FramesMade.{MadeTable, made_in}
-use Rattle.world_model.specs.Stands.{SeatsStand, ReplicasStand, FramesStand, MayHappen}
+use Rattle.world_model.specs.Stands.{SeatsStand, ReplicasStand, FramesStand}
+use Rattle.ritas_base.specs.Events.{MayHappen}
 use Rattle.world_model.specs.Steps.{Calls, frames_out, is_took, IsFront, IsFrameItem, Happens, HappensOr, is_opened}
 use Rattle.world_model.proofs.Forging.{IsFound, forged_is}
 use Rattle.world_model.proofs.Takings.{IsItemOf, good_none, frame_item_is, input_item_is, turn_item_is}
@@ -43,14 +45,14 @@ happens m w states at call places happened before none calls e forged taken = re
 }
 
 -- a frame
-pub frame_happens : {S E C : Type 0} (m : Meaning S E C KeyRow) (w : Setting) (seats : Seats) (states : ℕ → CoreState) (t : MadeTable) (at : ℕ) (bytes : List ℕ) (old places : List (Option (Replica S E C))) (happened : Happened) (before : List OutFrame) (unmade : Bool) →
+pub frame_happens : {S E C : Type 0} → AnswersGood → (m : Meaning S E C KeyRow) (w : Setting) (seats : Seats) (states : ℕ → CoreState) (t : MadeTable) (at : ℕ) (bytes : List ℕ) (old places : List (Option (Replica S E C))) (happened : Happened) (before : List OutFrame) (unmade : Bool) →
     SeatsStand w seats → FramesStand w states t → ReplicasStand m w states old → before ≡ [] → Calls m w states (call_at w at (Frame bytes)) places before happened.out.items happened.seen
     → happened.at ≡ at → IsFound seats.correct t at bytes unmade → happened.forged ≡ (is_opened happened.seen && unmade)
     → IsFrameItem seats.params seats.mode happened.seen bytes happened.taken → Happens m w states (call_at w at (Frame bytes)) places happened
-frame_happens m w seats states t at bytes old places happened before unmade seats_stand stand replicas none calls e found forged item =
+frame_happens good m w seats states t at bytes old places happened before unmade seats_stand stand replicas none calls e found forged item =
     happens m w states at (Frame bytes) places happened before none calls e
     (forged ∙ forged_is w seats states t at bytes unmade happened.seen seats_stand stand (replicas.within at) found calls.seen)
-    (frame_item_is w seats states at bytes happened.taken happened.seen seats_stand item calls.seen)
+    (frame_item_is good w seats states at bytes happened.taken happened.seen seats_stand item calls.seen)
 
 -- neither an input nor a turn forges by a frame
 input_forges : (w : Setting) (states : ℕ → CoreState) (at : ℕ) (bytes : List ℕ) (b : Bool) → false ≡ is_forged_frame w states (if b then Some (record { at = at; call = Input bytes }) else None)

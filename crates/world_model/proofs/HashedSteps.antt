@@ -1,4 +1,4 @@
--- One digest, message or entry more in a table.
+-- One replica more that met something, and one message or entry more, in a table.
 use Rattle.std.proofs.Common.{◌≡◌, ℕ, Bool, true, false, not, ◌&&◌, List, ◌∷◌, Option, Some, None, refl, sym, ◌∙◌, ap, ap₂, subst, inl, inr, cond, if◌then◌else◌}
 use Rattle.std.specs.Cmp.{IsTotalOrder, nat_cmp_total, then_total, on_total}
 use Rattle.std.proofs.lemmas.Cmp.{tied_itself}
@@ -15,10 +15,11 @@ use Rattle.ritas_base.specs.declared.slot.Slot.{Slot}
 use Rattle.ritas_base.specs.SlotOrder.{slot_cmp, slot_itself, exact_slots, slots_total, equal_from}
 use Rattle.layer_api.specs.Runs.{Has}
 use Rattle.layer_api.specs.Entries.{EntryInput, Print, OfMessage, OfEntry}
-use Rattle.world_model.specs.declared.digests.SlotAt.{SlotAt}
+use Rattle.world_model.specs.declared.met.SlotAt.{SlotAt}
 use Rattle.world_model.specs.declared.hashed.HashedEntry.{HashedEntry}
 use Rattle.world_model.specs.declared.hashed.Hashed.{Hashed}
-use Rattle.world_model.specs.Hashed.{at_cmp, digest_at, is_same_at, image_cmp, input_of, input_in, message_at, input_at, HashedStand, Clash, Adds}
+use Rattle.world_model.specs.Met.{MetEntries}
+use Rattle.world_model.specs.Hashed.{at_cmp, met_at, is_same_at, image_cmp, input_of, input_in, message_at, input_at, HashedStand, Clash, Adds}
 use Rattle.world_model.specs.Audit.{is_same_input, clashes, collide}
 use Rattle.world_model.proofs.Prints.{same_input}
 use Rattle.world_model.proofs.Anywhere.{all_fail, any_of}
@@ -34,7 +35,7 @@ same_bytes a b e = (bytes_eq-Decides a b).0 e
 pub bytes_itself : (a : List ℕ) → bytes_eq a a ≡ true
 bytes_itself a = (bytes_eq-Decides a a).1 refl
 
--- ---- a digest more
+-- ---- a replica more that met
 
 exact_at : CmpEqualImpliesEq at_cmp
 exact_at a b h = ap (λ (x : Slot × ℕ). record { slot = x.0; replica = x.1 }) (exact_pairs slot_cmp nat_cmp exact_slots exact_unsigned (a.slot, a.replica) (b.slot, b.replica) h)
@@ -50,38 +51,38 @@ same_at s i q j h =
 pub at_itself : (s : Slot) (i : ℕ) → is_same_at s i s i ≡ true
 at_itself s i = ap is_eq (tied_itself at_total (record { slot = s; replica = i }))
 
-some_stays : (o : Option (List ℕ)) (d : List ℕ) → is_some o ≡ true → o ≡ option_or o (Some d)
+some_stays : (o : Option MetEntries) (d : MetEntries) → is_some o ≡ true → o ≡ option_or o (Some d)
 some_stays None d h = absurd (cc)
 some_stays (Some x) d h = refl
 
-none_then : (o : Option (List ℕ)) (d : List ℕ) → is_some o ≡ false → Some d ≡ option_or o (Some d)
+none_then : (o : Option MetEntries) (d : MetEntries) → is_some o ≡ false → Some d ≡ option_or o (Some d)
 none_then None d h = refl
 none_then (Some x) d h = absurd (cc)
 
 -- where there is one, it stays
-kept_at : (m : BTreeMap SlotAt (List ℕ)) (s : Slot) (i : ℕ) (d : List ℕ) (q : Slot) (j : ℕ) (b : Bool) → is_some (digest_at m s i) ≡ true → is_same_at s i q j ≡ b →
-    digest_at m q j ≡ (if b then option_or (digest_at m q j) (Some d) else digest_at m q j)
+kept_at : (m : BTreeMap SlotAt MetEntries) (s : Slot) (i : ℕ) (d : MetEntries) (q : Slot) (j : ℕ) (b : Bool) → is_some (met_at m s i) ≡ true → is_same_at s i q j ≡ b →
+    met_at m q j ≡ (if b then option_or (met_at m q j) (Some d) else met_at m q j)
 kept_at m s i d q j true there here =
     let same = same_at s i q j here in
-    some_stays (digest_at m q j) d (ap₂ (λ (x : Slot) (y : ℕ). is_some (digest_at m x y)) (sym same.0) (sym same.1) ∙ there)
+    some_stays (met_at m q j) d (ap₂ (λ (x : Slot) (y : ℕ). is_some (met_at m x y)) (sym same.0) (sym same.1) ∙ there)
 kept_at m s i d q j false there here = refl
 
-pub digest_kept : (m : BTreeMap SlotAt (List ℕ)) (s : Slot) (i : ℕ) (d : List ℕ) → is_some (digest_at m s i) ≡ true → (q : Slot) (j : ℕ) →
-    digest_at m q j ≡ (if is_same_at s i q j then option_or (digest_at m q j) (Some d) else digest_at m q j)
-digest_kept m s i d there q j = kept_at m s i d q j (is_same_at s i q j) there refl
+pub met_kept : (m : BTreeMap SlotAt MetEntries) (s : Slot) (i : ℕ) (d : MetEntries) → is_some (met_at m s i) ≡ true → (q : Slot) (j : ℕ) →
+    met_at m q j ≡ (if is_same_at s i q j then option_or (met_at m q j) (Some d) else met_at m q j)
+met_kept m s i d there q j = kept_at m s i d q j (is_same_at s i q j) there refl
 
 -- where there is none, there is this one
-put_at : (m n : BTreeMap SlotAt (List ℕ)) (s : Slot) (i : ℕ) (d : List ℕ) (q : Slot) (j : ℕ) (b : Bool) → is_some (digest_at m s i) ≡ false → is_same_at s i q j ≡ b →
-    digest_at n q j ≡ cond b (Some d) (digest_at m q j) → digest_at n q j ≡ (if b then option_or (digest_at m q j) (Some d) else digest_at m q j)
+put_at : (m n : BTreeMap SlotAt MetEntries) (s : Slot) (i : ℕ) (d : MetEntries) (q : Slot) (j : ℕ) (b : Bool) → is_some (met_at m s i) ≡ false → is_same_at s i q j ≡ b →
+    met_at n q j ≡ cond b (Some d) (met_at m q j) → met_at n q j ≡ (if b then option_or (met_at m q j) (Some d) else met_at m q j)
 put_at m n s i d q j true none here put =
     let same = same_at s i q j here in
-    put ∙ none_then (digest_at m q j) d (ap₂ (λ (x : Slot) (y : ℕ). is_some (digest_at m x y)) (sym same.0) (sym same.1) ∙ none)
+    put ∙ none_then (met_at m q j) d (ap₂ (λ (x : Slot) (y : ℕ). is_some (met_at m x y)) (sym same.0) (sym same.1) ∙ none)
 put_at m n s i d q j false none here put = put
 
-pub digest_put : (m n : BTreeMap SlotAt (List ℕ)) (s : Slot) (i : ℕ) (d : List ℕ) → is_some (digest_at m s i) ≡ false →
+pub met_put : (m n : BTreeMap SlotAt MetEntries) (s : Slot) (i : ℕ) (d : MetEntries) → is_some (met_at m s i) ≡ false →
     ((x : SlotAt) → get at_cmp n x ≡ cond (is_at (at_cmp (record { slot = s; replica = i })) x) (Some d) (get at_cmp m x)) → (q : Slot) (j : ℕ) →
-    digest_at n q j ≡ (if is_same_at s i q j then option_or (digest_at m q j) (Some d) else digest_at m q j)
-digest_put m n s i d none put q j = put_at m n s i d q j (is_same_at s i q j) none refl (put (record { slot = q; replica = j }))
+    met_at n q j ≡ (if is_same_at s i q j then option_or (met_at m q j) (Some d) else met_at m q j)
+met_put m n s i d none put q j = put_at m n s i d q j (is_same_at s i q j) none refl (put (record { slot = q; replica = j }))
 
 -- ---- a print more
 

@@ -1,5 +1,5 @@
 -- A call leaves a replica's history, or puts one entry on it.
-use Rattle.std.proofs.Common.{◌≡◌, ℕ, suc, Bool, true, false, ◌==◌, cond, Option, Some, None, Result, Ok, Err, List, [], ◌∷◌, length, refl, sym, ◌∙◌, ap, inl, inr, ◌⊎◌, if◌then◌else◌, arith}
+use Rattle.std.proofs.Common.{◌≡◌, suc, ◌==◌, cond, Some, None, Result, Ok, Err, List, [], ◌∷◌, length, refl, sym, ◌∙◌, ap, inl, inr, ◌⊎◌, if◌then◌else◌, arith}
 use Rattle.std.proofs.lemmas.Bool.{eq-eqb, ne_eqb}
 use Rattle.ritas_base.specs.declared.item.Item.{Item}
 use Rattle.frame_codec.specs.declared.fault.BodyFault.{BodyFault}
@@ -7,15 +7,11 @@ use Rattle.frame_codec.specs.Body.{body_answer}
 use Rattle.keyed_channel.specs.KeyRow.{KeyRow}
 use Rattle.keyed_channel.specs.declared.frame.OpenFault.{OpenFault}
 use Rattle.keyed_channel.specs.Frames.{Opening, opening}
-use Rattle.ritas_core.specs.declared.fault.CoreFault.{CoreFault}
-use Rattle.ritas_core.specs.declared.fault.CoreFault.TheVariants as faults
-use Rattle.ritas_core.specs.declared.verdict.Verdict.{Verdict}
-use Rattle.ritas_core.specs.declared.verdict.Verdict.TheVariants as verdicts
 use Rattle.ritas_core.specs.Rules.{Rules}
-use Rattle.ritas_core.specs.Parts.{Entry, Took, Given, parts}
-use Rattle.ritas_core.specs.Checks.{verdict_on, input_check}
+use Rattle.ritas_core.specs.Parts.{Entry, Took, Given}
 use Rattle.ritas_core.specs.Machine as core
 use Rattle.ritas_core.specs.Machine.{CoreState, What, stays, gives, given_input, turned, moved_live, moved}
+use Rattle.replica.specs.MovesLaws.{moved_view}
 use Rattle.replica.specs.Handling.{Call, Frame, Input, Turn, given_body, given_frame, handled}
 use Rattle.world_model.specs.Audit.{newest_item}
 
@@ -23,32 +19,8 @@ use Rattle.world_model.specs.Audit.{newest_item}
 abbrev pub Grew : List Entry → List Entry → Type 0
 Grew before after = (after ≡ before) ⊎ ((e : Entry) × (after ≡ e ∷ before))
 
-grew_item : (r : Rules) (st : CoreState) (item : Item) (waiting : List Item) (v : Verdict) → Grew st.history (gives r st item waiting v).state.history
-grew_item r st item waiting (verdicts.Refuse fault) = inl refl
-grew_item r st item waiting verdicts.Again = inl refl
-grew_item r st item waiting verdicts.Hold = inl refl
-grew_item r st item waiting verdicts.Take = inr (Took item, refl)
-
-grew_input : (r : Rules) (st : CoreState) (v : List ℕ) (check : Option CoreFault) → Grew st.history (given_input r st v check).state.history
-grew_input r st v (Some fault) = inl refl
-grew_input r st v None = inr (Given v, refl)
-
-grew_turn : (r : Rules) (st : CoreState) (waiting : List Item) → Grew st.history (turned r st waiting).state.history
-grew_turn r st [] = inl refl
-grew_turn r st (item ∷ waiting) = grew_item r st item waiting (verdict_on r (parts r st.history) st.held item)
-
-grew_live : (r : Rules) (st : CoreState) (what : What) → Grew st.history (moved_live r st what).state.history
-grew_live r st (core.Frame item) = grew_item r st item st.inbox (verdict_on r (parts r st.history) st.held item)
-grew_live r st (core.Input v) = grew_input r st v (input_check r (parts r st.history) v)
-grew_live r st core.Turn = grew_turn r st st.inbox
-
-grew_if : (r : Rules) (st : CoreState) (what : What) (live : Bool) →
-    Grew st.history (if live then moved_live r st what else stays st st.inbox (Err faults.Stopped)).state.history
-grew_if r st what true = grew_live r st what
-grew_if r st what false = inl refl
-
 grew_moved : (r : Rules) (st : CoreState) (what : What) → Grew st.history (moved r st what).state.history
-grew_moved r st what = grew_if r st what st.live
+grew_moved r st what = elim (moved_view r st what) [ inl enters ↦ inr (enters.entry, enters.history) | inr quiet ↦ inl quiet.history ]
 
 grew_body : (r : Rules) (k : KeyRow) (st : CoreState) (read : Result Item BodyFault) → Grew st.history (given_body r k st read).state.history
 grew_body r k st (Ok item) = grew_moved r st (core.Frame item)

@@ -9,14 +9,14 @@ use Rattle.ritas_base.specs.SlotOrder.{is_slot, same_slot}
 use Rattle.ritas_base.specs.Shortest.{option_or_none, option_or_some}
 use Rattle.ritas_base.specs.History.{Call, Start, Take, started}
 use Rattle.layer_api.specs.Runs.{Has}
-use Rattle.layer_api.specs.Service.{Seat, Word, Ask, Hear, asked, command_slot, IsInputSaid, AreInputs, AreProper}
+use Rattle.layer_api.specs.Service.{Seat, Word, Ask, Hear, asked, IsInputSaid, AreInputs, AreProper}
+use Rattle.ritas_base.specs.Slots.{command_slot}
 use Rattle.ritas_core.specs.Rules.{Rules, seat_of}
 use Rattle.ritas_core.specs.Casts.{called, started_all}
 use Rattle.ritas_core.specs.Parts.{Parts, Entry, Took, Given, parts, heard_at, taken_at, item_delivers}
 use Rattle.ritas_core.specs.Checks.{IsHistory}
-use Rattle.ritas_core.specs.Laws.{LayerLaws}
-use Rattle.ritas_core.proofs.Conditions.{words_proper, may_hear}
 use Rattle.world_model.specs.Agreement.{inputs_of, input_at}
+use Rattle.world_model.proofs.Below.{IsFounded}
 
 -- ---- the value that was started
 -- one of these says is this value at this slot
@@ -55,10 +55,10 @@ said_input seat w c (x ∷ says) say inputs (inl e) one =
 said_input seat w c (x ∷ says) say inputs (inr there) one = said_input seat w c says say inputs.1 there one
 
 -- what the word says at a command slot is its input, of the replica's next number
-said_at : (r : Rules) → LayerLaws r → (c : Word) (w : List Word) → AreProper r.service (seat_of r) (c ∷ w) → (num : ℕ) (v : List ℕ) →
+said_at : (r : Rules) → IsFounded r → (c : Word) (w : List Word) → AreProper r.service (seat_of r) (c ∷ w) → (num : ℕ) (v : List ℕ) →
     (x : IsSaidOf (r.service.says (seat_of r) w c) (command_slot r.casts.me num) v) → IsInputSaid (seat_of r) w c x.say
 said_at r laws c w proper num v x =
-    said_input (seat_of r) w c (r.service.says (seat_of r) w c) x.say (laws.words.commands_said (seat_of r) c w proper) x.listed
+    said_input (seat_of r) w c (r.service.says (seat_of r) w c) x.say (laws.layers.words.commands_said (seat_of r) c w proper) x.listed
     (ap (λ (s : Slot). s.class) x.here)
 
 -- ---- numbers of inputs
@@ -99,7 +99,7 @@ given_older h num u v older =
     cond-false (eqb (inputs_of h) num) (Some u) (input_at h num) (ne_eqb (inputs_of h) num (λ same. absurd (omega arith))) ∙ older
 
 -- a heard value is no input
-heard_older : (r : Rules) → LayerLaws r → (h : List Entry) → IsHistory r h → (item : Item) (d : Option (List ℕ)) (num : ℕ) (v : List ℕ) →
+heard_older : (r : Rules) → IsFounded r → (h : List Entry) → IsHistory r h → (item : Item) (d : Option (List ℕ)) (num : ℕ) (v : List ℕ) →
     ((u : List ℕ) → d ≡ Some u → AreProper r.service (seat_of r) (Hear item.slot u ∷ (parts r h).words)) →
     started ((heard_at r item.slot d (taken_at item (parts r h))).calls (command_slot r.casts.me num)) ≡ Some v →
     started ((taken_at item (parts r h)).calls (command_slot r.casts.me num)) ≡ Some v
@@ -111,7 +111,7 @@ heard_older r laws h met item (Some u) num v proper e =
       | inr x ↦ absurd ((said_at r laws (Hear item.slot u) p.words (proper u refl) num v x).1)
     ]
 
-pub input_started : (r : Rules) → LayerLaws r → (h : List Entry) → IsHistory r h → (num : ℕ) (v : List ℕ) →
+pub input_started : (r : Rules) → IsFounded r → (h : List Entry) → IsHistory r h → (num : ℕ) (v : List ℕ) →
     started ((parts r h).calls (command_slot r.casts.me num)) ≡ Some v → input_at h num ≡ Some v
 input_started r laws [] met num v e = absurd (cc)
 input_started r laws (Took item ∷ h) met num v e =
@@ -120,12 +120,12 @@ input_started r laws (Took item ∷ h) met num v e =
     input_started r laws h met.1 num v
     (take_started (is_slot item.slot s) item (p.calls s) v
     (heard_older r laws h met.1 item (item_delivers r item p) num v
-    (λ u delivers. (may_hear r laws h met.1 item met.0 u delivers, words_proper r laws h met.1)) e))
+    (λ u delivers. (laws.core.hears r laws.layers h met.1 item met.0 u delivers, laws.core.proper r laws.layers h met.1)) e))
 input_started r laws (Given u ∷ h) met num v e =
     let p = parts r h in
     let s = command_slot r.casts.me num in
     elim (started_from (r.service.says (seat_of r) p.words (Ask u)) p.calls s v e) [
       | inl older ↦ given_older h num u v (input_started r laws h met.1 num v older)
       | inr x ↦ given_said r h num u v (r.service.says (seat_of r) p.words (Ask u)) x
-          (said_at r laws (Ask u) p.words (met.0.may, words_proper r laws h met.1) num v x)
+          (said_at r laws (Ask u) p.words (met.0.may, laws.core.proper r laws.layers h met.1) num v x)
     ]

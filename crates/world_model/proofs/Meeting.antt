@@ -1,18 +1,19 @@
 -- What a replica meets at a message, print by print.
-use Rattle.std.proofs.Common.{◌≡◌, ℕ, zero, suc, ◌<◌, ◌≤◌, Bool, true, false, Result, Ok, Err, List, [], ◌∷◌, ◌++◌, map, refl, sym, ◌∙◌, ap, ap₂, subst, inl, inr, arith}
+use Rattle.std.proofs.Common.{◌≡◌, ℕ, zero, suc, ◌+◌, add-one, ◌<◌, ◌≤◌, Bool, true, false, Result, Ok, Err, List, [], ◌∷◌, ◌++◌, map, refl, sym, ◌∙◌, ap, ap₂, subst, inl, inr, arith}
 use Rattle.std.specs.List.{list_any}
 use Rattle.std.specs.Result.{IfOk}
 use Rattle.std.proofs.Math.Nat.{eq-or-lt_of_le}
 use Rattle.ritas_base.specs.declared.slot.Slot.{Slot}
 use Rattle.ritas_base.specs.History.{replicas}
 use Rattle.layer_api.specs.Runs.{Has}
+use Rattle.layer_api.specs.HasLaws.{has_either, has_left, has_right, map_has}
 use Rattle.layer_api.specs.Entries.{Print, OfMessage, OfEntry}
 use Rattle.keyed_channel.specs.KeyRow.{KeyRow}
 use Rattle.keyed_channel.specs.Keyed.{tags_of}
 use Rattle.world_model.specs.declared.hashed.Hashed.{Hashed}
 use Rattle.world_model.specs.Hashed.{HashedStand, Clash, Adds, Meets, print_of, both_of, prints_with}
 use Rattle.world_model.specs.Audit.{clashes, collide}
-use Rattle.world_model.proofs.Anywhere.{some_of, any_of, has_left, has_right, has_either, has_mapped, mapped_from, has_number, number_below}
+use Rattle.world_model.proofs.Anywhere.{some_of, any_of, mapped_from, has_number, number_below}
 use Rattle.world_model.proofs.HashedSteps.{clash_collides}
 
 -- ---- the same prints
@@ -93,12 +94,12 @@ met_below k s m (suc n) = both_of k s ((tags_of k).digest m) n ++ met_below k s 
 given_with : (k : KeyRow) (s : Slot) (m : List ℕ) (v : ℕ) → v < k.n → Has (prints_with k s m) (print_of k s ((tags_of k).digest m) k.me v)
 given_with k s m v below =
     inr (has_left (map (λ verifier. print_of k s ((tags_of k).digest m) k.me verifier) (replicas k.n)) (map (λ echoer. print_of k s ((tags_of k).digest m) echoer k.me) (replicas k.n))
-    (print_of k s ((tags_of k).digest m) k.me v) (has_mapped (λ verifier. print_of k s ((tags_of k).digest m) k.me verifier) (replicas k.n) v (has_number 0 k.n v (omega arith) (omega arith))))
+    (print_of k s ((tags_of k).digest m) k.me v) (map_has (λ verifier. print_of k s ((tags_of k).digest m) k.me verifier) (replicas k.n) v (has_number 0 k.n v (omega arith) (omega arith))))
 
 got_with : (k : KeyRow) (s : Slot) (m : List ℕ) (e : ℕ) → e < k.n → Has (prints_with k s m) (print_of k s ((tags_of k).digest m) e k.me)
 got_with k s m e below =
     inr (has_right (map (λ verifier. print_of k s ((tags_of k).digest m) k.me verifier) (replicas k.n)) (map (λ echoer. print_of k s ((tags_of k).digest m) echoer k.me) (replicas k.n))
-    (print_of k s ((tags_of k).digest m) e k.me) (has_mapped (λ echoer. print_of k s ((tags_of k).digest m) echoer k.me) (replicas k.n) e (has_number 0 k.n e (omega arith) (omega arith))))
+    (print_of k s ((tags_of k).digest m) e k.me) (map_has (λ echoer. print_of k s ((tags_of k).digest m) echoer k.me) (replicas k.n) e (has_number 0 k.n e (omega arith) (omega arith))))
 
 pub below_within : (k : KeyRow) (s : Slot) (m : List ℕ) (n : ℕ) → n ≤ k.n → Within (met_below k s m n) (prints_with k s m)
 below_within k s m zero few p (inl e) = inl e
@@ -165,6 +166,15 @@ both_clash mid h k s m d n clash prints below is clashed stand adds =
     subst (λ (x : List ℕ). collide (both_of k s x n ++ (met_below k s m n ++ prints)) ≡ true) is (subst P clashed (adds (met_below k s m n ++ prints) stand)) in
     collide_within (met_below k s m (suc n) ++ prints) (prints_with k s m ++ prints)
     (within_both (met_below k s m (suc n)) (prints_with k s m) prints (below_within k s m (suc n) (omega arith))) clashing
+
+-- entries with one replica more
+pub more_met : (mid h : Hashed) (k : KeyRow) (s : Slot) (m d : List ℕ) (n : ℕ) (clash : Bool) (prints : List Print) → d ≡ (tags_of k).digest m → clash ≡ false →
+    HashedStand mid (met_below k s m n ++ prints) → ((ps : List Print) → HashedStand mid ps → Meets h (both_of k s d n) ps clash) → HashedStand h (met_below k s m (n + 1) ++ prints)
+more_met mid h k s m d n clash prints is fine stand adds =
+    let P : Bool → Type 0 = λ b. Meets h (both_of k s d n) (met_below k s m n ++ prints) b in
+    let now : HashedStand h (both_of k s ((tags_of k).digest m) n ++ (met_below k s m n ++ prints)) =
+    subst (λ (x : List ℕ). HashedStand h (both_of k s x n ++ (met_below k s m n ++ prints))) is (subst P fine (adds (met_below k s m n ++ prints) stand)) in
+    subst (λ (x : ℕ). HashedStand h (met_below k s m x ++ prints)) (sym (add-one n)) now
 
 -- all are in the maps
 pub all_met : (h : Hashed) (k : KeyRow) (s : Slot) (m : List ℕ) (n : ℕ) (prints : List Print) → n ≡ k.n → HashedStand h (met_below k s m n ++ prints) → Meets h (prints_with k s m) prints false

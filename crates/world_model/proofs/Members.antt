@@ -2,24 +2,9 @@
 use Rattle.std.proofs.Common.{◌≡◌, ℕ, Bool, true, false, cond, List, [], ◌∷◌, filter, refl, sym, subst, inl, inr}
 use Rattle.std.specs.List.{list_any}
 use Rattle.std.specs.Str.{bytes_eq}
-use Rattle.std.proofs.lemmas.Bool.{or_cases, or_left, or_right}
+use Rattle.std.proofs.lemmas.Bool.{or_cases}
 use Rattle.std.proofs.lemmas.Slice.Eq.{bytes_eq-Decides}
-use Rattle.ritas_base.specs.declared.item.Msg.{Msg}
-use Rattle.ritas_base.specs.Messages.{msg_eq, has}
-use Rattle.ritas_base.specs.MessagesLaws.{same_message, message_itself}
 use Rattle.layer_api.specs.Runs.{Has}
-
-pub has_listed : (ms : List Msg) (m : Msg) → has ms m ≡ true → Has ms m
-has_listed [] m e = absurd (cc)
-has_listed (x ∷ ms) m e = elim (or_cases (msg_eq m x) (has ms m) e) [
-  | inl here ↦ inl (sym (same_message m x here))
-  | inr there ↦ inr (has_listed ms m there)
-]
-
-pub listed_has : (ms : List Msg) (m : Msg) → Has ms m → has ms m ≡ true
-listed_has [] m here = elim here [ ]
-listed_has (x ∷ ms) m (inl e) = or_left (msg_eq m x) (has ms m) (subst (λ (y : Msg). msg_eq m y ≡ true) (sym e) (message_itself m))
-listed_has (x ∷ ms) m (inr there) = or_right (msg_eq m x) (has ms m) (listed_has ms m there)
 
 pub bytes_listed : (frames : List (List ℕ)) (bytes : List ℕ) → list_any (bytes_eq bytes) frames ≡ true → Has frames bytes
 bytes_listed [] bytes e = absurd (cc)

@@ -13,6 +13,7 @@ use Rattle.ritas_base.specs.Shortest.{option_or_none, option_or_some}
 use Rattle.ritas_base.specs.Messages.{Place, kind_eq}
 use Rattle.ritas_base.specs.History.{Call, Start, Take, told, replicas}
 use Rattle.layer_api.specs.Runs.{Has}
+use Rattle.layer_api.specs.HasLaws.{has_left, has_right}
 use Rattle.layer_api.specs.Entries.{sent, EntryInput, Print, OfMessage, OfEntry, prints_of, prints_for, met, IsApart}
 use Rattle.layer_api.specs.Service.{Ask, Hear}
 use Rattle.ritas_core.specs.Rules.{Rules, seat_of, place_at}
@@ -21,7 +22,7 @@ use Rattle.ritas_core.specs.Parts.{Entry, Took, Given, Parts, parts, heard_at, t
 use Rattle.ritas_core.specs.Machine.{CoreState}
 use Rattle.world_model.specs.World.{Setting, rules_at}
 use Rattle.world_model.specs.Audit.{prints_in, prints_by, prints_at, is_same_input, clashes, collide}
-use Rattle.world_model.proofs.Anywhere.{none_of, all_fail, has_left, has_right, has_among, among_from, has_number}
+use Rattle.world_model.proofs.Anywhere.{none_of, all_fail, has_among, among_from, has_number}
 
 -- ---- what was sent, call by call
 -- starts bring nothing

@@ -8,7 +8,8 @@ use Rattle.ritas_base.specs.declared.item.Say.{Say}
 use Rattle.ritas_base.specs.SlotOrder.{is_slot, same_slot}
 use Rattle.ritas_base.specs.History.{Call, Start, Take}
 use Rattle.layer_api.specs.Broadcast.{MayStart, MayTake}
-use Rattle.layer_api.specs.Entries.{given, is_claim, row_of}
+use Rattle.layer_api.specs.Entries.{given, is_claim}
+use Rattle.frame_codec.specs.Values.{row_of}
 use Rattle.layer_api.specs.Runs.{Step, calls_of, Has}
 use Rattle.layer_api.specs.OneValue.{IsDueTo, Group, IsFed, IsRun}
 use Rattle.layer_api.specs.Service.{Ask, Hear}
@@ -17,9 +18,8 @@ use Rattle.ritas_core.specs.Rules.{seat_of, place_at, due_at}
 use Rattle.ritas_core.specs.Casts.{called, started_all, MayStartAll}
 use Rattle.ritas_core.specs.Parts.{Entry, Took, Given, parts, heard_at, taken_at, item_delivers}
 use Rattle.ritas_core.specs.Checks.{IsHistory, MayEnter}
-use Rattle.ritas_core.specs.Laws.{LayerLaws}
-use Rattle.ritas_core.proofs.Conditions.{may_start_given, may_start_heard}
 use Rattle.world_model.specs.World.{Setting, rules_at}
+use Rattle.world_model.proofs.Below.{IsFounded}
 
 -- one slot of a world
 abbrev pub group_at : Setting → Slot → Group
@@ -138,20 +138,20 @@ run_heard w i correct histories item (Some v) may run =
     let p = parts r (histories i) in
     run_starts w i correct (r.service.says (seat_of r) p.words (Hear item.slot v)) (taken_at item p).calls (calls_after w histories) (may v refl) run
 
-pub run_entry : (w : Setting) (i : ℕ) → w.is_correct i ≡ true → LayerLaws (rules_at w i) → (histories : ℕ → List Entry) →
+pub run_entry : (w : Setting) (i : ℕ) → w.is_correct i ≡ true → IsFounded (rules_at w i) → (histories : ℕ → List Entry) →
     IsHistory (rules_at w i) (histories i) → (e : Entry) → MayEnter (rules_at w i) (parts (rules_at w i) (histories i)) e →
     IsBackedEntry w (calls_after w histories) i e → ((s : Slot) → RunAt w (calls_after w histories) s) →
     (s : Slot) → RunWith w i ((parts (rules_at w i) (e ∷ histories i)).calls s) (calls_after w histories) s
 run_entry w i correct laws histories met (Took item) may backed run =
     let r = rules_at w i in
     let p = parts r (histories i) in
-    run_heard w i correct histories item (item_delivers r item p) (may_start_heard r laws (histories i) met item may)
+    run_heard w i correct histories item (item_delivers r item p) (laws.core.heard r laws.layers (histories i) met item may)
     (λ s. taken_here w i correct (calls_after w histories) item s (is_slot item.slot s) refl may.may backed (run s))
 run_entry w i correct laws histories met (Given v) may backed run =
     let r = rules_at w i in
     let p = parts r (histories i) in
     run_starts w i correct (r.service.says (seat_of r) p.words (Ask v)) p.calls (calls_after w histories)
-    (may_start_given r laws (histories i) met v may) (λ s. run_from w i correct (calls_after w histories) s (run s))
+    (laws.core.given r laws.layers (histories i) met v may) (λ s. run_from w i correct (calls_after w histories) s (run s))
 
 -- ---- a history that is changed at one replica
 joined_at : (w : Setting) (i : ℕ) (histories : ℕ → List Entry) (h : List Entry) (s : Slot) →

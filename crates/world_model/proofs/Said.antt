@@ -15,17 +15,17 @@ use Rattle.layer_api.specs.OneLog.{value_at}
 use Rattle.ritas_core.specs.Rules.{Rules, seat_of, place_at, out_at}
 use Rattle.ritas_core.specs.Casts.{called, started_all, newly}
 use Rattle.ritas_core.specs.Parts.{Parts, Entry, Took, Given, parts, heard_at, taken_at, item_delivers}
-use Rattle.ritas_core.specs.Laws.{LayerLaws}
-use Rattle.ritas_core.proofs.Conditions.{newly_after}
+use Rattle.ritas_core.specs.PartsLaws.{newly_after}
 use Rattle.world_model.specs.Agree.{HasInput}
 use Rattle.world_model.proofs.Inputs.{IsSaidOf, started_from, take_started}
+use Rattle.world_model.proofs.Below.{IsFounded}
 
 -- ---- values
-start_delivers : (r : Rules) → LayerLaws r → (s : Slot) (h : List Call) (v : List ℕ) (b : Bool) → out_at r.casts s (cond b (Start v ∷ h) h) ≡ out_at r.casts s h
-start_delivers r laws s h v true = (laws.casts s).out_start (place_at r.casts s) r.casts.tags h v
+start_delivers : (r : Rules) → IsFounded r → (s : Slot) (h : List Call) (v : List ℕ) (b : Bool) → out_at r.casts s (cond b (Start v ∷ h) h) ≡ out_at r.casts s h
+start_delivers r laws s h v true = (laws.layers.casts s).out_start (place_at r.casts s) r.casts.tags h v
 start_delivers r laws s h v false = refl
 
-starts_deliver : (r : Rules) → LayerLaws r → (says : List Say) (h : Slot → List Call) (s : Slot) → out_at r.casts s (started_all says h s) ≡ out_at r.casts s (h s)
+starts_deliver : (r : Rules) → IsFounded r → (says : List Say) (h : Slot → List Call) (s : Slot) → out_at r.casts s (started_all says h s) ≡ out_at r.casts s (h s)
 starts_deliver r laws [] h s = refl
 starts_deliver r laws (say ∷ says) h s =
     starts_deliver r laws says (called h say.slot (Start say.value)) s ∙ start_delivers r laws s (h s) say.value (is_slot say.slot s)
@@ -56,11 +56,11 @@ anew_at r item p s v true here all none =
     (subst (λ (q : Slot). value_at p.words q ≡ None) (same_slot item.slot s here) (all item.slot ∙ none))
 anew_at r item p s v false here all none = option_or_none (value_at p.words s) ∙ all s
 
-heard_by : (r : Rules) → LayerLaws r → (item : Item) (p : Parts) (x y : Option (List ℕ)) → IsAllHeard r p →
+heard_by : (r : Rules) → IsFounded r → (item : Item) (p : Parts) (x y : Option (List ℕ)) → IsAllHeard r p →
     out_at r.casts item.slot (p.calls item.slot) ≡ x → out_at r.casts item.slot (Take item ∷ p.calls item.slot) ≡ y →
     IsAllHeard r (heard_at r item.slot (newly x y) (taken_at item p))
 heard_by r laws item p (Some w) y all is_x is_y s =
-    let stays = (laws.casts item.slot).out_stays (place_at r.casts item.slot) r.casts.tags (p.calls item.slot) (Take item) w is_x in
+    let stays = (laws.layers.casts item.slot).out_stays (place_at r.casts item.slot) r.casts.tags (p.calls item.slot) (Take item) w is_x in
     same_at r item p s (Some w) (is_slot item.slot s) refl all is_x
     ∙ sym (take_delivers r item p.calls s (Some w) (is_slot item.slot s) refl stays)
 heard_by r laws item p None None all is_x is_y s =
@@ -70,8 +70,8 @@ heard_by r laws item p None (Some v) all is_x is_y s =
     ∙ sym (take_delivers r item p.calls s (Some v) (is_slot item.slot s) refl is_y)
     ∙ sym (starts_deliver r laws (r.service.says (seat_of r) p.words (Hear item.slot v)) (taken_at item p).calls s)
 
-pub heard_delivered : (r : Rules) → LayerLaws r → (h : List Entry) (s : Slot) → value_at (parts r h).words s ≡ out_at r.casts s ((parts r h).calls s)
-heard_delivered r laws [] s = sym ((laws.casts s).out_nothing (place_at r.casts s) r.casts.tags)
+pub heard_delivered : (r : Rules) → IsFounded r → (h : List Entry) (s : Slot) → value_at (parts r h).words s ≡ out_at r.casts s ((parts r h).calls s)
+heard_delivered r laws [] s = sym ((laws.layers.casts s).out_nothing (place_at r.casts s) r.casts.tags)
 heard_delivered r laws (Took item ∷ h) s =
     let p = parts r h in
     heard_by r laws item p (out_at r.casts item.slot (p.calls item.slot)) (out_at r.casts item.slot (Take item ∷ p.calls item.slot))
@@ -90,7 +90,7 @@ delivers_calls : (r : Rules) (h : List Entry) (item : Item) (v : List ℕ) → i
 delivers_calls r h item v delivers = ap (λ (d : Option (List ℕ)). (heard_at r item.slot d (taken_at item (parts r h))).calls item.slot) delivers
 
 -- the slot delivers it afterwards
-pub delivers_now : (r : Rules) → LayerLaws r → (h : List Entry) (item : Item) (v : List ℕ) → item_delivers r item (parts r h) ≡ Some v →
+pub delivers_now : (r : Rules) → IsFounded r → (h : List Entry) (item : Item) (v : List ℕ) → item_delivers r item (parts r h) ≡ Some v →
     out_at r.casts item.slot ((parts r (Took item ∷ h)).calls item.slot) ≡ Some v
 delivers_now r laws h item v delivers =
     let p = parts r h in

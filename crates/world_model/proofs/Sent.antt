@@ -7,6 +7,7 @@ use Rattle.ritas_base.specs.declared.item.Msg.{Msg}
 use Rattle.ritas_base.specs.Messages.{reaches, item_of}
 use Rattle.layer_api.specs.OneValue.{IsDueTo}
 use Rattle.layer_api.specs.Runs.{Has}
+use Rattle.layer_api.specs.HasLaws.{has_listed, listed_has}
 use Rattle.frame_codec.specs.Body.{IsInGrammar}
 use Rattle.keyed_channel.specs.KeyRow.{KeyRow}
 use Rattle.keyed_channel.specs.Frames.{sealed}
@@ -14,11 +15,10 @@ use Rattle.ritas_core.specs.Rules.{Rules, due_at}
 use Rattle.ritas_core.specs.Parts.{Entry, parts}
 use Rattle.ritas_core.specs.Order.{new_messages, sent_to}
 use Rattle.ritas_core.specs.Checks.{IsHistory}
-use Rattle.ritas_core.specs.Laws.{LayerLaws, is_due}
-use Rattle.ritas_core.proofs.Due.{new_is_due, due_stays_after}
-use Rattle.ritas_core.proofs.Goodness.{good_messages}
+use Rattle.ritas_core.specs.Laws.{is_due}
 use Rattle.replica.specs.Frames.{body_of, sealed_onto, made_for}
-use Rattle.world_model.proofs.Members.{has_listed, listed_has, has_passing}
+use Rattle.world_model.proofs.Members.{has_passing}
+use Rattle.world_model.proofs.Below.{IsFounded}
 
 -- an item of a replica with this history is a message that is due there, for replica j
 pub record IsSent (r : Rules) (h : List Entry) (j : ℕ) (x : Item) : Type 0 where
@@ -27,10 +27,10 @@ pub record IsSent (r : Rules) (h : List Entry) (j : ℕ) (x : Item) : Type 0 whe
   pub reached : reaches message.to j ≡ true
   pub same : item_of r.casts.me message ≡ x
 
-pub sent_later : (r : Rules) → LayerLaws r → (h : List Entry) (e : Entry) (j : ℕ) (x : Item) → IsSent r h j x → IsSent r (e ∷ h) j x
+pub sent_later : (r : Rules) → IsFounded r → (h : List Entry) (e : Entry) (j : ℕ) (x : Item) → IsSent r h j x → IsSent r (e ∷ h) j x
 sent_later r laws h e j x sent = record {
   message = sent.message;
-  due = due_stays_after r laws h e sent.message sent.due;
+  due = laws.core.due_stays r laws.layers h e sent.message sent.due;
   reached = sent.reached;
   same = sent.same;
 }
@@ -47,9 +47,9 @@ sent_is_due r h j x own sent = record {
 }
 
 -- what goes out by an entry is due after it
-pub new_due : (r : Rules) → LayerLaws r → (h : List Entry) (e : Entry) (m : Msg) → Has (new_messages r h e) m → is_due r (parts r (e ∷ h)) m ≡ true
+pub new_due : (r : Rules) → IsFounded r → (h : List Entry) (e : Entry) (m : Msg) → Has (new_messages r h e) m → is_due r (parts r (e ∷ h)) m ≡ true
 new_due r laws h e m here =
-    (and_parts (is_due r (parts r (e ∷ h)) m) (not (is_due r (parts r h) m)) (sym (new_is_due r laws h e m) ∙ listed_has (new_messages r h e) m here)).0
+    (and_parts (is_due r (parts r (e ∷ h)) m) (not (is_due r (parts r h) m)) (sym (laws.core.due r laws.layers h e m) ∙ listed_has (new_messages r h e) m here)).0
 
 -- ---- frames
 -- the frame seals one of these messages
@@ -86,7 +86,7 @@ pub record IsFrameOf (r : Rules) (k : KeyRow) (h : List Entry) (j : ℕ) (bytes 
   pub is_seal : bytes ≡ sealed k j seq (body_of k.me message)
 
 -- each frame that was made for j does
-pub made_sent : (r : Rules) → LayerLaws r → (k : KeyRow) (h : List Entry) → IsHistory r h → (j : ℕ) (bytes : List ℕ) → Has (made_for r k h j) bytes →
+pub made_sent : (r : Rules) → IsFounded r → (k : KeyRow) (h : List Entry) → IsHistory r h → (j : ℕ) (bytes : List ℕ) → Has (made_for r k h j) bytes →
     IsFrameOf r k h j bytes
 made_sent r laws k [] met j bytes here = elim here [ ]
 made_sent r laws k (e ∷ h) met j bytes here = elim (sealed_from k j (sent_to j (new_messages r h e)) (made_for r k h j) bytes here) [
@@ -96,7 +96,7 @@ made_sent r laws k (e ∷ h) met j bytes here = elim (sealed_from k j (sent_to j
         message = f.message;
         seq = f.seq;
         fits = f.fits;
-        due = due_stays_after r laws h e f.message f.due;
+        due = laws.core.due_stays r laws.layers h e f.message f.due;
         good = f.good;
         reached = f.reached;
         is_seal = f.is_seal;
@@ -108,7 +108,7 @@ made_sent r laws k (e ∷ h) met j bytes here = elim (sealed_from k j (sent_to j
         seq = s.seq;
         fits = s.fits;
         due = new_due r laws h e s.message there.0;
-        good = good_messages r laws h e met s.message there.0;
+        good = laws.core.sent r laws.layers h e met s.message there.0;
         reached = there.1;
         is_seal = s.is_seal;
       }

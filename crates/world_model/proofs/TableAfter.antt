@@ -20,8 +20,8 @@ use Rattle.ritas_core.specs.Machine.{CoreState, What, moved}
 use Rattle.replica.specs.declared.frame.OutFrame.{OutFrame}
 use Rattle.replica.specs.Frames.{frames_of, frame_for, receivers, count_for, made_for}
 use Rattle.replica.specs.Handling.{Call, Frame, Input, Turn, handled, given_frame, given_body}
-use Rattle.replica.proofs.Moves.{moved_view}
-use Rattle.replica.proofs.Made.{made_by_entry}
+use Rattle.replica.specs.MovesLaws.{moved_view}
+use Rattle.replica.specs.Laws.{MadeByEntry}
 use Rattle.world_model.specs.declared.seats.Seats.{Seats}
 use Rattle.world_model.specs.World.{Setting, rules_at, CallAt, handled_at, after_call}
 use Rattle.world_model.specs.FramesMade.{MadeTable, made_in, frames_to, with_frames}
@@ -42,32 +42,32 @@ none_made r k st after out none same = record {
   made = λ j below other. ap (λ h. made_for r k h j) same ∙ ap (λ fs. reverse (frames_to j fs) ++ made_for r k st.history j) (sym none);
 }
 
-moved_makes : (r : Rules) (k : KeyRow) (st : CoreState) (what : What) →
+moved_makes : MadeByEntry → (r : Rules) (k : KeyRow) (st : CoreState) (what : What) →
     Makes r k st (moved r st what).state (frames_of k (count_for r st.history) (moved r st what).out)
-moved_makes r k st what = elim (moved_view r st what) [
+moved_makes made r k st what = elim (moved_view r st what) [
   | inl enters ↦ record {
     messages = (moved r st what).out;
     frames = refl;
     made = λ j below other.
-        ap (λ h. made_for r k h j) enters.history ∙ made_by_entry r k st.history enters.entry j below other
+        ap (λ h. made_for r k h j) enters.history ∙ made r k st.history enters.entry j below other
         ∙ ap (λ ms. reverse (frames_to j (frames_of k (count_for r st.history) ms)) ++ made_for r k st.history j) (sym enters.out);
   }
   | inr quiet ↦ none_made r k st (moved r st what).state (frames_of k (count_for r st.history) (moved r st what).out)
       (ap (frames_of k (count_for r st.history)) quiet.out) quiet.history
 ]
 
-body_makes : (r : Rules) (k : KeyRow) (st : CoreState) (read : Result Item BodyFault) → Makes r k st (given_body r k st read).state (given_body r k st read).out
-body_makes r k st (Ok item) = moved_makes r k st (core.Frame item)
-body_makes r k st (Err fault) = none_made r k st st [] refl refl
+body_makes : MadeByEntry → (r : Rules) (k : KeyRow) (st : CoreState) (read : Result Item BodyFault) → Makes r k st (given_body r k st read).state (given_body r k st read).out
+body_makes made r k st (Ok item) = moved_makes made r k st (core.Frame item)
+body_makes made r k st (Err fault) = none_made r k st st [] refl refl
 
-frame_makes : (r : Rules) (k : KeyRow) (st : CoreState) (opened : Result Opening OpenFault) → Makes r k st (given_frame r k st opened).state (given_frame r k st opened).out
-frame_makes r k st (Ok o) = body_makes r k st (body_answer r.casts.numbers r.mode o.from o.body)
-frame_makes r k st (Err fault) = none_made r k st st [] refl refl
+frame_makes : MadeByEntry → (r : Rules) (k : KeyRow) (st : CoreState) (opened : Result Opening OpenFault) → Makes r k st (given_frame r k st opened).state (given_frame r k st opened).out
+frame_makes made r k st (Ok o) = body_makes made r k st (body_answer r.casts.numbers r.mode o.from o.body)
+frame_makes made r k st (Err fault) = none_made r k st st [] refl refl
 
-pub handled_makes : (r : Rules) (k : KeyRow) (st : CoreState) (call : Call) → Makes r k st (handled r k st call).state (handled r k st call).out
-handled_makes r k st (Frame bytes) = frame_makes r k st (opening k bytes)
-handled_makes r k st (Input bytes) = moved_makes r k st (core.Input bytes)
-handled_makes r k st Turn = moved_makes r k st core.Turn
+pub handled_makes : MadeByEntry → (r : Rules) (k : KeyRow) (st : CoreState) (call : Call) → Makes r k st (handled r k st call).state (handled r k st call).out
+handled_makes made r k st (Frame bytes) = frame_makes made r k st (opening k bytes)
+handled_makes made r k st (Input bytes) = moved_makes made r k st (core.Input bytes)
+handled_makes made r k st Turn = moved_makes made r k st core.Turn
 
 -- ---- no frame is for its maker
 
@@ -107,13 +107,13 @@ more_there true false new old for others own e =
     sym (ap reverse (others refl) ∙ reverse-append (reverse for) old ∙ ap (λ x. reverse old ++ x) (reverse-reverse for))
 
 -- the list of the maker
-at_maker : (w : Setting) (states : ℕ → CoreState) (c : CallAt) (j : ℕ) → (w.keys c.at).me ≡ c.at → j < (w.keys c.at).n → w.is_correct c.at ≡ true
+at_maker : MadeByEntry → (w : Setting) (states : ℕ → CoreState) (c : CallAt) (j : ℕ) → (w.keys c.at).me ≡ c.at → j < (w.keys c.at).n → w.is_correct c.at ≡ true
     → frames_from w states c.at j ++ frames_to j (handled_at w states c).out ≡ frames_from w (after_call w states (Some c)) c.at j
-at_maker w states c j own below right =
+at_maker made w states c j own below right =
     let r = rules_at w c.at in
     let k = w.keys c.at in
     let did = handled_at w states c in
-    let makes = handled_makes r k (states c.at) c.call in
+    let makes = handled_makes made r k (states c.at) c.call in
     let same : after_call w states (Some c) c.at ≡ did.state = ap (λ b. if b then did.state else states c.at) (eq-eqb c.at c.at refl) in
     more_there (w.is_correct c.at) (c.at == j) (made_for r k did.state.history j) (made_for r k (states c.at).history j) (frames_to j did.out)
     (λ differ. makes.made j below (λ e. false≢true (sym differ ∙ eq-eqb c.at j (sym (e ∙ own)))))
@@ -122,12 +122,12 @@ at_maker w states c j own below right =
     ∙ ap (λ st. made_there (w.is_correct c.at) (c.at == j) (made_for r k st.history j)) (sym same)
 
 -- the table stands for the states after a call, with the frames that it makes
-pub table_after : (w : Setting) (seats : Seats) (states : ℕ → CoreState) (c : CallAt) (t : MadeTable) → SeatsStand w seats → FramesStand w states t
+pub table_after : MadeByEntry → (w : Setting) (seats : Seats) (states : ℕ → CoreState) (c : CallAt) (t : MadeTable) → SeatsStand w seats → FramesStand w states t
     → c.at < w.numbers.n → w.is_correct c.at ≡ true → FramesStand w (after_call w states (Some c)) (with_frames t c.at (handled_at w states c).out)
-table_after w seats states c t seats_stand stand at_below right =
+table_after made w seats states c t seats_stand stand at_below right =
     let did = handled_at w states c in
     let own = seats_stand.own c.at at_below in
-    let makes = handled_makes (rules_at w c.at) (w.keys c.at) (states c.at) c.call in
+    let makes = handled_makes made (rules_at w c.at) (w.keys c.at) (states c.at) c.call in
     let below : AreBelow w.numbers.n did.out =
     let P : ℕ → Type 0 = λ n. AreBelow n did.out in
     let Q : List OutFrame → Type 0 = λ fs. AreBelow (w.keys c.at).n fs in
@@ -141,7 +141,7 @@ table_after w seats states c t seats_stand stand at_below right =
                 let P : ℕ → Type 0 = λ x. made_in t x j ++ made_by c.at x j did.out ≡ frames_from w (after_call w states (Some c)) x j in
                 subst P (sym same.1)
                 (ap₂ (λ x y. x ++ y) (stand.each c.at j at_below j_below) (ap (λ b. if b then frames_to j did.out else []) (eq-eqb c.at c.at refl))
-                ∙ at_maker w states c j own.0 (subst (λ n. j < n) (sym own.1) j_below) right)
+                ∙ at_maker made w states c j own.0 (subst (λ n. j < n) (sym own.1) j_below) right)
             | inr other ↦
                 let kept : after_call w states (Some c) i ≡ states i = ap (λ b. if b then did.state else states i) (ne_eqb c.at i (λ e. other.1 (sym e))) in
                 ap₂ (λ x y. x ++ y) (stand.each i j i_below j_below) (ap (λ b. if b then frames_to j did.out else []) other.0)

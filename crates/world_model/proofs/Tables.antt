@@ -1,9 +1,10 @@
 -- The table of the frames that were made.
-use Rattle.std.proofs.Common.{◌≡◌, ℕ, ◌+◌, ◌*◌, ◌<◌, ◌==◌, Bool, true, false, not, ◌&&◌, cond, if◌then◌else◌, length, List, [], ◌∷◌, ◌++◌, map, filter, refl, sym, ◌∙◌, ap, ap₂, subst, slice_index_or, slice_set, arith, append_assoc, append-nil}
+use Rattle.std.proofs.Common.{◌≡◌, ℕ, ◌+◌, ◌*◌, ◌<◌, ◌==◌, Bool, true, false, not, ◌&&◌, cond, if◌then◌else◌, length, List, [], ◌∷◌, ◌++◌, map, filter, refl, sym, ◌∙◌, ap, ap₂, subst, slice_index_or, slice_set, Result, Ok, Err, arith, append_assoc, append-nil}
+use Rattle.std.specs.Result.{OnErr}
 use Rattle.std.specs.List.{All, range_with_len}
 use Rattle.std.proofs.lemmas.Bool.{eqb-true, eq-eqb, false≢true}
 use Rattle.std.proofs.lemmas.Grind.{get_or-set_at}
-use Rattle.std.proofs.lemmas.List.{map-set, get_or-map, length-set, get_or-set_other}
+use Rattle.std.proofs.lemmas.List.{map-set, set-get_or, get_or-map, length-set, get_or-set_other}
 use Rattle.std.proofs.lemmas.List.Elements.{All-nil, All-head, All-tail, All-append, All-map, All-filter, All-from_get_or}
 use Rattle.std.proofs.lemmas.List.FromFn.{length-range_with_len, get_or-range_with_len}
 use Rattle.std.proofs.lemmas.Nat.{same_from_place, rows}
@@ -31,6 +32,20 @@ pushed items n from at lists old new frame t view place within was now =
     ∙ ap (λ y. slice_set (map items lists) at y) (now ∙ ap (λ y. y ++ frame.bytes ∷ []) (sym read))
     ∙ ap (λ k. slice_set (map items lists) k (slice_index_or (map items lists) k [] ++ frame.bytes ∷ [])) e) in
     subst P view at_place place
+
+pub on_err : {A E : Type 0} {P : Type 0} (r : Result A E) → P → OnErr r P
+on_err (Ok x) p = tt
+on_err (Err e) p = p
+
+-- its list stayed
+pub kept : {V : Type 0} (items : V → List (List ℕ)) (n at : ℕ) (lists : List V) (old new : V) (t : MadeTable) →
+    table_of items n lists ≡ t → at < length lists → old ≡ slice_index_or lists at old → items new ≡ items old → table_of items n (slice_set lists at new) ≡ t
+kept items n at lists old new t view within was same =
+    let read : slice_index_or (map items lists) at [] ≡ items old = get_or-map items lists at old [] within ∙ ap items (sym was) in
+    ap (λ xs. record { n = n; lists = xs }) (map-set items lists at new
+    ∙ ap (λ y. slice_set (map items lists) at y) (same ∙ sym read)
+    ∙ set-get_or (map items lists) at [])
+    ∙ view
 
 pub with_frames-append : (t : MadeTable) (from : ℕ) (xs ys : List OutFrame) → with_frames t from (xs ++ ys) ≡ with_frames (with_frames t from xs) from ys
 with_frames-append t from [] ys = refl

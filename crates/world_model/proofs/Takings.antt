@@ -5,7 +5,7 @@ use Rattle.ritas_base.specs.declared.mode.Mode.{Mode}
 use Rattle.ritas_base.specs.Numbers.{Numbers, IsSession}
 use Rattle.frame_codec.specs.declared.fault.BodyFault.{BodyFault}
 use Rattle.frame_codec.specs.Body.{IsInGrammar, body_answer}
-use Rattle.frame_codec.proofs.Bodies.{answer_good}
+use Rattle.frame_codec.specs.Laws.{AnswersGood}
 use Rattle.keyed_channel.specs.KeyRow.{KeyRow}
 use Rattle.keyed_channel.specs.declared.frame.OpenFault.{OpenFault}
 use Rattle.keyed_channel.specs.Frames.{Opening, opening}
@@ -133,34 +133,34 @@ read_at w seats at bytes seen found o stand item opened = record {
       ∙ ap₂ (λ (p : Numbers) (mode : Mode). body_answer p mode o.from o.body) stand.numbers stand.mode ∙ reads);
 }
 
-body_item_is : (w : Setting) (seats : Seats) (states : ℕ → CoreState) (at : ℕ) (c : Option CallAt) (bytes : List ℕ) (seen : Seen) (found : Option Item) (o : Opening) (read : Result Item BodyFault) → IsSession w.numbers →
+body_item_is : AnswersGood → (w : Setting) (seats : Seats) (states : ℕ → CoreState) (at : ℕ) (c : Option CallAt) (bytes : List ℕ) (seen : Seen) (found : Option Item) (o : Opening) (read : Result Item BodyFault) → IsSession w.numbers →
     IsReadAt w seats bytes seen found o → body_answer w.numbers w.mode o.from o.body ≡ read → seen ≡ seen_answer (given_body (rules_at w at) (w.keys at) (states at) read).answer →
     item_taken w states c ≡ newest_item (states at).history (given_body (rules_at w at) (w.keys at) (states at) read).state.history → IsItemOf w states c found
-body_item_is w seats states at c bytes seen found o (Ok item) session at_read reads saw is =
-    read_item w states c seen item found (is_took seen) refl (answer_good w.numbers w.mode o.from o.body item session reads).0
+body_item_is good w seats states at c bytes seen found o (Ok item) session at_read reads saw is =
+    read_item w states c seen item found (is_took seen) refl (good w.numbers w.mode o.from o.body item session reads).0
     (is ∙ body_takes (rules_at w at) (w.keys at) (states at) (Ok item) ∙ ap (λ s. if is_took s then Some item else None) (sym saw)) at_read.missed (λ took. at_read.took item took reads)
-body_item_is w seats states at c bytes seen found o (Err fault) session at_read reads saw is =
+body_item_is good w seats states at c bytes seen found o (Err fault) session at_read reads saw is =
     no_item w states c found (at_read.missed (ap is_took saw)) (is ∙ newest_none (states at).history)
 
-opened_item_is : (w : Setting) (seats : Seats) (states : ℕ → CoreState) (at : ℕ) (c : Option CallAt) (bytes : List ℕ) (seen : Seen) (found : Option Item) (opened : Result Opening OpenFault) → SeatsStand w seats →
+opened_item_is : AnswersGood → (w : Setting) (seats : Seats) (states : ℕ → CoreState) (at : ℕ) (c : Option CallAt) (bytes : List ℕ) (seen : Seen) (found : Option Item) (opened : Result Opening OpenFault) → SeatsStand w seats →
     IsFrameItem seats.params seats.mode seen bytes found → opening (w.keys at) bytes ≡ opened → seen ≡ seen_answer (given_frame (rules_at w at) (w.keys at) (states at) opened).answer →
     item_taken w states c ≡ newest_item (states at).history (given_frame (rules_at w at) (w.keys at) (states at) opened).state.history → IsItemOf w states c found
-opened_item_is w seats states at c bytes seen found (Ok o) stand item opens saw is =
-    body_item_is w seats states at c bytes seen found o (body_answer w.numbers w.mode o.from o.body) stand.session
+opened_item_is good w seats states at c bytes seen found (Ok o) stand item opens saw is =
+    body_item_is good w seats states at c bytes seen found o (body_answer w.numbers w.mode o.from o.body) stand.session
     (read_at w seats at bytes seen found o stand item (what_opened (w.keys at) bytes o opens)) refl saw is
-opened_item_is w seats states at c bytes seen found (Err fault) stand item opens saw is =
+opened_item_is good w seats states at c bytes seen found (Err fault) stand item opens saw is =
     no_item w states c found (item.missed (ap is_took saw)) (is ∙ newest_none (states at).history)
 
-frame_either : (w : Setting) (seats : Seats) (states : ℕ → CoreState) (at : ℕ) (bytes : List ℕ) (found : Option Item) (seen : Seen) (b : Bool) → SeatsStand w seats →
+frame_either : AnswersGood → (w : Setting) (seats : Seats) (states : ℕ → CoreState) (at : ℕ) (bytes : List ℕ) (found : Option Item) (seen : Seen) (b : Bool) → SeatsStand w seats →
     IsFrameItem seats.params seats.mode seen bytes found → seen ≡ seen_call w states (if b then Some (record { at = at; call = Frame bytes }) else None) →
     IsItemOf w states (if b then Some (record { at = at; call = Frame bytes }) else None) found
-frame_either w seats states at bytes found seen true stand item saw =
-    opened_item_is w seats states at (Some (record { at = at; call = Frame bytes })) bytes seen found (opening (w.keys at) bytes) stand item refl saw refl
-frame_either w seats states at bytes found seen false stand item saw = no_item w states None found (item.missed (ap is_took saw)) refl
+frame_either good w seats states at bytes found seen true stand item saw =
+    opened_item_is good w seats states at (Some (record { at = at; call = Frame bytes })) bytes seen found (opening (w.keys at) bytes) stand item refl saw refl
+frame_either good w seats states at bytes found seen false stand item saw = no_item w states None found (item.missed (ap is_took saw)) refl
 
-pub frame_item_is : (w : Setting) (seats : Seats) (states : ℕ → CoreState) (at : ℕ) (bytes : List ℕ) (found : Option Item) (seen : Seen) → SeatsStand w seats →
+pub frame_item_is : AnswersGood → (w : Setting) (seats : Seats) (states : ℕ → CoreState) (at : ℕ) (bytes : List ℕ) (found : Option Item) (seen : Seen) → SeatsStand w seats →
     IsFrameItem seats.params seats.mode seen bytes found → seen ≡ seen_call w states (call_at w at (Frame bytes)) → IsItemOf w states (call_at w at (Frame bytes)) found
-frame_item_is w seats states at bytes found seen stand item saw = frame_either w seats states at bytes found seen (w.is_correct at) stand item saw
+frame_item_is good w seats states at bytes found seen stand item saw = frame_either good w seats states at bytes found seen (w.is_correct at) stand item saw
 
 -- ---- an input
 

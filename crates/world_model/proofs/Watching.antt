@@ -1,26 +1,24 @@
 -- A call, as the watch of a world is told of it.
 use Rattle.std.proofs.Common.{◌≡◌, ◌≢◌, ℕ, ◌<◌, Bool, true, false, not, ◌==◌, ◌&&◌, ◌||◌, cond, Option, Some, None, List, [], ◌∷◌, ◌++◌, map, refl, sym, ◌∙◌, ap, ap₂, subst, inl, inr, arith, if◌then◌else◌}
-use Rattle.std.specs.List.{list_any, range_with_len}
+use Rattle.std.specs.List.{list_any, range_with_len, slice_get}
 use Rattle.std.specs.Option.{option_or}
+use Rattle.std.proofs.lemmas.Option.{same_Some}
 use Rattle.std.proofs.lemmas.Bool.{and_parts, or_parts, eq-eqb, eqb-true, false≢true}
 use Rattle.ritas_base.specs.declared.slot.Slot.{Slot}
 use Rattle.ritas_base.specs.declared.item.Item.{Item}
 use Rattle.ritas_base.specs.declared.item.Kind.{Kind}
 use Rattle.ritas_base.specs.declared.item.Kind.TheVariants.{Send, Column}
 use Rattle.ritas_base.specs.declared.item.Kind.TheVariants as kinds
-use Rattle.ritas_base.specs.declared.mode.Mode.{Mode}
-use Rattle.ritas_base.specs.Numbers.{Numbers}
 use Rattle.ritas_base.specs.SlotOrder.{is_slot, same_slot, slot_itself}
 use Rattle.ritas_base.specs.Shortest.{option_or_none}
 use Rattle.ritas_base.specs.Messages.{Place, kind_eq}
 use Rattle.ritas_base.specs.History.{Call, Take, told, is_value, replicas}
 use Rattle.ritas_base.specs.Tags.{Tags}
-use Rattle.frame_codec.specs.Format.{Is}
-use Rattle.frame_codec.specs.Grammar.{column as column_of, payload}
 use Rattle.frame_codec.specs.Body.{IsInGrammar}
 use Rattle.layer_api.specs.Runs.{Has}
-use Rattle.layer_api.specs.Entries.{sent, row_of, is_claim, is_valid_for, given, Print, OfMessage, OfEntry, prints_of}
-use Rattle.layer_api.specs.Entries as entries
+use Rattle.layer_api.specs.HasLaws.{has_either, has_left, has_right}
+use Rattle.layer_api.specs.Entries.{sent, is_claim, is_valid_for, Print, OfMessage, prints_of}
+use Rattle.frame_codec.specs.Values.{row_of}
 use Rattle.keyed_channel.specs.KeyRow.{KeyRow}
 use Rattle.keyed_channel.specs.Keyed.{tags_of}
 use Rattle.ritas_core.specs.Rules.{Rules, place_at}
@@ -32,13 +30,17 @@ use Rattle.world_model.specs.declared.seats.Seats.{Seats}
 use Rattle.world_model.specs.declared.watch.Watch.{Watch}
 use Rattle.world_model.specs.World.{Setting, rules_at, CallAt, handled_at, after_call}
 use Rattle.world_model.specs.Audit.{newest_item, taken_by, calls_at, place_in, given_by, is_among, is_made_up, is_forged_item, is_forged_at, prints_in, prints_by, prints_at, collide, broken_by}
-use Rattle.world_model.specs.Hashed.{digest_at, is_same_at, HashedStand, prints_with, print_of, entries_for, is_unknown, Meets}
+use Rattle.std.specs.BTreeMap.{BTreeMap}
+use Rattle.world_model.specs.declared.met.SlotAt.{SlotAt}
+use Rattle.world_model.specs.Met.{MetEntries, pair_of, met_with, met_for, given_in, is_expected, is_unknown}
+use Rattle.world_model.specs.Hashed.{met_at, is_same_at, HashedStand, prints_with, print_of, AreMet, Meets}
 use Rattle.world_model.specs.Stands.{SeatsStand}
-use Rattle.world_model.specs.Watch.{IsAt, item_taken, is_watched, watched, is_forged_frame, IsTold, digest_for, TablesStand, WatchStands, verdict_after, digest_said, MeetsSend}
-use Rattle.world_model.proofs.Anywhere.{all_fail, any_of, has_left, has_right, has_either, has_among, among_from, has_number}
+use Rattle.world_model.specs.Watch.{IsAt, item_taken, is_watched, watched, is_forged_frame, IsTold, TablesStand, WatchStands, verdict_after, met_said, MeetsSend}
+use Rattle.world_model.proofs.Anywhere.{all_fail, any_of, has_among, among_from, has_number}
 use Rattle.world_model.proofs.Prints.{sent_taken, sent_given}
 use Rattle.world_model.proofs.HashedSteps.{none_collide, same_at, at_itself}
 use Rattle.world_model.proofs.Meeting.{Within, collide_within, stand_within}
+use Rattle.world_model.proofs.Pairs.{pair_at, given_same, met_as_made}
 use Rattle.world_model.proofs.Histories.{Grew, grew, newest_taken, history_taken}
 
 -- ---- a replica that takes no SEND
@@ -134,53 +136,56 @@ prints_same w one other same p here =
 pub tables_stay : (w : Setting) (states : ℕ → CoreState) (c : Option CallAt) (watch : Watch) → ((item : Item) → item_taken w states c ≡ Some item → kind_eq item.kind Send ≡ false) →
     TablesStand w states watch → TablesStand w (after_call w states c) watch
 tables_stay w states c watch other stand = record {
-  sent = λ i s right. stand.sent i s right ∙ ap (digest_for (tags_of (w.keys i))) (sym ((quiet_all w states c other i).sends s));
+  sent = λ i s right. stand.sent i s right ∙ ap (met_for (w.keys i) s) (sym ((quiet_all w states c other i).sends s));
   hashed = stand_within watch.hashed (prints_at w states) (prints_at w (after_call w states c))
       (prints_same w states (after_call w states c) (λ i. sym (quiet_all w states c other i).prints))
       (prints_same w (after_call w states c) states (λ i. (quiet_all w states c other i).prints)) stand.hashed;
 }
 
+-- what the table has of correct replicas is what their keys give
+pub are_met : (w : Setting) (states : ℕ → CoreState) (watch : Watch) → TablesStand w states watch → AreMet w watch.sent.table
+are_met w states watch stand i s met right there =
+    met_as_made (w.keys i) s (sent (place_in w i s) (calls_at w states i s)) (met_at watch.sent.table s i) met (stand.sent i s right) there
+
 -- ---- columns
 
--- the entries that the table's digest gives are those that the replica gave
-entries_same : (k : KeyRow) (at : Place) → at.me ≡ k.me → at.numbers.n ≡ k.n → (o : Option (List ℕ)) →
-    entries_for k at.slot (digest_for (tags_of k) o) ≡ entries.entries_for at (tags_of k) o
-entries_same k at me n None = refl
-entries_same k at me n (Some m) =
-    ap₂ (λ x y. map (λ v. (tags_of k).entry at.slot x v ((tags_of k).digest m)) (replicas y)) (sym me) (sym n)
+-- the row that is expected of an echoer
+expected_at : (w : Setting) (at echoer : ℕ) (s : Slot) (m : List ℕ) (met : MetEntries) → (w.keys at).n ≡ w.numbers.n → echoer < w.numbers.n → met ≡ met_with (w.keys at) s ((tags_of (w.keys at)).digest m) →
+    slice_get met.pairs echoer ≡ Some (pair_of (w.keys at) s ((tags_of (w.keys at)).digest m) echoer)
+expected_at w at echoer s m met many below is =
+    ap (λ (x : MetEntries). slice_get x.pairs echoer) is ∙ pair_at (w.keys at) s ((tags_of (w.keys at)).digest m) echoer (omega (arith, below, many))
 
-valid_same : (w : Setting) (states : ℕ → CoreState) (at echoer : ℕ) (m digest : List ℕ) (x : Item) → (w.keys at).me ≡ at → (w.keys echoer).me ≡ echoer →
-    sent (place_in w at x.slot) (calls_at w states at x.slot) ≡ Some m → digest ≡ (tags_of (w.keys at)).digest m →
-    entries.is_valid (place_in w at x.slot) (tags_of (w.keys at)) m x.value echoer
+-- the entries that the table has of an echoer are those that it gave
+listed_at : (w : Setting) (states : ℕ → CoreState) (watch : Watch) (echoer : ℕ) (s : Slot) (echoers : Option MetEntries) → ((w.keys echoer).me ≡ echoer) × ((w.keys echoer).n ≡ w.numbers.n) →
+    TablesStand w states watch → w.is_correct echoer ≡ true → echoers ≡ met_at watch.sent.table s echoer → given_in echoers ≡ given_by w states echoer s
+listed_at w states watch echoer s echoers own stand right is =
+    ap given_in (is ∙ stand.sent echoer s right)
+    ∙ given_same (w.keys echoer) (place_in w echoer s) (sym own.0) (sym own.1) (sent (place_in w echoer s) (calls_at w states echoer s))
+
+valid_same : (w : Setting) (states : ℕ → CoreState) (at echoer : ℕ) (m : List ℕ) (x : Item) → (w.keys at).me ≡ at → sent (place_in w at x.slot) (calls_at w states at x.slot) ≡ Some m →
+    is_value ((tags_of (w.keys at)).entry x.slot echoer (w.keys at).me ((tags_of (w.keys at)).digest m)) (row_of x.value echoer)
     ≡ is_valid_for (place_in w at x.slot) (tags_of (w.keys at)) (sent (place_in w at x.slot) (calls_at w states at x.slot)) x.value echoer
-valid_same w states at echoer m digest x me own said is =
-    ap (λ o. is_valid_for (place_in w at x.slot) (tags_of (w.keys at)) o x.value echoer) (sym said)
-
-unknown_at : (w : Setting) (at echoer : ℕ) (m digest : List ℕ) (x : Item) (given given' : Option (List ℕ)) → (w.keys at).me ≡ at → (w.keys echoer).me ≡ echoer →
-    digest ≡ (tags_of (w.keys at)).digest m → given ≡ given' →
-    is_unknown (w.keys at) digest (w.keys echoer) given x.slot x.value
-    ≡ (entries.is_valid (place_in w at x.slot) (tags_of (w.keys at)) m x.value echoer && not (is_among (entries_for (w.keys echoer) x.slot given') (row_of x.value echoer)))
-unknown_at w at echoer m digest x given given' me own is same =
-    ap₂ (λ (e : ℕ) (j : ℕ). is_value ((tags_of (w.keys at)).entry x.slot e j digest) (row_of x.value e) && not (is_among (entries_for (w.keys echoer) x.slot given) (row_of x.value e))) own me
-    ∙ ap₂ (λ (d : List ℕ) (g : Option (List ℕ)). is_value ((tags_of (w.keys at)).entry x.slot echoer at d) (row_of x.value echoer) && not (is_among (entries_for (w.keys echoer) x.slot g) (row_of x.value echoer))) is same
+valid_same w states at echoer m x me said =
+    ap (λ (j : ℕ). is_value ((tags_of (w.keys at)).entry x.slot echoer j ((tags_of (w.keys at)).digest m)) (row_of x.value echoer)) me
+    ∙ ap (λ o. is_valid_for (place_in w at x.slot) (tags_of (w.keys at)) o x.value echoer) (sym said)
 
 -- what the tables say of an echoer is what the events say
-pub unknown_is : (w : Setting) (states : ℕ → CoreState) (watch : Watch) (at echoer : ℕ) (m digest : List ℕ) (x : Item) (k e : KeyRow) (given : Option (List ℕ)) →
-    ((w.keys at).me ≡ at) → ((w.keys echoer).me ≡ echoer) × ((w.keys echoer).n ≡ w.numbers.n) → TablesStand w states watch → w.is_correct echoer ≡ true →
-    k ≡ w.keys at → e ≡ w.keys echoer → given ≡ digest_at watch.sent.digests x.slot echoer →
-    sent (place_in w at x.slot) (calls_at w states at x.slot) ≡ Some m → digest ≡ (tags_of (w.keys at)).digest m → kind_eq x.kind Column ≡ true →
-    is_unknown k digest e given x.slot x.value ≡ is_made_up w states at x echoer
-unknown_is w states watch at echoer m digest x k e given me own stand right k_is e_is given_is said is column =
-    let said_there = sent (place_in w echoer x.slot) (calls_at w states echoer x.slot) in
-    let known : given ≡ digest_for (tags_of (w.keys echoer)) said_there = given_is ∙ stand.sent echoer x.slot right in
-    let listed : entries_for (w.keys echoer) x.slot (digest_for (tags_of (w.keys echoer)) said_there) ≡ given_by w states echoer x.slot =
-    entries_same (w.keys echoer) (place_in w echoer x.slot) (sym own.0) (sym own.1) said_there in
-    let valid = entries.is_valid (place_in w at x.slot) (tags_of (w.keys at)) m x.value echoer in
-    ap₂ (λ (a : KeyRow) (b : KeyRow). is_unknown a digest b given x.slot x.value) k_is e_is
-    ∙ unknown_at w at echoer m digest x given (digest_for (tags_of (w.keys echoer)) said_there) me own.0 is known
-    ∙ ap₂ (λ v rows. v && not (is_among rows (row_of x.value echoer))) (valid_same w states at echoer m digest x me own.0 said is) listed
+pub unknown_is : (w : Setting) (states : ℕ → CoreState) (watch : Watch) (at echoer : ℕ) (m : List ℕ) (x : Item) (met : MetEntries) (echoers : Option MetEntries) →
+    ((w.keys at).me ≡ at) × ((w.keys at).n ≡ w.numbers.n) → ((w.keys echoer).me ≡ echoer) × ((w.keys echoer).n ≡ w.numbers.n) → echoer < w.numbers.n →
+    TablesStand w states watch → w.is_correct echoer ≡ true → echoers ≡ met_at watch.sent.table x.slot echoer →
+    sent (place_in w at x.slot) (calls_at w states at x.slot) ≡ Some m → met ≡ met_with (w.keys at) x.slot ((tags_of (w.keys at)).digest m) → kind_eq x.kind Column ≡ true →
+    is_unknown met echoers echoer x.value ≡ is_made_up w states at x echoer
+unknown_is w states watch at echoer m x met echoers own other below stand right found said is column =
+    let row = row_of x.value echoer in
+    ap₂ (λ pair entries. is_expected pair row && not (is_among entries row)) (expected_at w at echoer x.slot m met own.1 below is) (listed_at w states watch echoer x.slot echoers other stand right found)
+    ∙ ap (λ v. v && not (is_among (given_by w states echoer x.slot) row)) (valid_same w states at echoer m x own.0 said)
     ∙ ap₂ (λ a b. a && ((b && is_valid_for (place_in w at x.slot) (tags_of (w.keys at)) (sent (place_in w at x.slot) (calls_at w states at x.slot)) x.value echoer)
-    && not (is_among (given_by w states echoer x.slot) (row_of x.value echoer)))) (sym right) (sym column)
+    && not (is_among (given_by w states echoer x.slot) row))) (sym right) (sym column)
+
+-- no column forges as of an echoer that isn't correct
+pub faulty_fair : (w : Setting) (states : ℕ → CoreState) (at : ℕ) (x : Item) (echoer : ℕ) → w.is_correct echoer ≡ false → false ≡ is_made_up w states at x echoer
+faulty_fair w states at x echoer faulty =
+    ap (λ b. b && (is_claim (place_in w at x.slot) (tags_of (w.keys at)) (calls_at w states at x.slot) x echoer && not (is_among (given_by w states echoer x.slot) (row_of x.value echoer)))) (sym faulty)
 
 -- of no message that was sent no entry is valid
 claims_none : (at : Place) (tags : Tags) (o : Option (List ℕ)) (column : List ℕ) (echoer : ℕ) (b : Bool) → o ≡ None → (b && is_valid_for at tags o column echoer) ≡ false
@@ -307,30 +312,30 @@ nothing_watched w states c watch number fair none stand =
 
 -- ---- columns, as the code has it
 
-digest_none : (tags : Tags) (o : Option (List ℕ)) → digest_for tags o ≡ None → o ≡ None
-digest_none tags None e = refl
-digest_none tags (Some m) e = absurd (cc)
+met_none : (k : KeyRow) (s : Slot) (o : Option (List ℕ)) → met_for k s o ≡ None → o ≡ None
+met_none k s None e = refl
+met_none k s (Some m) e = absurd (cc)
 
--- the message of a digest
-pub record IsSaid (tags : Tags) (o : Option (List ℕ)) (digest : List ℕ) : Type 0 where
+-- the message at which this was met
+pub record IsSaid (k : KeyRow) (s : Slot) (o : Option (List ℕ)) (met : MetEntries) : Type 0 where
   pub message : List ℕ
   pub said : o ≡ Some message
-  pub same : digest ≡ tags.digest message
+  pub same : met ≡ met_with k s ((tags_of k).digest message)
 
-digest_some : (tags : Tags) (o : Option (List ℕ)) (d : List ℕ) → digest_for tags o ≡ Some d → IsSaid tags o d
-digest_some tags None d e = absurd (cc)
-digest_some tags (Some m) d e = record { message = m; said = refl; same = cc }
+said_some : (k : KeyRow) (s : Slot) (o : Option (List ℕ)) (met : MetEntries) → met_for k s o ≡ Some met → IsSaid k s o met
+said_some k s None met e = absurd (cc)
+said_some k s (Some m) met e = record { message = m; said = refl; same = sym (same_Some (met_with k s ((tags_of k).digest m)) met e) }
 
-pub undigested_fair : (w : Setting) (states : ℕ → CoreState) (watch : Watch) (at : ℕ) (x : Item) (found : Option (List ℕ)) → TablesStand w states watch → w.is_correct at ≡ true →
-    found ≡ digest_at watch.sent.digests x.slot at → found ≡ None → false ≡ is_forged_item w states at (Some x)
-undigested_fair w states watch at x found stand right is none =
+pub unmet_fair : (w : Setting) (states : ℕ → CoreState) (watch : Watch) (at : ℕ) (x : Item) (found : Option MetEntries) → TablesStand w states watch → w.is_correct at ≡ true →
+    found ≡ met_at watch.sent.table x.slot at → found ≡ None → false ≡ is_forged_item w states at (Some x)
+unmet_fair w states watch at x found stand right is none =
     sym (unsent_fair w states at x
-    (digest_none (tags_of (w.keys at)) (sent (place_in w at x.slot) (calls_at w states at x.slot)) (sym (stand.sent at x.slot right) ∙ (sym is ∙ none))))
+    (met_none (w.keys at) x.slot (sent (place_in w at x.slot) (calls_at w states at x.slot)) (sym (stand.sent at x.slot right) ∙ (sym is ∙ none))))
 
-pub digest_is : (w : Setting) (states : ℕ → CoreState) (watch : Watch) (at : ℕ) (x : Item) (found : Option (List ℕ)) (d : List ℕ) → TablesStand w states watch → w.is_correct at ≡ true →
-    found ≡ digest_at watch.sent.digests x.slot at → found ≡ Some d → IsSaid (tags_of (w.keys at)) (sent (place_in w at x.slot) (calls_at w states at x.slot)) d
-digest_is w states watch at x found d stand right is some =
-    digest_some (tags_of (w.keys at)) (sent (place_in w at x.slot) (calls_at w states at x.slot)) d (sym (stand.sent at x.slot right) ∙ (sym is ∙ some))
+pub said_is : (w : Setting) (states : ℕ → CoreState) (watch : Watch) (at : ℕ) (x : Item) (found : Option MetEntries) (met : MetEntries) → TablesStand w states watch → w.is_correct at ≡ true →
+    found ≡ met_at watch.sent.table x.slot at → found ≡ Some met → IsSaid (w.keys at) x.slot (sent (place_in w at x.slot) (calls_at w states at x.slot)) met
+said_is w states watch at x found met stand right is some =
+    said_some (w.keys at) x.slot (sent (place_in w at x.slot) (calls_at w states at x.slot)) met (sym (stand.sent at x.slot right) ∙ (sym is ∙ some))
 
 pub some_made_up : (w : Setting) (states : ℕ → CoreState) (at : ℕ) (x : Item) (echoer : ℕ) → echoer < w.numbers.n → is_made_up w states at x echoer ≡ true → true ≡ is_forged_item w states at (Some x)
 some_made_up w states at x echoer below made =
@@ -343,9 +348,9 @@ none_made_up w states at x n all none = sym (subst (λ (k : ℕ). list_any (is_m
 -- ---- SENDs
 
 -- what the replica with its keys meets
-met_with : (w : Setting) (at : ℕ) (s : Slot) (m : List ℕ) → (w.keys at).me ≡ at → (w.keys at).n ≡ w.numbers.n →
+met_here : (w : Setting) (at : ℕ) (s : Slot) (m : List ℕ) → (w.keys at).me ≡ at → (w.keys at).n ≡ w.numbers.n →
     prints_with (w.keys at) s m ≡ prints_of (place_in w at s) (tags_of (w.keys at)) m
-met_with w at s m me n =
+met_here w at s m me n =
     let k = w.keys at in
     let d = (tags_of k).digest m in
     ap₂ (λ (i : ℕ) (count : ℕ). OfMessage m d ∷ map (λ v. print_of k s d i v) (replicas count) ++ map (λ e. print_of k s d e i) (replicas count)) me n
@@ -428,44 +433,44 @@ within_after w states c x takes p here =
     ]
 
 -- what was sent to it
-digest_either : (tags : Tags) (o : Option (List ℕ)) (m : List ℕ) (b : Bool) →
-    digest_for tags (option_or o (if b then Some m else None)) ≡ option_or (digest_for tags o) (if b then Some (tags.digest m) else None)
-digest_either tags None m true = refl
-digest_either tags None m false = refl
-digest_either tags (Some v) m true = refl
-digest_either tags (Some v) m false = refl
+met_either : (k : KeyRow) (s : Slot) (o : Option (List ℕ)) (m : List ℕ) (b : Bool) →
+    met_for k s (option_or o (if b then Some m else None)) ≡ option_or (met_for k s o) (if b then Some (met_with k s ((tags_of k).digest m)) else None)
+met_either k s None m true = refl
+met_either k s None m false = refl
+met_either k s (Some v) m true = refl
+met_either k s (Some v) m false = refl
 
 said_here : (w : Setting) (states : ℕ → CoreState) (c : CallAt) (x : Item) → TakesSend w states c x → (s : Slot) (b : Bool) → is_slot x.slot s ≡ b →
-    digest_for (tags_of (w.keys c.at)) (sends_in w c.at s (Took x ∷ (states c.at).history))
-    ≡ (if b then option_or (digest_for (tags_of (w.keys c.at)) (sends_in w c.at s (states c.at).history)) (digest_said (w.keys c.at) x)
-    else digest_for (tags_of (w.keys c.at)) (sends_in w c.at s (states c.at).history))
+    met_for (w.keys c.at) s (sends_in w c.at s (Took x ∷ (states c.at).history))
+    ≡ (if b then option_or (met_for (w.keys c.at) s (sends_in w c.at s (states c.at).history)) (met_said (w.keys c.at) x)
+    else met_for (w.keys c.at) s (sends_in w c.at s (states c.at).history))
 said_here w states c x takes s true here =
-    let tags = tags_of (w.keys c.at) in
+    let k = w.keys c.at in
     let h = (states c.at).history in
     let same = same_slot x.slot s here in
-    ap (digest_for tags) (sent_taken (rules_at w c.at) (place_in w c.at s) h x s ∙ ap (λ b. sent (place_in w c.at s) (cond b (Take x ∷ (parts (rules_at w c.at) h).calls s) ((parts (rules_at w c.at) h).calls s))) here)
-    ∙ ap (λ b. digest_for tags (option_or (sends_in w c.at s h) (if x.from == s.origin && b then Some x.value else None))) takes.kind
-    ∙ ap (λ b. digest_for tags (option_or (sends_in w c.at s h) (if b then Some x.value else None))) (and_true (x.from == s.origin))
-    ∙ digest_either tags (sends_in w c.at s h) x.value (x.from == s.origin)
-    ∙ ap (λ (q : Slot). option_or (digest_for tags (sends_in w c.at s h)) (if x.from == q.origin then Some (tags.digest x.value) else None)) (sym same)
+    ap (met_for k s) (sent_taken (rules_at w c.at) (place_in w c.at s) h x s ∙ ap (λ b. sent (place_in w c.at s) (cond b (Take x ∷ (parts (rules_at w c.at) h).calls s) ((parts (rules_at w c.at) h).calls s))) here)
+    ∙ ap (λ b. met_for k s (option_or (sends_in w c.at s h) (if x.from == s.origin && b then Some x.value else None))) takes.kind
+    ∙ ap (λ b. met_for k s (option_or (sends_in w c.at s h) (if b then Some x.value else None))) (and_true (x.from == s.origin))
+    ∙ met_either k s (sends_in w c.at s h) x.value (x.from == s.origin)
+    ∙ ap (λ (q : Slot). option_or (met_for k s (sends_in w c.at s h)) (if x.from == q.origin then Some (met_with k q ((tags_of k).digest x.value)) else None)) (sym same)
   where
     and_true : (b : Bool) → (b && true) ≡ b
     and_true true = refl
     and_true false = refl
 said_here w states c x takes s false other =
-    ap (digest_for (tags_of (w.keys c.at))) (sent_taken (rules_at w c.at) (place_in w c.at s) (states c.at).history x s
+    ap (met_for (w.keys c.at) s) (sent_taken (rules_at w c.at) (place_in w c.at s) (states c.at).history x s
     ∙ ap (λ b. sent (place_in w c.at s) (cond b (Take x ∷ (parts (rules_at w c.at) (states c.at).history).calls s) ((parts (rules_at w c.at) (states c.at).history).calls s))) other)
 
 said_there : (w : Setting) (states : ℕ → CoreState) (c : CallAt) (x : Item) → TakesSend w states c x → (i : ℕ) (s : Slot) (b : Bool) → (c.at == i) ≡ b →
-    digest_for (tags_of (w.keys i)) (sent (place_in w i s) (calls_at w (after_call w states (Some c)) i s))
-    ≡ (if b && is_slot x.slot s then option_or (digest_for (tags_of (w.keys i)) (sent (place_in w i s) (calls_at w states i s))) (digest_said (w.keys c.at) x)
-    else digest_for (tags_of (w.keys i)) (sent (place_in w i s) (calls_at w states i s)))
+    met_for (w.keys i) s (sent (place_in w i s) (calls_at w (after_call w states (Some c)) i s))
+    ≡ (if b && is_slot x.slot s then option_or (met_for (w.keys i) s (sent (place_in w i s) (calls_at w states i s))) (met_said (w.keys c.at) x)
+    else met_for (w.keys i) s (sent (place_in w i s) (calls_at w states i s)))
 said_there w states c x takes i s true here =
-    subst (λ (k : ℕ). digest_for (tags_of (w.keys k)) (sent (place_in w k s) (calls_at w (after_call w states (Some c)) k s))
-    ≡ (if is_slot x.slot s then option_or (digest_for (tags_of (w.keys k)) (sent (place_in w k s) (calls_at w states k s))) (digest_said (w.keys c.at) x)
-    else digest_for (tags_of (w.keys k)) (sent (place_in w k s) (calls_at w states k s)))) (eqb-true c.at i here)
-    (ap (λ h. digest_for (tags_of (w.keys c.at)) (sends_in w c.at s h)) (history_after w states c x takes) ∙ said_here w states c x takes s (is_slot x.slot s) refl)
-said_there w states c x takes i s false other = ap (digest_for (tags_of (w.keys i))) ((quiet_other w states c i other).sends s)
+    subst (λ (k : ℕ). met_for (w.keys k) s (sent (place_in w k s) (calls_at w (after_call w states (Some c)) k s))
+    ≡ (if is_slot x.slot s then option_or (met_for (w.keys k) s (sent (place_in w k s) (calls_at w states k s))) (met_said (w.keys c.at) x)
+    else met_for (w.keys k) s (sent (place_in w k s) (calls_at w states k s)))) (eqb-true c.at i here)
+    (ap (λ h. met_for (w.keys c.at) s (sends_in w c.at s h)) (history_after w states c x takes) ∙ said_here w states c x takes s (is_slot x.slot s) refl)
+said_there w states c x takes i s false other = ap (met_for (w.keys i) s) ((quiet_other w states c i other).sends s)
 
 -- one slot at one replica
 at_parts : (s q : Slot) (i j : ℕ) (b : Bool) → is_same_at s i q j ≡ b → (i == j && is_slot s q) ≡ b
@@ -483,14 +488,56 @@ at_parts s q i j false apart = differ (i == j && is_slot s q) refl
         absurd (false≢true (sym apart ∙ same))
 
 pub sent_after : (w : Setting) (states : ℕ → CoreState) (c : CallAt) (x : Item) (old new : Watch) (k : KeyRow) → TakesSend w states c x → TablesStand w states old → k ≡ w.keys c.at →
-    ((s : Slot) (i : ℕ) → digest_at new.sent.digests s i ≡ (if is_same_at x.slot c.at s i then option_or (digest_at old.sent.digests s i) (digest_said k x) else digest_at old.sent.digests s i)) →
-    (i : ℕ) (s : Slot) → w.is_correct i ≡ true → digest_at new.sent.digests s i ≡ digest_for (tags_of (w.keys i)) (sent (place_in w i s) (calls_at w (after_call w states (Some c)) i s))
+    ((s : Slot) (i : ℕ) → met_at new.sent.table s i ≡ (if is_same_at x.slot c.at s i then option_or (met_at old.sent.table s i) (met_said k x) else met_at old.sent.table s i)) →
+    (i : ℕ) (s : Slot) → w.is_correct i ≡ true → met_at new.sent.table s i ≡ met_for (w.keys i) s (sent (place_in w i s) (calls_at w (after_call w states (Some c)) i s))
 sent_after w states c x old new k takes stand keys put i s right =
     put s i
-    ∙ ap₂ (λ b d. if b then option_or d (digest_said k x) else d) (sym (at_parts x.slot s c.at i (is_same_at x.slot c.at s i) refl)) (stand.sent i s right)
-    ∙ ap (λ (y : KeyRow). if c.at == i && is_slot x.slot s then option_or (digest_for (tags_of (w.keys i)) (sent (place_in w i s) (calls_at w states i s))) (digest_said y x)
-    else digest_for (tags_of (w.keys i)) (sent (place_in w i s) (calls_at w states i s))) keys
+    ∙ ap₂ (λ b d. if b then option_or d (met_said k x) else d) (sym (at_parts x.slot s c.at i (is_same_at x.slot c.at s i) refl)) (stand.sent i s right)
+    ∙ ap (λ (y : KeyRow). if c.at == i && is_slot x.slot s then option_or (met_for (w.keys i) s (sent (place_in w i s) (calls_at w states i s))) (met_said y x)
+    else met_for (w.keys i) s (sent (place_in w i s) (calls_at w states i s))) keys
     ∙ sym (said_there w states c x takes i s (c.at == i) refl)
+
+-- ---- a SEND, as the code has it
+
+met_said_is : (k : KeyRow) (x : Item) (met : MetEntries) → x.from ≡ x.slot.origin → met ≡ met_with k x.slot ((tags_of k).digest x.value) → Some met ≡ met_said k x
+met_said_is k x met origin is =
+    ap (λ (y : MetEntries). Some y) is ∙ sym (ap (λ b. if b then Some (met_with k x.slot ((tags_of k).digest x.value)) else None) (eq-eqb x.from x.slot.origin origin))
+
+unsaid_at : (k : KeyRow) (x : Item) (b : Bool) → (x.from == x.slot.origin) ≡ b → (x.from ≡ x.slot.origin → ⊥) → met_said k x ≡ None
+unsaid_at k x true same apart = absurd (apart (eqb-true x.from x.slot.origin same))
+unsaid_at k x false other apart = ap (λ b. if b then Some (met_with k x.slot ((tags_of k).digest x.value)) else None) other
+
+-- what is added is what the item brings
+pub said_added : (old new : BTreeMap SlotAt MetEntries) (k : KeyRow) (at : ℕ) (x : Item) (met : MetEntries) → x.from ≡ x.slot.origin → met ≡ met_with k x.slot ((tags_of k).digest x.value) →
+    ((s : Slot) (i : ℕ) → met_at new s i ≡ (if is_same_at x.slot at s i then option_or (met_at old s i) (Some met) else met_at old s i)) →
+    (s : Slot) (i : ℕ) → met_at new s i ≡ (if is_same_at x.slot at s i then option_or (met_at old s i) (met_said k x) else met_at old s i)
+said_added old new k at x met origin is put s i =
+    put s i ∙ ap (λ o. if is_same_at x.slot at s i then option_or (met_at old s i) o else met_at old s i) (met_said_is k x met origin is)
+
+-- nothing is added where it brings nothing
+pub nothing_said : (table : BTreeMap SlotAt MetEntries) (k : KeyRow) (at : ℕ) (x : Item) → (x.from ≡ x.slot.origin → ⊥) → (s : Slot) (i : ℕ) →
+    met_at table s i ≡ (if is_same_at x.slot at s i then option_or (met_at table s i) (met_said k x) else met_at table s i)
+nothing_said table k at x apart s i =
+    stays (is_same_at x.slot at s i) (met_at table s i)
+    ∙ ap (λ o. if is_same_at x.slot at s i then option_or (met_at table s i) o else met_at table s i) (sym (unsaid_at k x (x.from == x.slot.origin) refl apart))
+  where
+    stays : (b : Bool) (o : Option MetEntries) → o ≡ (if b then option_or o None else o)
+    stays true o = sym (option_or_none o)
+    stays false o = refl
+
+pub meets_send : (old new : Watch) (k same : KeyRow) (at : ℕ) (x : Item) (v : List ℕ) (met : MetEntries) (found clash : Bool) → found ≡ clash → same ≡ k → v ≡ x.value →
+    met ≡ met_with k x.slot ((tags_of k).digest x.value) → new.verdict ≡ old.verdict →
+    (met ≡ met_with same x.slot ((tags_of same).digest v) → (prints : List Print) → HashedStand old.hashed prints → Meets new.hashed (prints_with same x.slot v) prints found) →
+    (clash ≡ false → (s : Slot) (i : ℕ) → met_at new.sent.table s i ≡ (if is_same_at x.slot at s i then option_or (met_at old.sent.table s i) (met_said k x) else met_at old.sent.table s i)) →
+    MeetsSend old new k at x clash
+meets_send old new k same at x v met found clash clashes keys value is verdict adds put = record {
+  verdict = verdict;
+  hashed = λ prints stand.
+      let there = is ∙ ap₂ (λ (y : KeyRow) (u : List ℕ). met_with y x.slot ((tags_of y).digest u)) (sym keys) (sym value) in
+      subst (λ b. Meets new.hashed (prints_with k x.slot x.value) prints b) clashes
+      (subst (λ (ps : List Print). Meets new.hashed ps prints found) (ap₂ (λ (y : KeyRow) (u : List ℕ). prints_with y x.slot u) keys value) (adds there prints stand));
+  sent = put;
+}
 
 -- ---- an item that the audit looks at
 
@@ -558,7 +605,7 @@ meets_here : (w : Setting) (states : ℕ → CoreState) (seats : Seats) (at : �
 meets_here w states seats at x old new k clash seats_stand below keys stand meets =
     let own = seats_stand.own at below in
     subst (λ (ps : List Print). Meets new.hashed ps (prints_at w states) clash)
-    (ap (λ (y : KeyRow). prints_with y x.slot x.value) keys ∙ met_with w at x.slot x.value own.0 own.1)
+    (ap (λ (y : KeyRow). prints_with y x.slot x.value) keys ∙ met_here w at x.slot x.value own.0 own.1)
     (meets.hashed (prints_at w states) stand.hashed)
 
 pub send_collides : (w : Setting) (states : ℕ → CoreState) (c : Option CallAt) (at : ℕ) (x : Item) (old mid new : Watch) (seats : Seats) (k : KeyRow) (clash : Bool) (number : ℕ) →
@@ -590,7 +637,7 @@ send_tables w states c at x old new seats k clash seats_stand is kind keys meets
     subst (λ (i : ℕ). HashedStand new.hashed (prints_of (place_in w i x.slot) (tags_of (w.keys i)) x.value ++ prints_at w states)) (sym is.taking.place) here in
     record {
       sent = sent_after w states call x old new k takes is.tables (keys ∙ ap w.keys (sym is.taking.place))
-          (subst (λ (j : ℕ). (s : Slot) (i : ℕ) → digest_at new.sent.digests s i ≡ (if is_same_at x.slot j s i then option_or (digest_at old.sent.digests s i) (digest_said k x) else digest_at old.sent.digests s i))
+          (subst (λ (j : ℕ). (s : Slot) (i : ℕ) → met_at new.sent.table s i ≡ (if is_same_at x.slot j s i then option_or (met_at old.sent.table s i) (met_said k x) else met_at old.sent.table s i))
           (sym is.taking.place) (meets.sent apart));
       hashed = stand_within new.hashed (prints_of (place_in w call.at x.slot) (tags_of (w.keys call.at)) x.value ++ prints_at w states) (prints_at w (after_call w states (Some call)))
           (within_after w states call x takes) (after_within w states call x takes) there;
@@ -604,19 +651,7 @@ send_holds w states c at x old new seats k clash number seats_stand is kind keys
     (subst (λ (d : Option CallAt). TablesStand w (after_call w states d) new) (sym is.taking.called) (send_tables w states c at x old new seats k clash seats_stand is kind keys meets apart))
     (meets.verdict ∙ is.holds)
 
--- the value of a column that was taken
-column_by_kind : (p : Numbers) (root : ℕ) (kind : Kind) (s : Slot) (value : List ℕ) → kind_eq kind Column ≡ true → Is (payload p root kind s) value → Is (column_of p.n) value
-unfolding payload
-column_by_kind p root kinds.Init s value e is = absurd (cc)
-column_by_kind p root kinds.Echo s value e is = absurd (cc)
-column_by_kind p root kinds.Ready s value e is = absurd (cc)
-column_by_kind p root kinds.Send s value e is = absurd (cc)
-column_by_kind p root kinds.Hashes s value e is = absurd (cc)
-column_by_kind p root kinds.Column s value e is = is
-
-pub column_good : (p : Numbers) (mode : Mode) (x : Item) → kind_eq x.kind Column ≡ true → IsInGrammar p mode x → Is (column_of p.n) x.value
-column_good p mode x kind good = column_by_kind p mode.root x.kind x.slot x.value kind good.payload_is
-
+-- a column
 pub column_forges : (w : Setting) (states : ℕ → CoreState) (c : Option CallAt) (at : ℕ) (x : Item) (old new : Watch) (forges : Bool) (number : ℕ) →
     IsItem w states c at x old → forges ≡ is_forged_item w states at (Some x) → forges ≡ true → new.verdict ≡ audits.Forged number →
     WatchStands w (after_call w states c) (verdict_after w states c audits.Holds number) new

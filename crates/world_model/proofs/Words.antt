@@ -1,80 +1,28 @@
 -- The words that the services of correct replicas had are a run.
-use Rattle.std.proofs.Common.{◌≡◌, ℕ, Bool, true, false, cond, Option, Some, None, Result, Ok, Err, List, [], ◌∷◌, length, refl, sym, ◌∙◌, ap, subst, inl, inr, ◌⊎◌}
+use Rattle.std.proofs.Common.{◌≡◌, ℕ, Bool, true, false, cond, Option, Some, None, List, [], ◌∷◌, length, refl, sym, ◌∙◌, ap, subst, inl, inr}
 use Rattle.std.proofs.Math.Dec.{eqb}
 use Rattle.std.proofs.lemmas.Bool.{cond-true, cond-false, eq-eqb, eqb-true}
 use Rattle.ritas_base.specs.declared.event.Event.{Event}
 use Rattle.ritas_base.specs.declared.slot.Slot.{Slot}
 use Rattle.ritas_base.specs.declared.item.Item.{Item}
 use Rattle.ritas_base.specs.History.{Take, started}
-use Rattle.frame_codec.specs.declared.fault.BodyFault.{BodyFault}
-use Rattle.frame_codec.specs.Body.{body_answer}
-use Rattle.keyed_channel.specs.KeyRow.{KeyRow}
-use Rattle.keyed_channel.specs.Frames.{Opening, opening}
-use Rattle.keyed_channel.specs.declared.frame.OpenFault.{OpenFault}
 use Rattle.layer_api.specs.Runs.{Step, calls_of}
 use Rattle.layer_api.specs.Service.{Word, Ask, Hear, HasSay, said, MayAsk, MayHear, AreProper, AreGoodWords}
 use Rattle.layer_api.specs.OneLog.{Session, IsFedWord, IsWellFed, value_at}
-use Rattle.ritas_core.specs.declared.fault.CoreFault.{CoreFault}
-use Rattle.ritas_core.specs.declared.fault.CoreFault.TheVariants as faults
-use Rattle.ritas_core.specs.declared.verdict.Verdict.{Verdict}
-use Rattle.ritas_core.specs.declared.verdict.Verdict.TheVariants as verdicts
-use Rattle.ritas_core.specs.Rules.{Rules, seat_of, out_at}
+use Rattle.ritas_core.specs.Rules.{seat_of, out_at}
 use Rattle.ritas_core.specs.Parts.{Entry, Took, Given, Parts, parts, heard_at, taken_at, item_delivers}
-use Rattle.ritas_core.specs.Checks.{verdict_on, input_check, IsHistory}
-use Rattle.ritas_core.specs.Machine as core
-use Rattle.ritas_core.specs.Machine.{CoreState, What, gives, given_input, turned, moved_live, moved}
-use Rattle.ritas_core.proofs.Conditions.{newly_before, newly_after, words_proper, words_good}
-use Rattle.replica.specs.Handling as calls
-use Rattle.replica.specs.Handling.{given_body, given_frame, handled}
+use Rattle.ritas_core.specs.Checks.{IsHistory}
+use Rattle.ritas_core.specs.Machine.{CoreState}
+use Rattle.ritas_core.specs.PartsLaws.{newly_before, newly_after}
 use Rattle.world_model.specs.declared.audit.Audit.TheVariants as audits
-use Rattle.world_model.specs.World.{Setting, rules_at, CallAt, call_of, handled_at, after_call, states_of}
+use Rattle.world_model.specs.World.{Setting, rules_at, CallAt, call_of, handled_at, after_call, states_of, states_before}
 use Rattle.world_model.specs.Audit.{calls_at, has_too_many, first_broken, is_forged, is_colliding}
-use Rattle.world_model.specs.Agreement.{IsSound}
+use Rattle.world_model.proofs.Histories.{grew}
 use Rattle.world_model.proofs.Inputs.{take_started}
 use Rattle.world_model.proofs.Worlds.{layer_laws, IsAtCorrect, event_at, judged_holds, world_after}
 use Rattle.world_model.proofs.Law.{AgreeAt, agree_at}
 use Rattle.world_model.proofs.Said.{heard_delivered, delivers_now, GrowsTo, delivers_after, started_said}
-
--- ---- what a call adds to a history: nothing, or an entry
-abbrev Grown : List Entry → List Entry → Type 0
-Grown h after = (after ≡ h) ⊎ ((e : Entry) × (after ≡ e ∷ h))
-
-grown_gives : (r : Rules) (st : CoreState) (item : Item) (waiting : List Item) (v : Verdict) → Grown st.history (gives r st item waiting v).state.history
-grown_gives r st item waiting (verdicts.Refuse fault) = inl refl
-grown_gives r st item waiting verdicts.Again = inl refl
-grown_gives r st item waiting verdicts.Hold = inl refl
-grown_gives r st item waiting verdicts.Take = inr (Took item, refl)
-
-grown_input : (r : Rules) (st : CoreState) (v : List ℕ) (fault : Option CoreFault) → Grown st.history (given_input r st v fault).state.history
-grown_input r st v (Some fault) = inl refl
-grown_input r st v None = inr (Given v, refl)
-
-grown_turn : (r : Rules) (st : CoreState) (inbox : List Item) → Grown st.history (turned r st inbox).state.history
-grown_turn r st [] = inl refl
-grown_turn r st (item ∷ waiting) = grown_gives r st item waiting (verdict_on r (parts r st.history) st.held item)
-
-grown_live : (r : Rules) (st : CoreState) (what : What) → Grown st.history (moved_live r st what).state.history
-grown_live r st (core.Frame item) = grown_gives r st item st.inbox (verdict_on r (parts r st.history) st.held item)
-grown_live r st (core.Input v) = grown_input r st v (input_check r (parts r st.history) v)
-grown_live r st core.Turn = grown_turn r st st.inbox
-
-grown_if : (r : Rules) (st : CoreState) (what : What) (live : Bool) →
-    Grown st.history (cond live (moved_live r st what) (core.stays st st.inbox (Err faults.Stopped))).state.history
-grown_if r st what true = grown_live r st what
-grown_if r st what false = inl refl
-
-grown_body : (r : Rules) (k : KeyRow) (st : CoreState) (b : Result Item BodyFault) → Grown st.history (given_body r k st b).state.history
-grown_body r k st (Ok item) = grown_if r st (core.Frame item) st.live
-grown_body r k st (Err fault) = inl refl
-
-grown_frame : (r : Rules) (k : KeyRow) (st : CoreState) (o : Result Opening OpenFault) → Grown st.history (given_frame r k st o).state.history
-grown_frame r k st (Ok o) = grown_body r k st (body_answer r.casts.numbers r.mode o.from o.body)
-grown_frame r k st (Err fault) = inl refl
-
-grown_handled : (r : Rules) (k : KeyRow) (st : CoreState) (call : calls.Call) → Grown st.history (handled r k st call).state.history
-grown_handled r k st (calls.Frame bytes) = grown_frame r k st (opening k bytes)
-grown_handled r k st (calls.Input v) = grown_if r st (core.Input v) st.live
-grown_handled r k st calls.Turn = grown_if r st core.Turn st.live
+use Rattle.world_model.proofs.Below.{IsSoundOver}
 
 -- ---- the run of the service
 abbrev pub session_of : Setting → Session
@@ -119,7 +67,7 @@ word_more w before now i correct e c more is x fed = record {
 
 -- ---- what is heard
 -- what others heard there is the same
-heard_same : (w : Setting) → IsSound w → (before now : ℕ → CoreState) → AgreeAt w now → (i : ℕ) → w.is_correct i ≡ true → (e : Entry) → IsOneMore before now i e →
+heard_same : (w : Setting) → IsSoundOver w → (before now : ℕ → CoreState) → AgreeAt w now → (i : ℕ) → w.is_correct i ≡ true → (e : Entry) → IsOneMore before now i e →
     (s : Slot) (v : List ℕ) → out_at (rules_at w i).casts s (calls_at w before i s) ≡ None → out_at (rules_at w i).casts s (calls_at w now i s) ≡ Some v →
     (j : ℕ) (u : List ℕ) → w.is_correct j ≡ true → out_at (rules_at w j).casts s (calls_at w before j s) ≡ Some u → (b : Bool) → eqb i j ≡ b → u ≡ v
 heard_same w sound before now all i correct e more s v none out j u good out_j true here =
@@ -151,9 +99,9 @@ given_more : (w : Setting) (before now : ℕ → CoreState) (i : ℕ) → w.is_c
     WordsAt w before → WordsAt w now
 given_more w before now i correct v more proper good x =
     word_more w before now i correct (Given v) (Ask v) more refl x
-    (subst (λ (ws : List Word). MayAsk w.service (seat_of (rules_at w i)) ws) (sym (x.same i correct)) proper.0, good.0)
+    (subst (λ (ws : List Word). MayAsk w.service (seat_of (rules_at w i)) ws v) (sym (x.same i correct)) proper.0, good.0)
 
-heard_more : (w : Setting) → IsSound w → (before now : ℕ → CoreState) → AgreeAt w now → (i : ℕ) → w.is_correct i ≡ true → (item : Item) →
+heard_more : (w : Setting) → IsSoundOver w → (before now : ℕ → CoreState) → AgreeAt w now → (i : ℕ) → w.is_correct i ≡ true → (item : Item) →
     IsOneMore before now i (Took item) → (d : Option (List ℕ)) → item_delivers (rules_at w i) item (parts (rules_at w i) (before i).history) ≡ d →
     AreProper w.service (seat_of (rules_at w i)) (heard_at (rules_at w i) item.slot d (taken_at item (parts (rules_at w i) (before i).history))).words →
     AreGoodWords w.numbers w.mode (heard_at (rules_at w i) item.slot d (taken_at item (parts (rules_at w i) (before i).history))).words →
@@ -189,7 +137,7 @@ heard_more w sound before now all i correct item more (Some v) delivers proper g
     subst (λ (h : List Entry). GrowsTo (Take item ∷ calls_at w before i s) ((parts r h).calls s)) (sym more.mine) (delivers_after r h item v delivers) in
     word_more w before now i correct (Took item) (Hear s v) more
     (ap (λ (d : Option (List ℕ)). (heard_at r s d (taken_at item p)).words) delivers) x (
-      subst (λ (ws : List Word). MayHear w.service (seat_of r) ws s) (sym (x.same i correct)) proper.0,
+      subst (λ (ws : List Word). MayHear w.service (seat_of r) ws s v) (sym (x.same i correct)) proper.0,
       good.0,
       good.1,
       λ j u right heard. heard_same w sound before now all i correct (Took item) more s v none out j u right
@@ -200,19 +148,19 @@ heard_more w sound before now all i correct item more (Some v) delivers proper g
           (heard_started w before now all i correct item more v right taken out grows (eqb i s.origin) refl)),
     )
 
-entry_more : (w : Setting) → IsSound w → (before now : ℕ → CoreState) → AgreeAt w now → (i : ℕ) → w.is_correct i ≡ true → (e : Entry) →
+entry_more : (w : Setting) → IsSoundOver w → (before now : ℕ → CoreState) → AgreeAt w now → (i : ℕ) → w.is_correct i ≡ true → (e : Entry) →
     IsOneMore before now i e → IsHistory (rules_at w i) (e ∷ (before i).history) → WordsAt w before → WordsAt w now
 entry_more w sound before now all i correct (Took item) more met x =
     let r = rules_at w i in
     let laws = layer_laws w sound i correct in
     let h = (before i).history in
     heard_more w sound before now all i correct item more (item_delivers r item (parts r h)) refl
-    (words_proper r laws (Took item ∷ h) met) (words_good r laws (Took item ∷ h) met) x
+    (laws.core.proper r laws.layers (Took item ∷ h) met) (laws.core.words r laws.layers (Took item ∷ h) met) x
 entry_more w sound before now all i correct (Given v) more met x =
     let r = rules_at w i in
     let laws = layer_laws w sound i correct in
     let h = (before i).history in
-    given_more w before now i correct v more (words_proper r laws (Given v ∷ h) met) (words_good r laws (Given v ∷ h) met) x
+    given_more w before now i correct v more (laws.core.proper r laws.layers (Given v ∷ h) met) (laws.core.words r laws.layers (Given v ∷ h) met) x
 
 -- ---- an event more
 abbrev with_state : (ℕ → CoreState) → ℕ → CoreState → ℕ → CoreState
@@ -229,14 +177,14 @@ one_more states i st e is = record {
   rest = λ k apart. ap (λ (x : CoreState). x.history) (cond-false (eqb i k) st (states k) apart);
 }
 
-words_called : (w : Setting) → IsSound w → (states : ℕ → CoreState) (c : Option CallAt) → IsAtCorrect w c → AgreeAt w (after_call w states c) →
+words_called : (w : Setting) → IsSoundOver w → (states : ℕ → CoreState) (c : Option CallAt) → IsAtCorrect w c → AgreeAt w (after_call w states c) →
     ((k : ℕ) → w.is_correct k ≡ true → IsHistory (rules_at w k) (after_call w states c k).history) → WordsAt w states → WordsAt w (after_call w states c)
 words_called w sound states None correct all met x = x
 words_called w sound states (Some c) correct all met x =
     let i = c.at in
     let st = (handled_at w states c).state in
     let now = with_state states i st in
-    elim (grown_handled (rules_at w i) (w.keys i) (states i) c.call) [
+    elim (grew (rules_at w i) (w.keys i) (states i) c.call) [
       | inl same ↦ words_stay w states now (λ k. same_history states i st same k (eqb i k) refl) x
       | inr grown ↦
           let more = one_more states i st grown.0 grown.1 in
@@ -244,10 +192,11 @@ words_called w sound states (Some c) correct all met x =
           (subst (λ (h : List Entry). IsHistory (rules_at w i) h) more.mine (met i correct)) x
     ]
 
-pub words_after : (w : Setting) → IsSound w → has_too_many w ≡ false → (es : List Event) → first_broken w es ≡ audits.Holds → WordsAt w (states_of w es)
+pub words_after : (w : Setting) → IsSoundOver w → has_too_many w ≡ false → (es : List Event) → first_broken w es ≡ audits.Holds → WordsAt w (states_of w es)
 unfolding states_of first_broken
 words_after w sound few [] holds = record { steps = []; fed = tt; same = λ k correct. refl }
 words_after w sound few (e ∷ es) holds =
     let before = judged_holds (first_broken w es) (is_forged w es e) (is_colliding w (e ∷ es)) (length es) holds in
-    words_called w sound (states_of w es) (call_of w (states_of w es) e) (event_at w (states_of w es) e) (agree_at w sound few (e ∷ es) holds)
-    (world_after w sound (e ∷ es) holds).met (words_after w sound few es before.0)
+    let found = states_before w es in
+    words_called w sound found (call_of w found e) (event_at w found e) (agree_at w sound few (e ∷ es) holds)
+    (world_after w sound (e ∷ es) holds).met (words_stay w (states_of w es) found (λ k. refl) (words_after w sound few es before.0))

@@ -1,6 +1,6 @@
 -- What is true of the correct replicas of a world after events that forge nothing: their histories met their conditions,
 -- each item that they store is in the grammar and was due at its sender, if that is correct, and their calls are runs.
-use Rattle.std.proofs.Common.{◌≡◌, ℕ, ◌<◌, ◌≤◌, Bool, true, false, not, ◌&&◌, ◌||◌, cond, Option, Some, None, Result, Ok, Err, List, [], ◌∷◌, ◌++◌, length, refl, sym, ◌∙◌, ap, subst, arith}
+use Rattle.std.proofs.Common.{◌≡◌, ℕ, ◌<◌, Bool, true, false, not, ◌&&◌, ◌||◌, cond, Option, Some, None, Result, Ok, Err, List, [], ◌∷◌, ◌++◌, length, refl, sym, ◌∙◌, ap, subst, arith}
 use Rattle.std.proofs.Math.Dec.{eqb}
 use Rattle.std.proofs.lemmas.Bool.{eq-eqb, eqb-true, or_parts}
 use Rattle.ritas_base.specs.declared.event.Event.{Event}
@@ -11,11 +11,12 @@ use Rattle.ritas_base.specs.declared.item.Msg.{Msg}
 use Rattle.ritas_base.specs.Messages.{reaches, item_of}
 use Rattle.ritas_base.specs.History.{replicas}
 use Rattle.layer_api.specs.Runs.{Has}
-use Rattle.layer_api.specs.Entries.{is_claim, row_of}
+use Rattle.layer_api.specs.Entries.{is_claim}
+use Rattle.frame_codec.specs.Values.{row_of}
 use Rattle.frame_codec.specs.declared.fault.BodyFault.{BodyFault}
 use Rattle.frame_codec.specs.Body.{spelling, body_answer}
-use Rattle.frame_codec.specs.Inputs.{IsInput, input_format, input_fault}
-use Rattle.frame_codec.proofs.Readings.{none_is}
+use Rattle.frame_codec.specs.Inputs.{IsInput, input_fault}
+use Rattle.frame_codec.specs.Laws.{InputsFaultless}
 use Rattle.keyed_channel.specs.Keyed.{tags_of}
 use Rattle.keyed_channel.specs.Frames.{Opening, opening, sealed}
 use Rattle.keyed_channel.specs.declared.frame.OpenFault.{OpenFault}
@@ -29,32 +30,33 @@ use Rattle.ritas_core.specs.Order.{new_messages, own_items}
 use Rattle.ritas_core.specs.Checks.{is_open, is_item_past, body_length, verdict_on, window_fault, input_fault_or, input_check, IsGood, IsHistory, MayEnter}
 use Rattle.ritas_core.specs.Machine as core
 use Rattle.ritas_core.specs.Machine.{CoreState, What, entered, gives, given_item, given_input, turned, moved_live, moved}
-use Rattle.ritas_core.specs.Laws.{LayerLaws}
-use Rattle.ritas_core.proofs.Goodness.{good_messages}
-use Rattle.ritas_core.proofs.Verdicts.{takable_from, givable_from}
 use Rattle.ooc_buffers.specs.Lists.{released}
 use Rattle.replica.specs.Frames.{made_for}
 use Rattle.replica.specs.Handling.{Call, Frame, Input, Turn, given_body, given_frame, handled}
-use Rattle.world_model.specs.World.{Setting, rules_at, CallAt, call_at, frame_at, passed, call_of, handled_at, after_call, states_of}
+use Rattle.world_model.specs.World.{Setting, rules_at, CallAt, call_at, frame_at, passed, call_of, handled_at, after_call, halted_at, states_of, states_before}
 use Rattle.world_model.specs.declared.audit.Audit.{Audit}
 use Rattle.world_model.specs.declared.audit.Audit.TheVariants as audits
 use Rattle.world_model.specs.Audit.{has_made, is_forged_opening, is_forged_call, newest_item, calls_at, place_in, given_by, is_among, is_made_up, is_forged_item, taken_by, is_forged_at, is_forged, is_colliding, broken_by, judged, first_broken}
-use Rattle.world_model.specs.Agreement.{IsSound}
+use Rattle.world_model.proofs.Histories.{newest_taken}
 use Rattle.world_model.proofs.Members.{bytes_listed}
 use Rattle.world_model.proofs.Stored.{AreAll, AreAllHeld, all_map, all_held_map, all_append, all_own, all_released, all_remaining, all_with_kept, none_held}
 use Rattle.world_model.proofs.Sent.{IsSent, sent_later, sent_is_due, new_due, made_sent}
 use Rattle.world_model.proofs.Anywhere.{none_of, has_number}
 use Rattle.world_model.proofs.Prints.{none_yet}
 use Rattle.world_model.proofs.Runs.{RunAt, RunWith, run_from, IsBacked, IsBackedEntry, calls_after, run_entry, run_joined}
+use Rattle.world_model.proofs.Below.{IsFounded, IsSoundOver}
 
-pub layer_laws : (w : Setting) → IsSound w → (i : ℕ) → w.is_correct i ≡ true → LayerLaws (rules_at w i)
+pub layer_laws : (w : Setting) → IsSoundOver w → (i : ℕ) → w.is_correct i ≡ true → IsFounded (rules_at w i)
 layer_laws w sound i correct = record {
-  casts = sound.casts;
-  words = sound.words;
-  session = sound.session;
-  me = sound.within i correct;
-  serves = sound.serves;
-  kinds = sound.kinds;
+  layers = record {
+    casts = sound.world.casts;
+    words = sound.world.words;
+    session = sound.world.session;
+    me = sound.world.within i correct;
+    serves = sound.world.serves;
+    kinds = sound.world.kinds;
+  };
+  core = sound.core;
 }
 
 -- ---- what is true of a stored item
@@ -77,7 +79,7 @@ fine_later : (w : Setting) (before after : ℕ → List Entry) → Grows w befor
 fine_later w before after grows i x fine = record { good = fine.good; sent = λ correct. grows x.from correct i x (fine.sent correct) }
 
 -- ---- what is true of a world
-pub record IsWorld (w : Setting) (states : ℕ → CoreState) : Type 0 where
+pub record IsWorldAt (w : Setting) (states : ℕ → CoreState) : Type 0 where
   pub met : (k : ℕ) → w.is_correct k ≡ true → IsHistory (rules_at w k) (states k).history
   pub waiting : (k : ℕ) → w.is_correct k ≡ true → AreAll (IsFine w (histories_of states) k) (states k).inbox
   pub held : (k : ℕ) → w.is_correct k ≡ true → AreAllHeld (IsFine w (histories_of states) k) (states k).held
@@ -144,7 +146,7 @@ held_at : (w : Setting) (states : ℕ → CoreState) (histories : ℕ → List E
 held_at w states histories i st all k true here before = subst (λ (q : ℕ). AreAllHeld (IsFine w histories q) st.held) (eqb-true i k here) all
 held_at w states histories i st all k false here before = before
 
-pub world_with : (w : Setting) (states : ℕ → CoreState) → IsWorld w states → (i : ℕ) (st : CoreState) → IsNext w states i st → IsWorld w (with_state states i st)
+pub world_with : (w : Setting) (states : ℕ → CoreState) → IsWorldAt w states → (i : ℕ) (st : CoreState) → IsNext w states i st → IsWorldAt w (with_state states i st)
 world_with w states world i st next =
     let old : ℕ → List Entry = histories_of states in
     let new : ℕ → List Entry = with_history old i st.history in
@@ -165,7 +167,7 @@ world_with w states world i st next =
 
 -- ---- what a call leaves
 -- the same history
-next_stays : (w : Setting) (states : ℕ → CoreState) → IsWorld w states → (i : ℕ) → w.is_correct i ≡ true → (st : CoreState) → st.history ≡ (states i).history →
+next_stays : (w : Setting) (states : ℕ → CoreState) → IsWorldAt w states → (i : ℕ) → w.is_correct i ≡ true → (st : CoreState) → st.history ≡ (states i).history →
     AreAll (IsFine w (histories_of states) i) st.inbox → AreAllHeld (IsFine w (histories_of states) i) st.held → IsNext w states i st
 next_stays w states world i correct st same waiting held =
     let old : ℕ → List Entry = histories_of states in
@@ -184,7 +186,7 @@ next_stays w states world i correct st same waiting held =
     }
 
 -- an item that the replica made for itself
-own_fine : (w : Setting) → IsSound w → (histories : ℕ → List Entry) (i : ℕ) → w.is_correct i ≡ true → (e : Entry) → IsHistory (rules_at w i) (e ∷ histories i) →
+own_fine : (w : Setting) → IsSoundOver w → (histories : ℕ → List Entry) (i : ℕ) → w.is_correct i ≡ true → (e : Entry) → IsHistory (rules_at w i) (e ∷ histories i) →
     (m : Msg) → Has (new_messages (rules_at w i) (histories i) e) m → reaches m.to i ≡ true →
     IsFine w (with_history histories i (e ∷ histories i)) i (item_of i m)
 own_fine w sound histories i correct e met m here reached =
@@ -193,12 +195,12 @@ own_fine w sound histories i correct e met m here reached =
     let laws = layer_laws w sound i correct in
     let sent : IsSent r (e ∷ h) i (item_of i m) = record { message = m; due = new_due r laws h e m here; reached = reached; same = refl } in
     record {
-      good = record { in_grammar = good_messages r laws h e met m here; sender = laws.me };
+      good = record { in_grammar = laws.core.sent r laws.layers h e met m here; sender = laws.layers.me };
       sent = λ _. subst (λ (b : Bool). IsSent r (cond b (e ∷ h) h) i (item_of i m)) (sym (eq-eqb i i refl)) sent;
     }
 
 -- an entry more
-next_enters : (w : Setting) → IsSound w → (states : ℕ → CoreState) → IsWorld w states → (i : ℕ) → w.is_correct i ≡ true → (e : Entry) (waiting : List Item) →
+next_enters : (w : Setting) → IsSoundOver w → (states : ℕ → CoreState) → IsWorldAt w states → (i : ℕ) → w.is_correct i ≡ true → (e : Entry) (waiting : List Item) →
     MayEnter (rules_at w i) (parts (rules_at w i) (states i).history) e → IsBackedEntry w (calls_after w (histories_of states)) i e →
     AreAll (IsFine w (histories_of states) i) waiting → IsNext w states i (entered (rules_at w i) (states i) e waiting)
 next_enters w sound states world i correct e waiting may backed all =
@@ -243,7 +245,7 @@ row_given entries (Some found) entry among is =
     subst (λ (x : List ℕ). Has entries x) same (bytes_listed entries found among)
 
 -- no valid entry of a correct echoer in an item is made up
-unforged_given : (w : Setting) → IsSound w → (states : ℕ → CoreState) (i : ℕ) (item : Item) → is_forged_item w states i (Some item) ≡ false →
+unforged_given : (w : Setting) → IsSoundOver w → (states : ℕ → CoreState) (i : ℕ) (item : Item) → is_forged_item w states i (Some item) ≡ false →
     (echoer : ℕ) (entry : List ℕ) → w.is_correct echoer ≡ true →
     is_claim (place_in w i item.slot) (tags_of (w.keys i)) (calls_at w states i item.slot) item echoer ≡ true → row_of item.value echoer ≡ Some entry →
     Has (given_by w states echoer item.slot) entry
@@ -251,19 +253,15 @@ unforged_given w sound states i item honest echoer entry good claimed row =
     let claim = is_claim (place_in w i item.slot) (tags_of (w.keys i)) (calls_at w states i item.slot) item echoer in
     let among = is_among (given_by w states echoer item.slot) (row_of item.value echoer) in
     let fair : is_made_up w states i item echoer ≡ false =
-    none_of (is_made_up w states i item) (replicas w.numbers.n) honest echoer (has_number 0 w.numbers.n echoer (omega arith) (let below = sound.within echoer good in omega arith)) in
+    none_of (is_made_up w states i item) (replicas w.numbers.n) honest echoer (has_number 0 w.numbers.n echoer (omega arith) (let below = sound.world.within echoer good in omega arith)) in
     row_given (given_by w states echoer item.slot) (row_of item.value echoer) entry
     (made_so claim among (first_fails (w.is_correct echoer) (claim && not among) fair good) claimed) row
-
--- the newest entry is the one more
-newest_taken : (h : List Entry) (item : Item) → newest_item h (Took item ∷ h) ≡ Some item
-newest_taken h item = ap (λ b. cond b (Some item) None) (eq-eqb (length h) (length h) refl)
 
 -- the item that a state's history has more than that of replica i isn't forged
 abbrev IsHonest : Setting → (ℕ → CoreState) → ℕ → CoreState → Type 0
 IsHonest w states i st = is_forged_item w states i (newest_item (states i).history st.history) ≡ false
 
-taken_backed : (w : Setting) → IsSound w → (states : ℕ → CoreState) (i : ℕ) (item : Item) → IsFine w (histories_of states) i item →
+taken_backed : (w : Setting) → IsSoundOver w → (states : ℕ → CoreState) (i : ℕ) (item : Item) → IsFine w (histories_of states) i item →
     is_forged_item w states i (newest_item (states i).history (Took item ∷ (states i).history)) ≡ false → IsBacked w (calls_after w (histories_of states)) i item
 taken_backed w sound states i item fine honest = record {
   due = λ good. sent_is_due (rules_at w item.from) (states item.from).history i item refl (fine.sent good);
@@ -271,7 +269,7 @@ taken_backed w sound states i item fine honest = record {
 }
 
 -- ---- calls on the core
-next_item : (w : Setting) → IsSound w → (states : ℕ → CoreState) → IsWorld w states → (i : ℕ) → w.is_correct i ≡ true → (item : Item) (waiting : List Item) →
+next_item : (w : Setting) → IsSoundOver w → (states : ℕ → CoreState) → IsWorldAt w states → (i : ℕ) → w.is_correct i ≡ true → (item : Item) (waiting : List Item) →
     IsFine w (histories_of states) i item → AreAll (IsFine w (histories_of states) i) waiting → (v : Verdict) →
     verdict_on (rules_at w i) (parts (rules_at w i) (states i).history) (states i).held item ≡ v →
     IsHonest w states i (gives (rules_at w i) (states i) item waiting v).state → IsNext w states i (gives (rules_at w i) (states i) item waiting v).state
@@ -284,19 +282,19 @@ next_item w sound states world i correct item waiting fine all verdicts.Hold is 
     (all_with_kept (IsFine w (histories_of states) i) (states i).held item (body_length item) (world.held i correct) fine)
 next_item w sound states world i correct item waiting fine all verdicts.Take is honest =
     next_enters w sound states world i correct (Took item) waiting
-    (takable_from (rules_at w i) (layer_laws w sound i correct) (states i).history (world.met i correct) (states i).held item fine.good is)
+    (sound.core.takable (rules_at w i) (layer_laws w sound i correct).layers (states i).history (world.met i correct) (states i).held item fine.good is)
     (taken_backed w sound states i item fine honest) all
 
 fault_none : (o : Option ℕ) (fault : Option CoreFault) → input_fault_or o fault ≡ None → o ≡ None
 fault_none None fault e = refl
 fault_none (Some place) fault e = absurd (cc)
 
-input_good : (r : Rules) (p : Parts) (v : List ℕ) → input_check r p v ≡ None → IsInput r.casts.numbers r.mode v
+input_good : InputsFaultless → (r : Rules) (p : Parts) (v : List ℕ) → input_check r p v ≡ None → IsInput r.casts.numbers r.mode v
 unfolding input_check
-input_good r p v free =
-    (none_is (input_format r.casts.numbers r.mode.root) v None (sym (fault_none (input_fault r.casts.numbers r.mode v) (window_fault r p) free))).0 refl
+input_good faultless r p v free =
+    (faultless r.casts.numbers r.mode v).0 (fault_none (input_fault r.casts.numbers r.mode v) (window_fault r p) free)
 
-next_input : (w : Setting) → IsSound w → (states : ℕ → CoreState) → IsWorld w states → (i : ℕ) → w.is_correct i ≡ true → (v : List ℕ) (fault : Option CoreFault) →
+next_input : (w : Setting) → IsSoundOver w → (states : ℕ → CoreState) → IsWorldAt w states → (i : ℕ) → w.is_correct i ≡ true → (v : List ℕ) (fault : Option CoreFault) →
     input_check (rules_at w i) (parts (rules_at w i) (states i).history) v ≡ fault →
     IsNext w states i (given_input (rules_at w i) (states i) v fault).state
 next_input w sound states world i correct v (Some fault) is =
@@ -304,9 +302,9 @@ next_input w sound states world i correct v (Some fault) is =
 next_input w sound states world i correct v None is =
     let r = rules_at w i in
     let p = parts r (states i).history in
-    next_enters w sound states world i correct (Given v) (states i).inbox (givable_from r p v (input_good r p v is) is) tt (world.waiting i correct)
+    next_enters w sound states world i correct (Given v) (states i).inbox (sound.core.givable r p v sound.world.session sound.world.serves (input_good sound.core.faultless r p v is) is) tt (world.waiting i correct)
 
-next_turn : (w : Setting) → IsSound w → (states : ℕ → CoreState) → IsWorld w states → (i : ℕ) → w.is_correct i ≡ true → (inbox : List Item) →
+next_turn : (w : Setting) → IsSoundOver w → (states : ℕ → CoreState) → IsWorldAt w states → (i : ℕ) → w.is_correct i ≡ true → (inbox : List Item) →
     AreAll (IsFine w (histories_of states) i) inbox → IsHonest w states i (turned (rules_at w i) (states i) inbox).state →
     IsNext w states i (turned (rules_at w i) (states i) inbox).state
 next_turn w sound states world i correct [] all honest =
@@ -321,7 +319,7 @@ IsFineCall w histories i (core.Frame item) = IsFine w histories i item
 IsFineCall w histories i (core.Input v) = Unit {0}
 IsFineCall w histories i core.Turn = Unit {0}
 
-next_live : (w : Setting) → IsSound w → (states : ℕ → CoreState) → IsWorld w states → (i : ℕ) → w.is_correct i ≡ true → (what : What) →
+next_live : (w : Setting) → IsSoundOver w → (states : ℕ → CoreState) → IsWorldAt w states → (i : ℕ) → w.is_correct i ≡ true → (what : What) →
     IsFineCall w (histories_of states) i what → IsHonest w states i (moved_live (rules_at w i) (states i) what).state →
     IsNext w states i (moved_live (rules_at w i) (states i) what).state
 next_live w sound states world i correct (core.Frame item) fine honest =
@@ -332,69 +330,62 @@ next_live w sound states world i correct (core.Input v) fine honest =
 next_live w sound states world i correct core.Turn fine honest =
     next_turn w sound states world i correct (states i).inbox (world.waiting i correct) honest
 
-next_same : (w : Setting) (states : ℕ → CoreState) → IsWorld w states → (i : ℕ) → w.is_correct i ≡ true → IsNext w states i (states i)
+next_same : (w : Setting) (states : ℕ → CoreState) → IsWorldAt w states → (i : ℕ) → w.is_correct i ≡ true → IsNext w states i (states i)
 next_same w states world i correct = next_stays w states world i correct (states i) refl (world.waiting i correct) (world.held i correct)
 
-next_moved_if : (w : Setting) → IsSound w → (states : ℕ → CoreState) → IsWorld w states → (i : ℕ) → w.is_correct i ≡ true → (what : What) →
+next_moved_if : (w : Setting) → IsSoundOver w → (states : ℕ → CoreState) → IsWorldAt w states → (i : ℕ) → w.is_correct i ≡ true → (what : What) →
     IsFineCall w (histories_of states) i what → (live : Bool) →
     IsHonest w states i (cond live (moved_live (rules_at w i) (states i) what) (core.stays (states i) (states i).inbox (Err faults.Stopped))).state →
     IsNext w states i (cond live (moved_live (rules_at w i) (states i) what) (core.stays (states i) (states i).inbox (Err faults.Stopped))).state
 next_moved_if w sound states world i correct what fine true honest = next_live w sound states world i correct what fine honest
 next_moved_if w sound states world i correct what fine false honest = next_same w states world i correct
 
-next_moved : (w : Setting) → IsSound w → (states : ℕ → CoreState) → IsWorld w states → (i : ℕ) → w.is_correct i ≡ true → (what : What) →
+next_moved : (w : Setting) → IsSoundOver w → (states : ℕ → CoreState) → IsWorldAt w states → (i : ℕ) → w.is_correct i ≡ true → (what : What) →
     IsFineCall w (histories_of states) i what → IsHonest w states i (moved (rules_at w i) (states i) what).state →
     IsNext w states i (moved (rules_at w i) (states i) what).state
 next_moved w sound states world i correct what fine honest = next_moved_if w sound states world i correct what fine (states i).live honest
 
 -- ---- frames
-abbrev opened_as : Opening → Result Opening OpenFault
-opened_as o = Ok o
-
 abbrev read_as : Item → Result Item BodyFault
 read_as item = Ok item
-
-same_body : (a b : Opening) → opened_as a ≡ opened_as b → a.body ≡ b.body
-same_body a b e = let same : a ≡ b = cc in ap (λ (x : Opening). x.body) same
 
 one_item : (a b : Item) → read_as a ≡ read_as b → a ≡ b
 one_item a b e = cc
 
 -- an item that opens as from a correct replica, and isn't forged, is due there
-opened_sent : (w : Setting) → IsSound w → (states : ℕ → CoreState) → IsWorld w states → (i : ℕ) → w.is_correct i ≡ true → (bytes : List ℕ) (o : Opening) (item : Item) →
+opened_sent : (w : Setting) → IsSoundOver w → (states : ℕ → CoreState) → IsWorldAt w states → (i : ℕ) → w.is_correct i ≡ true → (bytes : List ℕ) (o : Opening) (item : Item) →
     opening (w.keys i) bytes ≡ Ok o → is_forged_opening w states i bytes (Ok o) ≡ false → body_answer w.numbers w.mode o.from o.body ≡ Ok item →
     w.is_correct o.from ≡ true → IsSent (rules_at w o.from) (states o.from).history i item
 opened_sent w sound states world i correct bytes o item opens honest reads good =
     let from = o.from in
     let k = w.keys from in
-    let parts_of = sound.channel.opened i bytes o (sound.within i correct) opens in
+    let parts_of = sound.world.channel.opened i bytes o (sound.world.within i correct) opens in
     let made : has_made w states from i bytes ≡ true = made_so (w.is_correct from) (has_made w states from i bytes) honest good in
     let frames = made_for (rules_at w from) k (states from).history i in
     let f = made_sent (rules_at w from) (layer_laws w sound from good) k (states from).history (world.met from good) i bytes (bytes_listed frames bytes made) in
     let sent : Item = item_of from f.message in
     let body : List ℕ = spelling sent in
-    let short : length body ≤ 16341 = let s = sound.codec.short sent f.good in omega arith in
-    let again : opening (w.keys i) (sealed k i f.seq body) ≡ Ok (record { from = from; seq = f.seq; body = body }) =
-    sound.channel.opens from i f.seq body parts_of.0 (sound.within i correct) parts_of.1 f.fits short in
-    let whole : opened_as (record { from = from; seq = f.seq; body = body }) ≡ opened_as o = sym again ∙ (ap (opening (w.keys i)) (sym f.is_seal) ∙ opens) in
-    let text : body ≡ o.body = same_body (record { from = from; seq = f.seq; body = body }) o whole in
-    let back : body_answer w.numbers w.mode from body ≡ Ok sent = sound.codec.read from sent f.good in
+    let again : opening (w.keys i) (sealed k i f.seq body) ≡ Ok o = ap (opening (w.keys i)) (sym f.is_seal) ∙ opens in
+    let whole : o ≡ record { from = from; seq = f.seq; body = body } =
+    sound.world.channel.opens from i f.seq body o parts_of.0 (sound.world.within i correct) parts_of.1 f.fits again in
+    let text : body ≡ o.body = ap (λ (x : Opening). x.body) (sym whole) in
+    let back : body_answer w.numbers w.mode from body ≡ Ok sent = sound.world.codec.read from sent f.good in
     let one : read_as sent ≡ read_as item = sym back ∙ (ap (body_answer w.numbers w.mode from) text ∙ reads) in
     record { message = f.message; due = f.due; reached = f.reached; same = one_item sent item one }
 
-opened_fine : (w : Setting) → IsSound w → (states : ℕ → CoreState) → IsWorld w states → (i : ℕ) → w.is_correct i ≡ true → (bytes : List ℕ) (o : Opening) (item : Item) →
+opened_fine : (w : Setting) → IsSoundOver w → (states : ℕ → CoreState) → IsWorldAt w states → (i : ℕ) → w.is_correct i ≡ true → (bytes : List ℕ) (o : Opening) (item : Item) →
     opening (w.keys i) bytes ≡ Ok o → is_forged_opening w states i bytes (Ok o) ≡ false → body_answer w.numbers w.mode o.from o.body ≡ Ok item →
     IsFine w (histories_of states) i item
 opened_fine w sound states world i correct bytes o item opens honest reads =
-    let good = sound.codec.good o.from o.body item reads in
-    let sender = sound.channel.opened i bytes o (sound.within i correct) opens in
+    let good = sound.world.codec.good o.from o.body item reads in
+    let sender = sound.world.channel.opened i bytes o (sound.world.within i correct) opens in
     record {
       good = record { in_grammar = good.0; sender = subst (λ (k : ℕ). k < w.numbers.n) (sym good.1) sender.0 };
       sent = subst (λ (k : ℕ). w.is_correct k ≡ true → IsSent (rules_at w k) (states k).history i item) (sym good.1)
           (opened_sent w sound states world i correct bytes o item opens honest reads);
     }
 
-next_body : (w : Setting) → IsSound w → (states : ℕ → CoreState) → IsWorld w states → (i : ℕ) → w.is_correct i ≡ true → (bytes : List ℕ) (o : Opening) →
+next_body : (w : Setting) → IsSoundOver w → (states : ℕ → CoreState) → IsWorldAt w states → (i : ℕ) → w.is_correct i ≡ true → (bytes : List ℕ) (o : Opening) →
     opening (w.keys i) bytes ≡ Ok o → is_forged_opening w states i bytes (Ok o) ≡ false → (b : Result Item BodyFault) →
     body_answer w.numbers w.mode o.from o.body ≡ b → IsHonest w states i (given_body (rules_at w i) (w.keys i) (states i) b).state →
     IsNext w states i (given_body (rules_at w i) (w.keys i) (states i) b).state
@@ -402,7 +393,7 @@ next_body w sound states world i correct bytes o opens made (Ok item) is honest 
     next_moved w sound states world i correct (core.Frame item) (opened_fine w sound states world i correct bytes o item opens made is) honest
 next_body w sound states world i correct bytes o opens made (Err fault) is honest = next_same w states world i correct
 
-next_frame : (w : Setting) → IsSound w → (states : ℕ → CoreState) → IsWorld w states → (i : ℕ) → w.is_correct i ≡ true → (bytes : List ℕ) (o : Result Opening OpenFault) →
+next_frame : (w : Setting) → IsSoundOver w → (states : ℕ → CoreState) → IsWorldAt w states → (i : ℕ) → w.is_correct i ≡ true → (bytes : List ℕ) (o : Result Opening OpenFault) →
     opening (w.keys i) bytes ≡ o → is_forged_opening w states i bytes o ≡ false → IsHonest w states i (given_frame (rules_at w i) (w.keys i) (states i) o).state →
     IsNext w states i (given_frame (rules_at w i) (w.keys i) (states i) o).state
 next_frame w sound states world i correct bytes (Ok o) is made honest =
@@ -410,7 +401,7 @@ next_frame w sound states world i correct bytes (Ok o) is made honest =
 next_frame w sound states world i correct bytes (Err fault) is made honest = next_same w states world i correct
 
 -- ---- a call on a replica
-next_handled : (w : Setting) → IsSound w → (states : ℕ → CoreState) → IsWorld w states → (i : ℕ) → w.is_correct i ≡ true → (call : Call) →
+next_handled : (w : Setting) → IsSoundOver w → (states : ℕ → CoreState) → IsWorldAt w states → (i : ℕ) → w.is_correct i ≡ true → (call : Call) →
     is_forged_call w states i call ≡ false → IsHonest w states i (handled (rules_at w i) (w.keys i) (states i) call).state →
     IsNext w states i (handled (rules_at w i) (w.keys i) (states i) call).state
 next_handled w sound states world i correct (Frame bytes) made honest =
@@ -441,15 +432,15 @@ event_at w states (events.Turn at) = called_at w at Turn
 event_at w states (events.Pass from to m) = passed_at w to (passed w states from to m)
 event_at w states (events.Sealed from to body) = called_at w to (Frame (sealed (w.keys from) to 0 body))
 
-world_called : (w : Setting) → IsSound w → (states : ℕ → CoreState) → IsWorld w states → (c : Option CallAt) → IsAtCorrect w c →
-    is_forged_at w states c ≡ false → IsWorld w (after_call w states c)
+world_called : (w : Setting) → IsSoundOver w → (states : ℕ → CoreState) → IsWorldAt w states → (c : Option CallAt) → IsAtCorrect w c →
+    is_forged_at w states c ≡ false → IsWorldAt w (after_call w states c)
 world_called w sound states world None correct honest = world
 world_called w sound states world (Some c) correct honest =
     let parts = or_parts (is_forged_call w states c.at c.call) (is_forged_item w states c.at (taken_by w states c)) honest in
     world_with w states world c.at (handled_at w states c).state (next_handled w sound states world c.at correct c.call parts.0 parts.1)
 
 -- ---- events
-world_first : (w : Setting) → IsWorld w (states_of w [])
+world_first : (w : Setting) → IsWorldAt w (states_of w [])
 unfolding states_of
 world_first w = record {
   met = λ k correct. tt;
@@ -457,6 +448,10 @@ world_first w = record {
   held = λ k correct. none_held (IsFine w (histories_of (states_of w [])) k) w.numbers.n;
   run = λ s. record { steps = []; run = tt; same = λ k correct. refl };
 }
+
+-- nothing of this hangs on whether a replica is stopped
+world_halted : (w : Setting) (k : ℕ) (states : ℕ → CoreState) → IsWorldAt w states → IsWorldAt w (halted_at w k states)
+world_halted w k states world = record { met = world.met; waiting = world.waiting; held = world.held; run = world.run }
 
 pub judged_holds : (a : Audit) (forged collides : Bool) (k : ℕ) → judged a (broken_by forged collides k) ≡ audits.Holds →
     (a ≡ audits.Holds) × (forged ≡ false) × (collides ≡ false)
@@ -467,12 +462,13 @@ judged_holds audits.TooManyFaulty forged collides k e = absurd (cc)
 judged_holds (audits.Forged j) forged collides k e = absurd (cc)
 judged_holds (audits.Collision j) forged collides k e = absurd (cc)
 
-pub world_after : (w : Setting) → IsSound w → (es : List Event) → first_broken w es ≡ audits.Holds → IsWorld w (states_of w es)
+pub world_after : (w : Setting) → IsSoundOver w → (es : List Event) → first_broken w es ≡ audits.Holds → IsWorldAt w (states_of w es)
 unfolding states_of first_broken
 world_after w sound [] holds = world_first w
 world_after w sound (e ∷ es) holds =
     let before = judged_holds (first_broken w es) (is_forged w es e) (is_colliding w (e ∷ es)) (length es) holds in
-    world_called w sound (states_of w es) (world_after w sound es before.0) (call_of w (states_of w es) e) (event_at w (states_of w es) e) before.1
+    let found = states_before w es in
+    world_called w sound found (world_halted w (length es) (states_of w es) (world_after w sound es before.0)) (call_of w found e) (event_at w found e) before.1
 
 -- nothing that was hashed collides
 pub none_collide_after : (w : Setting) (es : List Event) → first_broken w es ≡ audits.Holds → is_colliding w es ≡ false

@@ -10,7 +10,8 @@ use Rattle.ritas_base.specs.Numbers.{wait_of}
 use Rattle.ritas_base.specs.History.{replicas, Call as BroadcastCall}
 use Rattle.ritas_base.specs.Messages.{Place, kind_eq}
 use Rattle.ritas_base.specs.SlotOrder.{is_slot}
-use Rattle.layer_api.specs.Entries.{given, is_claim, row_of, EntryInput, Print, OfMessage, OfEntry, prints_of}
+use Rattle.layer_api.specs.Entries.{given, is_claim, EntryInput, Print, OfMessage, OfEntry, prints_of}
+use Rattle.frame_codec.specs.Values.{row_of}
 use Rattle.keyed_channel.specs.Keyed.{tags_of}
 use Rattle.keyed_channel.specs.Frames.{Opening, opening}
 use Rattle.keyed_channel.specs.declared.frame.OpenFault.{OpenFault}
@@ -21,7 +22,7 @@ use Rattle.replica.specs.Frames.{made_for}
 use Rattle.replica.specs.Handling.{Call, Frame, Input, Turn}
 use Rattle.world_model.specs.declared.audit.Audit.{Audit}
 use Rattle.world_model.specs.declared.audit.Audit.TheVariants as audits
-use Rattle.world_model.specs.World.{Setting, rules_at, CallAt, call_of, handled_at, states_of}
+use Rattle.world_model.specs.World.{Setting, rules_at, CallAt, call_of, handled_at, states_of, states_before}
 
 -- whether replica i made the frame for j
 abbrev pub has_made : Setting → (ℕ → CoreState) → ℕ → ℕ → List ℕ → Bool
@@ -79,7 +80,7 @@ is_forged_at w states (Some c) = is_forged_call w states c.at c.call || is_forge
 -- An event after these forges: it gives a correct replica a frame that opens as from a correct one that hadn't made it,
 -- or makes it take a column with a valid entry of a correct echoer that hadn't given it.
 abbrev pub is_forged : Setting → List Event → Event → Bool
-is_forged w es e = is_forged_at w (states_of w es) (call_of w (states_of w es) e)
+is_forged w es e = is_forged_at w (states_before w es) (call_of w (states_before w es) e)
 
 -- what a replica met at the SENDs that it took
 abbrev pub prints_in : Rules → List Entry → List Print

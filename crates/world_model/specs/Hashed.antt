@@ -1,50 +1,35 @@
 -- What a world keeps of the messages that were sent, and what its tables stand for.
-use Rattle.std.specs.Prelude.{◌≡◌, ℕ, Bool, true, false, not, ◌&&◌, List, [], ◌∷◌, ◌++◌, map, Option, Some, None}
+use Rattle.std.specs.Prelude.{◌≡◌, ℕ, Bool, true, false, List, [], ◌∷◌, ◌++◌, map, Option, Some, None}
 use Rattle.std.specs.declared.cmp.Ordering.{Ordering}
 use Rattle.std.specs.Ordering.{nat_cmp, then_cmp, on}
 use Rattle.std.specs.Cmp.Lexicographic.{slice_cmp}
 use Rattle.std.specs.BTreeMap.{BTreeMap, get, is_at}
-use Rattle.std.specs.Str.{bytes_eq}
 use Rattle.ritas_base.specs.declared.slot.Slot.{Slot}
 use Rattle.ritas_base.specs.SlotOrder.{slot_cmp}
-use Rattle.ritas_base.specs.History.{replicas, is_value}
+use Rattle.ritas_base.specs.History.{replicas}
 use Rattle.layer_api.specs.Runs.{Has}
-use Rattle.layer_api.specs.Entries.{row_of, EntryInput, Print, OfMessage, OfEntry}
+use Rattle.layer_api.specs.Entries.{EntryInput, Print, OfMessage, OfEntry}
 use Rattle.keyed_channel.specs.KeyRow.{KeyRow}
 use Rattle.keyed_channel.specs.Keyed.{tags_of}
-use Rattle.world_model.specs.Audit.{is_among, clashes, collide}
-use Rattle.world_model.specs.declared.digests.SlotAt.{SlotAt}
+use Rattle.world_model.specs.World.{Setting}
+use Rattle.world_model.specs.Audit.{clashes, collide}
+use Rattle.world_model.specs.Met.{MetEntries, met_with}
+use Rattle.world_model.specs.declared.met.SlotAt.{SlotAt}
 use Rattle.world_model.specs.declared.hashed.HashedEntry.{HashedEntry}
 use Rattle.world_model.specs.declared.hashed.Hashed.{Hashed}
 
--- ---- entries
-
--- the entries that the replica with these keys gives of a message with this digest
-abbrev pub entries_with : KeyRow → Slot → List ℕ → List (List ℕ)
-entries_with k s digest = map (λ verifier. (tags_of k).entry s k.me verifier digest) (replicas k.n)
-
-abbrev pub entries_for : KeyRow → Slot → Option (List ℕ) → List (List ℕ)
-entries_for k s None = []
-entries_for k s (Some digest) = entries_with k s digest
-
--- whether a row is the entry of an echoer for the replica with these keys
-abbrev pub is_entry_for : KeyRow → Slot → List ℕ → ℕ → List ℕ → Bool
-is_entry_for k s digest echoer row = bytes_eq row ((tags_of k).entry s echoer k.me digest)
-
--- whether a column has a valid entry of the replica with the second keys for the one with the first, which had this
--- digest, where that replica hadn't given it: it had the second digest, if there is one
-abbrev pub is_unknown : KeyRow → List ℕ → KeyRow → Option (List ℕ) → Slot → List ℕ → Bool
-is_unknown k digest echoer given s column =
-    is_value ((tags_of k).entry s echoer.me k.me digest) (row_of column echoer.me)
-    && not (is_among (entries_for echoer s given) (row_of column echoer.me))
-
--- ---- digests of messages that were sent
+-- ---- what was met
 
 abbrev pub at_cmp : SlotAt → SlotAt → Ordering
 at_cmp = then_cmp (on (λ x. x.slot) slot_cmp) (on (λ x. x.replica) nat_cmp)
 
-abbrev pub digest_at : BTreeMap SlotAt (List ℕ) → Slot → ℕ → Option (List ℕ)
-digest_at digests s i = get at_cmp digests (record { slot = s; replica = i })
+abbrev pub met_at : BTreeMap SlotAt MetEntries → Slot → ℕ → Option MetEntries
+met_at table s i = get at_cmp table (record { slot = s; replica = i })
+
+-- what the table has of each correct replica is what its keys give
+abbrev pub AreMet : Setting → BTreeMap SlotAt MetEntries → Type 0
+AreMet w table = (i : ℕ) (s : Slot) (met : MetEntries) → w.is_correct i ≡ true → met_at table s i ≡ Some met
+    → met ≡ met_with (w.keys i) s met.digest
 
 -- the two are one slot at one replica
 abbrev pub is_same_at : Slot → ℕ → Slot → ℕ → Bool

@@ -4,8 +4,10 @@ pub mod Counts
 pub mod Audit
 pub mod Agreement
 pub mod Agree
-pub mod Dealt
+pub mod EveryWorld
 pub mod Stands
 pub mod Steps
+pub mod Met
 pub mod Hashed
 pub mod Watch
+pub mod Rows

@@ -1,24 +1,27 @@
 -- What the value of a world stands for, and what an event does to it.
-use Rattle.std.specs.Prelude.{◌≡◌, ◌≢◌, ℕ, ◌<◌, ◌==◌, ◌&&◌, Bool, true, false, not, List, [], ◌∷◌, length, reverse, Option, Some, None, Result, Ok, Err, if◌then◌else◌}
+use Rattle.std.specs.Prelude.{◌≡◌, ℕ, ◌<◌, ◌==◌, ◌&&◌, Bool, true, false, not, List, [], ◌∷◌, length, reverse, Option, Some, None, Result, Ok, Err, ◌⊎◌, if◌then◌else◌}
 use Rattle.std.specs.List.{slice_get}
 use Rattle.ritas_base.specs.declared.bytes.Mem.{Mem}
 use Rattle.ritas_base.specs.declared.event.Event.{Event}
-use Rattle.ritas_base.specs.declared.event.Event.TheVariants as events
 use Rattle.ritas_base.specs.declared.mode.Mode.{Mode}
 use Rattle.ritas_base.specs.Members.{has_member}
 use Rattle.ritas_base.specs.Numbers.{Numbers, IsSession}
 use Rattle.keyed_channel.specs.KeyRow.{KeyRow}
-use Rattle.ritas_core.specs.Machine.{CoreState}
+use Rattle.ritas_core.specs.Machine.{CoreState, What}
+use Rattle.ritas_core.specs.Calls.{IsStep, stopped}
 use Rattle.ritas_core.specs.Rules.{at_slot_of}
 use Rattle.ritas_core.specs.Stands.{Meaning}
 use Rattle.replica.specs.declared.replica.Replica.{Replica}
 use Rattle.replica.specs.Frames.{made_for}
+use Rattle.replica.specs.Handling.{Call}
+use Rattle.replica.specs.Stands.{core_call}
 use Rattle.replica.specs.Replica.{ReplicaStands}
 use Rattle.world_model.specs.declared.seats.Seats.{Seats}
 use Rattle.world_model.specs.declared.seen.Seen.{Seen}
 use Rattle.world_model.specs.declared.world.World.{World}
-use Rattle.world_model.specs.World.{Setting, rules_at, states_of, seen_of}
+use Rattle.world_model.specs.World.{Setting, rules_at, CallAt, call_of, states_of, seen_of}
 use Rattle.world_model.specs.Audit.{first_broken}
+use Rattle.world_model.specs.EveryWorld.{IsWorld}
 use Rattle.world_model.specs.FramesMade.{MadeTable, IsSquare, made_in}
 use Rattle.world_model.specs.Watch.{WatchStands}
 
@@ -27,6 +30,10 @@ use Rattle.world_model.specs.Watch.{WatchStands}
 -- the keys of each of n replicas, in order
 abbrev pub AreKeys : ℕ → List KeyRow → Type 0
 AreKeys n keys = (i : ℕ) (k : KeyRow) → slice_get keys i ≡ Some k → (k.me ≡ i) × (k.n ≡ n)
+
+-- no replica is stopped between events
+abbrev pub NoneStops : Setting → Type 0
+NoneStops w = (k i : ℕ) → w.stops k i ≡ false
 
 -- the world of these numbers, mode, correct replicas, and keys and coins of each replica
 pub record IsWorldOf {S E C : Type 0} (m : Meaning S E C KeyRow) (p : Numbers) (root : Mode) (members : ℕ)
@@ -38,6 +45,7 @@ pub record IsWorldOf {S E C : Type 0} (m : Meaning S E C KeyRow) (p : Numbers) (
   pub service : w.service ≡ m.service
   pub keys : (i : ℕ) (k : KeyRow) → slice_get rows i ≡ Some k → w.keys i ≡ k
   pub coins : (i : ℕ) (coin : C) → slice_get all_coins i ≡ Some coin → w.coin i ≡ m.bits coin
+  pub going : NoneStops w
 
 -- ---- what a world stands for
 
@@ -79,6 +87,8 @@ pub record FramesStand (w : Setting) (states : ℕ → CoreState) (t : MadeTable
 
 -- a world that isn't stopped, after these events
 pub record WorldStands {S E C : Type 0} (m : Meaning S E C KeyRow) (world : World S E C) (w : Setting) (es : List Event) : Type 0 where
+  pub kind : IsWorld m.service m.cast w
+  pub going : NoneStops w
   pub seats : SeatsStand w world.seats
   pub replicas : ReplicasStand m w (states_of w es) world.replicas.items
   pub made : FramesStand w (states_of w es) world.made
@@ -86,19 +96,52 @@ pub record WorldStands {S E C : Type 0} (m : Meaning S E C KeyRow) (world : Worl
   pub watch : WatchStands w (states_of w es) (first_broken w es) world.watch
   pub live : world.live ≡ true
 
+-- ---- what a stopped world stands for
+
+-- a correct replica, which a call stopped in this state for want of memory
+pub record IsStoppedBy {S E C : Type 0} (m : Meaning S E C KeyRow) (w : Setting) (state : CoreState) (c : Option CallAt) (i : ℕ)
+    (rep : Replica S E C) : Type 0 where
+  pub correct : w.is_correct i ≡ true
+  pub live : state.live ≡ true
+  pub call : Call
+  pub called : c ≡ Some (record { at = i; call = call })
+  pub what : What
+  pub given : core_call (rules_at w i) (w.keys i) call ≡ Some what
+  pub step : IsStep (rules_at w i) state what
+  pub stands : ReplicaStands m rep (rules_at w i) (w.keys i) (stopped state what)
+
+-- a correct replica as it was before a call that was without memory, or as it was to be after it, or stopped by it
+abbrev pub IsLeft : {S E C : Type 0} → Meaning S E C KeyRow → Setting → (ℕ → CoreState) → (ℕ → CoreState) → Option CallAt → ℕ → Replica S E C → Type 0
+IsLeft m w before after c i rep = IsReplica m w before i rep ⊎ (IsReplica m w after i rep ⊎ IsStoppedBy m w (before i) c i rep)
+
+-- there is no replica where it is faulty
+abbrev pub LeftAt : {S E C : Type 0} → Meaning S E C KeyRow → Setting → (ℕ → CoreState) → (ℕ → CoreState) → Option CallAt → ℕ → Option (Replica S E C) → Type 0
+LeftAt m w before after c i None = w.is_correct i ≡ false
+LeftAt m w before after c i (Some rep) = IsLeft m w before after c i rep
+
+pub record ReplicasLeft {S E C : Type 0} (m : Meaning S E C KeyRow) (w : Setting) (before after : ℕ → CoreState) (c : Option CallAt)
+    (replicas : List (Option (Replica S E C))) : Type 0 where
+  pub many : length replicas ≡ w.numbers.n
+  pub within : (i : ℕ) → w.is_correct i ≡ true → i < w.numbers.n
+  pub each : (i : ℕ) (place : Option (Replica S E C)) → slice_get replicas i ≡ Some place → LeftAt m w before after c i place
+
+-- A world which the event e stopped after these events, for want of memory. It shows what it showed before e; of the replica
+-- that e was to come to, what it has before e or after it, or where e stopped it. What its tables keep for the audit of later
+-- events is lost.
+pub record WorldStopped {S E C : Type 0} (m : Meaning S E C KeyRow) (world : World S E C) (w : Setting) (es : List Event) (e : Event) : Type 0 where
+  pub kind : IsWorld m.service m.cast w
+  pub seats : SeatsStand w world.seats
+  pub replicas : ReplicasLeft m w (states_of w es) (states_of w (e ∷ es)) (call_of w (states_of w es) e) world.replicas.items
+  pub made : FramesStand w (states_of w es) world.made
+  pub events : world.events ≡ length es
+  pub verdict : world.watch.verdict ≡ first_broken w es
+  pub live : world.live ≡ false
+
 -- whether a world isn't stopped
 abbrev pub is_live : {S E C : Type 0} → World S E C → Bool
 is_live world = world.live
 
 -- ---- what an event does
-
--- the numbers of an event are those of replicas, and a frame's receiver isn't its sender
-abbrev pub MayHappen : ℕ → Event → Type 0
-MayHappen n (events.Frame to bytes) = to < n
-MayHappen n (events.Input at bytes) = at < n
-MayHappen n (events.Turn at) = at < n
-MayHappen n (events.Pass from to m) = (from < n) × (to < n) × (from ≢ to)
-MayHappen n (events.Sealed from to bytes) = (from < n) × (to < n) × (from ≢ to)
 
 -- what became of the event is answered, and the world stands for the events with it
 pub record Seeing {S E C : Type 0} (m : Meaning S E C KeyRow) (new : World S E C) (w : Setting) (es : List Event) (e : Event)
@@ -106,7 +149,7 @@ pub record Seeing {S E C : Type 0} (m : Meaning S E C KeyRow) (new : World S E C
   pub seen : answer ≡ seen_of w es e
   pub stands : WorldStands m new w (e ∷ es)
 
--- for want of memory nothing more is known of the world
+-- or it is stopped
 abbrev pub EventDoes : {S E C : Type 0} → Meaning S E C KeyRow → World S E C → Setting → List Event → Event → Result Seen Mem → Type 0
 EventDoes m new w es e (Ok seen) = Seeing m new w es e seen
-EventDoes m new w es e (Err mem) = Unit {0}
+EventDoes m new w es e (Err mem) = WorldStopped m new w es e

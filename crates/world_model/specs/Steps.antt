@@ -29,7 +29,7 @@ use Rattle.world_model.specs.declared.seen.Seen.TheVariants as seen_as
 use Rattle.world_model.specs.World.{Setting, CallAt, handled_at, after_call, seen_answer, seen_call}
 use Rattle.world_model.specs.Watch.{watched, IsGoodIf, IsTold}
 use Rattle.world_model.specs.FramesMade.{MadeTable, made_in}
-use Rattle.world_model.specs.Stands.{ReplicasStand}
+use Rattle.world_model.specs.Stands.{ReplicasStand, ReplicasLeft}
 
 -- ---- the first replicas
 
@@ -65,11 +65,11 @@ pub record Calls {S E C : Type 0} (m : Meaning S E C KeyRow) (w : Setting) (stat
   pub out : after ≡ before ++ frames_out w states c
   pub replicas : ReplicasStand m w (after_call w states c) places
 
--- each outcome of a call: for want of memory nothing is known
+-- each outcome of a call
 abbrev pub CallsOr : {S E C : Type 0} → Meaning S E C KeyRow → Setting → (ℕ → CoreState) → Option CallAt
     → List (Option (Replica S E C)) → List OutFrame → List OutFrame → Result Seen Mem → Type 0
 CallsOr m w states c places before after (Ok seen) = Calls m w states c places before after seen
-CallsOr m w states c places before after (Err mem) = Unit {0}
+CallsOr m w states c places before after (Err mem) = ReplicasLeft m w states (after_call w states c) c places
 
 abbrev pub IsWant : Result Seen Mem → Type 0
 IsWant (Ok seen) = ⊥
@@ -132,4 +132,4 @@ pub record Happens {S E C : Type 0} (m : Meaning S E C KeyRow) (w : Setting) (st
 abbrev pub HappensOr : {S E C : Type 0} → Meaning S E C KeyRow → Setting → (ℕ → CoreState) → Option CallAt
     → List (Option (Replica S E C)) → Result Happened Mem → Type 0
 HappensOr m w states c places (Ok happened) = Happens m w states c places happened
-HappensOr m w states c places (Err mem) = Unit {0}
+HappensOr m w states c places (Err mem) = ReplicasLeft m w states (after_call w states c) c places

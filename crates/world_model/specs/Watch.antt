@@ -6,7 +6,6 @@ use Rattle.ritas_base.specs.declared.item.Item.{Item}
 use Rattle.ritas_base.specs.declared.item.Kind.{Kind}
 use Rattle.ritas_base.specs.declared.item.Kind.TheVariants.{Send, Column}
 use Rattle.ritas_base.specs.Messages.{kind_eq}
-use Rattle.ritas_base.specs.Tags.{Tags}
 use Rattle.frame_codec.specs.Body.{IsInGrammar}
 use Rattle.layer_api.specs.Entries.{sent, Print}
 use Rattle.keyed_channel.specs.KeyRow.{KeyRow}
@@ -17,7 +16,8 @@ use Rattle.world_model.specs.declared.audit.Audit.TheVariants as audits
 use Rattle.world_model.specs.declared.watch.Watch.{Watch}
 use Rattle.world_model.specs.World.{Setting, CallAt, after_call}
 use Rattle.world_model.specs.Audit.{is_forged_call, taken_by, calls_at, place_in, is_forged_at, prints_at, collide, broken_by, judged}
-use Rattle.world_model.specs.Hashed.{digest_at, is_same_at, HashedStand, prints_with, Meets}
+use Rattle.world_model.specs.Met.{MetEntries, met_with, met_for}
+use Rattle.world_model.specs.Hashed.{met_at, is_same_at, HashedStand, prints_with, Meets}
 
 -- ---- what a call made a replica take
 
@@ -57,14 +57,10 @@ pub record IsTold (w : Setting) (states : ℕ → CoreState) (c : Option CallAt)
 
 -- ---- the tables
 
-abbrev pub digest_for : Tags → Option (List ℕ) → Option (List ℕ)
-digest_for tags None = None
-digest_for tags (Some m) = Some (tags.digest m)
-
--- the tables have the digest of the message that was sent to each correct replica at each slot, and what they met
+-- the tables have what each correct replica met at the message that was sent to it at each slot, and all that they met
 pub record TablesStand (w : Setting) (states : ℕ → CoreState) (watch : Watch) : Type 0 where
   pub sent : (i : ℕ) (s : Slot) → w.is_correct i ≡ true
-      → digest_at watch.sent.digests s i ≡ digest_for (tags_of (w.keys i)) (sent (place_in w i s) (calls_at w states i s))
+      → met_at watch.sent.table s i ≡ met_for (w.keys i) s (sent (place_in w i s) (calls_at w states i s))
   pub hashed : HashedStand watch.hashed (prints_at w states)
 
 -- this is the verdict, and the tables are kept up while the premises hold
@@ -79,13 +75,13 @@ verdict_after w states c verdict number =
 
 -- ---- a SEND
 
--- the digest of the message that an item brings, where it is from the origin
-abbrev pub digest_said : KeyRow → Item → Option (List ℕ)
-digest_said k x = if x.from == x.slot.origin then Some ((tags_of k).digest x.value) else None
+-- what the replica with these keys meets at the message that an item brings, where it is from the origin
+abbrev pub met_said : KeyRow → Item → Option MetEntries
+met_said k x = if x.from == x.slot.origin then Some (met_with k x.slot ((tags_of k).digest x.value)) else None
 
 -- the replica with these keys took a SEND
 pub record MeetsSend (old new : Watch) (k : KeyRow) (at : ℕ) (x : Item) (clash : Bool) : Type 0 where
   pub verdict : new.verdict ≡ old.verdict
   pub hashed : (prints : List Print) → HashedStand old.hashed prints → Meets new.hashed (prints_with k x.slot x.value) prints clash
-  pub sent : clash ≡ false → (s : Slot) (i : ℕ) → digest_at new.sent.digests s i
-      ≡ (if is_same_at x.slot at s i then option_or (digest_at old.sent.digests s i) (digest_said k x) else digest_at old.sent.digests s i)
+  pub sent : clash ≡ false → (s : Slot) (i : ℕ) → met_at new.sent.table s i
+      ≡ (if is_same_at x.slot at s i then option_or (met_at old.sent.table s i) (met_said k x) else met_at old.sent.table s i)

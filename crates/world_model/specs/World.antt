@@ -1,5 +1,5 @@
 -- A world: its replicas, and what each event does to them. Lists of events have the newest first.
-use Rattle.std.specs.Prelude.{ℕ, Bool, ◌==◌, List, [], ◌∷◌, reverse, replicate, Option, Some, None, Result, Ok, Err, if◌then◌else◌}
+use Rattle.std.specs.Prelude.{ℕ, Bool, not, ◌==◌, ◌&&◌, List, [], ◌∷◌, length, reverse, replicate, Option, Some, None, Result, Ok, Err, if◌then◌else◌}
 use Rattle.std.specs.List.{slice_get}
 use Rattle.ritas_base.specs.declared.event.Event.{Event}
 use Rattle.ritas_base.specs.declared.event.Event.TheVariants as events
@@ -21,7 +21,8 @@ use Rattle.replica.specs.Handling.{Call, Frame, Input, Turn, Handled, handled}
 use Rattle.world_model.specs.declared.seen.Seen.{Seen}
 use Rattle.world_model.specs.declared.seen.Seen.TheVariants as seen_as
 
--- a world: its numbers and mode, which replicas are correct, what the layers mean, the replicas' coins and their keys
+-- a world: its numbers and mode, which replicas are correct, what the layers mean, the replicas' coins and their keys, and
+-- which replicas are stopped before the event of a number, from 0
 pub record Setting : Type 0 where
   pub numbers : Numbers
   pub mode : Mode
@@ -30,6 +31,7 @@ pub record Setting : Type 0 where
   pub service : ServiceRules
   pub coin : ℕ → Slot → Bool
   pub keys : ℕ → KeyRow
+  pub stops : ℕ → ℕ → Bool
 
 -- what the layers of replica i mean
 abbrev pub rules_at : Setting → ℕ → Rules
@@ -79,10 +81,19 @@ abbrev pub after_call : Setting → (ℕ → CoreState) → Option CallAt → �
 after_call w states None i = states i
 after_call w states (Some c) i = if c.at == i then (handled_at w states c).state else states i
 
+-- the states with the replicas stopped that are so before the event of this number
+abbrev pub halted_at : Setting → ℕ → (ℕ → CoreState) → ℕ → CoreState
+halted_at w k states i = record (states i) { live = (states i).live && not (w.stops k i) }
+
 -- the states of the replicas after these events
 unfoldable pub states_of : Setting → List Event → ℕ → CoreState
 states_of w [] i = first_state (replicate w.numbers.n [])
-states_of w (e ∷ es) i = after_call w (states_of w es) (call_of w (states_of w es) e) i
+states_of w (e ∷ es) i =
+    after_call w (halted_at w (length es) (states_of w es)) (call_of w (halted_at w (length es) (states_of w es)) e) i
+
+-- the states in which an event after these finds the replicas
+abbrev pub states_before : Setting → List Event → ℕ → CoreState
+states_before w es = halted_at w (length es) (states_of w es)
 
 -- what became of an answered call
 abbrev pub seen_answer : Result Answer Refusal → Seen
@@ -95,4 +106,4 @@ seen_call w states (Some c) = seen_answer (handled_at w states c).answer
 
 -- what becomes of an event after these
 abbrev pub seen_of : Setting → List Event → Event → Seen
-seen_of w es e = seen_call w (states_of w es) (call_of w (states_of w es) e)
+seen_of w es e = seen_call w (states_before w es) (call_of w (states_before w es) e)

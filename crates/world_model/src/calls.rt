@@ -38,8 +38,8 @@ pub(crate) fn give_frame<S: Service, E: Broadcast, C: Coin + Drop>(
     out: &mut Vec<OutFrame>,
 ) -> Result<Seen, Mem>
     ensures { (w : Setting) (states : ℕ → CoreState)
-        → ReplicasStand (meaning S.stands S.rules E.stands E.rules C.bits (λ k. k.me) tags_of) w states replicas.old
-        → CallsOr (meaning S.stands S.rules E.stands E.rules C.bits (λ k. k.me) tags_of) w states
+        → ReplicasStand (meaning S.stands S.rules S.shown E.stands E.rules E.shown C.bits (λ k. k.me) tags_of) w states replicas.old
+        → CallsOr (meaning S.stands S.rules S.shown E.stands E.rules E.shown C.bits (λ k. k.me) tags_of) w states
         (call_at w at (Frame bytes.now)) replicas.new out.old.items out.new.items result }
 {
     let place = usize::from(at);
@@ -61,8 +61,8 @@ pub(crate) fn give_input<S: Service, E: Broadcast, C: Coin + Drop>(
     out: &mut Vec<OutFrame>,
 ) -> Result<Seen, Mem>
     ensures { (w : Setting) (states : ℕ → CoreState)
-        → ReplicasStand (meaning S.stands S.rules E.stands E.rules C.bits (λ k. k.me) tags_of) w states replicas.old
-        → CallsOr (meaning S.stands S.rules E.stands E.rules C.bits (λ k. k.me) tags_of) w states
+        → ReplicasStand (meaning S.stands S.rules S.shown E.stands E.rules E.shown C.bits (λ k. k.me) tags_of) w states replicas.old
+        → CallsOr (meaning S.stands S.rules S.shown E.stands E.rules E.shown C.bits (λ k. k.me) tags_of) w states
         (call_at w at (Input bytes.now)) replicas.new out.old.items out.new.items result }
 {
     let place = usize::from(at);
@@ -83,8 +83,8 @@ pub(crate) fn give_turn<S: Service, E: Broadcast, C: Coin + Drop>(
     out: &mut Vec<OutFrame>,
 ) -> Result<Seen, Mem>
     ensures { (w : Setting) (states : ℕ → CoreState)
-        → ReplicasStand (meaning S.stands S.rules E.stands E.rules C.bits (λ k. k.me) tags_of) w states replicas.old
-        → CallsOr (meaning S.stands S.rules E.stands E.rules C.bits (λ k. k.me) tags_of) w states
+        → ReplicasStand (meaning S.stands S.rules S.shown E.stands E.rules E.shown C.bits (λ k. k.me) tags_of) w states replicas.old
+        → CallsOr (meaning S.stands S.rules S.shown E.stands E.rules E.shown C.bits (λ k. k.me) tags_of) w states
         (call_at w at Turn) replicas.new out.old.items out.new.items result }
 {
     let place = usize::from(at);

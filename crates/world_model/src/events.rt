@@ -6,7 +6,8 @@ ghost use Rattle.ritas_core.specs.Machine.{CoreState};
 ghost use Rattle.ritas_core.specs.Stands.{meaning};
 ghost use Rattle.replica.specs.Handling.{Frame, Input, Turn};
 ghost use Rattle.world_model.specs.World.{Setting, call_at, call_of};
-ghost use Rattle.world_model.specs.Stands.{SeatsStand, ReplicasStand, FramesStand, MayHappen};
+ghost use Rattle.world_model.specs.Stands.{SeatsStand, ReplicasStand, FramesStand};
+ghost use Rattle.ritas_base.specs.Events.{MayHappen};
 ghost use Rattle.world_model.specs.Steps.{HappensOr, is_opened};
 
 use crate::calls::{give_frame, give_input, give_turn};
@@ -15,7 +16,7 @@ use crate::made::MadeFrames;
 use crate::seats::Seats;
 use crate::seen::Seen;
 use crate::taken::{frame_item, front_item, if_took};
-use keyed_channel::seal;
+use frame_codec::spelled;
 use layer_api::{Broadcast, Service};
 use replica::{Refusal, Replica};
 use ritas_base::{Coin, Event, Mem};
@@ -42,10 +43,11 @@ fn frame_comes<S: Service, E: Broadcast, C: Coin + Drop>(
     bytes: &[u8],
 ) -> Result<Happened, Mem>
     ensures { (w : Setting) (states : ℕ → CoreState) → SeatsStand w seats.now → FramesStand w states made.now
-        → ReplicasStand (meaning S.stands S.rules E.stands E.rules C.bits (λ k. k.me) tags_of) w states replicas.old
-        → HappensOr (meaning S.stands S.rules E.stands E.rules C.bits (λ k. k.me) tags_of) w states
+        → ReplicasStand (meaning S.stands S.rules S.shown E.stands E.rules E.shown C.bits (λ k. k.me) tags_of) w states replicas.old
+        → HappensOr (meaning S.stands S.rules S.shown E.stands E.rules E.shown C.bits (λ k. k.me) tags_of) w states
         (call_at w to (Frame bytes.now)) replicas.new result }
 {
+    spelled();
     let mut out = Vec::new(alloc);
     let seen = give_frame(alloc, replicas, to, bytes, &mut out)?;
     let is_unmade = seats.is_unmade(made, to, bytes);
@@ -68,8 +70,8 @@ fn input_comes<S: Service, E: Broadcast, C: Coin + Drop>(
     bytes: &[u8],
 ) -> Result<Happened, Mem>
     ensures { (w : Setting) (states : ℕ → CoreState)
-        → ReplicasStand (meaning S.stands S.rules E.stands E.rules C.bits (λ k. k.me) tags_of) w states replicas.old
-        → HappensOr (meaning S.stands S.rules E.stands E.rules C.bits (λ k. k.me) tags_of) w states
+        → ReplicasStand (meaning S.stands S.rules S.shown E.stands E.rules E.shown C.bits (λ k. k.me) tags_of) w states replicas.old
+        → HappensOr (meaning S.stands S.rules S.shown E.stands E.rules E.shown C.bits (λ k. k.me) tags_of) w states
         (call_at w at (Input bytes.now)) replicas.new result }
 {
     let mut out = Vec::new(alloc);
@@ -90,8 +92,8 @@ fn turn_comes<S: Service, E: Broadcast, C: Coin + Drop>(
     at: u8,
 ) -> Result<Happened, Mem>
     ensures { (w : Setting) (states : ℕ → CoreState)
-        → ReplicasStand (meaning S.stands S.rules E.stands E.rules C.bits (λ k. k.me) tags_of) w states replicas.old
-        → HappensOr (meaning S.stands S.rules E.stands E.rules C.bits (λ k. k.me) tags_of) w states
+        → ReplicasStand (meaning S.stands S.rules S.shown E.stands E.rules E.shown C.bits (λ k. k.me) tags_of) w states replicas.old
+        → HappensOr (meaning S.stands S.rules S.shown E.stands E.rules E.shown C.bits (λ k. k.me) tags_of) w states
         (call_at w at Turn) replicas.new result }
 {
     let front = front_item(alloc, replicas, at)?;
@@ -118,9 +120,9 @@ fn frame_passes<S: Service, E: Broadcast, C: Coin + Drop>(
     number: u32,
 ) -> Result<Happened, Mem>
     ensures { (w : Setting) (states : ℕ → CoreState) → SeatsStand w seats.now → FramesStand w states made.now
-        → ReplicasStand (meaning S.stands S.rules E.stands E.rules C.bits (λ k. k.me) tags_of) w states replicas.old
+        → ReplicasStand (meaning S.stands S.rules S.shown E.stands E.rules E.shown C.bits (λ k. k.me) tags_of) w states replicas.old
         → MayHappen w.numbers.n (Event.Pass from to number)
-        → HappensOr (meaning S.stands S.rules E.stands E.rules C.bits (λ k. k.me) tags_of) w states
+        → HappensOr (meaning S.stands S.rules S.shown E.stands E.rules E.shown C.bits (λ k. k.me) tags_of) w states
         (call_of w states (Event.Pass from to number)) replicas.new result }
 {
     match made.frames(from, to).get(number as usize) {
@@ -140,17 +142,17 @@ fn sealed_comes<S: Service, E: Broadcast, C: Coin + Drop>(
     body: &[u8],
 ) -> Result<Happened, Mem>
     ensures { (w : Setting) (states : ℕ → CoreState) → SeatsStand w seats.now → FramesStand w states made.now
-        → ReplicasStand (meaning S.stands S.rules E.stands E.rules C.bits (λ k. k.me) tags_of) w states replicas.old
+        → ReplicasStand (meaning S.stands S.rules S.shown E.stands E.rules E.shown C.bits (λ k. k.me) tags_of) w states replicas.old
         → MayHappen w.numbers.n (Event.Sealed from to body.now)
-        → HappensOr (meaning S.stands S.rules E.stands E.rules C.bits (λ k. k.me) tags_of) w states
+        → HappensOr (meaning S.stands S.rules S.shown E.stands E.rules E.shown C.bits (λ k. k.me) tags_of) w states
         (call_of w states (Event.Sealed from to body.now)) replicas.new result }
 {
     match seats.keys.get(usize::from(from)) {
         Some(keys) => {
-            if to >= keys.n() {
+            if to >= keys.keys().n() {
                 return Ok(Happened::nothing(alloc, to));
             }
-            let frame = seal(alloc, keys, to, 0, body)?;
+            let frame = keys.seal(alloc, to, 0, body)?;
             frame_comes(alloc, seats, made, replicas, to, frame.as_slice())
         }
         None => Ok(Happened::nothing(alloc, to)),
@@ -166,9 +168,9 @@ pub(crate) fn happen<S: Service, E: Broadcast, C: Coin + Drop>(
     ev: &Event,
 ) -> Result<Happened, Mem>
     ensures { (w : Setting) (states : ℕ → CoreState) → SeatsStand w seats.now → FramesStand w states made.now
-        → ReplicasStand (meaning S.stands S.rules E.stands E.rules C.bits (λ k. k.me) tags_of) w states replicas.old
+        → ReplicasStand (meaning S.stands S.rules S.shown E.stands E.rules E.shown C.bits (λ k. k.me) tags_of) w states replicas.old
         → MayHappen w.numbers.n ev.now
-        → HappensOr (meaning S.stands S.rules E.stands E.rules C.bits (λ k. k.me) tags_of) w states
+        → HappensOr (meaning S.stands S.rules S.shown E.stands E.rules E.shown C.bits (λ k. k.me) tags_of) w states
         (call_of w states ev.now) replicas.new result }
 {
     match ev {

@@ -26,7 +26,7 @@ fn first_replica<S: Service, E: Broadcast, C: Coin + Drop>(
     requires form { E.FORM ≡ other_form mode }
     requires served { S.rules.serves mode.root ≡ true }
     ensures { IfOk result (λ place.
-        IsFirst (meaning S.stands S.rules E.stands E.rules C.bits (λ k. k.me) tags_of) p mode correct keys coin place) }
+        IsFirst (meaning S.stands S.rules S.shown E.stands E.rules E.shown C.bits (λ k. k.me) tags_of) p mode correct keys coin place) }
 {
     if correct.has(keys.me()) {
         Ok(Some(Replica::new(alloc, p, mode, keys, coin)?))
@@ -50,7 +50,7 @@ pub(crate) fn first_replicas<S: Service, E: Broadcast, C: Coin + Drop>(
     requires form { E.FORM ≡ other_form mode }
     requires served { S.rules.serves mode.root ≡ true }
     ensures { IfOk result (λ places.
-        AreFirst (meaning S.stands S.rules E.stands E.rules C.bits (λ k. k.me) tags_of)
+        AreFirst (meaning S.stands S.rules S.shown E.stands E.rules E.shown C.bits (λ k. k.me) tags_of)
         p mode correct keys.now coins.items places.items) }
 {
     let mut places = Vec::new(alloc);

@@ -1,7 +1,8 @@
 ghost use Rattle.std.specs.Prelude.{◌≡◌, true, false};
 
+use crate::met::{EntryPair, Met};
 use keyed_channel::Keys;
-use ritas_base::{Bytes, Mem, Slot, Tagger};
+use ritas_base::{Bytes, Mem, Slot};
 use std::alloc::Global;
 use std::collections::BTreeMap;
 
@@ -30,9 +31,11 @@ fn differ(a: &HashedEntry, b: &HashedEntry) -> bool
 }
 
 impl Hashed {
-    ghost use Rattle.std.specs.Prelude.{◌≡◌, ℕ, ◌<◌, List, [], IfOk};
+    ghost use Rattle.std.specs.Prelude.{◌≡◌, List, [], IfOk};
+    ghost use Rattle.keyed_channel.specs.KeyRow.{KeyRow};
     ghost use Rattle.keyed_channel.specs.Keyed.{tags_of};
     ghost use Rattle.layer_api.specs.Entries.{Print, OfMessage, OfEntry};
+    ghost use Rattle.world_model.specs.Met.{pair_of, met_with};
     ghost use Rattle.world_model.specs.Hashed.{HashedStand, Adds, Meets, input_of, both_of, prints_with};
 
     /// Nothing.
@@ -70,56 +73,59 @@ impl Hashed {
         Ok(false)
     }
 
-    // The entries that the replica with these keys and another have of each other. Whether one is of something else too.
+    // The entries that the replica of this number and another have of each other. Whether one is of something else too.
     fn add_both(
         &mut self,
-        keys: &Keys,
         slot: Slot,
+        me: u8,
         other: u8,
         digest: [u8; 32],
+        pair: &EntryPair,
     ) -> Result<bool, Mem>
-        requires { other < keys.now.n }
-        ensures { IfOk result (λ clash. (prints : List Print) → HashedStand self.old prints
-            → Meets self.new (both_of keys.now slot digest other) prints clash) }
+        ensures { IfOk result (λ clash. (k : KeyRow) → me ≡ k.me → pair.now ≡ pair_of k slot digest other
+            → (prints : List Print) → HashedStand self.old prints → Meets self.new (both_of k slot digest other) prints clash) }
     {
-        let me = keys.me();
         let given = HashedEntry {
             slot,
             echoer: me,
             verifier: other,
             digest,
         };
-        if self.add_entry(given, keys.entry(&slot, me, other, &digest))? {
+        if self.add_entry(given, pair.given)? {
             return Ok(true);
         }
-        let got = HashedEntry {
+        let expected = HashedEntry {
             slot,
             echoer: other,
             verifier: me,
             digest,
         };
-        self.add_entry(got, keys.entry(&slot, other, me, &digest))
+        self.add_entry(expected, pair.expected)
     }
 
     /// What the replica with these keys meets at a message. Whether two things hashed, of all so far, have one image; after
     /// that the maps aren't kept up.
-    pub(crate) fn meet(
+    pub(crate) fn add(
         &mut self,
         alloc: Global,
         keys: &Keys,
         slot: Slot,
         message: &[u8],
-        digest: [u8; 32],
+        met: &Met,
     ) -> Result<bool, Mem>
-        requires { digest ≡ (tags_of keys.now).digest message.now }
-        ensures { IfOk result (λ clash. (prints : List Print) → HashedStand self.old prints
+        ensures { IfOk result (λ clash. met.now ≡ met_with keys.now slot ((tags_of keys.now).digest message.now)
+            → (prints : List Print) → HashedStand self.old prints
             → Meets self.new (prints_with keys.now slot message.now) prints clash) }
     {
+        let digest = *met.digest();
         if self.add_message(alloc, message, digest)? {
             return Ok(true);
         }
         for other in 0..keys.n() {
-            if self.add_both(keys, slot, other, digest)? {
+            let Some(pair) = met.pair(other) else {
+                return Ok(false);
+            };
+            if self.add_both(slot, keys.me(), other, digest, pair)? {
                 return Ok(true);
             }
         }

@@ -16,25 +16,27 @@
 //! a frame which opens as from a correct one that hadn't made it, or makes it take a column with a valid entry of a correct
 //! replica that hadn't given it; it collides where then two different things that correct replicas hashed have one image.
 //! Where the audit holds, correct replicas agree: on the value of each broadcast (`one_value_each`), and on logs, outcomes
-//! and decisions (`agreement_each`); `agreement` says so for a service, a broadcast beside the reliable one, and keys
-//! dealt from one master key.
+//! and decisions (`agreement_each`); `agreement` says so for a service and a broadcast beside the reliable one, whatever
+//! the keys and the coins are, and so does `World::audit` of each world. The laws speak also of worlds in which replicas
+//! stop between events. Where an audit holds, it held at each earlier event (`prefix_holds`).
 //!
 //! That nothing is forged or collides is no part of what is proved: it is what the keyed tags and the hash are for. The
-//! audit finds a forged frame by its number, in the time of one comparison. At each SEND and column that is taken it makes
-//! the entries anew, and looks in tables of what was sent and hashed: its work at an event doesn't grow with the schedule,
-//! but for the depth of these tables.
+//! audit finds a forged frame by its number, in the time of one comparison. At each SEND that is taken it makes the entries
+//! that the replica gives and expects, where no other has made them, and keeps them: the rows of a column are compared with
+//! these. It looks in tables of what was sent and hashed, so its work at an event doesn't grow with the schedule, but for the
+//! depth of these tables.
 #![tactic(auto)]
 
 mod audit;
 mod calls;
 mod counts;
-mod digests;
 mod events;
 mod first;
 mod happened;
 mod hashed;
 mod laws;
 mod made;
+mod met;
 mod rows;
 mod seats;
 mod seen;
@@ -46,6 +48,6 @@ mod world;
 
 pub use audit::Audit;
 pub use counts::Counts;
-pub use laws::{agreement, agreement_each, one_value_each};
+pub use laws::{agreement, agreement_each, one_value_each, prefix_holds};
 pub use seen::Seen;
 pub use world::World;

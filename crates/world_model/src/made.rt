@@ -1,6 +1,7 @@
-ghost use Rattle.std.specs.Prelude.{◌≡◌, ◌+◌, ◌*◌, ◌<◌, ◌≤◌, [], OnOk, IfOk, replicate, Option};
+ghost use Rattle.std.specs.Prelude.{◌≡◌, ◌+◌, ◌-◌, ◌*◌, ◌<◌, ◌≤◌, length, take, List, [], ◌∷◌, ◌++◌, map, OnOk, OnErr, IfOk, replicate, Option};
 ghost use Rattle.std.specs.List.{slice_get};
-ghost use Rattle.world_model.specs.FramesMade.{made_in, with_frame, with_frames};
+ghost use Rattle.replica.specs.declared.frame.OutFrame.{OutFrame};
+ghost use Rattle.world_model.specs.FramesMade.{MadeTable, made_in, with_frame, with_frames, without_last};
 
 use replica::OutFrame;
 use ritas_base::{Bytes, Mem};
@@ -23,6 +24,14 @@ impl Model for MadeFrames {
     ghost view = { λ m. record { n = m.n; lists = map (λ frames. frames.items) m.lists.items } };
 
     ghost invariant = { λ m. (m.n ≤ 31) × (length m.lists.items ≡ m.n * m.n) };
+}
+
+// The newest frame is taken off, if there is one.
+fn drop_last(frames: &mut Vec<Bytes>)
+    ensures { frames.new.items ≡ take (length frames.old.items - 1) frames.old.items }
+{
+    let length = frames.len();
+    frames.truncate(length.saturating_sub(1));
 }
 
 impl MadeFrames {
@@ -56,9 +65,10 @@ impl MadeFrames {
         }
     }
 
-    // A frame goes to the back of the list of its sender and its receiver.
+    // A frame goes to the back of the list of its sender and its receiver. For want of memory the table is as before.
     fn add_one(&mut self, from: u8, frame: OutFrame) -> Result<(), Mem>
-        ensures { OnOk result (self.new ≡ with_frame self.old from frame) }
+        ensures ok { OnOk result (self.new ≡ with_frame self.old from frame) }
+        ensures err { OnErr result (self.new ≡ self.old) }
     {
         let at = self.at(from, frame.to);
         if at < self.lists.len() {
@@ -67,12 +77,53 @@ impl MadeFrames {
         Ok(())
     }
 
-    /// Each of these frames goes to the back of the list of its sender and its receiver. The one error is want of memory.
-    pub(crate) fn add(&mut self, from: u8, frames: Vec<OutFrame>) -> Result<(), Mem>
-        ensures { OnOk result (self.new ≡ with_frames self.old from frames.items) }
+    // So does a frame whose receiver is noted. For want of memory nothing is noted either.
+    fn add_noted(&mut self, from: u8, frame: OutFrame, receivers: &mut Vec<u8>) -> Result<(), Mem>
+        ensures ok { OnOk result (self.new ≡ with_frame self.old from frame) }
+        ensures noted { OnOk result (receivers.new.items ≡ receivers.old.items ++ frame.to ∷ []) }
+        ensures err { OnErr result (self.new ≡ self.old) }
+        ensures kept { OnErr result (receivers.new.items ≡ receivers.old.items) }
     {
+        let to = frame.to;
+        receivers.reserve(1)?;
+        self.add_one(from, frame)?;
+        receivers.push_reserved(to);
+        Ok(())
+    }
+
+    // The newest frame of a sender and a receiver is taken off again.
+    fn take_one(&mut self, from: u8, to: u8)
+        ensures { self.new ≡ without_last self.old from to }
+    {
+        let at = self.at(from, to);
+        if at < self.lists.len() {
+            drop_last(&mut self.lists[at]);
+        }
+    }
+
+    // The frames that were added for these receivers are taken off again, the newest first.
+    fn take_back(&mut self, from: u8, receivers: Vec<u8>)
+        ensures { (t : MadeTable) (frames : List OutFrame) → receivers.items ≡ map (λ f. f.to) frames
+            → self.old ≡ with_frames t from frames → self.new ≡ t }
+    {
+        let mut receivers = receivers;
+        while let Some(to) = receivers.pop() {
+            self.take_one(from, to);
+        }
+    }
+
+    /// Each of these frames goes to the back of the list of its sender and its receiver. The one error is want of memory:
+    /// then the table is as before.
+    pub(crate) fn add(&mut self, alloc: Global, from: u8, frames: Vec<OutFrame>) -> Result<(), Mem>
+        ensures ok { OnOk result (self.new ≡ with_frames self.old from frames.items) }
+        ensures err { OnErr result (self.new ≡ self.old) }
+    {
+        let mut receivers = Vec::new(alloc);
         for frame in frames {
-            self.add_one(from, frame)?;
+            if self.add_noted(from, frame, &mut receivers).is_err() {
+                self.take_back(from, receivers);
+                return Err(Mem);
+            }
         }
         Ok(())
     }

@@ -1,19 +1,31 @@
-ghost use Rattle.std.specs.Prelude.{◌≡◌, ◌<◌, ◌≤◌, ◌^◌, length, MatchOption};
+ghost use Rattle.std.specs.Prelude.{◌≡◌, ◌<◌, ◌≤◌, ◌^◌, length, IfOk, MatchOption};
 ghost use Rattle.keyed_channel.specs.Frames.{sender_of, seq_of};
 ghost use Rattle.world_model.specs.FramesMade.{made_in};
 ghost use Rattle.world_model.specs.Steps.{is_numbered, is_unmade};
 
 use crate::made::MadeFrames;
-use keyed_channel::Keys;
-use ritas_base::{Bytes, Mode, Params, SenderSet};
+use keyed_channel::{Channel, Keys};
+use ritas_base::{Bytes, Mem, Mode, Params, SenderSet};
+use std::alloc::Global;
 
-/// How many replicas there are, in which mode, which of them are correct, and the keys of each.
+/// How many replicas there are, in which mode, which of them are correct, and the keys of each, with their pads hashed once.
 #[derive(Drop)]
 pub(crate) struct Seats {
     pub(crate) params: Params,
     pub(crate) mode: Mode,
     pub(crate) correct: SenderSet,
-    pub(crate) keys: Vec<Keys>,
+    pub(crate) keys: Vec<Channel>,
+}
+
+/// The channels of these keys. The one error is want of memory.
+pub(crate) fn channels(alloc: Global, rows: Vec<Keys>) -> Result<Vec<Channel>, Mem>
+    ensures { IfOk result (λ channels. channels.items ≡ rows.items) }
+{
+    let mut channels = Vec::with_capacity(alloc, rows.len())?;
+    for keys in rows {
+        channels.push(Channel::new(alloc, keys)?)?;
+    }
+    Ok(channels)
 }
 
 // The sender and the number that a frame names, where it is long enough.

@@ -15,7 +15,7 @@ ghost use Rattle.world_model.specs.Stands.{ReplicasStand};
 ghost use Rattle.world_model.specs.Steps.{is_took, IsFront, IsFrameItem};
 
 use crate::seen::Seen;
-use frame_codec::{BodyFault, read_body};
+use frame_codec::{BodyFault, read_body, spelled};
 use layer_api::{Broadcast, Service};
 use replica::Replica;
 use ritas_base::{Coin, Item, Kind, Mem, Mode, Params};
@@ -77,7 +77,7 @@ pub(crate) fn front_item<S: Service, E: Broadcast, C: Coin + Drop>(
     at: u8,
 ) -> Result<Option<Item>, Mem>
     ensures { IfOk result (λ front. (w : Setting) (states : ℕ → CoreState)
-        → ReplicasStand (meaning S.stands S.rules E.stands E.rules C.bits (λ k. k.me) tags_of) w states replicas.now
+        → ReplicasStand (meaning S.stands S.rules S.shown E.stands E.rules E.shown C.bits (λ k. k.me) tags_of) w states replicas.now
         → w.is_correct at ≡ true → IsFront w states at front) }
 {
     let place = usize::from(at);
@@ -102,6 +102,7 @@ fn is_watched_body(body: &[u8]) -> bool
     ensures { (p : Numbers) (mode : Mode) (from : ℕ) (item : an_item) → IsSession p
         → body_answer p mode from body.now ≡ Ok item → result ≡ is_watched item.kind }
 {
+    spelled();
     if body.is_empty() {
         return false;
     }

@@ -1,7 +1,7 @@
 use crate::audit::Audit;
 use crate::seats::Seats;
 use crate::watch::Watch;
-use keyed_channel::Keys;
+use keyed_channel::{Channel, Keys};
 use ritas_base::{Bytes, Item, Kind, Mem, Mode, Params, SenderSet, Slot, Tagger, Vect};
 use std::alloc::Global;
 use std::process::Abort;
@@ -22,7 +22,7 @@ fn seats(rt: &impl Abort, alloc: Global) -> Result<Seats, Mem> {
     let mode = Mode::new(2, Vect::Echo).expect(rt, "mode");
     let mut keys = Vec::new(alloc);
     for me in 0..params.n() {
-        keys.push(Keys::deal(&[7; 32], 1, &params, me))?;
+        keys.push(Channel::new(alloc, Keys::deal(&[7; 32], 1, &params, me))?)?;
     }
     Ok(Seats {
         params,

@@ -1,11 +1,11 @@
 ghost use Rattle.std.specs.Prelude.{◌≡◌};
 
 use crate::audit::Audit;
-use crate::digests::SentDigests;
 use crate::hashed::Hashed;
+use crate::met::{Met, MetSends, meet};
 use crate::rows::is_unknown;
 use crate::seats::Seats;
-use keyed_channel::Keys;
+use keyed_channel::Channel;
 use ritas_base::{Item, Kind, Mem, Tagger};
 use std::alloc::Global;
 
@@ -13,7 +13,7 @@ use std::alloc::Global;
 #[derive(Drop)]
 pub(crate) struct Watch {
     verdict: Audit,
-    sent: SentDigests,
+    sent: MetSends,
     hashed: Hashed,
 }
 
@@ -22,26 +22,25 @@ impl Watch {
     ghost use Rattle.std.specs.Option.{option_copied};
     ghost use Rattle.ritas_base.specs.declared.slot.Slot.{Slot};
     ghost use Rattle.ritas_base.specs.Messages.{kind_eq};
-    ghost use Rattle.frame_codec.specs.Format.{Is};
-    ghost use Rattle.frame_codec.specs.Grammar.{column};
     ghost use Rattle.layer_api.specs.Entries.{sent};
     ghost use Rattle.keyed_channel.specs.Keyed.{tags_of};
     ghost use Rattle.ritas_core.specs.Machine.{CoreState};
     ghost use Rattle.world_model.specs.World.{Setting, CallAt, after_call};
     ghost use Rattle.world_model.specs.Audit.{calls_at, place_in, is_made_up, is_forged_item};
-    ghost use Rattle.world_model.specs.Hashed.{digest_at, HashedStand};
+    ghost use Rattle.world_model.specs.Met.{met_with};
+    ghost use Rattle.world_model.specs.Hashed.{met_at, HashedStand};
     ghost use Rattle.world_model.specs.Stands.{SeatsStand};
     ghost use Rattle.world_model.specs.Watch.{TablesStand, MeetsSend, IsTold, WatchStands, verdict_after};
 
     /// Before any event.
     pub(crate) fn new(alloc: Global) -> Watch
         ensures verdict { result.verdict ≡ Audit.Holds }
-        ensures sent { (s : Slot) (i : ℕ) → digest_at result.sent.digests s i ≡ None }
+        ensures sent { (s : Slot) (i : ℕ) → met_at result.sent.table s i ≡ None }
         ensures hashed { HashedStand result.hashed [] }
     {
         Watch {
             verdict: Audit::Holds,
-            sent: SentDigests::new(alloc),
+            sent: MetSends::new(alloc),
             hashed: Hashed::new(alloc),
         }
     }
@@ -53,47 +52,32 @@ impl Watch {
         self.verdict
     }
 
-    // Whether a column that a replica takes has a valid entry of a correct echoer which that hadn't given.
-    fn is_made_up(
-        &self,
-        seats: &Seats,
-        keys: &Keys,
-        digest: &[u8; 32],
-        item: &Item,
-        echoer: u8,
-    ) -> bool
-        ensures { (w : Setting) (states : ℕ → CoreState) (at : ℕ) (m : List ℕ) → SeatsStand w seats.now
-            → TablesStand w states self.now → keys.now ≡ w.keys at → at < w.numbers.n
+    // Whether a column that a replica takes, which met this, has a valid entry of a correct echoer which hadn't given it.
+    fn is_made_up(&self, seats: &Seats, met: &Met, at: u8, item: &Item, echoer: u8) -> bool
+        ensures { (w : Setting) (states : ℕ → CoreState) (m : List ℕ) → SeatsStand w seats.now → TablesStand w states self.now
+            → at < w.numbers.n → echoer < w.numbers.n
             → sent (place_in w at item.now.slot) (calls_at w states at item.now.slot) ≡ Some m
-            → digest.now ≡ (tags_of (w.keys at)).digest m
-            → kind_eq item.now.kind Kind.Column ≡ true → Is (column w.numbers.n) item.now.value → echoer < w.numbers.n
-            → result ≡ is_made_up w states at item.now echoer }
+            → met.now ≡ met_with (w.keys at) item.now.slot ((tags_of (w.keys at)).digest m)
+            → kind_eq item.now.kind Kind.Column ≡ true → result ≡ is_made_up w states at item.now echoer }
     {
-        match seats.keys.get(usize::from(echoer)) {
-            Some(echoers) => {
-                let given = self.sent.digest(item.slot, echoer);
-                let value = item.value.as_slice();
-                seats.correct.has(echoer)
-                    && is_unknown(keys, digest, echoers, given, &item.slot, value)
-            }
-            None => false,
+        if !seats.correct.has(echoer) {
+            return false;
         }
+        let echoers = self.sent.at(item.slot, echoer);
+        is_unknown(met, at, echoers, echoer, item.value.as_slice())
     }
 
     // Whether a column that a replica takes forges.
     fn forges(&self, seats: &Seats, at: u8, item: &Item) -> bool
         ensures { (w : Setting) (states : ℕ → CoreState) → SeatsStand w seats.now → TablesStand w states self.now
             → w.is_correct at ≡ true → at < w.numbers.n → kind_eq item.now.kind Kind.Column ≡ true
-            → Is (column w.numbers.n) item.now.value → result ≡ is_forged_item w states at (Some item.now) }
+            → result ≡ is_forged_item w states at (Some item.now) }
     {
-        let Some(keys) = seats.keys.get(usize::from(at)) else {
+        let Some(met) = self.sent.at(item.slot, at) else {
             return false;
         };
-        let Some(digest) = self.sent.digest(item.slot, at) else {
-            return false;
-        };
-        for echoer in 0..keys.n() {
-            if self.is_made_up(seats, keys, digest, item, echoer) {
+        for echoer in 0..seats.params.n() {
+            if self.is_made_up(seats, met, at, item, echoer) {
                 return true;
             }
         }
@@ -101,21 +85,37 @@ impl Watch {
     }
 
     // A replica takes a SEND. Whether two things hashed, of all so far, have one image.
-    fn meets(&mut self, alloc: Global, keys: &Keys, at: u8, item: &Item) -> Result<bool, Mem>
-        ensures { IfOk result (λ clash. MeetsSend self.old self.new keys.now at item.now clash) }
+    fn meets(
+        &mut self,
+        alloc: Global,
+        seats: &Seats,
+        keys: &Channel,
+        at: u8,
+        item: &Item,
+    ) -> Result<bool, Mem>
+        ensures met { IfOk result (λ clash. (w : Setting) (states : ℕ → CoreState) → SeatsStand w seats.now
+            → TablesStand w states self.old → keys.now.n ≡ w.numbers.n → MeetsSend self.old self.new keys.now at item.now clash) }
+        ensures same { self.new.verdict ≡ self.old.verdict }
     {
         let value = item.value.as_slice();
-        let digest = keys.digest(value);
-        if self.hashed.meet(alloc, keys, item.slot, value, digest)? {
+        let met = meet(
+            alloc,
+            seats,
+            &self.sent,
+            keys,
+            item.slot,
+            keys.digest(value),
+        )?;
+        if self.hashed.add(alloc, keys.keys(), item.slot, value, &met)? {
             return Ok(true);
         }
         if item.from == item.slot.origin {
-            self.sent.add(item.slot, at, digest)?;
+            self.sent.add(item.slot, at, met)?;
         }
         Ok(false)
     }
 
-    // A replica takes a SEND or a column, where nothing broke before.
+    // The verdict after a replica takes a SEND or a column, where nothing broke before.
     fn judge_item(
         &mut self,
         alloc: Global,
@@ -123,33 +123,35 @@ impl Watch {
         at: u8,
         item: &Item,
         number: u64,
-    ) -> Result<(), Mem>
-        ensures { OnOk result ((w : Setting) (states : ℕ → CoreState) (c : Option CallAt) → SeatsStand w seats.now
+    ) -> Result<Audit, Mem>
+        ensures finds { IfOk result (λ found. (w : Setting) (states : ℕ → CoreState) (c : Option CallAt) → SeatsStand w seats.now
             → ((i : ℕ) → w.is_correct i ≡ true → i < w.numbers.n) → IsTold w states c at false (Some item.now)
             → WatchStands w states Audit.Holds self.old
-            → WatchStands w (after_call w states c) (verdict_after w states c Audit.Holds number) self.new) }
+            → WatchStands w (after_call w states c) (verdict_after w states c Audit.Holds number) (record self.new { verdict = found })) }
+        ensures same { self.new.verdict ≡ self.old.verdict }
     {
         match item.kind {
             Kind::Send => {
                 let Some(keys) = seats.keys.get(usize::from(at)) else {
-                    return Ok(());
+                    return Ok(self.verdict);
                 };
-                if self.meets(alloc, keys, at, item)? {
-                    self.verdict = Audit::Collision(number);
+                if self.meets(alloc, seats, keys, at, item)? {
+                    return Ok(Audit::Collision(number));
                 }
+                Ok(self.verdict)
             }
             Kind::Column => {
                 if self.forges(seats, at, item) {
-                    self.verdict = Audit::Forged(number);
+                    return Ok(Audit::Forged(number));
                 }
+                Ok(self.verdict)
             }
-            _ => {}
+            _ => Ok(self.verdict),
         }
-        Ok(())
     }
 
-    /// A call on a replica: whether its frame forged, and the SEND or the column that it made the replica take, if it did.
-    /// The one error is want of memory.
+    /// The verdict after a call on a replica: whether its frame forged, and the SEND or the column that it made the replica
+    /// take, if it did. The verdict so far stays until `settle`. The one error is want of memory.
     pub(crate) fn judge(
         &mut self,
         alloc: Global,
@@ -158,23 +160,30 @@ impl Watch {
         forged: bool,
         taken: Option<&Item>,
         number: u64,
-    ) -> Result<(), Mem>
-        ensures { OnOk result ((w : Setting) (states : ℕ → CoreState) (c : Option CallAt) (verdict : Audit)
+    ) -> Result<Audit, Mem>
+        ensures finds { IfOk result (λ found. (w : Setting) (states : ℕ → CoreState) (c : Option CallAt) (verdict : Audit)
             → SeatsStand w seats.now → ((i : ℕ) → w.is_correct i ≡ true → i < w.numbers.n)
             → IsTold w states c at forged (option_copied taken.entry) → WatchStands w states verdict self.old
-            → WatchStands w (after_call w states c) (verdict_after w states c verdict number) self.new) }
+            → WatchStands w (after_call w states c) (verdict_after w states c verdict number) (record self.new { verdict = found })) }
+        ensures same { self.new.verdict ≡ self.old.verdict }
     {
         match self.verdict {
             Audit::Holds => {}
-            _ => return Ok(()),
+            verdict => return Ok(verdict),
         }
         if forged {
-            self.verdict = Audit::Forged(number);
-            return Ok(());
+            return Ok(Audit::Forged(number));
         }
         match taken {
             Some(item) => self.judge_item(alloc, seats, at, item, number),
-            None => Ok(()),
+            None => Ok(self.verdict),
         }
+    }
+
+    /// This is the verdict from now on.
+    pub(crate) fn settle(&mut self, verdict: Audit)
+        ensures { self.new ≡ record self.old { verdict = verdict } }
+    {
+        self.verdict = verdict;
     }
 }

@@ -1,13 +1,14 @@
 use crate::audit::Audit;
 use crate::events::happen;
 use crate::first::first_replicas;
+use crate::laws::agreement;
 use crate::made::MadeFrames;
-use crate::seats::Seats;
+use crate::seats::{Seats, channels};
 use crate::seen::Seen;
 use crate::watch::Watch;
 use keyed_channel::Keys;
 use layer_api::{Broadcast, Service};
-use replica::Replica;
+use replica::{Replica, made_by_entry};
 use ritas_base::{Bytes, Coin, Event, Mem, Mode, Params, SenderSet};
 use std::alloc::Global;
 
@@ -24,15 +25,17 @@ pub struct World<S: Service, E: Broadcast, C: Coin + Drop> {
 }
 
 impl<S: Service, E: Broadcast, C: Coin + Drop> World<S, E, C> {
-    ghost use Rattle.std.specs.Prelude.{◌≡◌, ℕ, ◌-◌, ◌^◌, ◌<◌, true, false, List, [], length, IfOk, OnOk, OnErr, MatchOption};
+    ghost use Rattle.std.specs.Prelude.{◌≡◌, ℕ, ◌-◌, ◌^◌, ◌<◌, true, false, List, [], ◌∷◌, length, IsErr, IfOk, OnOk, OnErr, MatchOption};
     ghost use Rattle.ritas_base.specs.declared.event.Event.{Event};
     ghost use Rattle.ritas_base.specs.Members.{has_member};
     ghost use Rattle.keyed_channel.specs.Keyed.{tags_of};
     ghost use Rattle.ritas_core.specs.Rules.{other_form};
     ghost use Rattle.ritas_core.specs.Stands.{meaning};
-    ghost use Rattle.world_model.specs.World.{Setting, states_of};
+    ghost use Rattle.world_model.specs.World.{Setting, call_of, states_of};
     ghost use Rattle.world_model.specs.Audit.{audit_of};
-    ghost use Rattle.world_model.specs.Stands.{AreKeys, IsWorldOf, IsReplica, frames_from, WorldStands, is_live, MayHappen, EventDoes};
+    ghost use Rattle.world_model.specs.Agree.{Agree};
+    ghost use Rattle.world_model.specs.Stands.{AreKeys, IsWorldOf, IsReplica, frames_from, WorldStands, IsLeft, WorldStopped, is_live, EventDoes};
+    ghost use Rattle.ritas_base.specs.Events.{MayHappen};
 
     /// The world of these numbers, mode, correct replicas, and keys and coins of each replica, before any event. The keys
     /// of a faulty replica serve for frames that events seal with them; its coin isn't used. The one error is want of
@@ -52,12 +55,13 @@ impl<S: Service, E: Broadcast, C: Coin + Drop> World<S, E, C> {
         requires form { E.FORM ≡ other_form mode }
         requires served { S.rules.serves mode.root ≡ true }
         ensures { IfOk result (λ world. (w : Setting)
-            → IsWorldOf (meaning S.stands S.rules E.stands E.rules C.bits (λ k. k.me) tags_of)
+            → IsWorldOf (meaning S.stands S.rules S.shown E.stands E.rules E.shown C.bits (λ k. k.me) tags_of)
             p mode correct keys.items coins.items w
-            → WorldStands (meaning S.stands S.rules E.stands E.rules C.bits (λ k. k.me) tags_of) world w []) }
+            → WorldStands (meaning S.stands S.rules S.shown E.stands E.rules E.shown C.bits (λ k. k.me) tags_of) world w []) }
     {
         let replicas = first_replicas(alloc, p, mode, correct, keys.as_slice(), coins)?;
         let made = MadeFrames::new(alloc, p.n())?;
+        let keys = channels(alloc, keys)?;
         Ok(World {
             seats: Seats {
                 params: p,
@@ -75,15 +79,20 @@ impl<S: Service, E: Broadcast, C: Coin + Drop> World<S, E, C> {
 
     /// An event happens, and what became of it is answered. Its numbers are to be those of replicas, below n, and a
     /// frame's receiver not its sender. The one error is want of memory: the world stops, and answers it to every later
-    /// event too.
+    /// event too. It then shows what it showed before the event that stopped it; the replica that this came to may have
+    /// taken it.
     pub fn event(&mut self, alloc: Global, ev: &Event) -> Result<Seen, Mem>
         ensures does { (w : Setting) (es : List Event)
-            → WorldStands (meaning S.stands S.rules E.stands E.rules C.bits (λ k. k.me) tags_of) self.old w es
+            → WorldStands (meaning S.stands S.rules S.shown E.stands E.rules E.shown C.bits (λ k. k.me) tags_of) self.old w es
             → MayHappen w.numbers.n ev.now → length es < 2 ^ 64 - 1
-            → EventDoes (meaning S.stands S.rules E.stands E.rules C.bits (λ k. k.me) tags_of) self.new w es ev.now result }
+            → EventDoes (meaning S.stands S.rules S.shown E.stands E.rules E.shown C.bits (λ k. k.me) tags_of) self.new w es ev.now result }
+        ensures after { (w : Setting) (es : List Event) (e : Event)
+            → WorldStopped (meaning S.stands S.rules S.shown E.stands E.rules E.shown C.bits (λ k. k.me) tags_of) self.old w es e
+            → IsErr result × WorldStopped (meaning S.stands S.rules S.shown E.stands E.rules E.shown C.bits (λ k. k.me) tags_of) self.new w es e }
         ensures stops { OnErr result (is_live self.new ≡ false) }
         ensures stopped { OnOk result (is_live self.old ≡ true) }
     {
+        made_by_entry();
         if !self.live {
             return Err(Mem);
         }
@@ -95,8 +104,7 @@ impl<S: Service, E: Broadcast, C: Coin + Drop> World<S, E, C> {
             self.replicas.as_mut_slice(),
             ev,
         )?;
-        self.made.add(happened.at, happened.out)?;
-        self.watch.judge(
+        let verdict = self.watch.judge(
             alloc,
             &self.seats,
             happened.at,
@@ -104,6 +112,8 @@ impl<S: Service, E: Broadcast, C: Coin + Drop> World<S, E, C> {
             happened.taken.as_ref(),
             self.events,
         )?;
+        self.made.add(alloc, happened.at, happened.out)?;
+        self.watch.settle(verdict);
         self.events = self.events.wrapping_add(1);
         self.live = true;
         Ok(happened.seen)
@@ -117,12 +127,22 @@ impl<S: Service, E: Broadcast, C: Coin + Drop> World<S, E, C> {
     }
 
     /// Whether the world's premises held: at least n - f replicas are correct, and no event forged or collided. If not, the
-    /// first event that breaks one; one that does both forged.
+    /// first event that breaks one; one that does both forged. Where they held, the correct replicas agree.
     pub fn audit(&self) -> Audit
-        ensures { (w : Setting) (es : List Event)
-            → WorldStands (meaning S.stands S.rules E.stands E.rules C.bits (λ k. k.me) tags_of) self.now w es
+        ensures is { (w : Setting) (es : List Event)
+            → WorldStands (meaning S.stands S.rules S.shown E.stands E.rules E.shown C.bits (λ k. k.me) tags_of) self.now w es
             → result ≡ audit_of w es }
+        ensures agree { (w : Setting) (es : List Event)
+            → WorldStands (meaning S.stands S.rules S.shown E.stands E.rules E.shown C.bits (λ k. k.me) tags_of) self.now w es
+            → result ≡ Audit.Holds → Agree w es }
+        ensures stopped { (w : Setting) (es : List Event) (e : Event)
+            → WorldStopped (meaning S.stands S.rules S.shown E.stands E.rules E.shown C.bits (λ k. k.me) tags_of) self.now w es e
+            → result ≡ audit_of w es }
+        ensures stopped_agree { (w : Setting) (es : List Event) (e : Event)
+            → WorldStopped (meaning S.stands S.rules S.shown E.stands E.rules E.shown C.bits (λ k. k.me) tags_of) self.now w es e
+            → result ≡ Audit.Holds → Agree w es }
     {
+        agreement::<S, E>();
         if self.seats.correct.len() < self.seats.params.wait() {
             return Audit::TooManyFaulty;
         }
@@ -131,12 +151,18 @@ impl<S: Service, E: Broadcast, C: Coin + Drop> World<S, E, C> {
 
     /// The replica of this number, where it is correct.
     pub fn replica(&self, i: u8) -> Option<&Replica<S, E, C>>
-        ensures { (w : Setting) (es : List Event)
-            → WorldStands (meaning S.stands S.rules E.stands E.rules C.bits (λ k. k.me) tags_of) self.now w es
+        ensures is { (w : Setting) (es : List Event)
+            → WorldStands (meaning S.stands S.rules S.shown E.stands E.rules E.shown C.bits (λ k. k.me) tags_of) self.now w es
             → MatchOption result
             (w.is_correct i ≡ false)
-            (λ replica. IsReplica (meaning S.stands S.rules E.stands E.rules C.bits (λ k. k.me) tags_of)
+            (λ replica. IsReplica (meaning S.stands S.rules S.shown E.stands E.rules E.shown C.bits (λ k. k.me) tags_of)
             w (states_of w es) i replica.now) }
+        ensures stopped { (w : Setting) (es : List Event) (e : Event)
+            → WorldStopped (meaning S.stands S.rules S.shown E.stands E.rules E.shown C.bits (λ k. k.me) tags_of) self.now w es e
+            → MatchOption result
+            (w.is_correct i ≡ false)
+            (λ replica. IsLeft (meaning S.stands S.rules S.shown E.stands E.rules E.shown C.bits (λ k. k.me) tags_of)
+            w (states_of w es) (states_of w (e ∷ es)) (call_of w (states_of w es) e) i replica.now) }
     {
         match self.replicas.get(usize::from(i)) {
             Some(place) => place.as_ref(),
@@ -147,17 +173,23 @@ impl<S: Service, E: Broadcast, C: Coin + Drop> World<S, E, C> {
     /// The frames that one replica made for another, the oldest first. A faulty one made none, and none makes frames for
     /// itself.
     pub fn frames_made(&self, from: u8, to: u8) -> &[Bytes]
-        ensures { (w : Setting) (es : List Event)
-            → WorldStands (meaning S.stands S.rules E.stands E.rules C.bits (λ k. k.me) tags_of) self.now w es
+        ensures is { (w : Setting) (es : List Event)
+            → WorldStands (meaning S.stands S.rules S.shown E.stands E.rules E.shown C.bits (λ k. k.me) tags_of) self.now w es
+            → from < w.numbers.n → to < w.numbers.n → result.now ≡ frames_from w (states_of w es) from to }
+        ensures stopped { (w : Setting) (es : List Event) (e : Event)
+            → WorldStopped (meaning S.stands S.rules S.shown E.stands E.rules E.shown C.bits (λ k. k.me) tags_of) self.now w es e
             → from < w.numbers.n → to < w.numbers.n → result.now ≡ frames_from w (states_of w es) from to }
     {
         self.made.frames(from, to)
     }
 
-    /// How many events happened.
+    /// How many events happened: the one that stopped the world is none of them.
     pub fn events(&self) -> u64
-        ensures { (w : Setting) (es : List Event)
-            → WorldStands (meaning S.stands S.rules E.stands E.rules C.bits (λ k. k.me) tags_of) self.now w es
+        ensures is { (w : Setting) (es : List Event)
+            → WorldStands (meaning S.stands S.rules S.shown E.stands E.rules E.shown C.bits (λ k. k.me) tags_of) self.now w es
+            → result ≡ length es }
+        ensures stopped { (w : Setting) (es : List Event) (e : Event)
+            → WorldStopped (meaning S.stands S.rules S.shown E.stands E.rules E.shown C.bits (λ k. k.me) tags_of) self.now w es e
             → result ≡ length es }
     {
         self.events

@@ -1,6 +1,7 @@
 use Rattle.std.proofs.Common.{◌≡◌, arith, ◌∙◌, ap}
 use Rattle.keyed_channel.specs.Frames.{sealed}
 use Rattle.world_model.proofs.KeysAt.{keys_are, keys_there}
+use Rattle.world_model.proofs.Left.{left_before, happens_left}
 use Rattle.world_model.proofs.Happening.{same_frame}
 use Rattle.world_model.proofs.events.sealed_comes.Goals as goal
 
@@ -9,6 +10,7 @@ returns-then-to-n g c = λ w states seats stand replicas may.
     let keys = keys_are w c.args.seats.now c.args.from c.from.result c.deref.result.now c.in-Some.keys.now seats may.0 c.from.ensures c.deref.ensures.value
     c.in-Some.ensures.lookup.3.0 c.in-Some.ensures.lookup.1 in
     let many : c.in-Some.keys.now.n ≡ w.numbers.n = ap (λ k. k.n) keys ∙ (seats.own c.args.from may.0).1 in
+    let own : c.keys.result.now.n ≡ c.in-Some.keys.now.n = ap (λ k. k.n) c.keys.ensures in
     absurd (omega arith)
 
 pub returns-in_ok-frame-in-Some : goal.returns-in_ok-frame-in-Some
@@ -22,3 +24,6 @@ returns-in_ok-frame-in-Some g c = λ w states seats stand replicas may.
 pub returns-in-None : goal.returns-in-None
 returns-in-None g c = λ w states seats stand replicas may.
     absurd (keys_there w c.args.seats.now c.args.from c.from.result c.deref.result.now seats may.0 c.from.ensures c.deref.ensures.value c.in-None.ensures.lookup.3)
+
+pub returns-in_err-frame-in-Some : goal.returns-in_err-frame-in-Some
+returns-in_err-frame-in-Some g c = λ w states seats stand replicas may. happens_left _ w states _ _ c.from_residual.result c.from_residual.ensures.0 (left_before _ w states _ _ c.args.replicas.now replicas)

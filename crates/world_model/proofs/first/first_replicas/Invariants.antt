@@ -5,5 +5,5 @@ use Rattle.world_model.proofs.first.first_replicas.Given as goal
 
 abbrev pub invariant-loop-coin : goal.invariant-loop-coin
 invariant-loop-coin g l =
-    AreFirst (meaning g.S.Service.stands g.S.Service.rules g.E.Broadcast.stands g.E.Broadcast.rules g.C.Coin.bits (λ k. k.me) tags_of)
+    AreFirst (meaning g.S.Service.stands g.S.Service.rules g.S.Service.shown g.E.Broadcast.stands g.E.Broadcast.rules g.E.Broadcast.shown g.C.Coin.bits (λ k. k.me) tags_of)
     l.p l.mode l.correct l.keys l.yielded l.places.items

@@ -1,6 +1,5 @@
-use Rattle.std.proofs.Common.{◌≡◌}
-use Rattle.world_model.specs.FramesMade.{with_frames}
+use Rattle.world_model.proofs.TakenBack.{IsAdded}
 use Rattle.world_model.proofs.made.MadeFrames.add.Given as goal
 
 abbrev pub invariant-loop-frame : goal.invariant-loop-frame
-invariant-loop-frame l = l.self ≡ with_frames l.initial.self l.from l.yielded
+invariant-loop-frame l = IsAdded l.initial.self l.self l.from l.yielded l.receivers.items

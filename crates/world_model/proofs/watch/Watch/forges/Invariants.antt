@@ -2,8 +2,6 @@ use Rattle.std.proofs.Common.{◌≡◌, ℕ, ◌<◌, true, false}
 use Rattle.std.specs.List.{list_any, range_with_len}
 use Rattle.ritas_base.specs.declared.item.Kind.TheVariants.{Column}
 use Rattle.ritas_base.specs.Messages.{kind_eq}
-use Rattle.frame_codec.specs.Format.{Is}
-use Rattle.frame_codec.specs.Grammar.{column}
 use Rattle.ritas_core.specs.Machine.{CoreState}
 use Rattle.world_model.specs.World.{Setting}
 use Rattle.world_model.specs.Audit.{is_made_up}
@@ -15,4 +13,4 @@ use Rattle.world_model.proofs.watch.Watch.forges.Given as goal
 abbrev pub invariant-loop-echoer : goal.invariant-loop-echoer
 invariant-loop-echoer l =
     (w : Setting) (states : ℕ → CoreState) → SeatsStand w l.fn.seats → TablesStand w states l.fn.self → w.is_correct l.fn.at ≡ true → l.fn.at < w.numbers.n
-    → kind_eq l.fn.item.kind Column ≡ true → Is (column w.numbers.n) l.fn.item.value → list_any (is_made_up w states l.fn.at l.fn.item) (range_with_len 0 l.echoer) ≡ false
+    → kind_eq l.fn.item.kind Column ≡ true → list_any (is_made_up w states l.fn.at l.fn.item) (range_with_len 0 l.echoer) ≡ false

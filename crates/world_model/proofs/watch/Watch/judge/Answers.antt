@@ -7,8 +7,8 @@ use Rattle.world_model.specs.Watch.{WatchStands, verdict_after}
 use Rattle.world_model.proofs.Watching.{nothing_watched}
 use Rattle.world_model.proofs.watch.Watch.judge.Goals as goal
 
-pub returns-in-None : goal.returns-in-None
-returns-in-None c = λ w states call verdict seats within told stand.
+pub returns-in-None-clause-finds : goal.returns-in-None-clause-finds
+returns-in-None-clause-finds c = λ w states call verdict seats within told stand.
     let holds : verdict ≡ audits.Holds = sym stand.found ∙ c.in-Holds.is in
     let P : Audit → Type 0 = λ v. WatchStands w states v c.args.self.now → WatchStands w (after_call w states call) (verdict_after w states call v c.args.number) c.args.self.now in
     subst P (sym holds)

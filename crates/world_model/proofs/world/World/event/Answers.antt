@@ -1,22 +1,53 @@
 use Rattle.std.proofs.Common.{Option, refl, ◌∙◌, sym, subst}
 use Rattle.ritas_base.specs.declared.item.Item.{Item}
-use Rattle.world_model.specs.Watch.{IsTold}
+use Rattle.world_model.specs.declared.watch.Watch.{Watch}
+use Rattle.world_model.specs.Watch.{IsTold, WatchStands, verdict_after}
 use Rattle.std.proofs.lemmas.List.{with_items_is}
-use Rattle.world_model.specs.World.{states_of}
-use Rattle.world_model.proofs.Continues.{continues, same_places}
+use Rattle.world_model.specs.World.{states_before, call_of, after_call}
+use Rattle.world_model.proofs.Continues.{continues, halts, event_stops, same_places, frames_before, replicas_before}
+use Rattle.world_model.proofs.Left.{left_after}
 use Rattle.world_model.proofs.world.World.event.Goals as goal
 
 pub returns-clause-does : goal.returns-clause-does
 returns-clause-does g c = λ w es stand may few.
-    continues _ c.args.self.now _ w es c.args.ev.now c.happen.new.replicas c.in_ok-happened.happened stand few
-    (c.in_ok-happened.ensures w (states_of w es) stand.seats stand.made (same_places _ w (states_of w es) c.args.self.now.replicas.items c.as_mut_slice.result.now (sym c.as_mut_slice.ensures.value) stand.replicas) may)
+    let found = c.in_ok-happened.ensures w (states_before w es) stand.seats (frames_before w es c.args.self.now.made stand.going stand.made)
+    (same_places _ w (states_before w es) c.args.self.now.replicas.items c.as_mut_slice.result.now (sym c.as_mut_slice.ensures.value) (replicas_before _ w es c.args.self.now.replicas.items stand.going stand.replicas)) may in
+    continues c.made_by_entry.ensures _ c.args.self.now _ w es c.args.ev.now c.happen.new.replicas c.in_ok-happened.happened stand few found
     (λ same. with_items_is c.args.self.now.replicas c.happen.new.replicas (same ∙ sym c.args.self.now.replicas.ok.0))
     (record {
       seats = refl;
-      made = c.in_ok-add.ensures;
+      made = c.in_ok-add.ensures.ok;
       events = refl;
       watch = λ v before call verdict seats within told old.
-          c.in_ok-judge.ensures v before call verdict seats within
-          (subst (λ (o : Option Item). IsTold v before call c.in_ok-happened.happened.at c.in_ok-happened.happened.forged o) (sym c.as_ref.ensures.value) told) old;
+          subst (λ (x : Watch). WatchStands v (after_call v before call) (verdict_after v before call verdict c.args.self.now.events) x) (sym c.settle.ensures)
+          (c.in_ok-verdict.ensures.finds v before call verdict seats within
+          (subst (λ (o : Option Item). IsTold v before call c.in_ok-happened.happened.at c.in_ok-happened.happened.forged o) (sym c.as_ref.ensures.value) told) old);
       live = refl;
     })
+
+pub returns-in_err-happened-clause-does : goal.returns-in_err-happened-clause-does
+returns-in_err-happened-clause-does g c = λ w es stand may few.
+    let found = c.in_err-happened.ensures w (states_before w es) stand.seats (frames_before w es c.args.self.now.made stand.going stand.made)
+    (same_places _ w (states_before w es) c.args.self.now.replicas.items c.as_mut_slice.result.now (sym c.as_mut_slice.ensures.value) (replicas_before _ w es c.args.self.now.replicas.items stand.going stand.replicas)) may in
+    event_stops _ _ w es c.args.ev.now c.from_residual.result c.from_residual.ensures.0
+    (halts _ c.args.self.now _ w es c.args.ev.now c.happen.new.replicas stand found
+    (λ same. with_items_is c.args.self.now.replicas c.happen.new.replicas (same ∙ sym c.args.self.now.replicas.ok.0))
+    (record { seats = refl; made = refl; events = refl; verdict = refl; live = refl }))
+
+pub returns-in_err-verdict-clause-does : goal.returns-in_err-verdict-clause-does
+returns-in_err-verdict-clause-does g c = λ w es stand may few.
+    let found = c.in_ok-happened.ensures w (states_before w es) stand.seats (frames_before w es c.args.self.now.made stand.going stand.made)
+    (same_places _ w (states_before w es) c.args.self.now.replicas.items c.as_mut_slice.result.now (sym c.as_mut_slice.ensures.value) (replicas_before _ w es c.args.self.now.replicas.items stand.going stand.replicas)) may in
+    event_stops _ _ w es c.args.ev.now c.from_residual-in_err-verdict.result c.from_residual-in_err-verdict.ensures.0
+    (halts _ c.args.self.now _ w es c.args.ev.now c.happen.new.replicas stand (left_after _ w (states_before w es) _ (call_of w (states_before w es) c.args.ev.now) _ found.replicas)
+    (λ same. with_items_is c.args.self.now.replicas c.happen.new.replicas (same ∙ sym c.args.self.now.replicas.ok.0))
+    (record { seats = refl; made = refl; events = refl; verdict = c.judge.ensures.same; live = refl }))
+
+pub returns-in_err-add-clause-does : goal.returns-in_err-add-clause-does
+returns-in_err-add-clause-does g c = λ w es stand may few.
+    let found = c.in_ok-happened.ensures w (states_before w es) stand.seats (frames_before w es c.args.self.now.made stand.going stand.made)
+    (same_places _ w (states_before w es) c.args.self.now.replicas.items c.as_mut_slice.result.now (sym c.as_mut_slice.ensures.value) (replicas_before _ w es c.args.self.now.replicas.items stand.going stand.replicas)) may in
+    event_stops _ _ w es c.args.ev.now c.from_residual-in_err-add.result c.from_residual-in_err-add.ensures.0
+    (halts _ c.args.self.now _ w es c.args.ev.now c.happen.new.replicas stand (left_after _ w (states_before w es) _ (call_of w (states_before w es) c.args.ev.now) _ found.replicas)
+    (λ same. with_items_is c.args.self.now.replicas c.happen.new.replicas (same ∙ sym c.args.self.now.replicas.ok.0))
+    (record { seats = refl; made = c.in_err-add.ensures.err; events = refl; verdict = c.judge.ensures.same; live = refl }))

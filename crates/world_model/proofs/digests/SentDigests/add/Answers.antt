@@ -1,8 +1,0 @@
-use Rattle.std.proofs.Common.{sym, ◌∙◌}
-use Rattle.world_model.proofs.HashedSteps.{digest_put}
-use Rattle.world_model.proofs.digests.SentDigests.add.Goals as goal
-
-pub returns-in_ok-insert : goal.returns-in_ok-insert
-returns-in_ok-insert c = λ s i.
-    digest_put c.args.self.now.digests c.insert.new.self c.args.slot c.args.replica c.args.digest (sym c.contains_key.ensures ∙ c.if-not-contains_key.true)
-    c.in_ok-insert.ensures.updates.0 s i

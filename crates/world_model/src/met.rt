@@ -1,0 +1,231 @@
+//! What replicas met at the messages that were sent to them.
+
+ghost use Rattle.std.specs.Prelude.{◌≡◌, ◌<◌, IfOk, IfSome};
+ghost use Rattle.std.specs.List.{list_any};
+ghost use Rattle.std.specs.Str.{bytes_eq};
+ghost use Rattle.ritas_base.specs.declared.slot.Slot.{Slot};
+ghost use Rattle.world_model.specs.World.{Setting};
+ghost use Rattle.world_model.specs.Stands.{SeatsStand};
+ghost use Rattle.world_model.specs.Met.{pair_of, met_with, turned};
+ghost use Rattle.world_model.specs.Hashed.{AreMet};
+
+use crate::seats::Seats;
+use keyed_channel::Channel;
+use ritas_base::{Mem, Slot, Tagger};
+use std::alloc::Global;
+use std::collections::BTreeMap;
+use std::marker::Model;
+
+/// The entries that two replicas have of each other, of one message: what the first gives, and what it expects.
+#[derive(Clone, Copy)]
+pub(crate) struct EntryPair {
+    pub(crate) given: [u8; 32],
+    pub(crate) expected: [u8; 32],
+}
+
+/// What a replica met at a message: the digest, and the entries that it and each replica have of each other.
+#[derive(Drop)]
+pub(crate) struct Met {
+    digest: [u8; 32],
+    pairs: Vec<EntryPair>,
+}
+
+impl Model for Met {
+    ghost use Rattle.world_model.specs.Met.{MetEntries};
+
+    ghost Value = { MetEntries };
+
+    ghost view = { λ m. record { digest = m.digest; pairs = m.pairs.items } };
+}
+
+/// A slot at a replica.
+#[derive(Clone, Copy, Debug, PartialEq, Eq, PartialOrd, Ord)]
+pub(crate) struct SlotAt {
+    pub(crate) slot: Slot,
+    pub(crate) replica: u8,
+}
+
+/// What each replica met at the message that it took from the origin, for each slot where it did.
+#[derive(Drop)]
+pub(crate) struct MetSends {
+    table: BTreeMap<SlotAt, Met>,
+}
+
+// Whether this is the entry that is given in one of these.
+fn some_gives(pairs: &[EntryPair], entry: &[u8]) -> bool
+    ensures { result ≡ list_any (λ pair. bytes_eq entry.now pair.given) pairs.now }
+{
+    pairs.iter().any(|pair| entry == pair.given.as_slice())
+}
+
+impl Met {
+    ghost use Rattle.std.specs.Prelude.{◌≡◌, true, slice_get, Some};
+    ghost use Rattle.std.specs.Option.{option_copied};
+    ghost use Rattle.world_model.specs.Met.{given_in};
+    ghost use Rattle.world_model.specs.Audit.{is_among};
+
+    /// The digest.
+    pub(crate) fn digest(&self) -> &[u8; 32]
+        ensures { result.now ≡ self.now.digest }
+    {
+        &self.digest
+    }
+
+    /// The entries that the replica and another have of each other.
+    pub(crate) fn pair(&self, other: u8) -> Option<&EntryPair>
+        ensures { option_copied result ≡ slice_get self.now.pairs other }
+    {
+        self.pairs.get(usize::from(other))
+    }
+
+    // Whether this is the entry that the replica gives another.
+    fn gives_to(&self, other: u8, entry: &[u8]) -> bool
+        ensures { result ≡ true → is_among (given_in (Some self.now)) (Some entry.now) ≡ true }
+    {
+        match self.pair(other) {
+            Some(pair) => entry == pair.given.as_slice(),
+            None => false,
+        }
+    }
+
+    /// Whether this is one of the entries that the replica gives. The one for the likely verifier is looked at first.
+    pub(crate) fn gives(&self, likely: u8, entry: &[u8]) -> bool
+        ensures { result ≡ is_among (given_in (Some self.now)) (Some entry.now) }
+    {
+        if self.gives_to(likely, entry) {
+            return true;
+        }
+        some_gives(self.pairs.as_slice(), entry)
+    }
+}
+
+// The same entries, as the other of the two has them.
+fn turned(pair: &EntryPair) -> EntryPair
+    ensures { result ≡ turned pair.now }
+{
+    EntryPair {
+        given: pair.expected,
+        expected: pair.given,
+    }
+}
+
+// The entries that the replica with these keys and another have of each other.
+fn tagged_pair(keys: &Channel, slot: &Slot, digest: &[u8; 32], other: u8) -> EntryPair
+    requires { other < 31 }
+    ensures { result ≡ pair_of keys.now slot.now digest.now other }
+{
+    let me = keys.keys().me();
+    EntryPair {
+        given: keys.entry(slot, me, other, digest),
+        expected: keys.entry(slot, other, me, digest),
+    }
+}
+
+// The same, where the other met this and has the key too: they were made then.
+fn shared_pair(met: &Met, others: &Channel, keys: &Channel, digest: &[u8; 32]) -> Option<EntryPair>
+    ensures { IfSome result (λ pair. (s : Slot) → met.now ≡ met_with others.now s met.now.digest
+        → pair ≡ pair_of keys.now s digest.now others.now.me) }
+{
+    if met.digest() != digest || !keys.shares_key(others) {
+        return None;
+    }
+    match met.pair(keys.me()) {
+        Some(pair) => Some(turned(pair)),
+        None => None,
+    }
+}
+
+// The same, where what the other met at the slot says it.
+fn known_pair(
+    seats: &Seats,
+    sent: &MetSends,
+    keys: &Channel,
+    slot: Slot,
+    digest: &[u8; 32],
+    other: u8,
+) -> Option<EntryPair>
+    ensures { IfSome result (λ pair. (w : Setting) → SeatsStand w seats.now → AreMet w sent.now.table → other < w.numbers.n
+        → pair ≡ pair_of keys.now slot digest.now other) }
+{
+    if !seats.correct.has(other) {
+        return None;
+    }
+    match (seats.keys.get(usize::from(other)), sent.at(slot, other)) {
+        (Some(others), Some(met)) => shared_pair(met, others, keys, digest),
+        _ => None,
+    }
+}
+
+// The entries that the replica with these keys and another have of each other, each made once.
+fn pair_with(
+    seats: &Seats,
+    sent: &MetSends,
+    keys: &Channel,
+    slot: Slot,
+    digest: &[u8; 32],
+    other: u8,
+) -> EntryPair
+    requires { other < 31 }
+    ensures { (w : Setting) → SeatsStand w seats.now → AreMet w sent.now.table → other < w.numbers.n
+        → result ≡ pair_of keys.now slot digest.now other }
+{
+    match known_pair(seats, sent, keys, slot, digest, other) {
+        Some(pair) => pair,
+        None => tagged_pair(keys, &slot, digest, other),
+    }
+}
+
+/// What the replica with these keys meets at a message with this digest. The one error is want of memory.
+pub(crate) fn meet(
+    alloc: Global,
+    seats: &Seats,
+    sent: &MetSends,
+    keys: &Channel,
+    slot: Slot,
+    digest: [u8; 32],
+) -> Result<Met, Mem>
+    ensures { IfOk result (λ met. (w : Setting) → SeatsStand w seats.now → AreMet w sent.now.table
+        → keys.now.n ≡ w.numbers.n → met ≡ met_with keys.now slot digest) }
+{
+    let n = keys.keys().n();
+    let mut pairs = Vec::with_capacity(alloc, usize::from(n))?;
+    for other in 0..n {
+        pairs.push(pair_with(seats, sent, keys, slot, &digest, other))?;
+    }
+    Ok(Met { digest, pairs })
+}
+
+impl MetSends {
+    ghost use Rattle.std.specs.Prelude.{◌≡◌, ℕ, Some, None, OnOk, if◌then◌else◌};
+    ghost use Rattle.std.specs.Option.{option_copied, option_or};
+    ghost use Rattle.ritas_base.specs.declared.slot.Slot.{Slot};
+    ghost use Rattle.world_model.specs.Hashed.{met_at, is_same_at};
+
+    /// None.
+    pub(crate) fn new(alloc: Global) -> MetSends
+        ensures { (s : Slot) (i : ℕ) → met_at result.table s i ≡ None }
+    {
+        MetSends {
+            table: BTreeMap::new(alloc),
+        }
+    }
+
+    /// What a replica met at a slot, if it did.
+    pub(crate) fn at(&self, slot: Slot, replica: u8) -> Option<&Met>
+        ensures { option_copied result ≡ met_at self.now.table slot replica }
+    {
+        self.table.get(&SlotAt { slot, replica })
+    }
+
+    /// What a replica met at a slot, where it met nothing yet.
+    pub(crate) fn add(&mut self, slot: Slot, replica: u8, met: Met) -> Result<(), Mem>
+        ensures { OnOk result ((s : Slot) (i : ℕ) → met_at self.new.table s i
+            ≡ (if is_same_at slot replica s i then option_or (met_at self.old.table s i) (Some met) else met_at self.old.table s i)) }
+    {
+        let at = SlotAt { slot, replica };
+        if !self.table.contains_key(&at) {
+            self.table.insert(at, met)?;
+        }
+        Ok(())
+    }
+}
