@@ -1,4 +1,4 @@
--- The world of a header is one of keys that were dealt, with layers that serve its mode.
+-- The world of a header has layers that serve its mode.
 use Rattle.std.proofs.Common.{◌≡◌, ℕ, ◌<◌, ◌≤◌, Bool, true, false, cond, ◌||◌, List, refl, sym, ap, inl, inr, arith}
 use Rattle.std.specs.Prelude.{◌==◌, ◌⊎◌, Result, Ok, Err}
 use Rattle.std.proofs.lemmas.Bool.{cases_Bool, cases_lt, eqb-true, cond-true, cond-false}
@@ -11,7 +11,6 @@ use Rattle.ritas_base.specs.declared.mode.Vect.TheVariants.{Echo, Reliable}
 use Rattle.ritas_base.specs.Members.{has_member}
 use Rattle.layer_api.specs.Broadcast.{BroadcastRules}
 use Rattle.layer_api.specs.Service.{ServiceRules}
-use Rattle.keyed_channel.specs.Keyed.{coin_bit}
 use Rattle.reliable_bcast.specs.Bracha.{bracha}
 use Rattle.reliable_bcast.specs.ValueLaws.{kinds_of_bracha}
 use Rattle.echo_bcast.specs.Matrix.{echo}
@@ -28,8 +27,8 @@ use Rattle.schedule_file.specs.ReadHeader.{Heading, heading}
 use Rattle.schedule_file.specs.Spelling.{IsHeading}
 use Rattle.world_model.specs.declared.audit.Audit.{Audit}
 use Rattle.world_model.specs.declared.audit.Audit.TheVariants as audits
-use Rattle.world_model.specs.Dealt.{Deal, IsDeal}
-use Rattle.ritas.specs.Layers.{master_of, coin_to, other_of, setting_by, setting_of, AreCoresOf}
+use Rattle.world_model.specs.EveryWorld.{IsWorld}
+use Rattle.ritas.specs.Layers.{other_of, setting_by, setting_of, AreCoresOf}
 use Rattle.ritas.specs.Report.{audit_status, fault_status}
 
 -- ---- the layers
@@ -109,23 +108,17 @@ root_by root false false false a b c e = absurd cc
 root_of : (h : Heading) → IsHeading h → (1 ≤ h.root) × (h.root ≤ 6)
 root_of h is = root_by h.root (h.root == 1) (h.root == 2) (h.root == 3) refl refl refl is.root
 
-abbrev pub deal_of : Header → Deal
-deal_of h = record {
-  numbers = h.p;
-  mode = h.mode;
-  is_correct = has_member h.correct;
-  coin = λ i. coin_bit (coin_to h i);
-  master = master_of h.keys;
-  session = h.session;
-}
-
-pub is_deal : (service : ServiceRules) (h : Header) → IsHeading (heading h) → service.serves h.mode.root ≡ true → (other : BroadcastRules) → HasForm h.mode other
-    → IsDeal service other (deal_of h)
-is_deal service h is serves other form = record {
+-- the world of a header is one that the law of agreement speaks of
+pub is_world : (service : ServiceRules) (h : Header) → IsHeading (heading h) → service.serves h.mode.root ≡ true → (other : BroadcastRules) → HasForm h.mode other
+    → IsWorld service other (setting_by service other h)
+is_world service h is serves other form = record {
   session = is.numbers;
   within = member_within h is;
+  words = refl;
+  casts = λ s. refl;
   serves = serves;
   form = form;
+  own = λ i below. (refl, refl);
 }
 
 -- its correct replicas have cores of these layers

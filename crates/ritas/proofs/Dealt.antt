@@ -11,7 +11,9 @@ use Rattle.ritas_base.specs.History.{Call}
 use Rattle.ritas_base.specs.Messages.{Place}
 use Rattle.ritas_base.specs.Tags.{Tags}
 use Rattle.layer_api.specs.Broadcast.{BroadcastRules}
+use Rattle.layer_api.specs.BroadcastCalls.{CastShown}
 use Rattle.layer_api.specs.Service.{ServiceRules, Seat, Word}
+use Rattle.layer_api.specs.ServiceCalls.{ServiceShown}
 use Rattle.ritas.specs.Layers.{dealt_to, coin_to, setting_by, layers_by}
 
 at_number : {X : Type 0} (f : ℕ → X) (n i : ℕ) (x : X) → slice_get (map f (range_with_len 0 n)) i ≡ Some x → x ≡ f i
@@ -25,11 +27,11 @@ at_number {X = X} f n i x e =
 pub own_keys : (h : Header) → AreKeys h.p.n (map (dealt_to h) (range_with_len 0 h.p.n))
 own_keys h i k e = let same = at_number (dealt_to h) h.p.n i k e in (ap (λ (r : KeyRow). r.me) same, ap (λ (r : KeyRow). r.n) same)
 
-pub world_of_header : {S E : Type 0} (service_stands : S → Seat → List Word → Type 0) (service : ServiceRules)
-    (other_stands : E → Place → Tags → List Call → Type 0) (other : BroadcastRules) (h : Header)
-    → IsWorldOf (layers_by service_stands service other_stands other) h.p h.mode h.correct (map (dealt_to h) (range_with_len 0 h.p.n))
+pub world_of_header : {S E : Type 0} (service_stands : S → Seat → List Word → Type 0) (service : ServiceRules) (service_shown : S → ServiceShown)
+    (other_stands : E → Place → Tags → List Call → Type 0) (other : BroadcastRules) (other_shown : E → CastShown) (h : Header)
+    → IsWorldOf (layers_by service_stands service service_shown other_stands other other_shown) h.p h.mode h.correct (map (dealt_to h) (range_with_len 0 h.p.n))
     (map (coin_to h) (range_with_len 0 h.p.n)) (setting_by service other h)
-world_of_header service_stands service other_stands other h = record {
+world_of_header service_stands service service_shown other_stands other other_shown h = record {
   numbers = refl;
   mode = refl;
   correct = λ i. refl;
@@ -37,4 +39,5 @@ world_of_header service_stands service other_stands other h = record {
   service = refl;
   keys = λ i k e. sym (at_number (dealt_to h) h.p.n i k e);
   coins = λ i coin e. ap coin_bit (sym (at_number (coin_to h) h.p.n i coin e));
+  going = λ k i. refl;
 }

@@ -9,9 +9,6 @@ use Rattle.schedule_file.specs.FileBytes.{limit, Fails}
 use Rattle.schedule_file.specs.ReadHeader.{Heading, header_at}
 use Rattle.schedule_file.specs.ReadEvents.{event_at, events_at}
 use Rattle.schedule_file.specs.Schedule.{file_of}
-use Rattle.schedule_file.specs.Spelling.{IsEvent}
-use Rattle.ritas_base.specs.declared.event.Event.TheVariants.{Frame, Input, Turn, Pass, Sealed}
-use Rattle.world_model.specs.Stands.{MayHappen}
 use Rattle.ritas.specs.Onto.{onto}
 use Rattle.ritas.proofs.Files.{heading_in, events_in}
 
@@ -104,12 +101,3 @@ events_behind k h (Err x) es e = absurd cc
 pub fault_behind : (k : Heading) (read : Result (List Event) FileFault) (x : FileFault) → behind k read ≡ Err x → read ≡ Err x
 fault_behind k (Ok ds) x e = absurd cc
 fault_behind k (Err y) x e = cc
-
--- ---- an event of a file may happen
-
-pub may_happen : (n : ℕ) (e : Event) → IsEvent n e → MayHappen n e
-may_happen n (Frame to bytes) is = is.0
-may_happen n (Input at bytes) is = is.0
-may_happen n (Turn at) is = is
-may_happen n (Pass from to m) is = (is.0.sender, is.0.receiver, is.0.other)
-may_happen n (Sealed from to body) is = (is.0.sender, is.0.receiver, is.0.other)

@@ -6,3 +6,4 @@ pub mod Written
 pub mod Outs
 pub mod Totals
 pub mod Dealt
+pub mod Replying

@@ -1,5 +1,5 @@
 -- The layers of the program, and the world that a schedule file's header describes: its layers, and its keys and coins dealt from the master key.
-use Rattle.std.specs.Prelude.{◌≡◌, ℕ, ◌==◌, List, true, if◌then◌else◌}
+use Rattle.std.specs.Prelude.{◌≡◌, ℕ, ◌==◌, List, true, false, if◌then◌else◌}
 use Rattle.ritas_base.specs.declared.mode.Mode.{Mode}
 use Rattle.ritas_base.specs.History.{Call}
 use Rattle.ritas_base.specs.Messages.{Place}
@@ -18,14 +18,17 @@ use Rattle.schedule_file.specs.declared.header.Header.{Header}
 use Rattle.schedule_file.specs.declared.header.HeaderKeys.{HeaderKeys}
 use Rattle.schedule_file.specs.declared.header.HeaderKeys.TheVariants.{Master}
 use Rattle.layer_api.specs.Broadcast.{BroadcastRules}
+use Rattle.layer_api.specs.BroadcastCalls.{CastShown}
 use Rattle.layer_api.specs.Service.{ServiceRules, Seat, Word}
+use Rattle.layer_api.specs.ServiceCalls.{ServiceShown}
 use Rattle.ritas_core.specs.CoreOf.{IsCoreOf}
 use Rattle.world_model.specs.World.{Setting, rules_at}
 
 -- a service and a broadcast beside the reliable one, with keys and coins that were dealt
-abbrev pub layers_by : {S E : Type 0} → (S → Seat → List Word → Type 0) → ServiceRules → (E → Place → Tags → List Call → Type 0) → BroadcastRules
-    → Meaning S E CoinSeed KeyRow
-layers_by service_stands service other_stands other = meaning service_stands service other_stands other coin_bit (λ k. k.me) tags_of
+abbrev pub layers_by : {S E : Type 0} → (S → Seat → List Word → Type 0) → ServiceRules → (S → ServiceShown)
+    → (E → Place → Tags → List Call → Type 0) → BroadcastRules → (E → CastShown) → Meaning S E CoinSeed KeyRow
+layers_by service_stands service service_shown other_stands other other_shown =
+    meaning service_stands service service_shown other_stands other other_shown coin_bit (λ k. k.me) tags_of
 
 -- the broadcast that a mode has beside the reliable one
 abbrev pub other_of : Mode → BroadcastRules
@@ -41,7 +44,7 @@ dealt_to h i = dealt (master_of h.keys) h.session h.p.n i
 abbrev pub coin_to : Header → ℕ → CoinSeed
 coin_to h i = record { session = h.session; key = coin_key_of (master_of h.keys) h.session i }
 
--- the world of a header, with a service and a broadcast
+-- the world of a header, with a service and a broadcast: no replica stops between events
 abbrev pub setting_by : ServiceRules → BroadcastRules → Header → Setting
 setting_by service other h = record {
   numbers = h.p;
@@ -51,6 +54,7 @@ setting_by service other h = record {
   service = service;
   coin = λ i. coin_bit (coin_to h i);
   keys = dealt_to h;
+  stops = λ k i. false;
 }
 
 -- the service of a root service

@@ -5,7 +5,8 @@ use Rattle.hex.specs.Hex.{encode_lower}
 use Rattle.ritas_base.specs.declared.event.Event.{Event}
 use Rattle.ritas_base.specs.declared.mode.Vect.{Vect}
 use Rattle.ritas_base.specs.declared.mode.Vect.TheVariants.{Echo, Reliable}
-use Rattle.layer_api.specs.Service.{command_slot, Ending, Undecided, Over, Decided, Bit, Nothing, Value, Spent}
+use Rattle.layer_api.specs.Service.{Ending, Undecided, Over, Decided, Bit, Nothing, Value, Spent}
+use Rattle.ritas_base.specs.Slots.{command_slot}
 use Rattle.keyed_channel.specs.KeyRow.{KeyRow}
 use Rattle.ritas_core.specs.Rules.{Rules, seat_of}
 use Rattle.ritas_core.specs.Parts.{Entry, parts}

@@ -11,17 +11,37 @@ mod tests;
 mod words;
 
 use outside::{FromRead, ToWrite};
+use ritas_base::Mem;
 use run::run;
+use std::alloc::{AllocGlobal, Global};
+use std::env::Env;
+use std::io::ErrorKind;
 use std::process::ExitCode;
 use std::{env, io};
 
-fn main(rt: HostRuntime) -> io::Result<ExitCode> {
-    let alloc = rt.alloc();
-    let mut words = Vec::new(alloc);
-    for word in env::args(&rt)? {
-        words.push(word)?;
+// The words of the command line. A command line with a word that isn't UTF-8 is a faulty one, as that with no words is.
+fn read_words<R: Env + AllocGlobal>(rt: &R) -> Result<Vec<String>, Mem> {
+    let mut words = Vec::new(rt.alloc());
+    match env::args(rt) {
+        Ok(args) => {
+            for word in args {
+                words.push(word)?;
+            }
+        }
+        Err(error) => {
+            if error.kind() == ErrorKind::OutOfMemory {
+                return Err(Mem);
+            }
+        }
     }
+    Ok(words)
+}
+
+fn main(rt: HostRuntime) -> ExitCode {
+    let Ok(words) = read_words(&rt) else {
+        return ExitCode::from(8);
+    };
     let mut input = FromRead::new(rt.reader());
     let mut output = ToWrite::new(io::writer(&rt));
-    Ok(ExitCode::from(run(alloc, &words, &mut input, &mut output)))
+    ExitCode::from(run(rt.alloc(), &words, &mut input, &mut output))
 }

@@ -6,12 +6,10 @@ ghost use Rattle.ritas_core.specs.Rules.{other_form};
 ghost use Rattle.schedule_file.specs.declared.fault.FileFault.TheVariants.{Read};
 ghost use Rattle.schedule_file.specs.declared.stage.Stage.TheVariants.{Open};
 ghost use Rattle.schedule_file.specs.FileBytes.{Fails};
-ghost use Rattle.schedule_file.specs.Place.{spot};
-ghost use Rattle.schedule_file.specs.ReadEvents.{events_at};
 ghost use Rattle.schedule_file.specs.ReadHeader.{heading};
 ghost use Rattle.schedule_file.specs.Spelling.{IsHeading};
 ghost use Rattle.ritas.specs.Layers.{layers_by};
-ghost use Rattle.ritas.specs.Onto.{onto};
+ghost use Rattle.ritas.specs.Onto.{more_events};
 ghost use Rattle.ritas.specs.Replayed.{StandsFor};
 
 use crate::deal::{deal_coins, deal_keys};
@@ -39,14 +37,12 @@ impl<S: Service, E: Broadcast> Replayed<S, E> {
     ghost use Rattle.schedule_file.specs.declared.fault.FileFault.TheVariants.{Read};
     ghost use Rattle.schedule_file.specs.declared.stage.Stage.TheVariants.{Open};
     ghost use Rattle.schedule_file.specs.FileBytes.{Fails};
-    ghost use Rattle.schedule_file.specs.Place.{spot};
-    ghost use Rattle.schedule_file.specs.ReadEvents.{events_at};
     ghost use Rattle.schedule_file.specs.ReadHeader.{heading};
     ghost use Rattle.schedule_file.specs.Spelling.{IsHeading};
     ghost use Rattle.world_model.specs.Counts.{total};
-    ghost use Rattle.world_model.specs.Stands.{MayHappen};
+    ghost use Rattle.ritas_base.specs.Events.{MayHappen};
     ghost use Rattle.ritas.specs.Layers.{layers_by};
-    ghost use Rattle.ritas.specs.Onto.{onto};
+    ghost use Rattle.ritas.specs.Onto.{more_events};
     ghost use Rattle.ritas.specs.Replayed.{StandsFor};
 
     // The world of a header, before any event.
@@ -54,7 +50,7 @@ impl<S: Service, E: Broadcast> Replayed<S, E> {
         requires heading { IsHeading (heading header) }
         requires serves { S.rules.serves header.mode.root ≡ true }
         requires form { E.FORM ≡ other_form header.mode }
-        ensures stands { let m = layers_by S.stands S.rules E.stands E.rules in IfOk result (λ x. StandsFor m x []) }
+        ensures stands { let m = layers_by S.stands S.rules S.shown E.stands E.rules E.shown in IfOk result (λ x. StandsFor m x []) }
         ensures header { IfOk result (λ x. x.header ≡ header) }
         ensures none { IfOk result (λ x. total x.counts ≡ 0) }
     {
@@ -71,7 +67,7 @@ impl<S: Service, E: Broadcast> Replayed<S, E> {
     // Lets one event more happen.
     fn step(&mut self, alloc: Global, event: &Event) -> Result<(), Mem>
         requires { total self.old.counts < 2 ^ 64 - 1 }
-        ensures stands { let m = layers_by S.stands S.rules E.stands E.rules in
+        ensures stands { let m = layers_by S.stands S.rules S.shown E.stands E.rules E.shown in
             (es : List Event) → StandsFor m self.old es → MayHappen self.old.header.p.n event.now
             → OnOk result (StandsFor m self.new (event.now ∷ es)) }
         ensures header { self.new.header ≡ self.old.header }
@@ -92,11 +88,11 @@ impl<S: Service, E: Broadcast> Replayed<S, E> {
         requires open { reader.old.stage ≡ Open }
         requires n { reader.old.n ≡ self.old.header.p.n }
         requires none { total self.old.counts ≡ 0 }
-        ensures exact { let m = layers_by S.stands S.rules E.stands E.rules in
+        ensures exact { let m = layers_by S.stands S.rules S.shown E.stands E.rules E.shown in
             I.tells ≡ true → (before : List Event) → StandsFor m self.old before → MatchResult result
             (λ _. (es : List Event) × StandsFor m self.new es
-            × (onto before (events_at 67108865 reader.old.n (spot reader.old.held (I.left input.old))) ≡ Ok es))
-            (λ e. Fails e (onto before (events_at 67108865 reader.old.n (spot reader.old.held (I.left input.old))))) }
+            × (more_events before reader.old (I.left input.old) ≡ Ok es))
+            (λ e. Fails e (more_events before reader.old (I.left input.old))) }
         ensures header { self.new.header ≡ self.old.header }
         ensures cause { HasCause (I.faults input.old) (I.faults input.new) (result ≡ Err Read) }
     {
@@ -124,11 +120,11 @@ pub(crate) fn load<S: Service, E: Broadcast, I: Source>(
     requires form { E.FORM ≡ other_form header.mode }
     requires open { reader.old.stage ≡ Open }
     requires n { reader.old.n ≡ header.p.n }
-    ensures exact { let m = layers_by S.stands S.rules E.stands E.rules in
+    ensures exact { let m = layers_by S.stands S.rules S.shown E.stands E.rules E.shown in
         I.tells ≡ true → MatchResult result
         (λ x. (es : List Event) × StandsFor m x es
-        × (onto [] (events_at 67108865 reader.old.n (spot reader.old.held (I.left input.old))) ≡ Ok es))
-        (λ e. Fails e (onto [] (events_at 67108865 reader.old.n (spot reader.old.held (I.left input.old))))) }
+        × (more_events [] reader.old (I.left input.old) ≡ Ok es))
+        (λ e. Fails e (more_events [] reader.old (I.left input.old))) }
     ensures header { IfOk result (λ x. x.header ≡ header) }
     ensures cause { HasCause (I.faults input.old) (I.faults input.new) (result ≡ Err Read) }
 {

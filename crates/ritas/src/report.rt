@@ -4,7 +4,7 @@ ghost use Rattle.std.specs.List.{flat_map, range_with_len};
 ghost use Rattle.ritas_base.specs.declared.event.Event.{Event};
 ghost use Rattle.keyed_channel.specs.Keyed.{tags_of};
 ghost use Rattle.keyed_channel.specs.KeyRow.{KeyRow};
-ghost use Rattle.layer_api.specs.Service.{command_slot};
+ghost use Rattle.ritas_base.specs.Slots.{command_slot};
 ghost use Rattle.replica.specs.Replica.{ReplicaStands};
 ghost use Rattle.ritas_core.specs.CoreOf.{IsCoreOf};
 ghost use Rattle.ritas_core.specs.Machine.{CoreState};
@@ -21,7 +21,7 @@ ghost use Rattle.ritas.specs.Report.{out_line, origin_lines, outs_of, out_lines,
 
 use crate::lines::{audit_line, count_line, ending_line, head_line, out_line, replica_line};
 use crate::replay::Replayed;
-use keyed_channel::Keys;
+use keyed_channel::Channel;
 use layer_api::{Broadcast, Service};
 use replica::Replica;
 use ritas_base::{Coin, Slot};
@@ -61,11 +61,11 @@ fn add_out(
 fn add_delivered<S: Service, E: Broadcast, C: Coin + Drop>(
     alloc: Global,
     text: &mut String,
-    core: &Core<S, E, C, Keys>,
+    core: &Core<S, E, C, Channel>,
     origin: u8,
     num: u32,
 ) -> Result<(), AllocError>
-    ensures { let m = meaning S.stands S.rules E.stands E.rules C.bits (λ k. k.me) tags_of in
+    ensures { let m = meaning S.stands S.rules S.shown E.stands E.rules E.shown C.bits (λ k. k.me) tags_of in
         (r : Rules) (st : CoreState) → CoreStands m core.now r st → st.live ≡ true
         → OnOk result (string_bytes text.new ≡ string_bytes text.old ++ out_line origin num (delivered_at r st.history (command_slot origin num))) }
 {
@@ -79,10 +79,10 @@ fn add_delivered<S: Service, E: Broadcast, C: Coin + Drop>(
 fn add_origin<S: Service, E: Broadcast, C: Coin + Drop>(
     alloc: Global,
     text: &mut String,
-    core: &Core<S, E, C, Keys>,
+    core: &Core<S, E, C, Channel>,
     origin: u8,
 ) -> Result<(), AllocError>
-    ensures { let m = meaning S.stands S.rules E.stands E.rules C.bits (λ k. k.me) tags_of in
+    ensures { let m = meaning S.stands S.rules S.shown E.stands E.rules E.shown C.bits (λ k. k.me) tags_of in
         (r : Rules) (st : CoreState) → CoreStands m core.now r st → st.live ≡ true → IsCoreOf S.rules E.rules r → origin < r.casts.numbers.n
         → OnOk result (string_bytes text.new ≡ string_bytes text.old ++ origin_lines (outs_of r st.history origin) origin) }
 {
@@ -102,9 +102,9 @@ fn add_origin<S: Service, E: Broadcast, C: Coin + Drop>(
 fn add_outs<S: Service, E: Broadcast, C: Coin + Drop>(
     alloc: Global,
     text: &mut String,
-    core: &Core<S, E, C, Keys>,
+    core: &Core<S, E, C, Channel>,
 ) -> Result<(), AllocError>
-    ensures { let m = meaning S.stands S.rules E.stands E.rules C.bits (λ k. k.me) tags_of in
+    ensures { let m = meaning S.stands S.rules S.shown E.stands E.rules E.shown C.bits (λ k. k.me) tags_of in
         (r : Rules) (st : CoreState) → CoreStands m core.now r st → st.live ≡ true → IsCoreOf S.rules E.rules r
         → OnOk result (string_bytes text.new ≡ string_bytes text.old ++ out_lines r st.history) }
 {
@@ -118,9 +118,9 @@ fn add_outs<S: Service, E: Broadcast, C: Coin + Drop>(
 fn add_ending<S: Service, E: Broadcast, C: Coin + Drop>(
     alloc: Global,
     text: &mut String,
-    core: &Core<S, E, C, Keys>,
+    core: &Core<S, E, C, Channel>,
 ) -> Result<(), AllocError>
-    ensures { let m = meaning S.stands S.rules E.stands E.rules C.bits (λ k. k.me) tags_of in
+    ensures { let m = meaning S.stands S.rules S.shown E.stands E.rules E.shown C.bits (λ k. k.me) tags_of in
         (r : Rules) (st : CoreState) → CoreStands m core.now r st → st.live ≡ true → IsCoreOf S.rules E.rules r
         → OnOk result (string_bytes text.new ≡ string_bytes text.old
         ++ ending_line (r.service.outcome (seat_of r) (parts r st.history).words)) }
@@ -134,9 +134,9 @@ fn add_ending<S: Service, E: Broadcast, C: Coin + Drop>(
 fn add_service<S: Service, E: Broadcast, C: Coin + Drop>(
     alloc: Global,
     text: &mut String,
-    core: &Core<S, E, C, Keys>,
+    core: &Core<S, E, C, Channel>,
 ) -> Result<(), AllocError>
-    ensures { let m = meaning S.stands S.rules E.stands E.rules C.bits (λ k. k.me) tags_of in
+    ensures { let m = meaning S.stands S.rules S.shown E.stands E.rules E.shown C.bits (λ k. k.me) tags_of in
         (r : Rules) (st : CoreState) → CoreStands m core.now r st → st.live ≡ true → IsCoreOf S.rules E.rules r
         → OnOk result (string_bytes text.new ≡ string_bytes text.old ++ service_lines r st.history) }
 {
@@ -154,7 +154,7 @@ fn add_replica<S: Service, E: Broadcast, C: Coin + Drop>(
     i: u8,
     replica: &Replica<S, E, C>,
 ) -> Result<(), AllocError>
-    ensures { let m = meaning S.stands S.rules E.stands E.rules C.bits (λ k. k.me) tags_of in
+    ensures { let m = meaning S.stands S.rules S.shown E.stands E.rules E.shown C.bits (λ k. k.me) tags_of in
         (r : Rules) (k : KeyRow) (st : CoreState) → ReplicaStands m replica.now r k st → st.live ≡ true → IsCoreOf S.rules E.rules r
         → OnOk result (string_bytes text.new ≡ string_bytes text.old ++ lines_of i r k st) }
 {
@@ -171,7 +171,7 @@ fn add_replicas<S: Service, E: Broadcast, C: Coin + Drop>(
     world: &World<S, E, C>,
     n: u8,
 ) -> Result<(), AllocError>
-    ensures { let m = meaning S.stands S.rules E.stands E.rules C.bits (λ k. k.me) tags_of in
+    ensures { let m = meaning S.stands S.rules S.shown E.stands E.rules E.shown C.bits (λ k. k.me) tags_of in
         (w : Setting) (es : List Event) → WorldStands m world.now w es → n ≡ w.numbers.n → AreCoresOf S.rules E.rules w
         → OnOk result (string_bytes text.new ≡ string_bytes text.old
         ++ flat_map (replica_lines w es) (filter w.is_correct (range_with_len 0 w.numbers.n))) }
@@ -193,7 +193,7 @@ pub(crate) fn report_text<S: Service, E: Broadcast>(
 ) -> Result<String, AllocError>
     requires serves { S.rules.serves x.now.header.mode.root ≡ true }
     requires form { E.FORM ≡ other_form x.now.header.mode }
-    ensures { let m = layers_by S.stands S.rules E.stands E.rules in
+    ensures { let m = layers_by S.stands S.rules S.shown E.stands E.rules E.shown in
         (es : List Event) → StandsFor m x.now es → audit ≡ audit_of (setting_by S.rules E.rules x.now.header) es
         → IfOk result (λ s. string_bytes s ≡ report_on x.now.header (setting_by S.rules E.rules x.now.header) es) }
 {

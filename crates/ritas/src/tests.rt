@@ -1,5 +1,7 @@
+ghost use Rattle.std.specs.Prelude.{[], false};
+
 use crate::run::run;
-use outside::{MemSink, MemSource};
+use outside::{Failed, MemSink, MemSource, Source};
 use std::alloc::Global;
 use std::test::*;
 
@@ -59,6 +61,15 @@ audit holds
 const USAGE: &str =
     "usage: ritas replay report|frames, drive report|schedule, keys, node, cluster, submit\n";
 
+// The command line `ritas replay` and another word.
+fn words(alloc: Global, second: &str) -> Result<Vec<String>, Fail> {
+    let mut words = Vec::new(alloc);
+    for word in ["ritas", "replay", second] {
+        words.push(String::from_str(alloc, word)?)?;
+    }
+    Ok(words)
+}
+
 // The status, or 99 where the output isn't this text.
 fn status(
     alloc: Global,
@@ -68,10 +79,7 @@ fn status(
     fails: &[u64],
     text: &str,
 ) -> Result<u8, Fail> {
-    let mut words = Vec::new(alloc);
-    for word in ["ritas", "replay", second] {
-        words.push(String::from_str(alloc, word)?)?;
-    }
+    let words = words(alloc, second)?;
     let mut input = MemSource::new(alloc, file, fails)?;
     let mut output = MemSink::new(alloc, room, &[])?;
     let status = run(alloc, &words, &mut input, &mut output);
@@ -105,5 +113,53 @@ fn faults_and_other_words(rt: HostRuntime) -> Result<(), Fail> {
     assert_eq!(rt; status(rt.alloc(), "report", ALONE, 1000, &[0], "")?, 4);
     assert_eq!(rt; status(rt.alloc(), "report", ALONE, 5, &[], "ritas")?, 5);
     assert_eq!(rt; status(rt.alloc(), "rapport", ALONE, 1000, &[0], USAGE)?, 2);
+    Ok(())
+}
+
+// A file of one byte more than a file may have, which is in no memory: the header of `ALONE`, and then one event after
+// the other, each a frame of 65,535 bytes.
+#[derive(Drop)]
+struct Endless {
+    at: usize,
+}
+
+impl Endless {
+    fn byte(at: usize) -> u8 {
+        if at < 54 {
+            return ALONE[at];
+        }
+        match (at - 54) % 65_539 {
+            0 => 1,
+            1 => 0,
+            _ => 255,
+        }
+    }
+}
+
+impl Source for Endless {
+    ghost tells = { false };
+
+    ghost left = { λ _. [] };
+
+    ghost faults = { λ _. 0 };
+
+    fn read(&mut self, buf: &mut [u8]) -> Result<usize, Failed> {
+        let count = buf.len().min(67_108_865usize.saturating_sub(self.at));
+        for byte in &mut buf[..count] {
+            *byte = Endless::byte(self.at);
+            self.at = self.at.saturating_add(1);
+        }
+        Ok(count)
+    }
+}
+
+#[test]
+fn one_byte_too_many(rt: HostRuntime) -> Result<(), Fail> {
+    let words = words(rt.alloc(), "report")?;
+    let mut input = Endless { at: 0 };
+    let mut output = MemSink::new(rt.alloc(), 100, &[])?;
+    assert_eq!(rt; run(rt.alloc(), &words, &mut input, &mut output), 7);
+    assert_eq!(rt; output.taken(), b"limit 67108864\n".as_slice());
+    assert_eq!(rt; input.at, 67_108_865);
     Ok(())
 }

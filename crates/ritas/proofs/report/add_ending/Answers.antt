@@ -8,7 +8,7 @@ use Rattle.ritas.proofs.report.add_ending.Goals as goal
 pub returns : goal.returns
 returns g c = λ r st stands live core.
     let words = (parts r st.history).words in
-    let outcome = c.outcome.ensures.rules (seat_of r) words (c.service.ensures r st stands live) in
+    let outcome = c.outcome.ensures.rules (seat_of r) words (c.service.ensures.live r st stands live) in
     let own = ap (λ (s : ServiceRules). s.outcome (seat_of r) words) (sym core.words) in
     c.in_ok-push_str.ensures.bytes
     ∙ ap (λ (l : List ℕ). string_bytes c.args.text.now ++ l) (c.as_str.ensures.value ∙ (c.in_ok-line.ensures ∙ ap ending_line (outcome ∙ own)))

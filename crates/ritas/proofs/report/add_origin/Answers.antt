@@ -1,5 +1,6 @@
 use Rattle.std.proofs.Common.{◌≡◌, ℕ, ◌+◌, ◌≤◌, ◌<◌, List, [], ◌++◌, sym, ◌∙◌, ap, refl, arith, string_bytes}
-use Rattle.layer_api.specs.Service.{ServiceRules, command_slot}
+use Rattle.layer_api.specs.Service.{ServiceRules}
+use Rattle.ritas_base.specs.Slots.{command_slot}
 use Rattle.ritas_core.specs.Rules.{seat_of}
 use Rattle.ritas_core.specs.Parts.{parts}
 use Rattle.ritas.specs.Report.{out_line, outs_of, number_limit}
@@ -20,7 +21,7 @@ returns g c = λ r st stands live core within.
     let line : ℕ → List ℕ = λ num. out_line c.args.origin num (outs num) in
     let words = (parts r st.history).words in
     let base : c.base.result ≡ r.service.base (seat_of r) words c.args.origin =
-    c.base.ensures.rules (seat_of r) words (c.service.ensures r st stands live) within
+    c.base.ensures.rules (seat_of r) words (c.service.ensures.live r st stands live) within
     ∙ ap (λ (s : ServiceRules). s.base (seat_of r) words c.args.origin) (sym core.words) in
     let window = c.delivered_within.ensures.window r core st.history stands.history in
     let quiet : (j : ℕ) → 0 + c.loop-num.num ≤ j → j < 0 + number_limit → line j ≡ [] =

@@ -9,6 +9,6 @@ use Rattle.ritas.proofs.report.add_origin.Given as goal
 
 abbrev pub invariant-loop-num : goal.invariant-loop-num
 invariant-loop-num g l =
-    let m = meaning g.S.Service.stands g.S.Service.rules g.E.Broadcast.stands g.E.Broadcast.rules g.C.Coin.bits (λ k. k.me) tags_of in
+    let m = meaning g.S.Service.stands g.S.Service.rules g.S.Service.shown g.E.Broadcast.stands g.E.Broadcast.rules g.E.Broadcast.shown g.C.Coin.bits (λ k. k.me) tags_of in
     (r : Rules) (st : CoreState) → CoreStands m l.core r st → st.live ≡ true
     → string_bytes l.text ≡ string_bytes l.initial.text ++ flat_map (λ num. out_line l.origin num (outs_of r st.history l.origin num)) (range_with_len 0 l.num)

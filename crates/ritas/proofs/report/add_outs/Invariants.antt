@@ -10,6 +10,6 @@ use Rattle.ritas.proofs.report.add_outs.Given as goal
 
 abbrev pub invariant-loop-origin : goal.invariant-loop-origin
 invariant-loop-origin g l =
-    let m = meaning g.S.Service.stands g.S.Service.rules g.E.Broadcast.stands g.E.Broadcast.rules g.C.Coin.bits (λ k. k.me) tags_of in
+    let m = meaning g.S.Service.stands g.S.Service.rules g.S.Service.shown g.E.Broadcast.stands g.E.Broadcast.rules g.E.Broadcast.shown g.C.Coin.bits (λ k. k.me) tags_of in
     (r : Rules) (st : CoreState) → CoreStands m l.core r st → st.live ≡ true → IsCoreOf g.S.Service.rules g.E.Broadcast.rules r
     → string_bytes l.text ≡ string_bytes l.initial.text ++ flat_map (λ origin. origin_lines (outs_of r st.history origin) origin) (range_with_len 0 l.origin)

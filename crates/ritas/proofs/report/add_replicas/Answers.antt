@@ -13,7 +13,7 @@ loop-i-preserved g c = λ w es stands n cores.
     let below : i < w.numbers.n = omega (arith, c.loop-i-test.true, n) in
     let line = chosen w.is_correct (replica_lines w es) in
     let so_far = c.loop-i.invariant w es stands n cores in
-    let at = c.replica.ensures w es stands in
+    let at = c.replica.ensures.is w es stands in
     elim c.match-replica.branch [
       | in-Some+in_ok-add_replica-in-Some x ↦
           let is = rw x.in-Some.is at at in

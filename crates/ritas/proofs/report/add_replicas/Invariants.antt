@@ -12,6 +12,6 @@ use Rattle.ritas.proofs.report.add_replicas.Given as goal
 
 abbrev pub invariant-loop-i : goal.invariant-loop-i
 invariant-loop-i g l =
-    let m = meaning g.S.Service.stands g.S.Service.rules g.E.Broadcast.stands g.E.Broadcast.rules g.C.Coin.bits (λ k. k.me) tags_of in
+    let m = meaning g.S.Service.stands g.S.Service.rules g.S.Service.shown g.E.Broadcast.stands g.E.Broadcast.rules g.E.Broadcast.shown g.C.Coin.bits (λ k. k.me) tags_of in
     (w : Setting) (es : List Event) → WorldStands m l.world w es → l.n ≡ w.numbers.n → AreCoresOf g.S.Service.rules g.E.Broadcast.rules w
     → string_bytes l.text ≡ string_bytes l.initial.text ++ flat_map (chosen w.is_correct (replica_lines w es)) (range_with_len 0 l.i)

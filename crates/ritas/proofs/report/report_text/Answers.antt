@@ -20,7 +20,7 @@ returns g c = λ es stands audit.
     let form = form_of h.mode other g.E.Broadcast.FORM g.met.E.Broadcast.kinds c.requires.form in
     let first = c.in_ok-text.ensures in
     let counts : string_bytes c.in_ok-counts.counts ≡ count_line (length es) (counts_of w es) =
-    c.in_ok-counts.ensures ∙ ap₂ count_line (c.events.ensures w es stands.world) stands.counts in
+    c.in_ok-counts.ensures ∙ ap₂ count_line (c.events.ensures.is w es stands.world) stands.counts in
     let replicas = c.in_ok-add_replicas.ensures w es stands.world c.n.ensures.value (cores_of service other h stands.header c.requires.serves form) in
     let last : string_bytes c.in_ok-last.last ≡ audit_line (audit_of w es) = c.in_ok-last.ensures ∙ ap audit_line audit in
     four_texts (head_line h) (count_line (length es) (counts_of w es)) (flat_map (replica_lines w es) (filter w.is_correct (range_with_len 0 w.numbers.n))) (audit_line (audit_of w es))

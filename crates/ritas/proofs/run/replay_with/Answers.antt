@@ -7,12 +7,12 @@ use Rattle.ritas.proofs.run.replay_with.Goals as goal
 pub replay_as-requires-else-has_echo-clause-form : goal.replay_as-requires-else-has_echo-clause-form
 replay_as-requires-else-has_echo-clause-form g c = form_one c.args.header.mode (sym c.has_echo.ensures ∙ c.if-has_echo.false)
 
-pub returns-then-has_echo-clause-report : goal.returns-then-has_echo-clause-report
-returns-then-has_echo-clause-report g c = λ tells es read not_4.
+pub returns-then-has_echo-clause-answers : goal.returns-then-has_echo-clause-answers
+returns-then-has_echo-clause-answers g c = λ tells.
     let two : (other_form c.args.header.mode == 2) ≡ true = sym c.has_echo.ensures ∙ c.if-has_echo.true in
-    rw (with_echo g.S.Service.rules c.args.header two) at (c.replay_as.ensures.report tells es read not_4)
+    rw (with_echo g.S.Service.rules c.args.header two) at (c.replay_as.ensures.answers tells)
 
-pub returns-else-has_echo-clause-report : goal.returns-else-has_echo-clause-report
-returns-else-has_echo-clause-report g c = λ tells es read not_4.
+pub returns-else-has_echo-clause-answers : goal.returns-else-has_echo-clause-answers
+returns-else-has_echo-clause-answers g c = λ tells.
     let one : (other_form c.args.header.mode == 2) ≡ false = sym c.has_echo.ensures ∙ c.if-has_echo.false in
-    rw (with_bracha g.S.Service.rules c.args.header one) at (c.replay_as-else-has_echo.ensures.report tells es read not_4)
+    rw (with_bracha g.S.Service.rules c.args.header one) at (c.replay_as-else-has_echo.ensures.answers tells)

@@ -28,11 +28,11 @@ returns-clause-stands g c =
     let h = c.args.header in
     let service = g.S.Service.rules in
     let other = g.E.Broadcast.rules in
-    let m = layers_by g.S.Service.stands service g.E.Broadcast.stands other in
+    let m = layers_by g.S.Service.stands service g.S.Service.shown g.E.Broadcast.stands other g.E.Broadcast.shown in
     let w = setting_by service other h in
     let keys : List KeyRow = map (dealt_to h) (range_with_len 0 h.p.n) in
     let with_coins = subst (λ (coins : List CoinSeed). IsWorldOf m h.p h.mode h.correct keys coins w) (sym c.in_ok-coins.ensures)
-    (world_of_header g.S.Service.stands service g.E.Broadcast.stands other h) in
+    (world_of_header g.S.Service.stands service g.S.Service.shown g.E.Broadcast.stands other g.E.Broadcast.shown h) in
     let world = subst (λ (rows : List KeyRow). IsWorldOf m h.p h.mode h.correct rows c.in_ok-coins.coins.items w) (sym c.in_ok-keys.ensures) with_coins in
     record {
       header = c.requires.heading;

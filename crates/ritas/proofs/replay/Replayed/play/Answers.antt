@@ -1,8 +1,8 @@
 use Rattle.std.proofs.Common.{◌≡◌, ℕ, ◌∷◌, arith, refl, ◌∙◌, subst}
 use Rattle.std.proofs.lemmas.Result.{err_from_is_err_and}
 use Rattle.schedule_file.specs.Place.{spot}
-use Rattle.world_model.specs.Stands.{MayHappen}
-use Rattle.ritas.proofs.Feeding.{goes_on, fails, ends, too_many, may_happen}
+use Rattle.ritas_base.specs.Events.{MayHappen}
+use Rattle.ritas.proofs.Feeding.{goes_on, fails, ends, too_many}
 use Rattle.ritas.proofs.replay.Replayed.play.Goals as goal
 
 pub returns-in_err-next-clause-exact : goal.returns-in_err-next-clause-exact
@@ -26,7 +26,7 @@ pub loop-preserved : goal.loop-preserved
 loop-preserved g c =
     let event = rw c.in-Some.is at c.in_ok-next.ensures.event in
     let same : c.loop.reader.n ≡ c.loop.self.header.p.n = c.loop.invariant.1 ∙ (c.requires.n ∙ rw c.loop.invariant.2 refl) in
-    let may = subst (λ (n : ℕ). MayHappen n c.in-Some.event) same (may_happen c.loop.reader.n c.in-Some.event event) in
+    let may = subst (λ (n : ℕ). MayHappen n c.in-Some.event) same event.0 in
     let stage = rw c.in-Some.is at (c.in_ok-next.ensures.stage c.loop.invariant.0) in (
       stage,
       c.in_ok-next.ensures.n ∙ c.loop.invariant.1,

@@ -11,7 +11,7 @@ use Rattle.ritas.proofs.replay.Replayed.play.Given as goal
 
 abbrev pub invariant-loop : goal.invariant-loop
 invariant-loop g l =
-    let m = layers_by g.S.Service.stands g.S.Service.rules g.E.Broadcast.stands g.E.Broadcast.rules in
+    let m = layers_by g.S.Service.stands g.S.Service.rules g.S.Service.shown g.E.Broadcast.stands g.E.Broadcast.rules g.E.Broadcast.shown in
     (l.reader.stage ≡ Open)
     × (l.reader.n ≡ l.initial.reader.n)
     × (l.self.header ≡ l.initial.self.header)
