@@ -19,6 +19,7 @@ pub mod Prefixes
 pub mod Said
 pub mod Words
 pub mod Agreed
+pub mod Apart
 pub mod EveryWorld
 pub mod Tables
 pub mod TakenBack

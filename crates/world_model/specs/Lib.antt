@@ -4,6 +4,7 @@ pub mod Counts
 pub mod Audit
 pub mod Agreement
 pub mod Agree
+pub mod Apart
 pub mod EveryWorld
 pub mod Stands
 pub mod Steps

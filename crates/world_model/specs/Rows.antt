@@ -1,28 +1,190 @@
--- What agreement says of two replicas that differ, 0 and 1: it can't be had from what one replica does alone.
-use Rattle.std.specs.Prelude.{◌≡◌, true, List, ℕ, Some, ◌⊎◌}
+-- Worked rows: what an event is to a replica, which fault an audit names, what two things hashed are alike in, and counts.
+use Rattle.std.specs.Prelude.{◌≡◌, ℕ, true, false, nat_lt, ◌==◌, ◌&&◌, List, [], ◌∷◌, Some, None, refl}
+use Rattle.std.proofs.Common.{lit≤}
+use Rattle.ritas_base.specs.Slots.{command_slot}
 use Rattle.ritas_base.specs.declared.event.Event.{Event}
-use Rattle.ritas_base.specs.declared.slot.Slot.{Slot}
-use Rattle.layer_api.specs.Service.{Instance, Decision, Decided, IsPart}
-use Rattle.world_model.specs.World.{Setting}
-use Rattle.world_model.specs.Agreement.{delivered}
-use Rattle.world_model.specs.Agree.{Agree, log_of, outcome_of, decision_of}
+use Rattle.ritas_base.specs.declared.event.Event.TheVariants as events
+use Rattle.ritas_base.specs.declared.item.Item.{Item}
+use Rattle.ritas_base.specs.declared.item.Kind.TheVariants.{Init}
+use Rattle.ritas_base.specs.declared.mode.Vect.TheVariants.{Reliable}
+use Rattle.layer_api.specs.Entries.{EntryInput, OfMessage, OfEntry}
+use Rattle.layer_api.specs.Service.{ServiceRules, Undecided}
+use Rattle.keyed_channel.specs.Frames.{sealed}
+use Rattle.keyed_channel.specs.declared.frame.OpenFault.TheVariants.{Short}
+use Rattle.reliable_bcast.specs.Bracha.{bracha}
+use Rattle.ritas_core.specs.declared.answer.Answer.TheVariants as answers
+use Rattle.ritas_core.specs.declared.fault.CoreFault.TheVariants as faults
+use Rattle.ritas_core.specs.Machine.{CoreState}
+use Rattle.ritas_core.specs.Parts.{Took, Given}
+use Rattle.replica.specs.declared.frame.OutFrame.{OutFrame}
+use Rattle.replica.specs.declared.refusal.Refusal.TheVariants as refusals
+use Rattle.replica.specs.Handling.{Frame, Turn}
+use Rattle.world_model.specs.declared.audit.Audit.TheVariants as audits
+use Rattle.world_model.specs.declared.seen.Seen.TheVariants as seen_as
+use Rattle.world_model.specs.World.{Setting, call_of, states_of, seen_of}
+use Rattle.world_model.specs.Audit.{newest_item, clashes, broken_by, judged, has_too_many, audit_of}
+use Rattle.world_model.specs.Agreement.{input_at}
+use Rattle.world_model.specs.Counts.{no_counts, counted}
+use Rattle.world_model.specs.FramesMade.{MadeTable, made_in, with_frames, without_last}
 
-pub two_decide_alike : {w : Setting} {es : List Event} → Agree w es → (x : Instance) (d e : Decision)
-    → w.is_correct 0 ≡ true → w.is_correct 1 ≡ true
-    → decision_of w es 0 x ≡ Some d → decision_of w es 1 x ≡ Some e → d ≡ e
-two_decide_alike agree x d e zero one = agree.decisions 0 1 x d e zero one
+-- ---- a world of four replicas, of which the first few are correct; replica 1 is stopped before event 0
 
-pub two_end_alike : {w : Setting} {es : List Event} → Agree w es → (d e : Decision)
-    → w.is_correct 0 ≡ true → w.is_correct 1 ≡ true
-    → outcome_of w es 0 ≡ Decided d → outcome_of w es 1 ≡ Decided e → d ≡ e
-two_end_alike agree d e zero one = agree.outcomes 0 1 d e zero one
+abbrev silent : ServiceRules
+silent = record {
+  serves = λ root. true;
+  says = λ seat w c. [];
+  opens = λ seat w s. true;
+  completed = λ seat w. 0;
+  base = λ seat w origin. 0;
+  next_number = λ seat w. 0;
+  given = λ seat w. false;
+  done = λ seat w. [];
+  outcome = λ seat w. Undecided;
+  decided = λ seat w x. None;
+}
 
-pub two_deliver_alike : {w : Setting} {es : List Event} → Agree w es → (s : Slot) (v u : List ℕ)
-    → w.is_correct 0 ≡ true → w.is_correct 1 ≡ true
-    → delivered w es 0 s ≡ Some v → delivered w es 1 s ≡ Some u → v ≡ u
-two_deliver_alike agree s v u zero one = agree.values.agree s 0 1 v u zero one
+abbrev world_of : ℕ → Setting
+world_of right = record {
+  numbers = record { n = 4; f = 1 };
+  mode = record { root = 1; vect = Reliable; low = lit≤ tt; high = lit≤ tt };
+  is_correct = λ i. nat_lt i right;
+  at_slot = λ s. bracha;
+  service = silent;
+  coin = λ i s. false;
+  keys = λ i. record { session = 5; n = 4; me = i; row = [] };
+  stops = λ k i. k == 0 && i == 1;
+}
 
-pub two_logs_in_line : {w : Setting} {es : List Event} → Agree w es
-    → w.is_correct 0 ≡ true → w.is_correct 1 ≡ true
-    → IsPart (log_of w es 0) (log_of w es 1) ⊎ IsPart (log_of w es 1) (log_of w es 0)
-two_logs_in_line agree zero one = agree.logs 0 1 zero one
+-- ---- what an event is to a replica
+
+-- one at a faulty replica is nothing to any
+faulty_turn : (states : ℕ → CoreState) → call_of (world_of 3) states (events.Turn 3) ≡ None
+faulty_turn states = refl
+
+correct_turn : (states : ℕ → CoreState) → call_of (world_of 3) states (events.Turn 2) ≡ Some (record { at = 2; call = Turn })
+correct_turn states = refl
+
+-- a body is sealed with the sender's keys, for the receiver, and with the number 0
+sealed_frame : (states : ℕ → CoreState) → call_of (world_of 3) states (events.Sealed 3 0 (7 ∷ []))
+    ≡ Some (record { at = 0; call = Frame (sealed (record { session = 5; n = 4; me = 3; row = [] }) 0 0 (7 ∷ [])) })
+sealed_frame states = refl
+
+-- a faulty replica made no frames, and a correct one none yet
+faulty_pass : (states : ℕ → CoreState) → call_of (world_of 3) states (events.Pass 3 0 0) ≡ None
+faulty_pass states = refl
+
+early_pass : call_of (world_of 3) (states_of (world_of 3) []) (events.Pass 0 2 0) ≡ None
+unfolding states_of
+early_pass = refl
+
+-- ---- what became of an event
+
+missed : seen_of (world_of 3) [] (events.Turn 3) ≡ seen_as.Missed
+missed = refl
+
+idle : seen_of (world_of 3) [] (events.Turn 0) ≡ seen_as.Answered answers.Idle
+unfolding states_of
+idle = refl
+
+-- replica 1 is stopped by then, and the others aren't
+halted : seen_of (world_of 3) [] (events.Turn 1) ≡ seen_as.Refused (refusals.Core faults.Stopped)
+unfolding states_of
+halted = refl
+
+-- ---- the audit
+
+-- one of four may be faulty, and not two, whatever happens
+one_faulty : has_too_many (world_of 3) ≡ false
+one_faulty = refl
+
+two_faulty : (es : List Event) → audit_of (world_of 2) es ≡ audits.TooManyFaulty
+two_faulty es = refl
+
+-- an event that forges and collides forges
+both : broken_by true true 4 ≡ audits.Forged 4
+both = refl
+
+collides : broken_by false true 4 ≡ audits.Collision 4
+collides = refl
+
+-- the first event is named, whichever premise it breaks
+first_stays : judged (audits.Collision 2) (audits.Forged 5) ≡ audits.Collision 2
+first_stays = refl
+
+named : judged audits.Holds (audits.Forged 5) ≡ audits.Forged 5
+named = refl
+
+-- two messages of one digest collide, and one with itself doesn't, nor do two with their own
+two_messages : clashes (OfMessage (1 ∷ []) (9 ∷ [])) (OfMessage (2 ∷ []) (9 ∷ [])) ≡ true
+two_messages = refl
+
+one_message : clashes (OfMessage (1 ∷ []) (9 ∷ [])) (OfMessage (1 ∷ []) (9 ∷ [])) ≡ false
+one_message = refl
+
+two_digests : clashes (OfMessage (1 ∷ []) (9 ∷ [])) (OfMessage (2 ∷ []) (8 ∷ [])) ≡ false
+two_digests = refl
+
+-- so it is of entries, whose inputs may differ in their verifier alone
+abbrev for_verifier : ℕ → EntryInput
+for_verifier j = record { slot = command_slot 1 0; echoer = 0; verifier = j; digest = 9 ∷ [] }
+
+two_entries : clashes (OfEntry (for_verifier 2) (7 ∷ [])) (OfEntry (for_verifier 3) (7 ∷ [])) ≡ true
+two_entries = refl
+
+one_entry : clashes (OfEntry (for_verifier 2) (7 ∷ [])) (OfEntry (for_verifier 2) (7 ∷ [])) ≡ false
+one_entry = refl
+
+-- a message and an entry never do
+message_and_entry : clashes (OfMessage (1 ∷ []) (7 ∷ [])) (OfEntry (for_verifier 2) (7 ∷ [])) ≡ false
+message_and_entry = refl
+
+-- ---- histories
+
+abbrev init : Item
+init = record { from = 2; kind = Init; slot = command_slot 2 0; value = 7 ∷ [] }
+
+-- a call made a replica take an item where its history has one entry more
+newly : newest_item [] (Took init ∷ []) ≡ Some init
+newly = refl
+
+not_newly : newest_item (Took init ∷ []) (Took init ∷ []) ≡ None
+not_newly = refl
+
+no_item : newest_item [] (Given (5 ∷ []) ∷ []) ≡ None
+no_item = refl
+
+-- inputs are numbered from the oldest
+first_input : input_at (Given (6 ∷ []) ∷ Took init ∷ Given (5 ∷ []) ∷ []) 0 ≡ Some (5 ∷ [])
+first_input = refl
+
+second_input : input_at (Given (6 ∷ []) ∷ Took init ∷ Given (5 ∷ []) ∷ []) 1 ≡ Some (6 ∷ [])
+second_input = refl
+
+no_third : input_at (Given (6 ∷ []) ∷ Took init ∷ Given (5 ∷ []) ∷ []) 2 ≡ None
+no_third = refl
+
+-- ---- counts
+
+took : (counted (seen_as.Answered answers.Took) no_counts).took ≡ 1
+took = refl
+
+open_fault : counted (seen_as.Refused (refusals.Open Short)) no_counts ≡ record no_counts { open_faults = 1 }
+open_fault = refl
+
+-- ---- frames made, of two replicas
+
+abbrev none_made : MadeTable
+none_made = record { n = 2; lists = [] ∷ [] ∷ [] ∷ [] ∷ [] }
+
+abbrev for_replica : ℕ → ℕ → OutFrame
+for_replica to byte = record { to = to; bytes = byte ∷ [] }
+
+-- the oldest stands first, under its sender and its receiver
+in_order : made_in (with_frames none_made 0 (for_replica 1 4 ∷ for_replica 1 5 ∷ [])) 0 1 ≡ (4 ∷ []) ∷ (5 ∷ []) ∷ []
+in_order = refl
+
+other_way : made_in (with_frames none_made 0 (for_replica 1 4 ∷ for_replica 1 5 ∷ [])) 1 0 ≡ []
+other_way = refl
+
+newest_off : made_in (without_last (with_frames none_made 0 (for_replica 1 4 ∷ for_replica 1 5 ∷ [])) 0 1) 0 1 ≡ (4 ∷ []) ∷ []
+newest_off = refl

@@ -4,6 +4,7 @@ ghost use Rattle.world_model.specs.World.{Setting};
 ghost use Rattle.world_model.specs.Audit.{audit_of};
 ghost use Rattle.world_model.specs.Agreement.{WorldLaw};
 ghost use Rattle.world_model.specs.Agree.{AgreeLaw};
+ghost use Rattle.world_model.specs.Apart.{NoTwoValues, NoTwoLogs, NoTwoOutcomes, NoTwoDecisions};
 ghost use Rattle.world_model.specs.EveryWorld.{AgreementLaw};
 
 use crate::audit::Audit;
@@ -49,8 +50,20 @@ pub fn agreement_each()
     frame_codec::right_input();
 }
 
-/// The same law of every world with this service and this broadcast beside the reliable one, whatever keys and coins its
-/// replicas have: its layers, channel and codec keep to what `agreement_each` rests on.
+/// Two different correct replicas of a world whose replicas agree are never set apart: they deliver no two values at a slot,
+/// their identifier logs are equal where they are equally long, and no two things become of their one instance, nor of an
+/// instance inside.
+///
+/// It does nothing: its contract is the law.
+pub fn never_apart()
+    ensures values { NoTwoValues }
+    ensures logs { NoTwoLogs }
+    ensures outcomes { NoTwoOutcomes }
+    ensures decisions { NoTwoDecisions }
+{}
+
+/// What `agreement_each` says, of every world with this service and this broadcast beside the reliable one, whatever keys
+/// and coins its replicas have: its layers, channel and codec keep to what `agreement_each` rests on.
 ///
 /// It does nothing: its contract is the law.
 pub fn agreement<S: Service, E: Broadcast>()

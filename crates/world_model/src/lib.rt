@@ -48,6 +48,6 @@ mod world;
 
 pub use audit::Audit;
 pub use counts::Counts;
-pub use laws::{agreement, agreement_each, one_value_each, prefix_holds};
+pub use laws::{agreement, agreement_each, never_apart, one_value_each, prefix_holds};
 pub use seen::Seen;
 pub use world::World;

@@ -1,0 +1,34 @@
+-- What agreement says of two different correct replicas: nothing that they deliver, log or decide sets them apart.
+use Rattle.std.specs.Prelude.{◌≡◌, ◌≢◌, ℕ, true, List, length, Some}
+use Rattle.ritas_base.specs.declared.event.Event.{Event}
+use Rattle.ritas_base.specs.declared.slot.Slot.{Slot}
+use Rattle.layer_api.specs.Service.{Instance, Decision, Decided}
+use Rattle.world_model.specs.World.{Setting}
+use Rattle.world_model.specs.Agreement.{delivered}
+use Rattle.world_model.specs.Agree.{log_of, outcome_of, decision_of, Agree}
+
+-- two different replicas, both correct
+pub record AreTwo (w : Setting) (i j : ℕ) : Type 0 where
+  pub differ : i ≢ j
+  pub first : w.is_correct i ≡ true
+  pub second : w.is_correct j ≡ true
+
+-- they deliver no two values at a slot
+abbrev pub NoTwoValues : Type 0
+NoTwoValues = (w : Setting) (es : List Event) → Agree w es → (i j : ℕ) → AreTwo w i j → (s : Slot) (v u : List ℕ) → v ≢ u
+    → delivered w es i s ≡ Some v → delivered w es j s ≡ Some u → ⊥
+
+-- their identifier logs are equal where they are equally long
+abbrev pub NoTwoLogs : Type 0
+NoTwoLogs = (w : Setting) (es : List Event) → Agree w es → (i j : ℕ) → AreTwo w i j
+    → length (log_of w es i) ≡ length (log_of w es j) → log_of w es i ≡ log_of w es j
+
+-- of their one instance no two things become, once it is decided
+abbrev pub NoTwoOutcomes : Type 0
+NoTwoOutcomes = (w : Setting) (es : List Event) → Agree w es → (i j : ℕ) → AreTwo w i j → (d e : Decision) → d ≢ e
+    → outcome_of w es i ≡ Decided d → outcome_of w es j ≡ Decided e → ⊥
+
+-- they decide no instance inside in two ways
+abbrev pub NoTwoDecisions : Type 0
+NoTwoDecisions = (w : Setting) (es : List Event) → Agree w es → (i j : ℕ) → AreTwo w i j → (x : Instance) (d e : Decision) → d ≢ e
+    → decision_of w es i x ≡ Some d → decision_of w es j x ≡ Some e → ⊥
