@@ -52,14 +52,29 @@ fn column(rt: &impl Abort, alloc: Global, seats: &Seats, message: &[u8]) -> Resu
     item(alloc, Kind::Column, value.as_slice())
 }
 
+// Judges a call on a replica, and settles on the verdict.
+fn judge(
+    watch: &mut Watch,
+    seats: &Seats,
+    alloc: Global,
+    at: u8,
+    forged: bool,
+    taken: Option<&Item>,
+    number: u64,
+) -> Result<(), Mem> {
+    let verdict = watch.judge(alloc, seats, at, forged, taken, number)?;
+    watch.settle(verdict);
+    Ok(())
+}
+
 #[test]
 fn an_entry_that_was_not_given(rt: HostRuntime) -> Result<(), Fail> {
     let seats = seats(&rt, rt.alloc())?;
     let mut watch = Watch::new(rt.alloc());
     let send = item(rt.alloc(), Kind::Send, b"a")?;
     let column = column(&rt, rt.alloc(), &seats, b"a")?;
-    watch.judge(rt.alloc(), &seats, 0, false, Some(&send), 0)?;
-    watch.judge(rt.alloc(), &seats, 0, false, Some(&column), 1)?;
+    judge(&mut watch, &seats, rt.alloc(), 0, false, Some(&send), 0)?;
+    judge(&mut watch, &seats, rt.alloc(), 0, false, Some(&column), 1)?;
     assert_eq!(rt; watch.verdict(), Audit::Forged(1));
     Ok(())
 }
@@ -70,9 +85,9 @@ fn an_entry_that_was_given(rt: HostRuntime) -> Result<(), Fail> {
     let mut watch = Watch::new(rt.alloc());
     let send = item(rt.alloc(), Kind::Send, b"a")?;
     let column = column(&rt, rt.alloc(), &seats, b"a")?;
-    watch.judge(rt.alloc(), &seats, 1, false, Some(&send), 0)?;
-    watch.judge(rt.alloc(), &seats, 0, false, Some(&send), 1)?;
-    watch.judge(rt.alloc(), &seats, 0, false, Some(&column), 2)?;
+    judge(&mut watch, &seats, rt.alloc(), 1, false, Some(&send), 0)?;
+    judge(&mut watch, &seats, rt.alloc(), 0, false, Some(&send), 1)?;
+    judge(&mut watch, &seats, rt.alloc(), 0, false, Some(&column), 2)?;
     assert_eq!(rt; watch.verdict(), Audit::Holds);
     Ok(())
 }
@@ -81,8 +96,8 @@ fn an_entry_that_was_given(rt: HostRuntime) -> Result<(), Fail> {
 fn a_frame_that_was_not_made(rt: HostRuntime) -> Result<(), Fail> {
     let seats = seats(&rt, rt.alloc())?;
     let mut watch = Watch::new(rt.alloc());
-    watch.judge(rt.alloc(), &seats, 0, true, None, 5)?;
-    watch.judge(rt.alloc(), &seats, 0, true, None, 6)?;
+    judge(&mut watch, &seats, rt.alloc(), 0, true, None, 5)?;
+    judge(&mut watch, &seats, rt.alloc(), 0, true, None, 6)?;
     assert_eq!(rt; watch.verdict(), Audit::Forged(5));
     Ok(())
 }
