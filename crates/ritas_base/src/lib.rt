@@ -11,6 +11,7 @@ mod params;
 mod sender_set;
 mod slot;
 mod tagger;
+mod what;
 
 pub use bytes::{Bytes, Mem};
 pub use event::Event;
@@ -22,3 +23,4 @@ pub use params::{ParamFault, Params};
 pub use sender_set::SenderSet;
 pub use slot::{Slot, SlotFault};
 pub use tagger::{Coin, Tagger};
+pub use what::What;

@@ -1,0 +1,8 @@
+/// What is written of a schedule that is replayed.
+#[derive(Clone, Copy, Debug, PartialEq, Eq)]
+pub enum What {
+    /// The report of its world.
+    Report,
+    /// The frames that its correct replicas made.
+    Frames,
+}
