@@ -2,11 +2,7 @@ pub mod Formats
 pub mod Loops
 pub mod Bodies
 pub mod Spans
-pub mod Parts
-pub mod Vectors
-pub mod IdLists
 pub mod Places
-pub mod Columns
 pub mod Readings
 pub mod Items
 pub mod BodyFaults

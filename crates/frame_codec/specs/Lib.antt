@@ -8,3 +8,7 @@ pub mod Values
 pub mod RowLaws
 pub mod Ids
 pub mod Laws
+pub mod PartLaws
+pub mod VectorLaws
+pub mod IdLaws
+pub mod ColumnLaws

@@ -1,4 +1,4 @@
-use Rattle.frame_codec.proofs.Columns.{column_written, column_is, column_again, row_at}
+use Rattle.frame_codec.specs.ColumnLaws.{column_written, column_is, column_again, row_at}
 use Rattle.frame_codec.proofs.laws.column_law.Goals as goal
 
 pub returns-clause-written : goal.returns-clause-written

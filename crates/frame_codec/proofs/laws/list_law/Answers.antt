@@ -1,4 +1,4 @@
-use Rattle.frame_codec.proofs.IdLists.{list_written, list_is, list_again}
+use Rattle.frame_codec.specs.IdLaws.{list_written, list_is, list_again}
 use Rattle.frame_codec.proofs.laws.list_law.Goals as goal
 
 pub returns-clause-written : goal.returns-clause-written

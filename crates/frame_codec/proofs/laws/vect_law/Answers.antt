@@ -1,4 +1,4 @@
-use Rattle.frame_codec.proofs.Columns.{vect_none, vect_written, vect_is, vect_again}
+use Rattle.frame_codec.specs.ColumnLaws.{vect_none, vect_written, vect_is, vect_again}
 use Rattle.frame_codec.proofs.laws.vect_law.Goals as goal
 
 pub returns-clause-none : goal.returns-clause-none

@@ -1,5 +1,5 @@
-use Rattle.frame_codec.proofs.Columns.{vector_again}
-use Rattle.frame_codec.proofs.Vectors.{vector_written, vector_is}
+use Rattle.frame_codec.specs.ColumnLaws.{vector_again}
+use Rattle.frame_codec.specs.VectorLaws.{vector_written, vector_is}
 use Rattle.frame_codec.proofs.laws.vector_law.Goals as goal
 
 pub returns-clause-written : goal.returns-clause-written

@@ -7,7 +7,7 @@ use Rattle.ritas_base.specs.Members.{has_member, member_count}
 use Rattle.frame_codec.specs.Values.{mask_of, at_place, rows_in, if_whole, row_of}
 use Rattle.frame_codec.proofs.Places.{members_below}
 use Rattle.frame_codec.specs.RowLaws.{whole_row}
-use Rattle.frame_codec.proofs.Columns.{rows_get, short_row}
+use Rattle.frame_codec.specs.ColumnLaws.{rows_get, short_row}
 use Rattle.frame_codec.proofs.values.column_entry.Goals as goal
 
 -- no row is given where it isn't whole

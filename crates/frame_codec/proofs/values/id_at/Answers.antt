@@ -2,7 +2,7 @@ use Rattle.std.proofs.Common.{◌≡◌, ◌+◌, ◌*◌, ◌-◌, ◌≤◌, �
 use Rattle.std.proofs.lemmas.Option.{slice_get_past}
 use Rattle.frame_codec.specs.Grammar.{id_of}
 use Rattle.frame_codec.specs.Values.{ids_of}
-use Rattle.frame_codec.proofs.Parts.{ids_get, ids_length_in}
+use Rattle.frame_codec.specs.PartLaws.{ids_get, ids_length_in}
 use Rattle.frame_codec.proofs.values.id_at.Goals as goal
 
 pub returns-then-at-value : goal.returns-then-at-value

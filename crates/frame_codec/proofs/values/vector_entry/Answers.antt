@@ -3,7 +3,7 @@ use Rattle.std.specs.Int.RustNames.{count_ones}
 use Rattle.ritas_base.specs.Members.{has_member, member_count}
 use Rattle.frame_codec.specs.Values.{mask_of, at_place, nth_entry}
 use Rattle.frame_codec.proofs.Places.{members_below}
-use Rattle.frame_codec.proofs.Parts.{vector_parts, has_less, entries_get}
+use Rattle.frame_codec.specs.PartLaws.{vector_parts, has_less, entries_get}
 use Rattle.frame_codec.proofs.values.vector_entry.Goals as goal
 
 pub split_mask-places-requires : goal.split_mask-places-requires

@@ -12,7 +12,7 @@ use Rattle.frame_codec.specs.declared.ids.Run.{Run}
 use Rattle.frame_codec.specs.Format.{Done, Block, Plain, Is}
 use Rattle.frame_codec.specs.Grammar.{any, id_of, no_ids, with_id, comes_after, ids_from, ids, is_places, is_entry_len, entry, times, vector, class2}
 use Rattle.frame_codec.specs.Values.{IsBytes, IsVector, mask_of, len_in, entry_in, after_entry, entries_in, entry_bytes, vector_bytes}
-use Rattle.frame_codec.proofs.Parts.{is_then, then_is, entry_fixed, ids_length, entry_length}
+use Rattle.frame_codec.specs.PartLaws.{is_then, then_is, entry_fixed, ids_length, entry_length}
 
 -- ---- a whole list of identifiers is of so many
 

@@ -4,19 +4,18 @@ use Rattle.std.proofs.Common.{◌≡◌, ℕ, zero, suc, ◌+◌, ◌*◌, ◌^�
 use Rattle.std.specs.List.{flat_map, slice_get, AllByRecursion}
 use Rattle.std.specs.Int.{w32, to_be_bytes, from_be_bytes}
 use Rattle.std.specs.Int.RustNames.{count_ones}
-use Rattle.std.specs.Prelude.{◌==◌, Option, None}
-use Rattle.std.proofs.lemmas.Bool.{eq-eqb, ne_eqb, cond-true, cond-false}
+use Rattle.std.specs.Prelude.{◌==◌, None}
+use Rattle.std.proofs.lemmas.Bool.{ne_eqb, cond-false}
 use Rattle.std.proofs.lemmas.List.{take_at, drop_at, drop-drop, append-nil, length-append, length-drop, length-take, length-take-le, take-append-drop, nil_from_length}
 use Rattle.std.proofs.lemmas.List.Concat.{flat_map-cons}
 use Rattle.std.proofs.lemmas.Nat.{be_bytes_4, from_be_bytes-to_be_bytes_4}
-use Rattle.ritas_base.specs.Members.{has_member, member_count}
 use Rattle.ritas_base.specs.Numbers.{Numbers, support_of}
 use Rattle.frame_codec.specs.Format.{Format, Done, Number, Is}
 use Rattle.frame_codec.specs.Grammar.{is_places, class3, vect, column}
 use Rattle.frame_codec.specs.Values.{IsBytes, IsColumn, IsVect, mask_of, at_place, entry_bytes, entries_in, vector_bytes, vect_bytes, column_bytes, rows_in, if_whole, row_of}
 use Rattle.frame_codec.specs.RowLaws.{whole_place}
-use Rattle.frame_codec.proofs.Parts.{vect_from, column_parts}
-use Rattle.frame_codec.proofs.Vectors.{IsBytes-take, mask_again, entries_again}
+use Rattle.frame_codec.specs.PartLaws.{vect_from, column_parts}
+use Rattle.frame_codec.specs.VectorLaws.{IsBytes-take, mask_again, entries_again}
 
 unless_none : (t : Bool) (w : Format) (text : List ℕ) → t ≡ false → Is w text → Is (cond t Done w) text
 unless_none true w text e is = absurd cc

@@ -6,10 +6,10 @@ use Rattle.std.proofs.lemmas.List.Sums.{sum_by-cons}
 use Rattle.std.proofs.lemmas.Nat.{be_bytes_4, div-add-mod', mod_below, from_be_bytes-to_be_bytes_4}
 use Rattle.std.specs.Int.{w32, from_be_bytes}
 use Rattle.std.proofs.lemmas.List.{take_at, drop_at, length-append}
-use Rattle.frame_codec.proofs.Vectors.{IsBytes-drop, IsBytes-take}
+use Rattle.frame_codec.specs.VectorLaws.{IsBytes-drop, IsBytes-take}
 use Rattle.frame_codec.specs.Format.{Is}
 use Rattle.frame_codec.specs.Values.{IsBytes, id_bytes, ids_bytes, ids_in, ids_of}
-use Rattle.frame_codec.proofs.Parts.{ids_length, ids_length_in}
+use Rattle.frame_codec.specs.PartLaws.{ids_length, ids_length_in}
 use Rattle.std.proofs.lemmas.Bool.{ltb-true, lt-ltb, eqb-true, eq-eqb, ne_eqb, and_parts, and_from, or_left, or_right, or_cases, cases_eq, cases_lt, cond-true, cond-false}
 use Rattle.ritas_base.specs.declared.id.Id.{Id}
 use Rattle.frame_codec.specs.declared.ids.Run.{Run}
