@@ -1,13 +1,13 @@
 -- What a box of binary consensus means: its rules on lists of words, the newest first, when a word may come, and its law.
 -- A proposal is the word `Ask` of a bit's byte; what a slot delivered is the word `Hear` of one byte: 0, 1 or, in step 3,
 -- 2 for unmarked.
-use Rattle.std.specs.Prelude.{◌≡◌, ℕ, ◌+◌, ◌<◌, ◌≤◌, Bool, true, false, ◌==◌, List, [], ◌∷◌, ◌++◌, Option, Some, ⊤, ◌⊎◌, if◌then◌else◌}
+use Rattle.std.specs.Prelude.{◌≡◌, ℕ, ◌+◌, ◌<◌, ◌≤◌, Bool, true, false, ◌==◌, List, [], ◌∷◌, Option, Some, None, ◌⊎◌, if◌then◌else◌}
 use Rattle.ritas_base.specs.declared.slot.Slot.{Slot}
 use Rattle.ritas_base.specs.declared.item.Say.{Say}
 use Rattle.ritas_base.specs.Numbers.{Numbers}
 use Rattle.layer_api.specs.Runs.{Step, calls_of, Has, IsEnough}
-use Rattle.layer_api.specs.Service.{Word, Ask, Hear, asked, is_heard, is_said, HasSay}
-use Rattle.layer_api.specs.OneLog.{value_at, bit_byte}
+use Rattle.layer_api.specs.Words.{Word, Ask, Hear, asked, is_heard, is_said, bit_byte, AllMet, all_said, AreFresh}
+use Rattle.layer_api.specs.Fed.{Play, IsFedRun}
 
 -- the replica and the instance that a box is for, and its coin
 pub record Bench : Type 0 where
@@ -32,6 +32,12 @@ pub record BinaryRules : Type 0 where
 abbrev pub vote_limit : ℕ → ℕ
 vote_limit step = if step == 3 then 3 else 2
 
+-- the bytes are one vote of a step
+pub record IsVote (step : ℕ) (v : List ℕ) : Type 0 where
+  pub vote : ℕ
+  pub whole : v ≡ vote ∷ []
+  pub small : vote < vote_limit step
+
 -- a proposal comes once
 abbrev pub MayPropose : List Word → Type 0
 MayPropose w = asked w ≡ 0
@@ -55,24 +61,24 @@ pub record MayVote (r : BinaryRules) (at : Bench) (w : List Word) (s : Slot) (vo
   pub value : vote < vote_limit s.step
   pub first : is_heard w s ≡ false
 
+-- when a word may come: a proposal is a bit
+abbrev pub MayBit : BinaryRules → Bench → List Word → Word → Type 0
+MayBit r at w (Ask v) = MayPropose w × ((bit : Bool) × (v ≡ bit_byte bit ∷ []))
+MayBit r at w (Hear s v) = (vote : ℕ) × (v ≡ vote ∷ []) × MayVote r at w s vote
+
 -- the conditions that each of these words met
 abbrev pub AreVotes : BinaryRules → Bench → List Word → Type 0
-AreVotes r at [] = ⊤
-AreVotes r at (Ask v ∷ w) = MayPropose w × ((bit : Bool) × (v ≡ bit_byte bit ∷ [])) × AreVotes r at w
-AreVotes r at (Hear s v ∷ w) = ((vote : ℕ) × (v ≡ vote ∷ []) × MayVote r at w s vote) × AreVotes r at w
+AreVotes r at w = AllMet (MayBit r at) w
 
 -- all that was said
 abbrev pub bits_said : BinaryRules → Bench → List Word → List Say
-bits_said r at [] = []
-bits_said r at (c ∷ w) = r.says at w c ++ bits_said r at w
+bits_said r at w = all_said (r.says at) w
 
--- each is at a step of this replica and instance, with a value of that step, where nothing was said before nor is by
--- another of them
-abbrev pub AreVotesSaid : Bench → List Say → List Say → Type 0
-AreVotesSaid at before [] = ⊤
-AreVotesSaid at before (y ∷ ys) =
-    IsStepSlot at y.slot × (y.slot.origin ≡ at.me) × ((vote : ℕ) × (y.value ≡ vote ∷ []) × (vote < vote_limit y.slot.step))
-    × (is_said before y.slot ≡ false) × (is_said ys y.slot ≡ false) × AreVotesSaid at before ys
+-- it is at a step of this replica and instance, with a value of that step
+pub record IsVoteSaid (at : Bench) (y : Say) : Type 0 where
+  pub slot : IsStepSlot at y.slot
+  pub origin : y.slot.origin ≡ at.me
+  pub vote : IsVote y.slot.step y.value
 
 -- this replica's slot of a step
 abbrev pub step_slot : Bench → ℕ → ℕ → Slot
@@ -80,7 +86,9 @@ step_slot at round step = record { class = 5; a = at.a; attempt = at.attempt; br
 
 -- laws of a single value, over all words that met their conditions
 pub record BoxLaws (r : BinaryRules) : Type 0 where
-  pub says_new : (at : Bench) (c : Word) (w : List Word) → AreVotes r at (c ∷ w) → AreVotesSaid at (bits_said r at w) (r.says at w c)
+  pub says_new : (at : Bench) (c : Word) (w : List Word) → AreVotes r at (c ∷ w) → AreFresh (IsVoteSaid at) (bits_said r at w) (r.says at w c)
+  -- before any word nothing is decided
+  pub decision_first : (at : Bench) → r.decision at [] ≡ None
   pub decision_stays : (at : Bench) (c : Word) (w : List Word) (b : Bool) → AreVotes r at (c ∷ w)
       → r.decision at w ≡ Some b → r.decision at (c ∷ w) ≡ Some b
   -- the round is the greatest whose first step was said, and 0 where none was
@@ -90,40 +98,25 @@ pub record BoxLaws (r : BinaryRules) : Type 0 where
       → is_said (bits_said r at w) (step_slot at round 1) ≡ true → round ≤ r.round at w
   pub round_stays : (at : Bench) (c : Word) (w : List Word) → AreVotes r at (c ∷ w) → r.round at w ≤ r.round at (c ∷ w)
 
--- one instance: which replicas are correct, and what their coins toss
-pub record Jury : Type 0 where
-  pub rules : BinaryRules
-  pub numbers : Numbers
-  pub a : ℕ
-  pub attempt : ℕ
-  pub is_correct : ℕ → Bool
-  pub coins : ℕ → Slot → Bool
+abbrev pub bench_at : Numbers → ℕ → ℕ → (ℕ → Slot → Bool) → ℕ → Bench
+bench_at p a attempt coins i = record { numbers = p; me = i; a = a; attempt = attempt; coin = coins i }
 
-abbrev pub bench_at : Jury → ℕ → Bench
-bench_at g i = record { numbers = g.numbers; me = i; a = g.a; attempt = g.attempt; coin = g.coins i }
-
--- A word of replica i after these steps meets its conditions. What is heard at a slot is what all correct replicas heard
--- there, and was said there before by its origin where that is correct.
-abbrev pub IsFedVote : Jury → List (Step Word) → ℕ → Word → Type 0
-IsFedVote g steps i (Ask v) = MayPropose (calls_of i steps) × ((bit : Bool) × (v ≡ bit_byte bit ∷ []))
-IsFedVote g steps i (Hear s v) =
-    ((vote : ℕ) × (v ≡ vote ∷ []) × MayVote g.rules (bench_at g i) (calls_of i steps) s vote)
-    × ((j : ℕ) (u : List ℕ) → g.is_correct j ≡ true → value_at (calls_of j steps) s ≡ Some u → u ≡ v)
-    × (g.is_correct s.origin ≡ true → HasSay (bits_said g.rules (bench_at g s.origin) (calls_of s.origin steps)) (record { slot = s; value = v }))
-
-abbrev pub IsWellVoted : Jury → List (Step Word) → Type 0
-IsWellVoted g [] = ⊤
-IsWellVoted g (x ∷ xs) = (g.is_correct x.who ≡ true) × IsFedVote g xs x.who x.call × IsWellVoted g xs
+-- the boxes of one instance
+abbrev pub binary_play : BinaryRules → Numbers → ℕ → ℕ → (ℕ → Slot → Bool) → Play
+binary_play r p a attempt coins = record {
+  said = λ i w. bits_said r (bench_at p a attempt coins i) w;
+  may = λ i w c. MayBit r (bench_at p a attempt coins i) w c;
+}
 
 -- the law of a box, of these rules: over every run all decisions of correct replicas are equal, and a bit that one of them
 -- decides was proposed by a correct one
 pub record OneBit (r : BinaryRules) : Type 0 where
-  pub agree : (p : Numbers) (a attempt : ℕ) (is_correct : ℕ → Bool) (coins : ℕ → Slot → Bool) (steps : List (Step Word)) →
-      let g : Jury = record { rules = r; numbers = p; a = a; attempt = attempt; is_correct = is_correct; coins = coins } in
-      IsEnough p is_correct → IsWellVoted g steps → (i j : ℕ) (b d : Bool) → is_correct i ≡ true → is_correct j ≡ true
-      → r.decision (bench_at g i) (calls_of i steps) ≡ Some b → r.decision (bench_at g j) (calls_of j steps) ≡ Some d → b ≡ d
-  pub valid : (p : Numbers) (a attempt : ℕ) (is_correct : ℕ → Bool) (coins : ℕ → Slot → Bool) (steps : List (Step Word)) →
-      let g : Jury = record { rules = r; numbers = p; a = a; attempt = attempt; is_correct = is_correct; coins = coins } in
-      IsEnough p is_correct → IsWellVoted g steps → (i : ℕ) (b : Bool) → is_correct i ≡ true
-      → r.decision (bench_at g i) (calls_of i steps) ≡ Some b
+  pub agree : (p : Numbers) (a attempt : ℕ) (is_correct : ℕ → Bool) (coins : ℕ → Slot → Bool) (steps : List (Step Word))
+      → IsEnough p is_correct → IsFedRun (binary_play r p a attempt coins) is_correct steps
+      → (i j : ℕ) (b d : Bool) → is_correct i ≡ true → is_correct j ≡ true
+      → r.decision (bench_at p a attempt coins i) (calls_of i steps) ≡ Some b
+      → r.decision (bench_at p a attempt coins j) (calls_of j steps) ≡ Some d → b ≡ d
+  pub valid : (p : Numbers) (a attempt : ℕ) (is_correct : ℕ → Bool) (coins : ℕ → Slot → Bool) (steps : List (Step Word))
+      → IsEnough p is_correct → IsFedRun (binary_play r p a attempt coins) is_correct steps
+      → (i : ℕ) (b : Bool) → is_correct i ≡ true → r.decision (bench_at p a attempt coins i) (calls_of i steps) ≡ Some b
       → (k : ℕ) × (is_correct k ≡ true) × Has (calls_of k steps) (Ask (bit_byte b ∷ []))

@@ -1,6 +1,13 @@
 pub mod Runs
 pub mod RunsLaws
 pub mod HasLaws
+pub mod Words
+pub mod Calls
+pub mod Fed
+pub mod Part
+pub mod FedLaws
+pub mod PartLaws
+pub mod FreshLaws
 pub mod Broadcast
 pub mod BroadcastCalls
 pub mod Entries
@@ -10,5 +17,11 @@ pub mod EntryLaws
 pub mod Service
 pub mod ServiceCalls
 pub mod OneLog
+pub mod OneInstance
 pub mod Binary
 pub mod BinaryCalls
+pub mod Votes
+pub mod Multi
+pub mod MultiCalls
+pub mod Vectors
+pub mod VectorCalls

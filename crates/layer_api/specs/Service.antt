@@ -1,6 +1,5 @@
 -- What a service means: its rules on lists of words, the newest first, and when a word may come.
 use Rattle.std.specs.Prelude.{◌≡◌, ℕ, ◌+◌, ◌<◌, ◌≤◌, ◌⊎◌, nat_lt, nat_le, Bool, true, false, not, ◌==◌, ◌&&◌, ◌||◌, List, [], ◌∷◌, ◌++◌, length, Option, Some, None, ⊤, if◌then◌else◌}
-use Rattle.std.specs.List.{list_any}
 use Rattle.ritas_base.specs.declared.slot.Slot.{Slot}
 use Rattle.ritas_base.specs.declared.item.Say.{Say}
 use Rattle.ritas_base.specs.declared.id.Id.{Id}
@@ -10,12 +9,7 @@ use Rattle.ritas_base.specs.Slots.{slot_fault, has_class, within, command_slot}
 use Rattle.frame_codec.specs.Format.{Is}
 use Rattle.frame_codec.specs.Grammar.{value}
 use Rattle.frame_codec.specs.Inputs.{IsInput}
-use Rattle.ritas_base.specs.SlotOrder.{is_slot}
-
--- a word to a service: an input, or what a slot delivered
-pub data Word : Type 0 where
-  Ask : List ℕ → Word
-  Hear : Slot → List ℕ → Word
+use Rattle.layer_api.specs.Words.{Word, Ask, Hear, is_heard, asked, HasSay, AllMet, all_said, AreFresh}
 
 -- the session and the replica that a service's value is for, and its coin
 pub record Seat : Type 0 where
@@ -44,18 +38,6 @@ pub data Ending : Type 0 where
   Over : Ending
   Decided : Decision → Ending
 
--- whether the slot was heard
-abbrev pub is_heard : List Word → Slot → Bool
-is_heard [] s = false
-is_heard (Ask v ∷ w) s = is_heard w s
-is_heard (Hear q v ∷ w) s = is_slot q s || is_heard w s
-
--- how many inputs there were
-abbrev pub asked : List Word → ℕ
-asked [] = 0
-asked (Ask v ∷ w) = asked w + 1
-asked (Hear q v ∷ w) = asked w
-
 -- the meaning of a service at one seat, by the words so far
 pub record ServiceRules : Type 0 where
   -- the root services that it serves
@@ -79,19 +61,9 @@ pub record ServiceRules : Type 0 where
   -- what each instance inside decided
   pub decided : Seat → List Word → Instance → Option Decision
 
--- whether a slot is one of those said
-abbrev pub is_said : List Say → Slot → Bool
-is_said says s = list_any (λ y. is_slot y.slot s) says
-
--- the value that is said at a slot, if one is: that of the first of these says that is at it
-abbrev pub said_value : List Say → Slot → Option (List ℕ)
-said_value [] s = None
-said_value (y ∷ ys) s = if is_slot y.slot s then Some y.value else said_value ys s
-
 -- all that was said
 abbrev pub said : ServiceRules → Seat → List Word → List Say
-said r seat [] = []
-said r seat (c ∷ w) = r.says seat w c ++ said r seat w
+said r seat w = all_said (r.says seat) w
 
 -- whether a slot's command number or round lies too far behind what is finished
 abbrev pub is_past : ServiceRules → Seat → List Word → Slot → Bool
@@ -124,23 +96,18 @@ pub record MayHear (r : ServiceRules) (seat : Seat) (w : List Word) (s : Slot) (
   pub is_open : r.opens seat w s ≡ true
   pub first : is_heard w s ≡ false
 
+-- when a word may come
+abbrev pub MayWord : ServiceRules → Seat → List Word → Word → Type 0
+MayWord r seat w (Ask v) = MayAsk r seat w v
+MayWord r seat w (Hear s v) = MayHear r seat w s v
+
 -- the conditions that each of these words met
 abbrev pub AreProper : ServiceRules → Seat → List Word → Type 0
-AreProper r seat [] = Unit {0}
-AreProper r seat (Ask v ∷ w) = MayAsk r seat w v × AreProper r seat w
-AreProper r seat (Hear s v ∷ w) = MayHear r seat w s v × AreProper r seat w
+AreProper r seat w = AllMet (MayWord r seat) w
 
 -- each is at one of the replica's own slots, where nothing was said before nor is by another of them
 abbrev pub AreNew : ServiceRules → Seat → List Word → List Say → Type 0
-AreNew r seat w [] = Unit {0}
-AreNew r seat w (y ∷ ys) =
-    (y.slot.origin ≡ seat.me) × (is_said (said r seat w) y.slot ≡ false) × (is_said ys y.slot ≡ false) × AreNew r seat w ys
-
--- the inputs, and the values heard, are in the grammar of the root service
-abbrev pub AreGoodWords : Numbers → Mode → List Word → Type 0
-AreGoodWords p mode [] = Unit {0}
-AreGoodWords p mode (Ask v ∷ w) = IsInput p mode v × AreGoodWords p mode w
-AreGoodWords p mode (Hear s v ∷ w) = (slot_fault p mode s ≡ None) × Is (value p mode.root s) v × AreGoodWords p mode w
+AreNew r seat w ys = AreFresh (λ y. y.slot.origin ≡ seat.me) (said r seat w) ys
 
 -- each is at a slot of the root service, with a value of that slot's grammar
 abbrev pub AreGoodSays : Numbers → Mode → List Say → Type 0
@@ -189,11 +156,6 @@ pub record Appends (r : ServiceRules) (seat : Seat) (c : Word) (w : List Word) :
   pub more : List Id
   pub whole : more ++ r.done seat w ≡ r.done seat (c ∷ w)
   pub recent : AreRecent r seat (c ∷ w) more
-
--- the say is among these
-abbrev pub HasSay : List Say → Say → Type 0
-HasSay [] y = ⊥
-HasSay (x ∷ xs) y = (x ≡ y) ⊎ HasSay xs y
 
 -- whether a command of an origin is finished: it is in the identifier log in root service 6, and else it was delivered
 abbrev pub is_finished : ServiceRules → Seat → List Word → ℕ → ℕ → Bool

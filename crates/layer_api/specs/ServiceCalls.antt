@@ -1,28 +1,14 @@
 -- What a call on a service's value does, for every list of words that the value stands for.
-use Rattle.std.specs.Prelude.{◌≡◌, ℕ, ◌<◌, ◌⊎◌, Bool, false, List, ◌∷◌, ◌++◌, Result, Ok, Err}
+use Rattle.std.specs.Prelude.{◌≡◌, ℕ, ◌<◌, ◌⊎◌, Bool, List, ◌∷◌, Result}
 use Rattle.ritas_base.specs.declared.bytes.Mem.{Mem}
 use Rattle.ritas_base.specs.declared.slot.Slot.{Slot}
 use Rattle.ritas_base.specs.declared.item.Say.{Say}
 use Rattle.ritas_base.specs.declared.id.Id.{Id}
 use Rattle.layer_api.specs.declared.outcome.Outcome.{Outcome}
 use Rattle.layer_api.specs.declared.outcome.Outcome.TheVariants as outcomes
-use Rattle.layer_api.specs.Service.{ServiceRules, Seat, Word, Ask, Hear, MayAsk, MayHear, IsPart, Ending, Undecided, Over, Decided, Bit, Nothing, Value, Spent}
-
--- the seat's coin is this one
-abbrev pub HasCoin : Seat → (Slot → Bool) → Type 0
-HasCoin seat bits = (s : Slot) → seat.coin s ≡ bits s
-
--- the input was taken, and what is newly said is put out
-pub record TakesInput {S : Type 0} (stands : S → Seat → List Word → Type 0) (r : ServiceRules) (old new : S) (value : List ℕ) (before after : List Say) : Type 0 where
-  pub grows : (seat : Seat) (w : List Word) → stands old seat w → MayAsk r seat w value → stands new seat (Ask value ∷ w)
-  pub made : (seat : Seat) (w : List Word) → stands old seat w → MayAsk r seat w value → after ≡ before ++ r.says seat w (Ask value)
-
--- what a slot delivered was heard, and what is newly said is put out
-pub record Hears {S : Type 0} (stands : S → Seat → List Word → Type 0) (r : ServiceRules) (bits : Slot → Bool) (old new : S) (slot : Slot) (value : List ℕ) (before after : List Say) : Type 0 where
-  pub grows : (seat : Seat) (w : List Word) → stands old seat w → HasCoin seat bits → MayHear r seat w slot value
-      → stands new seat (Hear slot value ∷ w)
-  pub made : (seat : Seat) (w : List Word) → stands old seat w → HasCoin seat bits → MayHear r seat w slot value
-      → after ≡ before ++ r.says seat w (Hear slot value)
+use Rattle.layer_api.specs.Service.{ServiceRules, Seat, MayAsk, MayHear, IsPart, Ending, Undecided, Over, Decided, Bit, Nothing, Value, Spent}
+use Rattle.layer_api.specs.Words.{Word, Ask, Hear}
+use Rattle.layer_api.specs.Calls.{IsCoin, WordDone}
 
 -- what the getters of a service's value answer; the identifier log has the newest first
 pub record ServiceShown : Type 0 where
@@ -60,24 +46,16 @@ pub record ShowsBetween (r : ServiceRules) (seat : Seat) (w later : List Word) (
 abbrev pub ShowsNear : ServiceRules → Seat → List Word → Word → ServiceShown → Type 0
 ShowsNear r seat w c shown = ShowsBetween r seat w (c ∷ w) shown
 
--- for want of memory nothing is put out, and the value is live no more
-pub record Fails {S : Type 0} (stands : S → Seat → List Word → Type 0) (r : ServiceRules) (is_live : S → Bool) (shown : S → ServiceShown)
-    (old new : S) (c : Word) (may : Seat → List Word → Type 0) (before after : List Say) : Type 0 where
-  pub out : after ≡ before
-  pub dead : is_live new ≡ false
-  pub shows : (seat : Seat) (w : List Word) → stands old seat w → may seat w → ShowsNear r seat w c (shown new)
-
 -- each outcome of an input
 abbrev pub Inputs : {S : Type 0} → (S → Seat → List Word → Type 0) → ServiceRules → (S → Bool) → (S → ServiceShown) → S → S → List ℕ → List Say → List Say → Result (Unit {0}) Mem → Type 0
-Inputs stands r is_live shown old new value before after (Ok u) = TakesInput stands r old new value before after
-Inputs stands r is_live shown old new value before after (Err e) =
-    Fails stands r is_live shown old new (Ask value) (λ seat w. MayAsk r seat w value) before after
+Inputs stands r is_live shown old new value before after result =
+    WordDone stands r.says (λ seat w c s. ShowsNear r seat w c (shown s)) is_live old new (Ask value) (λ seat w. MayAsk r seat w value) before after result
 
 -- each outcome of what a slot delivered
 abbrev pub Heeds : {S : Type 0} → (S → Seat → List Word → Type 0) → ServiceRules → (S → Bool) → (S → ServiceShown) → (Slot → Bool) → S → S → Slot → List ℕ → List Say → List Say → Result (Unit {0}) Mem → Type 0
-Heeds stands r is_live shown bits old new slot value before after (Ok u) = Hears stands r bits old new slot value before after
-Heeds stands r is_live shown bits old new slot value before after (Err e) =
-    Fails stands r is_live shown old new (Hear slot value) (λ seat w. HasCoin seat bits × MayHear r seat w slot value) before after
+Heeds stands r is_live shown bits old new slot value before after result =
+    WordDone stands r.says (λ seat w c s. ShowsNear r seat w c (shown s)) is_live old new (Hear slot value)
+    (λ seat w. IsCoin seat.coin bits × MayHear r seat w slot value) before after result
 
 -- what an outcome says
 abbrev pub ending_of : Outcome → Ending

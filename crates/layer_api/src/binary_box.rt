@@ -1,5 +1,5 @@
 ghost use Rattle.std.specs.Prelude.{◌≡◌, ℕ, ◌<◌, Bool, true, List, [], IfOk};
-ghost use Rattle.layer_api.specs.Service.{Word};
+ghost use Rattle.layer_api.specs.Words.{Word};
 ghost use Rattle.layer_api.specs.Binary.{BinaryRules, Bench, BoxLaws, OneBit};
 ghost use Rattle.layer_api.specs.BinaryCalls.{BoxShown, ShowsBox, Proposes, HearsVote};
 

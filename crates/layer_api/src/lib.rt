@@ -1,5 +1,5 @@
-//! What the layers promise each other: the traits of a broadcast, of a box of binary consensus and of a
-//! service, with their laws.
+//! What the layers promise each other: the traits of a broadcast, of the boxes of binary, of
+//! multi-valued and of vector consensus and of a service, with their laws.
 //!
 //! Each trait says what its implementations mean on plain lists of calls, the newest first, by one record of rules.
 //! A value stands for a list of calls; no value stores it. A layer above uses a layer by its trait alone.
@@ -7,12 +7,18 @@
 
 mod binary_box;
 mod broadcast;
+mod decided;
 mod laws;
+mod multi_box;
 mod outcome;
 mod service;
+mod vector_box;
 
 pub use binary_box::BinaryBox;
 pub use broadcast::{Broadcast, Heard};
+pub use decided::Decided;
 pub use laws::inner_runs;
+pub use multi_box::MultiBox;
 pub use outcome::Outcome;
 pub use service::Service;
+pub use vector_box::VectorBox;

@@ -1,6 +1,7 @@
 ghost use Rattle.std.specs.Prelude.{◌≡◌, ℕ, ◌<◌, Bool, true, List, [], IfOk, reverse};
 ghost use Rattle.ritas_base.specs.declared.id.Id.{Id};
-ghost use Rattle.layer_api.specs.Service.{ServiceRules, Seat, Word, WordLaws};
+ghost use Rattle.layer_api.specs.Service.{ServiceRules, Seat, WordLaws};
+ghost use Rattle.layer_api.specs.Words.{Word};
 ghost use Rattle.layer_api.specs.ServiceCalls.{Inputs, Heeds, ServiceShown, Shows, ending_of};
 ghost use Rattle.layer_api.specs.OneLog.{OneLog};
 

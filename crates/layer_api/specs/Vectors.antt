@@ -1,0 +1,109 @@
+-- What a box of vector consensus means: its rules on lists of words, the newest first, when a word may come, and its laws. A
+-- proposal is the word `Ask` of a value of class 2; what a slot delivered is the word `Hear` of that slot's value. What is decided
+-- is a value of class 3, which is a vector.
+use Rattle.std.specs.Prelude.{◌≡◌, ℕ, ◌<◌, nat_le, Bool, true, false, ◌==◌, ◌&&◌, List, [], ◌∷◌, Option, Some, None, if◌then◌else◌}
+use Rattle.ritas_base.specs.declared.slot.Slot.{Slot}
+use Rattle.ritas_base.specs.declared.item.Say.{Say}
+use Rattle.ritas_base.specs.Numbers.{IsSession}
+use Rattle.ritas_base.specs.Slots.{within, has_count}
+use Rattle.frame_codec.specs.Format.{Is}
+use Rattle.frame_codec.specs.Grammar.{class2, vector, value}
+use Rattle.layer_api.specs.Runs.{Step, calls_of, IsEnough}
+use Rattle.layer_api.specs.Words.{Word, Ask, Hear, asked, is_heard, AllMet, all_said, AreFresh}
+use Rattle.layer_api.specs.Fed.{Play, IsFedRun}
+use Rattle.layer_api.specs.Service.{Instance, Decision}
+use Rattle.layer_api.specs.Multi.{Scope, Desk, desk_at}
+
+-- the meaning of a box at one desk, by the words so far; the attempt of the desk's scope is 0
+pub record VectorRules : Type 0 where
+  -- the broadcasts that a word newly starts
+  pub says : Desk → List Word → Word → List Say
+  -- whether items of a slot of the instance may be taken
+  pub opens : Desk → List Word → Slot → Bool
+  -- the vector that is decided
+  pub decision : Desk → List Word → Option (List ℕ)
+  -- the last attempt decided that no vector is
+  pub spent : Desk → List Word → Bool
+  -- what each instance inside decided
+  pub inside : Desk → List Word → Instance → Option Decision
+
+-- the slot is one of the instance of a round: of a proposal, or of one of the attempts, of which there are f + 1
+abbrev pub is_slot_in : ℕ → ℕ → Slot → Bool
+is_slot_in f a s =
+    within 2 5 s.class && (s.a == a && ((if s.class == 2 then s.attempt == 0 else nat_le s.attempt f)
+    && (has_count 200 s.class s.bround && has_count 3 s.class s.step)))
+
+abbrev pub is_vector_slot : Scope → Slot → Bool
+is_vector_slot at s = is_slot_in at.numbers.f at.a s
+
+-- the root service has vectors: the values of class 3 are vectors
+abbrev pub HasVectors : Scope → Type 0
+HasVectors at = (at.root == 4) ≡ false
+
+-- a slot of this instance is heard once, while its items may be taken, and with a value of its grammar
+pub record MayVectorHear (r : VectorRules) (at : Desk) (w : List Word) (s : Slot) (v : List ℕ) : Type 0 where
+  pub slot : is_vector_slot at.scope s ≡ true
+  pub origin : s.origin < at.scope.numbers.n
+  pub is_open : r.opens at w s ≡ true
+  pub first : is_heard w s ≡ false
+  pub good : Is (value at.scope.numbers at.scope.root s) v
+  pub has : HasVectors at.scope
+
+-- a proposal comes once, and is a value of class 2; the root service is one with vectors, which a box can't tell by itself
+abbrev pub MayVector : VectorRules → Desk → List Word → Word → Type 0
+MayVector r at w (Ask v) = (asked w ≡ 0) × Is (class2 at.scope.numbers at.scope.root) v × HasVectors at.scope
+MayVector r at w (Hear s v) = MayVectorHear r at w s v
+
+abbrev pub AreVector : VectorRules → Desk → List Word → Type 0
+AreVector r at w = AllMet (MayVector r at) w
+
+-- it is at a slot of this replica and instance, with a value of that slot's grammar
+pub record IsVectorSaid (at : Desk) (y : Say) : Type 0 where
+  pub slot : is_vector_slot at.scope y.slot ≡ true
+  pub origin : y.slot.origin ≡ at.me
+  pub good : Is (value at.scope.numbers at.scope.root y.slot) y.value
+
+-- laws of a single value, over all words that met their conditions
+pub record VectorLaws (r : VectorRules) : Type 0 where
+  pub says_new : (at : Desk) (c : Word) (w : List Word) → IsSession at.scope.numbers → HasVectors at.scope → AreVector r at (c ∷ w)
+      → AreFresh (IsVectorSaid at) (all_said (r.says at) w) (r.says at w c)
+  -- what is open stays open
+  pub opens_stays : (at : Desk) (c : Word) (w : List Word) (s : Slot) → IsSession at.scope.numbers → HasVectors at.scope → AreVector r at (c ∷ w)
+      → r.opens at w s ≡ true → r.opens at (c ∷ w) s ≡ true
+  -- before any word nothing is open, and nothing is decided
+  pub opens_first : (at : Desk) (s : Slot) → r.opens at [] s ≡ false
+  pub decision_first : (at : Desk) → r.decision at [] ≡ None
+  pub spent_first : (at : Desk) → r.spent at [] ≡ false
+  pub decision_stays : (at : Desk) (c : Word) (w : List Word) (v : List ℕ) → IsSession at.scope.numbers → HasVectors at.scope → AreVector r at (c ∷ w)
+      → r.decision at w ≡ Some v → r.decision at (c ∷ w) ≡ Some v
+  pub spent_stays : (at : Desk) (c : Word) (w : List Word) → IsSession at.scope.numbers → HasVectors at.scope → AreVector r at (c ∷ w)
+      → r.spent at w ≡ true → r.spent at (c ∷ w) ≡ true
+  -- nothing is decided where it is spent
+  pub spent_alone : (at : Desk) (w : List Word) → AreVector r at w → r.spent at w ≡ true → r.decision at w ≡ None
+  pub decision_good : (at : Desk) (w : List Word) (v : List ℕ) → IsSession at.scope.numbers → HasVectors at.scope → AreVector r at w
+      → r.decision at w ≡ Some v → Is (vector at.scope.numbers at.scope.root) v
+  pub inside_stays : (at : Desk) (c : Word) (w : List Word) (x : Instance) (d : Decision) → IsSession at.scope.numbers → HasVectors at.scope
+      → AreVector r at (c ∷ w) → r.inside at w x ≡ Some d → r.inside at (c ∷ w) x ≡ Some d
+
+-- the boxes of one instance
+abbrev pub vector_play : VectorRules → Scope → (ℕ → Slot → Bool) → Play
+vector_play r at coins = record {
+  said = λ i w. all_said (r.says (desk_at at coins i)) w;
+  may = λ i w c. MayVector r (desk_at at coins i) w c;
+}
+
+-- the law of a box, of these rules: over every run all decisions of correct replicas are equal, none of them is spent where another
+-- has a vector, and what they decided in each instance inside is equal
+pub record OneVector (r : VectorRules) : Type 0 where
+  pub agree : (at : Scope) (is_correct : ℕ → Bool) (coins : ℕ → Slot → Bool) (steps : List (Step Word))
+      → IsEnough at.numbers is_correct → HasVectors at → IsFedRun (vector_play r at coins) is_correct steps
+      → (i j : ℕ) (v u : List ℕ) → is_correct i ≡ true → is_correct j ≡ true
+      → r.decision (desk_at at coins i) (calls_of i steps) ≡ Some v → r.decision (desk_at at coins j) (calls_of j steps) ≡ Some u → v ≡ u
+  pub apart : (at : Scope) (is_correct : ℕ → Bool) (coins : ℕ → Slot → Bool) (steps : List (Step Word))
+      → IsEnough at.numbers is_correct → HasVectors at → IsFedRun (vector_play r at coins) is_correct steps
+      → (i j : ℕ) (v : List ℕ) → is_correct i ≡ true → is_correct j ≡ true
+      → r.decision (desk_at at coins i) (calls_of i steps) ≡ Some v → r.spent (desk_at at coins j) (calls_of j steps) ≡ true → ⊥
+  pub insides : (at : Scope) (is_correct : ℕ → Bool) (coins : ℕ → Slot → Bool) (steps : List (Step Word))
+      → IsEnough at.numbers is_correct → HasVectors at → IsFedRun (vector_play r at coins) is_correct steps
+      → (i j : ℕ) (x : Instance) (d e : Decision) → is_correct i ≡ true → is_correct j ≡ true
+      → r.inside (desk_at at coins i) (calls_of i steps) x ≡ Some d → r.inside (desk_at at coins j) (calls_of j steps) x ≡ Some e → d ≡ e
