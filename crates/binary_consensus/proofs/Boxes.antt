@@ -8,23 +8,22 @@ use Rattle.ritas_base.specs.Numbers.{Numbers, IsSession, wait_of}
 use Rattle.ritas_base.specs.History.{replicas}
 use Rattle.ritas_base.specs.Shortest.{option_or_none, option_or_older}
 use Rattle.ritas_base.specs.Slots.{within}
-use Rattle.layer_api.specs.Service.{Word, Ask, Hear, asked, is_heard}
-use Rattle.layer_api.specs.OneLog.{bit_byte}
+use Rattle.layer_api.specs.Words.{Word, Ask, Hear, asked, is_heard, bit_byte}
 use Rattle.layer_api.specs.Binary.{Bench, IsStepSlot, MayPropose, MayVote, vote_limit}
-use Rattle.layer_api.specs.BinaryCalls.{HasTosses, TakesWord}
+use Rattle.layer_api.specs.Calls.{IsCoin, WordTaken}
+use Rattle.layer_api.specs.FedLaws.{some_if}
 use Rattle.bracha_validation.specs.declared.tally.Tally.{Tally}
 use Rattle.bracha_validation.specs.Tallies.{vote_count, IsTally}
 use Rattle.binary_consensus.specs.Steps.{round_of, step_of, step_slot, heard, listed, accepted}
 use Rattle.binary_consensus.specs.Consensus.{proposal, left, decides, next_vote, said, decided_below, steps, says_below, decision, binary}
-use Rattle.binary_consensus.specs.Runs.{some_if}
-use Rattle.binary_consensus.specs.Stays.{stays, unleft, next_none, said_down, silent, silent_above}
+use Rattle.binary_consensus.specs.Stays.{steps_are, stays, unleft, next_none, said_down, silent, silent_above}
 use Rattle.binary_consensus.specs.Counts.{Heard, HearsOne, tally_at}
 use Rattle.binary_consensus.specs.Going.{own_slot, line_of, IsPart, AreHeard, StandsAt, IsOver, IsHere, Passing, Done, GoesOn}
 use Rattle.binary_consensus.specs.Stands.{Stands}
 use Rattle.binary_consensus.specs.declared.part.Part.{Part}
 use Rattle.binary_consensus.specs.declared.place.Place.{Place}
 use Rattle.binary_consensus.specs.declared.bin.Bin.{Bin}
-use Rattle.binary_consensus.proofs.Turning.{steps_are, rest, says_old, begins, begin, stay}
+use Rattle.binary_consensus.proofs.Turning.{rest, says_old, begins, begin, stay}
 use Rattle.binary_consensus.proofs.Hearing.{heard_room, heard_one_more}
 use Rattle.binary_consensus.proofs.Moves.{own_is}
 
@@ -141,7 +140,7 @@ proposes at old new w bit before after stands none part line said-is ended decid
 
 pub takes_proposal : (old new : Bin) (bit : Bool) (before after : List Say) → old.place.said ≡ 0 → new.part ≡ old.part → new.line ≡ old.line → new.place.said ≡ 1
     → new.place.ended ≡ false → new.place.decided ≡ None → new.live ≡ old.live → after ≡ before ++ record { slot = own_slot old.part 0; value = bit_byte bit ∷ [] } ∷ []
-    → TakesWord Stands binary old new (Ask (bit_byte bit ∷ [])) (λ at w. MayPropose w) before after
+    → WordTaken Stands binary.says old new (Ask (bit_byte bit ∷ [])) (λ at w. MayPropose w) before after
 takes_proposal old new bit before after none part line said-is ended decided live pushed = record {
   grows = λ at w stands may. (proposes at old new w bit before after stands none part line said-is ended decided live pushed).0;
   made = λ at w stands may. (proposes at old new w bit before after stands none part line said-is ended decided live pushed).1;
@@ -271,7 +270,7 @@ stands_decision at t w s (suc n) l =
     ]
 
 pub vote_stands : (at : Bench) (b new : Bin) (w : List Word) (s : Slot) (t v : ℕ) (bits : Slot → Bool) (place : Place) (before after out : List Say)
-    → Stands b at w → b.place.ended ≡ false → (b.place.said ≡ 0 → ⊥) → HasTosses at bits → MayVote binary at w s v → line_of s ≡ Some t
+    → Stands b at w → b.place.ended ≡ false → (b.place.said ≡ 0 → ⊥) → IsCoin at.coin bits → MayVote binary at w s v → line_of s ≡ Some t
     → (vote_count (tally_at b.line.votes t) < b.line.numbers.n → v < vote_limit (step_of t) → HearsOne t v b.line new.line)
     → new.part ≡ b.part → new.live ≡ b.live → GoesOn b.part new.line bits b.place [] out new.place → after ≡ before ++ out
     → Stands new at (Hear s (v ∷ []) ∷ w) × (after ≡ before ++ says_below at steps w (Hear s (v ∷ [])))

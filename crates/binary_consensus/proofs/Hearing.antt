@@ -10,8 +10,7 @@ use Rattle.ritas_base.specs.History.{replicas}
 use Rattle.ritas_base.specs.Quorums.{count_same, count_none, count_more}
 use Rattle.ritas_base.specs.Shortest.{option_or_none}
 use Rattle.ritas_base.specs.SlotOrder.{is_slot, same_slot, slot_itself}
-use Rattle.layer_api.specs.Service.{Word, Ask, Hear, is_heard}
-use Rattle.layer_api.specs.OneLog.{value_at}
+use Rattle.layer_api.specs.Words.{Word, Ask, Hear, is_heard, value_at}
 use Rattle.layer_api.specs.Binary.{Bench}
 use Rattle.bracha_validation.specs.declared.tally.Tally.{Tally}
 use Rattle.bracha_validation.specs.Votes.{votes, may_give}

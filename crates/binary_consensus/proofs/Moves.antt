@@ -3,9 +3,9 @@ use Rattle.std.proofs.Common.{◌≡◌, ℕ, ◌<◌, ◌==◌, Bool, List, Opt
 use Rattle.std.specs.Option.{option_or}
 use Rattle.ritas_base.specs.declared.slot.Slot.{Slot}
 use Rattle.ritas_base.specs.Numbers.{Numbers, wait_of}
-use Rattle.layer_api.specs.Service.{Word}
+use Rattle.layer_api.specs.Words.{Word}
 use Rattle.layer_api.specs.Binary.{Bench}
-use Rattle.layer_api.specs.BinaryCalls.{HasTosses}
+use Rattle.layer_api.specs.Calls.{IsCoin}
 use Rattle.bracha_validation.specs.declared.tally.Tally.{Tally}
 use Rattle.bracha_validation.specs.Tallies.{IsTally, DependsOnCounts}
 use Rattle.binary_consensus.specs.Steps.{step_slot, heard, accepted}
@@ -31,7 +31,7 @@ pub wait_is : (part : Part) (line : Heard) (at : Bench) (p : Numbers) (wait : �
 wait_is part line at p wait is e q = q ∙ (ap wait_of e ∙ ap wait_of is.numbers)
 
 pub leaves_at : (part : Part) (line : Heard) (p : Numbers) (at : Bench) (bits : Slot → Bool) (t : ℕ) (votes : Tally) (known : Option Bool) (left : Left) (vs : List ℕ)
-    → Leaves part p bits t votes known left → p ≡ line.numbers → IsPart part line.numbers at → HasTosses at bits → IsTally votes vs
+    → Leaves part p bits t votes known left → p ≡ line.numbers → IsPart part line.numbers at → IsCoin at.coin bits → IsTally votes vs
     → (left.decided ≡ option_or known (decides at.numbers t (Some vs))) × (left.next ≡ (if t == 599 then None else next_said at t known (Some vs)))
 leaves_at part line p at bits t votes known left vs leaves e is tosses tally =
     let h = leaves at vs (subst (λ (q : Numbers). IsPart part q at) (sym e) is) tosses tally in

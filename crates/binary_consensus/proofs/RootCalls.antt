@@ -5,13 +5,14 @@ use Rattle.std.specs.Prelude.{is_ok}
 use Rattle.ritas_base.specs.declared.bytes.Mem.{Mem}
 use Rattle.ritas_base.specs.declared.slot.Slot.{Slot}
 use Rattle.ritas_base.specs.declared.item.Say.{Say}
-use Rattle.layer_api.specs.Service.{Seat, Word, Ask, Hear, MayAsk, MayHear}
+use Rattle.layer_api.specs.Service.{Seat, MayAsk, MayHear}
+use Rattle.layer_api.specs.Words.{Word, Ask, Hear, bit_byte}
 use Rattle.layer_api.specs.ServiceCalls.{Inputs, Heeds}
-use Rattle.layer_api.specs.OneLog.{bit_byte}
 use Rattle.layer_api.specs.Binary.{BinaryRules, Bench}
 use Rattle.layer_api.specs.BinaryCalls.{BoxShown, ShowsBoxNear, Proposes, HearsVote}
 use Rattle.binary_consensus.specs.Root.{bench_of, binary_root}
-use Rattle.binary_consensus.specs.RootLaws.{given_now, asks_bit, hears_vote, may_propose, may_vote}
+use Rattle.layer_api.specs.OneInstance.{given_now}
+use Rattle.binary_consensus.specs.RootLaws.{asks_bit, hears_vote, may_propose, may_vote}
 use Rattle.binary_consensus.specs.RootStands.{RootStands, root_shown, root_shows_near}
 use Rattle.binary_consensus.specs.declared.bin_root.BinRoot.{BinRoot}
 
@@ -55,18 +56,18 @@ module _ {B : Type 0} (stands : B → Bench → List Word → Type 0) (b : Binar
       → ((x : ℕ) → value ≡ x ∷ [] → vote ≡ x) → HearsVote stands b live shown bits old.inner new.inner slot vote before after result → new.given ≡ old.given
       → Heeds (RootStands stands) (binary_root b) (λ s. live s.inner) (λ s. root_shown (shown s.inner) s.given) bits old new slot value before after result
   root_heard bits old new slot value vote before after (Ok u) is t given = record {
-    grows = λ seat w s coin may.
-        let e = whole seat w slot value vote is may in
+    grows = λ seat w s may.
+        let e = whole seat w slot value vote is may.1 in
         record {
           inner = subst (λ (v : List ℕ). stands new.inner (bench_of seat) (Hear slot v ∷ w)) (sym e)
-              (t.grows (bench_of seat) w s.inner (coin, may_vote b seat w slot value vote s.once may e));
+              (t.grows (bench_of seat) w s.inner (may.0, may_vote b seat w slot value vote s.once may.1 e));
           given = given ∙ s.given;
           once = s.once;
         };
-    made = λ seat w s coin may.
-        let e = whole seat w slot value vote is may in
+    made = λ seat w s may.
+        let e = whole seat w slot value vote is may.1 in
         subst (λ (v : List ℕ). after ≡ before ++ b.says (bench_of seat) w (Hear slot v)) (sym e)
-        (t.made (bench_of seat) w s.inner (coin, may_vote b seat w slot value vote s.once may e));
+        (t.made (bench_of seat) w s.inner (may.0, may_vote b seat w slot value vote s.once may.1 e));
   }
   root_heard bits old new slot value vote before after (Err m) is t given = record {
     out = t.out;

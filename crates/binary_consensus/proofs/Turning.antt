@@ -1,22 +1,18 @@
 -- What one more word does, step by step: how a box that stands at a step goes on.
 use Rattle.std.proofs.Common.{◌≡◌, ℕ, zero, suc, ◌<◌, ◌≤◌, ◌==◌, Bool, true, false, ◌&&◌, nat_le, if◌then◌else◌, List, [], ◌∷◌, ◌++◌, length, Option, Some, None, is_some, option_map, ◌⊎◌, inl, inr, refl, sym, ◌∙◌, ap, ap₂, subst, arith, append-nil, append_assoc, eq-or-lt_of_le, eqb-true}
 use Rattle.std.specs.Option.{option_or}
-use Rattle.std.proofs.lemmas.Bool.{le-leb, leb-true, cases_Bool}
+use Rattle.std.proofs.lemmas.Bool.{le-leb, lt-leb, cases_Bool}
 use Rattle.ritas_base.specs.declared.slot.Slot.{Slot}
 use Rattle.ritas_base.specs.declared.item.Say.{Say}
 use Rattle.ritas_base.specs.Numbers.{wait_of}
 use Rattle.ritas_base.specs.Shortest.{option_or_none}
-use Rattle.layer_api.specs.Service.{Word}
+use Rattle.layer_api.specs.Words.{Word}
 use Rattle.layer_api.specs.Binary.{Bench}
 use Rattle.binary_consensus.specs.Steps.{step_of, step_slot, heard, accepted}
 use Rattle.binary_consensus.specs.Consensus.{left, decides, next_vote, said, decided_below, steps, newly, says_below, decision}
-use Rattle.binary_consensus.specs.Stays.{next_said, stays, unleft, next_none, said_down}
+use Rattle.binary_consensus.specs.Stays.{steps_are, next_said, stays, unleft, next_none, said_down}
 use Rattle.binary_consensus.specs.Going.{StandsAt, Passing, Gone, Done}
 use Rattle.binary_consensus.specs.declared.place.Place.{Place}
-
-pub steps_are : steps ≡ 600
-unfolding steps
-steps_are = refl
 
 module _ (at : Bench) where
   newly_old : (slot : Slot) (u : ℕ) (old new : Option ℕ) → old ≡ Some u → newly slot old new ≡ []
@@ -72,13 +68,6 @@ module _ (at : Bench) where
       go None x None y d z = absurd cc
       go (Some vs) x s y d z = absurd cc
 
-  not_below : (a b : ℕ) → b < a → nat_le a b ≡ false
-  not_below a b l = go (nat_le a b) refl
-    where
-      go : (r : Bool) → nat_le a b ≡ r → r ≡ false
-      go true e = let m = leb-true _ _ e in absurd (omega arith)
-      go false e = refl
-
   -- the word begins at the step where the box stood
   pub begins : (t : ℕ) (c : Word) (w : List Word) → StandsAt at t w → Passing at t c w × (says_below at (suc t) w c ≡ [])
   begins t c w s = (
@@ -97,7 +86,7 @@ module _ (at : Bench) where
     pub stay : (new : List Say) (known : Option Bool) (t : ℕ) (place : Place) → place.said ≡ suc t → place.ended ≡ false → place.decided ≡ known → t < 600
         → Gone at start t old new known c w → length (Votes t) < wait_of at.numbers → Done at start old new place c w
     stay new known t place said-is ended-is decided-is l g few =
-        let none = left_now t c w g.passing false (not_below (wait_of at.numbers) (length (Votes t)) few) in
+        let none = left_now t c w g.passing false (lt-leb (wait_of at.numbers) (length (Votes t)) few) in
         let e = steps_are in
         let quiet = rest t c w (next_none at t (c ∷ w) none) steps (omega (arith, e, l)) in
         let same : decided_below at (suc t) (c ∷ w) ≡ decided_below at t (c ∷ w) =

@@ -5,7 +5,7 @@ use Rattle.std.proofs.lemmas.Bool.{eqb-true}
 use Rattle.ritas_base.specs.Numbers.{Numbers, wait_of}
 use Rattle.ritas_base.specs.History.{replicas}
 use Rattle.ritas_base.specs.Quorums.{count_yes, count_no}
-use Rattle.layer_api.specs.OneLog.{bit_byte}
+use Rattle.layer_api.specs.Words.{bit_byte}
 use Rattle.bracha_validation.specs.Votes.{votes, gives}
 use Rattle.bracha_validation.specs.PickLaws.{picked, one_more, fewer}
 use Rattle.bracha_validation.specs.RuleLaws.{FirstSays, SecondSays, ThirdSays, first_gives, second_gives, third_gives}

@@ -1,21 +1,21 @@
 -- The laws of a single value: what is said is new, at a step of this replica and with a vote of that step.
-use Rattle.std.specs.Prelude.{◌≡◌, ℕ, zero, suc, ◌+◌, ◌*◌, ◌/◌, ◌%◌, ◌<◌, ◌≤◌, ◌==◌, nat_le, nat_lt, Bool, true, false, ◌&&◌, ◌||◌, if◌then◌else◌, List, [], ◌∷◌, ◌++◌, length, Option, Some, None, is_some, option_map, unwrap_or, refl, ◌⊎◌}
+use Rattle.std.specs.Prelude.{◌≡◌, ℕ, zero, suc, ◌+◌, ◌*◌, ◌/◌, ◌%◌, ◌<◌, ◌≤◌, ◌==◌, nat_le, nat_lt, Bool, true, false, ◌&&◌, if◌then◌else◌, List, [], ◌∷◌, ◌++◌, length, Option, Some, None, is_some, option_map, unwrap_or, refl, ◌⊎◌}
 use Rattle.std.proofs.Common.{sym, ◌∙◌, ap, ap₂, subst, inl, inr, arith}
-use Rattle.std.proofs.lemmas.Bool.{or_from, or_cases, or_left, or_right, cases_Bool, cases_order, cases_lt, eqb-true, eq-eqb, both_ways, false_from_ne_true}
+use Rattle.std.proofs.lemmas.Bool.{cases_order, both_ways}
 use Rattle.ritas_base.specs.declared.slot.Slot.{Slot}
 use Rattle.ritas_base.specs.declared.item.Say.{Say}
 use Rattle.ritas_base.specs.Numbers.{Numbers}
 use Rattle.ritas_base.specs.Shortest.{option_or_some}
-use Rattle.ritas_base.specs.SlotOrder.{is_slot, same_slot, slot_itself}
-use Rattle.layer_api.specs.Service.{Word, Ask, Hear, is_said}
-use Rattle.layer_api.specs.OneLog.{bit_byte}
-use Rattle.layer_api.specs.Binary.{Bench, IsStepSlot, vote_limit, AreVotes, bits_said, AreVotesSaid, BoxLaws, step_slot as slot_at}
+use Rattle.layer_api.specs.Words.{Word, Ask, Hear, HasSay, is_said, bit_byte, AreFresh}
+use Rattle.layer_api.specs.FedLaws.{say_later, say_earlier}
+use Rattle.layer_api.specs.FreshLaws.{has_said, said_has, unsaid, fresh_append}
+use Rattle.layer_api.specs.Binary.{Bench, IsStepSlot, vote_limit, AreVotes, bits_said, IsVoteSaid, BoxLaws, step_slot as slot_at}
 use Rattle.bracha_validation.specs.Votes.{votes, majority, marked, backed, rule}
 use Rattle.binary_consensus.specs.Steps.{step_of, step_slot, vote_in}
 use Rattle.binary_consensus.specs.Consensus.{proposal, left, next_vote, said, decided_below, rounds, steps, newly, says_below, round_below, binary}
 use Rattle.binary_consensus.specs.Acceptance.{step_next}
-use Rattle.binary_consensus.specs.Runs.{one_step}
-use Rattle.binary_consensus.specs.Stays.{silent, unsaid, clash, decided_stays, round_stays}
+use Rattle.binary_consensus.specs.Runs.{newly_said, says_said, put_said}
+use Rattle.binary_consensus.specs.Stays.{rounds_are, steps_are, stays, silent, clash, decided_stays, round_stays, decision_first}
 
 -- ---- votes of their step
 
@@ -28,9 +28,9 @@ proposal_small at [] v votes q = absurd cc
 proposal_small at (Hear s value ∷ w) v votes q = proposal_small at w v votes.1 q
 proposal_small at (Ask value ∷ w) v votes q =
     elim (option_or_some (proposal w) (vote_in value) v q) [
-      | inl a ↦ proposal_small at w v votes.2 a
+      | inl a ↦ proposal_small at w v votes.1 a
       | inr a ↦
-          let h = votes.1 in
+          let h = votes.0.1 in
           let e : Some (bit_byte h.0) ≡ Some v = sym (ap vote_in h.1) ∙ a.1 in
           let same : bit_byte h.0 ≡ v = cc in
           let small = bit_small h.0 in
@@ -89,77 +89,13 @@ said_small at (suc t) w v votes q = go (step_of t == 3 && is_some (decided_below
 
 -- ---- what is said is new
 
-said_in : (xs ys : List Say) (s : Slot) → is_said xs s ≡ false → is_said ys s ≡ false → is_said (xs ++ ys) s ≡ false
-said_in [] ys s e f = f
-said_in (x ∷ xs) ys s e f =
-    elim (cases_Bool (is_slot x.slot s)) [
-      | inl here ↦ absurd (both_ways _ e (let h : (is_slot x.slot s || is_said xs s) ≡ true = rw here refl in h))
-      | inr off ↦ or_from _ _ off (said_in xs ys s (rest off) f)
-    ]
-  where
-    rest : is_slot x.slot s ≡ false → is_said xs s ≡ false
-    rest off = sym (ap (λ (b : Bool). b || is_said xs s) off) ∙ e
-
-slot_apart : (at : Bench) (t s : ℕ) → (t ≡ s → ⊥) → is_slot (step_slot at t at.me) (step_slot at s at.me) ≡ false
-slot_apart at t s ne = false_from_ne_true _ (λ e. ne (one_step at t s at.me at.me (same_slot _ _ e)))
-
-newly_at_other : (at : Bench) (t s : ℕ) (before after : Option ℕ) → (t ≡ s → ⊥) → is_said (newly (step_slot at t at.me) before after) (step_slot at s at.me) ≡ false
-newly_at_other at t s before None ne = refl
-newly_at_other at t s (Some u) (Some v) ne = refl
-newly_at_other at t s None (Some v) ne = or_from _ _ (slot_apart at t s ne) refl
-
 -- the steps below say nothing at a step
-says_nothing_at : (at : Bench) (n s : ℕ) (w : List Word) (c : Word) → n ≤ s → is_said (says_below at n w c) (step_slot at s at.me) ≡ false
-says_nothing_at at zero s w c l = refl
-says_nothing_at at (suc n) s w c l =
-    said_in (says_below at n w c) _ _ (says_nothing_at at n s w c (omega arith))
-    (newly_at_other at n s (said at n w) (said at n (c ∷ w)) (λ e. omega (arith, l, e)))
+nothing_at : (at : Bench) (n s : ℕ) (w : List Word) (c : Word) → n ≤ s → is_said (says_below at n w c) (step_slot at s at.me) ≡ false
+nothing_at at n s w c l = unsaid _ (step_slot at s at.me) (λ v h. let m = (says_said at n w c s v h).below in omega (arith, l, m))
 
-newly_none : (slot : Slot) (before : Option ℕ) (after : Option ℕ) → after ≡ None → newly slot before after ≡ []
-newly_none slot before None e = refl
-newly_none slot before (Some v) e = absurd cc
-
--- nor does a word at a step at which nothing is said after it
-says_none_unsaid : (at : Bench) (n s : ℕ) (w : List Word) (c : Word) → said at s (c ∷ w) ≡ None → is_said (says_below at n w c) (step_slot at s at.me) ≡ false
-says_none_unsaid at zero s w c e = refl
-says_none_unsaid at (suc n) s w c e = said_in (says_below at n w c) _ _ (says_none_unsaid at n s w c e) (here (n == s) refl)
-  where
-    here : (b : Bool) → (n == s) ≡ b → is_said (newly (step_slot at n at.me) (said at n w) (said at n (c ∷ w))) (step_slot at s at.me) ≡ false
-    here true q =
-        let same : n ≡ s = eqb-true n s q in
-        let none : said at n (c ∷ w) ≡ None = subst (λ (m : ℕ). said at m (c ∷ w) ≡ None) (sym same) e in
-        ap (λ ys. is_said ys (step_slot at s at.me)) (newly_none (step_slot at n at.me) (said at n w) (said at n (c ∷ w)) none)
-    here false q = newly_at_other at n s (said at n w) (said at n (c ∷ w)) (λ same. both_ways _ q (eq-eqb n s same))
-
-pub unsaid_before : (at : Bench) (s : ℕ) (w : List Word) → said at s w ≡ None → is_said (bits_said binary at w) (step_slot at s at.me) ≡ false
-unsaid_before at s [] e = refl
-unsaid_before at s (c ∷ w) e =
-    said_in (says_below at steps w c) _ _ (says_none_unsaid at steps s w c e) (unsaid_before at s w (unsaid at s c w e))
-
--- one more at the end
-add_vote : (at : Bench) (before xs : List Say) (y : Say) → AreVotesSaid at before xs → AreVotesSaid at before (y ∷ []) → is_said xs y.slot ≡ false
-    → AreVotesSaid at before (xs ++ y ∷ [])
-add_vote at before [] y all good e = good
-add_vote at before (x ∷ xs) y all good e =
-    let h = or_parts (is_slot x.slot y.slot) (is_said xs y.slot) e in
-    let other : is_slot y.slot x.slot ≡ false = false_from_ne_true _ (λ q.
-    let same : x.slot ≡ y.slot = sym (same_slot y.slot x.slot q) in
-    both_ways _ h.0 (subst (λ (s : Slot). is_slot x.slot s ≡ true) same (slot_itself x.slot))) in (
-      all.0,
-      all.1,
-      all.2,
-      all.3,
-      said_in xs (y ∷ []) x.slot all.4 (or_from _ _ other refl),
-      add_vote at before xs y all.5 good h.1,
-    )
-  where
-    or_parts : (a b : Bool) → (a || b) ≡ false → (a ≡ false) × (b ≡ false)
-    or_parts true b e = absurd cc
-    or_parts false b e = (refl, e)
-
-append_nothing : (xs : List Say) → xs ++ [] ≡ xs
-append_nothing [] = refl
-append_nothing (x ∷ xs) = ap (λ ys. x ∷ ys) (append_nothing xs)
+-- nor was anything put out at a step that is not said
+unsaid_before : (at : Bench) (s : ℕ) (w : List Word) → said at s w ≡ None → is_said (bits_said binary at w) (step_slot at s at.me) ≡ false
+unsaid_before at s w e = unsaid _ (step_slot at s at.me) (λ v h. let x = put_said at w s v h in clash at (said at s w) x.vote e x.is_said)
 
 step_slot_is : (at : Bench) (t : ℕ) → t < 600 → IsStepSlot at (step_slot at t at.me)
 step_slot_is at t l = record {
@@ -172,84 +108,61 @@ step_slot_is at t l = record {
   last_step = omega arith;
 }
 
-says_new : (at : Bench) (n : ℕ) (w : List Word) (c : Word) → n ≤ 600 → AreVotes binary at (c ∷ w) → AreVotesSaid at (bits_said binary at w) (says_below at n w c)
-says_new at zero w c l votes = tt
-says_new at (suc n) w c l votes = go (said at n w) (said at n (c ∷ w)) refl refl (says_new at n w c (omega arith) votes)
-  where
-    go : (o u : Option ℕ) → said at n w ≡ o → said at n (c ∷ w) ≡ u → AreVotesSaid at (bits_said binary at w) (says_below at n w c)
-        → AreVotesSaid at (bits_said binary at w) (says_below at n w c ++ newly (step_slot at n at.me) o u)
-    go o None e f before = rw (append_nothing (says_below at n w c)) before
-    go (Some u) (Some v) e f before = rw (append_nothing (says_below at n w c)) before
-    go None (Some v) e f before =
-        add_vote at (bits_said binary at w) (says_below at n w c) (record { slot = step_slot at n at.me; value = v ∷ [] }) before (
-          step_slot_is at n (omega arith),
-          refl,
-          (v, refl, said_small at n (c ∷ w) v votes f),
-          unsaid_before at n w e,
-          refl,
-          tt,
-        ) (says_nothing_at at n n w c (omega arith))
+-- what is newly said at a step is fresh
+new_at : (at : Bench) (n : ℕ) (w : List Word) (c : Word) → n < 600 → AreVotes binary at (c ∷ w) → (o u : Option ℕ) → said at n w ≡ o → said at n (c ∷ w) ≡ u
+    → AreFresh (IsVoteSaid at) (bits_said binary at w) (newly (step_slot at n at.me) o u)
+new_at at n w c l votes o None e f = tt
+new_at at n w c l votes (Some u) (Some v) e f = tt
+new_at at n w c l votes None (Some v) e f = (
+  record { slot = step_slot_is at n l; origin = refl; vote = record { vote = v; whole = refl; small = said_small at n (c ∷ w) v votes f } },
+  unsaid_before at n w e,
+  refl,
+  tt,
+)
 
-steps_are : steps ≡ 600
-unfolding steps
-steps_are = refl
+says_new : (at : Bench) (n : ℕ) (w : List Word) (c : Word) → n ≤ 600 → AreVotes binary at (c ∷ w) → AreFresh (IsVoteSaid at) (bits_said binary at w) (says_below at n w c)
+says_new at zero w c l votes = tt
+says_new at (suc n) w c l votes =
+    fresh_append (IsVoteSaid at) (bits_said binary at w) (says_below at n w c) _ (says_new at n w c (omega arith) votes)
+    (new_at at n w c (omega arith) votes (said at n w) (said at n (c ∷ w)) refl refl)
+    (λ y h. unsaid _ y.slot (λ v g.
+    let same = (newly_said (step_slot at n at.me) (said at n w) (said at n (c ∷ w)) y.slot v g).0 in
+    let none = subst (λ (s : Slot). is_said (says_below at n w c) s ≡ false) same (nothing_at at n n w c (omega arith)) in
+    both_ways _ none (has_said (says_below at n w c) y h)))
 
 -- ---- what is said was put out
 
-out_before : (xs ys : List Say) (s : Slot) → is_said ys s ≡ true → is_said (xs ++ ys) s ≡ true
-out_before [] ys s h = h
-out_before (x ∷ xs) ys s h = or_right (is_slot x.slot s) (is_said (xs ++ ys) s) (out_before xs ys s h)
-
-out_after : (xs ys : List Say) (s : Slot) → is_said xs s ≡ true → is_said (xs ++ ys) s ≡ true
-out_after [] ys s h = absurd cc
-out_after (x ∷ xs) ys s h =
-    elim (or_cases (is_slot x.slot s) (is_said xs s) h) [
-      | inl here ↦ or_left (is_slot x.slot s) (is_said (xs ++ ys) s) here
-      | inr there ↦ or_right (is_slot x.slot s) (is_said (xs ++ ys) s) (out_after xs ys s there)
-    ]
-
-newly_out : (slot : Slot) (before after : Option ℕ) (v : ℕ) → before ≡ None → after ≡ Some v → is_said (newly slot before after) slot ≡ true
-newly_out slot None None v e f = absurd cc
-newly_out slot None (Some u) v e f = or_left (is_slot slot slot) false (slot_itself slot)
-newly_out slot (Some u) after v e f = absurd cc
+newly_has : (slot : Slot) (before after : Option ℕ) (v : ℕ) → before ≡ None → after ≡ Some v → HasSay (newly slot before after) (record { slot = slot; value = v ∷ [] })
+newly_has slot None None v e f = absurd cc
+newly_has slot None (Some u) v e f = let same : u ≡ v = cc in inl (ap (λ (x : ℕ). let y : Say = record { slot = slot; value = x ∷ [] } in y) same)
+newly_has slot (Some u) after v e f = absurd cc
 
 -- a word says at a step what is said there after it, and was not before
 says_out : (at : Bench) (n t : ℕ) (w : List Word) (c : Word) (v : ℕ) → t < n → said at t w ≡ None → said at t (c ∷ w) ≡ Some v
-    → is_said (says_below at n w c) (step_slot at t at.me) ≡ true
+    → HasSay (says_below at n w c) (record { slot = step_slot at t at.me; value = v ∷ [] })
 says_out at zero t w c v l e f = absurd (omega arith)
 says_out at (suc n) t w c v l e f =
     elim (cases_order n t) [
       | inl same ↦
-          out_before (says_below at n w c) _ (step_slot at t at.me)
-          (subst (λ (m : ℕ). is_said (newly (step_slot at m at.me) (said at m w) (said at m (c ∷ w))) (step_slot at t at.me) ≡ true) (sym same)
-          (newly_out (step_slot at t at.me) (said at t w) (said at t (c ∷ w)) v e f))
+          say_later (says_below at n w c) _ _
+          (subst (λ (m : ℕ). HasSay (newly (step_slot at m at.me) (said at m w) (said at m (c ∷ w))) (record { slot = step_slot at t at.me; value = v ∷ [] })) (sym same)
+          (newly_has (step_slot at t at.me) (said at t w) (said at t (c ∷ w)) v e f))
       | inr (inl less) ↦ absurd (omega arith)
-      | inr (inr more) ↦ out_after (says_below at n w c) _ (step_slot at t at.me) (says_out at n t w c v more e f)
+      | inr (inr more) ↦ say_earlier (says_below at n w c) _ _ (says_out at n t w c v more e f)
     ]
 
 -- what is said at a step was put out
-put_out : (at : Bench) (t : ℕ) (w : List Word) (v : ℕ) → t < 600 → said at t w ≡ Some v → is_said (bits_said binary at w) (step_slot at t at.me) ≡ true
+put_out : (at : Bench) (t : ℕ) (w : List Word) (v : ℕ) → t < steps → said at t w ≡ Some v
+    → HasSay (bits_said binary at w) (record { slot = step_slot at t at.me; value = v ∷ [] })
 put_out at t [] v l q = clash at (said at t []) v (silent at t) q
-put_out at t (c ∷ w) v l q = go (said at t w) refl (λ u r. put_out at t w u l r)
+put_out at t (c ∷ w) v l q = go (said at t w) refl (λ r. put_out at t w v l r)
   where
-    go : (o : Option ℕ) → said at t w ≡ o → ((u : ℕ) → said at t w ≡ Some u → is_said (bits_said binary at w) (step_slot at t at.me) ≡ true)
-        → is_said (says_below at steps w c ++ bits_said binary at w) (step_slot at t at.me) ≡ true
-    go None e before =
-        out_after (says_below at steps w c) (bits_said binary at w) (step_slot at t at.me)
-        (says_out at steps t w c v (let e = steps_are in omega arith) e q)
-    go (Some u) e before = out_before (says_below at steps w c) (bits_said binary at w) (step_slot at t at.me) (before u e)
-
--- nothing is put out at a step past the last
-none_out : (at : Bench) (t : ℕ) (w : List Word) → 600 ≤ t → is_said (bits_said binary at w) (step_slot at t at.me) ≡ false
-none_out at t [] l = refl
-none_out at t (c ∷ w) l =
-    said_in (says_below at steps w c) _ _ (says_nothing_at at steps t w c (let e = steps_are in omega arith)) (none_out at t w l)
+    go : (o : Option ℕ) → said at t w ≡ o → (said at t w ≡ Some v → HasSay (bits_said binary at w) (record { slot = step_slot at t at.me; value = v ∷ [] }))
+        → HasSay (says_below at steps w c ++ bits_said binary at w) (record { slot = step_slot at t at.me; value = v ∷ [] })
+    go None e before = say_earlier (says_below at steps w c) _ _ (says_out at steps t w c v l e q)
+    go (Some u) e before = say_later (says_below at steps w c) _ _ (before (e ∙ (sym (stays at t c w u e).0 ∙ q)))
 
 -- ---- the round
-
-rounds_are : rounds ≡ 200
-unfolding rounds
-rounds_are = refl
 
 -- x is a round below n whose first step is said, from 1
 record IsRound (at : Bench) (n : ℕ) (w : List Word) (x : ℕ) : Type 0 where
@@ -294,32 +207,25 @@ round_said at w =
     elim (round_has at rounds w) [
       | inl none ↦ inl none
       | inr h ↦
-          let l = h.within in let e = rounds_are in
+          let l = h.within in let r = rounds_are in let e = steps_are in
           inr (subst (λ (s : Slot). is_said (bits_said binary at w) s ≡ true) (first_slot at h.before (round_below at rounds w) h.same)
-          (put_out at (3 * h.before) w h.vote (omega arith) h.is_said))
+          (has_said (bits_said binary at w) _ (put_out at (3 * h.before) w h.vote (omega (arith, l, r, e)) h.is_said)))
     ]
 
 round_greatest : (at : Bench) (w : List Word) (round : ℕ) → is_said (bits_said binary at w) (slot_at at round 1) ≡ true → round ≤ round_below at rounds w
 round_greatest at w zero h = omega arith
 round_greatest at w (suc r) h =
-    elim (cases_lt (3 * r) 600) [
-      | inl below ↦ go (said at (3 * r) w) refl below
-      | inr past ↦ absurd (both_ways _ (none_out at (3 * r) w (omega arith)) out)
-    ]
-  where
-    out : is_said (bits_said binary at w) (step_slot at (3 * r) at.me) ≡ true
-    out = subst (λ (s : Slot). is_said (bits_said binary at w) s ≡ true) (sym (first_slot at r (suc r) refl)) h
-
-    go : (o : Option ℕ) → said at (3 * r) w ≡ o → 3 * r < 600 → suc r ≤ round_below at rounds w
-    go None e below = absurd (both_ways _ (unsaid_before at (3 * r) w e) out)
-    go (Some v) e below =
-        let e' = rounds_are in
-        let m = round_reaches at rounds r w v (omega arith) e in
-        omega (arith, m)
+    let y = said_has (bits_said binary at w) (slot_at at (suc r) 1) h in
+    let here = subst (λ (s : Slot). HasSay (bits_said binary at w) (record { slot = s; value = y.0 })) (sym (first_slot at r (suc r) refl)) y.1 in
+    let x = put_said at w (3 * r) y.0 here in
+    let l = x.below in let n = rounds_are in let e = steps_are in
+    let m = round_reaches at rounds r w x.vote (omega (arith, l, n, e)) x.is_said in
+    omega (arith, m)
 
 pub box_laws_hold : BoxLaws binary
 box_laws_hold = record {
   says_new = λ at c w votes. says_new at steps w c (let e = steps_are in omega arith) votes;
+  decision_first = decision_first;
   decision_stays = λ at c w b votes q. decided_stays at steps c w b q;
   round_said = λ at w votes. round_said at w;
   round_greatest = λ at w round votes. round_greatest at w round;

@@ -5,8 +5,7 @@ use Rattle.ritas_base.specs.declared.slot.Slot.{Slot}
 use Rattle.ritas_base.specs.declared.item.Say.{Say}
 use Rattle.ritas_base.specs.Numbers.{Numbers, wait_of, deliver_of}
 use Rattle.ritas_base.specs.Shortest.{at_shortest}
-use Rattle.layer_api.specs.Service.{Word, Ask, Hear}
-use Rattle.layer_api.specs.OneLog.{bit_byte}
+use Rattle.layer_api.specs.Words.{Word, Ask, Hear, bit_byte}
 use Rattle.layer_api.specs.Binary.{Bench, BinaryRules}
 use Rattle.bracha_validation.specs.Votes.{votes, rule}
 use Rattle.binary_consensus.specs.Steps.{step_of, step_slot, vote_in, heard, accepted}

@@ -6,9 +6,9 @@ use Rattle.ritas_base.specs.declared.item.Say.{Say}
 use Rattle.ritas_base.specs.Numbers.{Numbers}
 use Rattle.ritas_base.specs.History.{replicas}
 use Rattle.ritas_base.specs.Slots.{within}
-use Rattle.layer_api.specs.Service.{Word}
+use Rattle.layer_api.specs.Words.{Word}
 use Rattle.layer_api.specs.Binary.{Bench}
-use Rattle.layer_api.specs.BinaryCalls.{HasTosses}
+use Rattle.layer_api.specs.Calls.{IsCoin}
 use Rattle.bracha_validation.specs.declared.tally.Tally.{Tally}
 use Rattle.bracha_validation.specs.Tallies.{IsTally}
 use Rattle.binary_consensus.specs.Steps.{round_of, step_of, heard, listed}
@@ -40,7 +40,7 @@ AreHeard at votes w = (t : ℕ) → t < 600 → IsTally (tally_at votes t) (list
 
 -- what is decided where a step is left with these votes, and what is said next if anything
 abbrev pub Leaves : Part → Numbers → (Slot → Bool) → ℕ → Tally → Option Bool → Left → Type 0
-Leaves part p bits t votes known left = (at : Bench) (vs : List ℕ) → IsPart part p at → HasTosses at bits → IsTally votes vs →
+Leaves part p bits t votes known left = (at : Bench) (vs : List ℕ) → IsPart part p at → IsCoin at.coin bits → IsTally votes vs →
     (left.decided ≡ option_or known (decides p t (Some vs))) × (left.next ≡ (if t == 599 then None else next_said at t known (Some vs)))
 
 module _ (at : Bench) where
@@ -91,6 +91,6 @@ module _ (at : Bench) where
     pub says : says_below at steps w c ≡ says_below at (suc start) w c ++ out
 
 abbrev pub GoesOn : Part → Heard → (Slot → Bool) → Place → List Say → List Say → Place → Type 0
-GoesOn part line bits place old new next = (at : Bench) (c : Word) (w : List Word) (start : ℕ) → IsPart part line.numbers at → HasTosses at bits
+GoesOn part line bits place old new next = (at : Bench) (c : Word) (w : List Word) (start : ℕ) → IsPart part line.numbers at → IsCoin at.coin bits
     → AreHeard at line.votes (c ∷ w) → place.said ≡ suc start → start < 600 → Passing at start c w → place.decided ≡ decided_below at start (c ∷ w)
     → Done at start old new next c w

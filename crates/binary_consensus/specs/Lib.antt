@@ -1,13 +1,12 @@
 pub mod Steps
 pub mod Consensus
 pub mod Root
-pub mod Bits
 pub mod Rows
 pub mod Counts
 pub mod Acceptance
 pub mod Lock
-pub mod Runs
 pub mod Stays
+pub mod Runs
 pub mod Going
 pub mod Stands
 pub mod BoxLaws

@@ -1,13 +1,13 @@
 -- From a decision on, all that is accepted is the decided bit. It is stated of views: the votes heard at each step from
 -- each origin, where no two views have different votes at one place. No time occurs in it.
-use Rattle.std.specs.Prelude.{◌≡◌, ℕ, zero, suc, ◌+◌, ◌*◌, ◌<◌, ◌≤◌, ◌==◌, nat_le, Bool, true, false, not, List, [], ◌∷◌, length, count_by, Option, Some, cond, refl}
+use Rattle.std.specs.Prelude.{◌≡◌, ℕ, zero, suc, ◌+◌, ◌*◌, ◌<◌, ◌≤◌, ◌==◌, Bool, true, false, not, List, [], ◌∷◌, length, count_by, Option, Some, cond, refl}
 use Rattle.std.proofs.Common.{sym, ◌∙◌, subst, inl, inr, arith, eq-or-lt_of_le}
-use Rattle.std.proofs.lemmas.Bool.{leb-true, leb-false, eqb-true, eq-eqb, cases_Bool}
+use Rattle.std.proofs.lemmas.Bool.{eqb-true, eq-eqb, cases_Bool, cases_lt, cases_order}
 use Rattle.std.proofs.lemmas.List.FromFn.{length-range_with_len}
 use Rattle.ritas_base.specs.Numbers.{Numbers}
 use Rattle.ritas_base.specs.History.{replicas}
 use Rattle.ritas_base.specs.Quorums.{count_no, count_none, meet_two}
-use Rattle.layer_api.specs.OneLog.{bit_byte}
+use Rattle.layer_api.specs.Words.{bit_byte}
 use Rattle.bracha_validation.specs.Votes.{votes, gives}
 use Rattle.bracha_validation.specs.PickLaws.{one_more}
 use Rattle.bracha_validation.specs.RuleLaws.{ThirdSays, second_gives, third_gives}
@@ -69,18 +69,16 @@ module _ (p : Numbers) (few : 3 * p.f < p.n) (View : HeardVotes → Type 0)
   meet : (g h : HeardVotes) → View g → View h → (t : ℕ) (s r : ℕ → Bool) → ((v : ℕ) → s v ≡ true → r v ≡ true → ⊥)
       → count_of p s g t + count_of p r h t ≤ p.n
   meet g h vg vh t s r none =
-      go (nat_le (count_of p s g t + count_of p r h t) p.n) refl
-    where
-      go : (b : Bool) → nat_le (count_of p s g t + count_of p r h t) p.n ≡ b → count_of p s g t + count_of p r h t ≤ p.n
-      go true e = leb-true _ _ e
-      go false e =
-          let more = leb-false _ _ e in
-          let size = length-range_with_len 0 p.n in
-          let m = meet_two (λ k. holds s (accepts p g t k)) (λ k. holds r (accepts p h t k)) (replicas p.n) (omega (arith, more, size)) in
-          let x = holds_some s (accepts p g t m.member) m.first in
-          let y = holds_some r (accepts p h t m.member) m.second in
-          let same : x.0 ≡ y.0 = one g h vg vh t m.member x.0 y.0 (accepts_heard p g t m.member x.0 x.1) (accepts_heard p h t m.member y.0 y.1) in
-          absurd (none x.0 x.2 (subst (λ (v : ℕ). r v ≡ true) (sym same) y.2))
+      elim (cases_lt p.n (count_of p s g t + count_of p r h t)) [
+        | inl more ↦
+            let size = length-range_with_len 0 p.n in
+            let m = meet_two (λ k. holds s (accepts p g t k)) (λ k. holds r (accepts p h t k)) (replicas p.n) (omega (arith, more, size)) in
+            let x = holds_some s (accepts p g t m.member) m.first in
+            let y = holds_some r (accepts p h t m.member) m.second in
+            let same : x.0 ≡ y.0 = one g h vg vh t m.member x.0 y.0 (accepts_heard p g t m.member x.0 x.1) (accepts_heard p h t m.member y.0 y.1) in
+            absurd (none x.0 x.2 (subst (λ (v : ℕ). r v ≡ true) (sym same) y.2))
+        | inr few ↦ few
+      ]
 
   -- no two third steps of one round are for different bits
   one_mark : (t : ℕ) → step_of t ≡ 2 → (g h : HeardVotes) → View g → View h → (k l : ℕ)
@@ -173,13 +171,9 @@ module _ (p : Numbers) (few : 3 * p.f < p.n) (View : HeardVotes → Type 0)
       same_bits t (third_follows_second t x.third) g h x.view y.view u.0 v.0 b d (holds_is _ (bit_byte b) u.1) (holds_is _ (bit_byte d) v.1)
 
   pub agree : (t s : ℕ) (b d : Bool) (g h : HeardVotes) → IsDecision b t g → IsDecision d s h → b ≡ d
-  agree t s b d g h x y = go (nat_le t s) (nat_le s t) refl refl
-    where
-      go : (i j : Bool) → nat_le t s ≡ i → nat_le s t ≡ j → b ≡ d
-      go true true u v =
-          let l = leb-true _ _ u in
-          let m = leb-true _ _ v in
-          let e : s ≡ t = omega arith in
-          same_round t b d g h x (subst (λ (r : ℕ). IsDecision d r h) e y)
-      go true false u v = let l = leb-false _ _ v in sym (same_bit d b (locked_decides (suc t) s b d h (decision_locks t b g x) (omega arith) y))
-      go false j u v = let l = leb-false _ _ u in same_bit b d (locked_decides (suc s) t d b g (decision_locks s d h y) (omega arith) x)
+  agree t s b d g h x y =
+      elim (cases_order t s) [
+        | inl e ↦ same_round t b d g h x (subst (λ (r : ℕ). IsDecision d r h) (sym e) y)
+        | inr (inl l) ↦ sym (same_bit d b (locked_decides (suc t) s b d h (decision_locks t b g x) (omega (arith, l)) y))
+        | inr (inr l) ↦ same_bit b d (locked_decides (suc s) t d b g (decision_locks s d h y) (omega (arith, l)) x)
+      ]

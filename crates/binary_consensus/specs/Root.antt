@@ -1,18 +1,15 @@
 -- Binary consensus as a root service: one instance, of number 0 and attempt 0, with the service's own words. An input is a
 -- bit's byte, and what is heard at a step is the byte of a vote.
-use Rattle.std.specs.Prelude.{ℕ, ◌+◌, Bool, not, ◌==◌, ◌&&◌, nat_le, if◌then◌else◌, List, [], Option, Some, None, option_map}
+use Rattle.std.specs.Prelude.{ℕ, ◌+◌, Bool, ◌==◌, ◌&&◌, nat_le, if◌then◌else◌, [], Option, Some, None, option_map}
 use Rattle.ritas_base.specs.declared.slot.Slot.{Slot}
 use Rattle.ritas_base.specs.Slots.{within}
-use Rattle.layer_api.specs.Service.{ServiceRules, Seat, Word, Instance, OfBit, OfValue, OfVector, Decision, Bit, Ending, Undecided, Over, Decided, asked}
+use Rattle.layer_api.specs.Service.{ServiceRules, Seat, Instance, OfBit, OfValue, OfVector, Decision, Bit, Ending, Undecided, Over, Decided}
+use Rattle.layer_api.specs.OneInstance.{is_given}
 use Rattle.layer_api.specs.Binary.{BinaryRules, Bench}
 
 -- the bench of the one instance
 abbrev pub bench_of : Seat → Bench
 bench_of seat = record { numbers = seat.numbers; me = seat.me; a = 0; attempt = 0; coin = seat.coin }
-
--- whether the input is there
-abbrev pub is_given : List Word → Bool
-is_given w = not (asked w == 0)
 
 -- whether the slot is of a step of the instance
 abbrev pub is_step : Slot → Bool

@@ -1,57 +1,20 @@
 -- The law of one log of binary consensus as a root service, from the law of one bit of its box: a run of the service is one of
 -- the box.
 use Rattle.std.specs.Prelude.{◌≡◌, ℕ, Bool, true, false, ◌==◌, ◌&&◌, if◌then◌else◌, List, [], ◌∷◌, Option, Some, None, option_map, refl}
-use Rattle.std.specs.Str.{bytes_eq}
-use Rattle.std.proofs.Common.{sym, ◌∙◌, ap, subst, inl, arith}
+use Rattle.std.proofs.Common.{sym, ◌∙◌, ap, inl, arith}
 use Rattle.std.proofs.lemmas.Bool.{eqb-true}
 use Rattle.ritas_base.specs.declared.slot.Slot.{Slot}
-use Rattle.ritas_base.specs.declared.item.Say.{Say}
 use Rattle.ritas_base.specs.declared.mode.Mode.{Mode}
 use Rattle.ritas_base.specs.Numbers.{Numbers}
 use Rattle.layer_api.specs.Runs.{Step, calls_of, Has}
-use Rattle.layer_api.specs.Service.{Word, Ask, Hear, Instance, OfBit, OfValue, OfVector, Decision, Bit, Decided, MayAsk, MayHear, AreProper, HasSay}
-use Rattle.layer_api.specs.OneLog.{bit_byte, Session, seat_at, IsFedWord, IsWellFed, IsRunOf, OneLog}
-use Rattle.layer_api.specs.Binary.{BinaryRules, Bench, Jury, bench_at, IsFedVote, IsWellVoted, OneBit}
+use Rattle.layer_api.specs.Service.{Instance, OfBit, OfValue, OfVector, Decision, Bit, Decided}
+use Rattle.layer_api.specs.Words.{Word, Ask, bit_byte}
+use Rattle.layer_api.specs.Fed.{IsFedRun}
+use Rattle.layer_api.specs.FedLaws.{same_fed}
+use Rattle.layer_api.specs.OneLog.{Session, seat_at, service_play, IsRunOf, OneLog}
+use Rattle.layer_api.specs.Binary.{BinaryRules, Bench, bench_at, binary_play, OneBit}
 use Rattle.binary_consensus.specs.Root.{ending, decided_in, binary_root}
-use Rattle.binary_consensus.specs.RootLaws.{asks_bit, hears_vote, may_propose, may_vote, asked_once, said_same}
-
-module _ (b : BinaryRules) (p : Numbers) (mode : Mode) (is_correct : ℕ → Bool) (coins : ℕ → Slot → Bool) where
-  abbrev session : Session
-  session = record { rules = binary_root b; numbers = p; mode = mode; is_correct = is_correct; coins = coins }
-
-  abbrev jury : Jury
-  jury = record { rules = b; numbers = p; a = 0; attempt = 0; is_correct = is_correct; coins = coins }
-
-  proper_of : (i : ℕ) (steps : List (Step Word)) → IsWellFed session steps → AreProper (binary_root b) (seat_at session i) (calls_of i steps)
-  proper_of i [] fed = tt
-  proper_of i (x ∷ steps) fed = go (x.who == i) refl (proper_of i steps fed.2)
-    where
-      word : (who : ℕ) → who ≡ i → (c : Word) → IsFedWord session steps who c → AreProper (binary_root b) (seat_at session i) (calls_of i steps)
-          → AreProper (binary_root b) (seat_at session i) (c ∷ calls_of i steps)
-      word who e (Ask v) h rest = (subst (λ (k : ℕ). MayAsk (binary_root b) (seat_at session k) (calls_of k steps) v) e h.0, rest)
-      word who e (Hear s v) h rest = (subst (λ (k : ℕ). MayHear (binary_root b) (seat_at session k) (calls_of k steps) s v) e h.0, rest)
-
-      go : (t : Bool) → (x.who == i) ≡ t → AreProper (binary_root b) (seat_at session i) (calls_of i steps)
-          → AreProper (binary_root b) (seat_at session i) (if t then x.call ∷ calls_of i steps else calls_of i steps)
-      go true e rest = word x.who (eqb-true x.who i e) x.call fed.1 rest
-      go false e rest = rest
-
-  vote_fed : (steps : List (Step Word)) (i : ℕ) (c : Word) → IsWellFed session steps → IsFedWord session steps i c → IsFedVote jury steps i c
-  vote_fed steps i (Ask v) fed h =
-      let w = calls_of i steps in (may_propose b (seat_at session i) w v h.0, (bytes_eq v (1 ∷ []), asks_bit b (seat_at session i) w v h.0))
-  vote_fed steps i (Hear s v) fed h =
-      let w = calls_of i steps in
-      let vote = hears_vote b (seat_at session i) w s v h.0 in
-      let once = asked_once b (seat_at session i) w (proper_of i steps fed) in (
-        (vote.vote, vote.whole, may_vote b (seat_at session i) w s v vote.vote once h.0 vote.whole),
-        h.3,
-        λ co. subst (λ (ys : List Say). HasSay ys (record { slot = s; value = v })) (said_same b (seat_at session s.origin) (calls_of s.origin steps)) (h.4 co),
-      )
-
-  -- a run of the service is one of the box
-  run_voted : (steps : List (Step Word)) → IsWellFed session steps → IsWellVoted jury steps
-  run_voted [] fed = tt
-  run_voted (x ∷ steps) fed = (fed.0, vote_fed steps x.who x.call fed.2 fed.1, run_voted steps fed.2)
+use Rattle.binary_consensus.specs.RootLaws.{are_votes}
 
 ending_is : (o : Option Bool) (over : Bool) (d : Decision) → ending o over ≡ Decided d → (x : Bool) × (o ≡ Some x) × (d ≡ Bit x)
 ending_is None true d e = absurd cc
@@ -73,11 +36,16 @@ bit_same x y e = cc
 
 module _ (b : BinaryRules) (one : OneBit b) (p : Numbers) (mode : Mode) (is_correct : ℕ → Bool) (coins : ℕ → Slot → Bool) (steps : List (Step Word))
     (run : IsRunOf (record { rules = binary_root b; numbers = p; mode = mode; is_correct = is_correct; coins = coins }) steps) where
-  abbrev bench : ℕ → Bench
-  bench i = bench_at (jury b p mode is_correct coins) i
+  abbrev session : Session
+  session = record { rules = binary_root b; numbers = p; mode = mode; is_correct = is_correct; coins = coins }
 
-  voted : IsWellVoted (jury b p mode is_correct coins) steps
-  voted = run_voted b p mode is_correct coins steps run.fed
+  abbrev bench : ℕ → Bench
+  bench i = bench_at p 0 0 coins i
+
+  -- a run of the service is one of the box: the words are the same, and so is what is said
+  voted : IsFedRun (binary_play b p 0 0 coins) is_correct steps
+  voted =
+      same_fed (service_play session) (binary_play b p 0 0 coins) is_correct (λ i c w m. (are_votes b (seat_at session i) (c ∷ w) m).0) (λ i w y m h. h) steps run.fed
 
   bit_of : (d e : Decision) (x y : Bool) → d ≡ Bit x → e ≡ Bit y → x ≡ y → d ≡ e
   bit_of d e x y p q s = p ∙ (ap Bit s ∙ sym q)
@@ -87,23 +55,23 @@ module _ (b : BinaryRules) (one : OneBit b) (p : Numbers) (mode : Mode) (is_corr
   agrees i j x y ci cj q s = one.agree p 0 0 is_correct coins steps run.enough voted i j x y ci cj q s
 
   pub same_outcomes : (i j : ℕ) (d e : Decision) → is_correct i ≡ true → is_correct j ≡ true
-      → (binary_root b).outcome (seat_at (session b p mode is_correct coins) i) (calls_of i steps) ≡ Decided d
-      → (binary_root b).outcome (seat_at (session b p mode is_correct coins) j) (calls_of j steps) ≡ Decided e → d ≡ e
+      → (binary_root b).outcome (seat_at session i) (calls_of i steps) ≡ Decided d
+      → (binary_root b).outcome (seat_at session j) (calls_of j steps) ≡ Decided e → d ≡ e
   same_outcomes i j d e ci cj q s =
       let x = ending_is _ _ d q in
       let y = ending_is _ _ e s in
       bit_of d e x.0 y.0 x.2 y.2 (agrees i j x.0 y.0 ci cj x.1 y.1)
 
   pub same_decisions : (i j : ℕ) (x : Instance) (d e : Decision) → is_correct i ≡ true → is_correct j ≡ true
-      → (binary_root b).decided (seat_at (session b p mode is_correct coins) i) (calls_of i steps) x ≡ Some d
-      → (binary_root b).decided (seat_at (session b p mode is_correct coins) j) (calls_of j steps) x ≡ Some e → d ≡ e
+      → (binary_root b).decided (seat_at session i) (calls_of i steps) x ≡ Some d
+      → (binary_root b).decided (seat_at session j) (calls_of j steps) x ≡ Some e → d ≡ e
   same_decisions i j x d e ci cj q s =
       let m = decided_is _ x d q in
       let n = decided_is _ x e s in
       bit_of d e m.0 n.0 m.2 n.2 (agrees i j m.0 n.0 ci cj m.1 n.1)
 
   pub bits_are_inputs : (i : ℕ) (x : Bool) → is_correct i ≡ true
-      → (binary_root b).outcome (seat_at (session b p mode is_correct coins) i) (calls_of i steps) ≡ Decided (Bit x)
+      → (binary_root b).outcome (seat_at session i) (calls_of i steps) ≡ Decided (Bit x)
       → (k : ℕ) × (is_correct k ≡ true) × Has (calls_of k steps) (Ask (bit_byte x ∷ []))
   bits_are_inputs i x ci q =
       let m = ending_is _ _ (Bit x) q in

@@ -2,11 +2,13 @@
 use Rattle.std.specs.Prelude.{◌≡◌, ℕ, ◌≤◌, Bool, false, List, [], ◌∷◌, refl, ◌⊎◌}
 use Rattle.std.proofs.Common.{sym, ◌∙◌, ap, ap₂, inl, inr}
 use Rattle.ritas_base.specs.declared.slot.Slot.{Slot}
-use Rattle.layer_api.specs.Service.{Seat, Word, asked}
+use Rattle.layer_api.specs.Service.{Seat}
+use Rattle.layer_api.specs.Words.{Word, asked}
 use Rattle.layer_api.specs.ServiceCalls.{ServiceShown, Shows, ShowsNear}
 use Rattle.layer_api.specs.Binary.{BinaryRules, Bench}
 use Rattle.layer_api.specs.BinaryCalls.{BoxShown, ShowsBox, ShowsBoxNear}
-use Rattle.binary_consensus.specs.Root.{bench_of, is_given, opens_at, ending, binary_root}
+use Rattle.binary_consensus.specs.Root.{bench_of, opens_at, ending, binary_root}
+use Rattle.layer_api.specs.OneInstance.{is_given}
 use Rattle.binary_consensus.specs.declared.bin_root.BinRoot.{BinRoot}
 
 -- the box stands for the words

@@ -3,7 +3,7 @@ use Rattle.std.specs.Prelude.{◌≡◌, ℕ, Bool, true, false, List, [], ◌�
 use Rattle.ritas_base.specs.declared.slot.Slot.{Slot}
 use Rattle.ritas_base.specs.declared.item.Say.{Say}
 use Rattle.ritas_base.specs.SlotOrder.{is_slot}
-use Rattle.layer_api.specs.Service.{Word, Ask, Hear}
+use Rattle.layer_api.specs.Words.{Word, Ask, Hear}
 use Rattle.layer_api.specs.Binary.{Bench}
 use Rattle.binary_consensus.specs.Steps.{step_slot, heard, accepts, accepted}
 use Rattle.binary_consensus.specs.Consensus.{next_vote, verdict, said, decided_below, round_below, says_below}

@@ -6,12 +6,13 @@ use Rattle.std.proofs.lemmas.Bool.{cases_eq, and_parts}
 use Rattle.ritas_base.specs.declared.slot.Slot.{Slot}
 use Rattle.ritas_base.specs.declared.item.Say.{Say}
 use Rattle.ritas_base.specs.Numbers.{IsSession}
-use Rattle.layer_api.specs.Service.{Word, Hear}
+use Rattle.layer_api.specs.Words.{Word, Hear}
 use Rattle.layer_api.specs.Binary.{Bench, MayVote}
-use Rattle.layer_api.specs.BinaryCalls.{HasTosses, BoxShown, ShowsBox, ShowsBoxNear}
+use Rattle.layer_api.specs.Calls.{IsCoin}
+use Rattle.layer_api.specs.BinaryCalls.{BoxShown, ShowsBox, ShowsBoxNear}
 use Rattle.binary_consensus.specs.Steps.{step_of}
 use Rattle.binary_consensus.specs.Consensus.{left, next_vote, decides, said, decided_below, rounds, steps, last_step, decision, over, round_below, says_below, binary}
-use Rattle.binary_consensus.specs.Stays.{unleft, next_none, silent, silent_above, clash}
+use Rattle.binary_consensus.specs.Stays.{rounds_are, steps_are, last_is, unleft, next_none, silent, silent_above, clash}
 use Rattle.binary_consensus.specs.Going.{IsPart, AreHeard, IsOver, IsHere}
 use Rattle.binary_consensus.specs.declared.place.Place.{Place}
 use Rattle.binary_consensus.specs.declared.bin.Bin.{Bin}
@@ -27,7 +28,7 @@ pub record Stands (b : Bin) (at : Bench) (w : List Word) : Type 0 where
 
 -- the vote is heard, and what is newly said is put out
 abbrev pub Votes : (Slot → Bool) → Bin → Slot → ℕ → List Say → List Say → Bin → Type 0
-Votes bits old slot value before after new = (at : Bench) (w : List Word) → Stands old at w → HasTosses at bits → MayVote binary at w slot value →
+Votes bits old slot value before after new = (at : Bench) (w : List Word) → Stands old at w → IsCoin at.coin bits → MayVote binary at w slot value →
     Stands new at (Hear slot (value ∷ []) ∷ w) × (after ≡ before ++ says_below at steps w (Hear slot (value ∷ [])))
 
 abbrev pub with_place : Bin → Place → Bin
@@ -66,18 +67,6 @@ module _ (at : Bench) where
           above : (said at (suc t) w ≡ None) ⊎ (t ≡ 599) → suc r ≡ t / 3 + 1
           above (inl none) = absurd (clash at (said at (3 * r) w) u (silent_above at (suc t) (3 * r) w none (omega (arith, l, other))) e)
           above (inr last) = absurd (omega (arith, last, l, other, m))
-
-  rounds_are : rounds ≡ 200
-  unfolding rounds
-  rounds_are = refl
-
-  steps_are : steps ≡ 600
-  unfolding steps
-  steps_are = refl
-
-  last_is : last_step ≡ 599
-  unfolding last_step
-  last_is = refl
 
   round_at : (t : ℕ) (w : List Word) (v : ℕ) → t < 600 → said at t w ≡ Some v → (said at (suc t) w ≡ None) ⊎ (t ≡ 599) → (suc t + 2) / 3 ≡ round_below at rounds w
   round_at t w v l q next =

@@ -1,19 +1,35 @@
 -- What is said, left and decided stays.
 use Rattle.std.specs.Prelude.{◌≡◌, ℕ, zero, suc, ◌*◌, ◌≤◌, ◌==◌, nat_le, Bool, true, false, ◌&&◌, if◌then◌else◌, List, [], ◌∷◌, length, Option, Some, None, is_some, option_map, refl}
 use Rattle.std.specs.Option.{option_or}
-use Rattle.std.proofs.Common.{sym, ◌∙◌, ap₂, subst, inl, inr, arith, eq-or-lt_of_le}
+use Rattle.std.proofs.Common.{sym, ◌∙◌, ap, ap₂, subst, inl, inr, arith, eq-or-lt_of_le}
 use Rattle.std.proofs.lemmas.Bool.{and_parts}
 use Rattle.ritas_base.specs.Numbers.{wait_of}
 use Rattle.ritas_base.specs.Shortest.{option_or_some, option_or_older}
-use Rattle.layer_api.specs.Service.{Word}
+use Rattle.layer_api.specs.Words.{Word, Ask, Hear}
 use Rattle.layer_api.specs.Binary.{Bench}
-use Rattle.binary_consensus.specs.Steps.{step_of, heard, accepted}
-use Rattle.binary_consensus.specs.Consensus.{enough_at, left_by, left, next_vote, decides, said, decided_below, round_below}
-use Rattle.binary_consensus.specs.Runs.{some_if, proposal_stays}
+use Rattle.binary_consensus.specs.Steps.{step_of, vote_in, heard, accepted}
+use Rattle.binary_consensus.specs.Consensus.{proposal, enough_at, left_by, left, next_vote, decides, said, decided_below, rounds, steps, last_step, round_below}
+use Rattle.layer_api.specs.FedLaws.{some_if}
+
+pub rounds_are : rounds ≡ 200
+unfolding rounds
+rounds_are = refl
+
+pub steps_are : steps ≡ 600
+unfolding steps
+steps_are = refl
+
+pub last_is : last_step ≡ 599
+unfolding last_step
+last_is = refl
 
 is_there : {X : Type 0} (o : Option X) → is_some o ≡ true → (v : X) × (o ≡ Some v)
 is_there None q = absurd cc
 is_there (Some v) q = (v, refl)
+
+proposal_stays : (c : Word) (w : List Word) (v : ℕ) → proposal w ≡ Some v → proposal (c ∷ w) ≡ Some v
+proposal_stays (Ask value) w v q = option_or_older (proposal w) (vote_in value) v q
+proposal_stays (Hear s value) w v q = q
 
 -- a step that is left is said
 pub left_said : (at : Bench) (t : ℕ) (f : List Word → Option ℕ) → ((c : Word) (w : List Word) (v : ℕ) → f w ≡ Some v → f (c ∷ w) ≡ Some v)
@@ -83,10 +99,6 @@ module _ (at : Bench) where
   clash None v a b = absurd cc
   clash (Some u) v a b = absurd cc
 
-  -- what is not said was not said before
-  pub unsaid : (t : ℕ) (c : Word) (w : List Word) → said at t (c ∷ w) ≡ None → said at t w ≡ None
-  unsaid t c w e = none_of (said at t w) (λ v q. clash (said at t (c ∷ w)) v e (stays t c w v q).0)
-
   -- a step that is not left is followed by none, and one that is not said is not left
   pub next_none : (t : ℕ) (w : List Word) → left at t w ≡ None → said at (suc t) w ≡ None
   next_none t w e =
@@ -131,3 +143,27 @@ module _ (at : Bench) where
       go None (Some v) e f ih = let l = round_small r w in omega arith
       go (Some v) (Some u) e f ih = omega arith
       go (Some v) None e f ih = absurd (clash (said at (3 * r) (c ∷ w)) v f (stays (3 * r) c w v e).0)
+
+-- ---- before any word
+
+left_first : (at : Bench) (t : ℕ) → said at t [] ≡ None → left at t [] ≡ None
+left_first at t q =
+    let vs = accepted at.numbers (heard at []) t in
+    ap (λ (o : Option ℕ). if is_some o && nat_le (wait_of at.numbers) (length vs) then Some vs else None) q
+
+none_either : (b : Bool) (o : Option ℕ) → o ≡ None → (if b then None else o) ≡ None
+none_either true o q = refl
+none_either false o q = q
+
+-- nothing is said at any step, and nothing is decided
+nothing_first : (at : Bench) (t : ℕ) → (said at t [] ≡ None) × (decided_below at t [] ≡ None)
+nothing_first at zero = (refl, refl)
+nothing_first at (suc t) =
+    let before = nothing_first at t in
+    let none : left at t [] ≡ None = left_first at t before.0 in (
+      none_either _ (option_map (next_vote at t) (left at t [])) (ap (option_map (next_vote at t)) none),
+      ap₂ (λ (o : Option Bool) (u : Option (List ℕ)). option_or o (decides at.numbers t u)) before.1 none,
+    )
+
+pub decision_first : (at : Bench) → decided_below at steps [] ≡ None
+decision_first at = (nothing_first at steps).1

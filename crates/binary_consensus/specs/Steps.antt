@@ -4,8 +4,7 @@ use Rattle.std.specs.Prelude.{ℕ, zero, suc, ◌+◌, ◌/◌, ◌%◌, Bool, i
 use Rattle.ritas_base.specs.declared.slot.Slot.{Slot}
 use Rattle.ritas_base.specs.Numbers.{Numbers}
 use Rattle.ritas_base.specs.History.{replicas}
-use Rattle.layer_api.specs.Service.{Word}
-use Rattle.layer_api.specs.OneLog.{value_at}
+use Rattle.layer_api.specs.Words.{Word, value_at}
 use Rattle.layer_api.specs.Binary.{Bench}
 use Rattle.bracha_validation.specs.Votes.{may_give}
 

@@ -1,6 +1,6 @@
 use Rattle.std.proofs.Common.{◌≡◌, ℕ, sym, ◌∙◌, refl, subst, List, ◌∷◌, [], ◌++◌, Some}
 use Rattle.ritas_base.specs.declared.item.Say.{Say}
-use Rattle.layer_api.specs.Service.{Hear}
+use Rattle.layer_api.specs.Words.{Hear}
 use Rattle.binary_consensus.specs.Going.{line_of, IsHere, GoesOn}
 use Rattle.binary_consensus.proofs.Boxes.{over_stands, no_early_vote, vote_stands}
 use Rattle.binary_consensus.proofs.bin.Bin.hear.Goals as goal

@@ -1,5 +1,5 @@
 use Rattle.std.proofs.Common.{sym, ap, refl, subst, ◌∷◌, []}
-use Rattle.layer_api.specs.Service.{Hear}
+use Rattle.layer_api.specs.Words.{Hear}
 use Rattle.layer_api.specs.BinaryCalls.{ShowsBoxNear}
 use Rattle.binary_consensus.specs.Consensus.{binary}
 use Rattle.binary_consensus.specs.Stands.{shown_at, shows_as_before}

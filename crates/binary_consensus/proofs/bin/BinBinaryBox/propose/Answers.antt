@@ -1,7 +1,6 @@
 use Rattle.std.proofs.Common.{◌≡◌, ℕ, ◌∙◌, ap, refl, arith, rules, ◌∷◌, ◌++◌, []}
 use Rattle.ritas_base.specs.declared.item.Say.{Say}
-use Rattle.layer_api.specs.Service.{Ask}
-use Rattle.layer_api.specs.OneLog.{bit_byte}
+use Rattle.layer_api.specs.Words.{Ask, bit_byte}
 use Rattle.binary_consensus.specs.Going.{own_slot}
 use Rattle.binary_consensus.specs.Stands.{shows_as_before}
 use Rattle.binary_consensus.proofs.Boxes.{proposed_before, takes_proposal}
