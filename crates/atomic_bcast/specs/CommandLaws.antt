@@ -12,7 +12,8 @@ use Rattle.ritas_base.specs.SlotOrder.{is_slot, same_slot}
 use Rattle.frame_codec.specs.Format.{Is}
 use Rattle.frame_codec.specs.Grammar.{value}
 use Rattle.frame_codec.specs.Inputs.{IsInput, input_format}
-use Rattle.layer_api.specs.Service.{Seat, Word, Ask, Hear, is_heard, asked, is_said, said, is_ahead, MayHear, AreProper, AreNew, AreGoodSays, WordLaws, AreInputs, IsBase, is_finished, has_instance, Meanings}
+use Rattle.layer_api.specs.Service.{Seat, said, is_ahead, MayHear, AreProper, AreNew, AreGoodSays, WordLaws, AreInputs, IsBase, is_finished, has_instance, Meanings}
+use Rattle.layer_api.specs.Words.{Word, Ask, Hear, is_heard, asked, is_said}
 use Rattle.layer_api.specs.OneLog.{OneLog}
 use Rattle.atomic_bcast.specs.Commands.{is_heard_from, is_missing, base_of, says_of, commands}
 

@@ -2,7 +2,8 @@
 use Rattle.std.specs.Prelude.{ℕ, ◌+◌, Bool, false, not, ◌==◌, ◌||◌, List, [], ◌∷◌, length, unwrap_or, None}
 use Rattle.std.specs.List.{find, range_with_len}
 use Rattle.ritas_base.specs.declared.item.Say.{Say}
-use Rattle.layer_api.specs.Service.{ServiceRules, Seat, Word, Ask, Hear, Undecided, is_heard, asked}
+use Rattle.layer_api.specs.Service.{ServiceRules, Seat, Undecided}
+use Rattle.layer_api.specs.Words.{Word, Ask, Hear, is_heard, asked}
 use Rattle.ritas_base.specs.Slots.{command_slot}
 
 -- whether the origin's command of this number was delivered

@@ -1,6 +1,6 @@
 -- Worked rows.
 use Rattle.std.specs.Prelude.{◌≡◌, List, [], ◌∷◌, refl}
-use Rattle.layer_api.specs.Service.{Word, Hear}
+use Rattle.layer_api.specs.Words.{Word, Hear}
 use Rattle.ritas_base.specs.Slots.{command_slot}
 use Rattle.atomic_bcast.specs.Commands.{base_of}
 

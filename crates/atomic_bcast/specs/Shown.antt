@@ -2,7 +2,8 @@
 use Rattle.std.specs.Prelude.{◌≡◌, ℕ, ◌<◌, nat_lt, false, ◌==◌, List, [], slice_index, refl}
 use Rattle.std.proofs.Common.{sym, ◌∙◌, inl, arith}
 use Rattle.std.proofs.lemmas.Bool.{or_left, or_from, lt-ltb, le-ltb}
-use Rattle.layer_api.specs.Service.{Seat, Word, Undecided, IsBase}
+use Rattle.layer_api.specs.Service.{Seat, Undecided, IsBase}
+use Rattle.layer_api.specs.Words.{Word}
 use Rattle.layer_api.specs.ServiceCalls.{ServiceShown, Shows, ShowsNear}
 use Rattle.atomic_bcast.specs.Commands.{is_heard_from, base_of, commands}
 use Rattle.atomic_bcast.specs.CommandLaws.{base_from}

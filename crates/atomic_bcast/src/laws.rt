@@ -1,6 +1,7 @@
 ghost use Rattle.std.specs.Prelude.{◌≡◌, ℕ, ◌+◌, ◌<◌, List, [], ◌∷◌, true, false};
 ghost use Rattle.ritas_base.specs.declared.item.Say.{Say};
-ghost use Rattle.layer_api.specs.Service.{Seat, Word, Ask, is_heard, asked, AreProper};
+ghost use Rattle.layer_api.specs.Service.{Seat, AreProper};
+ghost use Rattle.layer_api.specs.Words.{Word, Ask, is_heard, asked};
 ghost use Rattle.ritas_base.specs.Slots.{command_slot};
 ghost use Rattle.atomic_bcast.specs.Commands.{base_of, commands};
 

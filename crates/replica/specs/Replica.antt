@@ -6,7 +6,8 @@ use Rattle.ritas_base.specs.Tags.{Tags}
 use Rattle.ritas_base.specs.History.{Call}
 use Rattle.layer_api.specs.Broadcast.{BroadcastRules}
 use Rattle.layer_api.specs.BroadcastCalls.{CastShown}
-use Rattle.layer_api.specs.Service.{ServiceRules, Seat, Word}
+use Rattle.layer_api.specs.Service.{ServiceRules, Seat}
+use Rattle.layer_api.specs.Words.{Word}
 use Rattle.layer_api.specs.ServiceCalls.{ServiceShown}
 use Rattle.keyed_channel.specs.Keyed.{tags_of}
 use Rattle.keyed_channel.specs.KeyRow.{KeyRow}

@@ -7,7 +7,7 @@ use Rattle.ritas_base.specs.SlotOrder.{is_slot, same_slot}
 use Rattle.ritas_base.specs.History.{Call, Start, Take}
 use Rattle.layer_api.specs.Broadcast.{MayStart, MayTake}
 use Rattle.layer_api.specs.OneValue.{AreTaken, AreFirst}
-use Rattle.layer_api.specs.Service.{Ask, Hear}
+use Rattle.layer_api.specs.Words.{Ask, Hear}
 use Rattle.ritas_core.specs.Rules.{Rules, CastRules, seat_of, place_at}
 use Rattle.ritas_core.specs.Casts.{called, started_all, MayStartAll}
 use Rattle.ritas_core.specs.Parts.{Entry, Took, Given, Parts, parts, heard_at, taken_at, item_delivers}

@@ -1,5 +1,5 @@
 -- Each entry of a history meets the conditions of the layers. A broadcast was started exactly where its slot was said, a
--- slot was heard exactly where it has delivered, and all words and calls are in the grammar.
+-- slot was heard exactly where it has delivered, and all calls are in the grammar.
 use Rattle.std.proofs.Common.{◌≡◌, ℕ, Bool, true, false, not, cond, ◌||◌, Option, Some, None, List, [], ◌∷◌, ◌++◌, refl, sym, ◌∙◌, ap, subst}
 use Rattle.std.specs.Option.{is_some, option_or}
 use Rattle.std.proofs.Math.Bool.{or_assoc, or-false}
@@ -17,7 +17,8 @@ use Rattle.ritas_base.specs.History.{Call, Start, Take, started}
 use Rattle.frame_codec.specs.Format.{Is}
 use Rattle.frame_codec.specs.Grammar.{value}
 use Rattle.layer_api.specs.OneValue.{AreGoodCalls}
-use Rattle.layer_api.specs.Service.{Word, Ask, Hear, said, is_said, said_value, is_heard, MayHear, AreProper, AreNew, AreGoodWords, AreGoodSays}
+use Rattle.layer_api.specs.Service.{said, MayHear, AreProper, AreNew, AreGoodSays}
+use Rattle.layer_api.specs.Words.{Word, Ask, Hear, is_said, said_value, is_heard}
 use Rattle.ritas_core.specs.Rules.{Rules, seat_of, place_at, out_at}
 use Rattle.ritas_core.specs.Casts.{called, started_all, newly, MayStartAll}
 use Rattle.ritas_core.specs.Parts.{Entry, Took, Given, Parts, parts, told_to, heard_at, taken_at, item_delivers}
@@ -244,13 +245,7 @@ may_hear_at r laws p all item may v delivers good =
           ∙ ap is_some (newly_before (out_at r.casts item.slot (p.calls item.slot)) (out_at r.casts item.slot (Take item ∷ p.calls item.slot)) v delivers);
     }
 
-proper_heard : (r : Rules) (p : Parts) (item : Item) (d : Option (List ℕ)) →
-    ((v : List ℕ) → d ≡ Some v → MayHear r.service (seat_of r) p.words item.slot v) → AreProper r.service (seat_of r) p.words →
-    AreProper r.service (seat_of r) (heard_at r item.slot d (taken_at item p)).words
-proper_heard r p item None may proper = proper
-proper_heard r p item (Some v) may proper = (may v refl, proper)
-
--- ---- the words and the calls are in the grammar
+-- ---- the calls are in the grammar
 good_called_at : (p : Numbers) (mode : Mode) (h : Slot → List Call) (say : Say) (s : Slot) (b : Bool) → is_slot say.slot s ≡ b →
     Is (value p mode.root say.slot) say.value → AreGoodCalls p mode s (h s) → AreGoodCalls p mode s (cond b (Start say.value ∷ h s) (h s))
 good_called_at p mode h say s true here good all =
@@ -277,10 +272,9 @@ pub good_taken : (r : Rules) (p : Parts) (item : Item) → IsTakable r p item �
     (s : Slot) → AreGoodCalls r.casts.numbers r.mode s ((taken_at item p).calls s)
 good_taken r p item may all s = good_taken_at r p item s (is_slot item.slot s) refl may (all s)
 
--- all words and calls of these parts
+-- the words of these parts met their conditions, and the calls are in the grammar
 pub record AreAllGood (r : Rules) (p : Parts) : Type 0 where
   pub proper : AreProper r.service (seat_of r) p.words
-  pub words : AreGoodWords r.casts.numbers r.mode p.words
   pub calls : (s : Slot) → AreGoodCalls r.casts.numbers r.mode s (p.calls s)
 
 pub good_told : (r : Rules) → LayerLaws r → (c : Word) (p : Parts) → AreProper r.service (seat_of r) (c ∷ p.words) →
@@ -298,40 +292,32 @@ good_delivered r laws p item may all v delivers =
 
 good_heard : (r : Rules) → LayerLaws r → (p : Parts) (item : Item) (d : Option (List ℕ)) → IsTakable r p item →
     ((v : List ℕ) → d ≡ Some v → MayHear r.service (seat_of r) p.words item.slot v) →
-    ((v : List ℕ) → d ≡ Some v → Is (value r.casts.numbers r.mode.root item.slot) v) →
     AreAllGood r p → AreAllGood r (heard_at r item.slot d (taken_at item p))
-good_heard r laws p item None may hears good all = record { proper = all.proper; words = all.words; calls = good_taken r p item may all.calls }
-good_heard r laws p item (Some v) may hears good all =
-    let words : AreGoodWords r.casts.numbers r.mode (Hear item.slot v ∷ p.words) = (may.good.in_grammar.slot, good v refl, all.words) in
-    record {
-      proper = (hears v refl, all.proper);
-      words = words;
-      calls = good_starts r.casts.numbers r.mode (r.service.says (seat_of r) p.words (Hear item.slot v)) (taken_at item p).calls
-          (good_told r laws (Hear item.slot v) p (hears v refl, all.proper)) (good_taken r p item may all.calls);
-    }
+good_heard r laws p item None may hears all = record { proper = all.proper; calls = good_taken r p item may all.calls }
+good_heard r laws p item (Some v) may hears all = record {
+  proper = (hears v refl, all.proper);
+  calls = good_starts r.casts.numbers r.mode (r.service.says (seat_of r) p.words (Hear item.slot v)) (taken_at item p).calls
+      (good_told r laws (Hear item.slot v) p (hears v refl, all.proper)) (good_taken r p item may all.calls);
+}
 
 pub all_good : (r : Rules) → LayerLaws r → (h : List Entry) → IsHistory r h → AreAllGood r (parts r h)
-all_good r laws [] met = record { proper = tt; words = tt; calls = λ s. tt }
+all_good r laws [] met = record { proper = tt; calls = λ s. tt }
 all_good r laws (Took item ∷ h) met =
     let all = all_good r laws h met.1 in
-    let good = good_delivered r laws (parts r h) item met.0 all.calls in
     good_heard r laws (parts r h) item (item_delivers r item (parts r h)) met.0
-    (λ v delivers. may_hear_at r laws (parts r h) (heard_where_delivered r laws h) item met.0 v delivers (good v delivers)) good all
+    (λ v delivers.
+    may_hear_at r laws (parts r h) (heard_where_delivered r laws h) item met.0 v delivers
+    (good_delivered r laws (parts r h) item met.0 all.calls v delivers)) all
 all_good r laws (Given v ∷ h) met =
     let all = all_good r laws h met.1 in
-    let words : AreGoodWords r.casts.numbers r.mode (Ask v ∷ (parts r h).words) = (met.0.in_grammar, all.words) in
     record {
       proper = (met.0.may, all.proper);
-      words = words;
       calls = good_starts r.casts.numbers r.mode (r.service.says (seat_of r) (parts r h).words (Ask v)) (parts r h).calls
           (good_told r laws (Ask v) (parts r h) (met.0.may, all.proper)) all.calls;
     }
 
 pub words_proper : (r : Rules) → LayerLaws r → (h : List Entry) → IsHistory r h → AreProper r.service (seat_of r) (parts r h).words
 words_proper r laws h met = (all_good r laws h met).proper
-
-pub words_good : (r : Rules) → LayerLaws r → (h : List Entry) → IsHistory r h → AreGoodWords r.casts.numbers r.mode (parts r h).words
-words_good r laws h met = (all_good r laws h met).words
 
 pub calls_good : (r : Rules) → LayerLaws r → (h : List Entry) → IsHistory r h → (s : Slot) →
     AreGoodCalls r.casts.numbers r.mode s ((parts r h).calls s)

@@ -5,7 +5,7 @@ use Rattle.ritas_base.specs.declared.item.Item.{Item}
 use Rattle.ritas_base.specs.declared.item.Msg.{Msg}
 use Rattle.ritas_base.specs.declared.mode.Mode.{Mode}
 use Rattle.ritas_base.specs.Numbers.{Numbers}
-use Rattle.layer_api.specs.Service.{Ask, Hear}
+use Rattle.layer_api.specs.Words.{Ask, Hear}
 use Rattle.ooc_buffers.specs.Lists.{Kept, failing, released, remaining}
 use Rattle.ritas_core.specs.declared.layers.Layers.{Layers}
 use Rattle.ritas_core.specs.declared.kernel.Core.{Core}

@@ -14,7 +14,7 @@ use Rattle.ritas_base.specs.declared.item.Say.{Say}
 use Rattle.ritas_base.specs.SlotOrder.{slot_cmp, slots_total, is_slot, same_slot, slot_itself}
 use Rattle.ritas_base.specs.Messages.{kind_rank, to_rank, msg_eq, msg_eq_equiv, has, without}
 use Rattle.ritas_base.specs.History.{Call, Start, Take}
-use Rattle.layer_api.specs.Service.{Ask, Hear}
+use Rattle.layer_api.specs.Words.{Ask, Hear}
 use Rattle.ritas_core.specs.Rules.{Rules, seat_of, place_at, due_at}
 use Rattle.ritas_core.specs.Casts.{called, started_all, start_news, news_at}
 use Rattle.ritas_core.specs.Parts.{Parts, Entry, Took, Given, parts, heard_at, heard_news, taken_at, item_delivers, after, made_by}

@@ -11,7 +11,8 @@ use Rattle.frame_codec.specs.Body.{IsInGrammar}
 use Rattle.layer_api.specs.Runs.{Has}
 use Rattle.layer_api.specs.HasLaws.{has_either}
 use Rattle.layer_api.specs.OneValue.{AreGoodCalls}
-use Rattle.layer_api.specs.Service.{Word, Ask, Hear, AreProper, AreGoodSays}
+use Rattle.layer_api.specs.Service.{AreProper, AreGoodSays}
+use Rattle.layer_api.specs.Words.{Word, Ask, Hear}
 use Rattle.ooc_buffers.specs.Lists.{Kept, kept_of, with_kept, passing, released, remaining}
 use Rattle.ritas_core.specs.Rules.{Rules, seat_of, place_at, due_at}
 use Rattle.ritas_core.specs.Casts.{called, start_news, news_at}

@@ -17,7 +17,8 @@ use Rattle.ritas_base.specs.History.{Call, Start, Take, first}
 use Rattle.ritas_base.specs.Tags.{Tags}
 use Rattle.layer_api.specs.Broadcast.{BroadcastRules}
 use Rattle.layer_api.specs.OneValue.{ValueLaws}
-use Rattle.layer_api.specs.Service.{ServiceRules, Seat, Word, Ask, Hear, is_past, is_ahead, AreProper, WordLaws}
+use Rattle.layer_api.specs.Service.{ServiceRules, Seat, is_past, is_ahead, AreProper, WordLaws}
+use Rattle.layer_api.specs.Words.{Word, Ask, Hear}
 use Rattle.ooc_buffers.specs.Lists.{Kept, is_kept}
 use Rattle.ritas_core.specs.Rules.{Rules, seat_of, place_at}
 use Rattle.ritas_core.specs.Casts.{called, started_all}

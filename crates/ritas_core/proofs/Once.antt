@@ -12,7 +12,7 @@ use Rattle.layer_api.specs.Runs.{Has}
 use Rattle.layer_api.specs.HasLaws.{has_either}
 use Rattle.layer_api.specs.OneValue.{AreTaken, AreFirst, IsReceiver, IsOnce}
 use Rattle.layer_api.specs.OnceLaws.{once_append}
-use Rattle.layer_api.specs.Service.{Ask, Hear}
+use Rattle.layer_api.specs.Words.{Ask, Hear}
 use Rattle.ritas_core.specs.Rules.{Rules, CastRules, seat_of, place_at, due_at}
 use Rattle.ritas_core.specs.Casts.{called, start_news, news_at, MayStartAll}
 use Rattle.ritas_core.specs.Parts.{Entry, Took, Given, Parts, parts, heard_news, taken_at, item_delivers, made_by}

@@ -1,10 +1,10 @@
 -- What becomes of an item that the layers were given.
-use Rattle.std.proofs.Common.{◌≡◌, ℕ, true, Ok, Err, List, [], refl, sym, ◌∙◌, ap, subst}
+use Rattle.std.proofs.Common.{ℕ, true, Ok, Err, List, [], refl, ap, subst}
 use Rattle.ritas_base.specs.declared.bytes.Mem.{Mem}
 use Rattle.ritas_base.specs.declared.item.Item.{Item}
 use Rattle.ritas_base.specs.declared.item.Msg.{Msg}
 use Rattle.layer_api.specs.declared.broadcast.Heard.TheVariants as heard
-use Rattle.layer_api.specs.Service.{Ask}
+use Rattle.layer_api.specs.Words.{Ask}
 use Rattle.ritas_core.specs.declared.answer.Answer.TheVariants as answers
 use Rattle.ritas_core.specs.declared.fault.CoreFault.TheVariants as faults
 use Rattle.ritas_core.specs.declared.verdict.Verdict.TheVariants as verdicts

@@ -1,15 +1,15 @@
 -- What the layers of a core show.
-use Rattle.std.proofs.Common.{◌≡◌, ℕ, Bool, true, Option, Some, None, List, [], ◌∷◌, ◌++◌, inl, inr, refl, sym, ◌∙◌, subst}
+use Rattle.std.proofs.Common.{◌≡◌, ℕ, Bool, true, Option, Some, None, List, [], ◌∷◌, inl, inr, refl, sym, ◌∙◌, subst}
 use Rattle.std.specs.BTreeMap.{BTreeMap}
 use Rattle.ritas_base.specs.declared.slot.Slot.{Slot}
 use Rattle.ritas_base.specs.declared.item.Item.{Item}
-use Rattle.ritas_base.specs.declared.item.Say.{Say}
 use Rattle.ritas_base.specs.Messages.{Place}
 use Rattle.ritas_base.specs.Tags.{Tags}
 use Rattle.ritas_base.specs.History.{Call}
 use Rattle.layer_api.specs.BroadcastCalls.{ShowsCast}
 use Rattle.layer_api.specs.OneValue.{ValueLaws}
-use Rattle.layer_api.specs.Service.{ServiceRules, Seat, Word, Ask, Hear, WordLaws, AreProper, IsPart}
+use Rattle.layer_api.specs.Service.{ServiceRules, Seat, WordLaws, AreProper, IsPart}
+use Rattle.layer_api.specs.Words.{Word, Ask, Hear}
 use Rattle.layer_api.specs.ServiceCalls.{ServiceShown, Shows, ShowsBetween}
 use Rattle.ritas_core.specs.declared.layers.Layers.{Layers}
 use Rattle.ritas_core.specs.declared.cast.Cast.{Cast}
@@ -17,7 +17,7 @@ use Rattle.ritas_core.specs.Rules.{Rules, seat_of, out_at}
 use Rattle.ritas_core.specs.Cast.{CastStandsAt, shown_by}
 use Rattle.ritas_core.specs.Casts.{CastsShowAt}
 use Rattle.ritas_core.specs.CastCalls.{CanTake, CastsFail}
-use Rattle.ritas_core.specs.Parts.{Parts, Entry, Took, Given, parts, told_to, heard_at, taken_at, item_delivers, after}
+use Rattle.ritas_core.specs.Parts.{Parts, Entry, Took, Given, parts, told_to, heard_at, taken_at, item_delivers}
 use Rattle.ritas_core.specs.Checks.{IsHistory}
 use Rattle.ritas_core.specs.Laws.{LayerLaws}
 use Rattle.ritas_core.specs.Stands.{Meaning, rules_of, LayersStand, LayersShow}

@@ -13,13 +13,12 @@ use Rattle.ritas_core.specs.declared.fault.CoreFault.{CoreFault}
 use Rattle.ritas_core.specs.declared.fault.CoreFault.TheVariants as faults
 use Rattle.ritas_core.specs.declared.verdict.Verdict.{Verdict}
 use Rattle.ritas_core.specs.declared.verdict.Verdict.TheVariants as verdicts
-use Rattle.ritas_core.specs.declared.layers.Layers.{Layers}
 use Rattle.ritas_core.specs.declared.kernel.Core.{Core}
 use Rattle.ritas_core.specs.Rules.{Rules, seat_of}
-use Rattle.ritas_core.specs.Parts.{Parts, Entry, Given, parts}
-use Rattle.ritas_core.specs.Checks.{verdict_on, input_check, input_fault_or, IsGood}
+use Rattle.ritas_core.specs.Parts.{Parts, Given, parts}
+use Rattle.ritas_core.specs.Checks.{verdict_on, input_check, input_fault_or}
 use Rattle.ritas_core.specs.Machine.{CoreState, What, Frame, Input, Turn, Moved, stays, enters, gives, given_input, turned, moved_live, moved, MayGive, AreGood}
-use Rattle.ritas_core.specs.Stands.{Meaning, rules_of, LayersStand, CoreStands}
+use Rattle.ritas_core.specs.Stands.{Meaning, LayersStand, CoreStands}
 use Rattle.ritas_core.specs.Judging.{judged_in}
 use Rattle.ritas_core.specs.Calls.{Moves, RunsOut, HoldsFront, TakesFront, Does, DoesAll, front_entry}
 use Rattle.ritas_core.specs.CoreCalls.{rules_in, IsLive, StopsCore, EntersCore, IsTold, IsToldFront, GivesFront, DoesHere, DoesJudged, is_mem}

@@ -14,7 +14,7 @@ use Rattle.ritas_core.specs.declared.verdict.Verdict.{Verdict}
 use Rattle.ritas_core.specs.declared.verdict.Verdict.TheVariants as verdicts
 use Rattle.ritas_core.specs.declared.kernel.Core.{Core}
 use Rattle.ritas_core.specs.Rules.{Rules, place_at}
-use Rattle.ritas_core.specs.Parts.{Parts, Entry, Took, Given, parts}
+use Rattle.ritas_core.specs.Parts.{Parts, Entry, Given, parts}
 use Rattle.ritas_core.specs.Order.{ordered, own_items, new_messages}
 use Rattle.ritas_core.specs.Checks.{is_open, is_taken_again, has_room, verdict_on, MayEnter}
 use Rattle.ritas_core.specs.Machine.{CoreState, What, Frame, entered, MayGive}

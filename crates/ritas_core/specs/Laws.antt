@@ -10,7 +10,8 @@ use Rattle.frame_codec.specs.Body.{IsInGrammar}
 use Rattle.frame_codec.specs.Inputs.{IsInput}
 use Rattle.layer_api.specs.Runs.{Has}
 use Rattle.layer_api.specs.OneValue.{ValueLaws, AreTaken, AreFirst, AreGoodCalls}
-use Rattle.layer_api.specs.Service.{WordLaws, Ask, Hear, said, is_said, said_value, is_heard, MayHear, AreProper, AreGoodWords}
+use Rattle.layer_api.specs.Service.{WordLaws, said, MayHear, AreProper}
+use Rattle.layer_api.specs.Words.{Ask, Hear, is_said, said_value, is_heard}
 use Rattle.ooc_buffers.specs.Lists.{Kept}
 use Rattle.ritas_core.specs.declared.verdict.Verdict.TheVariants.{Take}
 use Rattle.ritas_core.specs.Rules.{Rules, seat_of, place_at, out_at, due_at, KindsFit}
@@ -59,13 +60,9 @@ abbrev pub HearsWhereDelivered : Type 0
 HearsWhereDelivered = (r : Rules) → LayerLaws r → (h : List Entry) (s : Slot) →
     is_heard (parts r h).words s ≡ is_some (out_at r.casts s ((parts r h).calls s))
 
--- each word to the service met its conditions
+-- each word to the service met its conditions, and so is in the grammar
 abbrev pub WordsAreProper : Type 0
 WordsAreProper = (r : Rules) → LayerLaws r → (h : List Entry) → IsHistory r h → AreProper r.service (seat_of r) (parts r h).words
-
--- and is in the grammar
-abbrev pub WordsAreGood : Type 0
-WordsAreGood = (r : Rules) → LayerLaws r → (h : List Entry) → IsHistory r h → AreGoodWords r.casts.numbers r.mode (parts r h).words
 
 -- each call on a broadcast met its conditions
 abbrev pub CallsAreTaken : Type 0

@@ -7,7 +7,8 @@ use Rattle.ritas_base.specs.declared.item.Msg.{Msg}
 use Rattle.layer_api.specs.declared.broadcast.Heard.{Heard}
 use Rattle.layer_api.specs.declared.broadcast.Heard.TheVariants as heard
 use Rattle.layer_api.specs.Broadcast.{MayTake}
-use Rattle.layer_api.specs.Service.{Word, Ask, Hear, MayAsk, MayHear, AreProper}
+use Rattle.layer_api.specs.Service.{MayAsk, MayHear, AreProper}
+use Rattle.layer_api.specs.Words.{Word, Ask, Hear}
 use Rattle.ritas_core.specs.declared.layers.Layers.{Layers}
 use Rattle.ritas_core.specs.Rules.{Rules, seat_of, place_at}
 use Rattle.ritas_core.specs.Casts.{MayStartAll}

@@ -4,7 +4,7 @@ use Rattle.ritas_base.specs.declared.slot.Slot.{Slot}
 use Rattle.ritas_base.specs.declared.item.Item.{Item}
 use Rattle.ritas_base.specs.declared.item.Msg.{Msg}
 use Rattle.ritas_base.specs.History.{Call, Take}
-use Rattle.layer_api.specs.Service.{Word, Ask, Hear}
+use Rattle.layer_api.specs.Words.{Word, Ask, Hear}
 use Rattle.ritas_core.specs.Rules.{Rules, seat_of}
 use Rattle.ritas_core.specs.Casts.{called, started_all, news_at, start_news, delivered_by}
 

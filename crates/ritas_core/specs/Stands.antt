@@ -7,7 +7,8 @@ use Rattle.ritas_base.specs.Tags.{Tags}
 use Rattle.ritas_base.specs.History.{Call}
 use Rattle.layer_api.specs.Broadcast.{BroadcastRules}
 use Rattle.layer_api.specs.BroadcastCalls.{CastShown}
-use Rattle.layer_api.specs.Service.{ServiceRules, Seat, Word}
+use Rattle.layer_api.specs.Service.{ServiceRules, Seat}
+use Rattle.layer_api.specs.Words.{Word}
 use Rattle.layer_api.specs.ServiceCalls.{ServiceShown, ShowsBetween}
 use Rattle.ooc_buffers.specs.Lists.{Kept}
 use Rattle.ritas_core.specs.declared.layers.Layers.{Layers}

@@ -14,7 +14,7 @@ ghost use Rattle.ritas_core.specs.Parts.{Entry, parts};
 ghost use Rattle.ritas_core.specs.Order.{new_messages};
 ghost use Rattle.ritas_core.specs.Checks.{IsHistory};
 ghost use Rattle.ritas_core.specs.Laws.{is_due, InOrder};
-ghost use Rattle.ritas_core.specs.Laws.{StartsWhereSaid, StartsWhatWasSaid, HearsWhereDelivered, WordsAreProper, WordsAreGood, CallsAreTaken, CallsAreFirst, CallsAreGood};
+ghost use Rattle.ritas_core.specs.Laws.{StartsWhereSaid, StartsWhatWasSaid, HearsWhereDelivered, WordsAreProper, CallsAreTaken, CallsAreFirst, CallsAreGood};
 ghost use Rattle.ritas_core.specs.Laws.{NewIsDue, DueStays, NewIsGood, MayStartGiven, MayHearTaken, MayStartHeard, TakenIsTakable, GivenIsGivable, FoundIsRepeat};
 ghost use Rattle.ritas_core.specs.CoreOf.{IsCoreOf};
 
@@ -58,7 +58,6 @@ pub fn history_laws()
     ensures started { StartsWhatWasSaid }
     ensures heard { HearsWhereDelivered }
     ensures proper { WordsAreProper }
-    ensures words { WordsAreGood }
     ensures taken { CallsAreTaken }
     ensures first { CallsAreFirst }
     ensures calls { CallsAreGood }

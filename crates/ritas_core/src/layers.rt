@@ -24,7 +24,7 @@ pub struct Layers<S: Service, E: Broadcast, C: Coin + Drop, T: Tagger + Drop> {
 
 impl<S: Service, E: Broadcast, C: Coin + Drop, T: Tagger + Drop> Layers<S, E, C, T> {
     ghost use Rattle.std.specs.Prelude.{◌≡◌, ◌<◌, None, OnOk, OnErr};
-    ghost use Rattle.layer_api.specs.Service.{Ask, Hear};
+    ghost use Rattle.layer_api.specs.Words.{Ask, Hear};
     ghost use Rattle.ritas_core.specs.Parts.{Parts};
     ghost use Rattle.ritas_core.specs.Checks.{mark_of, window_fault, input_check};
     ghost use Rattle.frame_codec.specs.Inputs.{IsInput};

@@ -48,7 +48,8 @@ struct Mute {
 
 impl Service for Mute {
     ghost use Rattle.std.specs.Prelude.{◌≡◌, true, false, not, ◌==◌, [], None};
-    ghost use Rattle.layer_api.specs.Service.{Undecided, asked};
+    ghost use Rattle.layer_api.specs.Service.{Undecided};
+    ghost use Rattle.layer_api.specs.Words.{asked};
 
     ghost stands = { λ s seat w. s.given ≡ not (asked w == 0) };
 

@@ -1,4 +1,4 @@
-use Rattle.ritas_core.proofs.Conditions.{started_where_said, started_is_said, heard_where_delivered, words_proper, words_good, calls_good}
+use Rattle.ritas_core.proofs.Conditions.{started_where_said, started_is_said, heard_where_delivered, words_proper, calls_good}
 use Rattle.ritas_core.proofs.CallsTaken.{calls_taken, calls_first}
 use Rattle.ritas_core.proofs.Goodness.{good_messages}
 use Rattle.ritas_core.proofs.Due.{new_is_due, due_stays_after}
@@ -10,7 +10,6 @@ returns c = record {
   started = started_is_said;
   heard = heard_where_delivered;
   proper = words_proper;
-  words = words_good;
   taken = calls_taken;
   first = calls_first;
   calls = calls_good;

@@ -1,6 +1,6 @@
 use Rattle.std.proofs.Common.{refl, sym, subst, ap, ◌≡◌}
 use Rattle.std.specs.Prelude.{ℕ, List}
-use Rattle.layer_api.specs.Service.{Hear}
+use Rattle.layer_api.specs.Words.{Hear}
 use Rattle.layer_api.specs.ServiceCalls.{ShowsNear}
 use Rattle.atomic_bcast.specs.Commands.{commands}
 use Rattle.atomic_bcast.specs.Shown.{shown_with, shows_as_before}

@@ -1,6 +1,6 @@
 use Rattle.std.proofs.Common.{refl}
 use Rattle.atomic_bcast.specs.Shown.{shows_as_before}
-use Rattle.layer_api.specs.Service.{Ask}
+use Rattle.layer_api.specs.Words.{Ask}
 use Rattle.atomic_bcast.proofs.cmd_root.CmdRootService.input.Goals as goal
 
 pub returns-in-Err : goal.returns-in-Err

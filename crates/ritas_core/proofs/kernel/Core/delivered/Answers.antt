@@ -1,4 +1,4 @@
-use Rattle.std.proofs.Common.{Some, ◌⊎◌, inl, inr, sym, ◌∙◌}
+use Rattle.std.proofs.Common.{Some, inl, inr, sym, ◌∙◌}
 use Rattle.ritas_core.specs.Stands.{Meaning, meaning}
 use Rattle.ritas_core.proofs.GetterSteps.{delivered_either, delivered_live}
 use Rattle.ritas_core.proofs.kernel.Core.delivered.Goals as goal

@@ -1,12 +1,11 @@
-use Rattle.std.proofs.Common.{Ok, Err, List, subst, sym, refl}
+use Rattle.std.proofs.Common.{Ok, Err, List, subst, refl}
 use Rattle.ritas_base.specs.declared.item.Item.{Item}
 use Rattle.ritas_base.specs.declared.item.Msg.{Msg}
 use Rattle.ritas_core.specs.declared.answer.Answer.TheVariants as answers
-use Rattle.ritas_core.specs.declared.verdict.Verdict.{Verdict}
 use Rattle.ritas_core.specs.declared.verdict.Verdict.TheVariants as verdicts
 use Rattle.ritas_core.specs.Stands.{Meaning, meaning}
 use Rattle.ritas_core.specs.LayerCalls.{GivesItem}
-use Rattle.ritas_core.specs.CoreCalls.{IsToldFront, DoesJudged}
+use Rattle.ritas_core.specs.CoreCalls.{DoesJudged}
 use Rattle.ritas_core.proofs.ShownLayers.{MeansWell}
 use Rattle.ritas_core.proofs.CallSteps.{refuse_does, again_does}
 use Rattle.ritas_core.proofs.WholeCalls.{front_from}

@@ -1,7 +1,7 @@
 use Rattle.std.proofs.Common.{◌≡◌, List, ◌++◌, refl, sym, ◌∙◌, ap, subst}
 use Rattle.std.proofs.lemmas.Result.{on_err_weaker}
 use Rattle.ritas_base.specs.declared.item.Say.{Say}
-use Rattle.layer_api.specs.Service.{Hear}
+use Rattle.layer_api.specs.Words.{Hear}
 use Rattle.ritas_core.specs.Rules.{seat_of}
 use Rattle.ritas_core.specs.Parts.{Parts}
 use Rattle.ritas_core.specs.Casts.{MayStartAll}
@@ -42,11 +42,11 @@ returns-clause-missed g c =
     let old = c.args.self.now in
     let r = rules_of m old in
     let said : (p : Parts) → CanTell m old (Hear c.args.slot.now c.args.value.now) p → c.as_slice.result.now ≡ m.service.says (seat_of r) p.words (Hear c.args.slot.now c.args.value.now) = λ p can.
-    c.as_slice.ensures.value ∙ c.in_ok-heard.ensures.made (seat_of r) p.words can.stood.service (λ s. refl) can.may.0
+    c.as_slice.ensures.value ∙ c.in_ok-heard.ensures.made (seat_of r) p.words can.stood.service (λ s. refl, can.may.0)
     ∙ ap (λ (xs : List Say). xs ++ m.service.says (seat_of r) p.words (Hear c.args.slot.now c.args.value.now)) c.new-says.ensures.items in
     on_err_weaker c.start_casts.result
     (λ fewer. starts_fail m well old c.heard.new.self c.start_casts.new.casts (Hear c.args.slot.now c.args.value.now)
-    (λ p can. c.in_ok-heard.ensures.grows (seat_of r) p.words can.stood.service (λ s. refl) can.may.0)
+    (λ p can. c.in_ok-heard.ensures.grows (seat_of r) p.words can.stood.service (λ s. refl, can.may.0))
     (λ p can. fewer p.calls (record {
       is_own = can.is_own;
       may = subst (λ (says : List Say). MayStartAll r.casts says p.calls) (sym (said p can)) can.may.1;

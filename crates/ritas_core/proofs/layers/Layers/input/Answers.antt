@@ -1,7 +1,7 @@
-use Rattle.std.proofs.Common.{◌≡◌, List, ◌++◌, refl, sym, ◌∙◌, ap, subst}
+use Rattle.std.proofs.Common.{◌≡◌, List, ◌++◌, sym, ◌∙◌, ap, subst}
 use Rattle.std.proofs.lemmas.Result.{on_err_weaker}
 use Rattle.ritas_base.specs.declared.item.Say.{Say}
-use Rattle.layer_api.specs.Service.{Ask}
+use Rattle.layer_api.specs.Words.{Ask}
 use Rattle.ritas_core.specs.Rules.{seat_of}
 use Rattle.ritas_core.specs.Parts.{Parts}
 use Rattle.ritas_core.specs.Casts.{MayStartAll}
