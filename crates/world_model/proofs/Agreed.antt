@@ -1,8 +1,9 @@
 -- The law of agreement over every world, from the law of its service.
 use Rattle.std.proofs.Common.{◌≡◌, List, [], ◌∷◌, ◌⊎◌, ◌∙◌, ap, subst}
 use Rattle.layer_api.specs.Runs.{calls_of, Has}
-use Rattle.layer_api.specs.Service.{Word, Ask, IsPart}
-use Rattle.layer_api.specs.OneLog.{OneLog, IsRunOf, bit_byte}
+use Rattle.layer_api.specs.Service.{IsPart}
+use Rattle.layer_api.specs.Words.{Word, Ask, bit_byte}
+use Rattle.layer_api.specs.OneLog.{OneLog, IsRunOf}
 use Rattle.ritas_core.specs.Rules.{seat_of}
 use Rattle.ritas_base.specs.declared.event.Event.{Event}
 use Rattle.world_model.specs.declared.audit.Audit.TheVariants.{Holds}
@@ -13,7 +14,8 @@ use Rattle.world_model.specs.Agree.{log_of, Agree, AgreeLaw}
 use Rattle.world_model.proofs.Law.{audit_parts, enough_of, law_of}
 use Rattle.world_model.proofs.Said.{asked_given}
 use Rattle.world_model.proofs.Words.{session_of, words_after}
-use Rattle.world_model.proofs.Below.{CoreLaws, IsSoundOver}
+use Rattle.world_model.specs.CoreLaws.{CoreLaws}
+use Rattle.world_model.proofs.Below.{IsSoundOver}
 
 -- of one world
 agree_of : (w : Setting) (es : List Event) → IsSoundOver w → OneLog w.service → audit_of w es ≡ Holds → Agree w es

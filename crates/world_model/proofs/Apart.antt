@@ -1,5 +1,5 @@
 -- Two different correct replicas of a world whose replicas agree are never apart.
-use Rattle.std.proofs.Common.{◌≡◌, List, [], ◌∷◌, ◌++◌, length, sym, ◌∙◌, inl, inr, arith}
+use Rattle.std.proofs.Common.{◌≡◌, List, [], ◌∷◌, ◌++◌, length, sym, inl, inr, arith}
 use Rattle.std.proofs.lemmas.List.{length-append}
 use Rattle.layer_api.specs.Service.{IsPart}
 use Rattle.world_model.specs.Agree.{log_of}

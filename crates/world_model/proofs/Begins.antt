@@ -1,5 +1,5 @@
 -- A world before any event.
-use Rattle.std.proofs.Common.{◌≡◌, ℕ, zero, suc, ◌+◌, ◌*◌, ◌<◌, ◌==◌, ◌&&◌, Bool, true, false, not, List, [], ◌∷◌, length, replicate, Option, Some, None, refl, sym, ◌∙◌, ap, subst, arith, if◌then◌else◌}
+use Rattle.std.proofs.Common.{◌≡◌, ℕ, zero, suc, ◌+◌, ◌*◌, ◌<◌, ◌==◌, ◌&&◌, Bool, true, false, not, List, [], ◌∷◌, map, length, replicate, Option, Some, None, refl, sym, ◌∙◌, ap, subst, arith, if◌then◌else◌}
 use Rattle.std.specs.List.{slice_get}
 use Rattle.std.proofs.lemmas.List.{get_or-replicate, length-replicate}
 use Rattle.std.proofs.lemmas.Option.{slice_get_within}
@@ -26,7 +26,8 @@ use Rattle.world_model.specs.Hashed.{met_at, HashedStand}
 use Rattle.world_model.specs.Watch.{WatchStands}
 use Rattle.world_model.proofs.Prints.{nothing_there}
 use Rattle.world_model.proofs.Meeting.{stand_within}
-use Rattle.world_model.specs.FramesMade.{MadeTable, made_in}
+use Rattle.world_model.specs.MadeOrder.{all_made}
+use Rattle.world_model.specs.FramesMade.{MadeTable, made_in, placed}
 use Rattle.world_model.specs.declared.world.World.{World}
 use Rattle.world_model.proofs.Tables.{place_within}
 use Rattle.world_model.specs.EveryWorld.{IsWorld}
@@ -142,7 +143,7 @@ none_from true true none e = e
 none_from true false none e = refl
 none_from false me none e = e
 
-pub begins_frames : (w : Setting) (n : ℕ) (t : MadeTable) → w.numbers.n ≡ n → t ≡ record { n = n; lists = replicate (n * n) [] } → FramesStand w (states_of w []) t
+pub begins_frames : (w : Setting) (n : ℕ) (t : MadeTable) → w.numbers.n ≡ n → t ≡ record { n = n; lists = replicate (n * n) []; order = [] } → FramesStand w (states_of w []) t
 unfolding states_of
 begins_frames w n t many is = record {
   square = record { many = ap (λ x. x.n) is ∙ sym many; lists = ap (λ x. length x.lists) is ∙ length-replicate (n * n) [] ∙ ap (λ x. x * x) (sym many) };
@@ -171,9 +172,9 @@ begins_watch w watch fresh = record {
 
 pub begins : {S E C : Type 0} (m : Meaning S E C KeyRow) (p : Numbers) (root : Mode) (members : ℕ) (rows : List KeyRow) (coins : List C) (world : World S E C) (w : Setting) →
     ((x : KeyRow) → m.tags x ≡ tags_of x) → IsGiven C p members rows coins → m.service.serves root.root ≡ true → HasForm root m.cast → AreFirst m p root members rows coins world.replicas.items
-    → world.seats.params ≡ p → world.seats.mode ≡ root → world.seats.correct ≡ members → world.seats.keys.items ≡ rows → world.made ≡ record { n = p.n; lists = replicate (p.n * p.n) [] }
+    → world.seats.params ≡ p → world.seats.mode ≡ root → world.seats.correct ≡ members → world.seats.keys.items ≡ rows → world.made ≡ record { n = p.n; lists = replicate (p.n * p.n) []; order = [] }
     → world.events ≡ 0 → IsFresh world.watch → world.live ≡ true → IsWorldOf m p root members rows coins w → WorldStands m world w []
-unfolding first_broken
+unfolding first_broken all_made
 begins m p root members rows coins world w tags given serves form are same_p same_mode same_members same_rows made events fresh live is =
     let seats = begins_seats m p root members rows coins w world.seats is given same_p same_mode same_members same_rows in record {
       going = is.going;
@@ -181,6 +182,7 @@ begins m p root members rows coins world w tags given serves form are same_p sam
       seats = seats;
       replicas = begins_replicas m p root members rows coins w world.replicas.items tags is given are;
       made = begins_frames w p.n world.made (ap (λ x. x.n) is.numbers) made;
+      order = ap (λ (t : MadeTable). map (placed t) t.order) made;
       events = events;
       watch = begins_watch w world.watch fresh;
       live = live;
@@ -194,5 +196,5 @@ same_keys m p root members rows all coins places same are =
     let P : List KeyRow → Type 0 = λ xs. AreFirst m p root members xs coins places in
     subst P same are
 
-pub first_table : (count n : ℕ) (t : MadeTable) → count ≡ n → t ≡ record { n = count; lists = replicate (count * count) [] } → t ≡ record { n = n; lists = replicate (n * n) [] }
-first_table count n t same is = is ∙ ap (λ k. record { n = k; lists = replicate (k * k) [] }) same
+pub first_table : (count n : ℕ) (t : MadeTable) → count ≡ n → t ≡ record { n = count; lists = replicate (count * count) []; order = [] } → t ≡ record { n = n; lists = replicate (n * n) []; order = [] }
+first_table count n t same is = is ∙ ap (λ k. record { n = k; lists = replicate (k * k) []; order = [] }) same

@@ -1,5 +1,5 @@
 -- A world after one event more.
-use Rattle.std.proofs.Common.{◌≡◌, ℕ, ◌+◌, ◌-◌, ◌<◌, ◌%◌, ◌^◌, Bool, true, false, not, ◌&&◌, ◌≤◌, List, ◌∷◌, length, Option, Some, None, Result, Ok, Err, Bor, refl, sym, ◌∙◌, ap, ap₂, subst, arith, slice_index_or}
+use Rattle.std.proofs.Common.{◌≡◌, ℕ, ◌+◌, ◌-◌, ◌<◌, ◌%◌, ◌^◌, Bool, true, false, not, ◌&&◌, ◌≤◌, List, ◌∷◌, ◌++◌, length, Option, Some, None, Result, Ok, Err, Bor, refl, sym, ◌∙◌, ap, ap₂, subst, arith, slice_index_or}
 use Rattle.std.specs.Result.{IsErr}
 use Rattle.std.specs.List.{slice_get}
 use Rattle.std.specs.Option.{MatchOption, option_copied}
@@ -20,24 +20,26 @@ use Rattle.world_model.specs.declared.watch.Watch.{Watch}
 use Rattle.world_model.specs.World.{Setting, CallAt, call_of, handled_at, states_of, states_before, after_call}
 use Rattle.world_model.specs.declared.audit.Audit.{Audit}
 use Rattle.world_model.specs.Audit.{first_broken}
-use Rattle.world_model.specs.FramesMade.{MadeTable, with_frames}
+use Rattle.world_model.specs.MadeOrder.{frames_in, all_made}
+use Rattle.world_model.specs.FramesMade.{MadeTable, IsOrderOf, with_frames}
 use Rattle.world_model.specs.Stands.{EventDoes, NoneStops, SeatsStand, StandsAt, IsReplica, ReplicasStand, ReplicasLeft, FramesStand, WorldStands, WorldStopped, Seeing}
 use Rattle.world_model.specs.Watch.{IsAt, IsTold, WatchStands, verdict_after}
 use Rattle.world_model.specs.Steps.{frames_out, Happens}
 use Rattle.world_model.proofs.AtPlaces.{past_is_faulty}
 use Rattle.world_model.proofs.TableAfter.{table_after}
+use Rattle.world_model.proofs.Ordered.{order_next}
 
 -- the table after a call, if there is one
-table_next : MadeByEntry → (w : Setting) (seats : Seats) (states : ℕ → CoreState) (c : Option CallAt) (t : MadeTable) (at : ℕ) (out : List OutFrame) → SeatsStand w seats → FramesStand w states t
-    → ((i : ℕ) → w.is_correct i ≡ true → i < w.numbers.n) → IsAt w c at → out ≡ frames_out w states c → FramesStand w (after_call w states c) (with_frames t at out)
-table_next made_by w seats states None t at out seats_stand stand within is none =
-    let P : List OutFrame → Type 0 = λ x. FramesStand w states (with_frames t at x) in
+table_next : MadeByEntry → (w : Setting) (seats : Seats) (states : ℕ → CoreState) (c : Option CallAt) (t : MadeTable) (event at : ℕ) (out : List OutFrame) → SeatsStand w seats → FramesStand w states t
+    → ((i : ℕ) → w.is_correct i ≡ true → i < w.numbers.n) → IsAt w c at → out ≡ frames_out w states c → FramesStand w (after_call w states c) (with_frames t event at out)
+table_next made_by w seats states None t event at out seats_stand stand within is none =
+    let P : List OutFrame → Type 0 = λ x. FramesStand w states (with_frames t event at x) in
     subst P (sym none) stand
-table_next made_by w seats states (Some c) t at out seats_stand stand within is made =
-    let P : List OutFrame → Type 0 = λ x. FramesStand w (after_call w states (Some c)) (with_frames t at x) in
-    let Q : ℕ → Type 0 = λ i. FramesStand w (after_call w states (Some c)) (with_frames t i (handled_at w states c).out) in
+table_next made_by w seats states (Some c) t event at out seats_stand stand within is made =
+    let P : List OutFrame → Type 0 = λ x. FramesStand w (after_call w states (Some c)) (with_frames t event at x) in
+    let Q : ℕ → Type 0 = λ i. FramesStand w (after_call w states (Some c)) (with_frames t event i (handled_at w states c).out) in
     let right : w.is_correct c.at ≡ true = ap w.is_correct is.0 ∙ is.1 in
-    subst P (sym made) (subst Q is.0 (table_after made_by w seats states c t seats_stand stand (within c.at right) right))
+    subst P (sym made) (subst Q is.0 (table_after made_by w seats states c t event seats_stand stand (within c.at right) right))
 
 -- ---- where no replica is stopped between events, the next event finds them as they are
 
@@ -73,7 +75,7 @@ watch_before w es verdict watch going stand =
 -- the fields of the world after an event
 pub record IsNext {S E C : Type 0} (old new : World S E C) (happened : Happened) : Type 0 where
   pub seats : new.seats ≡ old.seats
-  pub made : new.made ≡ with_frames old.made happened.at happened.out.items
+  pub made : new.made ≡ with_frames old.made old.events happened.at happened.out.items
   pub events : new.events ≡ (old.events + 1) % 2 ^ 64
   pub watch : (w : Setting) (states : ℕ → CoreState) (c : Option CallAt) (verdict : Audit) → SeatsStand w old.seats → ((i : ℕ) → w.is_correct i ≡ true → i < w.numbers.n)
       → IsTold w states c happened.at happened.forged happened.taken → WatchStands w states verdict old.watch
@@ -83,7 +85,7 @@ pub record IsNext {S E C : Type 0} (old new : World S E C) (happened : Happened)
 pub continues : {S E C : Type 0} → MadeByEntry → (m : Meaning S E C KeyRow) (old new : World S E C) (w : Setting) (es : List Event) (e : Event) (places : List (Option (Replica S E C))) (happened : Happened) →
     WorldStands m old w es → length es < 2 ^ 64 - 1 → Happens m w (states_before w es) (call_of w (states_before w es) e) places happened
     → (length places ≡ length old.replicas.items → new.replicas.items ≡ places) → IsNext old new happened → Seeing m new w es e happened.seen
-unfolding states_of first_broken
+unfolding states_of first_broken all_made
 continues {S = S} {E = E} {C = C} made_by m old new w es e places happened stand few happens same next =
     let events = stand.events in
     let before = states_before w es in
@@ -99,7 +101,11 @@ continues {S = S} {E = E} {C = C} made_by m old new w es e places happened stand
         seats = subst P (sym next.seats) stand.seats;
         replicas = subst R (sym (same (happens.replicas.many ∙ sym stand.replicas.many))) happens.replicas;
         made = subst Q (sym next.made)
-            (table_next made_by w old.seats before call old.made happened.at happened.out.items stand.seats (frames_before w es old.made stand.going stand.made) stand.replicas.within happens.told.place happens.out);
+            (table_next made_by w old.seats before call old.made old.events happened.at happened.out.items stand.seats (frames_before w es old.made stand.going stand.made) stand.replicas.within happens.told.place happens.out);
+        order = subst (λ (t : MadeTable). IsOrderOf t (all_made w (e ∷ es))) (sym next.made)
+            (subst (λ (k : ℕ). IsOrderOf (with_frames old.made old.events happened.at happened.out.items) (all_made w es ++ frames_in k w before call)) stand.events
+            (order_next made_by w old.seats before call old.made old.events happened.at happened.out.items (all_made w es) stand.seats
+            (frames_before w es old.made stand.going stand.made) stand.replicas.within happens.told.place happens.out stand.order));
         events = next.events ∙ omega arith;
         watch = subst (λ (k : ℕ). WatchStands w (after_call w before call) (verdict_after w before call (first_broken w es) k) new.watch) stand.events
             (next.watch w before call (first_broken w es) stand.seats stand.replicas.within happens.told (watch_before w es (first_broken w es) old.watch stand.going stand.watch));
@@ -131,6 +137,7 @@ halts {S = S} {E = E} {C = C} m old new w es e places stand left same halted =
       seats = subst P (sym halted.seats) stand.seats;
       replicas = subst R (sym (same (left.many ∙ sym stand.replicas.many))) (subst B (sym (found_as_left w es stand.going)) left);
       made = subst Q (sym halted.made) stand.made;
+      order = subst (λ (t : MadeTable). IsOrderOf t (all_made w es)) (sym halted.made) stand.order;
       events = halted.events ∙ stand.events;
       verdict = halted.verdict ∙ stand.watch.found;
       live = halted.live;

@@ -1,5 +1,5 @@
 -- What a replica starts at a command slot of its own is its input of that number.
-use Rattle.std.proofs.Common.{◌≡◌, ℕ, ◌+◌, ◌<◌, Bool, true, false, cond, Option, Some, None, List, [], ◌∷◌, refl, sym, ◌∙◌, ap, subst, inl, inr, ◌⊎◌, arith}
+use Rattle.std.proofs.Common.{◌≡◌, ℕ, ◌+◌, ◌<◌, Bool, true, false, cond, Option, Some, None, List, [], ◌∷◌, refl, sym, ◌∙◌, ap, ap₂, subst, inl, inr, ◌⊎◌, arith}
 use Rattle.std.proofs.Math.Dec.{eqb}
 use Rattle.std.proofs.lemmas.Bool.{cond-true, cond-false, eq-eqb, ne_eqb, eqb-true}
 use Rattle.ritas_base.specs.declared.slot.Slot.{Slot}
@@ -8,8 +8,8 @@ use Rattle.ritas_base.specs.declared.item.Say.{Say}
 use Rattle.ritas_base.specs.SlotOrder.{is_slot, same_slot}
 use Rattle.ritas_base.specs.Shortest.{option_or_none, option_or_some}
 use Rattle.ritas_base.specs.History.{Call, Start, Take, started}
-use Rattle.layer_api.specs.Runs.{Has}
-use Rattle.layer_api.specs.Service.{Seat, Word, Ask, Hear, asked, IsInputSaid, AreInputs, AreProper}
+use Rattle.layer_api.specs.Service.{Seat, IsInputSaid, AreInputs, AreProper}
+use Rattle.layer_api.specs.Words.{Word, Ask, Hear, HasSay, asked}
 use Rattle.ritas_base.specs.Slots.{command_slot}
 use Rattle.ritas_core.specs.Rules.{Rules, seat_of}
 use Rattle.ritas_core.specs.Casts.{called, started_all}
@@ -19,27 +19,24 @@ use Rattle.world_model.specs.Agreement.{inputs_of, input_at}
 use Rattle.world_model.proofs.Below.{IsFounded}
 
 -- ---- the value that was started
--- one of these says is this value at this slot
-pub record IsSaidOf (says : List Say) (s : Slot) (v : List ℕ) : Type 0 where
-  pub say : Say
-  pub listed : Has says say
-  pub here : say.slot ≡ s
-  pub what : say.value ≡ v
+-- this value, said at this slot
+abbrev pub say_of : Slot → List ℕ → Say
+say_of s v = record { slot = s; value = v }
 
 start_from : (say : Say) (says : List Say) (h : List Call) (s : Slot) (v : List ℕ) (b : Bool) → is_slot say.slot s ≡ b →
-    started (cond b (Start say.value ∷ h) h) ≡ Some v → (started h ≡ Some v) ⊎ IsSaidOf (say ∷ says) s v
+    started (cond b (Start say.value ∷ h) h) ≡ Some v → (started h ≡ Some v) ⊎ HasSay (say ∷ says) (say_of s v)
 start_from say says h s v true here e = elim (option_or_some (started h) (Some say.value) v e) [
   | inl older ↦ inl older
-  | inr now ↦ inr (record { say = say; listed = inl refl; here = same_slot say.slot s here; what = let last = now.1 in cc })
+  | inr now ↦ let what : say.value ≡ v = cc now.1 in inr (inl (ap₂ say_of (same_slot say.slot s here) what))
 ]
 start_from say says h s v false here e = inl e
 
 pub started_from : (says : List Say) (h : Slot → List Call) (s : Slot) (v : List ℕ) → started (started_all says h s) ≡ Some v →
-    (started (h s) ≡ Some v) ⊎ IsSaidOf says s v
+    (started (h s) ≡ Some v) ⊎ HasSay says (say_of s v)
 started_from [] h s v e = inl e
 started_from (say ∷ says) h s v e = elim (started_from says (called h say.slot (Start say.value)) s v e) [
   | inl older ↦ start_from say says (h s) s v (is_slot say.slot s) refl older
-  | inr x ↦ inr (record { say = x.say; listed = inr x.listed; here = x.here; what = x.what })
+  | inr later ↦ inr (inr later)
 ]
 
 pub take_started : (b : Bool) (item : Item) (h : List Call) (v : List ℕ) → started (cond b (Take item ∷ h) h) ≡ Some v → started h ≡ Some v
@@ -47,7 +44,7 @@ take_started true item h v e = sym (option_or_none (started h)) ∙ e
 take_started false item h v e = e
 
 -- ---- what is said at a command slot
-said_input : (seat : Seat) (w : List Word) (c : Word) (says : List Say) (say : Say) → AreInputs seat w c says → Has says say → say.slot.class ≡ 1 →
+said_input : (seat : Seat) (w : List Word) (c : Word) (says : List Say) (say : Say) → AreInputs seat w c says → HasSay says say → say.slot.class ≡ 1 →
     IsInputSaid seat w c say
 said_input seat w c [] say inputs here one = elim here [ ]
 said_input seat w c (x ∷ says) say inputs (inl e) one =
@@ -56,10 +53,10 @@ said_input seat w c (x ∷ says) say inputs (inr there) one = said_input seat w 
 
 -- what the word says at a command slot is its input, of the replica's next number
 said_at : (r : Rules) → IsFounded r → (c : Word) (w : List Word) → AreProper r.service (seat_of r) (c ∷ w) → (num : ℕ) (v : List ℕ) →
-    (x : IsSaidOf (r.service.says (seat_of r) w c) (command_slot r.casts.me num) v) → IsInputSaid (seat_of r) w c x.say
-said_at r laws c w proper num v x =
-    said_input (seat_of r) w c (r.service.says (seat_of r) w c) x.say (laws.layers.words.commands_said (seat_of r) c w proper) x.listed
-    (ap (λ (s : Slot). s.class) x.here)
+    HasSay (r.service.says (seat_of r) w c) (say_of (command_slot r.casts.me num) v) → IsInputSaid (seat_of r) w c (say_of (command_slot r.casts.me num) v)
+said_at r laws c w proper num v there =
+    said_input (seat_of r) w c (r.service.says (seat_of r) w c) (say_of (command_slot r.casts.me num) v)
+    (laws.layers.words.commands_said (seat_of r) c w proper) there refl
 
 -- ---- numbers of inputs
 asked_heard : (r : Rules) (s : Slot) (d : Option (List ℕ)) (p : Parts) → asked (heard_at r s d p).words ≡ asked p.words
@@ -86,12 +83,11 @@ input_below (Given u ∷ h) num v e =
 
 -- ---- a history
 -- of an input that was said
-given_said : (r : Rules) (h : List Entry) (num : ℕ) (u v : List ℕ) (says : List Say) →
-    (x : IsSaidOf says (command_slot r.casts.me num) v) → IsInputSaid (seat_of r) (parts r h).words (Ask u) x.say → input_at (Given u ∷ h) num ≡ Some v
-given_said r h num u v says x input =
-    let number : num ≡ inputs_of h = ap (λ (s : Slot). s.a) (sym x.here ∙ input.0) ∙ asked_inputs r h in
-    let value : u ≡ v = input.1 ∙ x.what in
-    cond-true (eqb (inputs_of h) num) (Some u) (input_at h num) (eq-eqb (inputs_of h) num (sym number)) ∙ ap (λ (y : List ℕ). Some y) value
+given_said : (r : Rules) (h : List Entry) (num : ℕ) (u v : List ℕ) →
+    IsInputSaid (seat_of r) (parts r h).words (Ask u) (say_of (command_slot r.casts.me num) v) → input_at (Given u ∷ h) num ≡ Some v
+given_said r h num u v input =
+    let number : num ≡ inputs_of h = ap (λ (s : Slot). s.a) input.0 ∙ asked_inputs r h in
+    cond-true (eqb (inputs_of h) num) (Some u) (input_at h num) (eq-eqb (inputs_of h) num (sym number)) ∙ ap (λ (y : List ℕ). Some y) input.1
 
 given_older : (h : List Entry) (num : ℕ) (u v : List ℕ) → input_at h num ≡ Some v → input_at (Given u ∷ h) num ≡ Some v
 given_older h num u v older =
@@ -108,7 +104,7 @@ heard_older r laws h met item (Some u) num v proper e =
     let p = parts r h in
     elim (started_from (r.service.says (seat_of r) p.words (Hear item.slot u)) (taken_at item p).calls (command_slot r.casts.me num) v e) [
       | inl older ↦ older
-      | inr x ↦ absurd ((said_at r laws (Hear item.slot u) p.words (proper u refl) num v x).1)
+      | inr now ↦ absurd ((said_at r laws (Hear item.slot u) p.words (proper u refl) num v now).1)
     ]
 
 pub input_started : (r : Rules) → IsFounded r → (h : List Entry) → IsHistory r h → (num : ℕ) (v : List ℕ) →
@@ -126,6 +122,5 @@ input_started r laws (Given u ∷ h) met num v e =
     let s = command_slot r.casts.me num in
     elim (started_from (r.service.says (seat_of r) p.words (Ask u)) p.calls s v e) [
       | inl older ↦ given_older h num u v (input_started r laws h met.1 num v older)
-      | inr x ↦ given_said r h num u v (r.service.says (seat_of r) p.words (Ask u)) x
-          (said_at r laws (Ask u) p.words (met.0.may, laws.core.proper r laws.layers h met.1) num v x)
+      | inr now ↦ given_said r h num u v (said_at r laws (Ask u) p.words (met.0.may, laws.core.proper r laws.layers h met.1) num v now)
     ]

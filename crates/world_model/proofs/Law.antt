@@ -23,7 +23,8 @@ use Rattle.world_model.proofs.Earlier.{RunTo, run_back}
 use Rattle.world_model.proofs.Prints.{met_printed, print_there, none_apart}
 use Rattle.world_model.proofs.Worlds.{layer_laws, histories_of, world_after, none_collide_after}
 use Rattle.world_model.proofs.Inputs.{input_started}
-use Rattle.world_model.proofs.Below.{CoreLaws, IsSoundOver}
+use Rattle.world_model.specs.CoreLaws.{CoreLaws}
+use Rattle.world_model.proofs.Below.{IsSoundOver}
 
 -- ---- the audit
 pub audit_parts : (b : Bool) (rest : Audit) → cond b audits.TooManyFaulty rest ≡ audits.Holds → (b ≡ false) × (rest ≡ audits.Holds)

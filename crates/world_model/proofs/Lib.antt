@@ -27,6 +27,7 @@ pub mod Numbered
 pub mod Left
 pub mod AtPlaces
 pub mod TableAfter
+pub mod Ordered
 pub mod Forging
 pub mod Takings
 pub mod Bodies

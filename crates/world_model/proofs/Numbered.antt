@@ -36,12 +36,12 @@ made_numbered r k (e ∷ h) j = onto_numbered k j (sent_to j (new_messages r h e
 
 -- ---- one element more at the back
 
-get_before : (xs : List (List ℕ)) (x : List ℕ) (k : ℕ) → k < length xs → slice_get (xs ++ x ∷ []) k ≡ slice_get xs k
+pub get_before : (xs : List (List ℕ)) (x : List ℕ) (k : ℕ) → k < length xs → slice_get (xs ++ x ∷ []) k ≡ slice_get xs k
 get_before [] x k within = absurd (omega arith)
 get_before (y ∷ ys) x zero within = refl
 get_before (y ∷ ys) x (suc k) within = get_before ys x k (omega arith)
 
-get_last : (xs : List (List ℕ)) (x : List ℕ) → slice_get (xs ++ x ∷ []) (length xs) ≡ Some x
+pub get_last : (xs : List (List ℕ)) (x : List ℕ) → slice_get (xs ++ x ∷ []) (length xs) ≡ Some x
 get_last [] x = refl
 get_last (y ∷ ys) x = get_last ys x
 

@@ -15,7 +15,7 @@ use Rattle.ritas_base.specs.History.{Call, Start, Take, told, replicas}
 use Rattle.layer_api.specs.Runs.{Has}
 use Rattle.layer_api.specs.HasLaws.{has_left, has_right}
 use Rattle.layer_api.specs.Entries.{sent, EntryInput, Print, OfMessage, OfEntry, prints_of, prints_for, met, IsApart}
-use Rattle.layer_api.specs.Service.{Ask, Hear}
+use Rattle.layer_api.specs.Words.{Ask, Hear}
 use Rattle.ritas_core.specs.Rules.{Rules, seat_of, place_at}
 use Rattle.ritas_core.specs.Casts.{called, started_all}
 use Rattle.ritas_core.specs.Parts.{Entry, Took, Given, Parts, parts, heard_at, taken_at, item_delivers}

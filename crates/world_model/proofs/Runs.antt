@@ -12,7 +12,7 @@ use Rattle.layer_api.specs.Entries.{given, is_claim}
 use Rattle.frame_codec.specs.Values.{row_of}
 use Rattle.layer_api.specs.Runs.{Step, calls_of, Has}
 use Rattle.layer_api.specs.OneValue.{IsDueTo, Group, IsFed, IsRun}
-use Rattle.layer_api.specs.Service.{Ask, Hear}
+use Rattle.layer_api.specs.Words.{Ask, Hear}
 use Rattle.keyed_channel.specs.Keyed.{tags_of}
 use Rattle.ritas_core.specs.Rules.{seat_of, place_at, due_at}
 use Rattle.ritas_core.specs.Casts.{called, started_all, MayStartAll}

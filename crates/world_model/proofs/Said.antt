@@ -1,6 +1,6 @@
 -- What a replica's service heard at a slot is what the slot delivered, what was started at a slot was said there, and what
 -- the service was asked are the inputs.
-use Rattle.std.proofs.Common.{◌≡◌, ℕ, Bool, true, false, cond, Option, Some, None, List, [], ◌∷◌, ◌++◌, refl, sym, ◌∙◌, ap, ap₂, subst, inl, inr, append_assoc}
+use Rattle.std.proofs.Common.{◌≡◌, ℕ, Bool, true, false, cond, Option, Some, None, List, [], ◌∷◌, ◌++◌, refl, sym, ◌∙◌, ap, subst, inl, inr, append_assoc}
 use Rattle.std.specs.Option.{option_or}
 use Rattle.std.proofs.lemmas.Bool.{cond-true}
 use Rattle.ritas_base.specs.declared.slot.Slot.{Slot}
@@ -10,14 +10,15 @@ use Rattle.ritas_base.specs.SlotOrder.{is_slot, same_slot, slot_itself}
 use Rattle.ritas_base.specs.Shortest.{option_or_none}
 use Rattle.ritas_base.specs.History.{Call, Start, Take, started}
 use Rattle.layer_api.specs.Runs.{Has}
-use Rattle.layer_api.specs.Service.{Word, Ask, Hear, HasSay, said}
-use Rattle.layer_api.specs.OneLog.{value_at}
+use Rattle.layer_api.specs.Service.{said}
+use Rattle.layer_api.specs.Words.{Word, Ask, Hear, HasSay, value_at}
+use Rattle.layer_api.specs.FedLaws.{say_earlier, say_later}
 use Rattle.ritas_core.specs.Rules.{Rules, seat_of, place_at, out_at}
 use Rattle.ritas_core.specs.Casts.{called, started_all, newly}
 use Rattle.ritas_core.specs.Parts.{Parts, Entry, Took, Given, parts, heard_at, taken_at, item_delivers}
 use Rattle.ritas_core.specs.PartsLaws.{newly_after}
 use Rattle.world_model.specs.Agree.{HasInput}
-use Rattle.world_model.proofs.Inputs.{IsSaidOf, started_from, take_started}
+use Rattle.world_model.proofs.Inputs.{say_of, started_from, take_started}
 use Rattle.world_model.proofs.Below.{IsFounded}
 
 -- ---- values
@@ -121,21 +122,6 @@ delivers_after r h item v delivers =
     (more.0, delivers_calls r h item v delivers ∙ more.1 ∙ ap (λ (cs : List Call). more.0 ++ cs) (called_there p.calls item.slot (Take item)))
 
 -- ---- what was started was said
-say_left : (xs ys : List Say) (y : Say) → Has xs y → HasSay (xs ++ ys) y
-say_left [] ys y here = elim here [ ]
-say_left (x ∷ xs) ys y (inl e) = inl e
-say_left (x ∷ xs) ys y (inr there) = inr (say_left xs ys y there)
-
-say_right : (xs ys : List Say) (y : Say) → HasSay ys y → HasSay (xs ++ ys) y
-say_right [] ys y there = there
-say_right (x ∷ xs) ys y there = inr (say_right xs ys y there)
-
-abbrev say_of : Slot → List ℕ → Say
-say_of s v = record { slot = s; value = v }
-
-said_new : (says older : List Say) (s : Slot) (v : List ℕ) → IsSaidOf says s v → HasSay (says ++ older) (say_of s v)
-said_new says older s v x = say_left says older (say_of s v) (subst (λ (y : Say). Has says y) (ap₂ say_of x.here x.what) x.listed)
-
 said_told : (r : Rules) (c : Word) (p : Parts) (s : Slot) (v : List ℕ) →
     (started (p.calls s) ≡ Some v → HasSay (said r.service (seat_of r) p.words) (say_of s v)) →
     started (started_all (r.service.says (seat_of r) p.words c) p.calls s) ≡ Some v → HasSay (said r.service (seat_of r) (c ∷ p.words)) (say_of s v)
@@ -143,8 +129,8 @@ said_told r c p s v before e =
     let new = r.service.says (seat_of r) p.words c in
     let old = said r.service (seat_of r) p.words in
     elim (started_from new p.calls s v e) [
-      | inl older ↦ say_right new old (say_of s v) (before older)
-      | inr x ↦ said_new new old s v x
+      | inl older ↦ say_later new old (say_of s v) (before older)
+      | inr now ↦ say_earlier new old (say_of s v) now
     ]
 
 said_heard : (r : Rules) (q : Slot) (d : Option (List ℕ)) (p : Parts) (s : Slot) (v : List ℕ) →

@@ -121,21 +121,27 @@ at_maker made w states c j own below right =
     right
     ∙ ap (λ st. made_there (w.is_correct c.at) (c.at == j) (made_for r k st.history j)) (sym same)
 
+-- they are for replicas
+pub out_below : MadeByEntry → (w : Setting) (seats : Seats) (states : ℕ → CoreState) (c : CallAt) → SeatsStand w seats → c.at < w.numbers.n
+    → AreBelow w.numbers.n (handled_at w states c).out
+out_below made w seats states c seats_stand at_below =
+    let out = (handled_at w states c).out in
+    let makes = handled_makes made (rules_at w c.at) (w.keys c.at) (states c.at) c.call in
+    let P : ℕ → Type 0 = λ n. AreBelow n out in
+    let Q : List OutFrame → Type 0 = λ fs. AreBelow (w.keys c.at).n fs in
+    subst P (seats_stand.own c.at at_below).1 (subst Q (sym makes.frames) (frames_below (w.keys c.at) (count_for (rules_at w c.at) (states c.at).history) makes.messages))
+
 -- the table stands for the states after a call, with the frames that it makes
-pub table_after : MadeByEntry → (w : Setting) (seats : Seats) (states : ℕ → CoreState) (c : CallAt) (t : MadeTable) → SeatsStand w seats → FramesStand w states t
-    → c.at < w.numbers.n → w.is_correct c.at ≡ true → FramesStand w (after_call w states (Some c)) (with_frames t c.at (handled_at w states c).out)
-table_after made w seats states c t seats_stand stand at_below right =
+pub table_after : MadeByEntry → (w : Setting) (seats : Seats) (states : ℕ → CoreState) (c : CallAt) (t : MadeTable) (event : ℕ) → SeatsStand w seats → FramesStand w states t
+    → c.at < w.numbers.n → w.is_correct c.at ≡ true → FramesStand w (after_call w states (Some c)) (with_frames t event c.at (handled_at w states c).out)
+table_after made w seats states c t event seats_stand stand at_below right =
     let did = handled_at w states c in
     let own = seats_stand.own c.at at_below in
-    let makes = handled_makes made (rules_at w c.at) (w.keys c.at) (states c.at) c.call in
-    let below : AreBelow w.numbers.n did.out =
-    let P : ℕ → Type 0 = λ n. AreBelow n did.out in
-    let Q : List OutFrame → Type 0 = λ fs. AreBelow (w.keys c.at).n fs in
-    subst P own.1 (subst Q (sym makes.frames) (frames_below (w.keys c.at) (count_for (rules_at w c.at) (states c.at).history) makes.messages)) in
+    let below : AreBelow w.numbers.n did.out = out_below made w seats states c seats_stand at_below in
     record {
-      square = square_all t w.numbers.n c.at did.out stand.square;
+      square = square_all t w.numbers.n event c.at did.out stand.square;
       each = λ i j i_below j_below.
-          made_in_more t w.numbers.n c.at i j did.out stand.square at_below below i_below j_below
+          made_in_more t w.numbers.n event c.at i j did.out stand.square at_below below i_below j_below
           ∙ elim (eqb_tells i c.at) [
             | inl same ↦
                 let P : ℕ → Type 0 = λ x. made_in t x j ++ made_by c.at x j did.out ≡ frames_from w (after_call w states (Some c)) x j in

@@ -14,42 +14,33 @@ use Rattle.keyed_channel.specs.KeyRow.{KeyRow}
 use Rattle.ritas_core.specs.Order.{sent_to}
 use Rattle.replica.specs.Frames.{frames_of, frame_for, receivers}
 use Rattle.replica.specs.declared.frame.OutFrame.{OutFrame}
-use Rattle.world_model.specs.FramesMade.{MadeTable, IsSquare, made_in, frames_to, with_frame, with_frames}
+use Rattle.world_model.specs.FramesMade.{MadeTable, IsSquare, made_in, frames_to, pushed_at, with_frame, with_frames}
 
--- the table of these lists
-abbrev pub table_of : {V : Type 0} → (V → List (List ℕ)) → ℕ → List V → MadeTable
-table_of items n lists = record { n = n; lists = map items lists }
+-- ---- lists of lists
 
 -- a frame was pushed on the list at its place
-pub pushed : {V : Type 0} (items : V → List (List ℕ)) (n from at : ℕ) (lists : List V) (old new : V) (frame : OutFrame) (t : MadeTable) →
-    table_of items n lists ≡ t → at ≡ from * t.n + frame.to → at < length lists → old ≡ slice_index_or lists at old →
-    items new ≡ items old ++ frame.bytes ∷ [] → table_of items n (slice_set lists at new) ≡ with_frame t from frame
-pushed items n from at lists old new frame t view place within was now =
-    let P : MadeTable → Type 0 = λ x. at ≡ from * x.n + frame.to → table_of items n (slice_set lists at new) ≡ with_frame x from frame in
+pub pushed : {V : Type 0} (items : V → List (List ℕ)) (at : ℕ) (lists : List V) (old new : V) (frame : List ℕ) → at < length lists → old ≡ slice_index_or lists at old →
+    items new ≡ items old ++ frame ∷ [] → map items (slice_set lists at new) ≡ pushed_at (map items lists) at frame
+pushed items at lists old new frame within was now =
     let read : slice_index_or (map items lists) at [] ≡ items old = get_or-map items lists at old [] within ∙ ap items (sym was) in
-    let at_place : at ≡ from * n + frame.to → table_of items n (slice_set lists at new) ≡ with_frame (table_of items n lists) from frame =
-    λ e. ap (λ xs. record { n = n; lists = xs }) (map-set items lists at new
-    ∙ ap (λ y. slice_set (map items lists) at y) (now ∙ ap (λ y. y ++ frame.bytes ∷ []) (sym read))
-    ∙ ap (λ k. slice_set (map items lists) k (slice_index_or (map items lists) k [] ++ frame.bytes ∷ [])) e) in
-    subst P view at_place place
+    map-set items lists at new ∙ ap (slice_set (map items lists) at) (now ∙ ap (λ y. y ++ frame ∷ []) (sym read))
 
 pub on_err : {A E : Type 0} {P : Type 0} (r : Result A E) → P → OnErr r P
 on_err (Ok x) p = tt
 on_err (Err e) p = p
 
 -- its list stayed
-pub kept : {V : Type 0} (items : V → List (List ℕ)) (n at : ℕ) (lists : List V) (old new : V) (t : MadeTable) →
-    table_of items n lists ≡ t → at < length lists → old ≡ slice_index_or lists at old → items new ≡ items old → table_of items n (slice_set lists at new) ≡ t
-kept items n at lists old new t view within was same =
+pub kept : {V : Type 0} (items : V → List (List ℕ)) (at : ℕ) (lists : List V) (old new : V) → at < length lists → old ≡ slice_index_or lists at old →
+    items new ≡ items old → map items (slice_set lists at new) ≡ map items lists
+kept items at lists old new within was same =
     let read : slice_index_or (map items lists) at [] ≡ items old = get_or-map items lists at old [] within ∙ ap items (sym was) in
-    ap (λ xs. record { n = n; lists = xs }) (map-set items lists at new
-    ∙ ap (λ y. slice_set (map items lists) at y) (same ∙ sym read)
-    ∙ set-get_or (map items lists) at [])
-    ∙ view
+    map-set items lists at new ∙ ap (slice_set (map items lists) at) (same ∙ sym read) ∙ set-get_or (map items lists) at []
 
-pub with_frames-append : (t : MadeTable) (from : ℕ) (xs ys : List OutFrame) → with_frames t from (xs ++ ys) ≡ with_frames (with_frames t from xs) from ys
-with_frames-append t from [] ys = refl
-with_frames-append t from (x ∷ xs) ys = with_frames-append (with_frame t from x) from xs ys
+-- ---- more frames
+
+pub with_frames-append : (t : MadeTable) (event from : ℕ) (xs ys : List OutFrame) → with_frames t event from (xs ++ ys) ≡ with_frames (with_frames t event from xs) event from ys
+with_frames-append t event from [] ys = refl
+with_frames-append t event from (x ∷ xs) ys = with_frames-append (with_frame t event from x) event from xs ys
 
 -- ---- what the lists are afterwards
 
@@ -61,15 +52,15 @@ AreBelow n frames = All (λ f. f.to < n) frames
 abbrev pub made_by : ℕ → ℕ → ℕ → List OutFrame → List (List ℕ)
 made_by from i j frames = if i == from then frames_to j frames else []
 
-square_more : (t : MadeTable) (n from : ℕ) (frame : OutFrame) → IsSquare t n → IsSquare (with_frame t from frame) n
-square_more t n from frame is = record {
+pub square_more : (t : MadeTable) (n event from : ℕ) (frame : OutFrame) → IsSquare t n → IsSquare (with_frame t event from frame) n
+square_more t n event from frame is = record {
   many = is.many;
   lists = length-set t.lists (from * t.n + frame.to) (made_in t from frame.to ++ frame.bytes ∷ []) ∙ is.lists;
 }
 
-pub square_all : (t : MadeTable) (n from : ℕ) (frames : List OutFrame) → IsSquare t n → IsSquare (with_frames t from frames) n
-square_all t n from [] is = is
-square_all t n from (frame ∷ frames) is = square_all (with_frame t from frame) n from frames (square_more t n from frame is)
+pub square_all : (t : MadeTable) (n event from : ℕ) (frames : List OutFrame) → IsSquare t n → IsSquare (with_frames t event from frames) n
+square_all t n event from [] is = is
+square_all t n event from (frame ∷ frames) is = square_all (with_frame t event from frame) n event from frames (square_more t n event from frame is)
 
 pub place_within : (from to n : ℕ) → from < n → to < n → from * n + to < n * n
 place_within from to n a b = grind (arith, rows)
@@ -79,26 +70,26 @@ same_place lists p q x e within = get_or-set_at lists p q x [] (sym e) (subst (�
 
 one_at : (n from i j : ℕ) (lists : List (List (List ℕ))) (frame : OutFrame) (b c : Bool) → length lists ≡ n * n →
     from < n → frame.to < n → i < n → j < n → (i == from) ≡ b → (frame.to == j) ≡ c →
-    made_in (with_frame (record { n = n; lists = lists }) from frame) i j
-    ≡ made_in (record { n = n; lists = lists }) i j ++ (if b then map (λ f. f.bytes) (if c then frame ∷ [] else []) else [])
+    slice_index_or (pushed_at lists (from * n + frame.to) frame.bytes) (i * n + j) []
+    ≡ slice_index_or lists (i * n + j) [] ++ (if b then map (λ f. f.bytes) (if c then frame ∷ [] else []) else [])
 one_at n from i j lists frame true true long from_below to_below i_below j_below e g =
     let place : from * n + frame.to ≡ i * n + j = ap₂ (λ x y. x * n + y) (sym (eqb-true i from e)) (eqb-true frame.to j g) in
     let within : i * n + j < length lists = subst (λ k. i * n + j < k) (sym long) (place_within i j n i_below j_below) in
     same_place lists (from * n + frame.to) (i * n + j) (slice_index_or lists (from * n + frame.to) [] ++ frame.bytes ∷ []) place within
     ∙ ap (λ k. slice_index_or lists k [] ++ frame.bytes ∷ []) place
 one_at n from i j lists frame true false long from_below to_below i_below j_below e g =
-    get_or-set_other lists (from * n + frame.to) (i * n + j) (made_in (record { n = n; lists = lists }) from frame.to ++ frame.bytes ∷ []) []
+    get_or-set_other lists (from * n + frame.to) (i * n + j) (slice_index_or lists (from * n + frame.to) [] ++ frame.bytes ∷ []) []
     (λ same. let parts = same_from_place i j from frame.to n j_below to_below same in false≢true (sym g ∙ eq-eqb frame.to j (sym parts.1)))
     ∙ sym (append-nil (slice_index_or lists (i * n + j) []))
 one_at n from i j lists frame false c long from_below to_below i_below j_below e g =
-    get_or-set_other lists (from * n + frame.to) (i * n + j) (made_in (record { n = n; lists = lists }) from frame.to ++ frame.bytes ∷ []) []
+    get_or-set_other lists (from * n + frame.to) (i * n + j) (slice_index_or lists (from * n + frame.to) [] ++ frame.bytes ∷ []) []
     (λ same. let parts = same_from_place i j from frame.to n j_below to_below same in false≢true (sym e ∙ eq-eqb i from parts.0))
     ∙ sym (append-nil (slice_index_or lists (i * n + j) []))
 
-one_in : (t : MadeTable) (n from i j : ℕ) (frame : OutFrame) → IsSquare t n → from < n → frame.to < n → i < n → j < n →
-    made_in (with_frame t from frame) i j ≡ made_in t i j ++ made_by from i j (frame ∷ [])
-one_in t n from i j frame is from_below to_below i_below j_below =
-    let P : ℕ → Type 0 = λ k. length t.lists ≡ k * k → from < k → frame.to < k → i < k → j < k → made_in (with_frame t from frame) i j ≡ made_in t i j ++ made_by from i j (frame ∷ []) in
+one_in : (t : MadeTable) (n event from i j : ℕ) (frame : OutFrame) → IsSquare t n → from < n → frame.to < n → i < n → j < n →
+    made_in (with_frame t event from frame) i j ≡ made_in t i j ++ made_by from i j (frame ∷ [])
+one_in t n event from i j frame is from_below to_below i_below j_below =
+    let P : ℕ → Type 0 = λ k. length t.lists ≡ k * k → from < k → frame.to < k → i < k → j < k → made_in (with_frame t event from frame) i j ≡ made_in t i j ++ made_by from i j (frame ∷ []) in
     subst P is.many (λ long a b c d. one_at t.n from i j t.lists frame (i == from) (frame.to == j) long a b c d refl refl) is.lists from_below to_below i_below j_below
 
 to_more : (j : ℕ) (frame : OutFrame) (frames : List OutFrame) → frames_to j (frame ∷ frames) ≡ frames_to j (frame ∷ []) ++ frames_to j frames
@@ -114,13 +105,13 @@ either_way true frames = refl
 either_way false frames = refl
 
 -- the list of each sender and receiver has those of these frames that the sender made for the receiver
-pub made_in_more : (t : MadeTable) (n from i j : ℕ) (frames : List OutFrame) → IsSquare t n → from < n → AreBelow n frames → i < n → j < n →
-    made_in (with_frames t from frames) i j ≡ made_in t i j ++ made_by from i j frames
-made_in_more t n from i j [] is from_below below i_below j_below =
+pub made_in_more : (t : MadeTable) (n event from i j : ℕ) (frames : List OutFrame) → IsSquare t n → from < n → AreBelow n frames → i < n → j < n →
+    made_in (with_frames t event from frames) i j ≡ made_in t i j ++ made_by from i j frames
+made_in_more t n event from i j [] is from_below below i_below j_below =
     sym (append-nil (made_in t i j)) ∙ ap (λ x. made_in t i j ++ x) (either_way (i == from) [])
-made_in_more t n from i j (frame ∷ frames) is from_below below i_below j_below =
-    made_in_more (with_frame t from frame) n from i j frames (square_more t n from frame is) from_below (All-tail (λ f. f.to < n) frame frames below) i_below j_below
-    ∙ ap (λ x. x ++ made_by from i j frames) (one_in t n from i j frame is from_below (All-head (λ f. f.to < n) frame frames below) i_below j_below)
+made_in_more t n event from i j (frame ∷ frames) is from_below below i_below j_below =
+    made_in_more (with_frame t event from frame) n event from i j frames (square_more t n event from frame is) from_below (All-tail (λ f. f.to < n) frame frames below) i_below j_below
+    ∙ ap (λ x. x ++ made_by from i j frames) (one_in t n event from i j frame is from_below (All-head (λ f. f.to < n) frame frames below) i_below j_below)
     ∙ by_more (i == from) (made_in t i j) (frames_to j (frame ∷ [])) (frames_to j frames)
     ∙ ap (λ x. made_in t i j ++ (if i == from then x else [])) (sym (to_more j frame frames))
 

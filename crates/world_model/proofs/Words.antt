@@ -7,8 +7,10 @@ use Rattle.ritas_base.specs.declared.slot.Slot.{Slot}
 use Rattle.ritas_base.specs.declared.item.Item.{Item}
 use Rattle.ritas_base.specs.History.{Take, started}
 use Rattle.layer_api.specs.Runs.{Step, calls_of}
-use Rattle.layer_api.specs.Service.{Word, Ask, Hear, HasSay, said, MayAsk, MayHear, AreProper, AreGoodWords}
-use Rattle.layer_api.specs.OneLog.{Session, IsFedWord, IsWellFed, value_at}
+use Rattle.layer_api.specs.Service.{said, MayAsk, MayHear, AreProper}
+use Rattle.layer_api.specs.Words.{Word, Ask, Hear, HasSay, value_at}
+use Rattle.layer_api.specs.Fed.{Play, IsFed, IsFedRun}
+use Rattle.layer_api.specs.OneLog.{Session, service_play}
 use Rattle.ritas_core.specs.Rules.{seat_of, out_at}
 use Rattle.ritas_core.specs.Parts.{Entry, Took, Given, Parts, parts, heard_at, taken_at, item_delivers}
 use Rattle.ritas_core.specs.Checks.{IsHistory}
@@ -31,10 +33,14 @@ session_of w = record { rules = w.service; numbers = w.numbers; mode = w.mode; i
 abbrev words_at : Setting → (ℕ → CoreState) → ℕ → List Word
 words_at w states k = (parts (rules_at w k) (states k).history).words
 
+-- the values of its service
+abbrev play_of : Setting → Play
+play_of w = service_play (session_of w)
+
 -- the words that correct replicas had are those of a run
 pub record WordsAt (w : Setting) (states : ℕ → CoreState) : Type 0 where
   pub steps : List (Step Word)
-  pub fed : IsWellFed (session_of w) steps
+  pub fed : IsFedRun (play_of w) w.is_correct steps
   pub same : (k : ℕ) → w.is_correct k ≡ true → calls_of k steps ≡ words_at w states k
 
 words_stay : (w : Setting) (before now : ℕ → CoreState) → ((k : ℕ) → (now k).history ≡ (before k).history) → WordsAt w before → WordsAt w now
@@ -57,7 +63,7 @@ word_same w before now i k c cs false here old mine rest = old ∙ ap (λ (h : L
 
 word_more : (w : Setting) (before now : ℕ → CoreState) (i : ℕ) → w.is_correct i ≡ true → (e : Entry) (c : Word) → IsOneMore before now i e →
     (parts (rules_at w i) (e ∷ (before i).history)).words ≡ c ∷ words_at w before i →
-    (x : WordsAt w before) → IsFedWord (session_of w) x.steps i c → WordsAt w now
+    (x : WordsAt w before) → IsFed (play_of w) w.is_correct x.steps i c → WordsAt w now
 word_more w before now i correct e c more is x fed = record {
   steps = record { who = i; call = c } ∷ x.steps;
   fed = (correct, fed, x.fed);
@@ -95,18 +101,16 @@ heard_started w before now all i correct item more v good taken out grows false 
 
 -- ---- an entry more
 given_more : (w : Setting) (before now : ℕ → CoreState) (i : ℕ) → w.is_correct i ≡ true → (v : List ℕ) → IsOneMore before now i (Given v) →
-    AreProper w.service (seat_of (rules_at w i)) (Ask v ∷ words_at w before i) → AreGoodWords w.numbers w.mode (Ask v ∷ words_at w before i) →
-    WordsAt w before → WordsAt w now
-given_more w before now i correct v more proper good x =
+    AreProper w.service (seat_of (rules_at w i)) (Ask v ∷ words_at w before i) → WordsAt w before → WordsAt w now
+given_more w before now i correct v more proper x =
     word_more w before now i correct (Given v) (Ask v) more refl x
-    (subst (λ (ws : List Word). MayAsk w.service (seat_of (rules_at w i)) ws v) (sym (x.same i correct)) proper.0, good.0)
+    (subst (λ (ws : List Word). MayAsk w.service (seat_of (rules_at w i)) ws v) (sym (x.same i correct)) proper.0, tt)
 
 heard_more : (w : Setting) → IsSoundOver w → (before now : ℕ → CoreState) → AgreeAt w now → (i : ℕ) → w.is_correct i ≡ true → (item : Item) →
     IsOneMore before now i (Took item) → (d : Option (List ℕ)) → item_delivers (rules_at w i) item (parts (rules_at w i) (before i).history) ≡ d →
     AreProper w.service (seat_of (rules_at w i)) (heard_at (rules_at w i) item.slot d (taken_at item (parts (rules_at w i) (before i).history))).words →
-    AreGoodWords w.numbers w.mode (heard_at (rules_at w i) item.slot d (taken_at item (parts (rules_at w i) (before i).history))).words →
     WordsAt w before → WordsAt w now
-heard_more w sound before now all i correct item more None delivers proper good x = record {
+heard_more w sound before now all i correct item more None delivers proper x = record {
   steps = x.steps;
   fed = x.fed;
   same = λ k right. words_kept k right (eqb i k) refl;
@@ -123,7 +127,7 @@ heard_more w sound before now all i correct item more None delivers proper good 
     words_kept : (k : ℕ) → w.is_correct k ≡ true → (b : Bool) → eqb i k ≡ b → calls_of k x.steps ≡ words_at w now k
     words_kept k right true here = x.same k right ∙ sym (subst (λ (j : ℕ). words_at w now j ≡ words_at w before j) (eqb-true i k here) mine)
     words_kept k right false here = x.same k right ∙ ap (λ (h : List Entry). (parts (rules_at w k) h).words) (sym (more.rest k here))
-heard_more w sound before now all i correct item more (Some v) delivers proper good x =
+heard_more w sound before now all i correct item more (Some v) delivers proper x =
     let s = item.slot in
     let r = rules_at w i in
     let laws = layer_laws w sound i correct in
@@ -138,14 +142,16 @@ heard_more w sound before now all i correct item more (Some v) delivers proper g
     word_more w before now i correct (Took item) (Hear s v) more
     (ap (λ (d : Option (List ℕ)). (heard_at r s d (taken_at item p)).words) delivers) x (
       subst (λ (ws : List Word). MayHear w.service (seat_of r) ws s v) (sym (x.same i correct)) proper.0,
-      good.0,
-      good.1,
-      λ j u right heard. heard_same w sound before now all i correct (Took item) more s v none out j u right
-          (sym (heard_delivered (rules_at w j) (layer_laws w sound j right) (before j).history s) ∙ ap (λ (ws : List Word). value_at ws s) (sym (x.same j right)) ∙ heard)
-          (eqb i j) refl,
-      λ right. subst (λ (ws : List Word). HasSay (said w.service (seat_of (rules_at w s.origin)) ws) (record { slot = s; value = v })) (sym (x.same s.origin right))
-          (started_said (rules_at w s.origin) (before s.origin).history s v
-          (heard_started w before now all i correct item more v right taken out grows (eqb i s.origin) refl)),
+      record {
+        same = λ j u right heard.
+            heard_same w sound before now all i correct (Took item) more s v none out j u right
+            (sym (heard_delivered (rules_at w j) (layer_laws w sound j right) (before j).history s) ∙ ap (λ (ws : List Word). value_at ws s) (sym (x.same j right)) ∙ heard)
+            (eqb i j) refl;
+        said = λ right.
+            subst (λ (ws : List Word). HasSay (said w.service (seat_of (rules_at w s.origin)) ws) (record { slot = s; value = v })) (sym (x.same s.origin right))
+            (started_said (rules_at w s.origin) (before s.origin).history s v
+            (heard_started w before now all i correct item more v right taken out grows (eqb i s.origin) refl));
+      },
     )
 
 entry_more : (w : Setting) → IsSoundOver w → (before now : ℕ → CoreState) → AgreeAt w now → (i : ℕ) → w.is_correct i ≡ true → (e : Entry) →
@@ -155,12 +161,12 @@ entry_more w sound before now all i correct (Took item) more met x =
     let laws = layer_laws w sound i correct in
     let h = (before i).history in
     heard_more w sound before now all i correct item more (item_delivers r item (parts r h)) refl
-    (laws.core.proper r laws.layers (Took item ∷ h) met) (laws.core.words r laws.layers (Took item ∷ h) met) x
+    (laws.core.proper r laws.layers (Took item ∷ h) met) x
 entry_more w sound before now all i correct (Given v) more met x =
     let r = rules_at w i in
     let laws = layer_laws w sound i correct in
     let h = (before i).history in
-    given_more w before now i correct v more (laws.core.proper r laws.layers (Given v ∷ h) met) (laws.core.words r laws.layers (Given v ∷ h) met) x
+    given_more w before now i correct v more (laws.core.proper r laws.layers (Given v ∷ h) met) x
 
 -- ---- an event more
 abbrev with_state : (ℕ → CoreState) → ℕ → CoreState → ℕ → CoreState

@@ -6,7 +6,8 @@ use Rattle.ritas_base.specs.declared.item.Item.{Item}
 use Rattle.ritas_base.specs.Numbers.{IsSession}
 use Rattle.ritas_base.specs.History.{started}
 use Rattle.layer_api.specs.OneValue.{OneValue, ValueLaws}
-use Rattle.layer_api.specs.Service.{WordLaws, said, said_value}
+use Rattle.layer_api.specs.Service.{WordLaws, said}
+use Rattle.layer_api.specs.Words.{said_value}
 use Rattle.ritas_base.specs.Slots.{command_slot}
 use Rattle.frame_codec.specs.Body.{IsInGrammar, spelling, body_answer}
 use Rattle.keyed_channel.specs.Frames.{Opening, opening, sealed}

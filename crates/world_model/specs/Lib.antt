@@ -1,8 +1,10 @@
 pub mod World
+pub mod MadeOrder
 pub mod FramesMade
 pub mod Counts
 pub mod Audit
 pub mod Agreement
+pub mod CoreLaws
 pub mod Agree
 pub mod Apart
 pub mod EveryWorld

@@ -25,7 +25,7 @@ use Rattle.world_model.specs.World.{Setting, call_of, states_of, seen_of}
 use Rattle.world_model.specs.Audit.{newest_item, clashes, broken_by, judged, has_too_many, audit_of}
 use Rattle.world_model.specs.Agreement.{input_at}
 use Rattle.world_model.specs.Counts.{no_counts, counted}
-use Rattle.world_model.specs.FramesMade.{MadeTable, made_in, with_frames, without_last}
+use Rattle.world_model.specs.FramesMade.{MadeTable, made_in, made_at, with_frames}
 
 -- ---- a world of four replicas, of which the first few are correct; replica 1 is stopped before event 0
 
@@ -174,17 +174,28 @@ open_fault = refl
 -- ---- frames made, of two replicas
 
 abbrev none_made : MadeTable
-none_made = record { n = 2; lists = [] ∷ [] ∷ [] ∷ [] ∷ [] }
+none_made = record { n = 2; lists = [] ∷ [] ∷ [] ∷ [] ∷ []; order = [] }
 
 abbrev for_replica : ℕ → ℕ → OutFrame
 for_replica to byte = record { to = to; bytes = byte ∷ [] }
 
+-- replica 0 made two in event 3, and then replica 1 one in event 4
+abbrev three_made : MadeTable
+three_made = with_frames (with_frames none_made 3 0 (for_replica 1 4 ∷ for_replica 1 5 ∷ [])) 4 1 (for_replica 0 6 ∷ [])
+
 -- the oldest stands first, under its sender and its receiver
-in_order : made_in (with_frames none_made 0 (for_replica 1 4 ∷ for_replica 1 5 ∷ [])) 0 1 ≡ (4 ∷ []) ∷ (5 ∷ []) ∷ []
+in_order : made_in three_made 0 1 ≡ (4 ∷ []) ∷ (5 ∷ []) ∷ []
 in_order = refl
 
-other_way : made_in (with_frames none_made 0 (for_replica 1 4 ∷ for_replica 1 5 ∷ [])) 1 0 ≡ []
+other_way : made_in three_made 1 0 ≡ (6 ∷ []) ∷ []
 other_way = refl
 
-newest_off : made_in (without_last (with_frames none_made 0 (for_replica 1 4 ∷ for_replica 1 5 ∷ [])) 0 1) 0 1 ≡ (4 ∷ []) ∷ []
-newest_off = refl
+-- they are numbered in the order in which they were made
+second_made : made_at three_made 1 ≡ Some (record { event = 3; from = 0; to = 1; bytes = 5 ∷ [] })
+second_made = refl
+
+third_made : made_at three_made 2 ≡ Some (record { event = 4; from = 1; to = 0; bytes = 6 ∷ [] })
+third_made = refl
+
+no_fourth : made_at three_made 3 ≡ None
+no_fourth = refl

@@ -22,7 +22,8 @@ use Rattle.world_model.specs.declared.world.World.{World}
 use Rattle.world_model.specs.World.{Setting, rules_at, CallAt, call_of, states_of, seen_of}
 use Rattle.world_model.specs.Audit.{first_broken}
 use Rattle.world_model.specs.EveryWorld.{IsWorld}
-use Rattle.world_model.specs.FramesMade.{MadeTable, IsSquare, made_in}
+use Rattle.world_model.specs.MadeOrder.{all_made}
+use Rattle.world_model.specs.FramesMade.{MadeTable, IsSquare, IsOrderOf, made_in}
 use Rattle.world_model.specs.Watch.{WatchStands}
 
 -- ---- which world
@@ -92,6 +93,7 @@ pub record WorldStands {S E C : Type 0} (m : Meaning S E C KeyRow) (world : Worl
   pub seats : SeatsStand w world.seats
   pub replicas : ReplicasStand m w (states_of w es) world.replicas.items
   pub made : FramesStand w (states_of w es) world.made
+  pub order : IsOrderOf world.made (all_made w es)
   pub events : world.events ≡ length es
   pub watch : WatchStands w (states_of w es) (first_broken w es) world.watch
   pub live : world.live ≡ true
@@ -133,6 +135,7 @@ pub record WorldStopped {S E C : Type 0} (m : Meaning S E C KeyRow) (world : Wor
   pub seats : SeatsStand w world.seats
   pub replicas : ReplicasLeft m w (states_of w es) (states_of w (e ∷ es)) (call_of w (states_of w es) e) world.replicas.items
   pub made : FramesStand w (states_of w es) world.made
+  pub order : IsOrderOf world.made (all_made w es)
   pub events : world.events ≡ length es
   pub verdict : world.watch.verdict ≡ first_broken w es
   pub live : world.live ≡ false

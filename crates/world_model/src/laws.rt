@@ -3,12 +3,25 @@ ghost use Rattle.ritas_base.specs.declared.event.Event.{Event};
 ghost use Rattle.world_model.specs.World.{Setting};
 ghost use Rattle.world_model.specs.Audit.{audit_of};
 ghost use Rattle.world_model.specs.Agreement.{WorldLaw};
+ghost use Rattle.world_model.specs.CoreLaws.{CoreLaws};
 ghost use Rattle.world_model.specs.Agree.{AgreeLaw};
 ghost use Rattle.world_model.specs.Apart.{NoTwoValues, NoTwoLogs, NoTwoOutcomes, NoTwoDecisions};
 ghost use Rattle.world_model.specs.EveryWorld.{AgreementLaw};
 
 use crate::audit::Audit;
 use layer_api::{Broadcast, Service};
+
+// The laws of the core and of inputs, which those of worlds rest on.
+//
+// It does nothing: its contract is the laws.
+fn core_laws()
+    ensures { CoreLaws }
+{
+    ritas_core::history_laws();
+    ritas_core::entry_laws();
+    ritas_core::verdict_laws();
+    frame_codec::right_input();
+}
 
 /// In every world at each slot all correct replicas that deliver a value deliver the same one, and what they deliver at
 /// a slot of a correct replica is what that started there, which is what its service said there, and at a command slot its
@@ -21,10 +34,7 @@ use layer_api::{Broadcast, Service};
 pub fn one_value_each()
     ensures { WorldLaw }
 {
-    ritas_core::history_laws();
-    ritas_core::entry_laws();
-    ritas_core::verdict_laws();
-    frame_codec::right_input();
+    core_laws();
 }
 
 /// Where the audit of a world holds after some events, it held after the earlier ones of them: so what the other laws say
@@ -44,10 +54,7 @@ pub fn prefix_holds()
 pub fn agreement_each()
     ensures { AgreeLaw }
 {
-    ritas_core::history_laws();
-    ritas_core::entry_laws();
-    ritas_core::verdict_laws();
-    frame_codec::right_input();
+    core_laws();
 }
 
 /// Two different correct replicas of a world whose replicas agree are never set apart: they deliver no two values at a slot,

@@ -1,18 +1,22 @@
-ghost use Rattle.std.specs.Prelude.{◌≡◌, ◌+◌, ◌-◌, ◌*◌, ◌<◌, ◌≤◌, length, take, List, [], ◌∷◌, ◌++◌, map, OnOk, OnErr, IfOk, replicate, Option};
-ghost use Rattle.std.specs.List.{slice_get};
+ghost use Rattle.std.specs.Prelude.{◌≡◌, ◌+◌, ◌-◌, ◌*◌, ◌<◌, ◌≤◌, ℕ, map, length, take, List, [], ◌++◌, OnOk, OnErr, IfOk, replicate};
+ghost use Rattle.std.specs.Option.{option_map};
 ghost use Rattle.replica.specs.declared.frame.OutFrame.{OutFrame};
-ghost use Rattle.world_model.specs.FramesMade.{MadeTable, made_in, with_frame, with_frames, without_last};
+ghost use Rattle.world_model.specs.MadeOrder.{made_of};
+ghost use Rattle.world_model.specs.FramesMade.{MadeTable, made_in, made_at, next_place, pushed_at, with_frame, with_frames};
 
+use crate::order::{Made, Place};
 use replica::OutFrame;
 use ritas_base::{Bytes, Mem};
 use std::alloc::Global;
 use std::marker::Model;
 
-/// The frames that the replicas of a world made: for each sender and receiver a list, the oldest first.
+/// The frames that the replicas of a world made: for each sender and receiver a list, the oldest first, and where each
+/// frame stands, in the order in which they were made.
 #[derive(Debug, Drop)]
 pub(crate) struct MadeFrames {
     n: u8,
     lists: Vec<Vec<Bytes>>,
+    order: Vec<Place>,
 }
 
 impl Model for MadeFrames {
@@ -21,9 +25,21 @@ impl Model for MadeFrames {
 
     ghost Value = { MadeTable };
 
-    ghost view = { λ m. record { n = m.n; lists = map (λ frames. frames.items) m.lists.items } };
+    ghost view = { λ m. record { n = m.n; lists = map (λ frames. frames.items) m.lists.items; order = m.order.items } };
 
     ghost invariant = { λ m. (m.n ≤ 31) × (length m.lists.items ≡ m.n * m.n) };
+}
+
+// A frame goes to the back of the list at a place, if there is one. For want of memory the lists are as before.
+fn push_at(lists: &mut Vec<Vec<Bytes>>, at: usize, frame: Bytes) -> Result<(), Mem>
+    ensures ok { OnOk result (map (λ frames. frames.items) lists.new.items ≡ pushed_at (map (λ frames. frames.items) lists.old.items) at frame) }
+    ensures err { OnErr result (map (λ frames. frames.items) lists.new.items ≡ map (λ frames. frames.items) lists.old.items) }
+    ensures many { length lists.new.items ≡ length lists.old.items }
+{
+    if at < lists.len() {
+        lists[at].push(frame)?;
+    }
+    Ok(())
 }
 
 // The newest frame is taken off, if there is one.
@@ -38,14 +54,18 @@ impl MadeFrames {
     /// No frames, of n replicas.
     pub(crate) fn new(alloc: Global, n: u8) -> Result<MadeFrames, Mem>
         requires { n ≤ 31 }
-        ensures { IfOk result (λ m. m ≡ record { n = n; lists = replicate (n * n) [] }) }
+        ensures { IfOk result (λ m. m ≡ record { n = n; lists = replicate (n * n) []; order = [] }) }
     {
         let count = u16::from(n) * u16::from(n);
         let mut lists = Vec::new(alloc);
         for _pair in 0..count {
             lists.push(Vec::new(alloc))?;
         }
-        Ok(MadeFrames { n, lists })
+        Ok(MadeFrames {
+            n,
+            lists,
+            order: Vec::new(alloc),
+        })
     }
 
     // The place of the list of a sender and a receiver.
@@ -65,63 +85,89 @@ impl MadeFrames {
         }
     }
 
-    // A frame goes to the back of the list of its sender and its receiver. For want of memory the table is as before.
-    fn add_one(&mut self, from: u8, frame: OutFrame) -> Result<(), Mem>
-        ensures ok { OnOk result (self.new ≡ with_frame self.old from frame) }
+    /// How many frames there are.
+    pub(crate) fn count(&self) -> usize
+        ensures { result ≡ length self.now.order }
+    {
+        self.order.len()
+    }
+
+    /// The frame of this number, from 0, in the order in which they were made.
+    pub(crate) fn made(&self, number: usize) -> Option<Made<'_>>
+        ensures { option_map made_of result ≡ made_at self.now number }
+    {
+        let place = self.order.get(number)?;
+        let frame = self.frames(place.from, place.to).get(place.at as usize)?;
+        Some(Made {
+            event: place.event,
+            from: place.from,
+            to: place.to,
+            bytes: frame.as_slice(),
+        })
+    }
+
+    // Where the next frame of a sender for a receiver stands. A list has 2^32 places, as many as a pass can name.
+    fn next_place(&self, event: u64, from: u8, to: u8) -> Result<Place, Mem>
+        ensures { IfOk result (λ place. place ≡ next_place self.now event from to) }
+    {
+        let Ok(at) = u32::try_from(self.frames(from, to).len()) else {
+            return Err(Mem);
+        };
+        Ok(Place {
+            event,
+            from,
+            to,
+            at,
+        })
+    }
+
+    // A frame goes to the back of the list of its sender and its receiver, and of the order. For want of memory the table
+    // is as before.
+    fn add_one(&mut self, event: u64, from: u8, frame: OutFrame) -> Result<(), Mem>
+        ensures ok { OnOk result (self.new ≡ with_frame self.old event from frame) }
         ensures err { OnErr result (self.new ≡ self.old) }
     {
+        let place = self.next_place(event, from, frame.to)?;
         let at = self.at(from, frame.to);
-        if at < self.lists.len() {
-            self.lists[at].push(frame.bytes)?;
-        }
+        self.order.reserve(1)?;
+        push_at(&mut self.lists, at, frame.bytes)?;
+        self.order.push_reserved(place);
         Ok(())
     }
 
-    // So does a frame whose receiver is noted. For want of memory nothing is noted either.
-    fn add_noted(&mut self, from: u8, frame: OutFrame, receivers: &mut Vec<u8>) -> Result<(), Mem>
-        ensures ok { OnOk result (self.new ≡ with_frame self.old from frame) }
-        ensures noted { OnOk result (receivers.new.items ≡ receivers.old.items ++ frame.to ∷ []) }
-        ensures err { OnErr result (self.new ≡ self.old) }
-        ensures kept { OnErr result (receivers.new.items ≡ receivers.old.items) }
+    // The newest frame is taken off again.
+    fn take_newest(&mut self)
+        ensures { (t : MadeTable) (event from : ℕ) (frame : OutFrame) → self.old ≡ with_frame t event from frame → self.new ≡ t }
     {
-        let to = frame.to;
-        receivers.reserve(1)?;
-        self.add_one(from, frame)?;
-        receivers.push_reserved(to);
-        Ok(())
-    }
-
-    // The newest frame of a sender and a receiver is taken off again.
-    fn take_one(&mut self, from: u8, to: u8)
-        ensures { self.new ≡ without_last self.old from to }
-    {
-        let at = self.at(from, to);
-        if at < self.lists.len() {
-            drop_last(&mut self.lists[at]);
+        if let Some(place) = self.order.pop() {
+            let at = self.at(place.from, place.to);
+            if at < self.lists.len() {
+                drop_last(&mut self.lists[at]);
+            }
         }
     }
 
-    // The frames that were added for these receivers are taken off again, the newest first.
-    fn take_back(&mut self, from: u8, receivers: Vec<u8>)
-        ensures { (t : MadeTable) (frames : List OutFrame) → receivers.items ≡ map (λ f. f.to) frames
-            → self.old ≡ with_frames t from frames → self.new ≡ t }
+    // The newest frames are taken off again, but for the first so many.
+    fn take_back(&mut self, count: usize)
+        ensures { (t : MadeTable) (event from : ℕ) (frames : List OutFrame) → length t.order ≡ count
+            → self.old ≡ with_frames t event from frames → self.new ≡ t }
     {
-        let mut receivers = receivers;
-        while let Some(to) = receivers.pop() {
-            self.take_one(from, to);
+        for _frame in count..self.count() {
+            self.take_newest();
         }
     }
 
-    /// Each of these frames goes to the back of the list of its sender and its receiver. The one error is want of memory:
+    /// Each of these frames, which a replica made in this event, goes to the back of the list of its sender and its
+    /// receiver, and of the order. The one error is want of memory, as which more than 2^32 frames in a list count too:
     /// then the table is as before.
-    pub(crate) fn add(&mut self, alloc: Global, from: u8, frames: Vec<OutFrame>) -> Result<(), Mem>
-        ensures ok { OnOk result (self.new ≡ with_frames self.old from frames.items) }
+    pub(crate) fn add(&mut self, event: u64, from: u8, frames: Vec<OutFrame>) -> Result<(), Mem>
+        ensures ok { OnOk result (self.new ≡ with_frames self.old event from frames.items) }
         ensures err { OnErr result (self.new ≡ self.old) }
     {
-        let mut receivers = Vec::new(alloc);
+        let count = self.count();
         for frame in frames {
-            if self.add_noted(from, frame, &mut receivers).is_err() {
-                self.take_back(from, receivers);
+            if self.add_one(event, from, frame).is_err() {
+                self.take_back(count);
                 return Err(Mem);
             }
         }

@@ -3,6 +3,7 @@ use crate::events::happen;
 use crate::first::first_replicas;
 use crate::laws::agreement;
 use crate::made::MadeFrames;
+use crate::order::Made;
 use crate::seats::{Seats, channels};
 use crate::seen::Seen;
 use crate::watch::Watch;
@@ -26,12 +27,15 @@ pub struct World<S: Service, E: Broadcast, C: Coin + Drop> {
 
 impl<S: Service, E: Broadcast, C: Coin + Drop> World<S, E, C> {
     ghost use Rattle.std.specs.Prelude.{◌≡◌, ℕ, ◌-◌, ◌^◌, ◌<◌, true, false, List, [], ◌∷◌, length, IsErr, IfOk, OnOk, OnErr, MatchOption};
+    ghost use Rattle.std.specs.List.{slice_get};
+    ghost use Rattle.std.specs.Option.{option_map};
     ghost use Rattle.ritas_base.specs.declared.event.Event.{Event};
     ghost use Rattle.ritas_base.specs.Members.{has_member};
     ghost use Rattle.keyed_channel.specs.Keyed.{tags_of};
     ghost use Rattle.ritas_core.specs.Rules.{other_form};
     ghost use Rattle.ritas_core.specs.Stands.{meaning};
     ghost use Rattle.world_model.specs.World.{Setting, call_of, states_of};
+    ghost use Rattle.world_model.specs.MadeOrder.{made_of, all_made};
     ghost use Rattle.world_model.specs.Audit.{audit_of};
     ghost use Rattle.world_model.specs.Agree.{Agree};
     ghost use Rattle.world_model.specs.Stands.{AreKeys, IsWorldOf, IsReplica, frames_from, WorldStands, IsLeft, WorldStopped, is_live, EventDoes};
@@ -78,9 +82,9 @@ impl<S: Service, E: Broadcast, C: Coin + Drop> World<S, E, C> {
     }
 
     /// An event happens, and what became of it is answered. Its numbers are to be those of replicas, below n, and a
-    /// frame's receiver not its sender. The one error is want of memory: the world stops, and answers it to every later
-    /// event too. It then shows what it showed before the event that stopped it; the replica that this came to may have
-    /// taken it.
+    /// frame's receiver not its sender. The one error is want of memory, as which more than 2^32 frames of one replica for
+    /// another count too: the world stops, and answers it to every later event too. It then shows what it showed before
+    /// the event that stopped it; the replica that this came to may have taken it.
     pub fn event(&mut self, alloc: Global, ev: &Event) -> Result<Seen, Mem>
         ensures does { (w : Setting) (es : List Event)
             → WorldStands (meaning S.stands S.rules S.shown E.stands E.rules E.shown C.bits (λ k. k.me) tags_of) self.old w es
@@ -112,7 +116,7 @@ impl<S: Service, E: Broadcast, C: Coin + Drop> World<S, E, C> {
             happened.taken.as_ref(),
             self.events,
         )?;
-        self.made.add(alloc, happened.at, happened.out)?;
+        self.made.add(self.events, happened.at, happened.out)?;
         self.watch.settle(verdict);
         self.events = self.events.wrapping_add(1);
         self.live = true;
@@ -181,6 +185,30 @@ impl<S: Service, E: Broadcast, C: Coin + Drop> World<S, E, C> {
             → from < w.numbers.n → to < w.numbers.n → result.now ≡ frames_from w (states_of w es) from to }
     {
         self.made.frames(from, to)
+    }
+
+    /// How many frames correct replicas made.
+    pub fn made_count(&self) -> usize
+        ensures is { (w : Setting) (es : List Event)
+            → WorldStands (meaning S.stands S.rules S.shown E.stands E.rules E.shown C.bits (λ k. k.me) tags_of) self.now w es
+            → result ≡ length (all_made w es) }
+        ensures stopped { (w : Setting) (es : List Event) (e : Event)
+            → WorldStopped (meaning S.stands S.rules S.shown E.stands E.rules E.shown C.bits (λ k. k.me) tags_of) self.now w es e
+            → result ≡ length (all_made w es) }
+    {
+        self.made.count()
+    }
+
+    /// The frame of this number, from 0, in the order in which they were made. No number beyond the last has one.
+    pub fn made(&self, at: usize) -> Option<Made<'_>>
+        ensures is { (w : Setting) (es : List Event)
+            → WorldStands (meaning S.stands S.rules S.shown E.stands E.rules E.shown C.bits (λ k. k.me) tags_of) self.now w es
+            → option_map made_of result ≡ slice_get (all_made w es) at }
+        ensures stopped { (w : Setting) (es : List Event) (e : Event)
+            → WorldStopped (meaning S.stands S.rules S.shown E.stands E.rules E.shown C.bits (λ k. k.me) tags_of) self.now w es e
+            → option_map made_of result ≡ slice_get (all_made w es) at }
+    {
+        self.made.made(at)
     }
 
     /// How many events happened: the one that stopped the world is none of them.

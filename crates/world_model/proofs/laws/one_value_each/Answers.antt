@@ -2,18 +2,4 @@ use Rattle.world_model.proofs.Law.{world_law}
 use Rattle.world_model.proofs.laws.one_value_each.Goals as goal
 
 pub returns : goal.returns
-returns c =
-    world_law (record {
-      started = c.history_laws.ensures.started;
-      proper = c.history_laws.ensures.proper;
-      words = c.history_laws.ensures.words;
-      due = c.history_laws.ensures.due;
-      due_stays = c.history_laws.ensures.due_stays;
-      sent = c.history_laws.ensures.sent;
-      given = c.entry_laws.ensures.given;
-      hears = c.entry_laws.ensures.hears;
-      heard = c.entry_laws.ensures.heard;
-      takable = c.verdict_laws.ensures.takable;
-      givable = c.verdict_laws.ensures.givable;
-      faultless = c.right_input.ensures;
-    })
+returns c = world_law c.core_laws.ensures

@@ -1,13 +1,11 @@
-use Rattle.std.proofs.Common.{arith}
-use Rattle.world_model.proofs.TakenBack.{one_fewer, none_more}
+use Rattle.world_model.proofs.TakenBack.{all_there, one_fewer}
 use Rattle.world_model.proofs.made.MadeFrames.take_back.Goals as goal
 
-pub loop-to-preserved : goal.loop-to-preserved
-loop-to-preserved c = λ t more.
-    one_fewer t c.loop-to.self c.take_one.new.self c.args.from c.in-Some.to c.loop-to.receivers.items c.pop.new.self.items (c.loop-to.invariant t more)
-    c.in-Some.ensures.items c.take_one.ensures
+pub loop-frame-init : goal.loop-frame-init
+loop-frame-init c = λ t event from frames first is.
+    all_there t event from c.args.self.now frames c.args.count c.count-frame-end.result first is c.count-frame-end.ensures
 
-pub returns : goal.returns
-returns c = λ t frames noted had.
-    none_more t c.loop-to.self c.args.from c.loop-to.receivers.items (c.loop-to.invariant t (frames, noted, had))
-    (omega (arith, c.loop-to.receivers.ok.0, c.in_default.ensures.cases.0))
+pub loop-frame-preserved : goal.loop-frame-preserved
+loop-frame-preserved c = λ t event from frames first is.
+    one_fewer t event from c.loop-frame.self c.take_newest.new.self c.loop-frame._frame c.count-frame-end.result c.loop-frame-test.true
+    (c.loop-frame.invariant t event from frames first is) c.take_newest.ensures

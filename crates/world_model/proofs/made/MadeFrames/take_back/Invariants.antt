@@ -1,9 +1,9 @@
-use Rattle.world_model.specs.FramesMade.{MadeTable}
+use Rattle.std.proofs.Common.{◌≡◌, ℕ, ◌-◌, length, List}
+use Rattle.replica.specs.declared.frame.OutFrame.{OutFrame}
+use Rattle.world_model.specs.FramesMade.{MadeTable, with_frames}
 use Rattle.world_model.proofs.TakenBack.{HasMore}
 use Rattle.world_model.proofs.made.MadeFrames.take_back.Given as goal
 
-abbrev pub invariant-loop-to : goal.invariant-loop-to
-invariant-loop-to l = (t : MadeTable) → HasMore t l.initial.self l.from l.initial.receivers.items → HasMore t l.self l.from l.receivers.items
-
-abbrev pub decreases-loop-to : goal.decreases-loop-to
-decreases-loop-to l = goal.left-loop-to l
+abbrev pub invariant-loop-frame : goal.invariant-loop-frame
+invariant-loop-frame l = (t : MadeTable) (event from : ℕ) (frames : List OutFrame) → length t.order ≡ l.fn.count → l.fn.self ≡ with_frames t event from frames →
+    HasMore t event from l.self (l._frame-end - l._frame)
