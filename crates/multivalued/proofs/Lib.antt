@@ -1,0 +1,13 @@
+pub mod Sets
+pub mod EntryLaws
+pub mod Placing
+pub mod TableLaws
+pub mod LeastLaws
+pub mod AskLaws
+pub mod Masks
+pub mod KnownLaws
+pub mod TellingLaws
+pub mod Deciding
+pub mod HoldingLaws
+pub mod StepLaws
+pub mod Calls

@@ -1,0 +1,121 @@
+-- The laws of a single value of multi-valued consensus as a root service, from those of its box.
+use Rattle.std.specs.Prelude.{◌≡◌, ℕ, ◌<◌, Bool, true, false, ◌==◌, ◌&&◌, nat_lt, if◌then◌else◌, List, [], ◌∷◌, Option, Some, None, option_map, refl, ◌⊎◌}
+use Rattle.std.proofs.Common.{sym, ◌∙◌, ap, subst, inl, inr}
+use Rattle.std.proofs.lemmas.Bool.{and_parts, and_from, lt-ltb, eqb-true}
+use Rattle.ritas_base.specs.declared.slot.Slot.{Slot}
+use Rattle.ritas_base.specs.declared.item.Say.{Say}
+use Rattle.ritas_base.specs.declared.mode.Mode.{Mode}
+use Rattle.ritas_base.specs.Numbers.{Numbers, IsSession}
+use Rattle.ritas_base.specs.Slots.{slot_fault, within, has_class, has_number, has_attempt, has_count}
+use Rattle.frame_codec.specs.Format.{Is}
+use Rattle.frame_codec.specs.Grammar.{value}
+use Rattle.layer_api.specs.Service.{ServiceRules, Seat, Instance, OfBit, OfValue, OfVector, Decision, Decided, AreProper, has_instance, IsEnding, WordLaws}
+use Rattle.layer_api.specs.FreshLaws.{fresh_other}
+use Rattle.layer_api.specs.OneInstance.{three_to_five, HasOneInstance, IsInstanceSaid, served, instance_word_laws}
+use Rattle.layer_api.specs.Words.{Word, Ask, Hear}
+use Rattle.layer_api.specs.Multi.{MultiRules, is_multi_slot, AreMulti, IsMultiSaid, MultiLaws}
+use Rattle.multivalued.specs.Root.{desk_of, decision_of, ending, decided_in, multi_root}
+use Rattle.multivalued.specs.RootLaws.{may_word}
+
+-- ---- slots of the root service
+
+class_is : (c : ℕ) → (c ≡ 3) ⊎ (c ≡ 4) ⊎ (c ≡ 5) → (within 1 5 c ≡ true) × (has_class 4 c ≡ true)
+unfolding has_class
+class_is c (inl e) = (ap (within 1 5) e, ap (has_class 4) e)
+class_is c (inr (inl e)) = (ap (within 1 5) e, ap (has_class 4) e)
+class_is c (inr (inr e)) = (ap (within 1 5) e, ap (has_class 4) e)
+
+right_by : (p : Numbers) (mode : Mode) (s : Slot) → within 1 5 s.class ≡ true → has_class mode.root s.class ≡ true → has_number mode.root s.a ≡ true
+    → has_attempt mode.root p.f s.class s.attempt ≡ true → has_count 200 s.class s.bround ≡ true → has_count 3 s.class s.step ≡ true → nat_lt s.origin p.n ≡ true
+    → slot_fault p mode s ≡ None
+unfolding slot_fault
+right_by p mode s a b c d e f g = rw (a, b, c, d, e, f, g) refl
+
+root_right : (p : Numbers) (mode : Mode) (seat : Seat) (s : Slot) → mode.root ≡ 4 → is_multi_slot (desk_of seat).scope s ≡ true → s.origin < p.n → slot_fault p mode s ≡ None
+root_right p mode seat s four e below =
+    let x = and_parts (within 3 5 s.class) _ e in
+    let y = and_parts (s.a == 0) _ x.1 in
+    let z = and_parts (s.attempt == 0) _ y.1 in
+    let t = and_parts (has_count 200 s.class s.bround) _ z.1 in
+    let k = class_is s.class (three_to_five s.class x.0) in
+    right_by p mode s k.0 (ap (λ (r : ℕ). has_class r s.class) four ∙ k.1)
+    (ap (λ (r : ℕ). has_number r s.a) four ∙ ap (has_number 4) (eqb-true s.a 0 y.0)) (ap (λ (r : ℕ). has_attempt r p.f s.class s.attempt) four ∙ z.0)
+    t.0 t.1 (lt-ltb s.origin p.n below)
+
+no_class_one : (c : ℕ) → within 3 5 c ≡ true → (c == 1) ≡ false
+no_class_one c e =
+    elim (three_to_five c e) [ inl q ↦ ap (λ (k : ℕ). k == 1) q | inr (inl q) ↦ ap (λ (k : ℕ). k == 1) q | inr (inr q) ↦ ap (λ (k : ℕ). k == 1) q ]
+
+-- an instance of one value ends by a value, or by none
+is_ending : (root : ℕ) (o : Option (Option (List ℕ))) → root ≡ 4 → IsEnding root (ending o)
+is_ending root None four = tt
+is_ending root (Some None) four = four
+is_ending root (Some (Some v)) four = inl four
+
+-- ---- words
+
+module _ (m : MultiRules) where
+  abbrev r : ServiceRules
+  r = multi_root m
+
+  pub are_multi : (seat : Seat) (w : List Word) → AreProper r seat w → AreMulti m (desk_of seat) w
+  are_multi seat [] proper = tt
+  are_multi seat (c ∷ w) proper = (may_word m seat w c proper.0, are_multi seat w proper.1)
+
+  session_of : (seat : Seat) (c : Word) (w : List Word) → AreProper r seat (c ∷ w) → IsSession seat.numbers
+  session_of seat (Ask v) w proper = proper.0.session
+  session_of seat (Hear s v) w proper = proper.0.session
+
+  -- what the box says is right
+  multi_right : (seat : Seat) (y : Say) → seat.mode.root ≡ 4 → IsMultiSaid (desk_of seat) y → IsInstanceSaid seat y
+  multi_right seat y four said = record {
+    origin = said.origin;
+    no_command = no_class_one y.slot.class (and_parts (within 3 5 y.slot.class) _ said.slot).0;
+    right = λ below. root_right seat.numbers seat.mode seat y.slot four said.slot (subst (λ (k : ℕ). k < seat.numbers.n) (sym said.origin) below);
+    good = subst (λ (k : ℕ). Is (value seat.numbers k y.slot) y.value) (sym four) said.good;
+  }
+
+  module _ (laws : MultiLaws m) where
+    ending_stays : (o u : Option (Option (List ℕ))) (d : Decision) → ((x : Option (List ℕ)) → o ≡ Some x → u ≡ Some x) → ending o ≡ Decided d → ending u ≡ Decided d
+    ending_stays None u d stays e = absurd cc
+    ending_stays (Some x) u d stays e = ap ending (stays x refl) ∙ e
+
+    value_stays : (b : Bool) (o u : Option (Option (List ℕ))) (d : Decision) → ((x : Option (List ℕ)) → o ≡ Some x → u ≡ Some x)
+        → (if b then option_map decision_of o else None) ≡ Some d → (if b then option_map decision_of u else None) ≡ Some d
+    value_stays false o u d stays e = absurd cc
+    value_stays true None u d stays e = absurd cc
+    value_stays true (Some x) u d stays e = ap (option_map decision_of) (stays x refl) ∙ e
+
+    decided_stays : (seat : Seat) (c : Word) (w : List Word) (x : Instance) (d : Decision) → AreProper r seat (c ∷ w) → decided_in m seat w x ≡ Some d → decided_in m seat (c ∷ w) x ≡ Some d
+    decided_stays seat c w (OfBit a k) d proper e = laws.inside_stays (desk_of seat) c w (OfBit a k) d (are_multi seat (c ∷ w) proper) e
+    decided_stays seat c w (OfValue a k) d proper e =
+        value_stays (a == 0 && k == 0) (m.decision (desk_of seat) w) (m.decision (desk_of seat) (c ∷ w)) d (λ x q. laws.decision_stays (desk_of seat) c w x (are_multi seat (c ∷ w) proper) q) e
+    decided_stays seat c w (OfVector a) d proper e = absurd cc
+
+  one : HasOneInstance r
+  one = record {
+    serves = λ root e. ap has_instance (eqb-true root 4 e);
+    given = λ seat w. refl;
+    completed = λ seat w. refl;
+    base = λ seat w o. refl;
+    next_number = λ seat w. refl;
+    done = λ seat w. refl;
+  }
+
+  opens_stays : MultiLaws m → (seat : Seat) (c : Word) (w : List Word) (s : Slot) → AreProper r seat (c ∷ w) → r.opens seat w s ≡ true → r.opens seat (c ∷ w) s ≡ true
+  opens_stays laws seat c w s proper opens =
+      let x = and_parts (is_multi_slot (desk_of seat).scope s) _ opens in
+      and_from (is_multi_slot (desk_of seat).scope s) _ x.0 (laws.opens_stays (desk_of seat) c w s (are_multi seat (c ∷ w) proper) x.1)
+
+  pub root_word_laws : MultiLaws m → WordLaws (multi_root m)
+  root_word_laws laws = instance_word_laws (multi_root m) one (record {
+    ending = λ seat w serves. is_ending seat.mode.root (m.decision (desk_of seat) w) (eqb-true seat.mode.root 4 serves);
+    says = λ seat c w proper.
+        fresh_other (IsMultiSaid (desk_of seat)) (IsInstanceSaid seat) _ _ _
+        (λ y h. multi_right seat y (eqb-true seat.mode.root 4 (served r seat c w proper)) h) (λ y h none. none)
+        (laws.says_new (desk_of seat) c w (session_of seat c w proper) (are_multi seat (c ∷ w) proper));
+    opens_stays = opens_stays laws;
+    outcome_stays = λ seat c w d proper e.
+        ending_stays laws (m.decision (desk_of seat) w) (m.decision (desk_of seat) (c ∷ w)) d (λ x q. laws.decision_stays (desk_of seat) c w x (are_multi seat (c ∷ w) proper) q) e;
+    decided_stays = λ seat c w x d proper e. decided_stays laws seat c w x d proper e;
+  })
