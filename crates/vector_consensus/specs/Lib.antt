@@ -1,0 +1,17 @@
+pub mod Consensus
+pub mod Rows
+pub mod Proposals
+pub mod Tries
+pub mod Agreement
+pub mod ValueLaws
+pub mod Root
+pub mod RootLaws
+pub mod RootValue
+pub mod RootStands
+pub mod Kept
+pub mod Parts
+pub mod Begun
+pub mod Going
+pub mod Holding
+pub mod Opening
+pub mod Stands

@@ -1,0 +1,125 @@
+-- The law of one log of vector consensus as a root service, from that of its box. The box has the service's own words.
+use Rattle.std.specs.Prelude.{◌≡◌, ℕ, Bool, true, false, ◌==◌, if◌then◌else◌, List, [], Option, Some, None, refl, ◌⊎◌}
+use Rattle.std.proofs.Common.{sym, ◌∙◌, ap, subst, inl, inr, arith}
+use Rattle.std.proofs.lemmas.Bool.{and_parts, eqb-true}
+use Rattle.ritas_base.specs.declared.slot.Slot.{Slot}
+use Rattle.ritas_base.specs.declared.mode.Mode.{Mode}
+use Rattle.ritas_base.specs.Numbers.{Numbers}
+use Rattle.frame_codec.specs.Format.{Format, Is}
+use Rattle.frame_codec.specs.Grammar.{class2, value}
+use Rattle.frame_codec.specs.Inputs.{input_format}
+use Rattle.layer_api.specs.Runs.{Step, calls_of}
+use Rattle.layer_api.specs.Service.{Seat, MayAsk, MayHear, MayWord, Instance, OfBit, OfValue, OfVector, Decision, Value, Bit, Spent, Decided}
+use Rattle.layer_api.specs.Words.{Word, Ask, Hear}
+use Rattle.layer_api.specs.OneLog.{Session, seat_at, service_play, IsRunOf, OneLog}
+use Rattle.layer_api.specs.Fed.{IsFedRun}
+use Rattle.layer_api.specs.FedLaws.{same_fed}
+use Rattle.layer_api.specs.OneInstance.{not_given}
+use Rattle.layer_api.specs.Multi.{Scope, desk_at}
+use Rattle.layer_api.specs.Vectors.{VectorRules, is_vector_slot, MayVector, vector_play, OneVector}
+use Rattle.vector_consensus.specs.Root.{desk_of, decision_of, ending, decided_in, vector_root}
+
+pub input_class : (p : Numbers) → input_format p 5 ≡ class2 p 5
+unfolding input_format
+input_class p = refl
+
+-- a word of the service is one of its box
+pub may_ask : (m : VectorRules) (seat : Seat) (w : List Word) (v : List ℕ) → MayAsk (vector_root m) seat w v → MayVector m (desk_of seat) w (Ask v)
+may_ask m seat w v may =
+    let five = eqb-true seat.mode.root 5 may.served in (
+      not_given w may.first,
+      subst (λ (f : Format). Is f v) (input_class seat.numbers) (subst (λ (k : ℕ). Is (input_format seat.numbers k) v) five may.good),
+      refl,
+    )
+
+pub may_hear : (m : VectorRules) (seat : Seat) (w : List Word) (s : Slot) (v : List ℕ) → MayHear (vector_root m) seat w s v → MayVector m (desk_of seat) w (Hear s v)
+may_hear m seat w s v may =
+    let five = eqb-true seat.mode.root 5 may.served in
+    let o = and_parts (is_vector_slot (desk_of seat).scope s) (m.opens (desk_of seat) w s) may.is_open in
+    record {
+      slot = o.0;
+      origin = may.origin;
+      is_open = o.1;
+      first = may.first;
+      good = subst (λ (k : ℕ). Is (value seat.numbers k s) v) five may.good;
+      has = refl;
+    }
+
+pub may_word : (m : VectorRules) (seat : Seat) (w : List Word) (c : Word) → MayWord (vector_root m) seat w c → MayVector m (desk_of seat) w c
+may_word m seat w (Ask v) may = may_ask m seat w v may
+may_word m seat w (Hear s v) may = may_hear m seat w s v may
+
+ending_is : (o : Option Decision) (d : Decision) → ending o ≡ Decided d → o ≡ Some d
+ending_is None d q = absurd cc
+ending_is (Some x) d q = cc
+
+decision_is : (o : Option (List ℕ)) (s : Bool) (d : Decision) → decision_of o s ≡ Some d → ((x : List ℕ) × (o ≡ Some x) × (d ≡ Value x)) ⊎ ((s ≡ true) × (d ≡ Spent))
+decision_is (Some x) s d q = inl (x, refl, cc)
+decision_is None true d q = inr (refl, cc)
+decision_is None false d q = absurd cc
+
+if_so : {X : Type 0} (b : Bool) (o : Option X) (d : X) → (if b then o else None) ≡ Some d → o ≡ Some d
+if_so true o d q = q
+if_so false o d q = absurd cc
+
+bit_value : (b : Bool) (x : List ℕ) → Bit b ≡ Value x → ⊥
+bit_value b x e = cc
+
+bit_spent : (b : Bool) → Bit b ≡ Spent → ⊥
+bit_spent b e = cc
+
+module _ (v : VectorRules) (one : OneVector v) (p : Numbers) (mode : Mode) (is_correct : ℕ → Bool) (coins : ℕ → Slot → Bool) (xs : List (Step Word))
+    (run : IsRunOf (record { rules = vector_root v; numbers = p; mode = mode; is_correct = is_correct; coins = coins }) xs) where
+  abbrev session : Session
+  session = record { rules = vector_root v; numbers = p; mode = mode; is_correct = is_correct; coins = coins }
+
+  abbrev at : Scope
+  at = record { numbers = p; root = 5; a = 0; attempt = 0 }
+
+  -- a run of the service is one of the box
+  fed : IsFedRun (vector_play v at coins) is_correct xs
+  fed =
+      same_fed (service_play session) (vector_play v at coins) is_correct (λ i c w met. may_word v (seat_at session i) w c met.0)
+      (λ i w y met h. h) xs run.fed
+
+  abbrev decided : ℕ → Option Decision
+  decided i = decision_of (v.decision (desk_at at coins i) (calls_of i xs)) (v.spent (desk_at at coins i) (calls_of i xs))
+
+  same : (i j : ℕ) (d e : Decision) → is_correct i ≡ true → is_correct j ≡ true → decided i ≡ Some d → decided j ≡ Some e → d ≡ e
+  same i j d e ci cj q r =
+      elim (decision_is (v.decision (desk_at at coins i) (calls_of i xs)) (v.spent (desk_at at coins i) (calls_of i xs)) d q) [
+        | inl x ↦ elim (decision_is (v.decision (desk_at at coins j) (calls_of j xs)) (v.spent (desk_at at coins j) (calls_of j xs)) e r) [
+          | inl y ↦ x.2 ∙ (ap Value (one.agree at is_correct coins xs run.enough refl fed i j x.0 y.0 ci cj x.1 y.1) ∙ sym y.2)
+          | inr y ↦ absurd (one.apart at is_correct coins xs run.enough refl fed i j x.0 ci cj x.1 y.0)
+        ]
+        | inr x ↦ elim (decision_is (v.decision (desk_at at coins j) (calls_of j xs)) (v.spent (desk_at at coins j) (calls_of j xs)) e r) [
+          | inl y ↦ absurd (one.apart at is_correct coins xs run.enough refl fed j i y.0 cj ci y.1 x.0)
+          | inr y ↦ x.1 ∙ sym y.1
+        ]
+      ]
+
+  pub outcomes : (i j : ℕ) (d e : Decision) → is_correct i ≡ true → is_correct j ≡ true → ending (decided i) ≡ Decided d → ending (decided j) ≡ Decided e → d ≡ e
+  outcomes i j d e ci cj q r = same i j d e ci cj (ending_is (decided i) d q) (ending_is (decided j) e r)
+
+  pub decisions : (i j : ℕ) (x : Instance) (d e : Decision) → is_correct i ≡ true → is_correct j ≡ true
+      → decided_in v (record { numbers = p; mode = mode; me = i; coin = coins i }) (calls_of i xs) x ≡ Some d
+      → decided_in v (record { numbers = p; mode = mode; me = j; coin = coins j }) (calls_of j xs) x ≡ Some e → d ≡ e
+  decisions i j (OfBit a k) d e ci cj q r = one.insides at is_correct coins xs run.enough refl fed i j (OfBit a k) d e ci cj q r
+  decisions i j (OfValue a k) d e ci cj q r = one.insides at is_correct coins xs run.enough refl fed i j (OfValue a k) d e ci cj q r
+  decisions i j (OfVector a) d e ci cj q r = same i j d e ci cj (if_so (a == 0) (decided i) d q) (if_so (a == 0) (decided j) e r)
+
+  pub no_bits : (i : ℕ) (b : Bool) → ending (decided i) ≡ Decided (Bit b) → ⊥
+  no_bits i b q =
+      elim (decision_is (v.decision (desk_at at coins i) (calls_of i xs)) (v.spent (desk_at at coins i) (calls_of i xs)) (Bit b) (ending_is (decided i) (Bit b) q)) [
+        | inl x ↦ bit_value b x.0 x.2
+        | inr x ↦ bit_spent b x.1
+      ]
+
+pub root_log : (v : VectorRules) → OneVector v → OneLog (vector_root v)
+root_log v one = record {
+  logs = λ p mode is_correct coins steps run i j ci cj. inl ([], refl);
+  outcomes = λ p mode is_correct coins steps run. outcomes v one p mode is_correct coins steps run;
+  decisions = λ p mode is_correct coins steps run. decisions v one p mode is_correct coins steps run;
+  bits = λ p mode is_correct coins steps run i b ci q. absurd (no_bits v one p mode is_correct coins steps run i b q);
+  proposals = λ p mode is_correct coins steps run four i x ci q. absurd (let e = eqb-true mode.root 5 run.serves in omega (arith, e, four));
+}
