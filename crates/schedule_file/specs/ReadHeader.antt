@@ -27,7 +27,7 @@ heading h = record { session = h.session; p = h.p; root = h.mode.root; vect = h.
 
 -- the root services that are built
 abbrev pub is_built : ℕ → Bool
-is_built root = root == 1 || (root == 2 || root == 3)
+is_built root = root == 1 || (root == 2 || (root == 3 || (root == 4 || root == 5)))
 
 -- the magic word, the version, and the session
 unfoldable pub start_at : Spot → Result (ℕ × Spot) FileFault

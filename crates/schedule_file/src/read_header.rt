@@ -18,7 +18,7 @@ fn is_built(root: u8) -> bool
     ensures value { result ≡ is_built root }
     ensures root { IsTrue result → (1 ≤ root) × (root ≤ 6) }
 {
-    matches!(root, 1..=3)
+    matches!(root, 1..=5)
 }
 
 #[tactic(auto, using(outside::proofs::Rising::rose_after), unfolding(crate::specs::ReadHeader::start_at))]
