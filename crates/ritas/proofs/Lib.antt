@@ -1,9 +1,3 @@
-mod Agreed
-pub mod Feeding
-pub mod Files
-pub mod Deals
-pub mod Written
-pub mod Outs
-pub mod Totals
-pub mod Dealt
-pub mod Replying
+pub mod Headers
+pub mod Statuses
+pub mod Asking

@@ -1,5 +1,2 @@
-pub mod Layers
-pub mod Report
+pub mod Statuses
 pub mod Run
-pub mod Replayed
-pub mod Onto

@@ -1,10 +1,7 @@
-//! Replays a schedule of events that happen to a world of replicas, and reports what came of it.
+//! Replays a schedule of events that happen to a world of replicas, and writes what came of it.
 #![tactic(auto)]
 
-mod deal;
 mod lines;
-mod replay;
-mod report;
 mod run;
 #[cfg(test)]
 mod tests;

@@ -5,7 +5,7 @@ use outside::{Failed, MemSink, MemSource, Source};
 use std::alloc::Global;
 use std::test::*;
 
-// The files and their reports were made from numbers by a model of the protocol that shares nothing with this code, but
+// The files, their reports and their frames were made from numbers by a model of the protocol that shares nothing with this code, but
 // for `FORGED`, which is `OUTNUMBERED` with replica 1 in its mask.
 
 // one replica: an input, three turns, and an input
@@ -58,6 +58,20 @@ replica 2 sent 2 inbox 1 held 0
 audit holds
 ";
 
+const THREE_FRAMES: &str =
+    "0 1 0 010100000000000000000001010000000000000001629bcab483bfcf44ce970af470cb6ca894d9cf5eca118bbe4f44f1529c4a82d150
+0 1 2 0101020000000000000000010100000000000000016204f3f7ac45bd37a16b9c082200d451302f0b559d126021542b7833233e42358f
+1 1 0 0101000000000000000001020100000000000000016221818c033de5e7bf2994a3760e1b64481d5cdfc9efa221b97c78a3840fbf117d
+1 1 2 0101020000000000000001020100000000000000016228f5fffab47aae7250de316c95f1c2b734c3f9b0eadc892cf37210700019e72a
+3 0 1 01000100000000000000000201000000000000000162fbbcc0bfb436268393e36f622fa2ac1e79d940101f6a6f853cd36654bee347a0
+3 0 2 010002000000000000000002010000000000000001620d311909da15c49e5e7a3f7bd4f8fac06f166130aaa6a0f014a4779bd2b0a1f9
+5 0 1 01000100000000000000010301000000000000000162e309281602d51e50205328aa0b49ba043d63b13fcbf338ede2cd6e96cda004f2
+5 0 2 010002000000000000000103010000000000000001627839337d32e03c2ab34b55a4d065b475e18a2f2f147477ad67b3d1a489d8f071
+7 2 0 010200000000000000000002010000000000000001624da90ae3b9bad055d887ede4113761833e2a691259ba7b882f0ff546cdd61bcc
+7 2 1 010201000000000000000002010000000000000001622065b1dec71bf820ebe0c418d6f8306776202401541d387c74c964a6ef93f5b5
+audit holds
+";
+
 const USAGE: &str =
     "usage: ritas replay report|frames, drive report|schedule, keys, node, cluster, submit\n";
 
@@ -105,6 +119,23 @@ fn reports(rt: HostRuntime) -> Result<(), Fail> {
             wanted
         );
     }
+    Ok(())
+}
+
+#[test]
+fn frames(rt: HostRuntime) -> Result<(), Fail> {
+    for (file, text, wanted) in [
+        (ALONE, "audit holds\n", 0),
+        (THREE, THREE_FRAMES, 0),
+        (&ALONE[..70], "input truncated at 70\n", 3),
+    ] {
+        assert_eq!(rt;
+            status(rt.alloc(), "frames", file, 2000, &[], text)?,
+            wanted
+        );
+    }
+    assert_eq!(rt; status(rt.alloc(), "frames", THREE, 2000, &[1], "")?, 4);
+    assert_eq!(rt; status(rt.alloc(), "frames", THREE, 5, &[], "0 1 0")?, 5);
     Ok(())
 }
 

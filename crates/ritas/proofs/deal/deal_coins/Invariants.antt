@@ -1,8 +1,0 @@
-use Rattle.std.proofs.Common.{◌≡◌}
-use Rattle.std.specs.Prelude.{map}
-use Rattle.std.specs.List.{range_with_len}
-use Rattle.ritas.specs.Layers.{coin_to}
-use Rattle.ritas.proofs.deal.deal_coins.Given as goal
-
-abbrev pub invariant-loop-i : goal.invariant-loop-i
-invariant-loop-i l = l.coins.items ≡ map (coin_to l.header) (range_with_len 0 l.i)

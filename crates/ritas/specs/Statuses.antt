@@ -1,0 +1,53 @@
+-- The statuses of the program, and the texts that it writes where there is none of a world.
+use Rattle.std.specs.Prelude.{ℕ, List, [], ◌++◌, codes, decimal}
+use Rattle.ritas_base.specs.declared.event.Event.{Event}
+use Rattle.schedule_file.specs.declared.fault.FileFault.{FileFault}
+use Rattle.schedule_file.specs.declared.fault.FileFault.TheVariants as faults
+use Rattle.schedule_file.specs.declared.header.Header.{Header}
+use Rattle.world_model.specs.declared.audit.Audit.{Audit}
+use Rattle.world_model.specs.declared.audit.Audit.TheVariants as audits
+use Rattle.world_model.specs.Audit.{audit_of}
+use Rattle.schedule_replay.specs.Layers.{setting_of}
+use Rattle.schedule_replay.specs.Report.{end_of_line}
+
+-- 0 where the audit holds, and else 1
+abbrev pub audit_status : Audit → ℕ
+audit_status audits.Holds = 0
+audit_status audits.TooManyFaulty = 1
+audit_status (audits.Forged k) = 1
+audit_status (audits.Collision k) = 1
+
+-- the status of a schedule that was replayed
+abbrev pub status_of : Header → List Event → ℕ
+status_of h es = audit_status (audit_of (setting_of h) es)
+
+-- ---- what is written where no schedule was replayed
+
+abbrev pub usage : List ℕ
+usage = codes "usage: ritas replay report|frames, drive report|schedule, keys, node, cluster, submit" ++ end_of_line
+
+abbrev pub placed : List ℕ → ℕ → List ℕ
+placed name place = codes "input " ++ (name ++ (codes " at " ++ (decimal place ++ end_of_line)))
+
+-- the line of a file's fault. A fault of the source or of memory has none
+abbrev pub fault_text : FileFault → List ℕ
+fault_text faults.Magic = placed (codes "magic") 0
+fault_text faults.Version = placed (codes "version") 4
+fault_text (faults.Header p) = placed (codes "header") p
+fault_text (faults.Event p) = placed (codes "event") p
+fault_text (faults.Truncated p) = placed (codes "truncated") p
+fault_text (faults.Trailing p) = placed (codes "trailing") p
+fault_text faults.TooLong = codes "limit 67108864" ++ end_of_line
+fault_text faults.Read = []
+fault_text faults.Mem = []
+
+abbrev pub fault_status : FileFault → ℕ
+fault_status faults.Magic = 3
+fault_status faults.Version = 3
+fault_status (faults.Header p) = 3
+fault_status (faults.Event p) = 3
+fault_status (faults.Truncated p) = 3
+fault_status (faults.Trailing p) = 3
+fault_status faults.TooLong = 7
+fault_status faults.Read = 4
+fault_status faults.Mem = 8

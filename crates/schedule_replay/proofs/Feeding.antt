@@ -1,0 +1,103 @@
+-- Events that a loop takes one after the other, the newest first: what it has so far, and what reading on gives.
+use Rattle.std.proofs.Common.{◌≡◌, ℕ, suc, ◌-◌, ◌+◌, ◌≤◌, ◌<◌, List, [], ◌∷◌, ◌++◌, reverse, Some, None, Result, Ok, Err, refl, sym, ap, ◌∙◌, append_assoc, arith}
+use Rattle.std.proofs.lemmas.List.{append-nil, reverse-append}
+use Rattle.ritas_base.specs.declared.event.Event.{Event}
+use Rattle.schedule_file.specs.declared.fault.FileFault.{FileFault}
+use Rattle.schedule_file.specs.declared.fault.FileFault.TheVariants.{TooLong}
+use Rattle.schedule_file.specs.Reading.{◌>>=◌, Spot, start_of}
+use Rattle.schedule_file.specs.FileBytes.{limit, Fails}
+use Rattle.schedule_file.specs.ReadHeader.{Heading, header_at}
+use Rattle.schedule_file.specs.ReadEvents.{event_at, events_at}
+use Rattle.schedule_file.specs.Schedule.{file_of}
+use Rattle.schedule_replay.specs.Onto.{onto}
+use Rattle.schedule_replay.proofs.Files.{heading_in, events_in}
+
+regroup : (h : List Event) (e : Event) (read : Result (List Event) FileFault) → onto h (read >>= λ es. Ok (e ∷ es)) ≡ onto (e ∷ h) read
+regroup h e (Ok es) = ap (λ (l : List Event). Ok l) (ap (λ (l : List Event). l ++ h) (reverse-append (e ∷ []) es) ∙ append_assoc (reverse es) (e ∷ []) h)
+regroup h e (Err f) = refl
+
+-- an event was taken
+pub goes_on : (h : List Event) (most i n : ℕ) (s : Spot) (e : Event) (next : Spot) (total : Result (List Event) FileFault) → i < most → event_at n s ≡ Ok (Some e, next)
+    → onto h (events_at (most - i) n s) ≡ total → onto (e ∷ h) (events_at (most - (i + 1)) n next) ≡ total
+unfolding events_at
+goes_on h most i n s e next total lt read so_far =
+    let k : most - i ≡ suc (most - (i + 1)) = omega arith in
+    let one : onto h (events_at (most - i) n s) ≡ onto (e ∷ h) (events_at (most - (i + 1)) n next) = rw (k, read) (regroup h e (events_at (most - (i + 1)) n next)) in
+    sym one ∙ so_far
+
+-- a fault was met
+pub fails : (x : FileFault) (h : List Event) (most i n : ℕ) (s : Spot) (total : Result (List Event) FileFault) → i < most → Fails x (event_at n s)
+    → onto h (events_at (most - i) n s) ≡ total → Fails x total
+unfolding events_at
+fails x h most i n s total lt read so_far = λ own.
+    let k : most - i ≡ suc (most - (i + 1)) = omega arith in
+    let one : onto h (events_at (most - i) n s) ≡ Err x = rw (k, read own) refl in
+    sym so_far ∙ one
+
+-- the end was met
+pub ends : (h : List Event) (most i n : ℕ) (s next : Spot) (total : Result (List Event) FileFault) → i < most → event_at n s ≡ Ok (None, next)
+    → onto h (events_at (most - i) n s) ≡ total → total ≡ Ok h
+unfolding events_at
+ends h most i n s next total lt read so_far =
+    let k : most - i ≡ suc (most - (i + 1)) = omega arith in
+    let one : onto h (events_at (most - i) n s) ≡ Ok h = rw (k, read) refl in
+    sym so_far ∙ one
+
+-- as many events were taken as no file has
+pub too_many : (h : List Event) (most i n : ℕ) (s : Spot) (total : Result (List Event) FileFault) → most ≤ i → onto h (events_at (most - i) n s) ≡ total → total ≡ Err TooLong
+unfolding events_at
+too_many h most i n s total le so_far =
+    let k : most - i ≡ 0 = omega arith in
+    let one : onto h (events_at (most - i) n s) ≡ Err TooLong = rw k refl in
+    sym so_far ∙ one
+
+-- ---- the file
+
+-- events behind a header
+abbrev pub behind : Heading → Result (List Event) FileFault → Result (Heading × List Event) FileFault
+behind h read = read >>= λ es. Ok (h, es)
+
+abbrev reversed : Heading → Result (List Event) FileFault → Result (Heading × List Event) FileFault
+reversed h read = read >>= λ es. Ok (h, reverse es)
+
+all_onto : (h : Heading) (read : Result (List Event) FileFault) → reversed h read ≡ behind h (onto [] read)
+all_onto h (Ok es) = ap (λ (l : List Event). Ok (h, l)) (sym (append-nil (reverse es)))
+all_onto h (Err f) = refl
+
+-- what a file says, once its header was read
+pub file_from : (bytes : List ℕ) (h : Heading) (next : Spot) → header_at (start_of bytes) ≡ Ok (h, next) → file_of bytes ≡ behind h (onto [] (events_at (limit + 1) h.p.n next))
+unfolding file_of
+file_from bytes h next read = rw read (all_onto h (events_at (limit + 1) h.p.n next))
+
+-- a fault of the header is one of the file
+pub file_fails : (bytes : List ℕ) (x : FileFault) → Fails x (header_at (start_of bytes)) → Fails x (file_of bytes)
+unfolding file_of
+file_fails bytes x read = λ own. rw (read own) refl
+
+abbrev pub events_of : List Event → Result (List Event) FileFault → List Event
+events_of d (Ok es) = es
+events_of d (Err x) = d
+
+-- a list that isn't read has one fault
+pub list_fault : (read : Result (List Event) FileFault) (x y : FileFault) → read ≡ Err x → read ≡ Err y → x ≡ y
+list_fault (Ok es) x y a b = absurd cc
+list_fault (Err z) x y a b = cc
+
+-- a file has one fault
+pub fault_of : (read : Result (Heading × List Event) FileFault) (x y : FileFault) → read ≡ Err x → read ≡ Err y → x ≡ y
+fault_of (Ok h) x y a b = absurd cc
+fault_of (Err z) x y a b = cc
+
+-- what a header and the events behind it give
+
+pub header_behind : (k h : Heading) (read : Result (List Event) FileFault) (es : List Event) → behind k read ≡ Ok (h, es) → k ≡ h
+header_behind k h (Ok ds) es e = ap (heading_in k) e
+header_behind k h (Err x) es e = absurd cc
+
+pub events_behind : (k h : Heading) (read : Result (List Event) FileFault) (es : List Event) → behind k read ≡ Ok (h, es) → read ≡ Ok es
+events_behind k h (Ok ds) es e = ap (λ (l : List Event). Ok l) (ap (events_in []) e)
+events_behind k h (Err x) es e = absurd cc
+
+pub fault_behind : (k : Heading) (read : Result (List Event) FileFault) (x : FileFault) → behind k read ≡ Err x → read ≡ Err x
+fault_behind k (Ok ds) x e = absurd cc
+fault_behind k (Err y) x e = cc

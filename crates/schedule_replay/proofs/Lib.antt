@@ -1,0 +1,9 @@
+pub mod Feeding
+pub mod Files
+pub mod Deals
+pub mod Written
+pub mod Outs
+pub mod Totals
+pub mod Dealt
+pub mod Ending
+pub mod Pieces

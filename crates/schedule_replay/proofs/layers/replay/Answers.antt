@@ -1,0 +1,48 @@
+use Rattle.std.proofs.Common.{◌≡◌, ℕ, List, [], Result, Ok, Err, refl, sym, ◌∙◌, ap, subst}
+use Rattle.ritas_base.specs.declared.event.Event.{Event}
+use Rattle.schedule_file.specs.declared.fault.FileFault.{FileFault}
+use Rattle.schedule_file.specs.Place.{spot}
+use Rattle.schedule_file.specs.ReadEvents.{events_at}
+use Rattle.schedule_file.specs.ReadHeader.{heading}
+use Rattle.schedule_file.specs.Schedule.{file_of}
+use Rattle.schedule_replay.specs.Layers.{setting_of}
+use Rattle.schedule_replay.specs.Onto.{onto}
+use Rattle.schedule_replay.proofs.Feeding.{behind, file_from, file_fails, events_behind, fault_behind}
+use Rattle.schedule_replay.proofs.Files.{one_header}
+use Rattle.schedule_replay.proofs.Ending.{ended_at, end_of_world, end_of_bytes, shows_nothing}
+use Rattle.schedule_replay.proofs.layers.replay.Goals as goal
+
+pub returns-in-Ok-clause-shows : goal.returns-in-Ok-clause-shows
+returns-in-Ok-clause-shows g c = λ tells.
+    let bytes = g.S.Source.left c.args.src.now in
+    let k = c.in-Ok.header in
+    let next = spot c.in-Ok.reader.held (g.S.Source.left c.start.new.src) in
+    let read : ℕ → Result (List Event) FileFault = λ n. onto [] (events_at 67108865 n next) in
+    let from_header = file_from bytes (heading k) next (c.in-Ok.ensures.exact tells) in
+    record {
+      shown = λ h es file.
+          let events : read k.p.n ≡ Ok es = events_behind (heading k) (heading h) (read k.p.n) es (sym from_header ∙ file) in
+          let same = one_header (file_of bytes) k h es es (from_header ∙ ap (behind (heading k)) events) file in
+          let own : read c.in-Ok.reader.n ≡ Ok es = subst (λ (n : ℕ). read n ≡ Ok es) (sym c.in-Ok.ensures.ready.1) events in
+          rw same at ((c.replay_events.ensures.shows tells).shown es own);
+      refused = λ e file.
+          let events : read k.p.n ≡ Err e = fault_behind (heading k) (read k.p.n) e (sym from_header ∙ file) in
+          let own : read c.in-Ok.reader.n ≡ Err e = subst (λ (n : ℕ). read n ≡ Err e) (sym c.in-Ok.ensures.ready.1) events in
+          (c.replay_events.ensures.shows tells).refused e own;
+    }
+
+pub returns-in-Err-clause-shows : goal.returns-in-Err-clause-shows
+returns-in-Err-clause-shows g c = λ tells.
+    let bytes = g.S.Source.left c.args.src.now in
+    let fault = c.in-Err.fault in
+    let fails = file_fails bytes fault (c.in-Err.ensures.exact tells) in
+    rw c.end_at.ensures (record {
+      shown = λ h es file. shows_nothing g.K.Sink.tells g.K.Sink.taken c.args.sink.now c.args.what fault h (setting_of h) es
+          (end_of_world fault (file_of bytes) (heading h, es) _ fails file);
+      refused = λ e file. record { answer = end_of_bytes fault (file_of bytes) e fails file; kept = refl };
+    })
+
+pub returns-in-Err-clause-ended : goal.returns-in-Err-clause-ended
+returns-in-Err-clause-ended g c =
+    rw c.end_at.ensures (ended_at g.S.Source.faults c.args.src.now c.start.new.src g.K.Sink.faults c.args.sink.now c.args.what c.in-Err.fault
+    c.in-Err.ensures.cause.later (λ is. c.in-Err.ensures.cause.cause (ap Err is)))

@@ -1,0 +1,23 @@
+use Rattle.std.proofs.Common.{◌≡◌, ◌≤◌, ◌-◌, List, true}
+use Rattle.ritas_base.specs.declared.event.Event.{Event}
+use Rattle.schedule_file.specs.declared.stage.Stage.TheVariants.{Open}
+use Rattle.schedule_file.specs.Place.{spot}
+use Rattle.schedule_file.specs.ReadEvents.{events_at}
+use Rattle.world_model.specs.Counts.{total}
+use Rattle.schedule_replay.specs.Layers.{layers_by}
+use Rattle.schedule_replay.specs.Onto.{onto}
+use Rattle.schedule_replay.specs.Replayed.{StandsFor}
+use Rattle.schedule_replay.proofs.replayed.Replayed.play.Given as goal
+
+abbrev pub invariant-loop : goal.invariant-loop
+invariant-loop g l =
+    let m = layers_by g.S.Service.stands g.S.Service.rules g.S.Service.shown g.E.Broadcast.stands g.E.Broadcast.rules g.E.Broadcast.shown in
+    (l.reader.stage ≡ Open)
+    × (l.reader.n ≡ l.initial.reader.n)
+    × (l.self.header ≡ l.initial.self.header)
+    × (g.I.Source.faults l.initial.input ≤ g.I.Source.faults l.input)
+    × (total l.self.counts ≤ l.counter)
+    × (g.I.Source.tells ≡ true → (before : List Event) → StandsFor m l.initial.self before →
+    (h : List Event) × StandsFor m l.self h
+    × (onto h (events_at (67108865 - l.counter) l.reader.n (spot l.reader.held (g.I.Source.left l.input)))
+    ≡ onto before (events_at 67108865 l.initial.reader.n (spot l.initial.reader.held (g.I.Source.left l.initial.input)))))

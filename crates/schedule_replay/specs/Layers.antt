@@ -1,0 +1,79 @@
+-- The layers of the program, and the world that a schedule file's header describes: its layers, and its keys and coins dealt from the master key.
+use Rattle.std.specs.Prelude.{◌≡◌, ℕ, ◌==◌, List, true, false, if◌then◌else◌}
+use Rattle.ritas_base.specs.declared.mode.Mode.{Mode}
+use Rattle.ritas_base.specs.History.{Call}
+use Rattle.ritas_base.specs.Messages.{Place}
+use Rattle.ritas_base.specs.Tags.{Tags}
+use Rattle.ritas_base.specs.Members.{has_member}
+use Rattle.keyed_channel.specs.Keyed.{CoinSeed, dealt, coin_key_of, coin_bit, tags_of}
+use Rattle.keyed_channel.specs.KeyRow.{KeyRow}
+use Rattle.reliable_bcast.specs.Bracha.{bracha}
+use Rattle.echo_bcast.specs.Matrix.{echo}
+use Rattle.atomic_bcast.specs.Commands.{commands}
+use Rattle.binary_consensus.specs.Consensus.{binary}
+use Rattle.binary_consensus.specs.Root.{binary_root}
+use Rattle.multivalued.specs.Consensus.{multivalued}
+use Rattle.multivalued.specs.Root.{multi_root}
+use Rattle.vector_consensus.specs.Consensus.{vectors}
+use Rattle.vector_consensus.specs.Root.{vector_root}
+use Rattle.ritas_core.specs.Rules.{other_form, at_slot_of}
+use Rattle.ritas_core.specs.Stands.{Meaning, meaning}
+use Rattle.schedule_file.specs.declared.header.Header.{Header}
+use Rattle.schedule_file.specs.declared.header.HeaderKeys.{HeaderKeys}
+use Rattle.schedule_file.specs.declared.header.HeaderKeys.TheVariants.{Master}
+use Rattle.layer_api.specs.Broadcast.{BroadcastRules}
+use Rattle.layer_api.specs.BroadcastCalls.{CastShown}
+use Rattle.layer_api.specs.Service.{ServiceRules, Seat}
+use Rattle.layer_api.specs.Words.{Word}
+use Rattle.layer_api.specs.ServiceCalls.{ServiceShown}
+use Rattle.ritas_core.specs.CoreOf.{IsCoreOf}
+use Rattle.world_model.specs.World.{Setting, rules_at}
+
+-- a service and a broadcast beside the reliable one, with keys and coins that were dealt
+abbrev pub layers_by : {S E : Type 0} → (S → Seat → List Word → Type 0) → ServiceRules → (S → ServiceShown)
+    → (E → Place → Tags → List Call → Type 0) → BroadcastRules → (E → CastShown) → Meaning S E CoinSeed KeyRow
+layers_by service_stands service service_shown other_stands other other_shown =
+    meaning service_stands service service_shown other_stands other other_shown coin_bit (λ k. k.me) tags_of
+
+-- the broadcast that a mode has beside the reliable one
+abbrev pub other_of : Mode → BroadcastRules
+other_of mode = if other_form mode == 2 then echo else bracha
+
+abbrev pub master_of : HeaderKeys → List ℕ
+master_of (Master master) = master
+
+-- the keys and the coin of replica i
+abbrev pub dealt_to : Header → ℕ → KeyRow
+dealt_to h i = dealt (master_of h.keys) h.session h.p.n i
+
+abbrev pub coin_to : Header → ℕ → CoinSeed
+coin_to h i = record { session = h.session; key = coin_key_of (master_of h.keys) h.session i }
+
+-- the world of a header, with a service and a broadcast: no replica stops between events
+abbrev pub setting_by : ServiceRules → BroadcastRules → Header → Setting
+setting_by service other h = record {
+  numbers = h.p;
+  mode = h.mode;
+  is_correct = has_member h.correct;
+  at_slot = at_slot_of h.mode other;
+  service = service;
+  coin = λ i. coin_bit (coin_to h i);
+  keys = dealt_to h;
+  stops = λ k i. false;
+}
+
+-- the service of a root service
+abbrev pub service_of : ℕ → ServiceRules
+service_of root =
+    if root == 3 then binary_root binary
+    else if root == 4 then multi_root (multivalued binary)
+    else if root == 5 then vector_root (vectors (multivalued binary))
+    else commands
+
+-- the world of a header: the service of its root service, and the broadcasts of its mode
+abbrev pub setting_of : Header → Setting
+setting_of h = setting_by (service_of h.mode.root) (other_of h.mode) h
+
+-- the correct replicas of a world have cores of this service and this broadcast
+abbrev pub AreCoresOf : ServiceRules → BroadcastRules → Setting → Type 0
+AreCoresOf service cast w = (i : ℕ) → w.is_correct i ≡ true → IsCoreOf service cast (rules_at w i)

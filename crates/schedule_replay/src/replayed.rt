@@ -1,0 +1,134 @@
+//! Reading a schedule, and replaying it as it is read.
+ghost use Rattle.std.specs.Prelude.{◌≡◌, List, [], true, Ok, Err, IfOk, MatchResult};
+ghost use Rattle.outside.specs.Faults.{HasCause};
+ghost use Rattle.ritas_base.specs.declared.event.Event.{Event};
+ghost use Rattle.ritas_core.specs.Rules.{other_form};
+ghost use Rattle.schedule_file.specs.declared.fault.FileFault.TheVariants.{Read};
+ghost use Rattle.schedule_file.specs.declared.stage.Stage.TheVariants.{Open};
+ghost use Rattle.schedule_file.specs.FileBytes.{Fails};
+ghost use Rattle.schedule_file.specs.ReadHeader.{heading};
+ghost use Rattle.schedule_file.specs.Spelling.{IsHeading};
+ghost use Rattle.schedule_replay.specs.Layers.{layers_by};
+ghost use Rattle.schedule_replay.specs.Onto.{more_events};
+ghost use Rattle.schedule_replay.specs.Replayed.{StandsFor};
+
+use crate::deal::{deal_coins, deal_keys};
+use keyed_channel::SeedCoin;
+use layer_api::{Broadcast, Service};
+use outside::Source;
+use ritas_base::{Event, Mem};
+use schedule_file::{FileFault, Header, Reader};
+use std::alloc::Global;
+use world_model::{Counts, World};
+
+/// A schedule's header, its world after the events, and how these were answered.
+#[derive(Drop)]
+pub(crate) struct Replayed<S: Service, E: Broadcast> {
+    pub(crate) header: Header,
+    pub(crate) world: World<S, E, SeedCoin>,
+    pub(crate) counts: Counts,
+}
+
+impl<S: Service, E: Broadcast> Replayed<S, E> {
+    ghost use Rattle.std.specs.Prelude.{◌≡◌, ◌<◌, ◌≤◌, ◌+◌, ◌-◌, ◌^◌, List, [], ◌∷◌, true, Ok, Err, OnOk, IfOk, MatchResult};
+    ghost use Rattle.outside.specs.Faults.{HasCause};
+    ghost use Rattle.ritas_base.specs.declared.event.Event.{Event};
+    ghost use Rattle.ritas_core.specs.Rules.{other_form};
+    ghost use Rattle.schedule_file.specs.declared.fault.FileFault.TheVariants.{Read};
+    ghost use Rattle.schedule_file.specs.declared.stage.Stage.TheVariants.{Open};
+    ghost use Rattle.schedule_file.specs.FileBytes.{Fails};
+    ghost use Rattle.schedule_file.specs.ReadHeader.{heading};
+    ghost use Rattle.schedule_file.specs.Spelling.{IsHeading};
+    ghost use Rattle.world_model.specs.Counts.{total};
+    ghost use Rattle.ritas_base.specs.Events.{MayHappen};
+    ghost use Rattle.schedule_replay.specs.Layers.{layers_by};
+    ghost use Rattle.schedule_replay.specs.Onto.{more_events};
+    ghost use Rattle.schedule_replay.specs.Replayed.{StandsFor};
+
+    // The world of a header, before any event.
+    fn new(alloc: Global, header: Header) -> Result<Replayed<S, E>, Mem>
+        requires heading { IsHeading (heading header) }
+        requires serves { S.rules.serves header.mode.root ≡ true }
+        requires form { E.FORM ≡ other_form header.mode }
+        ensures stands { let m = layers_by S.stands S.rules S.shown E.stands E.rules E.shown in IfOk result (λ x. StandsFor m x []) }
+        ensures header { IfOk result (λ x. x.header ≡ header) }
+        ensures none { IfOk result (λ x. total x.counts ≡ 0) }
+    {
+        let keys = deal_keys(alloc, &header)?;
+        let coins = deal_coins(alloc, &header)?;
+        let world = World::new(alloc, header.p, header.mode, header.correct, keys, coins)?;
+        Ok(Replayed {
+            header,
+            world,
+            counts: Counts::new(),
+        })
+    }
+
+    // Lets one event more happen.
+    fn step(&mut self, alloc: Global, event: &Event) -> Result<(), Mem>
+        requires { total self.old.counts < 2 ^ 64 - 1 }
+        ensures stands { let m = layers_by S.stands S.rules S.shown E.stands E.rules E.shown in
+            (es : List Event) → StandsFor m self.old es → MayHappen self.old.header.p.n event.now
+            → OnOk result (StandsFor m self.new (event.now ∷ es)) }
+        ensures header { self.new.header ≡ self.old.header }
+        ensures one { total self.new.counts ≤ total self.old.counts + 1 }
+    {
+        let seen = self.world.event(alloc, event)?;
+        self.counts.count(&seen);
+        Ok(())
+    }
+
+    // Takes the events up to the end of the file.
+    fn play<I: Source>(
+        &mut self,
+        alloc: Global,
+        reader: &mut Reader,
+        input: &mut I,
+    ) -> Result<(), FileFault>
+        requires open { reader.old.stage ≡ Open }
+        requires n { reader.old.n ≡ self.old.header.p.n }
+        requires none { total self.old.counts ≡ 0 }
+        ensures exact { let m = layers_by S.stands S.rules S.shown E.stands E.rules E.shown in
+            I.tells ≡ true → (before : List Event) → StandsFor m self.old before → MatchResult result
+            (λ _. (es : List Event) × StandsFor m self.new es
+            × (more_events before reader.old (I.left input.old) ≡ Ok es))
+            (λ e. Fails e (more_events before reader.old (I.left input.old))) }
+        ensures header { self.new.header ≡ self.old.header }
+        ensures cause { HasCause (I.faults input.old) (I.faults input.new) (result ≡ Err Read) }
+    {
+        for _ in 0..67_108_865u32 {
+            match reader.next(alloc, input)? {
+                None => return Ok(()),
+                Some(event) => self.step(alloc, &event)?,
+            }
+        }
+        Err(FileFault::TooLong)
+    }
+}
+
+/// Reads the events behind a header, to the end of the schedule, and replays them as they are read.
+///
+/// `Read` is answered only where the source failed.
+pub(crate) fn load<S: Service, E: Broadcast, I: Source>(
+    alloc: Global,
+    header: Header,
+    reader: &mut Reader,
+    input: &mut I,
+) -> Result<Replayed<S, E>, FileFault>
+    requires heading { IsHeading (heading header) }
+    requires serves { S.rules.serves header.mode.root ≡ true }
+    requires form { E.FORM ≡ other_form header.mode }
+    requires open { reader.old.stage ≡ Open }
+    requires n { reader.old.n ≡ header.p.n }
+    ensures exact { let m = layers_by S.stands S.rules S.shown E.stands E.rules E.shown in
+        I.tells ≡ true → MatchResult result
+        (λ x. (es : List Event) × StandsFor m x es
+        × (more_events [] reader.old (I.left input.old) ≡ Ok es))
+        (λ e. Fails e (more_events [] reader.old (I.left input.old))) }
+    ensures header { IfOk result (λ x. x.header ≡ header) }
+    ensures cause { HasCause (I.faults input.old) (I.faults input.new) (result ≡ Err Read) }
+{
+    let mut replayed = Replayed::new(alloc, header)?;
+    replayed.play(alloc, reader, input)?;
+    Ok(replayed)
+}

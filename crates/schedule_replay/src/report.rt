@@ -1,0 +1,207 @@
+//! The text of a report.
+ghost use Rattle.std.specs.Prelude.{◌≡◌, ◌<◌, ◌++◌, List, true, Some, OnOk, IfOk, string_bytes, filter};
+ghost use Rattle.std.specs.List.{flat_map, range_with_len};
+ghost use Rattle.ritas_base.specs.declared.event.Event.{Event};
+ghost use Rattle.keyed_channel.specs.Keyed.{tags_of};
+ghost use Rattle.keyed_channel.specs.KeyRow.{KeyRow};
+ghost use Rattle.ritas_base.specs.Slots.{command_slot};
+ghost use Rattle.replica.specs.Replica.{ReplicaStands};
+ghost use Rattle.ritas_core.specs.CoreOf.{IsCoreOf};
+ghost use Rattle.ritas_core.specs.Machine.{CoreState};
+ghost use Rattle.ritas_core.specs.Parts.{parts};
+ghost use Rattle.ritas_core.specs.Rules.{Rules, seat_of, other_form};
+ghost use Rattle.ritas_core.specs.Shown.{delivered_at};
+ghost use Rattle.ritas_core.specs.Stands.{meaning, CoreStands};
+ghost use Rattle.world_model.specs.Audit.{audit_of};
+ghost use Rattle.world_model.specs.Stands.{WorldStands};
+ghost use Rattle.world_model.specs.World.{Setting};
+ghost use Rattle.schedule_replay.specs.Layers.{setting_by, layers_by, AreCoresOf};
+ghost use Rattle.schedule_replay.specs.Replayed.{StandsFor};
+ghost use Rattle.schedule_replay.specs.Report.{out_line, origin_lines, outs_of, out_lines, ending_line, service_lines, lines_of, replica_lines, report_on};
+
+use crate::lines::{audit_line, count_line, ending_line, head_line, out_line, replica_line};
+use crate::replayed::Replayed;
+use keyed_channel::Channel;
+use layer_api::{Broadcast, Service};
+use replica::Replica;
+use ritas_base::{Coin, Slot};
+use ritas_core::{Core, delivered_within};
+use std::alloc::{AllocError, Global};
+use world_model::{Audit, World};
+
+fn command_slot(origin: u8, num: u32) -> Slot
+    ensures { result ≡ command_slot origin num }
+{
+    Slot {
+        class: 1,
+        a: num,
+        attempt: 0,
+        bround: 0,
+        step: 0,
+        origin,
+    }
+}
+
+// Appends the line of a command that was delivered.
+fn add_out(
+    alloc: Global,
+    text: &mut String,
+    origin: u8,
+    num: u32,
+    value: &[u8],
+) -> Result<(), AllocError>
+    ensures { OnOk result (string_bytes text.new ≡ string_bytes text.old ++ out_line origin num (Some value.now)) }
+{
+    let line = out_line(alloc, origin, num, value)?;
+    text.push_str(line.as_str())?;
+    Ok(())
+}
+
+// Appends the line of a command, where a core has delivered it.
+fn add_delivered<S: Service, E: Broadcast, C: Coin + Drop>(
+    alloc: Global,
+    text: &mut String,
+    core: &Core<S, E, C, Channel>,
+    origin: u8,
+    num: u32,
+) -> Result<(), AllocError>
+    ensures { let m = meaning S.stands S.rules S.shown E.stands E.rules E.shown C.bits (λ k. k.me) tags_of in
+        (r : Rules) (st : CoreState) → CoreStands m core.now r st → st.live ≡ true
+        → OnOk result (string_bytes text.new ≡ string_bytes text.old ++ out_line origin num (delivered_at r st.history (command_slot origin num))) }
+{
+    match core.delivered(&command_slot(origin, num)) {
+        Some(value) => add_out(alloc, text, origin, num, value),
+        None => Ok(()),
+    }
+}
+
+// Appends the lines of an origin's commands that a core has delivered. None has a number beyond the origin's window.
+fn add_origin<S: Service, E: Broadcast, C: Coin + Drop>(
+    alloc: Global,
+    text: &mut String,
+    core: &Core<S, E, C, Channel>,
+    origin: u8,
+) -> Result<(), AllocError>
+    ensures { let m = meaning S.stands S.rules S.shown E.stands E.rules E.shown C.bits (λ k. k.me) tags_of in
+        (r : Rules) (st : CoreState) → CoreStands m core.now r st → st.live ≡ true → IsCoreOf S.rules E.rules r → origin < r.casts.numbers.n
+        → OnOk result (string_bytes text.new ≡ string_bytes text.old ++ origin_lines (outs_of r st.history origin) origin) }
+{
+    delivered_within::<S, E>();
+    let end = core
+        .service()
+        .base(origin)
+        .saturating_add(64)
+        .min(1_000_000);
+    for num in 0..end {
+        add_delivered(alloc, text, core, origin, num)?;
+    }
+    Ok(())
+}
+
+// Appends the lines of all commands that a core has delivered, by origin and number.
+fn add_outs<S: Service, E: Broadcast, C: Coin + Drop>(
+    alloc: Global,
+    text: &mut String,
+    core: &Core<S, E, C, Channel>,
+) -> Result<(), AllocError>
+    ensures { let m = meaning S.stands S.rules S.shown E.stands E.rules E.shown C.bits (λ k. k.me) tags_of in
+        (r : Rules) (st : CoreState) → CoreStands m core.now r st → st.live ≡ true → IsCoreOf S.rules E.rules r
+        → OnOk result (string_bytes text.new ≡ string_bytes text.old ++ out_lines r st.history) }
+{
+    for origin in 0..core.params().n() {
+        add_origin(alloc, text, core, origin)?;
+    }
+    Ok(())
+}
+
+// Appends what became of the one instance of a core's service.
+fn add_ending<S: Service, E: Broadcast, C: Coin + Drop>(
+    alloc: Global,
+    text: &mut String,
+    core: &Core<S, E, C, Channel>,
+) -> Result<(), AllocError>
+    ensures { let m = meaning S.stands S.rules S.shown E.stands E.rules E.shown C.bits (λ k. k.me) tags_of in
+        (r : Rules) (st : CoreState) → CoreStands m core.now r st → st.live ≡ true → IsCoreOf S.rules E.rules r
+        → OnOk result (string_bytes text.new ≡ string_bytes text.old
+        ++ ending_line (r.service.outcome (seat_of r) (parts r st.history).words)) }
+{
+    let line = ending_line(alloc, core.service().outcome())?;
+    text.push_str(line.as_str())?;
+    Ok(())
+}
+
+// Appends what a core's service shows.
+fn add_service<S: Service, E: Broadcast, C: Coin + Drop>(
+    alloc: Global,
+    text: &mut String,
+    core: &Core<S, E, C, Channel>,
+) -> Result<(), AllocError>
+    ensures { let m = meaning S.stands S.rules S.shown E.stands E.rules E.shown C.bits (λ k. k.me) tags_of in
+        (r : Rules) (st : CoreState) → CoreStands m core.now r st → st.live ≡ true → IsCoreOf S.rules E.rules r
+        → OnOk result (string_bytes text.new ≡ string_bytes text.old ++ service_lines r st.history) }
+{
+    if core.mode().root <= 2 {
+        add_outs(alloc, text, core)
+    } else {
+        add_ending(alloc, text, core)
+    }
+}
+
+// Appends the lines of a replica: how it stands, and what its service shows.
+fn add_replica<S: Service, E: Broadcast, C: Coin + Drop>(
+    alloc: Global,
+    text: &mut String,
+    i: u8,
+    replica: &Replica<S, E, C>,
+) -> Result<(), AllocError>
+    ensures { let m = meaning S.stands S.rules S.shown E.stands E.rules E.shown C.bits (λ k. k.me) tags_of in
+        (r : Rules) (k : KeyRow) (st : CoreState) → ReplicaStands m replica.now r k st → st.live ≡ true → IsCoreOf S.rules E.rules r
+        → OnOk result (string_bytes text.new ≡ string_bytes text.old ++ lines_of i r k st) }
+{
+    let core = replica.core();
+    let line = replica_line(alloc, i, replica.sent(), core.inbox_len(), core.held())?;
+    text.push_str(line.as_str())?;
+    add_service(alloc, text, core)
+}
+
+// Appends the lines of the correct replicas of a world, of n.
+fn add_replicas<S: Service, E: Broadcast, C: Coin + Drop>(
+    alloc: Global,
+    text: &mut String,
+    world: &World<S, E, C>,
+    n: u8,
+) -> Result<(), AllocError>
+    ensures { let m = meaning S.stands S.rules S.shown E.stands E.rules E.shown C.bits (λ k. k.me) tags_of in
+        (w : Setting) (es : List Event) → WorldStands m world.now w es → n ≡ w.numbers.n → AreCoresOf S.rules E.rules w
+        → OnOk result (string_bytes text.new ≡ string_bytes text.old
+        ++ flat_map (replica_lines w es) (filter w.is_correct (range_with_len 0 w.numbers.n))) }
+{
+    for i in 0..n {
+        match world.replica(i) {
+            Some(replica) => add_replica(alloc, text, i, replica)?,
+            None => {}
+        }
+    }
+    Ok(())
+}
+
+/// The report of a schedule, whose audit is this. The one error is want of memory.
+pub(crate) fn report_text<S: Service, E: Broadcast>(
+    alloc: Global,
+    x: &Replayed<S, E>,
+    audit: Audit,
+) -> Result<String, AllocError>
+    requires serves { S.rules.serves x.now.header.mode.root ≡ true }
+    requires form { E.FORM ≡ other_form x.now.header.mode }
+    ensures { let m = layers_by S.stands S.rules S.shown E.stands E.rules E.shown in
+        (es : List Event) → StandsFor m x.now es → audit ≡ audit_of (setting_by S.rules E.rules x.now.header) es
+        → IfOk result (λ s. string_bytes s ≡ report_on x.now.header (setting_by S.rules E.rules x.now.header) es) }
+{
+    let mut text = head_line(alloc, &x.header)?;
+    let counts = count_line(alloc, x.world.events(), &x.counts)?;
+    text.push_str(counts.as_str())?;
+    add_replicas(alloc, &mut text, &x.world, x.header.p.n())?;
+    let last = audit_line(alloc, audit)?;
+    text.push_str(last.as_str())?;
+    Ok(text)
+}

@@ -1,0 +1,49 @@
+use crate::{ReplayEnd, replay};
+use outside::{MemSink, MemSource};
+use ritas_base::What;
+use std::alloc::Global;
+use std::test::*;
+use world_model::Audit;
+
+// Two replicas, of which one is correct: an input, a READY from the other for another value, and two turns. The file and
+// its texts were made from numbers by a model of the protocol that shares nothing with this code.
+const OUTNUMBERED: &[u8] =
+    b"RITS\x01\0\0\0\0\0\0\0\x01\x02\0\x01\x01\0\0\0\x01\0M\xd1[\xf9)2\xfb\x92\08,gP\0\x06\xc03\x07\xa5m\x9b\xe8\x82\xe2XE;\x12\x80W#\xc5\
+\x02\0\0\x01a\x05\x01\0\0\x0b\x03\x01\0\0\0\0\0\0\0\0b\x03\0\x03\0\0";
+
+const REPORT: &str = "ritas n=2 f=0 root=1 vect=echo session=1
+events 4 took 4 held 0 repeat 0 idle 0 missed 0 open 0 body 0 core 0
+replica 0 sent 3 inbox 1 held 0
+out 0.0 62
+audit too many faulty
+";
+
+const FRAMES: &str =
+    "0 0 1 0100010000000000000000010100000000000000006188aae70fe124e6453e4947d04e52585dffd4e0b36b17d72bd04491ed77920e8e
+1 0 1 0100010000000000000001030100000000000000006205eb67245c43a85fd366035f9b86f6600d5d3f9bc5d38c51bc8cfeee237d6154
+2 0 1 01000100000000000000020201000000000000000061792ed0afa1876120b332a6676b044bdb8aa6fee05c0c835b7fc20ae675574f71
+audit too many faulty
+";
+
+// The end of a replay, where the text is this one.
+fn end(alloc: Global, what: What, text: &str) -> Result<Option<ReplayEnd>, Fail> {
+    let mut src = MemSource::new(alloc, OUTNUMBERED, &[])?;
+    let mut sink = MemSink::new(alloc, 1000, &[])?;
+    let end = replay(alloc, &mut src, &mut sink, what);
+    if sink.taken() == text.as_bytes() {
+        Ok(Some(end))
+    } else {
+        Ok(None)
+    }
+}
+
+#[test]
+fn replays_with_ample_memory(rt: HostRuntime) -> Result<(), Fail> {
+    for (what, text) in [(What::Report, REPORT), (What::Frames, FRAMES)] {
+        assert_eq!(rt;
+            end(rt.alloc(), what, text)?,
+            Some(ReplayEnd::Done(Audit::TooManyFaulty))
+        );
+    }
+    Ok(())
+}
