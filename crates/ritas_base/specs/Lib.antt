@@ -1,6 +1,8 @@
 pub mod Numbers
 pub mod Members
+pub mod MemberLaws
 pub mod Slots
+pub mod SlotLaws
 pub mod SlotOrder
 pub mod Events
 pub mod Messages

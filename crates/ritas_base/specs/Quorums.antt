@@ -1,5 +1,5 @@
 -- Counting by a test, and sets that are large enough to share a member.
-use Rattle.std.specs.Prelude.{◌≡◌, ◌<◌, ◌≤◌, ◌+◌, ◌*◌, Bool, true, false, List, [], ◌∷◌, map, count_by, cond, length, refl}
+use Rattle.std.specs.Prelude.{◌≡◌, ◌<◌, ◌≤◌, ◌+◌, ◌*◌, Bool, true, false, not, ◌&&◌, List, [], ◌∷◌, map, count_by, cond, length, refl}
 use Rattle.std.proofs.Common.{sym, ◌∙◌, ap, inl, inr, arith}
 use Rattle.std.proofs.lemmas.Bool.{cases_Bool, both_ways}
 use Rattle.std.proofs.lemmas.List.Sums.{sum_by-cons, sum_by-le-sum_by}
@@ -50,6 +50,36 @@ one_at_most true false f = absurd (both_ways false refl (f refl))
 pub count_more : {A : Type 0} (p q : A → Bool) → ((x : A) → p x ≡ true → q x ≡ true) → (xs : List A) → count_by p xs ≤ count_by q xs
 count_more p q wider xs =
     sum_by-le-sum_by (λ x. cond (p x) 1 0) (λ x. cond (q x) 1 0) xs (λ x. one_at_most (p x) (q x) (wider x))
+
+-- where some pass, one does
+pub some_member : {A : Type 0} (p : A → Bool) (xs : List A) → 0 < count_by p xs → (x : A) × (p x ≡ true)
+some_member p [] l = absurd (omega (arith, l))
+some_member p (x ∷ xs) l =
+    elim (cases_Bool (p x)) [
+      | inl e ↦ (x, e)
+      | inr e ↦ let m = count_no p x xs e in some_member p xs (omega (arith, l, m))
+    ]
+
+-- where none passes the second test, no fewer pass the first and not the second
+pub count_without : {A : Type 0} (p q : A → Bool) (xs : List A) → count_by q xs ≡ 0 → count_by p xs ≤ count_by (λ x. p x && not (q x)) xs
+count_without p q [] e = omega arith
+count_without p q (x ∷ xs) e =
+    elim (cases_Bool (q x)) [
+      | inl y ↦ absurd (let m = count_yes q x xs y in omega (arith, m, e))
+      | inr n ↦
+          let m = count_no q x xs n in
+          let ih = count_without p q xs (omega (arith, m, e)) in
+          elim (cases_Bool (p x)) [
+            | inl y ↦
+                let a = count_yes p x xs y in
+                let b = count_yes (λ x. p x && not (q x)) x xs (ap (λ (b : Bool). b && not (q x)) y ∙ ap not n) in
+                omega (arith, ih, a, b)
+            | inr z ↦
+                let a = count_no p x xs z in
+                let b = count_no (λ x. p x && not (q x)) x xs (ap (λ (b : Bool). b && not (q x)) z) in
+                omega (arith, ih, a, b)
+          ]
+    ]
 
 -- an element at which both tests pass
 pub record InTwo {A : Type 0} (p c : A → Bool) : Type 0 where

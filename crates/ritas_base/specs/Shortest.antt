@@ -1,5 +1,5 @@
 -- The shortest prefix of a history at which something is there. With the newest call first a prefix is a tail.
-use Rattle.std.specs.Prelude.{◌≡◌, List, [], ◌∷◌, ◌++◌, Option, Some, None, refl, ◌⊎◌}
+use Rattle.std.specs.Prelude.{◌≡◌, false, List, [], ◌∷◌, ◌++◌, Option, Some, None, is_some, refl, ◌⊎◌}
 use Rattle.std.proofs.Common.{sym, ◌∙◌, ap, inl, inr, append_assoc}
 use Rattle.std.specs.Option.{option_or}
 
@@ -15,6 +15,11 @@ pub record IsAtShortest {C V : Type 0} (f : List C → Option V) (h : List C) (v
   pub whole : later ++ prefix ≡ h
   pub gives : f prefix ≡ Some v
   pub none_before : (r : List C) (c : C) (b : List C) → r ++ c ∷ b ≡ prefix → f b ≡ None
+
+-- what isn't there is nothing
+pub not_there : {A : Type 0} (o : Option A) → is_some o ≡ false → o ≡ None
+not_there None e = refl
+not_there (Some x) e = absurd cc
 
 pub option_or_none : {A : Type 0} (a : Option A) → option_or a None ≡ a
 option_or_none None = refl

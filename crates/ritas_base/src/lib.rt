@@ -11,6 +11,8 @@ mod params;
 mod sender_set;
 mod slot;
 mod tagger;
+#[cfg(test)]
+mod tests;
 mod what;
 
 pub use bytes::{Bytes, Mem};

@@ -1,6 +1,6 @@
-ghost use Rattle.std.specs.Prelude.{◌≡◌, Some, None, MatchResult, OnOk, if◌then◌else◌, ◌==◌};
+ghost use Rattle.std.specs.Prelude.{◌≡◌, Some, None, MatchResult, OnOk, if◌then◌else◌, ◌==◌, ◌&&◌};
 ghost use Rattle.ritas_base.specs.Numbers.{IsSession};
-ghost use Rattle.ritas_base.specs.Slots.{slot_fault, slot_bytes, by_echo, has_class, within};
+ghost use Rattle.ritas_base.specs.Slots.{slot_fault, slot_bytes, by_echo, has_class, has_count, within};
 
 use crate::mode::{Mode, Vect};
 use crate::params::Params;
@@ -113,6 +113,15 @@ impl Slot {
             return Err(SlotFault::Origin);
         }
         Ok(())
+    }
+
+    /// Whether the round and the step of binary consensus are right: from 1 to 200 and from 1 to 3 in class 5, and 0 in
+    /// the other classes, which have neither.
+    pub fn has_counts(&self) -> bool
+        ensures { result ≡ (has_count 200 self.now.class self.now.bround && has_count 3 self.now.class self.now.step) }
+    {
+        let is_step = self.class == 5;
+        is_count(is_step, 200, self.bround) && is_count(is_step, 3, self.step)
     }
 
     /// Whether the slot goes by the echo broadcast.

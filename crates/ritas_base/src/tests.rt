@@ -1,0 +1,44 @@
+use crate::Slot;
+
+// The first step and the last of binary consensus, those beside them, and a proposal.
+#[test]
+fn rounds_and_steps(rt: HostRuntime) {
+    let first = Slot {
+        class: 5,
+        a: 7,
+        attempt: 1,
+        bround: 1,
+        step: 1,
+        origin: 3,
+    };
+    let last = Slot {
+        bround: 200,
+        step: 3,
+        ..first
+    };
+    assert!(rt; first.has_counts() && last.has_counts());
+    assert!(rt; !Slot { bround: 0, ..first }.has_counts());
+    assert!(rt;
+        !Slot {
+            bround: 201,
+            ..last
+        }
+        .has_counts()
+    );
+    assert!(rt; !Slot { step: 0, ..first }.has_counts());
+    assert!(rt; !Slot { step: 4, ..last }.has_counts());
+    let proposal = Slot {
+        class: 2,
+        bround: 0,
+        step: 0,
+        ..first
+    };
+    assert!(rt; proposal.has_counts() && !Slot { class: 2, ..first }.has_counts());
+    assert!(rt;
+        !Slot {
+            step: 1,
+            ..proposal
+        }
+        .has_counts()
+    );
+}
