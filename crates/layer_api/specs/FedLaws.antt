@@ -2,14 +2,14 @@
 -- steps of a layer make of an instance inside is a run.
 use Rattle.std.specs.Prelude.{◌≡◌, ℕ, Bool, true, false, ◌==◌, if◌then◌else◌, List, [], ◌∷◌, ◌++◌, Option, Some, None, refl, ◌⊎◌}
 use Rattle.std.specs.Option.{option_or}
-use Rattle.std.proofs.Common.{sym, ◌∙◌, ap, subst, inl, inr}
+use Rattle.std.proofs.Common.{sym, ◌∙◌, ap, subst, inl, inr, arith, append_assoc}
 use Rattle.std.proofs.lemmas.Bool.{cond_both, eqb-true}
 use Rattle.ritas_base.specs.declared.slot.Slot.{Slot}
 use Rattle.ritas_base.specs.declared.item.Say.{Say}
 use Rattle.ritas_base.specs.Shortest.{option_or_some, option_or_older, option_or_none, at_shortest}
 use Rattle.ritas_base.specs.SlotOrder.{is_slot, same_slot}
 use Rattle.layer_api.specs.Runs.{Step, calls_of, Has}
-use Rattle.layer_api.specs.Words.{Word, Ask, Hear, AllMet, HasSay, value_at}
+use Rattle.layer_api.specs.Words.{Word, Ask, Hear, asked, AllMet, HasSay, value_at}
 use Rattle.layer_api.specs.Part.{proposed, newly, newly_asked, passed, part_words}
 use Rattle.layer_api.specs.Fed.{Play, Met, IsGenuine, Brings, IsFedRun}
 
@@ -52,6 +52,12 @@ pub proposed_stays : (c : Word) (w : List Word) (v : List ℕ) → proposed w �
 proposed_stays (Ask u) w v q = option_or_older (proposed w) (Some u) v q
 proposed_stays (Hear s u) w v q = q
 
+-- where no proposal came, nothing is proposed
+pub unasked : (w : List Word) → asked w ≡ 0 → proposed w ≡ None
+unasked [] e = refl
+unasked (Ask v ∷ w) e = absurd (omega (arith, e))
+unasked (Hear s v ∷ w) e = unasked w e
+
 pub proposed_has : (w : List Word) (v : List ℕ) → proposed w ≡ Some v → Has w (Ask v)
 proposed_has [] v q = absurd cc
 proposed_has (Hear s u ∷ w) v q = inr (proposed_has w v q)
@@ -86,6 +92,12 @@ pub heard_met : (may : List Word → Word → Type 0) (w : List Word) (s : Slot)
 heard_met may [] s v m q = absurd cc
 heard_met may (c ∷ w) s v m q =
     elim (value_now c w s v q) [ inl a ↦ heard_met may w s v m.1 a | inr e ↦ (w, subst (λ (y : Word). may w y) e m.0) ]
+
+-- what holds still after one more word that met its conditions holds after several
+pub kept_over : (may : List Word → Word → Type 0) (P : List Word → Type 0) → ((d : Word) (u : List Word) → AllMet may (d ∷ u) → P u → P (d ∷ u))
+    → (ds u : List Word) → AllMet may (ds ++ u) → P u → P (ds ++ u)
+kept_over may P keeps [] u met p = p
+kept_over may P keeps (d ∷ ds) u met p = keeps d (ds ++ u) met (kept_over may P keeps ds u met.1 p)
 
 -- ---- a run
 
@@ -222,10 +234,6 @@ module _ (ask : List Word → Option (List ℕ)) (takes : Slot → Bool) where
       (λ u. value_asked (ask w) (ask (c ∷ w)) s u)
       (value_passed c s (words w) w (part_value w s))
     where
-      assoc : (xs ys zs : List Word) → (xs ++ ys) ++ zs ≡ xs ++ (ys ++ zs)
-      assoc [] ys zs = refl
-      assoc (x ∷ xs) ys zs = ap (λ t. x ∷ t) (assoc xs ys zs)
-
       value_more : (xs : List Word) → ((u : List Word) → value_at (xs ++ u) s ≡ value_at u s) → value_at (passed takes c ++ words w) s ≡ own s (value_at (c ∷ w) s)
           → value_at ((xs ++ passed takes c) ++ words w) s ≡ own s (value_at (c ∷ w) s)
-      value_more xs h q = ap (λ u. value_at u s) (assoc xs (passed takes c) (words w)) ∙ (h (passed takes c ++ words w) ∙ q)
+      value_more xs h q = ap (λ u. value_at u s) (append_assoc xs (passed takes c) (words w)) ∙ (h (passed takes c ++ words w) ∙ q)

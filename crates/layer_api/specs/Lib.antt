@@ -25,3 +25,5 @@ pub mod Multi
 pub mod MultiCalls
 pub mod Vectors
 pub mod VectorCalls
+pub mod LogFits
+pub mod VectorSlots

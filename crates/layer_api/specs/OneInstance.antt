@@ -1,7 +1,7 @@
 -- Root services with one instance of consensus: one input, no commands, no rounds and no identifier log. What is the same in all.
-use Rattle.std.specs.Prelude.{◌≡◌, ℕ, zero, suc, ◌+◌, ◌<◌, ◌≤◌, ◌⊎◌, Bool, true, false, not, ◌==◌, ◌&&◌, nat_le, List, [], ◌∷◌, length, Some, None, refl}
-use Rattle.std.proofs.Common.{sym, ◌∙◌, ap, subst, inl, inr, arith, ne_eqb}
-use Rattle.std.proofs.lemmas.Bool.{and_parts, eqb-true, leb-true, not-false, cond-false, both_ways}
+use Rattle.std.specs.Prelude.{◌≡◌, ℕ, zero, suc, ◌+◌, ◌<◌, ◌≤◌, ◌⊎◌, Bool, true, false, not, ◌==◌, ◌&&◌, nat_le, nat_lt, if◌then◌else◌, List, [], ◌∷◌, length, Some, None, refl}
+use Rattle.std.proofs.Common.{sym, ◌∙◌, ap, ap₂, subst, inl, inr, arith, ne_eqb}
+use Rattle.std.proofs.lemmas.Bool.{and_parts, eqb-true, leb-true, le-ltb, not-false, cond-false, both_ways}
 use Rattle.ritas_base.specs.declared.slot.Slot.{Slot}
 use Rattle.ritas_base.specs.declared.item.Say.{Say}
 use Rattle.ritas_base.specs.declared.id.Id.{Id}
@@ -10,7 +10,7 @@ use Rattle.frame_codec.specs.Format.{Is}
 use Rattle.frame_codec.specs.Grammar.{value}
 use Rattle.layer_api.specs.Words.{Word, Ask, Hear, asked, AreFresh}
 use Rattle.layer_api.specs.FreshLaws.{fresh_other}
-use Rattle.layer_api.specs.Service.{ServiceRules, Seat, Instance, Decision, Decided, AreProper, AreGoodSays, AreInputs, AreDistinct, AreHeard, said, has_instance, IsEnding, Meanings, WordLaws}
+use Rattle.layer_api.specs.Service.{ServiceRules, Seat, Instance, Decision, Decided, AreProper, AreGoodSays, AreInputs, AreDistinct, AreHeard, said, has_instance, IsEnding, Meanings, is_past, WordLaws}
 
 -- ---- the one input
 
@@ -128,6 +128,15 @@ module _ (r : ServiceRules) (one : HasOneInstance r) where
       no_inputs seat w c before ys h.3,
     )
 
+    -- no slot is ever past
+    never_past : (seat : Seat) (w : List Word) (s : Slot) → is_past r seat w s ≡ false
+    never_past seat w s =
+        ap₂ (λ (b k : ℕ). if s.class == 1 then nat_lt (s.a + 64) b else nat_lt (s.a + 2) k) (one.base seat w s.origin) (one.completed seat w) ∙ none (s.class == 1)
+      where
+        none : (command : Bool) → (if command then nat_lt (s.a + 64) 0 else nat_lt (s.a + 2) 0) ≡ false
+        none true = le-ltb (s.a + 64) 0 (omega arith)
+        none false = le-ltb (s.a + 2) 0 (omega arith)
+
     pub instance_word_laws : WordLaws r
     instance_word_laws = record {
       meanings = λ seat w session serves proper. meanings seat w serves;
@@ -143,6 +152,7 @@ module _ (r : ServiceRules) (one : HasOneInstance r) where
       done_grows = λ seat c w proper. record { more = []; whole = one.done seat w ∙ sym (one.done seat (c ∷ w)); recent = tt };
       done_once = λ seat w proper. subst AreDistinct (sym (one.done seat w)) tt;
       done_heard = λ seat w proper. subst (AreHeard w) (sym (one.done seat w)) tt;
+      heard_recent = λ seat s v w proper. never_past seat (Hear s v ∷ w) s;
       outcome_stays = laws.outcome_stays;
       decided_stays = laws.decided_stays;
     }

@@ -1,9 +1,10 @@
 -- The run that the steps of a layer make of an instance inside it is a run of that instance.
 use Rattle.std.specs.Prelude.{◌≡◌, ℕ, Bool, true, false, ◌||◌, if◌then◌else◌, List, [], ◌∷◌, ◌++◌, Option, Some, None, is_some, refl}
 use Rattle.std.specs.Option.{option_or}
-use Rattle.std.proofs.Common.{sym, ◌∙◌, ap, subst, inl, inr, arith}
+use Rattle.std.proofs.Common.{sym, ◌∙◌, ap, subst, inl, inr, arith, append_assoc}
 use Rattle.ritas_base.specs.declared.slot.Slot.{Slot}
 use Rattle.ritas_base.specs.declared.item.Say.{Say}
+use Rattle.ritas_base.specs.Shortest.{not_there}
 use Rattle.ritas_base.specs.SlotOrder.{is_slot}
 use Rattle.layer_api.specs.Runs.{Step, calls_of, steps_by, Has, Inner, inner, inner_run}
 use Rattle.layer_api.specs.RunsLaws.{inner_calls, same}
@@ -24,9 +25,9 @@ heard_is (Hear q v ∷ w) s = ap (λ (b : Bool). is_slot q s || b) (heard_is w s
     go false None = refl
     go false (Some u) = refl
 
-some_not : (o : Option (List ℕ)) → is_some o ≡ false → o ≡ None
-some_not None q = refl
-some_not (Some v) q = absurd cc
+-- so what wasn't heard has no value
+pub unheard : (w : List Word) (s : Slot) → is_heard w s ≡ false → value_at w s ≡ None
+unheard w s e = not_there (value_at w s) (sym (heard_is w s) ∙ e)
 
 if_some_none : (b : Bool) (o : Option (List ℕ)) → o ≡ None → is_some (if b then o else None) ≡ false
 if_some_none true o e = ap is_some e
@@ -44,7 +45,7 @@ module _ (ask : List Word → Option (List ℕ)) (takes : Slot → Bool) where
   pub part_heard : (w : List Word) (s : Slot) → is_heard w s ≡ false → is_heard (part_words ask takes w) s ≡ false
   part_heard w s q =
       heard_is (part_words ask takes w) s
-      ∙ (ap is_some (part_value ask takes w s) ∙ if_some_none (takes s) (value_at w s) (some_not (value_at w s) (sym (heard_is w s) ∙ q)))
+      ∙ (ap is_some (part_value ask takes w s) ∙ if_some_none (takes s) (value_at w s) (unheard w s q))
 
   pub part_value_of : (w : List Word) (s : Slot) (v : List ℕ) → value_at (part_words ask takes w) s ≡ Some v → value_at w s ≡ Some v
   part_value_of w s v q = (own_value takes s (value_at w s) v (sym (part_value ask takes w s) ∙ q)).1
@@ -59,10 +60,6 @@ module _ (ask : List Word → Option (List ℕ)) (takes : Slot → Bool) where
 
   abbrev one_if : Option (List ℕ) → ℕ
   one_if o = if is_some o then 1 else 0
-
-  append_assoc_words : (xs ys zs : List Word) → (xs ++ ys) ++ zs ≡ xs ++ (ys ++ zs)
-  append_assoc_words [] ys zs = refl
-  append_assoc_words (x ∷ xs) ys zs = ap (λ t. x ∷ t) (append_assoc_words xs ys zs)
 
   asked_newly : (before after : Option (List ℕ)) (u : List Word) → ((v : List ℕ) → before ≡ Some v → after ≡ Some v) → asked u ≡ one_if before
       → asked (newly_asked before after ++ u) ≡ one_if after
@@ -93,7 +90,7 @@ module _ (ask : List Word → Option (List ℕ)) (takes : Slot → Bool) where
     pub part_asked : (w : List Word) → asked (part_words ask takes w) ≡ one_if (ask w)
     part_asked [] = ap one_if (sym nothing)
     part_asked (c ∷ w) =
-        ap asked (append_assoc_words (newly_asked (ask w) (ask (c ∷ w))) (passed takes c) (part_words ask takes w))
+        ap asked (append_assoc (newly_asked (ask w) (ask (c ∷ w))) (passed takes c) (part_words ask takes w))
         ∙ asked_newly (ask w) (ask (c ∷ w)) (passed takes c ++ part_words ask takes w) (λ v. stays c w v)
         (asked_passed c (part_words ask takes w) ∙ part_asked w)
 
@@ -103,7 +100,7 @@ module _ (ask : List Word → Option (List ℕ)) (takes : Slot → Bool) where
     part_has (c ∷ w) v h =
         has_newly (ask w) (ask (c ∷ w)) (passed takes c ++ part_words ask takes w) v (λ x. stays c w x)
         (λ u. part_has w v (has_passed c (part_words ask takes w) v u))
-        (subst (λ (u : List Word). Has u (Ask v)) (append_assoc_words (newly_asked (ask w) (ask (c ∷ w))) (passed takes c) (part_words ask takes w)) h)
+        (subst (λ (u : List Word). Has u (Ask v)) (append_assoc (newly_asked (ask w) (ask (c ∷ w))) (passed takes c) (part_words ask takes w)) h)
 
     pub part_asked_once : (w : List Word) (v : List ℕ) → ask w ≡ Some v → asked (part_words ask takes w) ≡ 1
     part_asked_once w v q = part_asked w ∙ ap one_if q
@@ -164,7 +161,7 @@ module _ (g h : Play) (ask : ℕ → List Word → Option (List ℕ)) (takes : S
   part_met [] m = tt
   part_met (c ∷ w) m =
       subst (λ (u : List Word). Met h i u)
-      (sym (append_assoc_words (ask i) takes (newly_asked (ask i w) (ask i (c ∷ w))) (passed takes c) (part_words (ask i) takes w)))
+      (sym (append_assoc (newly_asked (ask i w) (ask i (c ∷ w))) (passed takes c) (part_words (ask i) takes w)))
       (asked_met c w m (passed_met c w m (part_met w m.1)) (ask i w) (ask i (c ∷ w)) refl refl)
 
 module _ (ask : ℕ → List Word → Option (List ℕ)) (takes : Slot → Bool) where

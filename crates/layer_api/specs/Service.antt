@@ -222,6 +222,8 @@ pub record WordLaws (r : ServiceRules) : Type 0 where
   pub done_grows : (seat : Seat) (c : Word) (w : List Word) → AreProper r seat (c ∷ w) → Appends r seat c w
   pub done_once : (seat : Seat) (w : List Word) → AreProper r seat w → AreDistinct (r.done seat w)
   pub done_heard : (seat : Seat) (w : List Word) → AreProper r seat w → AreHeard w (r.done seat w)
+  -- a slot that a word hears isn't past after it
+  pub heard_recent : (seat : Seat) (s : Slot) (v : List ℕ) (w : List Word) → AreProper r seat (Hear s v ∷ w) → is_past r seat (Hear s v ∷ w) s ≡ false
   -- a decision stays
   pub outcome_stays : (seat : Seat) (c : Word) (w : List Word) (d : Decision) → AreProper r seat (c ∷ w)
       → r.outcome seat w ≡ Decided d → r.outcome seat (c ∷ w) ≡ Decided d

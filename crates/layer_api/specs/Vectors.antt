@@ -74,6 +74,10 @@ pub record VectorLaws (r : VectorRules) : Type 0 where
   pub opens_first : (at : Desk) (s : Slot) → r.opens at [] s ≡ false
   pub decision_first : (at : Desk) → r.decision at [] ≡ None
   pub spent_first : (at : Desk) → r.spent at [] ≡ false
+  -- nor is anything decided where only a proposal was made
+  pub decision_asked : (at : Desk) (v : List ℕ) → IsSession at.scope.numbers → r.decision at (Ask v ∷ []) ≡ None
+  -- nor is it spent there
+  pub spent_asked : (at : Desk) (v : List ℕ) → IsSession at.scope.numbers → r.spent at (Ask v ∷ []) ≡ false
   pub decision_stays : (at : Desk) (c : Word) (w : List Word) (v : List ℕ) → IsSession at.scope.numbers → HasVectors at.scope → AreVector r at (c ∷ w)
       → r.decision at w ≡ Some v → r.decision at (c ∷ w) ≡ Some v
   pub spent_stays : (at : Desk) (c : Word) (w : List Word) → IsSession at.scope.numbers → HasVectors at.scope → AreVector r at (c ∷ w)

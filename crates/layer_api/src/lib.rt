@@ -3,6 +3,8 @@
 //!
 //! Each trait says what its implementations mean on plain lists of calls, the newest first, by one record of rules.
 //! A value stands for a list of calls; no value stores it. A layer above uses a layer by its trait alone.
+//!
+//! What several layers do alike stands here too: `put_out`, `vote_of` and `is_slot_in`.
 #![tactic(auto)]
 
 mod binary_box;
@@ -11,8 +13,13 @@ mod decided;
 mod laws;
 mod multi_box;
 mod outcome;
+mod saying;
 mod service;
+mod slots;
+#[cfg(test)]
+mod tests;
 mod vector_box;
+mod vote;
 
 pub use binary_box::BinaryBox;
 pub use broadcast::{Broadcast, Heard};
@@ -20,5 +27,8 @@ pub use decided::Decided;
 pub use laws::inner_runs;
 pub use multi_box::MultiBox;
 pub use outcome::Outcome;
+pub use saying::put_out;
 pub use service::Service;
+pub use slots::is_slot_in;
 pub use vector_box::VectorBox;
+pub use vote::vote_of;
