@@ -1,5 +1,5 @@
 -- The counts of the votes heard, and of those accepted.
-use Rattle.std.proofs.Common.{◌≡◌, ℕ, zero, suc, ◌+◌, ◌<◌, ◌≤◌, ◌==◌, Bool, true, false, ◌||◌, if◌then◌else◌, List, [], ◌∷◌, length, count_by, cond, Option, Some, None, ◌⊎◌, inl, inr, refl, sym, ◌∙◌, ap, ap₂, subst, arith, eqb-true}
+use Rattle.std.proofs.Common.{◌≡◌, ℕ, zero, suc, ◌+◌, ◌<◌, ◌≤◌, ◌==◌, Bool, true, false, if◌then◌else◌, List, [], ◌∷◌, length, count_by, cond, Option, Some, None, ◌⊎◌, inl, inr, refl, sym, ◌∙◌, ap, ap₂, subst, arith, eqb-true}
 use Rattle.std.specs.Option.{option_or}
 use Rattle.std.specs.List.{range_with_len}
 use Rattle.std.proofs.lemmas.Bool.{cases_Bool, cases_eq, both_ways, false_from_ne_true}
@@ -9,8 +9,9 @@ use Rattle.ritas_base.specs.Numbers.{Numbers}
 use Rattle.ritas_base.specs.History.{replicas}
 use Rattle.ritas_base.specs.Quorums.{count_same, count_none, count_more}
 use Rattle.ritas_base.specs.Shortest.{option_or_none}
-use Rattle.ritas_base.specs.SlotOrder.{is_slot, same_slot, slot_itself}
-use Rattle.layer_api.specs.Words.{Word, Ask, Hear, is_heard, value_at}
+use Rattle.ritas_base.specs.SlotOrder.{same_slot, slot_itself}
+use Rattle.layer_api.specs.Words.{Word, Hear, is_heard, value_at}
+use Rattle.layer_api.specs.PartLaws.{unheard}
 use Rattle.layer_api.specs.Binary.{Bench}
 use Rattle.bracha_validation.specs.declared.tally.Tally.{Tally}
 use Rattle.bracha_validation.specs.Votes.{votes, may_give}
@@ -196,15 +197,6 @@ more_tally t (suc (suc zero)) n a b l more is =
 more_tally t (suc (suc (suc v))) n a b l more is = absurd (omega (arith, l))
 
 -- ---- a word that hears
-
-unheard : (w : List Word) (s : Slot) → is_heard w s ≡ false → value_at w s ≡ None
-unheard [] s e = refl
-unheard (Ask v ∷ w) s e = unheard w s e
-unheard (Hear q v ∷ w) s e = go (is_slot q s) e (λ f. unheard w s f)
-  where
-    go : (b : Bool) → (b || is_heard w s) ≡ false → (is_heard w s ≡ false → value_at w s ≡ None) → option_or (value_at w s) (if b then Some v else None) ≡ None
-    go true e ih = absurd cc
-    go false e ih = option_or_none (value_at w s) ∙ ih e
 
 heard_now : (at : Bench) (w : List Word) (t k v : ℕ) → is_heard w (step_slot at t k) ≡ false → heard at (Hear (step_slot at t k) (v ∷ []) ∷ w) t k ≡ Some v
 heard_now at w t k v first =

@@ -2,26 +2,17 @@
 -- each origin, where no two views have different votes at one place. No time occurs in it.
 use Rattle.std.specs.Prelude.{◌≡◌, ℕ, zero, suc, ◌+◌, ◌*◌, ◌<◌, ◌≤◌, ◌==◌, Bool, true, false, not, List, [], ◌∷◌, length, count_by, Option, Some, cond, refl}
 use Rattle.std.proofs.Common.{sym, ◌∙◌, subst, inl, inr, arith, eq-or-lt_of_le}
-use Rattle.std.proofs.lemmas.Bool.{eqb-true, eq-eqb, cases_Bool, cases_lt, cases_order}
+use Rattle.std.proofs.lemmas.Bool.{eqb-true, eq-eqb, cases_lt, cases_order}
 use Rattle.std.proofs.lemmas.List.FromFn.{length-range_with_len}
 use Rattle.ritas_base.specs.Numbers.{Numbers}
 use Rattle.ritas_base.specs.History.{replicas}
-use Rattle.ritas_base.specs.Quorums.{count_no, count_none, meet_two}
+use Rattle.ritas_base.specs.Quorums.{count_none, meet_two, some_member}
 use Rattle.layer_api.specs.Words.{bit_byte}
 use Rattle.bracha_validation.specs.Votes.{votes, gives}
 use Rattle.bracha_validation.specs.PickLaws.{one_more}
 use Rattle.bracha_validation.specs.RuleLaws.{ThirdSays, second_gives, third_gives}
 use Rattle.binary_consensus.specs.Steps.{step_of, accepts}
 use Rattle.binary_consensus.specs.Acceptance.{holds, holds_some, holds_is, is, count_of, accepts_heard, accepts_follows, third_follows_second, all_give}
-
--- an element that passes
-pub some_member : (test : ℕ → Bool) (ks : List ℕ) → 0 < count_by test ks → (k : ℕ) × (test k ≡ true)
-some_member test [] l = absurd (omega (arith, l))
-some_member test (k ∷ ks) l =
-    elim (cases_Bool (test k)) [
-      | inl here ↦ (k, here)
-      | inr off ↦ let e = count_no test k ks off in some_member test ks (omega (arith, l, e))
-    ]
 
 -- votes that pass a test, and those that don't
 pub count_split : (test : ℕ → Bool) (vs : List ℕ) → length vs ≡ count_by test vs + count_by (λ x. not (test x)) vs

@@ -1,7 +1,5 @@
-ghost use Rattle.std.specs.Prelude.{◌≡◌, ℕ, [], ◌∷◌};
-
 use crate::part::line_of;
-use layer_api::{BinaryBox, Outcome, Service};
+use layer_api::{BinaryBox, Outcome, Service, vote_of};
 use ritas_base::{Coin, Id, Mem, Params, Say, Slot};
 use std::alloc::Global;
 
@@ -13,13 +11,6 @@ use std::alloc::Global;
 pub struct BinRoot<B: BinaryBox> {
     inner: B,
     given: bool,
-}
-
-// The vote that a value of one byte is.
-fn vote_of(value: &[u8]) -> u8
-    ensures { (vote : ℕ) → value.now ≡ vote ∷ [] → result ≡ vote }
-{
-    value.first().copied().unwrap_or(0)
 }
 
 impl<B: BinaryBox> Service for BinRoot<B> {

@@ -1,4 +1,3 @@
-mod Bits
 mod ColumnSteps
 mod EntrySteps
 mod News

@@ -1,5 +1,5 @@
 -- HASHES and columns, as bytes: how long they are, and whose rows a column has.
-use Rattle.std.specs.Prelude.{◌≡◌, ℕ, ◌<◌, ◌≤◌, ◌*◌, ◌^◌, Bool, true, false, ◌==◌, cond, nat_lt, nat_le, List, [], ◌∷◌, ◌++◌, map, length, drop, replicate, Option, Some, None, is_some, count_by, refl}
+use Rattle.std.specs.Prelude.{◌≡◌, ℕ, ◌<◌, ◌≤◌, ◌*◌, ◌^◌, true, nat_lt, nat_le, List, [], ◌∷◌, ◌++◌, map, length, drop, replicate, Option, Some, None, is_some, count_by, refl}
 use Rattle.std.proofs.Common.{sym, ◌∙◌, ap, subst, arith, get_or}
 use Rattle.std.specs.List.{flat_map}
 use Rattle.std.specs.Int.{w32, to_be_bytes, from_be_bytes}
@@ -9,9 +9,9 @@ use Rattle.std.proofs.lemmas.Bool.{and_from, lt-ltb, le-leb}
 use Rattle.std.proofs.lemmas.List.{length-append, length-drop, length-map, length-take-le, length-replicate, append-nil, take_at}
 use Rattle.std.proofs.lemmas.List.Concat.{flat_map-cons}
 use Rattle.std.proofs.lemmas.Nat.{from_be_bytes-to_be_bytes_4}
-use Rattle.std.proofs.lemmas.Simd.{mask_l-lt, ones-mask_l, bit_mask_l}
-use Rattle.std.proofs.Math.ListN.{get_or-map}
+use Rattle.std.proofs.lemmas.Simd.{mask_l-lt, ones-mask_l}
 use Rattle.ritas_base.specs.Members.{has_member}
+use Rattle.ritas_base.specs.MemberLaws.{places_there}
 use Rattle.ritas_base.specs.Quorums.{count_yes, count_no}
 use Rattle.frame_codec.specs.Format.{Is}
 use Rattle.frame_codec.specs.Grammar.{hashes, column, is_places}
@@ -99,12 +99,6 @@ column_mask n hs rows len most =
     ap (from_be_bytes w32) (take_at (to_be_bytes w32 (senders_of hs)) (flat_map (λ row. row) rows) 4 refl)
     ∙ from_be_bytes-to_be_bytes_4 (senders_of hs) (senders_small n hs len most)
 
-bit_of : (b : Bool) → (cond {A = ℕ} b 1 0 == 1) ≡ b
-bit_of true = refl
-bit_of false = refl
-
 -- the members of the senders' mask
 pub senders_have : (hs : List (Option (List ℕ))) (k : ℕ) → has_member (senders_of hs) k ≡ is_some (get_or hs k None)
-unfolding has_member
-senders_have hs k =
-    ap (λ (x : ℕ). x == 1) (bit_mask_l (map is_some hs) k) ∙ (bit_of (get_or (map is_some hs) k false) ∙ get_or-map is_some hs k None)
+senders_have hs k = places_there hs k

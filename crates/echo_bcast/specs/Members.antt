@@ -1,12 +1,9 @@
 -- Members of lists.
-use Rattle.std.specs.Prelude.{◌≡◌, Bool, true, ◌||◌, ℕ, zero, suc, ◌<◌, ◌≤◌, ◌+◌, List, [], ◌∷◌, ◌++◌, map, ◌⊎◌, refl}
-use Rattle.std.proofs.Common.{sym, ◌∙◌, ap, inl, inr, arith}
+use Rattle.std.specs.Prelude.{◌≡◌, Bool, ◌||◌, ℕ, zero, suc, ◌<◌, ◌≤◌, ◌+◌, List, [], ◌∷◌, ◌++◌, map, refl}
+use Rattle.std.proofs.Common.{◌∙◌, ap, inl, inr, arith}
 use Rattle.std.specs.List.{range_with_len, list_any}
-use Rattle.std.proofs.lemmas.Bool.{cases_eq, or_cases, or_left, or_right}
-use Rattle.ritas_base.specs.declared.item.Msg.{Msg}
+use Rattle.std.proofs.lemmas.Bool.{cases_eq}
 use Rattle.ritas_base.specs.History.{replicas}
-use Rattle.ritas_base.specs.Messages.{msg_eq, has}
-use Rattle.ritas_base.specs.MessagesLaws.{message_itself, same_message}
 use Rattle.layer_api.specs.Runs.{Has}
 
 in_range : (from n k : ℕ) → from ≤ k → k < from + n → Has (range_with_len from n) k

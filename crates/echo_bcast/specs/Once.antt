@@ -19,7 +19,7 @@ use Rattle.ritas_base.specs.HistoryLaws.{kind_eq_is, told_item, firsts_at, first
 use Rattle.ritas_base.specs.Messages.{Place, kind_eq, has, to_all}
 use Rattle.ritas_base.specs.MessagesLaws.{other_message, has_append}
 use Rattle.ritas_base.specs.Quorums.{count_by-map, count_more}
-use Rattle.ritas_base.specs.Shortest.{option_or_some}
+use Rattle.ritas_base.specs.Shortest.{option_or_some, not_there}
 use Rattle.ritas_base.specs.Tags.{Tags}
 use Rattle.layer_api.specs.Broadcast.{IsPayload}
 use Rattle.layer_api.specs.Entries.{sent}
@@ -38,10 +38,6 @@ use Rattle.echo_bcast.specs.Members.{replica_below}
 pub repeats_other : (at : Place) (tags : Tags) (h : List Call) (x : Item) → kind_eq x.kind Column ≡ false → repeats_one at tags h x ≡ is_some (first h x.from x.kind)
 repeats_other at tags h x other =
     cond-false (kind_eq x.kind Column) (is_some (sent at h) && not (has_news at tags h x)) (is_some (first h x.from x.kind)) other
-
-pub not_there : {A : Type 0} (o : Option A) → is_some o ≡ false → o ≡ None
-not_there None e = refl
-not_there (Some x) e = absurd (cc)
 
 -- ---- how long a column is
 

@@ -1,5 +1,5 @@
 -- What a call on a box does, by what may be given to it.
-use Rattle.std.specs.Prelude.{◌≡◌, ℕ, ◌≤◌, Bool, true, false, ◌==◌, nat_le, if◌then◌else◌, List, [], ◌∷◌, ◌++◌, length, Option, Some, None, is_some, Result, Ok, Err, IfOk, refl}
+use Rattle.std.specs.Prelude.{◌≡◌, ℕ, ◌≤◌, Bool, true, false, ◌==◌, nat_le, if◌then◌else◌, List, [], ◌∷◌, ◌++◌, length, None, Result, Ok, Err, IfOk, refl}
 use Rattle.std.proofs.Common.{sym, ◌∙◌, ap, ap₂, subst, inl, inr, arith}
 use Rattle.std.proofs.lemmas.Bool.{and_parts, eqb-true, leb-true, ne_eqb}
 use Rattle.ritas_base.specs.declared.bytes.Mem.{Mem}
@@ -10,11 +10,11 @@ use Rattle.ritas_base.specs.Slots.{within, has_count}
 use Rattle.frame_codec.specs.Format.{Is}
 use Rattle.frame_codec.specs.Grammar.{value}
 use Rattle.frame_codec.specs.PartLaws.{vect_long}
-use Rattle.layer_api.specs.Words.{Word, Ask, Hear, is_heard, value_at, asked, AllMet}
+use Rattle.layer_api.specs.Words.{Word, Ask, Hear, value_at, AllMet}
 use Rattle.layer_api.specs.Calls.{IsCoin, WordDone}
 use Rattle.layer_api.specs.Binary.{BinaryRules, Bench, BoxLaws, MayVote, MayBit}
-use Rattle.layer_api.specs.Part.{proposed}
-use Rattle.layer_api.specs.PartLaws.{heard_is}
+use Rattle.layer_api.specs.FedLaws.{unasked}
+use Rattle.layer_api.specs.PartLaws.{unheard}
 use Rattle.layer_api.specs.Multi.{Scope, Desk, is_multi_slot, MayMulti, MayMultiHear, AreMulti}
 use Rattle.layer_api.specs.MultiCalls.{ShowsMultiNear, MultiProposes, MultiHears}
 use Rattle.multivalued.specs.Consensus.{vect_slot, bit_words, bench_of, decision, multivalued}
@@ -54,23 +54,10 @@ plain_slot at s class e c other =
         → ◌≡◌ {A = Slot} (record { class = k; a = a; attempt = t; bround = r; step = p; origin = s.origin }) (record { class = class; a = at.a; attempt = at.attempt; bround = 0; step = 0; origin = s.origin })
     same k a t r p e f g h i = rw (e, f, g, h, i) refl
 
-none_of : (o : Option (List ℕ)) → is_some o ≡ false → o ≡ None
-none_of None q = refl
-none_of (Some v) q = absurd cc
-
--- what wasn't heard has no value
-unheard : (w : List Word) (s : Slot) → is_heard w s ≡ false → value_at w s ≡ None
-unheard w s e = none_of (value_at w s) (sym (heard_is w s) ∙ e)
-
 long_enough : (p : Numbers) (root : ℕ) (at : Scope) (k : ℕ) (v : List ℕ) → Is (value p root (vect_slot at k)) v → IsLong v
 unfolding value
 long_enough p root at k [] is = inl refl
 long_enough p root at k (b ∷ bs) is = inr (vect_long p root (b ∷ bs) (ne_eqb (length (b ∷ bs)) 0 (λ e. omega (arith, e))) is)
-
-unasked : (w : List Word) → asked w ≡ 0 → proposed w ≡ None
-unasked [] e = refl
-unasked (Ask v ∷ w) e = absurd (omega (arith, e))
-unasked (Hear s v ∷ w) e = unasked w e
 
 -- a slot of the instance is of class 3, 4 or 5
 pub classes : (at : Scope) (s : Slot) → is_multi_slot at s ≡ true → (3 ≤ s.class) × (s.class ≤ 5)

@@ -14,7 +14,7 @@ use Rattle.ritas_base.specs.Numbers.{wait_of, support_of}
 use Rattle.ritas_base.specs.History.{replicas}
 use Rattle.ritas_base.specs.HistoryLaws.{is_value_is}
 use Rattle.ritas_base.specs.Members.{has_member}
-use Rattle.ritas_base.specs.Quorums.{meet_two}
+use Rattle.ritas_base.specs.Quorums.{meet_two, some_member, count_without}
 use Rattle.frame_codec.specs.Values.{mask_of}
 use Rattle.layer_api.specs.Runs.{Step, calls_of, Has, IsEnough}
 use Rattle.layer_api.specs.Service.{Instance, OfBit, OfValue, OfVector, Decision, Bit}
@@ -24,7 +24,6 @@ use Rattle.layer_api.specs.Fed.{Met, IsFedRun}
 use Rattle.layer_api.specs.FedLaws.{some_if, say_later, shortest_at, proposed_has, value_stays, one_value, heard_said, met}
 use Rattle.layer_api.specs.PartLaws.{part_has}
 use Rattle.layer_api.specs.Multi.{Scope, OneDecision, multi_play}
-use Rattle.multivalued.specs.Counts.{some_member, count_without}
 use Rattle.multivalued.specs.Consensus.{init_slot, vect_slot, init, has_init, members, lesser, least, backed, valid_of, valid, is_of, is_other, backers, candidates, is_clear, vect, bit_at, bit, bench_of, is_step, bit_asked, bit_words, supported, verdict, decision_at, multivalued}
 use Rattle.multivalued.specs.Inside.{bit_stays, bit_nothing, bit_of, play, desk, bit_run, bit_fed, bit_calls, init_said, decided_still}
 

@@ -12,7 +12,7 @@ use Rattle.layer_api.specs.Binary.{BinaryRules, BoxLaws, IsStepSlot, MayBit, Are
 use Rattle.layer_api.specs.Votes.{value_vote}
 use Rattle.layer_api.specs.Part.{proposed, newly, passed, part_of}
 use Rattle.layer_api.specs.Fed.{Play, Met, IsFedRun}
-use Rattle.layer_api.specs.FedLaws.{say_append, newly_said, proposed_stays, Stays}
+use Rattle.layer_api.specs.FedLaws.{say_append, newly_said, proposed_stays, kept_over, Stays}
 use Rattle.layer_api.specs.FreshLaws.{said_each}
 use Rattle.layer_api.specs.PartLaws.{part_heard, part_asked_once, part_asked_still, says_in_all, all_said_later, Feeds, Passes, part_inner, part_calls, part_fed, part_met}
 use Rattle.layer_api.specs.Multi.{Scope, Desk, desk_at, is_multi_slot, multi_play}
@@ -213,24 +213,17 @@ module _ (b : BinaryRules) (at : Scope) (coins : ℕ → Slot → Bool) where
         ]
       ]
 
-  -- what stays with one more word to a box stays with several
-  still_over : (i : ℕ) (P : List Word → Type 0)
-      → ((d : Word) (u : List Word) → AreVotes b (bench_of (desk i)) (d ∷ u) → P u → P (d ∷ u))
-      → (ds u : List Word) → AreVotes b (bench_of (desk i)) (ds ++ u) → P u → P (ds ++ u)
-  still_over i P step [] u m p = p
-  still_over i P step (d ∷ ds) u m p = step d (ds ++ u) m (still_over i P step ds u m.1 p)
-
   module _ (laws : BoxLaws b) (i : ℕ) (c : Word) (w : List Word) (m : Met play i (c ∷ w)) where
     -- the bit that is decided stays
     pub decided_still : (x : Bool) → b.decision (bench_of (desk i)) (bit_words at w) ≡ Some x
         → b.decision (bench_of (desk i)) (bit_words at (c ∷ w)) ≡ Some x
     decided_still x q =
-        still_over i (λ (u : List Word). b.decision (bench_of (desk i)) u ≡ Some x) (λ d u. laws.decision_stays (bench_of (desk i)) d u x)
+        kept_over (MayBit b (bench_of (desk i))) (λ (u : List Word). b.decision (bench_of (desk i)) u ≡ Some x) (λ d u. laws.decision_stays (bench_of (desk i)) d u x)
         (part_of (bit_asked at) is_step w c) (bit_words at w) (bits_met i (c ∷ w) m) q
 
     -- the round never falls
     pub round_still : b.round (bench_of (desk i)) (bit_words at w) ≤ b.round (bench_of (desk i)) (bit_words at (c ∷ w))
     round_still =
-        still_over i (λ (u : List Word). b.round (bench_of (desk i)) (bit_words at w) ≤ b.round (bench_of (desk i)) u)
+        kept_over (MayBit b (bench_of (desk i))) (λ (u : List Word). b.round (bench_of (desk i)) (bit_words at w) ≤ b.round (bench_of (desk i)) u)
         (λ d u votes l. let more = laws.round_stays (bench_of (desk i)) d u votes in omega (arith, l, more))
         (part_of (bit_asked at) is_step w c) (bit_words at w) (bits_met i (c ∷ w) m) (omega arith)

@@ -1,7 +1,6 @@
 pub mod Consensus
 pub mod Rows
 pub mod Inside
-pub mod Counts
 pub mod Agreement
 pub mod ValueLaws
 pub mod Root

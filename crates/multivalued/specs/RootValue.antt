@@ -1,5 +1,5 @@
 -- The laws of a single value of multi-valued consensus as a root service, from those of its box.
-use Rattle.std.specs.Prelude.{◌≡◌, ℕ, ◌<◌, Bool, true, false, ◌==◌, ◌&&◌, nat_lt, if◌then◌else◌, List, [], ◌∷◌, Option, Some, None, option_map, refl, ◌⊎◌}
+use Rattle.std.specs.Prelude.{◌≡◌, ℕ, ◌<◌, Bool, true, false, ◌==◌, ◌&&◌, if◌then◌else◌, List, [], ◌∷◌, Option, Some, None, option_map, refl, ◌⊎◌}
 use Rattle.std.proofs.Common.{sym, ◌∙◌, ap, subst, inl, inr}
 use Rattle.std.proofs.lemmas.Bool.{and_parts, and_from, lt-ltb, eqb-true}
 use Rattle.ritas_base.specs.declared.slot.Slot.{Slot}
@@ -7,6 +7,7 @@ use Rattle.ritas_base.specs.declared.item.Say.{Say}
 use Rattle.ritas_base.specs.declared.mode.Mode.{Mode}
 use Rattle.ritas_base.specs.Numbers.{Numbers, IsSession}
 use Rattle.ritas_base.specs.Slots.{slot_fault, within, has_class, has_number, has_attempt, has_count}
+use Rattle.ritas_base.specs.SlotLaws.{slot_is_right}
 use Rattle.frame_codec.specs.Format.{Is}
 use Rattle.frame_codec.specs.Grammar.{value}
 use Rattle.layer_api.specs.Service.{ServiceRules, Seat, Instance, OfBit, OfValue, OfVector, Decision, Decided, AreProper, has_instance, IsEnding, WordLaws}
@@ -25,12 +26,6 @@ class_is c (inl e) = (ap (within 1 5) e, ap (has_class 4) e)
 class_is c (inr (inl e)) = (ap (within 1 5) e, ap (has_class 4) e)
 class_is c (inr (inr e)) = (ap (within 1 5) e, ap (has_class 4) e)
 
-right_by : (p : Numbers) (mode : Mode) (s : Slot) → within 1 5 s.class ≡ true → has_class mode.root s.class ≡ true → has_number mode.root s.a ≡ true
-    → has_attempt mode.root p.f s.class s.attempt ≡ true → has_count 200 s.class s.bround ≡ true → has_count 3 s.class s.step ≡ true → nat_lt s.origin p.n ≡ true
-    → slot_fault p mode s ≡ None
-unfolding slot_fault
-right_by p mode s a b c d e f g = rw (a, b, c, d, e, f, g) refl
-
 root_right : (p : Numbers) (mode : Mode) (seat : Seat) (s : Slot) → mode.root ≡ 4 → is_multi_slot (desk_of seat).scope s ≡ true → s.origin < p.n → slot_fault p mode s ≡ None
 root_right p mode seat s four e below =
     let x = and_parts (within 3 5 s.class) _ e in
@@ -38,7 +33,7 @@ root_right p mode seat s four e below =
     let z = and_parts (s.attempt == 0) _ y.1 in
     let t = and_parts (has_count 200 s.class s.bround) _ z.1 in
     let k = class_is s.class (three_to_five s.class x.0) in
-    right_by p mode s k.0 (ap (λ (r : ℕ). has_class r s.class) four ∙ k.1)
+    slot_is_right p mode s k.0 (ap (λ (r : ℕ). has_class r s.class) four ∙ k.1)
     (ap (λ (r : ℕ). has_number r s.a) four ∙ ap (has_number 4) (eqb-true s.a 0 y.0)) (ap (λ (r : ℕ). has_attempt r p.f s.class s.attempt) four ∙ z.0)
     t.0 t.1 (lt-ltb s.origin p.n below)
 

@@ -16,6 +16,7 @@ use Rattle.ritas_base.specs.HistoryLaws.{is_value_is}
 use Rattle.ritas_base.specs.Members.{has_member}
 use Rattle.ritas_base.specs.Shortest.{option_or_some, option_or_older}
 use Rattle.ritas_base.specs.Slots.{within, has_count}
+use Rattle.ritas_base.specs.Quorums.{some_member}
 use Rattle.frame_codec.specs.Format.{Format, Is}
 use Rattle.frame_codec.specs.Grammar.{class3, value, is_places}
 use Rattle.frame_codec.specs.Grammar as grammar
@@ -29,7 +30,6 @@ use Rattle.layer_api.specs.FedLaws.{some_if, say_append, shortest_at, newly_said
 use Rattle.layer_api.specs.PartLaws.{says_in_all}
 use Rattle.layer_api.specs.FreshLaws.{unsaid, has_said, fresh_append, fresh_other, fresh_newly, fresh_in}
 use Rattle.layer_api.specs.Multi.{Scope, Desk, MultiRules, is_multi_slot, MayMulti, AreMulti, IsMultiSaid, MultiLaws}
-use Rattle.multivalued.specs.Counts.{some_member}
 use Rattle.multivalued.specs.Consensus.{init_slot, vect_slot, init, has_init, members, listed, common, told, vect_at, vect, valid, is_of, backers, candidates, bench_of, is_step, bit_asked, bit_words, supported, verdict, decision_at, decision, multivalued}
 use Rattle.multivalued.specs.Inside.{bit_stays, some_value, votes_said, init_said, vect_said, step_said, bits_met, decided_still, round_still}
 use Rattle.multivalued.specs.Agreement.{of_true, least_passes, verdict_is, valid_inits}

@@ -6,16 +6,9 @@ ghost use Rattle.multivalued.specs.Stands.{FollowsSlot, Keeps};
 
 use crate::mvc::Mvc;
 use crate::settling::{Progress, decide, settle};
-use layer_api::BinaryBox;
+use layer_api::{BinaryBox, vote_of};
 use ritas_base::{Bytes, Coin, Mem, Say, Slot};
 use std::alloc::Global;
-
-/// The one byte of a vote; 0 where there isn't one.
-fn vote_of(value: &[u8]) -> u8
-    ensures { (vote : ℕ) → value.now ≡ vote ∷ [] → result ≡ vote }
-{
-    value.first().copied().unwrap_or(0)
-}
 
 /// Each of these says what follows from a call, and answers how far the box then has come.
 impl<B: BinaryBox> Mvc<B> {

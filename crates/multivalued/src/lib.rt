@@ -20,7 +20,6 @@ mod mvc;
 mod mvc_root;
 mod opening;
 mod part;
-mod putting;
 mod settling;
 mod table;
 mod telling;

@@ -2,10 +2,9 @@ ghost use Rattle.multivalued.specs.Stands.{Ends};
 
 use crate::opening::is_open;
 use crate::part::Part;
-use crate::putting::put_out;
 use crate::settling::{Decision, Progress};
 use crate::table::Table;
-use layer_api::{BinaryBox, Decided, MultiBox};
+use layer_api::{BinaryBox, Decided, MultiBox, put_out};
 use ritas_base::{Coin, Mem, Params, Say, Slot};
 use std::alloc::Global;
 

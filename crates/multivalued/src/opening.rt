@@ -1,24 +1,12 @@
 //! Which slots are open.
 
 ghost use Rattle.std.specs.Prelude.{◌≡◌};
-ghost use Rattle.ritas_base.specs.Slots.{has_count};
 ghost use Rattle.layer_api.specs.Multi.{is_slot_of};
 ghost use Rattle.multivalued.specs.Opening.{opens_by, is_allowed};
 
 use crate::part::Part;
 use crate::settling::Progress;
 use ritas_base::Slot;
-
-/// Whether a field that class 5 alone uses is right, from 1 up.
-fn has_count(high: u8, class: u8, x: u8) -> bool
-    ensures { result ≡ has_count high class x }
-{
-    if class == 5 {
-        1 <= x && x <= high
-    } else {
-        x == 0
-    }
-}
 
 /// Whether the slot is one of the instance of this round and attempt.
 pub(crate) fn is_slot_of(a: u32, attempt: u8, slot: &Slot) -> bool
@@ -28,8 +16,7 @@ pub(crate) fn is_slot_of(a: u32, attempt: u8, slot: &Slot) -> bool
         && slot.class <= 5
         && slot.a == a
         && slot.attempt == attempt
-        && has_count(200, slot.class, slot.bround)
-        && has_count(3, slot.class, slot.step)
+        && slot.has_counts()
 }
 
 /// Whether items of a class and round may be taken.

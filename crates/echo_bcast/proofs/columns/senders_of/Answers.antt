@@ -1,11 +1,11 @@
-use Rattle.std.proofs.Common.{◌≡◌, ◌≤◌, ◌<◌, ◌^◌, ◌∙◌, ℕ, Bool, false, ap, sym, arith, get_or, inl, inr, length, List, None}
+use Rattle.std.proofs.Common.{◌≡◌, ◌≤◌, ◌∙◌, ℕ, Bool, false, ap, sym, arith, get_or, inl, inr, length, List, None}
 use Rattle.std.specs.Prelude.{◌&&◌, nat_lt, is_some, Option}
 use Rattle.std.proofs.lemmas.Bool.{cases_lt, lt-ltb, le-ltb}
 use Rattle.std.proofs.lemmas.List.{get_or_past}
 use Rattle.ritas_base.specs.Members.{has_member}
+use Rattle.ritas_base.specs.MemberLaws.{same_mask}
 use Rattle.echo_bcast.specs.Matrix.{senders_of}
-use Rattle.echo_bcast.specs.Columns.{senders_small, senders_have}
-use Rattle.echo_bcast.proofs.Bits.{same_mask}
+use Rattle.echo_bcast.specs.Columns.{senders_have}
 use Rattle.echo_bcast.proofs.columns.senders_of.Goals as goal
 
 -- past the last there is nothing
@@ -21,10 +21,8 @@ all_seen hs n k most =
 pub returns : goal.returns
 returns c = λ len.
     let hs = c.args.hashes.now in
-    let n = c.args.n in
     let least = c.loop-k-test.false in
-    let small : senders_of hs < 2 ^ 32 = senders_small n hs len c.requires.all_fit in
-    same_mask c.mask.result (senders_of hs) c.mask.type_inv small
+    same_mask c.mask.result (senders_of hs)
     (λ k.
     ap (λ (m : ℕ). has_member m k) c.mask.ensures
     ∙ (c.loop-k.invariant k ∙ (all_seen hs c.loop-k.k k (omega (arith, len, least)) ∙ sym (senders_have hs k))))
