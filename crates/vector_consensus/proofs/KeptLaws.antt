@@ -12,11 +12,13 @@ use Rattle.std.proofs.lemmas.Option.{slice_get_within, slice_get-get_or, get_or_
 use Rattle.std.proofs.lemmas.Nat.{zero_from_ones}
 use Rattle.std.proofs.lemmas.Simd.{ones-mask_l}
 use Rattle.ritas_base.specs.Members.{has_member, member_count}
+use Rattle.ritas_base.specs.MemberLaws.{same_mask, places_there}
 use Rattle.ritas_base.specs.Quorums.{count_yes, count_no}
 use Rattle.ritas_base.specs.RangeLaws.{range_more}
+use Rattle.ritas_base.specs.Shortest.{not_there}
 use Rattle.vector_consensus.specs.Consensus.{present}
+use Rattle.vector_consensus.specs.Proposals.{present_length}
 use Rattle.vector_consensus.specs.Kept.{Kept, IsKept, AreSome}
-use Rattle.vector_consensus.proofs.Masks.{members_of, mask_is}
 
 abbrev there : List (Option (List ℕ)) → ℕ → Bool
 there os k = is_some (get_or os k None)
@@ -35,13 +37,6 @@ kept_nothing os t most none empty e = record {
   places = empty ∙ sym (zero_from_ones (mask_l (map is_some os)) (ones-mask_l is_some os ∙ none));
   entries = e ∙ sym (none_present os none);
 }
-
--- ---- how many
-
-pub present_length : (os : List (Option (List ℕ))) → length (present os) ≡ count_by is_some os
-present_length [] = refl
-present_length (None ∷ os) = present_length os ∙ sym (count_no is_some None os refl)
-present_length (Some v ∷ os) = let e = count_yes is_some (Some v) os refl in let ih = present_length os in omega (arith, e, ih)
 
 -- ---- one more
 
@@ -69,7 +64,7 @@ rank_is os (suc k) l =
     let last : suc k ≡ k + 1 = omega arith in
     let more = ap (count_by (has_member mask)) (range_more 0 k k (omega arith)) ∙ sum_by_push (λ j. cond {A = ℕ} (has_member mask j) 1 0) (range_with_len 0 k) k in
     let before = rank_is os k (omega (arith, l)) in
-    let here : cond {A = ℕ} (has_member mask k) 1 0 ≡ cond {A = ℕ} (there os k) 1 0 = ap (λ (b : Bool). cond {A = ℕ} b 1 0) (members_of os k) in
+    let here : cond {A = ℕ} (has_member mask k) 1 0 ≡ cond {A = ℕ} (there os k) 1 0 = ap (λ (b : Bool). cond {A = ℕ} b 1 0) (places_there os k) in
     elim (cases_Bool (there os k)) [
       | inl is_in ↦
           let one : cond {A = ℕ} (there os k) 1 0 ≡ 1 = ap (λ (b : Bool). cond {A = ℕ} b 1 0) is_in in
@@ -99,7 +94,6 @@ there_more os k j v l =
 
 -- the new proposal, as the code keeps it
 pub record IsPut (k : ℕ) (v : List ℕ) (old new : Kept) : Type 0 where
-  pub fit : new.places < 2 ^ 32
   pub places : (j : ℕ) → has_member new.places j ≡ (has_member old.places j || (j == k))
   pub entries : new.entries ≡ insert old.entries (member_count k old.places) v
 
@@ -113,9 +107,9 @@ kept_more os k v old new kept none put =
     let rank = ap (member_count k) kept.places ∙ rank_is os k (omega (arith, within)) in
     record {
       most = small;
-      places = mask_is new.places (slice_set os k (Some v)) small put.fit (λ j.
+      places = same_mask new.places (mask_l (map is_some (slice_set os k (Some v)))) (λ j.
           put.places j
-          ∙ (ap (λ (b : Bool). b || (j == k)) (ap (λ (m : ℕ). has_member m j) kept.places ∙ members_of os j) ∙ sym (there_more os k j v within)));
+          ∙ (ap (λ (b : Bool). b || (j == k)) (ap (λ (m : ℕ). has_member m j) kept.places ∙ places_there os j) ∙ (sym (there_more os k j v within) ∙ sym (places_there (slice_set os k (Some v)) j))));
       entries = put.entries ∙ (ap (λ (vs : List (List ℕ)). insert vs (member_count k old.places) v) kept.entries ∙ (ap (λ (i : ℕ). insert (present os) i v) rank ∙ sym (present_more os k v none)));
     }
 
@@ -131,8 +125,8 @@ pub some_more : (k : ℕ) (v : List ℕ) (old new : Kept) → AreSome old → k 
 some_more k v old new some l none short put =
     let os = some.proposed in
     let all = some.all in
-    let absent : there os k ≡ false = sym (ap (λ (m : ℕ). has_member m k) some.kept.places ∙ members_of os k) ∙ none in
-    let free : slice_get os k ≡ Some None = slice_get-get_or os k None (omega (arith, l, all)) ∙ ap Some (nothing (get_or os k None) absent) in
+    let absent : there os k ≡ false = sym (ap (λ (m : ℕ). has_member m k) some.kept.places ∙ places_there os k) ∙ none in
+    let free : slice_get os k ≡ Some None = slice_get-get_or os k None (omega (arith, l, all)) ∙ ap Some (not_there (get_or os k None) absent) in
     let at = member_count k old.places in
     record {
       proposed = slice_set os k (Some v);
@@ -142,10 +136,6 @@ some_more k v old new some l none short put =
           (All-append (λ u. length u < 2 ^ 16) (take at old.entries) (v ∷ drop at old.entries) (All-take (λ u. length u < 2 ^ 16) at old.entries some.short)
           (All-cons (λ u. length u < 2 ^ 16) v (drop at old.entries) short (All-drop (λ u. length u < 2 ^ 16) at old.entries some.short)));
     }
-  where
-    nothing : (o : Option (List ℕ)) → is_some o ≡ false → o ≡ None
-    nothing None e = refl
-    nothing (Some u) e = absurd cc
 
 -- ---- how many are kept
 
@@ -181,7 +171,7 @@ module _ (t : Kept) (some : AreSome t) where
 -- of whom something is there, not nothing is
 pub kept_there : (os : List (Option (List ℕ))) (t : Kept) (k : ℕ) → IsKept os t → has_member t.places k ≡ true → slice_get os k ≡ Some None → ⊥
 kept_there os t k kept has none =
-    let x : there os k ≡ true = sym (members_of os k) ∙ (ap (λ (m : ℕ). has_member m k) (sym kept.places) ∙ has) in
+    let x : there os k ≡ true = sym (places_there os k) ∙ (ap (λ (m : ℕ). has_member m k) (sym kept.places) ∙ has) in
     let y : there os k ≡ false = ap is_some (get_or_from_slice_get os k None None none) in
     both_ways (there os k) y x
 

@@ -1,4 +1,3 @@
-pub mod Masks
 pub mod KeptLaws
 pub mod Turns
 pub mod Reaching

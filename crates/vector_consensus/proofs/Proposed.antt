@@ -1,5 +1,5 @@
 -- What a word does to the proposals.
-use Rattle.std.specs.Prelude.{◌≡◌, ℕ, ◌<◌, ◌^◌, Bool, true, false, ◌==◌, nat_le, if◌then◌else◌, List, [], ◌∷◌, length, Option, Some, None, is_some, refl, slice_set}
+use Rattle.std.specs.Prelude.{◌≡◌, ℕ, ◌<◌, ◌^◌, Bool, true, false, ◌==◌, nat_le, if◌then◌else◌, List, ◌∷◌, length, Option, Some, None, refl, slice_set}
 use Rattle.std.specs.List.{slice_get}
 use Rattle.std.specs.Option.{option_or}
 use Rattle.std.proofs.Common.{sym, ◌∙◌, ap, ap₂, subst, inl, inr, arith, get_or}
@@ -16,27 +16,12 @@ use Rattle.ritas_base.specs.Quorums.{map_same}
 use Rattle.frame_codec.specs.Format.{Format, Is}
 use Rattle.frame_codec.specs.Grammar.{value}
 use Rattle.frame_codec.specs.VectorLaws.{class2_short}
-use Rattle.layer_api.specs.Words.{Word, Ask, Hear, asked, is_heard, value_at}
-use Rattle.layer_api.specs.Part.{proposed}
-use Rattle.layer_api.specs.PartLaws.{heard_is}
+use Rattle.layer_api.specs.Words.{Word, Hear, value_at}
+use Rattle.layer_api.specs.PartLaws.{unheard}
 use Rattle.layer_api.specs.Multi.{Scope, Desk}
 use Rattle.layer_api.specs.Vectors.{VectorRules, MayVectorHear, is_vector_slot}
 use Rattle.vector_consensus.specs.Consensus.{prop_slot, props}
 use Rattle.vector_consensus.specs.Proposals.{prop_value}
-
-none_of : (o : Option (List ℕ)) → is_some o ≡ false → o ≡ None
-none_of None q = refl
-none_of (Some v) q = absurd cc
-
--- what wasn't heard has no value
-unheard : (w : List Word) (s : Slot) → is_heard w s ≡ false → value_at w s ≡ None
-unheard w s e = none_of (value_at w s) (sym (heard_is w s) ∙ e)
-
--- where no proposal came, nothing is proposed
-pub unasked : (w : List Word) → asked w ≡ 0 → proposed w ≡ None
-unasked [] e = refl
-unasked (Ask v ∷ w) e = absurd (omega (arith, e))
-unasked (Hear s v ∷ w) e = unasked w e
 
 -- a slot of class 2 is that of a proposal
 pub prop_slot_is : (at : Scope) (s : Slot) → is_vector_slot at s ≡ true → s.class ≡ 2 → s ≡ prop_slot at s.origin

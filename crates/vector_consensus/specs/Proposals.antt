@@ -21,7 +21,7 @@ use Rattle.layer_api.specs.Vectors.{HasVectors}
 use Rattle.vector_consensus.specs.Consensus.{prop_slot, props, present, vector_of}
 
 -- as many entries as places
-present_length : (os : List (Option (List ℕ))) → length (present os) ≡ count_by is_some os
+pub present_length : (os : List (Option (List ℕ))) → length (present os) ≡ count_by is_some os
 present_length [] = refl
 present_length (None ∷ os) = present_length os ∙ sym (count_no is_some None os refl)
 present_length (Some v ∷ os) = let e = count_yes is_some (Some v) os refl in let ih = present_length os in omega (arith, e, ih)

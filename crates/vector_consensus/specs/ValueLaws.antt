@@ -1,24 +1,26 @@
 -- The laws of a single value of vector consensus, from those of its multi-valued consensus.
-use Rattle.std.specs.Prelude.{◌≡◌, ℕ, zero, suc, ◌<◌, ◌≤◌, Bool, true, false, ◌==◌, ◌&&◌, nat_le, if◌then◌else◌, List, [], ◌∷◌, ◌++◌, Option, Some, None, is_some, option_map, refl}
+use Rattle.std.specs.Prelude.{◌≡◌, ℕ, zero, suc, ◌+◌, ◌<◌, ◌≤◌, Bool, true, false, ◌==◌, ◌&&◌, nat_le, if◌then◌else◌, List, [], ◌∷◌, ◌++◌, count_by, Option, Some, None, is_some, option_map, refl}
 use Rattle.std.specs.Option.{option_or}
 use Rattle.std.proofs.Common.{sym, ◌∙◌, ap, ap₂, subst, inl, inr, arith}
-use Rattle.std.proofs.lemmas.Bool.{and_parts, and_from, and_right, both_ways, eq-eqb}
+use Rattle.std.proofs.lemmas.Bool.{and_parts, and_from, and_right, both_ways, lt-leb, eq-eqb}
 use Rattle.std.proofs.lemmas.Option.{none-some}
 use Rattle.ritas_base.specs.declared.slot.Slot.{Slot}
 use Rattle.ritas_base.specs.declared.item.Say.{Say}
-use Rattle.ritas_base.specs.Numbers.{IsSession}
+use Rattle.ritas_base.specs.Numbers.{IsSession, wait_of}
+use Rattle.ritas_base.specs.History.{replicas}
+use Rattle.ritas_base.specs.Quorums.{count_by-map, count_none}
 use Rattle.ritas_base.specs.Shortest.{option_or_some, option_or_older}
 use Rattle.frame_codec.specs.Format.{Format, Is}
 use Rattle.frame_codec.specs.Grammar.{class2, vector}
 use Rattle.layer_api.specs.Service.{Instance, OfBit, OfValue, OfVector, Decision}
-use Rattle.layer_api.specs.Words.{Word, Ask, Hear, HasSay, is_said, all_said, AreFresh}
-use Rattle.layer_api.specs.Part.{proposed, newly, part_of, says_in}
-use Rattle.layer_api.specs.FedLaws.{newly_said, proposed_stays}
+use Rattle.layer_api.specs.Words.{Word, Ask, Hear, value_at, HasSay, is_said, all_said, AreFresh}
+use Rattle.layer_api.specs.Part.{proposed, newly, newly_asked, part_of, says_in}
+use Rattle.layer_api.specs.FedLaws.{newly_said, proposed_stays, kept_over}
 use Rattle.layer_api.specs.PartLaws.{says_in_all}
 use Rattle.layer_api.specs.FreshLaws.{unsaid, has_said, fresh_append, fresh_other, fresh_newly, fresh_in}
 use Rattle.layer_api.specs.Multi.{Scope, Desk, MultiRules, MayMulti, AreMulti, IsMultiSaid, MultiLaws}
 use Rattle.layer_api.specs.Vectors.{HasVectors, is_vector_slot, AreVector, IsVectorSaid, VectorLaws}
-use Rattle.vector_consensus.specs.Consensus.{prop_slot, is_of_try, try_desk, is_none, value_of, failed_below, decided_below, try_words, try_decides, try_ask, says_below, value_decision, inside_at, opens_at, vectors}
+use Rattle.vector_consensus.specs.Consensus.{prop_slot, props, vector_of, is_of_try, try_desk, is_none, value_of, failed_below, decided_below, try_words, try_decides, try_ask, says_below, value_decision, inside_at, opens_at, vectors}
 use Rattle.vector_consensus.specs.Proposals.{prop_value, vector_class}
 use Rattle.vector_consensus.specs.Tries.{IsOfTry, of_try, outer_slot, words_met, tried_good, below_said, try_said, prop_said}
 use Rattle.vector_consensus.specs.Agreement.{none_is, value_is, if_true, decided_by}
@@ -43,19 +45,51 @@ module _ (m : MultiRules) (laws : MultiLaws m) (at : Desk) where
       go true = refl
       go false = laws.opens_first (try_desk at s.attempt) s
 
-  pub decision_first : (n : ℕ) → decided_below m at n [] ≡ None
-  decision_first zero = refl
-  decision_first (suc n) =
-      ap₂ (λ (o : Option (List ℕ)) (d : Option (Option (List ℕ))). option_or o (if failed_below m at n [] then value_of d else None)) (decision_first n)
-      (laws.decision_first (try_desk at n))
-      ∙ nothing (failed_below m at n [])
+  -- where no attempt has a word, nothing is decided
+  nothing_yet : (n : ℕ) (w : List Word) → ((k : ℕ) → try_words m at k w ≡ []) → decided_below m at n w ≡ None
+  nothing_yet zero w quiet = refl
+  nothing_yet (suc n) w quiet =
+      ap₂ (λ (o : Option (List ℕ)) (d : Option (Option (List ℕ))). option_or o (if failed_below m at n w then value_of d else None)) (nothing_yet n w quiet)
+      (ap (m.decision (try_desk at n)) (quiet n) ∙ laws.decision_first (try_desk at n))
+      ∙ nothing (failed_below m at n w)
     where
       nothing : (b : Bool) → (if b then value_of None else None) ≡ None
       nothing true = refl
       nothing false = refl
 
+  pub decision_first : (n : ℕ) → decided_below m at n [] ≡ None
+  decision_first n = nothing_yet n [] (λ k. refl)
+
   pub spent_first : (n : ℕ) → failed_below m at (suc n) [] ≡ false
   spent_first n = and_right (failed_below m at n []) _ (ap is_none (laws.decision_first (try_desk at n)))
+
+  -- ---- where only a proposal was made
+
+  -- no replica's proposal is there
+  none_there : (v : List ℕ) → count_by is_some (props at.scope (Ask v ∷ [])) ≡ 0
+  none_there v =
+      count_by-map is_some (λ k. value_at (Ask v ∷ []) (prop_slot at.scope k)) (replicas at.scope.numbers.n)
+      ∙ count_none (λ k. is_some (value_at (Ask v ∷ []) (prop_slot at.scope k))) (replicas at.scope.numbers.n) (λ k e. both_ways false refl e)
+
+  -- so no attempt is asked anything
+  not_asked : (v : List ℕ) → IsSession at.scope.numbers → (k : ℕ) → try_ask m at k (Ask v ∷ []) ≡ None
+  not_asked v session k =
+      let lone = Ask v ∷ [] in
+      let enough = session.enough in
+      let none = none_there v in
+      let few = lt-leb (wait_of at.scope.numbers + k) (count_by is_some (props at.scope lone)) (omega (arith, none, enough)) in
+      ap (λ (b : Bool). if b then Some (vector_of at.scope lone) else None) (and_right (failed_below m at k lone) _ few)
+
+  -- and none has a word
+  quiet : (v : List ℕ) → IsSession at.scope.numbers → (k : ℕ) → try_words m at k (Ask v ∷ []) ≡ []
+  quiet v session k = ap (λ (o : Option (List ℕ)). (newly_asked None o ++ []) ++ []) (not_asked v session k)
+
+  pub decision_asked : (v : List ℕ) → IsSession at.scope.numbers → (n : ℕ) → decided_below m at n (Ask v ∷ []) ≡ None
+  decision_asked v session n = nothing_yet n (Ask v ∷ []) (quiet v session)
+
+  pub spent_asked : (v : List ℕ) → IsSession at.scope.numbers → (n : ℕ) → failed_below m at (suc n) (Ask v ∷ []) ≡ false
+  spent_asked v session n =
+      and_right (failed_below m at n (Ask v ∷ [])) _ (ap is_none (ap (m.decision (try_desk at n)) (quiet v session n) ∙ laws.decision_first (try_desk at n)))
 
 -- ---- what stays
 
@@ -91,11 +125,7 @@ module _ (m : MultiRules) (laws : MultiLaws m) (at : Desk) (session : IsSession 
   -- what each word of an attempt keeps, a word of the layer keeps
   try_keeps : (k : ℕ) (P : List Word → Type 0) → ((d : Word) (u : List Word) → AreMulti m (try_desk at k) (d ∷ u) → P u → P (d ∷ u))
       → (c : Word) (w : List Word) → AreVector (vectors m) at (c ∷ w) → P (try_words m at k w) → P (try_words m at k (c ∷ w))
-  try_keeps k P keeps c w met q = go (new_words k w c) (tries_met k (c ∷ w) met)
-    where
-      go : (ds : List Word) → AreMulti m (try_desk at k) (ds ++ try_words m at k w) → P (ds ++ try_words m at k w)
-      go [] met = q
-      go (d ∷ ds) met = keeps d (ds ++ try_words m at k w) met (go ds met.1)
+  try_keeps k P keeps c w met q = kept_over (MayMulti m (try_desk at k)) P keeps (new_words k w c) (try_words m at k w) (tries_met k (c ∷ w) met) q
 
   -- what an attempt decided stays
   pub try_stays : (k : ℕ) (c : Word) (w : List Word) (d : Option (List ℕ)) → AreVector (vectors m) at (c ∷ w)
@@ -267,6 +297,8 @@ vector_laws_law m laws = record {
   opens_first = λ at s. opens_first m laws at s;
   decision_first = λ at. decision_first m laws at (suc at.scope.numbers.f);
   spent_first = λ at. spent_first m laws at at.scope.numbers.f;
+  decision_asked = λ at v session. decision_asked m laws at v session (suc at.scope.numbers.f);
+  spent_asked = λ at v session. spent_asked m laws at v session at.scope.numbers.f;
   decision_stays = λ at c w v session has met q. decided_stays m laws at session has (suc at.scope.numbers.f) c w v met q;
   spent_stays = λ at c w session has met q. failed_stays m laws at session has (suc at.scope.numbers.f) c w met q;
   spent_alone = λ at w met q. failed_nothing m at (suc at.scope.numbers.f) w q;

@@ -17,7 +17,6 @@ mod laws;
 mod opening;
 mod part;
 mod proposals;
-mod putting;
 #[cfg(test)]
 mod tests;
 mod vc;

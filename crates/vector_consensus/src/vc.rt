@@ -7,8 +7,7 @@ use crate::hearing::{hear_proposal, hear_try, start};
 use crate::opening::is_open;
 use crate::part::Part;
 use crate::proposals::Proposals;
-use crate::putting::put_out;
-use layer_api::{Decided, MultiBox, VectorBox};
+use layer_api::{Decided, MultiBox, VectorBox, put_out};
 use ritas_base::{Coin, Mem, Params, Say, Slot};
 use std::alloc::Global;
 

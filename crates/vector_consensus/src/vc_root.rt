@@ -1,5 +1,4 @@
-use crate::opening::is_slot_in;
-use layer_api::{Outcome, Service, VectorBox};
+use layer_api::{Outcome, Service, VectorBox, is_slot_in};
 use ritas_base::{Coin, Id, Mem, Params, Say, Slot};
 use std::alloc::Global;
 

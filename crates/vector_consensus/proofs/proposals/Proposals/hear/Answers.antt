@@ -29,7 +29,6 @@ insert-requires c =
 put : (c : goal.After-self-2-1) → IsPut c.args.k c.args.value.now (record { places = c.self.inside.places; entries = c.self.inside.entries.items })
     (record { places = c.mask-self-inside.result; entries = c.insert.new.self.items })
 put c = record {
-  fit = c.mask-self-inside.type_inv;
   places = λ j.
       ap (λ (m : ℕ). has_member m j) c.mask-self-inside.ensures
       ∙ (c.with.ensures j ∙ ap (λ (m : ℕ). has_member m j || (j == c.args.k)) c.from_mask-places.ensures);
