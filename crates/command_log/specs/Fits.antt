@@ -1,0 +1,44 @@
+-- A log has room for all identifiers: they are distinct, and each was heard, so there are at most 31,000,000 of them, and no more
+-- rows.
+use Rattle.std.specs.Prelude.{ℕ, ◌+◌, ◌≤◌, Bool, true, false, if◌then◌else◌, List, [], ◌∷◌, length, Option}
+use Rattle.std.proofs.Common.{arith}
+use Rattle.ritas_base.specs.declared.id.Id.{Id}
+use Rattle.frame_codec.specs.Format.{Is}
+use Rattle.frame_codec.specs.Grammar.{class1}
+use Rattle.layer_api.specs.Words.{Word}
+use Rattle.layer_api.specs.Service.{ServiceRules, Seat, AreProper, WordLaws}
+use Rattle.layer_api.specs.LogFits.{ids_fit}
+use Rattle.command_log.specs.Rows.{Entry, Row, client_of, request_of, row_of, has_row, with_entry, entry_of, command_rows, rows_after}
+
+-- so many does an identifier log have at most
+pub log_fits : (r : ServiceRules) → WordLaws r → (seat : Seat) (w : List Word) → AreProper r seat w → length (r.done seat w) ≤ 31000000
+log_fits r laws seat w proper = ids_fit r seat w (r.done seat w) proper (laws.done_heard seat w proper) (laws.done_once seat w proper)
+
+-- ---- and no more rows
+
+with_most : (e : Entry) (rs : List Row) (n : ℕ) → length rs ≤ n → length (with_entry e rs) ≤ n + 1
+with_most e rs n few = go (has_row rs (client_of e.command) (request_of e.command))
+  where
+    go : (b : Bool) → length (if b then rs else row_of e ∷ rs) ≤ n + 1
+    go true = omega (arith, few)
+    go false = omega (arith, few)
+
+-- there are no more rows than identifiers
+pub rows_fit : (a : Id → Option (List ℕ)) (xs : List Id) → length (command_rows a xs) ≤ length xs
+rows_fit a [] = omega arith
+rows_fit a (x ∷ xs) =
+    let one = with_most (entry_of a x) (command_rows a xs) (length xs) (rows_fit a xs) in
+    omega (arith, one)
+
+-- and no more new ones than identifiers that were entered
+pub after_fit : (a : Id → Option (List ℕ)) (xs : List Id) (rows : List Row) → length (rows_after a xs rows) ≤ length rows + length xs
+after_fit a [] rows = omega arith
+after_fit a (x ∷ xs) rows =
+    let one = with_most (entry_of a x) (rows_after a xs rows) (length rows + length xs) (after_fit a xs rows) in
+    omega (arith, one)
+
+-- ---- a command of the grammar has a client's number and a request's
+
+pub command_long : (v : List ℕ) → Is (class1 6) v → 8 ≤ length v
+unfolding class1
+command_long v is = is.0
