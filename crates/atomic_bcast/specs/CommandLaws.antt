@@ -1,18 +1,19 @@
 -- The laws of the service of commands: what is said is new, and the base is the least number that was not heard.
-use Rattle.std.specs.Prelude.{◌≡◌, ℕ, ◌+◌, ◌<◌, ◌≤◌, Bool, true, false, ◌==◌, ◌&&◌, not, List, [], ◌∷◌, Option, Some, None, MatchOption, length, unwrap_or, refl, ◌⊎◌}
+use Rattle.std.specs.Prelude.{◌≡◌, ℕ, ◌+◌, ◌<◌, ◌≤◌, Bool, true, false, ◌==◌, ◌&&◌, nat_lt, not, List, [], ◌∷◌, Option, Some, None, MatchOption, length, unwrap_or, refl, ◌⊎◌}
 use Rattle.std.proofs.Common.{sym, ◌∙◌, ap, subst, inl, inr, arith, zero, suc}
 use Rattle.std.specs.List.{find, range_with_len, list_any}
-use Rattle.std.proofs.lemmas.Bool.{cases_Bool, cases_order, or_cases, or_left, or_right, or_from, not-true, not-false, eq-eqb, eqb-true, lt-ltb, leb-false, both_ways, cond-true, cond-false, false_from_ne_true}
+use Rattle.std.proofs.lemmas.Bool.{cases_Bool, cases_order, or_cases, or_left, or_right, or_from, not-true, not-false, eq-eqb, eqb-true, lt-ltb, ltb-true, leb-false, both_ways, cond-true, cond-false, false_from_ne_true}
 use Rattle.std.proofs.lemmas.Map.Steps.{le-length_from_below}
 use Rattle.ritas_base.specs.declared.slot.Slot.{Slot}
 use Rattle.ritas_base.specs.declared.mode.Mode.{Mode}
 use Rattle.ritas_base.specs.Numbers.{Numbers}
 use Rattle.ritas_base.specs.Slots.{has_class, slot_fault, command_slot}
+use Rattle.ritas_base.specs.SlotLaws.{right_command}
 use Rattle.ritas_base.specs.SlotOrder.{is_slot, same_slot}
 use Rattle.frame_codec.specs.Format.{Is}
 use Rattle.frame_codec.specs.Grammar.{value}
 use Rattle.frame_codec.specs.Inputs.{IsInput, input_format}
-use Rattle.layer_api.specs.Service.{Seat, said, is_ahead, MayHear, AreProper, AreNew, AreGoodSays, WordLaws, AreInputs, IsBase, is_finished, has_instance, Meanings}
+use Rattle.layer_api.specs.Service.{Seat, said, is_past, is_ahead, MayHear, AreProper, AreNew, AreGoodSays, WordLaws, AreInputs, IsBase, is_finished, has_instance, Meanings}
 use Rattle.layer_api.specs.Words.{Word, Ask, Hear, is_heard, asked, is_said}
 use Rattle.layer_api.specs.OneLog.{OneLog}
 use Rattle.atomic_bcast.specs.Commands.{is_heard_from, is_missing, base_of, says_of, commands}
@@ -146,6 +147,23 @@ heard_near seat (Hear s v ∷ w) o k proper h =
       | inr there ↦ omega (arith, heard_near seat w o k proper.1 there, base_stays seat (Hear s v) w o)
     ]
 
+-- a slot that was heard isn't past
+pub heard_recent : (seat : Seat) (s : Slot) (v : List ℕ) (w : List Word) → AreProper commands seat (Hear s v ∷ w) → is_past commands seat (Hear s v ∷ w) s ≡ false
+heard_recent seat s v w proper =
+    cond-true (s.class == 1) (nat_lt (s.a + 64) (base_of (Hear s v ∷ w) s.origin)) (nat_lt (s.a + 2) 0) proper.0.is_open
+    ∙ false_from_ne_true _ (λ e. again ((base_is (Hear s v ∷ w) s.origin).below (s.a + 64) (ltb-true (s.a + 64) _ e)))
+  where
+    again : is_heard (Hear s v ∷ w) (command_slot s.origin (s.a + 64)) ≡ true → ⊥
+    again h =
+        elim (or_cases (is_slot s (command_slot s.origin (s.a + 64))) (is_heard w (command_slot s.origin (s.a + 64))) h) [
+          | inl here ↦ let e : s.a ≡ s.a + 64 = ap (λ (q : Slot). q.a) (same_slot s (command_slot s.origin (s.a + 64)) here) in absurd (omega (arith, e))
+          | inr there ↦
+              let near = heard_near seat w s.origin (s.a + 64) proper.1 there in
+              let before = (base_is w s.origin).below s.a (omega (arith, near)) in
+              let own = right_command seat.numbers seat.mode s proper.0.right proper.0.is_open in
+              both_ways _ proper.0.first (ap (is_heard w) own ∙ before)
+        ]
+
 -- ---- what is said is new
 
 other_number : (me k j : ℕ) → (k ≡ j → ⊥) → is_slot (command_slot me k) (command_slot me j) ≡ false
@@ -251,6 +269,7 @@ command_laws = record {
   done_grows = λ seat c w proper. record { more = []; whole = refl; recent = tt };
   done_once = λ seat w proper. tt;
   done_heard = λ seat w proper. tt;
+  heard_recent = heard_recent;
   outcome_stays = λ seat c w d proper e. absurd cc;
   decided_stays = λ seat c w x d proper e. absurd cc;
 }

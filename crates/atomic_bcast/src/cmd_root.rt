@@ -1,17 +1,12 @@
-ghost use Rattle.std.specs.Prelude.{◌≡◌, ℕ, ◌==◌, ◌&&◌, ◌||◌, not, [], ◌∷◌, ◌++◌, OnOk, OnErr};
-ghost use Rattle.ritas_base.specs.Slots.{command_slot};
+ghost use Rattle.std.specs.Prelude.{◌≡◌, ℕ, ◌==◌, ◌&&◌, ◌||◌, not, OnOk, OnErr};
 ghost use Rattle.atomic_bcast.specs.Early.{has_early, Advances, Notes};
 
+use crate::limits::{MOST_COMMANDS, MOST_REPLICAS};
+use crate::saying::say_command;
 use layer_api::{Outcome, Service};
-use ritas_base::{Bytes, Coin, Id, Mem, Params, Say, Slot};
+use ritas_base::{Coin, Id, Mem, Params, Say, Slot};
 use std::alloc::Global;
 use std::collections::BTreeSet;
-
-/// There are at most so many replicas.
-const MOST_REPLICAS: usize = 31;
-
-/// Commands are numbered below this.
-const MOST_COMMANDS: u32 = 1_000_000;
 
 /// The service of commands alone, for root services 1 and 2.
 ///
@@ -44,7 +39,7 @@ fn take_early(early: &mut BTreeSet<Id>, origin: u8, num: u32) -> bool
 }
 
 // Puts a command in.
-fn put_early(early: &mut BTreeSet<Id>, origin: u8, num: u32) -> Result<(), Mem>
+pub(crate) fn put_early(early: &mut BTreeSet<Id>, origin: u8, num: u32) -> Result<(), Mem>
     ensures put { OnOk result
         ((o k : ℕ) → has_early early.new o k ≡ ((o == origin && k == num) || has_early early.old o k)) }
 {
@@ -53,7 +48,7 @@ fn put_early(early: &mut BTreeSet<Id>, origin: u8, num: u32) -> Result<(), Mem>
 }
 
 // Takes out the commands of an origin from this base on, up to the first that isn't there. Its number is the new base.
-fn advance(early: &mut BTreeSet<Id>, origin: u8, mut base: u32) -> u32
+pub(crate) fn advance(early: &mut BTreeSet<Id>, origin: u8, mut base: u32) -> u32
     ensures { Advances early.old early.new origin base result }
 {
     while base < MOST_COMMANDS && take_early(early, origin, base) {
@@ -79,27 +74,6 @@ impl CmdRoot {
         } else if num > base {
             put_early(&mut self.early, origin, num)?;
         }
-        Ok(())
-    }
-
-    // Says the value at the slot of the next command.
-    fn say(&self, alloc: Global, value: &[u8], says: &mut Vec<Say>) -> Result<(), Mem>
-        ensures said { let slot = command_slot self.now.me self.now.inputs in
-            OnOk result (says.new.items ≡ says.old.items ++ record { slot = slot; value = value.now } ∷ []) }
-        ensures err { OnErr result (says.new.items ≡ says.old.items) }
-    {
-        let value = Bytes::from_slice(alloc, value)?;
-        says.push(Say {
-            slot: Slot {
-                class: 1,
-                a: self.inputs,
-                attempt: 0,
-                bround: 0,
-                step: 0,
-                origin: self.me,
-            },
-            value,
-        })?;
         Ok(())
     }
 }
@@ -134,7 +108,7 @@ impl Service for CmdRoot {
     }
 
     fn input(&mut self, alloc: Global, value: &[u8], says: &mut Vec<Say>) -> Result<(), Mem> {
-        match self.say(alloc, value, says) {
+        match say_command(alloc, self.me, self.inputs, value, says) {
             Ok(()) => {
                 self.inputs = self.inputs.saturating_add(1);
                 Ok(())

@@ -1,6 +1,11 @@
+ghost use Rattle.std.specs.Prelude.{◌≡◌};
+ghost use Rattle.ritas_base.specs.SlotOrder.{is_slot};
+ghost use Rattle.atomic_bcast.specs.OnePlace.{the_slot};
+
 use super::*;
-use layer_api::Service;
-use ritas_base::{Coin, Params, Say, Slot};
+use layer_api::{Outcome, Service, VectorBox};
+use ritas_base::{Bytes, Coin, Id, Mem, Params, Say, Slot};
+use std::alloc::Global;
 
 struct NoCoin;
 
@@ -23,6 +28,150 @@ fn slot(class: u8, a: u32, step: u8, origin: u8) -> Slot {
         step,
         origin,
     }
+}
+
+// Whether it is the slot of class 3 of attempt 0 and replica 0 in this round.
+fn is_the_slot(slot: &Slot, a: u32) -> bool
+    ensures { result ≡ is_slot slot.now (the_slot a) }
+{
+    slot.cmp(&Slot {
+        class: 3,
+        a,
+        attempt: 0,
+        bround: 0,
+        step: 0,
+        origin: 0,
+    })
+    .is_eq()
+}
+
+// A vector consensus that says nothing, and decides what one slot delivers.
+#[derive(Drop)]
+struct OnePlace {
+    a: u32,
+    asked: bool,
+    vector: Option<Bytes>,
+    live: bool,
+}
+
+impl VectorBox for OnePlace {
+    ghost use Rattle.std.specs.Prelude.{◌≡◌, true, false, nat_lt, refl};
+    ghost use Rattle.layer_api.specs.Words.{asked, value_at};
+    ghost use Rattle.atomic_bcast.specs.OnePlace.{the_slot, one_place, one_place_laws, one_place_agrees};
+
+    ghost stands = { λ b at w. (b.a ≡ at.scope.a) × (b.asked ≡ nat_lt 0 (asked w)) × (b.vector ≡ value_at w (the_slot at.scope.a)) × (b.live ≡ true) };
+
+    ghost rules = { one_place };
+
+    ghost live = { λ b. b.live };
+
+    ghost shown = { λ b. record { opens = λ s. b.asked; decision = b.vector; spent = false } };
+
+    fn new(_alloc: Global, _p: &Params, _me: u8, a: u32) -> Result<OnePlace, Mem> {
+        Ok(OnePlace {
+            a,
+            asked: false,
+            vector: None,
+            live: true,
+        })
+    }
+
+    fn propose(&mut self, _alloc: Global, _value: &[u8], _says: &mut Vec<Say>) -> Result<(), Mem> {
+        self.asked = true;
+        Ok(())
+    }
+
+    fn heard<C: Coin>(
+        &mut self,
+        alloc: Global,
+        _coin: &C,
+        slot: &Slot,
+        value: &[u8],
+        _says: &mut Vec<Say>,
+    ) -> Result<(), Mem> {
+        if self.vector.is_some() || !is_the_slot(slot, self.a) {
+            return Ok(());
+        }
+        match Bytes::from_slice(alloc, value) {
+            Ok(bytes) => {
+                self.vector = Some(bytes);
+                Ok(())
+            }
+            Err(mem) => {
+                self.live = false;
+                Err(mem)
+            }
+        }
+    }
+
+    fn is_open(&self, _slot: &Slot) -> bool {
+        self.asked
+    }
+
+    fn decision(&self) -> Option<&[u8]> {
+        match &self.vector {
+            Some(bytes) => Some(bytes.as_slice()),
+            None => None,
+        }
+    }
+
+    fn spent(&self) -> bool {
+        false
+    }
+
+    fn live(&self) -> bool {
+        self.live
+    }
+
+    ghost shows = { λ b at w stood. (stood.3, record { opens = λ s. stood.1; decision = stood.2; spent = refl }) };
+
+    ghost vector_laws = { one_place_laws };
+
+    ghost one_vector = { one_place_agrees };
+}
+
+// Four replicas, of which one may be faulty, and replica 2's service. Command 0 of replica 1 is delivered, and round 0
+// begins. Its vector has the lists of replicas 0, 1 and 3. Two of them name command 0 of replica 1 and command 5 of replica
+// 3; one alone names command 1 of replica 1. So the round waits for command 5 of replica 3, appends both in ascending order,
+// and the next round begins with a command that came meanwhile.
+#[test]
+fn a_round_completes(rt: HostRuntime) {
+    assert!(rt; Abc::<OnePlace>::serves(6) && !Abc::<OnePlace>::serves(5));
+    let p = Params::new(4, 1).unwrap();
+    let mut abc: Abc<OnePlace> = Abc::new(rt.alloc(), &p, 2).expect(&rt, "memory");
+    let mut says: Vec<Say> = Vec::new(rt.alloc());
+    assert!(rt; abc.input(rt.alloc(), b"client_1", &mut says).is_ok());
+    assert!(rt; says.len() == 1 && says[0].slot == slot(1, 0, 0, 2) && abc.next_number() == 1);
+    assert!(rt; abc.is_open(&slot(1, 7, 0, 3)) && !abc.is_open(&slot(2, 0, 0, 0)));
+    let first = Id { origin: 1, num: 0 };
+    let last = Id { origin: 3, num: 5 };
+    // the mask of three places, and for each a length and identifiers
+    let vector = [
+        0, 0, 0, 0b1011, //
+        0, 10, 1, 0, 0, 0, 0, 3, 0, 0, 0, 5, //
+        0, 15, 1, 0, 0, 0, 0, 1, 0, 0, 0, 1, 3, 0, 0, 0, 5, //
+        0, 5, 0, 0, 0, 0, 9,
+    ];
+    // slot and what it delivers; then how many rounds are complete, and how long the log is
+    for (at, value, completed, length) in [
+        (slot(1, 0, 0, 1), b"client_1".as_slice(), 0, 0),
+        (slot(3, 0, 0, 0), vector.as_slice(), 0, 0),
+        (slot(1, 2, 0, 2), b"client_2".as_slice(), 0, 0),
+        (slot(1, 5, 0, 3), b"client_3".as_slice(), 1, 2),
+    ] {
+        assert!(rt; abc.is_open(&at));
+        assert!(rt;
+            abc.heard(rt.alloc(), &NoCoin, &at, value, &mut says)
+                .is_ok()
+        );
+        assert!(rt; abc.completed() == completed && abc.done().len() == length);
+    }
+    assert!(rt; abc.done() == [first, last].as_slice());
+    assert!(rt; abc.base(1) == 1 && abc.base(3) == 0 && abc.base(2) == 0);
+    assert!(rt; abc.is_open(&slot(2, 0, 0, 1)) && abc.is_open(&slot(2, 1, 0, 1)));
+    assert!(rt; !abc.is_open(&slot(2, 2, 0, 1)) && !abc.is_open(&slot(2, 1, 1, 1)));
+    assert!(rt; abc.outcome() == Outcome::Undecided && abc.live() && !abc.given());
+    assert_eq!(rt; says.len(), 1);
 }
 
 // Four replicas, and replica 2's service: three inputs, and commands that come out of order.

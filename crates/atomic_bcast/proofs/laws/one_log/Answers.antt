@@ -1,0 +1,12 @@
+use Rattle.atomic_bcast.specs.RoundLog.{one_log_law, vectors_agree}
+use Rattle.atomic_bcast.specs.RoundLogs.{done_distinct}
+use Rattle.atomic_bcast.proofs.laws.one_log.Goals as goal
+
+pub returns-clause-log : goal.returns-clause-log
+returns-clause-log c = one_log_law
+
+pub returns-clause-once : goal.returns-clause-once
+returns-clause-once c = done_distinct
+
+pub returns-clause-vectors : goal.returns-clause-vectors
+returns-clause-vectors c = vectors_agree

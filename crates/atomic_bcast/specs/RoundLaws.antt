@@ -1,0 +1,212 @@
+-- The laws of a single value of atomic broadcast, from those of its vector consensus.
+use Rattle.std.specs.Prelude.{◌≡◌, ℕ, suc, ◌+◌, ◌≤◌, Bool, true, false, not, ◌==◌, ◌&&◌, nat_le, nat_lt, if◌then◌else◌, List, ◌∷◌, Option, Some, None, refl}
+use Rattle.std.proofs.Common.{sym, ◌∙◌, ap, ap₂, subst, inl, inr, arith}
+use Rattle.std.proofs.lemmas.Bool.{and_parts, and_from, both_ways, cond-true, cond-false, cases_Bool, cases_order, eqb-true, le-leb, le-ltb, leb-true, ltb-false}
+use Rattle.ritas_base.specs.declared.slot.Slot.{Slot}
+use Rattle.ritas_base.specs.declared.id.Id.{Id}
+use Rattle.ritas_base.specs.Slots.{has_class}
+use Rattle.layer_api.specs.Words.{Word, Hear, asked}
+use Rattle.layer_api.specs.Service.{Seat, Instance, OfBit, OfValue, OfVector, Decision, Spent, Undecided, Decided, AreProper, IsEnding, Meanings, has_id, has_instance, is_finished, is_past, WordLaws}
+use Rattle.layer_api.specs.FedLaws.{shortest_at}
+use Rattle.layer_api.specs.LogFits.{ids_fit}
+use Rattle.layer_api.specs.Vectors.{VectorRules, VectorLaws, is_vector_slot}
+use Rattle.atomic_bcast.specs.Rounds.{round_scope, round_desk, log_below, complete_of, completes_at, round_words, round_decides, round_opens, vector_decision, inside_of, rounds, atomic}
+use Rattle.atomic_bcast.specs.RoundWords.{session_of, round_met, round_opened}
+use Rattle.atomic_bcast.specs.RoundLogs.{completes_is, complete_stays, log_complete, log_earlier, done_distinct}
+use Rattle.atomic_bcast.specs.RoundStays.{decides_stay, spent_stay, inside_stay, opens_stay}
+use Rattle.atomic_bcast.specs.RoundGrowth.{least_is, base_stays, command_recent, done_grows, done_heard, done_nothing}
+use Rattle.atomic_bcast.specs.RoundSays.{six_commands, says_new, says_good, commands_said}
+use Rattle.atomic_bcast.specs.SteppingLaws.{comes_to, rises, no_step}
+
+-- ---- what the getters mean
+
+-- root service 6 has the log
+six_log : (root : ℕ) → root ≡ 6 → (root == 6) ≡ true
+six_log root six = ap (λ (r : ℕ). r == 6) six
+
+-- the vector consensus of a round of root service 6 may be spent
+spent_ending : (root : ℕ) (is_spent : Bool) → root ≡ 6 → IsEnding root (if is_spent then Decided Spent else Undecided)
+spent_ending root true six = inr six
+spent_ending root false six = tt
+
+module _ (v : VectorRules) (seat : Seat) where
+  -- a command is finished where its identifier is in the log
+  finished_is : (w : List Word) (o k : ℕ) → seat.mode.root ≡ 6
+      → is_finished (atomic v) seat w o k ≡ has_id ((atomic v).done seat w) (record { origin = o; num = k })
+  finished_is w o k six = cond-true (seat.mode.root == 6) _ _ (six_log seat.mode.root six)
+
+  -- each getter is what root service 6 says
+  meanings : (w : List Word) → seat.mode.root ≡ 6 → AreProper (atomic v) seat w → Meanings (atomic v) seat w
+  meanings w six proper =
+      let least = least_is ((atomic v).done seat w) in
+      record {
+        next_number = sym (cond-true (has_class seat.mode.root 1) (asked w) 0 (six_commands seat.mode.root six));
+        given = sym (ap (λ (r : ℕ). has_instance r && not (asked w == 0)) six);
+        completed = λ low. absurd (let l = leb-true seat.mode.root 5 low in omega (arith, l, six));
+        base = λ o has. record {
+          missing = finished_is w o ((atomic v).base seat w o) six ∙ (least o).missing;
+          below = λ k before. finished_is w o k six ∙ (least o).below k before;
+        };
+        base_none = λ o one. absurd (both_ways _ (ap has_instance six) one);
+        done = λ low. absurd (let l = leb-true seat.mode.root 5 low in omega (arith, l, six));
+        done_few = ids_fit (atomic v) seat w ((atomic v).done seat w) proper (done_heard v seat w) (done_distinct v seat w);
+        outcome = spent_ending seat.mode.root _ six;
+      }
+
+module _ (v : VectorRules) (laws : VectorLaws v) (seat : Seat) where
+  -- ---- what is open stays open
+
+  -- a round's slot that isn't past has a round of the last two before the current one, or of a later one
+  recent : (w : List Word) (s : Slot) → (s.class == 1) ≡ false → is_past (atomic v) seat w s ≡ false → complete_of v seat rounds w ≤ s.a + 2
+  recent w s other past =
+      ltb-false (s.a + 2) (complete_of v seat rounds w)
+      (sym (ap (λ (b : Bool). if b then nat_lt (s.a + 64) ((atomic v).base seat w s.origin) else nat_lt (s.a + 2) (complete_of v seat rounds w)) other) ∙ past)
+
+  -- an open slot of a round stays open where its round isn't past
+  round_opens_stays : (c : Word) (w : List Word) (s : Slot) → AreProper (atomic v) seat (c ∷ w) → complete_of v seat rounds (c ∷ w) ≤ s.a + 2
+      → round_opens v seat w s ≡ true → round_opens v seat (c ∷ w) s ≡ true
+  round_opens_stays c w s proper l e =
+      let x = and_parts (nat_lt s.a rounds) _ e in
+      let y = and_parts (nat_le (complete_of v seat rounds w) (s.a + 2)) _ x.1 in
+      let z = and_parts (is_vector_slot (round_scope seat.numbers s.a) s) _ y.1 in
+      and_from (nat_lt s.a rounds) _ x.0
+      (and_from (nat_le (complete_of v seat rounds (c ∷ w)) (s.a + 2)) _ (le-leb (complete_of v seat rounds (c ∷ w)) (s.a + 2) l)
+      (and_from (is_vector_slot (round_scope seat.numbers s.a) s) _ z.0 (opens_stay v laws seat s.a c w proper s z.1)))
+
+  -- what is open stays open, as long as its window isn't past
+  opens_stays : (c : Word) (w : List Word) (s : Slot) → AreProper (atomic v) seat (c ∷ w) → (atomic v).opens seat w s ≡ true
+      → is_past (atomic v) seat (c ∷ w) s ≡ false → (atomic v).opens seat (c ∷ w) s ≡ true
+  opens_stays c w s proper e past =
+      elim (cases_Bool (s.class == 1)) [
+        | inl command ↦ ap (λ (b : Bool). if b then true else round_opens v seat (c ∷ w) s) command
+        | inr other ↦
+            ap (λ (b : Bool). if b then true else round_opens v seat (c ∷ w) s) other
+            ∙ round_opens_stays c w s proper (recent (c ∷ w) s other past) (round_opened v seat w s other e)
+      ]
+
+  -- ---- what a word hears isn't past after it
+
+  -- a word of the current round completes one round at most, and a word of an earlier one none
+  heard_count : (s : Slot) (x : List ℕ) (w : List Word) → AreProper (atomic v) seat (Hear s x ∷ w) → (s.class == 1) ≡ false
+      → complete_of v seat rounds (Hear s x ∷ w) ≤ s.a + 2
+  heard_count s x w proper other =
+      let session = session_of v seat w (Hear s x) proper.0 in
+      elim (cases_Bool (s.a == complete_of v seat rounds w)) [
+        | inl now ↦
+            let e = eqb-true s.a (complete_of v seat rounds w) now in
+            let l = rises v laws seat session (Hear s x) w proper in
+            omega (arith, e, l)
+        | inr earlier ↦
+            let same = (no_step v laws seat session s x w proper other earlier).same in
+            let l = (comes_to v laws seat session s x w proper other).recent in
+            omega (arith, same, l)
+      ]
+
+  -- a slot isn't past after the word that hears it
+  heard_recent : (s : Slot) (x : List ℕ) (w : List Word) → AreProper (atomic v) seat (Hear s x ∷ w) → is_past (atomic v) seat (Hear s x ∷ w) s ≡ false
+  heard_recent s x w proper =
+      elim (cases_Bool (s.class == 1)) [
+        | inl command ↦ command_recent v seat s x w command proper
+        | inr other ↦
+            cond-false (s.class == 1) _ _ other ∙ le-ltb (s.a + 2) (complete_of v seat rounds (Hear s x ∷ w)) (heard_count s x w proper other)
+      ]
+
+  -- ---- what is decided stays
+
+  if_stays : {X : Type 0} (b : Bool) (o u : Option X) (d : X) → (o ≡ Some d → u ≡ Some d) → (if b then o else None) ≡ Some d → (if b then u else None) ≡ Some d
+  if_stays true o u d stays q = stays q
+  if_stays false o u d stays q = absurd cc
+
+  -- a decision on a vector stays
+  vector_stays : (o u : Option (List ℕ)) (s t : Bool) (d : Decision) → ((x : List ℕ) → o ≡ Some x → u ≡ Some x) → (s ≡ true → (t ≡ true) × (u ≡ None))
+      → vector_decision o s ≡ Some d → vector_decision u t ≡ Some d
+  vector_stays (Some x) u s t d stays spent q = ap (λ o. vector_decision o t) (stays x refl) ∙ q
+  vector_stays None u true t d stays spent q = let e = spent refl in ap₂ vector_decision e.1 e.0 ∙ q
+  vector_stays None u false t d stays spent q = absurd cc
+
+  -- nothing is decided where it is spent
+  nothing_spent : (a : ℕ) (c : Word) (w : List Word) → AreProper (atomic v) seat (c ∷ w) → v.spent (round_desk seat a) (round_words v seat a w) ≡ true
+      → (v.spent (round_desk seat a) (round_words v seat a (c ∷ w)) ≡ true) × (round_decides v seat a (c ∷ w) ≡ None)
+  nothing_spent a c w proper q =
+      let t = spent_stay v laws seat a c w proper q in
+      (t, laws.spent_alone (round_desk seat a) (round_words v seat a (c ∷ w)) (round_met v seat a (c ∷ w) proper) t)
+
+  -- what an instance decided stays
+  decided_stays : (c : Word) (w : List Word) (x : Instance) (d : Decision) → AreProper (atomic v) seat (c ∷ w) → inside_of v seat w x ≡ Some d → inside_of v seat (c ∷ w) x ≡ Some d
+  decided_stays c w (OfBit a k) d proper q = if_stays (nat_lt a rounds) _ _ d (inside_stay v laws seat a c w proper (OfBit a k) d) q
+  decided_stays c w (OfValue a k) d proper q = if_stays (nat_lt a rounds) _ _ d (inside_stay v laws seat a c w proper (OfValue a k) d) q
+  decided_stays c w (OfVector a) d proper q =
+      if_stays (nat_lt a rounds) (vector_decision (round_decides v seat a w) (v.spent (round_desk seat a) (round_words v seat a w)))
+      (vector_decision (round_decides v seat a (c ∷ w)) (v.spent (round_desk seat a) (round_words v seat a (c ∷ w)))) d
+      (λ e. vector_stays _ _ _ _ d (decides_stay v laws seat a c w proper) (nothing_spent a c w proper) e) q
+
+  -- ---- a round that is spent is never complete
+
+  -- what a round decided at a prefix it has now
+  record IsBefore (a : ℕ) (w h : List Word) : Type 0 where
+    proper : AreProper (atomic v) seat h
+    decides : (x : List ℕ) → round_decides v seat a h ≡ Some x → round_decides v seat a w ≡ Some x
+
+  -- a round without a decision isn't complete
+  never_complete : (a : ℕ) (w : List Word) (log : List Id) → AreProper (atomic v) seat w → round_decides v seat a w ≡ None → log_below v seat (suc a) w ≡ Some log → ⊥
+  never_complete a w log proper none q =
+      let t = shortest_at (IsBefore a w) (λ c h b. record { proper = b.proper.1; decides = λ x e. b.decides x (decides_stay v laws seat a c h b.proper x e) })
+      (completes_at v seat a (log_below v seat a)) w log (record { proper = proper; decides = λ x e. e }) q in
+      let x = completes_is seat (log_below v seat a t.0) (round_decides v seat a t.0) t.0 log t.2 in
+      let z : None ≡ Some x.vector = sym none ∙ t.1.decides x.vector x.decides in
+      cc
+
+  -- where the current round is spent it stays the current one
+  same_round : (c : Word) (w : List Word) → AreProper (atomic v) seat (c ∷ w)
+      → v.spent (round_desk seat (complete_of v seat rounds w)) (round_words v seat (complete_of v seat rounds w) w) ≡ true
+      → complete_of v seat rounds (c ∷ w) ≡ complete_of v seat rounds w
+  same_round c w proper q =
+      let a = complete_of v seat rounds w in
+      let b = complete_of v seat rounds (c ∷ w) in
+      elim (cases_order a b) [
+        | inl same ↦ sym same
+        | inr (inl less) ↦
+            let e = log_earlier v seat b (suc a) (c ∷ w) _ (omega (arith, less)) (log_complete v seat rounds (c ∷ w)) in
+            absurd (never_complete a (c ∷ w) e.old proper (nothing_spent a c w proper q).1 e.there)
+        | inr (inr more) ↦ absurd (let l = complete_stays v seat rounds c w in omega (arith, l, more))
+      ]
+
+  -- the outcome is that the current round's vector consensus is spent
+  abbrev is_spent : ℕ → List Word → Bool
+  is_spent a w = v.spent (round_desk seat a) (round_words v seat a w)
+
+  -- where the outcome is a decision it is that
+  ending_of : (b : Bool) (d : Decision) → (if b then Decided Spent else Undecided) ≡ Decided d → (b ≡ true) × (d ≡ Spent)
+  ending_of true d q = (refl, cc)
+  ending_of false d q = absurd cc
+
+  -- the outcome stays
+  outcome_stays : (c : Word) (w : List Word) (d : Decision) → AreProper (atomic v) seat (c ∷ w) → (atomic v).outcome seat w ≡ Decided d → (atomic v).outcome seat (c ∷ w) ≡ Decided d
+  outcome_stays c w d proper q =
+      let a = complete_of v seat rounds w in
+      let s = ending_of (is_spent a w) d q in
+      let t : is_spent (complete_of v seat rounds (c ∷ w)) (c ∷ w) ≡ true =
+      subst (λ (k : ℕ). is_spent k (c ∷ w) ≡ true) (sym (same_round c w proper s.0)) (spent_stay v laws seat a c w proper s.0) in
+      ap (λ (b : Bool). if b then Decided Spent else Undecided) t ∙ ap Decided (sym s.1)
+
+-- ---- the laws
+
+-- the laws of a single value
+pub atomic_word_laws : (v : VectorRules) → VectorLaws v → WordLaws (atomic v)
+atomic_word_laws v laws = record {
+  meanings = λ seat w session serves proper. meanings v seat w (eqb-true seat.mode.root 6 serves) proper;
+  opens_stays = λ seat c w s proper opens past. opens_stays v laws seat c w s proper opens past;
+  says_new = λ seat c w proper. says_new v laws seat (session_of v seat w c proper.0) c w proper;
+  says_good = λ seat c w below proper. says_good v laws seat (session_of v seat w c proper.0) c w below proper;
+  commands_said = λ seat c w proper. commands_said v laws seat (session_of v seat w c proper.0) c w proper;
+  inputs_said = λ seat x w has proper. inl refl;
+  completed_stays = λ seat c w proper. complete_stays v seat rounds c w;
+  base_stays = λ seat c w o proper. base_stays v seat c w o;
+  done_nothing = λ seat. done_nothing v seat;
+  done_grows = λ seat c w proper. done_grows v seat c w proper;
+  done_once = λ seat w proper. done_distinct v seat w;
+  done_heard = λ seat w proper. done_heard v seat w;
+  heard_recent = λ seat s x w proper. heard_recent v laws seat s x w proper;
+  outcome_stays = λ seat c w d proper q. outcome_stays v laws seat c w d proper q;
+  decided_stays = λ seat c w x d proper q. decided_stays v laws seat c w x d proper q;
+}

@@ -1,0 +1,170 @@
+-- Atomic broadcast by the words so far, the newest first: commands are broadcast, and in each round a vector of lists of identifiers
+-- is agreed on, which says what is appended to the identifier log.
+use Rattle.std.specs.Prelude.{ℕ, zero, suc, ◌+◌, ◌/◌, Bool, true, false, not, ◌==◌, ◌&&◌, nat_le, nat_lt, if◌then◌else◌, List, [], ◌∷◌, ◌++◌, drop, length, count_by, Option, Some, None, is_some, unwrap_or}
+use Rattle.std.specs.List.{find, range_with_len}
+use Rattle.std.specs.Int.RustNames.{count_ones}
+use Rattle.ritas_base.specs.declared.slot.Slot.{Slot}
+use Rattle.ritas_base.specs.declared.item.Say.{Say}
+use Rattle.ritas_base.specs.declared.id.Id.{Id}
+use Rattle.ritas_base.specs.Numbers.{Numbers}
+use Rattle.ritas_base.specs.Shortest.{at_shortest}
+use Rattle.frame_codec.specs.Values.{ids_bytes, ids_of, mask_of, entries_in}
+use Rattle.ritas_base.specs.Slots.{command_slot}
+use Rattle.layer_api.specs.Words.{Word, Ask, Hear, is_heard, asked}
+use Rattle.layer_api.specs.Service.{ServiceRules, Seat, Instance, OfBit, OfValue, OfVector, Decision, Value, Spent, Undecided, Decided, has_id}
+use Rattle.layer_api.specs.Part.{part_of, part_words, says_in}
+use Rattle.layer_api.specs.Multi.{Scope, Desk}
+use Rattle.layer_api.specs.Vectors.{VectorRules, is_vector_slot}
+use Rattle.atomic_bcast.specs.Commands.{says_of}
+use Rattle.atomic_bcast.specs.Identifiers.{in_order, kept, is_without, all_pass, first_of_each, append_ids}
+
+-- ---- commands
+
+-- the identifiers of the commands that were delivered
+abbrev pub delivered_ids : List Word → List Id
+delivered_ids [] = []
+delivered_ids (Ask v ∷ w) = delivered_ids w
+delivered_ids (Hear s v ∷ w) = if s.class == 1 then record { origin = s.origin; num = s.a } ∷ delivered_ids w else delivered_ids w
+
+-- those that aren't in the log
+abbrev pub pending : List Word → List Id → List Id
+pending w log = kept (is_without log) (delivered_ids w)
+
+-- of each origin's the least floor(64 / n), in ascending order
+abbrev pub proposal : ℕ → List Id → List Id
+proposal n ids = first_of_each (64 / n) [] (in_order ids)
+
+-- ---- what a vector says
+
+-- the lists in a vector
+abbrev pub entry_ids : List (List ℕ) → List Id
+entry_ids [] = []
+entry_ids (e ∷ es) = ids_of e ++ entry_ids es
+
+abbrev pub lists_in : List ℕ → List (List ℕ)
+lists_in vector = entries_in (count_ones (mask_of vector)) (drop 4 vector)
+
+-- in how many of them an identifier stands
+abbrev pub backers : List (List ℕ) → Id → ℕ
+backers es x = count_by (λ e. has_id (ids_of e) x) es
+
+-- those that stand in f + 1 lists at least, ascending
+abbrev pub wanted : Numbers → List ℕ → List Id
+wanted p vector = kept (λ x. nat_le (p.f + 1) (backers (lists_in vector) x)) (in_order (entry_ids (lists_in vector)))
+
+-- whether an identifier's command is delivered
+abbrev pub has_command : List Word → Id → Bool
+has_command w x = is_heard w (command_slot x.origin x.num)
+
+-- the log with those of them appended that it hasn't
+abbrev pub appended : Numbers → List ℕ → List Id → List Id
+appended p vector log = append_ids (kept (is_without log) (wanted p vector)) log
+
+-- ---- rounds
+
+abbrev pub round_scope : Numbers → ℕ → Scope
+round_scope p a = record { numbers = p; root = 6; a = a; attempt = 0 }
+
+abbrev pub round_desk : Seat → ℕ → Desk
+round_desk seat a = record { scope = round_scope seat.numbers a; me = seat.me; coin = seat.coin }
+
+abbrev pub is_of_round : ℕ → Slot → Bool
+is_of_round a s = not (s.class == 1) && s.a == a
+
+-- a round begins, where the rounds before it are complete with this log, with what is pending
+abbrev pub first_ids : ℕ → List Id → Option (List ℕ)
+first_ids n [] = None
+first_ids n (x ∷ xs) = Some (ids_bytes (proposal n (x ∷ xs)))
+
+abbrev pub begins_with : Seat → Option (List Id) → List Word → Option (List ℕ)
+begins_with seat None h = None
+begins_with seat (Some log) h = first_ids seat.numbers.n (pending h log)
+
+-- it does so at the shortest prefix where they are and something is
+abbrev pub round_asked : Seat → (List Word → Option (List Id)) → List Word → Option (List ℕ)
+round_asked seat before w = at_shortest (λ h. begins_with seat (before h) h) w
+
+abbrev pub words_by : Seat → ℕ → (List Word → Option (List Id)) → List Word → List Word
+words_by seat a before w = part_words (round_asked seat before) (is_of_round a) w
+
+-- a round is complete where its vector is decided and each command that this wants is delivered
+abbrev pub completes_with : Seat → Option (List Id) → Option (List ℕ) → List Word → Option (List Id)
+completes_with seat None vector h = None
+completes_with seat (Some log) None h = None
+completes_with seat (Some log) (Some vector) h =
+    if all_pass (has_command h) (wanted seat.numbers vector) then Some (appended seat.numbers vector log) else None
+
+module _ (v : VectorRules) (seat : Seat) where
+  abbrev pub completes_at : ℕ → (List Word → Option (List Id)) → List Word → Option (List Id)
+  completes_at a before h = completes_with seat (before h) (v.decision (round_desk seat a) (words_by seat a before h)) h
+
+  -- the log after the rounds below this one, where they are complete: each is so from the shortest prefix on
+  abbrev pub log_below : ℕ → List Word → Option (List Id)
+  log_below zero w = Some []
+  log_below (suc a) w = at_shortest (completes_at a (log_below a)) w
+
+  -- what a round is asked, its words, and what it decided
+  abbrev pub round_ask : ℕ → List Word → Option (List ℕ)
+  round_ask a w = round_asked seat (log_below a) w
+
+  abbrev pub round_words : ℕ → List Word → List Word
+  round_words a w = words_by seat a (log_below a) w
+
+  abbrev pub round_decides : ℕ → List Word → Option (List ℕ)
+  round_decides a w = v.decision (round_desk seat a) (round_words a w)
+
+  -- of so many rounds, how many are complete, and the log after those
+  abbrev pub complete_of : ℕ → List Word → ℕ
+  complete_of zero w = 0
+  complete_of (suc a) w = if is_some (log_below (suc a) w) then suc a else complete_of a w
+
+  abbrev pub log_of : ℕ → List Word → List Id
+  log_of zero w = []
+  log_of (suc a) w = unwrap_or (log_below (suc a) w) (log_of a w)
+
+  -- what a word newly says in the rounds below one, in their order
+  abbrev pub says_below : ℕ → List Word → Word → List Say
+  says_below zero w c = []
+  says_below (suc a) w c =
+      says_below a w c ++ says_in (v.says (round_desk seat a)) (part_of (round_ask a) (is_of_round a) w c) (round_words a w)
+
+-- rounds
+unfoldable pub rounds : ℕ
+rounds = 1000000
+
+-- the least number of an origin that isn't in the log
+abbrev pub least_without : List Id → ℕ → ℕ
+least_without log origin = unwrap_or (find (λ k. is_without log (record { origin = origin; num = k })) (range_with_len 0 (length log + 1))) (length log)
+
+-- whether items of a round's slot may be taken: the round isn't past, and its instance takes them
+abbrev pub round_opens : VectorRules → Seat → List Word → Slot → Bool
+round_opens v seat w s =
+    nat_lt s.a rounds && (nat_le (complete_of v seat rounds w) (s.a + 2)
+    && (is_vector_slot (round_scope seat.numbers s.a) s && v.opens (round_desk seat s.a) (round_words v seat s.a w) s))
+
+abbrev pub vector_decision : Option (List ℕ) → Bool → Option Decision
+vector_decision (Some x) is_spent = Some (Value x)
+vector_decision None true = Some Spent
+vector_decision None false = None
+
+abbrev pub inside_of : VectorRules → Seat → List Word → Instance → Option Decision
+inside_of v seat w (OfBit a k) = if nat_lt a rounds then v.inside (round_desk seat a) (round_words v seat a w) (OfBit a k) else None
+inside_of v seat w (OfValue a k) = if nat_lt a rounds then v.inside (round_desk seat a) (round_words v seat a w) (OfValue a k) else None
+inside_of v seat w (OfVector a) =
+    if nat_lt a rounds then vector_decision (round_decides v seat a w) (v.spent (round_desk seat a) (round_words v seat a w)) else None
+
+-- atomic broadcast over vector consensus
+abbrev pub atomic : VectorRules → ServiceRules
+atomic v = record {
+  serves = λ root. root == 6;
+  says = λ seat w c. says_of seat w c ++ says_below v seat rounds w c;
+  opens = λ seat w s. if s.class == 1 then true else round_opens v seat w s;
+  completed = λ seat w. complete_of v seat rounds w;
+  base = λ seat w origin. least_without (log_of v seat rounds w) origin;
+  next_number = λ seat w. asked w;
+  given = λ seat w. false;
+  done = λ seat w. log_of v seat rounds w;
+  outcome = λ seat w.
+      let a = complete_of v seat rounds w in if v.spent (round_desk seat a) (round_words v seat a w) then Decided Spent else Undecided;
+  decided = λ seat w x. inside_of v seat w x;
+}
