@@ -132,6 +132,7 @@ module _ {S E C T : Type 0} (m : Meaning S E C T) where
         serves = is.stands.serves;
         live = is.stands.live;
         history = is.stands.history;
+        whole = is.stands.whole;
         layers = λ _. stood;
         lost = is.stands.lost;
         shows = subst (λ (o : Option Entry). LayersShow m new.layers (rules_in m old) (parts (rules_in m old) st.history) (parts (rules_in m old) (with_entry o st.history)))

@@ -20,11 +20,13 @@ use Rattle.layer_api.specs.OneValue.{AreGoodCalls}
 use Rattle.layer_api.specs.Service.{said, MayHear, AreProper, AreNew, AreGoodSays}
 use Rattle.layer_api.specs.Words.{Word, Ask, Hear, is_said, said_value, is_heard}
 use Rattle.ritas_core.specs.Rules.{Rules, seat_of, place_at, out_at}
-use Rattle.ritas_core.specs.Casts.{called, started_all, newly, MayStartAll}
+use Rattle.ritas_core.specs.Casts.{called, started_all, MayStartAll}
 use Rattle.ritas_core.specs.Parts.{Entry, Took, Given, Parts, parts, told_to, heard_at, taken_at, item_delivers}
 use Rattle.ritas_core.specs.PartsLaws.{newly_before, newly_after}
 use Rattle.ritas_core.specs.Checks.{is_item_past, is_item_ahead, IsTakable, IsGivable, IsHistory}
 use Rattle.ritas_core.specs.Laws.{LayerLaws}
+use Rattle.ritas_core.specs.Heard.{heard_delivered}
+use Rattle.layer_api.specs.PartLaws.{heard_is}
 use Rattle.ritas_core.proofs.TestLaws.{left_false, right_false, left_true, right_true, or_flip}
 use Rattle.ritas_core.proofs.GoodSlots.{slot_number, slot_origin, of_slot}
 
@@ -166,63 +168,8 @@ value_heard r laws s (Some v) p proper all = value_told r laws (Hear s v) p (pro
 abbrev pub IsHeardWhereDelivered : Rules → Parts → Type 0
 IsHeardWhereDelivered r p = (s : Slot) → is_heard p.words s ≡ is_some (out_at r.casts s (p.calls s))
 
-start_delivers : (r : Rules) → LayerLaws r → (s : Slot) (h : List Call) (v : List ℕ) (b : Bool) →
-    out_at r.casts s (cond b (Start v ∷ h) h) ≡ out_at r.casts s h
-start_delivers r laws s h v true = (laws.casts s).out_start (place_at r.casts s) r.casts.tags h v
-start_delivers r laws s h v false = refl
-
-starts_deliver : (r : Rules) → LayerLaws r → (says : List Say) (h : Slot → List Call) (s : Slot) →
-    out_at r.casts s (started_all says h s) ≡ out_at r.casts s (h s)
-starts_deliver r laws [] h s = refl
-starts_deliver r laws (say ∷ says) h s =
-    starts_deliver r laws says (called h say.slot (Start say.value)) s ∙ start_delivers r laws s (h s) say.value (is_slot say.slot s)
-
--- what a slot delivers after an item, by what the item's slot delivers after it
-take_delivers : (r : Rules) (item : Item) (h : Slot → List Call) (s : Slot) (y : Option (List ℕ)) (b : Bool) → is_slot item.slot s ≡ b →
-    out_at r.casts item.slot (Take item ∷ h item.slot) ≡ y →
-    is_some (out_at r.casts s (cond b (Take item ∷ h s) (h s))) ≡ cond b (is_some y) (is_some (out_at r.casts s (h s)))
-take_delivers r item h s y true here is_y =
-    subst (λ (q : Slot). is_some (out_at r.casts q (Take item ∷ h q)) ≡ is_some y) (same_slot item.slot s here) (ap is_some is_y)
-take_delivers r item h s y false here is_y = refl
-
-heard_told : (r : Rules) → LayerLaws r → (v : List ℕ) (p : Parts) → IsHeardWhereDelivered r p → IsHeardWhereDelivered r (told_to r (Ask v) p)
-heard_told r laws v p all s = all s ∙ sym (ap is_some (starts_deliver r laws (r.service.says (seat_of r) p.words (Ask v)) p.calls s))
-
--- where the item's slot delivers as before
-same_at : (r : Rules) (item : Item) (p : Parts) (s : Slot) (x y : Option (List ℕ)) (b : Bool) → is_slot item.slot s ≡ b →
-    IsHeardWhereDelivered r p → out_at r.casts item.slot (p.calls item.slot) ≡ x → is_some y ≡ is_some x →
-    is_heard p.words s ≡ cond b (is_some y) (is_some (out_at r.casts s (p.calls s)))
-same_at r item p s x y true here all is_x alike =
-    subst (λ (q : Slot). is_heard p.words q ≡ is_some y) (same_slot item.slot s here) (all item.slot ∙ ap is_some is_x ∙ sym alike)
-same_at r item p s x y false here all is_x alike = all s
-
-heard_anew_at : (b : Bool) (u w : Bool) → u ≡ w → (b || u) ≡ cond b true w
-heard_anew_at true u w h = refl
-heard_anew_at false u w h = h
-
-heard_by : (r : Rules) → LayerLaws r → (item : Item) (p : Parts) (x y : Option (List ℕ)) → IsHeardWhereDelivered r p →
-    out_at r.casts item.slot (p.calls item.slot) ≡ x → out_at r.casts item.slot (Take item ∷ p.calls item.slot) ≡ y →
-    IsHeardWhereDelivered r (heard_at r item.slot (newly x y) (taken_at item p))
-heard_by r laws item p (Some w) y all is_x is_y s =
-    let stays = (laws.casts item.slot).out_stays (place_at r.casts item.slot) r.casts.tags (p.calls item.slot) (Take item) w is_x in
-    let alike : is_some y ≡ true = ap is_some (sym is_y ∙ stays) in
-    same_at r item p s (Some w) y (is_slot item.slot s) refl all is_x alike
-    ∙ sym (take_delivers r item p.calls s y (is_slot item.slot s) refl is_y)
-heard_by r laws item p None None all is_x is_y s =
-    same_at r item p s None None (is_slot item.slot s) refl all is_x refl
-    ∙ sym (take_delivers r item p.calls s None (is_slot item.slot s) refl is_y)
-heard_by r laws item p None (Some v) all is_x is_y s =
-    heard_anew_at (is_slot item.slot s) (is_heard p.words s) (is_some (out_at r.casts s (p.calls s))) (all s)
-    ∙ sym (take_delivers r item p.calls s (Some v) (is_slot item.slot s) refl is_y)
-    ∙ sym (ap is_some (starts_deliver r laws (r.service.says (seat_of r) p.words (Hear item.slot v)) (taken_at item p).calls s))
-
 pub heard_where_delivered : (r : Rules) → LayerLaws r → (h : List Entry) → IsHeardWhereDelivered r (parts r h)
-heard_where_delivered r laws [] s = sym (ap is_some ((laws.casts s).out_nothing (place_at r.casts s) r.casts.tags))
-heard_where_delivered r laws (Took item ∷ h) s =
-    let p = parts r h in
-    heard_by r laws item p (out_at r.casts item.slot (p.calls item.slot)) (out_at r.casts item.slot (Take item ∷ p.calls item.slot))
-    (heard_where_delivered r laws h) refl refl s
-heard_where_delivered r laws (Given v ∷ h) s = heard_told r laws v (parts r h) (heard_where_delivered r laws h) s
+heard_where_delivered r laws h s = heard_is (parts r h).words s ∙ ap is_some (heard_delivered r laws h s)
 
 -- ---- the words met their conditions
 pub may_hear_at : (r : Rules) → LayerLaws r → (p : Parts) → IsHeardWhereDelivered r p → (item : Item) → IsTakable r p item → (v : List ℕ) →

@@ -10,7 +10,7 @@ use Rattle.ooc_buffers.specs.Lists.{Kept, failing, released, remaining}
 use Rattle.ritas_core.specs.declared.layers.Layers.{Layers}
 use Rattle.ritas_core.specs.declared.kernel.Core.{Core}
 use Rattle.ritas_core.specs.Rules.{Rules, casts_by}
-use Rattle.ritas_core.specs.RulesLaws.{laws_at}
+use Rattle.ritas_core.specs.StandsLaws.{layer_laws}
 use Rattle.ritas_core.specs.Parts.{Parts, Entry, Took, Given, parts, taken_at, item_delivers, after, made_by}
 use Rattle.ritas_core.specs.Order.{ordered, own_items, new_messages}
 use Rattle.ritas_core.specs.Checks.{is_open, is_item_past, IsTakable, IsGivable, MayEnter, IsHistory}
@@ -67,6 +67,7 @@ module _ {S E C T : Type 0} (m : Meaning S E C T) where
         serves = stands.serves;
         live = refl;
         history = stands.history;
+        whole = subst (λ (o : Option Entry). IsHistory r (with_entry o st.history)) (sym given) (may, stands.history);
         layers = λ live. absurd (cc);
         lost = λ live. absurd (cc);
         shows = subst (λ (o : Option Entry). LayersShow m new.layers r (parts r st.history) (parts r (with_entry o st.history))) (sym given) (stops.shows st is may);
@@ -79,14 +80,7 @@ module _ {S E C T : Type 0} (m : Meaning S E C T) where
 
 module _ {S E C T : Type 0} (m : Meaning S E C T) (well : MeansWell m) where
   pub laws_of : (layers : Layers S E C T) (core : Core S E C T) (st : CoreState) → CoreStands m core (rules_of m layers) st → LayerLaws (rules_of m layers)
-  laws_of layers core st stands = record {
-    casts = laws_at layers.mode m.cast well.values;
-    words = well.words;
-    session = stands.session;
-    me = stands.me;
-    serves = stands.serves;
-    kinds = stands.kinds;
-  }
+  laws_of layers core st = layer_laws m well.values well.words core (rules_of m layers) st
 
   -- an entry of the layers, sent in order, is an entry of the core
   module _ (old new : Core S E C T) (mid : Layers S E C T) (e : Entry) (made before after_it : List Msg) (st : CoreState)
@@ -113,10 +107,10 @@ module _ {S E C T : Type 0} (m : Meaning S E C T) (well : MeansWell m) where
         let p = parts r (e ∷ st.history) in
         let laws = laws_of mid old st stands in
         fin.held p stood
-        ∙ ap (λ (hs : List (List Kept)). remaining (is_past_in m mid p) (remaining (is_open_in m mid p) hs)) stands.held
-        ∙ ap (λ (hs : List (List Kept)). remaining (is_past_in m mid p) hs)
+        ∙ ap (λ (hs : List (List Kept)). remaining (λ x. is_past_in m mid p x.slot) (remaining (is_open_in m mid p) hs)) stands.held
+        ∙ ap (λ (hs : List (List Kept)). remaining (λ x. is_past_in m mid p x.slot) hs)
         (remaining_same r (is_open_in m mid p) (is_open r p) (open_same m mid laws p stood) st.held stands.good_held)
-        ∙ remaining_same r (is_past_in m mid p) (is_item_past r p) (past_same m mid laws p stood) (remaining (is_open r p) st.held)
+        ∙ remaining_same r (λ x. is_past_in m mid p x.slot) (is_item_past r p) (past_same m mid laws p stood) (remaining (is_open r p) st.held)
         (good_remaining r (is_open r p) st.held stands.good_held)
         ∙ remaining_twice (is_open r p) (is_item_past r p) st.held
 
@@ -134,6 +128,7 @@ module _ {S E C T : Type 0} (m : Meaning S E C T) (well : MeansWell m) where
             serves = stands.serves;
             live = fin.stopped ∙ stands.live ∙ ap not live;
             history = (may, stands.history);
+            whole = (may, stands.history);
             layers = λ _. subst (λ (layers : Layers S E C T). LayersStand m layers (parts r (e ∷ st.history))) (sym fin.layers) stood;
             lost = λ _. refl;
             shows = subst (λ (layers : Layers S E C T). LayersShow m layers r (parts r (e ∷ st.history)) (parts r (e ∷ st.history))) (sym fin.layers)

@@ -1,5 +1,5 @@
 -- What the getters of a core show.
-use Rattle.std.proofs.Common.{◌≡◌, ℕ, zero, suc, ◌+◌, true, Option, ◌⊎◌, inl, inr, List, [], ◌∷◌, take, refl, sym, ◌∙◌, ap, subst, add_assoc, arith}
+use Rattle.std.proofs.Common.{◌≡◌, ℕ, zero, suc, ◌+◌, Bool, true, cond, Option, None, ◌⊎◌, inl, inr, List, [], ◌∷◌, take, refl, sym, ◌∙◌, ap, add_assoc, arith}
 use Rattle.std.proofs.Math.Seq.{take-length}
 use Rattle.std.proofs.lemmas.List.Sums.{sum_by-cons}
 use Rattle.std.specs.BTreeMap.{get}
@@ -14,7 +14,12 @@ use Rattle.ritas_core.specs.Casts.{shown_out}
 use Rattle.ritas_core.specs.Parts.{Entry}
 use Rattle.ritas_core.specs.Machine.{CoreState, with_entry, with_lost}
 use Rattle.ritas_core.specs.Stands.{Meaning, CoreStands}
-use Rattle.ritas_core.specs.Shown.{bytes_in, all_bytes, delivered_at}
+use Rattle.ritas_core.specs.LayerCalls.{hides_shown}
+use Rattle.ritas_core.specs.Laws.{LayerLaws}
+use Rattle.ritas_core.proofs.ShownLayers.{MeansWell}
+use Rattle.ritas_core.specs.StandsLaws.{layer_laws}
+use Rattle.ritas_core.proofs.ShownSlots.{shown_either}
+use Rattle.ritas_core.specs.Shown.{bytes_in, all_bytes, shown_at}
 
 -- the bytes of one peer more
 pub bytes_more : (held : List (List Kept)) (i : ℕ) → all_bytes (take (suc i) held) ≡ all_bytes (take i held) + held_bytes held i
@@ -28,21 +33,35 @@ bytes_more (kept ∷ held) (suc i) =
     long ∙ ap (λ (n : ℕ). bytes_in kept + n) more ∙ sym (add_assoc (bytes_in kept) (all_bytes (take i held)) (held_bytes held i))
     ∙ ap (λ (n : ℕ). n + held_bytes held i) (sym short)
 
--- what a slot shows is what it delivered, before what a stop lost or with it
-module _ {S E C T : Type 0} (m : Meaning S E C T) (core : Core S E C T) (slot : Slot) (o : Option (Cast E)) (found : get slot_cmp core.layers.casts slot ≡ o)
-    (r : Rules) (st : CoreState) (stands : CoreStands m core r st) where
+-- what a slot shows is what it delivered and isn't hidden, before what a stop lost or with it
+module _ {S E C T : Type 0} (m : Meaning S E C T) (well : MeansWell m) (core : Core S E C T) (slot : Slot) (hidden : Bool) (o : Option (Cast E))
+    (hides : hidden ≡ hides_shown (m.service_shown core.layers.service) core.layers.params.n core.layers.mode.root slot)
+    (found : get slot_cmp core.layers.casts slot ≡ o) (r : Rules) (st : CoreState) (stands : CoreStands m core r st) where
   abbrev Shown : Option (List ℕ)
-  Shown = shown_out (shown_by m.cast_shown) o
+  Shown = cond hidden None (shown_out (shown_by m.cast_shown) o)
 
-  pub delivered_either : (Shown ≡ delivered_at r st.history slot) ⊎ (Shown ≡ delivered_at r (with_lost st) slot)
+  laws : LayerLaws r
+  laws = layer_laws m well.values well.words core r st stands
+
+  shown_is : Shown ≡ cond (hides_shown (m.service_shown core.layers.service) r.casts.numbers.n r.mode.root slot) None (shown_out (shown_by m.cast_shown) (get slot_cmp core.layers.casts slot))
+  shown_is =
+      ap (λ (b : Bool). cond b None (shown_out (shown_by m.cast_shown) o))
+      (hides ∙ ap (λ (q : Rules). hides_shown (m.service_shown core.layers.service) q.casts.numbers.n q.mode.root slot) stands.rules)
+      ∙ ap (λ (x : Option (Cast E)). cond (hides_shown (m.service_shown core.layers.service) r.casts.numbers.n r.mode.root slot) None (shown_out (shown_by m.cast_shown) x))
+      (sym found)
+
+  pub delivered_either : (Shown ≡ shown_at r st.history slot) ⊎ (Shown ≡ shown_at r (with_lost st) slot)
   delivered_either =
-      subst (λ (x : Option (Cast E)). (shown_out (shown_by m.cast_shown) x ≡ delivered_at r st.history slot) ⊎ (shown_out (shown_by m.cast_shown) x ≡ delivered_at r (with_lost st) slot)) found
-      (stands.shows.casts slot)
+      elim (shown_either r laws slot st.lost st.history stands.history stands.whole (m.service_shown core.layers.service) stands.shows.service
+      (shown_out (shown_by m.cast_shown) (get slot_cmp core.layers.casts slot)) (stands.shows.casts slot)) [
+        | inl e ↦ inl (shown_is ∙ e)
+        | inr e ↦ inr (shown_is ∙ e)
+      ]
 
-  pub delivered_live : st.live ≡ true → Shown ≡ delivered_at r st.history slot
+  pub delivered_live : st.live ≡ true → Shown ≡ shown_at r st.history slot
   delivered_live live = elim delivered_either [
     | inl e ↦ e
-    | inr e ↦ e ∙ ap (λ (x : Option Entry). delivered_at r (with_entry x st.history) slot) (stands.lost live)
+    | inr e ↦ e ∙ ap (λ (x : Option Entry). shown_at r (with_entry x st.history) slot) (stands.lost live)
   ]
 
 -- the bytes of all peers

@@ -98,7 +98,7 @@ module _ {S E C T : Type 0} (m : Meaning S E C T) (layers : Layers S E C T) (law
       (λ none. ap (λ (h : List Call). (c.at_slot x.slot).ready (place_at c x.slot) c.tags h x) (stood.casts.unmade x.slot none)
       ∙ (laws.casts x.slot).ready_nothing (place_at c x.slot) c.tags x (kind_fits (rules_of m layers) laws x good.in_grammar))
 
-  pub past_same : (x : Item) → IsGood (rules_of m layers) x → is_past_in m layers p x ≡ is_item_past (rules_of m layers) p x
+  pub past_same : (x : Item) → IsGood (rules_of m layers) x → is_past_in m layers p x.slot ≡ is_item_past (rules_of m layers) p x
   past_same x good = and_true _ _ (lt-ltb x.slot.origin layers.params.n (slot_origin layers.params layers.mode x.slot good.in_grammar.slot))
 
   pub open_same : (x : Item) → IsGood (rules_of m layers) x → is_open_in m layers p x ≡ is_open (rules_of m layers) p x

@@ -56,6 +56,7 @@ module _ {S E C T : Type 0} (m : Meaning S E C T) where
     serves = stands.serves;
     live = stands.live;
     history = stands.history;
+    whole = stands.whole;
     layers = stands.layers;
     lost = stands.lost;
     shows = stands.shows;
@@ -98,6 +99,7 @@ module _ {S E C T : Type 0} (m : Meaning S E C T) where
           serves = s.serves;
           live = s.live ∙ ap not is.live;
           history = s.history;
+          whole = s.history;
           layers = λ _. s.layers is.live;
           lost = λ _. refl;
           shows = subst (λ (o : Option Entry). LayersShow m old.layers r (parts r st.history) (parts r (with_entry o st.history))) (s.lost is.live) s.shows;

@@ -116,17 +116,17 @@ module _ {S E C T : Type 0} (m : Meaning S E C T) (layers : Layers S E C T) (law
       verdict_by r p held item (is_not_origin item) (is_not_for r.casts.me item) (is_item_past r p item) (is_item_ahead r p item) (is_repeat r p held item) _
       (has_room held item) refl refl refl refl refl open_is refl
       ∙ looked_up (is_not_origin item) (is_not_for r.casts.me item) (is_item_past r p item) (is_item_ahead r p item) (is_repeat r p held item) _ _ (has_room held item)
-      (mark_of r p item) (held_bytes held item.from)
+      (mark_of r p item.slot) (held_bytes held item.from)
       (λ near. found near ∙ is_found_by r p held item _ (is_taken_again r p item) (kind_eq item.kind Column) (is_kept held item) open_is refl refl refl)
       ∙ settles (is_not_origin item) (is_not_for r.casts.me item) (is_item_past r p item) (is_item_ahead r p item) (is_let_in m layers p item)
-      (kind_eq item.kind Column) (is_kept held item) (is_taken_again r p item) (has_room held item) (mark_of r p item) (held_bytes held item.from)
+      (kind_eq item.kind Column) (is_kept held item) (is_taken_again r p item) (has_room held item) (mark_of r p item.slot) (held_bytes held item.from)
 
   may_take : judged_in m layers p (is_kept held item) item ≡ verdicts.Take →
       MayTake ((rules_of m layers).casts.at_slot item.slot) (place_at (rules_of m layers).casts item.slot) (rules_of m layers).casts.tags (p.calls item.slot) item
   may_take takes =
       let r = rules_of m layers in
       let told = takes_by (is_not_origin item) (is_not_for r.casts.me item) (is_item_past r p item) (is_item_ahead r p item) (is_let_in m layers p item)
-      (kind_eq item.kind Column) (is_kept held item) (mark_of r p item) takes in
+      (kind_eq item.kind Column) (is_kept held item) (mark_of r p item.slot) takes in
       let let_in = right_true (not (is_item_ahead r p item)) _ (right_true (not (is_item_past r p item)) _ told.opened) in
       record {
         here = refl;
@@ -145,7 +145,7 @@ module _ {S E C T : Type 0} (m : Meaning S E C T) (layers : Layers S E C T) (law
         may = may_take takes;
         opened = open_is
             ∙ (takes_by (is_not_origin item) (is_not_for r.casts.me item) (is_item_past r p item) (is_item_ahead r p item) (is_let_in m layers p item)
-            (kind_eq item.kind Column) (is_kept held item) (mark_of r p item) takes).opened;
+            (kind_eq item.kind Column) (is_kept held item) (mark_of r p item.slot) takes).opened;
         verdict = verdict_is ∙ ap (λ (v : Verdict). settled v (is_taken_again r p item) (has_room held item) (held_bytes held item.from)) takes;
       }
 

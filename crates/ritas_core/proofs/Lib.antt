@@ -6,6 +6,7 @@ pub mod Verdicts
 pub mod Lookup
 pub mod Due
 pub mod Window
+pub mod ShownSlots
 pub mod CallsTaken
 pub mod Once
 pub mod CoreLaws

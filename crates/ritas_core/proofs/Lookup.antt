@@ -48,7 +48,7 @@ not_ahead_by false a base completed base_now completed_now more rounds near =
 
 module _ (r : ServiceRules) (laws : WordLaws r) (seat : Seat) (c : Word) (w : List Word) (proper : AreProper r seat (c ∷ w)) (s : Slot) where
   -- what isn't past wasn't past before
-  was_not_past : is_past r seat (c ∷ w) s ≡ false → is_past r seat w s ≡ false
+  pub was_not_past : is_past r seat (c ∷ w) s ≡ false → is_past r seat w s ≡ false
   was_not_past near = not_past_by (eqb s.class 1) s.a (r.base seat w s.origin) (r.completed seat w) (r.base seat (c ∷ w) s.origin) (r.completed seat (c ∷ w))
       (laws.base_stays seat c w s.origin proper) (laws.completed_stays seat c w proper) near
 

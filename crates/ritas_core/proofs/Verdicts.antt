@@ -49,10 +49,10 @@ by_tests not_origin not_for past ahead again opened room mark bytes =
 pub verdict_by : (r : Rules) (p : Parts) (held : List (List Kept)) (item : Item) (not_origin not_for past ahead again opened room : Bool) →
     is_not_origin item ≡ not_origin → is_not_for r.casts.me item ≡ not_for → is_item_past r p item ≡ past → is_item_ahead r p item ≡ ahead →
     is_repeat r p held item ≡ again → is_open r p item ≡ opened → has_room held item ≡ room →
-    verdict_on r p held item ≡ by_tests not_origin not_for past ahead again opened room (mark_of r p item) (held_bytes held item.from)
+    verdict_on r p held item ≡ by_tests not_origin not_for past ahead again opened room (mark_of r p item.slot) (held_bytes held item.from)
 unfolding verdict_on
 verdict_by r p held item a b c d e f g is_a is_b is_c is_d is_e is_f is_g =
-    let mark = mark_of r p item in
+    let mark = mark_of r p item.slot in
     let bytes = held_bytes held item.from in
     let past = is_item_past r p item in
     let ahead = is_item_ahead r p item in
@@ -77,11 +77,11 @@ pub verdict_not_for : (r : Rules) (p : Parts) (held : List (List Kept)) (item : 
 verdict_not_for r p held item a b = verdict_by r p held item _ _ _ _ _ _ _ a b refl refl refl refl refl
 
 pub verdict_past : (r : Rules) (p : Parts) (held : List (List Kept)) (item : Item) → is_not_origin item ≡ false → is_not_for r.casts.me item ≡ false →
-    is_item_past r p item ≡ true → verdict_on r p held item ≡ verdicts.Refuse (faults.Past (mark_of r p item))
+    is_item_past r p item ≡ true → verdict_on r p held item ≡ verdicts.Refuse (faults.Past (mark_of r p item.slot))
 verdict_past r p held item a b c = verdict_by r p held item _ _ _ _ _ _ _ a b c refl refl refl refl
 
 pub verdict_ahead : (r : Rules) (p : Parts) (held : List (List Kept)) (item : Item) → is_not_origin item ≡ false → is_not_for r.casts.me item ≡ false →
-    is_item_past r p item ≡ false → is_item_ahead r p item ≡ true → verdict_on r p held item ≡ verdicts.Refuse (faults.Ahead (mark_of r p item))
+    is_item_past r p item ≡ false → is_item_ahead r p item ≡ true → verdict_on r p held item ≡ verdicts.Refuse (faults.Ahead (mark_of r p item.slot))
 verdict_ahead r p held item a b c d = verdict_by r p held item _ _ _ _ _ _ _ a b c d refl refl refl
 
 pub verdict_again : (r : Rules) (p : Parts) (held : List (List Kept)) (item : Item) → is_not_origin item ≡ false → is_not_for r.casts.me item ≡ false →
@@ -179,7 +179,7 @@ takable_from r laws h met held item good takes =
     let by = verdict_by r p held item _ _ _ _ _ _ _ refl refl refl refl refl refl refl in
     takable_by r laws p held item good
     (taken_from (is_not_origin item) (is_not_for r.casts.me item) (is_item_past r p item) (is_item_ahead r p item) (is_repeat r p held item)
-    (is_open r p item) (has_room held item) (mark_of r p item) (held_bytes held item.from) (sym by ∙ takes))
+    (is_open r p item) (has_room held item) (mark_of r p item.slot) (held_bytes held item.from) (sym by ∙ takes))
 
 -- ---- an input
 record Inside (a b c : Bool) : Type 0 where

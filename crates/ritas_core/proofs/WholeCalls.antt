@@ -96,6 +96,7 @@ module _ {S E C T : Type 0} (m : Meaning S E C T) where
     serves = stands.serves;
     live = stands.live;
     history = stands.history;
+    whole = stands.whole;
     layers = stands.layers;
     lost = stands.lost;
     shows = stands.shows;
@@ -189,6 +190,7 @@ module _ {S E C T : Type 0} (m : Meaning S E C T) where
             serves = is.stands.serves;
             live = is.stands.live;
             history = is.stands.history;
+            whole = is.stands.whole;
             layers = is.stands.layers;
             lost = is.stands.lost;
             shows = is.stands.shows;

@@ -1,5 +1,6 @@
 -- The checks that an item and an input pass, in their order.
 use Rattle.std.specs.Prelude.{is_some, ◌≡◌, ℕ, ◌+◌, ◌<◌, Bool, true, false, not, ◌==◌, ◌&&◌, ◌||◌, nat_le, List, ◌∷◌, [], length, Option, Some, None, if◌then◌else◌}
+use Rattle.ritas_base.specs.declared.slot.Slot.{Slot}
 use Rattle.ritas_base.specs.declared.item.Item.{Item}
 use Rattle.ritas_base.specs.declared.item.Kind.TheVariants.{Column}
 use Rattle.ritas_base.specs.Messages.{kind_eq}
@@ -16,9 +17,9 @@ use Rattle.ritas_core.specs.declared.verdict.Verdict.TheVariants as verdicts
 use Rattle.ritas_core.specs.Rules.{Rules, seat_of, place_at}
 use Rattle.ritas_core.specs.Parts.{Parts, Entry, Took, Given, parts}
 
--- what the window of an item's slot is counted from
-abbrev pub mark_of : Rules → Parts → Item → ℕ
-mark_of r p item = if item.slot.class == 1 then r.service.base (seat_of r) p.words item.slot.origin else r.service.completed (seat_of r) p.words
+-- what the window of a slot is counted from
+abbrev pub mark_of : Rules → Parts → Slot → ℕ
+mark_of r p s = if s.class == 1 then r.service.base (seat_of r) p.words s.origin else r.service.completed (seat_of r) p.words
 
 abbrev pub is_item_past : Rules → Parts → Item → Bool
 is_item_past r p item = is_past r.service (seat_of r) p.words item.slot
@@ -69,8 +70,8 @@ unfoldable pub verdict_on : Rules → Parts → List (List Kept) → Item → Ve
 verdict_on r p held item =
     if is_of_origin item.kind && not (item.from == item.slot.origin) then verdicts.Refuse faults.NotOrigin
     else if is_for_origin item.kind && not (r.casts.me == item.slot.origin) then verdicts.Refuse faults.NotForMe
-    else if is_item_past r p item then verdicts.Refuse (faults.Past (mark_of r p item))
-    else if is_item_ahead r p item then verdicts.Refuse (faults.Ahead (mark_of r p item))
+    else if is_item_past r p item then verdicts.Refuse (faults.Past (mark_of r p item.slot))
+    else if is_item_ahead r p item then verdicts.Refuse (faults.Ahead (mark_of r p item.slot))
     else if is_repeat r p held item then verdicts.Again
     else if is_open r p item then verdicts.Take
     else if has_room held item then verdicts.Hold

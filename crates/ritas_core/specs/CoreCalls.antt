@@ -40,7 +40,7 @@ pub record Finishes {S E C T : Type 0} (m : Meaning S E C T) (old new : Core S E
   pub inbox : (p : Parts) → LayersStand m old.layers p
       → new.inbox.items ≡ (old.inbox.items ++ own_items old.layers.me (ordered made)) ++ released (is_open_in m old.layers p) old.held
   pub held : (p : Parts) → LayersStand m old.layers p
-      → new.held ≡ remaining (is_past_in m old.layers p) (remaining (is_open_in m old.layers p) old.held)
+      → new.held ≡ remaining (λ x. is_past_in m old.layers p x.slot) (remaining (is_open_in m old.layers p) old.held)
 
 -- for want of memory nothing is put out, and all is as it was
 pub record Withdraws {S E C T : Type 0} (old new : Core S E C T) (before after : List Msg) : Type 0 where

@@ -41,5 +41,5 @@ unless_fault None verdict = verdict
 abbrev pub judged_in : {S E C T : Type 0} → Meaning S E C T → Layers S E C T → Parts → Bool → Item → Verdict
 judged_in m layers p kept item =
     unless_fault (misdirection layers.me item)
-    (window_verdict (is_item_past (rules_of m layers) p item) (is_item_ahead (rules_of m layers) p item) (mark_of (rules_of m layers) p item)
+    (window_verdict (is_item_past (rules_of m layers) p item) (is_item_ahead (rules_of m layers) p item) (mark_of (rules_of m layers) p item.slot)
     (inside_verdict (is_let_in m layers p item) (kind_eq item.kind Column) kept))

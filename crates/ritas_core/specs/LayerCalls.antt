@@ -7,8 +7,9 @@ use Rattle.ritas_base.specs.declared.item.Msg.{Msg}
 use Rattle.layer_api.specs.declared.broadcast.Heard.{Heard}
 use Rattle.layer_api.specs.declared.broadcast.Heard.TheVariants as heard
 use Rattle.layer_api.specs.Broadcast.{MayTake}
-use Rattle.layer_api.specs.Service.{MayAsk, MayHear, AreProper}
+use Rattle.layer_api.specs.Service.{MayAsk, MayHear, AreProper, is_past}
 use Rattle.layer_api.specs.Words.{Word, Ask, Hear}
+use Rattle.layer_api.specs.ServiceCalls.{ServiceShown}
 use Rattle.ritas_core.specs.declared.layers.Layers.{Layers}
 use Rattle.ritas_core.specs.Rules.{Rules, seat_of, place_at}
 use Rattle.ritas_core.specs.Casts.{MayStartAll}
@@ -95,9 +96,9 @@ GivesItem m old new item before after_it (Ok heard.Took) = TakesItem m old new i
 GivesItem m old new item before after_it (Ok heard.Repeat) = RepeatsItem m old new item before after_it
 GivesItem m old new item before after_it (Err e) = TakesNone m old new item
 
--- whether an item is past, and whether it is open, as the layers tell it of an item whose slot's origin is a replica
-abbrev pub is_past_in : {S E C T : Type 0} → Meaning S E C T → Layers S E C T → Parts → Item → Bool
-is_past_in m layers p item = nat_lt item.slot.origin layers.params.n && is_item_past (rules_of m layers) p item
+-- whether a slot is past, and whether an item is open, as the layers tell it of a slot whose origin is a replica
+abbrev pub is_past_in : {S E C T : Type 0} → Meaning S E C T → Layers S E C T → Parts → Slot → Bool
+is_past_in m layers p s = nat_lt s.origin layers.params.n && is_past m.service (seat_of (rules_of m layers)) p.words s
 
 abbrev pub is_let_in : {S E C T : Type 0} → Meaning S E C T → Layers S E C T → Parts → Item → Bool
 is_let_in m layers p item = m.service.opens (seat_of (rules_of m layers)) p.words item.slot && is_ready_in (rules_of m layers).casts layers.casts p.calls item
@@ -112,3 +113,14 @@ is_behind s mark = if s.class == 1 then nat_lt (s.a + 64) mark else nat_lt (s.a 
 
 abbrev pub is_beyond : Slot → ℕ → Bool
 is_beyond s mark = if s.class == 1 then nat_le (mark + 64) s.a else nat_lt (mark + 4) s.a
+
+-- what a slot's window is counted from, and whether the slot is past, as the getters of a service answer; and whether what it
+-- delivered is hidden by that, in a root service
+abbrev pub mark_shown : ServiceShown → Slot → ℕ
+mark_shown shown s = if s.class == 1 then shown.base s.origin else shown.completed
+
+abbrev pub is_past_shown : ServiceShown → ℕ → Slot → Bool
+is_past_shown shown n s = nat_lt s.origin n && is_behind s (mark_shown shown s)
+
+abbrev pub hides_shown : ServiceShown → ℕ → ℕ → Slot → Bool
+hides_shown shown n root s = nat_le 3 root && is_past_shown shown n s

@@ -15,5 +15,7 @@ pub mod Calls
 pub mod CoreCalls
 pub mod Shown
 pub mod Laws
+pub mod Heard
+pub mod StandsLaws
 pub mod CoreOf
 pub mod Rows

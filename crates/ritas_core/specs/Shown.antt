@@ -1,12 +1,13 @@
 -- What the getters of a core show.
-use Rattle.std.specs.Prelude.{ℕ, Option, Some, None, List, [], ◌∷◌, sum_by}
+use Rattle.std.specs.Prelude.{ℕ, Bool, nat_le, ◌&&◌, if◌then◌else◌, Option, Some, None, List, [], ◌∷◌, sum_by}
 use Rattle.ritas_base.specs.declared.item.Item.{Item}
 use Rattle.ritas_base.specs.declared.slot.Slot.{Slot}
 use Rattle.ritas_base.specs.declared.mode.Mode.{Mode}
 use Rattle.ritas_base.specs.Numbers.{Numbers}
+use Rattle.layer_api.specs.Service.{is_past}
 use Rattle.ooc_buffers.specs.Lists.{Kept}
 use Rattle.ritas_core.specs.declared.kernel.Core.{Core}
-use Rattle.ritas_core.specs.Rules.{Rules, out_at}
+use Rattle.ritas_core.specs.Rules.{Rules, seat_of, out_at}
 use Rattle.ritas_core.specs.Parts.{Entry, parts}
 
 -- the numbers of the session, the mode, the replica and its tagger
@@ -37,3 +38,11 @@ all_bytes held = sum_by bytes_in held
 -- what a slot delivered in a history
 abbrev pub delivered_at : Rules → List Entry → Slot → Option (List ℕ)
 delivered_at r h s = out_at r.casts s ((parts r h).calls s)
+
+-- whether that is hidden: in root services 3 to 6 it is, once the slot is past
+abbrev pub is_hidden : Rules → List Entry → Slot → Bool
+is_hidden r h s = nat_le 3 r.mode.root && is_past r.service (seat_of r) (parts r h).words s
+
+-- what a slot shows as delivered
+abbrev pub shown_at : Rules → List Entry → Slot → Option (List ℕ)
+shown_at r h s = if is_hidden r h s then None else delivered_at r h s

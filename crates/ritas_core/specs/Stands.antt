@@ -75,8 +75,8 @@ abbrev pub AreGoodLists : Rules → List (List Kept) → Type 0
 AreGoodLists r [] = Unit {0}
 AreGoodLists r (kept ∷ held) = AreGoodKept r kept × AreGoodLists r held
 
--- the core stands for this state, by these rules; a stopped core keeps what waits and what is held, and what its layers show
--- lies between its history and that with what the stop lost
+-- the core stands for this state, by these rules; a stopped core keeps what waits and what is held, what the stop lost met its
+-- conditions, and what its layers show lies between its history and that with what the stop lost
 pub record CoreStands {S E C T : Type 0} (m : Meaning S E C T) (core : Core S E C T) (r : Rules) (st : CoreState) : Type 0 where
   pub rules : rules_of m core.layers ≡ r
   pub own : m.me core.layers.tagger ≡ r.casts.me
@@ -86,6 +86,7 @@ pub record CoreStands {S E C T : Type 0} (m : Meaning S E C T) (core : Core S E 
   pub serves : r.service.serves r.mode.root ≡ true
   pub live : core.stopped ≡ not st.live
   pub history : IsHistory r st.history
+  pub whole : IsHistory r (with_lost st)
   pub layers : st.live ≡ true → LayersStand m core.layers (parts r st.history)
   pub lost : st.live ≡ true → st.lost ≡ None
   pub shows : LayersShow m core.layers r (parts r st.history) (parts r (with_lost st))

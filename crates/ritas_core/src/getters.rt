@@ -13,7 +13,7 @@ impl<S: Service, E: Broadcast, C: Coin + Drop, T: Tagger + Drop> Core<S, E, C, T
     ghost use Rattle.ritas_core.specs.Parts.{parts};
     ghost use Rattle.ritas_core.specs.Machine.{CoreState, with_lost};
     ghost use Rattle.ritas_core.specs.Stands.{meaning, CoreStands};
-    ghost use Rattle.ritas_core.specs.Shown.{params_of, mode_of, me_of, tagger_of, front_of, all_bytes, delivered_at};
+    ghost use Rattle.ritas_core.specs.Shown.{params_of, mode_of, me_of, tagger_of, front_of, all_bytes, shown_at};
 
     /// The numbers of the session.
     pub fn params(&self) -> &Params
@@ -103,15 +103,22 @@ impl<S: Service, E: Broadcast, C: Coin + Drop, T: Tagger + Drop> Core<S, E, C, T
         &self.layers.service
     }
 
-    /// What a slot delivered, if it did: by the core's history, or, once the core is stopped, by that with what the stop lost.
+    /// What a slot delivered. `None` is answered exactly where it delivered nothing, and in root services 3 to 6 also where
+    /// the slot is past: its round plus 2 is less than how many rounds are complete, or its command number plus 64 is less than
+    /// the least of its origin that isn't finished. In root services 1 and 2 every slot's delivery is answered.
+    ///
+    /// It is so by the core's history, or, once the core is stopped, by that or by that with what the stop lost.
     pub fn delivered(&self, slot: &Slot) -> Option<&[u8]>
         ensures shown { let m = meaning S.stands S.rules S.shown E.stands E.rules E.shown C.bits T.me T.tags in
             (r : Rules) (st : CoreState) → CoreStands m self.now r st
-            → (option_copied result ≡ delivered_at r st.history slot.now) ⊎ (option_copied result ≡ delivered_at r (with_lost st) slot.now) }
+            → (option_copied result ≡ shown_at r st.history slot.now) ⊎ (option_copied result ≡ shown_at r (with_lost st) slot.now) }
         ensures live { let m = meaning S.stands S.rules S.shown E.stands E.rules E.shown C.bits T.me T.tags in
             (r : Rules) (st : CoreState) → CoreStands m self.now r st → st.live ≡ true
-            → option_copied result ≡ delivered_at r st.history slot.now }
+            → option_copied result ≡ shown_at r st.history slot.now }
     {
+        if self.layers.hides(slot) {
+            return None;
+        }
         match self.layers.casts.get(slot) {
             Some(cast) => cast.delivered(),
             None => None,

@@ -72,7 +72,7 @@ pub(crate) fn judge<S: Service, E: Broadcast, C: Coin + Drop, T: Tagger + Drop>(
     if let Some(fault) = misdirection(layers.me, item) {
         return Verdict::Refuse(fault);
     }
-    let mark = layers.mark(item);
+    let mark = layers.mark(&item.slot);
     if is_behind(&item.slot, mark) {
         return Verdict::Refuse(CoreFault::Past(mark));
     }

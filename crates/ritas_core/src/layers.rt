@@ -29,7 +29,7 @@ impl<S: Service, E: Broadcast, C: Coin + Drop, T: Tagger + Drop> Layers<S, E, C,
     ghost use Rattle.ritas_core.specs.Checks.{mark_of, window_fault, input_check};
     ghost use Rattle.frame_codec.specs.Inputs.{IsInput};
     ghost use Rattle.ritas_core.specs.Stands.{meaning, rules_of, LayersStand};
-    ghost use Rattle.ritas_core.specs.LayerCalls.{SameSeat, Tells, TellsNone, GivesItem, is_past_in, is_let_in, is_open_in};
+    ghost use Rattle.ritas_core.specs.LayerCalls.{SameSeat, Tells, TellsNone, GivesItem, is_past_in, is_let_in, is_open_in, mark_shown, is_past_shown, hides_shown};
 
     /// Tells the service what a slot delivered, and starts what it says.
     fn hear(
@@ -117,15 +117,16 @@ impl<S: Service, E: Broadcast, C: Coin + Drop, T: Tagger + Drop> Layers<S, E, C,
         }
     }
 
-    /// What the window of an item's slot is counted from: the least command number that isn't finished, or how many
-    /// rounds are complete.
-    pub(crate) fn mark(&self, item: &Item) -> u32
-        ensures { let m = meaning S.stands S.rules S.shown E.stands E.rules E.shown C.bits T.me T.tags in
-            (p : Parts) → LayersStand m self.now p → item.now.slot.origin < self.now.params.n
-            → result ≡ mark_of (rules_of m self.now) p item.now }
+    /// What the window of a slot is counted from: the least command number that isn't finished, or how many rounds are
+    /// complete.
+    pub(crate) fn mark(&self, slot: &Slot) -> u32
+        ensures rules { let m = meaning S.stands S.rules S.shown E.stands E.rules E.shown C.bits T.me T.tags in
+            (p : Parts) → LayersStand m self.now p → slot.now.origin < self.now.params.n
+            → result ≡ mark_of (rules_of m self.now) p slot.now }
+        ensures shown { result ≡ mark_shown (S.shown self.now.service) slot.now }
     {
-        if item.slot.class == 1 {
-            self.service.base(item.slot.origin)
+        if slot.class == 1 {
+            self.service.base(slot.origin)
         } else {
             self.service.completed()
         }
@@ -139,12 +140,20 @@ impl<S: Service, E: Broadcast, C: Coin + Drop, T: Tagger + Drop> Layers<S, E, C,
         self.service.is_open(&item.slot) && is_ready(&self.casts, item)
     }
 
-    /// Whether an item is past.
-    pub(crate) fn is_past(&self, item: &Item) -> bool
-        ensures { (p : Parts) → LayersStand (meaning S.stands S.rules S.shown E.stands E.rules E.shown C.bits T.me T.tags) self.now p
-            → result ≡ is_past_in (meaning S.stands S.rules S.shown E.stands E.rules E.shown C.bits T.me T.tags) self.now p item.now }
+    /// Whether a slot is past.
+    pub(crate) fn is_past(&self, slot: &Slot) -> bool
+        ensures rules { (p : Parts) → LayersStand (meaning S.stands S.rules S.shown E.stands E.rules E.shown C.bits T.me T.tags) self.now p
+            → result ≡ is_past_in (meaning S.stands S.rules S.shown E.stands E.rules E.shown C.bits T.me T.tags) self.now p slot.now }
+        ensures shown { result ≡ is_past_shown (S.shown self.now.service) self.now.params.n slot.now }
     {
-        item.slot.origin < self.params.n() && is_behind(&item.slot, self.mark(item))
+        slot.origin < self.params.n() && is_behind(slot, self.mark(slot))
+    }
+
+    /// Whether what a slot delivered isn't shown any more: in root services 3 to 6 that of a past slot isn't.
+    pub(crate) fn hides(&self, slot: &Slot) -> bool
+        ensures { result ≡ hides_shown (S.shown self.now.service) self.now.params.n self.now.mode.root slot.now }
+    {
+        self.mode.root >= 3 && self.is_past(slot)
     }
 
     /// Whether an item is open.
@@ -155,7 +164,7 @@ impl<S: Service, E: Broadcast, C: Coin + Drop, T: Tagger + Drop> Layers<S, E, C,
         if item.slot.origin >= self.params.n() {
             return false;
         }
-        let mark = self.mark(item);
+        let mark = self.mark(&item.slot);
         !is_behind(&item.slot, mark) && !is_beyond(&item.slot, mark) && self.lets_in(item)
     }
 

@@ -50,9 +50,9 @@ fn forget<S: Service, E: Broadcast, C: Coin + Drop, T: Tagger + Drop>(
     held: &mut Held,
 )
     ensures { let m = meaning S.stands S.rules S.shown E.stands E.rules E.shown C.bits T.me T.tags in
-        (p : Parts) → LayersStand m layers.now p → held.new ≡ remaining (is_past_in m layers.now p) held.old }
+        (p : Parts) → LayersStand m layers.now p → held.new ≡ remaining (λ x. is_past_in m layers.now p x.slot) held.old }
 {
-    held.forget(|item| layers.is_past(item));
+    held.forget(|item| layers.is_past(&item.slot));
 }
 
 /// Gives the layers the item at the front of the inbox.

@@ -134,13 +134,12 @@ impl Service for Mute {
         true
     }
 
-    ghost use Rattle.std.specs.Prelude.{ℕ, ◌&&◌, refl, if◌then◌else◌};
-    ghost use Rattle.std.proofs.Common.{ap, sym, subst, inl, lit≤};
-    ghost use Rattle.std.proofs.Math.Nat.{le_refl};
-    ghost use Rattle.std.proofs.lemmas.Bool.{false≢true, eqb-true};
+    ghost use Rattle.std.specs.Prelude.{ℕ, refl};
+    ghost use Rattle.std.proofs.Common.{ap, inl};
+    ghost use Rattle.std.proofs.lemmas.Bool.{eqb-true};
     ghost use Rattle.std.proofs.lemmas.Option.{none-some};
-    ghost use Rattle.ritas_base.specs.Slots.{has_class};
     ghost use Rattle.layer_api.specs.Service.{has_instance};
+    ghost use Rattle.layer_api.specs.OneInstance.{instance_word_laws};
 
     ghost lives = { λ s seat w stood. refl };
 
@@ -154,32 +153,20 @@ impl Service for Mute {
       outcome = refl;
     } };
 
-    ghost word_laws = { record {
-      meanings = λ seat w session serves met. let five = eqb-true seat.mode.root 5 serves in record {
-        next_number = unfold has_class in ap (λ (n : ℕ). if has_class n 1 then asked w else 0) (sym five);
-        given = ap (λ (n : ℕ). has_instance n && not (asked w == 0)) (sym five);
-        completed = λ low. refl;
-        base = λ o there. absurd (false≢true (unfold has_class in subst (λ (n : ℕ). has_class n 1 ≡ true) five there));
-        base_none = λ o there. refl;
-        done = λ low. refl;
-        done_few = lit≤ tt;
-        outcome = tt;
-      };
-      opens_stays = λ seat c w s met was near. was;
-      says_new = λ seat c w met. tt;
-      says_good = λ seat c w me met. tt;
-      commands_said = λ seat c w met. tt;
-      inputs_said = λ seat v w there met.
-          absurd (false≢true (unfold has_class in subst (λ (n : ℕ). has_class n 1 ≡ true) (eqb-true seat.mode.root 5 met.0.served) there));
-      completed_stays = λ seat c w met. le_refl 0;
-      base_stays = λ seat c w o met. le_refl 0;
-      done_nothing = λ seat. refl;
-      done_grows = λ seat c w met. record { more = []; whole = refl; recent = tt };
-      done_once = λ seat w met. tt;
-      done_heard = λ seat w met. tt;
+    ghost word_laws = { instance_word_laws _ (record {
+      serves = λ root serves. ap (λ (n : ℕ). has_instance n) (eqb-true root 5 serves);
+      given = λ seat w. refl;
+      completed = λ seat w. refl;
+      base = λ seat w o. refl;
+      next_number = λ seat w. refl;
+      done = λ seat w. refl;
+    }) (record {
+      ending = λ seat w serves. tt;
+      says = λ seat c w met. tt;
+      opens_stays = λ seat c w s met e. e;
       outcome_stays = λ seat c w d met e. e;
       decided_stays = λ seat c w x d met e. e;
-    } };
+    }) };
 
     ghost one_log = { record {
       logs = λ p mode is_correct coins steps run i j ci cj. inl ([], refl);

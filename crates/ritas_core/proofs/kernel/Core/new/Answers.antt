@@ -39,6 +39,7 @@ returns-clause-stands g c =
       serves = c.requires.serves;
       live = refl;
       history = tt;
+      whole = tt;
       layers = λ _. stood;
       lost = λ _. refl;
       shows = layers_show m well layers (rules_of m layers) refl nothing stood;
