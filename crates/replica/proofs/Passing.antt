@@ -11,7 +11,7 @@ use Rattle.ritas_core.specs.declared.kernel.Core.{Core}
 use Rattle.ritas_core.specs.Rules.{Rules}
 use Rattle.ritas_core.specs.Parts.{Entry}
 use Rattle.ritas_core.specs.Order.{new_messages}
-use Rattle.ritas_core.specs.Machine.{CoreState, What, MayGive, moved, moved_live, stays}
+use Rattle.ritas_core.specs.Machine.{CoreState, What, MayGive, with_entry, moved, moved_live, stays}
 use Rattle.ritas_core.specs.Stands.{Meaning, CoreStands}
 use Rattle.ritas_core.specs.Shown.{tagger_of}
 use Rattle.ritas_core.specs.Calls as calls
@@ -25,14 +25,15 @@ use Rattle.replica.specs.Handling.{Call, handled, framed, core_answer}
 use Rattle.replica.specs.Stands.{Handles, RunsOut, Does, core_call, frames_made}
 use Rattle.replica.specs.Sending.{AreCounts}
 use Rattle.replica.specs.Replica.{ReplicaStands, StandsGoing, AreCounted, revived}
-use Rattle.replica.specs.Steps.{Keeps, PutsOut, Stops, Counts, Finishes}
+use Rattle.replica.specs.Steps.{Keeps, PutsOut, Stops, Counts, Feeds, Finishes}
+use Rattle.replica.specs.CommandRows.{Follows, LiesBetween}
 use Rattle.replica.proofs.Sends.{mod_more}
 use Rattle.replica.proofs.Counting.{made_more}
 use Rattle.replica.specs.MovesLaws.{moved_view}
 
 -- the replica with another core
 abbrev pub with_core : {S E C : Type 0} → Replica S E C → Core S E C KeyRow → Replica S E C
-with_core old core = record { core = core; counts = old.counts; sent = old.sent; stopped = old.stopped }
+with_core old core = record { core = core; log = old.log; fed = old.fed; counts = old.counts; sent = old.sent; stopped = old.stopped }
 
 -- what a call is given to the core as, and so does
 pub record IsCall (r : Rules) (k : KeyRow) (st : CoreState) (call : Call) (what : What) : Type 0 where
@@ -58,6 +59,7 @@ kept m old core r k st after stands on keys now same = record {
     going = on.going;
     core = now;
     counted = let P : List Entry → Type 0 = λ x. AreCounted r k x old.counts old.sent in subst P (sym same) on.counted;
+    log = let P : List Entry → Type 0 = λ x. Follows r x old.log old.fed in subst P (sym same) on.log;
   });
 }
 
@@ -112,8 +114,8 @@ counts_by old k count ms ys sent before after same are counts =
 -- the core took an entry, and the frames went out
 took_handles : {S E C : Type 0} (m : Meaning S E C KeyRow) (old new : Replica S E C) (core : Core S E C KeyRow) (what : What) (call : Call) (ms : List Msg) (before after : List OutFrame) (r : Rules) (k : KeyRow) (st : CoreState) →
     StandsGoing m old r k st → ReplicaStands m old r k st → tagger_of core ≡ k → IsCall r k st call what → calls.Moves m old.core core what [] ms (Ok answers.Took) r st
-    → PutsOut (with_core old core) new ms before after → Handles (ReplicaStands m) new call before after (Ok answers.Took) r k st
-took_handles {S = S} {E = E} {C = C} m old new core what call ms before after r k st on stands keys call_is did puts = elim (moved_view r st what) [
+    → PutsOut (with_core old core) new ms before after → Feeds m (with_core old core) new → Handles (ReplicaStands m) new call before after (Ok answers.Took) r k st
+took_handles {S = S} {E = E} {C = C} m old new core what call ms before after r k st on stands keys call_is did puts feeds = elim (moved_view r st what) [
   | inl enters ↦
       let was = on.counted in
       let sent_are : ms ≡ new_messages r st.history enters.entry = did.out ∙ enters.out in
@@ -134,6 +136,9 @@ took_handles {S = S} {E = E} {C = C} m old new core what call ms before after r 
                 going = puts.halted ∙ on.going;
                 core = subst Q (sym puts.core) did.state;
                 counted = subst R (sym enters.history) (counted_more r k st.history enters.entry old.counts new.counts old.sent new.sent before after was (subst M sent_are counts));
+                log =
+                    let F : List Entry → Type 0 = λ h. Follows r h new.log new.fed in
+                    subst F (sym enters.history) (feeds.follows r (moved r st what).state enters.entry st.history did.state enters.going enters.history on.log);
               });
             });
       }
@@ -148,7 +153,7 @@ revived_is st what live lost =
 -- the core took an entry, and the replica is stopped for want of memory
 stops_runs_out : {S E C : Type 0} (m : Meaning S E C KeyRow) (old new : Replica S E C) (core : Core S E C KeyRow) (what : What) (call : Call) (ms : List Msg) (before after : List OutFrame) (r : Rules) (k : KeyRow) (st : CoreState) →
     StandsGoing m old r k st → ReplicaStands m old r k st → tagger_of core ≡ k → IsCall r k st call what → calls.Moves m old.core core what [] ms (Ok answers.Took) r st
-    → Stops (with_core old core) new before after → RunsOut (ReplicaStands m) new call before after r k st
+    → Stops m (with_core old core) new before after → RunsOut (ReplicaStands m) new call before after r k st
 stops_runs_out {S = S} {E = E} {C = C} m old new core what call ms before after r k st on stands keys call_is did stops = elim (moved_view r st what) [
   | inl enters ↦ record {
     out = stops.out;
@@ -174,6 +179,9 @@ stops_runs_out {S = S} {E = E} {C = C} m old new core what call ms before after 
                 stands = subst (λ (x : CoreState). CoreStands m new.core r (moved r x what).state) same (subst Q (sym stops.core) did.state);
               };
               sent = stops.sent ∙ on.counted.all;
+              log =
+                  let L : Option Entry → Type 0 = λ o. LiesBetween r st.history (with_entry o st.history) new.log in
+                  subst L (sym enters.entered) (stops.some r (moved r st what).state enters.entry st.history did.state enters.going enters.history on.log);
             });
           },
         );
@@ -205,10 +213,10 @@ core_runs_out {S = S} {E = E} {C = C} m old new core what call ms before after r
 -- each call on a replica that isn't stopped
 pub passed_on : {S E C : Type 0} (m : Meaning S E C KeyRow) (old new : Replica S E C) (core : Core S E C KeyRow) (what : What) (call : Call) (ms : List Msg) (before after : List OutFrame) (r : Rules) (k : KeyRow) (st : CoreState) (answer : Result Answer CoreFault) (result : Result Answer Refusal) →
     StandsGoing m old r k st → ReplicaStands m old r k st → tagger_of core ≡ k → IsCall r k st call what → calls.Does m old.core core what [] ms answer r st
-    → Finishes (with_core old core) new answer ms before after result → Does (ReplicaStands m) new call before after result r k st
+    → Finishes m (with_core old core) new answer ms before after result → Does (ReplicaStands m) new call before after result r k st
 passed_on m old new core what call ms before after r k st (Ok answers.Took) (Ok answer) on stands keys call_is did ends =
     let P : Answer → Type 0 = λ x. Does (ReplicaStands m) new call before after (Ok x) r k st in
-    subst P (sym ends.0) (took_handles m old new core what call ms before after r k st on stands keys call_is did ends.1)
+    subst P (sym ends.0) (took_handles m old new core what call ms before after r k st on stands keys call_is did ends.1 ends.2)
 passed_on m old new core what call ms before after r k st (Ok answers.Took) (Err fault) on stands keys call_is did ends =
     let P : Refusal → Type 0 = λ x. Does (ReplicaStands m) new call before after (Err x) r k st in
     subst P (sym ends.0) (stops_runs_out m old new core what call ms before after r k st on stands keys call_is did ends.1)
@@ -225,7 +233,7 @@ passed_on m old new core what call ms before after r k st (Err fault) result on 
 -- each call on a replica that isn't stopped
 pub passes : {S E C : Type 0} (m : Meaning S E C KeyRow) (old new : Replica S E C) (core : Core S E C KeyRow) (what : What) (call : Call) (first ms : List Msg) (before after : List OutFrame) (answer : Result Answer CoreFault) (result : Result Answer Refusal) (r : Rules) (k : KeyRow) (st : CoreState) →
     ReplicaStands m old r k st → old.stopped ≡ false → IsCall r k st call what → MayGive r what → tagger_of core ≡ tagger_of old.core → first ≡ []
-    → calls.DoesAll m old.core core what first ms answer → Finishes (with_core old core) new answer ms before after result → Does (ReplicaStands m) new call before after result r k st
+    → calls.DoesAll m old.core core what first ms answer → Finishes m (with_core old core) new answer ms before after result → Does (ReplicaStands m) new call before after result r k st
 passes m old new core what call first ms before after answer result r k st stands going call_is may same none did ends =
     let on = going_of m old r k st stands going in
     let P : List Msg → Type 0 = λ x. calls.Does m old.core core what x ms answer r st in

@@ -2,6 +2,7 @@ pub mod Frames
 pub mod Handling
 pub mod Stands
 pub mod Sending
+pub mod CommandRows
 pub mod Replica
 pub mod Steps
 pub mod Laws

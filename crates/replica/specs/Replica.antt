@@ -13,7 +13,7 @@ use Rattle.keyed_channel.specs.Keyed.{tags_of}
 use Rattle.keyed_channel.specs.KeyRow.{KeyRow}
 use Rattle.ritas_core.specs.Rules.{Rules}
 use Rattle.ritas_core.specs.Parts.{Entry}
-use Rattle.ritas_core.specs.Machine.{CoreState, What, moved}
+use Rattle.ritas_core.specs.Machine.{CoreState, What, with_lost, moved}
 use Rattle.ritas_core.specs.Calls.{IsStep, entry_of}
 use Rattle.ritas_core.specs.declared.kernel.Core.{Core}
 use Rattle.ritas_core.specs.Shown.{tagger_of}
@@ -22,6 +22,7 @@ use Rattle.replica.specs.declared.replica.Replica.{Replica}
 use Rattle.replica.specs.Frames.{count_for}
 use Rattle.replica.specs.Stands.{frames_made}
 use Rattle.replica.specs.Sending.{AreCounts}
+use Rattle.replica.specs.CommandRows.{Follows, LiesBetween}
 
 -- what the traits say of a service, of the broadcast beside the reliable one and of a coin, with a replica's keys as the tagger
 abbrev pub with_keys : {S E C : Type 0} → (S → Seat → List Word → Type 0) → ServiceRules → (S → ServiceShown)
@@ -34,11 +35,12 @@ pub record AreCounted (r : Rules) (k : KeyRow) (h : List Entry) (counts : List �
   pub each : AreCounts k.n counts (count_for r h)
   pub all : sent ≡ frames_made r k h % 2 ^ 64
 
--- the replica goes on as its core does
+-- the replica goes on as its core does, and its log follows
 pub record StandsGoing {S E C : Type 0} (m : Meaning S E C KeyRow) (rep : Replica S E C) (r : Rules) (k : KeyRow) (st : CoreState) : Type 0 where
   pub going : rep.stopped ≡ false
   pub core : CoreStands m rep.core r st
   pub counted : AreCounted r k st.history rep.counts rep.sent
+  pub log : Follows r st.history rep.log rep.fed
 
 -- the state before the call that stopped it
 abbrev pub revived : CoreState → CoreState
@@ -51,12 +53,14 @@ pub record StandsAhead {S E C : Type 0} (m : Meaning S E C KeyRow) (core : Core 
   pub lost : st.lost ≡ entry_of (revived st) what
   pub stands : CoreStands m core r (moved r (revived st) what).state
 
--- it was without memory to seal a frame: it keeps its state and made no frame, and its core is ahead of it
+-- it was without memory to feed its log or to seal a frame: it keeps its state and made no frame, its core is ahead of it, and its
+-- log lies between
 pub record StandsStopped {S E C : Type 0} (m : Meaning S E C KeyRow) (rep : Replica S E C) (r : Rules) (k : KeyRow) (st : CoreState) : Type 0 where
   pub halted : rep.stopped ≡ true
   pub dead : st.live ≡ false
   pub ahead : StandsAhead m rep.core r st
   pub sent : rep.sent ≡ frames_made r k st.history % 2 ^ 64
+  pub log : LiesBetween r st.history (with_lost st) rep.log
 
 -- the replica stands for this state, by these rules and keys
 pub record ReplicaStands {S E C : Type 0} (m : Meaning S E C KeyRow) (rep : Replica S E C) (r : Rules) (k : KeyRow) (st : CoreState) : Type 0 where

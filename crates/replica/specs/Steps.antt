@@ -1,5 +1,5 @@
 -- What the parts of a call on a replica do: a frame is read, and what the core answers and puts out is passed on.
-use Rattle.std.specs.Prelude.{◌≡◌, ℕ, ◌+◌, ◌%◌, ◌^◌, true, List, ◌++◌, length, Result, Ok, Err}
+use Rattle.std.specs.Prelude.{◌≡◌, ℕ, ◌+◌, ◌%◌, ◌^◌, true, List, ◌∷◌, ◌++◌, length, Result, Ok, Err}
 use Rattle.ritas_base.specs.declared.item.Item.{Item}
 use Rattle.ritas_base.specs.declared.item.Msg.{Msg}
 use Rattle.frame_codec.specs.declared.fault.BodyFault.{BodyFault}
@@ -13,6 +13,9 @@ use Rattle.ritas_core.specs.declared.fault.CoreFault.{CoreFault}
 use Rattle.ritas_core.specs.declared.fault.CoreFault.TheVariants as faults
 use Rattle.ritas_core.specs.Rules.{Rules}
 use Rattle.ritas_core.specs.Checks.{IsGood}
+use Rattle.ritas_core.specs.Parts.{Entry}
+use Rattle.ritas_core.specs.Machine.{CoreState}
+use Rattle.ritas_core.specs.Stands.{Meaning, CoreStands}
 use Rattle.ritas_core.specs.Shown.{tagger_of}
 use Rattle.replica.specs.declared.frame.OutFrame.{OutFrame}
 use Rattle.replica.specs.declared.refusal.Refusal.{Refusal}
@@ -20,6 +23,7 @@ use Rattle.replica.specs.declared.refusal.Refusal.TheVariants as refusals
 use Rattle.replica.specs.declared.replica.Replica.{Replica}
 use Rattle.replica.specs.Frames.{frames_of}
 use Rattle.replica.specs.Sending.{AreCounts, counts_with}
+use Rattle.replica.specs.CommandRows.{Follows, LiesBetween}
 
 -- ---- reading
 
@@ -60,21 +64,44 @@ pub record PutsOut {S E C : Type 0} (old new : Replica S E C) (ms : List Msg) (b
   pub halted : new.stopped ≡ old.stopped
   pub counts : (count : ℕ → ℕ) → AreCounts (tagger_of old.core).n old.counts count → Counts (tagger_of old.core) count ms new.counts old.sent new.sent before after
 
+-- nothing but the log changed, and how many identifiers were entered
+abbrev pub FeedsOnly : {S E C : Type 0} → Replica S E C → Replica S E C → Type 0
+FeedsOnly old new = new ≡ record old { log = new.log; fed = new.fed }
+
+-- after an entry of the core the log lies between what it was and the rows with that entry
+abbrev pub FeedsSome : {S E C : Type 0} → Meaning S E C KeyRow → Replica S E C → Replica S E C → Type 0
+FeedsSome m old new = (r : Rules) (st : CoreState) (e : Entry) (h : List Entry) → CoreStands m old.core r st → st.live ≡ true → st.history ≡ e ∷ h
+    → Follows r h old.log old.fed → LiesBetween r h (e ∷ h) new.log
+
+-- and it follows
+pub record Feeds {S E C : Type 0} (m : Meaning S E C KeyRow) (old new : Replica S E C) : Type 0 where
+  pub follows : (r : Rules) (st : CoreState) (e : Entry) (h : List Entry) → CoreStands m old.core r st → st.live ≡ true → st.history ≡ e ∷ h
+      → Follows r h old.log old.fed → Follows r (e ∷ h) new.log new.fed
+  pub some : FeedsSome m old new
+
 -- for want of memory none went out, and the replica is stopped
-pub record Stops {S E C : Type 0} (old new : Replica S E C) (before after : List OutFrame) : Type 0 where
+pub record Stops {S E C : Type 0} (m : Meaning S E C KeyRow) (old new : Replica S E C) (before after : List OutFrame) : Type 0 where
   pub core : new.core ≡ old.core
   pub halted : new.stopped ≡ true
   pub sent : new.sent ≡ old.sent
   pub out : after ≡ before
+  pub some : FeedsSome m old new
 
 -- each outcome
-abbrev pub Finishes : {S E C : Type 0} → Replica S E C → Replica S E C → Result Answer CoreFault → List Msg → List OutFrame → List OutFrame → Result Answer Refusal → Type 0
-Finishes old new (Ok answers.Took) ms before after (Ok answer) = (answer ≡ answers.Took) × PutsOut old new ms before after
-Finishes old new (Ok answers.Took) ms before after (Err fault) = (fault ≡ refusals.Core faults.Mem) × Stops old new before after
-Finishes old new (Ok answer) ms before after result = (result ≡ Ok answer) × Keeps old new before after
-Finishes old new (Err fault) ms before after result = (result ≡ Err (refusals.Core fault)) × Keeps old new before after
+abbrev pub Finishes : {S E C : Type 0} → Meaning S E C KeyRow → Replica S E C → Replica S E C → Result Answer CoreFault → List Msg → List OutFrame → List OutFrame → Result Answer Refusal → Type 0
+Finishes m old new (Ok answers.Took) ms before after (Ok answer) = (answer ≡ answers.Took) × PutsOut old new ms before after × Feeds m old new
+Finishes m old new (Ok answers.Took) ms before after (Err fault) = (fault ≡ refusals.Core faults.Mem) × Stops m old new before after
+Finishes m old new (Ok answer) ms before after result = (result ≡ Ok answer) × Keeps old new before after
+Finishes m old new (Err fault) ms before after result = (result ≡ Err (refusals.Core fault)) × Keeps old new before after
+
+-- the core is as before, and whether the replica is stopped
+pub record SameCore {S E C : Type 0} (old new : Replica S E C) : Type 0 where
+  pub core : new.core ≡ old.core
+  pub halted : new.stopped ≡ old.stopped
 
 -- all but the counts is as before
 pub record SameRest {S E C : Type 0} (old new : Replica S E C) : Type 0 where
   pub core : new.core ≡ old.core
   pub halted : new.stopped ≡ old.stopped
+  pub log : new.log ≡ old.log
+  pub fed : new.fed ≡ old.fed

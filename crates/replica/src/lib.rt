@@ -14,6 +14,7 @@
 //! [`made_length`] and [`made_in_all`]).
 #![tactic(auto)]
 
+mod following;
 mod frame;
 mod laws;
 mod refusal;

@@ -9,6 +9,7 @@ pub enum Refusal {
     Open(OpenFault),
     /// Its body spells no item, or there was not enough memory to read it.
     Body(BodyFault),
-    /// The core refuses it, or there was not enough memory to take it, to hold it, or to seal what became due by it.
+    /// The core refuses it, or there was not enough memory to take it, to hold it, to enter a command into the log, or to seal what
+    /// became due by it.
     Core(CoreFault),
 }

@@ -1,19 +1,25 @@
+use crate::following::follow;
 use crate::frame::OutFrame;
 use crate::refusal::Refusal;
 use crate::sending::send;
+use command_log::Log;
 use frame_codec::read_body;
 use keyed_channel::{Channel, Keys};
 use layer_api::{Broadcast, Service};
 use ritas_base::{Coin, Item, Mem, Mode, Msg, Params};
-use ritas_core::{Answer, Core, CoreFault};
+use ritas_core::{Answer, Core, CoreFault, history_laws};
 use std::alloc::Global;
 
 /// One replica: it opens frames and reads their bodies, gives its core what they say, and seals what that puts out.
 ///
-/// For want of memory to seal a frame it is stopped, whatever its core has done.
+/// Its log of commands follows the identifier log of the service in the very call that appends to that. For want of memory
+/// to feed the log, or to seal a frame, it is stopped, whatever its core has done.
 #[derive(Drop)]
 pub struct Replica<S: Service, E: Broadcast, C: Coin + Drop> {
     core: Core<S, E, C, Channel>,
+    log: Log,
+    // How many of the service's identifiers were entered into the log.
+    fed: usize,
     counts: [u64; 31],
     sent: u64,
     stopped: bool,
@@ -24,12 +30,14 @@ impl<S: Service, E: Broadcast, C: Coin + Drop> Replica<S, E, C> {
     ghost use Rattle.keyed_channel.specs.Keyed.{tags_of};
     ghost use Rattle.keyed_channel.specs.KeyRow.{KeyRow};
     ghost use Rattle.ritas_core.specs.Rules.{Rules, other_form, casts_by};
-    ghost use Rattle.ritas_core.specs.Machine.{CoreState, first_state};
+    ghost use Rattle.ritas_core.specs.Machine.{CoreState, first_state, with_lost};
     ghost use Rattle.ritas_core.specs.Stands.{CoreStands};
     ghost use Rattle.replica.specs.Handling.{Frame, Input, Turn};
     ghost use Rattle.replica.specs.Stands.{DoesAll, frames_made};
     ghost use Rattle.replica.specs.Replica.{ReplicaStands, StandsAhead, with_keys};
-    ghost use Rattle.replica.specs.Steps.{Reads, PutsOut, SameRest, Finishes};
+    ghost use Rattle.replica.specs.Steps.{Reads, PutsOut, SameRest, SameCore, FeedsOnly, FeedsSome, Feeds, Finishes};
+    ghost use Rattle.layer_api.specs.Service.{IsPart};
+    ghost use Rattle.replica.specs.CommandRows.{rows_at};
 
     /// The replica that has these keys, before any call. The one error is want of memory.
     ///
@@ -47,6 +55,8 @@ impl<S: Service, E: Broadcast, C: Coin + Drop> Replica<S, E, C> {
         let core = Core::new(alloc, p, mode, keys.me(), channel, coin)?;
         Ok(Replica {
             core,
+            log: Log::new(alloc),
+            fed: 0,
             counts: [0; 31],
             sent: 0,
             stopped: false,
@@ -67,6 +77,35 @@ impl<S: Service, E: Broadcast, C: Coin + Drop> Replica<S, E, C> {
         Ok(())
     }
 
+    // Enters into the log what the service appended to its identifiers.
+    fn feed(&mut self, alloc: Global) -> Result<(), Mem>
+        ensures ok { OnOk result (Feeds (with_keys S.stands S.rules S.shown E.stands E.rules E.shown C.bits) self.old self.new) }
+        ensures err { OnErr result (FeedsSome (with_keys S.stands S.rules S.shown E.stands E.rules E.shown C.bits) self.old self.new) }
+        ensures only { FeedsOnly self.old self.new }
+    {
+        history_laws();
+        let done = self.core.service().done();
+        let Some(ids) = done.get(self.fed..) else {
+            // No such number comes.
+            return Ok(());
+        };
+        follow(alloc, &self.core, &mut self.log, ids)?;
+        self.fed = done.len();
+        Ok(())
+    }
+
+    // Feeds the log, and seals these messages.
+    fn pass_on(&mut self, alloc: Global, msgs: Vec<Msg>, out: &mut Vec<OutFrame>) -> Result<(), Mem>
+        ensures ok { OnOk result (PutsOut self.old self.new msgs.items out.old.items out.new.items
+            × Feeds (with_keys S.stands S.rules S.shown E.stands E.rules E.shown C.bits) self.old self.new) }
+        ensures err { OnErr result ((out.new.items ≡ out.old.items) × (self.new.sent ≡ self.old.sent)
+            × FeedsSome (with_keys S.stands S.rules S.shown E.stands E.rules E.shown C.bits) self.old self.new) }
+        ensures same { SameCore self.old self.new }
+    {
+        self.feed(alloc)?;
+        self.put_out(alloc, msgs, out)
+    }
+
     // Passes on what the core answered and put out.
     fn finish(
         &mut self,
@@ -75,11 +114,12 @@ impl<S: Service, E: Broadcast, C: Coin + Drop> Replica<S, E, C> {
         msgs: Vec<Msg>,
         out: &mut Vec<OutFrame>,
     ) -> Result<Answer, Refusal>
-        ensures { Finishes self.old self.new answer msgs.items out.old.items out.new.items result }
+        ensures { Finishes (with_keys S.stands S.rules S.shown E.stands E.rules E.shown C.bits)
+            self.old self.new answer msgs.items out.old.items out.new.items result }
     {
         match answer {
             Ok(Answer::Took) => {
-                if self.put_out(alloc, msgs, out).is_err() {
+                if self.pass_on(alloc, msgs, out).is_err() {
                     self.stopped = true;
                     return Err(Refusal::Core(CoreFault::Mem));
                 }
@@ -114,7 +154,8 @@ impl<S: Service, E: Broadcast, C: Coin + Drop> Replica<S, E, C> {
     /// `Open` and `Body` are answered exactly where the frame doesn't open or its body spells no item, also once the
     /// replica is stopped, and `Core` where the core refuses the item: each leaves the replica and `out` as they were.
     /// `Body(Mem)` does too. After `Core(Mem)` `out` is as before, and so is the replica where the item was to be held;
-    /// where it was to be taken, the replica is stopped, and refuses every later item as `Stopped`.
+    /// where it was to be taken, its log fed or a frame sealed, the replica is stopped, and refuses every later item as
+    /// `Stopped`.
     pub fn on_frame(
         &mut self,
         alloc: Global,
@@ -202,6 +243,20 @@ impl<S: Service, E: Broadcast, C: Coin + Drop> Replica<S, E, C> {
             ⊎ StandsAhead (with_keys S.stands S.rules S.shown E.stands E.rules E.shown C.bits) result.now r st }
     {
         &self.core
+    }
+
+    /// The log of commands: the rows of the service's identifier log, as of the last call. Of a replica that was stopped it
+    /// has the rows of its history, and may have some of those that the stop lost.
+    pub fn log(&self) -> &Log
+        ensures live { (r : Rules) (k : KeyRow) (st : CoreState)
+            → ReplicaStands (with_keys S.stands S.rules S.shown E.stands E.rules E.shown C.bits) self.now r k st
+            → st.live ≡ true → result.now ≡ rows_at r st.history }
+        ensures near { (r : Rules) (k : KeyRow) (st : CoreState)
+            → ReplicaStands (with_keys S.stands S.rules S.shown E.stands E.rules E.shown C.bits) self.now r k st
+            → IsPart (rows_at r st.history) result.now × IsPart result.now (rows_at r (with_lost st)) }
+    {
+        history_laws();
+        &self.log
     }
 
     /// How many frames the replica made, modulo 2^64.

@@ -1,0 +1,144 @@
+-- The log of a replica after an entry of its core.
+use Rattle.std.proofs.Common.{◌≡◌, ℕ, ◌+◌, ◌<◌, ◌≤◌, List, [], ◌∷◌, ◌++◌, length, reverse, drop, sym, ◌∙◌, ap, subst, arith}
+use Rattle.std.specs.List.{AllByRecursion, slice_range}
+use Rattle.std.proofs.lemmas.List.Folds.{drop_split}
+use Rattle.std.proofs.Math.Seq.{drop-append_seam, drop-length}
+use Rattle.std.proofs.lemmas.List.{reverse-append, reverse-reverse, length-reverse, length-append, append-nil}
+use Rattle.ritas_base.specs.declared.item.Msg.{Msg}
+use Rattle.ritas_base.specs.declared.id.Id.{Id}
+use Rattle.layer_api.specs.OneValue.{ValueLaws}
+use Rattle.layer_api.specs.Service.{WordLaws, IsPart}
+use Rattle.keyed_channel.specs.KeyRow.{KeyRow}
+use Rattle.command_log.specs.Rows.{Row, rows_after}
+use Rattle.ritas_core.specs.declared.kernel.Core.{Core}
+use Rattle.ritas_core.specs.Rules.{Rules, seat_of}
+use Rattle.ritas_core.specs.Parts.{Entry, parts}
+use Rattle.ritas_core.specs.Checks.{IsHistory}
+use Rattle.ritas_core.specs.Machine.{CoreState, with_lost}
+use Rattle.ritas_core.specs.Laws.{LayerLaws, WordsAreProper}
+use Rattle.ritas_core.specs.Stands.{Meaning, CoreStands}
+use Rattle.ritas_core.specs.StandsLaws.{layer_laws}
+use Rattle.replica.specs.declared.frame.OutFrame.{OutFrame}
+use Rattle.replica.specs.declared.replica.Replica.{Replica}
+use Rattle.replica.specs.CommandRows.{command_of, ids_at, rows_at, Follows, LiesBetween, HasCommand}
+use Rattle.replica.specs.Steps.{PutsOut, SameRest, FeedsOnly, FeedsSome, Feeds}
+use Rattle.replica.proofs.Growing.{Grows, grows, rows_grow, rows_lost, part_itself}
+
+all_append : (P : Id → Type 0) (xs ys : List Id) → AllByRecursion P xs → AllByRecursion P ys → AllByRecursion P (xs ++ ys)
+all_append P [] ys all rest = rest
+all_append P (x ∷ xs) ys all rest = (all.0, all_append P xs ys all.1 rest)
+
+all_reverse : (P : Id → Type 0) (xs : List Id) → AllByRecursion P xs → AllByRecursion P (reverse xs)
+all_reverse P [] all = tt
+all_reverse P (x ∷ xs) all =
+    subst (λ (ys : List Id). AllByRecursion P ys) (sym (reverse-append (x ∷ []) xs)) (all_append P (reverse xs) (x ∷ []) (all_reverse P xs all.1) (all.0, tt))
+
+-- what is left of a list
+pub rest_of : (done ids : List Id) (fed : ℕ) → fed ≤ length done → ids ≡ slice_range done fed (length done) → ids ≡ drop fed done
+rest_of done ids fed within is =
+    is
+    ∙ sym (drop_split done fed (length done) within ∙ ap (λ (t : List Id). slice_range done fed (length done) ++ t) (drop-length done)
+    ∙ append-nil (slice_range done fed (length done)))
+
+-- the identifiers that a core's service answers
+pub done_by : {S E C : Type 0} (m : Meaning S E C KeyRow) (core : Core S E C KeyRow) (r : Rules) (st : CoreState) → CoreStands m core r st →
+    (done : List Id) → done ≡ reverse (m.service.done (seat_of r) (parts r st.history).words) → done ≡ reverse (ids_at r st.history)
+done_by m core r st stands done is =
+    is ∙ ap (λ (q : Rules). reverse (q.service.done (seat_of r) (parts r st.history).words)) stands.rules
+
+module _ {S E C : Type 0} (m : Meaning S E C KeyRow) (values : ValueLaws m.cast) (words : WordLaws m.service) (proper : WordsAreProper)
+    (core : Core S E C KeyRow) (r : Rules) (st : CoreState) (stands : CoreStands m core r st) where
+  laws : LayerLaws r
+  laws = layer_laws m values words core r st stands
+
+  -- what a stop lost only adds rows
+  pub lost_rows : IsPart (rows_at r st.history) (rows_at r (with_lost st))
+  lost_rows = rows_lost r laws st.lost st.history (proper r laws st.history stands.history) (proper r laws (with_lost st) stands.whole)
+
+  module _ (e : Entry) (h : List Entry) (is : st.history ≡ e ∷ h) (done : List Id) (shows : done ≡ reverse (ids_at r st.history))
+      (log : List Row) (fed : ℕ) (before : Follows r h log fed) where
+    met : IsHistory r (e ∷ h)
+    met = subst (λ (x : List Entry). IsHistory r x) is stands.history
+
+    grown : Grows r e h
+    grown = grows r laws e h (proper r laws h met.1) (proper r laws (e ∷ h) met)
+
+    done_is : done ≡ reverse (ids_at r h) ++ reverse grown.more
+    done_is =
+        shows ∙ ap (λ (x : List Entry). reverse (ids_at r x)) is ∙ ap reverse (sym grown.whole) ∙ reverse-append grown.more (ids_at r h)
+
+    -- as many as were entered are there
+    pub not_short : length done < fed → ⊥
+    not_short short =
+        let len = length-append (reverse (ids_at r h)) (reverse grown.more) in
+        let old = length-reverse (ids_at r h) in
+        omega (arith, short, before.count, len, old, ap length done_is)
+
+    pub all_fed : length done ≡ length (ids_at r (e ∷ h))
+    all_fed = ap length (shows ∙ ap (λ (x : List Entry). reverse (ids_at r x)) is) ∙ length-reverse (ids_at r (e ∷ h))
+
+    -- the others are those of the entry
+    module _ (ids : List Id) (rest : ids ≡ drop fed done) where
+      ids_are : ids ≡ reverse grown.more
+      ids_are =
+          rest ∙ ap (λ (n : ℕ). drop n done) (before.count ∙ sym (length-reverse (ids_at r h))) ∙ ap (drop (length (reverse (ids_at r h)))) done_is
+          ∙ drop-append_seam (reverse (ids_at r h)) (reverse grown.more)
+
+      pub have_all : AllByRecursion (HasCommand r st.history) ids
+      have_all =
+          subst (λ (x : List Entry). AllByRecursion (HasCommand r x) ids) (sym is)
+          (subst (λ (xs : List Id). AllByRecursion (HasCommand r (e ∷ h)) xs) (sym ids_are) (all_reverse (HasCommand r (e ∷ h)) grown.more grown.have))
+
+      pub has_room : length log + length ids < 4294967295
+      has_room = let room = grown.room in let len = length-reverse grown.more in omega (arith, room, len, ap length before.rows, ap length ids_are)
+
+      -- their rows over those of before are the rows of all
+      pub rows_are : rows_after (command_of r st.history) (reverse ids) log ≡ rows_at r (e ∷ h)
+      rows_are =
+          ap (λ (x : List Entry). rows_after (command_of r x) (reverse ids) log) is
+          ∙ ap (λ (xs : List Id). rows_after (command_of r (e ∷ h)) xs log) (ap reverse ids_are ∙ reverse-reverse grown.more)
+          ∙ ap (rows_after (command_of r (e ∷ h)) grown.more) before.rows
+          ∙ grown.follows
+
+      pub follows_now : (now : List Row) → now ≡ rows_after (command_of r st.history) (reverse ids) log → Follows r (e ∷ h) now (length done)
+      follows_now now is_now = record { rows = is_now ∙ rows_are; count = all_fed }
+
+      pub lies_between : (now : List Row) → IsPart log now × IsPart now (rows_after (command_of r st.history) (reverse ids) log) → LiesBetween r h (e ∷ h) now
+      lies_between now part = (
+        subst (λ (rows : List Row). IsPart rows now) before.rows part.0,
+        subst (λ (rows : List Row). IsPart now rows) rows_are part.1,
+      )
+
+    -- a log that follows lies between
+    pub follows_between : (now : List Row) (count : ℕ) → Follows r (e ∷ h) now count → LiesBetween r h (e ∷ h) now
+    follows_between now count follows =
+        subst (λ (rows : List Row). LiesBetween r h (e ∷ h) rows) (sym follows.rows)
+        (rows_grow r laws e h (proper r laws h met.1) (proper r laws (e ∷ h) met), part_itself (rows_at r (e ∷ h)))
+
+-- ---- the log is fed, and then frames are sealed
+module _ {S E C : Type 0} (m : Meaning S E C KeyRow) (old mid new : Replica S E C) (only : FeedsOnly old mid) (same : SameRest mid new) where
+  pub core_kept : new.core ≡ old.core
+  core_kept = same.core ∙ ap (λ (x : Replica S E C). x.core) only
+
+  pub halted_kept : new.stopped ≡ old.stopped
+  halted_kept = same.halted ∙ ap (λ (x : Replica S E C). x.stopped) only
+
+  pub sent_kept : mid.sent ≡ old.sent
+  sent_kept = ap (λ (x : Replica S E C). x.sent) only
+
+  pub puts_out : (ms : List Msg) (before after : List OutFrame) → PutsOut mid new ms before after → PutsOut old new ms before after
+  puts_out ms before after puts =
+      let from_old = subst (λ (x : Replica S E C). PutsOut x new ms before after) only puts in
+      record { core = from_old.core; halted = from_old.halted; counts = from_old.counts }
+
+  pub some_kept : FeedsSome m old mid → FeedsSome m old new
+  some_kept some r st e h stands live is before =
+      subst (λ (rows : List Row). LiesBetween r h (e ∷ h) rows) (sym same.log) (some r st e h stands live is before)
+
+  pub feeds_kept : Feeds m old mid → Feeds m old new
+  feeds_kept feeds = record {
+    follows = λ r st e h stands live is before.
+        let now = feeds.follows r st e h stands live is before in
+        record { rows = same.log ∙ now.rows; count = same.fed ∙ now.count };
+    some = some_kept feeds.some;
+  }

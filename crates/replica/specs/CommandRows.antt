@@ -1,0 +1,37 @@
+-- The log of commands that a replica keeps: it follows the identifier log of its service. Lists have the newest first.
+use Rattle.std.specs.Prelude.{◌≡◌, ℕ, ◌≤◌, false, List, length, Option, Some}
+use Rattle.ritas_base.specs.declared.id.Id.{Id}
+use Rattle.ritas_base.specs.Slots.{command_slot}
+use Rattle.layer_api.specs.Service.{IsPart}
+use Rattle.command_log.specs.Rows.{Row, command_rows}
+use Rattle.ritas_core.specs.Rules.{Rules, seat_of}
+use Rattle.ritas_core.specs.Parts.{Entry, parts}
+use Rattle.ritas_core.specs.Shown.{delivered_at, is_hidden}
+
+-- the command that was delivered of an identifier
+abbrev pub command_of : Rules → List Entry → Id → Option (List ℕ)
+command_of r h x = delivered_at r h (command_slot x.origin x.num)
+
+-- the identifier log after a history
+abbrev pub ids_at : Rules → List Entry → List Id
+ids_at r h = r.service.done (seat_of r) (parts r h).words
+
+-- and the rows of its commands
+abbrev pub rows_at : Rules → List Entry → List Row
+rows_at r h = command_rows (command_of r h) (ids_at r h)
+
+-- the log has the rows of a history, and so many of its identifiers were entered
+pub record Follows (r : Rules) (h : List Entry) (log : List Row) (fed : ℕ) : Type 0 where
+  pub rows : log ≡ rows_at r h
+  pub count : fed ≡ length (ids_at r h)
+
+-- the log lies between the rows of a history and those of a later one
+abbrev pub LiesBetween : Rules → List Entry → List Entry → List Row → Type 0
+LiesBetween r h later log = IsPart (rows_at r h) log × IsPart log (rows_at r later)
+
+-- a core with this history shows the command of an identifier, which has a client's number and a request's
+pub record HasCommand (r : Rules) (h : List Entry) (x : Id) : Type 0 where
+  pub command : List ℕ
+  pub there : command_of r h x ≡ Some command
+  pub long : 8 ≤ length command
+  pub shown : is_hidden r h (command_slot x.origin x.num) ≡ false

@@ -1,0 +1,72 @@
+//! How the log of commands follows the identifier log.
+
+ghost use Rattle.std.specs.Prelude.{◌≡◌, ◌+◌, ◌<◌, true, length, reverse, OnOk, OnErr};
+ghost use Rattle.std.specs.List.{AllByRecursion};
+ghost use Rattle.layer_api.specs.Service.{IsPart};
+ghost use Rattle.ritas_core.specs.Rules.{Rules};
+ghost use Rattle.ritas_core.specs.Machine.{CoreState};
+ghost use Rattle.ritas_core.specs.Stands.{CoreStands};
+ghost use Rattle.command_log.specs.Rows.{with_entry, entry_of, rows_after};
+ghost use Rattle.replica.specs.Replica.{with_keys};
+ghost use Rattle.replica.specs.CommandRows.{command_of, HasCommand};
+
+use command_log::Log;
+use keyed_channel::Channel;
+use layer_api::{Broadcast, Service};
+use ritas_base::{Coin, Id, Mem, Slot};
+use ritas_core::Core;
+use std::alloc::Global;
+
+// Enters the row of a command that was delivered.
+fn follow_one<S: Service, E: Broadcast, C: Coin + Drop>(
+    alloc: Global,
+    core: &Core<S, E, C, Channel>,
+    log: &mut Log,
+    id: Id,
+) -> Result<(), Mem>
+    ensures ok { let m = with_keys S.stands S.rules S.shown E.stands E.rules E.shown C.bits in
+        OnOk result ((r : Rules) (st : CoreState) → CoreStands m core.now r st → st.live ≡ true
+        → HasCommand r st.history id → length log.old < 4294967295
+        → log.new ≡ with_entry (entry_of (command_of r st.history) id) log.old) }
+    ensures err { OnErr result (log.new ≡ log.old) }
+{
+    let slot = Slot {
+        class: 1,
+        a: id.num,
+        attempt: 0,
+        bround: 0,
+        step: 0,
+        origin: id.origin,
+    };
+    let Some(command) = core.delivered(&slot) else {
+        return Ok(());
+    };
+    // No shorter command comes, and the log has room.
+    if command.len() >= 8 && log.len() < 4_294_967_295 {
+        log.append(alloc, id, command)?;
+    }
+    Ok(())
+}
+
+/// Enters the rows of these identifiers, which were appended to the service's log in this order. For want of memory some
+/// of them are there, the first of all.
+pub(crate) fn follow<S: Service, E: Broadcast, C: Coin + Drop>(
+    alloc: Global,
+    core: &Core<S, E, C, Channel>,
+    log: &mut Log,
+    ids: &[Id],
+) -> Result<(), Mem>
+    ensures ok { let m = with_keys S.stands S.rules S.shown E.stands E.rules E.shown C.bits in
+        OnOk result ((r : Rules) (st : CoreState) → CoreStands m core.now r st → st.live ≡ true
+        → AllByRecursion (HasCommand r st.history) ids.now → length log.old + length ids.now < 4294967295
+        → log.new ≡ rows_after (command_of r st.history) (reverse ids.now) log.old) }
+    ensures err { let m = with_keys S.stands S.rules S.shown E.stands E.rules E.shown C.bits in
+        OnErr result ((r : Rules) (st : CoreState) → CoreStands m core.now r st → st.live ≡ true
+        → AllByRecursion (HasCommand r st.history) ids.now → length log.old + length ids.now < 4294967295
+        → IsPart log.old log.new × IsPart log.new (rows_after (command_of r st.history) (reverse ids.now) log.old)) }
+{
+    for id in ids {
+        follow_one(alloc, core, log, *id)?;
+    }
+    Ok(())
+}
