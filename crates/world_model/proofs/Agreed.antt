@@ -1,21 +1,33 @@
 -- The law of agreement over every world, from the law of its service.
-use Rattle.std.proofs.Common.{◌≡◌, List, [], ◌∷◌, ◌⊎◌, ◌∙◌, ap, subst}
+use Rattle.std.proofs.Common.{◌≡◌, ℕ, true, List, [], ◌∷◌, ◌∙◌, ap, subst}
 use Rattle.layer_api.specs.Runs.{calls_of, Has}
-use Rattle.layer_api.specs.Service.{IsPart}
 use Rattle.layer_api.specs.Words.{Word, Ask, bit_byte}
 use Rattle.layer_api.specs.OneLog.{OneLog, IsRunOf}
+use Rattle.command_log.specs.Rows.{entries_of}
+use Rattle.command_log.specs.Laws.{rows_once}
 use Rattle.ritas_core.specs.Rules.{seat_of}
 use Rattle.ritas_base.specs.declared.event.Event.{Event}
+use Rattle.ritas_base.specs.declared.id.Id.{Id}
 use Rattle.world_model.specs.declared.audit.Audit.TheVariants.{Holds}
-use Rattle.world_model.specs.World.{Setting, rules_at}
+use Rattle.world_model.specs.World.{Setting, rules_at, states_of}
 use Rattle.world_model.specs.Audit.{has_too_many, first_broken, audit_of}
 use Rattle.world_model.specs.Agreement.{history_of}
-use Rattle.world_model.specs.Agree.{log_of, Agree, AgreeLaw}
+use Rattle.world_model.specs.Agree.{log_of, command_of, OneIsPart, Agree, AgreeLaw}
 use Rattle.world_model.proofs.Law.{audit_parts, enough_of, law_of}
 use Rattle.world_model.proofs.Said.{asked_given}
-use Rattle.world_model.proofs.Words.{session_of, words_after}
+use Rattle.world_model.proofs.Logged.{ids_distinct, rows_one, row_submitted}
+use Rattle.world_model.proofs.Words.{WordsAt, session_of, words_after}
 use Rattle.world_model.specs.CoreLaws.{CoreLaws}
 use Rattle.world_model.proofs.Below.{IsSoundOver}
+
+-- of the identifier logs of two replicas one is a part of the other, as of the words of the run
+ids_one : (w : Setting) (es : List Event) → OneLog w.service → (x : WordsAt w (states_of w es)) → IsRunOf (session_of w) x.steps
+    → (i j : ℕ) → w.is_correct i ≡ true → w.is_correct j ≡ true → OneIsPart (log_of w es i) (log_of w es j)
+ids_one w es one x run i j left right =
+    let done : ℕ → List Word → List Id = λ k words. w.service.done (seat_of (rules_at w k)) words in
+    subst (λ (words : List Word). OneIsPart (done i words) (log_of w es j)) (x.same i left)
+    (subst (λ (words : List Word). OneIsPart (done i (calls_of i x.steps)) (done j words)) (x.same j right)
+    (one.logs w.numbers w.mode w.is_correct w.coin x.steps run i j left right))
 
 -- of one world
 agree_of : (w : Setting) (es : List Event) → IsSoundOver w → OneLog w.service → audit_of w es ≡ Holds → Agree w es
@@ -23,15 +35,15 @@ agree_of w es sound one holds =
     let audit = audit_parts (has_too_many w) (first_broken w es) holds in
     let x = words_after w sound audit.0 es audit.1 in
     let run : IsRunOf (session_of w) x.steps = record { enough = enough_of w sound audit.0; serves = sound.world.serves; fed = x.fed } in
+    let values = law_of w es sound holds in
+    let ids = ids_one w es one x run in
     record {
-      values = law_of w es sound holds;
-      logs = λ i j left right.
-          subst (λ (ws : List Word). IsPart (w.service.done (seat_of (rules_at w i)) ws) (log_of w es j) ⊎ IsPart (log_of w es j) (w.service.done (seat_of (rules_at w i)) ws))
-          (x.same i left)
-          (subst (λ (ws : List Word).
-          IsPart (w.service.done (seat_of (rules_at w i)) (calls_of i x.steps)) (w.service.done (seat_of (rules_at w j)) ws)
-          ⊎ IsPart (w.service.done (seat_of (rules_at w j)) ws) (w.service.done (seat_of (rules_at w i)) (calls_of i x.steps)))
-          (x.same j right) (one.logs w.numbers w.mode w.is_correct w.coin x.steps run i j left right));
+      logs = λ i j left right. rows_one w es sound holds values i j left right (ids i j left right);
+      once = λ i. rows_once (entries_of (command_of w es i) (log_of w es i));
+      submitted = λ i r correct good here. row_submitted w es sound holds values i r correct good here;
+      identifiers = ids;
+      distinct = ids_distinct w es sound holds values;
+      values = values;
       outcomes = λ i j d e left right out_i out_j.
           one.outcomes w.numbers w.mode w.is_correct w.coin x.steps run i j d e left right
           (ap (w.service.outcome (seat_of (rules_at w i))) (x.same i left) ∙ out_i) (ap (w.service.outcome (seat_of (rules_at w j))) (x.same j right) ∙ out_j);

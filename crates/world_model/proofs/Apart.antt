@@ -2,8 +2,9 @@
 use Rattle.std.proofs.Common.{◌≡◌, List, [], ◌∷◌, ◌++◌, length, sym, inl, inr, arith}
 use Rattle.std.proofs.lemmas.List.{length-append}
 use Rattle.layer_api.specs.Service.{IsPart}
-use Rattle.world_model.specs.Agree.{log_of}
-use Rattle.world_model.specs.Apart.{NoTwoValues, NoTwoLogs, NoTwoOutcomes, NoTwoDecisions}
+use Rattle.world_model.specs.Agree.{rows_at, log_of}
+use Rattle.world_model.specs.Apart.{NoTwoValues, NoTwoRows, NoTwoIdentifierLogs, NoTwoOutcomes, NoTwoDecisions}
+use Rattle.world_model.proofs.Positions.{one_row}
 
 -- a part that is as long is the whole
 none_more : {X : Type 0} (more xs ys : List X) → more ++ xs ≡ ys → length xs ≡ length ys → xs ≡ ys
@@ -18,8 +19,12 @@ whole_part xs ys part long = none_more part.0 xs ys part.1 long
 pub no_two_values : NoTwoValues
 no_two_values w es agree i j two s v u differ out_i out_j = differ (agree.values.agree s i j v u two.first two.second out_i out_j)
 
-pub no_two_logs : NoTwoLogs
-no_two_logs w es agree i j two long = elim (agree.logs i j two.first two.second) [
+pub no_two_rows : NoTwoRows
+no_two_rows w es agree i j two position r q here there =
+    one_row (rows_at w es i) (rows_at w es j) (agree.logs i j two.first two.second) position r q here there
+
+pub no_two_identifier_logs : NoTwoIdentifierLogs
+no_two_identifier_logs w es agree i j two long = elim (agree.identifiers i j two.first two.second) [
   | inl part ↦ whole_part (log_of w es i) (log_of w es j) part long
   | inr part ↦ sym (whole_part (log_of w es j) (log_of w es i) part (sym long))
 ]

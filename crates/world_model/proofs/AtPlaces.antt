@@ -176,12 +176,14 @@ ran_out m w states at call old new before after is did = elim did.state [
   | inl held ↦ inl (record { correct = is.correct; stands = held.1; live = is.live })
   | inr step ↦ inr (inr (record {
     correct = is.correct;
-    live = is.live;
-    call = call;
-    called = correct_call w at call is.correct;
-    what = did.what;
-    given = did.given;
-    step = step.0;
+    taking = record {
+      live = is.live;
+      call = call;
+      called = correct_call w at call is.correct;
+      what = did.what;
+      given = did.given;
+      step = step.0;
+    };
     stands = step.1;
   }))
 ]

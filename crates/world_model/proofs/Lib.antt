@@ -18,8 +18,11 @@ pub mod Law
 pub mod Prefixes
 pub mod Said
 pub mod Words
+pub mod Logged
 pub mod Agreed
+pub mod Positions
 pub mod Apart
+pub mod Stopped
 pub mod EveryWorld
 pub mod Tables
 pub mod TakenBack

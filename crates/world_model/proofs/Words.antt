@@ -16,6 +16,7 @@ use Rattle.ritas_core.specs.Parts.{Entry, Took, Given, Parts, parts, heard_at, t
 use Rattle.ritas_core.specs.Checks.{IsHistory}
 use Rattle.ritas_core.specs.Machine.{CoreState}
 use Rattle.ritas_core.specs.PartsLaws.{newly_before, newly_after}
+use Rattle.ritas_core.specs.Heard.{heard_delivered}
 use Rattle.world_model.specs.declared.audit.Audit.TheVariants as audits
 use Rattle.world_model.specs.World.{Setting, rules_at, CallAt, call_of, handled_at, after_call, states_of, states_before}
 use Rattle.world_model.specs.Audit.{calls_at, has_too_many, first_broken, is_forged, is_colliding}
@@ -23,7 +24,7 @@ use Rattle.world_model.proofs.Histories.{grew}
 use Rattle.world_model.proofs.Inputs.{take_started}
 use Rattle.world_model.proofs.Worlds.{layer_laws, IsAtCorrect, event_at, judged_holds, world_after}
 use Rattle.world_model.proofs.Law.{AgreeAt, agree_at}
-use Rattle.world_model.proofs.Said.{heard_delivered, delivers_now, GrowsTo, delivers_after, started_said}
+use Rattle.world_model.proofs.Said.{delivers_now, GrowsTo, delivers_after, started_said}
 use Rattle.world_model.proofs.Below.{IsSoundOver}
 
 -- ---- the run of the service
@@ -145,7 +146,7 @@ heard_more w sound before now all i correct item more (Some v) delivers proper x
       record {
         same = λ j u right heard.
             heard_same w sound before now all i correct (Took item) more s v none out j u right
-            (sym (heard_delivered (rules_at w j) (layer_laws w sound j right) (before j).history s) ∙ ap (λ (ws : List Word). value_at ws s) (sym (x.same j right)) ∙ heard)
+            (sym (heard_delivered (rules_at w j) (layer_laws w sound j right).layers (before j).history s) ∙ ap (λ (ws : List Word). value_at ws s) (sym (x.same j right)) ∙ heard)
             (eqb i j) refl;
         said = λ right.
             subst (λ (ws : List Word). HasSay (said w.service (seat_of (rules_at w s.origin)) ws) (record { slot = s; value = v })) (sym (x.same s.origin right))

@@ -3,9 +3,10 @@ use Rattle.std.specs.Prelude.{◌≡◌, ◌≢◌, ℕ, true, List, length, Som
 use Rattle.ritas_base.specs.declared.event.Event.{Event}
 use Rattle.ritas_base.specs.declared.slot.Slot.{Slot}
 use Rattle.layer_api.specs.Service.{Instance, Decision, Decided}
+use Rattle.command_log.specs.Rows.{Row, row_at}
 use Rattle.world_model.specs.World.{Setting}
 use Rattle.world_model.specs.Agreement.{delivered}
-use Rattle.world_model.specs.Agree.{log_of, outcome_of, decision_of, Agree}
+use Rattle.world_model.specs.Agree.{rows_at, log_of, outcome_of, decision_of, Agree}
 
 -- two different replicas, both correct
 pub record AreTwo (w : Setting) (i j : ℕ) : Type 0 where
@@ -18,9 +19,14 @@ abbrev pub NoTwoValues : Type 0
 NoTwoValues = (w : Setting) (es : List Event) → Agree w es → (i j : ℕ) → AreTwo w i j → (s : Slot) (v u : List ℕ) → v ≢ u
     → delivered w es i s ≡ Some v → delivered w es j s ≡ Some u → ⊥
 
+-- their logs of commands have no two rows at a position
+abbrev pub NoTwoRows : Type 0
+NoTwoRows = (w : Setting) (es : List Event) → Agree w es → (i j : ℕ) → AreTwo w i j → (position : ℕ) (r q : Row)
+    → row_at (rows_at w es i) position ≡ Some r → row_at (rows_at w es j) position ≡ Some q → r ≡ q
+
 -- their identifier logs are equal where they are equally long
-abbrev pub NoTwoLogs : Type 0
-NoTwoLogs = (w : Setting) (es : List Event) → Agree w es → (i j : ℕ) → AreTwo w i j
+abbrev pub NoTwoIdentifierLogs : Type 0
+NoTwoIdentifierLogs = (w : Setting) (es : List Event) → Agree w es → (i j : ℕ) → AreTwo w i j
     → length (log_of w es i) ≡ length (log_of w es j) → log_of w es i ≡ log_of w es j
 
 -- of their one instance no two things become, once it is decided

@@ -26,10 +26,13 @@ at_cmp = then_cmp (on (λ x. x.slot) slot_cmp) (on (λ x. x.replica) nat_cmp)
 abbrev pub met_at : BTreeMap SlotAt MetEntries → Slot → ℕ → Option MetEntries
 met_at table s i = get at_cmp table (record { slot = s; replica = i })
 
--- what the table has of each correct replica is what its keys give
+-- what replica i met at a slot, if it is correct and did, is what its keys give
+abbrev pub IsMetAt : Setting → ℕ → Slot → Option MetEntries → Type 0
+IsMetAt w i s found = (met : MetEntries) → w.is_correct i ≡ true → found ≡ Some met → met ≡ met_with (w.keys i) s met.digest
+
+-- so it is of all that the table has
 abbrev pub AreMet : Setting → BTreeMap SlotAt MetEntries → Type 0
-AreMet w table = (i : ℕ) (s : Slot) (met : MetEntries) → w.is_correct i ≡ true → met_at table s i ≡ Some met
-    → met ≡ met_with (w.keys i) s met.digest
+AreMet w table = (i : ℕ) (s : Slot) → IsMetAt w i s (met_at table s i)
 
 -- the two are one slot at one replica
 abbrev pub is_same_at : Slot → ℕ → Slot → ℕ → Bool

@@ -7,6 +7,7 @@ pub mod Agreement
 pub mod CoreLaws
 pub mod Agree
 pub mod Apart
+pub mod Stopped
 pub mod EveryWorld
 pub mod Stands
 pub mod Steps

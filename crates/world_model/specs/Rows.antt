@@ -1,14 +1,17 @@
--- Worked rows: what an event is to a replica, which fault an audit names, what two things hashed are alike in, and counts.
-use Rattle.std.specs.Prelude.{◌≡◌, ℕ, true, false, nat_lt, ◌==◌, ◌&&◌, List, [], ◌∷◌, Some, None, refl}
-use Rattle.std.proofs.Common.{lit≤}
+-- Worked rows: what an event is to a replica, which fault an audit names, what two things hashed are alike in, which logs of
+-- commands agree, and counts.
+use Rattle.std.specs.Prelude.{◌≡◌, ℕ, true, false, nat_lt, ◌==◌, ◌&&◌, List, [], ◌∷◌, Option, Some, None, refl}
+use Rattle.std.proofs.Common.{lit≤, ap, inl, arith}
 use Rattle.ritas_base.specs.Slots.{command_slot}
 use Rattle.ritas_base.specs.declared.event.Event.{Event}
 use Rattle.ritas_base.specs.declared.event.Event.TheVariants as events
+use Rattle.ritas_base.specs.declared.id.Id.{Id}
 use Rattle.ritas_base.specs.declared.item.Item.{Item}
 use Rattle.ritas_base.specs.declared.item.Kind.TheVariants.{Init}
 use Rattle.ritas_base.specs.declared.mode.Vect.TheVariants.{Reliable}
 use Rattle.layer_api.specs.Entries.{EntryInput, OfMessage, OfEntry}
-use Rattle.layer_api.specs.Service.{ServiceRules, Undecided}
+use Rattle.layer_api.specs.Service.{ServiceRules, Undecided, IsPart}
+use Rattle.command_log.specs.Rows.{Row, command_rows}
 use Rattle.keyed_channel.specs.Frames.{sealed}
 use Rattle.keyed_channel.specs.declared.frame.OpenFault.TheVariants.{Short}
 use Rattle.reliable_bcast.specs.Bracha.{bracha}
@@ -24,6 +27,7 @@ use Rattle.world_model.specs.declared.seen.Seen.TheVariants as seen_as
 use Rattle.world_model.specs.World.{Setting, call_of, states_of, seen_of}
 use Rattle.world_model.specs.Audit.{newest_item, clashes, broken_by, judged, has_too_many, audit_of}
 use Rattle.world_model.specs.Agreement.{input_at}
+use Rattle.world_model.specs.Agree.{OneIsPart}
 use Rattle.world_model.specs.Counts.{no_counts, counted}
 use Rattle.world_model.specs.FramesMade.{MadeTable, made_in, made_at, with_frames}
 
@@ -162,6 +166,36 @@ second_input = refl
 
 no_third : input_at (Given (6 ∷ []) ∷ Took init ∷ Given (5 ∷ []) ∷ []) 2 ≡ None
 no_third = refl
+
+-- ---- logs of commands
+
+-- request 1 of client 7, with the payload 9
+abbrev command : List ℕ
+command = 0 ∷ 0 ∷ 0 ∷ 7 ∷ 0 ∷ 0 ∷ 0 ∷ 1 ∷ 9 ∷ []
+
+abbrev row_from : ℕ → Row
+row_from origin = record { id = record { origin = origin; num = 0 }; client = 7; request = 1; payload = 9 ∷ [] }
+
+-- with the identifiers 3.0 and 2.0, oldest first, a log has one row, that of replica 3
+abbrev by_both : Id → Option (List ℕ)
+by_both x = Some command
+
+one_row : command_rows by_both (record { origin = 2; num = 0 } ∷ record { origin = 3; num = 0 } ∷ []) ≡ row_from 3 ∷ []
+one_row = refl
+
+-- one log is a prefix of another that has a row more
+prefix : OneIsPart (row_from 3 ∷ []) (record (row_from 2) { request = 2 } ∷ row_from 3 ∷ [])
+prefix = inl (record (row_from 2) { request = 2 } ∷ [], refl)
+
+-- where one log has the command of replica 2 and another that of replica 3 at a position, neither is a prefix
+abbrev newest_origin : List Row → ℕ
+newest_origin [] = 0
+newest_origin (r ∷ rs) = r.id.origin
+
+not_prefix : IsPart (row_from 2 ∷ []) (row_from 3 ∷ []) → ⊥
+not_prefix ([], e) = let wrong : 2 ≡ 3 = ap newest_origin e in omega (arith, wrong)
+not_prefix (r ∷ [], e) = cc
+not_prefix (r ∷ q ∷ more, e) = cc
 
 -- ---- counts
 

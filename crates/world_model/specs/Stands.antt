@@ -100,17 +100,21 @@ pub record WorldStands {S E C : Type 0} (m : Meaning S E C KeyRow) (world : Worl
 
 -- ---- what a stopped world stands for
 
--- a correct replica, which a call stopped in this state for want of memory
-pub record IsStoppedBy {S E C : Type 0} (m : Meaning S E C KeyRow) (w : Setting) (state : CoreState) (c : Option CallAt) (i : ℕ)
-    (rep : Replica S E C) : Type 0 where
-  pub correct : w.is_correct i ≡ true
+-- a call on replica i that takes an entry in this state
+pub record IsTaking (w : Setting) (state : CoreState) (c : Option CallAt) (i : ℕ) : Type 0 where
   pub live : state.live ≡ true
   pub call : Call
   pub called : c ≡ Some (record { at = i; call = call })
   pub what : What
   pub given : core_call (rules_at w i) (w.keys i) call ≡ Some what
   pub step : IsStep (rules_at w i) state what
-  pub stands : ReplicaStands m rep (rules_at w i) (w.keys i) (stopped state what)
+
+-- a correct replica, which such a call stopped for want of memory
+pub record IsStoppedBy {S E C : Type 0} (m : Meaning S E C KeyRow) (w : Setting) (state : CoreState) (c : Option CallAt) (i : ℕ)
+    (rep : Replica S E C) : Type 0 where
+  pub correct : w.is_correct i ≡ true
+  pub taking : IsTaking w state c i
+  pub stands : ReplicaStands m rep (rules_at w i) (w.keys i) (stopped state taking.what)
 
 -- a correct replica as it was before a call that was without memory, or as it was to be after it, or stopped by it
 abbrev pub IsLeft : {S E C : Type 0} → Meaning S E C KeyRow → Setting → (ℕ → CoreState) → (ℕ → CoreState) → Option CallAt → ℕ → Replica S E C → Type 0

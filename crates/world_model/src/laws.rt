@@ -5,7 +5,8 @@ ghost use Rattle.world_model.specs.Audit.{audit_of};
 ghost use Rattle.world_model.specs.Agreement.{WorldLaw};
 ghost use Rattle.world_model.specs.CoreLaws.{CoreLaws};
 ghost use Rattle.world_model.specs.Agree.{AgreeLaw};
-ghost use Rattle.world_model.specs.Apart.{NoTwoValues, NoTwoLogs, NoTwoOutcomes, NoTwoDecisions};
+ghost use Rattle.world_model.specs.Apart.{NoTwoValues, NoTwoRows, NoTwoIdentifierLogs, NoTwoOutcomes, NoTwoDecisions};
+ghost use Rattle.world_model.specs.Stopped.{LostIsTaken, EqualRows, OnePrefix};
 ghost use Rattle.world_model.specs.EveryWorld.{AgreementLaw};
 
 use crate::audit::Audit;
@@ -45,12 +46,28 @@ pub fn prefix_holds()
     ensures { (w : Setting) (later es : List Event) → audit_of w (later ++ es) ≡ Audit.Holds → audit_of w es ≡ Audit.Holds }
 {}
 
-/// In every world whose audit holds, of the identifier logs of two correct replicas one is a prefix of the other; what
-/// became of their instances is equal where both are decided, and so is what they decided in each instance inside; and a
-/// bit that is decided was an input of some correct replica. What they deliver is as `one_value_each` says.
+/// In every world whose audit holds, correct replicas' logs of commands are prefixes of one list, with each command once; a
+/// correct replica's command stands there only if it was submitted there; and no two correct replicas decide differently in
+/// any instance.
+///
+/// - *Every world*: whatever its keys, its coins and its schedule. A frame that is never handed over is lost. Frames come
+///   in any order and as often as the schedule says. Faulty replicas are whatever bytes it hands in under their numbers.
+///   Correct ones may be stopped between events.
+/// - *Its audit holds*: at least n - f replicas are correct, no event forges, and no two things that were hashed collide,
+///   as `one_value_each` says.
+/// - *Prefixes of one list*: of the logs of any two correct replicas one is a prefix of the other, so all are prefixes of
+///   the longest. It is so of the identifier logs too, where each identifier stands once.
+/// - *Each command once*: a log has one row for each client and request.
+/// - *Submitted there*: a row whose identifier's origin is correct has the client, the request and the payload of that
+///   replica's input of the identifier's number, from 0. A row of a faulty origin may hold a command that no client sent.
+/// - *Any instance*: at each slot of a broadcast they deliver one value, as `one_value_each` says; what became of their one
+///   instance is equal where both are decided; and so is what they decided in each instance inside, of one bit, of one value
+///   or of a vector, where no value and no vector are decisions too. Besides, a bit that is decided was an input of some
+///   correct replica, and so was a value that multi-valued consensus decided.
 ///
 /// It does nothing: its contract is the law. It rests on what `one_value_each` does, and on the service's own law over
-/// its runs, `OneLog`.
+/// its runs, `OneLog`. The protocols are those of Moniz, Neves, Correia and Veríssimo, RITAS (2011), and, for the log,
+/// of Correia, Neves and Veríssimo, From Consensus to Atomic Broadcast (2006).
 pub fn agreement_each()
     ensures { AgreeLaw }
 {
@@ -58,19 +75,37 @@ pub fn agreement_each()
 }
 
 /// Two different correct replicas of a world whose replicas agree are never set apart: they deliver no two values at a slot,
-/// their identifier logs are equal where they are equally long, and no two things become of their one instance, nor of an
-/// instance inside.
+/// their logs of commands have no two rows at a position, their identifier logs are equal where they are equally long, and
+/// no two things become of their one instance, nor of an instance inside.
 ///
 /// It does nothing: its contract is the law.
 pub fn never_apart()
     ensures values { NoTwoValues }
-    ensures logs { NoTwoLogs }
+    ensures rows { NoTwoRows }
+    ensures identifiers { NoTwoIdentifierLogs }
     ensures outcomes { NoTwoOutcomes }
     ensures decisions { NoTwoDecisions }
 {}
 
+/// What the logs of commands have in common where an event stopped the world for want of memory. Let h be the history of a
+/// replica before the event. Where the event was a call that stopped the replica, and none is stopped between events, h with
+/// the entry that it lost is the history that it was to have after the event. `Replica::log` says of the rows that it shows
+/// that they have the log of h as a prefix, and are a prefix of the log of that history. So, where the correct replicas
+/// agreed before the event, its rows are those of every other one at each position that the log of h and the other's log
+/// have; and where they agree with the event too, of the rows that two of them show the one are a prefix of the others.
+///
+/// It does nothing: its contract is the law. `World::replica` says how the event left each replica.
+pub fn stopped_between()
+    ensures took { LostIsTaken }
+    ensures same { EqualRows }
+    ensures one { OnePrefix }
+{}
+
 /// What `agreement_each` says, of every world with this service and this broadcast beside the reliable one, whatever keys
-/// and coins its replicas have: its layers, channel and codec keep to what `agreement_each` rests on.
+/// and coins its replicas have, for every n of at least 3f + 1, where the audit holds: correct replicas' logs of commands
+/// are prefixes of one list, with each command once; a correct replica's command stands there only if it was submitted
+/// there; and no two correct replicas decide differently in any instance. The layers, channel and codec of such a world
+/// keep to what `agreement_each` rests on.
 ///
 /// It does nothing: its contract is the law.
 pub fn agreement<S: Service, E: Broadcast>()

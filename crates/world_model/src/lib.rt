@@ -49,7 +49,9 @@ mod world;
 
 pub use audit::Audit;
 pub use counts::Counts;
-pub use laws::{agreement, agreement_each, never_apart, one_value_each, prefix_holds};
+pub use laws::{
+    agreement, agreement_each, never_apart, one_value_each, prefix_holds, stopped_between,
+};
 pub use order::Made;
 pub use seen::Seen;
 pub use world::World;

@@ -2,12 +2,13 @@
 
 ghost use Rattle.std.specs.Prelude.{◌≡◌, ◌<◌, IfOk, IfSome};
 ghost use Rattle.std.specs.List.{list_any};
+ghost use Rattle.std.specs.Option.{option_copied};
 ghost use Rattle.std.specs.Str.{bytes_eq};
 ghost use Rattle.ritas_base.specs.declared.slot.Slot.{Slot};
 ghost use Rattle.world_model.specs.World.{Setting};
 ghost use Rattle.world_model.specs.Stands.{SeatsStand};
 ghost use Rattle.world_model.specs.Met.{pair_of, met_with, turned};
-ghost use Rattle.world_model.specs.Hashed.{AreMet};
+ghost use Rattle.world_model.specs.Hashed.{AreMet, IsMetAt};
 
 use crate::seats::Seats;
 use keyed_channel::Channel;
@@ -135,22 +136,21 @@ fn shared_pair(met: &Met, others: &Channel, keys: &Channel, digest: &[u8; 32]) -
     }
 }
 
-// The same, where what the other met at the slot says it.
+// The same, where what the other met at the slot, if it did, says it.
 fn known_pair(
     seats: &Seats,
-    sent: &MetSends,
+    met: Option<&Met>,
     keys: &Channel,
-    slot: Slot,
     digest: &[u8; 32],
     other: u8,
 ) -> Option<EntryPair>
-    ensures { IfSome result (λ pair. (w : Setting) → SeatsStand w seats.now → AreMet w sent.now.table → other < w.numbers.n
-        → pair ≡ pair_of keys.now slot digest.now other) }
+    ensures { IfSome result (λ pair. (w : Setting) (s : Slot) → SeatsStand w seats.now → IsMetAt w other s (option_copied met.entry)
+        → other < w.numbers.n → pair ≡ pair_of keys.now s digest.now other) }
 {
     if !seats.correct.has(other) {
         return None;
     }
-    match (seats.keys.get(usize::from(other)), sent.at(slot, other)) {
+    match (seats.keys.get(usize::from(other)), met) {
         (Some(others), Some(met)) => shared_pair(met, others, keys, digest),
         _ => None,
     }
@@ -169,7 +169,7 @@ fn pair_with(
     ensures { (w : Setting) → SeatsStand w seats.now → AreMet w sent.now.table → other < w.numbers.n
         → result ≡ pair_of keys.now slot digest.now other }
 {
-    match known_pair(seats, sent, keys, slot, digest, other) {
+    match known_pair(seats, sent.at(slot, other), keys, digest, other) {
         Some(pair) => pair,
         None => tagged_pair(keys, &slot, digest, other),
     }

@@ -131,7 +131,10 @@ impl<S: Service, E: Broadcast, C: Coin + Drop> World<S, E, C> {
     }
 
     /// Whether the world's premises held: at least n - f replicas are correct, and no event forged or collided. If not, the
-    /// first event that breaks one; one that does both forged. Where they held, the correct replicas agree.
+    /// first event that breaks one; one that does both forged. Where they held, the correct replicas agree: their logs of
+    /// commands are prefixes of one list, with each command once; a correct replica's command stands there only if it was
+    /// submitted there; and no two of them decide differently in any instance, as `agreement_each` says. A stopped world's
+    /// is the audit of the events before the one that stopped it; `stopped_between` says what its replicas' rows are.
     pub fn audit(&self) -> Audit
         ensures is { (w : Setting) (es : List Event)
             → WorldStands (meaning S.stands S.rules S.shown E.stands E.rules E.shown C.bits (λ k. k.me) tags_of) self.now w es
@@ -153,7 +156,8 @@ impl<S: Service, E: Broadcast, C: Coin + Drop> World<S, E, C> {
         self.watch.verdict()
     }
 
-    /// The replica of this number, where it is correct.
+    /// The replica of this number, where it is correct. In a stopped world that to which the last event came is as it was
+    /// before that, or as it was to be after it, or stopped by it: `stopped_between` says what its log has.
     pub fn replica(&self, i: u8) -> Option<&Replica<S, E, C>>
         ensures is { (w : Setting) (es : List Event)
             → WorldStands (meaning S.stands S.rules S.shown E.stands E.rules E.shown C.bits (λ k. k.me) tags_of) self.now w es
