@@ -9,7 +9,7 @@ use Rattle.schedule_file.specs.declared.fault.FileFault.TheVariants as faults
 use Rattle.schedule_file.specs.declared.header.HeaderKeys.TheVariants.{Master}
 use Rattle.schedule_file.specs.Reading.{◌>>=◌, Spot, test, IsBytes}
 use Rattle.schedule_file.specs.FileBytes.{limit, byte_from, byte_at, bytes_at, u16_at, u32_at, u64_at, text_at}
-use Rattle.schedule_file.specs.ReadHeader.{is_built, start_at, numbers_at, root_at, vect_of, vect_at, mask_at, keys_at, header_at}
+use Rattle.schedule_file.specs.ReadHeader.{is_root, start_at, numbers_at, root_at, vect_of, vect_at, mask_at, keys_at, header_at}
 use Rattle.schedule_file.specs.ReadEvents.{replica_at, pair_at, frame_at, input_at, turn_at, pass_at, sealed_at, kind_at}
 use Rattle.schedule_file.proofs.Spells.{back_fits, Took, Spells}
 use Rattle.schedule_file.proofs.FileSpells.{byte_spells, bytes_spells, u16_spells, u32_spells, text_spells}
@@ -135,7 +135,7 @@ numbers_names = then_names _ byte_spells byte_names (λ n. guard_names (nat_le 1
 
 root_names : Names IsOfHeader root_at
 unfolding root_at
-root_names = then_names _ byte_spells byte_names (λ root. guard_names (is_built root) (faults.Header 15) (λ s. Ok (root, s)) (λ s. tt) (done_names root))
+root_names = then_names _ byte_spells byte_names (λ root. guard_names (is_root root) (faults.Header 15) (λ s. Ok (root, s)) (λ s. tt) (done_names root))
 
 vect_names : Names IsOfHeader vect_at
 unfolding vect_at

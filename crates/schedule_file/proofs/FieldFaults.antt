@@ -13,7 +13,7 @@ use Rattle.ritas_base.specs.Numbers.{Numbers}
 use Rattle.ritas_base.specs.declared.mode.Vect.{Vect}
 use Rattle.schedule_file.specs.Reading.{◌>>=◌, Spot, test}
 use Rattle.schedule_file.specs.FileBytes.{limit, byte_at, bytes_at, u32_at, u64_at}
-use Rattle.schedule_file.specs.ReadHeader.{is_built, start_at, numbers_at, root_at, vect_of, vect_at, mask_at, keys_at}
+use Rattle.schedule_file.specs.ReadHeader.{is_root, start_at, numbers_at, root_at, vect_of, vect_at, mask_at, keys_at}
 use Rattle.schedule_file.specs.Faults.{Field, number_in, magic, version, count, most_faulty, root_service, vect, correct, key_form, IsFirstWrong}
 use Rattle.schedule_file.proofs.FileSpells.{bytes_spells}
 use Rattle.schedule_file.proofs.Chunks.{cut_short}
@@ -237,9 +237,9 @@ pub root_agrees : {X : Type 0} (bytes : List ℕ) (fields : List Field) (g : ℕ
 unfolding root_at
 root_agrees bytes fields g le15 all more =
     let root = byte bytes 15 in
-    one_by_one (byte_at (spot_in bytes 15)) _ g (field bytes root_service fields 15 1 byte_at root _ (is_built root) (byte_takes bytes 15 (omega arith)) refl refl refl refl all le15
-    (λ e. stops (is_built root) (faults.Header 15) _ g e)
-    (λ e le16. passes (is_built root) (faults.Header 15) _ g (more le16) e))
+    one_by_one (byte_at (spot_in bytes 15)) _ g (field bytes root_service fields 15 1 byte_at root _ (is_root root) (byte_takes bytes 15 (omega arith)) refl refl refl refl all le15
+    (λ e. stops (is_root root) (faults.Header 15) _ g e)
+    (λ e le16. passes (is_root root) (faults.Header 15) _ g (more le16) e))
 
 pub vect_agrees : {X : Type 0} (bytes : List ℕ) (fields : List Field) (g : Vect × Spot → Result X FileFault) → 16 ≤ length bytes → all_reach 17 fields ≡ true
     → (17 ≤ length bytes → Agrees bytes fields (g (vect_of (byte bytes 16), spot_in bytes 17))) → Agrees bytes (vect ∷ fields) (vect_at (spot_in bytes 16) >>= g)

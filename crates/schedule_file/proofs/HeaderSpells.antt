@@ -13,7 +13,7 @@ use Rattle.schedule_file.specs.declared.fault.FileFault.TheVariants as faults
 use Rattle.schedule_file.specs.declared.header.HeaderKeys.{HeaderKeys}
 use Rattle.schedule_file.specs.declared.header.HeaderKeys.TheVariants.{Master}
 use Rattle.schedule_file.specs.FileBytes.{limit, byte_at, bytes_at, u32_at, u64_at}
-use Rattle.schedule_file.specs.ReadHeader.{Heading, is_built, start_at, numbers_at, root_at, vect_of, vect_at, mask_at, keys_at, header_at}
+use Rattle.schedule_file.specs.ReadHeader.{Heading, is_root, start_at, numbers_at, root_at, vect_of, vect_at, mask_at, keys_at, header_at}
 use Rattle.schedule_file.specs.Spelling.{vect_byte, keys_text, start_text, header_text, AreKeys, IsHeading}
 use Rattle.schedule_file.proofs.Spells.{Spells, Both, Nothing, as_spells, then_spells, guard_spells, done_spells}
 use Rattle.schedule_file.proofs.FileSpells.{IsByte, byte_spells, bytes_spells, u32_spells, u64_spells}
@@ -58,12 +58,12 @@ numbers_spells = as_spells IsNumbers
     record { value = p.n; front = p.n ∷ []; back = p.f ∷ []; first = refl; second = (both_hold _ _ (le-leb _ _ is.some) (le-leb _ _ is.most), record { value = p.f; front = p.f ∷ []; back = []; first = refl; second = (lt-ltb _ _ few, (refl, refl)); parts = refl }); parts = r.text_is })
 
 abbrev pub IsRoot : ℕ → List ℕ → Type 0
-IsRoot root text = (text ≡ root ∷ []) × (is_built root ≡ true)
+IsRoot root text = (text ≡ root ∷ []) × (is_root root ≡ true)
 
 pub root_spells : Spells limit root_at IsRoot
 unfolding root_at
 root_spells = as_spells IsRoot
-    (then_spells byte_at _ byte_spells (λ root. guard_spells (is_built root) (faults.Header 15) (λ s. Ok (root, s)) (done_spells root)))
+    (then_spells byte_at _ byte_spells (λ root. guard_spells (is_root root) (faults.Header 15) (λ s. Ok (root, s)) (done_spells root)))
     (λ root text fits r.
     let made : IsRoot r.value text = (rw (r.parts, r.first, r.second.1.1) refl, r.second.0) in
     subst (λ (y : ℕ). IsRoot y text) r.second.1.0 made)

@@ -3,7 +3,7 @@ use Rattle.std.specs.Prelude.{◌≡◌, ℕ, ◌+◌, ◌*◌, ◌^◌, ◌<◌
 use Rattle.std.specs.Int.{w32, from_be_bytes}
 use Rattle.ritas_base.specs.declared.event.Event.{Event}
 use Rattle.schedule_file.specs.FileBytes.{limit}
-use Rattle.schedule_file.specs.ReadHeader.{Heading, is_built}
+use Rattle.schedule_file.specs.ReadHeader.{Heading, is_root}
 use Rattle.schedule_file.specs.Spelling.{IsFile, IsFront}
 
 -- ---- the header
@@ -35,7 +35,7 @@ abbrev pub most_faulty : Field
 most_faulty = record { offset = 14; width = 1; is_right = λ bytes. nat_lt (3 * slice_index bytes 14) (slice_index bytes 13) }
 
 abbrev pub root_service : Field
-root_service = record { offset = 15; width = 1; is_right = λ bytes. is_built (slice_index bytes 15) }
+root_service = record { offset = 15; width = 1; is_right = λ bytes. is_root (slice_index bytes 15) }
 
 -- the broadcast of VECT
 abbrev pub vect : Field

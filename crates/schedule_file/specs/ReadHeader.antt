@@ -1,6 +1,7 @@
 -- Reading the header of a schedule.
 use Rattle.std.specs.Prelude.{ℕ, ◌*◌, ◌^◌, Bool, ◌&&◌, ◌||◌, Result, Ok, nat_lt, nat_le, ◌==◌, if◌then◌else◌}
 use Rattle.ritas_base.specs.Numbers.{Numbers}
+use Rattle.ritas_base.specs.Slots.{within}
 use Rattle.ritas_base.specs.declared.mode.Vect.{Vect}
 use Rattle.ritas_base.specs.declared.mode.Vect.TheVariants.{Echo, Reliable}
 use Rattle.schedule_file.specs.declared.fault.FileFault.{FileFault}
@@ -25,9 +26,9 @@ pub record Heading : Type 0 where
 abbrev pub heading : Header → Heading
 heading h = record { session = h.session; p = h.p; root = h.mode.root; vect = h.mode.vect; correct = h.correct; keys = h.keys }
 
--- the root services that are built
-abbrev pub is_built : ℕ → Bool
-is_built root = root == 1 || (root == 2 || (root == 3 || (root == 4 || root == 5)))
+-- the root services
+abbrev pub is_root : ℕ → Bool
+is_root root = within 1 6 root
 
 -- the magic word, the version, and the session
 unfoldable pub start_at : Spot → Result (ℕ × Spot) FileFault
@@ -51,7 +52,7 @@ numbers_at s = do
 unfoldable pub root_at : Spot → Result (ℕ × Spot) FileFault
 root_at s = do
   root ← byte_at s
-  _ ← test (is_built root.0) (faults.Header 15)
+  _ ← test (is_root root.0) (faults.Header 15)
   Ok root
 
 abbrev pub vect_of : ℕ → Vect

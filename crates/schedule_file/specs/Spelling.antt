@@ -11,7 +11,7 @@ use Rattle.ritas_base.specs.declared.event.Event.TheVariants.{Frame, Input, Turn
 use Rattle.schedule_file.specs.declared.header.HeaderKeys.{HeaderKeys}
 use Rattle.schedule_file.specs.declared.header.HeaderKeys.TheVariants.{Master}
 use Rattle.schedule_file.specs.FileBytes.{limit}
-use Rattle.schedule_file.specs.ReadHeader.{Heading, is_built}
+use Rattle.schedule_file.specs.ReadHeader.{Heading, is_root}
 
 -- a text behind its length
 abbrev pub sized : List ℕ → List ℕ
@@ -67,7 +67,7 @@ AreKeys (Master master) = length master ≡ 32
 pub record IsHeading (h : Heading) : Type 0 where
   pub session : h.session < 2 ^ 64
   pub numbers : IsSession h.p
-  pub root : is_built h.root ≡ true
+  pub root : is_root h.root ≡ true
   pub correct : h.correct < 2 ^ h.p.n
   pub keys : AreKeys h.keys
 

@@ -5,7 +5,7 @@ ghost use Rattle.schedule_file.specs.FileBytes.{Gives};
 ghost use Rattle.schedule_file.specs.Place.{spot};
 ghost use Rattle.schedule_file.specs.Spelling.{AreKeys, IsHeading};
 ghost use Rattle.ritas_base.specs.Numbers.{IsSession};
-ghost use Rattle.schedule_file.specs.ReadHeader.{heading, is_built, start_at, numbers_at, root_at, vect_at, mask_at, keys_at, header_at};
+ghost use Rattle.schedule_file.specs.ReadHeader.{heading, is_root, start_at, numbers_at, root_at, vect_at, mask_at, keys_at, header_at};
 
 use crate::fault::FileFault;
 use crate::header::{Header, HeaderKeys};
@@ -13,12 +13,12 @@ use crate::pieces::{Pieces, test};
 use outside::Source;
 use ritas_base::{Mode, Params, SenderSet, Vect};
 
-/// Whether this root service is built.
-fn is_built(root: u8) -> bool
-    ensures value { result ≡ is_built root }
+/// Whether this is one of the root services.
+fn is_root(root: u8) -> bool
+    ensures value { result ≡ is_root root }
     ensures root { IsTrue result → (1 ≤ root) × (root ≤ 6) }
 {
-    matches!(root, 1..=5)
+    matches!(root, 1..=6)
 }
 
 #[tactic(auto, using(outside::proofs::Rising::rose_after), unfolding(crate::specs::ReadHeader::start_at))]
@@ -53,13 +53,13 @@ fn read_numbers<S: Source>(pieces: &mut Pieces, source: &mut S) -> Result<Params
 #[tactic(auto, using(outside::proofs::Rising::rose_after), unfolding(crate::specs::ReadHeader::root_at))]
 fn read_root<S: Source>(pieces: &mut Pieces, source: &mut S) -> Result<u8, FileFault>
     ensures exact { S.tells ≡ true → Gives (λ x. x) result (spot pieces.new (S.left source.new)) (root_at (spot pieces.old (S.left source.old))) }
-    ensures built { IfOk result (λ root. is_built root ≡ true) }
+    ensures one { IfOk result (λ root. is_root root ≡ true) }
     ensures root { IfOk result (λ root. (1 ≤ root) × (root ≤ 6)) }
     ensures memory { result ≢ Err FileFault.Mem }
     ensures cause { HasCause (S.faults source.old) (S.faults source.new) (result ≡ Err Read) }
 {
     let root = pieces.byte(source)?;
-    test(is_built(root), FileFault::Header(15))?;
+    test(is_root(root), FileFault::Header(15))?;
     Ok(root)
 }
 
