@@ -98,9 +98,11 @@ fn reply<S: Source, K: Sink>(alloc: Global, input: &mut S, output: &mut K, what:
 /// where the output failed, which took a front of the text; and 8 where memory ran out: then nothing was written of a
 /// report, and a front of the frames.
 ///
-/// Where it is 0, at each slot all correct replicas that delivered a value delivered the same one, and what they delivered
-/// as that of a correct replica is what it started there, for a command its input of that number; no two correct replicas
-/// decided differently in any instance, and a bit or a value that one of them decided was the input of a correct replica.
+/// Where it is 0, correct replicas' logs of commands are prefixes of one list, with each command once: one row for each client
+/// and request. A correct replica's command stands there only if it was submitted there: the row has the client, the request
+/// and the payload of its input of that number. And no two correct replicas decided differently in any instance: at each slot
+/// all that delivered a value delivered the same one, of a correct replica what it started there, and so it is of what their
+/// one instance and each instance inside decided. A bit or a value that one of them decided was the input of a correct replica.
 /// The broadcasts and binary consensus are those of Bracha, "Asynchronous Byzantine Agreement Protocols" (1987), vector
 /// consensus is that of Correia, Neves and Veríssimo, "From Consensus to Atomic Broadcast" (2006), and these and multi-valued
 /// consensus are those of Moniz, Neves, Correia and Veríssimo, "RITAS: Services for Randomized Intrusion Tolerance" (2011).
@@ -136,7 +138,8 @@ pub fn run<S: Source, K: Sink>(
     ensures only { IsReplay (map string_bytes words.now.items) → S.tells ≡ true → IsBytes (S.left input.old) → result ≤ 1
         → (h : Header) × (es : List Event) × IsFile (S.left input.old) (heading h) es × (result ≡ status_of h es) }
 
-    // Where it is 0, the replicas agree: at each slot on one value, on the inputs of the correct ones, and on what is decided.
+    // Where it is 0, the replicas agree: on their logs of commands, at each slot on one value, on the inputs of the correct
+    // ones, and on what is decided.
     ensures agree { IsReplay (map string_bytes words.now.items) → S.tells ≡ true → IsBytes (S.left input.old) → result ≡ 0
         → (h : Header) (es : List Event) → IsFile (S.left input.old) (heading h) es → Agree (setting_of h) es }
 {

@@ -10,6 +10,7 @@ use Rattle.keyed_channel.specs.KeyRow.{KeyRow}
 use Rattle.reliable_bcast.specs.Bracha.{bracha}
 use Rattle.echo_bcast.specs.Matrix.{echo}
 use Rattle.atomic_bcast.specs.Commands.{commands}
+use Rattle.atomic_bcast.specs.Rounds.{atomic}
 use Rattle.binary_consensus.specs.Consensus.{binary}
 use Rattle.binary_consensus.specs.Root.{binary_root}
 use Rattle.multivalued.specs.Consensus.{multivalued}
@@ -68,6 +69,7 @@ service_of root =
     if root == 3 then binary_root binary
     else if root == 4 then multi_root (multivalued binary)
     else if root == 5 then vector_root (vectors (multivalued binary))
+    else if root == 6 then atomic (vectors (multivalued binary))
     else commands
 
 -- the world of a header: the service of its root service, and the broadcasts of its mode

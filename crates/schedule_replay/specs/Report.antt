@@ -1,8 +1,9 @@
 -- The report of a schedule. Lists of events have the newest first.
-use Rattle.std.specs.Prelude.{ℕ, true, false, nat_le, if◌then◌else◌, ◌%◌, ◌^◌, List, [], ◌∷◌, ◌++◌, length, filter, codes, decimal, Option, Some, None}
+use Rattle.std.specs.Prelude.{ℕ, true, false, nat_le, ◌==◌, if◌then◌else◌, ◌%◌, ◌^◌, List, [], ◌∷◌, ◌++◌, length, filter, codes, decimal, Option, Some, None}
 use Rattle.std.specs.List.{flat_map, range_with_len}
 use Rattle.hex.specs.Hex.{encode_lower}
 use Rattle.ritas_base.specs.declared.event.Event.{Event}
+use Rattle.ritas_base.specs.declared.id.Id.{Id}
 use Rattle.ritas_base.specs.declared.mode.Vect.{Vect}
 use Rattle.ritas_base.specs.declared.mode.Vect.TheVariants.{Echo, Reliable}
 use Rattle.layer_api.specs.Service.{Ending, Undecided, Over, Decided, Bit, Nothing, Value, Spent}
@@ -12,7 +13,10 @@ use Rattle.ritas_core.specs.Rules.{Rules, seat_of}
 use Rattle.ritas_core.specs.Parts.{Entry, parts}
 use Rattle.ritas_core.specs.Machine.{CoreState}
 use Rattle.ritas_core.specs.Shown.{all_bytes, delivered_at}
+use Rattle.command_log.specs.Rows.{row_at}
+use Rattle.command_log.specs.declared.row.LogRow.{LogRow}
 use Rattle.replica.specs.Stands.{frames_made}
+use Rattle.replica.specs.CommandRows.{rows_at}
 use Rattle.schedule_file.specs.declared.header.Header.{Header}
 use Rattle.world_model.specs.declared.audit.Audit.{Audit}
 use Rattle.world_model.specs.declared.audit.Audit.TheVariants as audits
@@ -90,9 +94,40 @@ ending_line (Decided Nothing) = codes "none" ++ end_of_line
 ending_line (Decided (Value v)) = codes "decision " ++ (encode_lower v ++ end_of_line)
 ending_line (Decided Spent) = codes "spent" ++ end_of_line
 
--- root services 1 and 2 show what they delivered, and those with one instance what became of it
+-- bytes in hexadecimal, and a dash where there are none
+abbrev pub hex_or_dash : List ℕ → List ℕ
+hex_or_dash [] = codes "-"
+hex_or_dash (b ∷ bytes) = encode_lower (b ∷ bytes)
+
+-- a row of the command log at its position: its identifier, its client and request, and its payload
+abbrev pub id_part : ℕ → Id → List ℕ
+id_part position id = codes "row " ++ (decimal position ++ (codes " " ++ (decimal id.origin ++ (codes "." ++ decimal id.num))))
+
+abbrev pub command_part : ℕ → ℕ → List ℕ → List ℕ
+command_part client request payload =
+    codes " " ++ (decimal client ++ (codes " " ++ (decimal request ++ (codes " " ++ (hex_or_dash payload ++ end_of_line)))))
+
+abbrev pub row_line : ℕ → Option LogRow → List ℕ
+row_line position None = []
+row_line position (Some row) = id_part position row.id ++ command_part row.client row.request row.payload
+
+-- the rows of a command log, the oldest first
+abbrev pub row_lines : List LogRow → List ℕ
+row_lines rows = flat_map (λ position. row_line position (row_at rows position)) (range_with_len 0 (length rows))
+
+-- how many rounds are complete, and the command log
+abbrev pub rounds_line : ℕ → ℕ → List ℕ
+rounds_line completed rows = codes "rounds " ++ (decimal completed ++ (codes " rows " ++ (decimal rows ++ end_of_line)))
+
+abbrev pub log_lines : Rules → List Entry → List ℕ
+log_lines r h = rounds_line (r.service.completed (seat_of r) (parts r h).words) (length (rows_at r h)) ++ row_lines (rows_at r h)
+
+-- root services 1 and 2 show what they delivered, root service 6 its command log, and those with one instance what became of it
 abbrev pub service_lines : Rules → List Entry → List ℕ
-service_lines r h = if nat_le r.mode.root 2 then out_lines r h else ending_line (r.service.outcome (seat_of r) (parts r h).words)
+service_lines r h =
+    if nat_le r.mode.root 2 then out_lines r h
+    else if r.mode.root == 6 then log_lines r h
+    else ending_line (r.service.outcome (seat_of r) (parts r h).words)
 
 -- how a replica stands that is in this state, and what its service shows
 abbrev pub lines_of : ℕ → Rules → KeyRow → CoreState → List ℕ

@@ -12,7 +12,7 @@ ghost use Rattle.schedule_replay.specs.Replay.{Ended, ShowsEvents, ShowsFile};
 use crate::end::{ReplayEnd, end_at};
 use crate::replayed::load;
 use crate::write::show;
-use atomic_bcast::CmdRoot;
+use atomic_bcast::{Abc, CmdRoot};
 use binary_consensus::{Bin, BinRoot};
 use echo_bcast::Eb;
 use layer_api::{Broadcast, Service};
@@ -103,6 +103,7 @@ fn replay_events<I: Source, K: Sink>(
         3 => replay_with::<BinRoot<Bin>, I, K>(alloc, header, reader, src, sink, what),
         4 => replay_with::<MvcRoot<Mvc<Bin>>, I, K>(alloc, header, reader, src, sink, what),
         5 => replay_with::<VcRoot<Vc<Mvc<Bin>>>, I, K>(alloc, header, reader, src, sink, what),
+        6 => replay_with::<Abc<Vc<Mvc<Bin>>>, I, K>(alloc, header, reader, src, sink, what),
         _ => replay_with::<CmdRoot, I, K>(alloc, header, reader, src, sink, what),
     }
 }
@@ -111,7 +112,8 @@ fn replay_events<I: Source, K: Sink>(
 /// is asked for of that world.
 ///
 /// At `Done` the whole text was written, and in any case a front of it. Where the audit then holds, the correct replicas
-/// agree: at each slot on one value, on the inputs of the correct ones, and on what is decided. At `File` nothing was
+/// agree: their logs of commands are prefixes of one list, with each command once; a correct replica's command stands
+/// there only if it was submitted there; and no two of them decide differently in any instance. At `File` nothing was
 /// written, nor at `Mem` where a report is asked for. `File(Read)` is answered only where the source failed, and `Write`
 /// only where the sink failed. `File(Mem)` is never answered: `Mem` is, where there was not enough memory.
 pub fn replay<S: Source, K: Sink>(alloc: Global, src: &mut S, sink: &mut K, what: What) -> ReplayEnd

@@ -2,10 +2,11 @@
 ghost use Rattle.std.specs.Prelude.{◌≡◌, ◌++◌, ◌%◌, ◌^◌, IfOk, string_bytes, codes, Some, None};
 ghost use Rattle.layer_api.specs.Service.{Decided, Value};
 ghost use Rattle.layer_api.specs.ServiceCalls.{ending_of};
-ghost use Rattle.schedule_replay.specs.Report.{head_line, answered_part, refused_part, count_line, vect_name, out_line, ending_line, audit_line, numbers_line};
+ghost use Rattle.schedule_replay.specs.Report.{head_line, answered_part, refused_part, count_line, vect_name, out_line, hex_or_dash, id_part, command_part, row_line, rounds_line, ending_line, audit_line, numbers_line};
 
+use command_log::LogRow;
 use layer_api::Outcome;
-use ritas_base::Vect;
+use ritas_base::{Id, Vect};
 use schedule_file::Header;
 use std::alloc::{AllocError, Global};
 use world_model::{Audit, Counts};
@@ -87,6 +88,54 @@ pub(crate) fn out_line(
 {
     let text = hex::encode(alloc, value)?;
     format!(in alloc; "out {origin}.{num} {text}\n")
+}
+
+// Bytes in hexadecimal, and a dash where there are none.
+fn hex_or_dash(alloc: Global, bytes: &[u8]) -> Result<String, AllocError>
+    ensures { IfOk result (λ s. string_bytes s ≡ hex_or_dash bytes.now) }
+{
+    if bytes.is_empty() {
+        return String::from_str(alloc, "-");
+    }
+    let text = hex::encode(alloc, bytes)?;
+    Ok(text)
+}
+
+fn id_part(alloc: Global, position: u32, id: Id) -> Result<String, AllocError>
+    ensures { IfOk result (λ s. string_bytes s ≡ id_part position id) }
+{
+    let origin = id.origin;
+    let num = id.num;
+    format!(in alloc; "row {position} {origin}.{num}")
+}
+
+fn command_part(
+    alloc: Global,
+    client: u32,
+    request: u32,
+    payload: &[u8],
+) -> Result<String, AllocError>
+    ensures { IfOk result (λ s. string_bytes s ≡ command_part client request payload.now) }
+{
+    let text = hex_or_dash(alloc, payload)?;
+    format!(in alloc; " {client} {request} {text}\n")
+}
+
+/// The line of a row of the command log, at its position.
+pub(crate) fn row_line(alloc: Global, position: u32, row: &LogRow) -> Result<String, AllocError>
+    ensures { IfOk result (λ s. string_bytes s ≡ row_line position (Some row.now)) }
+{
+    let mut line = id_part(alloc, position, row.id)?;
+    let rest = command_part(alloc, row.client, row.request, row.payload.as_slice())?;
+    line.push_str(rest.as_str())?;
+    Ok(line)
+}
+
+/// The line that says how many rounds are complete, and how many rows the command log has.
+pub(crate) fn rounds_line(alloc: Global, completed: u32, rows: u32) -> Result<String, AllocError>
+    ensures { IfOk result (λ s. string_bytes s ≡ rounds_line completed rows) }
+{
+    format!(in alloc; "rounds {completed} rows {rows}\n")
 }
 
 /// The line that says what became of the one instance of a root service.

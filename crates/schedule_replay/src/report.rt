@@ -1,10 +1,11 @@
 //! The text of a report.
-ghost use Rattle.std.specs.Prelude.{◌≡◌, ◌<◌, ◌++◌, List, true, Some, OnOk, IfOk, string_bytes, filter};
+ghost use Rattle.std.specs.Prelude.{◌≡◌, ◌<◌, ◌≤◌, ◌++◌, List, true, Some, OnOk, IfOk, string_bytes, filter};
 ghost use Rattle.std.specs.List.{flat_map, range_with_len};
 ghost use Rattle.ritas_base.specs.declared.event.Event.{Event};
 ghost use Rattle.keyed_channel.specs.Keyed.{tags_of};
 ghost use Rattle.keyed_channel.specs.KeyRow.{KeyRow};
 ghost use Rattle.ritas_base.specs.Slots.{command_slot};
+ghost use Rattle.command_log.specs.Rows.{row_at};
 ghost use Rattle.replica.specs.Replica.{ReplicaStands};
 ghost use Rattle.ritas_core.specs.CoreOf.{IsCoreOf};
 ghost use Rattle.ritas_core.specs.Machine.{CoreState};
@@ -17,10 +18,13 @@ ghost use Rattle.world_model.specs.Stands.{WorldStands};
 ghost use Rattle.world_model.specs.World.{Setting};
 ghost use Rattle.schedule_replay.specs.Layers.{setting_by, layers_by, AreCoresOf};
 ghost use Rattle.schedule_replay.specs.Replayed.{StandsFor};
-ghost use Rattle.schedule_replay.specs.Report.{out_line, origin_lines, outs_of, out_lines, ending_line, service_lines, lines_of, replica_lines, report_on};
+ghost use Rattle.schedule_replay.specs.Report.{out_line, origin_lines, outs_of, out_lines, ending_line, row_line, row_lines, log_lines, service_lines, lines_of, replica_lines, report_on};
 
-use crate::lines::{audit_line, count_line, ending_line, head_line, out_line, replica_line};
+use crate::lines::{
+    audit_line, count_line, ending_line, head_line, out_line, replica_line, rounds_line, row_line,
+};
 use crate::replayed::Replayed;
+use command_log::Log;
 use keyed_channel::Channel;
 use layer_api::{Broadcast, Service};
 use replica::Replica;
@@ -57,7 +61,8 @@ fn add_out(
     Ok(())
 }
 
-// Appends the line of a command, where a core has delivered it.
+// Appends the line of a command, where a core has delivered it. In root services 1 and 2 every command that was delivered is
+// shown.
 fn add_delivered<S: Service, E: Broadcast, C: Coin + Drop>(
     alloc: Global,
     text: &mut String,
@@ -66,7 +71,7 @@ fn add_delivered<S: Service, E: Broadcast, C: Coin + Drop>(
     num: u32,
 ) -> Result<(), AllocError>
     ensures { let m = meaning S.stands S.rules S.shown E.stands E.rules E.shown C.bits (λ k. k.me) tags_of in
-        (r : Rules) (st : CoreState) → CoreStands m core.now r st → st.live ≡ true
+        (r : Rules) (st : CoreState) → CoreStands m core.now r st → st.live ≡ true → r.mode.root ≤ 2
         → OnOk result (string_bytes text.new ≡ string_bytes text.old ++ out_line origin num (delivered_at r st.history (command_slot origin num))) }
 {
     match core.delivered(&command_slot(origin, num)) {
@@ -83,7 +88,7 @@ fn add_origin<S: Service, E: Broadcast, C: Coin + Drop>(
     origin: u8,
 ) -> Result<(), AllocError>
     ensures { let m = meaning S.stands S.rules S.shown E.stands E.rules E.shown C.bits (λ k. k.me) tags_of in
-        (r : Rules) (st : CoreState) → CoreStands m core.now r st → st.live ≡ true → IsCoreOf S.rules E.rules r → origin < r.casts.numbers.n
+        (r : Rules) (st : CoreState) → CoreStands m core.now r st → st.live ≡ true → IsCoreOf S.rules E.rules r → r.mode.root ≤ 2 → origin < r.casts.numbers.n
         → OnOk result (string_bytes text.new ≡ string_bytes text.old ++ origin_lines (outs_of r st.history origin) origin) }
 {
     delivered_within::<S, E>();
@@ -105,7 +110,7 @@ fn add_outs<S: Service, E: Broadcast, C: Coin + Drop>(
     core: &Core<S, E, C, Channel>,
 ) -> Result<(), AllocError>
     ensures { let m = meaning S.stands S.rules S.shown E.stands E.rules E.shown C.bits (λ k. k.me) tags_of in
-        (r : Rules) (st : CoreState) → CoreStands m core.now r st → st.live ≡ true → IsCoreOf S.rules E.rules r
+        (r : Rules) (st : CoreState) → CoreStands m core.now r st → st.live ≡ true → IsCoreOf S.rules E.rules r → r.mode.root ≤ 2
         → OnOk result (string_bytes text.new ≡ string_bytes text.old ++ out_lines r st.history) }
 {
     for origin in 0..core.params().n() {
@@ -130,20 +135,62 @@ fn add_ending<S: Service, E: Broadcast, C: Coin + Drop>(
     Ok(())
 }
 
-// Appends what a core's service shows.
+// Appends the line of a row, where the log has one at this position.
+fn add_row(alloc: Global, text: &mut String, log: &Log, position: u32) -> Result<(), AllocError>
+    ensures { OnOk result (string_bytes text.new ≡ string_bytes text.old ++ row_line position (row_at log.now position)) }
+{
+    match log.row(position) {
+        Some(row) => {
+            let line = row_line(alloc, position, row)?;
+            text.push_str(line.as_str())?;
+            Ok(())
+        }
+        None => Ok(()),
+    }
+}
+
+// Appends the lines of a command log.
+fn add_rows(alloc: Global, text: &mut String, log: &Log) -> Result<(), AllocError>
+    ensures { OnOk result (string_bytes text.new ≡ string_bytes text.old ++ row_lines log.now) }
+{
+    for position in 0..log.len() {
+        add_row(alloc, text, log, position)?;
+    }
+    Ok(())
+}
+
+// Appends how many rounds are complete, and the command log.
+fn add_log<S: Service, E: Broadcast, C: Coin + Drop>(
+    alloc: Global,
+    text: &mut String,
+    replica: &Replica<S, E, C>,
+) -> Result<(), AllocError>
+    ensures { let m = meaning S.stands S.rules S.shown E.stands E.rules E.shown C.bits (λ k. k.me) tags_of in
+        (r : Rules) (k : KeyRow) (st : CoreState) → ReplicaStands m replica.now r k st → st.live ≡ true → IsCoreOf S.rules E.rules r
+        → OnOk result (string_bytes text.new ≡ string_bytes text.old ++ log_lines r st.history) }
+{
+    let log = replica.log();
+    let completed = replica.core().service().completed();
+    let line = rounds_line(alloc, completed, log.len())?;
+    text.push_str(line.as_str())?;
+    add_rows(alloc, text, log)
+}
+
+// Appends what a replica's service shows.
 fn add_service<S: Service, E: Broadcast, C: Coin + Drop>(
     alloc: Global,
     text: &mut String,
-    core: &Core<S, E, C, Channel>,
+    replica: &Replica<S, E, C>,
 ) -> Result<(), AllocError>
     ensures { let m = meaning S.stands S.rules S.shown E.stands E.rules E.shown C.bits (λ k. k.me) tags_of in
-        (r : Rules) (st : CoreState) → CoreStands m core.now r st → st.live ≡ true → IsCoreOf S.rules E.rules r
+        (r : Rules) (k : KeyRow) (st : CoreState) → ReplicaStands m replica.now r k st → st.live ≡ true → IsCoreOf S.rules E.rules r
         → OnOk result (string_bytes text.new ≡ string_bytes text.old ++ service_lines r st.history) }
 {
-    if core.mode().root <= 2 {
-        add_outs(alloc, text, core)
-    } else {
-        add_ending(alloc, text, core)
+    let core = replica.core();
+    match core.mode().root {
+        0..=2 => add_outs(alloc, text, core),
+        6 => add_log(alloc, text, replica),
+        _ => add_ending(alloc, text, core),
     }
 }
 
@@ -161,7 +208,8 @@ fn add_replica<S: Service, E: Broadcast, C: Coin + Drop>(
     let core = replica.core();
     let line = replica_line(alloc, i, replica.sent(), core.inbox_len(), core.held())?;
     text.push_str(line.as_str())?;
-    add_service(alloc, text, core)
+    add_service(alloc, text, replica)?;
+    Ok(())
 }
 
 // Appends the lines of the correct replicas of a world, of n.

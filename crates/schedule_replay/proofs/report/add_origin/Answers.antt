@@ -9,14 +9,14 @@ use Rattle.schedule_replay.proofs.Outs.{silent}
 use Rattle.schedule_replay.proofs.report.add_origin.Goals as goal
 
 pub loop-num-preserved : goal.loop-num-preserved
-loop-num-preserved g c = λ r st stands live.
+loop-num-preserved g c = λ r st stands live low.
     written_next (string_bytes c.args.text.now) (string_bytes c.loop-num.text) (string_bytes c.add_delivered.new.text)
     (λ num. out_line c.args.origin num (outs_of r st.history c.args.origin num)) c.loop-num.num
-    (c.loop-num.invariant r st stands live) (c.in_ok-add_delivered.ensures r st stands live)
+    (c.loop-num.invariant r st stands live low) (c.in_ok-add_delivered.ensures r st stands live low)
 
 pub returns : goal.returns
 unfolding number_limit
-returns g c = λ r st stands live core within.
+returns g c = λ r st stands live core low within.
     let outs = outs_of r st.history c.args.origin in
     let line : ℕ → List ℕ = λ num. out_line c.args.origin num (outs num) in
     let words = (parts r st.history).words in
@@ -29,5 +29,5 @@ returns g c = λ r st stands live core within.
     let early : j < r.service.base (seat_of r) words c.args.origin + 64 = window (command_slot c.args.origin j) refl some in
     omega (arith, early, base, above, below, c.saturating_add.ensures, c.min-end.ensures, c.loop-num-test.false)) in
     let few : c.loop-num.num ≤ number_limit = omega (arith, c.min-end.ensures, c.loop-num.auto.num-end) in
-    c.loop-num.invariant r st stands live
+    c.loop-num.invariant r st stands live low
     ∙ ap (λ (l : List ℕ). string_bytes c.args.text.now ++ l) (sym (lines_end line c.loop-num.num number_limit 0 few quiet))
