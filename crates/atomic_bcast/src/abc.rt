@@ -1,12 +1,10 @@
 use crate::boxes::Boxes;
 use crate::ledger::Ledger;
 use crate::limits::MOST_ROUNDS;
-use crate::opening::is_round_slot;
 use crate::place::Place;
-use crate::putting::put_out;
 use crate::rounds::{begin_round, learn, note_command};
 use crate::saying::say_command;
-use layer_api::{Outcome, Service, VectorBox};
+use layer_api::{Outcome, Service, VectorBox, is_slot_in, put_out};
 use ritas_base::{Coin, Id, Mem, Params, Say, Slot};
 use std::alloc::Global;
 
@@ -53,7 +51,7 @@ impl<V: VectorBox> Abc<V> {
     {
         slot.a < MOST_ROUNDS
             && slot.a <= self.completed
-            && is_round_slot(self.place.last, slot)
+            && is_slot_in(self.place.last, slot.a, slot)
             && self.boxes.is_open(self.completed - slot.a, slot)
     }
 

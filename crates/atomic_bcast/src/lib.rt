@@ -20,10 +20,8 @@ mod cmd_root;
 mod laws;
 mod ledger;
 mod limits;
-mod opening;
 mod place;
 mod proposal;
-mod putting;
 mod rounds;
 mod saying;
 #[cfg(test)]

@@ -174,6 +174,43 @@ fn a_round_completes(rt: HostRuntime) {
     assert_eq!(rt; says.len(), 1);
 }
 
+// Replicas 0, 1 and 2 list one command each, which no other lists.
+const NONE_BACKED: &[u8] =
+    b"\0\0\0\x07\0\x05\x02\0\0\0\x01\0\x05\x03\0\0\0\x05\0\x05\x01\0\0\0\x01";
+
+// A command is pending, and no vector wants it: so round after round completes. The current round and the two before it
+// take items.
+#[test]
+fn rounds_leave_the_window(rt: HostRuntime) {
+    one_log();
+    atomic_laws();
+    let p = Params::new(4, 1).unwrap();
+    let mut abc: Abc<OnePlace> = Abc::new(rt.alloc(), &p, 2).expect(&rt, "memory");
+    let mut says: Vec<Say> = Vec::new(rt.alloc());
+    // slot and what it delivers; then the rounds that take items
+    let cases: [(Slot, &[u8], u32, u32); 4] = [
+        (slot(1, 0, 0, 1), b"client_1", 0, 0),
+        (slot(3, 0, 0, 0), NONE_BACKED, 0, 1),
+        (slot(3, 1, 0, 0), NONE_BACKED, 0, 2),
+        (slot(3, 2, 0, 0), NONE_BACKED, 1, 3),
+    ];
+    for (at, value, first, last) in cases {
+        assert!(rt;
+            abc.heard(rt.alloc(), &NoCoin, &at, value, &mut says)
+                .is_ok()
+        );
+        assert_eq!(rt; abc.completed(), last, "at {at:?}");
+        for a in 0..5 {
+            assert_eq!(rt;
+                abc.is_open(&slot(2, a, 0, 1)),
+                first <= a && a <= last,
+                "{a} at {at:?}"
+            );
+        }
+    }
+    assert!(rt; abc.done().is_empty() && says.is_empty());
+}
+
 // Four replicas, and replica 2's service: three inputs, and commands that come out of order.
 #[test]
 fn commands_are_numbered_and_raise_the_base(rt: HostRuntime) {
