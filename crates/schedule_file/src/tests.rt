@@ -49,7 +49,7 @@ fn faults_by_place(rt: HostRuntime) -> Result<(), Fail> {
         (13, 32, FileFault::Header(13)),
         (14, 1, FileFault::Header(14)),
         (15, 0, FileFault::Header(15)),
-        (15, 6, FileFault::Header(15)),
+        (15, 7, FileFault::Header(15)),
         (16, 0, FileFault::Header(16)),
         (16, 3, FileFault::Header(16)),
         (20, 2, FileFault::Header(17)),
