@@ -6,3 +6,12 @@ pub enum What {
     /// The frames that its correct replicas made.
     Frames,
 }
+
+/// What is written of a schedule that is made.
+#[derive(Clone, Copy, Debug, PartialEq, Eq)]
+pub enum DriveWhat {
+    /// The report of its world.
+    Report,
+    /// The schedule file.
+    Schedule,
+}
