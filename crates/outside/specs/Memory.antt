@@ -1,4 +1,4 @@
--- A source and a sink in memory: what they hold, and what a call does.
+-- Sources and sinks in memory: what they hold, and what a call does.
 use Rattle.std.specs.Prelude.{◌≡◌, ◌↔◌, ◌⊎◌, ℕ, ◌<◌, ◌-◌, List, ◌++◌, length, take, drop, min, Contains, Result, IsErr, IfOk, OnErr, if◌then◌else◌, is_err}
 use Rattle.outside.specs.Faults.{count_after}
 use Rattle.outside.specs.declared.source.Failed.{Failed}
@@ -33,6 +33,11 @@ pub record SinkState : Type 0 where
   pub taken : List ℕ
   pub room : ℕ
   pub calls : Calls
+
+-- what a sink that grows took, and how many of its calls failed
+pub record BufferState : Type 0 where
+  pub taken : List ℕ
+  pub faults : ℕ
 
 -- how many bytes a sink still takes
 abbrev pub room_left : SinkState → ℕ

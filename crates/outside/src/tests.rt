@@ -1,4 +1,7 @@
-use crate::{Failed, FromRead, MemSink, MemSource, Sink, Source, ToWrite, write_all};
+use crate::{
+    Buffer, Failed, FromRead, MemSink, MemSource, ReadFault, Sink, Source, ToWrite, read_whole,
+    write_all,
+};
 use std::test::*;
 
 // A source of five bytes, read by a buffer of three: what each call answers, by the calls that fail.
@@ -61,5 +64,63 @@ fn adapters(rt: HostRuntime) -> Result<(), Fail> {
     let mut sink = ToWrite::new(Vec::new(rt.alloc()));
     assert_eq!(rt; sink.write(b"abc"), Ok(3));
     assert_eq!(rt; sink.write(b""), Err(Failed));
+    Ok(())
+}
+
+#[test]
+fn grows(rt: HostRuntime) -> Result<(), Fail> {
+    let mut sink = Buffer::new(rt.alloc());
+    assert_eq!(rt; sink.len(), 0);
+    assert_eq!(rt; sink.write(b"abc"), Ok(3));
+    assert_eq!(rt; sink.write(b""), Ok(0));
+    assert_eq!(rt; write_all(&mut sink, b"de"), Ok(()));
+    assert_eq!(rt; sink.taken(), b"abcde".as_slice());
+    assert_eq!(rt; sink.len(), 5);
+    Ok(())
+}
+
+// A source of five bytes, by how many may be and the calls that fail, and how many bytes it then has left.
+#[test]
+fn reads_whole(rt: HostRuntime) -> Result<(), Fail> {
+    let cases: [(usize, &[u64], Option<ReadFault>, usize); 7] = [
+        (5, &[], None, 0),
+        (4_294_967_295, &[], None, 0),
+        (4, &[], Some(ReadFault::TooLong), 0),
+        (3, &[], Some(ReadFault::TooLong), 1),
+        (0, &[1], Some(ReadFault::TooLong), 4),
+        (4, &[0], Some(ReadFault::Failed), 5),
+        (5, &[1], Some(ReadFault::Failed), 0),
+    ];
+    for (most, fails, fault, left) in cases {
+        let mut source = MemSource::new(rt.alloc(), b"abcde", fails)?;
+        match read_whole(rt.alloc(), &mut source, most) {
+            Ok(bytes) => {
+                assert_eq!(rt; fault, None);
+                assert_eq!(rt; bytes.as_slice(), b"abcde".as_slice());
+            }
+            Err(e) => assert_eq!(rt; fault, Some(e)),
+        }
+        let mut rest = [0; 9];
+        let count = source.read(&mut rest).or_else(|_| source.read(&mut rest));
+        assert_eq!(rt; count, Ok(left));
+    }
+    Ok(())
+}
+
+// Bytes that come in three pieces.
+#[test]
+fn reads_a_long_whole(rt: HostRuntime) -> Result<(), Fail> {
+    let mut text = vec![in rt.alloc(); b'x'; 40_000]?;
+    text.extend_from_slice(b"yz")?;
+    let mut source = FromRead::new(text.as_slice());
+    assert_eq!(rt;
+        read_whole(rt.alloc(), &mut source, 40_002)?.as_slice(),
+        text.as_slice()
+    );
+    let mut source = FromRead::new(text.as_slice());
+    assert_eq!(rt;
+        read_whole(rt.alloc(), &mut source, 40_001).err(),
+        Some(ReadFault::TooLong)
+    );
     Ok(())
 }

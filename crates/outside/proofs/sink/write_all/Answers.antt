@@ -2,7 +2,7 @@ use Rattle.std.proofs.Common.{arith, length-drop, refl, ◌∙◌}
 use Rattle.std.proofs.lemmas.Result.{IfOk-from_err}
 use Rattle.outside.proofs.Pieces.{after_piece}
 use Rattle.outside.proofs.Rising.{rose_after}
-use Rattle.outside.proofs.Written.{front_of}
+use Rattle.outside.specs.WritingLaws.{front_of}
 use Rattle.outside.proofs.sink.write_all.Goals as goal
 
 pub loop-at-preserved : goal.loop-at-preserved

@@ -1,11 +1,10 @@
--- Texts that are written one after the other.
-use Rattle.std.proofs.Common.{◌≡◌, ℕ, List, [], ◌++◌, Bool, Result, Ok, Err, refl, sym, ap, ◌∙◌, append_assoc, arith, take, drop}
+-- What follows where one text is written after another, for calls that are made of calls on a sink.
+use Rattle.std.specs.Prelude.{◌≡◌, ℕ, List, [], ◌++◌, Bool, true, Result, Ok, Err, IsErr, take, drop, refl}
+use Rattle.std.proofs.Common.{sym, ap, ◌∙◌, append_assoc, inl, inr, arith}
 use Rattle.std.proofs.lemmas.List.{take-append-drop, append-nil}
 use Rattle.std.proofs.lemmas.Result.{on_ok_weaker}
 use Rattle.outside.specs.Writing.{TookFront, Writes}
-use Rattle.outside.proofs.Rising.{rose_after}
 
--- a front by its length
 pub front_of : (old new text : List ℕ) (k : ℕ) → new ≡ old ++ take k text → TookFront old new text
 front_of old new text k e = record { front = take k text; rest = drop k text; parts = sym (take-append-drop k text); taken = e }
 
@@ -45,7 +44,7 @@ writes_then a b tells old mid new x y z r first second = record {
   whole = λ t. on_ok_weaker r (λ e. e ∙ rw (first.whole t) (append_assoc old a b)) (second.whole t);
   front = λ t. front_then old mid new a b [] (a ++ b) (ap (λ (s : List ℕ). a ++ s) (sym (append-nil b))) (first.whole t) (second.front t);
   later = omega (arith, first.later, second.later);
-  cause = λ f. rose_after x y z first.later (second.cause f);
+  cause = λ f. elim (second.cause f) [ inl lt ↦ inl (omega (arith, first.later)) | inr at_last ↦ inr at_last ];
 }
 
 -- the first of two texts failed
@@ -56,3 +55,8 @@ fails_then a b tells old new x y d e why first = record {
   later = first.later;
   cause = λ f. first.cause (why f);
 }
+
+-- the first of two texts failed, and so did the call that writes both
+pub fails_as : {D E : Type 0} (a b : List ℕ) (tells : Bool) (old new : List ℕ) (x y : ℕ) (d : D) (r : Result (Unit {0}) E) → IsErr r → Writes a tells old new x y (Err d) (true ≡ true) → Writes (a ++ b) tells old new x y r (IsErr r)
+fails_as a b tells old new x y d (Ok u) failed first = absurd cc
+fails_as a b tells old new x y d (Err e) failed first = fails_then a b tells old new x y d e (λ _. refl) first
