@@ -4,6 +4,7 @@ pub mod FileSpells
 pub mod HeaderSpells
 pub mod EventSpells
 pub mod FileLaws
+pub mod ReadBack
 pub mod FaultPlaces
 pub mod FieldFaults
 pub mod EventFaults

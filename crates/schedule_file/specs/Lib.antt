@@ -5,5 +5,6 @@ pub mod ReadHeader
 pub mod ReadEvents
 pub mod Schedule
 pub mod Spelling
+pub mod SpellingLaws
 pub mod Faults
 pub mod Rows

@@ -1,9 +1,10 @@
 //! What a file says and which fault it has, for every list of bytes.
-ghost use Rattle.std.specs.Prelude.{◌≡◌, ◌↔◌, false, Ok, Err};
+ghost use Rattle.std.specs.Prelude.{◌≡◌, ◌≤◌, ◌+◌, ◌++◌, ◌∷◌, [], ◌↔◌, length, false, Ok, Err};
+ghost use Rattle.std.specs.List.{AllByRecursion};
 ghost use Rattle.schedule_file.specs.Reading.{IsBytes};
-ghost use Rattle.schedule_file.specs.FileBytes.{is_outside};
+ghost use Rattle.schedule_file.specs.FileBytes.{is_outside, limit};
 ghost use Rattle.schedule_file.specs.Schedule.{file_of};
-ghost use Rattle.schedule_file.specs.Spelling.{IsFile};
+ghost use Rattle.schedule_file.specs.Spelling.{event_text, header_text, FileOf, FrontOf, IsEvent, IsFile, IsHeading};
 ghost use Rattle.schedule_file.specs.Faults.{IsMagicFault, IsVersionFault, IsHeaderFault, IsEventFault, IsTrailingFault, IsTruncated, IsTooLong};
 
 use crate::fault::FileFault;
@@ -33,4 +34,22 @@ pub fn file_faults()
 
     // A file has no fault of a source or of memory.
     ensures own { (bytes : _) (e : _) → IsBytes bytes → file_of bytes ≡ Err e → is_outside e ≡ false }
+{}
+
+/// What the calls of `Writer` write one after the other is a file, which is read back as its header and events. The
+/// newest event is the first of its list.
+pub fn writer_laws()
+    // First the header, then the text of each event, and at last the end mark.
+    ensures first { (h : _) → FrontOf h [] ≡ header_text h }
+    ensures next { (h : _) (e : _) (es : _) → FrontOf h (e ∷ es) ≡ FrontOf h es ++ event_text e }
+    ensures end { (h : _) (es : _) → FileOf h es ≡ FrontOf h es ++ 0 ∷ [] }
+    ensures last { (h : _) (e : _) (es : _) → FileOf h (e ∷ es) ≡ FrontOf h es ++ event_text e ++ 0 ∷ [] }
+
+    // How many bytes these are.
+    ensures first_length { (h : _) → IsHeading h → length (FrontOf h []) ≡ 54 }
+    ensures next_length { (h : _) (e : _) (es : _) → length (FrontOf h (e ∷ es)) ≡ length (FrontOf h es) + length (event_text e) }
+    ensures end_length { (h : _) (es : _) → length (FileOf h es) ≡ length (FrontOf h es) + 1 }
+
+    ensures read_back { (h : _) (es : _) → IsHeading h → AllByRecursion (IsEvent h.p.n) es → length (FileOf h es) ≤ limit
+        → file_of (FileOf h es) ≡ Ok (h, es) }
 {}

@@ -9,7 +9,7 @@
 //! | 5 | session | 8 bytes |
 //! | 13 | n | 1 to 31 |
 //! | 14 | f | n is at least 3f + 1 |
-//! | 15 | root service | 1 |
+//! | 15 | root service | 1 to 6 |
 //! | 16 | broadcast of VECT | 1 echo, 2 reliable |
 //! | 17 | correct replicas | 4 bytes: bit k stands for replica k, bits below n alone |
 //! | 21 | form of the keys | 0 |
@@ -27,6 +27,9 @@
 //! Replicas are below n, and the sender of a frame isn't its receiver. `Reader` reads a file from a source, and answers
 //! its first fault from the left, in whatever pieces the source gives it. `file_laws` says that what is read as a file
 //! is spelled so, and that what is spelled so is read; `file_faults` says when each fault comes.
+//!
+//! `Writer` writes a file to a sink, part by part, and `event_size` says how many bytes an event takes. `writer_laws` says
+//! that the parts are a file, how long it is, and that it is read back.
 #![tactic(auto)]
 
 mod fault;
@@ -39,8 +42,10 @@ mod reader;
 mod stage;
 #[cfg(test)]
 mod tests;
+mod writer;
 
 pub use fault::FileFault;
 pub use header::{Header, HeaderKeys};
-pub use laws::{file_faults, file_laws};
+pub use laws::{file_faults, file_laws, writer_laws};
 pub use reader::Reader;
+pub use writer::{Writer, event_size};

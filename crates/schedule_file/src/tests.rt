@@ -1,5 +1,5 @@
-use crate::{FileFault, HeaderKeys, Reader};
-use outside::{MemSource, Source};
+use crate::{FileFault, HeaderKeys, Reader, Writer, event_size};
+use outside::{Buffer, Failed, MemSink, MemSource, Source};
 use ritas_base::{Event, Vect};
 use std::alloc::Global;
 use std::test::*;
@@ -167,5 +167,43 @@ fn all_fields(rt: HostRuntime) -> Result<(), Fail> {
         matches!(&sealed, Ok(Some(Event::Sealed { from: 1, to: 0, body })) if body.as_slice().is_empty())
     );
     assert!(rt; matches!(reader.next(rt.alloc(), &mut source), Ok(None)));
+    Ok(())
+}
+
+// A file that is read and written again, event by event, and what was written read back.
+#[test]
+fn writes_what_was_read(rt: HostRuntime) -> Result<(), Fail> {
+    let mut source = MemSource::new(rt.alloc(), &FIVE, &[])?;
+    let (header, mut reader) = Reader::start(rt.alloc(), &mut source)?;
+    let mut sink = Buffer::new(rt.alloc());
+    Writer::start(&mut sink, &header)?;
+    assert_eq!(rt; sink.len(), 54);
+    for _ in 0..5 {
+        let event = reader.next(rt.alloc(), &mut source)?;
+        if let Some(event) = &event {
+            let before = sink.len();
+            Writer::event(&mut sink, event)?;
+            assert_eq!(rt; before.checked_add(event_size(event)), Some(sink.len()));
+        }
+    }
+    Writer::end(&mut sink)?;
+    assert_eq!(rt; sink.taken(), FIVE.as_slice());
+    let mut source = MemSource::new(rt.alloc(), sink.taken(), &[])?;
+    assert_eq!(rt; outcome(rt.alloc(), &mut source), (5, None));
+    Ok(())
+}
+
+// A sink that has room for a front of the second event.
+#[test]
+fn writes_a_front(rt: HostRuntime) -> Result<(), Fail> {
+    let mut sink = MemSink::new(rt.alloc(), 4, &[])?;
+    assert_eq!(rt; Writer::event(&mut sink, &Event::Turn { at: 1 }), Ok(()));
+    let pass = Event::Pass {
+        from: 0,
+        to: 1,
+        m: 260,
+    };
+    assert_eq!(rt; Writer::event(&mut sink, &pass), Err(Failed));
+    assert_eq!(rt; sink.taken(), [3, 1, 4, 0].as_slice());
     Ok(())
 }
