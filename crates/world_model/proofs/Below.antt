@@ -1,7 +1,8 @@
 -- The laws of the core and of inputs, with those of the layers and of a world.
+use Rattle.std.proofs.Common.{ℕ, ◌<◌}
 use Rattle.ritas_core.specs.Rules.{Rules}
 use Rattle.ritas_core.specs.Laws.{LayerLaws}
-use Rattle.world_model.specs.World.{Setting}
+use Rattle.world_model.specs.World.{Setting, rules_at}
 use Rattle.world_model.specs.Agreement.{IsSound}
 use Rattle.world_model.specs.CoreLaws.{CoreLaws}
 
@@ -14,3 +15,17 @@ pub record IsFounded (r : Rules) : Type 0 where
 pub record IsSoundOver (w : Setting) : Type 0 where
   pub world : IsSound w
   pub core : CoreLaws
+
+-- the laws of the layers of each replica, whether it is correct or not
+pub founded_at : (w : Setting) → IsSoundOver w → (i : ℕ) → i < w.numbers.n → IsFounded (rules_at w i)
+founded_at w sound i below = record {
+  layers = record {
+    casts = sound.world.casts;
+    words = sound.world.words;
+    session = sound.world.session;
+    me = below;
+    serves = sound.world.serves;
+    kinds = sound.world.kinds;
+  };
+  core = sound.core;
+}

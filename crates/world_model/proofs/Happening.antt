@@ -31,7 +31,7 @@ at_either : (w : Setting) (at : ℕ) (call : Call) (b : Bool) → w.is_correct a
 at_either w at call true e = (refl, e)
 at_either w at call false e = tt
 
-at_call : (w : Setting) (at : ℕ) (call : Call) → IsAt w (call_at w at call) at
+pub at_call : (w : Setting) (at : ℕ) (call : Call) → IsAt w (call_at w at call) at
 at_call w at call = at_either w at call (w.is_correct at) refl
 
 happens : {S E C : Type 0} (m : Meaning S E C KeyRow) (w : Setting) (states : ℕ → CoreState) (at : ℕ) (call : Call) (places : List (Option (Replica S E C))) (happened : Happened) (before : List OutFrame) →

@@ -39,3 +39,14 @@ pub mod Firsts
 pub mod Begins
 pub mod Continues
 pub mod Audits
+pub mod FaceStates
+pub mod Conditions
+pub mod Shown
+pub mod Untouched
+pub mod Fair
+pub mod Honest
+pub mod Playing
+pub mod Safe
+pub mod Carrying
+pub mod Unforged
+pub mod Short

@@ -53,17 +53,17 @@ new_due r laws h e m here =
 
 -- ---- frames
 -- the frame seals one of these messages
-record IsSealOf (k : KeyRow) (j : ℕ) (ms : List Msg) (bytes : List ℕ) : Type 0 where
-  message : Msg
-  listed : Has ms message
-  seq : ℕ
-  fits : seq < 2 ^ 64
-  is_seal : bytes ≡ sealed k j seq (body_of k.me message)
+pub record IsSealOf (k : KeyRow) (j : ℕ) (ms : List Msg) (bytes : List ℕ) : Type 0 where
+  pub message : Msg
+  pub listed : Has ms message
+  pub seq : ℕ
+  pub fits : seq < 2 ^ 64
+  pub is_seal : bytes ≡ sealed k j seq (body_of k.me message)
 
 seq_fits : (n : ℕ) → n % 2 ^ 64 < 2 ^ 64
 seq_fits n = omega arith
 
-sealed_from : (k : KeyRow) (j : ℕ) (ms : List Msg) (frames : List (List ℕ)) (bytes : List ℕ) → Has (sealed_onto k j ms frames) bytes →
+pub sealed_from : (k : KeyRow) (j : ℕ) (ms : List Msg) (frames : List (List ℕ)) (bytes : List ℕ) → Has (sealed_onto k j ms frames) bytes →
     Has frames bytes ⊎ IsSealOf k j ms bytes
 sealed_from k j [] frames bytes here = inl here
 sealed_from k j (m ∷ ms) frames bytes here =

@@ -107,7 +107,7 @@ more_there true false new old for others own e =
     sym (ap reverse (others refl) ∙ reverse-append (reverse for) old ∙ ap (λ x. reverse old ++ x) (reverse-reverse for))
 
 -- the list of the maker
-at_maker : MadeByEntry → (w : Setting) (states : ℕ → CoreState) (c : CallAt) (j : ℕ) → (w.keys c.at).me ≡ c.at → j < (w.keys c.at).n → w.is_correct c.at ≡ true
+pub at_maker : MadeByEntry → (w : Setting) (states : ℕ → CoreState) (c : CallAt) (j : ℕ) → (w.keys c.at).me ≡ c.at → j < (w.keys c.at).n → w.is_correct c.at ≡ true
     → frames_from w states c.at j ++ frames_to j (handled_at w states c).out ≡ frames_from w (after_call w states (Some c)) c.at j
 at_maker made w states c j own below right =
     let r = rules_at w c.at in

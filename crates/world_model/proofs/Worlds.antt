@@ -44,20 +44,10 @@ use Rattle.world_model.proofs.Sent.{IsSent, sent_later, sent_is_due, new_due, ma
 use Rattle.world_model.proofs.Anywhere.{none_of, has_number}
 use Rattle.world_model.proofs.Prints.{none_yet}
 use Rattle.world_model.proofs.Runs.{RunAt, RunWith, run_from, IsBacked, IsBackedEntry, calls_after, run_entry, run_joined}
-use Rattle.world_model.proofs.Below.{IsFounded, IsSoundOver}
+use Rattle.world_model.proofs.Below.{IsFounded, IsSoundOver, founded_at}
 
 pub layer_laws : (w : Setting) → IsSoundOver w → (i : ℕ) → w.is_correct i ≡ true → IsFounded (rules_at w i)
-layer_laws w sound i correct = record {
-  layers = record {
-    casts = sound.world.casts;
-    words = sound.world.words;
-    session = sound.world.session;
-    me = sound.world.within i correct;
-    serves = sound.world.serves;
-    kinds = sound.world.kinds;
-  };
-  core = sound.core;
-}
+layer_laws w sound i correct = founded_at w sound i (sound.world.within i correct)
 
 -- ---- what is true of a stored item
 abbrev pub histories_of : (ℕ → CoreState) → ℕ → List Entry
@@ -289,7 +279,7 @@ fault_none : (o : Option ℕ) (fault : Option CoreFault) → input_fault_or o fa
 fault_none None fault e = refl
 fault_none (Some place) fault e = absurd (cc)
 
-input_good : InputsFaultless → (r : Rules) (p : Parts) (v : List ℕ) → input_check r p v ≡ None → IsInput r.casts.numbers r.mode v
+pub input_good : InputsFaultless → (r : Rules) (p : Parts) (v : List ℕ) → input_check r p v ≡ None → IsInput r.casts.numbers r.mode v
 unfolding input_check
 input_good faultless r p v free =
     (faultless r.casts.numbers r.mode v).0 (fault_none (input_fault r.casts.numbers r.mode v) (window_fault r p) free)
@@ -346,10 +336,10 @@ next_moved : (w : Setting) → IsSoundOver w → (states : ℕ → CoreState) �
 next_moved w sound states world i correct what fine honest = next_moved_if w sound states world i correct what fine (states i).live honest
 
 -- ---- frames
-abbrev read_as : Item → Result Item BodyFault
+abbrev pub read_as : Item → Result Item BodyFault
 read_as item = Ok item
 
-one_item : (a b : Item) → read_as a ≡ read_as b → a ≡ b
+pub one_item : (a b : Item) → read_as a ≡ read_as b → a ≡ b
 one_item a b e = cc
 
 -- an item that opens as from a correct replica, and isn't forged, is due there

@@ -14,4 +14,9 @@ pub mod Steps
 pub mod Met
 pub mod Hashed
 pub mod Watch
+pub mod Players
+pub mod Forging
+pub mod FaceWorlds
+pub mod Quiet
 pub mod Rows
+pub mod PlayedRows

@@ -33,7 +33,7 @@ use Rattle.world_model.specs.FramesMade.{MadeTable, made_in, made_at, with_frame
 
 -- ---- a world of four replicas, of which the first few are correct; replica 1 is stopped before event 0
 
-abbrev silent : ServiceRules
+abbrev pub silent : ServiceRules
 silent = record {
   serves = λ root. true;
   says = λ seat w c. [];
@@ -47,7 +47,7 @@ silent = record {
   decided = λ seat w x. None;
 }
 
-abbrev world_of : ℕ → Setting
+abbrev pub world_of : ℕ → Setting
 world_of right = record {
   numbers = record { n = 4; f = 1 };
   mode = record { root = 1; vect = Reliable; low = lit≤ tt; high = lit≤ tt };

@@ -15,7 +15,7 @@ use layer_api::{Broadcast, Service};
 // The laws of the core and of inputs, which those of worlds rest on.
 //
 // It does nothing: its contract is the laws.
-fn core_laws()
+pub(crate) fn core_laws()
     ensures { CoreLaws }
 {
     ritas_core::history_laws();

@@ -18,7 +18,8 @@
 //! Where the audit holds, correct replicas agree: on the value of each broadcast (`one_value_each`), and on logs, outcomes
 //! and decisions (`agreement_each`); `agreement` says so for a service and a broadcast beside the reliable one, whatever
 //! the keys and the coins are, and so does `World::audit` of each world. The laws speak also of worlds in which replicas
-//! stop between events. Where an audit holds, it held at each earlier event (`prefix_holds`).
+//! stop between events. Where an audit holds, it held at each earlier event (`prefix_holds`). Schedules that players make,
+//! correct replicas and faces that run a replica's code with a faulty replica's keys, forge nothing (`forges_nothing`).
 //!
 //! That nothing is forged or collides is no part of what is proved: it is what the keyed tags and the hash are for. The
 //! audit finds a forged frame by its number, in the time of one comparison. At each SEND that is taken it makes the entries
@@ -31,6 +32,7 @@ mod audit;
 mod calls;
 mod counts;
 mod events;
+mod faces;
 mod first;
 mod happened;
 mod hashed;
@@ -38,6 +40,7 @@ mod laws;
 mod made;
 mod met;
 mod order;
+mod played;
 mod rows;
 mod seats;
 mod seen;
@@ -49,9 +52,11 @@ mod world;
 
 pub use audit::Audit;
 pub use counts::Counts;
+pub use faces::{faces_are_replicas, quiet};
 pub use laws::{
     agreement, agreement_each, never_apart, one_value_each, prefix_holds, stopped_between,
 };
 pub use order::Made;
+pub use played::forges_nothing;
 pub use seen::Seen;
 pub use world::World;

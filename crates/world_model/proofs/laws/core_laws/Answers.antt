@@ -4,6 +4,7 @@ pub returns : goal.returns
 returns c = record {
   started = c.history_laws.ensures.started;
   proper = c.history_laws.ensures.proper;
+  calls = c.history_laws.ensures.calls;
   due = c.history_laws.ensures.due;
   due_stays = c.history_laws.ensures.due_stays;
   sent = c.history_laws.ensures.sent;
