@@ -1,6 +1,6 @@
 pub mod Layers
 pub mod Onto
-pub mod Replayed
+pub mod Played
 pub mod Report
 pub mod Frames
 pub mod Replay

@@ -17,7 +17,7 @@ fn master(header: &Header) -> [u8; 32]
 }
 
 /// The keys of each replica, in their order. The one error is want of memory.
-pub(crate) fn deal_keys(alloc: Global, header: &Header) -> Result<Vec<Keys>, Mem>
+pub fn deal_keys(alloc: Global, header: &Header) -> Result<Vec<Keys>, Mem>
     ensures { IfOk result (λ keys. keys.items ≡ map (dealt_to header.now) (range_with_len 0 header.now.p.n)) }
 {
     let master = master(header);
@@ -30,7 +30,7 @@ pub(crate) fn deal_keys(alloc: Global, header: &Header) -> Result<Vec<Keys>, Mem
 }
 
 /// The coin of each replica, in their order. The one error is want of memory.
-pub(crate) fn deal_coins(alloc: Global, header: &Header) -> Result<Vec<SeedCoin>, Mem>
+pub fn deal_coins(alloc: Global, header: &Header) -> Result<Vec<SeedCoin>, Mem>
     ensures { IfOk result (λ coins. coins.items ≡ map (coin_to header.now) (range_with_len 0 header.now.p.n)) }
 {
     let master = master(header);

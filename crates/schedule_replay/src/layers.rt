@@ -10,7 +10,7 @@ ghost use Rattle.schedule_replay.specs.Onto.{more_events};
 ghost use Rattle.schedule_replay.specs.Replay.{Ended, ShowsEvents, ShowsFile};
 
 use crate::end::{ReplayEnd, end_at};
-use crate::replayed::load;
+use crate::played::load;
 use crate::write::show;
 use atomic_bcast::{Abc, CmdRoot};
 use binary_consensus::{Bin, BinRoot};
@@ -48,9 +48,9 @@ fn replay_as<S: Service, E: Broadcast, I: Source, K: Sink>(
     }
 }
 
-// Whether the broadcast that a mode has beside the reliable one is the echo broadcast.
+/// Whether the broadcast that a mode has beside the reliable one is the echo broadcast.
 #[tactic(auto, unfolding(ritas_core::specs::Rules::other_form))]
-fn has_echo(mode: &Mode) -> bool
+pub fn has_echo(mode: &Mode) -> bool
     ensures { result ≡ (other_form mode.now == 2) }
 {
     match mode.vect {

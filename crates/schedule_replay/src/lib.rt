@@ -2,7 +2,8 @@
 //!
 //! `replay` reads a file from a source to its end, lets its events happen to a world of replicas as it is read, in the
 //! layers that its header names and with the keys and coins that are dealt from its master key, and then writes to a
-//! sink what is asked for.
+//! sink what is asked for. `Played` is such a world by itself, for callers that have the events from elsewhere, and `show`
+//! writes its texts.
 #![tactic(auto)]
 
 mod cut;
@@ -11,11 +12,14 @@ mod end;
 mod frames;
 mod layers;
 mod lines;
-mod replayed;
+mod played;
 mod report;
 #[cfg(test)]
 mod tests;
 mod write;
 
+pub use deal::{deal_coins, deal_keys};
 pub use end::ReplayEnd;
-pub use layers::replay;
+pub use layers::{has_echo, replay};
+pub use played::Played;
+pub use write::show;

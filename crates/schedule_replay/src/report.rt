@@ -17,13 +17,13 @@ ghost use Rattle.world_model.specs.Audit.{audit_of};
 ghost use Rattle.world_model.specs.Stands.{WorldStands};
 ghost use Rattle.world_model.specs.World.{Setting};
 ghost use Rattle.schedule_replay.specs.Layers.{setting_by, layers_by, AreCoresOf};
-ghost use Rattle.schedule_replay.specs.Replayed.{StandsFor};
+ghost use Rattle.schedule_replay.specs.Played.{StandsFor};
 ghost use Rattle.schedule_replay.specs.Report.{out_line, origin_lines, outs_of, out_lines, ending_line, row_line, row_lines, log_lines, service_lines, lines_of, replica_lines, report_on};
 
 use crate::lines::{
     audit_line, count_line, ending_line, head_line, out_line, replica_line, rounds_line, row_line,
 };
-use crate::replayed::Replayed;
+use crate::played::Played;
 use command_log::Log;
 use keyed_channel::Channel;
 use layer_api::{Broadcast, Service};
@@ -236,7 +236,7 @@ fn add_replicas<S: Service, E: Broadcast, C: Coin + Drop>(
 /// The report of a schedule, whose audit is this. The one error is want of memory.
 pub(crate) fn report_text<S: Service, E: Broadcast>(
     alloc: Global,
-    x: &Replayed<S, E>,
+    x: &Played<S, E>,
     audit: Audit,
 ) -> Result<String, AllocError>
     requires serves { S.rules.serves x.now.header.mode.root ≡ true }

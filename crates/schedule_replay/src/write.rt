@@ -8,13 +8,13 @@ ghost use Rattle.schedule_file.specs.declared.fault.FileFault.{FileFault};
 ghost use Rattle.world_model.specs.Audit.{audit_of};
 ghost use Rattle.schedule_replay.specs.Layers.{setting_by, layers_by};
 ghost use Rattle.schedule_replay.specs.Replay.{ShowsWorld};
-ghost use Rattle.schedule_replay.specs.Replayed.{StandsFor};
+ghost use Rattle.schedule_replay.specs.Played.{StandsFor, header_in};
 ghost use Rattle.schedule_replay.specs.Report.{report_on};
 
 use crate::cut::{Cut, put};
 use crate::end::ReplayEnd;
 use crate::frames::write_frames;
-use crate::replayed::Replayed;
+use crate::played::Played;
 use crate::report::report_text;
 use layer_api::{Broadcast, Service};
 use outside::Sink;
@@ -26,7 +26,7 @@ use world_model::Audit;
 fn write_report<S: Service, E: Broadcast, K: Sink>(
     alloc: Global,
     sink: &mut K,
-    x: &Replayed<S, E>,
+    x: &Played<S, E>,
     audit: Audit,
 ) -> Result<(), Cut>
     requires serves { S.rules.serves x.now.header.mode.root ≡ true }
@@ -44,17 +44,19 @@ fn write_report<S: Service, E: Broadcast, K: Sink>(
     }
 }
 
-/// Writes what is asked for of a world, and ends with its audit.
-pub(crate) fn show<S: Service, E: Broadcast, K: Sink>(
+/// Writes what is asked for of a world, and ends with its audit: at `Done` the whole text was written, and in any case a
+/// front of it. `Write` is answered only where the sink failed. At `Mem` nothing was written of a report. `File` is never
+/// answered.
+pub fn show<S: Service, E: Broadcast, K: Sink>(
     alloc: Global,
     sink: &mut K,
-    x: &Replayed<S, E>,
+    x: &Played<S, E>,
     what: What,
 ) -> ReplayEnd
-    requires serves { S.rules.serves x.now.header.mode.root ≡ true }
-    requires form { E.FORM ≡ other_form x.now.header.mode }
+    requires serves { S.rules.serves (header_in x.now).mode.root ≡ true }
+    requires form { E.FORM ≡ other_form (header_in x.now).mode }
     ensures shows { (es : List Event) → StandsFor (layers_by S.stands S.rules S.shown E.stands E.rules E.shown) x.now es
-        → ShowsWorld K.tells K.taken sink.old sink.new what result x.now.header (setting_by S.rules E.rules x.now.header) es }
+        → ShowsWorld K.tells K.taken sink.old sink.new what result (header_in x.now) (setting_by S.rules E.rules (header_in x.now)) es }
     ensures cause { HasCause (K.faults sink.old) (K.faults sink.new) (result ≡ ReplayEnd.Write) }
     ensures own { (e : FileFault) → result ≢ ReplayEnd.File e }
     ensures memory { what ≡ What.Report → result ≡ ReplayEnd.Mem → sink.new ≡ sink.old }

@@ -3,7 +3,7 @@ use Rattle.std.proofs.lemmas.Result.{err_from_is_err_and}
 use Rattle.schedule_file.specs.Place.{spot}
 use Rattle.ritas_base.specs.Events.{MayHappen}
 use Rattle.schedule_replay.proofs.Feeding.{goes_on, fails, ends, too_many}
-use Rattle.schedule_replay.proofs.replayed.Replayed.play.Goals as goal
+use Rattle.schedule_replay.proofs.played.Played.play.Goals as goal
 
 pub returns-in_err-next-clause-exact : goal.returns-in_err-next-clause-exact
 returns-in_err-next-clause-exact g c = λ tells before stands.
@@ -30,15 +30,15 @@ loop-preserved g c =
     let stage = rw c.in-Some.is at (c.in_ok-next.ensures.stage c.loop.invariant.0) in (
       stage,
       c.in_ok-next.ensures.n ∙ c.loop.invariant.1,
-      c.in_ok-step-in-Some.ensures.header ∙ c.loop.invariant.2,
+      c.in_ok-event-in-Some.ensures.header ∙ c.loop.invariant.2,
       omega (arith, c.in_ok-next.ensures.cause.later, c.loop.invariant.3),
-      omega (arith, c.in_ok-step-in-Some.ensures.one, c.loop.invariant.4),
+      omega (arith, c.in_ok-event-in-Some.ensures.one, c.loop.invariant.4),
       λ tells before stands.
           let so_far = c.loop.invariant.5 tells before stands in
           let read = rw c.in-Some.is at (c.in_ok-next.ensures.exact c.loop.invariant.0 tells) in
           let more = goes_on so_far.0 67108865 c.loop.counter c.loop.reader.n (spot c.loop.reader.held (g.I.Source.left c.loop.input)) c.in-Some.event
           (spot c.next.new.self.held (g.I.Source.left c.next.new.src)) _ c.loop-test.true read so_far.2 in
-          (c.in-Some.event ∷ so_far.0, c.in_ok-step-in-Some.ensures.stands so_far.0 so_far.1 may, rw c.in_ok-next.ensures.n more),
+          (c.in-Some.event ∷ so_far.0, c.in_ok-event-in-Some.ensures.stands so_far.0 so_far.1 may, rw c.in_ok-next.ensures.n more),
     )
 
 pub returns-clause-exact : goal.returns-clause-exact

@@ -10,7 +10,7 @@ ghost use Rattle.schedule_file.specs.ReadHeader.{heading};
 ghost use Rattle.schedule_file.specs.Spelling.{IsHeading};
 ghost use Rattle.schedule_replay.specs.Layers.{layers_by};
 ghost use Rattle.schedule_replay.specs.Onto.{more_events};
-ghost use Rattle.schedule_replay.specs.Replayed.{StandsFor};
+ghost use Rattle.schedule_replay.specs.Played.{StandsFor};
 
 use crate::deal::{deal_coins, deal_keys};
 use keyed_channel::SeedCoin;
@@ -23,13 +23,13 @@ use world_model::{Counts, World};
 
 /// A schedule's header, its world after the events, and how these were answered.
 #[derive(Drop)]
-pub(crate) struct Replayed<S: Service, E: Broadcast> {
+pub struct Played<S: Service, E: Broadcast> {
     pub(crate) header: Header,
     pub(crate) world: World<S, E, SeedCoin>,
     pub(crate) counts: Counts,
 }
 
-impl<S: Service, E: Broadcast> Replayed<S, E> {
+impl<S: Service, E: Broadcast> Played<S, E> {
     ghost use Rattle.std.specs.Prelude.{◌≡◌, ◌<◌, ◌≤◌, ◌+◌, ◌-◌, ◌^◌, List, [], ◌∷◌, true, Ok, Err, OnOk, IfOk, MatchResult};
     ghost use Rattle.outside.specs.Faults.{HasCause};
     ghost use Rattle.ritas_base.specs.declared.event.Event.{Event};
@@ -39,43 +39,53 @@ impl<S: Service, E: Broadcast> Replayed<S, E> {
     ghost use Rattle.schedule_file.specs.FileBytes.{Fails};
     ghost use Rattle.schedule_file.specs.ReadHeader.{heading};
     ghost use Rattle.schedule_file.specs.Spelling.{IsHeading};
-    ghost use Rattle.world_model.specs.Counts.{total};
     ghost use Rattle.ritas_base.specs.Events.{MayHappen};
-    ghost use Rattle.schedule_replay.specs.Layers.{layers_by};
+    ghost use Rattle.world_model.specs.Stands.{WorldStands};
+    ghost use Rattle.schedule_replay.specs.Layers.{layers_by, setting_by};
     ghost use Rattle.schedule_replay.specs.Onto.{more_events};
-    ghost use Rattle.schedule_replay.specs.Replayed.{StandsFor};
+    ghost use Rattle.schedule_replay.specs.Played.{StandsFor, answered, header_in};
 
-    // The world of a header, before any event.
-    fn new(alloc: Global, header: Header) -> Result<Replayed<S, E>, Mem>
+    /// The world of a header, before any event, with the keys and the coins that are dealt from its master key. The one
+    /// error is want of memory.
+    pub fn new(alloc: Global, header: Header) -> Result<Played<S, E>, Mem>
         requires heading { IsHeading (heading header) }
         requires serves { S.rules.serves header.mode.root ≡ true }
         requires form { E.FORM ≡ other_form header.mode }
         ensures stands { let m = layers_by S.stands S.rules S.shown E.stands E.rules E.shown in IfOk result (λ x. StandsFor m x []) }
-        ensures header { IfOk result (λ x. x.header ≡ header) }
-        ensures none { IfOk result (λ x. total x.counts ≡ 0) }
+        ensures header { IfOk result (λ x. header_in x ≡ header) }
+        ensures none { IfOk result (λ x. answered x ≡ 0) }
     {
         let keys = deal_keys(alloc, &header)?;
         let coins = deal_coins(alloc, &header)?;
         let world = World::new(alloc, header.p, header.mode, header.correct, keys, coins)?;
-        Ok(Replayed {
+        Ok(Played {
             header,
             world,
             counts: Counts::new(),
         })
     }
 
-    // Lets one event more happen.
-    fn step(&mut self, alloc: Global, event: &Event) -> Result<(), Mem>
-        requires { total self.old.counts < 2 ^ 64 - 1 }
+    /// Lets one event more happen, of at most 2^64 - 1. Its numbers are to be those of replicas, below n, and a frame's
+    /// receiver not its sender. The one error is want of memory, after which it stands for nothing.
+    pub fn event(&mut self, alloc: Global, event: &Event) -> Result<(), Mem>
+        requires { answered self.old < 2 ^ 64 - 1 }
         ensures stands { let m = layers_by S.stands S.rules S.shown E.stands E.rules E.shown in
-            (es : List Event) → StandsFor m self.old es → MayHappen self.old.header.p.n event.now
+            (es : List Event) → StandsFor m self.old es → MayHappen (header_in self.old).p.n event.now
             → OnOk result (StandsFor m self.new (event.now ∷ es)) }
-        ensures header { self.new.header ≡ self.old.header }
-        ensures one { total self.new.counts ≤ total self.old.counts + 1 }
+        ensures header { header_in self.new ≡ header_in self.old }
+        ensures one { answered self.new ≤ answered self.old + 1 }
     {
         let seen = self.world.event(alloc, event)?;
         self.counts.count(&seen);
         Ok(())
+    }
+
+    /// The world after these events.
+    pub fn world(&self) -> &World<S, E, SeedCoin>
+        ensures { let m = layers_by S.stands S.rules S.shown E.stands E.rules E.shown in
+            (es : List Event) → StandsFor m self.now es → WorldStands m result.now (setting_by S.rules E.rules (header_in self.now)) es }
+    {
+        &self.world
     }
 
     // Takes the events up to the end of the file.
@@ -87,7 +97,7 @@ impl<S: Service, E: Broadcast> Replayed<S, E> {
     ) -> Result<(), FileFault>
         requires open { reader.old.stage ≡ Open }
         requires n { reader.old.n ≡ self.old.header.p.n }
-        requires none { total self.old.counts ≡ 0 }
+        requires none { answered self.old ≡ 0 }
         ensures exact { let m = layers_by S.stands S.rules S.shown E.stands E.rules E.shown in
             I.tells ≡ true → (before : List Event) → StandsFor m self.old before → MatchResult result
             (λ _. (es : List Event) × StandsFor m self.new es
@@ -99,7 +109,7 @@ impl<S: Service, E: Broadcast> Replayed<S, E> {
         for _ in 0..67_108_865u32 {
             match reader.next(alloc, input)? {
                 None => return Ok(()),
-                Some(event) => self.step(alloc, &event)?,
+                Some(event) => self.event(alloc, &event)?,
             }
         }
         Err(FileFault::TooLong)
@@ -114,7 +124,7 @@ pub(crate) fn load<S: Service, E: Broadcast, I: Source>(
     header: Header,
     reader: &mut Reader,
     input: &mut I,
-) -> Result<Replayed<S, E>, FileFault>
+) -> Result<Played<S, E>, FileFault>
     requires heading { IsHeading (heading header) }
     requires serves { S.rules.serves header.mode.root ≡ true }
     requires form { E.FORM ≡ other_form header.mode }
@@ -128,7 +138,7 @@ pub(crate) fn load<S: Service, E: Broadcast, I: Source>(
     ensures header { IfOk result (λ x. x.header ≡ header) }
     ensures cause { HasCause (I.faults input.old) (I.faults input.new) (result ≡ Err Read) }
 {
-    let mut replayed = Replayed::new(alloc, header)?;
-    replayed.play(alloc, reader, input)?;
-    Ok(replayed)
+    let mut played = Played::new(alloc, header)?;
+    played.play(alloc, reader, input)?;
+    Ok(played)
 }

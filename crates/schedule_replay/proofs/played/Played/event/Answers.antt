@@ -2,7 +2,7 @@ use Rattle.std.proofs.Common.{◌<◌, ◌-◌, ◌^◌, length, ◌∙◌, ap, 
 use Rattle.world_model.specs.Counts.{counts_of, counted, total}
 use Rattle.schedule_replay.specs.Layers.{setting_by}
 use Rattle.schedule_replay.proofs.Totals.{all_counted}
-use Rattle.schedule_replay.proofs.replayed.Replayed.step.Goals as goal
+use Rattle.schedule_replay.proofs.played.Played.event.Goals as goal
 
 pub returns-clause-stands : goal.returns-clause-stands
 unfolding counts_of

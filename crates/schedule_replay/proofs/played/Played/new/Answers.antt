@@ -8,7 +8,7 @@ use Rattle.world_model.specs.Stands.{IsWorldOf, AreKeys}
 use Rattle.schedule_replay.specs.Layers.{dealt_to, coin_to, setting_by, layers_by}
 use Rattle.schedule_replay.proofs.Deals.{member_within}
 use Rattle.schedule_replay.proofs.Dealt.{own_keys, world_of_header}
-use Rattle.schedule_replay.proofs.replayed.Replayed.new.Goals as goal
+use Rattle.schedule_replay.proofs.played.Played.new.Goals as goal
 
 pub new-requires-clause-rows : goal.new-requires-clause-rows
 new-requires-clause-rows g c = ap length c.in_ok-keys.ensures ∙ length-map-range_with_len (dealt_to c.args.header) 0 c.args.header.p.n

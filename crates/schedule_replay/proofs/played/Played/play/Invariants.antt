@@ -6,8 +6,8 @@ use Rattle.schedule_file.specs.ReadEvents.{events_at}
 use Rattle.world_model.specs.Counts.{total}
 use Rattle.schedule_replay.specs.Layers.{layers_by}
 use Rattle.schedule_replay.specs.Onto.{onto}
-use Rattle.schedule_replay.specs.Replayed.{StandsFor}
-use Rattle.schedule_replay.proofs.replayed.Replayed.play.Given as goal
+use Rattle.schedule_replay.specs.Played.{StandsFor}
+use Rattle.schedule_replay.proofs.played.Played.play.Given as goal
 
 abbrev pub invariant-loop : goal.invariant-loop
 invariant-loop g l =
