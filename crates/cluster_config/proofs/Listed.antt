@@ -1,0 +1,192 @@
+-- The job of words that begin with no hyphen.
+use Rattle.std.proofs.Common.{◌≡◌, ◌∙◌, ◌↔◌, Bool, true, false, List, [], ◌∷◌, ◌++◌, Option, Some, None, refl, ap, sym, subst, codes, append-nil, append_assoc}
+use Rattle.std.specs.Prelude.{fold, if◌then◌else◌}
+use Rattle.std.specs.List.{AllByRecursion}
+use Rattle.std.specs.Str.{bytes_eq}
+use Rattle.std.proofs.lemmas.Slice.Eq.{bytes_eq-Decides}
+use Rattle.clap.specs.Words.{Rule, Shape, Text, built, fault_of, subcommand_of}
+use Rattle.clap.specs.Simple.{rows_at, names_of, entered}
+use Rattle.clap.specs.Walk.{Names, Walk, nothing_held, walk_from, walked}
+use Rattle.clap.specs.Faults.{level_fault, walk_fault}
+use Rattle.clap.specs.Kinds.{Kinds, or_else}
+use Rattle.clap.specs.declared.error.kind.ErrorKind.TheVariants as kind
+use Rattle.clap.proofs.OnLiterals.{clap_on_literals}
+use Rattle.ritas_base.specs.declared.what.What.TheVariants as what
+use Rattle.ritas_base.specs.declared.what.DriveWhat.TheVariants as drive_what
+use Rattle.cluster_config.specs.declared.job.Job.{Job}
+use Rattle.cluster_config.specs.declared.job.Job.TheVariants.{Replay, Drive}
+use Rattle.cluster_config.specs.Words.{is_hyphened, job_of, job_named, replay_named, drive_named, list_of}
+use Rattle.cluster_config.specs.Command.{with_value, ritas}
+use Rattle.cluster_config.proofs.Walks.{sub, no_hyphen, no_dashes, no_value, one_value, two_values, value_is}
+
+-- ---- from the subcommand on, the words are its own
+
+abbrev stopped_at : Walk → Text → List Text → Walk
+stopped_at w name words = record w { stopped = Some (name, words) }
+
+stopped_walk : (c : List Rule) (names : Names) (w : Walk) (name : Text) (before rest : List Text)
+    → fold (walked c names) (stopped_at w name before) rest ≡ stopped_at w name (before ++ rest)
+unfolding walked
+stopped_walk c names w name before [] = rw append-nil refl
+stopped_walk c names w name before (x ∷ rest) = stopped_walk c names w name (before ++ x ∷ []) rest ∙ ap (stopped_at w name) (append_assoc before (x ∷ []) rest)
+
+stopped_fault : (s : Shape) (names : Names) (w : Walk) (name : Text) (before rest : List Text)
+    → walk_fault s names (stopped_at w name before) rest ≡ []
+unfolding walked walk_fault
+stopped_fault s names w name before [] = refl
+stopped_fault s names w name before (x ∷ rest) = stopped_fault s names w name (before ++ x ∷ []) rest
+
+abbrev names : Names
+names = names_of (built ritas)
+
+abbrev start : Walk
+start = walk_from nothing_held
+
+abbrev Enters : Text → Shape → Type 0
+Enters w s = (n : Text) (rest : List Text) → fault_of ritas (n ∷ w ∷ rest) ≡ level_fault (sub s) [] nothing_held rest false []
+
+abbrev Meets : Text → Shape → Type 0
+Meets w s = (n : Text) (rest : List Text) → subcommand_of ritas (n ∷ w ∷ rest) ≡ Some (rows_at (sub s) rest)
+
+no_more : (ks : Kinds) → or_else ks [] ≡ ks
+no_more [] = refl
+no_more (k ∷ ks) = refl
+
+enters_replay : Enters (codes "replay") (with_value (codes "replay"))
+unfolding clap_on_literals
+enters_replay n rest =
+    let walks = stopped_walk [] names start (codes "replay") [] rest in
+    let faults = stopped_fault (built ritas).top names start (codes "replay") [] rest in
+    rw (walks, faults) (no_more _)
+
+meets_replay : Meets (codes "replay") (with_value (codes "replay"))
+unfolding clap_on_literals
+meets_replay n rest =
+    let walks = stopped_walk [] names start (codes "replay") [] rest in
+    ap (λ (w : Walk). entered (built ritas) w.stopped) walks
+
+enters_drive : Enters (codes "drive") (with_value (codes "drive"))
+unfolding clap_on_literals
+enters_drive n rest =
+    let walks = stopped_walk [] names start (codes "drive") [] rest in
+    let faults = stopped_fault (built ritas).top names start (codes "drive") [] rest in
+    rw (walks, faults) (no_more _)
+
+meets_drive : Meets (codes "drive") (with_value (codes "drive"))
+unfolding clap_on_literals
+meets_drive n rest =
+    let walks = stopped_walk [] names start (codes "drive") [] rest in
+    ap (λ (w : Walk). entered (built ritas) w.stopped) walks
+
+-- ---- words that enter no subcommand
+
+abbrev Unnamed : Text → Type 0
+Unnamed w = (bytes_eq (codes "replay") w ≡ false) × (bytes_eq (codes "drive") w ≡ false)
+
+stray : (n w : Text) (rest : List Text) → is_hyphened w ≡ false → Unnamed w → fault_of ritas (n ∷ w ∷ rest) ≡ kind.UnknownArgument ∷ kind.InvalidSubcommand ∷ []
+unfolding clap_on_literals
+stray n w rest plain unnamed =
+    let stripped = no_hyphen w plain in
+    let dashes = no_dashes w plain in
+    rw (unnamed.0, unnamed.1, dashes, stripped, stripped) refl
+
+none : (n : Text) → fault_of ritas (n ∷ []) ≡ kind.MissingSubcommand ∷ []
+unfolding clap_on_literals
+none n = refl
+
+-- ---- the job that the words list
+
+abbrev with_one : (Option Text → Option Job) → List Text → Option Job
+with_one f [] = None
+with_one f (v ∷ []) = f (Some v)
+with_one f (v ∷ u ∷ rest) = None
+
+abbrev listed : List Text → Option Job
+listed [] = None
+listed (w ∷ rest) = if bytes_eq (codes "replay") w then with_one replay_named rest
+    else (if bytes_eq (codes "drive") w then with_one drive_named rest else None)
+
+abbrev ArePlain : List Text → Type 0
+ArePlain = AllByRecursion (λ w. is_hyphened w ≡ false)
+
+valued : (w : Text) (f : Option Text → Option Job) → Enters w (with_value w) → Meets w (with_value w) → ((o : Option Text) → job_named w o ≡ f o)
+    → (n : Text) (rest : List Text) → ArePlain rest → job_of (n ∷ w ∷ rest) ≡ with_one f rest
+unfolding job_of
+valued w f enters meets same n [] plain = rw (enters n [], no_value w) refl
+valued w f enters meets same n (v ∷ []) plain = rw (enters n (v ∷ []), one_value w v plain.0, meets n (v ∷ []), value_is w v plain.0) (same (Some v))
+valued w f enters meets same n (v ∷ u ∷ rest) plain = rw (enters n (v ∷ u ∷ rest), two_values w v u rest plain.0 plain.1.0) refl
+
+pick : (b : Bool) (g one other : Option Job) → (b ≡ true → g ≡ one) → (b ≡ false → g ≡ other) → g ≡ (if b then one else other)
+pick true g one other f h = f refl
+pick false g one other f h = h refl
+
+named : (n w name : Text) (rest : List Text) (job : Option Job) → bytes_eq name w ≡ true → job_of (n ∷ name ∷ rest) ≡ job → job_of (n ∷ w ∷ rest) ≡ job
+named n w name rest job same at = subst (λ (v : Text). job_of (n ∷ v ∷ rest) ≡ job) ((bytes_eq-Decides name w).0 same) at
+
+stray_job : (n w : Text) (rest : List Text) → is_hyphened w ≡ false → Unnamed w → job_of (n ∷ w ∷ rest) ≡ None
+unfolding job_of
+stray_job n w rest plain unnamed = rw (stray n w rest plain unnamed) refl
+
+no_job : (n : Text) → job_of (n ∷ []) ≡ None
+unfolding job_of
+no_job n = rw (none n) refl
+
+job_listed : (n : Text) (words : List Text) → ArePlain words → job_of (n ∷ words) ≡ listed words
+job_listed n [] plain = no_job n
+job_listed n (w ∷ rest) plain =
+    let at = job_of (n ∷ w ∷ rest) in
+    pick (bytes_eq (codes "replay") w) at _ _ (λ same. named n w (codes "replay") rest _ same (valued (codes "replay") replay_named enters_replay meets_replay (λ o. refl) n rest plain.1)) (λ other.
+    pick (bytes_eq (codes "drive") w) at _ _ (λ same. named n w (codes "drive") rest _ same (valued (codes "drive") drive_named enters_drive meets_drive (λ o. refl) n rest plain.1)) (λ another.
+    stray_job n w rest plain.0 (other, another)))
+
+-- ---- the lists of the table
+
+listed_back : (job : Job) → listed (list_of job) ≡ Some job
+listed_back (Replay what.Report) = refl
+listed_back (Replay what.Frames) = refl
+listed_back (Drive drive_what.Report) = refl
+listed_back (Drive drive_what.Schedule) = refl
+
+split : {G : Type 0} (b : Bool) (one other : Option Job) (job : Job) → (b ≡ true → one ≡ Some job → G) → (other ≡ Some job → G) → (if b then one else other) ≡ Some job → G
+split true one other job f h e = f refl e
+split false one other job f h e = h e
+
+word_is : (name w : Text) → bytes_eq name w ≡ true → w ≡ name
+word_is name w same = sym ((bytes_eq-Decides name w).0 same)
+
+is_job : (j job : Job) → Some j ≡ Some job → j ≡ job
+is_job j job e = cc
+
+value_of : (f : Option Text → Option Job) (rest : List Text) (job : Job) → with_one f rest ≡ Some job → (v : Text) × (rest ≡ v ∷ []) × (f (Some v) ≡ Some job)
+value_of f [] job e = absurd cc
+value_of f (v ∷ []) job e = (v, refl, e)
+value_of f (v ∷ u ∷ rest) job e = absurd cc
+
+replay_value : (v : Text) (job : Job) → replay_named (Some v) ≡ Some job → codes "replay" ∷ v ∷ [] ≡ list_of job
+replay_value v job =
+    split (bytes_eq v (codes "report")) _ _ job (λ same e. rw (← is_job (Replay what.Report) job e, (bytes_eq-Decides v (codes "report")).0 same) refl)
+    (split (bytes_eq v (codes "frames")) _ _ job (λ same e. rw (← is_job (Replay what.Frames) job e, (bytes_eq-Decides v (codes "frames")).0 same) refl) (λ e. absurd cc))
+
+drive_value : (v : Text) (job : Job) → drive_named (Some v) ≡ Some job → codes "drive" ∷ v ∷ [] ≡ list_of job
+drive_value v job =
+    split (bytes_eq v (codes "report")) _ _ job (λ same e. rw (← is_job (Drive drive_what.Report) job e, (bytes_eq-Decides v (codes "report")).0 same) refl)
+    (split (bytes_eq v (codes "schedule")) _ _ job (λ same e. rw (← is_job (Drive drive_what.Schedule) job e, (bytes_eq-Decides v (codes "schedule")).0 same) refl) (λ e. absurd cc))
+
+valued_is : (f : Option Text → Option Job) (name w : Text) (rest : List Text) (job : Job) → ((v : Text) → f (Some v) ≡ Some job → name ∷ v ∷ [] ≡ list_of job)
+    → bytes_eq name w ≡ true → with_one f rest ≡ Some job → w ∷ rest ≡ list_of job
+valued_is f name w rest job back same e =
+    let value = value_of f rest job e in
+    rw (word_is name w same, value.1) (back value.0 value.2)
+
+listed_is : (words : List Text) (job : Job) → listed words ≡ Some job → words ≡ list_of job
+listed_is [] job e = absurd cc
+listed_is (w ∷ rest) job e =
+    split (bytes_eq (codes "replay") w) _ _ job (valued_is replay_named (codes "replay") w rest job (λ v. replay_value v job))
+    (split (bytes_eq (codes "drive") w) _ _ job (valued_is drive_named (codes "drive") w rest job (λ v. drive_value v job)) (λ d. absurd cc)) e
+
+-- the words name a job exactly where they are its list
+pub words_name : (n : Text) (words : List Text) (job : Job) → ArePlain words → (job_of (n ∷ words) ≡ Some job) ↔ (words ≡ list_of job)
+words_name n words job plain = (
+  λ e. listed_is words job (sym (job_listed n words plain) ∙ e),
+  λ e. job_listed n words plain ∙ ap listed e ∙ listed_back job,
+)

@@ -1,0 +1,50 @@
+-- The configuration of a schedule that is to be made: its lines, in their order.
+use Rattle.std.specs.Prelude.{ℕ, List, codes, refl}
+use Rattle.ritas_base.specs.Numbers.{Numbers}
+use Rattle.ritas_base.specs.declared.mode.Vect.{Vect}
+use Rattle.ritas_base.specs.declared.plan.Order.{Order}
+use Rattle.ritas_base.specs.declared.plan.Attack.{Attack}
+use Rattle.ritas_base.specs.declared.plan.Plan.{Plan}
+use Rattle.cluster_config.specs.Values.{most, number_in, numbers_in, vect_in, key_in, order_in, attack_in}
+use Rattle.cluster_config.specs.Columns.{Column, Done, Line}
+
+-- what a plan says
+pub record Planned : Type 0 where
+  pub session : ℕ
+  pub p : Numbers
+  pub root : ℕ
+  pub vect : Vect
+  pub master : List ℕ
+  pub order : Order
+  pub attack : Attack
+  pub start : ℕ
+  pub commands : ℕ
+
+abbrev pub planned : Plan → Planned
+planned plan = record {
+  session = plan.session;
+  p = plan.p;
+  root = plan.mode.root;
+  vect = plan.mode.vect;
+  master = plan.master;
+  order = plan.order;
+  attack = plan.attack;
+  start = plan.start_number;
+  commands = plan.commands;
+}
+
+-- the lines of a plan
+unfoldable pub drive_column : Column Planned
+drive_column =
+    Line (codes "ritas") refl (number_in 1 1) (λ format.
+    Line (codes "session") refl (number_in 0 most) (λ session.
+    Line (codes "n") refl (number_in 1 31) (λ n.
+    Line (codes "f") refl (numbers_in n) (λ p.
+    Line (codes "root") refl (number_in 1 6) (λ root.
+    Line (codes "vect") refl vect_in (λ vect.
+    Line (codes "master") refl key_in (λ master.
+    Line (codes "order") refl order_in (λ order.
+    Line (codes "attack") refl attack_in (λ attack.
+    Line (codes "start") refl (number_in 0 most) (λ start.
+    Line (codes "commands") refl (number_in 0 10000) (λ commands.
+    Done (record { session = session; p = p; root = root; vect = vect; master = master; order = order; attack = attack; start = start; commands = commands }))))))))))))

@@ -1,0 +1,10 @@
+use ritas_base::{DriveWhat, What};
+
+/// What a run is asked to do.
+#[derive(Clone, Copy, Debug, PartialEq, Eq)]
+pub enum Job {
+    /// Replays a schedule that it reads.
+    Replay(What),
+    /// Makes a schedule of a plan that it reads.
+    Drive(DriveWhat),
+}
