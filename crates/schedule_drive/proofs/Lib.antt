@@ -1,0 +1,5 @@
+pub mod Driving
+pub mod Limits
+pub mod Planned
+pub mod Showing
+pub mod Whole

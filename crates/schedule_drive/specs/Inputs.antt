@@ -1,0 +1,54 @@
+-- The inputs of a plan, which come first.
+use Rattle.std.specs.Prelude.{ℕ, ◌/◌, ◌%◌, ◌==◌, ◌||◌, Bool, List, [], ◌∷◌, ◌++◌, map, if◌then◌else◌}
+use Rattle.std.specs.List.{flat_map, range_with_len}
+use Rattle.std.specs.Int.{w32, to_be_bytes}
+use Rattle.ritas_base.specs.declared.plan.Plan.{Plan}
+use Rattle.ritas_base.specs.declared.plan.Attack.{Attack}
+use Rattle.ritas_base.specs.declared.plan.Attack.TheVariants.{TwoFace, Flip}
+use Rattle.world_model.specs.Players.{Player, Correct, Face, Step, Give}
+use Rattle.schedule_drive.specs.Plans.{correct_of, players_of}
+
+abbrev pub number_text : ℕ → List ℕ
+number_text k = to_be_bytes w32 k
+
+-- the input of value v in root services 3, 4 and 5
+abbrev pub value_text : ℕ → ℕ → List ℕ
+value_text root v = if root == 3 then v % 2 ∷ [] else number_text v
+
+-- command k of a client: in root services 1 and 2 its number, in root service 6 the client, the request and k
+abbrev pub command_text : ℕ → ℕ → ℕ → ℕ → List ℕ
+command_text root client request k = if root == 6 then number_text client ++ number_text request ++ number_text k else number_text k
+
+abbrev pub takes_commands : ℕ → Bool
+takes_commands root = root == 1 || (root == 2 || root == 6)
+
+-- the commands go to the correct replicas in turn
+abbrev pub command_at : Plan → ℕ → Step
+command_at p k = let i = k % correct_of p in Give (Correct i) (command_text p.mode.root i k k)
+
+-- each correct replica gets one value, of so many different ones
+abbrev pub value_at : Plan → ℕ → Step
+value_at p i = Give (Correct i) (value_text p.mode.root (i % p.commands))
+
+abbrev pub correct_inputs : Plan → List Step
+correct_inputs p =
+    if takes_commands p.mode.root then map (command_at p) (range_with_len 0 p.commands)
+    else (if p.commands == 0 then [] else map (value_at p) (range_with_len 0 (correct_of p)))
+
+-- a face that exchanges bits gets the value of its replica, and each of two faces one of its own
+abbrev pub flip_inputs : Plan → Player → List Step
+flip_inputs p (Correct i) = []
+flip_inputs p (Face a) = if takes_commands p.mode.root || p.commands == 0 then [] else Give (Face a) (value_text p.mode.root (a / 2 % p.commands)) ∷ []
+
+abbrev pub two_inputs : Plan → Player → List Step
+two_inputs p (Correct i) = []
+two_inputs p (Face a) = Give (Face a) (if takes_commands p.mode.root then command_text p.mode.root a 0 a else value_text p.mode.root a) ∷ []
+
+abbrev pub face_inputs : Plan → Attack → List Step
+face_inputs p Flip = flat_map (flip_inputs p) (players_of p)
+face_inputs p TwoFace = flat_map (two_inputs p) (players_of p)
+face_inputs p _ = []
+
+-- the oldest first
+abbrev pub inputs_of : Plan → List Step
+inputs_of p = correct_inputs p ++ face_inputs p p.attack

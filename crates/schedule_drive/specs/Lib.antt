@@ -1,0 +1,9 @@
+pub mod Flips
+pub mod Plans
+pub mod Inputs
+pub mod Garbage
+pub mod Sweeps
+pub mod Picks
+pub mod Schedule
+pub mod Laws
+pub mod Rows
