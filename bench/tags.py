@@ -1,0 +1,112 @@
+"""What the benchmarks have in common: the program, its processor time and memory, and OpenSSL's tags with the pads of each key kept."""
+import ctypes
+import hmac
+import os
+import resource
+import struct
+import subprocess
+import sys
+
+N, SESSION = 31, 0
+MASTER = bytes(32)
+RUNS = 5
+HERE = os.path.dirname(os.path.abspath(__file__))
+
+
+def tag(key: bytes, text: bytes) -> bytes:
+    return hmac.digest(key, text, "sha256")
+
+
+def pair_key(i: int, j: int) -> bytes:
+    return tag(MASTER, b"\x4b" + struct.pack(">Q", SESSION) + bytes([min(i, j), max(i, j)]))
+
+
+KEYS = [pair_key(0, j) for j in range(N)]
+
+
+C_SOURCE = r"""
+#include <openssl/sha.h>
+#include <stdint.h>
+#include <time.h>
+
+struct pads { SHA256_CTX inner, outer; };
+
+static void hash_pad(SHA256_CTX *state, const uint8_t *key, uint8_t with) {
+    uint8_t pad[64];
+    for (int k = 0; k < 64; k++) pad[k] = (k < 32 ? key[k] : 0) ^ with;
+    SHA256_Init(state);
+    SHA256_Update(state, pad, 64);
+}
+
+static void tag(const struct pads *pads, const uint8_t *text, size_t count, uint8_t *out) {
+    SHA256_CTX state = pads->inner;
+    SHA256_Update(&state, text, count);
+    SHA256_Final(out, &state);
+    state = pads->outer;
+    SHA256_Update(&state, out, 32);
+    SHA256_Final(out, &state);
+}
+
+/* texts: for each a key's number (1 byte), a length (2 bytes, big-endian), and so many bytes; last: the last one's tag */
+double tag_all(const uint8_t *keys, const uint8_t *texts, size_t size, uint8_t *last) {
+    struct timespec from, to;
+    struct pads kept[31];
+    for (int j = 0; j < 31; j++) {
+        hash_pad(&kept[j].inner, keys + 32 * j, 0x36);
+        hash_pad(&kept[j].outer, keys + 32 * j, 0x5c);
+    }
+    clock_gettime(CLOCK_PROCESS_CPUTIME_ID, &from);
+    for (size_t at = 0; at < size;) {
+        size_t count = ((size_t)texts[at + 1] << 8) | texts[at + 2];
+        tag(&kept[texts[at]], texts + at + 3, count, last);
+        at += 3 + count;
+    }
+    clock_gettime(CLOCK_PROCESS_CPUTIME_ID, &to);
+    return (double)(to.tv_sec - from.tv_sec) + 1e-9 * (double)(to.tv_nsec - from.tv_nsec);
+}
+"""
+
+
+def openssl(folder: str, tagged) -> float:
+    source, library = os.path.join(folder, "tags.c"), os.path.join(folder, "tags.so")
+    with open(source, "w") as file:
+        file.write(C_SOURCE)
+    done = subprocess.run(["gcc", "-O2", "-w", "-shared", "-fPIC", source, "-o", library, "-lcrypto"])
+    if done.returncode != 0:
+        sys.exit("bench: OpenSSL's headers are wanted (package libssl-dev)")
+    call = ctypes.CDLL(library).tag_all
+    call.restype = ctypes.c_double
+    texts = b"".join(bytes([peer]) + struct.pack(">H", len(head)) + head for peer, head in tagged)
+    last = ctypes.create_string_buffer(32)
+    least = min(call(b"".join(KEYS), texts, ctypes.c_size_t(len(texts)), last) for _ in range(4 * RUNS))
+    peer, text = tagged[-1]
+    if last.raw != tag(KEYS[peer], text):
+        sys.exit("bench: OpenSSL's tag isn't that of Python's hmac")
+    return least
+
+
+def children_time() -> float:
+    used = resource.getrusage(resource.RUSAGE_CHILDREN)
+    return used.ru_utime + used.ru_stime
+
+
+def program() -> str:
+    return os.path.join(HERE, "..", "crates", "ritas", "out", "ritas")
+
+
+def build() -> None:
+    """Builds the program where it isn't built, which it tells as it goes: with no words it writes how it is used."""
+    built = subprocess.run([os.path.join(HERE, "..", "ritas")], stdin=subprocess.DEVNULL, stdout=subprocess.DEVNULL)
+    if built.returncode != 2:
+        sys.exit("bench: the program isn't built")
+
+
+def most_memory(file: str, *words: str) -> int:
+    """The most KiB that the program held, with these words and this file as its input."""
+    script = (
+        "import resource, subprocess, sys\n"
+        "subprocess.run(sys.argv[2:], stdin=open(sys.argv[1], 'rb'), stdout=subprocess.DEVNULL)\n"
+        "print(resource.getrusage(resource.RUSAGE_CHILDREN).ru_maxrss)\n"
+    )
+    done = subprocess.run([sys.executable, "-c", script, file, program(), *words], capture_output=True, check=True)
+    return int(done.stdout)
