@@ -41,6 +41,7 @@ mod made;
 mod met;
 mod order;
 mod played;
+mod player;
 mod rows;
 mod seats;
 mod seen;
@@ -58,5 +59,6 @@ pub use laws::{
 };
 pub use order::Made;
 pub use played::forges_nothing;
+pub use player::Player;
 pub use seen::Seen;
 pub use world::World;
