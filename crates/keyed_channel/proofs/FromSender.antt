@@ -20,12 +20,12 @@ use Rattle.keyed_channel.proofs.Dealt.{key_with-dealt, pair_key_swapped}
 -- ---- the tests
 
 -- each test that needs no key is passed
-record AllPassed (a b c d e : Bool) : Type 0 where
-  long : a ≡ true
-  short : b ≡ true
-  version : c ≡ true
-  mine : d ≡ true
-  peer : e ≡ true
+pub record AllPassed (a b c d e : Bool) : Type 0 where
+  pub long : a ≡ true
+  pub short : b ≡ true
+  pub version : c ≡ true
+  pub mine : d ≡ true
+  pub peer : e ≡ true
 
 five_passed : (a b c d e : Bool) → five a b c d e ≡ None → AllPassed a b c d e
 five_passed false b c d e h = cc
@@ -35,11 +35,11 @@ five_passed true true true false e h = cc
 five_passed true true true true false h = cc
 five_passed true true true true true h = record { long = refl; short = refl; version = refl; mine = refl; peer = refl }
 
-passed : (k : KeyRow) (bytes : List ℕ) → plain_fault k bytes ≡ None
+pub passed : (k : KeyRow) (bytes : List ℕ) → plain_fault k bytes ≡ None
     → AllPassed (nat_le 43 (length bytes)) (nat_le (length bytes) 16384) (version_of bytes == 1) (receiver_of bytes == k.me) (is_peer k (sender_of bytes))
 passed k bytes h = five_passed _ _ _ _ _ h
 
-both_true : (a b : Bool) → (a && b) ≡ true → (a ≡ true) × (b ≡ true)
+pub both_true : (a b : Bool) → (a && b) ≡ true → (a ≡ true) × (b ≡ true)
 both_true true b h = (refl, h)
 both_true false b h = cc
 

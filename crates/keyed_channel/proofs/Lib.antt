@@ -4,3 +4,4 @@ mod Opens
 mod Dealt
 mod Sealing
 mod FromSender
+mod Shared

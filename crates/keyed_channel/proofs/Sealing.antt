@@ -32,12 +32,12 @@ sealed_length_holds k to seq body =
     omega (arith, length-append front tag, length-front k.me to seq body, length-hmac_of (key_with k to) front)
 
 -- a front with a tag behind it comes apart again
-front_is : (front tag : List ℕ) → length tag ≡ 32 → front_of (front ++ tag) ≡ front
+pub front_is : (front tag : List ℕ) → length tag ≡ 32 → front_of (front ++ tag) ≡ front
 front_is front tag long =
     let at : length (front ++ tag) - 32 ≡ length front = omega (arith, length-append front tag) in
     ap (λ k. take k (front ++ tag)) at ∙ take-append_seam front tag
 
-tag_is : (front tag : List ℕ) → length tag ≡ 32 → tag_of (front ++ tag) ≡ tag
+pub tag_is : (front tag : List ℕ) → length tag ≡ 32 → tag_of (front ++ tag) ≡ tag
 tag_is front tag long =
     let at : length (front ++ tag) - 32 ≡ length front = omega (arith, length-append front tag) in
     ap (λ k. drop k (front ++ tag)) at ∙ drop-append_seam front tag

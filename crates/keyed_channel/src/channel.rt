@@ -1,4 +1,4 @@
-ghost use Rattle.std.specs.Prelude.{◌≡◌, ◌<◌, IfOk, MatchResult, Ok, Err};
+ghost use Rattle.std.specs.Prelude.{◌≡◌, ℕ, ◌<◌, true, List, IfOk, IsErr, MatchOption, MatchResult, Ok, Err};
 ghost use Rattle.keyed_channel.specs.Hmac.{hmac_of};
 ghost use Rattle.keyed_channel.specs.KeyRow.{key_with, shares_key};
 ghost use Rattle.keyed_channel.specs.Keyed.{entry_of, tags_of};
@@ -90,6 +90,23 @@ impl Channel {
             return Err(OpenFault::BadTag);
         }
         Ok(parts(bytes))
+    }
+
+    /// What a frame opens to that the sender sealed, where the two share their key: then its tag is right, and isn't
+    /// computed. `None` where they don't share it, or the frame doesn't open. Of bytes that the sender didn't seal nothing
+    /// is said. It takes no memory.
+    pub fn open_shared<'a>(&self, sender: &Channel, bytes: &'a [u8]) -> Option<Opened<'a>>
+        ensures { (to seq : ℕ) (body : List ℕ) → bytes.now ≡ sealed sender.now to seq body → MatchOption result
+            (shares_key self.now sender.now ≡ true → IsErr (opening self.now bytes.now))
+            (λ o. opening self.now bytes.now ≡ Ok (record { from = o.from; seq = o.seq; body = o.body.now })) }
+    {
+        if !self.shares_key(sender) {
+            return None;
+        }
+        match check(&self.keys, bytes) {
+            Ok(()) => Some(parts(bytes)),
+            Err(_) => None,
+        }
     }
 }
 

@@ -18,8 +18,9 @@
 //! seals (`opens_sealed`); and with whatever keys, what opens of a sealed frame is what was sealed (`opens_as_sealed`).
 //! That nobody without the key makes up such a tag is no part of what is proved.
 //!
-//! `Channel` seals, opens and tags entries with the same contracts, and hashes the pads of each key once. Nothing is said of how long a
-//! call takes, and so nothing of what its time tells about a key.
+//! `Channel` seals, opens and tags entries with the same contracts, and hashes the pads of each key once. A frame that is
+//! known to be sealed by a channel which shares its key needs no tag to be opened (`Channel::open_shared`). Nothing is said
+//! of how long a call takes, and so nothing of what its time tells about a key.
 #![tactic(auto)]
 
 mod channel;

@@ -102,6 +102,11 @@ fn a_channel_opens(rt: HostRuntime) -> Result<(), Fail> {
     let opened = receiver.open(frame.as_slice())?;
     assert_eq!(rt; (opened.from, opened.seq), (3, 258));
     assert_eq!(rt; opened.body, b"\xaa\xbb".as_slice());
+    let shared = receiver
+        .open_shared(&sender, frame.as_slice())
+        .expect(&rt, "opens");
+    assert_eq!(rt; (shared.from, shared.seq), (3, 258));
+    assert_eq!(rt; shared.body, b"\xaa\xbb".as_slice());
     Ok(())
 }
 
