@@ -79,3 +79,8 @@ Does Stands new call before after result r k st = Handles Stands new call before
 -- whatever state the replica stands for
 abbrev pub DoesAll : {R : Type 0} → (R → Rules → KeyRow → CoreState → Type 0) → R → R → Call → List OutFrame → List OutFrame → Result Answer Refusal → Type 0
 DoesAll Stands old new call before after result = (r : Rules) (k : KeyRow) (st : CoreState) → Stands old r k st → Does Stands new call before after result r k st
+
+-- the same of each frame that opens as from this sender with this body, whatever its number
+abbrev pub DoesOpened : {R : Type 0} → (R → Rules → KeyRow → CoreState → Type 0) → R → R → ℕ → List ℕ → List OutFrame → List OutFrame → Result Answer Refusal → Type 0
+DoesOpened Stands old new from body before after result = (r : Rules) (k : KeyRow) (st : CoreState) → Stands old r k st → (bytes : List ℕ) (seq : ℕ)
+    → opening k bytes ≡ Ok (record { from = from; seq = seq; body = body }) → Does Stands new (Frame bytes) before after result r k st

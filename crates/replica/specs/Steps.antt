@@ -45,6 +45,10 @@ Reads r k bytes (Err (refusals.Body body.Mem)) = (item : Item) × IsRead r k byt
 Reads r k bytes (Err (refusals.Body fault)) = IsRead r k bytes (Err fault)
 Reads r k bytes (Err (refusals.Core fault)) = ⊥
 
+-- the same of each frame that opens as from this sender with this body
+abbrev pub ReadsOpened : Rules → KeyRow → ℕ → List ℕ → Result Item Refusal → Type 0
+ReadsOpened r k from body result = (bytes : List ℕ) (seq : ℕ) → opening k bytes ≡ Ok (record { from = from; seq = seq; body = body }) → Reads r k bytes result
+
 -- ---- passing on what the core answered and put out
 
 -- nothing changed

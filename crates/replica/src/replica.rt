@@ -33,9 +33,9 @@ impl<S: Service, E: Broadcast, C: Coin + Drop> Replica<S, E, C> {
     ghost use Rattle.ritas_core.specs.Machine.{CoreState, first_state, with_lost};
     ghost use Rattle.ritas_core.specs.Stands.{CoreStands};
     ghost use Rattle.replica.specs.Handling.{Frame, Input, Turn};
-    ghost use Rattle.replica.specs.Stands.{DoesAll, frames_made};
+    ghost use Rattle.replica.specs.Stands.{DoesAll, DoesOpened, frames_made};
     ghost use Rattle.replica.specs.Replica.{ReplicaStands, StandsAhead, with_keys};
-    ghost use Rattle.replica.specs.Steps.{Reads, PutsOut, SameRest, SameCore, FeedsOnly, FeedsSome, Feeds, Finishes};
+    ghost use Rattle.replica.specs.Steps.{ReadsOpened, PutsOut, SameRest, SameCore, FeedsOnly, FeedsSome, Feeds, Finishes};
     ghost use Rattle.layer_api.specs.Service.{IsPart};
     ghost use Rattle.replica.specs.CommandRows.{rows_at};
 
@@ -130,19 +130,15 @@ impl<S: Service, E: Broadcast, C: Coin + Drop> Replica<S, E, C> {
         }
     }
 
-    // The item that a frame brings.
-    fn read(&self, alloc: Global, bytes: &[u8]) -> Result<Item, Refusal>
+    // The item that a frame from this sender with this body brings.
+    fn read(&self, alloc: Global, from: u8, body: &[u8]) -> Result<Item, Refusal>
         ensures { (r : Rules) (k : KeyRow) (st : CoreState)
             → ReplicaStands (with_keys S.stands S.rules S.shown E.stands E.rules E.shown C.bits) self.now r k st
-            → Reads r k bytes.now result }
+            → ReadsOpened r k from body.now result }
     {
-        let opened = match self.core.tagger().open(bytes) {
-            Ok(opened) => opened,
-            Err(fault) => return Err(Refusal::Open(fault)),
-        };
         let p = self.core.params();
         let mode = self.core.mode();
-        match read_body(alloc, p, mode, opened.from, opened.body) {
+        match read_body(alloc, p, mode, from, body) {
             Ok(item) => Ok(item),
             Err(fault) => Err(Refusal::Body(fault)),
         }
@@ -165,7 +161,30 @@ impl<S: Service, E: Broadcast, C: Coin + Drop> Replica<S, E, C> {
         ensures { DoesAll (ReplicaStands (with_keys S.stands S.rules S.shown E.stands E.rules E.shown C.bits))
             self.old self.new (Frame bytes.now) out.old.items out.new.items result }
     {
-        let item = self.read(alloc, bytes)?;
+        match self.core.tagger().open(bytes) {
+            Ok(opened) => self.on_opened(alloc, opened.from, opened.body, out),
+            Err(fault) => Err(Refusal::Open(fault)),
+        }
+    }
+
+    /// Takes what a frame that came opens to, its sender and its body, and does all that `on_frame` does with that frame,
+    /// but for opening it: no tag is computed. It is for a caller who knows that such a frame opens at this replica, as of
+    /// one that a replica sealed which shares its key. Of any other sender and body nothing is said.
+    ///
+    /// `Body` is answered exactly where the body spells no item, also once the replica is stopped, and `Core` where the
+    /// core refuses the item: each leaves the replica and `out` as they were. `Body(Mem)` and `Core(Mem)` are as in
+    /// `on_frame`, and `Open` doesn't come.
+    pub fn on_opened(
+        &mut self,
+        alloc: Global,
+        from: u8,
+        body: &[u8],
+        out: &mut Vec<OutFrame>,
+    ) -> Result<Answer, Refusal>
+        ensures { DoesOpened (ReplicaStands (with_keys S.stands S.rules S.shown E.stands E.rules E.shown C.bits))
+            self.old self.new from body.now out.old.items out.new.items result }
+    {
+        let item = self.read(alloc, from, body)?;
         if self.stopped {
             return Err(Refusal::Core(CoreFault::Stopped));
         }

@@ -1,23 +1,18 @@
-use Rattle.std.proofs.lemmas.Result.{err_from_is_err_and}
-use Rattle.ritas_core.specs.Machine as core
-use Rattle.replica.specs.Handling.{Frame}
-use Rattle.replica.proofs.Passing.{passes, halted_handles}
-use Rattle.replica.proofs.Opened.{found_call, refuses}
+use Rattle.std.proofs.Common.{ap, sym, ◌∙◌}
+use Rattle.keyed_channel.specs.KeyRow.{KeyRow}
+use Rattle.keyed_channel.specs.Frames.{opening}
+use Rattle.replica.specs.declared.refusal.Refusal.TheVariants as refusals
+use Rattle.replica.proofs.Opened.{refuses}
 use Rattle.replica.proofs.replica.Replica.on_frame.Goals as goal
 
-pub returns-in_err-item : goal.returns-in_err-item
-returns-in_err-item g c = λ r k st stands.
-    let read = c.in_err-item.ensures {u = tt} r k st stands in
-    let p = err_from_is_err_and c.from_residual.result c.from_residual.ensures.1 in
-    rw (p.1, p.2) (refuses _ _ c.args.bytes.now _ r k st _ stands read)
+pub returns-in-Ok : goal.returns-in-Ok
+returns-in-Ok g c = λ r k st stands.
+    let bytes = c.args.bytes.now in
+    let opens = ap (λ (x : KeyRow). opening x bytes) (sym (c.tagger.ensures.value ∙ stands.keys)) ∙ c.in-Ok.ensures in
+    c.on_opened.ensures r k st stands bytes c.in-Ok.opened.seq opens
 
-pub returns-then-self : goal.returns-then-self
-returns-then-self g c = λ r k st stands.
-    let found = c.in_ok-item.ensures {u = tt} r k st stands in
-    halted_handles _ _ (core.Frame c.in_ok-item.item) (Frame c.args.bytes.now) _ r k st stands c.if-self.true (found_call r k st c.args.bytes.now c.in_ok-item.item found)
-
-pub returns : goal.returns
-returns g c = λ r k st stands.
-    let found = c.in_ok-item.ensures {u = tt} r k st stands in
-    passes _ _ _ _ (core.Frame c.in_ok-item.item) (Frame c.args.bytes.now) _ _ _ _ _ _ r k st stands c.if-self.false (found_call r k st c.args.bytes.now c.in_ok-item.item found) found.good
-    c.take-answer.ensures.tagger c.new-msgs.ensures.items c.take-answer.ensures.does c.finish.ensures
+pub returns-in-Err : goal.returns-in-Err
+returns-in-Err g c = λ r k st stands.
+    let bytes = c.args.bytes.now in
+    let fails = ap (λ (x : KeyRow). opening x bytes) (sym (c.tagger.ensures.value ∙ stands.keys)) ∙ c.in-Err.ensures in
+    refuses _ _ bytes c.args.out.now.items r k st (refusals.Open c.in-Err.fault) stands fails
