@@ -7,6 +7,7 @@ use Rattle.ritas_base.specs.declared.bytes.Mem.{Mem}
 use Rattle.ritas_base.specs.declared.event.Event.{Event}
 use Rattle.ritas_base.specs.declared.item.Item.{Item}
 use Rattle.ritas_base.specs.declared.event.Event.TheVariants as events
+use Rattle.layer_api.specs.Runs.{Has}
 use Rattle.frame_codec.specs.Laws.{AnswersGood}
 use Rattle.keyed_channel.specs.KeyRow.{KeyRow}
 use Rattle.ritas_core.specs.Machine.{CoreState}
@@ -19,12 +20,14 @@ use Rattle.world_model.specs.declared.happened.Happened.{Happened}
 use Rattle.world_model.specs.declared.seats.Seats.{Seats}
 use Rattle.world_model.specs.declared.seen.Seen.TheVariants as seen_as
 use Rattle.world_model.specs.World.{Setting, rules_at, CallAt, call_at, frame_at, passed, call_of}
+use Rattle.world_model.specs.Audit.{is_forged_call}
 use Rattle.world_model.specs.Watch.{IsAt, is_forged_frame}
 use Rattle.world_model.specs.FramesMade.{MadeTable, made_in}
-use Rattle.world_model.specs.Stands.{SeatsStand, ReplicasStand, FramesStand}
+use Rattle.world_model.specs.Stands.{SeatsStand, ReplicasStand, FramesStand, frames_from}
 use Rattle.ritas_base.specs.Events.{MayHappen}
 use Rattle.world_model.specs.Steps.{Calls, frames_out, is_took, IsFront, IsFrameItem, Happens, HappensOr, is_opened}
 use Rattle.world_model.proofs.Forging.{IsFound, forged_is}
+use Rattle.world_model.proofs.Members.{got_listed}
 use Rattle.world_model.proofs.Takings.{IsItemOf, good_none, frame_item_is, input_item_is, turn_item_is}
 
 at_either : (w : Setting) (at : ℕ) (call : Call) (b : Bool) → w.is_correct at ≡ b → IsAt w (if b then Some (record { at = at; call = call }) else None) at
@@ -52,6 +55,21 @@ pub frame_happens : {S E C : Type 0} → AnswersGood → (m : Meaning S E C KeyR
 frame_happens good m w seats states t at bytes old places happened before unmade seats_stand stand replicas none calls e found forged item =
     happens m w states at (Frame bytes) places happened before none calls e
     (forged ∙ forged_is w seats states t at bytes unmade happened.seen seats_stand stand (replicas.within at) found calls.seen)
+    (frame_item_is good w seats states at bytes happened.taken happened.seen seats_stand item calls.seen)
+
+-- a frame that doesn't forge
+fair_frame : (w : Setting) (states : ℕ → CoreState) (at : ℕ) (bytes : List ℕ) (b : Bool) → is_forged_call w states at (Frame bytes) ≡ false
+    → is_forged_frame w states (if b then Some (record { at = at; call = Frame bytes }) else None) ≡ false
+fair_frame w states at bytes true fair = fair
+fair_frame w states at bytes false fair = refl
+
+pub opened_happens : {S E C : Type 0} → AnswersGood → (m : Meaning S E C KeyRow) (w : Setting) (seats : Seats) (states : ℕ → CoreState) (at : ℕ) (bytes : List ℕ) (places : List (Option (Replica S E C))) (happened : Happened) (before : List OutFrame) →
+    SeatsStand w seats → before ≡ [] → Calls m w states (call_at w at (Frame bytes)) places before happened.out.items happened.seen
+    → happened.at ≡ at → happened.forged ≡ false → is_forged_call w states at (Frame bytes) ≡ false
+    → IsFrameItem seats.params seats.mode happened.seen bytes happened.taken → Happens m w states (call_at w at (Frame bytes)) places happened
+opened_happens good m w seats states at bytes places happened before seats_stand none calls e forged fair item =
+    happens m w states at (Frame bytes) places happened before none calls e
+    (forged ∙ sym (fair_frame w states at bytes (w.is_correct at) fair))
     (frame_item_is good w seats states at bytes happened.taken happened.seen seats_stand item calls.seen)
 
 -- neither an input nor a turn forges by a frame
@@ -98,6 +116,15 @@ frame_passes_is m w states t from to k list frame bytes places result stand from
     ap (λ x. Some x) (same ∙ read) ∙ sym (slice_get-get_or list k frame within) ∙ ap (λ xs. slice_get xs k) is ∙ passed_is w states t from to k stand from_below to_below other in
     let P : Option (List ℕ) → Type 0 = λ x. HappensOr m w states (frame_at w to x) places result in
     subst P there does
+
+-- it is among those that the sender made
+pub frame_listed : (w : Setting) (states : ℕ → CoreState) (t : MadeTable) (from to k : ℕ) (list : List (List ℕ)) (frame bytes : List ℕ) →
+    FramesStand w states t → from < w.numbers.n → to < w.numbers.n → list ≡ made_in t from to → k < length list → frame ≡ slice_index_or list k frame → bytes ≡ frame
+    → Has (frames_from w states from to) bytes
+frame_listed w states t from to k list frame bytes stand from_below to_below is within read same =
+    let there : slice_get (frames_from w states from to) k ≡ Some bytes =
+    ap (λ xs. slice_get xs k) (sym (is ∙ stand.each from to from_below to_below)) ∙ slice_get-get_or list k frame within ∙ ap (λ x. Some x) (sym (same ∙ read)) in
+    got_listed (frames_from w states from to) k bytes there
 
 -- nothing happens
 nothing_happens : {S E C : Type 0} (m : Meaning S E C KeyRow) (w : Setting) (states : ℕ → CoreState) (places : List (Option (Replica S E C))) (happened : Happened) (c : Option CallAt) →

@@ -34,6 +34,7 @@ pub mod Ordered
 pub mod Forging
 pub mod Takings
 pub mod Bodies
+pub mod Passed
 pub mod Happening
 pub mod Firsts
 pub mod Begins

@@ -1,7 +1,8 @@
 //! One call on the replica at a place, if there is one.
 
-ghost use Rattle.std.specs.Prelude.{◌≡◌, ℕ};
+ghost use Rattle.std.specs.Prelude.{◌≡◌, ℕ, List, Ok};
 ghost use Rattle.keyed_channel.specs.Keyed.{tags_of};
+ghost use Rattle.keyed_channel.specs.Frames.{opening};
 ghost use Rattle.ritas_core.specs.Machine.{CoreState};
 ghost use Rattle.ritas_core.specs.Stands.{meaning};
 ghost use Rattle.replica.specs.Handling.{Frame, Input, Turn};
@@ -48,6 +49,31 @@ pub(crate) fn give_frame<S: Service, E: Broadcast, C: Coin + Drop>(
     }
     match &mut replicas[place] {
         Some(replica) => seen(replica.on_frame(alloc, bytes, out)),
+        None => Ok(Seen::Missed),
+    }
+}
+
+/// Gives what a frame opens to, its sender and its body, to the replica at a place.
+pub(crate) fn give_opened<S: Service, E: Broadcast, C: Coin + Drop>(
+    alloc: Global,
+    replicas: &mut [Option<Replica<S, E, C>>],
+    at: u8,
+    from: u8,
+    body: &[u8],
+    out: &mut Vec<OutFrame>,
+) -> Result<Seen, Mem>
+    ensures { (w : Setting) (states : ℕ → CoreState)
+        → ReplicasStand (meaning S.stands S.rules S.shown E.stands E.rules E.shown C.bits (λ k. k.me) tags_of) w states replicas.old
+        → (bytes : List ℕ) (seq : ℕ) → opening (w.keys at) bytes ≡ Ok (record { from = from; seq = seq; body = body.now })
+        → CallsOr (meaning S.stands S.rules S.shown E.stands E.rules E.shown C.bits (λ k. k.me) tags_of) w states
+        (call_at w at (Frame bytes)) replicas.new out.old.items out.new.items result }
+{
+    let place = usize::from(at);
+    if place >= replicas.len() {
+        return Ok(Seen::Missed);
+    }
+    match &mut replicas[place] {
+        Some(replica) => seen(replica.on_opened(alloc, from, body, out)),
         None => Ok(Seen::Missed),
     }
 }

@@ -1,22 +1,26 @@
 //! What an event does to the replicas of a world.
 
-ghost use Rattle.std.specs.Prelude.{◌≡◌, ℕ, ◌&&◌};
+ghost use Rattle.std.specs.Prelude.{◌≡◌, ◌≢◌, ℕ, ◌<◌, ◌&&◌, false, Ok};
 ghost use Rattle.keyed_channel.specs.Keyed.{tags_of};
+ghost use Rattle.keyed_channel.specs.Frames.{opening};
+ghost use Rattle.layer_api.specs.Runs.{Has};
 ghost use Rattle.ritas_core.specs.Machine.{CoreState};
 ghost use Rattle.ritas_core.specs.Stands.{meaning};
 ghost use Rattle.replica.specs.Handling.{Frame, Input, Turn};
 ghost use Rattle.world_model.specs.World.{Setting, call_at, call_of};
-ghost use Rattle.world_model.specs.Stands.{SeatsStand, ReplicasStand, FramesStand};
+ghost use Rattle.world_model.specs.Audit.{is_forged_call};
+ghost use Rattle.world_model.specs.Stands.{SeatsStand, ReplicasStand, FramesStand, frames_from};
 ghost use Rattle.ritas_base.specs.Events.{MayHappen};
 ghost use Rattle.world_model.specs.Steps.{HappensOr, is_opened};
 
-use crate::calls::{give_frame, give_input, give_turn};
+use crate::calls::{give_frame, give_input, give_opened, give_turn};
 use crate::happened::Happened;
 use crate::made::MadeFrames;
 use crate::seats::Seats;
 use crate::seen::Seen;
 use crate::taken::{frame_item, front_item, if_took};
 use frame_codec::spelled;
+use keyed_channel::Opened;
 use layer_api::{Broadcast, Service};
 use replica::{Refusal, Replica};
 use ritas_base::{Coin, Event, Mem};
@@ -109,6 +113,58 @@ fn turn_comes<S: Service, E: Broadcast, C: Coin + Drop>(
     })
 }
 
+// What a frame opens to comes to a replica. The frame doesn't forge.
+fn opened_comes<S: Service, E: Broadcast, C: Coin + Drop>(
+    alloc: Global,
+    seats: &Seats,
+    replicas: &mut [Option<Replica<S, E, C>>],
+    to: u8,
+    opened: &Opened<'_>,
+    bytes: &[u8],
+) -> Result<Happened, Mem>
+    ensures { (w : Setting) (states : ℕ → CoreState) → SeatsStand w seats.now
+        → ReplicasStand (meaning S.stands S.rules S.shown E.stands E.rules E.shown C.bits (λ k. k.me) tags_of) w states replicas.old
+        → opening (w.keys to) bytes.now ≡ Ok (record { from = opened.now.from; seq = opened.now.seq; body = opened.now.body.now })
+        → is_forged_call w states to (Frame bytes.now) ≡ false
+        → HappensOr (meaning S.stands S.rules S.shown E.stands E.rules E.shown C.bits (λ k. k.me) tags_of) w states
+        (call_at w to (Frame bytes.now)) replicas.new result }
+{
+    spelled();
+    let mut out = Vec::new(alloc);
+    let seen = give_opened(alloc, replicas, to, opened.from, opened.body, &mut out)?;
+    let taken = frame_item(alloc, &seats.params, &seats.mode, &seen, bytes)?;
+    let forged = false;
+    Ok(Happened {
+        at: to,
+        seen,
+        forged,
+        taken,
+        out,
+    })
+}
+
+// A frame comes to a replica from the one that made it for it. Where the two share their key, no tag is computed.
+fn made_comes<S: Service, E: Broadcast, C: Coin + Drop>(
+    alloc: Global,
+    seats: &Seats,
+    made: &MadeFrames,
+    replicas: &mut [Option<Replica<S, E, C>>],
+    from: u8,
+    to: u8,
+    bytes: &[u8],
+) -> Result<Happened, Mem>
+    ensures { (w : Setting) (states : ℕ → CoreState) → SeatsStand w seats.now → FramesStand w states made.now
+        → ReplicasStand (meaning S.stands S.rules S.shown E.stands E.rules E.shown C.bits (λ k. k.me) tags_of) w states replicas.old
+        → from < w.numbers.n → to < w.numbers.n → from ≢ to → Has (frames_from w states from to) bytes.now
+        → HappensOr (meaning S.stands S.rules S.shown E.stands E.rules E.shown C.bits (λ k. k.me) tags_of) w states
+        (call_at w to (Frame bytes.now)) replicas.new result }
+{
+    match seats.open_made(from, to, bytes) {
+        Some(opened) => opened_comes(alloc, seats, replicas, to, &opened, bytes),
+        None => frame_comes(alloc, seats, made, replicas, to, bytes),
+    }
+}
+
 // A frame that one replica made for another comes to it, if there is one of this number.
 fn frame_passes<S: Service, E: Broadcast, C: Coin + Drop>(
     alloc: Global,
@@ -126,7 +182,7 @@ fn frame_passes<S: Service, E: Broadcast, C: Coin + Drop>(
         (call_of w states (Event.Pass from to number)) replicas.new result }
 {
     match made.frames(from, to).get(number as usize) {
-        Some(frame) => frame_comes(alloc, seats, made, replicas, to, frame.as_slice()),
+        Some(frame) => made_comes(alloc, seats, made, replicas, from, to, frame.as_slice()),
         None => Ok(Happened::nothing(alloc, to)),
     }
 }

@@ -22,10 +22,11 @@
 //! correct replicas and faces that run a replica's code with a faulty replica's keys, forge nothing (`forges_nothing`).
 //!
 //! That nothing is forged or collides is no part of what is proved: it is what the keyed tags and the hash are for. The
-//! audit finds a forged frame by its number, in the time of one comparison. At each SEND that is taken it makes the entries
-//! that the replica gives and expects, where no other has made them, and keeps them: the rows of a column are compared with
-//! these. It looks in tables of what was sent and hashed, so its work at an event doesn't grow with the schedule, but for the
-//! depth of these tables.
+//! audit finds a forged frame by its number, in the time of one comparison. A frame that passes was made by its sender: where
+//! the receiver shares its key, it is known to open and to forge nothing, and no tag is computed. At each SEND that is taken
+//! the audit makes the entries that the replica gives and expects, where no other has made them, and keeps them: the rows of a
+//! column are compared with these. It looks in tables of what was sent and hashed, so its work at an event doesn't grow with
+//! the schedule, but for the depth of these tables.
 #![tactic(auto)]
 
 mod audit;

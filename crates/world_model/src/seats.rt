@@ -1,10 +1,12 @@
-ghost use Rattle.std.specs.Prelude.{◌≡◌, ◌<◌, ◌≤◌, ◌^◌, length, IfOk, MatchOption};
-ghost use Rattle.keyed_channel.specs.Frames.{sender_of, seq_of};
+ghost use Rattle.std.specs.Prelude.{◌≡◌, ℕ, ◌<◌, ◌≤◌, ◌^◌, List, true, length, Ok, Some, IfOk, IsErr, MatchOption};
+ghost use Rattle.std.specs.List.{slice_get};
+ghost use Rattle.keyed_channel.specs.KeyRow.{KeyRow, shares_key};
+ghost use Rattle.keyed_channel.specs.Frames.{sealed, sender_of, seq_of, opening};
 ghost use Rattle.world_model.specs.FramesMade.{made_in};
 ghost use Rattle.world_model.specs.Steps.{is_numbered, is_unmade};
 
 use crate::made::MadeFrames;
-use keyed_channel::{Channel, Keys};
+use keyed_channel::{Channel, Keys, Opened};
 use ritas_base::{Bytes, Mem, Mode, Params, SenderSet};
 use std::alloc::Global;
 
@@ -66,5 +68,19 @@ impl Seats {
             }
             None => false,
         }
+    }
+
+    /// What a frame opens to that one replica made for another, where the two share their key: then no tag is computed.
+    /// `None` where they don't share it, or the frame doesn't open.
+    pub(crate) fn open_made<'a>(&self, from: u8, to: u8, bytes: &'a [u8]) -> Option<Opened<'a>>
+        ensures { (a b : KeyRow) (j seq : ℕ) (body : List ℕ)
+            → slice_get self.now.keys.items from ≡ Some a → slice_get self.now.keys.items to ≡ Some b
+            → bytes.now ≡ sealed a j seq body → MatchOption result
+            (shares_key b a ≡ true → IsErr (opening b bytes.now))
+            (λ o. opening b bytes.now ≡ Ok (record { from = o.from; seq = o.seq; body = o.body.now })) }
+    {
+        let sender = self.keys.get(usize::from(from))?;
+        let receiver = self.keys.get(usize::from(to))?;
+        receiver.open_shared(sender, bytes)
     }
 }
