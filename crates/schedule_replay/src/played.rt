@@ -40,6 +40,7 @@ impl<S: Service, E: Broadcast> Played<S, E> {
     ghost use Rattle.schedule_file.specs.ReadHeader.{heading};
     ghost use Rattle.schedule_file.specs.Spelling.{IsHeading};
     ghost use Rattle.ritas_base.specs.Events.{MayHappen};
+    ghost use Rattle.world_model.specs.Counts.{counts_of};
     ghost use Rattle.world_model.specs.Stands.{WorldStands};
     ghost use Rattle.schedule_replay.specs.Layers.{layers_by, setting_by};
     ghost use Rattle.schedule_replay.specs.Onto.{more_events};
@@ -63,6 +64,19 @@ impl<S: Service, E: Broadcast> Played<S, E> {
             world,
             counts: Counts::new(),
         })
+    }
+
+    /// A header with its world after some events, and how these were answered.
+    pub fn of(header: Header, world: World<S, E, SeedCoin>, counts: Counts) -> Played<S, E>
+        ensures stands { let m = layers_by S.stands S.rules S.shown E.stands E.rules E.shown in let w = setting_by S.rules E.rules header in
+            (es : List Event) → IsHeading (heading header) → WorldStands m world w es → counts ≡ counts_of w es → StandsFor m result es }
+        ensures header { header_in result ≡ header }
+    {
+        Played {
+            header,
+            world,
+            counts,
+        }
     }
 
     /// Lets one event more happen, of at most 2^64 - 1. Its numbers are to be those of replicas, below n, and a frame's
