@@ -5,10 +5,12 @@ use Rattle.rand_pcg.specs.Lcg.{Lcg}
 use Rattle.rand_pcg.specs.Pcg.{pcg32}
 use Rattle.ritas_base.specs.declared.plan.Plan.{Plan}
 use Rattle.world_model.specs.World.{Setting}
-use Rattle.world_model.specs.Players.{Player, Correct, Face, Cast, Scene, state_at, Step, Go, Carry, scene_of}
-use Rattle.schedule_drive.specs.Plans.{cast_of, players_of, linked_from}
-use Rattle.schedule_drive.specs.Garbage.{throws_of}
-use Rattle.schedule_drive.specs.Sweeps.{counts_of}
+use Rattle.world_model.specs.declared.player.Player.{Player}
+use Rattle.world_model.specs.declared.player.Player.TheVariants.{Correct, Face}
+use Rattle.world_model.specs.Players.{Cast, Scene, state_at, Step, Go, Carry, scene_of}
+use Rattle.schedule_plan.specs.Plans.{cast_of, players_of, linked_from}
+use Rattle.schedule_plan.specs.Garbage.{throws_of}
+use Rattle.schedule_plan.specs.Sweeps.{counts_of}
 
 pub data Choice : Type 0 where
   -- a player takes the item at the front of its inbox

@@ -1,4 +1,4 @@
-ghost use Rattle.schedule_drive.specs.Laws.{StepsLaw, DriveLaw, WholeLaw};
+ghost use Rattle.schedule_plan.specs.Laws.{StepsLaw, DriveLaw, WholeLaw};
 
 use layer_api::{Broadcast, Service};
 use world_model::forges_nothing;

@@ -12,17 +12,18 @@ use Rattle.ritas_base.specs.declared.plan.Order.TheVariants.{Sweep, Random}
 use Rattle.rand_pcg.specs.Lcg.{Lcg}
 use Rattle.rand_pcg.specs.Pcg.{pcg32}
 use Rattle.world_model.specs.World.{Setting}
-use Rattle.world_model.specs.Players.{Player, Step, Go, Carry, scene_of}
+use Rattle.world_model.specs.declared.player.Player.{Player}
+use Rattle.world_model.specs.Players.{Step, Go, Carry, scene_of}
 use Rattle.world_model.proofs.Members.{has_passing}
-use Rattle.schedule_drive.specs.Plans.{cast_of}
-use Rattle.schedule_drive.specs.Inputs.{inputs_of}
-use Rattle.schedule_drive.specs.Garbage.{start_of, throws_of}
-use Rattle.schedule_drive.specs.Sweeps.{Counts, none_yet, counts_of, sweep_of, sweeps}
-use Rattle.schedule_drive.specs.Picks.{Choice, Turning, Passing, has_some, unpassed, is_open_choice, all_choices, choices_of, Picking, carried, taken, garbled, pick, picks}
-use Rattle.schedule_drive.specs.Schedule.{step_limit, steps_by, steps_of, schedule, limit_met}
-use Rattle.schedule_drive.specs.Laws.{WholeLaw}
-use Rattle.schedule_drive.proofs.Limits.{limit_stays, within_steps}
-use Rattle.schedule_drive.proofs.Planned.{got_listed}
+use Rattle.schedule_plan.specs.Plans.{cast_of}
+use Rattle.schedule_plan.specs.Inputs.{inputs_of}
+use Rattle.schedule_plan.specs.Garbage.{start_of, throws_of}
+use Rattle.schedule_plan.specs.Sweeps.{Counts, none_yet, counts_of, sweep_of, sweeps}
+use Rattle.schedule_plan.specs.Picks.{Choice, Turning, Passing, has_some, unpassed, is_open_choice, all_choices, choices_of, Picking, carried, taken, garbled, pick, picks}
+use Rattle.schedule_plan.specs.Schedule.{step_limit, steps_by, steps_of, schedule, limit_met}
+use Rattle.schedule_plan.specs.Laws.{WholeLaw}
+use Rattle.schedule_plan.proofs.Limits.{limit_stays, within_steps}
+use Rattle.schedule_plan.proofs.Planned.{got_listed}
 
 -- ---- steps on top of others
 

@@ -23,15 +23,17 @@ use Rattle.layer_api.specs.Service.{ServiceRules}
 use Rattle.rand_pcg.specs.Lcg.{Lcg}
 use Rattle.world_model.specs.Audit.{has_too_many}
 use Rattle.world_model.specs.World.{Setting}
-use Rattle.world_model.specs.Players.{Cast, Scene, Player, Correct, Face, Step, Give, Go, Carry, IsPlayer, IsStep, AreSteps, number_of, state_at, scene_of}
+use Rattle.world_model.specs.declared.player.Player.{Player}
+use Rattle.world_model.specs.declared.player.Player.TheVariants.{Correct, Face}
+use Rattle.world_model.specs.Players.{Cast, Scene, Step, Give, Go, Carry, IsPlayer, IsStep, AreSteps, number_of, state_at, scene_of}
 use Rattle.world_model.proofs.Anywhere.{among_from, number_below, mapped_from}
 use Rattle.world_model.proofs.Members.{has_passing}
-use Rattle.schedule_drive.specs.Plans.{is_absent, correct_of, is_correct_in, faces_of, face_a, face_b, cast_of, players_at, players_of, are_linked, is_two_faced, same_letter, linked_to, linked_from}
-use Rattle.schedule_drive.specs.Inputs.{value_text, takes_commands, command_at, value_at, correct_inputs, flip_inputs, two_inputs, face_inputs, inputs_of}
-use Rattle.schedule_drive.specs.Garbage.{start_of, after_filler, throws_to, throws_by, faulty_of, throws_of}
-use Rattle.schedule_drive.specs.Sweeps.{Counts, none_yet, counts_of, carries, turns_at, swept_at, sweep_of, sweeps}
-use Rattle.schedule_drive.specs.Picks.{Choice, Turning, Passing, has_some, passings_of, is_open_choice, all_choices, choices_of, Picking, carried, taken, garbled, pick, picks}
-use Rattle.schedule_drive.specs.Schedule.{world_by, steps_by, steps_of}
+use Rattle.schedule_plan.specs.Plans.{is_absent, correct_of, is_correct_in, faces_of, face_a, face_b, cast_of, players_at, players_of, are_linked, is_two_faced, same_letter, linked_to, linked_from}
+use Rattle.schedule_plan.specs.Inputs.{value_text, takes_commands, command_at, value_at, correct_inputs, flip_inputs, two_inputs, face_inputs, inputs_of}
+use Rattle.schedule_plan.specs.Garbage.{start_of, after_filler, throws_to, throws_by, faulty_of, throws_of}
+use Rattle.schedule_plan.specs.Sweeps.{Counts, none_yet, counts_of, carries, turns_at, swept_at, sweep_of, sweeps}
+use Rattle.schedule_plan.specs.Picks.{Choice, Turning, Passing, has_some, passings_of, is_open_choice, all_choices, choices_of, Picking, carried, taken, garbled, pick, picks}
+use Rattle.schedule_plan.specs.Schedule.{world_by, steps_by, steps_of}
 
 -- ---- lists of steps
 

@@ -13,11 +13,11 @@ use Rattle.schedule_file.specs.Spelling.{FileOf}
 use Rattle.schedule_replay.specs.Layers.{setting_by, setting_of}
 use Rattle.world_model.specs.World.{Setting}
 use Rattle.world_model.specs.Players.{Step, events_of}
-use Rattle.schedule_drive.specs.Plans.{cast_of, header_of}
-use Rattle.schedule_drive.specs.Inputs.{inputs_of}
-use Rattle.schedule_drive.specs.Garbage.{start_of}
-use Rattle.schedule_drive.specs.Sweeps.{none_yet, sweeps}
-use Rattle.schedule_drive.specs.Picks.{picks}
+use Rattle.schedule_plan.specs.Plans.{cast_of, header_of}
+use Rattle.schedule_plan.specs.Inputs.{inputs_of}
+use Rattle.schedule_plan.specs.Garbage.{start_of}
+use Rattle.schedule_plan.specs.Sweeps.{none_yet, sweeps}
+use Rattle.schedule_plan.specs.Picks.{picks}
 
 -- the world of a plan, with a service and a broadcast beside the reliable one, and with those of its mode
 abbrev pub world_by : ServiceRules → BroadcastRules → Plan → Setting

@@ -8,11 +8,11 @@ use Rattle.layer_api.specs.Service.{ServiceRules}
 use Rattle.ritas_core.specs.Rules.{HasForm}
 use Rattle.world_model.specs.EveryWorld.{IsWorld}
 use Rattle.world_model.specs.Forging.{IsPlay, ForgingLaw, PlayedAudit}
-use Rattle.schedule_drive.specs.Laws.{StepsLaw, DriveLaw}
-use Rattle.schedule_drive.specs.Plans.{correct_of, cast_of}
-use Rattle.schedule_drive.specs.Schedule.{world_by, steps_of}
-use Rattle.schedule_drive.proofs.Planned.{has_first, is_planned, some_correct, enough_correct}
-use Rattle.schedule_drive.proofs.Showing.{attacks_show}
+use Rattle.schedule_plan.specs.Laws.{StepsLaw, DriveLaw}
+use Rattle.schedule_plan.specs.Plans.{correct_of, cast_of}
+use Rattle.schedule_plan.specs.Schedule.{world_by, steps_of}
+use Rattle.schedule_plan.proofs.Planned.{has_first, is_planned, some_correct, enough_correct}
+use Rattle.schedule_plan.proofs.Showing.{attacks_show}
 
 -- the world of a plan is one of its service and its broadcast
 pub world_is : (service : ServiceRules) (other : BroadcastRules) (p : Plan) → IsSession p.p → service.serves p.mode.root ≡ true → HasForm p.mode other

@@ -8,8 +8,8 @@ use Rattle.ritas_base.specs.declared.plan.Plan.{Plan}
 use Rattle.ritas_base.specs.declared.plan.Attack.{Attack}
 use Rattle.ritas_base.specs.declared.plan.Attack.TheVariants.{Garbage}
 use Rattle.world_model.specs.Players.{Step, Throw}
-use Rattle.schedule_drive.specs.Plans.{correct_of, is_correct_in}
-use Rattle.schedule_drive.specs.Inputs.{number_text}
+use Rattle.schedule_plan.specs.Plans.{correct_of, is_correct_in}
+use Rattle.schedule_plan.specs.Inputs.{number_text}
 
 -- where the words of a plan start
 abbrev pub start_of : Plan → Lcg

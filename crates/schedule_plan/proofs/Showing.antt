@@ -15,8 +15,8 @@ use Rattle.frame_codec.specs.Grammar.{bit, value, payload}
 use Rattle.world_model.specs.World.{Setting}
 use Rattle.ritas_base.specs.declared.plan.Attack.{Attack}
 use Rattle.ritas_base.specs.declared.plan.Attack.TheVariants.{Absent, Silent, TwoFace, Flip, Garbage}
-use Rattle.schedule_drive.specs.Flips.{other_bit, flipped}
-use Rattle.schedule_drive.specs.Plans.{shown_of}
+use Rattle.schedule_plan.specs.Flips.{other_bit, flipped}
+use Rattle.schedule_plan.specs.Plans.{shown_of}
 use Rattle.world_model.specs.Forging.{Shows}
 
 either_bit : (b : Bool) → (nat_lt 0 (if b then 3 else 2) ≡ true) × (nat_lt 1 (if b then 3 else 2) ≡ true)

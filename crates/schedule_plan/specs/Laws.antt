@@ -10,8 +10,8 @@ use Rattle.world_model.specs.Audit.{audit_of}
 use Rattle.world_model.specs.Forging.{ForgesNothing}
 use Rattle.world_model.specs.Players.{AreSteps}
 use Rattle.world_model.specs.World.{Setting}
-use Rattle.schedule_drive.specs.Plans.{cast_of}
-use Rattle.schedule_drive.specs.Schedule.{world_by, steps_of, step_limit, schedule, events_by, limit_met}
+use Rattle.schedule_plan.specs.Plans.{cast_of}
+use Rattle.schedule_plan.specs.Schedule.{world_by, steps_of, step_limit, schedule, events_by, limit_met}
 
 -- the steps of a plan are steps of its players, however many sweeps or picks there are
 abbrev pub StepsLaw : ServiceRules → BroadcastRules → Type 0

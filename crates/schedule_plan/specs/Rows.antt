@@ -26,14 +26,15 @@ use Rattle.ritas_core.specs.Checks.{input_check, verdict_on}
 use Rattle.ritas_core.specs.Order.{ordered}
 use Rattle.ritas_core.specs.Rules.{by_other}
 use Rattle.world_model.specs.World.{Setting, states_of}
-use Rattle.world_model.specs.Players.{Correct, Face, Give, Go, Carry, Throw}
-use Rattle.schedule_drive.specs.Flips.{other_bit, flipped, flip_body}
-use Rattle.schedule_drive.specs.Plans.{correct_of, header_of, players_of, are_linked, linked_to, linked_from}
-use Rattle.schedule_drive.specs.Inputs.{number_text, inputs_of}
-use Rattle.schedule_drive.specs.Garbage.{start_of, throws_of}
-use Rattle.schedule_drive.specs.Sweeps.{none_yet, carries}
-use Rattle.schedule_drive.specs.Picks.{Turning, Passing, has_passed, passes_once, all_choices}
-use Rattle.schedule_drive.specs.Schedule.{world_by, steps_of, step_limit, limit_met}
+use Rattle.world_model.specs.declared.player.Player.TheVariants.{Correct, Face}
+use Rattle.world_model.specs.Players.{Give, Go, Carry, Throw}
+use Rattle.schedule_plan.specs.Flips.{other_bit, flipped, flip_body}
+use Rattle.schedule_plan.specs.Plans.{correct_of, header_of, players_of, are_linked, linked_to, linked_from}
+use Rattle.schedule_plan.specs.Inputs.{number_text, inputs_of}
+use Rattle.schedule_plan.specs.Garbage.{start_of, throws_of}
+use Rattle.schedule_plan.specs.Sweeps.{none_yet, carries}
+use Rattle.schedule_plan.specs.Picks.{Turning, Passing, has_passed, passes_once, all_choices}
+use Rattle.schedule_plan.specs.Schedule.{world_by, steps_of, step_limit, limit_met}
 
 -- a plan with the echo broadcast of VECTs, whose drawn numbers start at 1
 abbrev plan_with : ℕ → ℕ → Mode → Order → Attack → ℕ → Plan

@@ -1,6 +1,6 @@
-use Rattle.schedule_drive.proofs.Planned.{is_planned, plan_steps}
-use Rattle.schedule_drive.specs.Schedule.{world_by}
-use Rattle.schedule_drive.proofs.laws.planned_steps.Goals as goal
+use Rattle.schedule_plan.proofs.Planned.{is_planned, plan_steps}
+use Rattle.schedule_plan.specs.Schedule.{world_by}
+use Rattle.schedule_plan.proofs.laws.planned_steps.Goals as goal
 
 pub returns : goal.returns
 returns g c p most session =

@@ -8,8 +8,10 @@ use Rattle.ritas_base.specs.declared.plan.Attack.{Attack}
 use Rattle.ritas_base.specs.declared.plan.Attack.TheVariants.{Absent, TwoFace, Flip}
 use Rattle.schedule_file.specs.declared.header.Header.{Header}
 use Rattle.schedule_file.specs.declared.header.HeaderKeys.TheVariants.{Master}
-use Rattle.world_model.specs.Players.{Player, Correct, Face, Cast, number_of}
-use Rattle.schedule_drive.specs.Flips.{flipped}
+use Rattle.world_model.specs.declared.player.Player.{Player}
+use Rattle.world_model.specs.declared.player.Player.TheVariants.{Correct, Face}
+use Rattle.world_model.specs.Players.{Cast, number_of}
+use Rattle.schedule_plan.specs.Flips.{flipped}
 
 abbrev pub is_absent : Attack → Bool
 is_absent Absent = true

@@ -4,9 +4,10 @@ use Rattle.std.specs.List.{flat_map, range_with_len}
 use Rattle.rand_pcg.specs.Lcg.{Lcg}
 use Rattle.ritas_base.specs.declared.plan.Plan.{Plan}
 use Rattle.world_model.specs.World.{Setting}
-use Rattle.world_model.specs.Players.{Player, Cast, number_of, Scene, state_at, frames_of, Step, Go, Carry, scene_of}
-use Rattle.schedule_drive.specs.Plans.{cast_of, players_of, linked_to}
-use Rattle.schedule_drive.specs.Garbage.{throws_of}
+use Rattle.world_model.specs.declared.player.Player.{Player}
+use Rattle.world_model.specs.Players.{Cast, number_of, Scene, state_at, frames_of, Step, Go, Carry, scene_of}
+use Rattle.schedule_plan.specs.Plans.{cast_of, players_of, linked_to}
+use Rattle.schedule_plan.specs.Garbage.{throws_of}
 
 -- how many frames each player has made for each other
 abbrev pub Counts : Type 0

@@ -6,7 +6,7 @@ use Rattle.ritas_base.specs.declared.plan.Plan.{Plan}
 use Rattle.schedule_file.specs.FileBytes.{limit}
 use Rattle.world_model.specs.World.{Setting}
 use Rattle.world_model.specs.Players.{Step}
-use Rattle.schedule_drive.specs.Schedule.{step_limit, file_by, limit_at, limit_met}
+use Rattle.schedule_plan.specs.Schedule.{step_limit, file_by, limit_at, limit_met}
 
 -- ---- limits that are met
 

@@ -5,8 +5,10 @@ use Rattle.std.specs.Int.{w32, to_be_bytes}
 use Rattle.ritas_base.specs.declared.plan.Plan.{Plan}
 use Rattle.ritas_base.specs.declared.plan.Attack.{Attack}
 use Rattle.ritas_base.specs.declared.plan.Attack.TheVariants.{TwoFace, Flip}
-use Rattle.world_model.specs.Players.{Player, Correct, Face, Step, Give}
-use Rattle.schedule_drive.specs.Plans.{correct_of, players_of}
+use Rattle.world_model.specs.declared.player.Player.{Player}
+use Rattle.world_model.specs.declared.player.Player.TheVariants.{Correct, Face}
+use Rattle.world_model.specs.Players.{Step, Give}
+use Rattle.schedule_plan.specs.Plans.{correct_of, players_of}
 
 abbrev pub number_text : ℕ → List ℕ
 number_text k = to_be_bytes w32 k

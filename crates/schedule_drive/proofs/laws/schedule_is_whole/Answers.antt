@@ -1,5 +1,0 @@
-use Rattle.schedule_drive.proofs.Whole.{whole_law}
-use Rattle.schedule_drive.proofs.laws.schedule_is_whole.Goals as goal
-
-pub returns : goal.returns
-returns c = whole_law
