@@ -1,0 +1,10 @@
+pub mod Finishing
+pub mod FlipBodies
+pub mod Heads
+pub mod Letters
+pub mod Others
+pub mod Showing
+pub mod Staging
+pub mod Steps
+pub mod Taping
+pub mod Untold
