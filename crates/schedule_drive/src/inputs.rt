@@ -1,0 +1,206 @@
+//! The inputs of a plan.
+ghost use Rattle.std.specs.Prelude.{◌≡◌, ◌≢◌, ◌<◌, ◌^◌, List, [], ◌++◌, map, length, reverse, IfOk, OnOk};
+ghost use Rattle.std.specs.List.{range_with_len};
+ghost use Rattle.ritas_base.specs.Numbers.{IsSession};
+ghost use Rattle.ritas_base.specs.declared.what.DriveWhat.{DriveWhat};
+ghost use Rattle.schedule_replay.specs.Layers.{layers_by};
+ghost use Rattle.world_model.specs.declared.player.Player.TheVariants.{Face};
+ghost use Rattle.world_model.specs.Players.{Step, IsPlayer};
+ghost use Rattle.schedule_plan.specs.Inputs.{number_text, value_text, command_text, takes_commands, command_at, value_at, correct_inputs, flip_inputs, face_inputs, inputs_of};
+ghost use Rattle.schedule_plan.specs.Plans.{cast_of, correct_of};
+ghost use Rattle.schedule_stage.specs.Stage.{IsStage, Reaches};
+ghost use Rattle.schedule_stage.specs.Worlds.{world_in};
+ghost use Rattle.schedule_drive.specs.Given.{own_text, given_to};
+
+use crate::laws::has_session;
+use crate::players::{correct_of, players};
+use layer_api::{Broadcast, Service};
+use ritas_base::{Attack, Bytes, Mem, Plan};
+use schedule_stage::{Halt, Stage};
+use std::alloc::Global;
+use world_model::Player;
+
+fn takes_commands(root: u8) -> bool
+    ensures { result ≡ takes_commands root }
+{
+    root == 1 || root == 2 || root == 6
+}
+
+fn add_number(out: &mut Vec<u8>, k: u32) -> Result<(), Mem>
+    ensures { OnOk result (out.new.items ≡ out.old.items ++ number_text k) }
+{
+    out.extend_from_slice(&k.to_be_bytes())?;
+    Ok(())
+}
+
+fn value_text(alloc: Global, root: u8, v: u32) -> Result<Bytes, Mem>
+    ensures text { IfOk result (λ b. b ≡ value_text root v) }
+    ensures short { IfOk result (λ b. length b < 2 ^ 16) }
+{
+    let mut out = Vec::new(alloc);
+    if root == 3 {
+        out.push((v % 2) as u8)?;
+    } else {
+        add_number(&mut out, v)?;
+    }
+    Ok(Bytes::from_vec(out))
+}
+
+fn command_text(alloc: Global, root: u8, client: u8, request: u32, k: u32) -> Result<Bytes, Mem>
+    ensures text { IfOk result (λ b. b ≡ command_text root client request k) }
+    ensures short { IfOk result (λ b. length b < 2 ^ 16) }
+{
+    let mut out = Vec::new(alloc);
+    if root == 6 {
+        add_number(&mut out, u32::from(client))?;
+        add_number(&mut out, request)?;
+    }
+    add_number(&mut out, k)?;
+    Ok(Bytes::from_vec(out))
+}
+
+// The commands, to the correct replicas in turn.
+fn give_commands<S: Service, E: Broadcast>(
+    alloc: Global,
+    plan: &Plan,
+    stage: &mut Stage<S, E>,
+) -> Result<(), Halt>
+    requires { IsSession plan.now.p }
+    ensures { let m = layers_by S.stands S.rules S.shown E.stands E.rules E.shown in
+        (what : DriveWhat) (steps : List Step) → IsStage m plan.now what stage.old steps
+        → Reaches m plan.now what stage.new (reverse (map (command_at plan.now) (range_with_len 0 plan.now.commands)) ++ steps) result }
+{
+    let root = plan.mode.root;
+    for k in 0..plan.commands {
+        let at = (k % u32::from(correct_of(plan))) as u8;
+        let text = command_text(alloc, root, at, k, k)?;
+        stage.give(alloc, Player::Correct(at), text)?;
+    }
+    Ok(())
+}
+
+// A value to each correct replica.
+fn give_values<S: Service, E: Broadcast>(
+    alloc: Global,
+    plan: &Plan,
+    stage: &mut Stage<S, E>,
+) -> Result<(), Halt>
+    requires session { IsSession plan.now.p }
+    requires some { plan.now.commands ≢ 0 }
+    ensures { let m = layers_by S.stands S.rules S.shown E.stands E.rules E.shown in
+        (what : DriveWhat) (steps : List Step) → IsStage m plan.now what stage.old steps
+        → Reaches m plan.now what stage.new (reverse (map (value_at plan.now) (range_with_len 0 (correct_of plan.now))) ++ steps) result }
+{
+    let root = plan.mode.root;
+    for i in 0..correct_of(plan) {
+        let text = value_text(alloc, root, u32::from(i) % plan.commands)?;
+        stage.give(alloc, Player::Correct(i), text)?;
+    }
+    Ok(())
+}
+
+fn give_correct<S: Service, E: Broadcast>(
+    alloc: Global,
+    plan: &Plan,
+    stage: &mut Stage<S, E>,
+) -> Result<(), Halt>
+    requires { IsSession plan.now.p }
+    ensures { let m = layers_by S.stands S.rules S.shown E.stands E.rules E.shown in
+        (what : DriveWhat) (steps : List Step) → IsStage m plan.now what stage.old steps
+        → Reaches m plan.now what stage.new (reverse (correct_inputs plan.now) ++ steps) result }
+{
+    if takes_commands(plan.mode.root) {
+        return give_commands(alloc, plan, stage);
+    }
+    if plan.commands == 0 {
+        return Ok(());
+    }
+    give_values(alloc, plan, stage)
+}
+
+// The value of its replica, to a face that exchanges bits.
+fn give_flipped<S: Service, E: Broadcast>(
+    alloc: Global,
+    plan: &Plan,
+    stage: &mut Stage<S, E>,
+    a: u8,
+) -> Result<(), Halt>
+    ensures { let m = layers_by S.stands S.rules S.shown E.stands E.rules E.shown in
+        (what : DriveWhat) (steps : List Step) → IsStage m plan.now what stage.old steps
+        → IsPlayer (world_in m plan.now) (cast_of plan.now.attack) (Face a)
+        → Reaches m plan.now what stage.new (reverse (flip_inputs plan.now (Face a)) ++ steps) result }
+{
+    if takes_commands(plan.mode.root) || plan.commands == 0 {
+        return Ok(());
+    }
+    let text = value_text(alloc, plan.mode.root, u32::from(a / 2) % plan.commands)?;
+    stage.give(alloc, Player::Face(a), text)?;
+    Ok(())
+}
+
+// The text that one of two faces is given.
+fn own_text(alloc: Global, root: u8, a: u8) -> Result<Bytes, Mem>
+    ensures text { IfOk result (λ b. b ≡ own_text root a) }
+    ensures short { IfOk result (λ b. length b < 2 ^ 16) }
+{
+    if takes_commands(root) {
+        return command_text(alloc, root, a, 0, u32::from(a));
+    }
+    value_text(alloc, root, u32::from(a))
+}
+
+// What the attack gives to a player beyond a correct replica's input.
+fn give_face<S: Service, E: Broadcast>(
+    alloc: Global,
+    plan: &Plan,
+    stage: &mut Stage<S, E>,
+    x: Player,
+) -> Result<(), Halt>
+    ensures { let m = layers_by S.stands S.rules S.shown E.stands E.rules E.shown in
+        (what : DriveWhat) (steps : List Step) → IsStage m plan.now what stage.old steps
+        → IsPlayer (world_in m plan.now) (cast_of plan.now.attack) x
+        → Reaches m plan.now what stage.new (reverse (given_to plan.now plan.now.attack x) ++ steps) result }
+{
+    match (plan.attack, x) {
+        (Attack::Flip, Player::Face(a)) => give_flipped(alloc, plan, stage, a),
+        (Attack::TwoFace, Player::Face(a)) => {
+            let text = own_text(alloc, plan.mode.root, a)?;
+            stage.give(alloc, x, text)
+        }
+        _ => Ok(()),
+    }
+}
+
+// What is given to the faces.
+fn give_faces<S: Service, E: Broadcast>(
+    alloc: Global,
+    plan: &Plan,
+    stage: &mut Stage<S, E>,
+) -> Result<(), Halt>
+    requires { IsSession plan.now.p }
+    ensures { let m = layers_by S.stands S.rules S.shown E.stands E.rules E.shown in
+        (what : DriveWhat) (steps : List Step) → IsStage m plan.now what stage.old steps
+        → Reaches m plan.now what stage.new (reverse (face_inputs plan.now plan.now.attack) ++ steps) result }
+{
+    let all = players(alloc, plan)?;
+    for x in &all {
+        give_face(alloc, plan, stage, *x)?;
+    }
+    Ok(())
+}
+
+/// Gives the inputs of a plan to its players.
+pub(crate) fn give_inputs<S: Service, E: Broadcast>(
+    alloc: Global,
+    plan: &Plan,
+    stage: &mut Stage<S, E>,
+) -> Result<(), Halt>
+    ensures { let m = layers_by S.stands S.rules S.shown E.stands E.rules E.shown in
+        (what : DriveWhat) → IsStage m plan.now what stage.old []
+        → Reaches m plan.now what stage.new (reverse (inputs_of plan.now)) result }
+{
+    has_session(plan);
+    give_correct(alloc, plan, stage)?;
+    give_faces(alloc, plan, stage)?;
+    Ok(())
+}
