@@ -1,0 +1,4 @@
+pub mod Tallies
+pub mod Standing
+pub mod Positions
+pub mod Written

@@ -1,0 +1,4 @@
+pub mod Messages
+pub mod Votes
+pub mod Laws
+pub mod Rows

@@ -1,0 +1,53 @@
+-- What clients and replicas say to each other: requests and replies, as lists of bytes. Numbers have four bytes, the most significant first.
+use Rattle.std.specs.Prelude.{ℕ, ◌&&◌, nat_le, List, ◌∷◌, ◌++◌, length, take, drop, slice_index, Option, Some, None, if◌then◌else◌}
+use Rattle.std.specs.Int.{w32, to_be_bytes, from_be_bytes}
+
+-- the number in the four bytes from a place on
+unfoldable pub number_at : ℕ → List ℕ → ℕ
+number_at at bytes = from_be_bytes w32 (take 4 (drop at bytes))
+
+-- ---- requests
+
+-- a request: the client's number, its own number for the request, and what it asks
+pub record Request : Type 0 where
+  pub client : ℕ
+  pub request : ℕ
+  pub payload : List ℕ
+
+-- the bytes of a request
+abbrev pub request_bytes : Request → List ℕ
+request_bytes r = to_be_bytes w32 r.client ++ (to_be_bytes w32 r.request ++ r.payload)
+
+abbrev pub parts_of : List ℕ → Request
+parts_of bytes = record { client = number_at 0 bytes; request = number_at 4 bytes; payload = drop 8 bytes }
+
+-- the request that a message is, which has 8 to 4,096 bytes
+unfoldable pub request_in : List ℕ → Option Request
+request_in bytes = if nat_le 8 (length bytes) && nat_le (length bytes) 4096 then Some (parts_of bytes) else None
+
+-- ---- replies
+
+-- a reply: its form, the client's number, the request's, and one number more
+abbrev pub reply_bytes : ℕ → ℕ → ℕ → ℕ → List ℕ
+reply_bytes form client request number = form ∷ to_be_bytes w32 client ++ (to_be_bytes w32 request ++ to_be_bytes w32 number)
+
+-- form 1: the request has this position
+abbrev pub position_reply : ℕ → ℕ → ℕ → List ℕ
+position_reply client request position = reply_bytes 1 client request position
+
+-- form 2: the request is refused, for the fault of this number
+abbrev pub refusal_reply : ℕ → ℕ → ℕ → List ℕ
+refusal_reply client request code = reply_bytes 2 client request code
+
+-- the parts of a reply
+abbrev pub form_in : List ℕ → ℕ
+form_in bytes = slice_index bytes 0
+
+abbrev pub client_in : List ℕ → ℕ
+client_in bytes = number_at 1 bytes
+
+abbrev pub request_number_in : List ℕ → ℕ
+request_number_in bytes = number_at 5 bytes
+
+abbrev pub number_in : List ℕ → ℕ
+number_in bytes = number_at 9 bytes

@@ -1,0 +1,108 @@
+-- Worked rows: four replicas, of which one may be faulty, and request 1 of client 7.
+use Rattle.std.specs.Prelude.{◌≡◌, ℕ, List, [], ◌∷◌, codes, replicate, Some, None, Ok, Err, refl}
+use Rattle.client_port.specs.Messages.{number_at, request_bytes, request_in, position_reply, refusal_reply}
+use Rattle.client_port.specs.Votes.{Wanted, Call, tally, fault_of, answer_of}
+use Rattle.client_port.specs.declared.votes.ReplyFault.TheVariants as faults
+
+-- ---- requests
+
+abbrev hi : List ℕ
+hi = 0 ∷ 0 ∷ 0 ∷ 7 ∷ 0 ∷ 0 ∷ 0 ∷ 1 ∷ codes "hi"
+
+is_written : request_bytes (record { client = 7; request = 1; payload = codes "hi" }) ≡ hi
+is_written = refl
+
+is_read : request_in hi ≡ Some (record { client = 7; request = 1; payload = codes "hi" })
+unfolding request_in number_at
+is_read = refl
+
+-- a payload may be empty
+no_payload : request_in (replicate 8 255) ≡ Some (record { client = 4294967295; request = 4294967295; payload = [] })
+unfolding request_in number_at
+no_payload = refl
+
+seven_bytes : request_in (replicate 7 0) ≡ None
+unfolding request_in number_at
+seven_bytes = refl
+
+-- ---- replies
+
+position_is_written : position_reply 7 1 258 ≡ 1 ∷ 0 ∷ 0 ∷ 0 ∷ 7 ∷ 0 ∷ 0 ∷ 0 ∷ 1 ∷ 0 ∷ 0 ∷ 1 ∷ 2 ∷ []
+position_is_written = refl
+
+refusal_is_written : refusal_reply 16909060 1 8 ≡ 2 ∷ 1 ∷ 2 ∷ 3 ∷ 4 ∷ 0 ∷ 0 ∷ 0 ∷ 1 ∷ 0 ∷ 0 ∷ 0 ∷ 8 ∷ []
+refusal_is_written = refl
+
+-- ---- votes, the newest first
+
+abbrev wanted : Wanted
+wanted = record { numbers = record { n = 4; f = 1 }; client = 7; request = 1 }
+
+-- replica k replies this position
+abbrev gives : ℕ → ℕ → Call
+gives k position = record { from = k; bytes = position_reply 7 1 position }
+
+abbrev refuses : ℕ → ℕ → Call
+refuses k code = record { from = k; bytes = refusal_reply 7 1 code }
+
+one_reply : answer_of wanted [] (gives 0 5) ≡ Ok None
+unfolding answer_of fault_of number_at
+one_reply = refl
+
+other_position : answer_of wanted (gives 0 5 ∷ []) (gives 1 6) ≡ Ok None
+unfolding answer_of fault_of number_at
+other_position = refl
+
+two_alike : answer_of wanted (gives 1 6 ∷ gives 0 5 ∷ []) (gives 2 5) ≡ Ok (Some 5)
+unfolding answer_of fault_of number_at
+two_alike = refl
+
+again : answer_of wanted (gives 2 5 ∷ gives 1 6 ∷ gives 0 5 ∷ []) (gives 0 6) ≡ Err faults.Again
+unfolding answer_of fault_of number_at
+again = refl
+
+-- each replica's first position counts
+first_counts : tally wanted (gives 0 6 ∷ gives 2 5 ∷ gives 0 5 ∷ []) ≡ Some 5 ∷ None ∷ Some 5 ∷ None ∷ []
+unfolding number_at
+first_counts = refl
+
+-- a third one tells the position again
+third : answer_of wanted (gives 2 5 ∷ gives 0 5 ∷ []) (gives 3 5) ≡ Ok (Some 5)
+unfolding answer_of fault_of number_at
+third = refl
+
+-- one replica of which none may be faulty is believed at once
+alone : answer_of (record { numbers = record { n = 1; f = 0 }; client = 7; request = 1 }) [] (gives 0 5) ≡ Ok (Some 5)
+unfolding answer_of fault_of number_at
+alone = refl
+
+-- a replica that refused may reply later
+refused : answer_of wanted (gives 0 5 ∷ []) (refuses 3 7) ≡ Err (faults.Refused 7)
+unfolding answer_of fault_of number_at
+refused = refl
+
+replies_later : answer_of wanted (refuses 3 7 ∷ gives 0 5 ∷ []) (gives 3 5) ≡ Ok (Some 5)
+unfolding answer_of fault_of number_at
+replies_later = refl
+
+-- one that replied refuses no more
+refuses_later : answer_of wanted (gives 3 5 ∷ []) (refuses 3 7) ≡ Err faults.Again
+unfolding answer_of fault_of number_at
+refuses_later = refl
+
+-- of the faults of a message the first is named
+from_nobody : answer_of wanted [] (record { from = 4; bytes = [] }) ≡ Err faults.NoSuchReplica
+unfolding answer_of fault_of number_at
+from_nobody = refl
+
+no_bytes : answer_of wanted [] (record { from = 0; bytes = [] }) ≡ Err faults.Length
+unfolding answer_of fault_of number_at
+no_bytes = refl
+
+no_form : answer_of wanted [] (record { from = 0; bytes = replicate 13 0 }) ≡ Err faults.Form
+unfolding answer_of fault_of number_at
+no_form = refl
+
+other_request : answer_of wanted (gives 0 5 ∷ []) (record { from = 0; bytes = position_reply 7 2 5 }) ≡ Err faults.NotMine
+unfolding answer_of fault_of number_at
+other_request = refl

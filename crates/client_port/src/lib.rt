@@ -1,0 +1,33 @@
+//! What clients and replicas say to each other, and what a client makes of the replies.
+//!
+//! A client hands its request to several replicas, and each replies the position at which the request stands in its log.
+//! Up to f of them may be faulty and reply anything. So a client takes a position once f + 1 replicas have replied it:
+//! one of these is correct, and has the request there (`position_is_true`). The rule is that of Castro and Liskov,
+//! "Practical Byzantine Fault Tolerance" (OSDI 1999); the bytes are this project's own. All numbers are big-endian:
+//!
+//! | Message | Bytes |
+//! |---|---|
+//! | request | client (4), request (4), payload (0 to 4,088) |
+//! | position | 1, client (4), request (4), position (4) |
+//! | refusal | 2, client (4), request (4), number of the fault (4) |
+//!
+//! Contracts say these bytes exactly (`specs/Messages.antt`), and what is written is read (`requests_are_read`,
+//! `replies_are_read`). `Votes` keeps the first position of each replica and no list of replies: `specs/Votes.antt` says
+//! for which lists of calls it stands, and what is answered after each of them. Who sent a reply the caller tells, as its
+//! connection does; nothing here is tagged.
+//!
+//! No call takes memory.
+#![tactic(auto)]
+
+mod laws;
+mod number;
+mod reply;
+mod request;
+#[cfg(test)]
+mod tests;
+mod votes;
+
+pub use laws::{position_is_true, replies_are_read, requests_are_read};
+pub use reply::{write_refusal, write_reply};
+pub use request::{RequestView, read_request};
+pub use votes::{ReplyFault, Votes};

@@ -1,0 +1,41 @@
+ghost use Rattle.std.specs.Prelude.{◌≡◌, ◌<◌, ◌⊎◌, ◌↔◌, length, Some, None, MatchOption};
+ghost use Rattle.client_port.specs.Messages.{request_in};
+
+use crate::number::number_at;
+
+// The bytes of the client's number and of the request's.
+const LEAST_LEN: usize = 8;
+
+// The bytes of the longest request.
+const MOST_LEN: usize = 4096;
+
+/// A request, as the bytes of a message have it.
+#[derive(Clone, Copy, Debug)]
+pub struct RequestView<'a> {
+    /// The client's number.
+    pub client: u32,
+    /// The client's number for this request.
+    pub request: u32,
+    /// What is asked, borrowed from the message; it may be empty.
+    pub payload: &'a [u8],
+}
+
+/// The request that a message is: two numbers of four bytes, the most significant first, and the payload behind them.
+///
+/// `None` is answered exactly where the message has under 8 bytes or over 4,096.
+#[tactic(auto, unfolding(crate::specs::Messages::request_in))]
+pub fn read_request(bytes: &[u8]) -> Option<RequestView<'_>>
+    ensures none { (result ≡ None) ↔ ((length bytes.now < 8) ⊎ (4096 < length bytes.now)) }
+    ensures parts { MatchOption result
+        (request_in bytes.now ≡ None)
+        (λ r. request_in bytes.now ≡ Some (record { client = r.client; request = r.request; payload = r.payload.now })) }
+{
+    if bytes.len() < LEAST_LEN || bytes.len() > MOST_LEN {
+        return None;
+    }
+    Some(RequestView {
+        client: number_at(bytes, 0),
+        request: number_at(bytes, 4),
+        payload: &bytes[LEAST_LEN..],
+    })
+}
