@@ -1,3 +1,4 @@
 pub mod Headers
 pub mod Statuses
-pub mod Asking
+pub mod Texts
+pub mod Jobs

@@ -1,5 +1,5 @@
 -- The words of a run, the statuses that it ends with, and what it writes.
-use Rattle.std.specs.Prelude.{◌≡◌, ◌≢◌, ◌≤◌, ℕ, List, [], ◌∷◌, ◌++◌, drop, codes, Bool, true, Result, Ok, Err}
+use Rattle.std.specs.Prelude.{◌≡◌, ◌≢◌, ◌≤◌, ℕ, List, ◌++◌, Bool, true, Some, Result, Ok, Err}
 use Rattle.outside.specs.Faults.{Rose}
 use Rattle.outside.specs.Writing.{TookFront}
 use Rattle.ritas_base.specs.declared.event.Event.{Event}
@@ -9,16 +9,13 @@ use Rattle.schedule_file.specs.ReadHeader.{Heading, heading}
 use Rattle.ritas_base.specs.declared.what.What.{What}
 use Rattle.ritas_base.specs.declared.what.What.TheVariants as what_of
 use Rattle.schedule_replay.specs.Replay.{text}
+use Rattle.cluster_config.specs.declared.job.Job.TheVariants.{Replay}
+use Rattle.cluster_config.specs.Words.{job_of}
 use Rattle.ritas.specs.Statuses.{status_of, fault_text, fault_status}
 
--- the word of what is written of a schedule
-abbrev pub word_of : What → List ℕ
-word_of what_of.Report = codes "report"
-word_of what_of.Frames = codes "frames"
-
--- the words after the program's name ask for this
+-- the words ask for this of a schedule
 abbrev pub Asks : List (List ℕ) → What → Type 0
-Asks words what = drop 1 words ≡ codes "replay" ∷ word_of what ∷ []
+Asks words what = job_of words ≡ Some (Replay what)
 
 -- they ask for something of a schedule
 abbrev pub IsReplay : List (List ℕ) → Type 0

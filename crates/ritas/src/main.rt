@@ -1,11 +1,11 @@
-//! Replays a schedule of events that happen to a world of replicas, and writes what came of it.
+//! Replays schedules of events that happen to a world of replicas, makes such schedules, and writes what came of them.
 #![tactic(auto)]
 
+mod drives;
 mod lines;
 mod run;
 #[cfg(test)]
 mod tests;
-mod words;
 
 use outside::{FromRead, ToWrite};
 use ritas_base::Mem;

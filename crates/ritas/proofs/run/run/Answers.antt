@@ -1,28 +1,29 @@
-use Rattle.std.proofs.Common.{◌≡◌, map, sym, ◌∙◌, inl, inr, arith, string_bytes}
+use Rattle.std.proofs.Common.{Err, map, ap, inl, inr, arith, string_bytes}
+use Rattle.cluster_config.specs.declared.job.Job.TheVariants.{Replay, Drive}
+use Rattle.cluster_config.specs.Drive.{planned}
 use Rattle.schedule_file.specs.Schedule.{file_of}
 use Rattle.schedule_file.specs.Spelling.{IsFile}
 use Rattle.schedule_file.specs.ReadHeader.{heading}
 use Rattle.ritas.specs.Run.{IsOwn}
 use Rattle.ritas.proofs.Headers.{header_of}
+use Rattle.ritas.specs.Statuses.{status_of}
+use Rattle.ritas.proofs.Jobs.{one_job, only_memory, named_none}
+use Rattle.ritas.proofs.Texts.{untouched}
+use Rattle.schedule_replay.specs.Replay.{text}
 use Rattle.ritas.proofs.Statuses.{file_or_fault, fault_above_1}
-use Rattle.ritas.proofs.Asking.{one_thing}
 use Rattle.ritas.proofs.run.run.Goals as goal
 
-pub returns-in-Some-clause-every : goal.returns-in-Some-clause-every
-returns-in-Some-clause-every g c = λ what asks tells h es is.
-    let same = one_thing (map string_bytes c.args.words.now.items) c.in-Some.what what c.in-Some.ensures asks in
-    rw same at ((c.reply.ensures.answers tells).replayed h es (c.file_laws.ensures.only (g.S.Source.left c.args.input.now) (heading h) es is))
+pub returns-in-Ok-clause-every : goal.returns-in-Ok-clause-every
+returns-in-Ok-clause-every g c = λ what asks tells h es is.
+    let same = one_job (map string_bytes c.args.words.now.items) c.in-Ok.job (Replay what) c.in-Ok.ensures.job asks in
+    (c.work.ensures.answers what same tells).replayed h es (c.file_laws.ensures.only (g.S.Source.left c.args.input.now) (heading h) es is)
 
-pub returns-in-Some-clause-answers : goal.returns-in-Some-clause-answers
-returns-in-Some-clause-answers g c = λ what asks tells.
-    let same = one_thing (map string_bytes c.args.words.now.items) c.in-Some.what what c.in-Some.ensures asks in
-    rw same at (c.reply.ensures.answers tells)
-
-pub returns-in-Some-clause-only : goal.returns-in-Some-clause-only
-returns-in-Some-clause-only g c = λ words tells fits low.
+pub returns-in-Ok-clause-only : goal.returns-in-Ok-clause-only
+returns-in-Ok-clause-only g c = λ asks tells fits low.
     let bytes = g.S.Source.left c.args.input.now in
-    let answers = c.reply.ensures.answers tells in
-    let own : IsOwn c.reply.result = (λ e. omega (arith, e, low), λ e. omega (arith, e, low), λ e. omega (arith, e, low)) in
+    let same = one_job (map string_bytes c.args.words.now.items) c.in-Ok.job (Replay asks.0) c.in-Ok.ensures.job asks.1 in
+    let answers = c.work.ensures.answers asks.0 same tells in
+    let own : IsOwn c.work.result = (λ e. omega (arith, e, low), λ e. omega (arith, e, low), λ e. omega (arith, e, low)) in
     elim (file_or_fault (file_of bytes)) [
       | inl x ↦
           let is = c.file_laws.ensures.found bytes x.0.0 x.0.1 fits x.1 in
@@ -33,6 +34,18 @@ returns-in-Some-clause-only g c = λ words tells fits low.
       | inr e ↦ absurd (omega (arith, (answers.refused e.0 e.1).answer own, low, fault_above_1 e.0))
     ]
 
-pub returns-in-Some-clause-agree : goal.returns-in-Some-clause-agree
-returns-in-Some-clause-agree g c = λ words tells fits none h es is.
-    c.reply.ensures.agree tells none h es (c.file_laws.ensures.only (g.S.Source.left c.args.input.now) (heading h) es is)
+pub returns-in-Ok-clause-agree : goal.returns-in-Ok-clause-agree
+returns-in-Ok-clause-agree g c = λ asks tells fits none h es is.
+    let same = one_job (map string_bytes c.args.words.now.items) c.in-Ok.job (Replay asks.0) c.in-Ok.ensures.job asks.1 in
+    c.work.ensures.agree asks.0 same tells none h es (c.file_laws.ensures.only (g.S.Source.left c.args.input.now) (heading h) es is)
+
+pub returns-in-Ok-clause-planned : goal.returns-in-Ok-clause-planned
+returns-in-Ok-clause-planned g c = λ what asks tells p is within.
+    let text = g.S.Source.left c.args.input.now in
+    let same = one_job (map string_bytes c.args.words.now.items) c.in-Ok.job (Drive what) c.in-Ok.ensures.job asks in
+    (c.work.ensures.drives what same tells).plan within p (c.drive_laws.ensures.only text (planned p) is)
+
+pub returns-in-Err-clause-every : goal.returns-in-Err-clause-every
+returns-in-Err-clause-every g c = λ what asks tells h es is.
+    let short = c.refuse_words.ensures.memory (only_memory c.in-Err.fault (λ usage. named_none (map string_bytes c.args.words.now.items) (Replay what) (c.in-Err.ensures.usage (ap Err usage)) asks)) in
+    untouched g.K.Sink.tells g.K.Sink.taken c.args.output.now c.refuse_words.new.output c.refuse_words.result (status_of h es) (text what h es) short.0 short.1
