@@ -443,3 +443,12 @@ class Cluster:
 
     def bytes(self):
         return bytes(self.file) + b"\x00"
+
+
+def cluster_events(n: int, f: int, echo: bool):
+    """A cluster of root service 6 that appends one command."""
+    cluster = Cluster(n, f, echo)
+    cluster.command(0, 0, 0, b"")
+    cluster.sweep()
+    texts = [(1, bytes(length)) for length, count in cluster.lengths().items() for _ in range(count)]
+    return cluster.bytes(), texts
