@@ -14,6 +14,7 @@ mod slot;
 mod tagger;
 #[cfg(test)]
 mod tests;
+mod texts;
 mod what;
 
 pub use bytes::{Bytes, Mem};
@@ -27,4 +28,5 @@ pub use plan::{Attack, Order, Plan};
 pub use sender_set::SenderSet;
 pub use slot::{Slot, SlotFault};
 pub use tagger::{Coin, Tagger};
+pub use texts::Texts;
 pub use what::{DriveWhat, What};

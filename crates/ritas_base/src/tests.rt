@@ -1,4 +1,4 @@
-use crate::Slot;
+use crate::{Bytes, Mem, Slot, Texts};
 
 // The first step and the last of binary consensus, those beside them, and a proposal.
 #[test]
@@ -41,4 +41,18 @@ fn rounds_and_steps(rt: HostRuntime) {
         }
         .has_counts()
     );
+}
+
+// Texts, and a copy of them.
+#[test]
+fn texts(rt: HostRuntime) -> Result<(), Mem> {
+    let mut texts = Texts::new(rt.alloc());
+    texts.push(Bytes::from_slice(rt.alloc(), b"a")?)?;
+    texts.push(Bytes::from_slice(rt.alloc(), b"")?)?;
+    let copy = texts.copy(rt.alloc())?;
+    assert!(rt; copy.len() == 2);
+    assert!(rt; copy.get(0) == Some(&b"a"[..]));
+    assert!(rt; copy.get(1) == Some(&b""[..]));
+    assert!(rt; copy.get(2).is_none());
+    Ok(())
 }
