@@ -1,20 +1,27 @@
-//! Where bytes come from and where they go, and the faults of both.
+//! Where bytes come from and where they go, what a replica has to do with others, and the faults of all of these.
 //!
-//! A `Source` gives the bytes that it has left in pieces of its own choice, and a `Sink` takes bytes in pieces.
-//! Each counts its faults, and a call answers `Failed` only where that count rose, or stands at its last value,
-//! 2^64 - 1.
+//! A `Source` gives the bytes that it has left in pieces of its own choice, and a `Sink` takes bytes in pieces. A `Link` is
+//! started with a plan, gives items, and takes frames and replies. Each counts its faults, and a call answers `Failed` only
+//! where that count rose, or stands at its last value, 2^64 - 1.
 //!
-//! What a source has left and what a sink took is told by the forms in memory, `MemSource` and `MemSink`, which are
-//! exact in their contents and in which calls fail, and `Buffer`, a sink that grows and fails only for want of memory.
-//! It isn't told by the forms over the system, `FromRead` and `ToWrite`, of which no contract can say what they give or
-//! take.
+//! What a source has left, what a sink took, and which calls of a link answered Ok is told by the forms in memory,
+//! `MemSource`, `MemSink` and `MemLink`, which are exact in their contents and in which calls fail, and by `Buffer`, a sink
+//! that grows and fails only for want of memory. It isn't told by the forms over the system, `FromRead` and `ToWrite`, of
+//! which no contract can say what they give or take.
 //!
 //! `write_all` writes a whole text to a sink, and `read_whole` reads all that a source has left, up to a limit. How calls
-//! that are made of writes write their texts one after the other is said by the lemmas of `specs/WritingLaws.antt`.
+//! that are made of writes write their texts one after the other is said by the lemmas of `specs/WritingLaws.antt`. The calls
+//! of a link are one list, in the order in which they were made; the plans, items, frames and replies are read off it
+//! (`specs/Links.antt`).
 #![tactic(auto)]
 
 mod adapters;
+mod course;
 mod growing;
+mod link;
+#[cfg(test)]
+mod link_tests;
+mod mem_link;
 mod memory;
 mod sink;
 mod source;
@@ -24,6 +31,8 @@ mod whole;
 
 pub use adapters::{FromRead, ToWrite};
 pub use growing::Buffer;
+pub use link::{Link, LinkFault, LinkItem, LinkPlan, Sent};
+pub use mem_link::MemLink;
 pub use memory::{MemSink, MemSource};
 pub use sink::{Sink, write_all};
 pub use source::{Failed, Source};

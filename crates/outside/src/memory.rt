@@ -1,6 +1,6 @@
 ghost use Rattle.std.specs.Prelude.{◌≡◌, ◌<◌, ◌≤◌, ◌++◌, ◌↔◌, [], true, length, take, min, IsTrue, IfOk, OnErr, IsErr, Contains, ⊤};
 ghost use Rattle.outside.specs.Faults.{HasCause, count_after};
-ghost use Rattle.outside.specs.Memory.{no_calls, ReadsMemory, WritesMemory};
+ghost use Rattle.outside.specs.Memory.{no_calls, calls_after, IsFault, ReadsMemory, WritesMemory};
 
 use crate::sink::Sink;
 use crate::source::{Failed, Source};
@@ -16,9 +16,9 @@ fn raised(count: u64) -> u64
     count.saturating_add(1)
 }
 
-/// The calls of a source or a sink: the numbers of those that fail, the next number, and how many failed.
+/// The calls of a source, a sink or a link: the numbers of those that fail, the next number, and how many failed.
 #[derive(Drop)]
-struct CallList {
+pub(crate) struct CallList {
     fails: Vec<u64>,
     number: u64,
     faults: u64,
@@ -33,7 +33,8 @@ impl Model for CallList {
 }
 
 impl CallList {
-    fn new(alloc: Global, fails: &[u64]) -> Result<CallList, Mem>
+    /// No call was made yet.
+    pub(crate) fn new(alloc: Global, fails: &[u64]) -> Result<CallList, Mem>
         ensures { IfOk result (λ c. c ≡ no_calls fails.now) }
     {
         Ok(CallList {
@@ -48,6 +49,20 @@ impl CallList {
         ensures { IsTrue result ↔ Contains self.now.fails self.now.number }
     {
         self.fails.contains(&self.number)
+    }
+
+    /// A call, which fails where it is listed.
+    pub(crate) fn begin(&mut self) -> Result<(), Failed>
+        ensures fails { IsErr result ↔ IsFault self.old }
+        ensures calls { self.new ≡ calls_after self.old result }
+        ensures cause { HasCause self.old.faults self.new.faults (IsErr result) }
+    {
+        if self.is_fault() {
+            self.fail();
+            return Err(Failed);
+        }
+        self.pass();
+        Ok(())
     }
 
     /// A call that didn't fail.
@@ -119,11 +134,7 @@ impl Source for MemSource {
         ensures err { OnErr result (self.new.left ≡ self.old.left) }
         ensures cause { HasCause self.old.calls.faults self.new.calls.faults (IsErr result) }
     {
-        if self.calls.is_fault() {
-            self.calls.fail();
-            return Err(Failed);
-        }
-        self.calls.pass();
+        self.calls.begin()?;
         if self.at >= self.bytes.len() {
             return Ok(0);
         }

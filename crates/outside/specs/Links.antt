@@ -1,0 +1,53 @@
+-- What a link gives and is given. Lists of its calls have the newest first.
+use Rattle.std.specs.Prelude.{ℕ, List, [], ◌∷◌}
+use Rattle.outside.specs.declared.link.LinkItem.{LinkItem}
+use Rattle.outside.specs.declared.link.LinkItem.TheVariants as items
+use Rattle.outside.specs.declared.link.LinkPlan.{LinkPlan}
+use Rattle.outside.specs.declared.link.Sent.{Sent}
+
+-- a call that answered Ok: a plan was started, an item given, a frame sent, or a reply sent
+pub data LinkAct : Type 0 where
+  Starts : LinkPlan → LinkAct
+  Gives : LinkItem → LinkAct
+  Sends : Sent → LinkAct
+  Replies : Sent → LinkAct
+
+-- the bytes of an item
+abbrev pub bytes_of : LinkItem → List ℕ
+bytes_of (items.Frame to bytes) = bytes
+bytes_of (items.Client at conn bytes) = bytes
+bytes_of (items.Reply from bytes) = bytes
+bytes_of (items.Down at peer) = []
+bytes_of items.End = []
+
+-- of these calls, the plans that were started
+abbrev pub plans_in : List LinkAct → List LinkPlan
+plans_in [] = []
+plans_in (Starts plan ∷ acts) = plan ∷ plans_in acts
+plans_in (Gives item ∷ acts) = plans_in acts
+plans_in (Sends sent ∷ acts) = plans_in acts
+plans_in (Replies sent ∷ acts) = plans_in acts
+
+-- the items that were given
+abbrev pub items_in : List LinkAct → List LinkItem
+items_in [] = []
+items_in (Starts plan ∷ acts) = items_in acts
+items_in (Gives item ∷ acts) = item ∷ items_in acts
+items_in (Sends sent ∷ acts) = items_in acts
+items_in (Replies sent ∷ acts) = items_in acts
+
+-- the frames that were sent
+abbrev pub frames_in : List LinkAct → List Sent
+frames_in [] = []
+frames_in (Starts plan ∷ acts) = frames_in acts
+frames_in (Gives item ∷ acts) = frames_in acts
+frames_in (Sends sent ∷ acts) = sent ∷ frames_in acts
+frames_in (Replies sent ∷ acts) = frames_in acts
+
+-- the replies that were sent
+abbrev pub replies_in : List LinkAct → List Sent
+replies_in [] = []
+replies_in (Starts plan ∷ acts) = replies_in acts
+replies_in (Gives item ∷ acts) = replies_in acts
+replies_in (Sends sent ∷ acts) = replies_in acts
+replies_in (Replies sent ∷ acts) = sent ∷ replies_in acts

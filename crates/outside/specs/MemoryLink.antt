@@ -1,0 +1,55 @@
+-- A link in memory: what it holds, and what a call does.
+use Rattle.std.specs.Prelude.{◌≡◌, ◌↔◌, ℕ, ◌<◌, ◌^◌, List, [], ◌∷◌, length, Result, Ok, Err, IfOk, OnErr}
+use Rattle.outside.specs.Faults.{count_after}
+use Rattle.outside.specs.Memory.{Calls, IsFault}
+use Rattle.outside.specs.Links.{LinkAct, bytes_of}
+use Rattle.outside.specs.declared.link.LinkFault.{LinkFault}
+use Rattle.outside.specs.declared.link.LinkFault.TheVariants as faults
+use Rattle.outside.specs.declared.link.LinkItem.{LinkItem}
+use Rattle.outside.specs.declared.link.LinkItem.TheVariants as item
+
+-- the items that are left, the calls that answered Ok, and those that fail
+pub record LinkState : Type 0 where
+  pub left : List LinkItem
+  pub told : List LinkAct
+  pub calls : Calls
+
+-- ---- which items are given
+
+-- an item has at most 65,535 bytes
+abbrev pub IsShort : LinkItem → Type 0
+IsShort item = length (bytes_of item) < 2 ^ 16
+
+-- what is given where these are left
+abbrev pub first_of : List LinkItem → LinkItem
+first_of [] = item.End
+first_of (x ∷ left) = x
+
+-- what is then left: what stands after an `End` is never given
+abbrev pub rest_of : List LinkItem → List LinkItem
+rest_of [] = []
+rest_of (item.End ∷ left) = item.End ∷ left
+rest_of (item.Frame to bytes ∷ left) = left
+rest_of (item.Client at conn bytes ∷ left) = left
+rest_of (item.Reply from bytes ∷ left) = left
+rest_of (item.Down at peer ∷ left) = left
+
+-- ---- what a call does
+
+-- how many calls failed after one more: want of memory is no fault
+abbrev pub faults_after : {A : Type 0} → ℕ → Result A LinkFault → ℕ
+faults_after n (Ok x) = n
+faults_after n (Err faults.Failed) = count_after n
+faults_after n (Err faults.Mem) = n
+
+-- the calls after one more
+abbrev pub link_calls_after : {A : Type 0} → Calls → Result A LinkFault → Calls
+link_calls_after calls result = record { fails = calls.fails; number = count_after calls.number; faults = faults_after calls.faults result }
+
+-- A call fails exactly where its number is listed. Where it answers Ok, it is told and this is left.
+pub record LinksMemory {A : Type 0} (act : A → LinkAct) (left : List LinkItem) (old new : LinkState) (result : Result A LinkFault) : Type 0 where
+  pub fails : (result ≡ Err faults.Failed) ↔ IsFault old.calls
+  pub calls : new.calls ≡ link_calls_after old.calls result
+  pub told : IfOk result (λ x. new.told ≡ act x ∷ old.told)
+  pub rest : IfOk result (λ _. new.left ≡ left)
+  pub same : OnErr result ((new.told ≡ old.told) × (new.left ≡ old.left))

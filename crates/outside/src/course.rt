@@ -1,0 +1,148 @@
+ghost use Rattle.std.specs.Prelude.{◌≡◌, ◌<◌, ◌∷◌, [], ◌^◌, reverse, drop, length, IfOk, OnOk, OnErr, All, Contains};
+ghost use Rattle.outside.specs.Links.{Starts, Gives, Sends, Replies, bytes_of, plans_in, items_in, frames_in, replies_in};
+ghost use Rattle.outside.specs.MemoryLink.{IsShort, first_of, rest_of};
+
+use crate::link::{LinkItem, LinkPlan, Sent};
+use ritas_base::Mem;
+use std::alloc::Global;
+use std::marker::Model;
+
+// What a call did: for `Next`, the place of the item that it gave. At the place after the last item it gave `End`.
+#[derive(Clone, Copy, Debug)]
+pub(crate) enum Did {
+    Start,
+    Next(usize),
+    Send,
+    Reply,
+}
+
+/// What was told, and the items that are left. Contracts see what was told with the newest first. After want of memory
+/// all is as before.
+#[derive(Drop)]
+pub(crate) struct Course {
+    items: Vec<LinkItem>,
+    at: usize,
+    dids: Vec<Did>,
+    plans: Vec<LinkPlan>,
+    frames: Vec<Sent>,
+    replies: Vec<Sent>,
+}
+
+impl Model for Course {
+    ghost use Rattle.std.specs.Prelude.{drop};
+    ghost use Rattle.outside.specs.Courses.{CourseState, told_of, Fits};
+
+    ghost Value = { CourseState };
+
+    ghost view = { λ s. record {
+      left = drop s.at s.items.items;
+      told = told_of s.items.items s.dids.items s.plans.items s.frames.items s.replies.items;
+    } };
+
+    ghost invariant = { λ s. Fits s.items.items s.at s.dids.items s.plans.items s.frames.items s.replies.items };
+}
+
+// A copy of the item that is given at this place.
+fn item_at(alloc: Global, items: &[LinkItem], at: usize) -> Result<LinkItem, Mem>
+    ensures { IfOk result (λ item. item ≡ first_of (drop at items.now)) }
+{
+    match items.get(at) {
+        Some(item) => item.copy(alloc),
+        None => Ok(LinkItem::End),
+    }
+}
+
+// The place of the item that is given after the one at this place.
+fn place_after(items: &[LinkItem], at: usize) -> usize
+    ensures { drop result items.now ≡ rest_of (drop at items.now) }
+{
+    match items.get(at) {
+        None | Some(LinkItem::End) => at,
+        Some(_) => at + 1,
+    }
+}
+
+impl Course {
+    /// Nothing was told, and these items are left.
+    pub(crate) fn new(alloc: Global, items: Vec<LinkItem>) -> Course
+        requires { All IsShort items.items }
+        ensures { result ≡ record { left = items.items; told = [] } }
+    {
+        Course {
+            items,
+            at: 0,
+            dids: Vec::new(alloc),
+            plans: Vec::new(alloc),
+            frames: Vec::new(alloc),
+            replies: Vec::new(alloc),
+        }
+    }
+
+    /// A plan was started.
+    pub(crate) fn started(&mut self, plan: LinkPlan) -> Result<(), Mem>
+        ensures ok { OnOk result (self.new ≡ record self.old { told = Starts plan ∷ self.old.told }) }
+        ensures err { OnErr result (self.new ≡ self.old) }
+    {
+        self.dids.reserve(1)?;
+        self.plans.push(plan)?;
+        self.dids.push_reserved(Did::Start);
+        Ok(())
+    }
+
+    /// A frame was sent.
+    pub(crate) fn sent(&mut self, frame: Sent) -> Result<(), Mem>
+        ensures ok { OnOk result (self.new ≡ record self.old { told = Sends frame ∷ self.old.told }) }
+        ensures err { OnErr result (self.new ≡ self.old) }
+    {
+        self.dids.reserve(1)?;
+        self.frames.push(frame)?;
+        self.dids.push_reserved(Did::Send);
+        Ok(())
+    }
+
+    /// A reply was sent.
+    pub(crate) fn replied(&mut self, reply: Sent) -> Result<(), Mem>
+        ensures ok { OnOk result (self.new ≡ record self.old { told = Replies reply ∷ self.old.told }) }
+        ensures err { OnErr result (self.new ≡ self.old) }
+    {
+        self.dids.reserve(1)?;
+        self.replies.push(reply)?;
+        self.dids.push_reserved(Did::Reply);
+        Ok(())
+    }
+
+    /// The next item is given.
+    pub(crate) fn gave(&mut self, alloc: Global) -> Result<LinkItem, Mem>
+        ensures item { IfOk result (λ item. item ≡ first_of self.old.left) }
+        ensures ok { IfOk result (λ item. self.new ≡ record { left = rest_of self.old.left; told = Gives item ∷ self.old.told }) }
+        ensures size { IfOk result (λ item. length (bytes_of item) < 2 ^ 16) }
+        ensures end { Contains (items_in self.old.told) LinkItem.End → first_of self.old.left ≡ LinkItem.End }
+        ensures err { OnErr result (self.new ≡ self.old) }
+    {
+        let item = item_at(alloc, &self.items, self.at)?;
+        self.dids.push(Did::Next(self.at))?;
+        self.at = place_after(&self.items, self.at);
+        Ok(item)
+    }
+
+    /// The plans that were started, in order.
+    pub(crate) fn plans(&self) -> &[LinkPlan]
+        ensures { reverse result.now ≡ plans_in self.now.told }
+    {
+        &self.plans
+    }
+
+    /// The frames that were sent, in order.
+    pub(crate) fn frames(&self) -> &[Sent]
+        ensures { reverse result.now ≡ frames_in self.now.told }
+    {
+        &self.frames
+    }
+
+    /// The replies that were sent, in order.
+    pub(crate) fn replies(&self) -> &[Sent]
+        ensures { reverse result.now ≡ replies_in self.now.told }
+    {
+        &self.replies
+    }
+}

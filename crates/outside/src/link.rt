@@ -1,0 +1,208 @@
+ghost use Rattle.std.specs.Prelude.{◌≡◌, ◌<◌, ◌∷◌, ◌^◌, List, ℕ, Bool, true, IfOk, OnOk, OnErr, Err, Contains, length};
+ghost use Rattle.outside.specs.Faults.{HasCause};
+ghost use Rattle.outside.specs.Links.{LinkAct, Starts, Gives, Sends, Replies, bytes_of, items_in};
+
+use crate::source::Failed;
+use ritas_base::{Bytes, Mem, Texts};
+use std::alloc::{AllocError, AllocFailed, Global};
+use std::net::Net;
+use std::sync::Wait;
+
+/// Why a call of a link failed.
+#[derive(Clone, Copy, Debug, PartialEq, Eq)]
+pub enum LinkFault {
+    /// The link failed.
+    Failed,
+    /// There was not enough memory.
+    Mem,
+}
+
+impl From<Failed> for LinkFault {
+    ghost use Rattle.std.specs.Prelude.{◌≡◌};
+    ghost use Rattle.outside.specs.declared.link.LinkFault.TheVariants as faults;
+
+    ghost from_gives = { λ _ e. e ≡ faults.Failed };
+
+    fn from(_: Failed) -> LinkFault {
+        LinkFault::Failed
+    }
+}
+
+impl From<Mem> for LinkFault {
+    ghost use Rattle.std.specs.Prelude.{◌≡◌};
+    ghost use Rattle.outside.specs.declared.link.LinkFault.TheVariants as faults;
+
+    ghost from_gives = { λ _ e. e ≡ faults.Mem };
+
+    fn from(_: Mem) -> LinkFault {
+        LinkFault::Mem
+    }
+}
+
+impl From<AllocError> for LinkFault {
+    ghost use Rattle.std.specs.Prelude.{◌≡◌};
+    ghost use Rattle.outside.specs.declared.link.LinkFault.TheVariants as faults;
+
+    ghost from_gives = { λ _ e. e ≡ faults.Mem };
+
+    fn from(_: AllocError) -> LinkFault {
+        LinkFault::Mem
+    }
+}
+
+impl<T: Drop> From<AllocFailed<T>> for LinkFault {
+    ghost use Rattle.std.specs.Prelude.{◌≡◌};
+    ghost use Rattle.outside.specs.declared.link.LinkFault.TheVariants as faults;
+
+    ghost from_gives = { λ _ e. e ≡ faults.Mem };
+
+    fn from(_: AllocFailed<T>) -> LinkFault {
+        LinkFault::Mem
+    }
+}
+
+/// What a link gives. Replicas and peers have the numbers 0 to 30.
+#[derive(Debug, Drop)]
+pub enum LinkItem {
+    /// A frame for a replica.
+    Frame { to: u8, bytes: Bytes },
+    /// A message of a client, by this connection to a replica.
+    Client { at: u8, conn: u32, bytes: Bytes },
+    /// A reply of a replica, to a client.
+    Reply { from: u8, bytes: Bytes },
+    /// A peer of a replica has no connection any more.
+    Down { at: u8, peer: u8 },
+    /// No item follows.
+    End,
+}
+
+impl LinkItem {
+    /// A copy. The one error is want of memory.
+    pub fn copy(&self, alloc: Global) -> Result<LinkItem, Mem>
+        ensures { IfOk result (λ item. item ≡ self.now) }
+    {
+        match self {
+            LinkItem::Frame { to, bytes } => Ok(LinkItem::Frame {
+                to: *to,
+                bytes: bytes.copy(alloc)?,
+            }),
+            LinkItem::Client { at, conn, bytes } => Ok(LinkItem::Client {
+                at: *at,
+                conn: *conn,
+                bytes: bytes.copy(alloc)?,
+            }),
+            LinkItem::Reply { from, bytes } => Ok(LinkItem::Reply {
+                from: *from,
+                bytes: bytes.copy(alloc)?,
+            }),
+            LinkItem::Down { at, peer } => Ok(LinkItem::Down {
+                at: *at,
+                peer: *peer,
+            }),
+            LinkItem::End => Ok(LinkItem::End),
+        }
+    }
+}
+
+/// What a link is started with. The peers and the nodes are the addresses of replicas 0, 1 and so on.
+#[derive(Debug, Drop)]
+pub enum LinkPlan {
+    /// For one replica, which takes clients at the address `client`.
+    Node { me: u8, peers: Texts, client: Bytes },
+    /// For all replicas of a session.
+    Cluster { peers: Texts },
+    /// For a client of these nodes.
+    Client { nodes: Texts },
+}
+
+impl LinkPlan {
+    /// A copy. The one error is want of memory.
+    pub fn copy(&self, alloc: Global) -> Result<LinkPlan, Mem>
+        ensures { IfOk result (λ plan. plan ≡ self.now) }
+    {
+        match self {
+            LinkPlan::Node { me, peers, client } => Ok(LinkPlan::Node {
+                me: *me,
+                peers: peers.copy(alloc)?,
+                client: client.copy(alloc)?,
+            }),
+            LinkPlan::Cluster { peers } => Ok(LinkPlan::Cluster {
+                peers: peers.copy(alloc)?,
+            }),
+            LinkPlan::Client { nodes } => Ok(LinkPlan::Client {
+                nodes: nodes.copy(alloc)?,
+            }),
+        }
+    }
+}
+
+/// Bytes that went out at a replica, to a peer or to the connection of a client.
+#[derive(Debug, Drop)]
+pub struct Sent {
+    /// The replica.
+    pub at: u8,
+    /// The peer or the connection.
+    pub to: u32,
+    /// The frame or the reply.
+    pub bytes: Bytes,
+}
+
+/// What a replica or a client has to do with others: frames and messages come, and frames and replies go.
+///
+/// A call that answers Ok joins what is told, and one that answers an error leaves it as it was. `Failed` is answered only
+/// where the count of faults rose, or stands at its last value.
+pub trait Link {
+    /// Whether it is told what was started, given, sent and replied. It isn't of sockets.
+    ghost tells: { Bool };
+
+    /// The calls that answered Ok, the newest first, where they are told.
+    ghost told: { Self → List LinkAct };
+
+    /// How many of its calls failed, 0 to 2^64 - 1.
+    ghost faults: { Self → ℕ };
+
+    /// Starts a plan.
+    fn start<R: Net + Wait>(
+        &mut self,
+        rt: &R,
+        alloc: Global,
+        plan: &LinkPlan,
+    ) -> Result<(), LinkFault>
+        ensures ok { tells ≡ true → OnOk result (told self.new ≡ Starts plan.now ∷ told self.old) }
+        ensures err { tells ≡ true → OnErr result (told self.new ≡ told self.old) }
+        ensures cause { HasCause (faults self.old) (faults self.new) (result ≡ Err LinkFault.Failed) };
+
+    /// Gives the next item, of at most 65,535 bytes, for which it may wait. Once `End` was given, nothing else is given.
+    fn next<R: Net + Wait>(&mut self, rt: &R, alloc: Global) -> Result<LinkItem, LinkFault>
+        ensures size { IfOk result (λ item. length (bytes_of item) < 2 ^ 16) }
+        ensures end { tells ≡ true → Contains (items_in (told self.old)) LinkItem.End → IfOk result (λ item. item ≡ LinkItem.End) }
+        ensures ok { tells ≡ true → IfOk result (λ item. told self.new ≡ Gives item ∷ told self.old) }
+        ensures err { tells ≡ true → OnErr result (told self.new ≡ told self.old) }
+        ensures cause { HasCause (faults self.old) (faults self.new) (result ≡ Err LinkFault.Failed) };
+
+    /// Sends a frame of replica `at` to a peer.
+    fn send<R: Net + Wait>(
+        &mut self,
+        rt: &R,
+        alloc: Global,
+        at: u8,
+        peer: u8,
+        frame: &[u8],
+    ) -> Result<(), LinkFault>
+        ensures ok { tells ≡ true → OnOk result (told self.new ≡ Sends (record { at = at; to = peer; bytes = frame.now }) ∷ told self.old) }
+        ensures err { tells ≡ true → OnErr result (told self.new ≡ told self.old) }
+        ensures cause { HasCause (faults self.old) (faults self.new) (result ≡ Err LinkFault.Failed) };
+
+    /// Sends a reply of replica `at` to the connection of a client.
+    fn reply<R: Net + Wait>(
+        &mut self,
+        rt: &R,
+        alloc: Global,
+        at: u8,
+        conn: u32,
+        bytes: &[u8],
+    ) -> Result<(), LinkFault>
+        ensures ok { tells ≡ true → OnOk result (told self.new ≡ Replies (record { at = at; to = conn; bytes = bytes.now }) ∷ told self.old) }
+        ensures err { tells ≡ true → OnErr result (told self.new ≡ told self.old) }
+        ensures cause { HasCause (faults self.old) (faults self.new) (result ≡ Err LinkFault.Failed) };
+}
