@@ -1,5 +1,5 @@
 -- The keys and coins that are dealt in order are those of the replicas.
-use Rattle.std.proofs.Common.{◌≡◌, ℕ, ◌<◌, List, Some, get_or, length, map, refl, sym, ap, ◌∙◌, arith}
+use Rattle.std.proofs.Common.{◌≡◌, ℕ, ◌<◌, Bool, List, Some, get_or, length, map, refl, sym, ap, ◌∙◌, arith}
 use Rattle.std.specs.List.{range_with_len, slice_get}
 use Rattle.std.proofs.lemmas.List.FromFn.{length-map-range_with_len, get_or-map-range_with_len}
 use Rattle.std.proofs.lemmas.Option.{slice_get_within, slice_get-get_or, same_Some}
@@ -8,6 +8,7 @@ use Rattle.keyed_channel.specs.Keyed.{coin_bit}
 use Rattle.schedule_file.specs.declared.header.Header.{Header}
 use Rattle.world_model.specs.Stands.{IsWorldOf, AreKeys}
 use Rattle.ritas_base.specs.History.{Call}
+use Rattle.ritas_base.specs.Members.{has_member}
 use Rattle.ritas_base.specs.Messages.{Place}
 use Rattle.ritas_base.specs.Tags.{Tags}
 use Rattle.layer_api.specs.Broadcast.{BroadcastRules}
@@ -15,7 +16,7 @@ use Rattle.layer_api.specs.BroadcastCalls.{CastShown}
 use Rattle.layer_api.specs.Service.{ServiceRules, Seat}
 use Rattle.layer_api.specs.Words.{Word}
 use Rattle.layer_api.specs.ServiceCalls.{ServiceShown}
-use Rattle.schedule_replay.specs.Layers.{dealt_to, coin_to, setting_by, layers_by}
+use Rattle.schedule_replay.specs.Layers.{dealt_to, coin_to, setting_with, layers_by}
 
 at_number : {X : Type 0} (f : ℕ → X) (n i : ℕ) (x : X) → slice_get (map f (range_with_len 0 n)) i ≡ Some x → x ≡ f i
 at_number {X = X} f n i x e =
@@ -28,14 +29,15 @@ at_number {X = X} f n i x e =
 pub own_keys : (h : Header) → AreKeys h.p.n (map (dealt_to h) (range_with_len 0 h.p.n))
 own_keys h i k e = let same = at_number (dealt_to h) h.p.n i k e in (ap (λ (r : KeyRow). r.me) same, ap (λ (r : KeyRow). r.n) same)
 
-pub world_of_header : {S E : Type 0} (service_stands : S → Seat → List Word → Type 0) (service : ServiceRules) (service_shown : S → ServiceShown)
-    (other_stands : E → Place → Tags → List Call → Type 0) (other : BroadcastRules) (other_shown : E → CastShown) (h : Header)
-    → IsWorldOf (layers_by service_stands service service_shown other_stands other other_shown) h.p h.mode h.correct (map (dealt_to h) (range_with_len 0 h.p.n))
-    (map (coin_to h) (range_with_len 0 h.p.n)) (setting_by service other h)
-world_of_header service_stands service service_shown other_stands other other_shown h = record {
+pub world_dealt : {S E : Type 0} (service_stands : S → Seat → List Word → Type 0) (service : ServiceRules) (service_shown : S → ServiceShown)
+    (other_stands : E → Place → Tags → List Call → Type 0) (other : BroadcastRules) (other_shown : E → CastShown) (h : Header) (is_correct : ℕ → Bool) (members : ℕ)
+    → ((i : ℕ) → is_correct i ≡ has_member members i)
+    → IsWorldOf (layers_by service_stands service service_shown other_stands other other_shown) h.p h.mode members (map (dealt_to h) (range_with_len 0 h.p.n))
+    (map (coin_to h) (range_with_len 0 h.p.n)) (setting_with is_correct service other h)
+world_dealt service_stands service service_shown other_stands other other_shown h is_correct members same = record {
   numbers = refl;
   mode = refl;
-  correct = λ i. refl;
+  correct = same;
   casts = refl;
   service = refl;
   keys = λ i k e. sym (at_number (dealt_to h) h.p.n i k e);

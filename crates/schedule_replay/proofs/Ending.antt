@@ -1,8 +1,7 @@
 -- How a call ends where reading met a fault, which writes nothing.
-use Rattle.std.proofs.Common.{◌≡◌, ◌≢◌, ◌≤◌, ◌⊎◌, ℕ, Bool, true, false, List, [], Result, Ok, Err, refl, sym, ◌∙◌, inl, inr, arith}
+use Rattle.std.proofs.Common.{◌≡◌, ◌≢◌, ◌≤◌, ◌⊎◌, ℕ, Bool, false, List, [], Result, Ok, Err, refl, sym, ◌∙◌, inl, inr, arith}
 use Rattle.std.proofs.lemmas.List.{append-nil}
 use Rattle.outside.specs.Faults.{Rose}
-use Rattle.outside.specs.Writing.{TookFront}
 use Rattle.ritas_base.specs.declared.event.Event.{Event}
 use Rattle.schedule_file.specs.declared.fault.FileFault.{FileFault}
 use Rattle.schedule_file.specs.declared.fault.FileFault.TheVariants as faults
@@ -11,10 +10,9 @@ use Rattle.schedule_file.specs.FileBytes.{is_outside, Fails}
 use Rattle.world_model.specs.declared.audit.Audit.{Audit}
 use Rattle.world_model.specs.Audit.{audit_of}
 use Rattle.world_model.specs.World.{Setting}
-use Rattle.schedule_replay.specs.declared.end.ReplayEnd.{ReplayEnd}
 use Rattle.schedule_replay.specs.declared.end.ReplayEnd.TheVariants as ends
 use Rattle.ritas_base.specs.declared.what.What.{What}
-use Rattle.schedule_replay.specs.Replay.{text_on, end_at, IsEndOf, IsEndAt, Ended, ShowsWorld, Refuses}
+use Rattle.schedule_replay.specs.Replay.{text_on, end_at, IsEndOf, IsEndAt, Ended, ShowsWorld}
 
 -- a fault is of the source, or of memory, or of the file
 kinds : (fault : FileFault) → (fault ≡ faults.Read) ⊎ ((fault ≡ faults.Mem) ⊎ ((is_outside fault ≡ false) × (end_at fault ≡ ends.File fault)))

@@ -1,5 +1,5 @@
 -- The layers of the program, and the world that a schedule file's header describes: its layers, and its keys and coins dealt from the master key.
-use Rattle.std.specs.Prelude.{◌≡◌, ℕ, ◌==◌, List, true, false, if◌then◌else◌}
+use Rattle.std.specs.Prelude.{◌≡◌, ℕ, ◌==◌, Bool, List, true, false, if◌then◌else◌}
 use Rattle.ritas_base.specs.declared.mode.Mode.{Mode}
 use Rattle.ritas_base.specs.History.{Call}
 use Rattle.ritas_base.specs.Messages.{Place}
@@ -50,18 +50,22 @@ dealt_to h i = dealt (master_of h.keys) h.session h.p.n i
 abbrev pub coin_to : Header → ℕ → CoinSeed
 coin_to h i = record { session = h.session; key = coin_key_of (master_of h.keys) h.session i }
 
--- the world of a header, with a service and a broadcast: no replica stops between events
-abbrev pub setting_by : ServiceRules → BroadcastRules → Header → Setting
-setting_by service other h = record {
+-- the world of a header, with a service and a broadcast, in which these replicas are correct: none stops between events
+abbrev pub setting_with : (ℕ → Bool) → ServiceRules → BroadcastRules → Header → Setting
+setting_with is_correct service other h = record {
   numbers = h.p;
   mode = h.mode;
-  is_correct = has_member h.correct;
+  is_correct = is_correct;
   at_slot = at_slot_of h.mode other;
   service = service;
   coin = λ i. coin_bit (coin_to h i);
   keys = dealt_to h;
   stops = λ k i. false;
 }
+
+-- in which those are that it names
+abbrev pub setting_by : ServiceRules → BroadcastRules → Header → Setting
+setting_by service other h = setting_with (has_member h.correct) service other h
 
 -- the service of a root service
 abbrev pub service_of : ℕ → ServiceRules

@@ -1,5 +1,5 @@
 -- Events that are read go onto those that were taken, the newest first.
-use Rattle.std.specs.Prelude.{List, [], ◌++◌, ℕ, reverse, Result, Ok}
+use Rattle.std.specs.Prelude.{List, ◌++◌, ℕ, reverse, Result, Ok}
 use Rattle.ritas_base.specs.declared.event.Event.{Event}
 use Rattle.schedule_file.specs.declared.fault.FileFault.{FileFault}
 use Rattle.schedule_file.specs.Place.{ReaderState, spot}

@@ -2,13 +2,14 @@
 //!
 //! `replay` reads a file from a source to its end, lets its events happen to a world of replicas as it is read, in the
 //! layers that its header names and with the keys and coins that are dealt from its master key, and then writes to a
-//! sink what is asked for. `Played` is such a world by itself, for callers that have the events from elsewhere, and `show`
-//! writes its texts.
+//! sink what is asked for. `first_world` is such a world before any event and `Played` one after some, for callers that have
+//! the events from elsewhere; `first_faces` is one of faces of the faulty replicas; and `show` writes its texts.
 #![tactic(auto)]
 
 mod cut;
 mod deal;
 mod end;
+mod first;
 mod frames;
 mod layers;
 mod lines;
@@ -18,8 +19,9 @@ mod report;
 mod tests;
 mod write;
 
-pub use deal::{deal_coins, deal_keys};
+pub use deal::deal_keys;
 pub use end::ReplayEnd;
+pub use first::{first_faces, first_world};
 pub use layers::{has_echo, replay};
 pub use played::Played;
 pub use write::show;

@@ -12,7 +12,7 @@ ghost use Rattle.schedule_replay.specs.Layers.{layers_by};
 ghost use Rattle.schedule_replay.specs.Onto.{more_events};
 ghost use Rattle.schedule_replay.specs.Played.{StandsFor};
 
-use crate::deal::{deal_coins, deal_keys};
+use crate::first::first_world;
 use keyed_channel::SeedCoin;
 use layer_api::{Broadcast, Service};
 use outside::Source;
@@ -56,9 +56,7 @@ impl<S: Service, E: Broadcast> Played<S, E> {
         ensures header { IfOk result (λ x. header_in x ≡ header) }
         ensures none { IfOk result (λ x. answered x ≡ 0) }
     {
-        let keys = deal_keys(alloc, &header)?;
-        let coins = deal_coins(alloc, &header)?;
-        let world = World::new(alloc, header.p, header.mode, header.correct, keys, coins)?;
+        let world = first_world(alloc, &header)?;
         Ok(Played {
             header,
             world,

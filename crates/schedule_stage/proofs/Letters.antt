@@ -1,5 +1,5 @@
 -- The letters of the faces, what comes to the world of each, and where a face stands in that world.
-use Rattle.std.proofs.Common.{◌≡◌, ◌≢◌, ℕ, ◌/◌, ◌%◌, ◌<◌, ◌≤◌, Bool, true, false, not, ◌&&◌, nat_lt, Option, Some, None, List, [], ◌∷◌, ◌++◌, length, map, refl, sym, ◌∙◌, ap, ap₂, arith}
+use Rattle.std.proofs.Common.{◌≡◌, ◌≢◌, ℕ, ◌/◌, ◌%◌, ◌<◌, ◌≤◌, Bool, true, false, Option, Some, None, List, [], ◌∷◌, ◌++◌, length, map, sym, ◌∙◌, ap, arith}
 use Rattle.std.specs.List.{range_with_len, slice_get}
 use Rattle.std.proofs.lemmas.Bool.{eq-eqb, ne_eqb}
 use Rattle.std.proofs.lemmas.List.{length-append}
@@ -7,17 +7,11 @@ use Rattle.std.proofs.lemmas.List.FromFn.{length-map-range_with_len, get_or-map-
 use Rattle.std.proofs.lemmas.Option.{slice_get-get_or}
 use Rattle.ritas_base.specs.declared.event.Event.{Event}
 use Rattle.ritas_base.specs.declared.event.Event.TheVariants as events
-use Rattle.ritas_base.specs.declared.mode.Mode.{Mode}
 use Rattle.ritas_base.specs.declared.plan.Attack.{Attack}
-use Rattle.ritas_base.specs.Members.{has_member}
-use Rattle.ritas_base.specs.Numbers.{Numbers}
-use Rattle.keyed_channel.specs.Keyed.{CoinSeed}
 use Rattle.keyed_channel.specs.KeyRow.{KeyRow}
-use Rattle.ritas_core.specs.Stands.{Meaning}
 use Rattle.schedule_file.specs.declared.header.Header.{Header}
 use Rattle.schedule_replay.specs.Layers.{dealt_to}
 use Rattle.world_model.specs.World.{Setting, states_of}
-use Rattle.world_model.specs.Stands.{IsWorldOf}
 use Rattle.world_model.specs.FaceWorlds.{faces_world, IsLetter, is_of, only_if, frame_if, told_by, told_to, FaceLaw}
 use Rattle.world_model.specs.declared.player.Player.TheVariants.{Correct, Face}
 use Rattle.world_model.specs.Players.{Cast, Scene, Step, Give, Go, Carry, Throw, AreSteps, frames_of, scene_of}
@@ -85,23 +79,6 @@ pub face_state : FaceLaw → (w : Setting) (c : Cast) (face : ℕ → ℕ) (step
     → w.is_correct (c.number a) ≡ false → c.number a < w.numbers.n → (scene_of w c steps).faces a ≡ states_of (faces_world w) (told_to w c face steps) (c.number a)
 face_state law w c face steps letter are a here faulty below =
     ap (scene_of w c steps).faces (sym here) ∙ law w c face steps letter are (c.number a) faulty below
-
--- ---- the world of a letter
-
--- it has the replicas that aren't in the world's
-pub in_place : {S E : Type 0} (m : Meaning S E CoinSeed KeyRow) (p : Numbers) (mode : Mode) (members others : ℕ) (rows : List KeyRow) (coins : List CoinSeed) (w : Setting)
-    → IsWorldOf m p mode members rows coins w → ((j : ℕ) → has_member others j ≡ (nat_lt j p.n && not (has_member members j)))
-    → IsWorldOf m p mode others rows coins (faces_world w)
-in_place m p mode members others rows coins w is other = record {
-  numbers = is.numbers;
-  mode = is.mode;
-  correct = λ i. ap₂ (λ (q : Numbers) (b : Bool). nat_lt i q.n && not b) is.numbers (is.correct i) ∙ sym (other i);
-  casts = is.casts;
-  service = is.service;
-  keys = is.keys;
-  coins = is.coins;
-  going = λ k i. refl;
-}
 
 -- ---- the keys that were dealt
 

@@ -2,7 +2,6 @@ pub mod Finishing
 pub mod FlipBodies
 pub mod Heads
 pub mod Letters
-pub mod Others
 pub mod Showing
 pub mod Staging
 pub mod Steps

@@ -1,54 +1,12 @@
 //! The faces of the faulty replicas.
-ghost use Rattle.std.specs.Prelude.{◌≡◌, ◌≤◌, ◌&&◌, ℕ, List, [], true, not, nat_lt, IfOk};
-ghost use Rattle.ritas_base.specs.Members.{has_member};
-ghost use Rattle.ritas_base.specs.declared.plan.Plan.{Plan};
-ghost use Rattle.ritas_core.specs.Rules.{other_form};
-ghost use Rattle.schedule_replay.specs.Layers.{layers_by};
-ghost use Rattle.world_model.specs.FaceWorlds.{faces_world};
-ghost use Rattle.world_model.specs.Stands.{WorldStands};
-ghost use Rattle.schedule_plan.specs.Plans.{header_of};
-ghost use Rattle.schedule_stage.specs.Worlds.{world_in};
-
 use crate::flip::flip_frame;
 use crate::header::header_of;
 use keyed_channel::{Keys, SeedCoin};
 use layer_api::{Broadcast, Service};
-use ritas_base::{Attack, Bytes, Event, Mem, Plan, SenderSet};
-use schedule_file::Header;
-use schedule_replay::{deal_coins, deal_keys};
+use ritas_base::{Attack, Bytes, Event, Mem, Plan};
+use schedule_replay::{deal_keys, first_faces};
 use std::alloc::Global;
 use world_model::{World, faces_are_replicas};
-
-// The replicas below n that aren't in the set.
-fn others(n: u8, set: SenderSet) -> SenderSet
-    requires { n ≤ 32 }
-    ensures { (j : ℕ) → has_member result j ≡ (nat_lt j n && not (has_member set j)) }
-{
-    let mut others = SenderSet::empty();
-    for k in 0..n {
-        if !set.has(k) {
-            others = others.with(k);
-        }
-    }
-    others
-}
-
-// The world of a letter before any event: the faulty replicas stand in it in the place of the correct ones.
-fn letter_world<S: Service, E: Broadcast>(
-    alloc: Global,
-    header: &Header,
-) -> Result<World<S, E, SeedCoin>, Mem>
-    requires serves { S.rules.serves header.now.mode.root ≡ true }
-    requires form { E.FORM ≡ other_form header.now.mode }
-    ensures { let m = layers_by S.stands S.rules S.shown E.stands E.rules E.shown in
-        (p : Plan) → header.now ≡ header_of p → IfOk result (λ world. WorldStands m world (faces_world (world_in m p)) []) }
-{
-    let keys = deal_keys(alloc, header)?;
-    let coins = deal_coins(alloc, header)?;
-    let faulty = others(header.p.n(), header.correct);
-    let world = World::new(alloc, header.p, header.mode, faulty, keys, coins)?;
-    Ok(world)
-}
 
 /// The faces of the faulty replicas: those of each letter are a world, in which they stand in the place of their replicas.
 #[derive(Drop)]
@@ -85,8 +43,8 @@ impl<S: Service, E: Broadcast> Faces<S, E> {
     {
         let header = header_of(plan);
         let keys = deal_keys(alloc, &header)?;
-        let a = letter_world(alloc, &header)?;
-        let b = letter_world(alloc, &header)?;
+        let a = first_faces(alloc, &header)?;
+        let b = first_faces(alloc, &header)?;
         Ok(Faces {
             attack: plan.attack,
             keys,

@@ -1,5 +1,5 @@
 use crate::faces::Faces;
-use crate::first::{first_header, first_world};
+use crate::first::first_header;
 use crate::frames::{copy_of, frame_event, frame_number, thrown};
 use crate::halt::Halt;
 use crate::header::header_of;
@@ -8,7 +8,7 @@ use keyed_channel::SeedCoin;
 use layer_api::{Broadcast, Service};
 use outside::Buffer;
 use ritas_base::{Bytes, DriveWhat, Event, Mem, Plan};
-use schedule_replay::Played;
+use schedule_replay::{Played, first_world};
 use std::alloc::Global;
 use world_model::{Player, World};
 

@@ -1,7 +1,6 @@
-use Rattle.std.proofs.Common.{◌≡◌, ◌++◌, List, ℕ, true, sym, ap, ◌∙◌, arith, string_bytes}
+use Rattle.std.proofs.Common.{◌≡◌, ◌++◌, List, ℕ, true, ap, ◌∙◌, arith, string_bytes}
 use Rattle.std.specs.List.{flat_map}
 use Rattle.std.proofs.lemmas.Result.{err_from_is_err_and, on_ok_weaker}
-use Rattle.outside.specs.Writing.{TookFront}
 use Rattle.world_model.specs.Audit.{audit_of}
 use Rattle.world_model.specs.MadeOrder.{all_made}
 use Rattle.schedule_replay.specs.Frames.{frame_line, frames_on}

@@ -1,41 +1,10 @@
-use Rattle.std.proofs.Common.{List, map, length, sym, ◌∙◌, ap, subst}
-use Rattle.std.specs.List.{range_with_len}
-use Rattle.std.proofs.lemmas.List.FromFn.{length-map-range_with_len}
-use Rattle.keyed_channel.specs.KeyRow.{KeyRow}
-use Rattle.keyed_channel.specs.Keyed.{CoinSeed}
-use Rattle.world_model.specs.Counts.{counts_of}
-use Rattle.world_model.specs.Stands.{IsWorldOf, AreKeys}
-use Rattle.schedule_replay.specs.Layers.{dealt_to, coin_to, setting_by, layers_by}
-use Rattle.schedule_replay.proofs.Deals.{member_within}
-use Rattle.schedule_replay.proofs.Dealt.{own_keys, world_of_header}
 use Rattle.schedule_replay.proofs.played.Played.new.Goals as goal
-
-pub new-requires-clause-rows : goal.new-requires-clause-rows
-new-requires-clause-rows g c = ap length c.in_ok-keys.ensures ∙ length-map-range_with_len (dealt_to c.args.header) 0 c.args.header.p.n
-
-pub new-requires-clause-tosses : goal.new-requires-clause-tosses
-new-requires-clause-tosses g c = ap length c.in_ok-coins.ensures ∙ length-map-range_with_len (coin_to c.args.header) 0 c.args.header.p.n
-
-pub new-requires-clause-own : goal.new-requires-clause-own
-new-requires-clause-own g c = subst (AreKeys c.args.header.p.n) (sym c.in_ok-keys.ensures) (own_keys c.args.header)
-
-pub new-requires-clause-within : goal.new-requires-clause-within
-new-requires-clause-within g c = member_within c.args.header c.requires.heading
+use Rattle.world_model.specs.Counts.{counts_of}
 
 pub returns-clause-stands : goal.returns-clause-stands
 unfolding counts_of
-returns-clause-stands g c =
-    let h = c.args.header in
-    let service = g.S.Service.rules in
-    let other = g.E.Broadcast.rules in
-    let m = layers_by g.S.Service.stands service g.S.Service.shown g.E.Broadcast.stands other g.E.Broadcast.shown in
-    let w = setting_by service other h in
-    let keys : List KeyRow = map (dealt_to h) (range_with_len 0 h.p.n) in
-    let with_coins = subst (λ (coins : List CoinSeed). IsWorldOf m h.p h.mode h.correct keys coins w) (sym c.in_ok-coins.ensures)
-    (world_of_header g.S.Service.stands service g.S.Service.shown g.E.Broadcast.stands other g.E.Broadcast.shown h) in
-    let world = subst (λ (rows : List KeyRow). IsWorldOf m h.p h.mode h.correct rows c.in_ok-coins.coins.items w) (sym c.in_ok-keys.ensures) with_coins in
-    record {
-      header = c.requires.heading;
-      world = c.in_ok-world.ensures w world;
-      counts = c.new-2.ensures;
-    }
+returns-clause-stands g c = record {
+  header = c.requires.heading;
+  world = c.in_ok-world.ensures;
+  counts = c.new.ensures;
+}

@@ -1,6 +1,6 @@
 use Rattle.std.proofs.Common.{◌≡◌, ℕ, not, ◌&&◌, nat_lt}
 use Rattle.ritas_base.specs.Members.{has_member}
-use Rattle.schedule_stage.proofs.faces.others.Given as goal
+use Rattle.schedule_replay.proofs.first.others.Given as goal
 
 -- those below k
 abbrev pub invariant-loop-k : goal.invariant-loop-k
