@@ -61,6 +61,5 @@ pub(crate) fn make<S: Service, E: Broadcast>(
 {
     let mut stage = Stage::new(alloc, plan, what)?;
     play(alloc, plan, &mut stage)?;
-    let made = stage.finish(alloc, plan)?;
-    Ok(made)
+    Ok(stage.finish(plan))
 }

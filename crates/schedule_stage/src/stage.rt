@@ -257,16 +257,16 @@ impl<S: Service, E: Broadcast> Stage<S, E> {
     }
 
     /// What came of all steps.
-    pub fn finish(self, alloc: Global, plan: &Plan) -> Result<Finished<S, E>, Mem>
+    pub fn finish(self, plan: &Plan) -> Finished<S, E>
         ensures { let m = layers_by S.stands S.rules S.shown E.stands E.rules E.shown in
             (what : DriveWhat) (steps : List Step) → IsStage m plan.now what self steps
-            → IfOk result (λ x. IsFinished m plan.now what x steps) }
+            → IsFinished m plan.now what result steps }
     {
         let Stage { world, tape, .. } = self;
         let Tape { counts, file, .. } = tape;
-        Ok(Finished {
+        Finished {
             played: Played::of(header_of(plan), world, counts),
             file,
-        })
+        }
     }
 }

@@ -57,7 +57,7 @@ fn steps_of_players(rt: HostRuntime) -> Result<(), Fail> {
     stage.go(alloc, one).map_err(stops)?;
     stage.throw(alloc, 3, 0, &[0; 40]).map_err(stops)?;
     assert_eq!(rt; stage.frames(), [9, 3, 3]);
-    let finished = stage.finish(alloc, &plan)?;
+    let finished = stage.finish(&plan);
     assert_eq!(rt; finished.played.world().events(), 4);
     // the header, an input of one byte, a frame of 54 bytes, a turn, and a frame of 52
     assert_eq!(rt; finished.file.len(), 54 + 5 + 58 + 2 + 56);
