@@ -1,18 +1,15 @@
 -- The inputs of a plan, one at a time.
-use Rattle.std.proofs.Common.{◌≡◌, ℕ, ◌+◌, ◌%◌, ◌/◌, ◌<◌, ◌==◌, ◌||◌, Bool, true, false, List, [], ◌∷◌, ◌++◌, map, reverse, refl, sym, ◌∙◌, ap, ap₂, if◌then◌else◌}
-use Rattle.std.specs.List.{flat_map, range_with_len}
+use Rattle.std.proofs.Common.{◌≡◌, ℕ, ◌+◌, ◌%◌, ◌/◌, ◌<◌, ◌==◌, ◌||◌, Bool, true, false, List, [], ◌∷◌, ◌++◌, map, reverse, sym, ◌∙◌, ap, ap₂, if◌then◌else◌}
+use Rattle.std.specs.List.{range_with_len}
 use Rattle.std.proofs.lemmas.Bool.{lt-ltb}
 use Rattle.std.proofs.lemmas.List.{append-nil}
 use Rattle.ritas_base.specs.declared.plan.Plan.{Plan}
-use Rattle.ritas_base.specs.declared.plan.Attack.{Attack}
-use Rattle.ritas_base.specs.declared.plan.Attack.TheVariants.{Absent, Silent, TwoFace, Flip, Garbage}
 use Rattle.world_model.specs.World.{Setting}
 use Rattle.world_model.specs.declared.player.Player.TheVariants.{Correct, Face}
 use Rattle.world_model.specs.Players.{Step, Give, IsPlayer}
-use Rattle.schedule_plan.specs.Plans.{correct_of, cast_of, players_of}
+use Rattle.schedule_plan.specs.Plans.{correct_of, cast_of}
 use Rattle.schedule_plan.specs.Inputs.{takes_commands, command_text, value_text, command_at, value_at, correct_inputs, flip_inputs, face_inputs, inputs_of}
 use Rattle.schedule_plan.proofs.Planned.{IsPlanned}
-use Rattle.schedule_drive.specs.Given.{given_to}
 use Rattle.schedule_drive.proofs.Toward.{in_parts}
 
 -- the first replicas are players
@@ -40,17 +37,6 @@ pub values_in : (p : Plan) → takes_commands p.mode.root ≡ false → (p.comma
 values_in p takes some = ap₂ (inputs_by p) takes some
 
 -- ---- the faces
-
-none_of : {X Y : Type 0} (xs : List X) → flat_map {A = Y} (λ x. []) xs ≡ []
-none_of [] = refl
-none_of (x ∷ xs) = none_of xs
-
-pub given_faces : (p : Plan) (attack : Attack) → face_inputs p attack ≡ flat_map (given_to p attack) (players_of p)
-given_faces p Absent = sym (none_of (players_of p))
-given_faces p Silent = sym (none_of (players_of p))
-given_faces p Garbage = sym (none_of (players_of p))
-given_faces p TwoFace = refl
-given_faces p Flip = refl
 
 pub flipped_in : (p : Plan) (a : ℕ) (text : List ℕ) → takes_commands p.mode.root ≡ false → (p.commands == 0) ≡ false → text ≡ value_text p.mode.root (a / 2 % p.commands)
     → Give (Face a) text ∷ [] ≡ flip_inputs p (Face a)

@@ -1,5 +1,4 @@
 pub mod Drive
-pub mod Given
 pub mod Lanes
 pub mod Pickers
 pub mod Choices

@@ -6,11 +6,10 @@ ghost use Rattle.ritas_base.specs.declared.what.DriveWhat.{DriveWhat};
 ghost use Rattle.schedule_replay.specs.Layers.{layers_by};
 ghost use Rattle.world_model.specs.declared.player.Player.TheVariants.{Face};
 ghost use Rattle.world_model.specs.Players.{Step, IsPlayer};
-ghost use Rattle.schedule_plan.specs.Inputs.{number_text, value_text, command_text, takes_commands, command_at, value_at, correct_inputs, flip_inputs, face_inputs, inputs_of};
+ghost use Rattle.schedule_plan.specs.Inputs.{number_text, value_text, command_text, takes_commands, command_at, value_at, correct_inputs, flip_inputs, own_text, given_to, face_inputs, inputs_of};
 ghost use Rattle.schedule_plan.specs.Plans.{cast_of, correct_of};
 ghost use Rattle.schedule_stage.specs.Stage.{IsStage, Reaches};
 ghost use Rattle.schedule_stage.specs.Worlds.{world_in};
-ghost use Rattle.schedule_drive.specs.Given.{own_text, given_to};
 
 use crate::laws::has_session;
 use crate::players::{correct_of, players};

@@ -29,7 +29,7 @@ use Rattle.world_model.specs.Players.{Cast, Scene, Step, Give, Go, Carry, IsPlay
 use Rattle.world_model.proofs.Anywhere.{among_from, number_below, mapped_from}
 use Rattle.world_model.proofs.Members.{has_passing}
 use Rattle.schedule_plan.specs.Plans.{is_absent, correct_of, is_correct_in, faces_of, face_a, face_b, cast_of, players_at, players_of, are_linked, is_two_faced, same_letter, linked_to, linked_from}
-use Rattle.schedule_plan.specs.Inputs.{value_text, takes_commands, command_at, value_at, correct_inputs, flip_inputs, two_inputs, face_inputs, inputs_of}
+use Rattle.schedule_plan.specs.Inputs.{value_text, takes_commands, command_at, value_at, correct_inputs, flip_inputs, two_inputs, given_to, face_inputs, inputs_of}
 use Rattle.schedule_plan.specs.Garbage.{start_of, after_filler, throws_to, throws_by, faulty_of, throws_of}
 use Rattle.schedule_plan.specs.Sweeps.{Counts, none_yet, counts_of, carries, turns_at, swept_at, sweep_of, sweeps}
 use Rattle.schedule_plan.specs.Picks.{Choice, Turning, Passing, has_some, passings_of, is_open_choice, all_choices, choices_of, Picking, carried, taken, garbled, pick, picks}
@@ -156,12 +156,15 @@ two_steps : (w : Setting) (p : Plan) → IsPlanned w p → (x : Player) → Has 
 two_steps w p planned (Correct i) there = tt
 two_steps w p planned (Face a) there = (player_is w p planned (Face a) there, tt)
 
+given_steps : (w : Setting) (p : Plan) → IsPlanned w p → (attack : Attack) (x : Player) → Has (players_of p) x → AreSteps w (cast_of p.attack) (given_to p attack x)
+given_steps w p planned Absent x there = tt
+given_steps w p planned Silent x there = tt
+given_steps w p planned Garbage x there = tt
+given_steps w p planned Flip x there = flip_steps w p planned x there
+given_steps w p planned TwoFace x there = two_steps w p planned x there
+
 face_steps : (w : Setting) (p : Plan) → IsPlanned w p → (attack : Attack) → AreSteps w (cast_of p.attack) (face_inputs p attack)
-face_steps w p planned Absent = tt
-face_steps w p planned Silent = tt
-face_steps w p planned Garbage = tt
-face_steps w p planned Flip = are_among w (cast_of p.attack) (flip_inputs p) (players_of p) (flip_steps w p planned)
-face_steps w p planned TwoFace = are_among w (cast_of p.attack) (two_inputs p) (players_of p) (two_steps w p planned)
+face_steps w p planned attack = are_among w (cast_of p.attack) (given_to p attack) (players_of p) (given_steps w p planned attack)
 
 pub input_steps : (w : Setting) (p : Plan) → IsPlanned w p → AreSteps w (cast_of p.attack) (reverse (inputs_of p))
 input_steps w p planned =

@@ -42,14 +42,21 @@ abbrev pub flip_inputs : Plan → Player → List Step
 flip_inputs p (Correct i) = []
 flip_inputs p (Face a) = if takes_commands p.mode.root || p.commands == 0 then [] else Give (Face a) (value_text p.mode.root (a / 2 % p.commands)) ∷ []
 
+abbrev pub own_text : ℕ → ℕ → List ℕ
+own_text root a = if takes_commands root then command_text root a 0 a else value_text root a
+
 abbrev pub two_inputs : Plan → Player → List Step
 two_inputs p (Correct i) = []
-two_inputs p (Face a) = Give (Face a) (if takes_commands p.mode.root then command_text p.mode.root a 0 a else value_text p.mode.root a) ∷ []
+two_inputs p (Face a) = Give (Face a) (own_text p.mode.root a) ∷ []
+
+-- what a player is given as a face
+abbrev pub given_to : Plan → Attack → Player → List Step
+given_to p Flip x = flip_inputs p x
+given_to p TwoFace x = two_inputs p x
+given_to p _ x = []
 
 abbrev pub face_inputs : Plan → Attack → List Step
-face_inputs p Flip = flat_map (flip_inputs p) (players_of p)
-face_inputs p TwoFace = flat_map (two_inputs p) (players_of p)
-face_inputs p _ = []
+face_inputs p attack = flat_map (given_to p attack) (players_of p)
 
 -- the oldest first
 abbrev pub inputs_of : Plan → List Step

@@ -3,9 +3,9 @@ use Rattle.schedule_replay.specs.Layers.{layers_by}
 use Rattle.world_model.specs.declared.player.Player.{Player}
 use Rattle.world_model.specs.Players.{Step, Give, IsPlayer}
 use Rattle.schedule_plan.specs.Plans.{cast_of}
+use Rattle.schedule_plan.specs.Inputs.{given_to}
 use Rattle.schedule_stage.specs.Stage.{Reaches}
 use Rattle.schedule_stage.specs.Worlds.{world_in}
-use Rattle.schedule_drive.specs.Given.{given_to}
 use Rattle.schedule_drive.proofs.inputs.give_face.Goals as goal
 
 pub returns-in-Flip-Face : goal.returns-in-Flip-Face

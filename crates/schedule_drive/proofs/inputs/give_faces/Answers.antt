@@ -7,13 +7,12 @@ use Rattle.schedule_replay.specs.Layers.{layers_by}
 use Rattle.world_model.specs.declared.player.Player.{Player}
 use Rattle.world_model.specs.declared.player.Player.TheVariants.{Correct}
 use Rattle.world_model.specs.Players.{Step}
+use Rattle.schedule_plan.specs.Inputs.{given_to}
 use Rattle.schedule_plan.proofs.Planned.{is_planned, player_is}
 use Rattle.schedule_stage.specs.Stage.{IsStage}
 use Rattle.schedule_stage.specs.Worlds.{world_in, HaltsBy}
-use Rattle.schedule_drive.specs.Given.{given_to}
 use Rattle.schedule_drive.proofs.Running.{listed_at}
 use Rattle.schedule_drive.proofs.Toward.{arrives, comes_nearer, halts_on_way}
-use Rattle.schedule_drive.proofs.Giving.{given_faces}
 use Rattle.schedule_drive.proofs.inputs.give_faces.Goals as goal
 
 pub loop-x-init : goal.loop-x-init
@@ -48,7 +47,7 @@ returns-in_err-give_face g c = λ what steps stands.
     let player = player_is (world_in m p) p (is_planned g.S.Service.rules g.E.Broadcast.rules p c.requires) x listed in
     let next = at_drop_more (flat_map f) all i (Correct 0) c.loop-x-test.true in
     let q = err_from_is_err_and c.from_residual-in_err-give_face.result c.from_residual-in_err-give_face.ensures.1 in
-    let whole = sym (given_faces p p.attack ∙ ap (flat_map f) (sym are)) in
+    let whole = ap (flat_map f) are in
     rw (q.1, q.2) (subst (λ (l : List Step). HaltsBy (world_in m p) p (reverse l ++ steps) c.in_err-give_face.field-0.0) whole
     (halts_on_way m p what c.loop-x.stage (f x) (flat_map f (drop (i + 1) all)) _ _ _ next toward (c.in_err-give_face.ensures what toward.steps toward.stands player)))
 
@@ -59,6 +58,6 @@ returns g c = λ what steps stands.
     let f = given_to p p.attack in
     let all = c.deref-x-items.result.now in
     let are = c.deref-x-items.ensures.value ∙ c.in_ok-all.ensures in
-    let whole = sym (given_faces p p.attack ∙ ap (flat_map f) (sym are)) in
+    let whole = ap (flat_map f) are in
     subst (λ (l : List Step). IsStage m p what c.loop-x.stage (reverse l ++ steps)) whole
     (arrives m p what c.loop-x.stage _ _ (at_drop_all (flat_map f) all c.loop-x.x-index c.loop-x-test.false) (c.loop-x.invariant what steps stands))

@@ -3,8 +3,8 @@ use Rattle.std.specs.List.{flat_map}
 use Rattle.ritas_base.specs.declared.what.DriveWhat.{DriveWhat}
 use Rattle.schedule_replay.specs.Layers.{layers_by}
 use Rattle.world_model.specs.Players.{Step}
+use Rattle.schedule_plan.specs.Inputs.{given_to}
 use Rattle.schedule_stage.specs.Stage.{IsStage}
-use Rattle.schedule_drive.specs.Given.{given_to}
 use Rattle.schedule_drive.proofs.Toward.{IsToward}
 use Rattle.schedule_drive.proofs.inputs.give_faces.Given as goal
 
