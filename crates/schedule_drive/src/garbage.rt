@@ -10,11 +10,11 @@ ghost use Rattle.schedule_plan.specs.Garbage.{filler, after_filler, throws_to, t
 ghost use Rattle.schedule_stage.specs.Stage.{IsStage, Reaches};
 ghost use Rattle.schedule_stage.specs.Worlds.{world_in};
 
-use crate::players::correct_of;
 use layer_api::{Broadcast, Service};
 use rand_core::utils::NextWord;
 use rand_pcg::Lcg64Xsh32;
 use ritas_base::{Attack, Plan};
+use schedule_plan::correct_of;
 use schedule_stage::{Halt, Stage};
 use std::alloc::Global;
 

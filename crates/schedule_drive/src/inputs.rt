@@ -12,9 +12,10 @@ ghost use Rattle.schedule_stage.specs.Stage.{IsStage, Reaches};
 ghost use Rattle.schedule_stage.specs.Worlds.{world_in};
 
 use crate::laws::has_session;
-use crate::players::{correct_of, players};
+use crate::players::players;
 use layer_api::{Broadcast, Service};
 use ritas_base::{Attack, Bytes, Mem, Plan};
+use schedule_plan::correct_of;
 use schedule_stage::{Halt, Stage};
 use std::alloc::Global;
 use world_model::Player;

@@ -2,21 +2,12 @@
 ghost use Rattle.std.specs.Prelude.{◌≡◌, ◌<◌, ◌++◌, IfOk, OnOk};
 ghost use Rattle.ritas_base.specs.declared.plan.Attack.{Attack};
 ghost use Rattle.world_model.specs.Players.{number_of};
-ghost use Rattle.schedule_plan.specs.Plans.{correct_of, is_of_a, is_two_faced, same_letter, are_linked, cast_of, faces_of, players_at, players_of};
+ghost use Rattle.schedule_plan.specs.Plans.{is_of_a, is_two_faced, same_letter, are_linked, cast_of, faces_of, players_at, players_of};
 
 use ritas_base::{Attack, Mem, Plan};
+use schedule_plan::correct_of;
 use std::alloc::Global;
 use world_model::Player;
-
-/// How many replicas of a plan are correct: the first ones.
-pub(crate) fn correct_of(plan: &Plan) -> u8
-    ensures { result ≡ correct_of plan.now }
-{
-    match plan.attack {
-        Attack::Absent => plan.p.n(),
-        _ => plan.p.n() - plan.p.f(),
-    }
-}
 
 /// The number of the replica that a player is or plays.
 pub(crate) fn number_of(x: Player) -> u8

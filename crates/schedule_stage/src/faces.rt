@@ -1,9 +1,9 @@
 //! The faces of the faulty replicas.
 use crate::flip::flip_frame;
-use crate::header::header_of;
 use keyed_channel::{Keys, SeedCoin};
 use layer_api::{Broadcast, Service};
 use ritas_base::{Attack, Bytes, Event, Mem, Plan};
+use schedule_plan::header_of;
 use schedule_replay::{deal_keys, first_faces};
 use std::alloc::Global;
 use world_model::{World, faces_are_replicas};

@@ -13,7 +13,6 @@ mod first;
 mod flip;
 mod frames;
 mod halt;
-mod header;
 mod stage;
 mod tape;
 #[cfg(test)]

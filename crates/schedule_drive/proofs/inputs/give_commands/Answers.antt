@@ -13,7 +13,7 @@ use Rattle.schedule_drive.proofs.Giving.{first_is, command_is}
 use Rattle.schedule_drive.proofs.inputs.give_commands.Goals as goal
 
 pub nonzero_rem-at : goal.nonzero_rem-at
-nonzero_rem-at g c = let some = (some_correct c.args.plan.now c.requires).0 in omega (arith, some, c.from.ensures, c.correct_of.ensures)
+nonzero_rem-at g c = let some = (some_correct c.args.plan.now c.requires).0 in omega (arith, some, c.from.ensures, c.correct_of.ensures.count)
 
 pub loop-k-init : goal.loop-k-init
 loop-k-init g c = λ what steps stands.
@@ -27,7 +27,7 @@ loop-k-preserved g c = λ what steps stands.
     let p = c.args.plan.now in
     let k = c.loop-k.k in
     let toward = c.loop-k.invariant what steps stands in
-    let wide : c.from.result ≡ correct_of p = c.from.ensures ∙ c.correct_of.ensures in
+    let wide : c.from.result ≡ correct_of p = c.from.ensures ∙ c.correct_of.ensures.count in
     let below = mod_below k (correct_of p) (some_correct p c.requires).0 in
     let same : k % c.from.result ≡ k % correct_of p = ap (λ (n : ℕ). k % n) wide in
     let player = first_is (world_in m p) p (is_planned g.S.Service.rules g.E.Broadcast.rules p c.requires) (k % c.from.result) (subst (λ (i : ℕ). i < correct_of p) (sym same) below) in
@@ -42,7 +42,7 @@ returns-in_err-give g c = λ what steps stands.
     let p = c.args.plan.now in
     let k = c.loop-k.k in
     let toward = c.loop-k.invariant what steps stands in
-    let wide : c.from.result ≡ correct_of p = c.from.ensures ∙ c.correct_of.ensures in
+    let wide : c.from.result ≡ correct_of p = c.from.ensures ∙ c.correct_of.ensures.count in
     let below = mod_below k (correct_of p) (some_correct p c.requires).0 in
     let same : k % c.from.result ≡ k % correct_of p = ap (λ (n : ℕ). k % n) wide in
     let player = first_is (world_in m p) p (is_planned g.S.Service.rules g.E.Broadcast.rules p c.requires) (k % c.from.result) (subst (λ (i : ℕ). i < correct_of p) (sym same) below) in

@@ -23,7 +23,7 @@ loop-i-preserved g c = λ what steps stands.
     let p = c.args.plan.now in
     let i = c.loop-i.i in
     let toward = c.loop-i.invariant what steps stands in
-    let below : i < correct_of p = omega (arith, c.loop-i-test.true, c.correct_of-i-end.ensures) in
+    let below : i < correct_of p = omega (arith, c.loop-i-test.true, c.correct_of-i-end.ensures.count) in
     let player = first_is (world_in m p) p (is_planned g.S.Service.rules g.E.Broadcast.rules p c.requires.session) i below in
     let one = value_is p i c.in_ok-text.text (c.in_ok-text.ensures.text ∙ ap (λ (v : ℕ). value_text p.mode.root (v % p.commands)) c.from.ensures) in
     let next = ap (map (value_at p)) (next_up i (correct_of p) below) in
@@ -36,7 +36,7 @@ returns-in_err-give g c = λ what steps stands.
     let p = c.args.plan.now in
     let i = c.loop-i.i in
     let toward = c.loop-i.invariant what steps stands in
-    let below : i < correct_of p = omega (arith, c.loop-i-test.true, c.correct_of-i-end.ensures) in
+    let below : i < correct_of p = omega (arith, c.loop-i-test.true, c.correct_of-i-end.ensures.count) in
     let player = first_is (world_in m p) p (is_planned g.S.Service.rules g.E.Broadcast.rules p c.requires.session) i below in
     let one = value_is p i c.in_ok-text.text (c.in_ok-text.ensures.text ∙ ap (λ (v : ℕ). value_text p.mode.root (v % p.commands)) c.from.ensures) in
     let next = ap (map (value_at p)) (next_up i (correct_of p) below) in
@@ -48,4 +48,4 @@ pub returns : goal.returns
 returns g c = λ what steps stands.
     let m = layers_by g.S.Service.stands g.S.Service.rules g.S.Service.shown g.E.Broadcast.stands g.E.Broadcast.rules g.E.Broadcast.shown in
     let p = c.args.plan.now in
-    arrives m p what c.loop-i.stage _ _ (ap (map (value_at p)) (none_up c.loop-i.i (correct_of p) (omega (arith, c.loop-i-test.false, c.correct_of-i-end.ensures)))) (c.loop-i.invariant what steps stands)
+    arrives m p what c.loop-i.stage _ _ (ap (map (value_at p)) (none_up c.loop-i.i (correct_of p) (omega (arith, c.loop-i-test.false, c.correct_of-i-end.ensures.count)))) (c.loop-i.invariant what steps stands)

@@ -5,8 +5,8 @@ ghost use Rattle.schedule_plan.specs.Plans.{correct_of, header_of};
 use ritas_base::{Attack, Plan, SenderSet};
 use schedule_file::{Header, HeaderKeys};
 
-// How many replicas of a plan are correct: the first ones.
-fn correct_of(plan: &Plan) -> u8
+/// How many replicas of a plan are correct: the first ones.
+pub fn correct_of(plan: &Plan) -> u8
     ensures count { result ≡ correct_of plan.now }
     ensures most { result ≤ 31 }
 {
@@ -17,7 +17,7 @@ fn correct_of(plan: &Plan) -> u8
 }
 
 /// The header of the schedule that a plan means.
-pub(crate) fn header_of(plan: &Plan) -> Header
+pub fn header_of(plan: &Plan) -> Header
     ensures { result ≡ header_of plan.now }
 {
     let correct = (1u32 << correct_of(plan)) - 1;

@@ -2,7 +2,7 @@ use Rattle.std.proofs.Common.{◌≡◌, ◌≢◌, ℕ, ◌-◌, Bool, false, r
 use Rattle.ritas_base.specs.declared.plan.Attack.{Attack}
 use Rattle.ritas_base.specs.declared.plan.Attack.TheVariants.{Absent, Silent, TwoFace, Flip, Garbage}
 use Rattle.schedule_plan.specs.Plans.{is_absent}
-use Rattle.schedule_stage.proofs.header.correct_of.Goals as goal
+use Rattle.schedule_plan.proofs.header.correct_of.Goals as goal
 
 attacked : (a : Attack) → a ≢ Absent → is_absent a ≡ false
 attacked Absent other = absurd (other refl)
