@@ -1,10 +1,11 @@
 -- Picks follow one another.
-use Rattle.std.proofs.Common.{◌≡◌, ◌≢◌, ℕ, suc, ◌+◌, ◌-◌, ◌*◌, ◌%◌, ◌^◌, ◌<◌, ◌≤◌, ◌==◌, Bool, true, false, not, List, [], ◌∷◌, ◌++◌, length, map, filter, reverse, Option, Some, None, Result, Err, refl, sym, ◌∙◌, ap, subst, if◌then◌else◌, length-append, arith}
+use Rattle.std.proofs.Common.{◌≡◌, ◌≢◌, ℕ, suc, ◌+◌, ◌-◌, ◌*◌, ◌%◌, ◌^◌, ◌<◌, ◌≤◌, ◌==◌, Bool, true, false, not, List, [], ◌∷◌, ◌++◌, length, map, filter, reverse, Option, Some, None, Result, Err, refl, sym, ◌∙◌, ap, ap₂, subst, if◌then◌else◌, length-append, arith}
 use Rattle.std.specs.Prelude.{min}
 use Rattle.std.specs.Result.{IsErrAnd}
 use Rattle.std.specs.List.{slice_get, flat_map}
 use Rattle.std.proofs.lemmas.Bool.{eq-eqb, ne_eqb}
 use Rattle.std.proofs.lemmas.List.{length-map}
+use Rattle.std.proofs.lemmas.Nat.{mod_below}
 use Rattle.std.proofs.lemmas.List.FromFn.{length-range_with_len}
 use Rattle.std.proofs.lemmas.List.Sums.{length-filter, count_by-le-length}
 use Rattle.std.proofs.lemmas.Result.{err_from_is_err_and}
@@ -23,7 +24,7 @@ use Rattle.ritas_core.specs.Stands.{Meaning}
 use Rattle.world_model.specs.World.{Setting}
 use Rattle.world_model.specs.declared.player.Player.{Player}
 use Rattle.world_model.specs.declared.player.Player.TheVariants.{Correct}
-use Rattle.world_model.specs.Players.{Step, Go, Carry, AreSteps, scene_of}
+use Rattle.world_model.specs.Players.{Step, Go, Carry, scene_of}
 use Rattle.schedule_plan.specs.Plans.{cast_of, faces_of, is_correct_in, players_at, players_of, are_linked, linked_from}
 use Rattle.schedule_plan.specs.Inputs.{inputs_of}
 use Rattle.schedule_plan.specs.Garbage.{start_of, throws_of}
@@ -31,7 +32,6 @@ use Rattle.schedule_plan.specs.Picks as picks
 use Rattle.schedule_plan.specs.Picks.{Turning, Passing, Picking, has_some, is_open_choice, passings_of, all_choices, choices_of, carried, taken, garbled, pick}
 use Rattle.schedule_plan.specs.Schedule.{step_limit, steps_by, steps_of, schedule, limit_met}
 use Rattle.schedule_plan.proofs.Limits.{limit_stays}
-use Rattle.schedule_plan.proofs.Planned.{IsPlanned, are_append, are_reverse, throw_steps}
 use Rattle.schedule_plan.proofs.Whole.{picks_grow}
 use Rattle.schedule_stage.specs.declared.halt.Halt.{Halt}
 use Rattle.schedule_stage.specs.declared.halt.Halt.TheVariants as halts
@@ -64,16 +64,6 @@ reaches_halt m p what stage steps result halt is by =
 
 pub garbled_now : (p : Plan) (number : ℕ) (q : Picking) → number % 256 ≡ 0 → (reverse (throws_of p p.attack q.words).0 ++ q.steps) ≡ (garbled p number q).steps
 garbled_now p number q at = sym (ap (λ b. reverse (if b then throws_of p p.attack q.words else ([], q.words)).0 ++ q.steps) (eq-eqb (number % 256) 0 at))
-
-throws_if : (w : Setting) (p : Plan) → IsPlanned w p → (g : Lcg) (b : Bool) → AreSteps w (cast_of p.attack) (if b then throws_of p p.attack g else ([], g)).0
-throws_if w p planned g true = throw_steps w p planned (cast_of p.attack) p.attack g
-throws_if w p planned g false = tt
-
-pub garbled_are : (w : Setting) (p : Plan) → IsPlanned w p → (number : ℕ) (q : Picking) → AreSteps w (cast_of p.attack) q.steps → AreSteps w (cast_of p.attack) (garbled p number q).steps
-garbled_are w p planned number q all =
-    let c = cast_of p.attack in
-    let thrown = if number % 256 == 0 then throws_of p p.attack q.words else ([], q.words) in
-    are_append w c (reverse thrown.0) q.steps (are_reverse w c thrown.0 (throws_if w p planned q.words (number % 256 == 0))) all
 
 -- what comes of a choice is on top of what was there
 pub record IsOnTop (few many : List Step) : Type 0 where
@@ -175,6 +165,38 @@ module _ (w : Setting) (p : Plan) (q : Picking) where
   picked_at picker is n choice chosen =
       let found = chosen_is p (waits_in w p q.steps) (counts_in w p q.steps) q.passed (is_open_choice w (cast_of p.attack) (scene_of w (cast_of p.attack) q.steps) q.passed) tests picker is n choice chosen in
       (found.picked, found.is, found.got)
+
+  -- so many are open, and one of them is drawn
+  pub one_there : (picker : Picker) → IsPicker p (waits_in w p q.steps) (counts_in w p q.steps) q.passed picker → (word count : ℕ) → 0 < count → count ≡ length choices_at
+      → open_in picker.turns + open_all (rows_of picker) ≤ word % count → ⊥
+  one_there picker is word count some same above =
+      let many = open_many picker is in
+      let below = mod_below word count some in
+      omega (arith, many, below, above, same)
+
+-- ---- a choice is drawn
+
+-- what there is behind the garbage and the word of a pick
+abbrev pub before_pick : Plan → ℕ → Picking → Picking
+before_pick p number q =
+    let thrown = garbled p number q in
+    record { steps = thrown.steps; passed = q.passed; words = (pcg32 thrown.words).1 }
+
+-- this choice is the one that is drawn
+pub record IsDrawn (w : Setting) (p : Plan) (number : ℕ) (q : Picking) (choice : Choice) : Type 0 where
+  pub found : picks.Choice
+  pub is : IsChoice p choice found
+  pub there : slice_get (choices_at w p q) ((pcg32 (garbled p number q).words).0 % length (choices_at w p q)) ≡ Some found
+
+pub drawn_of : (w : Setting) (p : Plan) (number : ℕ) (q : Picking) (picker : Picker) → IsPicker p (waits_in w p q.steps) (counts_in w p q.steps) q.passed picker
+    → (word count : ℕ) (choice : Choice) → word ≡ (pcg32 (garbled p number q).words).0 → count ≡ length (choices_at w p q) → IsChosen picker (word % count) choice → IsDrawn w p number q choice
+drawn_of w p number q picker is word count choice drawn same chosen =
+    let found = picked_at w p q picker is (word % count) choice chosen in
+    record {
+      found = found.0;
+      is = found.1;
+      there = ap₂ (λ (u k : ℕ). slice_get (choices_at w p q) (u % k)) (sym drawn) (sym same) ∙ found.2;
+    }
 
 -- ---- the loop
 

@@ -1,5 +1,5 @@
 -- Sweep by sweep.
-use Rattle.std.proofs.Common.{◌≡◌, ℕ, suc, ◌+◌, ◌-◌, ◌==◌, Bool, true, false, not, List, ◌++◌, map, length, take, drop, reverse, refl, sym, ◌∙◌, ap, ap₂, subst, append_assoc, if◌then◌else◌, arith}
+use Rattle.std.proofs.Common.{◌≡◌, ℕ, suc, ◌+◌, ◌==◌, Bool, true, false, not, List, ◌++◌, map, length, take, drop, reverse, refl, sym, ◌∙◌, ap, ap₂, subst, append_assoc, if◌then◌else◌, arith}
 use Rattle.std.specs.List.{flat_map, list_any}
 use Rattle.std.proofs.lemmas.Bool.{not-true}
 use Rattle.std.proofs.lemmas.List.{take-append-le, take_all, length-map}
@@ -46,7 +46,7 @@ pub record IsSweeping {S E : Type 0} (m : Meaning S E CoinSeed KeyRow) (p : Plan
 abbrev pub back : {X : Type 0} → ℕ → List X → List X → List X
 back len items new = take len (new ++ drop (length new) items)
 
-pub mapped_back : {X : Type 0} (f : X → X) (len : ℕ) (items lent new : List X) → len ≡ length items → lent ≡ items → new ≡ map f lent → back len items new ≡ map f items
+mapped_back : {X : Type 0} (f : X → X) (len : ℕ) (items lent new : List X) → len ≡ length items → lent ≡ items → new ≡ map f lent → back len items new ≡ map f items
 mapped_back f len items lent new all same is =
     let long = ap length is ∙ length-map lent f ∙ ap length same in
     take-append-le len new (drop (length new) items) (omega (arith, all, long)) ∙ take_all len new (omega (arith, all, long)) ∙ is ∙ ap (map f) same
@@ -103,10 +103,19 @@ module _ {S E : Type 0} (m : Meaning S E CoinSeed KeyRow) (p : Plan) (what : Dri
   last_sweeping stage runs words so_far = subst (IsStage m p what stage) so_far.onward so_far.stands
 
   -- the runs of the last sweep are of players
-  pub runs_before : (stage : Stage S E) (runs : List Run) (words : Lcg) (more : ℕ) → IsSweeping m p what stage runs words more → IsPlanned (world_in m p) p
+  runs_before : (stage : Stage S E) (runs : List Run) (words : Lcg) (more : ℕ) → IsSweeping m p what stage runs words more → IsPlanned (world_in m p) p
       → (run : Run) → Has runs run → IsRun (world_in m p) p run
   runs_before stage runs words more so_far planned run there =
       runs_are (world_in m p) p planned so_far.was so_far.before so_far.waits run (subst (λ (l : List Run). Has l run) so_far.listed there)
+
+  -- those of the next are the same made anew, which were written as a slice
+  pub same_runs : IsPlanned (world_in m p) p → (old : Stage S E) (last lent new : List Run) (words : Lcg) (more len : ℕ) (so_far : IsSweeping m p what old last words more)
+      → len ≡ length last → lent ≡ last
+      → ((steps : List Step) → IsStage m p what old steps → ((run : Run) → Has lent run → IsRun (world_in m p) p run) → new ≡ map (renewed (world_in m p) p steps) lent)
+      → back len last new ≡ map (renewed (world_in m p) p so_far.steps) last
+  same_runs planned old last lent new words more len so_far all same renews =
+      mapped_back (renewed (world_in m p) p so_far.steps) len last lent new all same
+      (renews so_far.steps so_far.stands (λ run there. runs_before old last words more so_far planned run (subst (λ (l : List Run). Has l run) same there)))
 
   module _ (old : Stage S E) (last runs : List Run) (words : Lcg) (k : ℕ) (so_far : IsSweeping m p what old last words (suc k)) (same : runs ≡ map (renewed (world_in m p) p so_far.steps) last) where
     runs_now : runs ≡ runs_by p so_far.before (made_by (world_in m p) p so_far.steps) (waiting (world_in m p) p so_far.steps)

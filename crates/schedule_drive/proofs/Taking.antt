@@ -1,5 +1,6 @@
 -- A step that was picked is taken.
-use Rattle.std.proofs.Common.{◌≡◌, ℕ, ◌∷◌, Option, Some, None, Result, Err, refl, sym, ◌∙◌, ap, subst}
+use Rattle.std.proofs.Common.{◌≡◌, ◌≢◌, ℕ, ◌%◌, ◌∷◌, length, Option, Some, None, Result, Err, refl, sym, ◌∙◌, ap, ap₂, subst}
+use Rattle.std.specs.Prelude.{min}
 use Rattle.std.specs.Result.{IsErrAnd}
 use Rattle.std.specs.List.{slice_get}
 use Rattle.std.proofs.lemmas.Result.{err_from_is_err_and}
@@ -11,17 +12,21 @@ use Rattle.keyed_channel.specs.KeyRow.{KeyRow}
 use Rattle.ritas_core.specs.Stands.{Meaning}
 use Rattle.world_model.specs.World.{Setting}
 use Rattle.world_model.specs.declared.player.Player.{Player}
-use Rattle.world_model.specs.Players.{Carry, AreSteps}
+use Rattle.world_model.specs.Players.{Step, Carry, AreSteps, IsPlayer, number_of}
+use Rattle.world_model.proofs.Members.{got_listed}
 use Rattle.schedule_plan.specs.Plans.{cast_of, players_of, linked_from}
 use Rattle.schedule_plan.specs.Picks as picks
 use Rattle.schedule_plan.specs.Picks.{Turning, Passing, Picking, carried}
+use Rattle.schedule_plan.proofs.Planned.{IsPlanned}
 use Rattle.schedule_stage.specs.declared.halt.Halt.{Halt}
 use Rattle.schedule_stage.specs.declared.stage.Stage.{Stage}
 use Rattle.schedule_stage.specs.Stage.{IsStage}
 use Rattle.schedule_stage.specs.Worlds.{world_in, HaltsBy}
 use Rattle.schedule_drive.specs.declared.picker.Choice.TheVariants as choices
 use Rattle.schedule_drive.specs.declared.picker.Picker.{Picker}
-use Rattle.schedule_drive.specs.Pickers.{waits_in, counts_in, passed_after, IsPicker, IsChoice, Stands, Goes}
+use Rattle.schedule_drive.specs.declared.sender.Sent.{Sent}
+use Rattle.schedule_drive.specs.Pickers.{waits_in, counts_in, numbers_of, passed_after, IsSent, IsPicker, IsChoice, Stands, Goes}
+use Rattle.schedule_drive.proofs.Senders.{AreApart, are_apart}
 
 -- ---- which choice it is
 
@@ -44,6 +49,38 @@ pub record IsPass (p : Plan) (place at : ℕ) (choice : picks.Choice) : Type 0 w
 pub pass_is : (p : Plan) (place at : ℕ) (choice : picks.Choice) → IsChoice p (choices.Frame place at) choice → IsPass p place at choice
 pass_is p place at (Turning y) is = absurd is
 pass_is p place at (Passing x y) is = record { sender = x; receiver = y; is = refl; there = is.0; linked = is.1 }
+
+-- ---- the frame that is picked
+
+-- the number that a word draws, of the frames that haven't passed
+abbrev pub drawn : Setting → Plan → Picking → Player → Player → ℕ → Option ℕ
+drawn w p q x y u =
+    let frames = numbers_of (counts_in w p q.steps x) q.passed x y in
+    slice_get frames (u % min 8 (length frames))
+
+-- it is one of x for y, which are linked
+pub record IsBetween (w : Setting) (p : Plan) (x y : Player) (number : Option ℕ) (sent : Sent) : Type 0 where
+  pub is : IsSent p x y number (Some sent)
+  pub apart : AreApart w p x y
+
+pub sent_between : (w : Setting) (p : Plan) → IsPlanned w p → (x y : Player) (number : Option ℕ) (sent : Sent) (o : Option Sent) → o ≡ Some sent → IsSent p x y number o
+    → (from to : ℕ) → slice_get (players_of p) from ≡ Some x → slice_get (linked_from p x) to ≡ Some y → IsBetween w p x y number sent
+sent_between w p planned x y number sent o some is from to there linked = record {
+  is = subst (IsSent p x y number) some is;
+  apart = are_apart w p planned x y (got_listed (players_of p) from x there) (got_listed (linked_from p x) to y linked);
+}
+
+-- what is said of its step is said of one from x to y
+pub between_them : (w : Setting) (p : Plan) (x y : Player) (number : Option ℕ) (sent : Sent) → IsBetween w p x y number sent → (P : Step → Type 0)
+    → (IsPlayer w (cast_of p.attack) sent.from → IsPlayer w (cast_of p.attack) sent.to → number_of (cast_of p.attack) sent.from ≢ number_of (cast_of p.attack) sent.to
+    → P (Carry sent.from sent.to sent.number))
+    → P (Carry x y sent.number)
+between_them w p x y number sent between P says =
+    let c = cast_of p.attack in
+    let from = subst (IsPlayer w c) (sym between.is.1) between.apart.from in
+    let to = subst (IsPlayer w c) (sym between.is.2) between.apart.to in
+    subst P (ap₂ (λ (a b : Player). Carry a b sent.number) between.is.1 between.is.2)
+    (says from to (λ same. between.apart.differ (ap (number_of c) (sym between.is.1) ∙ same ∙ ap (number_of c) between.is.2)))
 
 -- ---- what comes of it
 

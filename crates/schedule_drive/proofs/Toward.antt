@@ -1,5 +1,5 @@
 -- A stage on the way to a list of steps.
-use Rattle.std.proofs.Common.{◌≡◌, ℕ, suc, ◌+◌, ◌-◌, ◌<◌, ◌≤◌, List, [], ◌∷◌, ◌++◌, reverse, sym, ◌∙◌, ap, subst, append_assoc, arith}
+use Rattle.std.proofs.Common.{◌≡◌, ℕ, suc, ◌+◌, ◌-◌, ◌<◌, ◌≤◌, List, [], ◌∷◌, ◌++◌, reverse, Result, Ok, Err, sym, ◌∙◌, ap, subst, append_assoc, arith}
 use Rattle.std.specs.List.{range_with_len}
 use Rattle.std.proofs.lemmas.List.{reverse-append}
 use Rattle.ritas_base.specs.declared.plan.Plan.{Plan}
@@ -13,7 +13,7 @@ use Rattle.schedule_plan.proofs.Limits.{limit_stays}
 use Rattle.schedule_stage.specs.declared.halt.Halt.{Halt}
 use Rattle.schedule_stage.specs.declared.halt.Halt.TheVariants as halts
 use Rattle.schedule_stage.specs.declared.stage.Stage.{Stage}
-use Rattle.schedule_stage.specs.Stage.{IsStage}
+use Rattle.schedule_stage.specs.Stage.{IsStage, Reaches}
 use Rattle.schedule_stage.specs.Worlds.{world_in, HaltsBy}
 
 -- the stage stands for so many steps that with the rest, the oldest first, they are what is to be reached
@@ -21,6 +21,11 @@ pub record IsToward {S E : Type 0} (m : Meaning S E CoinSeed KeyRow) (p : Plan) 
   pub steps : List Step
   pub stands : IsStage m p what stage steps
   pub whole : reverse rest ++ steps ≡ target
+
+-- it comes so far, or a limit is passed on the way, or memory ran out
+abbrev pub Nears : {S E : Type 0} → Meaning S E CoinSeed KeyRow → Plan → DriveWhat → Stage S E → List Step → List Step → Result (Unit {0}) Halt → Type 0
+Nears m p what stage rest target (Ok done) = IsToward m p what stage rest target
+Nears m p what stage rest target (Err halt) = HaltsBy (world_in m p) p target halt
 
 -- the first part of the rest, and then the other
 pub in_parts : (first rest steps : List Step) → reverse (first ++ rest) ++ steps ≡ reverse rest ++ (reverse first ++ steps)
@@ -54,6 +59,12 @@ module _ {S E : Type 0} (m : Meaning S E CoinSeed KeyRow) (p : Plan) (what : Dri
       subst (λ (l : List Step). HaltsBy (world_in m p) p l halt)
       (sym (in_parts first rest toward.steps) ∙ ap (λ (l : List Step). reverse l ++ toward.steps) (sym same) ∙ toward.whole)
       (halts_later (world_in m p) p (reverse rest) (reverse first ++ toward.steps) halt by)
+
+  -- so it is after a call that takes the first part
+  pub nears : (old new : Stage S E) (first rest all target : List Step) → all ≡ first ++ rest → (toward : IsToward m p what old all target)
+      → (r : Result (Unit {0}) Halt) → Reaches m p what new (reverse first ++ toward.steps) r → Nears m p what new rest target r
+  nears old new first rest all target same toward (Ok done) stands = comes_nearer old new first rest all target same toward stands
+  nears old new first rest all target same toward (Err halt) by = halts_on_way old first rest all target halt same toward by
 
 -- ---- numbers
 

@@ -1,7 +1,7 @@
 -- The steps of a plan are steps of its players, and enough replicas of it are correct.
 use Rattle.std.proofs.Common.{◌≡◌, ◌≢◌, ℕ, zero, suc, ◌+◌, ◌-◌, ◌/◌, ◌%◌, ◌^◌, ◌<◌, ◌≤◌, ◌==◌, ◌||◌, Bool, true, false, not, cond, nat_lt, List, [], ◌∷◌, ◌++◌, map, length, reverse, Option, Some, None, refl, sym, ◌∙◌, ap, subst, inl, inr, if◌then◌else◌, arith}
 use Rattle.std.specs.Prelude.{count_by}
-use Rattle.std.specs.List.{flat_map, range_with_len, slice_get}
+use Rattle.std.specs.List.{flat_map, range_with_len}
 use Rattle.std.proofs.lemmas.Bool.{cases_lt, le-ltb, lt-ltb, eq-eqb, and_parts, not-true}
 use Rattle.std.proofs.lemmas.List.{reverse-append}
 use Rattle.std.proofs.lemmas.List.Concat.{flat_map-cons}
@@ -27,7 +27,7 @@ use Rattle.world_model.specs.declared.player.Player.{Player}
 use Rattle.world_model.specs.declared.player.Player.TheVariants.{Correct, Face}
 use Rattle.world_model.specs.Players.{Cast, Scene, Step, Give, Go, Carry, IsPlayer, IsStep, AreSteps, number_of, state_at, scene_of}
 use Rattle.world_model.proofs.Anywhere.{among_from, number_below, mapped_from}
-use Rattle.world_model.proofs.Members.{has_passing}
+use Rattle.world_model.proofs.Members.{has_passing, got_listed}
 use Rattle.schedule_plan.specs.Plans.{is_absent, correct_of, is_correct_in, faces_of, face_a, face_b, cast_of, players_at, players_of, are_linked, is_two_faced, same_letter, linked_to, linked_from}
 use Rattle.schedule_plan.specs.Inputs.{value_text, takes_commands, command_at, value_at, correct_inputs, flip_inputs, two_inputs, given_to, face_inputs, inputs_of}
 use Rattle.schedule_plan.specs.Garbage.{start_of, after_filler, throws_to, throws_by, faulty_of, throws_of}
@@ -54,11 +54,6 @@ module _ (w : Setting) (c : Cast) where
   are_among f [] each = tt
   are_among f (x ∷ xs) each =
       subst (AreSteps w c) (sym (flat_map-cons f x xs)) (are_append (f x) (flat_map f xs) (each x (inl refl)) (are_among f xs (λ y there. each y (inr there))))
-
-pub got_listed : {X : Type 0} (xs : List X) (m : ℕ) (x : X) → slice_get xs m ≡ Some x → Has xs x
-got_listed [] m x e = absurd cc
-got_listed (y ∷ xs) zero x e = inl (let same : Some y ≡ Some x = e in cc)
-got_listed (y ∷ xs) (suc m) x e = inr (got_listed xs m x e)
 
 -- ---- players
 
@@ -261,7 +256,7 @@ throws_if : (w : Setting) (p : Plan) → IsPlanned w p → (g : Lcg) (b : Bool) 
 throws_if w p planned g true = throw_steps w p planned (cast_of p.attack) p.attack g
 throws_if w p planned g false = tt
 
-garbled_steps : (w : Setting) (p : Plan) → IsPlanned w p → (number : ℕ) (q : Picking) → AreSteps w (cast_of p.attack) q.steps → AreSteps w (cast_of p.attack) (garbled p number q).steps
+pub garbled_steps : (w : Setting) (p : Plan) → IsPlanned w p → (number : ℕ) (q : Picking) → AreSteps w (cast_of p.attack) q.steps → AreSteps w (cast_of p.attack) (garbled p number q).steps
 garbled_steps w p planned number q all =
     let c = cast_of p.attack in
     let thrown = if number % 256 == 0 then throws_of p p.attack q.words else ([], q.words) in

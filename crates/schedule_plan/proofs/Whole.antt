@@ -14,7 +14,7 @@ use Rattle.rand_pcg.specs.Pcg.{pcg32}
 use Rattle.world_model.specs.World.{Setting}
 use Rattle.world_model.specs.declared.player.Player.{Player}
 use Rattle.world_model.specs.Players.{Step, Go, Carry, scene_of}
-use Rattle.world_model.proofs.Members.{has_passing}
+use Rattle.world_model.proofs.Members.{has_passing, got_listed}
 use Rattle.schedule_plan.specs.Plans.{cast_of}
 use Rattle.schedule_plan.specs.Inputs.{inputs_of}
 use Rattle.schedule_plan.specs.Garbage.{start_of, throws_of}
@@ -23,7 +23,6 @@ use Rattle.schedule_plan.specs.Picks.{Choice, Turning, Passing, has_some, unpass
 use Rattle.schedule_plan.specs.Schedule.{step_limit, steps_by, steps_of, schedule, limit_met}
 use Rattle.schedule_plan.specs.Laws.{WholeLaw}
 use Rattle.schedule_plan.proofs.Limits.{limit_stays, within_steps}
-use Rattle.schedule_plan.proofs.Planned.{got_listed}
 
 -- ---- steps on top of others
 
