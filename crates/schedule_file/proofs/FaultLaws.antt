@@ -8,9 +8,11 @@ use Rattle.std.proofs.lemmas.List.Concat.{flat_map-cons}
 use Rattle.ritas_base.specs.declared.event.Event.{Event}
 use Rattle.schedule_file.specs.declared.fault.FileFault.{FileFault}
 use Rattle.schedule_file.specs.declared.fault.FileFault.TheVariants as faults
+use Rattle.schedule_file.specs.declared.scope.Scope.{Scope}
 use Rattle.schedule_file.specs.Reading.{◌>>=◌, Spot, start_of, IsBytes}
 use Rattle.schedule_file.specs.FileBytes.{limit, is_outside, byte_at, end_from, end_at}
 use Rattle.schedule_file.specs.ReadHeader.{Heading, header_at}
+use Rattle.schedule_file.specs.Scopes.{scope_of, IsInScope}
 use Rattle.schedule_file.specs.ReadEvents.{kind_at, some_event, no_event, event_of, event_at, events_then, events_at}
 use Rattle.schedule_file.specs.Schedule.{file_of}
 use Rattle.schedule_file.specs.Spelling.{header_text, event_text, FileOf, FrontOf, IsEvent, IsHeading}
@@ -19,7 +21,7 @@ use Rattle.schedule_file.proofs.Spells.{back_fits, Took}
 use Rattle.schedule_file.proofs.FileSpells.{byte_spells}
 use Rattle.schedule_file.proofs.HeaderSpells.{header_spells}
 use Rattle.schedule_file.proofs.FaultPlaces.{Named, Names, bind_err, err_is, moved, byte_names, IsOfHeader, header_names, IsOfEvent, kind_names}
-use Rattle.schedule_file.proofs.FileLaws.{IsThere, event_there, event_some}
+use Rattle.schedule_file.proofs.FileLaws.{IsThere, event_there, event_some, behind_header}
 
 -- ---- one event
 
@@ -60,53 +62,53 @@ end_stop : (s : Spot) (at : ℕ) (bytes : List ℕ) (f : FileFault) → s.rest �
 end_stop s at [] f is place e = absurd cc
 end_stop s at (b ∷ rest) f is place e = mark_stop s at b rest (nat_lt at limit) f is place refl e
 
-of_stop : (n : ℕ) (s mid : Spot) (kind : ℕ) (t : Bool) (f : FileFault) → s.at ≤ limit → IsBytes mid.rest → Took limit s (kind ∷ []) mid → (kind == 0) ≡ t
-    → (let r : Result (Option Event × Spot) FileFault = cond t (end_at mid >>= λ x. Ok (no_event x)) (kind_at n s.at kind mid >>= λ x. Ok (some_event x)) in r) ≡ Err f → IsStop s f
+of_stop : (scope : Scope) (s mid : Spot) (kind : ℕ) (t : Bool) (f : FileFault) → s.at ≤ limit → IsBytes mid.rest → Took limit s (kind ∷ []) mid → (kind == 0) ≡ t
+    → (let r : Result (Option Event × Spot) FileFault = cond t (end_at mid >>= λ x. Ok (no_event x)) (kind_at scope s.at kind mid >>= λ x. Ok (some_event x)) in r) ≡ Err f → IsStop s f
 unfolding end_at
-of_stop n s mid kind true f low fits took is e =
+of_stop scope s mid kind true f low fits took is e =
     elim (bind_err (end_at mid) (λ x. Ok (no_event x)) f e) [
       | inl h ↦
           let mark : kind ≡ 0 = eqb-true _ _ is in
           end_stop s mid.at mid.rest f (took.bytes ∙ ap (λ (k : ℕ). k ∷ mid.rest) mark) took.at h
       | inr h ↦ absurd (let no = h.2 in cc)
     ]
-of_stop n s mid kind false f low fits took is e =
-    elim (bind_err (kind_at n s.at kind mid) (λ x. Ok (some_event x)) f e) [
-      | inl h ↦ stop_of s f (moved (IsOfEvent s.at) s mid (kind ∷ []) f took ((kind_names n s.at kind).names mid f (took.below low) fits h))
+of_stop scope s mid kind false f low fits took is e =
+    elim (bind_err (kind_at scope s.at kind mid) (λ x. Ok (some_event x)) f e) [
+      | inl h ↦ stop_of s f (moved (IsOfEvent s.at) s mid (kind ∷ []) f took ((kind_names scope s.at kind).names mid f (took.below low) fits h))
       | inr h ↦ absurd (let no = h.2 in cc)
     ]
 
-event_stop : (n : ℕ) (s : Spot) (f : FileFault) → s.at ≤ limit → IsBytes s.rest → event_at n s ≡ Err f → IsStop s f
+event_stop : (scope : Scope) (s : Spot) (f : FileFault) → s.at ≤ limit → IsBytes s.rest → event_at scope s ≡ Err f → IsStop s f
 unfolding event_at
-event_stop n s f low fits e =
-    elim (bind_err (byte_at s) (λ kind. event_of n s.at kind.0 kind.1) f e) [
+event_stop scope s f low fits e =
+    elim (bind_err (byte_at s) (λ kind. event_of scope s.at kind.0 kind.1) f e) [
       | inl h ↦ stop_of s f (let read : Names (IsOfEvent s.at) byte_at = byte_names in read.names s f low fits h)
       | inr h ↦
           let one = byte_spells.takes s h.0.0 h.0.1 fits h.1 in
-          of_stop n s h.0.1 h.0.0 (h.0.0 == 0) f low (back_fits s.rest one.text h.0.1.rest fits one.took.bytes) (subst (λ (t : List ℕ). Took limit s t h.0.1) one.is one.took) refl h.2
+          of_stop scope s h.0.1 h.0.0 (h.0.0 == 0) f low (back_fits s.rest one.text h.0.1.rest fits one.took.bytes) (subst (λ (t : List ℕ). Took limit s t h.0.1) one.is one.took) refl h.2
     ]
 
 -- ---- all events
 
 -- events were read, and then a fault was met
-pub record StopsAt (n : ℕ) (s : Spot) (f : FileFault) : Type 0 where
+pub record StopsAt (scope : Scope) (s : Spot) (f : FileFault) : Type 0 where
   pub es : List Event
   pub mid : Spot
   pub bytes : s.rest ≡ flat_map event_text es ++ mid.rest
-  pub each : AllByRecursion (IsEvent n) es
+  pub each : AllByRecursion (IsInScope scope) es
   pub at : mid.at ≡ s.at + length (flat_map event_text es)
   pub stop : IsStop mid f
-  pub reads : event_at n mid ≡ Err f
+  pub reads : event_at scope mid ≡ Err f
   pub fits : IsBytes mid.rest
   pub low : mid.at ≤ limit
 
-stops_then : (k n : ℕ) (s next : Spot) (o : Option Event) (f : FileFault)
-    → ((t : Spot) → limit < k + t.at → t.at ≤ limit → IsBytes t.rest → events_at k n t ≡ Err f → StopsAt n t f)
-    → limit < suc k + s.at → s.at ≤ limit → IsBytes s.rest → IsThere n s o next → events_then o (events_at k n next) ≡ Err f → StopsAt n s f
-stops_then k n s next None f ih fuel low fits there e = absurd cc
-stops_then k n s next (Some x) f ih fuel low fits there e =
+stops_then : (k : ℕ) (scope : Scope) (s next : Spot) (o : Option Event) (f : FileFault)
+    → ((t : Spot) → limit < k + t.at → t.at ≤ limit → IsBytes t.rest → events_at k scope t ≡ Err f → StopsAt scope t f)
+    → limit < suc k + s.at → s.at ≤ limit → IsBytes s.rest → IsThere scope s o next → events_then o (events_at k scope next) ≡ Err f → StopsAt scope s f
+stops_then k scope s next None f ih fuel low fits there e = absurd cc
+stops_then k scope s next (Some x) f ih fuel low fits there e =
     let some : 1 ≤ length (event_text x) = event_some x in
-    elim (bind_err (events_at k n next) (λ es. Ok (x ∷ es)) f e) [
+    elim (bind_err (events_at k scope next) (λ es. Ok (x ∷ es)) f e) [
       | inl h ↦
           let more = ih next (omega (arith, there.0.at, some)) (there.0.below low) (back_fits s.rest (event_text x) next.rest fits there.0.bytes) h in
           record {
@@ -123,13 +125,13 @@ stops_then k n s next (Some x) f ih fuel low fits there e =
       | inr h ↦ absurd (let no = h.2 in cc)
     ]
 
-pub events_stop : (k n : ℕ) (s : Spot) (f : FileFault) → limit < k + s.at → s.at ≤ limit → IsBytes s.rest → events_at k n s ≡ Err f → StopsAt n s f
+pub events_stop : (k : ℕ) (scope : Scope) (s : Spot) (f : FileFault) → limit < k + s.at → s.at ≤ limit → IsBytes s.rest → events_at k scope s ≡ Err f → StopsAt scope s f
 unfolding events_at
-events_stop zero n s f fuel low fits e = absurd (omega arith)
-events_stop (suc k) n s f fuel low fits e =
-    elim (bind_err (event_at n s) (λ event. events_then event.0 (events_at k n event.1)) f e) [
-      | inl h ↦ record { es = []; mid = s; bytes = refl; each = tt; at = omega arith; stop = event_stop n s f low fits h; reads = h; fits = fits; low = low }
-      | inr h ↦ stops_then k n s h.0.1 h.0.0 f (λ t. events_stop k n t f) fuel low fits (event_there n s h.0.0 h.0.1 low fits h.1) h.2
+events_stop zero scope s f fuel low fits e = absurd (omega arith)
+events_stop (suc k) scope s f fuel low fits e =
+    elim (bind_err (event_at scope s) (λ event. events_then event.0 (events_at k scope event.1)) f e) [
+      | inl h ↦ record { es = []; mid = s; bytes = refl; each = tt; at = omega arith; stop = event_stop scope s f low fits h; reads = h; fits = fits; low = low }
+      | inr h ↦ stops_then k scope s h.0.1 h.0.0 f (λ t. events_stop k scope t f) fuel low fits (event_there scope s h.0.0 h.0.1 low fits h.1) h.2
     ]
 
 -- ---- the file
@@ -147,22 +149,22 @@ pub record FileStop (bytes : List ℕ) (f : FileFault) : Type 0 where
   pub mid : Spot
   pub is : bytes ≡ FrontOf h es ++ mid.rest
   pub header : IsHeading h
-  pub each : AllByRecursion (IsEvent h.p.n) (reverse es)
+  pub each : AllByRecursion (IsEvent h) (reverse es)
   pub at : mid.at ≡ length (FrontOf h es)
   pub stop : IsStop mid f
-  pub reads : event_at h.p.n mid ≡ Err f
+  pub reads : event_at (scope_of h) mid ≡ Err f
   pub fits : IsBytes mid.rest
   pub low : mid.at ≤ limit
 
 pub file_stop : (bytes : List ℕ) (f : FileFault) → IsBytes bytes → file_of bytes ≡ Err f → Named IsOfHeader (start_of bytes) f ⊎ FileStop bytes f
 unfolding file_of
 file_stop bytes f fits e =
-    elim (bind_err (header_at (start_of bytes)) (λ header. events_at (limit + 1) header.0.p.n header.1 >>= λ events. Ok (header.0, reverse events)) f e) [
+    elim (bind_err (header_at (start_of bytes)) (λ header. events_at (limit + 1) (scope_of header.0) header.1 >>= λ events. Ok (header.0, reverse events)) f e) [
       | inl h ↦ inl (header_names.names (start_of bytes) f (omega arith) fits h)
-      | inr h ↦ elim (bind_err (events_at (limit + 1) h.0.0.p.n h.0.1) (λ events. Ok (h.0.0, reverse events)) f h.2) [
+      | inr h ↦ elim (bind_err (events_at (limit + 1) (scope_of h.0.0) h.0.1) (λ events. Ok (h.0.0, reverse events)) f h.2) [
         | inl k ↦
             let head = header_spells.takes (start_of bytes) h.0.0 h.0.1 fits h.1 in
-            let more = events_stop (limit + 1) h.0.0.p.n h.0.1 f (omega arith) (head.took.below (omega arith)) (back_fits bytes head.text h.0.1.rest fits head.took.bytes) k in
+            let more = events_stop (limit + 1) (scope_of h.0.0) h.0.1 f (omega arith) (head.took.below (omega arith)) (back_fits bytes head.text h.0.1.rest fits head.took.bytes) k in
             let back = reverse-reverse more.es in
             inr (record {
               h = h.0.0;
@@ -170,7 +172,7 @@ file_stop bytes f fits e =
               mid = more.mid;
               is = joined bytes head.text h.0.1.rest (header_text h.0.0) (flat_map event_text (reverse (reverse more.es))) more.mid.rest head.took.bytes head.is.0 (more.bytes ∙ ap (λ (l : List Event). flat_map event_text l ++ more.mid.rest) (sym back));
               header = head.is.1;
-              each = rw back more.each;
+              each = rw back (behind_header h.0.0 more.es more.each);
               at = rw back (omega (arith, more.at, head.took.at, ap length head.is.0, length-append (header_text h.0.0) (flat_map event_text more.es)));
               stop = more.stop;
               reads = more.reads;

@@ -1,19 +1,22 @@
 -- Where the faults of the readers are.
 use Rattle.std.proofs.Common.{◌≡◌, ℕ, zero, suc, ◌+◌, ◌*◌, ◌^◌, ◌≤◌, ◌<◌, ◌⊎◌, Bool, true, false, cond, List, [], ◌∷◌, length, Result, Ok, Err, refl, ap, subst, arith, inl, inr, length-append}
 use Rattle.std.specs.Prelude.{◌&&◌, ◌||◌, nat_lt, nat_le, not, ◌==◌}
+use Rattle.std.specs.Option.{is_none}
 use Rattle.std.specs.Int.{w16, w32, w64, from_be_bytes}
 use Rattle.std.proofs.lemmas.Bool.{ltb-false}
 use Rattle.ritas_base.specs.declared.event.Event.TheVariants.{Frame, Input, Turn, Pass, Sealed}
 use Rattle.schedule_file.specs.declared.fault.FileFault.{FileFault}
 use Rattle.schedule_file.specs.declared.fault.FileFault.TheVariants as faults
-use Rattle.schedule_file.specs.declared.header.HeaderKeys.TheVariants.{Master}
+use Rattle.schedule_file.specs.declared.header.HeaderKeys.TheVariants.{Master, Row}
+use Rattle.schedule_file.specs.declared.scope.Scope.{Scope}
+use Rattle.schedule_file.specs.Scopes.{has_replica}
 use Rattle.schedule_file.specs.Reading.{◌>>=◌, Spot, test, IsBytes}
 use Rattle.schedule_file.specs.FileBytes.{limit, byte_from, byte_at, bytes_at, u16_at, u32_at, u64_at, text_at}
-use Rattle.schedule_file.specs.ReadHeader.{is_root, start_at, numbers_at, root_at, vect_of, vect_at, mask_at, keys_at, header_at}
+use Rattle.schedule_file.specs.ReadHeader.{is_root, start_at, numbers_at, root_at, vect_of, vect_at, mask_at, filled_row, master_at, me_at, each_key_at, row_at, alone_at, keys_at, header_at}
 use Rattle.schedule_file.specs.ReadEvents.{replica_at, pair_at, frame_at, input_at, turn_at, pass_at, sealed_at, kind_at}
 use Rattle.schedule_file.proofs.Spells.{back_fits, Took, Spells}
 use Rattle.schedule_file.proofs.FileSpells.{byte_spells, bytes_spells, u16_spells, u32_spells, text_spells}
-use Rattle.schedule_file.proofs.HeaderSpells.{start_spells, numbers_spells, root_spells, vect_spells, mask_spells, keys_spells}
+use Rattle.schedule_file.proofs.HeaderSpells.{start_spells, numbers_spells, root_spells, vect_spells, mask_spells, each_spells, row_spells, me_spells, keys_of, keys_spells}
 use Rattle.schedule_file.proofs.EventSpells.{replica_spells, pair_spells}
 
 -- What a fault says of the place where a reader began that met it. Of a value that isn't allowed, the reader says it.
@@ -145,13 +148,37 @@ mask_names : (n : ℕ) → Names IsOfHeader (mask_at n)
 unfolding mask_at
 mask_names n = then_names _ u32_spells u32_names (λ mask. guard_names (nat_lt mask (2 ^ n)) (faults.Header 17) (λ s. Ok (mask, s)) (λ s. tt) (done_names mask))
 
-keys_names : Names IsOfHeader keys_at
+each_key_names : {own : FileFault → Type 0} (n : ℕ) → Names own (each_key_at n)
+unfolding each_key_at
+each_key_names zero = done_names []
+each_key_names (suc n) = then_names (λ key. each_key_at n key.1 >>= λ more. Ok (key.0 ∷ more.0, more.1)) (bytes_spells 32) (bytes_names 32) (λ key. then_names (λ more. Ok (key ∷ more.0, more.1)) (each_spells n) (each_key_names n) (λ more. done_names (key ∷ more)))
+
+row_names : {own : FileFault → Type 0} (n : ℕ) → Names own (row_at n)
+unfolding row_at
+row_names n = then_names (λ keys. Ok (filled_row keys.0, keys.1)) (each_spells n) (each_key_names n) (λ keys. done_names (filled_row keys))
+
+pub master_names : {own : FileFault → Type 0} → Names own master_at
+unfolding master_at
+master_names = then_names (λ master. Ok (Master master.0, master.1)) (bytes_spells 32) (bytes_names 32) (λ master. done_names (Master master))
+
+pub keys_of_names : {own : FileFault → Type 0} (n me : ℕ) → Names own (keys_of n me)
+keys_of_names n me = then_names (λ row. bytes_at 32 row.1 >>= λ coin. Ok (Row me row.0 coin.0, coin.1)) (row_spells n) (row_names n) (λ row. then_names (λ coin. Ok (Row me row coin.0, coin.1)) (bytes_spells 32) (bytes_names 32) (λ coin. done_names (Row me row coin)))
+
+me_names : (n mask : ℕ) → Names IsOfHeader (me_at n mask)
+unfolding me_at
+me_names n mask = then_names _ byte_spells byte_names (λ me. guard_names (nat_lt me n) (faults.Header 22) _ (λ s. tt) (guard_names (mask == 2 ^ me) (faults.Header 17) (λ s. Ok (me, s)) (λ s. tt) (done_names me)))
+
+alone_names : (n mask : ℕ) → Names IsOfHeader (alone_at n mask)
+unfolding alone_at
+alone_names n mask = then_names _ (me_spells n mask) (me_names n mask) (λ me. keys_of_names n me)
+
+keys_names : (n mask : ℕ) → Names IsOfHeader (keys_at n mask)
 unfolding keys_at
-keys_names = then_names _ byte_spells byte_names (λ form. guard_names (form == 0) (faults.Header 21) _ (λ s. tt) (then_names (λ master. Ok (Master master.0, master.1)) (bytes_spells 32) (bytes_names 32) (λ master. done_names (Master master))))
+keys_names n mask = then_names _ byte_spells byte_names (λ form. guard_names (form == 0 || form == 1) (faults.Header 21) _ (λ s. tt) (choose_names (form == 0) master_at (alone_at n mask) master_names (alone_names n mask)))
 
 pub header_names : Names IsOfHeader header_at
 unfolding header_at
-header_names = then_names _ start_spells start_names (λ session. then_names _ numbers_spells numbers_names (λ p. then_names _ root_spells root_names (λ root. then_names _ vect_spells vect_names (λ vect. then_names _ (mask_spells p.n) (mask_names p.n) (λ mask. then_names (λ keys. Ok (record { session = session; p = p; root = root; vect = vect; correct = mask; keys = keys.0 }, keys.1)) keys_spells keys_names (λ keys. done_names (record { session = session; p = p; root = root; vect = vect; correct = mask; keys = keys })))))))
+header_names = then_names _ start_spells start_names (λ session. then_names _ numbers_spells numbers_names (λ p. then_names _ root_spells root_names (λ root. then_names _ vect_spells vect_names (λ vect. then_names _ (mask_spells p.n) (mask_names p.n) (λ mask. then_names (λ keys. Ok (record { session = session; p = p; root = root; vect = vect; correct = mask; keys = keys.0 }, keys.1)) (keys_spells p.n mask) (keys_names p.n mask) (λ keys. done_names (record { session = session; p = p; root = root; vect = vect; correct = mask; keys = keys })))))))
 
 -- ---- events
 
@@ -167,41 +194,41 @@ IsOfEvent p faults.TooLong = ⊥
 IsOfEvent p faults.Read = ⊥
 IsOfEvent p faults.Mem = ⊥
 
-replica_names : (n p : ℕ) → Names (IsOfEvent p) (replica_at n p)
+replica_names : (scope : Scope) (p : ℕ) → Names (IsOfEvent p) (replica_at scope p)
 unfolding replica_at
-replica_names n p = then_names _ byte_spells byte_names (λ at. guard_names (nat_lt at n) (faults.Event p) (λ s. Ok (at, s)) (λ s. refl) (done_names at))
+replica_names scope p = then_names _ byte_spells byte_names (λ at. guard_names (has_replica scope at) (faults.Event p) (λ s. Ok (at, s)) (λ s. refl) (done_names at))
 
-pair_names : (n p : ℕ) → Names (IsOfEvent p) (pair_at n p)
+pair_names : (scope : Scope) (p : ℕ) → Names (IsOfEvent p) (pair_at scope p)
 unfolding pair_at
-pair_names n p = then_names _ (replica_spells n p) (replica_names n p) (λ from. then_names _ (replica_spells n p) (replica_names n p) (λ to. guard_names (not (from == to)) (faults.Event p) (λ s. Ok ((from, to), s)) (λ s. refl) (done_names (from, to))))
+pair_names scope p = guard_names (is_none scope.only) (faults.Event p) _ (λ s. refl) (then_names _ (replica_spells scope p) (replica_names scope p) (λ from. then_names _ (replica_spells scope p) (replica_names scope p) (λ to. guard_names (not (from == to)) (faults.Event p) (λ s. Ok ((from, to), s)) (λ s. refl) (done_names (from, to)))))
 
-frame_names : (n p : ℕ) → Names (IsOfEvent p) (frame_at n p)
+frame_names : (scope : Scope) (p : ℕ) → Names (IsOfEvent p) (frame_at scope p)
 unfolding frame_at
-frame_names n p = then_names _ (replica_spells n p) (replica_names n p) (λ to. then_names (λ bytes. Ok (Frame to bytes.0, bytes.1)) text_spells text_names (λ bytes. done_names (Frame to bytes)))
+frame_names scope p = then_names _ (replica_spells scope p) (replica_names scope p) (λ to. then_names (λ bytes. Ok (Frame to bytes.0, bytes.1)) text_spells text_names (λ bytes. done_names (Frame to bytes)))
 
-input_names : (n p : ℕ) → Names (IsOfEvent p) (input_at n p)
+input_names : (scope : Scope) (p : ℕ) → Names (IsOfEvent p) (input_at scope p)
 unfolding input_at
-input_names n p = then_names _ (replica_spells n p) (replica_names n p) (λ at. then_names (λ bytes. Ok (Input at bytes.0, bytes.1)) text_spells text_names (λ bytes. done_names (Input at bytes)))
+input_names scope p = then_names _ (replica_spells scope p) (replica_names scope p) (λ at. then_names (λ bytes. Ok (Input at bytes.0, bytes.1)) text_spells text_names (λ bytes. done_names (Input at bytes)))
 
-turn_names : (n p : ℕ) → Names (IsOfEvent p) (turn_at n p)
+turn_names : (scope : Scope) (p : ℕ) → Names (IsOfEvent p) (turn_at scope p)
 unfolding turn_at
-turn_names n p = then_names (λ at. Ok (Turn at.0, at.1)) (replica_spells n p) (replica_names n p) (λ at. done_names (Turn at))
+turn_names scope p = then_names (λ at. Ok (Turn at.0, at.1)) (replica_spells scope p) (replica_names scope p) (λ at. done_names (Turn at))
 
-pass_names : (n p : ℕ) → Names (IsOfEvent p) (pass_at n p)
+pass_names : (scope : Scope) (p : ℕ) → Names (IsOfEvent p) (pass_at scope p)
 unfolding pass_at
-pass_names n p = then_names _ (pair_spells n p) (pair_names n p) (λ x. then_names (λ m. Ok (Pass x.0 x.1 m.0, m.1)) u32_spells u32_names (λ m. done_names (Pass x.0 x.1 m)))
+pass_names scope p = then_names _ (pair_spells scope p) (pair_names scope p) (λ x. then_names (λ m. Ok (Pass x.0 x.1 m.0, m.1)) u32_spells u32_names (λ m. done_names (Pass x.0 x.1 m)))
 
-sealed_names : (n p : ℕ) → Names (IsOfEvent p) (sealed_at n p)
+sealed_names : (scope : Scope) (p : ℕ) → Names (IsOfEvent p) (sealed_at scope p)
 unfolding sealed_at
-sealed_names n p = then_names _ (pair_spells n p) (pair_names n p) (λ x. then_names (λ body. Ok (Sealed x.0 x.1 body.0, body.1)) text_spells text_names (λ body. done_names (Sealed x.0 x.1 body)))
+sealed_names scope p = then_names _ (pair_spells scope p) (pair_names scope p) (λ x. then_names (λ body. Ok (Sealed x.0 x.1 body.0, body.1)) text_spells text_names (λ body. done_names (Sealed x.0 x.1 body)))
 
-pub kind_names : (n p kind : ℕ) → Names (IsOfEvent p) (kind_at n p kind)
+pub kind_names : (scope : Scope) (p kind : ℕ) → Names (IsOfEvent p) (kind_at scope p kind)
 unfolding kind_at
-kind_names n p kind =
-    choose_names (kind == 1) (frame_at n p) _ (frame_names n p) (
-    choose_names (kind == 2) (input_at n p) _ (input_names n p) (
-    choose_names (kind == 3) (turn_at n p) _ (turn_names n p) (
-    choose_names (kind == 4) (pass_at n p) _ (pass_names n p) (
-    choose_names (kind == 5) (sealed_at n p) (λ s. Err (faults.Event p)) (sealed_names n p) (record {
+kind_names scope p kind =
+    choose_names (kind == 1) (frame_at scope p) _ (frame_names scope p) (
+    choose_names (kind == 2) (input_at scope p) _ (input_names scope p) (
+    choose_names (kind == 3) (turn_at scope p) _ (turn_names scope p) (
+    choose_names (kind == 4) (pass_at scope p) _ (pass_names scope p) (
+    choose_names (kind == 5) (sealed_at scope p) (λ s. Err (faults.Event p)) (sealed_names scope p) (record {
       names = λ s f low fits e. subst (λ (x : FileFault). Named (IsOfEvent p) s x) (err_is (faults.Event p) f e) refl;
     })))))

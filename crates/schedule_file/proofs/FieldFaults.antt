@@ -7,14 +7,16 @@ use Rattle.std.proofs.lemmas.List.{take-append-drop, drop-drop, nil_from_length}
 use Rattle.std.proofs.Math.Seq.{drop-cons}
 use Rattle.schedule_file.specs.declared.fault.FileFault.{FileFault}
 use Rattle.schedule_file.specs.declared.fault.FileFault.TheVariants as faults
-use Rattle.schedule_file.specs.declared.header.HeaderKeys.TheVariants.{Master}
 use Rattle.schedule_file.specs.declared.header.HeaderKeys.{HeaderKeys}
 use Rattle.ritas_base.specs.Numbers.{Numbers}
 use Rattle.ritas_base.specs.declared.mode.Vect.{Vect}
-use Rattle.schedule_file.specs.Reading.{◌>>=◌, Spot, test}
+use Rattle.schedule_file.specs.Reading.{◌>>=◌, Spot, test, IsBytes}
 use Rattle.schedule_file.specs.FileBytes.{limit, byte_at, bytes_at, u32_at, u64_at}
-use Rattle.schedule_file.specs.ReadHeader.{is_root, start_at, numbers_at, root_at, vect_of, vect_at, mask_at, keys_at}
-use Rattle.schedule_file.specs.Faults.{Field, number_in, magic, version, count, most_faulty, root_service, vect, correct, key_form, IsFirstWrong}
+use Rattle.schedule_file.specs.ReadHeader.{is_root, start_at, numbers_at, root_at, vect_of, vect_at, mask_at, master_at, me_at, alone_at, keys_at}
+use Rattle.schedule_file.specs.Faults.{Field, number_in, magic, version, count, most_faulty, root_service, vect, correct, key_form, me, me_alone, IsFirstWrong}
+use Rattle.schedule_file.proofs.Spells.{back_fits, Spells}
+use Rattle.schedule_file.proofs.HeaderSpells.{master_spells, keys_of, keys_of_spells}
+use Rattle.schedule_file.proofs.FaultPlaces.{Named, Names, bind_err as bind_err_of, keys_of_names, master_names}
 use Rattle.schedule_file.proofs.FileSpells.{bytes_spells}
 use Rattle.schedule_file.proofs.Chunks.{cut_short}
 
@@ -260,11 +262,76 @@ mask_agrees bytes fields g le17 all more =
     (λ e. stops t (faults.Header 17) _ g e)
     (λ e le21. passes t (faults.Header 17) _ g (more le21) e))
 
-pub keys_agrees : {X : Type 0} (bytes : List ℕ) (g : HeaderKeys × Spot → Result X FileFault) → 21 ≤ length bytes
-    → (54 ≤ length bytes → Agrees bytes [] (g (Master (take 32 (drop 22 bytes)), spot_in bytes 54))) → Agrees bytes (key_form ∷ []) (keys_at (spot_in bytes 21) >>= g)
+-- ---- what follows the fields
+
+-- what is read has no fault of a field, from any place on
+abbrev pub NoField : {X : Type 0} → (Spot → Result X FileFault) → Type 0
+NoField read = (s : Spot) (f : FileFault) → s.at ≤ limit → IsBytes s.rest → is_of_field f ≡ true → read s ≡ Err f → ⊥
+
+abbrev no_own : FileFault → Type 0
+no_own f = ⊥
+
+named_no_field : (s : Spot) (f : FileFault) → is_of_field f ≡ true → Named no_own s f → ⊥
+named_no_field s faults.Magic of h = h
+named_no_field s faults.Version of h = h
+named_no_field s (faults.Header k) of h = h
+named_no_field s (faults.Event p) of h = h
+named_no_field s (faults.Truncated p) of h = cc
+named_no_field s (faults.Trailing p) of h = h
+named_no_field s faults.TooLong of h = cc
+named_no_field s faults.Read of h = h
+named_no_field s faults.Mem of h = h
+
+no_field_then : {A X : Type 0} {R : A → List ℕ → Type 0} (first : Spot → Result (A × Spot) FileFault) (second : A × Spot → Result X FileFault)
+    → Spells limit first R → Names no_own first → ((a : A) → NoField (λ s. second (a, s))) → NoField (λ s. first s >>= second)
+no_field_then first second spells names more s f low fits of e =
+    elim (bind_err_of (first s) second f e) [
+      | inl h ↦ named_no_field s f of (names.names s f low fits h)
+      | inr h ↦
+          let one = spells.takes s h.0.0 h.0.1 fits h.1 in
+          more h.0.0 h.0.1 f (one.took.below low) (back_fits s.rest one.text h.0.1.rest fits one.took.bytes) of h.2
+    ]
+
+-- ---- the keys
+
+-- a field that is right is passed
+passed : {X : Type 0} (bytes : List ℕ) (x : Field) (fields : List Field) (r : Result X FileFault) → x.is_right bytes ≡ true → Agrees bytes fields r → Agrees bytes (x ∷ fields) r
+passed bytes x fields r is agrees = record {
+  found = λ f of e. let y = agrees.found f of e in (y.0, inr (is, y.1), y.2);
+  only = λ p first. elim first [
+    | inl here ↦ absurd (let no : true ≡ false = sym is ∙ here.0 in cc)
+    | inr later ↦ agrees.only p later.1
+  ];
+}
+
+spot_fits : (bytes : List ℕ) (k : ℕ) → IsBytes bytes → IsBytes (drop k bytes)
+spot_fits bytes k fits = back_fits bytes (take k bytes) (drop k bytes) fits (sym (take-append-drop k bytes))
+
+alone_agrees : {X : Type 0} (bytes : List ℕ) (g : HeaderKeys × Spot → Result X FileFault) → IsBytes bytes → 22 ≤ length bytes → (byte bytes 21 == 0) ≡ false
+    → ((keys : HeaderKeys) → NoField (λ s. g (keys, s))) → Agrees bytes (me ∷ me_alone ∷ []) (alone_at (byte bytes 13) (number_in bytes 17) (spot_in bytes 22) >>= g)
+unfolding alone_at me_at
+alone_agrees bytes g fits le22 one more =
+    let n = byte bytes 13 in
+    let mask = number_in bytes 17 in
+    let i = byte bytes 22 in
+    let rest : ℕ × Spot → Result (HeaderKeys × Spot) FileFault = λ me. keys_of n me.0 me.1 in
+    one_by_one (me_at n mask (spot_in bytes 22)) rest g (one_by_one (byte_at (spot_in bytes 22)) _ (λ me. rest me >>= g) (field bytes me (me_alone ∷ []) 22 1 byte_at i _ (nat_lt i n) (byte_takes bytes 22 (omega arith)) refl refl refl (rw one refl) refl le22
+    (λ e. stops (nat_lt i n) (faults.Header 22) _ _ e)
+    (λ e le23. passes (nat_lt i n) (faults.Header 22) _ _ (tested bytes me_alone [] _ (mask == 2 ^ i) (rw one refl) le23 refl
+    (λ e. stops (mask == 2 ^ i) (faults.Header 17) _ _ e)
+    (λ e. passes (mask == 2 ^ i) (faults.Header 17) _ _ (no_field bytes _ (λ f of e. no_field_then (keys_of n i) g (keys_of_spells n i) (keys_of_names n i) more (spot_in bytes 23) f (omega arith) (spot_fits bytes 23 fits) of e)) e)) e)))
+
+either_agrees : {X : Type 0} (bytes : List ℕ) (g : HeaderKeys × Spot → Result X FileFault) (t : Bool) → IsBytes bytes → 22 ≤ length bytes → (byte bytes 21 == 0) ≡ t
+    → ((keys : HeaderKeys) → NoField (λ s. g (keys, s))) → Agrees bytes (me ∷ me_alone ∷ []) (cond t (master_at (spot_in bytes 22)) (alone_at (byte bytes 13) (number_in bytes 17) (spot_in bytes 22)) >>= g)
+either_agrees bytes g true fits le22 is more =
+    passed bytes me (me_alone ∷ []) _ (rw is refl) (passed bytes me_alone [] _ (rw is refl) (no_field bytes _ (λ f of e. no_field_then master_at g master_spells master_names more (spot_in bytes 22) f (omega arith) (spot_fits bytes 22 fits) of e)))
+either_agrees bytes g false fits le22 is more = alone_agrees bytes g fits le22 is more
+
+pub keys_agrees : {X : Type 0} (bytes : List ℕ) (g : HeaderKeys × Spot → Result X FileFault) → IsBytes bytes → 21 ≤ length bytes
+    → ((keys : HeaderKeys) → NoField (λ s. g (keys, s))) → Agrees bytes (key_form ∷ me ∷ me_alone ∷ []) (keys_at (byte bytes 13) (number_in bytes 17) (spot_in bytes 21) >>= g)
 unfolding keys_at
-keys_agrees bytes g le21 more =
+keys_agrees bytes g fits le21 more =
     let form = byte bytes 21 in
-    one_by_one (byte_at (spot_in bytes 21)) _ g (field bytes key_form [] 21 1 byte_at form _ (form == 0) (byte_takes bytes 21 (omega arith)) refl refl refl refl refl le21
-    (λ e. stops (form == 0) (faults.Header 21) _ g e)
-    (λ e le22. passes (form == 0) (faults.Header 21) _ g (one_by_one (bytes_at 32 (spot_in bytes 22)) _ g (skip bytes [] 22 32 (bytes_at 32) (take 32 (drop 22 bytes)) _ (bytes_take bytes 22 32 (omega arith)) refl le22 more)) e))
+    one_by_one (byte_at (spot_in bytes 21)) _ g (field bytes key_form (me ∷ me_alone ∷ []) 21 1 byte_at form _ (form == 0 || form == 1) (byte_takes bytes 21 (omega arith)) refl refl refl refl refl le21
+    (λ e. stops (form == 0 || form == 1) (faults.Header 21) _ g e)
+    (λ e le22. passes (form == 0 || form == 1) (faults.Header 21) _ g (either_agrees bytes g (form == 0) fits le22 refl more) e))

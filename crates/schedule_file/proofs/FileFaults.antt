@@ -1,5 +1,5 @@
 -- The faults of a file, both ways.
-use Rattle.std.proofs.Common.{◌≡◌, ℕ, zero, suc, ◌+◌, ◌<◌, ◌≤◌, ◌⊎◌, Bool, true, false, cond, List, [], ◌∷◌, ◌++◌, length, take, drop, reverse, Result, Ok, Err, refl, sym, ap, subst, ◌∙◌, append_assoc, arith, inl, inr, length-append, length-take}
+use Rattle.std.proofs.Common.{◌≡◌, ℕ, zero, suc, ◌+◌, ◌<◌, ◌≤◌, ◌⊎◌, Bool, true, false, cond, List, [], ◌∷◌, ◌++◌, length, drop, reverse, Result, Ok, Err, refl, sym, ap, subst, ◌∙◌, append_assoc, arith, inl, inr, length-append, length-take}
 use Rattle.std.specs.Prelude.{◌↔◌, ◌&&◌, ◌||◌, ◌==◌, nat_lt}
 use Rattle.std.specs.List.{flat_map, AllByRecursion}
 use Rattle.std.proofs.lemmas.Bool.{lt-ltb, ltb-true, eqb-true, ne_eqb}
@@ -8,19 +8,20 @@ use Rattle.std.proofs.lemmas.List.Concat.{flat_map-cons}
 use Rattle.ritas_base.specs.declared.event.Event.{Event}
 use Rattle.schedule_file.specs.declared.fault.FileFault.{FileFault}
 use Rattle.schedule_file.specs.declared.fault.FileFault.TheVariants as faults
+use Rattle.schedule_file.specs.declared.scope.Scope.{Scope}
 use Rattle.schedule_file.specs.Reading.{◌>>=◌, Spot, IsBytes}
 use Rattle.schedule_file.specs.FileBytes.{limit, end_at}
 use Rattle.schedule_file.specs.ReadHeader.{Heading, start_at, numbers_at, root_at, vect_at, mask_at, keys_at, header_at}
+use Rattle.schedule_file.specs.Scopes.{scope_of, IsInScope}
 use Rattle.schedule_file.specs.ReadEvents.{event_at, events_at}
 use Rattle.schedule_file.specs.Schedule.{file_of}
 use Rattle.schedule_file.specs.Spelling.{header_text, event_text, FileOf, FrontOf, IsEvent, IsHeading}
-use Rattle.schedule_file.specs.Faults.{Field, root_service, vect, correct, key_form, count, most_faulty, header_fields, IsFirstWrong, IsMagicFault, IsVersionFault, IsHeaderFault, IsEventFault, IsTrailingFault, GoesOn, IsTruncated, IsTooLong}
-use Rattle.schedule_file.proofs.Spells.{back_fits}
+use Rattle.schedule_file.specs.Faults.{Field, root_service, vect, correct, key_form, me, me_alone, count, most_faulty, header_fields, IsFirstWrong, IsMagicFault, IsVersionFault, IsHeaderFault, IsEventFault, IsTrailingFault, GoesOn, IsTruncated, IsTooLong}
 use Rattle.schedule_file.proofs.HeaderSpells.{header_spells}
-use Rattle.schedule_file.proofs.FileLaws.{file_takes, file_again, event_again, no_more}
+use Rattle.schedule_file.proofs.FileLaws.{in_scope, file_takes, file_again, event_again, no_more}
 use Rattle.schedule_file.proofs.FaultPlaces.{bind_err, err_is}
 use Rattle.schedule_file.proofs.FaultLaws.{IsStop, events_stop, file_stop, marked, cut_at, too_long, trailing_at_place, own_fault}
-use Rattle.schedule_file.proofs.FieldFaults.{spot_in, field_fault, is_of_field, Agrees, no_field, one_by_one, start_agrees, numbers_agrees, root_agrees, vect_agrees, mask_agrees, keys_agrees}
+use Rattle.schedule_file.proofs.FieldFaults.{spot_in, field_fault, is_of_field, Agrees, NoField, one_by_one, start_agrees, numbers_agrees, root_agrees, vect_agrees, mask_agrees, keys_agrees}
 use Rattle.schedule_file.proofs.EventFaults.{event_wrong, event_fails, first_byte}
 
 -- ---- the header
@@ -39,25 +40,23 @@ no_field_stop s faults.Mem is h = absurd cc
 abbrev said : Heading → List Event → Result (Heading × List Event) FileFault
 said h events = Ok (h, reverse events)
 
-events_no_field : (h : Heading) (s : Spot) → s.at ≤ limit → IsBytes s.rest → (f : FileFault) → is_of_field f ≡ true
-    → (events_at (limit + 1) h.p.n s >>= said h) ≡ Err f → ⊥
-events_no_field h s low fits f of e =
-    elim (bind_err (events_at (limit + 1) h.p.n s) (said h) f e) [
-      | inl k ↦ let stop = events_stop (limit + 1) h.p.n s f (omega arith) low fits k in no_field_stop stop.mid f of stop.stop
+events_no_field : (h : Heading) → NoField (λ s. events_at (limit + 1) (scope_of h) s >>= said h)
+events_no_field h s f low fits of e =
+    elim (bind_err (events_at (limit + 1) (scope_of h) s) (said h) f e) [
+      | inl k ↦ let stop = events_stop (limit + 1) (scope_of h) s f (omega arith) low fits k in no_field_stop stop.mid f of stop.stop
       | inr k ↦ let no = k.2 in cc
     ]
 
 file_agrees : (bytes : List ℕ) → IsBytes bytes → Agrees bytes header_fields (file_of bytes)
 unfolding file_of header_at
 file_agrees bytes fits =
-    let rest_fits : IsBytes (drop 54 bytes) = back_fits bytes (take 54 bytes) (drop 54 bytes) fits (sym (take-append-drop 54 bytes)) in
-    one_by_one (start_at (spot_in bytes 0)) _ _ (start_agrees bytes (count ∷ most_faulty ∷ root_service ∷ vect ∷ correct ∷ key_form ∷ []) _ refl
-    (λ le13. one_by_one (numbers_at (spot_in bytes 13)) _ _ (numbers_agrees bytes (root_service ∷ vect ∷ correct ∷ key_form ∷ []) _ le13 refl
-    (λ le15. one_by_one (root_at (spot_in bytes 15)) _ _ (root_agrees bytes (vect ∷ correct ∷ key_form ∷ []) _ le15 refl
-    (λ le16. one_by_one (vect_at (spot_in bytes 16)) _ _ (vect_agrees bytes (correct ∷ key_form ∷ []) _ le16 refl
-    (λ le17. one_by_one (mask_at _ (spot_in bytes 17)) _ _ (mask_agrees bytes (key_form ∷ []) _ le17 refl
-    (λ le21. one_by_one (keys_at (spot_in bytes 21)) _ _ (keys_agrees bytes _ le21
-    (λ le54. no_field bytes _ (events_no_field _ (spot_in bytes 54) (omega arith) rest_fits)))))))))))))
+    let last = key_form ∷ me ∷ me_alone ∷ [] in
+    one_by_one (start_at (spot_in bytes 0)) _ _ (start_agrees bytes (count ∷ most_faulty ∷ root_service ∷ vect ∷ correct ∷ last) _ refl
+    (λ le13. one_by_one (numbers_at (spot_in bytes 13)) _ _ (numbers_agrees bytes (root_service ∷ vect ∷ correct ∷ last) _ le13 refl
+    (λ le15. one_by_one (root_at (spot_in bytes 15)) _ _ (root_agrees bytes (vect ∷ correct ∷ last) _ le15 refl
+    (λ le16. one_by_one (vect_at (spot_in bytes 16)) _ _ (vect_agrees bytes (correct ∷ last) _ le16 refl
+    (λ le17. one_by_one (mask_at _ (spot_in bytes 17)) _ _ (mask_agrees bytes last _ le17 refl
+    (λ le21. one_by_one (keys_at _ _ (spot_in bytes 21)) _ _ (keys_agrees bytes _ fits le21 (λ keys. events_no_field _))))))))))))
 
 -- the offset of a field's fault
 abbrev offset_of : FileFault → ℕ
@@ -126,25 +125,25 @@ header_both bytes p fits = (
 
 -- ---- the events
 
-events_fail : (k n at : ℕ) (es : List Event) (rest : List ℕ) (f : FileFault) → AllByRecursion (IsEvent n) es → length es < k → at + length (flat_map event_text es) ≤ limit
-    → event_at n (record { at = at + length (flat_map event_text es); rest = rest }) ≡ Err f → events_at k n (record { at = at; rest = flat_map event_text es ++ rest }) ≡ Err f
+events_fail : (k : ℕ) (scope : Scope) (at : ℕ) (es : List Event) (rest : List ℕ) (f : FileFault) → AllByRecursion (IsInScope scope) es → length es < k → at + length (flat_map event_text es) ≤ limit
+    → event_at scope (record { at = at + length (flat_map event_text es); rest = rest }) ≡ Err f → events_at k scope (record { at = at; rest = flat_map event_text es ++ rest }) ≡ Err f
 unfolding events_at
-events_fail zero n at es rest f each long le fails = absurd (omega arith)
-events_fail (suc k) n at [] rest f each long le fails =
+events_fail zero scope at es rest f each long le fails = absurd (omega arith)
+events_fail (suc k) scope at [] rest f each long le fails =
     let here : at + 0 ≡ at = omega arith in
     let reads = rw here at fails in
     rw reads refl
-events_fail (suc k) n at (e ∷ es) rest f each long le fails =
+events_fail (suc k) scope at (e ∷ es) rest f each long le fails =
     let parts : length (flat_map event_text (e ∷ es)) ≡ length (event_text e) + length (flat_map event_text es) = rw flat_map-cons (length-append (event_text e) (flat_map event_text es)) in
     let text : flat_map event_text (e ∷ es) ++ rest ≡ event_text e ++ (flat_map event_text es ++ rest) = rw flat_map-cons (append_assoc (event_text e) (flat_map event_text es) rest) in
-    let one = event_again n at e (flat_map event_text es ++ rest) each.0 (omega (arith, parts, le)) in
+    let one = event_again scope at e (flat_map event_text es ++ rest) each.0 (omega (arith, parts, le)) in
     let place : at + length (flat_map event_text (e ∷ es)) ≡ at + length (event_text e) + length (flat_map event_text es) = omega (arith, parts) in
     let later = rw place at fails in
-    let more = events_fail k n (at + length (event_text e)) es rest f each.1 (omega (arith, long)) (omega (arith, parts, le)) later in
-    ap (λ (t : List ℕ). events_at (suc k) n (record { at = at; rest = t })) text ∙ rw (one, more) refl
+    let more = events_fail k scope (at + length (event_text e)) es rest f each.1 (omega (arith, long)) (omega (arith, parts, le)) later in
+    ap (λ (t : List ℕ). events_at (suc k) scope (record { at = at; rest = t })) text ∙ rw (one, more) refl
 
-file_fails : (h : Heading) (es : List Event) (rest : List ℕ) (f : FileFault) → IsHeading h → AllByRecursion (IsEvent h.p.n) (reverse es) → length (FrontOf h es) ≤ limit
-    → event_at h.p.n (record { at = length (FrontOf h es); rest = rest }) ≡ Err f → file_of (FrontOf h es ++ rest) ≡ Err f
+file_fails : (h : Heading) (es : List Event) (rest : List ℕ) (f : FileFault) → IsHeading h → AllByRecursion (IsEvent h) (reverse es) → length (FrontOf h es) ≤ limit
+    → event_at (scope_of h) (record { at = length (FrontOf h es); rest = rest }) ≡ Err f → file_of (FrontOf h es ++ rest) ≡ Err f
 unfolding file_of
 file_fails h es rest f is each size fails =
     let events = reverse es in
@@ -152,7 +151,7 @@ file_fails h es rest f is each size fails =
     let one = header_spells.again 0 h (header_text h) (flat_map event_text events ++ rest) (refl, is) (omega (arith, parts, size)) in
     let place : length (FrontOf h es) ≡ 0 + length (header_text h) + length (flat_map event_text events) = omega (arith, parts) in
     let later = rw place at fails in
-    let more = events_fail (limit + 1) h.p.n (0 + length (header_text h)) events rest f each (omega (arith, no_more events, parts, size)) (omega (arith, parts, size)) later in
+    let more = events_fail (limit + 1) (scope_of h) (0 + length (header_text h)) events rest f (in_scope h events each) (omega (arith, no_more events, parts, size)) (omega (arith, parts, size)) later in
     rw (append_assoc, one, more) refl
 
 pub event_both : (bytes : List ℕ) (p : ℕ) → IsBytes bytes → (file_of bytes ≡ Err (faults.Event p)) ↔ IsEventFault bytes p
@@ -160,7 +159,7 @@ event_both bytes p fits = (
   λ e. elim (file_stop bytes (faults.Event p) fits e) [
     | inl h ↦ absurd h
     | inr s ↦
-        let b = event_wrong s.h.p.n s.mid p s.low s.fits s.reads in
+        let b = event_wrong (scope_of s.h) s.mid p s.low s.fits s.reads in
         let place : length (FrontOf s.h s.es) ≡ p = omega (arith, s.stop, s.at) in
         record {
           h = s.h;
@@ -178,7 +177,7 @@ event_both bytes p fits = (
   λ w.
       let place : length (FrontOf w.h w.es) ≡ p = ap length (sym w.front.text) ∙ w.place in
       let whole : bytes ≡ FrontOf w.h w.es ++ (w.start ++ w.after) = w.parts ∙ ap (λ (t : List ℕ). t ++ (w.start ++ w.after)) w.front.text in
-      let reads = event_fails w.h.p.n (length (FrontOf w.h w.es)) w.start w.after w.wrong (omega (arith, w.low, place)) in
+      let reads = event_fails (scope_of w.h) (length (FrontOf w.h w.es)) w.start w.after w.wrong (omega (arith, w.low, place)) in
       ap file_of whole
       ∙ (file_fails w.h w.es (w.start ++ w.after) (faults.Event (length (FrontOf w.h w.es))) w.front.header w.front.each (omega (arith, w.low, place)) reads
       ∙ ap (λ (q : ℕ). Err (faults.Event q)) place),
@@ -191,8 +190,8 @@ unfolding end_at
 end_fails at [] some low = absurd (omega arith)
 end_fails at (b ∷ tail) some low = rw (lt-ltb at limit low) refl
 
-mark_fails : (n at : ℕ) (tail : List ℕ) → 0 < length tail → at + 1 < limit → event_at n (record { at = at; rest = 0 ∷ tail }) ≡ Err (faults.Trailing (at + 1))
-mark_fails n at tail some low = first_byte n at 0 tail (omega (arith, low)) ∙ rw (end_fails (at + 1) tail some low) refl
+mark_fails : (scope : Scope) (at : ℕ) (tail : List ℕ) → 0 < length tail → at + 1 < limit → event_at scope (record { at = at; rest = 0 ∷ tail }) ≡ Err (faults.Trailing (at + 1))
+mark_fails scope at tail some low = first_byte scope at 0 tail (omega (arith, low)) ∙ rw (end_fails (at + 1) tail some low) refl
 
 pub trailing_both : (bytes : List ℕ) (p : ℕ) → IsBytes bytes → (file_of bytes ≡ Err (faults.Trailing p)) ↔ IsTrailingFault bytes p
 trailing_both bytes p fits = (
@@ -210,7 +209,7 @@ trailing_both bytes p fits = (
       let place : length (FrontOf h es) + 1 ≡ p =
       omega (arith, long, length-append text events, length-append text (events ++ 0 ∷ []), length-append events (0 ∷ [])) in
       let some : 0 < length tail = omega (arith, length-drop p bytes, w.0) in
-      let reads = mark_fails h.p.n (length (FrontOf h es)) tail some (omega (arith, place, w.1)) in
+      let reads = mark_fails (scope_of h) (length (FrontOf h es)) tail some (omega (arith, place, w.1)) in
       ap file_of whole
       ∙ (file_fails h es (0 ∷ tail) (faults.Trailing (length (FrontOf h es) + 1)) file.header file.each (omega (arith, place, w.1)) reads
       ∙ ap (λ (q : ℕ). Err (faults.Trailing q)) place),

@@ -1,4 +1,5 @@
 pub mod Chunks
+pub mod KeyRows
 pub mod Spells
 pub mod FileSpells
 pub mod HeaderSpells

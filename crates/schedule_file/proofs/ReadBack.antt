@@ -17,5 +17,5 @@ all_reversed : {X : Type 0} (P : X → Type 0) (xs : List X) → AllByRecursion 
 all_reversed P [] all = tt
 all_reversed P (x ∷ xs) all = subst (AllByRecursion P) (sym (reverse-append (x ∷ []) xs)) (all_added P x (reverse xs) all.0 (all_reversed P xs all.1))
 
-pub read_back : (h : Heading) (es : List Event) → IsHeading h → AllByRecursion (IsEvent h.p.n) es → length (FileOf h es) ≤ limit → file_of (FileOf h es) ≡ Ok (h, es)
-read_back h es is each size = file_again h es is (all_reversed (IsEvent h.p.n) es each) size
+pub read_back : (h : Heading) (es : List Event) → IsHeading h → AllByRecursion (IsEvent h) es → length (FileOf h es) ≤ limit → file_of (FileOf h es) ≡ Ok (h, es)
+read_back h es is each size = file_again h es is (all_reversed (IsEvent h) es each) size

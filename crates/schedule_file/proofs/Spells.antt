@@ -1,6 +1,6 @@
 -- A reader takes from the front exactly the texts of a grammar. The laws of a reader follow its text: one law for each
 -- way in which readers are put together.
-use Rattle.std.proofs.Common.{◌≡◌, ℕ, ◌+◌, ◌≤◌, Bool, true, false, List, [], ◌++◌, length, take, drop, Result, Ok, Err, refl, sym, ap, subst, ◌∙◌, append_assoc, arith, length-append, inl, inr}
+use Rattle.std.proofs.Common.{◌≡◌, ℕ, ◌+◌, ◌≤◌, ◌⊎◌, Bool, true, false, cond, List, [], ◌++◌, length, take, drop, Result, Ok, Err, refl, sym, ap, subst, ◌∙◌, append_assoc, arith, length-append, inl, inr}
 use Rattle.std.proofs.lemmas.Bool.{cases_lt}
 use Rattle.std.proofs.lemmas.List.{take_at, length-take, get_or-drop, get_or-take, get_or_past, drop_at}
 use Rattle.schedule_file.specs.Reading.{◌>>=◌, Spot, test, IsBytes}
@@ -94,6 +94,13 @@ guard_spells false f second p = record {
   takes = λ s b next fits e. absurd cc;
   again = λ at b text rest r le. absurd cc;
 }
+
+-- ---- a choice
+
+pub either_spells : {B F : Type 0} {most : ℕ} {R Q : B → List ℕ → Type 0} (t : Bool) (first second : Spot → Result (B × Spot) F) → Spells most first R → Spells most second Q
+    → Spells most (λ s. cond t (first s) (second s)) (λ b text. ((t ≡ true) × R b text) ⊎ ((t ≡ false) × Q b text))
+either_spells true first second p q = as_spells _ p (λ b text fits r. inl (refl, r)) (λ b text r. elim r [ inl h ↦ h.1 | inr h ↦ absurd (let no = h.0 in cc) ])
+either_spells false first second p q = as_spells _ q (λ b text fits r. inr (refl, r)) (λ b text r. elim r [ inl h ↦ absurd (let no = h.0 in cc) | inr h ↦ h.1 ])
 
 -- ---- nothing
 

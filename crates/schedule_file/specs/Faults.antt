@@ -1,10 +1,13 @@
 -- When each fault of a file comes, in words on the whole list of its bytes.
 use Rattle.std.specs.Prelude.{◌≡◌, ℕ, ◌+◌, ◌*◌, ◌^◌, ◌<◌, ◌≤◌, ◌⊎◌, Bool, true, false, ◌&&◌, ◌||◌, nat_lt, nat_le, ◌==◌, List, [], ◌∷◌, ◌++◌, length, take, drop, slice_index}
+use Rattle.std.specs.Option.{is_none}
 use Rattle.std.specs.Int.{w32, from_be_bytes}
 use Rattle.ritas_base.specs.declared.event.Event.{Event}
 use Rattle.schedule_file.specs.FileBytes.{limit}
 use Rattle.schedule_file.specs.ReadHeader.{Heading, is_root}
 use Rattle.schedule_file.specs.Spelling.{IsFile, IsFront}
+use Rattle.schedule_file.specs.declared.scope.Scope.{Scope}
+use Rattle.schedule_file.specs.Scopes.{scope_of, IsOut}
 
 -- ---- the header
 
@@ -45,12 +48,21 @@ vect = record { offset = 16; width = 1; is_right = λ bytes. slice_index bytes 1
 abbrev pub correct : Field
 correct = record { offset = 17; width = 4; is_right = λ bytes. nat_lt (number_in bytes 17) (2 ^ slice_index bytes 13) }
 
+-- a master key, or the keys of one replica alone
 abbrev pub key_form : Field
-key_form = record { offset = 21; width = 1; is_right = λ bytes. slice_index bytes 21 == 0 }
+key_form = record { offset = 21; width = 1; is_right = λ bytes. slice_index bytes 21 == 0 || slice_index bytes 21 == 1 }
 
--- the fields of a header that have rules, in the order of the file
+-- the replica whose keys they are
+abbrev pub me : Field
+me = record { offset = 22; width = 1; is_right = λ bytes. slice_index bytes 21 == 0 || nat_lt (slice_index bytes 22) (slice_index bytes 13) }
+
+-- the mask again, of which that replica's number is known now
+abbrev pub me_alone : Field
+me_alone = record { offset = 17; width = 6; is_right = λ bytes. slice_index bytes 21 == 0 || number_in bytes 17 == 2 ^ slice_index bytes 22 }
+
+-- the fields of a header that have rules, in the order in which they are tested
 abbrev pub header_fields : List Field
-header_fields = magic ∷ version ∷ count ∷ most_faulty ∷ root_service ∷ vect ∷ correct ∷ key_form ∷ []
+header_fields = magic ∷ version ∷ count ∷ most_faulty ∷ root_service ∷ vect ∷ correct ∷ key_form ∷ me ∷ me_alone ∷ []
 
 -- the field at offset p is whole and breaks its rule, and those before it keep theirs
 abbrev pub IsFirstWrong : List Field → List ℕ → ℕ → Type 0
@@ -70,14 +82,22 @@ IsHeaderFault bytes p = (4 < p) × IsFirstWrong header_fields bytes p
 
 -- ---- the events
 
--- The bytes of an event up to the first that is wrong, for n replicas: a first byte that no event has, a replica that
--- there isn't, or a receiver that is the sender.
-abbrev pub IsWrongStart : ℕ → List ℕ → Type 0
-IsWrongStart n [] = ⊥
-IsWrongStart n (kind ∷ []) = 5 < kind
-IsWrongStart n (kind ∷ i ∷ []) = (1 ≤ kind) × (kind ≤ 5) × (n ≤ i)
-IsWrongStart n (kind ∷ i ∷ j ∷ []) = ((kind ≡ 4) ⊎ (kind ≡ 5)) × (i < n) × ((n ≤ j) ⊎ (i ≡ j))
-IsWrongStart n (kind ∷ i ∷ j ∷ k ∷ more) = ⊥
+-- the first byte of an event with a sender and a receiver
+abbrev pub IsOfTwo : ℕ → Type 0
+IsOfTwo kind = (kind ≡ 4) ⊎ (kind ≡ 5)
+
+-- a first byte that no event of a scope has: where all events are at one replica, none has a sender and a receiver
+abbrev pub IsNoKind : Scope → ℕ → Type 0
+IsNoKind scope kind = (5 < kind) ⊎ (IsOfTwo kind × (is_none scope.only ≡ false))
+
+-- The bytes of an event up to the first that is wrong: a first byte that no event of the scope has, a replica that none
+-- has, or a receiver that is the sender.
+abbrev pub IsWrongStart : Scope → List ℕ → Type 0
+IsWrongStart scope [] = ⊥
+IsWrongStart scope (kind ∷ []) = IsNoKind scope kind
+IsWrongStart scope (kind ∷ i ∷ []) = (1 ≤ kind) × ¬ IsNoKind scope kind × IsOut scope i
+IsWrongStart scope (kind ∷ i ∷ j ∷ []) = IsOfTwo kind × ¬ IsNoKind scope kind × (i < scope.n) × ((scope.n ≤ j) ⊎ (i ≡ j))
+IsWrongStart scope (kind ∷ i ∷ j ∷ k ∷ more) = ⊥
 
 -- a header and events that are right end at p, and an event begins there that is wrong
 pub record IsEventFault (bytes : List ℕ) (p : ℕ) : Type 0 where
@@ -89,7 +109,7 @@ pub record IsEventFault (bytes : List ℕ) (p : ℕ) : Type 0 where
   pub parts : bytes ≡ before ++ (start ++ after)
   pub place : length before ≡ p
   pub front : IsFront before h es
-  pub wrong : IsWrongStart h.p.n start
+  pub wrong : IsWrongStart (scope_of h) start
   pub low : p + length start ≤ limit
 
 -- a whole file ends at p, and a byte follows it

@@ -2,9 +2,10 @@ pub mod Reading
 pub mod FileBytes
 pub mod Place
 pub mod ReadHeader
+pub mod Spelling
+pub mod Scopes
 pub mod ReadEvents
 pub mod Schedule
-pub mod Spelling
 pub mod SpellingLaws
 pub mod Faults
 pub mod Rows

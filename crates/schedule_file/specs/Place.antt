@@ -2,6 +2,7 @@
 use Rattle.std.specs.Prelude.{ℕ, List, ◌++◌, Option, Some, None, Result, Ok, Err}
 use Rattle.ritas_base.specs.declared.event.Event.{Event}
 use Rattle.schedule_file.specs.declared.fault.FileFault.{FileFault}
+use Rattle.schedule_file.specs.declared.scope.Scope.{Scope}
 use Rattle.schedule_file.specs.declared.stage.Stage.{Stage}
 use Rattle.schedule_file.specs.declared.stage.Stage.TheVariants.{Open, Ended, Stopped}
 use Rattle.schedule_file.specs.Reading.{Spot}
@@ -15,10 +16,10 @@ pub record Held : Type 0 where
 abbrev pub spot : Held → List ℕ → Spot
 spot held left = record { at = held.at; rest = held.bytes ++ left }
 
--- what a reader holds, how many replicas its header names, and its stage
+-- what a reader holds, the scope of its header, and its stage
 pub record ReaderState : Type 0 where
   pub held : Held
-  pub n : ℕ
+  pub scope : Scope
   pub stage : Stage
 
 -- the stage after an event was read, or the end, or a fault

@@ -1,5 +1,5 @@
 -- Reading the header of a schedule.
-use Rattle.std.specs.Prelude.{ℕ, ◌*◌, ◌^◌, Bool, ◌&&◌, ◌||◌, Result, Ok, nat_lt, nat_le, ◌==◌, if◌then◌else◌}
+use Rattle.std.specs.Prelude.{ℕ, zero, suc, ◌-◌, ◌*◌, ◌^◌, Bool, ◌&&◌, ◌||◌, List, [], ◌∷◌, ◌++◌, length, replicate, Result, Ok, nat_lt, nat_le, ◌==◌, if◌then◌else◌}
 use Rattle.ritas_base.specs.Numbers.{Numbers}
 use Rattle.ritas_base.specs.Slots.{within}
 use Rattle.ritas_base.specs.declared.mode.Vect.{Vect}
@@ -9,7 +9,7 @@ use Rattle.schedule_file.specs.declared.fault.FileFault.TheVariants.{Magic, Vers
 use Rattle.schedule_file.specs.declared.fault.FileFault.TheVariants as faults
 use Rattle.schedule_file.specs.declared.header.Header.{Header}
 use Rattle.schedule_file.specs.declared.header.HeaderKeys.{HeaderKeys}
-use Rattle.schedule_file.specs.declared.header.HeaderKeys.TheVariants.{Master}
+use Rattle.schedule_file.specs.declared.header.HeaderKeys.TheVariants.{Master, Row}
 use Rattle.schedule_file.specs.Reading.{Spot, ◌>>=◌, test}
 use Rattle.schedule_file.specs.FileBytes.{byte_at, bytes_at, u32_at, u64_at}
 
@@ -72,13 +72,57 @@ mask_at n s = do
   _ ← test (nat_lt mask.0 (2 ^ n)) (faults.Header 17)
   Ok mask
 
--- the form of the keys, and the master key
-unfoldable pub keys_at : Spot → Result (HeaderKeys × Spot) FileFault
-keys_at s = do
-  form ← byte_at s
-  _ ← test (form.0 == 0) (faults.Header 21)
-  master ← bytes_at 32 form.1
+-- ---- the keys
+
+-- the master key
+unfoldable pub master_at : Spot → Result (HeaderKeys × Spot) FileFault
+master_at s = do
+  master ← bytes_at 32 s
   Ok (Master master.0, master.1)
+
+-- the number of the replica whose keys follow, which alone is correct
+unfoldable pub me_at : ℕ → ℕ → Spot → Result (ℕ × Spot) FileFault
+me_at n mask s = do
+  me ← byte_at s
+  _ ← test (nat_lt me.0 n) (faults.Header 22)
+  _ ← test (mask == 2 ^ me.0) (faults.Header 17)
+  Ok me
+
+-- so many keys
+unfoldable pub each_key_at : ℕ → Spot → Result (List (List ℕ) × Spot) FileFault
+each_key_at zero s = Ok ([], s)
+each_key_at (suc n) s = do
+  key ← bytes_at 32 s
+  more ← each_key_at n key.1
+  Ok (key.0 ∷ more.0, more.1)
+
+abbrev pub zero_key : List ℕ
+zero_key = replicate 32 0
+
+-- these keys, and zeros up to 31 places
+abbrev pub filled_row : List (List ℕ) → List (List ℕ)
+filled_row keys = keys ++ replicate (31 - length keys) zero_key
+
+-- the key that the replica shares with each of n
+unfoldable pub row_at : ℕ → Spot → Result (List (List ℕ) × Spot) FileFault
+row_at n s = do
+  keys ← each_key_at n s
+  Ok (filled_row keys.0, keys.1)
+
+-- the keys of one replica alone
+unfoldable pub alone_at : ℕ → ℕ → Spot → Result (HeaderKeys × Spot) FileFault
+alone_at n mask s = do
+  me ← me_at n mask s
+  row ← row_at n me.1
+  coin ← bytes_at 32 row.1
+  Ok (Row me.0 row.0 coin.0, coin.1)
+
+-- the form of the keys, and the keys, for n replicas and the mask of the correct ones
+unfoldable pub keys_at : ℕ → ℕ → Spot → Result (HeaderKeys × Spot) FileFault
+keys_at n mask s = do
+  form ← byte_at s
+  _ ← test (form.0 == 0 || form.0 == 1) (faults.Header 21)
+  if form.0 == 0 then master_at form.1 else alone_at n mask form.1
 
 unfoldable pub header_at : Spot → Result (Heading × Spot) FileFault
 header_at s = do
@@ -87,5 +131,5 @@ header_at s = do
   root ← root_at p.1
   vect ← vect_at root.1
   mask ← mask_at p.0.n vect.1
-  keys ← keys_at mask.1
+  keys ← keys_at p.0.n mask.0 mask.1
   Ok (record { session = session.0; p = p.0; root = root.0; vect = vect.0; correct = mask.0; keys = keys.0 }, keys.1)

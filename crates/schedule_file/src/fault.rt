@@ -14,7 +14,7 @@ pub enum FileFault {
     Version,
     /// The header's field at this offset breaks its rule.
     Header(u32),
-    /// The event that begins at this offset has a first byte or a replica that there isn't.
+    /// The event that begins at this offset has a first byte or a replica that no event of the file may have.
     Event(u32),
     /// The file ends at this length, in the header, in an event, or without an end mark.
     Truncated(u32),

@@ -20,4 +20,11 @@ pub struct Header {
 pub enum HeaderKeys {
     /// The master key, of which all keys and coin keys are dealt.
     Master([u8; 32]),
+    /// The keys of one replica alone: the one that it shares with each replica, and its coin key. The places of `row`
+    /// from n on are zero.
+    Row {
+        me: u8,
+        row: [[u8; 32]; 31],
+        coin: [u8; 32],
+    },
 }

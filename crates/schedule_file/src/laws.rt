@@ -4,7 +4,7 @@ ghost use Rattle.std.specs.List.{AllByRecursion};
 ghost use Rattle.schedule_file.specs.Reading.{IsBytes};
 ghost use Rattle.schedule_file.specs.FileBytes.{is_outside, limit};
 ghost use Rattle.schedule_file.specs.Schedule.{file_of};
-ghost use Rattle.schedule_file.specs.Spelling.{event_text, header_text, FileOf, FrontOf, IsEvent, IsFile, IsHeading};
+ghost use Rattle.schedule_file.specs.Spelling.{event_text, header_size, header_text, FileOf, FrontOf, IsEvent, IsFile, IsHeading};
 ghost use Rattle.schedule_file.specs.Faults.{IsMagicFault, IsVersionFault, IsHeaderFault, IsEventFault, IsTrailingFault, IsTruncated, IsTooLong};
 
 use crate::fault::FileFault;
@@ -46,10 +46,10 @@ pub fn writer_laws()
     ensures last { (h : _) (e : _) (es : _) → FileOf h (e ∷ es) ≡ FrontOf h es ++ event_text e ++ 0 ∷ [] }
 
     // How many bytes these are.
-    ensures first_length { (h : _) → IsHeading h → length (FrontOf h []) ≡ 54 }
+    ensures first_length { (h : _) → IsHeading h → length (FrontOf h []) ≡ header_size h }
     ensures next_length { (h : _) (e : _) (es : _) → length (FrontOf h (e ∷ es)) ≡ length (FrontOf h es) + length (event_text e) }
     ensures end_length { (h : _) (es : _) → length (FileOf h es) ≡ length (FrontOf h es) + 1 }
 
-    ensures read_back { (h : _) (es : _) → IsHeading h → AllByRecursion (IsEvent h.p.n) es → length (FileOf h es) ≤ limit
+    ensures read_back { (h : _) (es : _) → IsHeading h → AllByRecursion (IsEvent h) es → length (FileOf h es) ≤ limit
         → file_of (FileOf h es) ≡ Ok (h, es) }
 {}

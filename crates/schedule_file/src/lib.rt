@@ -12,8 +12,17 @@
 //! | 15 | root service | 1 to 6 |
 //! | 16 | broadcast of VECT | 1 echo, 2 reliable |
 //! | 17 | correct replicas | 4 bytes: bit k stands for replica k, bits below n alone |
-//! | 21 | form of the keys | 0 |
-//! | 22 | master key | 32 bytes |
+//! | 21 | form of the keys | 0 or 1 |
+//!
+//! In form 0 the master key follows, and the header has 54 bytes. In form 1 the keys of one replica alone follow, me,
+//! which is the only correct one, and the header has 55 + 32n bytes.
+//!
+//! | Form | Offset | Field | Rule |
+//! |---|---|---|---|
+//! | 0 | 22 | master key | 32 bytes |
+//! | 1 | 22 | me | below n; then the mask is 2^me |
+//! | 1 | 23 | the keys that me shares with replicas 0 to n − 1 | 32 bytes each |
+//! | 1 | 23 + 32n | the coin key of me | 32 bytes |
 //!
 //! | First byte | Event | Fields |
 //! |---|---|---|
@@ -24,9 +33,12 @@
 //! | 4 | pass | from (1), to (1), number of the frame (4) |
 //! | 5 | sealed | from (1), to (1), length (2), body |
 //!
-//! Replicas are below n, and the sender of a frame isn't its receiver. `Reader` reads a file from a source, and answers
-//! its first fault from the left, in whatever pieces the source gives it. `file_laws` says that what is read as a file
-//! is spelled so, and that what is spelled so is read; `file_faults` says when each fault comes.
+//! Replicas are below n, and the sender of a frame isn't its receiver. In form 1 each event is at me, and none is a pass or
+//! sealed.
+//!
+//! `Reader` reads a file from a source, and answers its first fault from the left, in whatever pieces the source gives
+//! it. `file_laws` says that what is read as a file is spelled so, and that what is spelled so is read; `file_faults`
+//! says when each fault comes.
 //!
 //! `Writer` writes a file to a sink, part by part, and `event_size` says how many bytes an event takes. `writer_laws` says
 //! that the parts are a file, how long it is, and that it is read back.
@@ -39,6 +51,7 @@ mod pieces;
 mod read_event;
 mod read_header;
 mod reader;
+mod scope;
 mod stage;
 #[cfg(test)]
 mod tests;

@@ -1,13 +1,14 @@
-ghost use Rattle.std.specs.Prelude.{◌<◌, IfOk, IfSome, IsOk, ◌≡◌, ◌≢◌, true, Err};
+ghost use Rattle.std.specs.Prelude.{◌<◌, IfOk, IfSome, IsOk, ◌≡◌, ◌≢◌, true, Err, None};
 ghost use Rattle.outside.specs.Faults.{HasCause};
 ghost use Rattle.schedule_file.specs.declared.fault.FileFault.TheVariants.{Read};
 ghost use Rattle.schedule_file.specs.FileBytes.{Gives};
 ghost use Rattle.schedule_file.specs.Place.{spot};
-ghost use Rattle.schedule_file.specs.Spelling.{IsEvent};
+ghost use Rattle.schedule_file.specs.Scopes.{IsTheOne, IsInScope};
 ghost use Rattle.schedule_file.specs.ReadEvents.{replica_at, pair_at, frame_at, input_at, turn_at, pass_at, sealed_at, kind_at, event_at};
 
 use crate::fault::FileFault;
 use crate::pieces::{Pieces, test};
+use crate::scope::Scope;
 use outside::Source;
 use ritas_base::Event;
 use std::alloc::Global;
@@ -16,16 +17,17 @@ use std::alloc::Global;
 fn read_replica<S: Source>(
     pieces: &mut Pieces,
     source: &mut S,
-    n: u8,
+    scope: Scope,
     begin: u32,
 ) -> Result<u8, FileFault>
-    ensures exact { S.tells ≡ true → Gives (λ x. x) result (spot pieces.new (S.left source.new)) (replica_at n begin (spot pieces.old (S.left source.old))) }
-    ensures below { IfOk result (λ at. at < n) }
+    ensures exact { S.tells ≡ true → Gives (λ x. x) result (spot pieces.new (S.left source.new)) (replica_at scope begin (spot pieces.old (S.left source.old))) }
+    ensures below { IfOk result (λ at. at < scope.n) }
+    ensures one { IfOk result (IsTheOne scope.only) }
     ensures memory { result ≢ Err FileFault.Mem }
     ensures cause { HasCause (S.faults source.old) (S.faults source.new) (result ≡ Err Read) }
 {
     let at = pieces.byte(source)?;
-    test(at < n, FileFault::Event(begin))?;
+    test(scope.has(at), FileFault::Event(begin))?;
     Ok(at)
 }
 
@@ -33,16 +35,18 @@ fn read_replica<S: Source>(
 fn read_pair<S: Source>(
     pieces: &mut Pieces,
     source: &mut S,
-    n: u8,
+    scope: Scope,
     begin: u32,
 ) -> Result<(u8, u8), FileFault>
-    ensures exact { S.tells ≡ true → Gives (λ x. (x.0, x.1)) result (spot pieces.new (S.left source.new)) (pair_at n begin (spot pieces.old (S.left source.old))) }
-    ensures pair { IfOk result (λ x. (x.0 < n) × (x.1 < n) × (x.0 ≢ x.1)) }
+    ensures exact { S.tells ≡ true → Gives (λ x. (x.0, x.1)) result (spot pieces.new (S.left source.new)) (pair_at scope begin (spot pieces.old (S.left source.old))) }
+    ensures free { IfOk result (λ _. scope.only ≡ None) }
+    ensures pair { IfOk result (λ x. (x.0 < scope.n) × (x.1 < scope.n) × (x.0 ≢ x.1)) }
     ensures memory { result ≢ Err FileFault.Mem }
     ensures cause { HasCause (S.faults source.old) (S.faults source.new) (result ≡ Err Read) }
 {
-    let from = read_replica(pieces, source, n, begin)?;
-    let to = read_replica(pieces, source, n, begin)?;
+    test(scope.only.is_none(), FileFault::Event(begin))?;
+    let from = read_replica(pieces, source, scope, begin)?;
+    let to = read_replica(pieces, source, scope, begin)?;
     test(from != to, FileFault::Event(begin))?;
     Ok((from, to))
 }
@@ -52,15 +56,15 @@ fn read_frame<S: Source>(
     alloc: Global,
     pieces: &mut Pieces,
     source: &mut S,
-    n: u8,
+    scope: Scope,
     begin: u32,
 ) -> Result<Event, FileFault>
-    ensures exact { S.tells ≡ true → Gives (λ x. x) result (spot pieces.new (S.left source.new)) (frame_at n begin (spot pieces.old (S.left source.old))) }
-    ensures event { IfOk result (IsEvent n) }
-    ensures memory { S.tells ≡ true → result ≡ Err FileFault.Mem → IsOk (frame_at n begin (spot pieces.old (S.left source.old))) }
+    ensures exact { S.tells ≡ true → Gives (λ x. x) result (spot pieces.new (S.left source.new)) (frame_at scope begin (spot pieces.old (S.left source.old))) }
+    ensures event { IfOk result (IsInScope scope) }
+    ensures memory { S.tells ≡ true → result ≡ Err FileFault.Mem → IsOk (frame_at scope begin (spot pieces.old (S.left source.old))) }
     ensures cause { HasCause (S.faults source.old) (S.faults source.new) (result ≡ Err Read) }
 {
-    let to = read_replica(pieces, source, n, begin)?;
+    let to = read_replica(pieces, source, scope, begin)?;
     let bytes = pieces.text(alloc, source)?;
     Ok(Event::Frame { to, bytes })
 }
@@ -70,15 +74,15 @@ fn read_input<S: Source>(
     alloc: Global,
     pieces: &mut Pieces,
     source: &mut S,
-    n: u8,
+    scope: Scope,
     begin: u32,
 ) -> Result<Event, FileFault>
-    ensures exact { S.tells ≡ true → Gives (λ x. x) result (spot pieces.new (S.left source.new)) (input_at n begin (spot pieces.old (S.left source.old))) }
-    ensures event { IfOk result (IsEvent n) }
-    ensures memory { S.tells ≡ true → result ≡ Err FileFault.Mem → IsOk (input_at n begin (spot pieces.old (S.left source.old))) }
+    ensures exact { S.tells ≡ true → Gives (λ x. x) result (spot pieces.new (S.left source.new)) (input_at scope begin (spot pieces.old (S.left source.old))) }
+    ensures event { IfOk result (IsInScope scope) }
+    ensures memory { S.tells ≡ true → result ≡ Err FileFault.Mem → IsOk (input_at scope begin (spot pieces.old (S.left source.old))) }
     ensures cause { HasCause (S.faults source.old) (S.faults source.new) (result ≡ Err Read) }
 {
-    let at = read_replica(pieces, source, n, begin)?;
+    let at = read_replica(pieces, source, scope, begin)?;
     let bytes = pieces.text(alloc, source)?;
     Ok(Event::Input { at, bytes })
 }
@@ -87,15 +91,15 @@ fn read_input<S: Source>(
 fn read_turn<S: Source>(
     pieces: &mut Pieces,
     source: &mut S,
-    n: u8,
+    scope: Scope,
     begin: u32,
 ) -> Result<Event, FileFault>
-    ensures exact { S.tells ≡ true → Gives (λ x. x) result (spot pieces.new (S.left source.new)) (turn_at n begin (spot pieces.old (S.left source.old))) }
-    ensures event { IfOk result (IsEvent n) }
+    ensures exact { S.tells ≡ true → Gives (λ x. x) result (spot pieces.new (S.left source.new)) (turn_at scope begin (spot pieces.old (S.left source.old))) }
+    ensures event { IfOk result (IsInScope scope) }
     ensures memory { result ≢ Err FileFault.Mem }
     ensures cause { HasCause (S.faults source.old) (S.faults source.new) (result ≡ Err Read) }
 {
-    let at = read_replica(pieces, source, n, begin)?;
+    let at = read_replica(pieces, source, scope, begin)?;
     Ok(Event::Turn { at })
 }
 
@@ -103,15 +107,15 @@ fn read_turn<S: Source>(
 fn read_pass<S: Source>(
     pieces: &mut Pieces,
     source: &mut S,
-    n: u8,
+    scope: Scope,
     begin: u32,
 ) -> Result<Event, FileFault>
-    ensures exact { S.tells ≡ true → Gives (λ x. x) result (spot pieces.new (S.left source.new)) (pass_at n begin (spot pieces.old (S.left source.old))) }
-    ensures event { IfOk result (IsEvent n) }
+    ensures exact { S.tells ≡ true → Gives (λ x. x) result (spot pieces.new (S.left source.new)) (pass_at scope begin (spot pieces.old (S.left source.old))) }
+    ensures event { IfOk result (IsInScope scope) }
     ensures memory { result ≢ Err FileFault.Mem }
     ensures cause { HasCause (S.faults source.old) (S.faults source.new) (result ≡ Err Read) }
 {
-    let (from, to) = read_pair(pieces, source, n, begin)?;
+    let (from, to) = read_pair(pieces, source, scope, begin)?;
     let m = pieces.number32(source)?;
     Ok(Event::Pass { from, to, m })
 }
@@ -121,15 +125,15 @@ fn read_sealed<S: Source>(
     alloc: Global,
     pieces: &mut Pieces,
     source: &mut S,
-    n: u8,
+    scope: Scope,
     begin: u32,
 ) -> Result<Event, FileFault>
-    ensures exact { S.tells ≡ true → Gives (λ x. x) result (spot pieces.new (S.left source.new)) (sealed_at n begin (spot pieces.old (S.left source.old))) }
-    ensures event { IfOk result (IsEvent n) }
-    ensures memory { S.tells ≡ true → result ≡ Err FileFault.Mem → IsOk (sealed_at n begin (spot pieces.old (S.left source.old))) }
+    ensures exact { S.tells ≡ true → Gives (λ x. x) result (spot pieces.new (S.left source.new)) (sealed_at scope begin (spot pieces.old (S.left source.old))) }
+    ensures event { IfOk result (IsInScope scope) }
+    ensures memory { S.tells ≡ true → result ≡ Err FileFault.Mem → IsOk (sealed_at scope begin (spot pieces.old (S.left source.old))) }
     ensures cause { HasCause (S.faults source.old) (S.faults source.new) (result ≡ Err Read) }
 {
-    let (from, to) = read_pair(pieces, source, n, begin)?;
+    let (from, to) = read_pair(pieces, source, scope, begin)?;
     let body = pieces.text(alloc, source)?;
     Ok(Event::Sealed { from, to, body })
 }
@@ -139,21 +143,21 @@ fn read_kind<S: Source>(
     alloc: Global,
     pieces: &mut Pieces,
     source: &mut S,
-    n: u8,
+    scope: Scope,
     begin: u32,
     kind: u8,
 ) -> Result<Event, FileFault>
-    ensures exact { S.tells ≡ true → Gives (λ x. x) result (spot pieces.new (S.left source.new)) (kind_at n begin kind (spot pieces.old (S.left source.old))) }
-    ensures event { IfOk result (IsEvent n) }
-    ensures memory { S.tells ≡ true → result ≡ Err FileFault.Mem → IsOk (kind_at n begin kind (spot pieces.old (S.left source.old))) }
+    ensures exact { S.tells ≡ true → Gives (λ x. x) result (spot pieces.new (S.left source.new)) (kind_at scope begin kind (spot pieces.old (S.left source.old))) }
+    ensures event { IfOk result (IsInScope scope) }
+    ensures memory { S.tells ≡ true → result ≡ Err FileFault.Mem → IsOk (kind_at scope begin kind (spot pieces.old (S.left source.old))) }
     ensures cause { HasCause (S.faults source.old) (S.faults source.new) (result ≡ Err Read) }
 {
     match kind {
-        1 => read_frame(alloc, pieces, source, n, begin),
-        2 => read_input(alloc, pieces, source, n, begin),
-        3 => read_turn(pieces, source, n, begin),
-        4 => read_pass(pieces, source, n, begin),
-        5 => read_sealed(alloc, pieces, source, n, begin),
+        1 => read_frame(alloc, pieces, source, scope, begin),
+        2 => read_input(alloc, pieces, source, scope, begin),
+        3 => read_turn(pieces, source, scope, begin),
+        4 => read_pass(pieces, source, scope, begin),
+        5 => read_sealed(alloc, pieces, source, scope, begin),
         _ => Err(FileFault::Event(begin)),
     }
 }
@@ -164,11 +168,11 @@ pub fn read_event<S: Source>(
     alloc: Global,
     pieces: &mut Pieces,
     source: &mut S,
-    n: u8,
+    scope: Scope,
 ) -> Result<Option<Event>, FileFault>
-    ensures exact { S.tells ≡ true → Gives (λ x. x) result (spot pieces.new (S.left source.new)) (event_at n (spot pieces.old (S.left source.old))) }
-    ensures event { IfOk result (λ o. IfSome o (IsEvent n)) }
-    ensures memory { S.tells ≡ true → result ≡ Err FileFault.Mem → IsOk (event_at n (spot pieces.old (S.left source.old))) }
+    ensures exact { S.tells ≡ true → Gives (λ x. x) result (spot pieces.new (S.left source.new)) (event_at scope (spot pieces.old (S.left source.old))) }
+    ensures event { IfOk result (λ o. IfSome o (IsInScope scope)) }
+    ensures memory { S.tells ≡ true → result ≡ Err FileFault.Mem → IsOk (event_at scope (spot pieces.old (S.left source.old))) }
     ensures cause { HasCause (S.faults source.old) (S.faults source.new) (result ≡ Err Read) }
 {
     let begin = pieces.at();
@@ -177,5 +181,5 @@ pub fn read_event<S: Source>(
         pieces.end(source)?;
         return Ok(None);
     }
-    Ok(Some(read_kind(alloc, pieces, source, n, begin, kind)?))
+    Ok(Some(read_kind(alloc, pieces, source, scope, begin, kind)?))
 }

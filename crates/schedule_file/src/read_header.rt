@@ -1,11 +1,11 @@
 ghost use Rattle.std.specs.Prelude.{◌^◌, ◌≡◌, ◌≢◌, ◌<◌, ◌≤◌, true, false, Err, IfOk, IsTrue};
 ghost use Rattle.outside.specs.Faults.{HasCause};
 ghost use Rattle.schedule_file.specs.declared.fault.FileFault.TheVariants.{Read};
-ghost use Rattle.schedule_file.specs.FileBytes.{Gives};
+ghost use Rattle.schedule_file.specs.FileBytes.{Gives, bytes_at};
 ghost use Rattle.schedule_file.specs.Place.{spot};
-ghost use Rattle.schedule_file.specs.Spelling.{AreKeys, IsHeading};
+ghost use Rattle.schedule_file.specs.Spelling.{IsKey, IsRow, AreKeys, IsHeading};
 ghost use Rattle.ritas_base.specs.Numbers.{IsSession};
-ghost use Rattle.schedule_file.specs.ReadHeader.{heading, is_root, start_at, numbers_at, root_at, vect_at, mask_at, keys_at, header_at};
+ghost use Rattle.schedule_file.specs.ReadHeader.{heading, is_root, start_at, numbers_at, root_at, vect_at, mask_at, me_at, row_at, alone_at, keys_at, header_at};
 
 use crate::fault::FileFault;
 use crate::header::{Header, HeaderKeys};
@@ -89,18 +89,93 @@ fn read_mask<S: Source>(pieces: &mut Pieces, source: &mut S, n: u8) -> Result<Se
     Ok(SenderSet::from_mask(mask))
 }
 
-#[tactic(auto, using(outside::proofs::Rising::rose_after), unfolding(crate::specs::ReadHeader::keys_at))]
-fn read_keys<S: Source>(pieces: &mut Pieces, source: &mut S) -> Result<HeaderKeys, FileFault>
-    ensures exact { S.tells ≡ true → Gives (λ x. x) result (spot pieces.new (S.left source.new)) (keys_at (spot pieces.old (S.left source.old))) }
-    ensures keys { IfOk result AreKeys }
+fn read_key<S: Source>(pieces: &mut Pieces, source: &mut S) -> Result<[u8; 32], FileFault>
+    ensures exact { S.tells ≡ true → Gives (λ key. key) result (spot pieces.new (S.left source.new)) (bytes_at 32 (spot pieces.old (S.left source.old))) }
+    ensures len { IfOk result IsKey }
     ensures memory { result ≢ Err FileFault.Mem }
     ensures cause { HasCause (S.faults source.old) (S.faults source.new) (result ≡ Err Read) }
 {
-    let form = pieces.byte(source)?;
-    test(form == 0, FileFault::Header(21))?;
-    let mut master = [0; 32];
-    pieces.fill(source, &mut master)?;
-    Ok(HeaderKeys::Master(master))
+    let mut key = [0; 32];
+    pieces.fill(source, &mut key)?;
+    Ok(key)
+}
+
+// The number of the replica whose keys follow, which alone is correct.
+#[tactic(auto, using(outside::proofs::Rising::rose_after), unfolding(crate::specs::ReadHeader::me_at))]
+fn read_me<S: Source>(
+    pieces: &mut Pieces,
+    source: &mut S,
+    n: u8,
+    correct: SenderSet,
+) -> Result<u8, FileFault>
+    requires { n < 32 }
+    ensures exact { S.tells ≡ true → Gives (λ me. me) result (spot pieces.new (S.left source.new)) (me_at n correct (spot pieces.old (S.left source.old))) }
+    ensures me { IfOk result (λ me. (me < n) × (correct ≡ 2 ^ me)) }
+    ensures memory { result ≢ Err FileFault.Mem }
+    ensures cause { HasCause (S.faults source.old) (S.faults source.new) (result ≡ Err Read) }
+{
+    let me = pieces.byte(source)?;
+    test(me < n, FileFault::Header(22))?;
+    test(correct.mask() == 1 << me, FileFault::Header(17))?;
+    Ok(me)
+}
+
+// The key that the replica shares with each of n, and zeros behind them.
+fn read_row<S: Source>(
+    pieces: &mut Pieces,
+    source: &mut S,
+    n: u8,
+) -> Result<[[u8; 32]; 31], FileFault>
+    requires { n < 32 }
+    ensures exact { S.tells ≡ true → Gives (λ row. row) result (spot pieces.new (S.left source.new)) (row_at n (spot pieces.old (S.left source.old))) }
+    ensures row { IfOk result (IsRow n) }
+    ensures memory { result ≢ Err FileFault.Mem }
+    ensures cause { HasCause (S.faults source.old) (S.faults source.new) (result ≡ Err Read) }
+{
+    let mut row = [[0; 32]; 31];
+    for j in 0..n {
+        row[j as usize] = read_key(pieces, source)?;
+    }
+    Ok(row)
+}
+
+#[tactic(auto, using(outside::proofs::Rising::rose_after), unfolding(crate::specs::ReadHeader::alone_at))]
+fn read_alone<S: Source>(
+    pieces: &mut Pieces,
+    source: &mut S,
+    n: u8,
+    correct: SenderSet,
+) -> Result<HeaderKeys, FileFault>
+    requires { n < 32 }
+    ensures exact { S.tells ≡ true → Gives (λ x. x) result (spot pieces.new (S.left source.new)) (alone_at n correct (spot pieces.old (S.left source.old))) }
+    ensures keys { IfOk result (AreKeys n correct) }
+    ensures memory { result ≢ Err FileFault.Mem }
+    ensures cause { HasCause (S.faults source.old) (S.faults source.new) (result ≡ Err Read) }
+{
+    let me = read_me(pieces, source, n, correct)?;
+    let row = read_row(pieces, source, n)?;
+    let coin = read_key(pieces, source)?;
+    Ok(HeaderKeys::Row { me, row, coin })
+}
+
+#[tactic(auto, using(outside::proofs::Rising::rose_after), unfolding(crate::specs::ReadHeader::keys_at, crate::specs::ReadHeader::master_at))]
+fn read_keys<S: Source>(
+    pieces: &mut Pieces,
+    source: &mut S,
+    n: u8,
+    correct: SenderSet,
+) -> Result<HeaderKeys, FileFault>
+    requires { n < 32 }
+    ensures exact { S.tells ≡ true → Gives (λ x. x) result (spot pieces.new (S.left source.new)) (keys_at n correct (spot pieces.old (S.left source.old))) }
+    ensures keys { IfOk result (AreKeys n correct) }
+    ensures memory { result ≢ Err FileFault.Mem }
+    ensures cause { HasCause (S.faults source.old) (S.faults source.new) (result ≡ Err Read) }
+{
+    match pieces.byte(source)? {
+        0 => Ok(HeaderKeys::Master(read_key(pieces, source)?)),
+        1 => read_alone(pieces, source, n, correct),
+        _ => Err(FileFault::Header(21)),
+    }
 }
 
 /// The header, or its first fault.
@@ -116,7 +191,7 @@ pub fn read_header<S: Source>(pieces: &mut Pieces, source: &mut S) -> Result<Hea
     let root = read_root(pieces, source)?;
     let vect = read_vect(pieces, source)?;
     let correct = read_mask(pieces, source, p.n())?;
-    let keys = read_keys(pieces, source)?;
+    let keys = read_keys(pieces, source, p.n(), correct)?;
     Ok(Header {
         session,
         p,

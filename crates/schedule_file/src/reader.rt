@@ -7,25 +7,27 @@ ghost use Rattle.schedule_file.specs.FileBytes.{Gives, Fails};
 ghost use Rattle.schedule_file.specs.Place.{spot, stage_after};
 ghost use Rattle.schedule_file.specs.ReadHeader.{heading, header_at};
 ghost use Rattle.schedule_file.specs.ReadEvents.{event_at};
-ghost use Rattle.schedule_file.specs.Spelling.{IsHeading, IsEvent};
+ghost use Rattle.schedule_file.specs.Scopes.{scope_of, IsInScope};
+ghost use Rattle.schedule_file.specs.Spelling.{IsHeading};
 
 use crate::fault::FileFault;
 use crate::header::Header;
 use crate::pieces::Pieces;
 use crate::read_event::read_event;
 use crate::read_header::read_header;
+use crate::scope::Scope;
 use crate::stage::Stage;
 use outside::Source;
 use ritas_base::Event;
 use std::alloc::Global;
 use std::marker::Model;
 
-/// A schedule file that is being read. Contracts see what it holds of the file, how many replicas its header names,
+/// A schedule file that is being read. Contracts see what it holds of the file, the scope of its header,
 /// and its stage: open, ended, or stopped by a fault.
 #[derive(Drop)]
 pub struct Reader {
     pieces: Pieces,
-    n: u8,
+    scope: Scope,
     stage: Stage,
 }
 
@@ -34,7 +36,7 @@ impl Model for Reader {
 
     ghost Value = { ReaderState };
 
-    ghost view = { λ r. record { held = r.pieces; n = r.n; stage = r.stage } };
+    ghost view = { λ r. record { held = r.pieces; scope = r.scope; stage = r.stage } };
 }
 
 impl Reader {
@@ -46,7 +48,7 @@ impl Reader {
         ensures exact { S.tells ≡ true → MatchResult result
             (λ x. header_at (start_of (S.left src.old)) ≡ Ok (heading x.0, spot x.1.held (S.left src.new)))
             (λ e. Fails e (header_at (start_of (S.left src.old)))) }
-        ensures ready { IfOk result (λ x. (x.1.stage ≡ Open) × (x.1.n ≡ x.0.p.n)) }
+        ensures ready { IfOk result (λ x. (x.1.stage ≡ Open) × (x.1.scope ≡ scope_of (heading x.0))) }
         ensures header { IfOk result (λ x. IsHeading (heading x.0)) }
         ensures memory { result ≢ Err FileFault.Mem }
         ensures cause { HasCause (S.faults src.old) (S.faults src.new) (result ≡ Err Read) }
@@ -55,7 +57,7 @@ impl Reader {
         let header = read_header(&mut pieces, src)?;
         let reader = Reader {
             pieces,
-            n: header.p.n(),
+            scope: Scope::of(&header),
             stage: Stage::Open,
         };
         Ok((header, reader))
@@ -73,14 +75,14 @@ impl Reader {
         src: &mut S,
     ) -> Result<Option<Event>, FileFault>
         ensures exact { self.old.stage ≡ Open → S.tells ≡ true → Gives (λ x. x) result (spot self.new.held (S.left src.new))
-            (event_at self.old.n (spot self.old.held (S.left src.old))) }
+            (event_at self.old.scope (spot self.old.held (S.left src.old))) }
         ensures stage { self.old.stage ≡ Open → self.new.stage ≡ stage_after result }
-        ensures event { IfOk result (λ o. IfSome o (IsEvent self.old.n)) }
-        ensures n { self.new.n ≡ self.old.n }
+        ensures event { IfOk result (λ o. IfSome o (IsInScope self.old.scope)) }
+        ensures scope { self.new.scope ≡ self.old.scope }
 
         // Memory is wanted only where the next event is whole and right.
         ensures memory { self.old.stage ≡ Open → S.tells ≡ true → result ≡ Err FileFault.Mem
-            → IsOk (event_at self.old.n (spot self.old.held (S.left src.old))) }
+            → IsOk (event_at self.old.scope (spot self.old.held (S.left src.old))) }
 
         // Where the file ended or has a fault, the answer stays, and the source isn't read.
         ensures ended { self.old.stage ≡ Ended → result ≡ Ok None }
@@ -94,7 +96,7 @@ impl Reader {
             Stage::Ended => return Ok(None),
             Stage::Stopped(e) => return Err(e),
         }
-        let result = read_event(alloc, &mut self.pieces, src, self.n);
+        let result = read_event(alloc, &mut self.pieces, src, self.scope);
         self.stage = match &result {
             Ok(Some(_)) => Stage::Open,
             Ok(None) => Stage::Ended,

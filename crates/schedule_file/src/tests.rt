@@ -1,6 +1,6 @@
-use crate::{FileFault, HeaderKeys, Reader, Writer, event_size};
+use crate::{FileFault, Header, HeaderKeys, Reader, Writer, event_size};
 use outside::{Buffer, Failed, MemSink, MemSource, Source};
-use ritas_base::{Event, Vect};
+use ritas_base::{Bytes, Event, Mode, Params, SenderSet, Vect};
 use std::alloc::Global;
 use std::test::*;
 
@@ -15,6 +15,15 @@ const FIVE: [u8; 80] = [
     82, 73, 84, 83, 1, 0, 0, 0, 0, 0, 0, 0, 7, 2, 0, 1, 2, 0, 0, 0, 2, 0, 9, 0, 0, 0, 0, 0, 0, 0,
     0, 0, 0, 0, 0, 0, 0, 0, 0, 0, 0, 0, 0, 0, 0, 0, 0, 0, 0, 0, 0, 0, 0, 0, 1, 0, 0, 2, 97, 98, 2,
     1, 0, 1, 99, 3, 1, 4, 0, 1, 0, 0, 1, 4, 5, 1, 0, 0, 0, 0,
+];
+
+// A header with the keys of replica 1 of two alone: those that it shares with replicas 0 and 1, and its coin key.
+const ALONE: [u8; 119] = [
+    82, 73, 84, 83, 1, 0, 0, 0, 0, 0, 0, 0, 7, 2, 0, 1, 2, 0, 0, 0, 2, 1, 1, 11, 11, 11, 11, 11,
+    11, 11, 11, 11, 11, 11, 11, 11, 11, 11, 11, 11, 11, 11, 11, 11, 11, 11, 11, 11, 11, 11, 11, 11,
+    11, 11, 11, 12, 12, 12, 12, 12, 12, 12, 12, 12, 12, 12, 12, 12, 12, 12, 12, 12, 12, 12, 12, 12,
+    12, 12, 12, 12, 12, 12, 12, 12, 12, 12, 12, 13, 13, 13, 13, 13, 13, 13, 13, 13, 13, 13, 13, 13,
+    13, 13, 13, 13, 13, 13, 13, 13, 13, 13, 13, 13, 13, 13, 13, 13, 13, 13, 13,
 ];
 
 // What a file comes to: how many events, and then its fault, if it has one. What follows is to be answered again.
@@ -136,8 +145,9 @@ fn all_fields(rt: HostRuntime) -> Result<(), Fail> {
         (header.mode.root, header.mode.vect, header.correct.mask()),
         (1, Vect::Reliable, 2)
     );
-    let HeaderKeys::Master(master) = header.keys;
-    assert_eq!(rt; (master[0], master[1]), (9, 0));
+    assert!(rt;
+        matches!(header.keys, HeaderKeys::Master(master) if (master[0], master[1]) == (9, 0))
+    );
     let frame = reader.next(rt.alloc(), &mut source);
     assert!(rt;
         matches!(&frame, Ok(Some(Event::Frame { to: 0, bytes })) if bytes.as_slice() == b"ab".as_slice())
@@ -165,6 +175,100 @@ fn all_fields(rt: HostRuntime) -> Result<(), Fail> {
     let sealed = reader.next(rt.alloc(), &mut source);
     assert!(rt;
         matches!(&sealed, Ok(Some(Event::Sealed { from: 1, to: 0, body })) if body.as_slice().is_empty())
+    );
+    assert!(rt; matches!(reader.next(rt.alloc(), &mut source), Ok(None)));
+    Ok(())
+}
+
+// One place of a header with the keys of one replica alone changed.
+#[test]
+fn faults_by_place_alone(rt: HostRuntime) -> Result<(), Fail> {
+    let cases = [
+        (13, 1, FileFault::Header(17)),
+        (20, 3, FileFault::Header(17)),
+        (20, 4, FileFault::Header(17)),
+        (21, 2, FileFault::Header(21)),
+        (22, 0, FileFault::Header(17)),
+        (22, 2, FileFault::Header(22)),
+    ];
+    for (at, value, fault) in cases {
+        let mut bytes = ALONE;
+        if at < bytes.len() {
+            bytes[at] = value;
+        }
+        let mut source = MemSource::new(rt.alloc(), &bytes, &[])?;
+        assert_eq!(rt; outcome(rt.alloc(), &mut source), (0, Some(fault)));
+    }
+    Ok(())
+}
+
+// What follows such a header: events at replica 1 alone, and none that another made.
+#[test]
+fn faults_of_events_alone(rt: HostRuntime) -> Result<(), Fail> {
+    let cases: [(&[u8], (u32, Option<FileFault>)); 8] = [
+        (&[3, 1, 2, 1, 0, 0, 0], (2, None)),
+        (&[], (0, Some(FileFault::Truncated(119)))),
+        (&[1, 0], (0, Some(FileFault::Event(119)))),
+        (&[3, 1, 2, 2], (1, Some(FileFault::Event(121)))),
+        (&[3, 0], (0, Some(FileFault::Event(119)))),
+        (&[4], (0, Some(FileFault::Event(119)))),
+        (&[5], (0, Some(FileFault::Event(119)))),
+        (&[1, 1, 0, 2, 97], (0, Some(FileFault::Truncated(124)))),
+    ];
+    for (events, want) in cases {
+        let mut bytes = Vec::from_slice(rt.alloc(), &ALONE)?;
+        bytes.extend_from_slice(events)?;
+        let mut source = MemSource::new(rt.alloc(), &bytes, &[])?;
+        assert_eq!(rt; outcome(rt.alloc(), &mut source), want);
+    }
+    Ok(())
+}
+
+#[test]
+fn truncated_anywhere_alone(rt: HostRuntime) -> Result<(), Fail> {
+    for k in 0..ALONE.len() {
+        let mut source = MemSource::new(rt.alloc(), &ALONE[..k], &[])?;
+        assert_eq!(rt;
+            outcome(rt.alloc(), &mut source),
+            (0, Some(FileFault::Truncated(k as u32)))
+        );
+    }
+    Ok(())
+}
+
+// The keys of one replica alone are written, and read back.
+#[test]
+fn writes_alone(rt: HostRuntime) -> Result<(), Fail> {
+    let mut row = [[0; 32]; 31];
+    row[0] = [11; 32];
+    row[1] = [12; 32];
+    let header = Header {
+        session: 7,
+        p: Params::new(2, 0).expect(&rt, "numbers"),
+        mode: Mode::new(1, Vect::Reliable).expect(&rt, "mode"),
+        correct: SenderSet::from_mask(2),
+        keys: HeaderKeys::Row {
+            me: 1,
+            row,
+            coin: [13; 32],
+        },
+    };
+    let mut sink = Buffer::new(rt.alloc());
+    Writer::start(&mut sink, &header)?;
+    assert_eq!(rt; sink.taken(), ALONE.as_slice());
+    let bytes = Bytes::from_slice(rt.alloc(), b"ab")?;
+    Writer::event(&mut sink, &Event::Frame { to: 1, bytes })?;
+    Writer::end(&mut sink)?;
+    assert_eq!(rt; &sink.taken()[119..], [1, 1, 0, 2, 97, 98, 0].as_slice());
+    let mut source = MemSource::new(rt.alloc(), sink.taken(), &[])?;
+    let (again, mut reader) = Reader::start(rt.alloc(), &mut source)?;
+    assert!(rt;
+        matches!(again.keys, HeaderKeys::Row { me: 1, row: keys, coin }
+            if keys.as_slice() == row.as_slice() && coin == [13; 32])
+    );
+    let frame = reader.next(rt.alloc(), &mut source);
+    assert!(rt;
+        matches!(&frame, Ok(Some(Event::Frame { to: 1, bytes })) if bytes.as_slice() == b"ab".as_slice())
     );
     assert!(rt; matches!(reader.next(rt.alloc(), &mut source), Ok(None)));
     Ok(())

@@ -1,4 +1,5 @@
 ghost use Rattle.std.specs.Prelude.{◌≡◌, ◌<◌, ◌^◌, ◌++◌, ◌∷◌, [], length, IsErr};
+ghost use Rattle.std.specs.List.{concat};
 ghost use Rattle.std.specs.Int.{w32, to_be_bytes};
 ghost use Rattle.outside.specs.Writing.{Writes};
 ghost use Rattle.schedule_file.specs.ReadHeader.{heading};
@@ -51,12 +52,40 @@ fn setting_bytes(header: &Header) -> [u8; 8]
     ]
 }
 
-fn write_keys<K: Sink>(sink: &mut K, keys: &HeaderKeys) -> Result<(), Failed>
-    ensures { Writes (keys_text keys.now) K.tells (K.taken sink.old) (K.taken sink.new) (K.faults sink.old) (K.faults sink.new)
+// Keys, one after the other.
+fn write_each<K: Sink>(sink: &mut K, keys: &[[u8; 32]]) -> Result<(), Failed>
+    ensures { Writes (concat keys.now) K.tells (K.taken sink.old) (K.taken sink.new) (K.faults sink.old) (K.faults sink.new)
+        result (IsErr result) }
+{
+    for key in keys {
+        write_all(sink, key)?;
+    }
+    Ok(())
+}
+
+// The keys of one replica alone.
+fn write_alone<K: Sink>(
+    sink: &mut K,
+    me: u8,
+    row: &[[u8; 32]],
+    coin: &[u8; 32],
+) -> Result<(), Failed>
+    ensures { Writes (1 ∷ me ∷ [] ++ (concat row.now ++ coin.now)) K.tells (K.taken sink.old) (K.taken sink.new) (K.faults sink.old) (K.faults sink.new)
+        result (IsErr result) }
+{
+    write_all(sink, &[1, me])?;
+    write_each(sink, row)?;
+    write_all(sink, coin)
+}
+
+fn write_keys<K: Sink>(sink: &mut K, n: u8, keys: &HeaderKeys) -> Result<(), Failed>
+    requires { n < 32 }
+    ensures { Writes (keys_text n keys.now) K.tells (K.taken sink.old) (K.taken sink.new) (K.faults sink.old) (K.faults sink.new)
         result (IsErr result) }
 {
     match keys {
         HeaderKeys::Master(master) => write_both(sink, &[0], master),
+        HeaderKeys::Row { me, row, coin } => write_alone(sink, *me, &row[..n as usize], coin),
     }
 }
 
@@ -104,7 +133,7 @@ impl Writer {
             result (IsErr result) }
     {
         write_both(sink, &start_bytes(header.session), &setting_bytes(header))?;
-        write_keys(sink, &header.keys)
+        write_keys(sink, header.p.n(), &header.keys)
     }
 
     /// Writes an event: in one piece where it has no text, and else in two.

@@ -6,6 +6,8 @@ use Rattle.std.proofs.lemmas.Option.{slice_get_within, slice_get-get_or, same_So
 use Rattle.keyed_channel.specs.KeyRow.{KeyRow}
 use Rattle.keyed_channel.specs.Keyed.{coin_bit}
 use Rattle.schedule_file.specs.declared.header.Header.{Header}
+use Rattle.schedule_file.specs.declared.header.HeaderKeys.{HeaderKeys}
+use Rattle.schedule_file.specs.declared.header.HeaderKeys.TheVariants.{Master, Row}
 use Rattle.world_model.specs.Stands.{IsWorldOf, AreKeys}
 use Rattle.ritas_base.specs.History.{Call}
 use Rattle.ritas_base.specs.Members.{has_member}
@@ -16,7 +18,7 @@ use Rattle.layer_api.specs.BroadcastCalls.{CastShown}
 use Rattle.layer_api.specs.Service.{ServiceRules, Seat}
 use Rattle.layer_api.specs.Words.{Word}
 use Rattle.layer_api.specs.ServiceCalls.{ServiceShown}
-use Rattle.schedule_replay.specs.Layers.{dealt_to, coin_to, setting_with, layers_by}
+use Rattle.schedule_replay.specs.Layers.{keys_with, dealt_to, coin_to, setting_with, layers_by}
 
 at_number : {X : Type 0} (f : ℕ → X) (n i : ℕ) (x : X) → slice_get (map f (range_with_len 0 n)) i ≡ Some x → x ≡ f i
 at_number {X = X} f n i x e =
@@ -26,8 +28,16 @@ at_number {X = X} f n i x e =
     let there = slice_get-get_or xs i x within in
     sym (same_Some (get_or xs i x) x (sym there ∙ e)) ∙ get_or-map-range_with_len f 0 n i i x below (omega arith)
 
+-- whatever a header's keys, those of each replica are its own
+keys_own : (keys : HeaderKeys) (session n i : ℕ) → ((keys_with keys session n i).me ≡ i) × ((keys_with keys session n i).n ≡ n)
+keys_own (Master master) session n i = (refl, refl)
+keys_own (Row me row coin) session n i = (refl, refl)
+
 pub own_keys : (h : Header) → AreKeys h.p.n (map (dealt_to h) (range_with_len 0 h.p.n))
-own_keys h i k e = let same = at_number (dealt_to h) h.p.n i k e in (ap (λ (r : KeyRow). r.me) same, ap (λ (r : KeyRow). r.n) same)
+own_keys h i k e =
+    let same = at_number (dealt_to h) h.p.n i k e in
+    let own = keys_own h.keys h.session h.p.n i in
+    (ap (λ (r : KeyRow). r.me) same ∙ own.0, ap (λ (r : KeyRow). r.n) same ∙ own.1)
 
 pub world_dealt : {S E : Type 0} (service_stands : S → Seat → List Word → Type 0) (service : ServiceRules) (service_shown : S → ServiceShown)
     (other_stands : E → Place → Tags → List Call → Type 0) (other : BroadcastRules) (other_shown : E → CastShown) (h : Header) (is_correct : ℕ → Bool) (members : ℕ)

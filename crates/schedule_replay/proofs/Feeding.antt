@@ -4,11 +4,13 @@ use Rattle.std.proofs.lemmas.List.{append-nil, reverse-append}
 use Rattle.ritas_base.specs.declared.event.Event.{Event}
 use Rattle.schedule_file.specs.declared.fault.FileFault.{FileFault}
 use Rattle.schedule_file.specs.declared.fault.FileFault.TheVariants.{TooLong}
+use Rattle.schedule_file.specs.declared.scope.Scope.{Scope}
 use Rattle.schedule_file.specs.Reading.{◌>>=◌, Spot, start_of}
 use Rattle.schedule_file.specs.FileBytes.{limit, Fails}
 use Rattle.schedule_file.specs.ReadHeader.{Heading, header_at}
 use Rattle.schedule_file.specs.ReadEvents.{event_at, events_at}
 use Rattle.schedule_file.specs.Schedule.{file_of}
+use Rattle.schedule_file.specs.Scopes.{scope_of}
 use Rattle.schedule_replay.specs.Onto.{onto}
 use Rattle.schedule_replay.proofs.Files.{heading_in, events_in}
 
@@ -17,38 +19,38 @@ regroup h e (Ok es) = ap (λ (l : List Event). Ok l) (ap (λ (l : List Event). l
 regroup h e (Err f) = refl
 
 -- an event was taken
-pub goes_on : (h : List Event) (most i n : ℕ) (s : Spot) (e : Event) (next : Spot) (total : Result (List Event) FileFault) → i < most → event_at n s ≡ Ok (Some e, next)
-    → onto h (events_at (most - i) n s) ≡ total → onto (e ∷ h) (events_at (most - (i + 1)) n next) ≡ total
+pub goes_on : (h : List Event) (most i : ℕ) (scope : Scope) (s : Spot) (e : Event) (next : Spot) (total : Result (List Event) FileFault) → i < most → event_at scope s ≡ Ok (Some e, next)
+    → onto h (events_at (most - i) scope s) ≡ total → onto (e ∷ h) (events_at (most - (i + 1)) scope next) ≡ total
 unfolding events_at
-goes_on h most i n s e next total lt read so_far =
+goes_on h most i scope s e next total lt read so_far =
     let k : most - i ≡ suc (most - (i + 1)) = omega arith in
-    let one : onto h (events_at (most - i) n s) ≡ onto (e ∷ h) (events_at (most - (i + 1)) n next) = rw (k, read) (regroup h e (events_at (most - (i + 1)) n next)) in
+    let one : onto h (events_at (most - i) scope s) ≡ onto (e ∷ h) (events_at (most - (i + 1)) scope next) = rw (k, read) (regroup h e (events_at (most - (i + 1)) scope next)) in
     sym one ∙ so_far
 
 -- a fault was met
-pub fails : (x : FileFault) (h : List Event) (most i n : ℕ) (s : Spot) (total : Result (List Event) FileFault) → i < most → Fails x (event_at n s)
-    → onto h (events_at (most - i) n s) ≡ total → Fails x total
+pub fails : (x : FileFault) (h : List Event) (most i : ℕ) (scope : Scope) (s : Spot) (total : Result (List Event) FileFault) → i < most → Fails x (event_at scope s)
+    → onto h (events_at (most - i) scope s) ≡ total → Fails x total
 unfolding events_at
-fails x h most i n s total lt read so_far = λ own.
+fails x h most i scope s total lt read so_far = λ own.
     let k : most - i ≡ suc (most - (i + 1)) = omega arith in
-    let one : onto h (events_at (most - i) n s) ≡ Err x = rw (k, read own) refl in
+    let one : onto h (events_at (most - i) scope s) ≡ Err x = rw (k, read own) refl in
     sym so_far ∙ one
 
 -- the end was met
-pub ends : (h : List Event) (most i n : ℕ) (s next : Spot) (total : Result (List Event) FileFault) → i < most → event_at n s ≡ Ok (None, next)
-    → onto h (events_at (most - i) n s) ≡ total → total ≡ Ok h
+pub ends : (h : List Event) (most i : ℕ) (scope : Scope) (s next : Spot) (total : Result (List Event) FileFault) → i < most → event_at scope s ≡ Ok (None, next)
+    → onto h (events_at (most - i) scope s) ≡ total → total ≡ Ok h
 unfolding events_at
-ends h most i n s next total lt read so_far =
+ends h most i scope s next total lt read so_far =
     let k : most - i ≡ suc (most - (i + 1)) = omega arith in
-    let one : onto h (events_at (most - i) n s) ≡ Ok h = rw (k, read) refl in
+    let one : onto h (events_at (most - i) scope s) ≡ Ok h = rw (k, read) refl in
     sym so_far ∙ one
 
 -- as many events were taken as no file has
-pub too_many : (h : List Event) (most i n : ℕ) (s : Spot) (total : Result (List Event) FileFault) → most ≤ i → onto h (events_at (most - i) n s) ≡ total → total ≡ Err TooLong
+pub too_many : (h : List Event) (most i : ℕ) (scope : Scope) (s : Spot) (total : Result (List Event) FileFault) → most ≤ i → onto h (events_at (most - i) scope s) ≡ total → total ≡ Err TooLong
 unfolding events_at
-too_many h most i n s total le so_far =
+too_many h most i scope s total le so_far =
     let k : most - i ≡ 0 = omega arith in
-    let one : onto h (events_at (most - i) n s) ≡ Err TooLong = rw k refl in
+    let one : onto h (events_at (most - i) scope s) ≡ Err TooLong = rw k refl in
     sym so_far ∙ one
 
 -- ---- the file
@@ -65,9 +67,9 @@ all_onto h (Ok es) = ap (λ (l : List Event). Ok (h, l)) (sym (append-nil (rever
 all_onto h (Err f) = refl
 
 -- what a file says, once its header was read
-pub file_from : (bytes : List ℕ) (h : Heading) (next : Spot) → header_at (start_of bytes) ≡ Ok (h, next) → file_of bytes ≡ behind h (onto [] (events_at (limit + 1) h.p.n next))
+pub file_from : (bytes : List ℕ) (h : Heading) (next : Spot) → header_at (start_of bytes) ≡ Ok (h, next) → file_of bytes ≡ behind h (onto [] (events_at (limit + 1) (scope_of h) next))
 unfolding file_of
-file_from bytes h next read = rw read (all_onto h (events_at (limit + 1) h.p.n next))
+file_from bytes h next read = rw read (all_onto h (events_at (limit + 1) (scope_of h) next))
 
 -- a fault of the header is one of the file
 pub file_fails : (bytes : List ℕ) (x : FileFault) → Fails x (header_at (start_of bytes)) → Fails x (file_of bytes)

@@ -1,12 +1,12 @@
--- The layers of the program, and the world that a schedule file's header describes: its layers, and its keys and coins dealt from the master key.
-use Rattle.std.specs.Prelude.{◌≡◌, ℕ, ◌==◌, Bool, List, true, false, if◌then◌else◌}
+-- The layers of the program, and the world that a schedule file's header describes: its layers, and its keys and coins.
+use Rattle.std.specs.Prelude.{◌≡◌, ℕ, ◌==◌, Bool, List, take, true, false, if◌then◌else◌}
 use Rattle.ritas_base.specs.declared.mode.Mode.{Mode}
 use Rattle.ritas_base.specs.History.{Call}
 use Rattle.ritas_base.specs.Messages.{Place}
 use Rattle.ritas_base.specs.Tags.{Tags}
 use Rattle.ritas_base.specs.Members.{has_member}
 use Rattle.keyed_channel.specs.Keyed.{CoinSeed, dealt, coin_key_of, coin_bit, tags_of}
-use Rattle.keyed_channel.specs.KeyRow.{KeyRow}
+use Rattle.keyed_channel.specs.KeyRow.{KeyRow, filled_row}
 use Rattle.reliable_bcast.specs.Bracha.{bracha}
 use Rattle.echo_bcast.specs.Matrix.{echo}
 use Rattle.atomic_bcast.specs.Commands.{commands}
@@ -21,7 +21,7 @@ use Rattle.ritas_core.specs.Rules.{other_form, at_slot_of}
 use Rattle.ritas_core.specs.Stands.{Meaning, meaning}
 use Rattle.schedule_file.specs.declared.header.Header.{Header}
 use Rattle.schedule_file.specs.declared.header.HeaderKeys.{HeaderKeys}
-use Rattle.schedule_file.specs.declared.header.HeaderKeys.TheVariants.{Master}
+use Rattle.schedule_file.specs.declared.header.HeaderKeys.TheVariants.{Master, Row}
 use Rattle.layer_api.specs.Broadcast.{BroadcastRules}
 use Rattle.layer_api.specs.BroadcastCalls.{CastShown}
 use Rattle.layer_api.specs.Service.{ServiceRules, Seat}
@@ -40,15 +40,27 @@ layers_by service_stands service service_shown other_stands other other_shown =
 abbrev pub other_of : Mode → BroadcastRules
 other_of mode = if other_form mode == 2 then echo else bracha
 
-abbrev pub master_of : HeaderKeys → List ℕ
-master_of (Master master) = master
+-- ---- keys and coins
 
--- the keys and the coin of replica i
+-- The keys of replica i of n. A file with the keys of one replica has them for that one, which alone is correct: the others have no
+-- state, so what stands here for them isn't used.
+abbrev pub keys_with : HeaderKeys → ℕ → ℕ → ℕ → KeyRow
+keys_with (Master master) session n i = dealt master session n i
+keys_with (Row me row coin) session n i = record { session = session; n = n; me = i; row = filled_row (take n row) }
+
+-- the coin of replica i
+abbrev pub coin_with : HeaderKeys → ℕ → ℕ → CoinSeed
+coin_with (Master master) session i = record { session = session; key = coin_key_of master session i }
+coin_with (Row me row coin) session i = record { session = session; key = coin }
+
+-- the keys and the coin of replica i by a header
 abbrev pub dealt_to : Header → ℕ → KeyRow
-dealt_to h i = dealt (master_of h.keys) h.session h.p.n i
+dealt_to h i = keys_with h.keys h.session h.p.n i
 
 abbrev pub coin_to : Header → ℕ → CoinSeed
-coin_to h i = record { session = h.session; key = coin_key_of (master_of h.keys) h.session i }
+coin_to h i = coin_with h.keys h.session i
+
+-- ---- the world
 
 -- the world of a header, with a service and a broadcast, in which these replicas are correct: none stops between events
 abbrev pub setting_with : (ℕ → Bool) → ServiceRules → BroadcastRules → Header → Setting

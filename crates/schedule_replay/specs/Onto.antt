@@ -11,4 +11,4 @@ onto h read = read >>= λ es. Ok (reverse es ++ h)
 
 -- the events of a file that a reader holds bytes of and a source has the others of, behind those that were taken
 abbrev pub more_events : List Event → ReaderState → List ℕ → Result (List Event) FileFault
-more_events h reader left = onto h (events_at 67108865 reader.n (spot reader.held left))
+more_events h reader left = onto h (events_at 67108865 reader.scope (spot reader.held left))

@@ -48,8 +48,7 @@ fn world_with<S: Service, E: Broadcast>(
     World::new(alloc, header.p, header.mode, correct, keys, coins)
 }
 
-/// The world of a header before any event, with the keys and the coins that are dealt from its master key. The one error is
-/// want of memory.
+/// The world of a header before any event, with the header's keys and coins. The one error is want of memory.
 pub fn first_world<S: Service, E: Broadcast>(
     alloc: Global,
     header: &Header,

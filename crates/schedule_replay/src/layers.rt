@@ -4,6 +4,7 @@ ghost use Rattle.ritas_core.specs.Rules.{other_form};
 ghost use Rattle.schedule_file.specs.declared.stage.Stage.TheVariants.{Open};
 ghost use Rattle.schedule_file.specs.ReadHeader.{heading};
 ghost use Rattle.schedule_file.specs.Schedule.{file_of};
+ghost use Rattle.schedule_file.specs.Scopes.{scope_of};
 ghost use Rattle.schedule_file.specs.Spelling.{IsHeading};
 ghost use Rattle.schedule_replay.specs.Layers.{setting_by, setting_of, other_of};
 ghost use Rattle.schedule_replay.specs.Onto.{more_events};
@@ -37,7 +38,7 @@ fn replay_as<S: Service, E: Broadcast, I: Source, K: Sink>(
     requires serves { S.rules.serves header.mode.root ≡ true }
     requires form { E.FORM ≡ other_form header.mode }
     requires open { reader.old.stage ≡ Open }
-    requires n { reader.old.n ≡ header.p.n }
+    requires scope { reader.old.scope ≡ scope_of (heading header) }
     ensures ended { Ended I.faults src.old src.new K.faults sink.old sink.new what result }
     ensures shows { I.tells ≡ true → ShowsEvents K.tells K.taken sink.old sink.new what result header
         (setting_by S.rules E.rules header) (more_events [] reader.old (I.left src.old)) }
@@ -71,7 +72,7 @@ fn replay_with<S: Service, I: Source, K: Sink>(
     requires heading { IsHeading (heading header) }
     requires serves { S.rules.serves header.mode.root ≡ true }
     requires open { reader.old.stage ≡ Open }
-    requires n { reader.old.n ≡ header.p.n }
+    requires scope { reader.old.scope ≡ scope_of (heading header) }
     ensures ended { Ended I.faults src.old src.new K.faults sink.old sink.new what result }
     ensures shows { I.tells ≡ true → ShowsEvents K.tells K.taken sink.old sink.new what result header
         (setting_by S.rules (other_of header.mode) header) (more_events [] reader.old (I.left src.old)) }
@@ -94,7 +95,7 @@ fn replay_events<I: Source, K: Sink>(
 ) -> ReplayEnd
     requires heading { IsHeading (heading header) }
     requires open { reader.old.stage ≡ Open }
-    requires n { reader.old.n ≡ header.p.n }
+    requires scope { reader.old.scope ≡ scope_of (heading header) }
     ensures ended { Ended I.faults src.old src.new K.faults sink.old sink.new what result }
     ensures shows { I.tells ≡ true → ShowsEvents K.tells K.taken sink.old sink.new what result header
         (setting_of header) (more_events [] reader.old (I.left src.old)) }

@@ -1,9 +1,9 @@
 //! Replays a schedule file: what is between the program and the world.
 //!
 //! `replay` reads a file from a source to its end, lets its events happen to a world of replicas as it is read, in the
-//! layers that its header names and with the keys and coins that are dealt from its master key, and then writes to a
-//! sink what is asked for. `first_world` is such a world before any event and `Played` one after some, for callers that have
-//! the events from elsewhere; `first_faces` is one of faces of the faulty replicas; and `show` writes its texts.
+//! layers that its header names and with its keys, and then writes to a sink what is asked for. `first_world` is such a
+//! world before any event and `Played` one after some, for callers that have the events from elsewhere; `first_faces` is
+//! one of faces of the faulty replicas; and `show` writes its texts.
 #![tactic(auto)]
 
 mod cut;

@@ -7,6 +7,7 @@ ghost use Rattle.schedule_file.specs.declared.fault.FileFault.TheVariants.{Read}
 ghost use Rattle.schedule_file.specs.declared.stage.Stage.TheVariants.{Open};
 ghost use Rattle.schedule_file.specs.FileBytes.{Fails};
 ghost use Rattle.schedule_file.specs.ReadHeader.{heading};
+ghost use Rattle.schedule_file.specs.Scopes.{scope_of};
 ghost use Rattle.schedule_file.specs.Spelling.{IsHeading};
 ghost use Rattle.schedule_replay.specs.Layers.{layers_by};
 ghost use Rattle.schedule_replay.specs.Onto.{more_events};
@@ -38,6 +39,7 @@ impl<S: Service, E: Broadcast> Played<S, E> {
     ghost use Rattle.schedule_file.specs.declared.stage.Stage.TheVariants.{Open};
     ghost use Rattle.schedule_file.specs.FileBytes.{Fails};
     ghost use Rattle.schedule_file.specs.ReadHeader.{heading};
+    ghost use Rattle.schedule_file.specs.Scopes.{scope_of};
     ghost use Rattle.schedule_file.specs.Spelling.{IsHeading};
     ghost use Rattle.ritas_base.specs.Events.{MayHappen};
     ghost use Rattle.world_model.specs.Counts.{counts_of};
@@ -46,8 +48,7 @@ impl<S: Service, E: Broadcast> Played<S, E> {
     ghost use Rattle.schedule_replay.specs.Onto.{more_events};
     ghost use Rattle.schedule_replay.specs.Played.{StandsFor, answered, header_in};
 
-    /// The world of a header, before any event, with the keys and the coins that are dealt from its master key. The one
-    /// error is want of memory.
+    /// The world of a header, before any event, with the header's keys and coins. The one error is want of memory.
     pub fn new(alloc: Global, header: Header) -> Result<Played<S, E>, Mem>
         requires heading { IsHeading (heading header) }
         requires serves { S.rules.serves header.mode.root ≡ true }
@@ -108,7 +109,7 @@ impl<S: Service, E: Broadcast> Played<S, E> {
         input: &mut I,
     ) -> Result<(), FileFault>
         requires open { reader.old.stage ≡ Open }
-        requires n { reader.old.n ≡ self.old.header.p.n }
+        requires scope { reader.old.scope ≡ scope_of (heading self.old.header) }
         requires none { answered self.old ≡ 0 }
         ensures exact { let m = layers_by S.stands S.rules S.shown E.stands E.rules E.shown in
             I.tells ≡ true → (before : List Event) → StandsFor m self.old before → MatchResult result
@@ -141,7 +142,7 @@ pub(crate) fn load<S: Service, E: Broadcast, I: Source>(
     requires serves { S.rules.serves header.mode.root ≡ true }
     requires form { E.FORM ≡ other_form header.mode }
     requires open { reader.old.stage ≡ Open }
-    requires n { reader.old.n ≡ header.p.n }
+    requires scope { reader.old.scope ≡ scope_of (heading header) }
     ensures exact { let m = layers_by S.stands S.rules S.shown E.stands E.rules E.shown in
         I.tells ≡ true → MatchResult result
         (λ x. (es : List Event) × StandsFor m x es

@@ -11,6 +11,14 @@ const OUTNUMBERED: &[u8] =
     b"RITS\x01\0\0\0\0\0\0\0\x01\x02\0\x01\x01\0\0\0\x01\0M\xd1[\xf9)2\xfb\x92\08,gP\0\x06\xc03\x07\xa5m\x9b\xe8\x82\xe2XE;\x12\x80W#\xc5\
 \x02\0\0\x01a\x05\x01\0\0\x0b\x03\x01\0\0\0\0\0\0\0\0b\x03\0\x03\0\0";
 
+// The same with the keys of the correct one alone, and the READY as a frame.
+const ALONE: &[u8] = b"RITS\x01\0\0\0\0\0\0\0\x01\x02\0\x01\x01\0\0\0\x01\x01\0\
+\xd1\xf4^ay\x1eX1y\xa7\x1e\xa5\x11\xa6\xd3\xf1\x02\xd9\xb0\xf5\x92]PF'\xa5v\xcb\xdfE\xff\xc9\
+\xd9Cw\xa3\xb9\xa5\xabP\x96\xbfd\xa8_\x9b\x1a\x1c\xb1\xb6\xbe\xb8A@\\\xf9i\x10&D\01X\x9d\
+E\x07\xcb1\xd1r4f\x9a,\x9c\xfc\xb3\x85\x8f\x07%\xb2\xe3N\xbexqvE\xa8b\x9f\x885\xe5\xb7\
+\x02\0\0\x01a\x01\0\06\x01\x01\0\0\0\0\0\0\0\0\0\x03\x01\0\0\0\0\0\0\0\0b\
+\xa5D(\x97\xe3\xed\x8c[\x0d6\xd8\xbd\xa2\xd0~V#\xd2>\xfe<F\x94d<B;*\xfcu\xaa\xc6\x03\0\x03\0\0";
+
 const REPORT: &str = "ritas n=2 f=0 root=1 vect=echo session=1
 events 4 took 4 held 0 repeat 0 idle 0 missed 0 open 0 body 0 core 0
 replica 0 sent 3 inbox 1 held 0
@@ -25,9 +33,9 @@ const FRAMES: &str =
 audit too many faulty
 ";
 
-// The end of a replay, where the text is this one.
-fn end(alloc: Global, what: What, text: &str) -> Result<Option<ReplayEnd>, Fail> {
-    let mut src = MemSource::new(alloc, OUTNUMBERED, &[])?;
+// The end of a file's replay, where the text is this one.
+fn end(alloc: Global, file: &[u8], what: What, text: &str) -> Result<Option<ReplayEnd>, Fail> {
+    let mut src = MemSource::new(alloc, file, &[])?;
     let mut sink = MemSink::new(alloc, 1000, &[])?;
     let end = replay(alloc, &mut src, &mut sink, what);
     if sink.taken() == text.as_bytes() {
@@ -39,11 +47,13 @@ fn end(alloc: Global, what: What, text: &str) -> Result<Option<ReplayEnd>, Fail>
 
 #[test]
 fn replays_with_ample_memory(rt: HostRuntime) -> Result<(), Fail> {
-    for (what, text) in [(What::Report, REPORT), (What::Frames, FRAMES)] {
-        assert_eq!(rt;
-            end(rt.alloc(), what, text)?,
-            Some(ReplayEnd::Done(Audit::TooManyFaulty))
-        );
+    for file in [OUTNUMBERED, ALONE] {
+        for (what, text) in [(What::Report, REPORT), (What::Frames, FRAMES)] {
+            assert_eq!(rt;
+                end(rt.alloc(), file, what, text)?,
+                Some(ReplayEnd::Done(Audit::TooManyFaulty))
+            );
+        }
     }
     Ok(())
 }

@@ -157,7 +157,7 @@ pub none_yet : (w : Setting) (p : Plan) (what : DriveWhat) (tape : Tape) → IsH
 none_yet w p what tape is steps size wanted kept = record {
   none = none_at_start w p;
   many = steps;
-  long = size ∙ sym (front_first_length (heading (header_of p)) is.keys);
+  long = size ∙ sym (front_first_length (heading (header_of p)) is);
   wanted = wanted;
   kept = kept;
 }

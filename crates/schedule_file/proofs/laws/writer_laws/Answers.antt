@@ -15,7 +15,7 @@ pub returns-clause-last : goal.returns-clause-last
 returns-clause-last c = file_ends_after
 
 pub returns-clause-first_length : goal.returns-clause-first_length
-returns-clause-first_length c = λ h is. front_first_length h is.keys
+returns-clause-first_length c = front_first_length
 
 pub returns-clause-next_length : goal.returns-clause-next_length
 returns-clause-next_length c = front_next_length

@@ -1,10 +1,12 @@
-use Rattle.std.proofs.Common.{◌≡◌, ℕ, List, [], Result, Ok, Err, refl, sym, ◌∙◌, ap, subst}
+use Rattle.std.proofs.Common.{◌≡◌, List, [], Result, Ok, Err, refl, sym, ◌∙◌, ap, subst}
 use Rattle.ritas_base.specs.declared.event.Event.{Event}
 use Rattle.schedule_file.specs.declared.fault.FileFault.{FileFault}
 use Rattle.schedule_file.specs.Place.{spot}
 use Rattle.schedule_file.specs.ReadEvents.{events_at}
 use Rattle.schedule_file.specs.ReadHeader.{heading}
 use Rattle.schedule_file.specs.Schedule.{file_of}
+use Rattle.schedule_file.specs.Scopes.{scope_of}
+use Rattle.schedule_file.specs.declared.scope.Scope.{Scope}
 use Rattle.schedule_replay.specs.Layers.{setting_of}
 use Rattle.schedule_replay.specs.Onto.{onto}
 use Rattle.schedule_replay.proofs.Feeding.{behind, file_from, file_fails, events_behind, fault_behind}
@@ -17,17 +19,18 @@ returns-in-Ok-clause-shows g c = λ tells.
     let bytes = g.S.Source.left c.args.src.now in
     let k = c.in-Ok.header in
     let next = spot c.in-Ok.reader.held (g.S.Source.left c.start.new.src) in
-    let read : ℕ → Result (List Event) FileFault = λ n. onto [] (events_at 67108865 n next) in
+    let read : Scope → Result (List Event) FileFault = λ scope. onto [] (events_at 67108865 scope next) in
+    let scope = scope_of (heading k) in
     let from_header = file_from bytes (heading k) next (c.in-Ok.ensures.exact tells) in
     record {
       shown = λ h es file.
-          let events : read k.p.n ≡ Ok es = events_behind (heading k) (heading h) (read k.p.n) es (sym from_header ∙ file) in
+          let events : read scope ≡ Ok es = events_behind (heading k) (heading h) (read scope) es (sym from_header ∙ file) in
           let same = one_header (file_of bytes) k h es es (from_header ∙ ap (behind (heading k)) events) file in
-          let own : read c.in-Ok.reader.n ≡ Ok es = subst (λ (n : ℕ). read n ≡ Ok es) (sym c.in-Ok.ensures.ready.1) events in
+          let own : read c.in-Ok.reader.scope ≡ Ok es = subst (λ (scope : Scope). read scope ≡ Ok es) (sym c.in-Ok.ensures.ready.1) events in
           rw same at ((c.replay_events.ensures.shows tells).shown es own);
       refused = λ e file.
-          let events : read k.p.n ≡ Err e = fault_behind (heading k) (read k.p.n) e (sym from_header ∙ file) in
-          let own : read c.in-Ok.reader.n ≡ Err e = subst (λ (n : ℕ). read n ≡ Err e) (sym c.in-Ok.ensures.ready.1) events in
+          let events : read scope ≡ Err e = fault_behind (heading k) (read scope) e (sym from_header ∙ file) in
+          let own : read c.in-Ok.reader.scope ≡ Err e = subst (λ (scope : Scope). read scope ≡ Err e) (sym c.in-Ok.ensures.ready.1) events in
           (c.replay_events.ensures.shows tells).refused e own;
     }
 

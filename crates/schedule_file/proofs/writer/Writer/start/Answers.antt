@@ -12,9 +12,9 @@ before_keys h = start_text h.session ++ (h.p.n ∷ h.p.f ∷ h.root ∷ vect_byt
 pub returns-in_err-write_both : goal.returns-in_err-write_both
 returns-in_err-write_both g c =
     let h = heading c.args.header.now in
-    fails_as (before_keys h) (keys_text h.keys) _ _ _ _ _ _ _ c.from_residual.ensures.0 (rw (c.start_bytes.ensures, c.setting_bytes.ensures) at c.in_err-write_both.ensures)
+    fails_as (before_keys h) (keys_text h.p.n h.keys) _ _ _ _ _ _ _ c.from_residual.ensures.0 (rw (c.start_bytes.ensures, c.setting_bytes.ensures) at c.in_err-write_both.ensures)
 
 pub returns : goal.returns
 returns g c =
     let h = heading c.args.header.now in
-    writes_then (before_keys h) (keys_text h.keys) _ _ _ _ _ _ _ _ (rw (c.start_bytes.ensures, c.setting_bytes.ensures) at c.in_ok-write_both.ensures) c.write_keys.ensures
+    writes_then (before_keys h) (keys_text h.p.n h.keys) _ _ _ _ _ _ _ _ (rw (c.start_bytes.ensures, c.setting_bytes.ensures) at c.in_ok-write_both.ensures) (rw c.n.ensures.value at c.write_keys.ensures)

@@ -13,11 +13,11 @@ abbrev pub invariant-loop : goal.invariant-loop
 invariant-loop g l =
     let m = layers_by g.S.Service.stands g.S.Service.rules g.S.Service.shown g.E.Broadcast.stands g.E.Broadcast.rules g.E.Broadcast.shown in
     (l.reader.stage ≡ Open)
-    × (l.reader.n ≡ l.initial.reader.n)
+    × (l.reader.scope ≡ l.initial.reader.scope)
     × (l.self.header ≡ l.initial.self.header)
     × (g.I.Source.faults l.initial.input ≤ g.I.Source.faults l.input)
     × (total l.self.counts ≤ l.counter)
     × (g.I.Source.tells ≡ true → (before : List Event) → StandsFor m l.initial.self before →
     (h : List Event) × StandsFor m l.self h
-    × (onto h (events_at (67108865 - l.counter) l.reader.n (spot l.reader.held (g.I.Source.left l.input)))
-    ≡ onto before (events_at 67108865 l.initial.reader.n (spot l.initial.reader.held (g.I.Source.left l.initial.input)))))
+    × (onto h (events_at (67108865 - l.counter) l.reader.scope (spot l.reader.held (g.I.Source.left l.input)))
+    ≡ onto before (events_at 67108865 l.initial.reader.scope (spot l.initial.reader.held (g.I.Source.left l.initial.input)))))
