@@ -1,12 +1,14 @@
 -- A line that is read is spelled so, what is spelled so is read, and where it isn't its number is answered.
-use Rattle.std.proofs.Common.{◌≡◌, ℕ, ◌+◌, ◌==◌, Bool, true, false, not, List, [], ◌∷◌, ◌++◌, take, drop, length, Option, Some, None, Result, Ok, Err, option_and_then, refl, sym, ◌∙◌, ap, ap₂, subst, append_assoc, if◌then◌else◌}
+use Rattle.std.proofs.Common.{◌≡◌, ℕ, ◌+◌, ◌==◌, Bool, true, false, not, List, [], ◌∷◌, ◌++◌, take, drop, length, Option, Some, None, Result, Ok, Err, option_and_then, refl, sym, ◌∙◌, ap, ap₂, subst, append_assoc, arith, length-append, if◌then◌else◌}
 use Rattle.std.specs.Str.{bytes_eq}
+use Rattle.std.proofs.lemmas.Bool.{eqb-true, ne_eqb}
 use Rattle.std.proofs.lemmas.List.{take-append-drop}
 use Rattle.std.proofs.Math.Seq.{take-append_seam, drop-append_seam}
 use Rattle.std.proofs.lemmas.Slice.Eq.{bytes_eq-Decides}
-use Rattle.cluster_config.specs.Lines.{Place, Reading, ◌>>=◌, or_line, cut, line_from, line_at, end_from, end_at, behind, value_in, value_at, field_at}
+use Rattle.cluster_config.specs.Lines.{Place, Reading, ◌>>=◌, or_line, line_from, line_at, end_from, end_at, behind, value_in, value_at, field_at}
+use Rattle.cluster_config.specs.Cuts.{cut_at}
 use Rattle.cluster_config.specs.Columns.{BeginsWith, is_one_line}
-use Rattle.cluster_config.proofs.Cuts.{cut_split, cut_joined, both}
+use Rattle.cluster_config.proofs.FirstByte.{cut_split, cut_joined, both}
 
 pub bind_ok : {A B : Type 0} (r : Result A ℕ) (f : A → Result B ℕ) (y : B) → (r >>= f) ≡ Ok y → (x : A) × (r ≡ Ok x) × (f x ≡ Ok y)
 bind_ok (Ok x) f y e = (x, refl, e)
@@ -67,14 +69,14 @@ given line None x e = absurd cc
 given line (Some y) x e = cc
 
 record IsLine (s : Place) (line : List ℕ) (next : Place) : Type 0 where
-  is : cut s.rest ≡ Some (line, next.rest)
+  is : cut_at 10 s.rest ≡ Some (line, next.rest)
   number : next.number ≡ s.number + 1
 
 line_is : (s next : Place) (line : List ℕ) → line_at s ≡ Ok (line, next) → IsLine s line next
 unfolding line_at
-line_is s next line e = go (cut s.rest) refl e
+line_is s next line e = go (cut_at 10 s.rest) refl e
   where
-    go : (o : Option (List ℕ × List ℕ)) → cut s.rest ≡ o → line_from s.number o ≡ Ok (line, next) → IsLine s line next
+    go : (o : Option (List ℕ × List ℕ)) → cut_at 10 s.rest ≡ o → line_from s.number o ≡ Ok (line, next) → IsLine s line next
     go None is f = absurd cc
     go (Some x) is f =
         let parts = same_ok x.0 line (record { number = s.number + 1; rest = x.1 }) next f in
@@ -135,7 +137,7 @@ spelled_again : {A : Type 0} (name : List ℕ) (read : List ℕ → Option A) (n
 unfolding field_at value_at line_at
 spelled_again name read number value rest x named one reads =
     let line : List ℕ = name ++ 32 ∷ value in
-    let joined : cut (name ++ 32 ∷ value ++ 10 ∷ rest) ≡ Some (line, rest) = cut_joined line rest (one_both name (32 ∷ value) named one) in
+    let joined : cut_at 10 (name ++ 32 ∷ value ++ 10 ∷ rest) ≡ Some (line, rest) = cut_joined line rest (one_both name (32 ∷ value) named one) in
     let valued = value_again name value in
     rw (joined, valued, reads) refl
 
@@ -162,7 +164,7 @@ names_ok number x line is = absurd cc
 
 names_line : (s : Place) → Names s.number (line_at s)
 unfolding line_at
-names_line s = go (cut s.rest)
+names_line s = go (cut_at 10 s.rest)
   where
     go : (o : Option (List ℕ × List ℕ)) → Names s.number (line_from s.number o)
     go None line is = let same : s.number ≡ line = cc in sym same
@@ -195,3 +197,15 @@ names_end s = go s.rest
     go : (l : List ℕ) → Names s.number (end_from s.number l)
     go [] line is = absurd cc
     go (b ∷ l) line is = let same : s.number ≡ line = cc in sym same
+
+-- ---- whether anything follows
+pub empty_is : (text : List ℕ) → (length text == 0) ≡ true → text ≡ []
+empty_is [] e = refl
+empty_is (b ∷ bs) e = let none = eqb-true (length (b ∷ bs)) 0 e in absurd (omega arith)
+
+-- a text that begins with a line isn't empty
+pub begun : {A : Type 0} (name : List ℕ) (read : List ℕ → Option A) (x : A) (rest text : List ℕ) → BeginsWith name read x rest text → (length text == 0) ≡ false
+begun name read x rest [] begins =
+    let whole : length (name ++ 32 ∷ begins.value ++ 10 ∷ rest) ≡ 0 = sym (ap length begins.whole) in
+    absurd (grind (arith, length-append))
+begun name read x rest (b ∷ text) begins = ne_eqb (length (b ∷ text)) 0 (λ none. omega (arith, none))

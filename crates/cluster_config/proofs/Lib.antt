@@ -1,7 +1,11 @@
 pub mod Jobs
-pub mod Cuts
+pub mod FirstByte
 pub mod Fields
 pub mod Columns
+pub mod Parts
+pub mod Loops
 pub mod Numerals
+pub mod KeyRows
 pub mod Walks
+pub mod Entered
 pub mod Listed

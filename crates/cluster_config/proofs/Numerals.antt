@@ -7,6 +7,7 @@ use Rattle.std.proofs.lemmas.Bool.{and_parts, ltb-true, lt-ltb, eqb-true, eq-eqb
 use Rattle.std.proofs.lemmas.Fmt.{decimal_digit, decimal-digits_value, digits_decimal, digits_value-decimal, first_decimal}
 use Rattle.std.proofs.lemmas.Str.Parse.{IsNumeralModel, numerals_by_fold}
 use Rattle.cluster_config.specs.Values.{number_from, numeral}
+use Rattle.cluster_config.proofs.Fields.{empty_is}
 
 abbrev read_on : ℕ → List ℕ → ℕ
 read_on n [] = n
@@ -51,10 +52,6 @@ digits_again n (b ∷ bs) digits low =
     rw (parts.0, within) (digits_again (n * 10 + (b - 48)) bs parts.1 low)
 
 -- ---- numerals
-no_more : (bs : List ℕ) → (length bs == 0) ≡ true → bs ≡ []
-no_more [] e = refl
-no_more (b ∷ bs) e = let none = eqb-true (length (b ∷ bs)) 0 e in absurd (omega arith)
-
 printed : (text : List ℕ) (n : ℕ) → numeral text ≡ Some n → (n < 2 ^ 64) × (text ≡ decimal n)
 printed [] n e = absurd cc
 printed (b ∷ bs) n e = go (b == 48) refl (length bs == 0) refl e
@@ -64,7 +61,7 @@ printed (b ∷ bs) n e = go (b == 48) refl (length bs == 0) refl e
     go true is true alone f =
         let zeroed : 0 ≡ n = cc in
         let first : b ≡ 48 = eqb-true b 48 is in
-        let nothing : bs ≡ [] = no_more bs alone in
+        let nothing : bs ≡ [] = empty_is bs alone in
         let written : b ∷ bs ≡ decimal 0 = rw (first, nothing, decimal_digit 0 (omega arith)) refl in
         (omega arith, written ∙ ap decimal zeroed)
     go true is false alone f = absurd cc

@@ -9,7 +9,7 @@ use Rattle.clap.specs.Faults.{level_fault}
 use Rattle.clap.specs.declared.error.kind.ErrorKind.TheVariants as kind
 use Rattle.clap.proofs.OnLiterals.{clap_on_literals}
 use Rattle.cluster_config.specs.Words.{is_hyphened}
-use Rattle.cluster_config.specs.Command.{with_value, ritas}
+use Rattle.cluster_config.specs.Command.{alone, with_value, ritas}
 
 pub no_hyphen : (w : Text) → is_hyphened w ≡ false → strip_byte 45 w ≡ None
 no_hyphen [] h = refl
@@ -50,3 +50,14 @@ two_values name w v rest plain plain2 =
     let stripped2 = no_hyphen v plain2 in
     let dashes2 = no_dashes v plain2 in
     simp (dashes, stripped, dashes2, stripped2)
+
+pub nothing : (name : Text) → level_fault (sub (alone name)) [] nothing_held [] false [] ≡ []
+unfolding clap_on_literals
+nothing name = refl
+
+pub something : (name w : Text) (rest : List Text) → is_hyphened w ≡ false → level_fault (sub (alone name)) [] nothing_held (w ∷ rest) false [] ≡ kind.UnknownArgument ∷ []
+unfolding clap_on_literals
+something name w rest plain =
+    let stripped = no_hyphen w plain in
+    let dashes = no_dashes w plain in
+    simp (dashes, stripped)

@@ -1,4 +1,4 @@
--- The command that the words are read by: two subcommands with one required value each.
+-- The command that the words are read by: two subcommands with one required value each, and four without any.
 use Rattle.std.specs.Prelude.{Some, true, codes}
 use Rattle.clap.specs.Words.{App, Rule, Shape, Text, new_app, new_rule, with_rule, with_subcommand}
 use Rattle.clap.specs.declared.builder.action.ArgAction.TheVariants.{Set}
@@ -7,9 +7,12 @@ use Rattle.clap.specs.declared.builder.action.ArgAction.TheVariants.{Set}
 abbrev pub value_rule : Rule
 value_rule = record (new_rule (codes "what")) { required = true; action = Some Set }
 
--- a subcommand with the required value
+-- a subcommand with the required value, and one that takes nothing
 abbrev pub with_value : Text → Shape
 with_value name = (with_rule (new_app name) value_rule).top
+
+abbrev pub alone : Text → Shape
+alone name = (new_app name).top
 
 -- the program's own name, which must have a subcommand, and has no help
 abbrev pub base : App
@@ -21,5 +24,12 @@ base = record (new_app (codes "ritas")) {
   };
 }
 
+abbrev pub valued : App
+valued = with_subcommand (with_subcommand base (with_value (codes "replay"))) (with_value (codes "drive"))
+
 abbrev pub ritas : App
-ritas = with_subcommand (with_subcommand base (with_value (codes "replay"))) (with_value (codes "drive"))
+ritas =
+    let with_keys = with_subcommand valued (alone (codes "keys")) in
+    let with_node = with_subcommand with_keys (alone (codes "node")) in
+    let with_cluster = with_subcommand with_node (alone (codes "cluster")) in
+    with_subcommand with_cluster (alone (codes "submit"))

@@ -5,8 +5,9 @@ use Rattle.ritas_base.specs.declared.mode.Vect.{Vect}
 use Rattle.ritas_base.specs.declared.plan.Order.{Order}
 use Rattle.ritas_base.specs.declared.plan.Attack.{Attack}
 use Rattle.ritas_base.specs.declared.plan.Plan.{Plan}
-use Rattle.cluster_config.specs.Values.{most, number_in, numbers_in, vect_in, key_in, order_in, attack_in}
+use Rattle.cluster_config.specs.Values.{most, number_in, vect_in, key_in, order_in, attack_in}
 use Rattle.cluster_config.specs.Columns.{Column, Done, Line}
+use Rattle.cluster_config.specs.Front.{session_lines, numbers_lines}
 
 -- what a plan says
 pub record Planned : Type 0 where
@@ -36,10 +37,8 @@ planned plan = record {
 -- the lines of a plan
 unfoldable pub drive_column : Column Planned
 drive_column =
-    Line (codes "ritas") refl (number_in 1 1) (λ format.
-    Line (codes "session") refl (number_in 0 most) (λ session.
-    Line (codes "n") refl (number_in 1 31) (λ n.
-    Line (codes "f") refl (numbers_in n) (λ p.
+    session_lines (λ session.
+    numbers_lines (λ p.
     Line (codes "root") refl (number_in 1 6) (λ root.
     Line (codes "vect") refl vect_in (λ vect.
     Line (codes "master") refl key_in (λ master.
@@ -47,4 +46,4 @@ drive_column =
     Line (codes "attack") refl attack_in (λ attack.
     Line (codes "start") refl (number_in 0 most) (λ start.
     Line (codes "commands") refl (number_in 0 10000) (λ commands.
-    Done (record { session = session; p = p; root = root; vect = vect; master = master; order = order; attack = attack; start = start; commands = commands }))))))))))))
+    Done (record { session = session; p = p; root = root; vect = vect; master = master; order = order; attack = attack; start = start; commands = commands }))))))))))

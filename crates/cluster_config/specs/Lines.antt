@@ -1,7 +1,7 @@
 -- Reading a text line by line: a line is a name, a space and a value, and ends with a line feed.
-use Rattle.std.specs.Prelude.{◌≡◌, ℕ, ◌+◌, ◌==◌, List, [], ◌∷◌, length, take, drop, Option, Some, None, Result, Ok, Err, option_and_then, option_map, if◌then◌else◌}
-use Rattle.std.specs.List.{position}
+use Rattle.std.specs.Prelude.{◌≡◌, ℕ, zero, suc, ◌+◌, ◌==◌, List, [], ◌∷◌, length, take, drop, Option, Some, None, Result, Ok, Err, option_and_then, if◌then◌else◌}
 use Rattle.std.specs.Str.{bytes_eq}
+use Rattle.cluster_config.specs.Cuts.{cut_at}
 use Rattle.cluster_config.specs.declared.lines.WrongLine.{WrongLine}
 
 -- the number of a line, from 1, and the text from there on
@@ -32,21 +32,13 @@ abbrev pub or_line : {A : Type 0} → ℕ → Option A → Result A ℕ
 or_line line (Some x) = Ok x
 or_line line None = Err line
 
--- where the first line ends
-abbrev pub line_end : List ℕ → Option ℕ
-line_end = position (λ b. b == 10)
-
--- the first line, and what is behind it
-abbrev pub cut : List ℕ → Option (List ℕ × List ℕ)
-cut text = option_map (λ end. (take end text, drop (end + 1) text)) (line_end text)
-
 abbrev pub line_from : ℕ → Option (List ℕ × List ℕ) → Reading (List ℕ)
 line_from number None = Err number
 line_from number (Some x) = Ok (x.0, record { number = number + 1; rest = x.1 })
 
 -- the next line
 unfoldable pub line_at : Place → Reading (List ℕ)
-line_at s = line_from s.number (cut s.rest)
+line_at s = line_from s.number (cut_at 10 s.rest)
 
 -- nothing follows
 abbrev pub end_from : ℕ → List ℕ → Reading (Unit {0})
@@ -77,3 +69,17 @@ field_at name read s = do
   value ← value_at name s
   x ← or_line s.number (read value.0)
   Ok (x, value.1)
+
+-- what the values of so many lines of this name read as
+unfoldable pub fields_at : {A : Type 0} → List ℕ → (List ℕ → Option A) → ℕ → Place → Reading (List A)
+fields_at name read zero s = Ok ([], s)
+fields_at name read (suc k) s = do
+  x ← field_at name read s
+  more ← fields_at name read k x.1
+  Ok (x.0 ∷ more.0, more.1)
+
+-- what the values of the lines that are left read as, which have this name and are at most so many
+unfoldable pub fields_up_to : {A : Type 0} → List ℕ → (List ℕ → Option A) → ℕ → Place → Reading (List A)
+fields_up_to name read zero s = end_at s >>= λ over. Ok ([], over.1)
+fields_up_to name read (suc k) s = if length s.rest == 0 then Ok ([], s)
+    else (field_at name read s >>= λ x. fields_up_to name read k x.1 >>= λ more. Ok (x.0 ∷ more.0, more.1))

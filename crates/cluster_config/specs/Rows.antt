@@ -1,4 +1,4 @@
--- Worked rows.
+-- Worked rows of words, of numbers and of the texts of plans.
 use Rattle.std.specs.Prelude.{◌≡◌, ℕ, List, [], ◌∷◌, ◌++◌, codes, replicate, Some, None, Ok, Err, refl}
 use Rattle.clap.proofs.OnLiterals.{clap_on_literals}
 use Rattle.hex.specs.Hex.{decode_pairs}
@@ -7,11 +7,12 @@ use Rattle.ritas_base.specs.declared.what.What.TheVariants.{Frames}
 use Rattle.ritas_base.specs.declared.what.DriveWhat.TheVariants.{Schedule}
 use Rattle.ritas_base.specs.declared.plan.Order.TheVariants.{Random}
 use Rattle.ritas_base.specs.declared.plan.Attack.TheVariants.{Absent}
-use Rattle.cluster_config.specs.declared.job.Job.TheVariants.{Replay, Drive}
+use Rattle.cluster_config.specs.declared.job.Job.TheVariants.{Replay, Drive, Node}
 use Rattle.cluster_config.specs.Words.{job_of}
 use Rattle.cluster_config.specs.Values.{numeral, number_in, numbers_in}
 use Rattle.cluster_config.specs.Lines.{line_at, end_at, value_at, field_at}
 use Rattle.cluster_config.specs.Columns.{read_by, read_text}
+use Rattle.cluster_config.specs.Front.{session_lines, numbers_lines}
 use Rattle.cluster_config.specs.Drive.{Planned, drive_column}
 
 -- ---- words, the program's own name first
@@ -30,6 +31,16 @@ drives = refl
 other_value : job_of (codes "ritas" ∷ codes "drive" ∷ codes "frames" ∷ []) ≡ None
 unfolding job_of clap_on_literals
 other_value = refl
+
+-- a job without a value
+runs : job_of (codes "ritas" ∷ codes "node" ∷ []) ≡ Some Node
+unfolding job_of clap_on_literals
+runs = refl
+
+-- and with one
+with_value : job_of (codes "ritas" ∷ codes "node" ∷ codes "report" ∷ []) ≡ None
+unfolding job_of clap_on_literals
+with_value = refl
 
 -- a word too many
 third : job_of (codes "ritas" ∷ codes "replay" ∷ codes "report" ∷ codes "x" ∷ []) ≡ None
@@ -127,45 +138,45 @@ plan = record {
 
 -- a plan
 is_read : read_text drive_column whole ≡ Ok plan
-unfolding read_text read_by drive_column field_at value_at line_at end_at decode_pairs
+unfolding read_text read_by drive_column session_lines numbers_lines field_at value_at line_at end_at decode_pairs
 is_read = refl
 
 -- a line more
 more : read_text drive_column (whole ++ 10 ∷ []) ≡ Err 12
-unfolding read_text read_by drive_column field_at value_at line_at end_at decode_pairs
+unfolding read_text read_by drive_column session_lines numbers_lines field_at value_at line_at end_at decode_pairs
 more = refl
 
 -- no line at all
 none : read_text drive_column [] ≡ Err 1
-unfolding read_text read_by drive_column field_at value_at line_at end_at
+unfolding read_text read_by drive_column session_lines numbers_lines field_at value_at line_at end_at
 none = refl
 
 -- the third line is missing
 missing : read_text drive_column front ≡ Err 3
-unfolding read_text read_by drive_column field_at value_at line_at end_at
+unfolding read_text read_by drive_column session_lines numbers_lines field_at value_at line_at end_at
 missing = refl
 
 -- its name stands there alone
 no_value : read_text drive_column (front ++ codes "n\n") ≡ Err 3
-unfolding read_text read_by drive_column field_at value_at line_at end_at
+unfolding read_text read_by drive_column session_lines numbers_lines field_at value_at line_at end_at
 no_value = refl
 
 -- two spaces
 two_spaces : read_text drive_column (front ++ codes "n  4\n") ≡ Err 3
-unfolding read_text read_by drive_column field_at value_at line_at end_at
+unfolding read_text read_by drive_column session_lines numbers_lines field_at value_at line_at end_at
 two_spaces = refl
 
 -- a line without an end
 no_end : read_text drive_column (front ++ codes "n 4") ≡ Err 3
-unfolding read_text read_by drive_column field_at value_at line_at end_at
+unfolding read_text read_by drive_column session_lines numbers_lines field_at value_at line_at end_at
 no_end = refl
 
 -- a line in the place of another
 other_line : read_text drive_column (front ++ codes "f 1\n") ≡ Err 3
-unfolding read_text read_by drive_column field_at value_at line_at end_at
+unfolding read_text read_by drive_column session_lines numbers_lines field_at value_at line_at end_at
 other_line = refl
 
 -- too many faulty replicas
 too_many : read_text drive_column (front ++ codes "n 4\nf 2\n") ≡ Err 4
-unfolding read_text read_by drive_column field_at value_at line_at end_at
+unfolding read_text read_by drive_column session_lines numbers_lines field_at value_at line_at end_at
 too_many = refl

@@ -1,8 +1,8 @@
 -- The values of lines: what each kind of value reads as.
-use Rattle.std.specs.Prelude.{ℕ, ◌+◌, ◌-◌, ◌*◌, ◌^◌, ◌==◌, ◌&&◌, List, [], ◌∷◌, length, Option, Some, None, Result, Ok, Err, nat_le, nat_lt, codes, option_and_then, if◌then◌else◌}
+use Rattle.std.specs.Prelude.{ℕ, zero, suc, ◌+◌, ◌-◌, ◌*◌, ◌^◌, ◌==◌, ◌&&◌, List, [], ◌∷◌, ◌++◌, length, take, drop, replicate, Option, Some, None, Result, Ok, Err, nat_le, nat_lt, codes, option_and_then, option_map, unwrap_or, if◌then◌else◌}
 use Rattle.std.specs.Char.{is_ascii_digit}
 use Rattle.std.specs.Str.{bytes_eq}
-use Rattle.hex.specs.Hex.{decode_sized}
+use Rattle.hex.specs.Hex.{decode_of, decode_sized}
 use Rattle.ritas_base.specs.Numbers.{Numbers}
 use Rattle.ritas_base.specs.declared.mode.Vect.{Vect}
 use Rattle.ritas_base.specs.declared.mode.Vect.TheVariants.{Echo, Reliable}
@@ -10,6 +10,13 @@ use Rattle.ritas_base.specs.declared.plan.Order.{Order}
 use Rattle.ritas_base.specs.declared.plan.Order.TheVariants.{Sweep, Random}
 use Rattle.ritas_base.specs.declared.plan.Attack.{Attack}
 use Rattle.ritas_base.specs.declared.plan.Attack.TheVariants.{Absent, Silent, TwoFace, Flip, Garbage}
+use Rattle.cluster_config.specs.declared.requests.Request.{Request}
+use Rattle.cluster_config.specs.Cuts.{cut_at}
+
+-- read, and go on with what was read
+infixl 10 ◌>>=◌
+abbrev pub ◌>>=◌ : {A B : Type 0} → Option A → (A → Option B) → Option B
+o >>= f = option_and_then f o
 
 -- the number that these digits write behind those of a number, where it is below 2^64
 abbrev pub number_from : ℕ → List ℕ → Option ℕ
@@ -47,6 +54,50 @@ if_ok (Err e) = None
 -- a key of 32 bytes, in hexadecimal digits of either case
 abbrev pub key_in : List ℕ → Option (List ℕ)
 key_in text = if_ok (decode_sized text 32)
+
+-- so many keys, one behind the other
+abbrev pub keys_in : ℕ → List ℕ → Option (List (List ℕ))
+keys_in zero [] = Some []
+keys_in zero (b ∷ bs) = None
+keys_in (suc k) text = do
+  key ← key_in (take 64 text)
+  more ← keys_in k (drop 64 text)
+  Some (key ∷ more)
+
+-- the keys of n replicas, and zeros in the places behind them, up to 31
+abbrev pub row_in : ℕ → List ℕ → Option (List (List ℕ))
+row_in n text = option_map (λ keys. keys ++ replicate (31 - n) (replicate 32 0)) (keys_in n text)
+
+-- a number up to some greatest one, which ends before the first such byte, and what stands behind that
+abbrev pub number_before : ℕ → ℕ → List ℕ → Option (ℕ × List ℕ)
+number_before byte high text = do
+  parts ← cut_at byte text
+  number ← number_in 0 high parts.0
+  Some (number, parts.1)
+
+-- four numbers of eight bits joined by dots, a colon and a port: as the text stands
+abbrev pub address_in : List ℕ → Option (List ℕ)
+address_in text = do
+  first ← number_before 46 255 text
+  second ← number_before 46 255 first.1
+  third ← number_before 46 255 second.1
+  fourth ← number_before 58 255 third.1
+  port ← number_in 1 65535 fourth.1
+  Some text
+
+-- bytes in 2 to 8,176 hexadecimal digits; a hyphen is no byte
+abbrev pub payload_in : List ℕ → Option (List ℕ)
+payload_in text = if bytes_eq text (codes "-") then Some []
+    else (if nat_le 2 (length text) && nat_le (length text) 8176 then if_ok (decode_of text) else None)
+
+-- a replica below n, a client, a request and its bytes, with a space between them
+abbrev pub request_in : ℕ → List ℕ → Option Request
+request_in n text = do
+  at ← number_before 32 (n - 1) text
+  client ← number_before 32 4294967295 at.1
+  request ← number_before 32 4294967295 client.1
+  payload ← payload_in request.1
+  Some (record { at = at.0; client = client.0; request = request.0; payload = payload })
 
 abbrev pub vect_in : List ℕ → Option Vect
 vect_in text = if bytes_eq text (codes "echo") then Some Echo else (if bytes_eq text (codes "reliable") then Some Reliable else None)

@@ -6,7 +6,7 @@ use Rattle.clap.specs.Words.{Row, Text, fault_of, first_of, subcommand_of}
 use Rattle.ritas_base.specs.declared.what.What.TheVariants as what
 use Rattle.ritas_base.specs.declared.what.DriveWhat.TheVariants as drive_what
 use Rattle.cluster_config.specs.declared.job.Job.{Job}
-use Rattle.cluster_config.specs.declared.job.Job.TheVariants.{Replay, Drive}
+use Rattle.cluster_config.specs.declared.job.Job.TheVariants.{Replay, Drive, Keys, Node, Cluster, Submit}
 use Rattle.cluster_config.specs.Command.{ritas}
 
 -- the words after the program's name that ask for a job
@@ -15,6 +15,10 @@ list_of (Replay what.Report) = codes "replay" ∷ codes "report" ∷ []
 list_of (Replay what.Frames) = codes "replay" ∷ codes "frames" ∷ []
 list_of (Drive drive_what.Report) = codes "drive" ∷ codes "report" ∷ []
 list_of (Drive drive_what.Schedule) = codes "drive" ∷ codes "schedule" ∷ []
+list_of Keys = codes "keys" ∷ []
+list_of Node = codes "node" ∷ []
+list_of Cluster = codes "cluster" ∷ []
+list_of Submit = codes "submit" ∷ []
 
 -- the word begins with a hyphen
 abbrev pub is_hyphened : Text → Bool
@@ -32,10 +36,17 @@ drive_named None = None
 drive_named (Some value) = if bytes_eq value (codes "report") then Some (Drive drive_what.Report)
     else (if bytes_eq value (codes "schedule") then Some (Drive drive_what.Schedule) else None)
 
+-- the job of a subcommand that takes no value
+abbrev pub alone_named : Text → Option Job
+alone_named name = if bytes_eq name (codes "keys") then Some Keys
+    else (if bytes_eq name (codes "node") then Some Node
+    else (if bytes_eq name (codes "cluster") then Some Cluster
+    else (if bytes_eq name (codes "submit") then Some Submit else None)))
+
 -- the job of a subcommand and its value
 abbrev pub job_named : Text → Option Text → Option Job
 job_named name value = if bytes_eq name (codes "replay") then replay_named value
-    else (if bytes_eq name (codes "drive") then drive_named value else None)
+    else (if bytes_eq name (codes "drive") then drive_named value else alone_named name)
 
 -- the job of the subcommand that was met, with the values that it was given
 abbrev pub job_met : Option (Text × List Row) → Option Job

@@ -1,8 +1,8 @@
 //! The command that the words are read by.
 ghost use Rattle.std.specs.Prelude.{◌≡◌, IfOk, false, codes};
-ghost use Rattle.clap.specs.Words.{app_of, rule_of, shape_of};
+ghost use Rattle.clap.specs.Words.{app_of, rule_of, shape_of, with_subcommand};
 ghost use Rattle.clap.specs.declared.builder.command.Command.TheViews.{out-Command};
-ghost use Rattle.cluster_config.specs.Command.{base, with_value, value_rule, ritas};
+ghost use Rattle.cluster_config.specs.Command.{alone, base, with_value, value_rule, ritas};
 
 use clap::{Arg, ArgAction, Command};
 use std::alloc::{AllocError, Global};
@@ -24,6 +24,35 @@ fn with_value<'a>(alloc: Global, name: &'a str) -> Result<Command<'a>, AllocErro
     Command::new(alloc, name).arg(value(alloc))
 }
 
+fn alone<'a>(alloc: Global, name: &'a str) -> Command<'a>
+    ensures shape { shape_of result ≡ alone name.entry.now }
+    ensures globals { (out-Command result).has_globals ≡ false }
+{
+    Command::new(alloc, name)
+}
+
+// The command and a subcommand that takes a value.
+fn and_with_value<'a>(
+    alloc: Global,
+    command: Command<'a>,
+    name: &'a str,
+) -> Result<Command<'a>, AllocError>
+    ensures { IfOk result (λ c. app_of c ≡ with_subcommand (app_of command.entry) (with_value name.entry.now)) }
+{
+    command.subcommand(with_value(alloc, name)?)
+}
+
+// The command and a subcommand that takes nothing.
+fn and_alone<'a>(
+    alloc: Global,
+    command: Command<'a>,
+    name: &'a str,
+) -> Result<Command<'a>, AllocError>
+    ensures { IfOk result (λ c. app_of c ≡ with_subcommand (app_of command.entry) (alone name.entry.now)) }
+{
+    command.subcommand(alone(alloc, name))
+}
+
 // Its flags and subcommand of help are left out.
 fn base<'a>(alloc: Global) -> Command<'a>
     ensures { app_of result ≡ base }
@@ -38,8 +67,10 @@ fn base<'a>(alloc: Global) -> Command<'a>
 pub(crate) fn ritas<'a>(alloc: Global) -> Result<Command<'a>, AllocError>
     ensures { IfOk result (λ c. app_of c ≡ ritas) }
 {
-    let command = base(alloc)
-        .subcommand(with_value(alloc, "replay")?)?
-        .subcommand(with_value(alloc, "drive")?)?;
-    Ok(command)
+    let command = and_with_value(alloc, base(alloc), "replay")?;
+    let command = and_with_value(alloc, command, "drive")?;
+    let command = and_alone(alloc, command, "keys")?;
+    let command = and_alone(alloc, command, "node")?;
+    let command = and_alone(alloc, command, "cluster")?;
+    and_alone(alloc, command, "submit")
 }

@@ -8,15 +8,13 @@ use crate::lines::{Lines, WrongLine};
 use ritas_base::{Mode, Plan};
 
 // The lines of a plan, to the end of the text.
-#[tactic(auto, unfolding(crate::specs::Columns::read_by, crate::specs::Drive::drive_column))]
+#[tactic(auto, using(crate::proofs::Parts::read_session, crate::proofs::Parts::read_numbers), unfolding(crate::specs::Columns::read_by, crate::specs::Drive::drive_column))]
 fn read_plan(lines: &mut Lines<'_>) -> Result<Plan, WrongLine>
     requires { lines.old.number < 4294967000 }
     ensures { Gives planned result lines.new (read_by drive_column lines.old) }
 {
-    lines.number("ritas", 1, 1)?;
-    let session = lines.number("session", 0, u64::MAX)?;
-    let n = lines.number("n", 1, 31)? as u8;
-    let p = lines.params("f", n)?;
+    let session = lines.session()?;
+    let p = lines.numbers()?;
     let root = lines.number("root", 1, 6)? as u8;
     let vect = lines.vect("vect")?;
     let master = lines.key("master")?;

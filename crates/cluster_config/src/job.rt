@@ -7,4 +7,12 @@ pub enum Job {
     Replay(What),
     /// Makes a schedule of a plan that it reads.
     Drive(DriveWhat),
+    /// Deals the keys of a session.
+    Keys,
+    /// Runs one replica.
+    Node,
+    /// Runs all replicas of a session.
+    Cluster,
+    /// Hands a request to the replicas of a session.
+    Submit,
 }

@@ -1,16 +1,23 @@
 //! What a configuration says, for every text.
-ghost use Rattle.std.specs.Prelude.{◌≡◌, ◌↔◌, ◌<◌, ◌^◌, ℕ, List, Some, Ok, Err};
+ghost use Rattle.std.specs.Prelude.{◌≡◌, ◌↔◌, ◌<◌, ◌^◌, ℕ, List, Some};
 ghost use Rattle.std.specs.Fmt.{decimal};
 ghost use Rattle.cluster_config.specs.Values.{numeral};
-ghost use Rattle.cluster_config.specs.Columns.{IsFirstWrong, IsText, read_text};
-ghost use Rattle.cluster_config.specs.Drive.{Planned, drive_column};
+ghost use Rattle.cluster_config.specs.Columns.{IsReadRight};
+ghost use Rattle.cluster_config.specs.Drive.{drive_column};
+ghost use Rattle.cluster_config.specs.Keys.{keys_column};
+ghost use Rattle.cluster_config.specs.Node.{node_column};
+ghost use Rattle.cluster_config.specs.Cluster.{cluster_column};
+ghost use Rattle.cluster_config.specs.Submit.{submit_column};
 
-/// What is read as a plan is its configuration, line by line, and what is its configuration is read as it. Any other text is
+/// What is read of a text is its configuration, line by line, and what is its configuration is read of it. Any other text is
 /// refused at its first line that is wrong or missing.
-pub fn drive_laws()
-    ensures found { (text : List ℕ) (x : Planned) → read_text drive_column text ≡ Ok x → IsText drive_column x text }
-    ensures only { (text : List ℕ) (x : Planned) → IsText drive_column x text → read_text drive_column text ≡ Ok x }
-    ensures fault { (text : List ℕ) (line : ℕ) → (read_text drive_column text ≡ Err line) ↔ IsFirstWrong drive_column text line }
+#[tactic(auto, using(crate::proofs::Columns::read_right))]
+pub fn config_laws()
+    ensures drive { IsReadRight drive_column }
+    ensures keys { IsReadRight keys_column }
+    ensures node { IsReadRight node_column }
+    ensures cluster { IsReadRight cluster_column }
+    ensures submit { IsReadRight submit_column }
 {}
 
 /// The numbers of lines are those that are printed: decimal digits, without a sign or a leading zero.

@@ -1,9 +1,15 @@
 //! Lines, each of which is a name, a space and a value.
-ghost use Rattle.std.specs.Prelude.{◌≡◌, ◌+◌, ◌<◌, ◌≤◌, Ok, Err, MatchOption, OnOk, IfOk, option_map};
-ghost use Rattle.cluster_config.specs.Lines.{Gives, end_at, field_at, first_line, line_at, line_end, value_at, value_in};
-ghost use Rattle.cluster_config.specs.Values.{attack_in, key_in, number_in, numbers_in, order_in, vect_in};
+ghost use Rattle.std.specs.Prelude.{◌≡◌, ◌+◌, ◌<◌, ◌≤◌, ◌==◌, Ok, Err, MatchOption, OnOk, IfOk, length, option_map};
+ghost use Rattle.cluster_config.specs.Lines.{Gives, end_at, field_at, fields_at, fields_up_to, first_line, line_at, value_at, value_in};
+ghost use Rattle.cluster_config.specs.Front.{numbers_at, session_at};
+ghost use Rattle.cluster_config.specs.Values.{address_in, attack_in, key_in, number_in, numbers_in, order_in, request_in, row_in, vect_in};
+ghost use Rattle.cluster_config.specs.Views.{request_of};
 
-use crate::values::{attack_in, key_in, number_in, order_in, params_in, vect_in};
+use crate::cuts::cut_at;
+use crate::values::{
+    address_in, attack_in, key_in, number_in, order_in, params_in, request_in, row_in, vect_in,
+};
+use crate::views::{Addresses, RequestView, RequestViews};
 use ritas_base::{Attack, Order, Params, Vect};
 use std::marker::Model;
 
@@ -26,13 +32,6 @@ impl<'a> Model for Lines<'a> {
     ghost Value = { Place };
 
     ghost view = { λ l. record { number = l.number; rest = l.rest.now } };
-}
-
-// Where the line ends that begins the text.
-fn line_end(text: &[u8]) -> Option<usize>
-    ensures { result ≡ line_end text.now }
-{
-    text.iter().position(|byte| *byte == b'\n')
 }
 
 // The value of a line of this name.
@@ -70,10 +69,9 @@ impl<'a> Lines<'a> {
         ensures exact { Gives (λ x. x.now) result self.new (line_at self.old) }
         ensures next { OnOk result (self.new.number ≡ self.old.number + 1) }
     {
-        match line_end(self.rest) {
-            Some(end) => {
-                let line = &self.rest[..end];
-                self.rest = &self.rest[end + 1..];
+        match cut_at(self.rest, b'\n') {
+            Some((line, rest)) => {
+                self.rest = rest;
                 self.number += 1;
                 Ok(line)
             }
@@ -81,12 +79,19 @@ impl<'a> Lines<'a> {
         }
     }
 
+    // Whether nothing follows.
+    fn is_over(&self) -> bool
+        ensures { result ≡ (length self.now.rest == 0) }
+    {
+        self.rest.is_empty()
+    }
+
     /// Nothing follows.
     #[tactic(auto, unfolding(crate::specs::Lines::end_at))]
     pub(crate) fn end(&mut self) -> Result<(), WrongLine>
         ensures { Gives (λ x. x) result self.new (end_at self.old) }
     {
-        if self.rest.is_empty() {
+        if self.is_over() {
             Ok(())
         } else {
             Err(WrongLine { line: self.number })
@@ -171,5 +176,90 @@ impl<'a> Lines<'a> {
     {
         let line = self.number;
         or_line(line, attack_in(self.value(name)?))
+    }
+
+    /// The format and the session.
+    #[tactic(auto, unfolding(crate::specs::Front::session_at))]
+    pub(crate) fn session(&mut self) -> Result<u64, WrongLine>
+        requires { self.old.number < 4294967200 }
+        ensures exact { Gives (λ x. x) result self.new (session_at self.old) }
+        ensures next { OnOk result (self.new.number ≡ self.old.number + 2) }
+    {
+        self.number("ritas", 1, 1)?;
+        self.number("session", 0, u64::MAX)
+    }
+
+    /// How many replicas there are, and how many of them may be faulty.
+    #[tactic(auto, unfolding(crate::specs::Front::numbers_at))]
+    pub(crate) fn numbers(&mut self) -> Result<Params, WrongLine>
+        requires { self.old.number < 4294967200 }
+        ensures exact { Gives (λ x. x) result self.new (numbers_at self.old) }
+        ensures next { OnOk result (self.new.number ≡ self.old.number + 2) }
+    {
+        let n = self.number("n", 1, 31)? as u8;
+        self.params("f", n)
+    }
+
+    /// The keys that one of `n` replicas shares with each.
+    #[tactic(auto, unfolding(crate::specs::Lines::field_at))]
+    pub(crate) fn row(&mut self, name: &str, n: u8) -> Result<[[u8; 32]; 31], WrongLine>
+        requires place { self.old.number < 4294967295 }
+        requires most { n ≤ 31 }
+        ensures exact { Gives (λ x. x) result self.new (field_at name.now (row_in n) self.old) }
+        ensures next { OnOk result (self.new.number ≡ self.old.number + 1) }
+    {
+        let line = self.number;
+        or_line(line, row_in(self.value(name)?, n))
+    }
+
+    /// An address.
+    #[tactic(auto, unfolding(crate::specs::Lines::field_at))]
+    pub(crate) fn address(&mut self, name: &str) -> Result<&'a [u8], WrongLine>
+        requires { self.old.number < 4294967295 }
+        ensures exact { Gives (λ x. x.now) result self.new (field_at name.now address_in self.old) }
+        ensures next { OnOk result (self.new.number ≡ self.old.number + 1) }
+    {
+        let line = self.number;
+        or_line(line, address_in(self.value(name)?))
+    }
+
+    /// The addresses of `n` lines.
+    pub(crate) fn addresses(&mut self, name: &str, n: u8) -> Result<Addresses<'a>, WrongLine>
+        requires place { self.old.number < 4294967200 }
+        requires most { n ≤ 31 }
+        ensures exact { Gives (λ x. x) result self.new (fields_at name.now address_in n self.old) }
+        ensures next { OnOk result (self.new.number ≡ self.old.number + n) }
+    {
+        let mut addresses = Addresses::new();
+        while addresses.len() < n as usize {
+            addresses.push(self.address(name)?);
+        }
+        Ok(addresses)
+    }
+
+    /// A request that is handed to one of `n` replicas.
+    #[tactic(auto, unfolding(crate::specs::Lines::field_at))]
+    pub(crate) fn request(&mut self, name: &str, n: u8) -> Result<RequestView<'a>, WrongLine>
+        requires place { self.old.number < 4294967295 }
+        requires least { 1 ≤ n }
+        ensures exact { Gives request_of result self.new (field_at name.now (request_in n) self.old) }
+        ensures next { OnOk result (self.new.number ≡ self.old.number + 1) }
+    {
+        let line = self.number;
+        or_line(line, request_in(self.value(name)?, n))
+    }
+
+    /// The requests of all lines that are left, at most 64.
+    pub(crate) fn requests(&mut self, name: &str, n: u8) -> Result<RequestViews<'a>, WrongLine>
+        requires place { self.old.number < 4294967200 }
+        requires least { 1 ≤ n }
+        ensures { Gives (λ x. x) result self.new (fields_up_to name.now (request_in n) 64 self.old) }
+    {
+        let mut requests = RequestViews::new();
+        while requests.len() < 64 && !self.is_over() {
+            requests.push(self.request(name, n)?);
+        }
+        self.end()?;
+        Ok(requests)
     }
 }

@@ -1,7 +1,11 @@
 //! The values of lines.
-ghost use Rattle.std.specs.Prelude.{◌≡◌, ◌≤◌, IfSome};
-ghost use Rattle.cluster_config.specs.Values.{number_from, numeral, number_in, numbers_in, key_in, vect_in, order_in, attack_in};
+ghost use Rattle.std.specs.Prelude.{◌≡◌, ◌≤◌, IfSome, Some, None, drop, option_map, take, if◌then◌else◌};
+ghost use Rattle.cluster_config.specs.Values.{number_from, numeral, number_in, numbers_in, key_in, row_in, vect_in, order_in, attack_in};
+ghost use Rattle.cluster_config.specs.Values.{number_before, address_in, payload_in, request_in};
+ghost use Rattle.cluster_config.specs.Views.{payload_of, request_of};
 
+use crate::cuts::cut_at;
+use crate::views::RequestView;
 use ritas_base::{Attack, Order, Params, Vect};
 
 // The number that these digits write behind those of `first`.
@@ -65,6 +69,29 @@ pub(crate) fn key_in(text: &[u8]) -> Option<[u8; 32]>
     }
 }
 
+// The digits of the first key, and what stands behind them.
+fn first_key(text: &[u8]) -> (&[u8], &[u8])
+    ensures digits { result.0.now ≡ take 64 text.now }
+    ensures rest { result.1.now ≡ drop 64 text.now }
+{
+    text.split_at(text.len().min(64))
+}
+
+/// The keys of `n` replicas, one behind the other, and zeros in the places behind them.
+pub(crate) fn row_in(text: &[u8], n: u8) -> Option<[[u8; 32]; 31]>
+    requires { n ≤ 31 }
+    ensures { result ≡ row_in n text.now }
+{
+    let mut row = [[0; 32]; 31];
+    let mut rest = text;
+    for k in 0..n as usize {
+        let (digits, more) = first_key(rest);
+        row[k] = key_in(digits)?;
+        rest = more;
+    }
+    if rest.is_empty() { Some(row) } else { None }
+}
+
 /// The broadcast of VECTs.
 pub(crate) fn vect_in(text: &[u8]) -> Option<Vect>
     ensures { result ≡ vect_in text.now }
@@ -108,4 +135,58 @@ pub(crate) fn attack_in(text: &[u8]) -> Option<Attack>
     } else {
         None
     }
+}
+
+// A number up to `high`, which ends before the first such byte, and what stands behind that.
+fn number_before(text: &[u8], byte: u8, high: u64) -> Option<(u64, &[u8])>
+    ensures exact { option_map (λ found. (found.0, found.1.now)) result ≡ number_before byte high text.now }
+    ensures range { IfSome result (λ found. found.0 ≤ high) }
+{
+    let (number, rest) = cut_at(text, byte)?;
+    Some((number_in(number, 0, high)?, rest))
+}
+
+/// An address: four numbers of eight bits joined by dots, a colon and a port.
+pub(crate) fn address_in(text: &[u8]) -> Option<&[u8]>
+    ensures { option_map (λ address. address.now) result ≡ address_in text.now }
+{
+    let (_, second) = number_before(text, b'.', 255)?;
+    let (_, third) = number_before(second, b'.', 255)?;
+    let (_, fourth) = number_before(third, b'.', 255)?;
+    let (_, port) = number_before(fourth, b':', 255)?;
+    number_in(port, 1, 65_535)?;
+    Some(text)
+}
+
+// Whether these are the digits of a payload.
+fn is_payload(text: &[u8]) -> bool
+    ensures { payload_in text.now ≡ (if result then Some (payload_of text.now) else None) }
+{
+    if text == b"-".as_slice() {
+        return true;
+    }
+    if text.len() < 2 || text.len() > 8_176 {
+        return false;
+    }
+    let mut bytes = [0; 4_088];
+    hex::decode_to_slice(text, &mut bytes[..text.len() / 2]).is_ok()
+}
+
+/// A request that is handed to one of `n` replicas.
+pub(crate) fn request_in(text: &[u8], n: u8) -> Option<RequestView<'_>>
+    requires { 1 ≤ n }
+    ensures { option_map request_of result ≡ request_in n text.now }
+{
+    let (at, rest) = number_before(text, b' ', u64::from(n) - 1)?;
+    let (client, rest) = number_before(rest, b' ', u64::from(u32::MAX))?;
+    let (request, digits) = number_before(rest, b' ', u64::from(u32::MAX))?;
+    if !is_payload(digits) {
+        return None;
+    }
+    Some(RequestView {
+        at: at as u8,
+        client: client as u32,
+        request: request as u32,
+        digits,
+    })
 }

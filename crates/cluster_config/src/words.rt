@@ -5,7 +5,7 @@ ghost use Rattle.clap.specs.Words.{fault_of, first_of, found_of, rows_of, subcom
 ghost use Rattle.clap.specs.declared.error.kind.ErrorKind.TheVariants.{OutOfMemory};
 ghost use Rattle.cluster_config.specs.declared.job.Job.{Job};
 ghost use Rattle.cluster_config.specs.Command.{ritas};
-ghost use Rattle.cluster_config.specs.Words.{drive_named, is_hyphened, job_met, job_named, job_of, list_of, replay_named};
+ghost use Rattle.cluster_config.specs.Words.{alone_named, drive_named, is_hyphened, job_met, job_named, job_of, list_of, replay_named};
 
 use crate::command::ritas;
 use crate::job::Job;
@@ -47,6 +47,22 @@ fn drive_named(value: &str) -> Option<Job>
     }
 }
 
+fn alone_named(name: &str) -> Option<Job>
+    ensures { result ≡ alone_named name.now }
+{
+    if name == "keys" {
+        Some(Job::Keys)
+    } else if name == "node" {
+        Some(Job::Node)
+    } else if name == "cluster" {
+        Some(Job::Cluster)
+    } else if name == "submit" {
+        Some(Job::Submit)
+    } else {
+        None
+    }
+}
+
 fn job_named(name: &str, value: Option<&str>) -> Option<Job>
     ensures { result ≡ job_named name.now (option_map (λ s. s.now) value.entry) }
 {
@@ -55,11 +71,11 @@ fn job_named(name: &str, value: Option<&str>) -> Option<Job>
     } else if name == "drive" {
         drive_named(value?)
     } else {
-        None
+        alone_named(name)
     }
 }
 
-// The value of the subcommand.
+// The value of the subcommand, if it has one.
 fn value_of<'a>(matches: &ArgMatches<'a>) -> Option<&'a str>
     ensures { option_map (λ s. s.now) result ≡ first_of (codes "what") (rows_of (found_of matches.now)) }
 {

@@ -6,6 +6,8 @@ use Rattle.outside.specs.declared.whole.ReadFault.{ReadFault}
 use Rattle.outside.specs.declared.whole.ReadFault.TheVariants as read_faults
 use Rattle.ritas_base.specs.declared.plan.Plan.{Plan}
 use Rattle.ritas_base.specs.declared.what.DriveWhat.{DriveWhat}
+use Rattle.cluster_config.specs.declared.config.Config.{Config}
+use Rattle.cluster_config.specs.declared.config.Config.TheVariants.{Drive, Keys, Node, Cluster, Submit}
 use Rattle.cluster_config.specs.declared.config.ConfigFault.{ConfigFault}
 use Rattle.cluster_config.specs.declared.config.ConfigFault.TheVariants as config_faults
 use Rattle.cluster_config.specs.Config.{AnswersDrive}
@@ -53,6 +55,19 @@ as_fault e = Err e
 
 pub same_fault : (e d : ReadFault) → as_fault e ≡ as_fault d → e ≡ d
 same_fault e d same = cc
+
+-- a configuration that is read of a plan is one
+pub record IsPlan (text : List ℕ) (config : Config) : Type 0 where
+  pub plan : Plan
+  pub is : config ≡ Drive plan
+  pub reads : read_text drive_column text ≡ Ok (planned plan)
+
+pub plan_in : (text : List ℕ) (config : Config) → AnswersDrive text (Ok config) → IsPlan text config
+plan_in text (Drive plan) reads = record { plan = plan; is = refl; reads = reads }
+plan_in text (Keys keys) reads = absurd reads
+plan_in text (Node node) reads = absurd reads
+plan_in text (Cluster cluster) reads = absurd reads
+plan_in text (Submit submit) reads = absurd reads
 
 -- ---- answers
 

@@ -1,5 +1,5 @@
 -- The words of a run, the statuses that it ends with, and what it writes.
-use Rattle.std.specs.Prelude.{◌≡◌, ◌≢◌, ◌≤◌, ℕ, List, ◌++◌, Bool, true, Some, Result, Ok, Err}
+use Rattle.std.specs.Prelude.{◌≡◌, ◌≢◌, ◌≤◌, ℕ, List, ◌++◌, Bool, true, false, Some, Result, Ok, Err}
 use Rattle.outside.specs.Faults.{Rose}
 use Rattle.outside.specs.Writing.{TookFront}
 use Rattle.ritas_base.specs.declared.event.Event.{Event}
@@ -9,7 +9,8 @@ use Rattle.schedule_file.specs.ReadHeader.{Heading, heading}
 use Rattle.ritas_base.specs.declared.what.What.{What}
 use Rattle.ritas_base.specs.declared.what.What.TheVariants as what_of
 use Rattle.schedule_replay.specs.Replay.{text}
-use Rattle.cluster_config.specs.declared.job.Job.TheVariants.{Replay}
+use Rattle.cluster_config.specs.declared.job.Job.{Job}
+use Rattle.cluster_config.specs.declared.job.Job.TheVariants.{Replay, Drive}
 use Rattle.cluster_config.specs.Words.{job_of}
 use Rattle.ritas.specs.Statuses.{status_of, fault_text, fault_status}
 
@@ -20,6 +21,12 @@ Asks words what = job_of words ≡ Some (Replay what)
 -- they ask for something of a schedule
 abbrev pub IsReplay : List (List ℕ) → Type 0
 IsReplay words = (what : What) × Asks words what
+
+-- a job that is done; the others are answered as words that name none
+abbrev pub is_done : Job → Bool
+is_done (Replay what) = true
+is_done (Drive what) = true
+is_done _ = false
 
 -- ---- statuses
 

@@ -71,12 +71,17 @@ fn make<K: Sink>(alloc: Global, plan: &Plan, output: &mut K, what: DriveWhat) ->
     }
 }
 
-// The plan of a configuration.
-fn plan_of(config: Config) -> Plan
-    ensures { config ≡ Config.Drive result }
+// Makes the schedule of the plan that a configuration is.
+fn make_config<K: Sink>(alloc: Global, config: &Config, output: &mut K, what: DriveWhat) -> u8
+    ensures ends { Ends K.faults output.old output.new result }
+    ensures others { (result ≢ 2) × (result ≢ 4) }
+    ensures wanting { result ≡ 8 → output.new ≡ output.old }
+    ensures answers { (plan : Plan) → config.now ≡ Config.Drive plan → AnswersPlan K.tells K.taken output.old output.new what result plan }
 {
     match config {
-        Config::Drive(plan) => plan,
+        Config::Drive(plan) => make(alloc, plan, output, what),
+        // No other configuration comes of a plan.
+        _ => 8,
     }
 }
 
@@ -102,7 +107,7 @@ fn make_of<K: Sink>(alloc: Global, text: &[u8], output: &mut K, what: DriveWhat)
     ensures answers { AnswersText K.tells K.taken output.old output.new what result text.now }
 {
     match read_config(alloc, Job::Drive(what), text) {
-        Ok(config) => make(alloc, &plan_of(config), output, what),
+        Ok(config) => make_config(alloc, &config, output, what),
         Err(fault) => refuse_config(alloc, output, fault),
     }
 }

@@ -20,13 +20,13 @@ ghost use Rattle.cluster_config.specs.Drive.{drive_column, planned};
 ghost use Rattle.cluster_config.specs.Words.{job_of};
 ghost use Rattle.schedule_replay.specs.Layers.{setting_of};
 ghost use Rattle.schedule_replay.specs.Replay.{text};
-ghost use Rattle.ritas.specs.Run.{Asks, IsReplay, IsStatus, IsOwn, Ends, Replays, Replies, AnswersFile};
+ghost use Rattle.ritas.specs.Run.{Asks, IsReplay, is_done, IsStatus, IsOwn, Ends, Replays, Replies, AnswersFile};
 ghost use Rattle.ritas.specs.Drives.{text_limit, AnswersPlan, AnswersText};
 ghost use Rattle.ritas.specs.Statuses.{usage, status_of, fault_text, fault_status};
 
 use crate::drives::make_read;
 use crate::lines::{audit_status, fault_status, fault_text};
-use cluster_config::{Job, WordsFault, drive_laws, read_words};
+use cluster_config::{Job, WordsFault, config_laws, read_words};
 use outside::{Sink, Source, write_all};
 use ritas_base::What;
 use schedule_file::{FileFault, file_laws};
@@ -112,7 +112,8 @@ fn refuse_words<K: Sink>(output: &mut K, fault: WordsFault) -> u8
 fn work<S: Source, K: Sink>(alloc: Global, job: Job, input: &mut S, output: &mut K) -> u8
     ensures ends { Ends K.faults output.old output.new result }
     ensures input_fault { result ≡ 4 → Rose (S.faults input.old) (S.faults input.new) }
-    ensures named { result ≢ 2 }
+    ensures named { is_done job ≡ true → result ≢ 2 }
+    ensures undone { is_done job ≡ false → Replies K.tells K.taken output.old output.new result 2 usage }
     ensures wanting { job ≡ Job.Replay Report → result ≡ 8 → output.new ≡ output.old }
     ensures answers { (what : What) → job ≡ Job.Replay what → S.tells ≡ true
         → AnswersFile K.tells K.taken output.old output.new what result (file_of (S.left input.old)) }
@@ -125,6 +126,8 @@ fn work<S: Source, K: Sink>(alloc: Global, job: Job, input: &mut S, output: &mut
     match job {
         Job::Replay(what) => reply(alloc, input, output, what),
         Job::Drive(what) => make_read(alloc, input, output, what),
+        // These jobs aren't there yet.
+        Job::Keys | Job::Node | Job::Cluster | Job::Submit => finish(output, USAGE, 2),
     }
 }
 
@@ -164,13 +167,15 @@ pub fn run<S: Source, K: Sink>(
     // 4 comes only where the input failed.
     ensures input_fault { result ≡ 4 → Rose (S.faults input.old) (S.faults input.new) }
 
-    // At words that name no job the usage line is written, with status 2, unless the output fails or memory runs out. The input
-    // isn't touched.
+    // At words that name no job, or one that isn't done yet, the usage line is written, with status 2, unless the output fails or
+    // memory runs out. The input isn't touched at words that name none.
     ensures usage { job_of (map string_bytes words.now.items) ≡ None
         → Replies K.tells K.taken output.old output.new result 2 usage }
     ensures others { job_of (map string_bytes words.now.items) ≡ None → (result ≡ 2) ⊎ (result ≡ 5) ⊎ (result ≡ 8) }
     ensures unread { job_of (map string_bytes words.now.items) ≡ None → input.new ≡ input.old }
-    ensures named { (job : Job) → job_of (map string_bytes words.now.items) ≡ Some job → result ≢ 2 }
+    ensures named { (job : Job) → job_of (map string_bytes words.now.items) ≡ Some job → is_done job ≡ true → result ≢ 2 }
+    ensures undone { (job : Job) → job_of (map string_bytes words.now.items) ≡ Some job → is_done job ≡ false
+        → Replies K.tells K.taken output.old output.new result 2 usage }
 
     // Where a schedule is to be replayed, what is asked for of the file's world is written, with its status, or the line of the
     // file's first fault. Where memory runs out for a report, nothing is written.
@@ -204,7 +209,7 @@ pub fn run<S: Source, K: Sink>(
         → AnswersPlan K.tells K.taken output.old output.new what result p }
 {
     file_laws();
-    drive_laws();
+    config_laws();
     match read_words(alloc, words) {
         Ok(job) => work(alloc, job, input, output),
         Err(fault) => refuse_words(output, fault),

@@ -43,7 +43,7 @@ pub returns-in-Ok-clause-planned : goal.returns-in-Ok-clause-planned
 returns-in-Ok-clause-planned g c = λ what asks tells p is within.
     let text = g.S.Source.left c.args.input.now in
     let same = one_job (map string_bytes c.args.words.now.items) c.in-Ok.job (Drive what) c.in-Ok.ensures.job asks in
-    (c.work.ensures.drives what same tells).plan within p (c.drive_laws.ensures.only text (planned p) is)
+    (c.work.ensures.drives what same tells).plan within p (c.config_laws.ensures.drive.only text (planned p) is)
 
 pub returns-in-Err-clause-every : goal.returns-in-Err-clause-every
 returns-in-Err-clause-every g c = λ what asks tells h es is.

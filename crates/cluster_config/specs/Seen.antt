@@ -1,0 +1,39 @@
+-- What the parts of a text say together, before they are copied.
+use Rattle.cluster_config.specs.declared.node.NodeView.{NodeView}
+use Rattle.cluster_config.specs.declared.cluster.ClusterView.{ClusterView}
+use Rattle.cluster_config.specs.declared.submit.SubmitView.{SubmitView}
+use Rattle.cluster_config.specs.declared.submit.SubmitConfig.{SubmitConfig}
+use Rattle.cluster_config.specs.Node.{NodeText}
+use Rattle.cluster_config.specs.Cluster.{ClusterText}
+use Rattle.cluster_config.specs.Views.{request_of}
+
+abbrev pub node_seen : NodeView → NodeText
+node_seen view = record {
+  session = view.session;
+  p = view.p;
+  root = view.mode.root;
+  vect = view.mode.vect;
+  me = view.me;
+  key_row = view.key_row;
+  coin_key = view.coin_key;
+  peers = view.peers;
+  client = view.client.now;
+  limit = view.limit;
+  until = view.until;
+}
+
+abbrev pub cluster_seen : ClusterView → ClusterText
+cluster_seen view = record {
+  session = view.session;
+  p = view.p;
+  root = view.mode.root;
+  vect = view.mode.vect;
+  master = view.master;
+  peers = view.peers;
+  limit = view.limit;
+  until = view.until;
+  requests = view.requests;
+}
+
+abbrev pub submit_seen : SubmitView → SubmitConfig
+submit_seen view = record { p = view.p; peers = view.peers; request = request_of view.request }
