@@ -1,0 +1,125 @@
+-- Of the rounds of two runs over one list of items the ones are the first of the others.
+use Rattle.std.proofs.Common.{◌≡◌, ℕ, ◌-◌, ◌≤◌, Bool, true, false, List, [], ◌∷◌, ◌++◌, length, take, drop, refl, sym, ◌∙◌, ap, ap₂, subst, append_assoc, inl, inr, arith, length-append}
+use Rattle.std.proofs.lemmas.List.{take-append-drop, length-drop}
+use Rattle.std.proofs.Math.Dec.{leb}
+use Rattle.std.proofs.lemmas.Bool.{leb-true, leb-false}
+use Rattle.ritas_base.specs.declared.event.Event.{Event}
+use Rattle.outside.specs.declared.link.LinkItem.{LinkItem}
+use Rattle.layer_api.specs.Service.{IsPart}
+use Rattle.world_model.specs.World.{Setting}
+use Rattle.world_model.specs.Agree.{OneIsPart}
+use Rattle.node_loop.specs.Serving.{Want, Begins, Finishes, Turns, Halts, Asks, wants, Round, Began, Turned, Took, after, IsWanted, AreWanted}
+use Rattle.node_loop.specs.Laws.{items_of, OneRun}
+
+-- ---- parts
+
+part_itself : {X : Type 0} (xs : List X) → IsPart xs xs
+part_itself xs = ([], refl)
+
+part_of_part : {X : Type 0} (xs ys zs : List X) → IsPart xs ys → IsPart ys zs → IsPart xs zs
+part_of_part xs ys zs first second =
+    (second.0 ++ first.0, append_assoc second.0 first.0 xs ∙ (ap (λ (l : List _). second.0 ++ l) first.1 ∙ second.1))
+
+both_parts : {X : Type 0} (more extra xs ys : List X) → more ++ xs ≡ extra ++ ys → OneIsPart xs ys
+both_parts [] extra xs ys e = inr (extra, sym e)
+both_parts (x ∷ more) [] xs ys e = inl (x ∷ more, e)
+both_parts (x ∷ more) (y ∷ extra) xs ys e = both_parts more extra xs ys (cc)
+
+-- of two parts of one list one is a part of the other
+parts_of_one : {X : Type 0} (xs ys zs : List X) → IsPart xs zs → IsPart ys zs → OneIsPart xs ys
+parts_of_one xs ys zs first second = both_parts first.0 second.0 xs ys (first.1 ∙ sym second.1)
+
+-- of parts of two lists one is a part of the other, where it is so of these
+parts_of_two : {X : Type 0} (xs ys vs zs : List X) → IsPart xs vs → IsPart ys zs → OneIsPart vs zs → OneIsPart xs ys
+parts_of_two xs ys vs zs first second (inl part) = parts_of_one xs ys zs (part_of_part xs vs zs first part) second
+parts_of_two xs ys vs zs first second (inr part) = parts_of_one xs ys vs first (part_of_part ys zs vs second part)
+
+-- parts of one length are equal
+whole_part : {X : Type 0} (more xs ys : List X) → more ++ xs ≡ ys → length xs ≡ length ys → xs ≡ ys
+whole_part [] xs ys is long = is
+whole_part (x ∷ more) xs ys is long = absurd (omega (arith, long, ap length (sym is), length-append more xs))
+
+one_length : {X : Type 0} (xs ys : List X) → OneIsPart xs ys → length xs ≡ length ys → xs ≡ ys
+one_length xs ys (inl part) long = whole_part part.0 xs ys part.1 long
+one_length xs ys (inr part) long = sym (whole_part part.0 ys xs part.1 (sym long))
+
+-- ---- the items of rounds
+
+items_more : (more xs : List Round) → IsPart (items_of xs) (items_of (more ++ xs))
+items_more [] xs = part_itself (items_of xs)
+items_more (Began item ∷ more) xs = items_more more xs
+items_more (Turned i ∷ more) xs = items_more more xs
+items_more (Took item ∷ more) xs = let part = items_more more xs in (item ∷ part.0, ap (λ (l : List LinkItem). item ∷ l) part.1)
+
+wanted_before : (w : Setting) (past : List Event) (until limit : ℕ) (first : List LinkItem) (more xs : List Round)
+    → AreWanted w past until limit first (more ++ xs) → AreWanted w past until limit first xs
+wanted_before w past until limit first [] xs wanted = wanted
+wanted_before w past until limit first (x ∷ more) xs wanted = wanted_before w past until limit first more xs wanted.1
+
+-- ---- one round
+
+same_item : (a b : LinkItem) (is : List LinkItem) → OneIsPart (a ∷ is) (b ∷ is) → a ≡ b
+same_item a b is one = let e = one_length (a ∷ is) (b ∷ is) one refl in cc
+
+-- two rounds that are wanted where the same was wanted
+same_round : (want : Want) (x y : Round) (xs : List Round) → IsWanted want x → IsWanted want y → OneIsPart (items_of (x ∷ xs)) (items_of (y ∷ xs)) → x ≡ y
+same_round (Begins item) (Began a) (Began b) xs left right one = ap (λ (i : LinkItem). Began i) (sym left ∙ right)
+same_round (Begins item) (Began a) (Turned j) xs left right one = absurd right
+same_round (Begins item) (Began a) (Took b) xs left right one = absurd right
+same_round (Begins item) (Turned i) y xs left right one = absurd left
+same_round (Begins item) (Took a) y xs left right one = absurd left
+same_round (Turns k) (Turned i) (Turned j) xs left right one = ap (λ (i : ℕ). Turned i) (sym left ∙ right)
+same_round (Turns k) (Turned i) (Began b) xs left right one = absurd right
+same_round (Turns k) (Turned i) (Took b) xs left right one = absurd right
+same_round (Turns k) (Began a) y xs left right one = absurd left
+same_round (Turns k) (Took a) y xs left right one = absurd left
+same_round Asks (Took a) (Took b) xs left right one = ap (λ (i : LinkItem). Took i) (same_item a b (items_of xs) one)
+same_round Asks (Took a) (Began b) xs left right one = absurd right
+same_round Asks (Took a) (Turned j) xs left right one = absurd right
+same_round Asks (Began a) y xs left right one = absurd left
+same_round Asks (Turned i) y xs left right one = absurd left
+same_round Finishes x y xs left right one = absurd left
+same_round Halts x y xs left right one = absurd left
+
+-- ---- all rounds
+
+same_rounds : (w : Setting) (past : List Event) (until limit : ℕ) (first : List LinkItem) (xs ys : List Round)
+    → AreWanted w past until limit first xs → AreWanted w past until limit first ys
+    → OneIsPart (items_of xs) (items_of ys) → length xs ≡ length ys → xs ≡ ys
+same_rounds w past until limit first [] [] left right one long = refl
+same_rounds w past until limit first [] (y ∷ ys) left right one long = absurd (cc)
+same_rounds w past until limit first (x ∷ xs) [] left right one long = absurd (cc)
+same_rounds w past until limit first (x ∷ xs) (y ∷ ys) left right one long =
+    let below = parts_of_two (items_of xs) (items_of ys) (items_of (x ∷ xs)) (items_of (y ∷ ys)) (items_more (x ∷ []) xs) (items_more (y ∷ []) ys) one in
+    let rest : xs ≡ ys = same_rounds w past until limit first xs ys left.1 right.1 below (cc) in
+    let want : IsWanted (wants w past until limit (after w past first xs)) y = subst (λ (zs : List Round). IsWanted (wants w past until limit (after w past first zs)) y) (sym rest) right.0 in
+    let items : OneIsPart (items_of (x ∷ xs)) (items_of (y ∷ xs)) = subst (λ (zs : List Round). OneIsPart (items_of (x ∷ xs)) (items_of (y ∷ zs))) (sym rest) one in
+    ap₂ (λ (z : Round) (zs : List Round). z ∷ zs) (same_round (wants w past until limit (after w past first xs)) x y xs left.0 want items) rest
+
+-- the ones are no longer than the others
+first_rounds : (w : Setting) (past : List Event) (until limit : ℕ) (first : List LinkItem) (xs ys : List Round)
+    → AreWanted w past until limit first xs → AreWanted w past until limit first ys
+    → OneIsPart (items_of xs) (items_of ys) → length xs ≤ length ys → IsPart xs ys
+first_rounds w past until limit first xs ys left right one short =
+    let k = length ys - length xs in
+    let more = take k ys in
+    let rest = drop k ys in
+    let whole : more ++ rest ≡ ys = take-append-drop k ys in
+    let wanted = wanted_before w past until limit first more rest (subst (λ (zs : List Round). AreWanted w past until limit first zs) (sym whole) right) in
+    let part : IsPart (items_of rest) (items_of ys) = subst (λ (zs : List Round). IsPart (items_of rest) (items_of zs)) whole (items_more more rest) in
+    let items = parts_of_two (items_of xs) (items_of rest) (items_of xs) (items_of ys) (part_itself (items_of xs)) part one in
+    let long : length xs ≡ length rest = omega (arith, short, length-drop k ys) in
+    (more, ap (λ (zs : List Round). more ++ zs) (same_rounds w past until limit first xs rest left wanted items long) ∙ whole)
+
+turned : {X : Type 0} (xs ys : List X) → OneIsPart xs ys → OneIsPart ys xs
+turned xs ys (inl part) = inr part
+turned xs ys (inr part) = inl part
+
+pub runs_one : OneRun
+runs_one w past until limit first xs ys left right one = by_length (leb (length xs) (length ys)) refl
+  where
+    by_length : (b : Bool) → leb (length xs) (length ys) ≡ b → OneIsPart xs ys
+    by_length true short = inl (first_rounds w past until limit first xs ys left right one (leb-true (length xs) (length ys) short))
+    by_length false long =
+        let more = leb-false (length xs) (length ys) long in
+        inr (first_rounds w past until limit first ys xs right left (turned (items_of xs) (items_of ys) one) (omega (arith, more)))

@@ -1,0 +1,324 @@
+-- Rounds of serving.
+use Rattle.std.proofs.Common.{◌≡◌, ℕ, ◌+◌, Bool, true, false, List, [], ◌∷◌, ◌++◌, map, reverse, filter, Option, Some, None, Result, Ok, Err, OnOk, refl, sym, ap, ap₂, subst, ◌∙◌, arith, nat_le, ◌⊎◌, inl, inr, if◌then◌else◌}
+use Rattle.std.specs.List.{flat_map}
+use Rattle.std.proofs.lemmas.List.{append-nil, reverse-append}
+use Rattle.std.proofs.lemmas.Grind.{flat_map-append}
+use Rattle.ritas_base.specs.declared.event.Event.{Event}
+use Rattle.keyed_channel.specs.KeyRow.{KeyRow}
+use Rattle.ritas_core.specs.Stands.{Meaning}
+use Rattle.outside.specs.Faults.{HasCause}
+use Rattle.outside.specs.Links.{LinkAct, Gives, Replies}
+use Rattle.outside.specs.WritingLaws.{front_more}
+use Rattle.outside.specs.declared.link.LinkItem.{LinkItem}
+use Rattle.outside.specs.declared.link.LinkItem.TheVariants as items
+use Rattle.outside.specs.declared.link.LinkFault.{LinkFault}
+use Rattle.outside.specs.declared.link.LinkFault.TheVariants as link_faults
+use Rattle.outside.specs.Writing.{TookFront}
+use Rattle.schedule_file.specs.Spelling.{event_text}
+use Rattle.world_model.specs.World.{Setting}
+use Rattle.node_loop.specs.declared.end.Fault.{Fault}
+use Rattle.node_loop.specs.declared.end.Fault.TheVariants as faults
+use Rattle.node_loop.specs.declared.end.ServeEnd.{ServeEnd}
+use Rattle.node_loop.specs.declared.end.ServeEnd.TheVariants as ends
+use Rattle.node_loop.specs.declared.house.House.{House}
+use Rattle.node_loop.specs.declared.output.Output.{Output}
+use Rattle.node_loop.specs.declared.rounds.Next.TheVariants as next
+use Rattle.node_loop.specs.Waiting.{nobody}
+use Rattle.node_loop.specs.Calls.{Outcome}
+use Rattle.node_loop.specs.Serving.{Serving, so_far, sent_by, onto, with_outcome, Want, Begins, Finishes, Turns, Halts, Asks, wants_of, turn_or, first_or, here, busy, is_done, wants, Round, Began, Turned, Took, behind_first, round_does, after, IsWanted}
+use Rattle.node_loop.specs.Outs.{text_of, Outs, Tells, Agrees, Stops, Steps, Fails}
+use Rattle.node_loop.specs.Standing.{HouseStands, Comes, frame_by, reply_by}
+use Rattle.node_loop.specs.Served.{EndsSo, Serves}
+use Rattle.node_loop.specs.Running.{IsEndOf, Running, Goes, TookItem, IsNext}
+use Rattle.node_loop.proofs.Linked.{back_none}
+use Rattle.node_loop.proofs.Stepping.{with_link, stays, stops_more, link_stops}
+
+-- ---- one step
+
+on_ok : {A : Type 0} (result : Result A Fault) (P : Type 0) → P → OnOk result P
+on_ok (Ok done) P p = p
+on_ok (Err fault) P p = tt
+
+onto_past : (o : Option Event) (es past : List Event) → onto o (es ++ past) ≡ onto o es ++ past
+onto_past None es past = refl
+onto_past (Some e) es past = refl
+
+text_next : (e : Event) (es : List Event) → text_of (e ∷ es) ≡ text_of es ++ event_text e
+text_next e es =
+    ap (flat_map event_text) (reverse-append (e ∷ []) es)
+    ∙ (flat_map-append event_text (reverse es) (e ∷ []) ∙ ap (λ (l : List ℕ). text_of es ++ l) (append-nil (event_text e)))
+
+stops_event : (tells : Tells) (base o : Outs) (fault : Fault) (did : Option Event) (events : List Event) (acts : List LinkAct)
+    → Stops tells base o fault events acts → Stops tells base o fault (onto did events) acts
+stops_event tells base o fault None events acts stops = stops
+stops_event tells base o fault (Some e) events acts stops = record {
+  cut = record {
+    taken = λ t. subst (λ (l : List ℕ). TookFront base.taken o.taken l) (sym (text_next e events)) (front_more base.taken o.taken (text_of events) (event_text e) (stops.cut.taken t));
+    told = stops.cut.told;
+    tape_later = stops.cut.tape_later;
+    link_later = stops.cut.link_later;
+  };
+  cause = stops.cause;
+}
+
+module _ {S E C : Type 0} (m : Meaning S E C KeyRow) (w : Setting) (past : List Event) (numbers : List ℕ) (tells : Tells) (base : Outs) where
+  -- what came of it was delivered
+  pub goes_on : {A : Type 0} (house : House S E C) (now : Outs) (result : Result A Fault) (did : Outcome) (s : Serving) (o : Output) → Comes m w (so_far past s) numbers house o did
+      → Steps tells base now result (onto o.event s.events) (reverse (map Replies (map (reply_by o.at) o.replies.items)) ++ (reverse (map (frame_by o.at) o.frames.items) ++ s.acts))
+      → Goes m w past numbers house tells base now result (with_outcome w past did s)
+  goes_on house now result did s o comes steps =
+      let front = reverse (map Replies (map (reply_by o.at) o.replies.items)) in
+      let events = subst (λ (e : Option Event). Steps tells base now result (onto e s.events) (front ++ (reverse (map (frame_by o.at) o.frames.items) ++ s.acts))) comes.event steps in
+      let frames = subst (λ (l : List LinkAct). Steps tells base now result (onto did.event s.events) (front ++ (reverse l ++ s.acts))) comes.frames events in
+      let sent = reverse (sent_by w (so_far past s) did.event) in
+      record {
+        steps = subst (λ (l : List _). Steps tells base now result (onto did.event s.events) (reverse (map Replies l) ++ (sent ++ s.acts))) comes.replies frames;
+        stands = on_ok result (HouseStands m w (so_far past (with_outcome w past did s)) numbers house did.waiting)
+            (subst (λ (es : List Event). HouseStands m w es numbers house did.waiting) (onto_past did.event s.events past) comes.stands);
+      }
+
+  -- a replica was without memory
+  pub goes_no_further : {A : Type 0} (house : House S E C) (o : Outs) (did : Outcome) (s : Serving) → Agrees tells base o s.events s.acts
+      → Goes {A = A} m w past numbers house tells base o (Err faults.Mem) (with_outcome w past did s)
+  goes_no_further house o did s agrees = record {
+    steps =
+        stops_more tells base o faults.Mem (onto did.event s.events) (reverse (sent_by w (so_far past s) did.event) ++ s.acts) (reverse (map Replies did.replies))
+        (stops_more tells base o faults.Mem (onto did.event s.events) s.acts (reverse (sent_by w (so_far past s) did.event))
+        (stops_event tells base o faults.Mem did.event s.events s.acts (stays tells base o s.events s.acts agrees)));
+    stands = tt;
+  }
+
+-- ---- the link's next item
+
+-- it was given
+pub next_given : (tells : Tells) (base o : Outs) (events : List Event) (acts told : List LinkAct) (count : ℕ) (item : LinkItem) (F : Type 0)
+    → Agrees tells base o events acts → (tells.link ≡ true → told ≡ Gives item ∷ o.told) → HasCause o.link_faults count F
+    → Agrees tells base (with_link o told count) events (Gives item ∷ acts)
+next_given tells base o events acts told count item F agrees is cause = record {
+  taken = agrees.taken;
+  told = λ t. is t ∙ ap (λ (l : List LinkAct). Gives item ∷ l) (agrees.told t);
+  tape_later = agrees.tape_later;
+  link_later = omega (arith, agrees.link_later, cause.later);
+}
+
+failed_so : (x : LinkFault) → (let failed : Result (Unit {0}) LinkFault = Err link_faults.Failed in Err x ≡ failed) → (let failed : Result LinkItem LinkFault = Err link_faults.Failed in Err x ≡ failed)
+failed_so link_faults.Failed is = refl
+failed_so link_faults.Mem is = absurd (cc)
+
+-- the link failed
+pub next_failed : (tells : Tells) (base o : Outs) (events : List Event) (acts told : List LinkAct) (count : ℕ) (x : LinkFault) (fault : Fault)
+    → Fails x fault → Agrees tells base o events acts → (tells.link ≡ true → told ≡ o.told)
+    → HasCause o.link_faults count (let failed : Result LinkItem LinkFault = Err link_faults.Failed in Err x ≡ failed)
+    → Stops tells base (with_link o told count) fault events acts
+next_failed tells base o events acts told count x fault is agrees same cause =
+    link_stops tells base o events acts [] told count x fault is agrees (record {
+      whole = λ t. tt;
+      back = λ t. rw (same t) (back_none o.told []);
+      later = cause.later;
+      cause = λ e. cause.cause (failed_so x e);
+    })
+
+-- ---- what is done next
+
+pub next_finish : (want : Want) → IsNext want next.Finish → want ≡ Finishes
+next_finish Finishes is = refl
+next_finish (Begins item) is = absurd is
+next_finish (Turns i) is = absurd is
+next_finish Halts is = absurd is
+next_finish Asks is = absurd is
+
+pub next_turn : (want : Want) (at : ℕ) → IsNext want (next.Turn at) → want ≡ Turns at
+next_turn (Turns i) at is = ap (λ (k : ℕ). Turns k) is
+next_turn (Begins item) at is = absurd is
+next_turn Finishes at is = absurd is
+next_turn Halts at is = absurd is
+next_turn Asks at is = absurd is
+
+pub next_halt : (want : Want) → IsNext want next.Halt → want ≡ Halts
+next_halt Halts is = refl
+next_halt (Begins item) is = absurd is
+next_halt Finishes is = absurd is
+next_halt (Turns i) is = absurd is
+next_halt Asks is = absurd is
+
+pub next_ask : (want : Want) → IsNext want next.Ask → want ≡ Asks
+next_ask Asks is = refl
+next_ask (Begins item) is = absurd is
+next_ask Finishes is = absurd is
+next_ask (Turns i) is = absurd is
+next_ask Halts is = absurd is
+
+pub next_is_turn : (w : Setting) (until limit : ℕ) (es : List Event) (taken at : ℕ) (more : List ℕ) → false ≡ is_done w until es → busy w es ≡ at ∷ more
+    → IsNext (wants_of w until limit es taken) (next.Turn at)
+next_is_turn w until limit es taken at more done first =
+    let other : Want = if nat_le limit taken then Halts else Asks in
+    subst (λ (b : Bool). IsNext (if b then Finishes else turn_or (busy w es) other) (next.Turn at)) done
+    (subst (λ (is : List ℕ). IsNext (turn_or is other) (next.Turn at)) (sym first) refl)
+
+-- ---- turns are taken at correct replicas
+
+abbrev AreCorrect : Setting → List ℕ → Type 0
+AreCorrect w [] = Unit {0}
+AreCorrect w (i ∷ is) = (w.is_correct i ≡ true) × AreCorrect w is
+
+all_correct : (w : Setting) (is : List ℕ) → AreCorrect w (filter w.is_correct is)
+all_correct w [] = tt
+all_correct w (i ∷ is) = go (w.is_correct i) refl (all_correct w is)
+  where
+    go : (b : Bool) → w.is_correct i ≡ b → AreCorrect w (filter w.is_correct is) → AreCorrect w (if b then i ∷ filter w.is_correct is else filter w.is_correct is)
+    go true is_so rest = (is_so, rest)
+    go false is_so rest = rest
+
+some_correct : (w : Setting) (p : ℕ → Bool) (is : List ℕ) → AreCorrect w is → AreCorrect w (filter p is)
+some_correct w p [] all = tt
+some_correct w p (i ∷ is) all = go (p i) (some_correct w p is all.1)
+  where
+    go : (b : Bool) → AreCorrect w (filter p is) → AreCorrect w (if b then i ∷ filter p is else filter p is)
+    go true rest = (all.0, rest)
+    go false rest = rest
+
+turn_correct : (w : Setting) (is : List ℕ) (ask : Bool) (at : ℕ) → AreCorrect w is → turn_or is (if ask then Halts else Asks) ≡ Turns at → w.is_correct at ≡ true
+turn_correct w [] true at all e = absurd (cc)
+turn_correct w [] false at all e = absurd (cc)
+turn_correct w (i ∷ is) ask at all e = let same : i ≡ at = cc in subst (λ (k : ℕ). w.is_correct k ≡ true) same all.0
+
+pub turns_correct : (w : Setting) (until limit : ℕ) (es : List Event) (taken at : ℕ) → wants_of w until limit es taken ≡ Turns at → w.is_correct at ≡ true
+turns_correct w until limit es taken at = go (is_done w until es)
+  where
+    go : (b : Bool) → (if b then Finishes else turn_or (busy w es) (if nat_le limit taken then Halts else Asks)) ≡ Turns at → w.is_correct at ≡ true
+    go true e = absurd (cc)
+    go false e = turn_correct w (busy w es) (nat_le limit taken) at (some_correct w _ (here w) (all_correct w _)) e
+
+-- ---- rounds
+
+pub ends_so : {S E C : Type 0} (m : Meaning S E C KeyRow) (w : Setting) (past : List Event) (numbers : List ℕ) (here : List _) (tells : Tells) (base now : Outs)
+    (fault : Fault) (end : ServeEnd) (s : Serving) (rule : Want)
+    → IsEndOf fault end → Stops tells base now fault s.events s.acts → EndsSo {S = S} {E = E} {C = C} m w past numbers here tells base now end s rule
+ends_so m w past numbers here tells base now faults.Link end s rule is stops = rw is stops
+ends_so m w past numbers here tells base now faults.Tape end s rule is stops = rw is stops
+ends_so m w past numbers here tells base now faults.Mem end s rule is stops = rw is stops
+
+module _ {S E C : Type 0} (m : Meaning S E C KeyRow) (w : Setting) (past : List Event) (numbers : List ℕ) (tells : Tells) (base : Outs) (until limit : ℕ) (first : List LinkItem) where
+  -- where none of the first items is left
+  pub wants_now : (house : House S E C) (o : Outs) (taken : ℕ) (run : Running m w past numbers house tells base o taken until limit first [])
+      → wants w past until limit (after w past first run.rounds) ≡ wants_of w until limit (so_far past (after w past first run.rounds)) taken
+  wants_now house o taken run =
+      let s = after w past first run.rounds in
+      ap₂ (λ (left : List LinkItem) (n : ℕ). first_or left (wants_of w until limit (so_far past s) n)) run.rest (sym run.count)
+
+  -- a round more
+  pub runs_on : (old new : House S E C) (o now : Outs) (taken more : ℕ) (left rest : List LinkItem) (x : Round) (run : Running m w past numbers old tells base o taken until limit first left)
+      → IsWanted (wants w past until limit (after w past first run.rounds)) x
+      → (round_does w past x (after w past first run.rounds)).left ≡ rest → more ≡ (round_does w past x (after w past first run.rounds)).taken
+      → {A : Type 0} (done : A) → Goes m w past numbers new tells base now (Ok done) (round_does w past x (after w past first run.rounds))
+      → Running m w past numbers new tells base now more until limit first rest
+  runs_on old new o now taken more left rest x run want is_left is_taken done goes = record {
+    rounds = x ∷ run.rounds;
+    wanted = (want, run.wanted);
+    rest = is_left;
+    count = is_taken;
+    stands = goes.stands;
+    agrees = goes.steps;
+  }
+
+  -- or it ended in it
+  pub round_stops : (old new : House S E C) (o now : Outs) (taken : ℕ) (left : List LinkItem) (x : Round) (fault : Fault) (end : ServeEnd) (run : Running m w past numbers old tells base o taken until limit first left)
+      → IsWanted (wants w past until limit (after w past first run.rounds)) x
+      → Stops tells base now fault (round_does w past x (after w past first run.rounds)).events (round_does w past x (after w past first run.rounds)).acts
+      → IsEndOf fault end → Serves m w past numbers new.replicas.items tells base now end until limit first
+  round_stops old new o now taken left x fault end run want stops is =
+      let s = round_does w past x (after w past first run.rounds) in
+      record {
+        rounds = x ∷ run.rounds;
+        wanted = (want, run.wanted);
+        so = ends_so m w past numbers new.replicas.items tells base now fault end s (wants w past until limit s) is stops;
+      }
+
+  -- ---- the first items
+
+  pub runs_first : (house : House S E C) (o : Outs) → HouseStands m w past numbers house nobody → Agrees tells base o [] []
+      → Running m w past numbers house tells base o 0 until limit first first
+  runs_first house o stands agrees = record { rounds = []; wanted = tt; rest = refl; count = refl; stands = stands; agrees = agrees }
+
+  module _ (old : House S E C) (o : Outs) (item : LinkItem) (left rest : List LinkItem) (run : Running m w past numbers old tells base o 0 until limit first left) (is : left ≡ item ∷ rest) where
+    abbrev began_at : Serving
+    began_at = after w past first run.rounds
+
+    first_wanted : IsWanted (wants w past until limit began_at) (Began item)
+    first_wanted =
+        subst (λ (l : List LinkItem). IsWanted (first_or l (wants_of w until limit (so_far past began_at) began_at.taken)) (Began item)) (sym (run.rest ∙ is)) refl
+
+    pub began_on : (new : House S E C) (now : Outs) {A : Type 0} (done : A) → Goes m w past numbers new tells base now (Ok done) (round_does w past (Began item) began_at)
+        → Running m w past numbers new tells base now 0 until limit first rest
+    began_on new now done goes = runs_on old new o now 0 0 left rest (Began item) run first_wanted (ap behind_first (run.rest ∙ is)) run.count done goes
+
+    pub began_stops : (new : House S E C) (now : Outs) (fault : Fault) (end : ServeEnd)
+        → Goes {A = Unit {0}} m w past numbers new tells base now (Err fault) (round_does w past (Began item) began_at) → IsEndOf fault end
+        → Serves m w past numbers new.replicas.items tells base now end until limit first
+    began_stops new now fault end goes is_end = round_stops old new o now 0 left (Began item) fault end run first_wanted goes.steps is_end
+
+  module _ (house : House S E C) (o : Outs) (taken : ℕ) (run : Running m w past numbers house tells base o taken until limit first []) where
+    abbrev now_at : Serving
+    now_at = after w past first run.rounds
+
+    abbrev next_want : Want
+    next_want = wants_of w until limit (so_far past now_at) taken
+
+    turn_wanted : (at : ℕ) → IsNext next_want (next.Turn at) → IsWanted (wants w past until limit now_at) (Turned at)
+    turn_wanted at is =
+        subst (λ (want : Want). IsWanted want (Turned at)) (sym (wants_now house o taken run ∙ next_turn next_want at is)) refl
+
+    item_wanted : (item : LinkItem) → IsNext next_want next.Ask → (item ≡ items.End → ⊥) → IsWanted (wants w past until limit now_at) (Took item)
+    item_wanted item is is_item =
+        subst (λ (want : Want). IsWanted want (Took item)) (sym (wants_now house o taken run ∙ next_ask next_want is)) is_item
+
+    pub turn_at_correct : (at : ℕ) → IsNext next_want (next.Turn at) → w.is_correct at ≡ true
+    turn_at_correct at is = turns_correct w until limit (so_far past now_at) taken at (next_turn next_want at is)
+
+    pub finishes : IsNext next_want next.Finish → Serves m w past numbers house.replicas.items tells base o ends.Done until limit first
+    finishes is = record {
+      rounds = run.rounds;
+      wanted = run.wanted;
+      so = record { why = wants_now house o taken run ∙ next_finish next_want is; agrees = run.agrees; stand = run.stands.here };
+    }
+
+    pub halts : IsNext next_want next.Halt → Serves m w past numbers house.replicas.items tells base o ends.Limit until limit first
+    halts is = record {
+      rounds = run.rounds;
+      wanted = run.wanted;
+      so = record { why = wants_now house o taken run ∙ next_halt next_want is; agrees = run.agrees; stand = run.stands.here };
+    }
+
+    module _ (new : House S E C) (now : Outs) where
+      pub turned_on : (at : ℕ) → IsNext next_want (next.Turn at) → {A : Type 0} (done : A)
+          → Goes m w past numbers new tells base now (Ok done) (round_does w past (Turned at) now_at) → Running m w past numbers new tells base now taken until limit first []
+      turned_on at is done goes = runs_on house new o now taken taken [] [] (Turned at) run (turn_wanted at is) run.rest run.count done goes
+
+      pub turn_stops : (at : ℕ) (fault : Fault) (end : ServeEnd) → IsNext next_want (next.Turn at)
+          → Stops tells base now fault (round_does w past (Turned at) now_at).events (round_does w past (Turned at) now_at).acts → IsEndOf fault end
+          → Serves m w past numbers new.replicas.items tells base now end until limit first
+      turn_stops at fault end is stops is_end = round_stops house new o now taken [] (Turned at) fault end run (turn_wanted at is) stops is_end
+
+      pub item_on : IsNext next_want next.Ask → TookItem m w past numbers new tells base now (Ok true) now_at
+          → Running m w past numbers new tells base now (taken + 1) until limit first []
+      item_on is took =
+          runs_on house new o now taken (taken + 1) [] [] (Took took.item) run (item_wanted took.item is took.is_item) run.rest (ap (λ (n : ℕ). n + 1) run.count) true took.goes
+
+      pub link_ends : IsNext next_want next.Ask → Agrees tells base now now_at.events (Gives items.End ∷ now_at.acts)
+          → HouseStands m w (so_far past now_at) numbers new now_at.waiting → Serves m w past numbers new.replicas.items tells base now ends.End until limit first
+      link_ends is agrees stands = record {
+        rounds = run.rounds;
+        wanted = run.wanted;
+        so = record { why = wants_now house o taken run ∙ next_ask next_want is; agrees = agrees; stand = stands.here };
+      }
+
+      pub asking_stops : (fault : Fault) (end : ServeEnd) → IsNext next_want next.Ask
+          → Stops tells base now fault now_at.events now_at.acts ⊎ TookItem m w past numbers new tells base now (Err fault) now_at → IsEndOf fault end
+          → Serves m w past numbers new.replicas.items tells base now end until limit first
+      asking_stops fault end is (inl stops) is_end = record {
+        rounds = run.rounds;
+        wanted = run.wanted;
+        so = ends_so m w past numbers new.replicas.items tells base now fault end now_at (wants w past until limit now_at) is_end stops;
+      }
+      asking_stops fault end is (inr took) is_end =
+          round_stops house new o now taken [] (Took took.item) fault end run (item_wanted took.item is took.is_item) took.goes.steps is_end

@@ -1,0 +1,232 @@
+-- The replies that give a position are true.
+use Rattle.std.proofs.Common.{◌≡◌, ℕ, ◌<◌, ◌&&◌, Bool, true, false, List, [], ◌∷◌, ◌++◌, length, map, reverse, Option, Some, None, nat_le, nat_lt, refl, sym, ◌∙◌, ap, ap₂, subst, append_assoc, if◌then◌else◌}
+use Rattle.std.specs.List.{AllByRecursion}
+use Rattle.std.proofs.lemmas.List.{reverse-append}
+use Rattle.std.proofs.lemmas.Bool.{eq-eqb}
+use Rattle.ritas_base.specs.declared.event.Event.{Event}
+use Rattle.ritas_base.specs.declared.event.Event.TheVariants as events
+use Rattle.outside.specs.declared.link.LinkItem.{LinkItem}
+use Rattle.outside.specs.declared.link.LinkItem.TheVariants as items
+use Rattle.outside.specs.declared.link.Sent.{Sent}
+use Rattle.outside.specs.Links.{LinkAct, Starts, Gives, Sends, Replies, replies_in}
+use Rattle.client_port.specs.Messages.{Request, parts_of, request_in, position_reply, refusal_reply}
+use Rattle.command_log.specs.Rows.{Row, position_of}
+use Rattle.layer_api.specs.Service.{IsPart}
+use Rattle.world_model.specs.World.{Setting, states_before, call_of, seen_of}
+use Rattle.world_model.specs.Agree.{rows_at}
+use Rattle.world_model.specs.MadeOrder as made
+use Rattle.world_model.specs.MadeOrder.{MadeFrame}
+use Rattle.world_model.proofs.Conditions.{IsLaid}
+use Rattle.node_loop.specs.declared.waiting.Asked.{Asked}
+use Rattle.node_loop.specs.Waiting.{Waiting, with_waiter}
+use Rattle.node_loop.specs.Calls.{Outcome, reply, reply_each, asked_by, left_by, replies_by, called, asked_in, refusal_in, submitted, submitted_so, silent, is_waited_for, asked_so, asks_so, asks, if_here, item_does, first_does}
+use Rattle.node_loop.specs.Serving.{Serving, so_far, as_sent, sent_by, onto, with_outcome, Round, Began, Turned, Took, began, gave, after}
+use Rattle.node_loop.specs.Laws.{IsTrueReply}
+use Rattle.node_loop.proofs.Logs.{rows_later, rows_are_once, position_in_part}
+
+-- ---- all of a list
+
+all_append : {X : Type 0} (P : X → Type 0) (xs ys : List X) → AllByRecursion P xs → AllByRecursion P ys → AllByRecursion P (xs ++ ys)
+all_append P [] ys left right = right
+all_append P (x ∷ xs) ys left right = (left.0, all_append P xs ys left.1 right)
+
+all_map : {X : Type 0} (P Q : X → Type 0) → ((x : X) → P x → Q x) → (xs : List X) → AllByRecursion P xs → AllByRecursion Q xs
+all_map P Q f [] all = tt
+all_map P Q f (x ∷ xs) all = (f x all.0, all_map P Q f xs all.1)
+
+reverse_cons : {A : Type 0} (x : A) (xs : List A) → reverse (x ∷ xs) ≡ reverse xs ++ x ∷ []
+reverse_cons x xs = reverse-append (x ∷ []) xs
+
+all_reverse : {X : Type 0} (P : X → Type 0) (xs : List X) → AllByRecursion P xs → AllByRecursion P (reverse xs)
+all_reverse P [] all = tt
+all_reverse P (x ∷ xs) all =
+    subst (λ (l : List _). AllByRecursion P l) (sym (reverse_cons x xs)) (all_append P (reverse xs) (x ∷ []) (all_reverse P xs all.1) (all.0, tt))
+
+-- ---- replies among the acts
+
+replies_more : (acts more : List LinkAct) → replies_in (acts ++ more) ≡ replies_in acts ++ replies_in more
+replies_more [] more = refl
+replies_more (Starts plan ∷ acts) more = replies_more acts more
+replies_more (Gives item ∷ acts) more = replies_more acts more
+replies_more (Sends sent ∷ acts) more = replies_more acts more
+replies_more (Replies sent ∷ acts) more = ap (λ (l : List Sent). sent ∷ l) (replies_more acts more)
+
+all_replies : (xs : List Sent) → replies_in (reverse (map Replies xs)) ≡ reverse xs
+all_replies [] = refl
+all_replies (x ∷ xs) =
+    rw (reverse_cons (Replies x) (map Replies xs), replies_more (reverse (map Replies xs)) (Replies x ∷ []), reverse_cons x xs, all_replies xs) refl
+
+no_replies : (fs : List MadeFrame) → replies_in (reverse (map as_sent fs)) ≡ []
+no_replies [] = refl
+no_replies (f ∷ fs) = rw (reverse_cons (as_sent f) (map as_sent fs), replies_more (reverse (map as_sent fs)) (as_sent f ∷ []), no_replies fs) refl
+
+none_sent : (w : Setting) (es : List Event) (o : Option Event) → replies_in (reverse (sent_by w es o)) ≡ []
+none_sent w es None = refl
+none_sent w es (Some e) = no_replies (made.frames_in (length es) w (states_before w es) (call_of w (states_before w es) e))
+
+acts_replies : (w : Setting) (es : List Event) (o : Option Event) (xs : List Sent) (acts : List LinkAct)
+    → replies_in (reverse (map Replies xs) ++ (reverse (sent_by w es o) ++ acts)) ≡ reverse xs ++ replies_in acts
+acts_replies w es o xs acts =
+    rw (replies_more (reverse (map Replies xs)) (reverse (sent_by w es o) ++ acts), replies_more (reverse (sent_by w es o)) acts, none_sent w es o, all_replies xs) refl
+
+-- ---- what is replied
+
+abbrev AreTrue : Setting → List Event → List Sent → Type 0
+AreTrue w es xs = AllByRecursion (IsTrueReply w es) xs
+
+reply_true : (w : Setting) (es : List Event) (at client request position : ℕ) → position_of (rows_at w es at) client request ≡ Some position
+    → (conn : Option ℕ) → AreTrue w es (reply at (position_reply client request position) conn)
+reply_true w es at client request position is None = tt
+reply_true w es at client request position is (Some conn) =
+    ((λ form. record { client = client; request = request; position = position; bytes = refl; stands = is }), tt)
+
+each_true : (w : Setting) (es : List Event) (at client request position : ℕ) → position_of (rows_at w es at) client request ≡ Some position
+    → (conns : List (Option ℕ)) → AreTrue w es (reply_each at (position_reply client request position) conns)
+each_true w es at client request position is [] = tt
+each_true w es at client request position is (conn ∷ conns) =
+    all_append (IsTrueReply w es) (reply at (position_reply client request position) conn) (reply_each at (position_reply client request position) conns)
+    (reply_true w es at client request position is conn) (each_true w es at client request position is conns)
+
+refusal_true : (w : Setting) (es : List Event) (at client request code : ℕ) (conn : Option ℕ) → AreTrue w es (reply at (refusal_reply client request code) conn)
+refusal_true w es at client request code None = tt
+refusal_true w es at client request code (Some conn) = ((λ form. absurd (cc)), tt)
+
+-- the row in front of others stands at the position of their number
+row_stands : (row : Row) (rows : List Row) → position_of (row ∷ rows) row.client row.request ≡ Some (length rows)
+row_stands row rows =
+    ap₂ (λ (a b : Bool). if a && b then Some (length rows) else position_of rows row.client row.request)
+    (eq-eqb row.client row.client refl) (eq-eqb row.request row.request refl)
+
+tail_part : {X : Type 0} (x : X) (xs ys : List X) → IsPart (x ∷ xs) ys → IsPart xs ys
+tail_part x xs ys part = (part.0 ++ x ∷ [], append_assoc part.0 (x ∷ []) xs ∙ part.1)
+
+-- of the rows that came in
+rows_true : (w : Setting) (es : List Event) (at count : ℕ) (ws : Waiting) (rows : List Row) → IsPart rows (rows_at w es at) → AreTrue w es (replies_by at count rows ws)
+rows_true w es at count ws [] part = tt
+rows_true w es at count ws (row ∷ rows) part = here (nat_lt (length rows) count) (rows_true w es at count ws rows (tail_part row rows (rows_at w es at) part))
+  where
+    here : (b : Bool) → AreTrue w es (replies_by at count rows ws) → AreTrue w es (if b then [] else replies_by at count rows ws
+        ++ reply_each at (position_reply row.client row.request (length rows)) (left_by at count rows ws (asked_by at row)))
+    here true below = tt
+    here false below =
+        all_append (IsTrueReply w es) (replies_by at count rows ws) (reply_each at (position_reply row.client row.request (length rows)) (left_by at count rows ws (asked_by at row)))
+        below
+        (each_true w es at row.client row.request (length rows)
+        (position_in_part (row ∷ rows) (rows_at w es at) part (rows_are_once w es at) row.client row.request (length rows) (row_stands row rows))
+        (left_by at count rows ws (asked_by at row)))
+
+-- ---- outcomes
+
+-- the replies of an outcome are true when they go out
+abbrev IsTrueOutcome : Setting → List Event → Outcome → Type 0
+IsTrueOutcome w es did = AreTrue w (onto did.event es) did.replies
+
+called_true : (w : Setting) (es : List Event) (at : ℕ) (e : Event) (ws : Waiting) → IsTrueOutcome w es (called w es at e ws)
+called_true w es at e ws = rows_true w (e ∷ es) at (length (rows_at w es at)) ws (rows_at w (e ∷ es) at) ([], refl)
+
+submitted_true : (w : Setting) (es : List Event) (at : ℕ) (conn : Option ℕ) (bytes : List ℕ) (ws : Waiting) (code : Option ℕ)
+    → IsTrueOutcome w es (submitted_so w es at conn bytes ws code)
+submitted_true w es at conn bytes ws None = called_true w es at (events.Input at bytes) (with_waiter (asked_in at bytes) conn ws)
+submitted_true w es at conn bytes ws (Some code) =
+    let now = events.Input at bytes ∷ es in
+    let a = asked_in at bytes in
+    all_append (IsTrueReply w now) (called w es at (events.Input at bytes) ws).replies (reply at (refusal_reply a.client a.request code) conn)
+    (called_true w es at (events.Input at bytes) ws) (refusal_true w now at a.client a.request code conn)
+
+asked_true : (w : Setting) (es : List Event) (at : ℕ) (conn : Option ℕ) (bytes : List ℕ) (ws : Waiting) (place : Option ℕ)
+    → position_of (rows_at w es at) (asked_in at bytes).client (asked_in at bytes).request ≡ place → IsTrueOutcome w es (asked_so w es at conn bytes ws place)
+asked_true w es at conn bytes ws (Some position) is = reply_true w es at (asked_in at bytes).client (asked_in at bytes).request position is conn
+asked_true w es at conn bytes ws None is = here (is_waited_for (ws (asked_in at bytes)))
+  where
+    here : (b : Bool) → IsTrueOutcome w es (if b then silent [] (with_waiter (asked_in at bytes) conn ws) else submitted w es at conn bytes ws)
+    here true = tt
+    here false = submitted_true w es at conn bytes ws (refusal_in (seen_of w es (events.Input at bytes)))
+
+-- what a request asks for
+abbrev asks_for : ℕ → Request → Asked
+asks_for at r = record { at = at; client = r.client; request = r.request }
+
+request_asked : (at : ℕ) (bytes : List ℕ) (r : Request) → request_in bytes ≡ Some r → asked_in at bytes ≡ asks_for at r
+unfolding request_in
+request_asked at bytes r is = go (nat_le 8 (length bytes)) (nat_le (length bytes) 4096) is
+  where
+    same_parts : (x y : Request) → Some x ≡ Some y → x ≡ y
+    same_parts x y e = cc
+
+    go : (a b : Bool) → (if a && b then Some (parts_of bytes) else None) ≡ Some r → (if a then asks_for at (parts_of bytes) else record { at = at; client = 0; request = 0 }) ≡ asks_for at r
+    go true true is = ap (asks_for at) (same_parts (parts_of bytes) r is)
+    go true false is = absurd (cc)
+    go false b is = absurd (cc)
+
+asks_true : (w : Setting) (es : List Event) (at : ℕ) (conn : Option ℕ) (bytes : List ℕ) (ws : Waiting) (r : Option Request) → request_in bytes ≡ r
+    → IsTrueOutcome w es (asks_so w es at conn bytes ws r)
+asks_true w es at conn bytes ws None is = submitted_true w es at conn bytes ws (refusal_in (seen_of w es (events.Input at bytes)))
+asks_true w es at conn bytes ws (Some r) is =
+    asked_true w es at conn bytes ws (position_of (rows_at w es at) r.client r.request)
+    (ap (λ (a : Asked). position_of (rows_at w es at) a.client a.request) (request_asked at bytes r is))
+
+here_true : (w : Setting) (es : List Event) (at : ℕ) (did : Outcome) (ws : Waiting) → IsTrueOutcome w es did → IsTrueOutcome w es (if_here w at did ws)
+here_true w es at did ws holds = here (w.is_correct at)
+  where
+    here : (b : Bool) → IsTrueOutcome w es (if b then did else silent [] ws)
+    here true = holds
+    here false = tt
+
+item_true : (w : Setting) (es : List Event) (item : LinkItem) (ws : Waiting) → IsTrueOutcome w es (item_does w es item ws)
+item_true w es (items.Frame to bytes) ws = here_true w es to (called w es to (events.Frame to bytes) ws) ws (called_true w es to (events.Frame to bytes) ws)
+item_true w es (items.Client at conn bytes) ws =
+    here_true w es at (asks w es at (Some conn) bytes ws) ws (asks_true w es at (Some conn) bytes ws (request_in bytes) refl)
+item_true w es (items.Reply from bytes) ws = tt
+item_true w es (items.Down at peer) ws = tt
+item_true w es items.End ws = tt
+
+first_true : (w : Setting) (es : List Event) (item : LinkItem) (ws : Waiting) → IsTrueOutcome w es (first_does w es item ws)
+first_true w es (items.Client at conn bytes) ws = here_true w es at (asks w es at None bytes ws) ws (asks_true w es at None bytes ws (request_in bytes) refl)
+first_true w es (items.Frame to bytes) ws = tt
+first_true w es (items.Reply from bytes) ws = tt
+first_true w es (items.Down at peer) ws = tt
+first_true w es items.End ws = tt
+
+-- ---- serving
+
+module _ (w : Setting) (founds : IsLaid w) (within : (i : ℕ) → w.is_correct i ≡ true → i < w.numbers.n) where
+  stays_true : (e : Event) (es : List Event) (x : Sent) → IsTrueReply w es x → IsTrueReply w (e ∷ es) x
+  stays_true e es x holds form =
+      let was = holds form in
+      record {
+        client = was.client;
+        request = was.request;
+        position = was.position;
+        bytes = was.bytes;
+        stands = position_in_part (rows_at w es x.at) (rows_at w (e ∷ es) x.at) (rows_later w founds within (e ∷ []) es x.at) (rows_are_once w (e ∷ es) x.at)
+            was.client was.request was.position was.stands;
+      }
+
+  all_stay : (o : Option Event) (past : List Event) (s : Serving) → AreTrue w (so_far past s) (replies_in s.acts) → AreTrue w (onto o s.events ++ past) (replies_in s.acts)
+  all_stay None past s all = all
+  all_stay (Some e) past s all = all_map (IsTrueReply w (so_far past s)) (IsTrueReply w (e ∷ so_far past s)) (stays_true e (so_far past s)) (replies_in s.acts) all
+
+  now_true : (o : Option Event) (past : List Event) (s : Serving) (xs : List Sent) → AreTrue w (onto o (so_far past s)) xs → AreTrue w (onto o s.events ++ past) xs
+  now_true None past s xs all = all
+  now_true (Some e) past s xs all = all
+
+  outcome_true : (past : List Event) (did : Outcome) (s : Serving) → AreTrue w (so_far past s) (replies_in s.acts) → IsTrueOutcome w (so_far past s) did
+      → AreTrue w (so_far past (with_outcome w past did s)) (replies_in (with_outcome w past did s).acts)
+  outcome_true past did s all holds =
+      let es = onto did.event s.events ++ past in
+      subst (λ (l : List Sent). AreTrue w es l) (sym (acts_replies w (so_far past s) did.event did.replies s.acts))
+      (all_append (IsTrueReply w es) (reverse did.replies) (replies_in s.acts)
+      (all_reverse (IsTrueReply w es) did.replies (now_true did.event past s did.replies holds)) (all_stay did.event past s all))
+
+  pub replies_true : (past : List Event) (first : List LinkItem) (rounds : List Round)
+      → AllByRecursion (IsTrueReply w (so_far past (after w past first rounds))) (replies_in (after w past first rounds).acts)
+  replies_true past first [] = tt
+  replies_true past first (Began item ∷ rounds) =
+      let s = after w past first rounds in
+      outcome_true past (first_does w (so_far past s) item s.waiting) (began s) (replies_true past first rounds) (first_true w (so_far past s) item s.waiting)
+  replies_true past first (Turned i ∷ rounds) =
+      let s = after w past first rounds in
+      outcome_true past (called w (so_far past s) i (events.Turn i) s.waiting) s (replies_true past first rounds) (called_true w (so_far past s) i (events.Turn i) s.waiting)
+  replies_true past first (Took item ∷ rounds) =
+      let s = after w past first rounds in
+      outcome_true past (item_does w (so_far past s) item s.waiting) (gave item s) (replies_true past first rounds) (item_true w (so_far past s) item s.waiting)

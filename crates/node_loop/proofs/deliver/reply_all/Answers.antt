@@ -1,0 +1,34 @@
+use Rattle.std.proofs.Common.{◌≡◌, ℕ, List, [], map, reverse, get_or, ap, refl, take_all}
+use Rattle.std.proofs.lemmas.Simd.{map-map}
+use Rattle.outside.specs.Links.{Replies}
+use Rattle.node_loop.specs.declared.output.Reply.{Reply}
+use Rattle.node_loop.specs.Standing.{reply_by}
+use Rattle.node_loop.proofs.Linked.{each_act, did_none, did_one, each_goes, each_fails}
+use Rattle.node_loop.proofs.deliver.reply_all.Goals as goal
+
+-- the two ways to say what is replied
+as_two : (at : ℕ) (replies : List Reply) → reverse (map Replies (map (reply_by at) replies)) ≡ each_act (λ r. Replies (reply_by at r)) replies
+as_two at replies = ap reverse (map-map Replies (reply_by at) replies)
+
+pub loop-given-init : goal.loop-given-init
+loop-given-init g c = did_none _ _ _
+
+-- what is read past the end
+abbrev none : Reply
+none = record { conn = 0; bytes = [] }
+
+pub loop-given-preserved : goal.loop-given-preserved
+loop-given-preserved g c =
+    let given = get_or c.args.replies.now c.loop-given.given-index none in
+    each_goes (λ r. Replies (reply_by c.args.at r)) c.args.replies.now c.loop-given.given-index given none _ _ _ _ _ _ _ c.loop-given-test.true refl c.loop-given.invariant
+    (did_one _ (Replies (reply_by c.args.at given)) (Replies (reply_by c.args.at given)) _ _ _ _ _ refl c.in-Ok.ensures.ok c.in-Ok.ensures.err c.in-Ok.ensures.cause)
+
+pub returns-in-Err : goal.returns-in-Err
+returns-in-Err g c =
+    let given = get_or c.args.replies.now c.loop-given.given-index none in
+    rw (as_two c.args.at c.args.replies.now)
+    (each_fails (λ r. Replies (reply_by c.args.at r)) c.args.replies.now c.loop-given.given-index given none _ _ _ _ _ _ _ _ c.loop-given-test.true refl c.loop-given.invariant
+    (did_one _ (Replies (reply_by c.args.at given)) (Replies (reply_by c.args.at given)) _ _ _ _ _ refl c.in-Err.ensures.ok c.in-Err.ensures.err c.in-Err.ensures.cause))
+
+pub returns : goal.returns
+returns g c = rw (as_two c.args.at c.args.replies.now) (rw (take_all c.loop-given.given-index c.args.replies.now c.loop-given-test.false) at c.loop-given.invariant)

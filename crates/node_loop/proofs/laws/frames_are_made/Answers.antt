@@ -1,0 +1,5 @@
+use Rattle.node_loop.proofs.FramesSent.{are_made}
+use Rattle.node_loop.proofs.laws.frames_are_made.Goals as goal
+
+pub returns : goal.returns
+returns c = are_made

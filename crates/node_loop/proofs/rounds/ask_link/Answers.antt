@@ -1,0 +1,38 @@
+use Rattle.std.proofs.Common.{false, refl, inr}
+use Rattle.std.proofs.lemmas.Bool.{both_ways}
+use Rattle.node_loop.specs.Calls.{item_does}
+use Rattle.node_loop.specs.Serving.{so_far, gave}
+use Rattle.node_loop.proofs.Rounding.{goes_on, goes_no_further, next_given}
+use Rattle.node_loop.proofs.rounds.ask_link.Goals as goal
+
+pub returns-in-Err-take : goal.returns-in-Err-take
+returns-in-Err-take g c = λ w past numbers base s stands agrees.
+    let item = c.in-Ok.item in
+    let given = next_given _ base _ s.events s.acts _ _ item _ agrees c.in-Ok.ensures.ok c.in-Ok.ensures.cause in
+    inr (record {
+      item = item;
+      is_item = λ e. both_ways false refl (c.if-is_end.ensures.1 e);
+      goes = goes_no_further _ w past numbers _ base _ _ (item_does w (so_far past s) item s.waiting) (gave item s) given;
+    })
+
+pub returns-in-Ok-deliver : goal.returns-in-Ok-deliver
+returns-in-Ok-deliver g c = λ w past numbers base s stands agrees.
+    let item = c.in-Ok.item in
+    let given = next_given _ base _ s.events s.acts _ _ item _ agrees c.in-Ok.ensures.ok c.in-Ok.ensures.cause in
+    record {
+      item = item;
+      is_item = λ e. both_ways false refl (c.if-is_end.ensures.1 e);
+      goes = goes_on _ w past numbers _ base _ _ _ (item_does w (so_far past s) item s.waiting) (gave item s) _
+          (c.in-Ok-take.ensures.comes w (so_far past s) numbers s.waiting stands) (c.in-Ok-deliver.ensures base s.events (gave item s).acts given);
+    }
+
+pub returns-in-Err-deliver : goal.returns-in-Err-deliver
+returns-in-Err-deliver g c = λ w past numbers base s stands agrees.
+    let item = c.in-Ok.item in
+    let given = next_given _ base _ s.events s.acts _ _ item _ agrees c.in-Ok.ensures.ok c.in-Ok.ensures.cause in
+    inr (record {
+      item = item;
+      is_item = λ e. both_ways false refl (c.if-is_end.ensures.1 e);
+      goes = goes_on _ w past numbers _ base _ _ _ (item_does w (so_far past s) item s.waiting) (gave item s) _
+          (c.in-Ok-take.ensures.comes w (so_far past s) numbers s.waiting stands) (c.in-Err-deliver.ensures base s.events (gave item s).acts given);
+    })

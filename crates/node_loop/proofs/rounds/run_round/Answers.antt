@@ -1,0 +1,46 @@
+use Rattle.node_loop.specs.Serving.{so_far, after}
+use Rattle.node_loop.proofs.Rounding.{turn_at_correct, finishes, halts, turned_on, turn_stops, item_on, link_ends, asking_stops}
+use Rattle.node_loop.proofs.rounds.run_round.Goals as goal
+
+pub returns-in-Finish : goal.returns-in-Finish
+returns-in-Finish g c = λ w past numbers base first run.
+    let s = after w past first run.rounds in
+    finishes _ w past numbers _ base _ _ first _ _ _ run (c.in-Finish.ensures.next w (so_far past s) numbers run.stands.here)
+
+pub returns-in-Ok : goal.returns-in-Ok
+returns-in-Ok g c = λ w past numbers base first run.
+    let s = after w past first run.rounds in
+    let is = c.in-Turn.ensures.next w (so_far past s) numbers run.stands.here in
+    let correct = turn_at_correct _ w past numbers _ base _ _ first _ _ _ run c.in-Turn.at is in
+    turned_on _ w past numbers _ base _ _ first _ _ _ run _ _ c.in-Turn.at is tt (c.in-Ok.ensures w past numbers base s run.stands run.agrees correct)
+
+pub returns-in-Err : goal.returns-in-Err
+returns-in-Err g c = λ w past numbers base first run.
+    let s = after w past first run.rounds in
+    let is = c.in-Turn.ensures.next w (so_far past s) numbers run.stands.here in
+    let correct = turn_at_correct _ w past numbers _ base _ _ first _ _ _ run c.in-Turn.at is in
+    turn_stops _ w past numbers _ base _ _ first _ _ _ run c.turn.new.house _ c.in-Turn.at _ _ is (c.in-Err.ensures w past numbers base s run.stands run.agrees correct).steps c.end_of.ensures
+
+pub returns-in-Halt : goal.returns-in-Halt
+returns-in-Halt g c = λ w past numbers base first run.
+    let s = after w past first run.rounds in
+    halts _ w past numbers _ base _ _ first _ _ _ run (c.in-Halt.ensures.next w (so_far past s) numbers run.stands.here)
+
+pub returns-in-Ok-true : goal.returns-in-Ok-true
+returns-in-Ok-true g c = λ w past numbers base first run.
+    let s = after w past first run.rounds in
+    let is = c.in-Ask.ensures.next w (so_far past s) numbers run.stands.here in
+    item_on _ w past numbers _ base _ _ first _ _ _ run _ _ is (rw c.in-Ok-true.field-0-test at (c.in-Ok-true.ensures w past numbers base s run.stands run.agrees))
+
+pub returns-in-Ok-false : goal.returns-in-Ok-false
+returns-in-Ok-false g c = λ w past numbers base first run.
+    let s = after w past first run.rounds in
+    let is = c.in-Ask.ensures.next w (so_far past s) numbers run.stands.here in
+    let ended = rw c.in-Ok-false.field-0-test at (c.in-Ok-false.ensures w past numbers base s run.stands run.agrees) in
+    link_ends _ w past numbers _ base _ _ first _ _ _ run _ _ is ended.0 ended.1
+
+pub returns-in-Err-ask_link : goal.returns-in-Err-ask_link
+returns-in-Err-ask_link g c = λ w past numbers base first run.
+    let s = after w past first run.rounds in
+    let is = c.in-Ask.ensures.next w (so_far past s) numbers run.stands.here in
+    asking_stops _ w past numbers _ base _ _ first _ _ _ run _ _ _ _ is (c.in-Err-ask_link.ensures w past numbers base s run.stands run.agrees) c.end_of-in-Err-ask_link.ensures

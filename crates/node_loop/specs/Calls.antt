@@ -1,0 +1,149 @@
+-- What comes of a call on a replica, and of a message of a client. Lists of events have the newest first; replies stand in the
+-- order in which they go out.
+use Rattle.std.specs.Prelude.{ℕ, Bool, true, false, List, [], ◌∷◌, ◌++◌, length, Option, Some, None, nat_le, nat_lt, if◌then◌else◌}
+use Rattle.ritas_base.specs.declared.event.Event.{Event}
+use Rattle.ritas_base.specs.declared.event.Event.TheVariants as events
+use Rattle.outside.specs.declared.link.LinkItem.{LinkItem}
+use Rattle.outside.specs.declared.link.LinkItem.TheVariants as items
+use Rattle.outside.specs.declared.link.Sent.{Sent}
+use Rattle.client_port.specs.Messages.{Request, number_at, request_in, position_reply, refusal_reply}
+use Rattle.command_log.specs.Rows.{Row, position_of}
+use Rattle.ritas_core.specs.declared.fault.CoreFault.{CoreFault}
+use Rattle.ritas_core.specs.declared.fault.CoreFault.TheVariants as faults
+use Rattle.replica.specs.declared.refusal.Refusal.TheVariants as refusals
+use Rattle.world_model.specs.declared.seen.Seen.{Seen}
+use Rattle.world_model.specs.declared.seen.Seen.TheVariants as seen
+use Rattle.world_model.specs.World.{Setting, seen_of}
+use Rattle.world_model.specs.Agree.{rows_at}
+use Rattle.node_loop.specs.declared.waiting.Asked.{Asked}
+use Rattle.node_loop.specs.Waiting.{Waiting, with_waiter, without}
+
+-- what comes of an item or a turn: the event that it is, if it is one, the replies, and who waits then
+pub record Outcome : Type 0 where
+  pub event : Option Event
+  pub replies : List Sent
+  pub waiting : Waiting
+
+-- ---- replies
+
+-- a connection of a replica is replied to, if there is one
+abbrev pub reply : ℕ → List ℕ → Option ℕ → List Sent
+reply at bytes None = []
+reply at bytes (Some conn) = record { at = at; to = conn; bytes = bytes } ∷ []
+
+-- each of these is, one after the other
+abbrev pub reply_each : ℕ → List ℕ → List (Option ℕ) → List Sent
+reply_each at bytes [] = []
+reply_each at bytes (conn ∷ conns) = reply at bytes conn ++ reply_each at bytes conns
+
+abbrev pub asked_by : ℕ → Row → Asked
+asked_by at row = record { at = at; client = row.client; request = row.request }
+
+-- The rows of a log behind the first so many come in: nobody waits for them any more. Rows have the newest first, and the one in front
+-- of others stands at the position of their number.
+abbrev pub left_by : ℕ → ℕ → List Row → Waiting → Waiting
+left_by at count [] ws = ws
+left_by at count (row ∷ rows) ws = if nat_lt (length rows) count then ws else without (asked_by at row) (left_by at count rows ws)
+
+-- and all that waited for them are replied their positions
+abbrev pub replies_by : ℕ → ℕ → List Row → Waiting → List Sent
+replies_by at count [] ws = []
+replies_by at count (row ∷ rows) ws = if nat_lt (length rows) count then []
+    else replies_by at count rows ws
+    ++ reply_each at (position_reply row.client row.request (length rows)) (left_by at count rows ws (asked_by at row))
+
+-- ---- one call on a replica
+
+-- an event at a replica: the rows that come in by it are replied to
+abbrev pub called : Setting → List Event → ℕ → Event → Waiting → Outcome
+called w es at e ws = let count = length (rows_at w es at) in let rows = rows_at w (e ∷ es) at in record {
+  event = Some e;
+  replies = replies_by at count rows ws;
+  waiting = left_by at count rows ws;
+}
+
+-- ---- a message of a client
+
+abbrev pub fault_number : CoreFault → ℕ
+fault_number faults.NotOrigin = 1
+fault_number faults.NotForMe = 2
+fault_number (faults.Past x) = 3
+fault_number (faults.Ahead x) = 4
+fault_number (faults.HeldFull x) = 5
+fault_number faults.InputTaken = 6
+fault_number (faults.WindowFull x) = 7
+fault_number (faults.Input x) = 8
+fault_number faults.Mem = 9
+fault_number faults.Stopped = 10
+
+-- the number of the fault with which an input is refused, if it is
+abbrev pub refusal_in : Seen → Option ℕ
+refusal_in (seen.Refused (refusals.Core fault)) = Some (fault_number fault)
+refusal_in _ = None
+
+-- the request that a message is at a replica; of one with under 8 bytes the numbers are 0
+abbrev pub asked_in : ℕ → List ℕ → Asked
+asked_in at bytes = if nat_le 8 (length bytes)
+    then record { at = at; client = number_at 0 bytes; request = number_at 4 bytes }
+    else record { at = at; client = 0; request = 0 }
+
+-- what is refused is replied to, after what else comes of the call
+abbrev pub refused : Setting → List Event → ℕ → Option ℕ → List ℕ → ℕ → Waiting → Outcome
+refused w es at conn bytes code ws = let did = called w es at (events.Input at bytes) ws in record did {
+  replies = did.replies ++ reply at (refusal_reply (asked_in at bytes).client (asked_in at bytes).request code) conn;
+}
+
+-- what is taken waits for its row
+abbrev pub taken : Setting → List Event → ℕ → Option ℕ → List ℕ → Waiting → Outcome
+taken w es at conn bytes ws = called w es at (events.Input at bytes) (with_waiter (asked_in at bytes) conn ws)
+
+abbrev pub submitted_so : Setting → List Event → ℕ → Option ℕ → List ℕ → Waiting → Option ℕ → Outcome
+submitted_so w es at conn bytes ws (Some code) = refused w es at conn bytes code ws
+submitted_so w es at conn bytes ws None = taken w es at conn bytes ws
+
+-- the message is an input of the replica
+abbrev pub submitted : Setting → List Event → ℕ → Option ℕ → List ℕ → Waiting → Outcome
+submitted w es at conn bytes ws = submitted_so w es at conn bytes ws (refusal_in (seen_of w es (events.Input at bytes)))
+
+-- no call is made
+abbrev pub silent : List Sent → Waiting → Outcome
+silent replies ws = record { event = None; replies = replies; waiting = ws }
+
+abbrev pub is_waited_for : List (Option ℕ) → Bool
+is_waited_for [] = false
+is_waited_for (conn ∷ conns) = true
+
+-- a request whose row is in the log is replied its position; one that waits isn't submitted again
+abbrev pub asked_so : Setting → List Event → ℕ → Option ℕ → List ℕ → Waiting → Option ℕ → Outcome
+asked_so w es at conn bytes ws (Some position) =
+    silent (reply at (position_reply (asked_in at bytes).client (asked_in at bytes).request position) conn) ws
+asked_so w es at conn bytes ws None = if is_waited_for (ws (asked_in at bytes))
+    then silent [] (with_waiter (asked_in at bytes) conn ws) else submitted w es at conn bytes ws
+
+-- what no request is, is submitted, so that it is refused
+abbrev pub asks_so : Setting → List Event → ℕ → Option ℕ → List ℕ → Waiting → Option Request → Outcome
+asks_so w es at conn bytes ws None = submitted w es at conn bytes ws
+asks_so w es at conn bytes ws (Some r) = asked_so w es at conn bytes ws (position_of (rows_at w es at) r.client r.request)
+
+-- a client's message to a replica, by a connection or as one of the first items
+abbrev pub asks : Setting → List Event → ℕ → Option ℕ → List ℕ → Waiting → Outcome
+asks w es at conn bytes ws = asks_so w es at conn bytes ws (request_in bytes)
+
+-- ---- an item
+
+-- of a replica that isn't here nothing comes
+abbrev pub if_here : Setting → ℕ → Outcome → Waiting → Outcome
+if_here w at did ws = if w.is_correct at then did else silent [] ws
+
+-- an item that the link gave
+abbrev pub item_does : Setting → List Event → LinkItem → Waiting → Outcome
+item_does w es (items.Frame to bytes) ws = if_here w to (called w es to (events.Frame to bytes) ws) ws
+item_does w es (items.Client at conn bytes) ws = if_here w at (asks w es at (Some conn) bytes ws) ws
+item_does w es (items.Reply from bytes) ws = silent [] ws
+item_does w es (items.Down at peer) ws = silent [] ws
+item_does w es items.End ws = silent [] ws
+
+-- one with which serving begins gets no reply
+abbrev pub first_does : Setting → List Event → LinkItem → Waiting → Outcome
+first_does w es (items.Client at conn bytes) ws = if_here w at (asks w es at None bytes ws) ws
+first_does w es item ws = silent [] ws

@@ -1,0 +1,68 @@
+-- What serving keeps to.
+use Rattle.std.specs.Prelude.{◌≡◌, ℕ, List, [], ◌∷◌, ◌++◌, map, reverse, Some}
+use Rattle.std.specs.List.{AllByRecursion}
+use Rattle.ritas_base.specs.declared.event.Event.{Event}
+use Rattle.outside.specs.declared.link.LinkItem.{LinkItem}
+use Rattle.outside.specs.declared.link.Sent.{Sent}
+use Rattle.outside.specs.Links.{frames_in, replies_in}
+use Rattle.client_port.specs.Messages.{form_in, position_reply}
+use Rattle.command_log.specs.Rows.{position_of}
+use Rattle.layer_api.specs.Broadcast.{BroadcastRules}
+use Rattle.layer_api.specs.Service.{ServiceRules, IsPart}
+use Rattle.world_model.specs.World.{Setting}
+use Rattle.world_model.specs.EveryWorld.{IsWorld}
+use Rattle.world_model.specs.MadeOrder.{MadeFrame, all_made}
+use Rattle.world_model.specs.Agree.{OneIsPart, rows_at}
+use Rattle.node_loop.specs.Serving.{so_far, Round, Began, Turned, Took, after, AreWanted}
+
+-- ---- one run
+
+-- the items of the link that rounds took
+abbrev pub items_of : List Round → List LinkItem
+items_of [] = []
+items_of (Began item ∷ rounds) = items_of rounds
+items_of (Turned i ∷ rounds) = items_of rounds
+items_of (Took item ∷ rounds) = item ∷ items_of rounds
+
+-- the items decide: of the rounds of two runs over one list of items, each as far as it came, the ones are the first of the others
+abbrev pub OneRun : Type 0
+OneRun = (w : Setting) (past : List Event) (until limit : ℕ) (first : List LinkItem) (xs ys : List Round)
+    → AreWanted w past until limit first xs → AreWanted w past until limit first ys
+    → OneIsPart (items_of xs) (items_of ys) → OneIsPart xs ys
+
+-- more rounds only add to the events and to the link's calls
+abbrev pub OnlyGrows : Type 0
+OnlyGrows = (w : Setting) (past : List Event) (first : List LinkItem) (xs ys : List Round) → IsPart xs ys
+    → IsPart (after w past first xs).events (after w past first ys).events × IsPart (after w past first xs).acts (after w past first ys).acts
+
+-- ---- the frames
+
+abbrev pub sent_as : MadeFrame → Sent
+sent_as f = record { at = f.from; to = f.to; bytes = f.bytes }
+
+-- all frames that the replicas of a world made in these events, the oldest first
+abbrev pub frames_of : Setting → List Event → List Sent
+frames_of w es = map sent_as (all_made w es)
+
+-- the frames that the link was given are those that the calls made, in their order
+abbrev pub FramesAreMade : Type 0
+FramesAreMade = (w : Setting) (past : List Event) (first : List LinkItem) (rounds : List Round)
+    → frames_of w (so_far past (after w past first rounds)) ≡ frames_of w past ++ reverse (frames_in (after w past first rounds).acts)
+
+-- ---- the replies
+
+-- a reply names the position that its request has in the log of its replica
+pub record NamesPosition (w : Setting) (es : List Event) (x : Sent) : Type 0 where
+  pub client : ℕ
+  pub request : ℕ
+  pub position : ℕ
+  pub bytes : x.bytes ≡ position_reply client request position
+  pub stands : position_of (rows_at w es x.at) client request ≡ Some position
+
+abbrev pub IsTrueReply : Setting → List Event → Sent → Type 0
+IsTrueReply w es x = form_in x.bytes ≡ 1 → NamesPosition w es x
+
+-- each reply of form 1 does, when it goes out and ever after
+abbrev pub RepliesAreTrue : ServiceRules → BroadcastRules → Type 0
+RepliesAreTrue service other = (w : Setting) (past : List Event) (first : List LinkItem) (rounds : List Round) → IsWorld service other w
+    → AllByRecursion (IsTrueReply w (so_far past (after w past first rounds))) (replies_in (after w past first rounds).acts)

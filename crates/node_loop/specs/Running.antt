@@ -1,0 +1,82 @@
+-- Serving under way.
+use Rattle.std.specs.Prelude.{◌≡◌, ℕ, Bool, true, false, List, [], ◌∷◌, Result, Ok, Err, OnOk, ◌⊎◌}
+use Rattle.ritas_base.specs.declared.event.Event.{Event}
+use Rattle.keyed_channel.specs.KeyRow.{KeyRow}
+use Rattle.ritas_core.specs.Stands.{Meaning}
+use Rattle.outside.specs.declared.link.LinkItem.{LinkItem}
+use Rattle.outside.specs.declared.link.LinkItem.TheVariants.{End}
+use Rattle.outside.specs.Links.{Gives}
+use Rattle.world_model.specs.World.{Setting}
+use Rattle.node_loop.specs.declared.end.Fault.{Fault}
+use Rattle.node_loop.specs.declared.end.Fault.TheVariants as faults
+use Rattle.node_loop.specs.declared.end.ServeEnd.{ServeEnd}
+use Rattle.node_loop.specs.declared.end.ServeEnd.TheVariants as ends
+use Rattle.node_loop.specs.declared.house.House.{House}
+use Rattle.node_loop.specs.declared.rounds.Next.{Next}
+use Rattle.node_loop.specs.declared.rounds.Next.TheVariants as next
+use Rattle.node_loop.specs.Serving.{Serving, so_far, Want, Finishes, Turns, Halts, Asks, Round, Took, round_does, after, AreWanted}
+use Rattle.node_loop.specs.Outs.{Outs, Tells, Agrees, Stops, Steps}
+use Rattle.node_loop.specs.Served.{Serves}
+use Rattle.node_loop.specs.Standing.{HouseStands}
+
+-- the end that a fault is
+abbrev pub IsEndOf : Fault → ServeEnd → Type 0
+IsEndOf faults.Link end = end ≡ ends.LinkFault
+IsEndOf faults.Tape end = end ≡ ends.TapeFault
+IsEndOf faults.Mem end = end ≡ ends.Mem
+
+-- it serves: these are the rounds so far, and of its first items these are left
+pub record Running {S E C : Type 0} (m : Meaning S E C KeyRow) (w : Setting) (past : List Event) (numbers : List ℕ) (house : House S E C)
+    (tells : Tells) (base now : Outs) (taken : ℕ) (until limit : ℕ) (first left : List LinkItem) : Type 0 where
+  pub rounds : List Round
+  pub wanted : AreWanted w past until limit first rounds
+  pub rest : (after w past first rounds).left ≡ left
+  pub count : taken ≡ (after w past first rounds).taken
+  pub stands : HouseStands m w (so_far past (after w past first rounds)) numbers house (after w past first rounds).waiting
+  pub agrees : Agrees tells base now (after w past first rounds).events (after w past first rounds).acts
+
+-- a step of serving leads to s, or a part of the way
+pub record Goes {S E C A : Type 0} (m : Meaning S E C KeyRow) (w : Setting) (past : List Event) (numbers : List ℕ) (house : House S E C)
+    (tells : Tells) (base now : Outs) (result : Result A Fault) (s : Serving) : Type 0 where
+  pub steps : Steps tells base now result s.events s.acts
+  pub stands : OnOk result (HouseStands m w (so_far past s) numbers house s.waiting)
+
+-- an item of the link was taken, or a part of the way to it
+pub record TookItem {S E C : Type 0} (m : Meaning S E C KeyRow) (w : Setting) (past : List Event) (numbers : List ℕ) (house : House S E C)
+    (tells : Tells) (base now : Outs) (result : Result Bool Fault) (s : Serving) : Type 0 where
+  pub item : LinkItem
+  pub is_item : item ≡ End → ⊥
+  pub goes : Goes m w past numbers house tells base now result (round_does w past (Took item) s)
+
+-- the link was asked for an item: it gave one, or its end, or failed
+abbrev pub AskedLink : {S E C : Type 0} → Meaning S E C KeyRow → Setting → List Event → List ℕ → House S E C → Tells → Outs → Outs
+    → Result Bool Fault → Serving → Type 0
+AskedLink m w past numbers house tells base now (Ok true) s = TookItem m w past numbers house tells base now (Ok true) s
+AskedLink m w past numbers house tells base now (Ok false) s =
+    Agrees tells base now s.events (Gives End ∷ s.acts) × HouseStands m w (so_far past s) numbers house s.waiting
+AskedLink m w past numbers house tells base now (Err fault) s =
+    Stops tells base now fault s.events s.acts ⊎ TookItem m w past numbers house tells base now (Err fault) s
+
+-- the first items were taken up, or serving ended before
+abbrev pub BeganAll : {S E C : Type 0} → Meaning S E C KeyRow → Setting → List Event → List ℕ → House S E C → Tells → Outs → Outs → ℕ → ℕ
+    → List LinkItem → Result (Unit {0}) Fault → Type 0
+BeganAll m w past numbers house tells base now until limit first (Ok done) =
+    Running m w past numbers house tells base now 0 until limit first []
+BeganAll m w past numbers house tells base now until limit first (Err fault) = (end : ServeEnd) → IsEndOf fault end
+    → Serves m w past numbers house.replicas.items tells base now end until limit first
+
+-- a round more, or it ended
+abbrev pub RanRound : {S E C : Type 0} → Meaning S E C KeyRow → Setting → List Event → List ℕ → House S E C → Tells → Outs → Outs → ℕ → ℕ → ℕ
+    → List LinkItem → Result (Unit {0}) ServeEnd → Type 0
+RanRound m w past numbers house tells base now taken until limit first (Ok done) =
+    Running m w past numbers house tells base now taken until limit first []
+RanRound m w past numbers house tells base now taken until limit first (Err end) =
+    Serves m w past numbers house.replicas.items tells base now end until limit first
+
+-- what is done next is what is wanted, where none of the first items is left
+abbrev pub IsNext : Want → Next → Type 0
+IsNext Finishes next.Finish = Unit {0}
+IsNext (Turns i) (next.Turn j) = i ≡ j
+IsNext Halts next.Halt = Unit {0}
+IsNext Asks next.Ask = Unit {0}
+IsNext want done = ⊥

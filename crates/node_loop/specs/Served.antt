@@ -1,0 +1,57 @@
+-- What serving leaves, and how it ends.
+use Rattle.std.specs.Prelude.{◌≡◌, ℕ, ◌==◌, ◌<◌, ◌^◌, List, ◌∷◌, length, Some}
+use Rattle.std.specs.List.{slice_get, list_any}
+use Rattle.ritas_base.specs.declared.event.Event.{Event}
+use Rattle.keyed_channel.specs.KeyRow.{KeyRow}
+use Rattle.ritas_core.specs.Stands.{Meaning}
+use Rattle.replica.specs.declared.replica.Replica.{Replica}
+use Rattle.outside.specs.declared.link.LinkItem.{LinkItem}
+use Rattle.outside.specs.declared.link.LinkItem.TheVariants as items
+use Rattle.outside.specs.Links.{LinkAct, Gives}
+use Rattle.world_model.specs.World.{Setting, states_of}
+use Rattle.world_model.specs.EveryWorld.{IsWorld}
+use Rattle.world_model.specs.Stands.{NoneStops, IsReplica}
+use Rattle.node_loop.specs.declared.end.Fault.TheVariants as faults
+use Rattle.node_loop.specs.declared.end.ServeEnd.{ServeEnd}
+use Rattle.node_loop.specs.declared.end.ServeEnd.TheVariants as ends
+use Rattle.node_loop.specs.Serving.{Serving, so_far, Want, Finishes, Halts, Asks, wants, Round, after, AreWanted}
+use Rattle.node_loop.specs.Outs.{Outs, Tells, Agrees, Stops}
+
+-- The replicas of a world that are here are its correct ones: replica k of the list is that of the k-th number, as it stands after these
+-- events, and none is stopped.
+pub record AreHere {S E C : Type 0} (m : Meaning S E C KeyRow) (w : Setting) (es : List Event) (numbers : List ℕ) (here : List (Replica S E C)) : Type 0 where
+  pub kind : IsWorld m.service m.cast w
+  pub going : NoneStops w
+  pub atomic : w.mode.root ≡ 6
+  pub many : length here ≡ length numbers
+  pub apart : (j k i : ℕ) → slice_get numbers j ≡ Some i → slice_get numbers k ≡ Some i → j ≡ k
+  pub named : (i : ℕ) → w.is_correct i ≡ list_any (λ j. j == i) numbers
+  pub each : (k i : ℕ) (rep : Replica S E C) → slice_get numbers k ≡ Some i → slice_get here k ≡ Some rep → IsReplica m w (states_of w es) i rep
+
+-- an item with which serving may begin
+abbrev pub IsFirst : LinkItem → Type 0
+IsFirst (items.Client at conn bytes) = length bytes < 2 ^ 16
+IsFirst item = ⊥
+
+-- serving ended for a reason: the tape took all its events, the link told all its calls, and the replicas stand where these leave them
+pub record Whole {S E C : Type 0} (m : Meaning S E C KeyRow) (w : Setting) (past : List Event) (numbers : List ℕ) (here : List (Replica S E C))
+    (tells : Tells) (base now : Outs) (s : Serving) (acts : List LinkAct) (rule reason : Want) : Type 0 where
+  pub why : rule ≡ reason
+  pub agrees : Agrees tells base now s.events acts
+  pub stand : AreHere m w (so_far past s) numbers here
+
+-- each end
+abbrev pub EndsSo : {S E C : Type 0} → Meaning S E C KeyRow → Setting → List Event → List ℕ → List (Replica S E C) → Tells → Outs → Outs → ServeEnd → Serving → Want → Type 0
+EndsSo m w past numbers here tells base now ends.Done s rule = Whole m w past numbers here tells base now s s.acts rule Finishes
+EndsSo m w past numbers here tells base now ends.Limit s rule = Whole m w past numbers here tells base now s s.acts rule Halts
+EndsSo m w past numbers here tells base now ends.End s rule = Whole m w past numbers here tells base now s (Gives items.End ∷ s.acts) rule Asks
+EndsSo m w past numbers here tells base now ends.LinkFault s rule = Stops tells base now faults.Link s.events s.acts
+EndsSo m w past numbers here tells base now ends.TapeFault s rule = Stops tells base now faults.Tape s.events s.acts
+EndsSo m w past numbers here tells base now ends.Mem s rule = Stops tells base now faults.Mem s.events s.acts
+
+-- There are rounds, each what the rules said, after which serving ended so. The items that these took are those that the link gave.
+pub record Serves {S E C : Type 0} (m : Meaning S E C KeyRow) (w : Setting) (past : List Event) (numbers : List ℕ) (here : List (Replica S E C))
+    (tells : Tells) (base now : Outs) (end : ServeEnd) (until limit : ℕ) (first : List LinkItem) : Type 0 where
+  pub rounds : List Round
+  pub wanted : AreWanted w past until limit first rounds
+  pub so : EndsSo m w past numbers here tells base now end (after w past first rounds) (wants w past until limit (after w past first rounds))

@@ -1,0 +1,141 @@
+-- What serving does: which calls it makes on the replicas of a world that are here, its correct ones, and which frames and replies the
+-- link is given. Lists of events, of the link's calls and of rounds have the newest first.
+use Rattle.std.specs.Prelude.{◌≡◌, ℕ, ◌+◌, Bool, true, false, not, ◌&&◌, ◌==◌, List, [], ◌∷◌, ◌++◌, length, map, filter, reverse, Option, Some, None, nat_le, if◌then◌else◌}
+use Rattle.std.specs.List.{list_all}
+use Rattle.ritas_base.specs.declared.event.Event.{Event}
+use Rattle.ritas_base.specs.declared.event.Event.TheVariants as events
+use Rattle.ritas_base.specs.declared.item.Item.{Item}
+use Rattle.ritas_base.specs.History.{replicas}
+use Rattle.outside.specs.declared.link.LinkItem.{LinkItem}
+use Rattle.outside.specs.declared.link.LinkItem.TheVariants.{End}
+use Rattle.outside.specs.Links.{LinkAct, Gives, Sends, Replies}
+use Rattle.world_model.specs.World.{Setting, states_of, states_before, call_of}
+use Rattle.world_model.specs.MadeOrder.{MadeFrame, frames_in}
+use Rattle.world_model.specs.Agree.{rows_at}
+use Rattle.node_loop.specs.Waiting.{Waiting, nobody}
+use Rattle.node_loop.specs.Calls.{Outcome, called, item_does, first_does}
+
+-- The items with which serving begins that weren't taken up yet; who waits; how many items of the link were taken; and, since it began,
+-- the events and the link's calls.
+pub record Serving : Type 0 where
+  pub left : List LinkItem
+  pub waiting : Waiting
+  pub taken : ℕ
+  pub events : List Event
+  pub acts : List LinkAct
+
+abbrev pub begin : List LinkItem → Serving
+begin first = record { left = first; waiting = nobody; taken = 0; events = []; acts = [] }
+
+-- all events, with those before it began
+abbrev pub so_far : List Event → Serving → List Event
+so_far past s = s.events ++ past
+
+-- ---- what goes out
+
+abbrev pub as_sent : MadeFrame → LinkAct
+as_sent f = Sends (record { at = f.from; to = f.to; bytes = f.bytes })
+
+-- the frames that the call of an event made are sent, in their order
+abbrev pub sent_by : Setting → List Event → Option Event → List LinkAct
+sent_by w es None = []
+sent_by w es (Some e) = map as_sent (frames_in (length es) w (states_before w es) (call_of w (states_before w es) e))
+
+-- the event of a call, onto those before it
+abbrev pub onto : Option Event → List Event → List Event
+onto None es = es
+onto (Some e) es = e ∷ es
+
+-- what came of an item or a turn joins the rest: its event, its frames, and then its replies
+abbrev pub with_outcome : Setting → List Event → Outcome → Serving → Serving
+with_outcome w past did s = record s {
+  waiting = did.waiting;
+  events = onto did.event s.events;
+  acts = reverse (map Replies did.replies) ++ (reverse (sent_by w (so_far past s) did.event) ++ s.acts);
+}
+
+-- ---- the rules
+
+-- what it does next: it takes up one of its first items, ends as done, takes a turn at a replica, ends at its limit, or asks the link
+pub data Want : Type 0 where
+  Begins : LinkItem → Want
+  Finishes : Want
+  Turns : ℕ → Want
+  Halts : Want
+  Asks : Want
+
+-- the replicas here
+abbrev pub here : Setting → List ℕ
+here w = filter w.is_correct (replicas w.numbers.n)
+
+-- each log has so many rows, if that isn't 0
+abbrev pub is_done : Setting → ℕ → List Event → Bool
+is_done w until es = not (until == 0) && list_all (λ i. nat_le until (length (rows_at w es i))) (here w)
+
+abbrev pub is_busy : List Item → Bool
+is_busy [] = false
+is_busy (item ∷ inbox) = true
+
+-- the replicas here at which an item waits, in order
+abbrev pub busy : Setting → List Event → List ℕ
+busy w es = filter (λ i. is_busy (states_of w es i).inbox) (here w)
+
+-- a turn at the first of these, or else this
+abbrev pub turn_or : List ℕ → Want → Want
+turn_or [] other = other
+turn_or (i ∷ is) other = Turns i
+
+abbrev pub wants_of : Setting → ℕ → ℕ → List Event → ℕ → Want
+wants_of w until limit es taken =
+    if is_done w until es then Finishes else turn_or (busy w es) (if nat_le limit taken then Halts else Asks)
+
+abbrev pub first_or : List LinkItem → Want → Want
+first_or [] other = other
+first_or (item ∷ left) other = Begins item
+
+-- for so many rows in each log and so many items of the link
+abbrev pub wants : Setting → List Event → ℕ → ℕ → Serving → Want
+wants w past until limit s = first_or s.left (wants_of w until limit (so_far past s) s.taken)
+
+-- ---- rounds
+
+-- one of the first items was taken up, a turn was taken at a replica, or an item of the link was
+pub data Round : Type 0 where
+  Began : LinkItem → Round
+  Turned : ℕ → Round
+  Took : LinkItem → Round
+
+abbrev pub behind_first : List LinkItem → List LinkItem
+behind_first [] = []
+behind_first (item ∷ left) = left
+
+-- the item is taken up
+abbrev pub began : Serving → Serving
+began s = record s { left = behind_first s.left }
+
+-- the link gave it
+abbrev pub gave : LinkItem → Serving → Serving
+gave item s = record s { taken = s.taken + 1; acts = Gives item ∷ s.acts }
+
+abbrev pub round_does : Setting → List Event → Round → Serving → Serving
+round_does w past (Began item) s = with_outcome w past (first_does w (so_far past s) item s.waiting) (began s)
+round_does w past (Turned i) s = with_outcome w past (called w (so_far past s) i (events.Turn i) s.waiting) s
+round_does w past (Took item) s = with_outcome w past (item_does w (so_far past s) item s.waiting) (gave item s)
+
+-- what stands after these rounds, of serving that begins with these items
+abbrev pub after : Setting → List Event → List LinkItem → List Round → Serving
+after w past first [] = begin first
+after w past first (x ∷ xs) = round_does w past x (after w past first xs)
+
+-- the round is what the rules say: the end of the link is taken in none
+abbrev pub IsWanted : Want → Round → Type 0
+IsWanted (Begins item) (Began taken) = item ≡ taken
+IsWanted (Turns i) (Turned j) = i ≡ j
+IsWanted Asks (Took item) = item ≡ End → ⊥
+IsWanted want round = ⊥
+
+-- each round was
+abbrev pub AreWanted : Setting → List Event → ℕ → ℕ → List LinkItem → List Round → Type 0
+AreWanted w past until limit first [] = Unit {0}
+AreWanted w past until limit first (x ∷ xs) =
+    IsWanted (wants w past until limit (after w past first xs)) x × AreWanted w past until limit first xs

@@ -1,0 +1,131 @@
+//! Calls on the replicas that are served.
+use crate::enter::enter_rows;
+use crate::house::House;
+use crate::output::Output;
+use crate::refusals::refusal_number;
+use layer_api::{Broadcast, Service};
+use replica::OutFrame;
+use ritas_base::{Coin, Event, Mem};
+use std::alloc::Global;
+
+impl<S: Service, E: Broadcast, C: Coin + Drop> House<S, E, C> {
+    ghost use Rattle.std.specs.Prelude.{◌≡◌, ℕ, ◌∷◌, ◌++◌, List, true, length, map, Some, IfSome, IfOk, OnOk};
+    ghost use Rattle.std.specs.List.{slice_get};
+    ghost use Rattle.ritas_base.specs.declared.event.Event.{Event};
+    ghost use Rattle.ritas_base.specs.declared.event.Event.TheVariants.{Turn};
+    ghost use Rattle.replica.specs.Replica.{with_keys};
+    ghost use Rattle.schedule_file.specs.Spelling.{IsAlone, IsSized};
+    ghost use Rattle.world_model.specs.World.{Setting, seen_of};
+    ghost use Rattle.world_model.specs.Agree.{rows_at};
+    ghost use Rattle.node_loop.specs.Waiting.{Waiting};
+    ghost use Rattle.node_loop.specs.Calls.{called, refusal_in, left_by, replies_by};
+    ghost use Rattle.node_loop.specs.Serving.{sent_by};
+    ghost use Rattle.node_loop.specs.Served.{AreHere};
+    ghost use Rattle.node_loop.specs.Standing.{HouseStands, Comes, IsClear, frame_by, reply_by};
+
+    /// How many rows the log of the replica at a place has.
+    pub(crate) fn rows_at(&self, place: usize) -> u32
+        ensures { let m = with_keys S.stands S.rules S.shown E.stands E.rules E.shown C.bits in
+            (w : Setting) (es : List Event) (numbers : List ℕ) (at : ℕ) → AreHere m w es numbers self.now.replicas.items → slice_get numbers place ≡ Some at
+            → result ≡ length (rows_at w es at) }
+    {
+        match self.replicas.get(place) {
+            Some(replica) => replica.log().len(),
+            None => 0,
+        }
+    }
+
+    /// Makes the call that an event is on the replica at a place, and answers the number of the fault with which it is refused, if it
+    /// is. The one error is want of memory.
+    pub(crate) fn give(
+        &mut self,
+        alloc: Global,
+        place: usize,
+        event: &Event,
+        frames: &mut Vec<OutFrame>,
+    ) -> Result<Option<u32>, Mem>
+        ensures does { let m = with_keys S.stands S.rules S.shown E.stands E.rules E.shown C.bits in
+            (w : Setting) (es : List Event) (numbers : List ℕ) (at : ℕ) → AreHere m w es numbers self.old.replicas.items → slice_get numbers place ≡ Some at
+            → IsAlone at event.now → OnOk result (AreHere m w (event.now ∷ es) numbers self.new.replicas.items
+            × (map (frame_by at) frames.new.items ≡ map (frame_by at) frames.old.items ++ sent_by w es (Some event.now))) }
+        ensures refused { let m = with_keys S.stands S.rules S.shown E.stands E.rules E.shown C.bits in
+            (w : Setting) (es : List Event) (numbers : List ℕ) (at : ℕ) → AreHere m w es numbers self.old.replicas.items → slice_get numbers place ≡ Some at
+            → IsAlone at event.now → IfOk result (λ code. code ≡ refusal_in (seen_of w es event.now)) }
+        ensures waiting { self.new.waiting ≡ self.old.waiting }
+    {
+        let Some(replica) = self.replicas.get_mut(place) else {
+            // There is no such place.
+            return Ok(None);
+        };
+        let answer = match event {
+            Event::Frame { bytes, .. } => replica.on_frame(alloc, bytes.as_slice(), frames),
+            Event::Input { bytes, .. } => replica.on_input(alloc, bytes.as_slice(), frames),
+            Event::Turn { .. } => replica.on_turn(alloc, frames),
+            // No other event is a call on one replica alone.
+            _ => return Ok(None),
+        };
+        refusal_number(answer)
+    }
+
+    /// The rows that came into the log of the replica at a place, behind the first so many.
+    pub(crate) fn enter(
+        &mut self,
+        alloc: Global,
+        place: usize,
+        count: u32,
+        output: &mut Output,
+    ) -> Result<(), Mem>
+        ensures enters { let m = with_keys S.stands S.rules S.shown E.stands E.rules E.shown C.bits in
+            (w : Setting) (es : List Event) (numbers : List ℕ) (ws : Waiting) → HouseStands m w es numbers self.old ws → slice_get numbers place ≡ Some output.old.at
+            → OnOk result (HouseStands m w es numbers self.new (left_by output.old.at count (rows_at w es output.old.at) ws)
+            × (map (reply_by output.old.at) output.new.replies.items
+            ≡ map (reply_by output.old.at) output.old.replies.items ++ replies_by output.old.at count (rows_at w es output.old.at) ws)) }
+        ensures same { (output.new.at ≡ output.old.at) × (output.new.event ≡ output.old.event) × (output.new.frames ≡ output.old.frames) }
+    {
+        match self.replicas.get(place) {
+            Some(replica) => enter_rows(
+                alloc,
+                &mut self.waiting,
+                output.at,
+                replica.log(),
+                count,
+                &mut output.replies,
+            ),
+            None => Ok(()),
+        }
+    }
+
+    /// An event at the replica at a place, which is a frame or a turn. The one error is want of memory.
+    pub(crate) fn call(
+        &mut self,
+        alloc: Global,
+        place: usize,
+        event: Event,
+        output: &mut Output,
+    ) -> Result<(), Mem>
+        ensures comes { let m = with_keys S.stands S.rules S.shown E.stands E.rules E.shown C.bits in
+            (w : Setting) (es : List Event) (numbers : List ℕ) (ws : Waiting) → HouseStands m w es numbers self.old ws → slice_get numbers place ≡ Some output.old.at
+            → IsAlone output.old.at event → IsClear output.old
+            → OnOk result (Comes m w es numbers self.new output.new (called w es output.old.at event ws)) }
+        ensures sized { IsSized event → OnOk result (IfSome output.new.event IsSized) }
+    {
+        let count = self.rows_at(place);
+        self.give(alloc, place, &event, &mut output.frames)?;
+        output.event = Some(event);
+        self.enter(alloc, place, count, output)
+    }
+
+    /// A turn at a replica. The one error is want of memory.
+    pub(crate) fn turn(&mut self, alloc: Global, at: u8, output: &mut Output) -> Result<(), Mem>
+        ensures comes { let m = with_keys S.stands S.rules S.shown E.stands E.rules E.shown C.bits in
+            (w : Setting) (es : List Event) (numbers : List ℕ) (ws : Waiting) → HouseStands m w es numbers self.old ws → w.is_correct at ≡ true
+            → OnOk result (Comes m w es numbers self.new output.new (called w es at (Turn at) ws)) }
+        ensures sized { OnOk result (IfSome output.new.event IsSized) }
+    {
+        output.clear(at);
+        match self.place_of(at) {
+            Some(place) => self.call(alloc, place, Event::Turn { at }, output),
+            None => Ok(()),
+        }
+    }
+}

@@ -1,0 +1,75 @@
+//! The rows that come into a replica's log, and those who waited for them.
+ghost use Rattle.std.specs.Prelude.{◌≡◌, ◌++◌, ◌∷◌, ◌<◌, length, map, OnOk, Some};
+ghost use Rattle.client_port.specs.Messages.{position_reply};
+ghost use Rattle.command_log.specs.Rows.{Row, row_at};
+ghost use Rattle.node_loop.specs.Waiting.{Waiting, without};
+ghost use Rattle.node_loop.specs.Calls.{asked_by, left_by, replies_by, reply_each};
+ghost use Rattle.node_loop.specs.Standing.{IsWaiting, reply_by};
+
+use crate::output::Reply;
+use crate::waiting::{Asked, Waiters};
+use client_port::write_reply;
+use command_log::{Log, LogRow};
+use ritas_base::Mem;
+use std::alloc::Global;
+
+// Replies so to each of these connections.
+fn reply_each(conns: &[Option<u32>], bytes: [u8; 13], replies: &mut Vec<Reply>) -> Result<(), Mem>
+    ensures { (at : _) → OnOk result (map (reply_by at) replies.new.items ≡ map (reply_by at) replies.old.items ++ reply_each at bytes conns.now) }
+{
+    for conn in conns {
+        if let Some(conn) = *conn {
+            replies.push(Reply { conn, bytes })?;
+        }
+    }
+    Ok(())
+}
+
+// The row at a position comes in at a replica: all that waited for it are replied to.
+fn enter_row(
+    alloc: Global,
+    waiting: &mut Waiters,
+    at: u8,
+    row: &LogRow,
+    position: u32,
+    replies: &mut Vec<Reply>,
+) -> Result<(), Mem>
+    ensures { (ws : Waiting) → IsWaiting waiting.old ws → OnOk result
+        (IsWaiting waiting.new (without (asked_by at row.now) ws)
+        × (map (reply_by at) replies.new.items ≡ map (reply_by at) replies.old.items
+        ++ reply_each at (position_reply row.now.client row.now.request position) (ws (asked_by at row.now)))) }
+{
+    let asked = Asked {
+        at,
+        client: row.client,
+        request: row.request,
+    };
+    let conns = waiting.take(alloc, asked);
+    reply_each(
+        conns.as_slice(),
+        write_reply(row.client, row.request, position),
+        replies,
+    )
+}
+
+/// The rows of a replica's log behind the first so many come in: all that waited for them are replied their positions, and don't wait
+/// any more. The one error is want of memory.
+pub(crate) fn enter_rows(
+    alloc: Global,
+    waiting: &mut Waiters,
+    at: u8,
+    log: &Log,
+    count: u32,
+    replies: &mut Vec<Reply>,
+) -> Result<(), Mem>
+    ensures { (ws : Waiting) → IsWaiting waiting.old ws → OnOk result
+        (IsWaiting waiting.new (left_by at count log.now ws)
+        × (map (reply_by at) replies.new.items ≡ map (reply_by at) replies.old.items ++ replies_by at count log.now ws)) }
+{
+    for position in count..log.len() {
+        if let Some(row) = log.row(position) {
+            enter_row(alloc, waiting, at, row, position, replies)?;
+        }
+    }
+    Ok(())
+}

@@ -1,0 +1,50 @@
+//! What serving keeps to, whatever the link gives.
+ghost use Rattle.world_model.specs.CoreLaws.{CoreLaws};
+ghost use Rattle.node_loop.specs.Laws.{OneRun, OnlyGrows, FramesAreMade, RepliesAreTrue};
+
+use layer_api::{Broadcast, Service};
+
+/// Serving is a function of its first items and of those that the link gives: of two runs over one list of items, each as far as it
+/// came, the rounds of the one are the first of the other's.
+///
+/// It does nothing: its contract is the law.
+pub fn one_run()
+    ensures { OneRun }
+{}
+
+/// More rounds only add to the events and to the calls of the link. So what a fault left is a front of what would have come.
+///
+/// It does nothing: its contract is the law.
+pub fn only_grows()
+    ensures { OnlyGrows }
+{}
+
+/// The frames that the link was given are those that the calls of the events made, in their order, and no others.
+///
+/// It does nothing: its contract is the law.
+pub fn frames_are_made()
+    ensures { FramesAreMade }
+{}
+
+// The laws of the core and of inputs, on which it rests that logs only grow.
+//
+// It does nothing: its contract is the laws.
+fn core_laws()
+    ensures { CoreLaws }
+{
+    ritas_core::history_laws();
+    ritas_core::entry_laws();
+    ritas_core::verdict_laws();
+    frame_codec::right_input();
+}
+
+/// A reply that gives a position gives the one that the request has in the log of the replica which replies, and which it keeps there.
+///
+/// It does nothing: its contract is the law.
+pub fn replies_are_true<S: Service, E: Broadcast>()
+    ensures { RepliesAreTrue S.rules E.rules }
+{
+    keyed_channel::opened_from_peer();
+    frame_codec::spelled();
+    core_laws();
+}

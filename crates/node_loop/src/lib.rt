@@ -1,0 +1,27 @@
+//! Serving: replicas, a link between them and others, and a tape on which each call is an event.
+//!
+//! The replicas that are served are the correct ones of a world, and what is served is a schedule of that world: each frame that the
+//! link gives, each message of a client that is submitted, and each turn is an event (`specs/Serving.antt`). So what the laws of
+//! worlds say of schedules holds of what was served, and the tape, with a header, is a schedule file that can be replayed.
+//!
+//! `serve` takes the link's items one after the other, by the rules that stand at it; `specs/Calls.antt` says what comes of each. The
+//! items determine all that it does (`one_run`), and what a fault leaves is a front of it (`only_grows`).
+#![tactic(auto)]
+
+mod asks;
+mod calls;
+mod deliver;
+mod end;
+mod enter;
+mod house;
+mod laws;
+mod output;
+mod refusals;
+mod rounds;
+#[cfg(test)]
+mod tests;
+mod waiting;
+
+pub use end::ServeEnd;
+pub use laws::{frames_are_made, one_run, only_grows, replies_are_true};
+pub use rounds::serve;

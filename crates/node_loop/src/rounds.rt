@@ -1,0 +1,302 @@
+//! Serving, round by round.
+ghost use Rattle.std.specs.Prelude.{◌≡◌, ◌↔◌, ℕ, ◌<◌, List, [], true, All, IsTrue};
+ghost use Rattle.ritas_base.specs.declared.event.Event.{Event};
+ghost use Rattle.outside.specs.declared.link.LinkItem.{LinkItem};
+ghost use Rattle.replica.specs.Replica.{with_keys};
+ghost use Rattle.world_model.specs.World.{Setting};
+ghost use Rattle.node_loop.specs.Waiting.{nobody};
+ghost use Rattle.node_loop.specs.Serving.{Serving, so_far, wants_of, Turned, round_does};
+ghost use Rattle.node_loop.specs.Outs.{Outs, Agrees};
+ghost use Rattle.node_loop.specs.Standing.{HouseStands};
+ghost use Rattle.node_loop.specs.Served.{AreHere, IsFirst, Serves};
+ghost use Rattle.node_loop.specs.Running.{Running, RanRound, Goes, AskedLink, BeganAll, IsNext, IsEndOf};
+
+use crate::deliver::{deliver, fault_of};
+use crate::end::{Fault, ServeEnd};
+use crate::house::House;
+use crate::output::Output;
+use layer_api::{Broadcast, Service};
+use outside::{Link, LinkItem, Sink};
+use replica::Replica;
+use ritas_base::{Coin, Mem};
+use std::alloc::Global;
+use std::net::Net;
+use std::sync::Wait;
+
+/// What is done next.
+#[derive(Clone, Copy, Debug)]
+pub(crate) enum Next {
+    Finish,
+    Turn(u8),
+    Halt,
+    Ask,
+}
+
+/// For how long it is served: to so many rows in each log, if that isn't 0, and to so many items of the link.
+#[derive(Clone, Copy, Debug)]
+pub(crate) struct Bounds {
+    pub until: u32,
+    pub limit: u64,
+}
+
+// What the rules say, where so many items of the link were taken.
+fn next_of<S: Service, E: Broadcast, C: Coin + Drop>(
+    house: &House<S, E, C>,
+    bounds: Bounds,
+    taken: u64,
+) -> Next
+    ensures room { result ≡ Next.Ask → taken < bounds.limit }
+    ensures next { let m = with_keys S.stands S.rules S.shown E.stands E.rules E.shown C.bits in
+        (w : Setting) (es : List Event) (numbers : List ℕ) → AreHere m w es numbers house.now.replicas.items
+        → IsNext (wants_of w bounds.until bounds.limit es taken) result }
+{
+    if house.is_done(bounds.until) {
+        Next::Finish
+    } else if let Some(at) = house.least_busy() {
+        Next::Turn(at)
+    } else if taken >= bounds.limit {
+        Next::Halt
+    } else {
+        Next::Ask
+    }
+}
+
+// The end that a fault is.
+fn end_of(fault: Fault) -> ServeEnd
+    ensures { IsEndOf fault result }
+{
+    match fault {
+        Fault::Link => ServeEnd::LinkFault,
+        Fault::Tape => ServeEnd::TapeFault,
+        Fault::Mem => ServeEnd::Mem,
+    }
+}
+
+// Takes a turn at a replica.
+fn turn<R: Net + Wait, S: Service, E: Broadcast, C: Coin + Drop, L: Link, K: Sink>(
+    rt: &R,
+    alloc: Global,
+    house: &mut House<S, E, C>,
+    link: &mut L,
+    tape: &mut K,
+    at: u8,
+    output: &mut Output,
+) -> Result<(), Fault>
+    ensures { let m = with_keys S.stands S.rules S.shown E.stands E.rules E.shown C.bits in
+        (w : Setting) (past : List Event) (numbers : List ℕ) (base : Outs) (s : Serving) → HouseStands m w (so_far past s) numbers house.old s.waiting
+        → Agrees (record { tape = K.tells; link = L.tells }) base
+        (record { taken = K.taken tape.old; tape_faults = K.faults tape.old; told = L.told link.old; link_faults = L.faults link.old }) s.events s.acts
+        → w.is_correct at ≡ true
+        → Goes m w past numbers house.new (record { tape = K.tells; link = L.tells }) base
+        (record { taken = K.taken tape.new; tape_faults = K.faults tape.new; told = L.told link.new; link_faults = L.faults link.new })
+        result (round_does w past (Turned at) s) }
+{
+    match house.turn(alloc, at, output) {
+        Ok(()) => deliver(rt, alloc, link, tape, output),
+        Err(Mem) => Err(Fault::Mem),
+    }
+}
+
+// Whether an item is the link's end.
+fn is_end(item: &LinkItem) -> bool
+    ensures { IsTrue result ↔ (item.now ≡ LinkItem.End) }
+{
+    match item {
+        LinkItem::End => true,
+        LinkItem::Frame { .. } => false,
+        LinkItem::Client { .. } => false,
+        LinkItem::Reply { .. } => false,
+        LinkItem::Down { .. } => false,
+    }
+}
+
+// Takes the link's next item, and answers whether there is one.
+fn ask_link<R: Net + Wait, S: Service, E: Broadcast, C: Coin + Drop, L: Link, K: Sink>(
+    rt: &R,
+    alloc: Global,
+    house: &mut House<S, E, C>,
+    link: &mut L,
+    tape: &mut K,
+    output: &mut Output,
+) -> Result<bool, Fault>
+    ensures { let m = with_keys S.stands S.rules S.shown E.stands E.rules E.shown C.bits in
+        (w : Setting) (past : List Event) (numbers : List ℕ) (base : Outs) (s : Serving) → HouseStands m w (so_far past s) numbers house.old s.waiting
+        → Agrees (record { tape = K.tells; link = L.tells }) base
+        (record { taken = K.taken tape.old; tape_faults = K.faults tape.old; told = L.told link.old; link_faults = L.faults link.old }) s.events s.acts
+        → AskedLink m w past numbers house.new (record { tape = K.tells; link = L.tells }) base
+        (record { taken = K.taken tape.new; tape_faults = K.faults tape.new; told = L.told link.new; link_faults = L.faults link.new })
+        result s }
+{
+    let item = match link.next(rt, alloc) {
+        Ok(item) => item,
+        Err(fault) => return Err(fault_of(fault)),
+    };
+    if is_end(&item) {
+        return Ok(false);
+    }
+    match house.take(alloc, item, output) {
+        Ok(()) => {}
+        Err(Mem) => return Err(Fault::Mem),
+    }
+    match deliver(rt, alloc, link, tape, output) {
+        Ok(()) => Ok(true),
+        Err(fault) => Err(fault),
+    }
+}
+
+// One round, unless serving ends.
+fn run_round<R: Net + Wait, S: Service, E: Broadcast, C: Coin + Drop, L: Link, K: Sink>(
+    rt: &R,
+    alloc: Global,
+    house: &mut House<S, E, C>,
+    link: &mut L,
+    tape: &mut K,
+    bounds: Bounds,
+    taken: &mut u64,
+    output: &mut Output,
+) -> Result<(), ServeEnd>
+    ensures { let m = with_keys S.stands S.rules S.shown E.stands E.rules E.shown C.bits in
+        (w : Setting) (past : List Event) (numbers : List ℕ) (base : Outs) (first : List LinkItem)
+        → Running m w past numbers house.old (record { tape = K.tells; link = L.tells }) base
+        (record { taken = K.taken tape.old; tape_faults = K.faults tape.old; told = L.told link.old; link_faults = L.faults link.old })
+        taken.old bounds.until bounds.limit first []
+        → RanRound m w past numbers house.new (record { tape = K.tells; link = L.tells }) base
+        (record { taken = K.taken tape.new; tape_faults = K.faults tape.new; told = L.told link.new; link_faults = L.faults link.new })
+        taken.new bounds.until bounds.limit first result }
+{
+    match next_of(house, bounds, *taken) {
+        Next::Finish => Err(ServeEnd::Done),
+        Next::Turn(at) => match turn(rt, alloc, house, link, tape, at, output) {
+            Ok(()) => Ok(()),
+            Err(fault) => Err(end_of(fault)),
+        },
+        Next::Halt => Err(ServeEnd::Limit),
+        Next::Ask => match ask_link(rt, alloc, house, link, tape, output) {
+            Ok(true) => {
+                *taken += 1;
+                Ok(())
+            }
+            Ok(false) => Err(ServeEnd::End),
+            Err(fault) => Err(end_of(fault)),
+        },
+    }
+}
+
+// Rounds, until serving ends. It waits in the calls of the link alone; but nothing says that turns ever end.
+fn go_on<R: Net + Wait, S: Service, E: Broadcast, C: Coin + Drop, L: Link, K: Sink>(
+    rt: &R,
+    alloc: Global,
+    house: &mut House<S, E, C>,
+    link: &mut L,
+    tape: &mut K,
+    bounds: Bounds,
+    output: &mut Output,
+) -> ServeEnd
+    ensures { let m = with_keys S.stands S.rules S.shown E.stands E.rules E.shown C.bits in
+        (w : Setting) (past : List Event) (numbers : List ℕ) (base : Outs) (first : List LinkItem)
+        → Running m w past numbers house.old (record { tape = K.tells; link = L.tells }) base
+        (record { taken = K.taken tape.old; tape_faults = K.faults tape.old; told = L.told link.old; link_faults = L.faults link.old })
+        0 bounds.until bounds.limit first []
+        → Serves m w past numbers house.new.replicas.items (record { tape = K.tells; link = L.tells }) base
+        (record { taken = K.taken tape.new; tape_faults = K.faults tape.new; told = L.told link.new; link_faults = L.faults link.new })
+        result bounds.until bounds.limit first }
+{
+    let mut taken = 0;
+    for _ in rt.forever() {
+        match run_round(rt, alloc, house, link, tape, bounds, &mut taken, output) {
+            Ok(()) => {}
+            Err(end) => return end,
+        }
+    }
+    unreachable!()
+}
+
+// The items with which serving begins, in their order.
+fn begin<R: Net + Wait, S: Service, E: Broadcast, C: Coin + Drop, L: Link, K: Sink>(
+    rt: &R,
+    alloc: Global,
+    house: &mut House<S, E, C>,
+    link: &mut L,
+    tape: &mut K,
+    first: &[LinkItem],
+    output: &mut Output,
+) -> Result<(), Fault>
+    requires { All IsFirst first.now }
+    ensures { let m = with_keys S.stands S.rules S.shown E.stands E.rules E.shown C.bits in
+        (w : Setting) (past : List Event) (numbers : List ℕ) (base : Outs) (until limit : ℕ)
+        → HouseStands m w past numbers house.old nobody → Agrees (record { tape = K.tells; link = L.tells }) base (record { taken = K.taken tape.old; tape_faults = K.faults tape.old; told = L.told link.old; link_faults = L.faults link.old }) [] []
+        → BeganAll m w past numbers house.new (record { tape = K.tells; link = L.tells }) base (record { taken = K.taken tape.new; tape_faults = K.faults tape.new; told = L.told link.new; link_faults = L.faults link.new }) until limit first.now result }
+{
+    for item in first {
+        match house.begin(alloc, item, output) {
+            Ok(()) => {}
+            Err(Mem) => return Err(Fault::Mem),
+        }
+        match deliver(rt, alloc, link, tape, output) {
+            Ok(()) => {}
+            Err(fault) => return Err(fault),
+        }
+    }
+    Ok(())
+}
+
+// Serves the replicas of a house.
+fn serve_house<R: Net + Wait, S: Service, E: Broadcast, C: Coin + Drop, L: Link, K: Sink>(
+    rt: &R,
+    alloc: Global,
+    house: &mut House<S, E, C>,
+    link: &mut L,
+    tape: &mut K,
+    bounds: Bounds,
+    first: &[LinkItem],
+) -> ServeEnd
+    requires { All IsFirst first.now }
+    ensures { let m = with_keys S.stands S.rules S.shown E.stands E.rules E.shown C.bits in
+        (w : Setting) (past : List Event) (numbers : List ℕ) → HouseStands m w past numbers house.old nobody
+        → Serves m w past numbers house.new.replicas.items (record { tape = K.tells; link = L.tells }) (record { taken = K.taken tape.old; tape_faults = K.faults tape.old; told = L.told link.old; link_faults = L.faults link.old }) (record { taken = K.taken tape.new; tape_faults = K.faults tape.new; told = L.told link.new; link_faults = L.faults link.new }) result bounds.until bounds.limit first.now }
+{
+    let mut output = Output::new(alloc);
+    match begin(rt, alloc, house, link, tape, first, &mut output) {
+        Ok(()) => go_on(rt, alloc, house, link, tape, bounds, &mut output),
+        Err(fault) => end_of(fault),
+    }
+}
+
+/// Serves these replicas: first the items of `first`, in order, which get no reply and don't count, and then those that the link
+/// gives. Again and again, the first of these that applies is done:
+///
+/// 1. It ends with `Done` where `until` isn't 0 and every log has at least that many rows.
+/// 2. A turn is taken at the least replica whose inbox isn't empty, if there is one.
+/// 3. It ends with `Limit` where `limit` items of the link were taken.
+/// 4. The link's next item is taken; it ends with `End` where that is the link's end.
+///
+/// A frame for a replica that is here is a call of its `on_frame`; a client's message is answered or submitted (`specs/Calls.antt`).
+/// Each call is an event, which goes to the tape before the call's frames go to the link, and these go before its replies. It ends
+/// with `LinkFault` or `TapeFault` at the first call of that which fails, only where the count of faults rose, and with `Mem` at the
+/// first that is without memory, also of a replica. It waits nowhere but in the link's calls; nothing says that turns ever end.
+///
+/// The replicas have different numbers, each is `live` and of root service 6. The tape has its header already.
+pub fn serve<R: Net + Wait, S: Service, E: Broadcast, C: Coin + Drop, L: Link, K: Sink>(
+    rt: &R,
+    alloc: Global,
+    replicas: &mut Vec<Replica<S, E, C>>,
+    link: &mut L,
+    tape: &mut K,
+    limit: u64,
+    until: u32,
+    first: &Vec<LinkItem>,
+) -> ServeEnd
+    requires { All IsFirst first.now.items }
+    ensures { let m = with_keys S.stands S.rules S.shown E.stands E.rules E.shown C.bits in
+        (w : Setting) (past : List Event) (numbers : List ℕ) → AreHere m w past numbers replicas.old.items
+        → Serves m w past numbers replicas.new.items (record { tape = K.tells; link = L.tells })
+        (record { taken = K.taken tape.old; tape_faults = K.faults tape.old; told = L.told link.old; link_faults = L.faults link.old })
+        (record { taken = K.taken tape.new; tape_faults = K.faults tape.new; told = L.told link.new; link_faults = L.faults link.new })
+        result until limit first.now.items }
+{
+    let mut house = House::new(alloc, std::mem::replace(replicas, Vec::new(alloc)));
+    let bounds = Bounds { until, limit };
+    let end = serve_house(rt, alloc, &mut house, link, tape, bounds, first.as_slice());
+    *replicas = house.replicas;
+    end
+}
