@@ -1,4 +1,4 @@
-ghost use Rattle.std.specs.Prelude.{◌≡◌, ◌<◌, ◌≤◌, length};
+ghost use Rattle.std.specs.Prelude.{◌≡◌, ◌<◌, ◌≤◌, ℕ, List, length, take};
 ghost use Rattle.keyed_channel.specs.KeyRow.{IsKeyRow, filled_row, key_with};
 ghost use Rattle.keyed_channel.specs.Keyed.{pair_key, dealt_keys, dealt, tags_of};
 
@@ -117,6 +117,14 @@ impl Keys {
         ensures row { IsKeyRow self.now }
     {
         self.session
+    }
+
+    /// The keys that it shares with replicas 0 to n - 1, in their order.
+    pub fn row(&self) -> &[[u8; 32]]
+        ensures value { result.now ≡ take self.now.n self.now.row }
+        ensures given { (keys : List (List ℕ)) → length keys ≡ self.now.n → self.now.row ≡ filled_row keys → result.now ≡ keys }
+    {
+        &self.row[..self.n as usize]
     }
 
     // The key that is shared with replica j.
