@@ -16,7 +16,7 @@
 //! for which lists of calls it stands, and what is answered after each of them. Who sent a reply the caller tells, as its
 //! connection does; nothing here is tagged.
 //!
-//! No call takes memory.
+//! No call but `write_request` takes memory.
 #![tactic(auto)]
 
 mod laws;
@@ -29,5 +29,5 @@ mod votes;
 
 pub use laws::{position_is_true, replies_are_read, requests_are_read};
 pub use reply::{write_refusal, write_reply};
-pub use request::{RequestView, read_request};
+pub use request::{RequestView, read_request, write_request};
 pub use votes::{ReplyFault, Votes};

@@ -1,7 +1,9 @@
-ghost use Rattle.std.specs.Prelude.{◌≡◌, ◌<◌, ◌⊎◌, ◌↔◌, length, Some, None, MatchOption};
-ghost use Rattle.client_port.specs.Messages.{request_in};
+ghost use Rattle.std.specs.Prelude.{◌≡◌, ◌<◌, ◌⊎◌, ◌↔◌, length, Some, None, MatchOption, IfOk};
+ghost use Rattle.client_port.specs.Messages.{request_in, request_bytes};
 
 use crate::number::number_at;
+use ritas_base::{Bytes, Mem};
+use std::alloc::Global;
 
 // The bytes of the client's number and of the request's.
 const LEAST_LEN: usize = 8;
@@ -38,4 +40,16 @@ pub fn read_request(bytes: &[u8]) -> Option<RequestView<'_>>
         request: number_at(bytes, 4),
         payload: &bytes[LEAST_LEN..],
     })
+}
+
+/// The message of a request: the two numbers, of four bytes each, the most significant first, and the payload behind them. The one
+/// error is want of memory.
+pub fn write_request(alloc: Global, client: u32, request: u32, payload: &[u8]) -> Result<Bytes, Mem>
+    ensures { IfOk result (λ message. message ≡ request_bytes (record { client = client; request = request; payload = payload.now })) }
+{
+    let mut message = Vec::new(alloc);
+    message.extend_from_slice(&client.to_be_bytes())?;
+    message.extend_from_slice(&request.to_be_bytes())?;
+    message.extend_from_slice(payload)?;
+    Ok(Bytes::from_vec(message))
 }

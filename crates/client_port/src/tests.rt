@@ -16,6 +16,12 @@ fn requests_of_eight_bytes_or_more(rt: HostRuntime) {
 }
 
 #[test]
+fn requests_are_written(rt: HostRuntime) {
+    let message = write_request(rt.alloc(), 7, 1, b"hi").expect(&rt, "memory");
+    assert_eq!(rt; message.as_slice(), HI);
+}
+
+#[test]
 fn replies_of_both_forms(rt: HostRuntime) {
     assert_eq!(rt;
         write_reply(7, 1, 258).as_slice(),
