@@ -31,7 +31,7 @@ channel_of service other w is opens_as_sealed opened_from_peer = record {
 
 -- ---- the world
 -- each slot has the other broadcast, or the reliable one
-values_at : (b : Bool) (other : BroadcastRules) → ValueLaws other → ValueLaws (if b then other else bracha)
+pub values_at : (b : Bool) (other : BroadcastRules) → ValueLaws other → ValueLaws (if b then other else bracha)
 values_at true other values = values
 values_at false other values = value_laws_of_bracha
 

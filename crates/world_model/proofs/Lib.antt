@@ -51,3 +51,5 @@ pub mod Safe
 pub mod Carrying
 pub mod Unforged
 pub mod Short
+pub mod Growing
+pub mod TakenOut

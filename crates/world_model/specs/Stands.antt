@@ -1,9 +1,10 @@
 -- What the value of a world stands for, and what an event does to it.
-use Rattle.std.specs.Prelude.{◌≡◌, ℕ, ◌<◌, ◌==◌, ◌&&◌, Bool, true, false, not, List, [], ◌∷◌, length, reverse, Option, Some, None, Result, Ok, Err, ◌⊎◌, if◌then◌else◌}
+use Rattle.std.specs.Prelude.{◌≡◌, ℕ, ◌<◌, ◌==◌, ◌&&◌, Bool, true, false, not, List, [], ◌∷◌, length, filter, reverse, Option, Some, None, Result, Ok, Err, ◌⊎◌, if◌then◌else◌}
 use Rattle.std.specs.List.{slice_get}
 use Rattle.ritas_base.specs.declared.bytes.Mem.{Mem}
 use Rattle.ritas_base.specs.declared.event.Event.{Event}
 use Rattle.ritas_base.specs.declared.mode.Mode.{Mode}
+use Rattle.ritas_base.specs.History.{replicas as numbers_below}
 use Rattle.ritas_base.specs.Members.{has_member}
 use Rattle.ritas_base.specs.Numbers.{Numbers, IsSession}
 use Rattle.keyed_channel.specs.KeyRow.{KeyRow}
@@ -76,6 +77,15 @@ pub record ReplicasStand {S E C : Type 0} (m : Meaning S E C KeyRow) (w : Settin
   pub many : length replicas ≡ w.numbers.n
   pub within : (i : ℕ) → w.is_correct i ≡ true → i < w.numbers.n
   pub each : (i : ℕ) (place : Option (Replica S E C)) → slice_get replicas i ≡ Some place → StandsAt m w states i place
+
+-- the numbers of the correct replicas, in order
+abbrev pub members : Setting → List ℕ
+members w = filter w.is_correct (numbers_below w.numbers.n)
+
+-- these are the correct replicas, in the order of their numbers
+pub record AreMembers {S E C : Type 0} (m : Meaning S E C KeyRow) (w : Setting) (states : ℕ → CoreState) (here : List (Replica S E C)) : Type 0 where
+  pub many : length here ≡ length (members w)
+  pub each : (k i : ℕ) (rep : Replica S E C) → slice_get (members w) k ≡ Some i → slice_get here k ≡ Some rep → IsReplica m w states i rep
 
 -- the frames that one replica made for another, the oldest first
 abbrev pub frames_from : Setting → (ℕ → CoreState) → ℕ → ℕ → List (List ℕ)

@@ -7,7 +7,7 @@ ghost use Rattle.world_model.specs.CoreLaws.{CoreLaws};
 ghost use Rattle.world_model.specs.Agree.{AgreeLaw};
 ghost use Rattle.world_model.specs.Apart.{NoTwoValues, NoTwoRows, NoTwoIdentifierLogs, NoTwoOutcomes, NoTwoDecisions};
 ghost use Rattle.world_model.specs.Stopped.{LostIsTaken, EqualRows, OnePrefix};
-ghost use Rattle.world_model.specs.EveryWorld.{AgreementLaw};
+ghost use Rattle.world_model.specs.EveryWorld.{AgreementLaw, LogsGrow};
 
 use crate::audit::Audit;
 use layer_api::{Broadcast, Service};
@@ -116,4 +116,16 @@ pub fn agreement<S: Service, E: Broadcast>()
     frame_codec::spelled();
     reliable_bcast::one_value();
     agreement_each();
+}
+
+/// In every world with this service and this broadcast beside the reliable one the log of commands of each replica only grows: of more
+/// events it has that of fewer as a prefix, whatever the audit says.
+///
+/// It does nothing: its contract is the law.
+pub fn logs_grow<S: Service, E: Broadcast>()
+    ensures { LogsGrow S.rules E.rules }
+{
+    keyed_channel::opened_from_peer();
+    frame_codec::spelled();
+    core_laws();
 }

@@ -46,6 +46,7 @@ mod player;
 mod rows;
 mod seats;
 mod seen;
+mod standing;
 mod taken;
 #[cfg(test)]
 mod tests;
@@ -56,7 +57,8 @@ pub use audit::Audit;
 pub use counts::Counts;
 pub use faces::{faces_are_replicas, quiet};
 pub use laws::{
-    agreement, agreement_each, never_apart, one_value_each, prefix_holds, stopped_between,
+    agreement, agreement_each, logs_grow, never_apart, one_value_each, prefix_holds,
+    stopped_between,
 };
 pub use order::Made;
 pub use played::forges_nothing;

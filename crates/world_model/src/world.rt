@@ -6,6 +6,7 @@ use crate::made::MadeFrames;
 use crate::order::Made;
 use crate::seats::{Seats, channels};
 use crate::seen::Seen;
+use crate::standing::present;
 use crate::watch::Watch;
 use keyed_channel::Keys;
 use layer_api::{Broadcast, Service};
@@ -38,7 +39,7 @@ impl<S: Service, E: Broadcast, C: Coin + Drop> World<S, E, C> {
     ghost use Rattle.world_model.specs.MadeOrder.{made_of, all_made};
     ghost use Rattle.world_model.specs.Audit.{audit_of};
     ghost use Rattle.world_model.specs.Agree.{Agree};
-    ghost use Rattle.world_model.specs.Stands.{AreKeys, IsWorldOf, IsReplica, frames_from, WorldStands, IsLeft, WorldStopped, is_live, EventDoes};
+    ghost use Rattle.world_model.specs.Stands.{AreKeys, IsWorldOf, IsReplica, AreMembers, frames_from, WorldStands, IsLeft, WorldStopped, is_live, EventDoes};
     ghost use Rattle.ritas_base.specs.Events.{MayHappen};
 
     /// The world of these numbers, mode, correct replicas, and keys and coins of each replica, before any event. The keys
@@ -176,6 +177,16 @@ impl<S: Service, E: Broadcast, C: Coin + Drop> World<S, E, C> {
             Some(place) => place.as_ref(),
             None => None,
         }
+    }
+
+    /// The correct replicas, in their order, without the rest of their world. The one error is want of memory.
+    pub fn into_replicas(self, alloc: Global) -> Result<Vec<Replica<S, E, C>>, Mem>
+        ensures { (w : Setting) (es : List Event)
+            → WorldStands (meaning S.stands S.rules S.shown E.stands E.rules E.shown C.bits (λ k. k.me) tags_of) self w es
+            → IfOk result (λ replicas. AreMembers (meaning S.stands S.rules S.shown E.stands E.rules E.shown C.bits (λ k. k.me) tags_of)
+            w (states_of w es) replicas.items) }
+    {
+        present(alloc, self.replicas)
     }
 
     /// The frames that one replica made for another, the oldest first. A faulty one made none, and none makes frames for
