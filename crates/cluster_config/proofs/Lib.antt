@@ -9,3 +9,4 @@ pub mod KeyRows
 pub mod Walks
 pub mod Entered
 pub mod Listed
+pub mod Ranges

@@ -13,6 +13,7 @@ pub mod Cluster
 pub mod Submit
 pub mod Seen
 pub mod Config
+pub mod Ranges
 pub mod Rows
 pub mod ValueRows
 pub mod TextRows

@@ -1,13 +1,15 @@
 //! What a configuration says, for every text.
-ghost use Rattle.std.specs.Prelude.{◌≡◌, ◌↔◌, ◌<◌, ◌^◌, ℕ, List, Some};
+ghost use Rattle.std.specs.Prelude.{◌≡◌, ◌↔◌, ◌<◌, ◌^◌, ℕ, List, Some, Ok};
 ghost use Rattle.std.specs.Fmt.{decimal};
 ghost use Rattle.cluster_config.specs.Values.{numeral};
-ghost use Rattle.cluster_config.specs.Columns.{IsReadRight};
+ghost use Rattle.cluster_config.specs.Columns.{IsReadRight, read_text};
 ghost use Rattle.cluster_config.specs.Drive.{drive_column};
 ghost use Rattle.cluster_config.specs.Keys.{keys_column};
-ghost use Rattle.cluster_config.specs.Node.{node_column};
-ghost use Rattle.cluster_config.specs.Cluster.{cluster_column};
+ghost use Rattle.cluster_config.specs.Node.{NodeText, node_column};
+ghost use Rattle.cluster_config.specs.Cluster.{ClusterText, cluster_column};
+ghost use Rattle.cluster_config.specs.declared.submit.SubmitConfig.{SubmitConfig};
 ghost use Rattle.cluster_config.specs.Submit.{submit_column};
+ghost use Rattle.cluster_config.specs.Ranges.{FitsNode, FitsCluster, FitsSubmit};
 
 /// What is read of a text is its configuration, line by line, and what is its configuration is read of it. Any other text is
 /// refused at its first line that is wrong or missing.
@@ -23,4 +25,15 @@ pub fn config_laws()
 /// The numbers of lines are those that are printed: decimal digits, without a sign or a leading zero.
 pub fn number_law()
     ensures { (text : List ℕ) (n : ℕ) → (numeral text ≡ Some n) ↔ ((n < 2 ^ 64) × (text ≡ decimal n)) }
+{}
+
+/// What the configurations of nodes, of clusters and of requests keep to: the root service of a node and of a cluster is the sixth,
+/// a node's number is below n, and behind its n keys there are zeros. Each of the three has a peer for each of n replicas. A cluster
+/// has at most 64 requests, each for a replica below n, and no request has more than 4,088 bytes.
+///
+/// It does nothing: its contract is the law.
+pub fn config_ranges()
+    ensures node { (text : List ℕ) (x : NodeText) → read_text node_column text ≡ Ok x → FitsNode x }
+    ensures cluster { (text : List ℕ) (x : ClusterText) → read_text cluster_column text ≡ Ok x → FitsCluster x }
+    ensures submit { (text : List ℕ) (x : SubmitConfig) → read_text submit_column text ≡ Ok x → FitsSubmit x }
 {}

@@ -1,7 +1,7 @@
 use crate::tests::lines::{
     Case, DIGITS, KEY, Line, first_other, first_wrong, text_with, wrong_line,
 };
-use crate::{Config, Job, read_config};
+use crate::{Config, Job, config_ranges, read_config};
 use ritas_base::Vect;
 use std::test::*;
 
@@ -27,6 +27,7 @@ const LINES: [Line; 14] = [
 
 #[test]
 fn every_field(rt: HostRuntime) -> Result<(), Fail> {
+    config_ranges();
     let text = text_with(rt.alloc(), &LINES, 14, 0, "")?;
     match &read_config(rt.alloc(), Job::Node, text.as_bytes()) {
         Ok(Config::Node(node)) => {
