@@ -1,5 +1,5 @@
 -- An event that is a call on one correct replica alone.
-use Rattle.std.proofs.Common.{◌≡◌, ℕ, Bool, true, false, not, ◌&&◌, List, [], ◌∷◌, length, map, Option, Some, None, refl, sym, ◌∙◌, ap, if◌then◌else◌}
+use Rattle.std.proofs.Common.{◌≡◌, ℕ, Bool, true, List, [], ◌∷◌, length, map, Option, Some, None, refl, sym, ◌∙◌, ap, if◌then◌else◌}
 use Rattle.std.proofs.lemmas.Bool.{eq-eqb, ne_eqb}
 use Rattle.ritas_base.specs.declared.event.Event.{Event}
 use Rattle.ritas_base.specs.declared.event.Event.TheVariants as events
@@ -12,19 +12,7 @@ use Rattle.world_model.specs.MadeOrder.{frames_in}
 use Rattle.node_loop.specs.Serving.{as_sent, sent_by}
 use Rattle.schedule_file.specs.Spelling.{IsAlone}
 use Rattle.node_loop.specs.Standing.{frame_by}
-
--- ---- where no replica is stopped between events, the next event finds them as they are
-
-and_true : (b : Bool) → b ≡ (b && true)
-and_true true = refl
-and_true false = refl
-
-not_halted : (state : CoreState) (stopped : Bool) → stopped ≡ false → state ≡ record state { live = state.live && not stopped }
-not_halted state stopped none =
-    ap (λ (b : Bool). record state { live = b }) (and_true state.live ∙ ap (λ (b : Bool). state.live && not b) (sym none))
-
-pub found_as_left : (w : Setting) (es : List Event) → NoneStops w → states_of w es ≡ states_before w es
-found_as_left w es going = λ t i. not_halted (states_of w es i) (w.stops (length es) i) (going (length es) i) t
+use Rattle.world_model.proofs.Continues.{found_as_left}
 
 -- ---- the call
 

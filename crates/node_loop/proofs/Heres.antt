@@ -3,7 +3,7 @@ use Rattle.std.proofs.Common.{◌≡◌, ℕ, ◌<◌, ◌≤◌, true, List, �
 use Rattle.std.specs.List.{slice_get}
 use Rattle.std.proofs.lemmas.Bool.Decides.{eqb_tells}
 use Rattle.std.proofs.lemmas.List.{length-set, map-append}
-use Rattle.std.proofs.lemmas.Option.{same_Some, slice_get-get_or}
+use Rattle.std.proofs.lemmas.Option.{same_Some, slice_get_within, slice_get-get_or}
 use Rattle.ritas_base.specs.declared.bytes.Mem.{Mem}
 use Rattle.ritas_base.specs.declared.event.Event.{Event}
 use Rattle.frame_codec.specs.declared.fault.BodyFault.TheVariants as body
@@ -30,9 +30,15 @@ use Rattle.node_loop.specs.Serving.{sent_by}
 use Rattle.node_loop.specs.Served.{AreHere}
 use Rattle.schedule_file.specs.Spelling.{IsAlone}
 use Rattle.node_loop.specs.Standing.{IsWant, Numbers, frame_by}
-use Rattle.node_loop.proofs.Handled.{handled_live}
+use Rattle.world_model.proofs.AtPlaces.{handled_live}
+use Rattle.world_model.proofs.Left.{get_set_same, get_set_other}
 use Rattle.node_loop.proofs.Alone.{call_in, done_by, alone_state, other_state, alone_seen, alone_sent}
-use Rattle.node_loop.proofs.Places.{get_set_same, get_set_other, same_place}
+
+-- a place of a list has an element of another that is as long
+same_place : {X Y : Type 0} (xs : List X) (ys : List Y) (i : ℕ) (x : X) → length ys ≡ length xs → slice_get xs i ≡ Some x → i < length ys
+same_place xs ys i x many e =
+    let within : i < length xs = slice_get_within xs i x e in
+    omega arith
 
 -- there is none where there is no replica
 pub nowhere : {S E C : Type 0} (m : Meaning S E C KeyRow) (w : Setting) (es : List Event) (numbers : List ℕ) (here : List (Replica S E C)) (place at : ℕ)

@@ -6,9 +6,7 @@ pub mod TrueReplies
 pub mod Linked
 pub mod Stepping
 pub mod Rounding
-pub mod Handled
 pub mod Alone
-pub mod Places
 pub mod Heres
 pub mod Entering
 pub mod Asking
@@ -16,3 +14,4 @@ pub mod Busy
 pub mod Seating
 pub mod Rows
 pub mod Comings
+pub mod Fitting

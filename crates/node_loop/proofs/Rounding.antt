@@ -25,7 +25,7 @@ use Rattle.node_loop.specs.declared.output.Output.{Output}
 use Rattle.node_loop.specs.declared.rounds.Next.TheVariants as next
 use Rattle.node_loop.specs.Waiting.{nobody}
 use Rattle.node_loop.specs.Calls.{Outcome}
-use Rattle.node_loop.specs.Serving.{Serving, so_far, sent_by, onto, with_outcome, Want, Begins, Finishes, Turns, Halts, Asks, wants_of, turn_or, first_or, here, busy, is_done, wants, Round, Began, Turned, Took, behind_first, round_does, after, IsWanted}
+use Rattle.node_loop.specs.Serving.{Serving, so_far, sent_by, onto, with_outcome, Want, Begins, Finishes, Turns, Halts, Asks, wants_of, turn_or, first_or, here, busy, is_done, wants, Round, Began, Turned, Took, behind_first, round_does, after, IsGiven, IsWanted}
 use Rattle.node_loop.specs.Outs.{text_of, Outs, Tells, Agrees, Stops, Steps, Fails}
 use Rattle.node_loop.specs.Standing.{HouseStands, Comes, frame_by, reply_by}
 use Rattle.node_loop.specs.Served.{EndsSo, Serves}
@@ -268,7 +268,7 @@ module _ {S E C : Type 0} (m : Meaning S E C KeyRow) (w : Setting) (past : List 
     turn_wanted at is =
         subst (λ (want : Want). IsWanted want (Turned at)) (sym (wants_now house o taken run ∙ next_turn next_want at is)) refl
 
-    item_wanted : (item : LinkItem) → IsNext next_want next.Ask → (item ≡ items.End → ⊥) → IsWanted (wants w past until limit now_at) (Took item)
+    item_wanted : (item : LinkItem) → IsNext next_want next.Ask → IsGiven item → IsWanted (wants w past until limit now_at) (Took item)
     item_wanted item is is_item =
         subst (λ (want : Want). IsWanted want (Took item)) (sym (wants_now house o taken run ∙ next_ask next_want is)) is_item
 

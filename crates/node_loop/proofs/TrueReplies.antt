@@ -1,5 +1,5 @@
 -- The replies that give a position are true.
-use Rattle.std.proofs.Common.{◌≡◌, ℕ, ◌<◌, ◌&&◌, Bool, true, false, List, [], ◌∷◌, ◌++◌, length, map, reverse, Option, Some, None, nat_le, nat_lt, refl, sym, ◌∙◌, ap, ap₂, subst, append_assoc, if◌then◌else◌}
+use Rattle.std.proofs.Common.{◌≡◌, ℕ, ◌&&◌, Bool, true, false, List, [], ◌∷◌, ◌++◌, length, map, reverse, Option, Some, None, nat_le, nat_lt, refl, sym, ◌∙◌, ap, ap₂, subst, append_assoc, if◌then◌else◌}
 use Rattle.std.specs.List.{AllByRecursion}
 use Rattle.std.proofs.lemmas.List.{reverse-append}
 use Rattle.std.proofs.lemmas.Bool.{eq-eqb}
@@ -16,13 +16,12 @@ use Rattle.world_model.specs.World.{Setting, states_before, call_of, seen_of}
 use Rattle.world_model.specs.Agree.{rows_at}
 use Rattle.world_model.specs.MadeOrder as made
 use Rattle.world_model.specs.MadeOrder.{MadeFrame}
-use Rattle.world_model.proofs.Conditions.{IsLaid}
 use Rattle.node_loop.specs.declared.waiting.Asked.{Asked}
 use Rattle.node_loop.specs.Waiting.{Waiting, with_waiter}
 use Rattle.node_loop.specs.Calls.{Outcome, reply, reply_each, asked_by, left_by, replies_by, called, asked_in, refusal_in, submitted, submitted_so, silent, is_waited_for, asked_so, asks_so, asks, if_here, item_does, first_does}
 use Rattle.node_loop.specs.Serving.{Serving, so_far, as_sent, sent_by, onto, with_outcome, Round, Began, Turned, Took, began, gave, after}
 use Rattle.node_loop.specs.Laws.{IsTrueReply}
-use Rattle.node_loop.proofs.Logs.{rows_later, rows_are_once, position_in_part}
+use Rattle.node_loop.proofs.Logs.{rows_are_once, position_in_part}
 
 -- ---- all of a list
 
@@ -189,7 +188,7 @@ first_true w es items.End ws = tt
 
 -- ---- serving
 
-module _ (w : Setting) (founds : IsLaid w) (within : (i : ℕ) → w.is_correct i ≡ true → i < w.numbers.n) where
+module _ (w : Setting) (grow : (more es : List Event) (i : ℕ) → IsPart (rows_at w es i) (rows_at w (more ++ es) i)) where
   stays_true : (e : Event) (es : List Event) (x : Sent) → IsTrueReply w es x → IsTrueReply w (e ∷ es) x
   stays_true e es x holds form =
       let was = holds form in
@@ -198,7 +197,7 @@ module _ (w : Setting) (founds : IsLaid w) (within : (i : ℕ) → w.is_correct 
         request = was.request;
         position = was.position;
         bytes = was.bytes;
-        stands = position_in_part (rows_at w es x.at) (rows_at w (e ∷ es) x.at) (rows_later w founds within (e ∷ []) es x.at) (rows_are_once w (e ∷ es) x.at)
+        stands = position_in_part (rows_at w es x.at) (rows_at w (e ∷ es) x.at) (grow (e ∷ []) es x.at) (rows_are_once w (e ∷ es) x.at)
             was.client was.request was.position was.stands;
       }
 

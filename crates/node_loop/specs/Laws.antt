@@ -1,7 +1,8 @@
 -- What serving keeps to.
-use Rattle.std.specs.Prelude.{◌≡◌, ℕ, List, [], ◌∷◌, ◌++◌, map, reverse, Some}
-use Rattle.std.specs.List.{AllByRecursion}
+use Rattle.std.specs.Prelude.{◌≡◌, ℕ, ◌<◌, ◌^◌, true, List, [], ◌∷◌, ◌++◌, length, map, reverse, Some}
+use Rattle.std.specs.List.{All, AllByRecursion}
 use Rattle.ritas_base.specs.declared.event.Event.{Event}
+use Rattle.ritas_base.specs.declared.event.Event.TheVariants as events
 use Rattle.outside.specs.declared.link.LinkItem.{LinkItem}
 use Rattle.outside.specs.declared.link.Sent.{Sent}
 use Rattle.outside.specs.Links.{frames_in, replies_in}
@@ -13,6 +14,7 @@ use Rattle.world_model.specs.World.{Setting}
 use Rattle.world_model.specs.EveryWorld.{IsWorld}
 use Rattle.world_model.specs.MadeOrder.{MadeFrame, all_made}
 use Rattle.world_model.specs.Agree.{OneIsPart, rows_at}
+use Rattle.node_loop.specs.Served.{IsFirst}
 use Rattle.node_loop.specs.Serving.{so_far, Round, Began, Turned, Took, after, AreWanted}
 
 -- ---- one run
@@ -66,3 +68,18 @@ IsTrueReply w es x = form_in x.bytes ≡ 1 → NamesPosition w es x
 abbrev pub RepliesAreTrue : ServiceRules → BroadcastRules → Type 0
 RepliesAreTrue service other = (w : Setting) (past : List Event) (first : List LinkItem) (rounds : List Round) → IsWorld service other w
     → AllByRecursion (IsTrueReply w (so_far past (after w past first rounds))) (replies_in (after w past first rounds).acts)
+
+-- ---- the events
+
+-- an event at a correct replica, of at most 65,535 bytes, which is no frame that another made
+abbrev pub IsServed : Setting → Event → Type 0
+IsServed w (events.Frame to bytes) = (w.is_correct to ≡ true) × (length bytes < 2 ^ 16)
+IsServed w (events.Input at bytes) = (w.is_correct at ≡ true) × (length bytes < 2 ^ 16)
+IsServed w (events.Turn at) = w.is_correct at ≡ true
+IsServed w (events.Pass from to m) = ⊥
+IsServed w (events.Sealed from to body) = ⊥
+
+-- each event of serving is one
+abbrev pub EventsFit : Type 0
+EventsFit = (w : Setting) (past : List Event) (until limit : ℕ) (first : List LinkItem) (rounds : List Round) → All IsFirst first
+    → AreWanted w past until limit first rounds → AllByRecursion (IsServed w) (after w past first rounds).events

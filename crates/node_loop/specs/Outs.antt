@@ -22,14 +22,14 @@ pub record TookBack (old new acts : List LinkAct) : Type 0 where
   pub parts : acts ≡ rest ++ back
   pub told : new ≡ back ++ old
 
--- a tape and a link: whether they tell, what was taken, what was told, and how many calls of each failed
+-- a tape and a link: what was taken, what was told, and how many calls of each failed
 pub record Outs : Type 0 where
   pub taken : List ℕ
   pub tape_faults : ℕ
   pub told : List LinkAct
   pub link_faults : ℕ
 
--- of a tape and a link, which tell or don't
+-- whether a tape and a link tell
 pub record Tells : Type 0 where
   pub tape : Bool
   pub link : Bool

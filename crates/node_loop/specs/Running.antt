@@ -14,7 +14,7 @@ use Rattle.node_loop.specs.declared.end.ServeEnd.TheVariants as ends
 use Rattle.node_loop.specs.declared.house.House.{House}
 use Rattle.node_loop.specs.declared.rounds.Next.{Next}
 use Rattle.node_loop.specs.declared.rounds.Next.TheVariants as next
-use Rattle.node_loop.specs.Serving.{Serving, so_far, Want, Finishes, Turns, Halts, Asks, Round, Took, round_does, after, AreWanted}
+use Rattle.node_loop.specs.Serving.{Serving, so_far, Want, Finishes, Turns, Halts, Asks, Round, Took, round_does, after, AreWanted, IsGiven}
 use Rattle.node_loop.specs.Outs.{Outs, Tells, Agrees, Stops, Steps}
 use Rattle.node_loop.specs.Served.{Serves}
 use Rattle.node_loop.specs.Standing.{HouseStands}
@@ -45,7 +45,7 @@ pub record Goes {S E C A : Type 0} (m : Meaning S E C KeyRow) (w : Setting) (pas
 pub record TookItem {S E C : Type 0} (m : Meaning S E C KeyRow) (w : Setting) (past : List Event) (numbers : List ℕ) (house : House S E C)
     (tells : Tells) (base now : Outs) (result : Result Bool Fault) (s : Serving) : Type 0 where
   pub item : LinkItem
-  pub is_item : item ≡ End → ⊥
+  pub is_item : IsGiven item
   pub goes : Goes m w past numbers house tells base now result (round_does w past (Took item) s)
 
 -- the link was asked for an item: it gave one, or its end, or failed

@@ -1,6 +1,6 @@
 -- What serving does: which calls it makes on the replicas of a world that are here, its correct ones, and which frames and replies the
 -- link is given. Lists of events, of the link's calls and of rounds have the newest first.
-use Rattle.std.specs.Prelude.{◌≡◌, ℕ, ◌+◌, Bool, true, false, not, ◌&&◌, ◌==◌, List, [], ◌∷◌, ◌++◌, length, map, filter, reverse, Option, Some, None, nat_le, if◌then◌else◌}
+use Rattle.std.specs.Prelude.{◌≡◌, ℕ, ◌+◌, ◌<◌, ◌^◌, Bool, true, false, not, ◌&&◌, ◌==◌, List, [], ◌∷◌, ◌++◌, length, map, filter, reverse, Option, Some, None, nat_le, if◌then◌else◌}
 use Rattle.std.specs.List.{list_all}
 use Rattle.ritas_base.specs.declared.event.Event.{Event}
 use Rattle.ritas_base.specs.declared.event.Event.TheVariants as events
@@ -8,7 +8,7 @@ use Rattle.ritas_base.specs.declared.item.Item.{Item}
 use Rattle.ritas_base.specs.History.{replicas}
 use Rattle.outside.specs.declared.link.LinkItem.{LinkItem}
 use Rattle.outside.specs.declared.link.LinkItem.TheVariants.{End}
-use Rattle.outside.specs.Links.{LinkAct, Gives, Sends, Replies}
+use Rattle.outside.specs.Links.{LinkAct, Gives, Sends, Replies, bytes_of}
 use Rattle.world_model.specs.World.{Setting, states_of, states_before, call_of}
 use Rattle.world_model.specs.MadeOrder.{MadeFrame, frames_in}
 use Rattle.world_model.specs.Agree.{rows_at}
@@ -127,11 +127,16 @@ abbrev pub after : Setting → List Event → List LinkItem → List Round → S
 after w past first [] = begin first
 after w past first (x ∷ xs) = round_does w past x (after w past first xs)
 
+-- an item of a link that isn't its end has at most 65,535 bytes
+pub record IsGiven (item : LinkItem) : Type 0 where
+  pub goes_on : item ≡ End → ⊥
+  pub short : length (bytes_of item) < 2 ^ 16
+
 -- the round is what the rules say: the end of the link is taken in none
 abbrev pub IsWanted : Want → Round → Type 0
 IsWanted (Begins item) (Began taken) = item ≡ taken
 IsWanted (Turns i) (Turned j) = i ≡ j
-IsWanted Asks (Took item) = item ≡ End → ⊥
+IsWanted Asks (Took item) = IsGiven item
 IsWanted want round = ⊥
 
 -- each round was

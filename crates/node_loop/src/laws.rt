@@ -1,6 +1,5 @@
 //! What serving keeps to, whatever the link gives.
-ghost use Rattle.world_model.specs.CoreLaws.{CoreLaws};
-ghost use Rattle.node_loop.specs.Laws.{OneRun, OnlyGrows, FramesAreMade, RepliesAreTrue};
+ghost use Rattle.node_loop.specs.Laws.{OneRun, OnlyGrows, FramesAreMade, EventsFit, RepliesAreTrue};
 
 use layer_api::{Broadcast, Service};
 
@@ -26,17 +25,12 @@ pub fn frames_are_made()
     ensures { FramesAreMade }
 {}
 
-// The laws of the core and of inputs, on which it rests that logs only grow.
-//
-// It does nothing: its contract is the laws.
-fn core_laws()
-    ensures { CoreLaws }
-{
-    ritas_core::history_laws();
-    ritas_core::entry_laws();
-    ritas_core::verdict_laws();
-    frame_codec::right_input();
-}
+/// The events are at the replicas that are served, and have at most 65,535 bytes: so they may stand in a schedule file.
+///
+/// It does nothing: its contract is the law.
+pub fn events_fit()
+    ensures { EventsFit }
+{}
 
 /// A reply that gives a position gives the one that the request has in the log of the replica which replies, and which it keeps there.
 ///
@@ -44,7 +38,5 @@ fn core_laws()
 pub fn replies_are_true<S: Service, E: Broadcast>()
     ensures { RepliesAreTrue S.rules E.rules }
 {
-    keyed_channel::opened_from_peer();
-    frame_codec::spelled();
-    core_laws();
+    world_model::logs_grow::<S, E>();
 }

@@ -23,5 +23,5 @@ mod tests;
 mod waiting;
 
 pub use end::ServeEnd;
-pub use laws::{frames_are_made, one_run, only_grows, replies_are_true};
+pub use laws::{events_fit, frames_are_made, one_run, only_grows, replies_are_true};
 pub use rounds::serve;

@@ -11,7 +11,7 @@ returns-in-Err-take g c = λ w past numbers base s stands agrees.
     let given = next_given _ base _ s.events s.acts _ _ item _ agrees c.in-Ok.ensures.ok c.in-Ok.ensures.cause in
     inr (record {
       item = item;
-      is_item = λ e. both_ways false refl (c.if-is_end.ensures.1 e);
+      is_item = record { goes_on = λ e. both_ways false refl (c.if-is_end.ensures.1 e); short = c.in-Ok.ensures.size };
       goes = goes_no_further _ w past numbers _ base _ _ (item_does w (so_far past s) item s.waiting) (gave item s) given;
     })
 
@@ -21,7 +21,7 @@ returns-in-Ok-deliver g c = λ w past numbers base s stands agrees.
     let given = next_given _ base _ s.events s.acts _ _ item _ agrees c.in-Ok.ensures.ok c.in-Ok.ensures.cause in
     record {
       item = item;
-      is_item = λ e. both_ways false refl (c.if-is_end.ensures.1 e);
+      is_item = record { goes_on = λ e. both_ways false refl (c.if-is_end.ensures.1 e); short = c.in-Ok.ensures.size };
       goes = goes_on _ w past numbers _ base _ _ _ (item_does w (so_far past s) item s.waiting) (gave item s) _
           (c.in-Ok-take.ensures.comes w (so_far past s) numbers s.waiting stands) (c.in-Ok-deliver.ensures base s.events (gave item s).acts given);
     }
@@ -32,7 +32,7 @@ returns-in-Err-deliver g c = λ w past numbers base s stands agrees.
     let given = next_given _ base _ s.events s.acts _ _ item _ agrees c.in-Ok.ensures.ok c.in-Ok.ensures.cause in
     inr (record {
       item = item;
-      is_item = λ e. both_ways false refl (c.if-is_end.ensures.1 e);
+      is_item = record { goes_on = λ e. both_ways false refl (c.if-is_end.ensures.1 e); short = c.in-Ok.ensures.size };
       goes = goes_on _ w past numbers _ base _ _ _ (item_does w (so_far past s) item s.waiting) (gave item s) _
           (c.in-Ok-take.ensures.comes w (so_far past s) numbers s.waiting stands) (c.in-Err-deliver.ensures base s.events (gave item s).acts given);
     })

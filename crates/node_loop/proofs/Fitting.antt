@@ -1,0 +1,157 @@
+-- The events of serving may stand in a file.
+use Rattle.std.proofs.Common.{◌≡◌, ℕ, ◌<◌, ◌^◌, Bool, true, false, List, [], ◌∷◌, length, nat_le, Option, Some, None, refl, subst, if◌then◌else◌}
+use Rattle.std.specs.List.{All, AllByRecursion}
+use Rattle.std.proofs.lemmas.List.Elements.{recursion_from_All}
+use Rattle.ritas_base.specs.declared.event.Event.{Event}
+use Rattle.ritas_base.specs.declared.event.Event.TheVariants as events
+use Rattle.outside.specs.declared.link.LinkItem.{LinkItem}
+use Rattle.outside.specs.declared.link.LinkItem.TheVariants as items
+use Rattle.outside.specs.Links.{bytes_of}
+use Rattle.client_port.specs.Messages.{Request, request_in}
+use Rattle.command_log.specs.Rows.{position_of}
+use Rattle.world_model.specs.World.{Setting, seen_of}
+use Rattle.world_model.specs.Agree.{rows_at}
+use Rattle.node_loop.specs.Waiting.{Waiting, with_waiter}
+use Rattle.node_loop.specs.Calls.{Outcome, called, asked_in, refusal_in, submitted, submitted_so, silent, is_waited_for, asked_so, asks_so, asks, if_here, item_does, first_does}
+use Rattle.node_loop.specs.Serving.{so_far, onto, Want, Begins, Finishes, Turns, Halts, Asks, is_done, busy, turn_or, wants_of, first_or, Round, Began, Turned, Took, behind_first, after, IsWanted, AreWanted}
+use Rattle.node_loop.specs.Served.{IsFirst}
+use Rattle.node_loop.specs.Laws.{IsServed}
+use Rattle.node_loop.proofs.Rounding.{turns_correct}
+
+-- ---- the first items that are left
+
+behind_fits : (left : List LinkItem) → AllByRecursion IsFirst left → AllByRecursion IsFirst (behind_first left)
+behind_fits [] all = tt
+behind_fits (item ∷ left) all = all.1
+
+left_fits : (w : Setting) (past : List Event) (first : List LinkItem) (rounds : List Round) → AllByRecursion IsFirst first
+    → AllByRecursion IsFirst (after w past first rounds).left
+left_fits w past first [] all = all
+left_fits w past first (Began item ∷ rounds) all = behind_fits (after w past first rounds).left (left_fits w past first rounds all)
+left_fits w past first (Turned i ∷ rounds) all = left_fits w past first rounds all
+left_fits w past first (Took item ∷ rounds) all = left_fits w past first rounds all
+
+-- one that is taken up is a first one
+begun_fits : (left : List LinkItem) (other : Want) (item : LinkItem) → AllByRecursion IsFirst left → ((x : LinkItem) → other ≡ Begins x → ⊥)
+    → IsWanted (first_or left other) (Began item) → IsFirst item
+begun_fits [] (Begins x) item all none want = absurd (none x refl)
+begun_fits [] Finishes item all none want = absurd want
+begun_fits [] (Turns i) item all none want = absurd want
+begun_fits [] Halts item all none want = absurd want
+begun_fits [] Asks item all none want = absurd want
+begun_fits (x ∷ left) other item all none want = subst IsFirst want all.0
+
+-- ---- outcomes
+
+-- the event of an outcome, if there is one
+abbrev FitsOutcome : Setting → Option Event → Type 0
+FitsOutcome w None = Unit {0}
+FitsOutcome w (Some e) = IsServed w e
+
+submitted_fits : (w : Setting) (es : List Event) (at : ℕ) (conn : Option ℕ) (bytes : List ℕ) (ws : Waiting) (code : Option ℕ)
+    → IsServed w (events.Input at bytes) → FitsOutcome w (submitted_so w es at conn bytes ws code).event
+submitted_fits w es at conn bytes ws None fits = fits
+submitted_fits w es at conn bytes ws (Some code) fits = fits
+
+asked_fits : (w : Setting) (es : List Event) (at : ℕ) (conn : Option ℕ) (bytes : List ℕ) (ws : Waiting) (place : Option ℕ)
+    → IsServed w (events.Input at bytes) → FitsOutcome w (asked_so w es at conn bytes ws place).event
+asked_fits w es at conn bytes ws (Some position) fits = tt
+asked_fits w es at conn bytes ws None fits = here (is_waited_for (ws (asked_in at bytes)))
+  where
+    here : (b : Bool) → FitsOutcome w (if b then silent [] (with_waiter (asked_in at bytes) conn ws) else submitted w es at conn bytes ws).event
+    here true = tt
+    here false = submitted_fits w es at conn bytes ws (refusal_in (seen_of w es (events.Input at bytes))) fits
+
+asks_fits : (w : Setting) (es : List Event) (at : ℕ) (conn : Option ℕ) (bytes : List ℕ) (ws : Waiting) (r : Option Request)
+    → IsServed w (events.Input at bytes) → FitsOutcome w (asks_so w es at conn bytes ws r).event
+asks_fits w es at conn bytes ws None fits = submitted_fits w es at conn bytes ws (refusal_in (seen_of w es (events.Input at bytes))) fits
+asks_fits w es at conn bytes ws (Some r) fits = asked_fits w es at conn bytes ws (position_of (rows_at w es at) r.client r.request) fits
+
+here_fits : (w : Setting) (at : ℕ) (did : Outcome) (ws : Waiting) → (w.is_correct at ≡ true → FitsOutcome w did.event) → FitsOutcome w (if_here w at did ws).event
+here_fits w at did ws fits = here (w.is_correct at) refl
+  where
+    here : (b : Bool) → w.is_correct at ≡ b → FitsOutcome w (if b then did else silent [] ws).event
+    here true right = fits right
+    here false wrong = tt
+
+item_fits : (w : Setting) (es : List Event) (item : LinkItem) (ws : Waiting) → length (bytes_of item) < 2 ^ 16 → FitsOutcome w (item_does w es item ws).event
+item_fits w es (items.Frame to bytes) ws short = here_fits w to (called w es to (events.Frame to bytes) ws) ws (λ right. (right, short))
+item_fits w es (items.Client at conn bytes) ws short =
+    here_fits w at (asks w es at (Some conn) bytes ws) ws (λ right. asks_fits w es at (Some conn) bytes ws (request_in bytes) (right, short))
+item_fits w es (items.Reply from bytes) ws short = tt
+item_fits w es (items.Down at peer) ws short = tt
+item_fits w es items.End ws short = tt
+
+first_fits : (w : Setting) (es : List Event) (item : LinkItem) (ws : Waiting) → IsFirst item → FitsOutcome w (first_does w es item ws).event
+first_fits w es (items.Client at conn bytes) ws short =
+    here_fits w at (asks w es at None bytes ws) ws (λ right. asks_fits w es at None bytes ws (request_in bytes) (right, short))
+first_fits w es (items.Frame to bytes) ws none = absurd none
+first_fits w es (items.Reply from bytes) ws none = absurd none
+first_fits w es (items.Down at peer) ws none = absurd none
+first_fits w es items.End ws none = absurd none
+
+-- ---- serving
+
+onto_fits : (w : Setting) (es : List Event) (o : Option Event) → FitsOutcome w o → AllByRecursion (IsServed w) es → AllByRecursion (IsServed w) (onto o es)
+onto_fits w es None fits all = all
+onto_fits w es (Some e) fits all = (fits, all)
+
+-- what is wanted of rules is no first item
+no_first : (w : Setting) (until limit : ℕ) (es : List Event) (taken : ℕ) (x : LinkItem) → wants_of w until limit es taken ≡ Begins x → ⊥
+no_first w until limit es taken x = go (is_done w until es)
+  where
+    either : (b : Bool) → (if b then Halts else Asks) ≡ Begins x → ⊥
+    either true e = absurd (cc)
+    either false e = absurd (cc)
+
+    turns : (is : List ℕ) → turn_or is (if nat_le limit taken then Halts else Asks) ≡ Begins x → ⊥
+    turns [] e = either (nat_le limit taken) e
+    turns (i ∷ is) e = absurd (cc)
+
+    go : (b : Bool) → (if b then Finishes else turn_or (busy w es) (if nat_le limit taken then Halts else Asks)) ≡ Begins x → ⊥
+    go true e = absurd (cc)
+    go false e = turns (busy w es) e
+
+-- a turn that is wanted is one at a correct replica
+turned_fits : (w : Setting) (until limit : ℕ) (es : List Event) (taken i : ℕ) (left : List LinkItem)
+    → IsWanted (first_or left (wants_of w until limit es taken)) (Turned i) → w.is_correct i ≡ true
+turned_fits w until limit es taken i [] want = by_rule (wants_of w until limit es taken) refl want
+  where
+    by_rule : (rule : Want) → wants_of w until limit es taken ≡ rule → IsWanted rule (Turned i) → w.is_correct i ≡ true
+    by_rule (Turns j) is same = subst (λ (k : ℕ). w.is_correct k ≡ true) same (turns_correct w until limit es taken j is)
+    by_rule (Begins x) is none = absurd none
+    by_rule Finishes is none = absurd none
+    by_rule Halts is none = absurd none
+    by_rule Asks is none = absurd none
+turned_fits w until limit es taken i (x ∷ left) none = absurd none
+
+-- an item that was asked for is short
+took_fits : (w : Setting) (until limit : ℕ) (es : List Event) (taken : ℕ) (item : LinkItem) (left : List LinkItem)
+    → IsWanted (first_or left (wants_of w until limit es taken)) (Took item) → length (bytes_of item) < 2 ^ 16
+took_fits w until limit es taken item [] want = by_rule (wants_of w until limit es taken) want
+  where
+    by_rule : (rule : Want) → IsWanted rule (Took item) → length (bytes_of item) < 2 ^ 16
+    by_rule Asks given = given.short
+    by_rule (Turns j) none = absurd none
+    by_rule (Begins x) none = absurd none
+    by_rule Finishes none = absurd none
+    by_rule Halts none = absurd none
+took_fits w until limit es taken item (x ∷ left) none = absurd none
+
+pub all_fit : (w : Setting) (past : List Event) (until limit : ℕ) (first : List LinkItem) (rounds : List Round) → All IsFirst first
+    → AreWanted w past until limit first rounds → AllByRecursion (IsServed w) (after w past first rounds).events
+all_fit w past until limit first [] all wanted = tt
+all_fit w past until limit first (Began item ∷ rounds) all wanted =
+    let s = after w past first rounds in
+    let is_first = begun_fits s.left (wants_of w until limit (so_far past s) s.taken) item (left_fits w past first rounds (recursion_from_All IsFirst first all))
+    (no_first w until limit (so_far past s) s.taken) wanted.0 in
+    onto_fits w s.events (first_does w (so_far past s) item s.waiting).event (first_fits w (so_far past s) item s.waiting is_first)
+    (all_fit w past until limit first rounds all wanted.1)
+all_fit w past until limit first (Turned i ∷ rounds) all wanted =
+    let s = after w past first rounds in
+    (turned_fits w until limit (so_far past s) s.taken i s.left wanted.0, all_fit w past until limit first rounds all wanted.1)
+all_fit w past until limit first (Took item ∷ rounds) all wanted =
+    let s = after w past first rounds in
+    onto_fits w s.events (item_does w (so_far past s) item s.waiting).event
+    (item_fits w (so_far past s) item s.waiting (took_fits w until limit (so_far past s) s.taken item s.left wanted.0))
+    (all_fit w past until limit first rounds all wanted.1)
