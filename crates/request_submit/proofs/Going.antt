@@ -1,0 +1,96 @@
+-- How waiting goes on and ends.
+use Rattle.std.proofs.Common.{◌≡◌, ℕ, ◌≤◌, List, [], ◌∷◌, ◌++◌, map, Bool, true, Some, None, Ok, Err, refl, sym, ap, ◌∙◌, arith}
+use Rattle.outside.specs.Faults.{Rose}
+use Rattle.outside.specs.Links.{LinkAct, Gives}
+use Rattle.outside.specs.declared.link.LinkFault.{LinkFault}
+use Rattle.outside.specs.declared.link.LinkFault.TheVariants as faults
+use Rattle.outside.specs.declared.link.LinkItem.{LinkItem}
+use Rattle.outside.specs.declared.link.LinkItem.TheVariants as items
+use Rattle.outside.proofs.Rising.{rose_after}
+use Rattle.client_port.specs.Votes.{Wanted, Ballots, VotesStand}
+use Rattle.request_submit.specs.declared.end.SubmitEnd.{SubmitEnd}
+use Rattle.request_submit.specs.declared.end.SubmitEnd.TheVariants as ends
+use Rattle.request_submit.specs.Submitting.{handed_in, calls_of, settles, ToldPart, EndsSo, Submits}
+use Rattle.request_submit.specs.Waiting.{LinkDid, IsEndOf, Waits}
+use Rattle.request_submit.proofs.Linked.{part_all}
+
+-- ---- a fault is an end
+
+fault_so : (w : Wanted) (acts : List LinkAct) (tells : Bool) (old new : List LinkAct) (before after : ℕ) (fault : LinkFault) (end : SubmitEnd)
+    → IsEndOf fault end → (tells ≡ true → ToldPart old new acts) → (fault ≡ faults.Failed → Rose before after) → (taken : List LinkItem)
+    → EndsSo w taken acts tells old new before after end
+fault_so w acts tells old new before after faults.Failed end is part cause taken = rw is (cause refl, part)
+fault_so w acts tells old new before after faults.Mem end is part cause taken = rw is part
+
+-- the request wasn't handed in
+pub not_handed_in : (w : Wanted) (nodes : List (List ℕ)) (payload : List ℕ) (tells : Bool) (old new : List LinkAct) (before after : ℕ) (fault : LinkFault) (end : SubmitEnd)
+    → LinkDid tells (handed_in w nodes payload) old new before after (Err fault) → IsEndOf fault end → Submits w nodes payload tells old new before after end
+not_handed_in w nodes payload tells old new before after fault end did is = record {
+  items = [];
+  on = tt;
+  later = did.later;
+  so = fault_so w (handed_in w nodes payload) tells old new before after fault end is did.part (λ e. did.cause (ap Err e)) [];
+}
+
+-- it was, and nothing was taken yet
+pub waits_first : (w : Wanted) (nodes : List (List ℕ)) (payload : List ℕ) (tells : Bool) (old new : List LinkAct) (before after : ℕ) (votes : Ballots)
+    → LinkDid tells (handed_in w nodes payload) old new before after (Ok tt) → VotesStand w [] votes → Waits w nodes payload tells old new before after votes
+waits_first w nodes payload tells old new before after votes did stands = record {
+  items = [];
+  on = tt;
+  later = did.later;
+  told = did.whole;
+  stands = stands;
+}
+
+-- ---- the link's next item
+
+-- it failed
+pub next_fails : (w : Wanted) (nodes : List (List ℕ)) (payload : List ℕ) (tells : Bool) (base old new : List LinkAct) (x y z : ℕ) (votes : Ballots) (fault : LinkFault) (end : SubmitEnd)
+    → Waits w nodes payload tells base old x y votes → (tells ≡ true → new ≡ old) → y ≤ z → (fault ≡ faults.Failed → Rose y z) → IsEndOf fault end
+    → Submits w nodes payload tells base new x z end
+next_fails w nodes payload tells base old new x y z votes fault end waits same later cause is = record {
+  items = waits.items;
+  on = waits.on;
+  later = omega (arith, waits.later, later);
+  so = fault_so w _ tells base new x z fault end is (λ t. part_all base new _ (same t ∙ waits.told t)) (λ e. rose_after x y z waits.later (cause e)) waits.items;
+}
+
+-- the calls with one more
+more_told : (old new acts base : List LinkAct) (act : LinkAct) → new ≡ act ∷ old → old ≡ acts ++ base → new ≡ act ∷ acts ++ base
+more_told old new acts base act first second = first ∙ ap (λ (l : List LinkAct). act ∷ l) second
+
+-- it is the link's end
+pub link_ends : (w : Wanted) (nodes : List (List ℕ)) (payload : List ℕ) (tells : Bool) (base old new : List LinkAct) (x y z : ℕ) (votes : Ballots) (item : LinkItem)
+    → Waits w nodes payload tells base old x y votes → (tells ≡ true → new ≡ Gives item ∷ old) → y ≤ z → item ≡ items.End
+    → Submits w nodes payload tells base new x z ends.NoPosition
+link_ends w nodes payload tells base old new x y z votes item waits told later is = record {
+  items = waits.items;
+  on = waits.on;
+  later = omega (arith, waits.later, later);
+  so = λ t. more_told old new (map Gives waits.items ++ handed_in w nodes payload) base (Gives items.End) (rw is at (told t)) (waits.told t);
+}
+
+-- it settles a position
+pub item_settles : (w : Wanted) (nodes : List (List ℕ)) (payload : List ℕ) (tells : Bool) (base old new : List LinkAct) (x y z : ℕ) (votes : Ballots) (item : LinkItem) (position : ℕ)
+    → (waits : Waits w nodes payload tells base old x y votes) → (tells ≡ true → new ≡ Gives item ∷ old) → y ≤ z → Some position ≡ settles w waits.items item
+    → Submits w nodes payload tells base new x z (ends.Position position)
+item_settles w nodes payload tells base old new x y z votes item position waits told later settled = record {
+  items = waits.items;
+  on = waits.on;
+  later = omega (arith, waits.later, later);
+  so = record { item = item; settled = sym settled; told = λ t. more_told old new (map Gives waits.items ++ handed_in w nodes payload) base (Gives item) (told t) (waits.told t) };
+}
+
+-- it settles none
+pub item_passes : (w : Wanted) (nodes : List (List ℕ)) (payload : List ℕ) (tells : Bool) (base old new : List LinkAct) (x y z : ℕ) (votes now : Ballots) (item : LinkItem)
+    → (waits : Waits w nodes payload tells base old x y votes) → (tells ≡ true → new ≡ Gives item ∷ old) → y ≤ z → None ≡ settles w waits.items item
+    → (item ≡ items.End → ⊥) → VotesStand w (calls_of (item ∷ waits.items)) now
+    → Waits w nodes payload tells base new x z now
+item_passes w nodes payload tells base old new x y z votes now item waits told later quiet more stands = record {
+  items = item ∷ waits.items;
+  on = (record { more = more; quiet = sym quiet }, waits.on);
+  later = omega (arith, waits.later, later);
+  told = λ t. more_told old new (map Gives waits.items ++ handed_in w nodes payload) base (Gives item) (told t) (waits.told t);
+  stands = stands;
+}

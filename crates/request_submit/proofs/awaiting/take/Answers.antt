@@ -1,0 +1,9 @@
+use Rattle.std.proofs.Common.{false, refl}
+use Rattle.std.proofs.lemmas.Bool.{both_ways}
+use Rattle.request_submit.proofs.Going.{item_passes}
+use Rattle.request_submit.proofs.awaiting.take.Goals as goal
+
+pub returns : goal.returns
+returns g c = λ w nodes payload base before waits.
+    item_passes w nodes payload _ base _ _ before _ _ _ _ c.in-Ok.item waits c.in-Ok.ensures.ok c.in-Ok.ensures.cause.later (c.in-None.ensures.settled w waits.items waits.stands)
+    (λ e. both_ways false refl (c.if-is_end.ensures.1 e)) (c.in-None.ensures.stands w waits.items waits.stands)

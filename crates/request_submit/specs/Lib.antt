@@ -1,0 +1,4 @@
+pub mod Submitting
+pub mod Waiting
+pub mod Laws
+pub mod Rows

@@ -1,0 +1,66 @@
+-- Worked rows: four nodes, of which one may be faulty, and request 1 of client 7, which asks "hi".
+use Rattle.std.specs.Prelude.{◌≡◌, ℕ, List, [], ◌∷◌, codes, Some, None, refl}
+use Rattle.outside.specs.Links.{Starts, Sends}
+use Rattle.outside.specs.declared.link.LinkItem.{LinkItem}
+use Rattle.outside.specs.declared.link.LinkItem.TheVariants as items
+use Rattle.outside.specs.declared.link.LinkPlan.TheVariants as plans
+use Rattle.client_port.specs.Messages.{number_at, position_reply, refusal_reply}
+use Rattle.client_port.specs.Votes.{Wanted, fault_of, answer_of}
+use Rattle.request_submit.specs.Submitting.{handed_in, settles, GoesOn}
+
+abbrev wanted : Wanted
+wanted = record { numbers = record { n = 4; f = 1 }; client = 7; request = 1 }
+
+-- ---- handing in
+
+abbrev hi : List ℕ
+hi = 0 ∷ 0 ∷ 0 ∷ 7 ∷ 0 ∷ 0 ∷ 0 ∷ 1 ∷ codes "hi"
+
+abbrev nodes : List (List ℕ)
+nodes = codes "a" ∷ codes "b" ∷ codes "c" ∷ codes "d" ∷ []
+
+-- the newest first
+is_handed_in : handed_in wanted nodes (codes "hi") ≡
+    Sends (record { at = 0; to = 3; bytes = hi })
+    ∷ Sends (record { at = 0; to = 2; bytes = hi })
+    ∷ Sends (record { at = 0; to = 1; bytes = hi })
+    ∷ Sends (record { at = 0; to = 0; bytes = hi })
+    ∷ Starts (plans.Client nodes)
+    ∷ []
+is_handed_in = refl
+
+-- ---- replies, the newest first
+
+-- node k replies this position
+abbrev gives : ℕ → ℕ → LinkItem
+gives k position = items.Reply k (position_reply 7 1 position)
+
+-- with the first reply alone it goes on
+first_alone : GoesOn wanted (gives 0 5 ∷ [])
+unfolding answer_of fault_of number_at
+first_alone = (record { more = λ e. cc; quiet = refl }, tt)
+
+second_settles : settles wanted (gives 0 5 ∷ []) (gives 2 5) ≡ Some 5
+unfolding answer_of fault_of number_at
+second_settles = refl
+
+other_position : settles wanted (gives 0 5 ∷ []) (gives 2 6) ≡ None
+unfolding answer_of fault_of number_at
+other_position = refl
+
+-- a node's second reply is refused, and so is a refusal
+same_node : settles wanted (gives 0 5 ∷ []) (gives 0 5) ≡ None
+unfolding answer_of fault_of number_at
+same_node = refl
+
+refusal : settles wanted (gives 0 5 ∷ []) (items.Reply 2 (refusal_reply 7 1 5)) ≡ None
+unfolding answer_of fault_of number_at
+refusal = refl
+
+-- other items between two replies change nothing
+others_between : settles wanted (items.Down 0 2 ∷ items.Frame 0 (codes "x") ∷ gives 0 5 ∷ []) (gives 2 5) ≡ Some 5
+unfolding answer_of fault_of number_at
+others_between = refl
+
+other_item : settles wanted (gives 0 5 ∷ []) (items.Client 2 0 (position_reply 7 1 5)) ≡ None
+other_item = refl

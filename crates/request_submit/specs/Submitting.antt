@@ -1,0 +1,98 @@
+-- What handing in a request does to a link, and how it ends. Lists of the link's calls, of its items and of the calls of the votes have
+-- the newest first.
+use Rattle.std.specs.Prelude.{◌≡◌, ℕ, ◌≤◌, Bool, true, List, [], ◌∷◌, ◌++◌, map, reverse, Option, Some, None, Result, Ok, Err}
+use Rattle.ritas_base.specs.History.{replicas}
+use Rattle.outside.specs.Faults.{Rose}
+use Rattle.outside.specs.Links.{LinkAct, Starts, Gives, Sends}
+use Rattle.outside.specs.declared.link.LinkItem.{LinkItem}
+use Rattle.outside.specs.declared.link.LinkItem.TheVariants as items
+use Rattle.outside.specs.declared.link.LinkPlan.{LinkPlan}
+use Rattle.outside.specs.declared.link.LinkPlan.TheVariants as plans
+use Rattle.client_port.specs.Messages.{request_bytes}
+use Rattle.client_port.specs.Votes.{Wanted, Call, answer_of}
+use Rattle.client_port.specs.declared.votes.ReplyFault.{ReplyFault}
+use Rattle.request_submit.specs.declared.end.SubmitEnd.{SubmitEnd}
+use Rattle.request_submit.specs.declared.end.SubmitEnd.TheVariants as ends
+
+-- ---- handing in
+
+-- the link is started for a client of these nodes
+abbrev pub plan_of : List (List ℕ) → LinkPlan
+plan_of nodes = plans.Client nodes
+
+-- the message goes to a node
+abbrev pub sent_to : List ℕ → ℕ → LinkAct
+sent_to message node = Sends (record { at = 0; to = node; bytes = message })
+
+-- it goes to each of n nodes, in ascending order
+abbrev pub sent_to_each : ℕ → List ℕ → List LinkAct
+sent_to_each n message = reverse (map (sent_to message) (replicas n))
+
+-- the calls with which a request with this payload is handed in to these nodes
+abbrev pub handed_in : Wanted → List (List ℕ) → List ℕ → List LinkAct
+handed_in w nodes payload =
+    sent_to_each w.numbers.n (request_bytes (record { client = w.client; request = w.request; payload = payload })) ++ Starts (plan_of nodes) ∷ []
+
+-- ---- what items settle
+
+-- of items the replies, as calls of the votes
+abbrev pub calls_of : List LinkItem → List Call
+calls_of [] = []
+calls_of (items.Frame to bytes ∷ older) = calls_of older
+calls_of (items.Client at conn bytes ∷ older) = calls_of older
+calls_of (items.Reply from bytes ∷ older) = record { from = from; bytes = bytes } ∷ calls_of older
+calls_of (items.Down at peer ∷ older) = calls_of older
+calls_of (items.End ∷ older) = calls_of older
+
+-- the position that an answer of the votes has: a reply that is refused has none
+abbrev pub position_of : Result (Option ℕ) ReplyFault → Option ℕ
+position_of (Ok position) = position
+position_of (Err fault) = None
+
+-- the position that an item settles behind older ones: that of a reply with which f + 1 nodes have replied it
+abbrev pub settles : Wanted → List LinkItem → LinkItem → Option ℕ
+settles w older (items.Frame to bytes) = None
+settles w older (items.Client at conn bytes) = None
+settles w older (items.Reply from bytes) = position_of (answer_of w (calls_of older) (record { from = from; bytes = bytes }))
+settles w older (items.Down at peer) = None
+settles w older items.End = None
+
+-- an item that isn't the link's end, and settles nothing behind older ones
+pub record Passes (w : Wanted) (older : List LinkItem) (item : LinkItem) : Type 0 where
+  pub more : item ≡ items.End → ⊥
+  pub quiet : settles w older item ≡ None
+
+-- each of these items is such a one behind the older ones
+abbrev pub GoesOn : Wanted → List LinkItem → Type 0
+GoesOn w [] = Unit {0}
+GoesOn w (item ∷ older) = Passes w older item × GoesOn w older
+
+-- ---- how it ends
+
+-- the link told the older part of these calls
+pub record ToldPart (old new acts : List LinkAct) : Type 0 where
+  pub rest : List LinkAct
+  pub back : List LinkAct
+  pub parts : acts ≡ rest ++ back
+  pub told : new ≡ back ++ old
+
+-- behind these items one came with which this position is settled, and then there was no further call
+pub record SettledBy (w : Wanted) (older : List LinkItem) (position : ℕ) (tells : Bool) (old new acts : List LinkAct) : Type 0 where
+  pub item : LinkItem
+  pub settled : settles w older item ≡ Some position
+  pub told : tells ≡ true → new ≡ Gives item ∷ acts ++ old
+
+-- each end, where these items were taken and these calls were made or to be made
+abbrev pub EndsSo : Wanted → List LinkItem → List LinkAct → Bool → List LinkAct → List LinkAct → ℕ → ℕ → SubmitEnd → Type 0
+EndsSo w older acts tells old new before after (ends.Position position) = SettledBy w older position tells old new acts
+EndsSo w older acts tells old new before after ends.NoPosition = tells ≡ true → new ≡ Gives items.End ∷ acts ++ old
+EndsSo w older acts tells old new before after ends.LinkFault = Rose before after × (tells ≡ true → ToldPart old new acts)
+EndsSo w older acts tells old new before after ends.Mem = tells ≡ true → ToldPart old new acts
+
+-- There are items, of which none was the link's end and none settled a position, after which it ended so. The link had been started with
+-- the nodes and given the request for each of them, in order, before it gave the first of these items.
+pub record Submits (w : Wanted) (nodes : List (List ℕ)) (payload : List ℕ) (tells : Bool) (old new : List LinkAct) (before after : ℕ) (end : SubmitEnd) : Type 0 where
+  pub items : List LinkItem
+  pub on : GoesOn w items
+  pub later : before ≤ after
+  pub so : EndsSo w items (map Gives items ++ handed_in w nodes payload) tells old new before after end

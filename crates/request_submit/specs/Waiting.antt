@@ -1,0 +1,36 @@
+-- What one part of handing in a request does after another.
+use Rattle.std.specs.Prelude.{◌≡◌, ℕ, ◌≤◌, Bool, true, List, ◌++◌, map, Result, Ok, Err, OnOk}
+use Rattle.outside.specs.Faults.{Rose}
+use Rattle.outside.specs.Links.{LinkAct, Gives}
+use Rattle.outside.specs.declared.link.LinkFault.{LinkFault}
+use Rattle.outside.specs.declared.link.LinkFault.TheVariants as faults
+use Rattle.outside.specs.declared.link.LinkItem.{LinkItem}
+use Rattle.client_port.specs.Votes.{Wanted, Ballots, VotesStand}
+use Rattle.request_submit.specs.declared.end.SubmitEnd.{SubmitEnd}
+use Rattle.request_submit.specs.declared.end.SubmitEnd.TheVariants as ends
+use Rattle.request_submit.specs.Submitting.{handed_in, calls_of, GoesOn, ToldPart, Submits}
+
+-- calls of the link were these, or for an error a part of them
+pub record LinkDid (tells : Bool) (acts old new : List LinkAct) (before after : ℕ) (result : Result (Unit {0}) LinkFault) : Type 0 where
+  pub whole : tells ≡ true → OnOk result (new ≡ acts ++ old)
+  pub part : tells ≡ true → ToldPart old new acts
+  pub later : before ≤ after
+  pub cause : result ≡ Err faults.Failed → Rose before after
+
+-- a fault of the link as an end
+abbrev pub IsEndOf : LinkFault → SubmitEnd → Type 0
+IsEndOf faults.Failed end = end ≡ ends.LinkFault
+IsEndOf faults.Mem end = end ≡ ends.Mem
+
+-- since base, the request was handed in, and items were taken with which it goes on; the votes stand for their replies
+pub record Waits (w : Wanted) (nodes : List (List ℕ)) (payload : List ℕ) (tells : Bool) (base now : List LinkAct) (before after : ℕ) (votes : Ballots) : Type 0 where
+  pub items : List LinkItem
+  pub on : GoesOn w items
+  pub later : before ≤ after
+  pub told : tells ≡ true → now ≡ (map Gives items ++ handed_in w nodes payload) ++ base
+  pub stands : VotesStand w (calls_of items) votes
+
+-- it waits on, or ended
+abbrev pub Goes : Wanted → List (List ℕ) → List ℕ → Bool → List LinkAct → List LinkAct → ℕ → ℕ → Ballots → Result (Unit {0}) SubmitEnd → Type 0
+Goes w nodes payload tells base now before after votes (Ok done) = Waits w nodes payload tells base now before after votes
+Goes w nodes payload tells base now before after votes (Err end) = Submits w nodes payload tells base now before after end

@@ -1,0 +1,89 @@
+//! Waiting for a position.
+ghost use Rattle.std.specs.Prelude.{◌≡◌, ◌↔◌, ◌∷◌, ℕ, List, IsTrue};
+ghost use Rattle.outside.specs.Links.{LinkAct};
+ghost use Rattle.outside.specs.declared.link.LinkItem.{LinkItem};
+ghost use Rattle.client_port.specs.Votes.{Wanted, VotesStand};
+ghost use Rattle.request_submit.specs.Submitting.{calls_of, settles, Submits};
+ghost use Rattle.request_submit.specs.Waiting.{Waits, Goes};
+
+use crate::end::{SubmitEnd, end_of};
+use client_port::Votes;
+use outside::{Link, LinkItem};
+use std::alloc::Global;
+use std::net::Net;
+use std::sync::Wait;
+
+// Whether an item is the link's end.
+fn is_end(item: &LinkItem) -> bool
+    ensures { IsTrue result ↔ (item.now ≡ LinkItem.End) }
+{
+    match item {
+        LinkItem::End => true,
+        LinkItem::Frame { .. } => false,
+        LinkItem::Client { .. } => false,
+        LinkItem::Reply { .. } => false,
+        LinkItem::Down { .. } => false,
+    }
+}
+
+// Counts an item, where it is a reply, and answers the position that it settles.
+fn count(votes: &mut Votes, item: &LinkItem) -> Option<u32>
+    ensures settled { (w : Wanted) (items : List LinkItem) → VotesStand w (calls_of items) votes.old → result ≡ settles w items item.now }
+    ensures stands { (w : Wanted) (items : List LinkItem) → VotesStand w (calls_of items) votes.old → VotesStand w (calls_of (item.now ∷ items)) votes.new }
+{
+    match item {
+        LinkItem::Reply { from, bytes } => match votes.reply(*from, bytes.as_slice()) {
+            Ok(position) => position,
+            Err(_) => None,
+        },
+        LinkItem::Frame { .. } => None,
+        LinkItem::Client { .. } => None,
+        LinkItem::Down { .. } => None,
+        LinkItem::End => None,
+    }
+}
+
+// Takes the link's next item, unless waiting ends with it.
+fn take<R: Net + Wait, L: Link>(
+    rt: &R,
+    alloc: Global,
+    votes: &mut Votes,
+    link: &mut L,
+) -> Result<(), SubmitEnd>
+    ensures { (w : Wanted) (nodes : List (List ℕ)) (payload : List ℕ) (base : List LinkAct) (before : ℕ)
+        → Waits w nodes payload L.tells base (L.told link.old) before (L.faults link.old) votes.old
+        → Goes w nodes payload L.tells base (L.told link.new) before (L.faults link.new) votes.new result }
+{
+    let item = match link.next(rt, alloc) {
+        Ok(item) => item,
+        Err(fault) => return Err(end_of(fault)),
+    };
+    if is_end(&item) {
+        return Err(SubmitEnd::NoPosition);
+    }
+    match count(votes, &item) {
+        Some(position) => Err(SubmitEnd::Position(position)),
+        None => Ok(()),
+    }
+}
+
+/// Takes the link's items until f + 1 nodes replied one position, or the link ends. It waits in the calls of the link alone.
+pub(crate) fn await_position<R: Net + Wait, L: Link>(
+    rt: &R,
+    alloc: Global,
+    votes: Votes,
+    link: &mut L,
+) -> SubmitEnd
+    ensures { (w : Wanted) (nodes : List (List ℕ)) (payload : List ℕ) (base : List LinkAct) (before : ℕ)
+        → Waits w nodes payload L.tells base (L.told link.old) before (L.faults link.old) votes
+        → Submits w nodes payload L.tells base (L.told link.new) before (L.faults link.new) result }
+{
+    let mut votes = votes;
+    for _ in rt.forever() {
+        match take(rt, alloc, &mut votes, link) {
+            Ok(()) => {}
+            Err(end) => return end,
+        }
+    }
+    unreachable!()
+}

@@ -1,0 +1,87 @@
+//! Handing a request to the nodes.
+ghost use Rattle.request_submit.specs.Submitting.{handed_in, sent_to_each, Submits};
+ghost use Rattle.request_submit.specs.Waiting.{LinkDid};
+
+use crate::awaiting::await_position;
+use crate::end::{SubmitEnd, end_of};
+use client_port::{Votes, write_request};
+use outside::{Link, LinkFault, LinkPlan};
+use ritas_base::{Mem, Params, Texts};
+use std::alloc::Global;
+use std::net::Net;
+use std::sync::Wait;
+
+// Sends a message to each of so many nodes, in ascending order.
+fn send_to_each<R: Net + Wait, L: Link>(
+    rt: &R,
+    alloc: Global,
+    link: &mut L,
+    count: u8,
+    message: &[u8],
+) -> Result<(), LinkFault>
+    ensures { LinkDid L.tells (sent_to_each count message.now) (L.told link.old) (L.told link.new) (L.faults link.old) (L.faults link.new) result }
+{
+    for node in 0..count {
+        match link.send(rt, alloc, 0, node, message) {
+            Ok(()) => {}
+            Err(fault) => return Err(fault),
+        }
+    }
+    Ok(())
+}
+
+// Starts the link, and sends the request to each node.
+fn hand_in<R: Net + Wait, L: Link>(
+    rt: &R,
+    alloc: Global,
+    p: &Params,
+    nodes: &Texts,
+    client: u32,
+    request: u32,
+    payload: &[u8],
+    link: &mut L,
+) -> Result<(), LinkFault>
+    ensures { LinkDid L.tells (handed_in (record { numbers = p.now; client = client; request = request }) nodes.now payload.now) (L.told link.old) (L.told link.new) (L.faults link.old) (L.faults link.new) result }
+{
+    let nodes = match nodes.copy(alloc) {
+        Ok(nodes) => nodes,
+        Err(Mem) => return Err(LinkFault::Mem),
+    };
+    let message = match write_request(alloc, client, request, payload) {
+        Ok(message) => message,
+        Err(Mem) => return Err(LinkFault::Mem),
+    };
+    match link.start(rt, alloc, &LinkPlan::Client { nodes }) {
+        Ok(()) => send_to_each(rt, alloc, link, p.n(), message.as_slice()),
+        Err(fault) => Err(fault),
+    }
+}
+
+/// Hands a client's request to all nodes, and waits for a position that f + 1 of them reply: as up to f nodes may be faulty,
+/// one of these is correct. This is the client's rule of Castro and Liskov, "Practical Byzantine Fault Tolerance" (OSDI 1999).
+///
+/// The link is started once, for a client of these nodes. The request's message is sent to each node from 0 to n - 1, in
+/// ascending order and with 0 as the replica that sends. Then the link's items are taken: each reply is counted by
+/// `Votes::reply`, of each node its first position. A reply that is refused there changes nothing, and neither does any other
+/// item.
+///
+/// It ends with `Position` at the first reply whose position f + 1 nodes have given with it, with `NoPosition` at the link's
+/// end, with `LinkFault` at the first call of the link that fails, only where its count of faults rose or stands at its last
+/// value, and with `Mem` where there is not enough memory. It waits nowhere but in the link's calls.
+pub fn submit<R: Net + Wait, L: Link>(
+    rt: &R,
+    alloc: Global,
+    p: &Params,
+    nodes: &Texts,
+    client: u32,
+    request: u32,
+    payload: &[u8],
+    link: &mut L,
+) -> SubmitEnd
+    ensures { Submits (record { numbers = p.now; client = client; request = request }) nodes.now payload.now L.tells (L.told link.old) (L.told link.new) (L.faults link.old) (L.faults link.new) result }
+{
+    match hand_in(rt, alloc, p, nodes, client, request, payload, link) {
+        Ok(()) => await_position(rt, alloc, Votes::new(p, client, request), link),
+        Err(fault) => end_of(fault),
+    }
+}
