@@ -1,0 +1,26 @@
+-- Pieces of a stream.
+use Rattle.std.specs.Prelude.{ℕ, ◌≡◌, ◌+◌, ◌<◌, ◌≤◌, ◌⊎◌, List, ◌++◌, length, take, drop}
+use Rattle.std.specs.Int.{w16, to_be_bytes, from_be_bytes}
+use Rattle.tcp_link.specs.declared.pieces.Front.{Front}
+use Rattle.tcp_link.specs.declared.pieces.Front.TheVariants as front
+
+-- a piece: its length in two bytes, the greater first, and its bytes
+abbrev pub piece : List ℕ → List ℕ
+piece bytes = to_be_bytes w16 (length bytes) ++ bytes
+
+-- the length that the first two bytes tell
+abbrev pub length_told : List ℕ → ℕ
+length_told bytes = from_be_bytes w16 (take 2 bytes)
+
+-- what stands at the front of bytes, where pieces have at most so many: of a whole piece, the bytes after the length
+abbrev pub IsFront : List ℕ → ℕ → Front → Type 0
+IsFront bytes most (front.Piece p) =
+    (2 + length_told bytes ≤ length bytes) × (length_told bytes ≤ most) × (p.now ≡ take (length_told bytes) (drop 2 bytes))
+IsFront bytes most front.Part = (length bytes < 2) ⊎ ((length_told bytes ≤ most) × (length bytes < 2 + length_told bytes))
+IsFront bytes most front.TooLong = (2 ≤ length bytes) × (most < length_told bytes)
+
+-- a piece at the front lies in the bytes, and has at most so many
+abbrev pub FitsIn : List ℕ → ℕ → Front → Type 0
+FitsIn bytes most (front.Piece p) = (2 + length p.now ≤ length bytes) × (length p.now ≤ most)
+FitsIn bytes most front.Part = Unit {0}
+FitsIn bytes most front.TooLong = Unit {0}

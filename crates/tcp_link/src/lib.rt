@@ -1,0 +1,31 @@
+//! A link over TCP (RFC 9293), whose sockets are waited for by epoll(7).
+//!
+//! Of two replicas the one with the greater number connects, and writes one byte first, its number. From then on both sides write
+//! pieces: a length of two bytes, the greater first, and so many bytes. A piece is a frame, of at most 16,384 bytes. A client
+//! connects to a node's address for clients, where both sides write pieces of at most 65,535 bytes from the beginning.
+//!
+//! A connection that ends or fails is closed, which is told once, of a peer or a node. The one that began a connection between
+//! replicas begins it again after a pause. In each turn, each connection that has bytes is read once, then all whole frames are
+//! given, and one message of each client that has one.
+#![tactic(auto)]
+
+mod coming;
+mod conn;
+mod conns;
+mod dials;
+mod doors;
+mod input;
+mod items;
+mod link;
+mod output;
+mod pieces;
+mod retries;
+mod running;
+mod sending;
+mod sockets;
+mod starting;
+#[cfg(test)]
+mod tests;
+mod trouble;
+
+pub use link::TcpLink;

@@ -1,0 +1,151 @@
+ghost use Rattle.std.specs.Prelude.{◌≡◌, ◌<◌, ◌^◌, [], false, IfOk, IfSome, length, Err};
+ghost use Rattle.outside.specs.Faults.{HasCause};
+ghost use Rattle.outside.specs.Links.{bytes_of};
+
+use crate::pieces::MOST_BYTES;
+use crate::running::Running;
+use crate::starting::started;
+use crate::trouble::Trouble;
+use outside::{Link, LinkFault, LinkItem, LinkPlan};
+use std::alloc::Global;
+use std::net::Net;
+use std::sync::Wait;
+
+/// A link over TCP. It isn't told what it gave and what it was given.
+///
+/// Addresses are texts as `127.0.0.1:8080`, of at most 31 replicas or nodes; further ones are left out. `Failed` is answered where
+/// a listener can't be made, as for want of its address, or the poll fails. Until it is started it gives `End`.
+#[derive(Drop)]
+pub struct TcpLink {
+    running: Option<Running>,
+    faults: u64,
+}
+
+impl TcpLink {
+    /// A link that wasn't started.
+    pub fn new(_alloc: Global) -> TcpLink
+        ensures { result.faults ≡ 0 }
+    {
+        TcpLink {
+            running: None,
+            faults: 0,
+        }
+    }
+
+    /// Writes what is kept for connections, as far as it is taken at once: for when no other call of the link follows.
+    pub fn flush(&mut self)
+        ensures { self.new.faults ≡ self.old.faults }
+    {
+        if let Some(running) = &mut self.running {
+            let _ = running.sockets.write_all();
+        }
+    }
+
+    // The fault that a trouble is, which is counted if it isn't want of memory.
+    fn fault(&mut self, trouble: Trouble) -> LinkFault
+        ensures { HasCause self.old.faults self.new.faults (result ≡ LinkFault.Failed) }
+    {
+        let faults = self.faults;
+        match trouble {
+            Trouble::System => {
+                self.faults = faults.saturating_add(1);
+                LinkFault::Failed
+            }
+            Trouble::Mem => LinkFault::Mem,
+        }
+    }
+
+    // The next item, if one came by now.
+    fn step<R: Net>(&mut self, rt: &R, alloc: Global) -> Result<Option<LinkItem>, LinkFault>
+        ensures size { IfOk result (λ item. IfSome item (λ x. length (bytes_of x) < 2 ^ 16)) }
+        ensures cause { HasCause self.old.faults self.new.faults (result ≡ Err LinkFault.Failed) }
+    {
+        let Some(running) = &mut self.running else {
+            return Ok(Some(LinkItem::End));
+        };
+        if let Some(item) = running.sockets.take_item(alloc)? {
+            return Ok(Some(item));
+        }
+        match running.turn(rt, alloc) {
+            Ok(()) => Ok(None),
+            Err(trouble) => Err(self.fault(trouble)),
+        }
+    }
+}
+
+impl Link for TcpLink {
+    ghost tells = { false };
+
+    ghost told = { λ _. [] };
+
+    ghost faults = { λ s. s.faults };
+
+    fn start<R: Net + Wait>(
+        &mut self,
+        rt: &R,
+        alloc: Global,
+        plan: &LinkPlan,
+    ) -> Result<(), LinkFault>
+        ensures cause { HasCause self.old.faults self.new.faults (result ≡ Err LinkFault.Failed) }
+    {
+        match started(rt, alloc, plan) {
+            Ok(running) => {
+                self.running = Some(running);
+                Ok(())
+            }
+            Err(trouble) => Err(self.fault(trouble)),
+        }
+    }
+
+    fn next<R: Net + Wait>(&mut self, rt: &R, alloc: Global) -> Result<LinkItem, LinkFault>
+        ensures size { IfOk result (λ item. length (bytes_of item) < 2 ^ 16) }
+        ensures cause { HasCause self.old.faults self.new.faults (result ≡ Err LinkFault.Failed) }
+    {
+        for _ in rt.forever() {
+            match self.step(rt, alloc) {
+                Ok(Some(item)) => return Ok(item),
+                Ok(None) => {}
+                Err(fault) => return Err(fault),
+            }
+        }
+        unreachable!()
+    }
+
+    fn send<R: Net + Wait>(
+        &mut self,
+        _rt: &R,
+        _alloc: Global,
+        at: u8,
+        peer: u8,
+        frame: &[u8],
+    ) -> Result<(), LinkFault>
+        ensures cause { HasCause self.old.faults self.new.faults (result ≡ Err LinkFault.Failed) }
+    {
+        if frame.len() > MOST_BYTES {
+            return Ok(());
+        }
+        match &mut self.running {
+            Some(running) => Ok(running.sockets.send(at, peer, frame)?),
+            None => Ok(()),
+        }
+    }
+
+    fn reply<R: Net + Wait>(
+        &mut self,
+        _rt: &R,
+        _alloc: Global,
+        at: u8,
+        conn: u32,
+        bytes: &[u8],
+    ) -> Result<(), LinkFault>
+        ensures cause { HasCause self.old.faults self.new.faults (result ≡ Err LinkFault.Failed) }
+    {
+        if bytes.len() > MOST_BYTES {
+            return Ok(());
+        }
+        match &mut self.running {
+            Some(running) => Ok(running.sockets.reply(at, conn, bytes)?),
+            None => Ok(()),
+        }
+    }
+}

@@ -1,0 +1,53 @@
+//! Pieces of a stream: a length of two bytes, the greater first, and so many bytes.
+
+ghost use Rattle.std.specs.Prelude.{◌≡◌, ◌<◌, ◌≤◌, ◌++◌, ◌^◌, OnOk, length, vec_len};
+ghost use Rattle.tcp_link.specs.Pieces.{piece, IsFront, FitsIn};
+
+use ritas_base::Mem;
+
+/// How many bytes tell the length of a piece.
+pub(crate) const LENGTH_BYTES: usize = 2;
+
+/// The most bytes of a piece.
+pub(crate) const MOST_BYTES: usize = 65_535;
+
+/// What stands at the front of bytes that came.
+#[derive(Clone, Copy, Debug)]
+pub(crate) enum Front<'a> {
+    /// A whole piece, of these bytes.
+    Piece(&'a [u8]),
+    /// A part of a piece, or nothing.
+    Part,
+    /// A length over the most that is allowed.
+    TooLong,
+}
+
+/// What stands at the front of these bytes, where pieces have at most so many.
+pub(crate) fn front_of(bytes: &[u8], most: usize) -> Front<'_>
+    requires { most < 2 ^ 16 }
+    ensures exact { IsFront bytes.now most result }
+    ensures fits { FitsIn bytes.now most result }
+{
+    let [high, low, rest @ ..] = bytes else {
+        return Front::Part;
+    };
+    let len = usize::from(u16::from_be_bytes([*high, *low]));
+    if len > most {
+        return Front::TooLong;
+    }
+    if len > rest.len() {
+        return Front::Part;
+    }
+    Front::Piece(&rest[..len])
+}
+
+/// Appends a piece.
+pub(crate) fn put_piece(output: &mut Vec<u8>, bytes: &[u8]) -> Result<(), Mem>
+    requires { length bytes.now < 2 ^ 16 }
+    ensures ok { OnOk result (output.new.items ≡ output.old.items ++ piece bytes.now) }
+    ensures no_shorter { vec_len output.old ≤ vec_len output.new }
+{
+    output.extend_from_slice(&(bytes.len() as u16).to_be_bytes())?;
+    output.extend_from_slice(bytes)?;
+    Ok(())
+}

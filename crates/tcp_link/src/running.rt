@@ -1,0 +1,65 @@
+//! A link that runs.
+
+use crate::sockets::Sockets;
+use crate::trouble::Trouble;
+use mio::{Events, Poll};
+use std::alloc::Global;
+use std::net::Net;
+use std::time::Duration;
+
+// So many events are taken by one wait.
+const MOST_EVENTS: usize = 256;
+
+/// A link that runs: the poll, and its sockets.
+#[derive(Drop)]
+pub(crate) struct Running {
+    pub(crate) poll: Poll,
+    events: Events,
+    pub(crate) sockets: Sockets,
+}
+
+impl Running {
+    /// A link of n replicas with no socket yet.
+    pub(crate) fn new<R: Net>(
+        rt: &R,
+        alloc: Global,
+        n: u8,
+        is_client: bool,
+    ) -> Result<Running, Trouble> {
+        Ok(Running {
+            events: Events::with_capacity(alloc, MOST_EVENTS)?,
+            poll: Poll::new(rt)?,
+            sockets: Sockets::new(alloc, n, is_client)?,
+        })
+    }
+
+    // Waits for events, unless something is to be done before one comes, and takes note of them.
+    fn wait(&mut self) -> Result<(), Trouble> {
+        let is_busy = self.sockets.is_busy();
+        let timeout = if is_busy {
+            Some(Duration::from_millis(0))
+        } else {
+            self.sockets.retries.wait()
+        };
+        self.poll.poll(&mut self.events, timeout)?;
+        let is_quiet = !is_busy && self.events.is_empty();
+        self.sockets.retries.waited(is_quiet);
+        for event in &self.events {
+            self.sockets.note(event)?;
+        }
+        Ok(())
+    }
+
+    /// Writes what waits, waits for events, and does what they ask for.
+    pub(crate) fn turn<R: Net>(&mut self, rt: &R, alloc: Global) -> Result<(), Trouble> {
+        self.sockets.write_all()?;
+        self.wait()?;
+        let registry = self.poll.registry();
+        self.sockets.write_all()?;
+        self.sockets.retry_all(rt, alloc, registry)?;
+        self.sockets.accept_all(alloc, registry)?;
+        self.sockets.read_all()?;
+        self.sockets.messages_due = self.sockets.messages.len();
+        Ok(())
+    }
+}

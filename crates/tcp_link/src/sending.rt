@@ -1,0 +1,57 @@
+//! What goes out.
+
+ghost use Rattle.std.specs.Prelude.{◌<◌, ◌^◌, length};
+
+use crate::conn::{MOST_FRAME, Stage, Whom};
+use crate::sockets::{Sockets, list};
+use ritas_base::Mem;
+
+impl Sockets {
+    /// Sends a frame to a peer of a replica, or a message to a node. It is kept where the connection was begun and doesn't stand
+    /// yet. It is dropped where there is none, and a frame also where it is longer than the peer takes.
+    pub(crate) fn send(&mut self, at: u8, peer: u8, bytes: &[u8]) -> Result<(), Mem>
+        requires { length bytes.now < 2 ^ 16 }
+    {
+        let at = if self.is_client { 0 } else { at };
+        if !self.is_client && bytes.len() > MOST_FRAME {
+            return Ok(());
+        }
+        match self.conns.peer(at, peer) {
+            Some(token) => self.put(token, bytes),
+            None => Ok(()),
+        }
+    }
+
+    /// Sends a message to a client of a replica. It is dropped where there is no connection.
+    pub(crate) fn reply(&mut self, at: u8, number: u32, bytes: &[u8]) -> Result<(), Mem>
+        requires { length bytes.now < 2 ^ 16 }
+    {
+        let Some(token) = self.conns.client(number) else {
+            return Ok(());
+        };
+        match self.conns.get(token) {
+            Some(conn) => match conn.whom {
+                Whom::Client { at: own, conn: _ } if own == at => self.put(token, bytes),
+                _ => Ok(()),
+            },
+            None => Ok(()),
+        }
+    }
+
+    // Keeps a piece to go out by a connection.
+    fn put(&mut self, token: usize, bytes: &[u8]) -> Result<(), Mem>
+        requires { length bytes.now < 2 ^ 16 }
+    {
+        let Some(conn) = self.conns.get_mut(token) else {
+            return Ok(());
+        };
+        if conn.is_over() {
+            return Ok(());
+        }
+        conn.put(bytes)?;
+        if conn.stage == Stage::Up && !conn.is_blocked && conn.has_output() {
+            list(&mut conn.listed.writes, token, &mut self.writers)?;
+        }
+        self.close_if_over(token)
+    }
+}

@@ -1,0 +1,131 @@
+//! How the links of the three plans begin.
+
+use crate::conn::Whom;
+use crate::conns::MOST_REPLICAS;
+use crate::dials::Dial;
+use crate::doors::{Entry, address_of, open};
+use crate::running::Running;
+use crate::sockets::Down;
+use crate::trouble::Trouble;
+use outside::LinkPlan;
+use ritas_base::{Mem, Texts};
+use std::alloc::Global;
+use std::net::Net;
+use std::sync::Wait;
+
+// How many replicas these are; more than 31 aren't reached.
+fn count_of(texts: &Texts) -> u8 {
+    u8::try_from(texts.len().min(MOST_REPLICAS)).unwrap_or(0)
+}
+
+impl Running {
+    // Opens a door of a replica.
+    fn open<R: Net>(&mut self, rt: &R, text: Option<&[u8]>, entry: Entry) -> Result<(), Trouble> {
+        let Some(address) = text.and_then(address_of) else {
+            return Err(Trouble::System);
+        };
+        let token = self.sockets.doors.len();
+        let door = open(rt, self.poll.registry(), address, entry, token)?;
+        self.sockets.doors.push(door)?;
+        Ok(())
+    }
+
+    // Begins to connect with a peer or a node, and does so again and again where it has to be. A text that is no address is never
+    // reached.
+    fn reach<R: Net>(&mut self, rt: &R, alloc: Global, text: &[u8], whom: Whom) -> Result<(), Mem> {
+        let Some(address) = address_of(text) else {
+            if let Whom::Node { from } = whom {
+                self.sockets.downs.push_back(Down { at: 0, peer: from })?;
+            }
+            return Ok(());
+        };
+        let number = self.sockets.dials.len();
+        self.sockets.dials.push(Dial { address, whom })?;
+        self.sockets.dial(rt, alloc, self.poll.registry(), number)
+    }
+
+    // Connects a replica with those of lesser numbers.
+    fn reach_lesser<R: Net>(
+        &mut self,
+        rt: &R,
+        alloc: Global,
+        at: u8,
+        peers: &Texts,
+    ) -> Result<(), Mem> {
+        for peer in 0..at {
+            if let Some(text) = peers.get(usize::from(peer)) {
+                self.reach(rt, alloc, text, Whom::Peer { at, peer })?;
+            }
+        }
+        Ok(())
+    }
+
+    // Goes on until every two replicas are connected, as both of them know.
+    fn join<R: Net + Wait>(&mut self, rt: &R, alloc: Global) -> Result<(), Trouble> {
+        let n = usize::from(self.sockets.n);
+        let wanted = n * n.saturating_sub(1);
+        for _ in rt.forever() {
+            if self.sockets.conns.peers_up() >= wanted {
+                return Ok(());
+            }
+            self.turn(rt, alloc)?;
+        }
+        unreachable!()
+    }
+}
+
+// One replica of a session.
+fn start_node<R: Net>(
+    rt: &R,
+    alloc: Global,
+    at: u8,
+    peers: &Texts,
+    client: &[u8],
+) -> Result<Running, Trouble> {
+    let mut running = Running::new(rt, alloc, count_of(peers), false)?;
+    running.open(rt, peers.get(usize::from(at)), Entry::Replicas { at })?;
+    running.open(rt, Some(client), Entry::Clients { at })?;
+    running.reach_lesser(rt, alloc, at, peers)?;
+    Ok(running)
+}
+
+// All replicas of a session.
+fn start_cluster<R: Net + Wait>(rt: &R, alloc: Global, peers: &Texts) -> Result<Running, Trouble> {
+    let n = count_of(peers);
+    let mut running = Running::new(rt, alloc, n, false)?;
+    for at in 0..n {
+        running.open(rt, peers.get(usize::from(at)), Entry::Replicas { at })?;
+    }
+    for at in 0..n {
+        running.reach_lesser(rt, alloc, at, peers)?;
+    }
+    running.join(rt, alloc)?;
+    Ok(running)
+}
+
+// A client of these nodes.
+fn start_client<R: Net>(rt: &R, alloc: Global, nodes: &Texts) -> Result<Running, Trouble> {
+    let n = count_of(nodes);
+    let mut running = Running::new(rt, alloc, n, true)?;
+    for from in 0..n {
+        if let Some(text) = nodes.get(usize::from(from)) {
+            running.reach(rt, alloc, text, Whom::Node { from })?;
+        }
+    }
+    Ok(running)
+}
+
+/// The link of a plan.
+pub(crate) fn started<R: Net + Wait>(
+    rt: &R,
+    alloc: Global,
+    plan: &LinkPlan,
+) -> Result<Running, Trouble> {
+    match plan {
+        LinkPlan::Node { me, peers, client } => {
+            start_node(rt, alloc, *me, peers, client.as_slice())
+        }
+        LinkPlan::Cluster { peers } => start_cluster(rt, alloc, peers),
+        LinkPlan::Client { nodes } => start_client(rt, alloc, nodes),
+    }
+}
