@@ -1,0 +1,111 @@
+-- The header, what was served and the end mark make a file, and the link's calls those of a session.
+use Rattle.std.proofs.Common.{◌≡◌, ℕ, true, List, [], ◌∷◌, ◌++◌, refl, sym, ◌∙◌, ap, append_assoc}
+use Rattle.std.proofs.lemmas.List.{append-nil}
+use Rattle.ritas_base.specs.declared.event.Event.{Event}
+use Rattle.outside.specs.Links.{LinkAct, Starts, Gives}
+use Rattle.outside.specs.Writing.{TookFront}
+use Rattle.outside.specs.declared.link.LinkItem.TheVariants as items
+use Rattle.outside.specs.declared.link.LinkPlan.{LinkPlan}
+use Rattle.schedule_file.specs.ReadHeader.{heading}
+use Rattle.schedule_file.specs.Spelling.{header_text}
+use Rattle.schedule_file.specs.declared.header.Header.{Header}
+use Rattle.node_loop.specs.declared.end.ServeEnd.{ServeEnd}
+use Rattle.node_loop.specs.declared.end.ServeEnd.TheVariants as ends
+use Rattle.node_loop.specs.Outs.{Outs, Tells, TookBack, Agrees, Cut, text_of}
+use Rattle.node_loop.specs.Serving.{Serving, Want}
+use Rattle.node_session.specs.Session.{TookAll, TookPart, SessionEnds}
+use Rattle.node_session.specs.Opening.{HasBegun, HasFailed, HasCause}
+
+module _ (h : Header) (plan : LinkPlan) (tells : Tells) where
+  -- what a link told since a session began
+  told_all : (old mid new acts : List LinkAct) → mid ≡ Starts plan ∷ old → new ≡ acts ++ mid → new ≡ (acts ++ Starts plan ∷ []) ++ old
+  told_all old mid new acts begun told = told ∙ ap (λ l. acts ++ l) begun ∙ sym (append_assoc acts (Starts plan ∷ []) old)
+
+  told_part : (old mid new acts more : List LinkAct) → mid ≡ Starts plan ∷ old → TookBack mid new acts → TookBack old new ((more ++ acts) ++ Starts plan ∷ [])
+  told_part old mid new acts more begun part = record {
+    rest = more ++ part.rest;
+    back = part.back ++ Starts plan ∷ [];
+    parts = ap (λ l. l ++ Starts plan ∷ []) (ap (λ l. more ++ l) part.parts ∙ sym (append_assoc more part.rest part.back))
+        ∙ append_assoc (more ++ part.rest) part.back (Starts plan ∷ []);
+    told = told_all old mid new part.back begun part.told;
+  }
+
+  -- behind the header, the text of the events and the end mark
+  in_file : (old mid now last text mark : List ℕ) → mid ≡ old ++ header_text (heading h) → now ≡ mid ++ text → last ≡ now ++ mark
+      → last ≡ old ++ (header_text (heading h) ++ (text ++ mark))
+  in_file old mid now last text mark begun served closed =
+      let head = header_text (heading h) in
+      closed ∙ ap (λ l. l ++ mark) (served ∙ ap (λ l. l ++ text) begun)
+      ∙ ap (λ l. l ++ mark) (append_assoc old head text) ∙ append_assoc old (head ++ text) mark ∙ ap (λ l. old ++ l) (append_assoc head text mark)
+
+  front_in_file : (old mid now text : List ℕ) → mid ≡ old ++ header_text (heading h) → TookFront mid now text
+      → TookFront old now (header_text (heading h) ++ (text ++ 0 ∷ []))
+  front_in_file old mid now text begun part =
+      let head = header_text (heading h) in
+      record {
+        front = head ++ part.front;
+        rest = part.rest ++ 0 ∷ [];
+        parts = ap (λ l. head ++ l) (ap (λ l. l ++ 0 ∷ []) part.parts ∙ append_assoc part.front part.rest (0 ∷ []))
+            ∙ sym (append_assoc head part.front (part.rest ++ 0 ∷ []));
+        taken = part.taken ∙ ap (λ l. l ++ part.front) begun ∙ append_assoc old head part.front;
+      }
+
+  mark_in_file : (old mid now last text : List ℕ) → mid ≡ old ++ header_text (heading h) → now ≡ mid ++ text → TookFront now last (0 ∷ [])
+      → TookFront old last (header_text (heading h) ++ (text ++ 0 ∷ []))
+  mark_in_file old mid now last text begun served part =
+      let head = header_text (heading h) in
+      record {
+        front = head ++ (text ++ part.front);
+        rest = part.rest;
+        parts = ap (λ l. head ++ l) (ap (λ l. text ++ l) part.parts ∙ sym (append_assoc text part.front part.rest))
+            ∙ sym (append_assoc head (text ++ part.front) part.rest);
+        taken = in_file old mid now last text part.front begun served part.taken;
+      }
+
+  -- ---- the ends
+
+  pub all_taken : (base mid now last : Outs) (events : List Event) (acts : List LinkAct) → HasBegun (heading h) plan tells base mid → Agrees tells mid now events acts
+      → (tells.tape ≡ true → last.taken ≡ now.taken ++ 0 ∷ []) → last.told ≡ now.told → TookAll h plan tells base last events acts
+  all_taken base mid now last events acts begun served closed same = record {
+    file = λ t. in_file base.taken mid.taken now.taken last.taken (text_of events) (0 ∷ []) (begun.taken t) (served.taken t) (closed t);
+    told = λ t. same ∙ told_all base.told mid.told now.told acts (begun.told t) (served.told t);
+  }
+
+  pub part_taken : (base mid now : Outs) (events : List Event) (acts more : List LinkAct) → HasBegun (heading h) plan tells base mid → Cut tells mid now events acts
+      → TookPart h plan tells base now events (more ++ acts)
+  part_taken base mid now events acts more begun cut = record {
+    file = λ t. front_in_file base.taken mid.taken now.taken (text_of events) (begun.taken t) (cut.taken t);
+    told = λ t. told_part base.told mid.told now.told acts more (begun.told t) (cut.told t);
+  }
+
+  pub mark_lost : (base mid now last : Outs) (events : List Event) (acts more : List LinkAct) → HasBegun (heading h) plan tells base mid → Agrees tells mid now events acts
+      → (tells.tape ≡ true → TookFront now.taken last.taken (0 ∷ [])) → last.told ≡ now.told → TookPart h plan tells base last events (more ++ acts)
+  mark_lost base mid now last events acts more begun served lost same = record {
+    file = λ t. mark_in_file base.taken mid.taken now.taken last.taken (text_of events) (begun.taken t) (served.taken t) (lost t);
+    told = λ t. told_part base.told mid.told last.told acts more (begun.told t)
+        (record { rest = []; back = acts; parts = refl; told = same ∙ served.told t });
+  }
+
+  -- nothing was served
+  pub not_begun : (base now : Outs) (s : Serving) (rule : Want) (end : ServeEnd) → HasFailed (heading h) plan tells base now end → s.events ≡ [] → s.acts ≡ []
+      → SessionEnds h plan tells base now end s rule
+  not_begun base now s rule end failed none quiet = by_end end failed.cause
+    where
+      part : (more : List LinkAct) → TookPart h plan tells base now s.events (more ++ s.acts)
+      part more = record {
+        file = λ t. let part = failed.taken t in record {
+          front = part.front;
+          rest = part.rest ++ (text_of s.events ++ 0 ∷ []);
+          parts = ap (λ l. l ++ (text_of s.events ++ 0 ∷ [])) part.parts ∙ append_assoc part.front part.rest (text_of s.events ++ 0 ∷ []);
+          taken = part.taken;
+        };
+        told = λ t. record { rest = (more ++ s.acts) ++ Starts plan ∷ []; back = []; parts = sym (append-nil ((more ++ s.acts) ++ Starts plan ∷ [])); told = failed.told t };
+      }
+
+      by_end : (x : ServeEnd) → HasCause base now x → SessionEnds h plan tells base now x s rule
+      by_end ends.LinkFault cause = (cause, part [])
+      by_end ends.TapeFault cause = (cause, part (Gives items.End ∷ []))
+      by_end ends.Mem cause = part []
+      by_end ends.Done none = absurd none
+      by_end ends.Limit none = absurd none
+      by_end ends.End none = absurd none

@@ -1,0 +1,4 @@
+pub mod Composing
+pub mod Sessions
+pub mod Here
+pub mod Headings

@@ -1,0 +1,18 @@
+use Rattle.std.proofs.Common.{rules, sym, subst, List}
+use Rattle.std.specs.List.{All}
+use Rattle.outside.specs.declared.link.LinkItem.{LinkItem}
+use Rattle.schedule_file.specs.ReadHeader.{heading}
+use Rattle.schedule_file.specs.Spelling.{IsHeading}
+use Rattle.schedule_file.specs.declared.header.Header.{Header}
+use Rattle.node_loop.specs.Served.{IsFirst}
+use Rattle.node_session.proofs.Headings.{cluster_heading, are_first}
+use Rattle.node_session.proofs.configs.serve_cluster.Goals as goal
+
+pub serve_session-requires-clause-heading : goal.serve_session-requires-clause-heading
+serve_session-requires-clause-heading g c =
+    subst (λ (h : Header). IsHeading (heading h)) (sym c.cluster_header-header.ensures)
+    (cluster_heading c.args.config (search rules) (search rules) (search rules) c.requires)
+
+pub serve_session-requires-clause-firsts : goal.serve_session-requires-clause-firsts
+serve_session-requires-clause-firsts g c =
+    subst (λ (items : List LinkItem). All IsFirst items) (sym c.in_ok-first.ensures) (are_first c.args.config.requests c.requires.short)

@@ -1,0 +1,61 @@
+-- What a session begins and ends with.
+use Rattle.std.specs.Prelude.{◌≡◌, ℕ, ◌≤◌, Bool, true, false, List, [], ◌∷◌, ◌++◌, Result, Ok, Err}
+use Rattle.outside.specs.Faults.{Rose}
+use Rattle.outside.specs.Links.{Starts}
+use Rattle.outside.specs.Writing.{TookFront}
+use Rattle.outside.specs.declared.link.LinkFault.{LinkFault}
+use Rattle.outside.specs.declared.link.LinkFault.TheVariants as faults
+use Rattle.outside.specs.declared.link.LinkPlan.{LinkPlan}
+use Rattle.schedule_file.specs.ReadHeader.{Heading}
+use Rattle.schedule_file.specs.Spelling.{header_text}
+use Rattle.node_loop.specs.declared.end.ServeEnd.{ServeEnd}
+use Rattle.node_loop.specs.declared.end.ServeEnd.TheVariants as ends
+use Rattle.node_loop.specs.Outs.{Outs, Tells}
+
+-- the end that a fault of the link is
+abbrev pub Ends : LinkFault → ServeEnd → Type 0
+Ends faults.Failed end = end ≡ ends.LinkFault
+Ends faults.Mem end = end ≡ ends.Mem
+
+-- ---- the beginning
+
+-- the header was written and the link was started
+pub record HasBegun (h : Heading) (plan : LinkPlan) (tells : Tells) (base now : Outs) : Type 0 where
+  pub taken : tells.tape ≡ true → now.taken ≡ base.taken ++ header_text h
+  pub told : tells.link ≡ true → now.told ≡ Starts plan ∷ base.told
+  pub tape_later : base.tape_faults ≤ now.tape_faults
+  pub link_later : base.link_faults ≤ now.link_faults
+
+-- a fault came on the way there, and its cause
+abbrev pub HasCause : Outs → Outs → ServeEnd → Type 0
+HasCause base now ends.LinkFault = Rose base.link_faults now.link_faults
+HasCause base now ends.TapeFault = Rose base.tape_faults now.tape_faults
+HasCause base now ends.Mem = Unit {0}
+HasCause base now end = ⊥
+
+pub record HasFailed (h : Heading) (plan : LinkPlan) (tells : Tells) (base now : Outs) (end : ServeEnd) : Type 0 where
+  pub taken : tells.tape ≡ true → TookFront base.taken now.taken (header_text h)
+  pub told : tells.link ≡ true → now.told ≡ base.told
+  pub tape_later : base.tape_faults ≤ now.tape_faults
+  pub link_later : base.link_faults ≤ now.link_faults
+  pub cause : HasCause base now end
+
+abbrev pub Opens : Heading → LinkPlan → Tells → Outs → Outs → Result (Unit {0}) ServeEnd → Type 0
+Opens h plan tells base now (Ok done) = HasBegun h plan tells base now
+Opens h plan tells base now (Err end) = HasFailed h plan tells base now end
+
+-- ---- the end
+
+-- serving ended by a rule of its own
+abbrev pub is_reason : ServeEnd → Bool
+is_reason ends.Done = true
+is_reason ends.Limit = true
+is_reason ends.End = true
+is_reason ends.LinkFault = false
+is_reason ends.TapeFault = false
+is_reason ends.Mem = false
+
+-- the end mark was written, or the output failed, which took it or not
+pub data Closes (tells : Bool) (old new : List ℕ) (before now : ℕ) (end result : ServeEnd) : Type 0 where
+  Closed : result ≡ end → before ≤ now → (tells ≡ true → new ≡ old ++ 0 ∷ []) → Closes tells old new before now end result
+  Failed : result ≡ ends.TapeFault → Rose before now → before ≤ now → (tells ≡ true → TookFront old new (0 ∷ [])) → Closes tells old new before now end result

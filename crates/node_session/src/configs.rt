@@ -1,0 +1,144 @@
+//! Sessions that configurations describe.
+ghost use Rattle.std.specs.Prelude.{◌≡◌, ◌<◌, [], map, IfOk, OnErr};
+ghost use Rattle.schedule_replay.specs.Layers.{setting_of};
+ghost use Rattle.cluster_config.specs.Cluster.{cluster_text};
+ghost use Rattle.cluster_config.specs.Node.{node_text};
+ghost use Rattle.cluster_config.specs.Ranges.{FitsNode, FitsCluster};
+ghost use Rattle.node_session.specs.Configs.{node_header, node_plan, cluster_header, cluster_plan, first_item};
+ghost use Rattle.node_session.specs.Session.{ServesSession};
+
+use crate::session::serve_session;
+use client_port::write_request;
+use cluster_config::{ClusterConfig, NodeConfig, Request, Requests};
+use node_loop::ServeEnd;
+use outside::{Link, LinkItem, LinkPlan, Sink};
+use ritas_base::{Mem, SenderSet};
+use schedule_file::{Header, HeaderKeys};
+use std::alloc::Global;
+use std::net::Net;
+use std::sync::Wait;
+
+// The header of a node's file: the node alone is correct, and the keys are its own.
+fn node_header(config: &NodeConfig) -> Header
+    requires { config.now.me < 32 }
+    ensures { result ≡ node_header config.now }
+{
+    Header {
+        session: config.session,
+        p: config.p,
+        mode: config.mode,
+        correct: SenderSet::from_mask(1u32 << config.me),
+        keys: HeaderKeys::Row {
+            me: config.me,
+            row: config.key_row,
+            coin: config.coin_key,
+        },
+    }
+}
+
+// The header of a cluster's file: all are correct.
+fn cluster_header(config: &ClusterConfig) -> Header
+    ensures { result ≡ cluster_header config.now }
+{
+    let correct = (1u32 << config.p.n()) - 1;
+    Header {
+        session: config.session,
+        p: config.p,
+        mode: config.mode,
+        correct: SenderSet::from_mask(correct),
+        keys: HeaderKeys::Master(config.master),
+    }
+}
+
+// A request as an item with which serving begins. The one error is want of memory.
+fn first_item(alloc: Global, request: &Request) -> Result<LinkItem, Mem>
+    ensures { IfOk result (λ item. item ≡ first_item request.now) }
+{
+    let bytes = write_request(
+        alloc,
+        request.client,
+        request.request,
+        request.payload.as_slice(),
+    )?;
+    Ok(LinkItem::Client {
+        at: request.at,
+        conn: 0,
+        bytes,
+    })
+}
+
+// The items with which serving begins. The one error is want of memory.
+fn first_items(alloc: Global, requests: &Requests) -> Result<Vec<LinkItem>, Mem>
+    ensures { IfOk result (λ items. items.items ≡ map first_item requests.now) }
+{
+    let mut items = Vec::new(alloc);
+    for at in 0..requests.len() {
+        if let Some(request) = requests.get(at) {
+            items.push(first_item(alloc, request)?)?;
+        }
+    }
+    Ok(items)
+}
+
+/// Serves the replica of a configuration, as `serve_session` does: its file names that one alone as correct, and has its keys.
+pub fn serve_node<R: Net + Wait, L: Link, K: Sink>(
+    rt: &R,
+    alloc: Global,
+    config: NodeConfig,
+    link: &mut L,
+    output: &mut K,
+) -> Result<ServeEnd, Mem>
+    requires { FitsNode (node_text config) }
+    ensures served { IfOk result (λ end. ServesSession (node_header config) (setting_of (node_header config)) (node_plan config) (record { tape = K.tells; link = L.tells })
+        (record { taken = K.taken output.old; tape_faults = K.faults output.old; told = L.told link.old; link_faults = L.faults link.old })
+        (record { taken = K.taken output.new; tape_faults = K.faults output.new; told = L.told link.new; link_faults = L.faults link.new })
+        end config.until config.limit []) }
+    ensures unserved { OnErr result ((output.new ≡ output.old) × (link.new ≡ link.old)) }
+{
+    let header = node_header(&config);
+    let limit = config.limit;
+    let until = config.until;
+    let plan = LinkPlan::Node {
+        me: config.me,
+        peers: config.peers,
+        client: config.client,
+    };
+    let first = Vec::new(alloc);
+    serve_session(
+        rt, alloc, &header, &plan, link, output, limit, until, &first,
+    )
+}
+
+/// Serves all replicas of a configuration, as `serve_session` does, and begins with its requests: each is handed to the replica that it
+/// names, and gets no reply.
+pub fn serve_cluster<R: Net + Wait, L: Link, K: Sink>(
+    rt: &R,
+    alloc: Global,
+    config: ClusterConfig,
+    link: &mut L,
+    output: &mut K,
+) -> Result<ServeEnd, Mem>
+    requires { FitsCluster (cluster_text config) }
+    ensures served { IfOk result (λ end. ServesSession (cluster_header config) (setting_of (cluster_header config)) (cluster_plan config) (record { tape = K.tells; link = L.tells })
+        (record { taken = K.taken output.old; tape_faults = K.faults output.old; told = L.told link.old; link_faults = L.faults link.old })
+        (record { taken = K.taken output.new; tape_faults = K.faults output.new; told = L.told link.new; link_faults = L.faults link.new })
+        end config.until config.limit (map first_item config.requests)) }
+    ensures unserved { OnErr result ((output.new ≡ output.old) × (link.new ≡ link.old)) }
+{
+    let header = cluster_header(&config);
+    let first = first_items(alloc, &config.requests)?;
+    let plan = LinkPlan::Cluster {
+        peers: config.peers,
+    };
+    serve_session(
+        rt,
+        alloc,
+        &header,
+        &plan,
+        link,
+        output,
+        config.limit,
+        config.until,
+        &first,
+    )
+}

@@ -1,0 +1,44 @@
+//! What a session begins with.
+ghost use Rattle.std.specs.Prelude.{◌≡◌};
+ghost use Rattle.schedule_file.specs.ReadHeader.{heading};
+ghost use Rattle.node_session.specs.Opening.{Opens, Ends};
+
+use node_loop::ServeEnd;
+use outside::{Link, LinkFault, LinkPlan, Sink};
+use schedule_file::{Header, Writer};
+use std::alloc::Global;
+use std::net::Net;
+use std::sync::Wait;
+
+// The end that a fault of the link is.
+fn end_of(fault: LinkFault) -> ServeEnd
+    ensures { Ends fault result }
+{
+    match fault {
+        LinkFault::Failed => ServeEnd::LinkFault,
+        LinkFault::Mem => ServeEnd::Mem,
+    }
+}
+
+/// Writes the header, and starts the link.
+pub(crate) fn open<R: Net + Wait, L: Link, K: Sink>(
+    rt: &R,
+    alloc: Global,
+    header: &Header,
+    plan: &LinkPlan,
+    link: &mut L,
+    output: &mut K,
+) -> Result<(), ServeEnd>
+    ensures { Opens (heading header.now) plan.now (record { tape = K.tells; link = L.tells })
+        (record { taken = K.taken output.old; tape_faults = K.faults output.old; told = L.told link.old; link_faults = L.faults link.old })
+        (record { taken = K.taken output.new; tape_faults = K.faults output.new; told = L.told link.new; link_faults = L.faults link.new })
+        result }
+{
+    if Writer::start(output, header).is_err() {
+        return Err(ServeEnd::TapeFault);
+    }
+    match link.start(rt, alloc, plan) {
+        Ok(()) => Ok(()),
+        Err(fault) => Err(end_of(fault)),
+    }
+}
