@@ -1,3 +1,4 @@
 pub mod Statuses
 pub mod Run
 pub mod Drives
+pub mod Configs

@@ -10,7 +10,7 @@ use Rattle.ritas_base.specs.declared.what.What.{What}
 use Rattle.ritas_base.specs.declared.what.What.TheVariants as what_of
 use Rattle.schedule_replay.specs.Replay.{text}
 use Rattle.cluster_config.specs.declared.job.Job.{Job}
-use Rattle.cluster_config.specs.declared.job.Job.TheVariants.{Replay, Drive}
+use Rattle.cluster_config.specs.declared.job.Job.TheVariants.{Replay, Drive, Keys, Node, Cluster, Submit}
 use Rattle.cluster_config.specs.Words.{job_of}
 use Rattle.ritas.specs.Statuses.{status_of, fault_text, fault_status}
 
@@ -22,17 +22,20 @@ Asks words what = job_of words ≡ Some (Replay what)
 abbrev pub IsReplay : List (List ℕ) → Type 0
 IsReplay words = (what : What) × Asks words what
 
--- a job that is done; the others are answered as words that name none
-abbrev pub is_done : Job → Bool
-is_done (Replay what) = true
-is_done (Drive what) = true
-is_done _ = false
+-- a job that uses the link
+abbrev pub is_linked : Job → Bool
+is_linked (Replay what) = false
+is_linked (Drive what) = false
+is_linked Keys = false
+is_linked Node = true
+is_linked Cluster = true
+is_linked Submit = true
 
 -- ---- statuses
 
--- one of 0, 1, 2, 3, 4, 5, 7 and 8
+-- one of 0 to 8
 abbrev pub IsStatus : ℕ → Type 0
-IsStatus status = (status ≤ 8) × (status ≢ 6)
+IsStatus status = status ≤ 8
 
 -- the input didn't fail, nor the output, and memory didn't run out
 abbrev pub IsOwn : ℕ → Type 0
@@ -46,12 +49,20 @@ pub record Ends {K : Type 0} (faults : K → ℕ) (old new : K) (status : ℕ) :
   pub output_fault : status ≡ 5 → Rose (faults old) (faults new)
   pub unread : status ≡ 4 → new ≡ old
 
+-- The same of a call of a job that may use a link, for its count of faults before and after it: 6 comes only where that rose, and the
+-- status isn't 2.
+pub record Runs {K : Type 0} (faults : K → ℕ) (old new : K) (before now : ℕ) (status : ℕ) : Type 0 where
+  pub ends : Ends faults old new status
+  pub link_later : before ≤ now
+  pub link_fault : status ≡ 6 → Rose before now
+  pub words_are_right : status ≢ 2
+
 -- The same of a call that replays, for an input before and after it: 4 comes only where the input failed, and it isn't 2. At 8
 -- nothing was done to the output, where a report is asked for.
 pub record Replays {S K : Type 0} (input_faults : S → ℕ) (before after : S) (faults : K → ℕ) (old new : K) (what : What) (status : ℕ) : Type 0 where
   pub ends : Ends faults old new status
   pub input_fault : status ≡ 4 → Rose (input_faults before) (input_faults after)
-  pub words_are_right : status ≢ 2
+  pub words_are_right : (status ≢ 2) × (status ≢ 6)
   pub wanting : what ≡ what_of.Report → status ≡ 8 → new ≡ old
 
 -- ---- texts

@@ -9,6 +9,10 @@ use Rattle.world_model.specs.declared.audit.Audit.TheVariants as audits
 use Rattle.world_model.specs.Audit.{audit_of}
 use Rattle.schedule_replay.specs.Layers.{setting_of}
 use Rattle.schedule_replay.specs.Report.{end_of_line}
+use Rattle.node_loop.specs.declared.end.ServeEnd.{ServeEnd}
+use Rattle.node_loop.specs.declared.end.ServeEnd.TheVariants as serve_ends
+use Rattle.request_submit.specs.declared.end.SubmitEnd.{SubmitEnd}
+use Rattle.request_submit.specs.declared.end.SubmitEnd.TheVariants as submit_ends
 
 -- 0 where the audit holds, and else 1
 abbrev pub audit_status : Audit → ℕ
@@ -51,3 +55,40 @@ fault_status (faults.Trailing p) = 3
 fault_status faults.TooLong = 7
 fault_status faults.Read = 4
 fault_status faults.Mem = 8
+
+-- ---- configurations
+
+-- a configuration has at most so many bytes
+unfoldable pub text_limit : ℕ
+text_limit = 1048576
+
+-- the line that names a limit, and the one that names a wrong or missing line of a configuration
+abbrev pub limit_text : ℕ → List ℕ
+limit_text limit = codes "limit " ++ (decimal limit ++ end_of_line)
+
+abbrev pub line_text : ℕ → List ℕ
+line_text line = codes "input line " ++ (decimal line ++ end_of_line)
+
+-- ---- serving and submitting
+
+-- the status of serving that ended so
+abbrev pub end_status : ServeEnd → ℕ
+end_status serve_ends.Done = 0
+end_status serve_ends.Limit = 0
+end_status serve_ends.End = 0
+end_status serve_ends.LinkFault = 6
+end_status serve_ends.TapeFault = 5
+end_status serve_ends.Mem = 8
+
+-- the status and the line of a request that was handed in
+abbrev pub submit_status : SubmitEnd → ℕ
+submit_status (submit_ends.Position position) = 0
+submit_status submit_ends.NoPosition = 1
+submit_status submit_ends.LinkFault = 6
+submit_status submit_ends.Mem = 8
+
+abbrev pub submit_text : SubmitEnd → List ℕ
+submit_text (submit_ends.Position position) = codes "position " ++ (decimal position ++ end_of_line)
+submit_text submit_ends.NoPosition = codes "no position" ++ end_of_line
+submit_text submit_ends.LinkFault = []
+submit_text submit_ends.Mem = []

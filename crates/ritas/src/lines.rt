@@ -1,6 +1,6 @@
 //! The statuses of the program, and the lines that it writes where there is no text of a world.
 ghost use Rattle.std.specs.Prelude.{◌≡◌, ◌++◌, IfOk, string_bytes, codes};
-ghost use Rattle.ritas.specs.Statuses.{placed, fault_text, fault_status, audit_status};
+ghost use Rattle.ritas.specs.Statuses.{placed, fault_text, fault_status, audit_status, limit_text, line_text, submit_text, submit_status, end_status};
 
 use schedule_file::FileFault;
 use std::alloc::{AllocError, Global};
@@ -48,4 +48,18 @@ fn placed(alloc: Global, name: &str, place: u32) -> Result<String, AllocError>
     ensures { IfOk result (λ s. string_bytes s ≡ placed name.now place) }
 {
     format!(in alloc; "input {name} at {place}\n")
+}
+
+/// The line that names a limit.
+pub(crate) fn limit_text(alloc: Global, limit: u32) -> Result<String, AllocError>
+    ensures { IfOk result (λ s. string_bytes s ≡ limit_text limit) }
+{
+    format!(in alloc; "limit {limit}\n")
+}
+
+/// The line that names a line of a configuration.
+pub(crate) fn line_text(alloc: Global, line: u32) -> Result<String, AllocError>
+    ensures { IfOk result (λ s. string_bytes s ≡ line_text line) }
+{
+    format!(in alloc; "input line {line}\n")
 }

@@ -1,9 +1,17 @@
-//! Replays schedules of events that happen to a world of replicas, makes such schedules, and writes what came of them.
+//! Replays schedules of events that happen to a world of replicas, makes such schedules, and writes what came of them; deals keys, serves
+//! nodes and clusters, and hands requests to them.
 #![tactic(auto)]
 
+mod configs;
 mod drives;
+mod keys;
 mod lines;
+mod refusals;
+mod requests;
 mod run;
+#[cfg(test)]
+mod serving_tests;
+mod sessions;
 #[cfg(test)]
 mod tests;
 
@@ -15,6 +23,7 @@ use std::env::Env;
 use std::io::ErrorKind;
 use std::process::ExitCode;
 use std::{env, io};
+use tcp_link::TcpLink;
 
 // The words of the command line. A command line with a word that isn't UTF-8 is a faulty one, as that with no words is.
 fn read_words<R: Env + AllocGlobal>(rt: &R) -> Result<Vec<String>, Mem> {
@@ -40,5 +49,8 @@ fn main(rt: HostRuntime) -> ExitCode {
     };
     let mut input = FromRead::new(rt.reader());
     let mut output = ToWrite::new(io::writer(&rt));
-    ExitCode::from(run(rt.alloc(), &words, &mut input, &mut output))
+    let mut link = TcpLink::new(rt.alloc());
+    let status = run(&rt, rt.alloc(), &words, &mut input, &mut output, &mut link);
+    link.flush();
+    ExitCode::from(status)
 }

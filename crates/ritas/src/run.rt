@@ -1,5 +1,5 @@
 //! What a run does, and the status that it ends with.
-ghost use Rattle.std.specs.Prelude.{◌≡◌, ◌≢◌, ◌⊎◌, ◌≤◌, ◌↔◌, ℕ, false, true, List, map, length, Some, None, Ok, string_bytes};
+ghost use Rattle.std.specs.Prelude.{◌≡◌, ◌≢◌, ◌⊎◌, ◌≤◌, ◌↔◌, false, true, List, map, length, Some, None, Ok, string_bytes};
 ghost use Rattle.outside.specs.Faults.{Rose};
 ghost use Rattle.ritas_base.specs.declared.event.Event.{Event};
 ghost use Rattle.schedule_file.specs.declared.fault.FileFault.TheVariants.{Read};
@@ -20,18 +20,26 @@ ghost use Rattle.cluster_config.specs.Drive.{drive_column, planned};
 ghost use Rattle.cluster_config.specs.Words.{job_of};
 ghost use Rattle.schedule_replay.specs.Layers.{setting_of};
 ghost use Rattle.schedule_replay.specs.Replay.{text};
-ghost use Rattle.ritas.specs.Run.{Asks, IsReplay, is_done, IsStatus, IsOwn, Ends, Replays, Replies, AnswersFile};
-ghost use Rattle.ritas.specs.Drives.{text_limit, AnswersPlan, AnswersText};
-ghost use Rattle.ritas.specs.Statuses.{usage, status_of, fault_text, fault_status};
+ghost use Rattle.cluster_config.specs.declared.cluster.ClusterConfig.{ClusterConfig};
+ghost use Rattle.cluster_config.specs.declared.node.NodeConfig.{NodeConfig};
+ghost use Rattle.cluster_config.specs.Cluster.{cluster_column, cluster_text};
+ghost use Rattle.cluster_config.specs.Node.{node_column, node_text};
+ghost use Rattle.node_session.specs.Configs.{node_header, node_plan, cluster_header, cluster_plan};
+ghost use Rattle.ritas.specs.Run.{Asks, IsReplay, is_linked, IsStatus, IsOwn, Ends, Replays, Runs, Replies, AnswersFile};
+ghost use Rattle.ritas.specs.Configs.{AnswersJob, HasServed};
+ghost use Rattle.ritas.specs.Drives.{AnswersPlan};
+ghost use Rattle.ritas.specs.Statuses.{usage, text_limit, status_of, fault_text, fault_status};
 
-use crate::drives::make_read;
+use crate::configs::do_read;
 use crate::lines::{audit_status, fault_status, fault_text};
 use cluster_config::{Job, WordsFault, config_laws, read_words};
-use outside::{Sink, Source, write_all};
+use outside::{Link, Sink, Source, write_all};
 use ritas_base::What;
 use schedule_file::{FileFault, file_laws};
 use schedule_replay::{ReplayEnd, replay};
 use std::alloc::Global;
+use std::net::Net;
+use std::sync::Wait;
 
 const USAGE: &[u8] =
     b"usage: ritas replay report|frames, drive report|schedule, keys, node, cluster, submit\n";
@@ -55,7 +63,7 @@ fn refuse<K: Sink>(alloc: Global, output: &mut K, fault: FileFault) -> u8
     requires { is_outside fault ≡ false }
     ensures ends { Ends K.faults output.old output.new result }
     ensures replies { Replies K.tells K.taken output.old output.new result (fault_status fault) (fault_text fault) }
-    ensures others { (result ≢ 0) × (result ≢ 2) × (result ≢ 4) }
+    ensures others { (result ≢ 0) × (result ≢ 2) × (result ≢ 4) × (result ≢ 6) }
     ensures wanting { result ≡ 8 → output.new ≡ output.old }
 {
     match fault_text(alloc, fault) {
@@ -69,7 +77,7 @@ fn give_up<K: Sink>(alloc: Global, output: &mut K, fault: FileFault) -> u8
     ensures ends { Ends K.faults output.old output.new result }
     ensures replies { Replies K.tells K.taken output.old output.new result (fault_status fault) (fault_text fault) }
     ensures read { (result ≡ 4) ↔ (fault ≡ Read) }
-    ensures others { (result ≢ 0) × (result ≢ 2) }
+    ensures others { (result ≢ 0) × (result ≢ 2) × (result ≢ 6) }
     ensures wanting { result ≡ 8 → output.new ≡ output.old }
 {
     match fault {
@@ -109,45 +117,59 @@ fn refuse_words<K: Sink>(output: &mut K, fault: WordsFault) -> u8
 }
 
 // Does a job.
-fn work<S: Source, K: Sink>(alloc: Global, job: Job, input: &mut S, output: &mut K) -> u8
-    ensures ends { Ends K.faults output.old output.new result }
+fn work<R: Net + Wait, S: Source, K: Sink, L: Link>(
+    rt: &R,
+    alloc: Global,
+    job: Job,
+    input: &mut S,
+    output: &mut K,
+    link: &mut L,
+) -> u8
+    ensures runs { Runs K.faults output.old output.new (L.faults link.old) (L.faults link.new) result }
     ensures input_fault { result ≡ 4 → Rose (S.faults input.old) (S.faults input.new) }
-    ensures named { is_done job ≡ true → result ≢ 2 }
-    ensures undone { is_done job ≡ false → Replies K.tells K.taken output.old output.new result 2 usage }
+    ensures unlinked { is_linked job ≡ false → link.new ≡ link.old }
     ensures wanting { job ≡ Job.Replay Report → result ≡ 8 → output.new ≡ output.old }
     ensures answers { (what : What) → job ≡ Job.Replay what → S.tells ≡ true
         → AnswersFile K.tells K.taken output.old output.new what result (file_of (S.left input.old)) }
     ensures agree { (what : What) → job ≡ Job.Replay what → S.tells ≡ true → result ≡ 0 → (h : Header) (es : List Event)
         → file_of (S.left input.old) ≡ Ok (heading h, es) → Agree (setting_of h) es }
-    ensures drives { (what : DriveWhat) → job ≡ Job.Drive what → S.tells ≡ true
-        → AnswersText K.tells K.taken output.old output.new what result (S.left input.old) }
+    ensures configured { S.tells ≡ true → AnswersJob (record { tape = K.tells; link = L.tells }) K.taken output.old output.new
+        (record { taken = K.taken output.old; tape_faults = K.faults output.old; told = L.told link.old; link_faults = L.faults link.old })
+        (record { taken = K.taken output.new; tape_faults = K.faults output.new; told = L.told link.new; link_faults = L.faults link.new })
+        (link.new ≡ link.old) result (S.left input.old) job }
     ensures undriven { (what : DriveWhat) → job ≡ Job.Drive what → result ≡ 8 → output.new ≡ output.old }
 {
     match job {
         Job::Replay(what) => reply(alloc, input, output, what),
-        Job::Drive(what) => make_read(alloc, input, output, what),
-        // These jobs aren't there yet.
-        Job::Keys | Job::Node | Job::Cluster | Job::Submit => finish(output, USAGE, 2),
+        Job::Drive(_) | Job::Keys | Job::Node | Job::Cluster | Job::Submit => {
+            do_read(rt, alloc, job, input, output, link)
+        }
     }
 }
 
 /// Does what the words after the program's name say, and answers with the status of the process.
 ///
-/// `replay report` reads a schedule file from the input, to its end, lets its events happen to a world of replicas as
-/// it is read, and then writes a report. `replay frames` does the same, and then writes a line for each frame that a
-/// correct replica made, in the order of events and within an event in the order in which they were put out, and the
-/// line of the audit. `drive report` reads a plan from the input, makes its schedule, honest or hostile, in a world of replicas
-/// and of faces of faulty ones, and writes the report of that world; `drive schedule` writes the schedule's file. It is 0 where
-/// the audit of the world holds, and 1 where it doesn't.
+/// - `replay report` reads a schedule file from the input, to its end, lets its events happen to a world of replicas as it is read, and
+///   then writes a report. `replay frames` does the same, and then writes a line for each frame that a correct replica made, in the order
+///   of events and within an event in the order in which they were put out, and the line of the audit. It is 0 where the audit of the
+///   world holds, and 1 where it doesn't.
+/// - `drive report` reads a plan, makes its schedule, honest or hostile, in a world of replicas and of faces of faulty ones, and writes
+///   the report of that world; `drive schedule` writes the schedule's file. It is 0 or 1 by the audit.
+/// - `keys` deals the keys of all replicas of a session from a master key, and writes a line for each.
+/// - `node` starts the link with a replica's addresses, serves that replica, and writes a schedule file of what it took; `cluster` does so
+///   with all replicas of a session, and begins with the requests of its configuration. It is 0 where serving ended by its rules.
+/// - `submit` starts the link with the addresses of nodes, hands a request to each, and writes the position that f + 1 of them reply, with
+///   0, or that there was none, with 1.
 ///
 /// A file that isn't a schedule is answered with a line that names its first fault and the place of it, and 3, or 7 for one
-/// that is longer than 64 MiB. A text that isn't a plan is answered with a line that names its first wrong or missing line, and
-/// 3, or 7 for one that is longer than 1 MiB; a plan whose schedule would have more than 4,000,000 steps, or a file of more than
+/// that is longer than 64 MiB. A text that isn't the job's configuration is answered with a line that names its first wrong or missing
+/// line, and 3, or 7 for one that is longer than 1 MiB; a plan whose schedule would have more than 4,000,000 steps, or a file of more than
 /// 64 MiB, with a line that names that limit, and 7. Other words are answered with a line on usage, and 2. It is 4 where the
-/// input failed, and then nothing was written; 5 where the output failed, which took a front of the text; and 8 where memory
-/// ran out: then nothing was written of a report or of a schedule that was made, and a front of the frames.
+/// input failed, and then nothing was written; 5 where the output failed, which took a front of the text; 6 where the link failed; and 8
+/// where memory ran out: then nothing was written of a report or of a schedule that was made, and a front of frames or of what was served.
 ///
-/// Where it is 0, correct replicas' logs of commands are prefixes of one list, with each command once: one row for each client
+/// Where a schedule was replayed or made with 0, or what a cluster served has an audit that holds, correct replicas' logs of commands are
+/// prefixes of one list, with each command once: one row for each client
 /// and request. A correct replica's command stands there only if it was submitted there: the row has the client, the request
 /// and the payload of its input of that number. And no two correct replicas decided differently in any instance: at each slot
 /// all that delivered a value delivered the same one, of a correct replica what it started there, and so it is of what their
@@ -155,27 +177,31 @@ fn work<S: Source, K: Sink>(alloc: Global, job: Job, input: &mut S, output: &mut
 /// The broadcasts and binary consensus are those of Bracha, "Asynchronous Byzantine Agreement Protocols" (1987), vector
 /// consensus is that of Correia, Neves and Veríssimo, "From Consensus to Atomic Broadcast" (2006), and these and multi-valued
 /// consensus are those of Moniz, Neves, Correia and Veríssimo, "RITAS: Services for Randomized Intrusion Tolerance" (2011).
-pub fn run<S: Source, K: Sink>(
+///
+/// Only the calls of the link wait. Nothing says that `node` and `cluster` ever end.
+pub fn run<R: Net + Wait, S: Source, K: Sink, L: Link>(
+    rt: &R,
     alloc: Global,
     words: &Vec<String>,
     input: &mut S,
     output: &mut K,
+    link: &mut L,
 ) -> u8
-    // The status is one of eight. 5 comes only where the output failed, and at 4 nothing was written.
+    // The status is one of nine. 5 comes only where the output failed, and at 4 nothing was written.
     ensures ends { Ends K.faults output.old output.new result }
 
-    // 4 comes only where the input failed.
+    // 4 comes only where the input failed, and 6 only where the link failed.
     ensures input_fault { result ≡ 4 → Rose (S.faults input.old) (S.faults input.new) }
+    ensures link_fault { result ≡ 6 → Rose (L.faults link.old) (L.faults link.new) }
 
-    // At words that name no job, or one that isn't done yet, the usage line is written, with status 2, unless the output fails or
-    // memory runs out. The input isn't touched at words that name none.
+    // At words that name no job the usage line is written, with status 2, unless the output fails or memory runs out, and neither the input
+    // nor the link is touched. Only the jobs that serve or submit touch the link.
     ensures usage { job_of (map string_bytes words.now.items) ≡ None
         → Replies K.tells K.taken output.old output.new result 2 usage }
     ensures others { job_of (map string_bytes words.now.items) ≡ None → (result ≡ 2) ⊎ (result ≡ 5) ⊎ (result ≡ 8) }
-    ensures unread { job_of (map string_bytes words.now.items) ≡ None → input.new ≡ input.old }
-    ensures named { (job : Job) → job_of (map string_bytes words.now.items) ≡ Some job → is_done job ≡ true → result ≢ 2 }
-    ensures undone { (job : Job) → job_of (map string_bytes words.now.items) ≡ Some job → is_done job ≡ false
-        → Replies K.tells K.taken output.old output.new result 2 usage }
+    ensures unread { job_of (map string_bytes words.now.items) ≡ None → (input.new ≡ input.old) × (link.new ≡ link.old) }
+    ensures named { (job : Job) → job_of (map string_bytes words.now.items) ≡ Some job → result ≢ 2 }
+    ensures unlinked { (job : Job) → job_of (map string_bytes words.now.items) ≡ Some job → is_linked job ≡ false → link.new ≡ link.old }
 
     // Where a schedule is to be replayed, what is asked for of the file's world is written, with its status, or the line of the
     // file's first fault. Where memory runs out for a report, nothing is written.
@@ -195,11 +221,14 @@ pub fn run<S: Source, K: Sink>(
     ensures agree { IsReplay (map string_bytes words.now.items) → S.tells ≡ true → IsBytes (S.left input.old) → result ≡ 0
         → (h : Header) (es : List Event) → IsFile (S.left input.old) (heading h) es → Agree (setting_of h) es }
 
-    // Where a schedule is to be made, what is asked for of the plan's schedule is written, with its status, or the line of the
-    // limit that this passes first; of a text that is no plan, or too long, the line of its first fault, or of the limit. Where it
-    // is 0, the replicas agree. Where memory runs out, nothing is written.
-    ensures drives { (what : DriveWhat) → job_of (map string_bytes words.now.items) ≡ Some (Job.Drive what) → S.tells ≡ true
-        → AnswersText K.tells K.taken output.old output.new what result (S.left input.old) }
+    // Of the text of another job's configuration: what comes of what it says; of a text that isn't one, or is too long, the line of its
+    // first fault, or of the limit, and the link isn't touched. A plan's schedule is written, or the line of the limit that it passes
+    // first, and at 0 its replicas agree; keys are written; a node or a cluster is served; a request is handed in, and its position written.
+    ensures configured { (job : Job) → job_of (map string_bytes words.now.items) ≡ Some job → S.tells ≡ true
+        → AnswersJob (record { tape = K.tells; link = L.tells }) K.taken output.old output.new
+        (record { taken = K.taken output.old; tape_faults = K.faults output.old; told = L.told link.old; link_faults = L.faults link.old })
+        (record { taken = K.taken output.new; tape_faults = K.faults output.new; told = L.told link.new; link_faults = L.faults link.new })
+        (link.new ≡ link.old) result (S.left input.old) job }
     ensures undriven { (what : DriveWhat) → job_of (map string_bytes words.now.items) ≡ Some (Job.Drive what) → result ≡ 8
         → output.new ≡ output.old }
 
@@ -207,11 +236,26 @@ pub fn run<S: Source, K: Sink>(
     ensures planned { (what : DriveWhat) → job_of (map string_bytes words.now.items) ≡ Some (Job.Drive what) → S.tells ≡ true → (p : Plan)
         → IsText drive_column (planned p) (S.left input.old) → length (S.left input.old) ≤ text_limit
         → AnswersPlan K.tells K.taken output.old output.new what result p }
+
+    // Where a node or a cluster is served to 0, the output took the file of the events that were served, and the link was started once, with
+    // the configuration's plan. The frames that it was given are those that the replicas of the file's world make, in their order: those
+    // that `replay frames` prints of the file. Each position that was replied is that of the request in the log of its replica. And where
+    // the audit of the events holds, the replicas agree.
+    ensures node { job_of (map string_bytes words.now.items) ≡ Some Job.Node → S.tells ≡ true → (c : NodeConfig)
+        → IsText node_column (node_text c) (S.left input.old) → length (S.left input.old) ≤ text_limit → result ≡ 0
+        → HasServed (node_header c) (node_plan c) (record { tape = K.tells; link = L.tells })
+        (record { taken = K.taken output.old; tape_faults = K.faults output.old; told = L.told link.old; link_faults = L.faults link.old })
+        (record { taken = K.taken output.new; tape_faults = K.faults output.new; told = L.told link.new; link_faults = L.faults link.new }) }
+    ensures cluster { job_of (map string_bytes words.now.items) ≡ Some Job.Cluster → S.tells ≡ true → (c : ClusterConfig)
+        → IsText cluster_column (cluster_text c) (S.left input.old) → length (S.left input.old) ≤ text_limit → result ≡ 0
+        → HasServed (cluster_header c) (cluster_plan c) (record { tape = K.tells; link = L.tells })
+        (record { taken = K.taken output.old; tape_faults = K.faults output.old; told = L.told link.old; link_faults = L.faults link.old })
+        (record { taken = K.taken output.new; tape_faults = K.faults output.new; told = L.told link.new; link_faults = L.faults link.new }) }
 {
     file_laws();
     config_laws();
     match read_words(alloc, words) {
-        Ok(job) => work(alloc, job, input, output),
+        Ok(job) => work(rt, alloc, job, input, output, link),
         Err(fault) => refuse_words(output, fault),
     }
 }

@@ -1,8 +1,10 @@
 ghost use Rattle.std.specs.Prelude.{[], false};
 
 use crate::run::run;
-use outside::{Failed, MemSink, MemSource, Source};
+use outside::{Failed, MemLink, MemSink, MemSource, Source};
 use std::alloc::Global;
+use std::net::Net;
+use std::sync::Wait;
 use std::test::*;
 
 // The files, their reports and their frames were made from numbers by a model of the protocol that shares nothing with this code, but
@@ -85,7 +87,8 @@ fn words(alloc: Global, second: &str) -> Result<Vec<String>, Fail> {
 }
 
 // The status, or 99 where the output isn't this text.
-fn status(
+fn status<R: Net + Wait>(
+    rt: &R,
     alloc: Global,
     second: &str,
     file: &[u8],
@@ -96,7 +99,8 @@ fn status(
     let words = words(alloc, second)?;
     let mut input = MemSource::new(alloc, file, fails)?;
     let mut output = MemSink::new(alloc, room, &[])?;
-    let status = run(alloc, &words, &mut input, &mut output);
+    let mut link = MemLink::new(alloc, &[], &[])?;
+    let status = run(rt, alloc, &words, &mut input, &mut output, &mut link);
     if output.taken() == text.as_bytes() {
         Ok(status)
     } else {
@@ -115,7 +119,7 @@ fn reports(rt: HostRuntime) -> Result<(), Fail> {
         (&ALONE[..3], "input truncated at 3\n", 3),
     ] {
         assert_eq!(rt;
-            status(rt.alloc(), "report", file, 1000, &[], text)?,
+            status(&rt, rt.alloc(), "report", file, 1000, &[], text)?,
             wanted
         );
     }
@@ -130,20 +134,35 @@ fn frames(rt: HostRuntime) -> Result<(), Fail> {
         (&ALONE[..70], "input truncated at 70\n", 3),
     ] {
         assert_eq!(rt;
-            status(rt.alloc(), "frames", file, 2000, &[], text)?,
+            status(&rt, rt.alloc(), "frames", file, 2000, &[], text)?,
             wanted
         );
     }
-    assert_eq!(rt; status(rt.alloc(), "frames", THREE, 2000, &[1], "")?, 4);
-    assert_eq!(rt; status(rt.alloc(), "frames", THREE, 5, &[], "0 1 0")?, 5);
+    assert_eq!(rt;
+        status(&rt, rt.alloc(), "frames", THREE, 2000, &[1], "")?,
+        4
+    );
+    assert_eq!(rt;
+        status(&rt, rt.alloc(), "frames", THREE, 5, &[], "0 1 0")?,
+        5
+    );
     Ok(())
 }
 
 #[test]
 fn faults_and_other_words(rt: HostRuntime) -> Result<(), Fail> {
-    assert_eq!(rt; status(rt.alloc(), "report", ALONE, 1000, &[0], "")?, 4);
-    assert_eq!(rt; status(rt.alloc(), "report", ALONE, 5, &[], "ritas")?, 5);
-    assert_eq!(rt; status(rt.alloc(), "rapport", ALONE, 1000, &[0], USAGE)?, 2);
+    assert_eq!(rt;
+        status(&rt, rt.alloc(), "report", ALONE, 1000, &[0], "")?,
+        4
+    );
+    assert_eq!(rt;
+        status(&rt, rt.alloc(), "report", ALONE, 5, &[], "ritas")?,
+        5
+    );
+    assert_eq!(rt;
+        status(&rt, rt.alloc(), "rapport", ALONE, 1000, &[0], USAGE)?,
+        2
+    );
     Ok(())
 }
 
@@ -189,7 +208,9 @@ fn one_byte_too_many(rt: HostRuntime) -> Result<(), Fail> {
     let words = words(rt.alloc(), "report")?;
     let mut input = Endless { at: 0 };
     let mut output = MemSink::new(rt.alloc(), 100, &[])?;
-    assert_eq!(rt; run(rt.alloc(), &words, &mut input, &mut output), 7);
+    let mut link = MemLink::new(rt.alloc(), &[], &[])?;
+    let status = run(&rt, rt.alloc(), &words, &mut input, &mut output, &mut link);
+    assert_eq!(rt; status, 7);
     assert_eq!(rt; output.taken(), b"limit 67108864\n".as_slice());
     assert_eq!(rt; input.at, 67_108_865);
     Ok(())

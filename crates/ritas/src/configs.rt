@@ -1,0 +1,113 @@
+//! The jobs that read a configuration.
+ghost use Rattle.std.specs.Prelude.{◌≡◌, ◌≢◌, ◌≤◌, length, true, false};
+ghost use Rattle.outside.specs.Faults.{Rose};
+ghost use Rattle.ritas_base.specs.declared.what.What.{What};
+ghost use Rattle.ritas_base.specs.declared.what.DriveWhat.{DriveWhat};
+ghost use Rattle.ritas.specs.Configs.{AnswersConfig, AnswersJob, DrivesPlan, FitsConfig};
+ghost use Rattle.ritas.specs.Run.{Ends, Runs, is_linked};
+ghost use Rattle.ritas.specs.Statuses.{text_limit};
+
+use crate::drives::make;
+use crate::keys::run_keys;
+use crate::refusals::{refuse_config, refuse_text};
+use crate::requests::run_submit;
+use crate::sessions::{run_cluster, run_node};
+use cluster_config::{Config, Job, config_ranges, read_config};
+use outside::{Link, Sink, Source, read_whole};
+use ritas_base::Plan;
+use std::alloc::Global;
+use std::net::Net;
+use std::sync::Wait;
+
+const TEXT_LIMIT: usize = 1_048_576;
+
+// Makes the schedule of a plan, where that is the job.
+fn drive_plan<K: Sink>(alloc: Global, job: Job, plan: &Plan, output: &mut K) -> u8
+    ensures ends { Ends K.faults output.old output.new result }
+    ensures others { (result ≢ 2) × (result ≢ 4) × (result ≢ 6) }
+    ensures answers { DrivesPlan K.tells K.taken output.old output.new result job plan.now }
+{
+    match job {
+        Job::Drive(what) => make(alloc, plan, output, what),
+        // No plan comes of another job.
+        Job::Replay(_) | Job::Keys | Job::Node | Job::Cluster | Job::Submit => 8,
+    }
+}
+
+// Does the job of a configuration.
+fn do_config<R: Net + Wait, K: Sink, L: Link>(
+    rt: &R,
+    alloc: Global,
+    job: Job,
+    config: Config,
+    output: &mut K,
+    link: &mut L,
+) -> u8
+    requires { FitsConfig config }
+    ensures runs { Runs K.faults output.old output.new (L.faults link.old) (L.faults link.new) result }
+    ensures others { result ≢ 4 }
+    ensures answers { AnswersConfig (record { tape = K.tells; link = L.tells }) K.taken output.old output.new
+        (record { taken = K.taken output.old; tape_faults = K.faults output.old; told = L.told link.old; link_faults = L.faults link.old })
+        (record { taken = K.taken output.new; tape_faults = K.faults output.new; told = L.told link.new; link_faults = L.faults link.new })
+        (link.new ≡ link.old) result job config }
+{
+    match config {
+        Config::Drive(plan) => drive_plan(alloc, job, &plan, output),
+        Config::Keys(keys) => run_keys(alloc, &keys, output),
+        Config::Node(node) => run_node(rt, alloc, node, output, link),
+        Config::Cluster(cluster) => run_cluster(rt, alloc, cluster, output, link),
+        Config::Submit(submit) => run_submit(rt, alloc, &submit, output, link),
+    }
+}
+
+// Does the job of the configuration that a text says, or writes the line of its first fault.
+fn do_text<R: Net + Wait, K: Sink, L: Link>(
+    rt: &R,
+    alloc: Global,
+    job: Job,
+    text: &[u8],
+    output: &mut K,
+    link: &mut L,
+) -> u8
+    requires job { (what : What) → job ≢ Job.Replay what }
+    requires within { length text.now ≤ text_limit }
+    ensures runs { Runs K.faults output.old output.new (L.faults link.old) (L.faults link.new) result }
+    ensures others { result ≢ 4 }
+    ensures answers { AnswersJob (record { tape = K.tells; link = L.tells }) K.taken output.old output.new
+        (record { taken = K.taken output.old; tape_faults = K.faults output.old; told = L.told link.old; link_faults = L.faults link.old })
+        (record { taken = K.taken output.new; tape_faults = K.faults output.new; told = L.told link.new; link_faults = L.faults link.new })
+        (link.new ≡ link.old) result text.now job }
+    ensures unlinked { is_linked job ≡ false → link.new ≡ link.old }
+    ensures undriven { (what : DriveWhat) → job ≡ Job.Drive what → result ≡ 8 → output.new ≡ output.old }
+{
+    config_ranges();
+    match read_config(alloc, job, text) {
+        Ok(config) => do_config(rt, alloc, job, config, output, link),
+        Err(fault) => refuse_config(alloc, output, fault),
+    }
+}
+
+/// Does the job of the configuration that the input says, or writes the line of its first fault.
+pub(crate) fn do_read<R: Net + Wait, S: Source, K: Sink, L: Link>(
+    rt: &R,
+    alloc: Global,
+    job: Job,
+    input: &mut S,
+    output: &mut K,
+    link: &mut L,
+) -> u8
+    requires { (what : What) → job ≢ Job.Replay what }
+    ensures runs { Runs K.faults output.old output.new (L.faults link.old) (L.faults link.new) result }
+    ensures input_fault { result ≡ 4 → Rose (S.faults input.old) (S.faults input.new) }
+    ensures answers { S.tells ≡ true → AnswersJob (record { tape = K.tells; link = L.tells }) K.taken output.old output.new
+        (record { taken = K.taken output.old; tape_faults = K.faults output.old; told = L.told link.old; link_faults = L.faults link.old })
+        (record { taken = K.taken output.new; tape_faults = K.faults output.new; told = L.told link.new; link_faults = L.faults link.new })
+        (link.new ≡ link.old) result (S.left input.old) job }
+    ensures unlinked { is_linked job ≡ false → link.new ≡ link.old }
+    ensures undriven { (what : DriveWhat) → job ≡ Job.Drive what → result ≡ 8 → output.new ≡ output.old }
+{
+    match read_whole(alloc, input, TEXT_LIMIT) {
+        Ok(text) => do_text(rt, alloc, job, text.as_slice(), output, link),
+        Err(fault) => refuse_text(alloc, output, fault),
+    }
+}

@@ -1,0 +1,65 @@
+//! The lines that are written of what is refused.
+ghost use Rattle.std.specs.Prelude.{◌≡◌, ◌≢◌};
+ghost use Rattle.ritas.specs.Run.{Ends, Replies};
+ghost use Rattle.ritas.specs.Configs.{RefusesConfig, RefusesText};
+ghost use Rattle.ritas.specs.Statuses.{limit_text, line_text};
+
+use crate::lines::{limit_text, line_text};
+use crate::run::finish;
+use cluster_config::ConfigFault;
+use outside::{ReadFault, Sink};
+use std::alloc::Global;
+
+/// Writes the line that names a limit.
+pub(crate) fn refuse_limit<K: Sink>(alloc: Global, output: &mut K, limit: u32) -> u8
+    ensures ends { Ends K.faults output.old output.new result }
+    ensures replies { Replies K.tells K.taken output.old output.new result 7 (limit_text limit) }
+    ensures others { (result ≢ 0) × (result ≢ 1) × (result ≢ 2) × (result ≢ 4) × (result ≢ 6) }
+    ensures wanting { result ≡ 8 → output.new ≡ output.old }
+{
+    match limit_text(alloc, limit) {
+        Ok(text) => finish(output, text.as_bytes(), 7),
+        Err(_) => 8,
+    }
+}
+
+// Writes the line that names a wrong or missing line of a configuration.
+fn refuse_line<K: Sink>(alloc: Global, output: &mut K, line: u32) -> u8
+    ensures ends { Ends K.faults output.old output.new result }
+    ensures replies { Replies K.tells K.taken output.old output.new result 3 (line_text line) }
+    ensures others { (result ≢ 0) × (result ≢ 1) × (result ≢ 2) × (result ≢ 4) × (result ≢ 6) }
+    ensures wanting { result ≡ 8 → output.new ≡ output.old }
+{
+    match line_text(alloc, line) {
+        Ok(text) => finish(output, text.as_bytes(), 3),
+        Err(_) => 8,
+    }
+}
+
+/// Writes the line of a configuration's fault.
+pub(crate) fn refuse_config<K: Sink>(alloc: Global, output: &mut K, fault: ConfigFault) -> u8
+    ensures ends { Ends K.faults output.old output.new result }
+    ensures refuses { RefusesConfig K.tells K.taken output.old output.new result fault }
+    ensures others { (result ≢ 2) × (result ≢ 4) × (result ≢ 6) }
+    ensures wanting { result ≡ 8 → output.new ≡ output.old }
+{
+    match fault {
+        ConfigFault::Line(line) => refuse_line(alloc, output, line),
+        ConfigFault::Mem => 8,
+    }
+}
+
+/// Writes the line of a text's fault, where it is too long.
+pub(crate) fn refuse_text<K: Sink>(alloc: Global, output: &mut K, fault: ReadFault) -> u8
+    ensures ends { Ends K.faults output.old output.new result }
+    ensures refuses { RefusesText K.tells K.taken output.old output.new result fault }
+    ensures input_fault { result ≡ 4 → fault ≡ ReadFault.Failed }
+    ensures others { (result ≢ 2) × (result ≢ 6) }
+    ensures wanting { result ≡ 8 → output.new ≡ output.old }
+{
+    match fault {
+        ReadFault::TooLong => refuse_limit(alloc, output, 1_048_576),
+        ReadFault::Failed => 4,
+        ReadFault::Mem => 8,
+    }
+}

@@ -1,0 +1,244 @@
+ghost use Rattle.std.specs.Prelude.{◌<◌, ◌^◌, length, All, IfOk, OnOk};
+ghost use Rattle.outside.specs.MemoryLink.{IsShort};
+
+use crate::run::run;
+use outside::{LinkItem, LinkPlan, MemLink, MemSink, MemSource};
+use ritas_base::{Bytes, Mem};
+use std::alloc::Global;
+use std::net::Net;
+use std::sync::Wait;
+use std::test::*;
+
+// A session of one replica, all whose keys are zeros.
+const NODE: &str = "ritas 1
+session 0
+n 1
+f 0
+root 6
+vect echo
+me 0
+row 0000000000000000000000000000000000000000000000000000000000000000
+coin 0000000000000000000000000000000000000000000000000000000000000000
+peer 127.0.0.1:4000
+client 127.0.0.1:5000
+limit 100
+until 0
+";
+
+const CLUSTER: &str = "ritas 1
+session 0
+n 1
+f 0
+root 6
+vect echo
+master 0000000000000000000000000000000000000000000000000000000000000000
+peer 127.0.0.1:4000
+limit 100
+until 1
+request 0 7 1 6869
+";
+
+const SUBMIT: &str = "ritas 1
+n 4
+f 1
+peer 127.0.0.1:5000
+peer 127.0.0.1:5001
+peer 127.0.0.1:5002
+peer 127.0.0.1:5003
+request 0 7 1 6869
+";
+
+// Request 1 of client 7, and the position that it gets.
+const REQUEST: &[u8] = b"\0\0\0\x07\0\0\0\x01hi";
+
+const POSITION_0: &[u8] = b"\x01\0\0\0\x07\0\0\0\x01\0\0\0\0";
+
+const POSITION_5: &[u8] = b"\x01\0\0\0\x07\0\0\0\x01\0\0\0\x05";
+
+// What is refused has no numbers, and isn't in its grammar.
+const REFUSAL: &[u8] = b"\x02\0\0\0\0\0\0\0\0\0\0\0\x08";
+
+// A message of a client more, or a reply.
+fn add(items: &mut Vec<LinkItem>, item: LinkItem) -> Result<(), Mem>
+    requires short { IsShort item }
+    requires shorts { All IsShort items.old.items }
+    ensures { OnOk result (All IsShort items.new.items) }
+{
+    items.push(item)?;
+    Ok(())
+}
+
+// A request that comes by two connections.
+fn twice(alloc: Global) -> Result<Vec<LinkItem>, Mem>
+    ensures { IfOk result (λ v. All IsShort v.items) }
+{
+    let mut items = Vec::new(alloc);
+    let bytes = Bytes::from_slice(alloc, REQUEST)?;
+    add(
+        &mut items,
+        LinkItem::Client {
+            at: 0,
+            conn: 0,
+            bytes,
+        },
+    )?;
+    let bytes = Bytes::from_slice(alloc, REQUEST)?;
+    add(
+        &mut items,
+        LinkItem::Client {
+            at: 0,
+            conn: 1,
+            bytes,
+        },
+    )?;
+    Ok(items)
+}
+
+// A message of one byte.
+fn too_short(alloc: Global) -> Result<Vec<LinkItem>, Mem>
+    ensures { IfOk result (λ v. All IsShort v.items) }
+{
+    let mut items = Vec::new(alloc);
+    let bytes = Bytes::from_slice(alloc, b"\0")?;
+    add(
+        &mut items,
+        LinkItem::Client {
+            at: 0,
+            conn: 0,
+            bytes,
+        },
+    )?;
+    Ok(items)
+}
+
+// A reply of node 0, and one of node 2.
+fn two_replies(alloc: Global) -> Result<Vec<LinkItem>, Mem>
+    ensures { IfOk result (λ v. All IsShort v.items) }
+{
+    let mut items = Vec::new(alloc);
+    let bytes = Bytes::from_slice(alloc, POSITION_5)?;
+    add(&mut items, LinkItem::Reply { from: 0, bytes })?;
+    let bytes = Bytes::from_slice(alloc, POSITION_5)?;
+    add(&mut items, LinkItem::Reply { from: 2, bytes })?;
+    Ok(items)
+}
+
+// The status of the program with this word and this input over a link.
+fn status<R: Net + Wait>(
+    rt: &R,
+    alloc: Global,
+    word: &str,
+    text: &str,
+    link: &mut MemLink,
+    output: &mut MemSink,
+) -> Result<u8, Mem> {
+    let mut words = Vec::new(alloc);
+    words.push(String::from_str(alloc, "ritas")?)?;
+    words.push(String::from_str(alloc, word)?)?;
+    let mut input = MemSource::new(alloc, text.as_bytes(), &[])?;
+    Ok(run(rt, alloc, &words, &mut input, output, link))
+}
+
+// The request is submitted once, makes thirty turns, and is replied to both connections.
+#[test]
+fn node_serves_a_request(rt: HostRuntime) -> Result<(), Fail> {
+    let items = twice(rt.alloc())?;
+    let mut link = MemLink::new(rt.alloc(), &items, &[])?;
+    let mut output = MemSink::new(rt.alloc(), 1000, &[])?;
+    assert_eq!(rt;
+        status(&rt, rt.alloc(), "node", NODE, &mut link, &mut output)?,
+        0
+    );
+    let file = output.taken();
+    assert_eq!(rt; file.len(), 162);
+    assert_eq!(rt;
+        &file[87..103],
+        b"\x02\0\0\x0a\0\0\0\x07\0\0\0\x01hi\x03\0".as_slice()
+    );
+    assert_eq!(rt; link.replies().len(), 2);
+    for (reply, conn) in link.replies().iter().zip([0, 1]) {
+        assert!(rt; reply.at == 0 && reply.to == conn);
+        assert_eq!(rt; reply.bytes.as_slice(), POSITION_0);
+    }
+    Ok(())
+}
+
+// A message that is no request is an event too.
+#[test]
+fn node_refuses_a_message(rt: HostRuntime) -> Result<(), Fail> {
+    let items = too_short(rt.alloc())?;
+    let mut link = MemLink::new(rt.alloc(), &items, &[])?;
+    let mut output = MemSink::new(rt.alloc(), 1000, &[])?;
+    assert_eq!(rt;
+        status(&rt, rt.alloc(), "node", NODE, &mut link, &mut output)?,
+        0
+    );
+    assert_eq!(rt; output.taken().len(), 93);
+    let reply = link.replies().get(0).ok_or("no reply")?;
+    assert!(rt; link.replies().len() == 1 && reply.to == 0);
+    assert_eq!(rt; reply.bytes.as_slice(), REFUSAL);
+    Ok(())
+}
+
+// A header and an end mark. Then the link can't be started, and then the output has no room for the end mark.
+#[test]
+fn node_serves_nothing(rt: HostRuntime) -> Result<(), Fail> {
+    for (fails, room, wanted, length) in [
+        (&[].as_slice(), 88, 0, 88),
+        (&[0].as_slice(), 88, 6, 87),
+        (&[].as_slice(), 87, 5, 87),
+    ] {
+        let mut link = MemLink::new(rt.alloc(), &[], fails)?;
+        let mut output = MemSink::new(rt.alloc(), room, &[])?;
+        assert_eq!(rt;
+            status(&rt, rt.alloc(), "node", NODE, &mut link, &mut output)?,
+            wanted
+        );
+        assert_eq!(rt; output.taken().len(), length);
+    }
+    Ok(())
+}
+
+// All replicas of a session of one, which begins with a request.
+#[test]
+fn cluster_serves_its_request(rt: HostRuntime) -> Result<(), Fail> {
+    let mut link = MemLink::new(rt.alloc(), &[], &[])?;
+    let mut output = MemSink::new(rt.alloc(), 1000, &[])?;
+    assert_eq!(rt;
+        status(&rt, rt.alloc(), "cluster", CLUSTER, &mut link, &mut output)?,
+        0
+    );
+    let file = output.taken();
+    assert_eq!(rt;
+        &file[54..70],
+        b"\x02\0\0\x0a\0\0\0\x07\0\0\0\x01hi\x03\0".as_slice()
+    );
+    assert_eq!(rt; file[file.len() - 1], 0);
+    assert!(rt; link.replies().is_empty() && link.frames().is_empty());
+    match link.plans() {
+        [LinkPlan::Cluster { peers }] => assert_eq!(rt; peers.len(), 1),
+        _ => panic!(rt; "another plan"),
+    }
+    Ok(())
+}
+
+// Two of four nodes reply one position, and then one alone.
+#[test]
+fn submit_gets_a_position(rt: HostRuntime) -> Result<(), Fail> {
+    let items = two_replies(rt.alloc())?;
+    for (count, wanted, text) in [(2, 0, "position 5\n"), (1, 1, "no position\n")] {
+        let mut link = MemLink::new(rt.alloc(), &items[..count], &[])?;
+        let mut output = MemSink::new(rt.alloc(), 100, &[])?;
+        assert_eq!(rt;
+            status(&rt, rt.alloc(), "submit", SUBMIT, &mut link, &mut output)?,
+            wanted
+        );
+        assert_eq!(rt; output.taken(), text.as_bytes());
+        assert_eq!(rt; link.frames().len(), 4);
+        for (frame, node) in link.frames().iter().zip(0..4) {
+            assert!(rt; frame.at == 0 && frame.to == node);
+            assert_eq!(rt; frame.bytes.as_slice(), REQUEST);
+        }
+    }
+    Ok(())
+}

@@ -1,0 +1,74 @@
+//! Serving the sessions of nodes and of clusters.
+ghost use Rattle.std.specs.Prelude.{◌≡◌, ◌≢◌, [], map};
+ghost use Rattle.cluster_config.specs.Cluster.{cluster_text};
+ghost use Rattle.cluster_config.specs.Node.{node_text};
+ghost use Rattle.cluster_config.specs.Ranges.{FitsNode, FitsCluster};
+ghost use Rattle.node_session.specs.Configs.{node_header, node_plan, cluster_header, cluster_plan, first_item};
+ghost use Rattle.ritas.specs.Configs.{AnswersSession};
+ghost use Rattle.ritas.specs.Run.{Runs};
+ghost use Rattle.ritas.specs.Statuses.{end_status};
+
+use cluster_config::{ClusterConfig, NodeConfig};
+use node_loop::ServeEnd;
+use node_session::{serve_cluster, serve_node};
+use outside::{Link, Sink};
+use ritas_base::Mem;
+use std::alloc::Global;
+use std::net::Net;
+use std::sync::Wait;
+
+// The status of serving that ended so.
+fn end_status(end: ServeEnd) -> u8
+    ensures { result ≡ end_status end }
+{
+    match end {
+        ServeEnd::Done | ServeEnd::Limit | ServeEnd::End => 0,
+        ServeEnd::LinkFault => 6,
+        ServeEnd::TapeFault => 5,
+        ServeEnd::Mem => 8,
+    }
+}
+
+/// Serves the replica of a configuration, and writes its file.
+pub(crate) fn run_node<R: Net + Wait, K: Sink, L: Link>(
+    rt: &R,
+    alloc: Global,
+    config: NodeConfig,
+    output: &mut K,
+    link: &mut L,
+) -> u8
+    requires { FitsNode (node_text config) }
+    ensures runs { Runs K.faults output.old output.new (L.faults link.old) (L.faults link.new) result }
+    ensures others { result ≢ 4 }
+    ensures answers { AnswersSession (node_header config) (node_plan config) (record { tape = K.tells; link = L.tells })
+        (record { taken = K.taken output.old; tape_faults = K.faults output.old; told = L.told link.old; link_faults = L.faults link.old })
+        (record { taken = K.taken output.new; tape_faults = K.faults output.new; told = L.told link.new; link_faults = L.faults link.new })
+        ((output.new ≡ output.old) × (link.new ≡ link.old)) result config.until config.limit [] }
+{
+    match serve_node(rt, alloc, config, link, output) {
+        Ok(end) => end_status(end),
+        Err(Mem) => 8,
+    }
+}
+
+/// Serves all replicas of a configuration, beginning with its requests, and writes their file.
+pub(crate) fn run_cluster<R: Net + Wait, K: Sink, L: Link>(
+    rt: &R,
+    alloc: Global,
+    config: ClusterConfig,
+    output: &mut K,
+    link: &mut L,
+) -> u8
+    requires { FitsCluster (cluster_text config) }
+    ensures runs { Runs K.faults output.old output.new (L.faults link.old) (L.faults link.new) result }
+    ensures others { result ≢ 4 }
+    ensures answers { AnswersSession (cluster_header config) (cluster_plan config) (record { tape = K.tells; link = L.tells })
+        (record { taken = K.taken output.old; tape_faults = K.faults output.old; told = L.told link.old; link_faults = L.faults link.old })
+        (record { taken = K.taken output.new; tape_faults = K.faults output.new; told = L.told link.new; link_faults = L.faults link.new })
+        ((output.new ≡ output.old) × (link.new ≡ link.old)) result config.until config.limit (map first_item config.requests) }
+{
+    match serve_cluster(rt, alloc, config, link, output) {
+        Ok(end) => end_status(end),
+        Err(Mem) => 8,
+    }
+}
