@@ -1,0 +1,84 @@
+"""Clients that hand in commands at nodes, several at a time, and note the positions that they are told."""
+import collections
+import select
+
+import peers
+import serving
+
+OUTSTANDING = 8
+Command = collections.namedtuple("Command", "client request payload")
+
+
+def check(is_right: bool, wrong: str) -> None:
+    if not is_right:
+        raise AssertionError(wrong)
+
+
+class Desk:
+    """A client's connection with one node, and the commands that go by it."""
+
+    def __init__(self, port: int):
+        self.link = peers.Pieces(port)
+        self.ahead, self.waiting = collections.deque(), {}
+
+    def hand_in(self) -> None:
+        while self.ahead and len(self.waiting) < OUTSTANDING:
+            one = self.ahead.popleft()
+            self.waiting[one[:2]] = one
+            self.link.send(one.client.to_bytes(4, "big") + one.request.to_bytes(4, "big") + one.payload)
+
+    def replies(self) -> list:
+        """Each as its form, client, request and number."""
+        texts = self.link.take()
+        check(all(len(text) == 13 for text in texts), "a reply hasn't 13 bytes")
+        return [(text[0], *(int.from_bytes(text[at : at + 4], "big") for at in (1, 5, 9))) for text in texts]
+
+    def listen(self, positions: dict) -> bool:
+        """Notes the positions that came, and says whether more may come."""
+        goes_on = self.link.read()
+        for form, client, request, position in self.replies():
+            check(form == 1 and (client, request) in self.waiting, f"reply {form} to {client} {request}")
+            positions[self.waiting.pop((client, request))] = position
+        return goes_on
+
+
+class Office:
+    """Clients that hand in commands, some at each node. What a node that ended left goes to the others."""
+
+    def __init__(self, ports: list, commands: list):
+        self.desks = [Desk(port) for port in ports]
+        self.positions = {}
+        self.wanted = len(commands)
+        self.spread(commands)
+
+    def spread(self, commands: list) -> None:
+        for place, one in enumerate(commands):
+            self.desks[place % len(self.desks)].ahead.append(one)
+
+    def close(self, desk: Desk) -> None:
+        desk.link.socket.close()
+        self.desks.remove(desk)
+        check(bool(self.desks), "no node is left")
+        self.spread([*desk.waiting.values(), *desk.ahead])
+
+    def step(self) -> None:
+        for desk in list(self.desks):
+            try:
+                desk.hand_in()
+            except ConnectionError:
+                self.close(desk)
+        links = {desk.link.socket: desk for desk in self.desks}
+        ready = select.select(list(links), [], [], serving.PATIENCE)[0]
+        check(bool(ready), f"no reply in {serving.PATIENCE} s, after {len(self.positions)} of {self.wanted}")
+        for desk in [links[one] for one in ready]:
+            if not desk.listen(self.positions):
+                self.close(desk)
+
+    def serve_until(self, count: int) -> None:
+        """Goes on until so many commands have their position."""
+        while len(self.positions) < count:
+            self.step()
+
+    def leave(self) -> None:
+        for desk in self.desks:
+            desk.link.socket.close()

@@ -1,0 +1,222 @@
+"""Nodes of a session on this machine: their ports, keys, configurations and records, and clients that speak to them.
+
+`examples/cluster` and `cases/cluster` stand on it. A record is the schedule file that a node writes as it goes; it carries the node's
+keys, so what is written here is readable by its owner alone. Each process is ended by its own id.
+"""
+import os
+import random
+import socket
+import subprocess
+import time
+
+TOP = os.path.dirname(os.path.dirname(os.path.abspath(__file__)))
+PROGRAM = os.environ.get("RITAS", os.path.join(TOP, "ritas"))
+HOST = "127.0.0.1"
+PORTS = range(25000, 28000)
+PATIENCE = 30
+KEY_DIGITS = 64
+END_MARK = b"\x00"
+FORM_AT, N_AT, MASTER_HEADER = 21, 13, 54
+
+
+def run(text: bytes, *words: str, seconds: float = 120):
+    """The status and the standard output of the program, given these words and this standard input."""
+    done = subprocess.run([PROGRAM, *words], input=text, stdout=subprocess.PIPE, timeout=seconds)
+    return done.returncode, done.stdout
+
+
+def is_built() -> bool:
+    """Whether the program answers, which the wrapper builds first where it isn't built."""
+    return subprocess.run([PROGRAM], stdin=subprocess.DEVNULL, stdout=subprocess.DEVNULL).returncode == 2
+
+
+def is_free(port: int) -> bool:
+    with socket.socket() as one:
+        one.setsockopt(socket.SOL_SOCKET, socket.SO_REUSEADDR, 1)
+        try:
+            one.bind((HOST, port))
+        except OSError:
+            return False
+        return True
+
+
+def free_ports(count: int) -> list:
+    ports = [port for port in random.sample(PORTS, 10 * count) if is_free(port)]
+    if len(ports) < count:
+        raise RuntimeError("no free ports")
+    return ports[:count]
+
+
+def config(*lines: str) -> bytes:
+    return "".join(line + "\n" for line in lines).encode()
+
+
+def address(port: int) -> str:
+    return f"{HOST}:{port}"
+
+
+class Session:
+    """The numbers, the ports and the keys of a session. Each replica has a row of keys and the key of its coin, as hexadecimal digits."""
+
+    def __init__(self, n: int, f: int, vect: str = "echo"):
+        self.n, self.f, self.vect = n, f, vect
+        self.number = random.getrandbits(64)
+        self.master = os.urandom(KEY_DIGITS // 2).hex()
+        ports = free_ports(2 * n)
+        self.peers, self.clients = ports[:n], ports[n:]
+        self.rows, self.coins = self.deal()
+
+    def head(self) -> tuple:
+        return "ritas 1", f"session {self.number}", f"n {self.n}", f"f {self.f}"
+
+    def deal(self) -> tuple:
+        status, text = run(config(*self.head(), f"master {self.master}"), "keys")
+        lines = [line.split() for line in text.decode().splitlines()]
+        if status != 0 or [line[:2] for line in lines] != [["row", str(i)] for i in range(self.n)]:
+            raise RuntimeError(f"keys: status {status}")
+        return [line[2] for line in lines], [line[3] for line in lines]
+
+    def peer_lines(self) -> list:
+        return [f"peer {address(port)}" for port in self.peers]
+
+    def node_config(self, me: int, until: int = 0) -> bytes:
+        keys = f"me {me}", f"row {self.rows[me]}", f"coin {self.coins[me]}"
+        places = *self.peer_lines(), f"client {address(self.clients[me])}"
+        return config(*self.head(), "root 6", f"vect {self.vect}", *keys, *places, f"limit {2**64 - 1}", f"until {until}")
+
+    def submit_config(self, client: int, request: int, payload: bytes) -> bytes:
+        places = [f"peer {address(port)}" for port in self.clients]
+        return config("ritas 1", *self.head()[2:], *places, f"request 0 {client} {request} {payload.hex() or '-'}")
+
+
+def open_private(path: str, flags: int = os.O_WRONLY):
+    """A new file that its owner alone may read."""
+    return os.fdopen(os.open(path, flags | os.O_CREAT | os.O_EXCL, 0o600), "wb")
+
+
+class Node:
+    """A process that serves one replica. Its record is written to a file of the folder."""
+
+    def __init__(self, folder: str, session: Session, me: int, until: int = 0):
+        self.me, self.path = me, os.path.join(folder, f"node-{me}.record")
+        conf = os.path.join(folder, f"node-{me}.conf")
+        with open_private(conf) as file:
+            file.write(session.node_config(me, until))
+        with open(conf, "rb") as given, open_private(self.path) as record:
+            self.process = subprocess.Popen([PROGRAM, "node"], stdin=given, stdout=record, start_new_session=True)
+
+    def is_alive(self) -> bool:
+        return self.process.poll() is None
+
+    def stop(self, at_once: bool = False) -> None:
+        if self.is_alive():
+            self.process.kill() if at_once else self.process.terminate()
+        self.process.wait()
+
+    def record_size(self) -> int:
+        return os.path.getsize(self.path)
+
+    def record(self) -> bytes:
+        """Its record, which is complete also where the node was stopped."""
+        with open(self.path, "rb") as file:
+            return completed(file.read())
+
+
+def event_end(text: bytes, at: int) -> int:
+    """Where the event at this offset of a record ends; past the text's end where it isn't whole."""
+    head = text[at : at + 4]
+    if head[0] == 3:
+        return at + 2
+    return at + 4 + int.from_bytes(head[2:], "big") if len(head) == 4 else at + 4
+
+
+def header_end(text: bytes) -> int:
+    if len(text) <= FORM_AT:
+        return len(text) + 1
+    return MASTER_HEADER if text[FORM_AT] == 0 else 55 + 32 * text[N_AT]
+
+
+def completed(text: bytes) -> bytes:
+    """A node's record with the end mark, which one that was stopped doesn't write, and without an event that isn't whole."""
+    end = header_end(text)
+    if end > len(text):
+        raise ValueError("the record has no whole header")
+    while end < len(text):
+        if text[end] == 0:
+            return text
+        following = event_end(text, end)
+        if following > len(text):
+            break
+        end = following
+    return text[:end] + END_MARK
+
+
+def report_of(record: bytes) -> bytes:
+    """The report of a node's record. As it names one correct replica alone, its audit doesn't hold where n is 4, and the status is 1."""
+    status, report = run(record, "replay", "report")
+    if status not in (0, 1) or b"\naudit " not in report:
+        raise ValueError(f"replay: status {status}, {report[:100]!r}")
+    return report
+
+
+def rows_of(report: bytes) -> list:
+    """The rows of a report of one replica, each as position, identifier, client, request and payload."""
+    rows = [line.split()[1:] for line in report.decode().splitlines() if line.startswith("row ")]
+    if [row[0] for row in rows] != [str(i) for i in range(len(rows))]:
+        raise ValueError("rows out of order")
+    return rows
+
+
+def are_prefixes(logs: list) -> bool:
+    longest = max(logs, key=len)
+    return all(longest[: len(log)] == log for log in logs)
+
+
+def links_up(ports: list):
+    """How many connections stand at these ports with nothing left to be read; nothing where the system doesn't tell."""
+    try:
+        with open("/proc/net/tcp") as file:
+            lines = [line.split() for line in file.readlines()[1:]]
+    except OSError:
+        return None
+    wanted = {f"{port:04X}" for port in ports}
+    return sum(line[1].split(":")[1] in wanted and line[3] == "01" and line[4].endswith(":00000000") for line in lines)
+
+
+def await_links(nodes: list, session: Session) -> None:
+    """Waits until every two of these nodes are connected. What is handed in before is sent to nobody who comes later."""
+    wanted = len(nodes) * (len(nodes) - 1) // 2
+    until = time.monotonic() + PATIENCE
+    while (up := links_up([session.peers[node.me] for node in nodes])) is not None and up < wanted:
+        if not all(node.is_alive() for node in nodes) or time.monotonic() > until:
+            raise RuntimeError(f"{up} of {wanted} links stand; nodes ended with {[node.process.poll() for node in nodes]}")
+        time.sleep(0.02)
+    time.sleep(0.2 if up is not None else 3)
+
+
+def start(folder: str, session: Session, numbers, until: int = 0) -> list:
+    """Starts these nodes of a session, and waits until they are connected. Where one of them isn't, all are stopped."""
+    nodes = []
+    try:
+        for me in numbers:
+            nodes.append(Node(folder, session, me, until))
+        await_links(nodes, session)
+    except BaseException:
+        stop_all(nodes)
+        raise
+    return nodes
+
+
+def stop_all(nodes: list) -> None:
+    for node in nodes:
+        node.stop()
+
+
+def await_quiet(nodes: list, quiet: float = 0.5) -> None:
+    """Waits until no record of these nodes has grown for a while."""
+    until, since, sizes = time.monotonic() + PATIENCE, time.monotonic(), None
+    while time.monotonic() < until and time.monotonic() - since < quiet:
+        time.sleep(0.05)
+        now = [node.record_size() for node in nodes]
+        if now != sizes:
+            since, sizes = time.monotonic(), now
