@@ -5,8 +5,8 @@
  * Each client keeps one connection to 127.0.0.1 open, sends one command, waits for its reply, and sends the next; clients are spread
  * over the ports. Clients have the numbers FIRST, FIRST + 1 and so on, so that with other numbers all commands are new. Nothing counts in
  * the first WARM seconds. One line is printed: the commands that were answered in the SECONDS behind them, the median and the 99th
- * percentile of their latencies in microseconds, the commands answered in all, and how many were refused, as by a full window, and
- * sent again. It fails where a client has no reply for 10 seconds.
+ * percentile of their latencies in microseconds, the commands answered in all, how many were refused, as by a full window, and sent
+ * again, and how many clients have waited for more than a second at the end, as where a node is left behind.
  *
  * PROTOCOL is `ritas` (docs/FORMATS.md, client messages), `json` (etcd's gateway, POST /v3/kv/put over HTTP/1.1) or `grpc` (etcd's own
  * KV/Put over HTTP/2, with one stream at a time). A command has 16 bytes beside the client's and the command's number, which are etcd's key.
@@ -224,7 +224,7 @@ int main(int words, char **word) {
         reach(&clients[k], atoi(word[6 + k % ports]), poll);
         if (p->greet) p->greet(&clients[k]);
     }
-    double from = now() + warm, to = from + seconds, looked = now();
+    double from = now() + warm, to = from + seconds;
     for (int k = 0; k < count; k++) {
         clients[k].sent = now();
         p->send(&clients[k]);
@@ -250,14 +250,12 @@ int main(int words, char **word) {
             c->sent = at;
             p->send(c);
         }
-        if (at - looked < 1) continue;
-        looked = at;
-        for (int k = 0; k < count; k++)
-            if (at - clients[k].sent > 10) fail("no reply for 10 seconds", &clients[k]);
     }
     if (measured == 0) fail("nothing was answered in time", &clients[0]);
     qsort(times, measured, sizeof *times, by_time);
-    printf("%llu %.1f %.1f %llu %llu\n", (unsigned long long)measured, times[measured / 2], times[measured - 1 - measured / 100],
-           (unsigned long long)all, (unsigned long long)refused);
+    int waiting = 0;
+    for (int k = 0; k < count; k++) waiting += to - clients[k].sent > 1;
+    printf("%llu %.1f %.1f %llu %llu %d\n", (unsigned long long)measured, times[measured / 2], times[measured - 1 - measured / 100],
+           (unsigned long long)all, (unsigned long long)refused, waiting);
     return 0;
 }
