@@ -2,7 +2,7 @@ ghost use Rattle.std.specs.Prelude.{◌<◌, ◌^◌, length, All, IfOk, OnOk};
 ghost use Rattle.outside.specs.MemoryLink.{IsShort};
 
 use crate::run::run;
-use outside::{LinkItem, LinkPlan, MemLink, MemSink, MemSource};
+use outside::{LinkItem, MemLink, MemSink, MemSource};
 use ritas_base::{Bytes, Mem};
 use std::alloc::Global;
 use std::net::Net;
@@ -25,35 +25,10 @@ limit 100
 until 0
 ";
 
-const CLUSTER: &str = "ritas 1
-session 0
-n 1
-f 0
-root 6
-vect echo
-master 0000000000000000000000000000000000000000000000000000000000000000
-peer 127.0.0.1:4000
-limit 100
-until 1
-request 0 7 1 6869
-";
-
-const SUBMIT: &str = "ritas 1
-n 4
-f 1
-peer 127.0.0.1:5000
-peer 127.0.0.1:5001
-peer 127.0.0.1:5002
-peer 127.0.0.1:5003
-request 0 7 1 6869
-";
-
 // Request 1 of client 7, and the position that it gets.
 const REQUEST: &[u8] = b"\0\0\0\x07\0\0\0\x01hi";
 
 const POSITION_0: &[u8] = b"\x01\0\0\0\x07\0\0\0\x01\0\0\0\0";
-
-const POSITION_5: &[u8] = b"\x01\0\0\0\x07\0\0\0\x01\0\0\0\x05";
 
 // What is refused has no numbers, and isn't in its grammar.
 const REFUSAL: &[u8] = b"\x02\0\0\0\0\0\0\0\0\0\0\0\x08";
@@ -108,18 +83,6 @@ fn too_short(alloc: Global) -> Result<Vec<LinkItem>, Mem>
             bytes,
         },
     )?;
-    Ok(items)
-}
-
-// A reply of node 0, and one of node 2.
-fn two_replies(alloc: Global) -> Result<Vec<LinkItem>, Mem>
-    ensures { IfOk result (λ v. All IsShort v.items) }
-{
-    let mut items = Vec::new(alloc);
-    let bytes = Bytes::from_slice(alloc, POSITION_5)?;
-    add(&mut items, LinkItem::Reply { from: 0, bytes })?;
-    let bytes = Bytes::from_slice(alloc, POSITION_5)?;
-    add(&mut items, LinkItem::Reply { from: 2, bytes })?;
     Ok(items)
 }
 
@@ -195,50 +158,6 @@ fn node_serves_nothing(rt: HostRuntime) -> Result<(), Fail> {
             wanted
         );
         assert_eq!(rt; output.taken().len(), length);
-    }
-    Ok(())
-}
-
-// All replicas of a session of one, which begins with a request.
-#[test]
-fn cluster_serves_its_request(rt: HostRuntime) -> Result<(), Fail> {
-    let mut link = MemLink::new(rt.alloc(), &[], &[])?;
-    let mut output = MemSink::new(rt.alloc(), 1000, &[])?;
-    assert_eq!(rt;
-        status(&rt, rt.alloc(), "cluster", CLUSTER, &mut link, &mut output)?,
-        0
-    );
-    let file = output.taken();
-    assert_eq!(rt;
-        &file[54..70],
-        b"\x02\0\0\x0a\0\0\0\x07\0\0\0\x01hi\x03\0".as_slice()
-    );
-    assert_eq!(rt; file[file.len() - 1], 0);
-    assert!(rt; link.replies().is_empty() && link.frames().is_empty());
-    match link.plans() {
-        [LinkPlan::Cluster { peers }] => assert_eq!(rt; peers.len(), 1),
-        _ => panic!(rt; "another plan"),
-    }
-    Ok(())
-}
-
-// Two of four nodes reply one position, and then one alone.
-#[test]
-fn submit_gets_a_position(rt: HostRuntime) -> Result<(), Fail> {
-    let items = two_replies(rt.alloc())?;
-    for (count, wanted, text) in [(2, 0, "position 5\n"), (1, 1, "no position\n")] {
-        let mut link = MemLink::new(rt.alloc(), &items[..count], &[])?;
-        let mut output = MemSink::new(rt.alloc(), 100, &[])?;
-        assert_eq!(rt;
-            status(&rt, rt.alloc(), "submit", SUBMIT, &mut link, &mut output)?,
-            wanted
-        );
-        assert_eq!(rt; output.taken(), text.as_bytes());
-        assert_eq!(rt; link.frames().len(), 4);
-        for (frame, node) in link.frames().iter().zip(0..4) {
-            assert!(rt; frame.at == 0 && frame.to == node);
-            assert_eq!(rt; frame.bytes.as_slice(), REQUEST);
-        }
     }
     Ok(())
 }
