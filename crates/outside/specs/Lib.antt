@@ -1,6 +1,9 @@
 pub mod Faults
+pub mod FaultsLaws
 pub mod Memory
 pub mod Links
+pub mod LinkCalls
+pub mod LinkCallsLaws
 pub mod MemoryLink
 pub mod Courses
 pub mod Writing

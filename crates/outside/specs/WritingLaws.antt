@@ -1,8 +1,9 @@
 -- What follows where one text is written after another, for calls that are made of calls on a sink.
 use Rattle.std.specs.Prelude.{◌≡◌, ℕ, List, [], ◌++◌, Bool, true, Result, Ok, Err, IsErr, take, drop, refl}
-use Rattle.std.proofs.Common.{sym, ap, ◌∙◌, append_assoc, inl, inr, arith}
+use Rattle.std.proofs.Common.{sym, ap, ◌∙◌, append_assoc, arith}
 use Rattle.std.proofs.lemmas.List.{take-append-drop, append-nil}
 use Rattle.std.proofs.lemmas.Result.{on_ok_weaker}
+use Rattle.outside.specs.FaultsLaws.{rose_after}
 use Rattle.outside.specs.Writing.{TookFront, Writes}
 
 pub front_of : (old new text : List ℕ) (k : ℕ) → new ≡ old ++ take k text → TookFront old new text
@@ -44,7 +45,7 @@ writes_then a b tells old mid new x y z r first second = record {
   whole = λ t. on_ok_weaker r (λ e. e ∙ rw (first.whole t) (append_assoc old a b)) (second.whole t);
   front = λ t. front_then old mid new a b [] (a ++ b) (ap (λ (s : List ℕ). a ++ s) (sym (append-nil b))) (first.whole t) (second.front t);
   later = omega (arith, first.later, second.later);
-  cause = λ f. elim (second.cause f) [ inl lt ↦ inl (omega (arith, first.later)) | inr at_last ↦ inr at_last ];
+  cause = λ f. rose_after x y z first.later (second.cause f);
 }
 
 -- the first of two texts failed

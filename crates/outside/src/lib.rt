@@ -12,7 +12,8 @@
 //! `write_all` writes a whole text to a sink, and `read_whole` reads all that a source has left, up to a limit. How calls
 //! that are made of writes write their texts one after the other is said by the lemmas of `specs/WritingLaws.antt`. The calls
 //! of a link are one list, in the order in which they were made; the plans, items, frames and replies are read off it
-//! (`specs/Links.antt`).
+//! (`specs/Links.antt`). What several calls told, one after the other, is said by `LinkDid` (`specs/LinkCalls.antt`) and the lemmas
+//! of `specs/LinkCallsLaws.antt`.
 #![tactic(auto)]
 
 mod adapters;

@@ -1,4 +1,4 @@
-ghost use Rattle.std.specs.Prelude.{◌≡◌, ◌<◌, ◌∷◌, ◌^◌, List, ℕ, Bool, true, IfOk, OnOk, OnErr, Err, Contains, length};
+ghost use Rattle.std.specs.Prelude.{◌≡◌, ◌↔◌, ◌<◌, ◌∷◌, ◌^◌, List, ℕ, Bool, true, IsTrue, IfOk, OnOk, OnErr, Err, Contains, length};
 ghost use Rattle.outside.specs.Faults.{HasCause};
 ghost use Rattle.outside.specs.Links.{LinkAct, Starts, Gives, Sends, Replies, bytes_of, items_in};
 
@@ -77,6 +77,19 @@ pub enum LinkItem {
 }
 
 impl LinkItem {
+    /// Whether it says that no item follows.
+    pub fn is_end(&self) -> bool
+        ensures { IsTrue result ↔ (self.now ≡ LinkItem.End) }
+    {
+        match self {
+            LinkItem::End => true,
+            LinkItem::Frame { .. } => false,
+            LinkItem::Client { .. } => false,
+            LinkItem::Reply { .. } => false,
+            LinkItem::Down { .. } => false,
+        }
+    }
+
     /// A copy. The one error is want of memory.
     pub fn copy(&self, alloc: Global) -> Result<LinkItem, Mem>
         ensures { IfOk result (λ item. item ≡ self.now) }
@@ -172,7 +185,7 @@ pub trait Link {
         ensures err { tells ≡ true → OnErr result (told self.new ≡ told self.old) }
         ensures cause { HasCause (faults self.old) (faults self.new) (result ≡ Err LinkFault.Failed) };
 
-    /// Gives the next item, of at most 65,535 bytes, for which it may wait. Once `End` was given, nothing else is given.
+    /// Gives the next item, of at most 65,535 bytes, for which it may wait. A link that tells gives nothing else once it gave `End`.
     fn next<R: Net + Wait>(&mut self, rt: &R, alloc: Global) -> Result<LinkItem, LinkFault>
         ensures size { IfOk result (λ item. length (bytes_of item) < 2 ^ 16) }
         ensures end { tells ≡ true → Contains (items_in (told self.old)) LinkItem.End → IfOk result (λ item. item ≡ LinkItem.End) }

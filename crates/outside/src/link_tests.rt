@@ -81,6 +81,12 @@ fn gives_items(rt: HostRuntime) -> Result<(), Fail> {
     Ok(())
 }
 
+#[test]
+fn end_is_the_end(rt: HostRuntime) {
+    assert!(rt; LinkItem::End.is_end());
+    assert!(rt; !LinkItem::Down { at: 0, peer: 1 }.is_end());
+}
+
 fn texts(alloc: Global, text: &[u8]) -> Result<Texts, Mem> {
     let mut texts = Texts::new(alloc);
     texts.push(Bytes::from_slice(alloc, text)?)?;

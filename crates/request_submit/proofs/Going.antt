@@ -1,23 +1,24 @@
 -- How waiting goes on and ends.
 use Rattle.std.proofs.Common.{◌≡◌, ℕ, ◌≤◌, List, [], ◌∷◌, ◌++◌, map, Bool, true, Some, None, Ok, Err, refl, sym, ap, ◌∙◌, arith}
 use Rattle.outside.specs.Faults.{Rose}
+use Rattle.outside.specs.LinkCalls.{TookBack, LinkDid}
+use Rattle.outside.specs.LinkCallsLaws.{back_all}
 use Rattle.outside.specs.Links.{LinkAct, Gives}
 use Rattle.outside.specs.declared.link.LinkFault.{LinkFault}
 use Rattle.outside.specs.declared.link.LinkFault.TheVariants as faults
 use Rattle.outside.specs.declared.link.LinkItem.{LinkItem}
 use Rattle.outside.specs.declared.link.LinkItem.TheVariants as items
-use Rattle.outside.proofs.Rising.{rose_after}
+use Rattle.outside.specs.FaultsLaws.{rose_after}
 use Rattle.client_port.specs.Votes.{Wanted, Ballots, VotesStand}
 use Rattle.request_submit.specs.declared.end.SubmitEnd.{SubmitEnd}
 use Rattle.request_submit.specs.declared.end.SubmitEnd.TheVariants as ends
-use Rattle.request_submit.specs.Submitting.{handed_in, calls_of, settles, ToldPart, EndsSo, Submits}
-use Rattle.request_submit.specs.Waiting.{LinkDid, IsEndOf, Waits}
-use Rattle.request_submit.proofs.Linked.{part_all}
+use Rattle.request_submit.specs.Submitting.{handed_in, calls_of, settles, EndsSo, Submits}
+use Rattle.request_submit.specs.Waiting.{IsEndOf, Waits}
 
 -- ---- a fault is an end
 
 fault_so : (w : Wanted) (acts : List LinkAct) (tells : Bool) (old new : List LinkAct) (before after : ℕ) (fault : LinkFault) (end : SubmitEnd)
-    → IsEndOf fault end → (tells ≡ true → ToldPart old new acts) → (fault ≡ faults.Failed → Rose before after) → (taken : List LinkItem)
+    → IsEndOf fault end → (tells ≡ true → TookBack old new acts) → (fault ≡ faults.Failed → Rose before after) → (taken : List LinkItem)
     → EndsSo w taken acts tells old new before after end
 fault_so w acts tells old new before after faults.Failed end is part cause taken = rw is (cause refl, part)
 fault_so w acts tells old new before after faults.Mem end is part cause taken = rw is part
@@ -29,7 +30,7 @@ not_handed_in w nodes payload tells old new before after fault end did is = reco
   items = [];
   on = tt;
   later = did.later;
-  so = fault_so w (handed_in w nodes payload) tells old new before after fault end is did.part (λ e. did.cause (ap Err e)) [];
+  so = fault_so w (handed_in w nodes payload) tells old new before after fault end is did.back (λ e. did.cause (ap Err e)) [];
 }
 
 -- it was, and nothing was taken yet
@@ -53,7 +54,7 @@ next_fails w nodes payload tells base old new x y z votes fault end waits same l
   items = waits.items;
   on = waits.on;
   later = omega (arith, waits.later, later);
-  so = fault_so w _ tells base new x z fault end is (λ t. part_all base new _ (same t ∙ waits.told t)) (λ e. rose_after x y z waits.later (cause e)) waits.items;
+  so = fault_so w _ tells base new x z fault end is (λ t. back_all base new _ (same t ∙ waits.told t)) (λ e. rose_after x y z waits.later (cause e)) waits.items;
 }
 
 -- the calls with one more

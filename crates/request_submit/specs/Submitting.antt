@@ -1,8 +1,9 @@
 -- What handing in a request does to a link, and how it ends. Lists of the link's calls, of its items and of the calls of the votes have
 -- the newest first.
-use Rattle.std.specs.Prelude.{◌≡◌, ℕ, ◌≤◌, Bool, true, List, [], ◌∷◌, ◌++◌, map, reverse, Option, Some, None, Result, Ok, Err}
+use Rattle.std.specs.Prelude.{◌≡◌, ℕ, ◌≤◌, Bool, true, List, [], ◌∷◌, ◌++◌, map, Option, Some, None, Result, Ok, Err}
 use Rattle.ritas_base.specs.History.{replicas}
 use Rattle.outside.specs.Faults.{Rose}
+use Rattle.outside.specs.LinkCalls.{TookBack, each_act}
 use Rattle.outside.specs.Links.{LinkAct, Starts, Gives, Sends}
 use Rattle.outside.specs.declared.link.LinkItem.{LinkItem}
 use Rattle.outside.specs.declared.link.LinkItem.TheVariants as items
@@ -26,7 +27,7 @@ sent_to message node = Sends (record { at = 0; to = node; bytes = message })
 
 -- it goes to each of n nodes, in ascending order
 abbrev pub sent_to_each : ℕ → List ℕ → List LinkAct
-sent_to_each n message = reverse (map (sent_to message) (replicas n))
+sent_to_each n message = each_act (sent_to message) (replicas n)
 
 -- the calls with which a request with this payload is handed in to these nodes
 abbrev pub handed_in : Wanted → List (List ℕ) → List ℕ → List LinkAct
@@ -69,13 +70,6 @@ GoesOn w (item ∷ older) = Passes w older item × GoesOn w older
 
 -- ---- how it ends
 
--- the link told the older part of these calls
-pub record ToldPart (old new acts : List LinkAct) : Type 0 where
-  pub rest : List LinkAct
-  pub back : List LinkAct
-  pub parts : acts ≡ rest ++ back
-  pub told : new ≡ back ++ old
-
 -- behind these items one came with which this position is settled, and then there was no further call
 pub record SettledBy (w : Wanted) (older : List LinkItem) (position : ℕ) (tells : Bool) (old new acts : List LinkAct) : Type 0 where
   pub item : LinkItem
@@ -86,8 +80,8 @@ pub record SettledBy (w : Wanted) (older : List LinkItem) (position : ℕ) (tell
 abbrev pub EndsSo : Wanted → List LinkItem → List LinkAct → Bool → List LinkAct → List LinkAct → ℕ → ℕ → SubmitEnd → Type 0
 EndsSo w older acts tells old new before after (ends.Position position) = SettledBy w older position tells old new acts
 EndsSo w older acts tells old new before after ends.NoPosition = tells ≡ true → new ≡ Gives items.End ∷ acts ++ old
-EndsSo w older acts tells old new before after ends.LinkFault = Rose before after × (tells ≡ true → ToldPart old new acts)
-EndsSo w older acts tells old new before after ends.Mem = tells ≡ true → ToldPart old new acts
+EndsSo w older acts tells old new before after ends.LinkFault = Rose before after × (tells ≡ true → TookBack old new acts)
+EndsSo w older acts tells old new before after ends.Mem = tells ≡ true → TookBack old new acts
 
 -- There are items, of which none was the link's end and none settled a position, after which it ended so. The link had been started with
 -- the nodes and given the request for each of them, in order, before it gave the first of these items.

@@ -1,6 +1,5 @@
 -- What one part of handing in a request does after another.
-use Rattle.std.specs.Prelude.{◌≡◌, ℕ, ◌≤◌, Bool, true, List, ◌++◌, map, Result, Ok, Err, OnOk}
-use Rattle.outside.specs.Faults.{Rose}
+use Rattle.std.specs.Prelude.{◌≡◌, ℕ, ◌≤◌, Bool, true, List, ◌++◌, map, Result, Ok, Err}
 use Rattle.outside.specs.Links.{LinkAct, Gives}
 use Rattle.outside.specs.declared.link.LinkFault.{LinkFault}
 use Rattle.outside.specs.declared.link.LinkFault.TheVariants as faults
@@ -8,14 +7,7 @@ use Rattle.outside.specs.declared.link.LinkItem.{LinkItem}
 use Rattle.client_port.specs.Votes.{Wanted, Ballots, VotesStand}
 use Rattle.request_submit.specs.declared.end.SubmitEnd.{SubmitEnd}
 use Rattle.request_submit.specs.declared.end.SubmitEnd.TheVariants as ends
-use Rattle.request_submit.specs.Submitting.{handed_in, calls_of, GoesOn, ToldPart, Submits}
-
--- calls of the link were these, or for an error a part of them
-pub record LinkDid (tells : Bool) (acts old new : List LinkAct) (before after : ℕ) (result : Result (Unit {0}) LinkFault) : Type 0 where
-  pub whole : tells ≡ true → OnOk result (new ≡ acts ++ old)
-  pub part : tells ≡ true → ToldPart old new acts
-  pub later : before ≤ after
-  pub cause : result ≡ Err faults.Failed → Rose before after
+use Rattle.request_submit.specs.Submitting.{handed_in, calls_of, GoesOn, Submits}
 
 -- a fault of the link as an end
 abbrev pub IsEndOf : LinkFault → SubmitEnd → Type 0

@@ -1,5 +1,5 @@
 //! Waiting for a position.
-ghost use Rattle.std.specs.Prelude.{◌≡◌, ◌↔◌, ◌∷◌, ℕ, List, IsTrue};
+ghost use Rattle.std.specs.Prelude.{◌≡◌, ◌∷◌, ℕ, List};
 ghost use Rattle.outside.specs.Links.{LinkAct};
 ghost use Rattle.outside.specs.declared.link.LinkItem.{LinkItem};
 ghost use Rattle.client_port.specs.Votes.{Wanted, VotesStand};
@@ -12,19 +12,6 @@ use outside::{Link, LinkItem};
 use std::alloc::Global;
 use std::net::Net;
 use std::sync::Wait;
-
-// Whether an item is the link's end.
-fn is_end(item: &LinkItem) -> bool
-    ensures { IsTrue result ↔ (item.now ≡ LinkItem.End) }
-{
-    match item {
-        LinkItem::End => true,
-        LinkItem::Frame { .. } => false,
-        LinkItem::Client { .. } => false,
-        LinkItem::Reply { .. } => false,
-        LinkItem::Down { .. } => false,
-    }
-}
 
 // Counts an item, where it is a reply, and answers the position that it settles.
 fn count(votes: &mut Votes, item: &LinkItem) -> Option<u32>
@@ -58,7 +45,7 @@ fn take<R: Net + Wait, L: Link>(
         Ok(item) => item,
         Err(fault) => return Err(end_of(fault)),
     };
-    if is_end(&item) {
+    if item.is_end() {
         return Err(SubmitEnd::NoPosition);
     }
     match count(votes, &item) {

@@ -1,6 +1,6 @@
 //! Handing a request to the nodes.
+ghost use Rattle.outside.specs.LinkCalls.{LinkDid};
 ghost use Rattle.request_submit.specs.Submitting.{handed_in, sent_to_each, Submits};
-ghost use Rattle.request_submit.specs.Waiting.{LinkDid};
 
 use crate::awaiting::await_position;
 use crate::end::{SubmitEnd, end_of};

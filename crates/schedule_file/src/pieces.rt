@@ -284,7 +284,7 @@ impl Pieces {
     }
 
     /// A text behind its length, of two bytes.
-    #[tactic(auto, using(outside::proofs::Rising::rose_after), unfolding(crate::specs::FileBytes::text_at))]
+    #[tactic(auto, using(outside::specs::FaultsLaws::rose_after), unfolding(crate::specs::FileBytes::text_at))]
     pub fn text<S: Source>(&mut self, alloc: Global, source: &mut S) -> Result<Bytes, FileFault>
         ensures exact { S.tells ≡ true → Gives (λ v. v) result (spot self.new (S.left source.new)) (text_at (spot self.old (S.left source.old))) }
         ensures len { IfOk result (λ v. length v < 2 ^ 16) }

@@ -13,7 +13,7 @@ use outside::Source;
 use ritas_base::Event;
 use std::alloc::Global;
 
-#[tactic(auto, using(outside::proofs::Rising::rose_after), unfolding(crate::specs::ReadEvents::replica_at))]
+#[tactic(auto, using(outside::specs::FaultsLaws::rose_after), unfolding(crate::specs::ReadEvents::replica_at))]
 fn read_replica<S: Source>(
     pieces: &mut Pieces,
     source: &mut S,
@@ -31,7 +31,7 @@ fn read_replica<S: Source>(
     Ok(at)
 }
 
-#[tactic(auto, using(outside::proofs::Rising::rose_after), unfolding(crate::specs::ReadEvents::pair_at))]
+#[tactic(auto, using(outside::specs::FaultsLaws::rose_after), unfolding(crate::specs::ReadEvents::pair_at))]
 fn read_pair<S: Source>(
     pieces: &mut Pieces,
     source: &mut S,
@@ -51,7 +51,7 @@ fn read_pair<S: Source>(
     Ok((from, to))
 }
 
-#[tactic(auto, using(outside::proofs::Rising::rose_after), unfolding(crate::specs::ReadEvents::frame_at))]
+#[tactic(auto, using(outside::specs::FaultsLaws::rose_after), unfolding(crate::specs::ReadEvents::frame_at))]
 fn read_frame<S: Source>(
     alloc: Global,
     pieces: &mut Pieces,
@@ -69,7 +69,7 @@ fn read_frame<S: Source>(
     Ok(Event::Frame { to, bytes })
 }
 
-#[tactic(auto, using(outside::proofs::Rising::rose_after), unfolding(crate::specs::ReadEvents::input_at))]
+#[tactic(auto, using(outside::specs::FaultsLaws::rose_after), unfolding(crate::specs::ReadEvents::input_at))]
 fn read_input<S: Source>(
     alloc: Global,
     pieces: &mut Pieces,
@@ -87,7 +87,7 @@ fn read_input<S: Source>(
     Ok(Event::Input { at, bytes })
 }
 
-#[tactic(auto, using(outside::proofs::Rising::rose_after), unfolding(crate::specs::ReadEvents::turn_at))]
+#[tactic(auto, using(outside::specs::FaultsLaws::rose_after), unfolding(crate::specs::ReadEvents::turn_at))]
 fn read_turn<S: Source>(
     pieces: &mut Pieces,
     source: &mut S,
@@ -103,7 +103,7 @@ fn read_turn<S: Source>(
     Ok(Event::Turn { at })
 }
 
-#[tactic(auto, using(outside::proofs::Rising::rose_after), unfolding(crate::specs::ReadEvents::pass_at))]
+#[tactic(auto, using(outside::specs::FaultsLaws::rose_after), unfolding(crate::specs::ReadEvents::pass_at))]
 fn read_pass<S: Source>(
     pieces: &mut Pieces,
     source: &mut S,
@@ -120,7 +120,7 @@ fn read_pass<S: Source>(
     Ok(Event::Pass { from, to, m })
 }
 
-#[tactic(auto, using(outside::proofs::Rising::rose_after), unfolding(crate::specs::ReadEvents::sealed_at))]
+#[tactic(auto, using(outside::specs::FaultsLaws::rose_after), unfolding(crate::specs::ReadEvents::sealed_at))]
 fn read_sealed<S: Source>(
     alloc: Global,
     pieces: &mut Pieces,
@@ -138,7 +138,7 @@ fn read_sealed<S: Source>(
     Ok(Event::Sealed { from, to, body })
 }
 
-#[tactic(auto, using(outside::proofs::Rising::rose_after), unfolding(crate::specs::ReadEvents::kind_at))]
+#[tactic(auto, using(outside::specs::FaultsLaws::rose_after), unfolding(crate::specs::ReadEvents::kind_at))]
 fn read_kind<S: Source>(
     alloc: Global,
     pieces: &mut Pieces,
@@ -163,7 +163,7 @@ fn read_kind<S: Source>(
 }
 
 /// The next event, or `None` at the end mark that the end of the file follows.
-#[tactic(auto, using(outside::proofs::Rising::rose_after), unfolding(crate::specs::ReadEvents::event_at))]
+#[tactic(auto, using(outside::specs::FaultsLaws::rose_after), unfolding(crate::specs::ReadEvents::event_at))]
 pub fn read_event<S: Source>(
     alloc: Global,
     pieces: &mut Pieces,

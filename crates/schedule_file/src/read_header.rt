@@ -21,7 +21,7 @@ fn is_root(root: u8) -> bool
     matches!(root, 1..=6)
 }
 
-#[tactic(auto, using(outside::proofs::Rising::rose_after), unfolding(crate::specs::ReadHeader::start_at))]
+#[tactic(auto, using(outside::specs::FaultsLaws::rose_after), unfolding(crate::specs::ReadHeader::start_at))]
 fn read_start<S: Source>(pieces: &mut Pieces, source: &mut S) -> Result<u64, FileFault>
     ensures exact { S.tells ≡ true → Gives (λ x. x) result (spot pieces.new (S.left source.new)) (start_at (spot pieces.old (S.left source.old))) }
     ensures memory { result ≢ Err FileFault.Mem }
@@ -34,7 +34,7 @@ fn read_start<S: Source>(pieces: &mut Pieces, source: &mut S) -> Result<u64, Fil
     pieces.number64(source)
 }
 
-#[tactic(auto, using(outside::proofs::Rising::rose_after), unfolding(crate::specs::ReadHeader::numbers_at))]
+#[tactic(auto, using(outside::specs::FaultsLaws::rose_after), unfolding(crate::specs::ReadHeader::numbers_at))]
 fn read_numbers<S: Source>(pieces: &mut Pieces, source: &mut S) -> Result<Params, FileFault>
     ensures exact { S.tells ≡ true → Gives (λ x. x) result (spot pieces.new (S.left source.new)) (numbers_at (spot pieces.old (S.left source.old))) }
     ensures session { IfOk result IsSession }
@@ -50,7 +50,7 @@ fn read_numbers<S: Source>(pieces: &mut Pieces, source: &mut S) -> Result<Params
     }
 }
 
-#[tactic(auto, using(outside::proofs::Rising::rose_after), unfolding(crate::specs::ReadHeader::root_at))]
+#[tactic(auto, using(outside::specs::FaultsLaws::rose_after), unfolding(crate::specs::ReadHeader::root_at))]
 fn read_root<S: Source>(pieces: &mut Pieces, source: &mut S) -> Result<u8, FileFault>
     ensures exact { S.tells ≡ true → Gives (λ x. x) result (spot pieces.new (S.left source.new)) (root_at (spot pieces.old (S.left source.old))) }
     ensures one { IfOk result (λ root. is_root root ≡ true) }
@@ -63,7 +63,7 @@ fn read_root<S: Source>(pieces: &mut Pieces, source: &mut S) -> Result<u8, FileF
     Ok(root)
 }
 
-#[tactic(auto, using(outside::proofs::Rising::rose_after), unfolding(crate::specs::ReadHeader::vect_at))]
+#[tactic(auto, using(outside::specs::FaultsLaws::rose_after), unfolding(crate::specs::ReadHeader::vect_at))]
 fn read_vect<S: Source>(pieces: &mut Pieces, source: &mut S) -> Result<Vect, FileFault>
     ensures exact { S.tells ≡ true → Gives (λ x. x) result (spot pieces.new (S.left source.new)) (vect_at (spot pieces.old (S.left source.old))) }
     ensures memory { result ≢ Err FileFault.Mem }
@@ -76,7 +76,7 @@ fn read_vect<S: Source>(pieces: &mut Pieces, source: &mut S) -> Result<Vect, Fil
     }
 }
 
-#[tactic(auto, using(outside::proofs::Rising::rose_after), unfolding(crate::specs::ReadHeader::mask_at))]
+#[tactic(auto, using(outside::specs::FaultsLaws::rose_after), unfolding(crate::specs::ReadHeader::mask_at))]
 fn read_mask<S: Source>(pieces: &mut Pieces, source: &mut S, n: u8) -> Result<SenderSet, FileFault>
     requires { n < 32 }
     ensures exact { S.tells ≡ true → Gives (λ x. x) result (spot pieces.new (S.left source.new)) (mask_at n (spot pieces.old (S.left source.old))) }
@@ -101,7 +101,7 @@ fn read_key<S: Source>(pieces: &mut Pieces, source: &mut S) -> Result<[u8; 32], 
 }
 
 // The number of the replica whose keys follow, which alone is correct.
-#[tactic(auto, using(outside::proofs::Rising::rose_after), unfolding(crate::specs::ReadHeader::me_at))]
+#[tactic(auto, using(outside::specs::FaultsLaws::rose_after), unfolding(crate::specs::ReadHeader::me_at))]
 fn read_me<S: Source>(
     pieces: &mut Pieces,
     source: &mut S,
@@ -139,7 +139,7 @@ fn read_row<S: Source>(
     Ok(row)
 }
 
-#[tactic(auto, using(outside::proofs::Rising::rose_after), unfolding(crate::specs::ReadHeader::alone_at))]
+#[tactic(auto, using(outside::specs::FaultsLaws::rose_after), unfolding(crate::specs::ReadHeader::alone_at))]
 fn read_alone<S: Source>(
     pieces: &mut Pieces,
     source: &mut S,
@@ -158,7 +158,7 @@ fn read_alone<S: Source>(
     Ok(HeaderKeys::Row { me, row, coin })
 }
 
-#[tactic(auto, using(outside::proofs::Rising::rose_after), unfolding(crate::specs::ReadHeader::keys_at, crate::specs::ReadHeader::master_at))]
+#[tactic(auto, using(outside::specs::FaultsLaws::rose_after), unfolding(crate::specs::ReadHeader::keys_at, crate::specs::ReadHeader::master_at))]
 fn read_keys<S: Source>(
     pieces: &mut Pieces,
     source: &mut S,
@@ -179,7 +179,7 @@ fn read_keys<S: Source>(
 }
 
 /// The header, or its first fault.
-#[tactic(auto, using(outside::proofs::Rising::rose_after), unfolding(crate::specs::ReadHeader::header_at))]
+#[tactic(auto, using(outside::specs::FaultsLaws::rose_after), unfolding(crate::specs::ReadHeader::header_at))]
 pub fn read_header<S: Source>(pieces: &mut Pieces, source: &mut S) -> Result<Header, FileFault>
     ensures exact { S.tells ≡ true → Gives heading result (spot pieces.new (S.left source.new)) (header_at (spot pieces.old (S.left source.old))) }
     ensures header { IfOk result (λ h. IsHeading (heading h)) }

@@ -1,7 +1,7 @@
 use Rattle.std.proofs.Common.{arith, length-drop, refl, ◌∙◌}
 use Rattle.std.proofs.lemmas.Result.{IfOk-from_err}
 use Rattle.outside.proofs.Pieces.{after_piece}
-use Rattle.outside.proofs.Rising.{rose_after}
+use Rattle.outside.specs.FaultsLaws.{rose_after}
 use Rattle.outside.specs.WritingLaws.{front_of}
 use Rattle.outside.proofs.sink.write_all.Goals as goal
 

@@ -2,7 +2,7 @@ use Rattle.std.proofs.Common.{◌≡◌, List, ◌∷◌, [], ℕ, ap}
 use Rattle.outside.specs.Links.{Starts}
 use Rattle.client_port.specs.Messages.{request_bytes}
 use Rattle.request_submit.specs.Submitting.{plan_of, sent_to_each}
-use Rattle.request_submit.proofs.Linked.{did_one, did_stop, did_then, did_fails}
+use Rattle.outside.specs.LinkCallsLaws.{did_one, did_stop, did_then, did_fails}
 use Rattle.request_submit.proofs.handing.hand_in.Goals as goal
 
 same : {a b : List (List ℕ)} → a ≡ b → Starts (plan_of a) ≡ Starts (plan_of b)

@@ -1,16 +1,26 @@
-use Rattle.std.proofs.Common.{refl}
+use Rattle.std.proofs.Common.{◌≡◌, ℕ, ◌≤◌, length, take, refl, sym, ap, ◌∙◌, take_all, arith}
+use Rattle.std.proofs.lemmas.List.FromFn.{length-range_with_len, get_or-range_with_len}
+use Rattle.ritas_base.specs.History.{replicas}
+use Rattle.outside.specs.LinkCalls.{each_act}
+use Rattle.outside.specs.LinkCallsLaws.{did_none, did_one, each_goes, each_fails}
 use Rattle.request_submit.specs.Submitting.{sent_to}
-use Rattle.request_submit.proofs.Linked.{did_one, each_goes, each_fails}
 use Rattle.request_submit.proofs.handing.send_to_each.Goals as goal
+
+pub loop-node-init : goal.loop-node-init
+loop-node-init g c = did_none _ _ _
 
 pub loop-node-preserved : goal.loop-node-preserved
 loop-node-preserved g c =
-    let act = sent_to c.args.message.now c.loop-node.node in
-    each_goes c.args.message.now c.loop-node.node _ _ _ _ _ _ _ c.loop-node.invariant
+    let (n, k) = (c.args.count, c.loop-node.node) in
+    let act = sent_to c.args.message.now k in
+    each_goes (sent_to c.args.message.now) (replicas n) k k 0 _ _ _ _ _ _ _
+    (rw (length-range_with_len 0 n) c.loop-node-test.true) (sym (get_or-range_with_len 0 n k 0 c.loop-node-test.true)) c.loop-node.invariant
     (did_one _ act act _ _ _ _ _ refl c.in-Ok.ensures.ok c.in-Ok.ensures.err c.in-Ok.ensures.cause)
 
 pub returns-in-Err : goal.returns-in-Err
 returns-in-Err g c =
-    let act = sent_to c.args.message.now c.loop-node.node in
-    each_fails c.args.message.now c.args.count c.loop-node.node _ _ _ _ _ _ _ _ c.loop-node-test.true c.loop-node.invariant
+    let (n, k) = (c.args.count, c.loop-node.node) in
+    let act = sent_to c.args.message.now k in
+    each_fails (sent_to c.args.message.now) (replicas n) k k 0 _ _ _ _ _ _ _ _
+    (rw (length-range_with_len 0 n) c.loop-node-test.true) (sym (get_or-range_with_len 0 n k 0 c.loop-node-test.true)) c.loop-node.invariant
     (did_one _ act act _ _ _ _ _ refl c.in-Err.ensures.ok c.in-Err.ensures.err c.in-Err.ensures.cause)

@@ -1,6 +1,6 @@
 use Rattle.std.proofs.Common.{◌≡◌, refl, arith}
 use Rattle.outside.specs.declared.link.LinkFault.TheVariants.{Failed}
-use Rattle.outside.proofs.Rising.{rose_after}
+use Rattle.outside.specs.FaultsLaws.{rose_after}
 use Rattle.tcp_link.proofs.link.TcpLinkLink.next.Goals as goal
 
 pub returns-in-Err-clause-cause : goal.returns-in-Err-clause-cause
