@@ -1,4 +1,4 @@
-ghost use Rattle.std.specs.Prelude.{◌≡◌, ◌<◌, ◌^◌, ◌++◌, ◌∷◌, [], length, IsErr};
+ghost use Rattle.std.specs.Prelude.{◌≡◌, ◌<◌, ◌≤◌, ◌+◌, ◌^◌, ◌++◌, ◌∷◌, [], length, take, IsErr};
 ghost use Rattle.std.specs.List.{concat};
 ghost use Rattle.std.specs.Int.{w32, to_be_bytes};
 ghost use Rattle.outside.specs.Writing.{Writes};
@@ -9,11 +9,37 @@ use crate::header::{Header, HeaderKeys};
 use outside::{Failed, Sink, write_all};
 use ritas_base::{Event, Vect};
 
+// Two texts of together at most so many bytes are written in one piece.
+const PIECE: usize = 512;
+
+// A text comes into a piece, at a place.
+fn put(piece: &mut [u8; PIECE], at: usize, text: &[u8])
+    requires { at + length text.now ≤ 512 }
+    ensures { take (at + length text.now) piece.new ≡ take at piece.old ++ text.now }
+{
+    piece[at..at + text.len()].copy_from_slice(text);
+}
+
+// Two short texts, one after the other, and zeros behind them.
+fn joined(first: &[u8], second: &[u8]) -> [u8; PIECE]
+    requires { length first.now + length second.now ≤ 512 }
+    ensures { take (length first.now + length second.now) result ≡ first.now ++ second.now }
+{
+    let mut piece = [0; PIECE];
+    put(&mut piece, 0, first);
+    put(&mut piece, first.len(), second);
+    piece
+}
+
 // One text, and then another.
 fn write_both<K: Sink>(sink: &mut K, first: &[u8], second: &[u8]) -> Result<(), Failed>
     ensures { Writes (first.now ++ second.now) K.tells (K.taken sink.old) (K.taken sink.new) (K.faults sink.old) (K.faults sink.new)
         result (IsErr result) }
 {
+    if first.len() <= PIECE && second.len() <= PIECE - first.len() {
+        let piece = joined(first, second);
+        return write_all(sink, &piece[..first.len() + second.len()]);
+    }
     write_all(sink, first)?;
     write_all(sink, second)
 }
@@ -136,7 +162,7 @@ impl Writer {
         write_keys(sink, header.p.n(), &header.keys)
     }
 
-    /// Writes an event: in one piece where it has no text, and else in two.
+    /// Writes an event: in one piece where it has at most 512 bytes, and else in two.
     pub fn event<K: Sink>(sink: &mut K, ev: &Event) -> Result<(), Failed>
         requires { IsSized ev.now }
         ensures { Writes (event_text ev.now) K.tells (K.taken sink.old) (K.taken sink.new) (K.faults sink.old) (K.faults sink.new)
