@@ -3,7 +3,6 @@ pub mod OneRun
 pub mod FramesSent
 pub mod Logs
 pub mod TrueReplies
-pub mod Linked
 pub mod Stepping
 pub mod Rounding
 pub mod Alone

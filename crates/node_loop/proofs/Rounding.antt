@@ -1,14 +1,11 @@
 -- Rounds of serving.
-use Rattle.std.proofs.Common.{◌≡◌, ℕ, ◌+◌, Bool, true, false, List, [], ◌∷◌, ◌++◌, map, reverse, filter, Option, Some, None, Result, Ok, Err, OnOk, refl, sym, ap, ap₂, subst, ◌∙◌, arith, nat_le, ◌⊎◌, inl, inr, if◌then◌else◌}
-use Rattle.std.specs.List.{flat_map}
-use Rattle.std.proofs.lemmas.List.{append-nil, reverse-append}
-use Rattle.std.proofs.lemmas.Grind.{flat_map-append}
+use Rattle.std.proofs.Common.{◌≡◌, ℕ, ◌+◌, Bool, true, false, List, [], ◌∷◌, ◌++◌, map, reverse, filter, Option, Some, None, Result, Ok, Err, OnOk, refl, sym, ap, ap₂, subst, ◌∙◌, append_assoc, arith, ◌≢◌, ◌≤◌, nat_le, ◌⊎◌, inl, inr, if◌then◌else◌}
 use Rattle.ritas_base.specs.declared.event.Event.{Event}
 use Rattle.keyed_channel.specs.KeyRow.{KeyRow}
 use Rattle.ritas_core.specs.Stands.{Meaning}
 use Rattle.outside.specs.Faults.{HasCause}
 use Rattle.outside.specs.Links.{LinkAct, Gives, Replies}
-use Rattle.outside.specs.WritingLaws.{front_more}
+use Rattle.outside.specs.WritingLaws.{front_more, all_written}
 use Rattle.outside.specs.declared.link.LinkItem.{LinkItem}
 use Rattle.outside.specs.declared.link.LinkItem.TheVariants as items
 use Rattle.outside.specs.declared.link.LinkFault.{LinkFault}
@@ -25,13 +22,15 @@ use Rattle.node_loop.specs.declared.output.Output.{Output}
 use Rattle.node_loop.specs.declared.rounds.Next.TheVariants as next
 use Rattle.node_loop.specs.Waiting.{nobody}
 use Rattle.node_loop.specs.Calls.{Outcome}
-use Rattle.node_loop.specs.Serving.{Serving, so_far, sent_by, onto, with_outcome, Want, Begins, Finishes, Turns, Halts, Asks, wants_of, turn_or, first_or, here, busy, is_done, wants, Round, Began, Turned, Took, behind_first, round_does, after, IsGiven, IsWanted}
-use Rattle.node_loop.specs.Outs.{text_of, Outs, Tells, Agrees, Stops, Steps, Fails}
+use Rattle.node_loop.specs.Serving.{Serving, so_far, sent_by, onto, with_outcome, Want, Begins, Finishes, Turns, Halts, Asks, wants_of, turn_or, first_or, here, busy, is_done, wants, Round, Began, Turned, Took, behind_first, began, at_call, outcome, sent_of, round_does, after, newest, sooner, IsGiven, IsWanted}
+use Rattle.node_loop.specs.Outs.{text_of, Outs, Tells, Agrees, HasCauses, AllWritten, InOrder, Stops, Steps, Fails}
+use Rattle.node_loop.specs.ServingLaws.{acts_of}
 use Rattle.node_loop.specs.Standing.{HouseStands, Comes, frame_by, reply_by}
 use Rattle.node_loop.specs.Served.{EndsSo, Serves}
-use Rattle.node_loop.specs.Running.{IsEndOf, Running, Goes, TookItem, IsNext}
-use Rattle.node_loop.proofs.Linked.{back_none}
-use Rattle.node_loop.proofs.Stepping.{with_link, stays, stops_more, link_stops}
+use Rattle.node_loop.specs.Running.{IsEndOf, Running, Goes, TookItem, GaveNone, IsNext}
+use Rattle.outside.specs.LinkCallsLaws.{back_none, back_all}
+use Rattle.outside.specs.FaultsLaws.{rose_after}
+use Rattle.node_loop.proofs.Stepping.{with_link, text_next}
 
 -- ---- one step
 
@@ -43,48 +42,42 @@ onto_past : (o : Option Event) (es past : List Event) → onto o (es ++ past) �
 onto_past None es past = refl
 onto_past (Some e) es past = refl
 
-text_next : (e : Event) (es : List Event) → text_of (e ∷ es) ≡ text_of es ++ event_text e
-text_next e es =
-    ap (flat_map event_text) (reverse-append (e ∷ []) es)
-    ∙ (flat_map-append event_text (reverse es) (e ∷ []) ∙ ap (λ (l : List ℕ). text_of es ++ l) (append-nil (event_text e)))
-
-stops_event : (tells : Tells) (base o : Outs) (fault : Fault) (did : Option Event) (events : List Event) (acts : List LinkAct)
-    → Stops tells base o fault events acts → Stops tells base o fault (onto did events) acts
-stops_event tells base o fault None events acts stops = stops
-stops_event tells base o fault (Some e) events acts stops = record {
-  cut = record {
-    taken = λ t. subst (λ (l : List ℕ). TookFront base.taken o.taken l) (sym (text_next e events)) (front_more base.taken o.taken (text_of events) (event_text e) (stops.cut.taken t));
-    told = stops.cut.told;
-    tape_later = stops.cut.tape_later;
-    link_later = stops.cut.link_later;
-  };
-  cause = stops.cause;
-}
+front_onto : (old new : List ℕ) (did : Option Event) (events : List Event) → new ≡ old ++ text_of events → TookFront old new (text_of (onto did events))
+front_onto old new None events is = all_written old new (text_of events) is
+front_onto old new (Some e) events is =
+    subst (λ (l : List ℕ). TookFront old new l) (sym (text_next e events)) (front_more old new (text_of events) (event_text e) (all_written old new (text_of events) is))
 
 module _ {S E C : Type 0} (m : Meaning S E C KeyRow) (w : Setting) (past : List Event) (numbers : List ℕ) (tells : Tells) (base : Outs) where
   -- what came of it was delivered
   pub goes_on : {A : Type 0} (house : House S E C) (now : Outs) (result : Result A Fault) (did : Outcome) (s : Serving) (o : Output) → Comes m w (so_far past s) numbers house o did
       → Steps tells base now result (onto o.event s.events) (reverse (map Replies (map (reply_by o.at) o.replies.items)) ++ (reverse (map (frame_by o.at) o.frames.items) ++ s.acts))
-      → Goes m w past numbers house tells base now result (with_outcome w past did s)
+      s.acts (reverse (map Replies (map (reply_by o.at) o.replies.items)) ++ reverse (map (frame_by o.at) o.frames.items))
+      → Goes m w past numbers house tells base now result did s
   goes_on house now result did s o comes steps =
-      let front = reverse (map Replies (map (reply_by o.at) o.replies.items)) in
-      let events = subst (λ (e : Option Event). Steps tells base now result (onto e s.events) (front ++ (reverse (map (frame_by o.at) o.frames.items) ++ s.acts))) comes.event steps in
-      let frames = subst (λ (l : List LinkAct). Steps tells base now result (onto did.event s.events) (front ++ (reverse l ++ s.acts))) comes.frames events in
-      let sent = reverse (sent_by w (so_far past s) did.event) in
+      let so : Option Event → List LinkAct → List _ → Type 0 = λ e sent replied.
+      Steps tells base now result (onto e s.events) (reverse (map Replies replied) ++ (reverse sent ++ s.acts)) s.acts (reverse (map Replies replied) ++ reverse sent) in
+      let sent = map (frame_by o.at) o.frames.items in
+      let replied = map (reply_by o.at) o.replies.items in
+      let events = subst (λ (e : Option Event). so e sent replied) comes.event steps in
+      let frames = subst (λ (l : List LinkAct). so did.event l replied) comes.frames events in
       record {
-        steps = subst (λ (l : List _). Steps tells base now result (onto did.event s.events) (reverse (map Replies l) ++ (sent ++ s.acts))) comes.replies frames;
+        steps = subst (λ (l : List _). so did.event (sent_by w (so_far past s) did.event) l) comes.replies frames;
         stands = on_ok result (HouseStands m w (so_far past (with_outcome w past did s)) numbers house did.waiting)
             (subst (λ (es : List Event). HouseStands m w es numbers house did.waiting) (onto_past did.event s.events past) comes.stands);
       }
 
   -- a replica was without memory
   pub goes_no_further : {A : Type 0} (house : House S E C) (o : Outs) (did : Outcome) (s : Serving) → Agrees tells base o s.events s.acts
-      → Goes {A = A} m w past numbers house tells base o (Err faults.Mem) (with_outcome w past did s)
+      → Goes {A = A} m w past numbers house tells base o (Err faults.Mem) did s
   goes_no_further house o did s agrees = record {
-    steps =
-        stops_more tells base o faults.Mem (onto did.event s.events) (reverse (sent_by w (so_far past s) did.event) ++ s.acts) (reverse (map Replies did.replies))
-        (stops_more tells base o faults.Mem (onto did.event s.events) s.acts (reverse (sent_by w (so_far past s) did.event))
-        (stops_event tells base o faults.Mem did.event s.events s.acts (stays tells base o s.events s.acts agrees)));
+    steps = record {
+      taken = λ t. front_onto base.taken o.taken did.event s.events (agrees.taken t);
+      told = λ t. rw (agrees.told t) (back_none (s.acts ++ base.told) (sent_of w (so_far past s) did));
+      order = inr agrees.told;
+      tape_later = agrees.tape_later;
+      link_later = agrees.link_later;
+      cause = tt;
+    };
     stands = tt;
   }
 
@@ -101,22 +94,54 @@ next_given tells base o events acts told count item F agrees is cause = record {
   link_later = omega (arith, agrees.link_later, cause.later);
 }
 
-failed_so : (x : LinkFault) → (let failed : Result (Unit {0}) LinkFault = Err link_faults.Failed in Err x ≡ failed) → (let failed : Result LinkItem LinkFault = Err link_faults.Failed in Err x ≡ failed)
-failed_so link_faults.Failed is = refl
-failed_so link_faults.Mem is = absurd (cc)
-
--- the link failed
-pub next_failed : (tells : Tells) (base o : Outs) (events : List Event) (acts told : List LinkAct) (count : ℕ) (x : LinkFault) (fault : Fault)
-    → Fails x fault → Agrees tells base o events acts → (tells.link ≡ true → told ≡ o.told)
+-- it failed
+given_none : (tells : Tells) (base o : Outs) (told : List LinkAct) (count : ℕ) (x : LinkFault) (fault : Fault) → Fails x fault → base.link_faults ≤ o.link_faults
     → HasCause o.link_faults count (let failed : Result LinkItem LinkFault = Err link_faults.Failed in Err x ≡ failed)
-    → Stops tells base (with_link o told count) fault events acts
-next_failed tells base o events acts told count x fault is agrees same cause =
-    link_stops tells base o events acts [] told count x fault is agrees (record {
-      whole = λ t. tt;
-      back = λ t. rw (same t) (back_none o.told []);
-      later = cause.later;
-      cause = λ e. cause.cause (failed_so x e);
-    })
+    → (fault ≢ faults.Tape) × HasCauses base (with_link o told count) fault
+given_none tells base o told count link_faults.Failed fault is le cause =
+    rw is (λ e. cc, rose_after base.link_faults o.link_faults count le (cause.cause refl))
+given_none tells base o told count link_faults.Mem fault is le cause = rw is (λ e. cc, tt)
+
+pub next_failed : (tells : Tells) (base o : Outs) (s : Serving) (told : List LinkAct) (count : ℕ) (x : LinkFault) (fault : Fault)
+    → Fails x fault → Agrees tells base o s.events s.acts → (tells.link ≡ true → told ≡ o.told)
+    → HasCause o.link_faults count (let failed : Result LinkItem LinkFault = Err link_faults.Failed in Err x ≡ failed)
+    → GaveNone tells base (with_link o told count) fault s
+next_failed tells base o s told count x fault is agrees same cause =
+    let none = given_none tells base o told count x fault is agrees.link_later cause in
+    record {
+      agrees = record {
+        taken = agrees.taken;
+        told = λ t. same t ∙ agrees.told t;
+        tape_later = agrees.tape_later;
+        link_later = omega (arith, agrees.link_later, cause.later);
+      };
+      own = none.0;
+      cause = none.1;
+    }
+
+whole_order : (tells : Tells) (base o : Outs) (fault : Fault) (events : List Event) (sooner : List LinkAct) → fault ≢ faults.Tape → AllWritten tells base o events
+    → InOrder tells base o fault events sooner
+whole_order tells base o faults.Tape events sooner own written = absurd (own refl)
+whole_order tells base o faults.Link events sooner own written = written
+whole_order tells base o faults.Mem events sooner own written = inl written
+
+-- then all that came of the rounds was told
+pub none_stops : (w : Setting) (past : List Event) (first : List LinkItem) (rounds : List Round) (tells : Tells) (base o : Outs) (fault : Fault)
+    → GaveNone tells base o fault (after w past first rounds)
+    → Stops tells base o fault (after w past first rounds).events (sooner w past first rounds) (newest w past first rounds)
+none_stops w past first rounds tells base o fault gave =
+    let s = after w past first rounds in
+    let new = newest w past first rounds in
+    let old = sooner w past first rounds in
+    record {
+      taken = λ t. all_written base.taken o.taken (text_of s.events) (gave.agrees.taken t);
+      told = λ t. back_all (old ++ base.told) o.told new
+          (gave.agrees.told t ∙ ap (λ (l : List LinkAct). l ++ base.told) (acts_of w past first rounds) ∙ append_assoc new old base.told);
+      order = whole_order tells base o fault s.events old gave.own gave.agrees.taken;
+      tape_later = gave.agrees.tape_later;
+      link_later = gave.agrees.link_later;
+      cause = gave.cause;
+    }
 
 -- ---- what is done next
 
@@ -192,11 +217,11 @@ turns_correct w until limit es taken at = go (is_done w until es)
 -- ---- rounds
 
 pub ends_so : {S E C : Type 0} (m : Meaning S E C KeyRow) (w : Setting) (past : List Event) (numbers : List ℕ) (here : List _) (tells : Tells) (base now : Outs)
-    (fault : Fault) (end : ServeEnd) (s : Serving) (rule : Want)
-    → IsEndOf fault end → Stops tells base now fault s.events s.acts → EndsSo {S = S} {E = E} {C = C} m w past numbers here tells base now end s rule
-ends_so m w past numbers here tells base now faults.Link end s rule is stops = rw is stops
-ends_so m w past numbers here tells base now faults.Tape end s rule is stops = rw is stops
-ends_so m w past numbers here tells base now faults.Mem end s rule is stops = rw is stops
+    (fault : Fault) (end : ServeEnd) (s : Serving) (sooner news : List LinkAct) (rule : Want)
+    → IsEndOf fault end → Stops tells base now fault s.events sooner news → EndsSo {S = S} {E = E} {C = C} m w past numbers here tells base now end s sooner news rule
+ends_so m w past numbers here tells base now faults.Link end s sooner news rule is stops = rw is stops
+ends_so m w past numbers here tells base now faults.Tape end s sooner news rule is stops = rw is stops
+ends_so m w past numbers here tells base now faults.Mem end s sooner news rule is stops = rw is stops
 
 module _ {S E C : Type 0} (m : Meaning S E C KeyRow) (w : Setting) (past : List Event) (numbers : List ℕ) (tells : Tells) (base : Outs) (until limit : ℕ) (first : List LinkItem) where
   -- where none of the first items is left
@@ -210,7 +235,7 @@ module _ {S E C : Type 0} (m : Meaning S E C KeyRow) (w : Setting) (past : List 
   pub runs_on : (old new : House S E C) (o now : Outs) (taken more : ℕ) (left rest : List LinkItem) (x : Round) (run : Running m w past numbers old tells base o taken until limit first left)
       → IsWanted (wants w past until limit (after w past first run.rounds)) x
       → (round_does w past x (after w past first run.rounds)).left ≡ rest → more ≡ (round_does w past x (after w past first run.rounds)).taken
-      → {A : Type 0} (done : A) → Goes m w past numbers new tells base now (Ok done) (round_does w past x (after w past first run.rounds))
+      → {A : Type 0} (done : A) → Goes m w past numbers new tells base now (Ok done) (outcome w past x (after w past first run.rounds)) (at_call x (after w past first run.rounds))
       → Running m w past numbers new tells base now more until limit first rest
   runs_on old new o now taken more left rest x run want is_left is_taken done goes = record {
     rounds = x ∷ run.rounds;
@@ -224,14 +249,14 @@ module _ {S E C : Type 0} (m : Meaning S E C KeyRow) (w : Setting) (past : List 
   -- or it ended in it
   pub round_stops : (old new : House S E C) (o now : Outs) (taken : ℕ) (left : List LinkItem) (x : Round) (fault : Fault) (end : ServeEnd) (run : Running m w past numbers old tells base o taken until limit first left)
       → IsWanted (wants w past until limit (after w past first run.rounds)) x
-      → Stops tells base now fault (round_does w past x (after w past first run.rounds)).events (round_does w past x (after w past first run.rounds)).acts
+      → Stops tells base now fault (round_does w past x (after w past first run.rounds)).events (sooner w past first (x ∷ run.rounds)) (newest w past first (x ∷ run.rounds))
       → IsEndOf fault end → Serves m w past numbers new.replicas.items tells base now end until limit first
   round_stops old new o now taken left x fault end run want stops is =
       let s = round_does w past x (after w past first run.rounds) in
       record {
         rounds = x ∷ run.rounds;
         wanted = (want, run.wanted);
-        so = ends_so m w past numbers new.replicas.items tells base now fault end s (wants w past until limit s) is stops;
+        so = ends_so m w past numbers new.replicas.items tells base now fault end s (sooner w past first (x ∷ run.rounds)) (newest w past first (x ∷ run.rounds)) (wants w past until limit s) is stops;
       }
 
   -- ---- the first items
@@ -248,12 +273,12 @@ module _ {S E C : Type 0} (m : Meaning S E C KeyRow) (w : Setting) (past : List 
     first_wanted =
         subst (λ (l : List LinkItem). IsWanted (first_or l (wants_of w until limit (so_far past began_at) began_at.taken)) (Began item)) (sym (run.rest ∙ is)) refl
 
-    pub began_on : (new : House S E C) (now : Outs) {A : Type 0} (done : A) → Goes m w past numbers new tells base now (Ok done) (round_does w past (Began item) began_at)
+    pub began_on : (new : House S E C) (now : Outs) {A : Type 0} (done : A) → Goes m w past numbers new tells base now (Ok done) (outcome w past (Began item) began_at) (began began_at)
         → Running m w past numbers new tells base now 0 until limit first rest
     began_on new now done goes = runs_on old new o now 0 0 left rest (Began item) run first_wanted (ap behind_first (run.rest ∙ is)) run.count done goes
 
     pub began_stops : (new : House S E C) (now : Outs) (fault : Fault) (end : ServeEnd)
-        → Goes {A = Unit {0}} m w past numbers new tells base now (Err fault) (round_does w past (Began item) began_at) → IsEndOf fault end
+        → Goes {A = Unit {0}} m w past numbers new tells base now (Err fault) (outcome w past (Began item) began_at) (began began_at) → IsEndOf fault end
         → Serves m w past numbers new.replicas.items tells base now end until limit first
     began_stops new now fault end goes is_end = round_stops old new o now 0 left (Began item) fault end run first_wanted goes.steps is_end
 
@@ -291,11 +316,11 @@ module _ {S E C : Type 0} (m : Meaning S E C KeyRow) (w : Setting) (past : List 
 
     module _ (new : House S E C) (now : Outs) where
       pub turned_on : (at : ℕ) → IsNext next_want (next.Turn at) → {A : Type 0} (done : A)
-          → Goes m w past numbers new tells base now (Ok done) (round_does w past (Turned at) now_at) → Running m w past numbers new tells base now taken until limit first []
+          → Goes m w past numbers new tells base now (Ok done) (outcome w past (Turned at) now_at) now_at → Running m w past numbers new tells base now taken until limit first []
       turned_on at is done goes = runs_on house new o now taken taken [] [] (Turned at) run (turn_wanted at is) run.rest run.count done goes
 
       pub turn_stops : (at : ℕ) (fault : Fault) (end : ServeEnd) → IsNext next_want (next.Turn at)
-          → Stops tells base now fault (round_does w past (Turned at) now_at).events (round_does w past (Turned at) now_at).acts → IsEndOf fault end
+          → Stops tells base now fault (round_does w past (Turned at) now_at).events (sooner w past first (Turned at ∷ run.rounds)) (newest w past first (Turned at ∷ run.rounds)) → IsEndOf fault end
           → Serves m w past numbers new.replicas.items tells base now end until limit first
       turn_stops at fault end is stops is_end = round_stops house new o now taken [] (Turned at) fault end run (turn_wanted at is) stops is_end
 
@@ -313,12 +338,13 @@ module _ {S E C : Type 0} (m : Meaning S E C KeyRow) (w : Setting) (past : List 
       }
 
       pub asking_stops : (fault : Fault) (end : ServeEnd) → IsNext next_want next.Ask
-          → Stops tells base now fault now_at.events now_at.acts ⊎ TookItem m w past numbers new tells base now (Err fault) now_at → IsEndOf fault end
+          → GaveNone tells base now fault now_at ⊎ TookItem m w past numbers new tells base now (Err fault) now_at → IsEndOf fault end
           → Serves m w past numbers new.replicas.items tells base now end until limit first
-      asking_stops fault end is (inl stops) is_end = record {
+      asking_stops fault end is (inl gave) is_end = record {
         rounds = run.rounds;
         wanted = run.wanted;
-        so = ends_so m w past numbers new.replicas.items tells base now fault end now_at (wants w past until limit now_at) is_end stops;
+        so = ends_so m w past numbers new.replicas.items tells base now fault end now_at (sooner w past first run.rounds) (newest w past first run.rounds) (wants w past until limit now_at) is_end
+            (none_stops w past first run.rounds tells base now fault gave);
       }
       asking_stops fault end is (inr took) is_end =
           round_stops house new o now taken [] (Took took.item) fault end run (item_wanted took.item is took.is_item) took.goes.steps is_end

@@ -1,42 +1,55 @@
 -- The tape and the link go on together.
-use Rattle.std.proofs.Common.{◌≡◌, ℕ, ◌≤◌, List, ◌++◌, Result, Ok, Err, refl, sym, ◌∙◌, append_assoc, arith}
+use Rattle.std.proofs.Common.{◌≡◌, ℕ, ◌≤◌, true, List, [], ◌∷◌, ◌++◌, reverse, Result, Ok, Err, refl, sym, ap, ◌∙◌, append_assoc, arith, inl}
+use Rattle.std.specs.List.{flat_map}
+use Rattle.std.proofs.lemmas.List.{append-nil, reverse-append}
+use Rattle.std.proofs.lemmas.Grind.{flat_map-append}
 use Rattle.ritas_base.specs.declared.event.Event.{Event}
 use Rattle.outside.specs.Faults.{Rose}
+use Rattle.outside.specs.LinkCalls.{LinkDid}
+use Rattle.outside.specs.LinkCallsLaws.{back_none, back_then, back_more}
 use Rattle.outside.specs.Links.{LinkAct}
-use Rattle.outside.specs.WritingLaws.{all_written}
+use Rattle.outside.specs.Writing.{TookFront}
+use Rattle.outside.specs.WritingLaws.{all_written, front_then}
+use Rattle.schedule_file.specs.Spelling.{event_text}
 use Rattle.outside.specs.declared.link.LinkFault.{LinkFault}
 use Rattle.outside.specs.declared.link.LinkFault.TheVariants as link_faults
-use Rattle.outside.proofs.Rising.{rose_after}
+use Rattle.outside.specs.FaultsLaws.{rose_after}
 use Rattle.node_loop.specs.declared.end.Fault.{Fault}
 use Rattle.node_loop.specs.declared.end.Fault.TheVariants as faults
-use Rattle.node_loop.specs.Outs.{text_of, Outs, Tells, Agrees, HasCauses, Stops, LinkDid, Fails}
-use Rattle.node_loop.proofs.Linked.{back_all, back_then, back_more}
+use Rattle.node_loop.specs.Outs.{text_of, Outs, Tells, Agrees, HasCauses, AllWritten, InOrder, Stops, Fails}
 
 abbrev pub with_link : Outs → List LinkAct → ℕ → Outs
 with_link o told faults = record o { told = told; link_faults = faults }
 
--- nothing of it failed, but it goes no further for want of memory
-pub stays : (tells : Tells) (base o : Outs) (events : List Event) (acts : List LinkAct) → Agrees tells base o events acts → Stops tells base o faults.Mem events acts
-stays tells base o events acts agrees = record {
-  cut = record {
-    taken = λ t. all_written base.taken o.taken (text_of events) (agrees.taken t);
-    told = λ t. back_all base.told o.told acts (agrees.told t);
-    tape_later = agrees.tape_later;
-    link_later = agrees.link_later;
-  };
-  cause = tt;
+pub text_next : (e : Event) (es : List Event) → text_of (e ∷ es) ≡ text_of es ++ event_text e
+text_next e es =
+    ap (flat_map event_text) (reverse-append (e ∷ []) es)
+    ∙ (flat_map-append event_text (reverse es) (e ∷ []) ∙ ap (λ (l : List ℕ). text_of es ++ l) (append-nil (event_text e)))
+
+-- an event wasn't written, and nothing of it went out
+pub write_fails : (tells : Tells) (base : Outs) (old new : List ℕ) (x y : ℕ) (told : List LinkAct) (link_faults : ℕ) (e : Event) (events : List Event) (acts news : List LinkAct)
+    → Agrees tells base (record { taken = old; tape_faults = x; told = told; link_faults = link_faults }) events acts
+    → (tells.tape ≡ true → TookFront old new (event_text e)) → x ≤ y → Rose x y
+    → Stops tells base (record { taken = new; tape_faults = y; told = told; link_faults = link_faults }) faults.Tape (e ∷ events) acts news
+write_fails tells base old new x y told link_faults e events acts news agrees front le rose = record {
+  taken = λ t. front_then base.taken old new (text_of events) (event_text e) [] (text_of (e ∷ events))
+      (text_next e events ∙ ap (λ (l : List ℕ). text_of events ++ l) (sym (append-nil (event_text e)))) (agrees.taken t) (front t);
+  told = λ t. rw (agrees.told t) (back_none (acts ++ base.told) news);
+  order = agrees.told;
+  tape_later = omega (arith, agrees.tape_later, le);
+  link_later = agrees.link_later;
+  cause = rose_after base.tape_faults x y agrees.tape_later rose;
 }
 
 -- it stopped before others would have followed
-pub stops_more : (tells : Tells) (base o : Outs) (fault : Fault) (events : List Event) (acts news : List LinkAct)
-    → Stops tells base o fault events acts → Stops tells base o fault events (news ++ acts)
-stops_more tells base o fault events acts news stops = record {
-  cut = record {
-    taken = stops.cut.taken;
-    told = λ t. back_more base.told o.told acts news (stops.cut.told t);
-    tape_later = stops.cut.tape_later;
-    link_later = stops.cut.link_later;
-  };
+pub stops_more : (tells : Tells) (base o : Outs) (fault : Fault) (events : List Event) (sooner news more : List LinkAct)
+    → Stops tells base o fault events sooner news → Stops tells base o fault events sooner (more ++ news)
+stops_more tells base o fault events sooner news more stops = record {
+  taken = stops.taken;
+  told = λ t. back_more (sooner ++ base.told) o.told news more (stops.told t);
+  order = stops.order;
+  tape_later = stops.tape_later;
+  link_later = stops.link_later;
   cause = stops.cause;
 }
 
@@ -51,21 +64,27 @@ link_goes tells base o events acts news told count agrees did = record {
   link_later = omega (arith, agrees.link_later, did.later);
 }
 
+-- ---- the link wasn't given all
+
 has_cause : (base o : Outs) (told : List LinkAct) (count : ℕ) (x : LinkFault) (fault : Fault) → Fails x fault → base.link_faults ≤ o.link_faults
     → (let failed : Result (Unit {0}) LinkFault = Err link_faults.Failed in Err x ≡ failed → Rose o.link_faults count) → HasCauses base (with_link o told count) fault
 has_cause base o told count link_faults.Failed fault is le cause = rw is (rose_after base.link_faults o.link_faults count le (cause refl))
 has_cause base o told count link_faults.Mem fault is le cause = rw is tt
 
--- the link wasn't given all of these
-pub link_stops : (tells : Tells) (base o : Outs) (events : List Event) (acts news told : List LinkAct) (count : ℕ) (x : LinkFault) (fault : Fault)
-    → Fails x fault → Agrees tells base o events acts → LinkDid tells.link news o.told told o.link_faults count (Err x)
-    → Stops tells base (with_link o told count) fault events (news ++ acts)
-link_stops tells base o events acts news told count x fault is agrees did = record {
-  cut = record {
-    taken = λ t. all_written base.taken o.taken (text_of events) (agrees.taken t);
-    told = λ t. back_then base.told o.told told acts news (agrees.told t) (did.back t);
-    tape_later = agrees.tape_later;
-    link_later = omega (arith, agrees.link_later, did.later);
-  };
+in_order : (tells : Tells) (base o : Outs) (told : List LinkAct) (count : ℕ) (events : List Event) (sooner : List LinkAct) (x : LinkFault) (fault : Fault) → Fails x fault
+    → AllWritten tells base o events → InOrder tells base (with_link o told count) fault events sooner
+in_order tells base o told count events sooner link_faults.Failed fault is written = rw is written
+in_order tells base o told count events sooner link_faults.Mem fault is written = rw is (inl written)
+
+-- of what is new some was told before, and then a part of the rest
+pub link_stops : (tells : Tells) (base o : Outs) (events : List Event) (sooner done news all told : List LinkAct) (count : ℕ) (x : LinkFault) (fault : Fault)
+    → Fails x fault → all ≡ news ++ done → Agrees tells base o events (done ++ sooner) → LinkDid tells.link news o.told told o.link_faults count (Err x)
+    → Stops tells base (with_link o told count) fault events sooner all
+link_stops tells base o events sooner done news all told count x fault is both agrees did = record {
+  taken = λ t. all_written base.taken o.taken (text_of events) (agrees.taken t);
+  told = λ t. rw both (back_then (sooner ++ base.told) o.told told done news (agrees.told t ∙ append_assoc done sooner base.told) (did.back t));
+  order = in_order tells base o told count events sooner x fault is agrees.taken;
+  tape_later = agrees.tape_later;
+  link_later = omega (arith, agrees.link_later, did.later);
   cause = has_cause base o told count x fault is agrees.link_later did.cause;
 }

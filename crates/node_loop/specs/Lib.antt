@@ -1,6 +1,7 @@
 pub mod Waiting
 pub mod Calls
 pub mod Serving
+pub mod ServingLaws
 pub mod Outs
 pub mod Served
 pub mod Standing

@@ -1,9 +1,10 @@
 -- What a tape took and a link told while it was served, against what serving says.
-use Rattle.std.specs.Prelude.{◌≡◌, ℕ, ◌≤◌, Bool, true, List, ◌++◌, reverse, Result, Ok, Err, OnOk}
+use Rattle.std.specs.Prelude.{◌≡◌, ℕ, ◌≤◌, Bool, true, List, ◌++◌, reverse, Result, Ok, Err, ◌⊎◌}
 use Rattle.std.specs.List.{flat_map}
 use Rattle.ritas_base.specs.declared.event.Event.{Event}
 use Rattle.outside.specs.Faults.{Rose}
 use Rattle.outside.specs.Links.{LinkAct}
+use Rattle.outside.specs.LinkCalls.{TookBack}
 use Rattle.outside.specs.Writing.{TookFront}
 use Rattle.outside.specs.declared.link.LinkFault.{LinkFault}
 use Rattle.outside.specs.declared.link.LinkFault.TheVariants as link_faults
@@ -15,19 +16,20 @@ use Rattle.node_loop.specs.declared.end.Fault.TheVariants as faults
 abbrev pub text_of : List Event → List ℕ
 text_of events = flat_map event_text (reverse events)
 
--- the link did what it should, up to a point: lists of its calls have the newest first
-pub record TookBack (old new acts : List LinkAct) : Type 0 where
-  pub rest : List LinkAct
-  pub back : List LinkAct
-  pub parts : acts ≡ rest ++ back
-  pub told : new ≡ back ++ old
-
 -- a tape and a link: what was taken, what was told, and how many calls of each failed
 pub record Outs : Type 0 where
   pub taken : List ℕ
   pub tape_faults : ℕ
   pub told : List LinkAct
   pub link_faults : ℕ
+
+abbrev pub outs_of : {K L : Type 0} → (K → List ℕ) → (K → ℕ) → (L → List LinkAct) → (L → ℕ) → K → L → Outs
+outs_of taken tape_faults told link_faults tape link = record {
+  taken = taken tape;
+  tape_faults = tape_faults tape;
+  told = told link;
+  link_faults = link_faults link;
+}
 
 -- whether a tape and a link tell
 pub record Tells : Type 0 where
@@ -41,12 +43,7 @@ pub record Agrees (tells : Tells) (base now : Outs) (events : List Event) (acts 
   pub tape_later : base.tape_faults ≤ now.tape_faults
   pub link_later : base.link_faults ≤ now.link_faults
 
--- up to a point
-pub record Cut (tells : Tells) (base now : Outs) (events : List Event) (acts : List LinkAct) : Type 0 where
-  pub taken : tells.tape ≡ true → TookFront base.taken now.taken (text_of events)
-  pub told : tells.link ≡ true → TookBack base.told now.told acts
-  pub tape_later : base.tape_faults ≤ now.tape_faults
-  pub link_later : base.link_faults ≤ now.link_faults
+-- ---- at a fault, where the calls of the newest event are `news`, and those before are `sooner`
 
 -- a fault of the tape or the link has its cause
 abbrev pub HasCauses : Outs → Outs → Fault → Type 0
@@ -54,22 +51,35 @@ HasCauses base now faults.Tape = Rose base.tape_faults now.tape_faults
 HasCauses base now faults.Link = Rose base.link_faults now.link_faults
 HasCauses base now faults.Mem = Unit {0}
 
--- for a fault, up to a point
-pub record Stops (tells : Tells) (base now : Outs) (fault : Fault) (events : List Event) (acts : List LinkAct) : Type 0 where
-  pub cut : Cut tells base now events acts
+-- the tape took all events
+abbrev pub AllWritten : Tells → Outs → Outs → List Event → Type 0
+AllWritten tells base now events = tells.tape ≡ true → now.taken ≡ base.taken ++ text_of events
+
+-- the link told nothing of the newest event
+abbrev pub NoneSent : Tells → Outs → Outs → List LinkAct → Type 0
+NoneSent tells base now sooner = tells.link ≡ true → now.told ≡ sooner ++ base.told
+
+-- An event is written before its frames and its replies go out: where the tape fails none of them did, and where the link fails all events were
+-- written.
+abbrev pub InOrder : Tells → Outs → Outs → Fault → List Event → List LinkAct → Type 0
+InOrder tells base now faults.Tape events sooner = NoneSent tells base now sooner
+InOrder tells base now faults.Link events sooner = AllWritten tells base now events
+InOrder tells base now faults.Mem events sooner = AllWritten tells base now events ⊎ NoneSent tells base now sooner
+
+-- the tape took a front of the events' text, and the link told the calls that are sooner, and of the news a part
+pub record Stops (tells : Tells) (base now : Outs) (fault : Fault) (events : List Event) (sooner news : List LinkAct) : Type 0 where
+  pub taken : tells.tape ≡ true → TookFront base.taken now.taken (text_of events)
+  pub told : tells.link ≡ true → TookBack (sooner ++ base.told) now.told news
+  pub order : InOrder tells base now fault events sooner
+  pub tape_later : base.tape_faults ≤ now.tape_faults
+  pub link_later : base.link_faults ≤ now.link_faults
   pub cause : HasCauses base now fault
 
--- each outcome of a step
-abbrev pub Steps : {A : Type 0} → Tells → Outs → Outs → Result A Fault → List Event → List LinkAct → Type 0
-Steps tells base now (Ok done) events acts = Agrees tells base now events acts
-Steps tells base now (Err fault) events acts = Stops tells base now fault events acts
+-- ---- each outcome of a step that leads to these events and calls
 
--- what a call of the link, or several, did: these acts, or a part of them
-pub record LinkDid (tells : Bool) (acts old new : List LinkAct) (before now : ℕ) (result : Result (Unit {0}) LinkFault) : Type 0 where
-  pub whole : tells ≡ true → OnOk result (new ≡ acts ++ old)
-  pub back : tells ≡ true → TookBack old new acts
-  pub later : before ≤ now
-  pub cause : result ≡ Err link_faults.Failed → Rose before now
+abbrev pub Steps : {A : Type 0} → Tells → Outs → Outs → Result A Fault → List Event → List LinkAct → List LinkAct → List LinkAct → Type 0
+Steps tells base now (Ok done) events acts sooner news = Agrees tells base now events acts
+Steps tells base now (Err fault) events acts sooner news = Stops tells base now fault events sooner news
 
 -- a fault of the link as one of serving
 abbrev pub Fails : LinkFault → Fault → Type 0

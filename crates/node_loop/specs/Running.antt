@@ -1,5 +1,5 @@
 -- Serving under way.
-use Rattle.std.specs.Prelude.{◌≡◌, ℕ, Bool, true, false, List, [], ◌∷◌, Result, Ok, Err, OnOk, ◌⊎◌}
+use Rattle.std.specs.Prelude.{◌≡◌, ◌≢◌, ℕ, Bool, true, false, List, [], ◌∷◌, Result, Ok, Err, OnOk, ◌⊎◌}
 use Rattle.ritas_base.specs.declared.event.Event.{Event}
 use Rattle.keyed_channel.specs.KeyRow.{KeyRow}
 use Rattle.ritas_core.specs.Stands.{Meaning}
@@ -14,8 +14,9 @@ use Rattle.node_loop.specs.declared.end.ServeEnd.TheVariants as ends
 use Rattle.node_loop.specs.declared.house.House.{House}
 use Rattle.node_loop.specs.declared.rounds.Next.{Next}
 use Rattle.node_loop.specs.declared.rounds.Next.TheVariants as next
-use Rattle.node_loop.specs.Serving.{Serving, so_far, Want, Finishes, Turns, Halts, Asks, Round, Took, round_does, after, AreWanted, IsGiven}
-use Rattle.node_loop.specs.Outs.{Outs, Tells, Agrees, Stops, Steps}
+use Rattle.node_loop.specs.Serving.{Serving, so_far, Want, Finishes, Turns, Halts, Asks, Round, Took, outcome, gave, sent_of, with_outcome, after, AreWanted, IsGiven}
+use Rattle.node_loop.specs.Calls.{Outcome}
+use Rattle.node_loop.specs.Outs.{Outs, Tells, Agrees, HasCauses, Steps}
 use Rattle.node_loop.specs.Served.{Serves}
 use Rattle.node_loop.specs.Standing.{HouseStands}
 
@@ -35,18 +36,24 @@ pub record Running {S E C : Type 0} (m : Meaning S E C KeyRow) (w : Setting) (pa
   pub stands : HouseStands m w (so_far past (after w past first rounds)) numbers house (after w past first rounds).waiting
   pub agrees : Agrees tells base now (after w past first rounds).events (after w past first rounds).acts
 
--- a step of serving leads to s, or a part of the way
+-- what came of an item or a turn was delivered, or a part of it
 pub record Goes {S E C A : Type 0} (m : Meaning S E C KeyRow) (w : Setting) (past : List Event) (numbers : List ℕ) (house : House S E C)
-    (tells : Tells) (base now : Outs) (result : Result A Fault) (s : Serving) : Type 0 where
-  pub steps : Steps tells base now result s.events s.acts
-  pub stands : OnOk result (HouseStands m w (so_far past s) numbers house s.waiting)
+    (tells : Tells) (base now : Outs) (result : Result A Fault) (did : Outcome) (s : Serving) : Type 0 where
+  pub steps : Steps tells base now result (with_outcome w past did s).events (with_outcome w past did s).acts s.acts (sent_of w (so_far past s) did)
+  pub stands : OnOk result (HouseStands m w (so_far past (with_outcome w past did s)) numbers house did.waiting)
 
 -- an item of the link was taken, or a part of the way to it
 pub record TookItem {S E C : Type 0} (m : Meaning S E C KeyRow) (w : Setting) (past : List Event) (numbers : List ℕ) (house : House S E C)
     (tells : Tells) (base now : Outs) (result : Result Bool Fault) (s : Serving) : Type 0 where
   pub item : LinkItem
   pub is_item : IsGiven item
-  pub goes : Goes m w past numbers house tells base now result (round_does w past (Took item) s)
+  pub goes : Goes m w past numbers house tells base now result (outcome w past (Took item) s) (gave item s)
+
+-- the link gave none, for a fault of its own or for want of memory
+pub record GaveNone (tells : Tells) (base now : Outs) (fault : Fault) (s : Serving) : Type 0 where
+  pub agrees : Agrees tells base now s.events s.acts
+  pub own : fault ≢ faults.Tape
+  pub cause : HasCauses base now fault
 
 -- the link was asked for an item: it gave one, or its end, or failed
 abbrev pub AskedLink : {S E C : Type 0} → Meaning S E C KeyRow → Setting → List Event → List ℕ → House S E C → Tells → Outs → Outs
@@ -55,7 +62,7 @@ AskedLink m w past numbers house tells base now (Ok true) s = TookItem m w past 
 AskedLink m w past numbers house tells base now (Ok false) s =
     Agrees tells base now s.events (Gives End ∷ s.acts) × HouseStands m w (so_far past s) numbers house s.waiting
 AskedLink m w past numbers house tells base now (Err fault) s =
-    Stops tells base now fault s.events s.acts ⊎ TookItem m w past numbers house tells base now (Err fault) s
+    GaveNone tells base now fault s ⊎ TookItem m w past numbers house tells base now (Err fault) s
 
 -- the first items were taken up, or serving ended before
 abbrev pub BeganAll : {S E C : Type 0} → Meaning S E C KeyRow → Setting → List Event → List ℕ → House S E C → Tells → Outs → Outs → ℕ → ℕ

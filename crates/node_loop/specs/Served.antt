@@ -14,7 +14,7 @@ use Rattle.world_model.specs.Stands.{NoneStops, IsReplica}
 use Rattle.node_loop.specs.declared.end.Fault.TheVariants as faults
 use Rattle.node_loop.specs.declared.end.ServeEnd.{ServeEnd}
 use Rattle.node_loop.specs.declared.end.ServeEnd.TheVariants as ends
-use Rattle.node_loop.specs.Serving.{Serving, so_far, Want, Finishes, Halts, Asks, wants, Round, after, AreWanted}
+use Rattle.node_loop.specs.Serving.{Serving, so_far, Want, Finishes, Halts, Asks, wants, Round, after, AreWanted, newest, sooner}
 use Rattle.node_loop.specs.Outs.{Outs, Tells, Agrees, Stops}
 
 -- The replicas of a world that are here are its correct ones: replica k of the list is that of the k-th number, as it stands after these
@@ -40,18 +40,28 @@ pub record Whole {S E C : Type 0} (m : Meaning S E C KeyRow) (w : Setting) (past
   pub agrees : Agrees tells base now s.events acts
   pub stand : AreHere m w (so_far past s) numbers here
 
--- each end
-abbrev pub EndsSo : {S E C : Type 0} → Meaning S E C KeyRow → Setting → List Event → List ℕ → List (Replica S E C) → Tells → Outs → Outs → ServeEnd → Serving → Want → Type 0
-EndsSo m w past numbers here tells base now ends.Done s rule = Whole m w past numbers here tells base now s s.acts rule Finishes
-EndsSo m w past numbers here tells base now ends.Limit s rule = Whole m w past numbers here tells base now s s.acts rule Halts
-EndsSo m w past numbers here tells base now ends.End s rule = Whole m w past numbers here tells base now s (Gives items.End ∷ s.acts) rule Asks
-EndsSo m w past numbers here tells base now ends.LinkFault s rule = Stops tells base now faults.Link s.events s.acts
-EndsSo m w past numbers here tells base now ends.TapeFault s rule = Stops tells base now faults.Tape s.events s.acts
-EndsSo m w past numbers here tells base now ends.Mem s rule = Stops tells base now faults.Mem s.events s.acts
+-- it broke at a fault
+abbrev pub Breaks : Tells → Outs → Outs → ServeEnd → List Event → List LinkAct → List LinkAct → Type 0
+Breaks tells base now ends.LinkFault events sooner news = Stops tells base now faults.Link events sooner news
+Breaks tells base now ends.TapeFault events sooner news = Stops tells base now faults.Tape events sooner news
+Breaks tells base now ends.Mem events sooner news = Stops tells base now faults.Mem events sooner news
+Breaks tells base now end events sooner news = ⊥
 
--- There are rounds, each what the rules said, after which serving ended so. The items that these took are those that the link gave.
+-- each end, where the newest event's calls are `news`, and those before are `sooner`
+abbrev pub EndsSo : {S E C : Type 0} → Meaning S E C KeyRow → Setting → List Event → List ℕ → List (Replica S E C) → Tells → Outs → Outs → ServeEnd → Serving
+    → List LinkAct → List LinkAct → Want → Type 0
+EndsSo m w past numbers here tells base now ends.Done s sooner news rule = Whole m w past numbers here tells base now s s.acts rule Finishes
+EndsSo m w past numbers here tells base now ends.Limit s sooner news rule = Whole m w past numbers here tells base now s s.acts rule Halts
+EndsSo m w past numbers here tells base now ends.End s sooner news rule = Whole m w past numbers here tells base now s (Gives items.End ∷ s.acts) rule Asks
+EndsSo m w past numbers here tells base now ends.LinkFault s sooner news rule = Breaks tells base now ends.LinkFault s.events sooner news
+EndsSo m w past numbers here tells base now ends.TapeFault s sooner news rule = Breaks tells base now ends.TapeFault s.events sooner news
+EndsSo m w past numbers here tells base now ends.Mem s sooner news rule = Breaks tells base now ends.Mem s.events sooner news
+
+-- There are rounds, each what the rules said, after which serving ended so. The items that these took are those that the link gave, before
+-- its end: where it tells, each call but those of the newest event is told.
 pub record Serves {S E C : Type 0} (m : Meaning S E C KeyRow) (w : Setting) (past : List Event) (numbers : List ℕ) (here : List (Replica S E C))
     (tells : Tells) (base now : Outs) (end : ServeEnd) (until limit : ℕ) (first : List LinkItem) : Type 0 where
   pub rounds : List Round
   pub wanted : AreWanted w past until limit first rounds
-  pub so : EndsSo m w past numbers here tells base now end (after w past first rounds) (wants w past until limit (after w past first rounds))
+  pub so : EndsSo m w past numbers here tells base now end (after w past first rounds) (sooner w past first rounds) (newest w past first rounds)
+      (wants w past until limit (after w past first rounds))

@@ -46,6 +46,10 @@ abbrev pub onto : Option Event → List Event → List Event
 onto None es = es
 onto (Some e) es = e ∷ es
 
+-- the calls of the link that come of an item or a turn: its frames, and then its replies
+abbrev pub sent_of : Setting → List Event → Outcome → List LinkAct
+sent_of w es did = reverse (map Replies did.replies) ++ reverse (sent_by w es did.event)
+
 -- what came of an item or a turn joins the rest: its event, its frames, and then its replies
 abbrev pub with_outcome : Setting → List Event → Outcome → Serving → Serving
 with_outcome w past did s = record s {
@@ -117,15 +121,33 @@ began s = record s { left = behind_first s.left }
 abbrev pub gave : LinkItem → Serving → Serving
 gave item s = record s { taken = s.taken + 1; acts = Gives item ∷ s.acts }
 
+-- what stands where its call is made, and what comes of that
+abbrev pub at_call : Round → Serving → Serving
+at_call (Began item) s = began s
+at_call (Turned i) s = s
+at_call (Took item) s = gave item s
+
+abbrev pub outcome : Setting → List Event → Round → Serving → Outcome
+outcome w past (Began item) s = first_does w (so_far past s) item s.waiting
+outcome w past (Turned i) s = called w (so_far past s) i (events.Turn i) s.waiting
+outcome w past (Took item) s = item_does w (so_far past s) item s.waiting
+
 abbrev pub round_does : Setting → List Event → Round → Serving → Serving
-round_does w past (Began item) s = with_outcome w past (first_does w (so_far past s) item s.waiting) (began s)
-round_does w past (Turned i) s = with_outcome w past (called w (so_far past s) i (events.Turn i) s.waiting) s
-round_does w past (Took item) s = with_outcome w past (item_does w (so_far past s) item s.waiting) (gave item s)
+round_does w past x s = with_outcome w past (outcome w past x s) (at_call x s)
 
 -- what stands after these rounds, of serving that begins with these items
 abbrev pub after : Setting → List Event → List LinkItem → List Round → Serving
 after w past first [] = begin first
 after w past first (x ∷ xs) = round_does w past x (after w past first xs)
+
+-- of these rounds, the link's calls that came of the newest one's event, and those before
+abbrev pub newest : Setting → List Event → List LinkItem → List Round → List LinkAct
+newest w past first [] = []
+newest w past first (x ∷ xs) = let s = after w past first xs in sent_of w (so_far past (at_call x s)) (outcome w past x s)
+
+abbrev pub sooner : Setting → List Event → List LinkItem → List Round → List LinkAct
+sooner w past first [] = []
+sooner w past first (x ∷ xs) = (at_call x (after w past first xs)).acts
 
 -- an item of a link that isn't its end has at most 65,535 bytes
 pub record IsGiven (item : LinkItem) : Type 0 where

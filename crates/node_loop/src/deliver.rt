@@ -1,9 +1,10 @@
 //! What a tape and a link are given.
-ghost use Rattle.std.specs.Prelude.{◌≡◌, ◌++◌, List, map, reverse, IfSome};
+ghost use Rattle.std.specs.Prelude.{◌≡◌, ◌++◌, List, map, IfSome};
 ghost use Rattle.ritas_base.specs.declared.event.Event.{Event};
+ghost use Rattle.outside.specs.LinkCalls.{LinkDid, each_act};
 ghost use Rattle.outside.specs.Links.{LinkAct, Replies};
 ghost use Rattle.schedule_file.specs.Spelling.{IsSized};
-ghost use Rattle.node_loop.specs.Outs.{Outs, Tells, Agrees, Steps, LinkDid, Fails};
+ghost use Rattle.node_loop.specs.Outs.{Outs, outs_of, Tells, Agrees, Steps, Fails};
 ghost use Rattle.node_loop.specs.Serving.{onto};
 ghost use Rattle.node_loop.specs.Standing.{frame_by, reply_by};
 
@@ -24,7 +25,7 @@ fn send_all<R: Net + Wait, L: Link>(
     at: u8,
     frames: &[OutFrame],
 ) -> Result<(), LinkFault>
-    ensures { LinkDid L.tells (reverse (map (frame_by at) frames.now)) (L.told link.old) (L.told link.new) (L.faults link.old) (L.faults link.new) result }
+    ensures { LinkDid L.tells (each_act (frame_by at) frames.now) (L.told link.old) (L.told link.new) (L.faults link.old) (L.faults link.new) result }
 {
     for frame in frames {
         match link.send(rt, alloc, at, frame.to, frame.bytes.as_slice()) {
@@ -43,7 +44,7 @@ fn reply_all<R: Net + Wait, L: Link>(
     at: u8,
     replies: &[Reply],
 ) -> Result<(), LinkFault>
-    ensures { LinkDid L.tells (reverse (map Replies (map (reply_by at) replies.now))) (L.told link.old) (L.told link.new) (L.faults link.old) (L.faults link.new) result }
+    ensures { LinkDid L.tells (each_act Replies (map (reply_by at) replies.now)) (L.told link.old) (L.told link.new) (L.faults link.old) (L.faults link.new) result }
 {
     for given in replies {
         match link.reply(rt, alloc, at, given.conn, &given.bytes) {
@@ -67,10 +68,10 @@ pub(crate) fn fault_of(fault: LinkFault) -> Fault
 // Writes the event to the tape.
 fn write<K: Sink>(tape: &mut K, output: &Output) -> Result<(), Fault>
     requires { IfSome output.now.event IsSized }
-    ensures { (tells : Tells) (base : Outs) (told : List LinkAct) (link_faults : _) (events : List Event) (acts : List LinkAct) → tells.tape ≡ K.tells
+    ensures { (tells : Tells) (base : Outs) (told : List LinkAct) (link_faults : _) (events : List Event) (acts news : List LinkAct) → tells.tape ≡ K.tells
         → Agrees tells base (record { taken = K.taken tape.old; tape_faults = K.faults tape.old; told = told; link_faults = link_faults }) events acts
         → Steps tells base (record { taken = K.taken tape.new; tape_faults = K.faults tape.new; told = told; link_faults = link_faults }) result
-        (onto output.now.event events) acts }
+        (onto output.now.event events) acts acts news }
 {
     if let Some(event) = &output.event {
         if Writer::event(tape, event).is_err() {
@@ -91,11 +92,12 @@ pub(crate) fn deliver<R: Net + Wait, L: Link, K: Sink>(
     requires { IfSome output.now.event IsSized }
     ensures { (base : Outs) (events : List Event) (acts : List LinkAct)
         → Agrees (record { tape = K.tells; link = L.tells }) base
-        (record { taken = K.taken tape.old; tape_faults = K.faults tape.old; told = L.told link.old; link_faults = L.faults link.old }) events acts
+        (outs_of K.taken K.faults L.told L.faults tape.old link.old) events acts
         → Steps (record { tape = K.tells; link = L.tells }) base
-        (record { taken = K.taken tape.new; tape_faults = K.faults tape.new; told = L.told link.new; link_faults = L.faults link.new }) result
+        (outs_of K.taken K.faults L.told L.faults tape.new link.new) result
         (onto output.now.event events)
-        (reverse (map Replies (map (reply_by output.now.at) output.now.replies.items)) ++ (reverse (map (frame_by output.now.at) output.now.frames.items) ++ acts)) }
+        (each_act Replies (map (reply_by output.now.at) output.now.replies.items) ++ (each_act (frame_by output.now.at) output.now.frames.items ++ acts))
+        acts (each_act Replies (map (reply_by output.now.at) output.now.replies.items) ++ each_act (frame_by output.now.at) output.now.frames.items) }
 {
     match write(tape, output) {
         Ok(()) => {}

@@ -1,12 +1,12 @@
 //! Serving, round by round.
-ghost use Rattle.std.specs.Prelude.{◌≡◌, ◌↔◌, ℕ, ◌<◌, List, [], true, All, IsTrue};
+ghost use Rattle.std.specs.Prelude.{◌≡◌, ℕ, ◌<◌, List, [], true, All};
 ghost use Rattle.ritas_base.specs.declared.event.Event.{Event};
 ghost use Rattle.outside.specs.declared.link.LinkItem.{LinkItem};
 ghost use Rattle.replica.specs.Replica.{with_keys};
 ghost use Rattle.world_model.specs.World.{Setting};
 ghost use Rattle.node_loop.specs.Waiting.{nobody};
-ghost use Rattle.node_loop.specs.Serving.{Serving, so_far, wants_of, Turned, round_does};
-ghost use Rattle.node_loop.specs.Outs.{Outs, Agrees};
+ghost use Rattle.node_loop.specs.Serving.{Serving, so_far, wants_of, Turned, outcome};
+ghost use Rattle.node_loop.specs.Outs.{Outs, outs_of, Agrees};
 ghost use Rattle.node_loop.specs.Standing.{HouseStands};
 ghost use Rattle.node_loop.specs.Served.{AreHere, IsFirst, Serves};
 ghost use Rattle.node_loop.specs.Running.{Running, RanRound, Goes, AskedLink, BeganAll, IsNext, IsEndOf};
@@ -85,28 +85,15 @@ fn turn<R: Net + Wait, S: Service, E: Broadcast, C: Coin + Drop, L: Link, K: Sin
     ensures { let m = with_keys S.stands S.rules S.shown E.stands E.rules E.shown C.bits in
         (w : Setting) (past : List Event) (numbers : List ℕ) (base : Outs) (s : Serving) → HouseStands m w (so_far past s) numbers house.old s.waiting
         → Agrees (record { tape = K.tells; link = L.tells }) base
-        (record { taken = K.taken tape.old; tape_faults = K.faults tape.old; told = L.told link.old; link_faults = L.faults link.old }) s.events s.acts
+        (outs_of K.taken K.faults L.told L.faults tape.old link.old) s.events s.acts
         → w.is_correct at ≡ true
         → Goes m w past numbers house.new (record { tape = K.tells; link = L.tells }) base
-        (record { taken = K.taken tape.new; tape_faults = K.faults tape.new; told = L.told link.new; link_faults = L.faults link.new })
-        result (round_does w past (Turned at) s) }
+        (outs_of K.taken K.faults L.told L.faults tape.new link.new)
+        result (outcome w past (Turned at) s) s }
 {
     match house.turn(alloc, at, output) {
         Ok(()) => deliver(rt, alloc, link, tape, output),
         Err(Mem) => Err(Fault::Mem),
-    }
-}
-
-// Whether an item is the link's end.
-fn is_end(item: &LinkItem) -> bool
-    ensures { IsTrue result ↔ (item.now ≡ LinkItem.End) }
-{
-    match item {
-        LinkItem::End => true,
-        LinkItem::Frame { .. } => false,
-        LinkItem::Client { .. } => false,
-        LinkItem::Reply { .. } => false,
-        LinkItem::Down { .. } => false,
     }
 }
 
@@ -122,16 +109,16 @@ fn ask_link<R: Net + Wait, S: Service, E: Broadcast, C: Coin + Drop, L: Link, K:
     ensures { let m = with_keys S.stands S.rules S.shown E.stands E.rules E.shown C.bits in
         (w : Setting) (past : List Event) (numbers : List ℕ) (base : Outs) (s : Serving) → HouseStands m w (so_far past s) numbers house.old s.waiting
         → Agrees (record { tape = K.tells; link = L.tells }) base
-        (record { taken = K.taken tape.old; tape_faults = K.faults tape.old; told = L.told link.old; link_faults = L.faults link.old }) s.events s.acts
+        (outs_of K.taken K.faults L.told L.faults tape.old link.old) s.events s.acts
         → AskedLink m w past numbers house.new (record { tape = K.tells; link = L.tells }) base
-        (record { taken = K.taken tape.new; tape_faults = K.faults tape.new; told = L.told link.new; link_faults = L.faults link.new })
+        (outs_of K.taken K.faults L.told L.faults tape.new link.new)
         result s }
 {
     let item = match link.next(rt, alloc) {
         Ok(item) => item,
         Err(fault) => return Err(fault_of(fault)),
     };
-    if is_end(&item) {
+    if item.is_end() {
         return Ok(false);
     }
     match house.take(alloc, item, output) {
@@ -158,10 +145,10 @@ fn run_round<R: Net + Wait, S: Service, E: Broadcast, C: Coin + Drop, L: Link, K
     ensures { let m = with_keys S.stands S.rules S.shown E.stands E.rules E.shown C.bits in
         (w : Setting) (past : List Event) (numbers : List ℕ) (base : Outs) (first : List LinkItem)
         → Running m w past numbers house.old (record { tape = K.tells; link = L.tells }) base
-        (record { taken = K.taken tape.old; tape_faults = K.faults tape.old; told = L.told link.old; link_faults = L.faults link.old })
+        (outs_of K.taken K.faults L.told L.faults tape.old link.old)
         taken.old bounds.until bounds.limit first []
         → RanRound m w past numbers house.new (record { tape = K.tells; link = L.tells }) base
-        (record { taken = K.taken tape.new; tape_faults = K.faults tape.new; told = L.told link.new; link_faults = L.faults link.new })
+        (outs_of K.taken K.faults L.told L.faults tape.new link.new)
         taken.new bounds.until bounds.limit first result }
 {
     match next_of(house, bounds, *taken) {
@@ -195,10 +182,10 @@ fn go_on<R: Net + Wait, S: Service, E: Broadcast, C: Coin + Drop, L: Link, K: Si
     ensures { let m = with_keys S.stands S.rules S.shown E.stands E.rules E.shown C.bits in
         (w : Setting) (past : List Event) (numbers : List ℕ) (base : Outs) (first : List LinkItem)
         → Running m w past numbers house.old (record { tape = K.tells; link = L.tells }) base
-        (record { taken = K.taken tape.old; tape_faults = K.faults tape.old; told = L.told link.old; link_faults = L.faults link.old })
+        (outs_of K.taken K.faults L.told L.faults tape.old link.old)
         0 bounds.until bounds.limit first []
         → Serves m w past numbers house.new.replicas.items (record { tape = K.tells; link = L.tells }) base
-        (record { taken = K.taken tape.new; tape_faults = K.faults tape.new; told = L.told link.new; link_faults = L.faults link.new })
+        (outs_of K.taken K.faults L.told L.faults tape.new link.new)
         result bounds.until bounds.limit first }
 {
     let mut taken = 0;
@@ -224,8 +211,8 @@ fn begin<R: Net + Wait, S: Service, E: Broadcast, C: Coin + Drop, L: Link, K: Si
     requires { All IsFirst first.now }
     ensures { let m = with_keys S.stands S.rules S.shown E.stands E.rules E.shown C.bits in
         (w : Setting) (past : List Event) (numbers : List ℕ) (base : Outs) (until limit : ℕ)
-        → HouseStands m w past numbers house.old nobody → Agrees (record { tape = K.tells; link = L.tells }) base (record { taken = K.taken tape.old; tape_faults = K.faults tape.old; told = L.told link.old; link_faults = L.faults link.old }) [] []
-        → BeganAll m w past numbers house.new (record { tape = K.tells; link = L.tells }) base (record { taken = K.taken tape.new; tape_faults = K.faults tape.new; told = L.told link.new; link_faults = L.faults link.new }) until limit first.now result }
+        → HouseStands m w past numbers house.old nobody → Agrees (record { tape = K.tells; link = L.tells }) base (outs_of K.taken K.faults L.told L.faults tape.old link.old) [] []
+        → BeganAll m w past numbers house.new (record { tape = K.tells; link = L.tells }) base (outs_of K.taken K.faults L.told L.faults tape.new link.new) until limit first.now result }
 {
     for item in first {
         match house.begin(alloc, item, output) {
@@ -253,7 +240,7 @@ fn serve_house<R: Net + Wait, S: Service, E: Broadcast, C: Coin + Drop, L: Link,
     requires { All IsFirst first.now }
     ensures { let m = with_keys S.stands S.rules S.shown E.stands E.rules E.shown C.bits in
         (w : Setting) (past : List Event) (numbers : List ℕ) → HouseStands m w past numbers house.old nobody
-        → Serves m w past numbers house.new.replicas.items (record { tape = K.tells; link = L.tells }) (record { taken = K.taken tape.old; tape_faults = K.faults tape.old; told = L.told link.old; link_faults = L.faults link.old }) (record { taken = K.taken tape.new; tape_faults = K.faults tape.new; told = L.told link.new; link_faults = L.faults link.new }) result bounds.until bounds.limit first.now }
+        → Serves m w past numbers house.new.replicas.items (record { tape = K.tells; link = L.tells }) (outs_of K.taken K.faults L.told L.faults tape.old link.old) (outs_of K.taken K.faults L.told L.faults tape.new link.new) result bounds.until bounds.limit first.now }
 {
     let mut output = Output::new(alloc);
     match begin(rt, alloc, house, link, tape, first, &mut output) {
@@ -272,8 +259,8 @@ fn serve_house<R: Net + Wait, S: Service, E: Broadcast, C: Coin + Drop, L: Link,
 ///
 /// A frame for a replica that is here is a call of its `on_frame`; a client's message is answered or submitted (`specs/Calls.antt`).
 /// Each call is an event, which goes to the tape before the call's frames go to the link, and these go before its replies. It ends
-/// with `LinkFault` or `TapeFault` at the first call of that which fails, only where the count of faults rose, and with `Mem` at the
-/// first that is without memory, also of a replica. It waits nowhere but in the link's calls; nothing says that turns ever end.
+/// with `LinkFault` or `TapeFault` where a call of that fails, only where its count of faults rose, or stands at its last value, and with
+/// `Mem` where one is without memory, also one of a replica. It waits nowhere but in the link's calls; nothing says that turns ever end.
 ///
 /// The replicas have different numbers, each is `live` and of root service 6. The tape has its header already.
 pub fn serve<R: Net + Wait, S: Service, E: Broadcast, C: Coin + Drop, L: Link, K: Sink>(
@@ -290,8 +277,8 @@ pub fn serve<R: Net + Wait, S: Service, E: Broadcast, C: Coin + Drop, L: Link, K
     ensures { let m = with_keys S.stands S.rules S.shown E.stands E.rules E.shown C.bits in
         (w : Setting) (past : List Event) (numbers : List ℕ) → AreHere m w past numbers replicas.old.items
         → Serves m w past numbers replicas.new.items (record { tape = K.tells; link = L.tells })
-        (record { taken = K.taken tape.old; tape_faults = K.faults tape.old; told = L.told link.old; link_faults = L.faults link.old })
-        (record { taken = K.taken tape.new; tape_faults = K.faults tape.new; told = L.told link.new; link_faults = L.faults link.new })
+        (outs_of K.taken K.faults L.told L.faults tape.old link.old)
+        (outs_of K.taken K.faults L.told L.faults tape.new link.new)
         result until limit first.now.items }
 {
     let mut house = House::new(alloc, std::mem::replace(replicas, Vec::new(alloc)));

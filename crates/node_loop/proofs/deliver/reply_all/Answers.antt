@@ -3,7 +3,8 @@ use Rattle.std.proofs.lemmas.Simd.{map-map}
 use Rattle.outside.specs.Links.{Replies}
 use Rattle.node_loop.specs.declared.output.Reply.{Reply}
 use Rattle.node_loop.specs.Standing.{reply_by}
-use Rattle.node_loop.proofs.Linked.{each_act, did_none, did_one, each_goes, each_fails}
+use Rattle.outside.specs.LinkCalls.{each_act}
+use Rattle.outside.specs.LinkCallsLaws.{did_none, did_one, each_goes, each_fails}
 use Rattle.node_loop.proofs.deliver.reply_all.Goals as goal
 
 -- the two ways to say what is replied

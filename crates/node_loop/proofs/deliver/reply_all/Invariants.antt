@@ -1,8 +1,7 @@
 use Rattle.std.proofs.Common.{take, Ok}
 use Rattle.outside.specs.Links.{Replies}
-use Rattle.node_loop.specs.Outs.{LinkDid}
 use Rattle.node_loop.specs.Standing.{reply_by}
-use Rattle.node_loop.proofs.Linked.{each_act}
+use Rattle.outside.specs.LinkCalls.{LinkDid, each_act}
 use Rattle.node_loop.proofs.deliver.reply_all.Given as goal
 
 abbrev pub invariant-loop-given : goal.invariant-loop-given

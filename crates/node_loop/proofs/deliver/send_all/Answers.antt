@@ -1,7 +1,7 @@
 use Rattle.std.proofs.Common.{◌≡◌, ℕ, List, ap}
 use Rattle.outside.specs.Links.{Sends}
 use Rattle.node_loop.specs.Standing.{frame_by}
-use Rattle.node_loop.proofs.Linked.{did_none, did_one, each_goes, each_fails}
+use Rattle.outside.specs.LinkCallsLaws.{did_none, did_one, each_goes, each_fails}
 use Rattle.node_loop.proofs.deliver.send_all.Goals as goal
 
 same : {at to : ℕ} {a b : List ℕ} → a ≡ b → Sends (record { at = at; to = to; bytes = a }) ≡ Sends (record { at = at; to = to; bytes = b })

@@ -1,7 +1,6 @@
 use Rattle.std.proofs.Common.{take, Ok}
-use Rattle.node_loop.specs.Outs.{LinkDid}
 use Rattle.node_loop.specs.Standing.{frame_by}
-use Rattle.node_loop.proofs.Linked.{each_act}
+use Rattle.outside.specs.LinkCalls.{LinkDid, each_act}
 use Rattle.node_loop.proofs.deliver.send_all.Given as goal
 
 abbrev pub invariant-loop-frame : goal.invariant-loop-frame
