@@ -1,7 +1,8 @@
 -- The header, what was served and the end mark make a file, and the link's calls those of a session.
-use Rattle.std.proofs.Common.{◌≡◌, ℕ, true, List, [], ◌∷◌, ◌++◌, refl, sym, ◌∙◌, ap, append_assoc}
+use Rattle.std.proofs.Common.{◌≡◌, ℕ, true, List, [], ◌∷◌, ◌++◌, refl, sym, ◌∙◌, ap, subst, append_assoc}
 use Rattle.std.proofs.lemmas.List.{append-nil}
 use Rattle.ritas_base.specs.declared.event.Event.{Event}
+use Rattle.outside.specs.LinkCalls.{TookBack}
 use Rattle.outside.specs.Links.{LinkAct, Starts, Gives}
 use Rattle.outside.specs.Writing.{TookFront}
 use Rattle.outside.specs.declared.link.LinkItem.TheVariants as items
@@ -11,10 +12,10 @@ use Rattle.schedule_file.specs.Spelling.{header_text}
 use Rattle.schedule_file.specs.declared.header.Header.{Header}
 use Rattle.node_loop.specs.declared.end.ServeEnd.{ServeEnd}
 use Rattle.node_loop.specs.declared.end.ServeEnd.TheVariants as ends
-use Rattle.node_loop.specs.Outs.{Outs, Tells, TookBack, Agrees, Cut, text_of}
-use Rattle.node_loop.specs.Serving.{Serving, Want}
-use Rattle.node_session.specs.Session.{TookAll, TookPart, SessionEnds}
-use Rattle.node_session.specs.Opening.{HasBegun, HasFailed, HasCause}
+use Rattle.node_loop.specs.Outs.{Outs, Tells, Agrees, text_of}
+use Rattle.node_loop.specs.Serving.{Serving, Want, Begins, Finishes, Turns, Halts, Asks}
+use Rattle.node_session.specs.Session.{TookAll, TookPart, last_acts, NotStarted, SessionEnds}
+use Rattle.node_session.specs.Opening.{HasBegun, HasFailed}
 
 module _ (h : Header) (plan : LinkPlan) (tells : Tells) where
   -- what a link told since a session began
@@ -71,25 +72,40 @@ module _ (h : Header) (plan : LinkPlan) (tells : Tells) where
     told = λ t. same ∙ told_all base.told mid.told now.told acts (begun.told t) (served.told t);
   }
 
-  pub part_taken : (base mid now : Outs) (events : List Event) (acts more : List LinkAct) → HasBegun (heading h) plan tells base mid → Cut tells mid now events acts
+  pub part_taken : (base mid now : Outs) (events : List Event) (acts more : List LinkAct) → HasBegun (heading h) plan tells base mid
+      → (tells.tape ≡ true → TookFront mid.taken now.taken (text_of events)) → (tells.link ≡ true → TookBack mid.told now.told acts)
       → TookPart h plan tells base now events (more ++ acts)
-  part_taken base mid now events acts more begun cut = record {
-    file = λ t. front_in_file base.taken mid.taken now.taken (text_of events) (begun.taken t) (cut.taken t);
-    told = λ t. told_part base.told mid.told now.told acts more (begun.told t) (cut.told t);
+  part_taken base mid now events acts more begun taken told = record {
+    file = λ t. front_in_file base.taken mid.taken now.taken (text_of events) (begun.taken t) (taken t);
+    told = λ t. told_part base.told mid.told now.told acts more (begun.told t) (told t);
   }
 
-  pub mark_lost : (base mid now last : Outs) (events : List Event) (acts more : List LinkAct) → HasBegun (heading h) plan tells base mid → Agrees tells mid now events acts
-      → (tells.tape ≡ true → TookFront now.taken last.taken (0 ∷ [])) → last.told ≡ now.told → TookPart h plan tells base last events (more ++ acts)
-  mark_lost base mid now last events acts more begun served lost same = record {
+  pub mark_lost : (base mid now last : Outs) (events : List Event) (acts : List LinkAct) → HasBegun (heading h) plan tells base mid → Agrees tells mid now events acts
+      → (tells.tape ≡ true → TookFront now.taken last.taken (0 ∷ [])) → last.told ≡ now.told → TookPart h plan tells base last events acts
+  mark_lost base mid now last events acts begun served lost same = record {
     file = λ t. mark_in_file base.taken mid.taken now.taken last.taken (text_of events) (begun.taken t) (served.taken t) (lost t);
-    told = λ t. told_part base.told mid.told last.told acts more (begun.told t)
+    told = λ t. told_part base.told mid.told last.told acts [] (begun.told t)
         (record { rest = []; back = acts; parts = refl; told = same ∙ served.told t });
   }
 
+  -- where the link was to be asked, its end is one call more
+  last_more : (rule : Want) (acts : List LinkAct) → (more : List LinkAct) × (last_acts rule acts ≡ more ++ acts)
+  last_more (Begins item) acts = ([], refl)
+  last_more Finishes acts = ([], refl)
+  last_more (Turns i) acts = ([], refl)
+  last_more Halts acts = ([], refl)
+  last_more Asks acts = (Gives items.End ∷ [], refl)
+
+  pub last_taken : (base now : Outs) (events : List Event) (acts : List LinkAct) (rule : Want) → ((more : List LinkAct) → TookPart h plan tells base now events (more ++ acts))
+      → TookPart h plan tells base now events (last_acts rule acts)
+  last_taken base now events acts rule part =
+      let more = last_more rule acts in
+      subst (TookPart h plan tells base now events) (sym more.1) (part more.0)
+
   -- nothing was served
-  pub not_begun : (base now : Outs) (s : Serving) (rule : Want) (end : ServeEnd) → HasFailed (heading h) plan tells base now end → s.events ≡ [] → s.acts ≡ []
-      → SessionEnds h plan tells base now end s rule
-  not_begun base now s rule end failed none quiet = by_end end failed.cause
+  pub not_begun : (base now : Outs) (s : Serving) (sooner news : List LinkAct) (rule : Want) (end : ServeEnd) → HasFailed (heading h) plan tells base now end
+      → SessionEnds h plan tells base now end s sooner news rule
+  not_begun base now s sooner news rule end failed = by_end end failed
     where
       part : (more : List LinkAct) → TookPart h plan tells base now s.events (more ++ s.acts)
       part more = record {
@@ -102,10 +118,10 @@ module _ (h : Header) (plan : LinkPlan) (tells : Tells) where
         told = λ t. record { rest = (more ++ s.acts) ++ Starts plan ∷ []; back = []; parts = sym (append-nil ((more ++ s.acts) ++ Starts plan ∷ [])); told = failed.told t };
       }
 
-      by_end : (x : ServeEnd) → HasCause base now x → SessionEnds h plan tells base now x s rule
-      by_end ends.LinkFault cause = (cause, part [])
-      by_end ends.TapeFault cause = (cause, part (Gives items.End ∷ []))
-      by_end ends.Mem cause = part []
-      by_end ends.Done none = absurd none
-      by_end ends.Limit none = absurd none
-      by_end ends.End none = absurd none
+      by_end : (x : ServeEnd) → HasFailed (heading h) plan tells base now x → SessionEnds h plan tells base now x s sooner news rule
+      by_end ends.LinkFault why = (why.cause, part [], NotStarted why)
+      by_end ends.TapeFault why = (why.cause, last_taken base now s.events s.acts rule part, NotStarted why)
+      by_end ends.Mem why = (part [], NotStarted why)
+      by_end ends.Done why = absurd why.cause
+      by_end ends.Limit why = absurd why.cause
+      by_end ends.End why = absurd why.cause

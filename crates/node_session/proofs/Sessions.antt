@@ -1,5 +1,5 @@
 -- What is true of a session.
-use Rattle.std.proofs.Common.{◌≡◌, ℕ, ◌<◌, ◌≤◌, ◌^◌, ◌==◌, Bool, true, false, List, [], ◌∷◌, ◌++◌, reverse, refl, sym, ap, subst, arith}
+use Rattle.std.proofs.Common.{◌≡◌, ℕ, ◌<◌, ◌≤◌, ◌^◌, ◌==◌, Bool, true, false, List, [], ◌∷◌, ◌++◌, reverse, refl, sym, ◌∙◌, ap, subst, arith}
 use Rattle.std.specs.List.{All, AllByRecursion}
 use Rattle.std.proofs.lemmas.List.{append-nil, reverse-append}
 use Rattle.ritas_base.specs.declared.event.Event.{Event}
@@ -13,11 +13,12 @@ use Rattle.layer_api.specs.Broadcast.{BroadcastRules}
 use Rattle.layer_api.specs.Service.{ServiceRules}
 use Rattle.ritas_core.specs.Rules.{HasForm}
 use Rattle.outside.specs.Faults.{Rose}
+use Rattle.outside.specs.LinkCalls.{TookBack}
+use Rattle.outside.specs.LinkCallsLaws.{back_then}
 use Rattle.outside.specs.Links.{LinkAct, Gives, frames_in, replies_in}
 use Rattle.outside.specs.declared.link.LinkItem.TheVariants as items
-use Rattle.outside.proofs.Rising.{rose_after}
+use Rattle.outside.specs.FaultsLaws.{rose_after}
 use Rattle.outside.specs.declared.link.LinkItem.{LinkItem}
-use Rattle.outside.specs.declared.link.LinkPlan.{LinkPlan}
 use Rattle.schedule_file.specs.ReadHeader.{heading}
 use Rattle.schedule_file.specs.Spelling.{IsHeading, IsEvent, IsSized, MayStand, AreKeys}
 use Rattle.schedule_file.specs.declared.header.Header.{Header}
@@ -34,12 +35,14 @@ use Rattle.world_model.specs.EveryWorld.{IsWorld, AgreementLaw}
 use Rattle.node_loop.specs.declared.end.ServeEnd.{ServeEnd}
 use Rattle.node_loop.specs.declared.end.ServeEnd.TheVariants as ends
 use Rattle.node_loop.specs.Laws.{frames_of, FramesAreMade, RepliesAreTrue, EventsFit, IsServed, IsTrueReply}
-use Rattle.node_loop.specs.Outs.{Outs, Tells, Cut}
-use Rattle.node_loop.specs.Served.{IsFirst, Serves, EndsSo, Whole}
-use Rattle.node_loop.specs.Serving.{Serving, begin, so_far, Want, Finishes, Halts, Asks, Round, after, wants, AreWanted}
-use Rattle.node_session.specs.Session.{TookAll, TookPart, IsSession, ServesSession, SessionEnds}
+use Rattle.node_loop.specs.Outs.{Outs, Tells, Agrees, Stops}
+use Rattle.node_loop.specs.Served.{IsFirst, Serves, Breaks, EndsSo, Whole}
+use Rattle.node_loop.specs.ServingLaws.{acts_of}
+use Rattle.node_loop.specs.Serving.{Serving, begin, so_far, Want, Finishes, Halts, Asks, Round, after, sooner, newest, wants, AreWanted}
+use Rattle.node_session.specs.declared.session.Session.{Session}
+use Rattle.node_session.specs.Session.{TookAll, TookPart, IsSession, ServesSession, last_acts, CameTo, Broke, NotClosed, SessionEnds}
 use Rattle.node_session.specs.Opening.{HasBegun, HasFailed, Closes, Closed, Failed, is_reason}
-use Rattle.node_session.proofs.Composing.{all_taken, part_taken, mark_lost, not_begun}
+use Rattle.node_session.proofs.Composing.{all_taken, part_taken, mark_lost, last_taken, not_begun}
 
 -- ---- the world of a header
 
@@ -134,78 +137,92 @@ module _ (h : Header) (w : Setting) (is : IsHeading (heading h)) (service : Serv
 
 -- ---- the session as a whole
 
-module _ (h : Header) (w : Setting) (plan : LinkPlan) (tells : Tells) (until limit : ℕ) (first : List LinkItem)
-    (session : (rounds : List Round) → AreWanted w [] until limit first rounds → IsSession h w (after w [] first rounds).events (after w [] first rounds).acts) where
+module _ (x : Session) (first : List LinkItem) (w : Setting) (tells : Tells)
+    (session : (rounds : List Round) → AreWanted w [] x.until x.limit first rounds
+    → IsSession x.header w (after w [] first rounds).events (after w [] first rounds).acts) where
   -- it ended before it was served
-  pub fails : (base now : Outs) (end : ServeEnd) → HasFailed (heading h) plan tells base now end → ServesSession h w plan tells base now end until limit first
+  pub fails : (base now : Outs) (end : ServeEnd) → HasFailed (heading x.header) x.plan tells base now end → ServesSession x first w tells base now end
   fails base now end failed = record {
     rounds = [];
     wanted = tt;
-    so = not_begun h plan tells base now (begin first) (wants w [] until limit (begin first)) end failed refl refl;
+    so = not_begun x.header x.plan tells base now (begin first) [] [] (wants w [] x.until x.limit (begin first)) end failed;
     true_of = session [] tt;
     tape_later = failed.tape_later;
     link_later = failed.link_later;
   }
 
-  module _ {S E C : Type 0} (m : Meaning S E C KeyRow) (numbers : List ℕ) (here : List (Replica S E C)) (base mid now last : Outs) (begun : HasBegun (heading h) plan tells base mid) where
-    -- it ended by its rules, and the end mark was written, or not
-    closes : (s : Serving) (rule reason : Want) (acts more : List LinkAct) (end result : ServeEnd) → Whole m w [] numbers here tells mid now s acts rule reason
-        → last.told ≡ now.told → Closes tells.tape now.taken last.taken now.tape_faults last.tape_faults end result
-        → ((rule ≡ reason) × TookAll h plan tells base last s.events acts → SessionEnds h plan tells base last end s rule)
-        → more ++ acts ≡ Gives items.End ∷ s.acts → SessionEnds h plan tells base last result s rule
-    closes s rule reason acts more end result done same (Closed is later closed) so with_end =
-        subst (λ (x : ServeEnd). SessionEnds h plan tells base last x s rule) (sym is)
-        (so (done.why, all_taken h plan tells base mid now last s.events acts begun done.agrees closed same))
-    closes s rule reason acts more end result done same (Failed is rose later lost) so with_end =
-        subst (λ (x : ServeEnd). SessionEnds h plan tells base last x s rule) (sym is) (
-          rose_after base.tape_faults now.tape_faults last.tape_faults (omega (arith, begun.tape_later, done.agrees.tape_later)) rose,
-          subst (TookPart h plan tells base last s.events) with_end (mark_lost h plan tells base mid now last s.events acts more begun done.agrees lost same),
-        )
+  module _ {S E C : Type 0} (m : Meaning S E C KeyRow) (numbers : List ℕ) (here : List (Replica S E C)) (base mid now last : Outs) (begun : HasBegun (heading x.header) x.plan tells base mid) where
+    module _ (s : Serving) (sooner news : List LinkAct) (rule : Want) where
+      abbrev EndedAt : ServeEnd → Type 0
+      EndedAt end = SessionEnds x.header x.plan tells base last end s sooner news rule
 
-    -- a fault came
-    breaks : (s : Serving) (more : List LinkAct) → Cut tells mid now s.events s.acts → last ≡ now → TookPart h plan tells base last s.events (more ++ s.acts)
-    breaks s more cut same =
-        subst (λ (o : Outs). TookPart h plan tells base o s.events (more ++ s.acts)) (sym same)
-        (part_taken h plan tells base mid now s.events s.acts more begun cut)
+      -- it ended by its rules, and the end mark was written, or not
+      closes : (reason : Want) (acts : List LinkAct) (end result : ServeEnd) → Whole m w [] numbers here tells mid now s acts rule reason
+          → last.told ≡ now.told → Closes tells.tape now.taken last.taken now.tape_faults last.tape_faults end result
+          → ((rule ≡ reason) × TookAll x.header x.plan tells base last s.events acts → EndedAt end)
+          → acts ≡ last_acts reason s.acts → EndedAt result
+      closes reason acts end result done same (Closed is later closed) so with_end =
+          subst EndedAt (sym is) (so (done.why, all_taken x.header x.plan tells base mid now last s.events acts begun done.agrees closed same))
+      closes reason acts end result done same (Failed is rose later lost) so with_end =
+          let at_last : acts ≡ last_acts rule s.acts = with_end ∙ ap (λ (r : Want). last_acts r s.acts) (sym done.why) in
+          let served : Agrees tells mid now s.events (last_acts rule s.acts) = subst (Agrees tells mid now s.events) at_last done.agrees in
+          subst EndedAt (sym is) (
+            rose_after base.tape_faults now.tape_faults last.tape_faults (omega (arith, begun.tape_later, done.agrees.tape_later)) rose,
+            mark_lost x.header x.plan tells base mid now last s.events (last_acts rule s.acts) begun served lost same,
+            NotClosed mid now begun served refl lost same,
+          )
 
-    ended : (s : Serving) (rule : Want) (end result : ServeEnd) → EndsSo m w [] numbers here tells mid now end s rule → last.told ≡ now.told
-        → (is_reason end ≡ true → Closes tells.tape now.taken last.taken now.tape_faults last.tape_faults end result)
-        → (is_reason end ≡ false → (result ≡ end) × (last ≡ now)) → SessionEnds h plan tells base last result s rule
-    ended s rule ends.Done result so same closed kept = closes s rule Finishes s.acts (Gives items.End ∷ []) ends.Done result so same (closed refl) (λ x. x) refl
-    ended s rule ends.Limit result so same closed kept = closes s rule Halts s.acts (Gives items.End ∷ []) ends.Limit result so same (closed refl) (λ x. x) refl
-    ended s rule ends.End result so same closed kept = closes s rule Asks (Gives items.End ∷ s.acts) [] ends.End result so same (closed refl) (λ x. x) refl
-    ended s rule ends.LinkFault result so same closed kept =
-        let k = kept refl in
-        subst (λ (x : ServeEnd). SessionEnds h plan tells base last x s rule) (sym k.0) (
-          subst (λ (o : Outs). Rose base.link_faults o.link_faults) (sym k.1) (rose_after base.link_faults mid.link_faults now.link_faults begun.link_later so.cause),
-          breaks s [] so.cut k.1,
-        )
-    ended s rule ends.TapeFault result so same closed kept =
-        let k = kept refl in
-        subst (λ (x : ServeEnd). SessionEnds h plan tells base last x s rule) (sym k.0) (
-          subst (λ (o : Outs). Rose base.tape_faults o.tape_faults) (sym k.1) (rose_after base.tape_faults mid.tape_faults now.tape_faults begun.tape_later so.cause),
-          breaks s (Gives items.End ∷ []) so.cut k.1,
-        )
-    ended s rule ends.Mem result so same closed kept =
-        let k = kept refl in
-        subst (λ (x : ServeEnd). SessionEnds h plan tells base last x s rule) (sym k.0) (breaks s [] so.cut k.1)
+      -- a fault came
+      breaks : (fault : _) (more : List LinkAct) → Stops tells mid now fault s.events sooner news → s.acts ≡ news ++ sooner → last ≡ now
+          → TookPart x.header x.plan tells base last s.events (more ++ s.acts)
+      breaks fault more stops both same =
+          subst (λ (o : Outs). TookPart x.header x.plan tells base o s.events (more ++ s.acts)) (sym same)
+          (part_taken x.header x.plan tells base mid now s.events s.acts more begun stops.taken
+          (λ t. subst (TookBack mid.told now.told) (sym both) (back_then mid.told (sooner ++ mid.told) now.told sooner news refl (stops.told t))))
+
+      broke : (end : ServeEnd) → Breaks tells mid now end s.events sooner news → last ≡ now → CameTo x.header x.plan tells base last end s sooner news rule
+      broke end stops same = Broke mid begun (subst (λ (o : Outs). Breaks tells mid o end s.events sooner news) (sym same) stops)
+
+      ended : (end result : ServeEnd) → EndsSo m w [] numbers here tells mid now end s sooner news rule → s.acts ≡ news ++ sooner → last.told ≡ now.told
+          → (is_reason end ≡ true → Closes tells.tape now.taken last.taken now.tape_faults last.tape_faults end result)
+          → (is_reason end ≡ false → (result ≡ end) × (last ≡ now)) → EndedAt result
+      ended ends.Done result so both same closed kept = closes Finishes s.acts ends.Done result so same (closed refl) (λ took. took) refl
+      ended ends.Limit result so both same closed kept = closes Halts s.acts ends.Limit result so same (closed refl) (λ took. took) refl
+      ended ends.End result so both same closed kept = closes Asks (Gives items.End ∷ s.acts) ends.End result so same (closed refl) (λ took. took) refl
+      ended ends.LinkFault result so both same closed kept =
+          let k = kept refl in
+          subst EndedAt (sym k.0) (
+            subst (λ (o : Outs). Rose base.link_faults o.link_faults) (sym k.1) (rose_after base.link_faults mid.link_faults now.link_faults begun.link_later so.cause),
+            breaks _ [] so both k.1,
+            broke ends.LinkFault so k.1,
+          )
+      ended ends.TapeFault result so both same closed kept =
+          let k = kept refl in
+          subst EndedAt (sym k.0) (
+            subst (λ (o : Outs). Rose base.tape_faults o.tape_faults) (sym k.1) (rose_after base.tape_faults mid.tape_faults now.tape_faults begun.tape_later so.cause),
+            last_taken x.header x.plan tells base last s.events s.acts rule (λ more. breaks _ more so both k.1),
+            broke ends.TapeFault so k.1,
+          )
+      ended ends.Mem result so both same closed kept =
+          let k = kept refl in
+          subst EndedAt (sym k.0) (breaks _ [] so both k.1, broke ends.Mem so k.1)
 
     -- counts of faults don't fall
-    tape_on : (s : Serving) (rule : Want) (end : ServeEnd) → EndsSo m w [] numbers here tells mid now end s rule → mid.tape_faults ≤ now.tape_faults
-    tape_on s rule ends.Done so = so.agrees.tape_later
-    tape_on s rule ends.Limit so = so.agrees.tape_later
-    tape_on s rule ends.End so = so.agrees.tape_later
-    tape_on s rule ends.LinkFault so = so.cut.tape_later
-    tape_on s rule ends.TapeFault so = so.cut.tape_later
-    tape_on s rule ends.Mem so = so.cut.tape_later
+    tape_on : (s : Serving) (sooner news : List LinkAct) (rule : Want) (end : ServeEnd) → EndsSo m w [] numbers here tells mid now end s sooner news rule → mid.tape_faults ≤ now.tape_faults
+    tape_on s sooner news rule ends.Done so = so.agrees.tape_later
+    tape_on s sooner news rule ends.Limit so = so.agrees.tape_later
+    tape_on s sooner news rule ends.End so = so.agrees.tape_later
+    tape_on s sooner news rule ends.LinkFault so = so.tape_later
+    tape_on s sooner news rule ends.TapeFault so = so.tape_later
+    tape_on s sooner news rule ends.Mem so = so.tape_later
 
-    link_on : (s : Serving) (rule : Want) (end : ServeEnd) → EndsSo m w [] numbers here tells mid now end s rule → mid.link_faults ≤ now.link_faults
-    link_on s rule ends.Done so = so.agrees.link_later
-    link_on s rule ends.Limit so = so.agrees.link_later
-    link_on s rule ends.End so = so.agrees.link_later
-    link_on s rule ends.LinkFault so = so.cut.link_later
-    link_on s rule ends.TapeFault so = so.cut.link_later
-    link_on s rule ends.Mem so = so.cut.link_later
+    link_on : (s : Serving) (sooner news : List LinkAct) (rule : Want) (end : ServeEnd) → EndsSo m w [] numbers here tells mid now end s sooner news rule → mid.link_faults ≤ now.link_faults
+    link_on s sooner news rule ends.Done so = so.agrees.link_later
+    link_on s sooner news rule ends.Limit so = so.agrees.link_later
+    link_on s sooner news rule ends.End so = so.agrees.link_later
+    link_on s sooner news rule ends.LinkFault so = so.link_later
+    link_on s sooner news rule ends.TapeFault so = so.link_later
+    link_on s sooner news rule ends.Mem so = so.link_later
 
     close_on : (end result : ServeEnd) → Closes tells.tape now.taken last.taken now.tape_faults last.tape_faults end result → now.tape_faults ≤ last.tape_faults
     close_on end result (Closed is later closed) = later
@@ -216,16 +233,19 @@ module _ (h : Header) (w : Setting) (plan : LinkPlan) (tells : Tells) (until lim
     end_on end result true reason closed kept = close_on end result (closed reason)
     end_on end result false reason closed kept = omega (arith, ap (λ (o : Outs). o.tape_faults) (kept reason).1)
 
-    pub serves : (end result : ServeEnd) → Serves m w [] numbers here tells mid now end until limit first → last.told ≡ now.told → last.link_faults ≡ now.link_faults
+    pub serves : (end result : ServeEnd) → Serves m w [] numbers here tells mid now end x.until x.limit first → last.told ≡ now.told → last.link_faults ≡ now.link_faults
         → (is_reason end ≡ true → Closes tells.tape now.taken last.taken now.tape_faults last.tape_faults end result)
-        → (is_reason end ≡ false → (result ≡ end) × (last ≡ now)) → ServesSession h w plan tells base last result until limit first
+        → (is_reason end ≡ false → (result ≡ end) × (last ≡ now)) → ServesSession x first w tells base last result
     serves end result run same same_count closed kept =
         let s = after w [] first run.rounds in
+        let old = sooner w [] first run.rounds in
+        let new = newest w [] first run.rounds in
+        let rule = wants w [] x.until x.limit s in
         record {
           rounds = run.rounds;
           wanted = run.wanted;
-          so = ended s (wants w [] until limit s) end result run.so same closed kept;
+          so = ended s old new rule end result run.so (acts_of w [] first run.rounds) same closed kept;
           true_of = session run.rounds run.wanted;
-          tape_later = omega (arith, begun.tape_later, tape_on s (wants w [] until limit s) end run.so, end_on end result (is_reason end) refl closed kept);
-          link_later = omega (arith, begun.link_later, link_on s (wants w [] until limit s) end run.so, same_count);
+          tape_later = omega (arith, begun.tape_later, tape_on s old new rule end run.so, end_on end result (is_reason end) refl closed kept);
+          link_later = omega (arith, begun.link_later, link_on s old new rule end run.so, same_count);
         }

@@ -10,6 +10,7 @@ use Rattle.client_port.specs.Messages.{request_bytes}
 use Rattle.cluster_config.specs.declared.node.NodeConfig.{NodeConfig}
 use Rattle.cluster_config.specs.declared.cluster.ClusterConfig.{ClusterConfig}
 use Rattle.cluster_config.specs.declared.requests.Request.{Request}
+use Rattle.node_session.specs.declared.session.Session.{Session}
 
 -- ---- one replica
 
@@ -25,6 +26,14 @@ node_header config = record {
 
 abbrev pub node_plan : NodeConfig → LinkPlan
 node_plan config = plans.Node config.me config.peers config.client
+
+abbrev pub node_session : NodeConfig → Session
+node_session config = record {
+  header = node_header config;
+  plan = node_plan config;
+  limit = config.limit;
+  until = config.until;
+}
 
 -- ---- all replicas
 
@@ -44,3 +53,11 @@ cluster_plan config = plans.Cluster config.peers
 -- a request as a message of a client to the replica that it names
 abbrev pub first_item : Request → LinkItem
 first_item r = items.Client r.at 0 (request_bytes (record { client = r.client; request = r.request; payload = r.payload }))
+
+abbrev pub cluster_session : ClusterConfig → Session
+cluster_session config = record {
+  header = cluster_header config;
+  plan = cluster_plan config;
+  limit = config.limit;
+  until = config.until;
+}

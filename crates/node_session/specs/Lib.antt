@@ -1,3 +1,3 @@
-pub mod Session
 pub mod Opening
+pub mod Session
 pub mod Configs

@@ -1,8 +1,9 @@
 -- Serving the session of a header: what an output and a link took of it. Lists of events and of the link's calls have the newest first.
-use Rattle.std.specs.Prelude.{◌≡◌, ℕ, ◌≤◌, true, List, [], ◌∷◌, ◌++◌, length, reverse}
-use Rattle.std.specs.List.{AllByRecursion}
+use Rattle.std.specs.Prelude.{◌≡◌, ◌≤◌, true, List, [], ◌∷◌, ◌++◌, length, reverse}
+use Rattle.std.specs.List.{All, AllByRecursion}
 use Rattle.ritas_base.specs.declared.event.Event.{Event}
 use Rattle.outside.specs.Faults.{Rose}
+use Rattle.outside.specs.LinkCalls.{TookBack}
 use Rattle.outside.specs.Links.{LinkAct, Starts, Gives, frames_in, replies_in}
 use Rattle.outside.specs.Writing.{TookFront}
 use Rattle.outside.specs.declared.link.LinkItem.{LinkItem}
@@ -10,7 +11,7 @@ use Rattle.outside.specs.declared.link.LinkItem.TheVariants as items
 use Rattle.outside.specs.declared.link.LinkPlan.{LinkPlan}
 use Rattle.schedule_file.specs.FileBytes as file
 use Rattle.schedule_file.specs.ReadHeader.{heading}
-use Rattle.schedule_file.specs.Spelling.{FileOf, IsFile}
+use Rattle.schedule_file.specs.Spelling.{FileOf, IsFile, IsHeading}
 use Rattle.schedule_file.specs.declared.header.Header.{Header}
 use Rattle.world_model.specs.declared.audit.Audit.TheVariants.{Holds}
 use Rattle.world_model.specs.Agree.{Agree}
@@ -19,8 +20,21 @@ use Rattle.world_model.specs.World.{Setting}
 use Rattle.node_loop.specs.declared.end.ServeEnd.{ServeEnd}
 use Rattle.node_loop.specs.declared.end.ServeEnd.TheVariants as ends
 use Rattle.node_loop.specs.Laws.{frames_of, IsTrueReply}
-use Rattle.node_loop.specs.Outs.{Outs, Tells, TookBack}
-use Rattle.node_loop.specs.Serving.{Serving, Want, Finishes, Halts, Asks, Round, after, wants, AreWanted}
+use Rattle.node_loop.specs.Outs.{Outs, Tells, Agrees}
+use Rattle.node_loop.specs.Served.{IsFirst, Breaks}
+use Rattle.node_loop.specs.Serving.{Serving, Want, Begins, Finishes, Turns, Halts, Asks, Round, after, sooner, newest, wants, AreWanted}
+use Rattle.node_session.specs.declared.session.Session.{Session}
+use Rattle.node_session.specs.Opening.{HasBegun, HasFailed}
+
+-- ---- what a session is served with
+
+-- the header may stand in a file, it is one of atomic broadcast, and the items with which it begins are messages of clients
+pub record IsServable (s : Session) (first : List LinkItem) : Type 0 where
+  pub heading : IsHeading (heading s.header)
+  pub atomic : s.header.mode.root ≡ 6
+  pub firsts : All IsFirst first
+
+-- ---- what is served
 
 -- the output took the file of the events, and the link was started with the plan and told these calls
 pub record TookAll (h : Header) (plan : LinkPlan) (tells : Tells) (base now : Outs) (events : List Event) (acts : List LinkAct) : Type 0 where
@@ -32,15 +46,33 @@ pub record TookPart (h : Header) (plan : LinkPlan) (tells : Tells) (base now : O
   pub file : tells.tape ≡ true → TookFront base.taken now.taken (FileOf (heading h) events)
   pub told : tells.link ≡ true → TookBack base.told now.told (acts ++ Starts plan ∷ [])
 
+-- the calls at the end of serving: where the link was to be asked, it gave its end
+abbrev pub last_acts : Want → List LinkAct → List LinkAct
+last_acts (Begins item) acts = acts
+last_acts Finishes acts = acts
+last_acts (Turns i) acts = acts
+last_acts Halts acts = acts
+last_acts Asks acts = Gives items.End ∷ acts
+
+-- How far it came at a fault, where the calls of the newest event are `news`, and those before are `sooner`: the link wasn't started, or
+-- serving broke, or all was served and the end mark wasn't written.
+pub data CameTo (h : Header) (plan : LinkPlan) (tells : Tells) (base now : Outs) (end : ServeEnd) (s : Serving) (sooner news : List LinkAct) (rule : Want) : Type 0 where
+  NotStarted : HasFailed (heading h) plan tells base now end → CameTo h plan tells base now end s sooner news rule
+  Broke : (mid : Outs) → HasBegun (heading h) plan tells base mid → Breaks tells mid now end s.events sooner news → CameTo h plan tells base now end s sooner news rule
+  NotClosed : (mid whole : Outs) → HasBegun (heading h) plan tells base mid → Agrees tells mid whole s.events (last_acts rule s.acts) → end ≡ ends.TapeFault
+      → (tells.tape ≡ true → TookFront whole.taken now.taken (0 ∷ [])) → now.told ≡ whole.told → CameTo h plan tells base now end s sooner news rule
+
 -- each end: the rule that applied, or the fault that came
-abbrev pub SessionEnds : Header → LinkPlan → Tells → Outs → Outs → ServeEnd → Serving → Want → Type 0
-SessionEnds h plan tells base now ends.Done s rule = (rule ≡ Finishes) × TookAll h plan tells base now s.events s.acts
-SessionEnds h plan tells base now ends.Limit s rule = (rule ≡ Halts) × TookAll h plan tells base now s.events s.acts
-SessionEnds h plan tells base now ends.End s rule = (rule ≡ Asks) × TookAll h plan tells base now s.events (Gives items.End ∷ s.acts)
-SessionEnds h plan tells base now ends.LinkFault s rule = Rose base.link_faults now.link_faults × TookPart h plan tells base now s.events s.acts
--- (the link may have given its end before)
-SessionEnds h plan tells base now ends.TapeFault s rule = Rose base.tape_faults now.tape_faults × TookPart h plan tells base now s.events (Gives items.End ∷ s.acts)
-SessionEnds h plan tells base now ends.Mem s rule = TookPart h plan tells base now s.events s.acts
+abbrev pub SessionEnds : Header → LinkPlan → Tells → Outs → Outs → ServeEnd → Serving → List LinkAct → List LinkAct → Want → Type 0
+SessionEnds h plan tells base now ends.Done s sooner news rule = (rule ≡ Finishes) × TookAll h plan tells base now s.events s.acts
+SessionEnds h plan tells base now ends.Limit s sooner news rule = (rule ≡ Halts) × TookAll h plan tells base now s.events s.acts
+SessionEnds h plan tells base now ends.End s sooner news rule = (rule ≡ Asks) × TookAll h plan tells base now s.events (Gives items.End ∷ s.acts)
+SessionEnds h plan tells base now ends.LinkFault s sooner news rule =
+    Rose base.link_faults now.link_faults × TookPart h plan tells base now s.events s.acts × CameTo h plan tells base now ends.LinkFault s sooner news rule
+SessionEnds h plan tells base now ends.TapeFault s sooner news rule =
+    Rose base.tape_faults now.tape_faults × TookPart h plan tells base now s.events (last_acts rule s.acts) × CameTo h plan tells base now ends.TapeFault s sooner news rule
+SessionEnds h plan tells base now ends.Mem s sooner news rule =
+    TookPart h plan tells base now s.events s.acts × CameTo h plan tells base now ends.Mem s sooner news rule
 
 -- What is true of the events and the calls of a session, in its world w: a file of these events is one, the frames that went to the link are
 -- those that its replicas made, in their order, each reply of a position is true, and where the audit holds the replicas agree.
@@ -51,10 +83,11 @@ pub record IsSession (h : Header) (w : Setting) (events : List Event) (acts : Li
   pub agree : audit_of w events ≡ Holds → Agree w events
 
 -- There are rounds, each what the rules of serving say, after which the session ended so.
-pub record ServesSession (h : Header) (w : Setting) (plan : LinkPlan) (tells : Tells) (base now : Outs) (end : ServeEnd) (until limit : ℕ) (first : List LinkItem) : Type 0 where
+pub record ServesSession (s : Session) (first : List LinkItem) (w : Setting) (tells : Tells) (base now : Outs) (end : ServeEnd) : Type 0 where
   pub rounds : List Round
-  pub wanted : AreWanted w [] until limit first rounds
-  pub so : SessionEnds h plan tells base now end (after w [] first rounds) (wants w [] until limit (after w [] first rounds))
-  pub true_of : IsSession h w (after w [] first rounds).events (after w [] first rounds).acts
+  pub wanted : AreWanted w [] s.until s.limit first rounds
+  pub so : SessionEnds s.header s.plan tells base now end (after w [] first rounds) (sooner w [] first rounds) (newest w [] first rounds)
+      (wants w [] s.until s.limit (after w [] first rounds))
+  pub true_of : IsSession s.header w (after w [] first rounds).events (after w [] first rounds).acts
   pub tape_later : base.tape_faults ≤ now.tape_faults
   pub link_later : base.link_faults ≤ now.link_faults

@@ -4,10 +4,11 @@ ghost use Rattle.schedule_replay.specs.Layers.{setting_of};
 ghost use Rattle.cluster_config.specs.Cluster.{cluster_text};
 ghost use Rattle.cluster_config.specs.Node.{node_text};
 ghost use Rattle.cluster_config.specs.Ranges.{FitsNode, FitsCluster};
-ghost use Rattle.node_session.specs.Configs.{node_header, node_plan, cluster_header, cluster_plan, first_item};
+ghost use Rattle.node_loop.specs.Outs.{outs_of};
+ghost use Rattle.node_session.specs.Configs.{node_header, node_session, cluster_header, cluster_session, first_item};
 ghost use Rattle.node_session.specs.Session.{ServesSession};
 
-use crate::session::serve_session;
+use crate::session::{Session, serve_session};
 use client_port::write_request;
 use cluster_config::{ClusterConfig, NodeConfig, Request, Requests};
 use node_loop::ServeEnd;
@@ -89,24 +90,21 @@ pub fn serve_node<R: Net + Wait, L: Link, K: Sink>(
     output: &mut K,
 ) -> Result<ServeEnd, Mem>
     requires { FitsNode (node_text config) }
-    ensures served { IfOk result (λ end. ServesSession (node_header config) (setting_of (node_header config)) (node_plan config) (record { tape = K.tells; link = L.tells })
-        (record { taken = K.taken output.old; tape_faults = K.faults output.old; told = L.told link.old; link_faults = L.faults link.old })
-        (record { taken = K.taken output.new; tape_faults = K.faults output.new; told = L.told link.new; link_faults = L.faults link.new })
-        end config.until config.limit []) }
+    ensures served { IfOk result (λ end. ServesSession (node_session config) [] (setting_of (node_header config)) (record { tape = K.tells; link = L.tells })
+        (outs_of K.taken K.faults L.told L.faults output.old link.old) (outs_of K.taken K.faults L.told L.faults output.new link.new) end) }
     ensures unserved { OnErr result ((output.new ≡ output.old) × (link.new ≡ link.old)) }
 {
-    let header = node_header(&config);
-    let limit = config.limit;
-    let until = config.until;
-    let plan = LinkPlan::Node {
-        me: config.me,
-        peers: config.peers,
-        client: config.client,
+    let session = Session {
+        header: node_header(&config),
+        plan: LinkPlan::Node {
+            me: config.me,
+            peers: config.peers,
+            client: config.client,
+        },
+        limit: config.limit,
+        until: config.until,
     };
-    let first = Vec::new(alloc);
-    serve_session(
-        rt, alloc, &header, &plan, link, output, limit, until, &first,
-    )
+    serve_session(rt, alloc, &session, &Vec::new(alloc), link, output)
 }
 
 /// Serves all replicas of a configuration, as `serve_session` does, and begins with its requests: each is handed to the replica that it
@@ -119,26 +117,18 @@ pub fn serve_cluster<R: Net + Wait, L: Link, K: Sink>(
     output: &mut K,
 ) -> Result<ServeEnd, Mem>
     requires { FitsCluster (cluster_text config) }
-    ensures served { IfOk result (λ end. ServesSession (cluster_header config) (setting_of (cluster_header config)) (cluster_plan config) (record { tape = K.tells; link = L.tells })
-        (record { taken = K.taken output.old; tape_faults = K.faults output.old; told = L.told link.old; link_faults = L.faults link.old })
-        (record { taken = K.taken output.new; tape_faults = K.faults output.new; told = L.told link.new; link_faults = L.faults link.new })
-        end config.until config.limit (map first_item config.requests)) }
+    ensures served { IfOk result (λ end. ServesSession (cluster_session config) (map first_item config.requests) (setting_of (cluster_header config)) (record { tape = K.tells; link = L.tells })
+        (outs_of K.taken K.faults L.told L.faults output.old link.old) (outs_of K.taken K.faults L.told L.faults output.new link.new) end) }
     ensures unserved { OnErr result ((output.new ≡ output.old) × (link.new ≡ link.old)) }
 {
-    let header = cluster_header(&config);
     let first = first_items(alloc, &config.requests)?;
-    let plan = LinkPlan::Cluster {
-        peers: config.peers,
+    let session = Session {
+        header: cluster_header(&config),
+        plan: LinkPlan::Cluster {
+            peers: config.peers,
+        },
+        limit: config.limit,
+        until: config.until,
     };
-    serve_session(
-        rt,
-        alloc,
-        &header,
-        &plan,
-        link,
-        output,
-        config.limit,
-        config.until,
-        &first,
-    )
+    serve_session(rt, alloc, &session, &first, link, output)
 }

@@ -1,6 +1,7 @@
 //! What a session begins with.
 ghost use Rattle.std.specs.Prelude.{◌≡◌};
 ghost use Rattle.schedule_file.specs.ReadHeader.{heading};
+ghost use Rattle.node_loop.specs.Outs.{outs_of};
 ghost use Rattle.node_session.specs.Opening.{Opens, Ends};
 
 use node_loop::ServeEnd;
@@ -30,8 +31,8 @@ pub(crate) fn open<R: Net + Wait, L: Link, K: Sink>(
     output: &mut K,
 ) -> Result<(), ServeEnd>
     ensures { Opens (heading header.now) plan.now (record { tape = K.tells; link = L.tells })
-        (record { taken = K.taken output.old; tape_faults = K.faults output.old; told = L.told link.old; link_faults = L.faults link.old })
-        (record { taken = K.taken output.new; tape_faults = K.faults output.new; told = L.told link.new; link_faults = L.faults link.new })
+        (outs_of K.taken K.faults L.told L.faults output.old link.old)
+        (outs_of K.taken K.faults L.told L.faults output.new link.new)
         result }
 {
     if Writer::start(output, header).is_err() {

@@ -1,12 +1,13 @@
 //! Serving the session of a header.
-ghost use Rattle.std.specs.Prelude.{◌≡◌, true, [], All, IfOk, OnErr};
+ghost use Rattle.std.specs.Prelude.{◌≡◌, true, [], IfOk, OnErr};
 ghost use Rattle.ritas_core.specs.Rules.{other_form};
 ghost use Rattle.schedule_file.specs.ReadHeader.{heading};
 ghost use Rattle.schedule_file.specs.Spelling.{IsHeading};
 ghost use Rattle.schedule_replay.specs.Layers.{layers_by, setting_by, setting_of};
 ghost use Rattle.world_model.specs.Stands.{members};
-ghost use Rattle.node_loop.specs.Served.{AreHere, IsFirst};
-ghost use Rattle.node_session.specs.Session.{ServesSession};
+ghost use Rattle.node_loop.specs.Outs.{outs_of};
+ghost use Rattle.node_loop.specs.Served.{AreHere};
+ghost use Rattle.node_session.specs.Session.{IsServable, ServesSession};
 
 use crate::closing::close;
 use crate::opening::open;
@@ -29,6 +30,19 @@ use std::sync::Wait;
 use vector_consensus::Vc;
 use world_model::agreement;
 
+/// What a session is served with.
+#[derive(Drop)]
+pub struct Session {
+    /// The header of its file: the replicas that it names as correct are served.
+    pub header: Header,
+    /// What the link is started with.
+    pub plan: LinkPlan,
+    /// It ends once so many items of the link were taken.
+    pub limit: u64,
+    /// It ends once each log has so many rows, where this isn't 0.
+    pub until: u32,
+}
+
 // The correct replicas of a header, in order, before any event. The one error is want of memory.
 fn first_replicas<S: Service, E: Broadcast>(
     alloc: Global,
@@ -50,43 +64,45 @@ fn first_replicas<S: Service, E: Broadcast>(
 fn serve_as<R: Net + Wait, S: Service, E: Broadcast, L: Link, K: Sink>(
     rt: &R,
     alloc: Global,
-    header: &Header,
-    plan: &LinkPlan,
+    session: &Session,
+    first: &Vec<LinkItem>,
     link: &mut L,
     output: &mut K,
-    limit: u64,
-    until: u32,
-    first: &Vec<LinkItem>,
 ) -> Result<ServeEnd, Mem>
-    requires heading { IsHeading (heading header.now) }
-    requires atomic { header.now.mode.root ≡ 6 }
-    requires firsts { All IsFirst first.now.items }
-    requires serves { S.rules.serves header.now.mode.root ≡ true }
-    requires form { E.FORM ≡ other_form header.now.mode }
-    ensures served { IfOk result (λ end. ServesSession header.now (setting_by S.rules E.rules header.now) plan.now (record { tape = K.tells; link = L.tells })
-        (record { taken = K.taken output.old; tape_faults = K.faults output.old; told = L.told link.old; link_faults = L.faults link.old })
-        (record { taken = K.taken output.new; tape_faults = K.faults output.new; told = L.told link.new; link_faults = L.faults link.new })
-        end until limit first.now.items) }
+    requires servable { IsServable session.now first.now.items }
+    requires serves { S.rules.serves session.now.header.mode.root ≡ true }
+    requires form { E.FORM ≡ other_form session.now.header.mode }
+    ensures served { IfOk result (λ end. ServesSession session.now first.now.items (setting_by S.rules E.rules session.now.header) (record { tape = K.tells; link = L.tells })
+        (outs_of K.taken K.faults L.told L.faults output.old link.old) (outs_of K.taken K.faults L.told L.faults output.new link.new) end) }
     ensures unserved { OnErr result ((output.new ≡ output.old) × (link.new ≡ link.old)) }
 {
     events_fit();
     frames_are_made();
     replies_are_true::<S, E>();
     agreement::<S, E>();
-    let mut replicas = first_replicas::<S, E>(alloc, header)?;
-    match open(rt, alloc, header, plan, link, output) {
+    let mut replicas = first_replicas::<S, E>(alloc, &session.header)?;
+    match open(rt, alloc, &session.header, &session.plan, link, output) {
         Ok(()) => {}
         Err(end) => return Ok(end),
     }
-    let end = serve(rt, alloc, &mut replicas, link, output, limit, until, first);
+    let end = serve(
+        rt,
+        alloc,
+        &mut replicas,
+        link,
+        output,
+        session.limit,
+        session.until,
+        first,
+    );
     Ok(close(output, end))
 }
 
-/// Serves the session of a header, over a link that is started once with this plan: the replicas that are correct by the header take
-/// the items of `first`, in order, and then those that the link gives (`node_loop::serve`).
+/// Serves a session, over a link that is started once with its plan: the replicas that are correct by the header take the items of `first`,
+/// in order, and then those that the link gives (`node_loop::serve`).
 ///
 /// The output takes the header, each event before the frames that it makes are sent, and, where serving ends by its rules, the end
-/// mark: a schedule file, which can be replayed. It ends as `serve` does; at a fault the output took a front of a file. The one error
+/// mark: a schedule file, which can be replayed where it has at most 67,108,864 bytes. It ends as `serve` does; at a fault the output took a front of a file. The one error
 /// is want of memory for the replicas: then nothing is written, and the link isn't started.
 ///
 /// Where the audit of the events holds, the replicas agree: their logs of commands are prefixes of one list, with each command once, a
@@ -96,30 +112,19 @@ fn serve_as<R: Net + Wait, S: Service, E: Broadcast, L: Link, K: Sink>(
 pub fn serve_session<R: Net + Wait, L: Link, K: Sink>(
     rt: &R,
     alloc: Global,
-    header: &Header,
-    plan: &LinkPlan,
+    session: &Session,
+    first: &Vec<LinkItem>,
     link: &mut L,
     output: &mut K,
-    limit: u64,
-    until: u32,
-    first: &Vec<LinkItem>,
 ) -> Result<ServeEnd, Mem>
-    requires heading { IsHeading (heading header.now) }
-    requires atomic { header.now.mode.root ≡ 6 }
-    requires firsts { All IsFirst first.now.items }
-    ensures served { IfOk result (λ end. ServesSession header.now (setting_of header.now) plan.now (record { tape = K.tells; link = L.tells })
-        (record { taken = K.taken output.old; tape_faults = K.faults output.old; told = L.told link.old; link_faults = L.faults link.old })
-        (record { taken = K.taken output.new; tape_faults = K.faults output.new; told = L.told link.new; link_faults = L.faults link.new })
-        end until limit first.now.items) }
+    requires { IsServable session.now first.now.items }
+    ensures served { IfOk result (λ end. ServesSession session.now first.now.items (setting_of session.now.header) (record { tape = K.tells; link = L.tells })
+        (outs_of K.taken K.faults L.told L.faults output.old link.old) (outs_of K.taken K.faults L.told L.faults output.new link.new) end) }
     ensures unserved { OnErr result ((output.new ≡ output.old) × (link.new ≡ link.old)) }
 {
-    if has_echo(&header.mode) {
-        serve_as::<R, Abc<Vc<Mvc<Bin>>>, Eb, L, K>(
-            rt, alloc, header, plan, link, output, limit, until, first,
-        )
+    if has_echo(&session.header.mode) {
+        serve_as::<R, Abc<Vc<Mvc<Bin>>>, Eb, L, K>(rt, alloc, session, first, link, output)
     } else {
-        serve_as::<R, Abc<Vc<Mvc<Bin>>>, Rb, L, K>(
-            rt, alloc, header, plan, link, output, limit, until, first,
-        )
+        serve_as::<R, Abc<Vc<Mvc<Bin>>>, Rb, L, K>(rt, alloc, session, first, link, output)
     }
 }

@@ -54,7 +54,7 @@ reads_job jobs.Submit text result other drive keys node cluster submit = submit 
 -- ---- ranges
 
 pub fits_config : (job : Job) (text : List ℕ) (config : Config) → ReadsJob job text (Ok config)
-    → ((x : NodeText) → read_text node_column text ≡ Ok x → FitsNode x) → ((x : ClusterText) → read_text cluster_column text ≡ Ok x → FitsCluster x) → FitsConfig config
+    → ((x : NodeText) → read_text node_column text ≡ Ok x → FitsNode x) → ((x : ClusterText) → read_text cluster_column text ≡ Ok x → FitsCluster x) → FitsConfig job config
 fits_config (jobs.Replay what) text config none node cluster = absurd none
 fits_config (jobs.Drive what) text (configs.Drive plan) reads node cluster = tt
 fits_config (jobs.Drive what) text (configs.Keys c) none node cluster = absurd none
@@ -106,9 +106,9 @@ module _ {K : Type 0} (tells : Tells) (taken : K → List ℕ) (old new : K) (ba
 
   pub idle_job : (job : Job) → IsIdle status → new ≡ old → still → IsJobAnswered job
   idle_job (jobs.Replay what) idle same link = tt
-  idle_job (jobs.Drive what) idle same link = idle_text drive_column planned tells.tape taken old new status text still _ idle same link (idle_plan idle same what)
+  idle_job (jobs.Drive what) idle same link = idle_text drive_column planned tells.tape taken old new status text still _ idle same link (λ plan. (idle_plan idle same what plan, link))
   idle_job jobs.Keys idle same link = idle_text keys_column (λ keys. keys) tells.tape taken old new status text still _ idle same link
-      (λ keys. idle_replies tells.tape taken old new status 0 (key_rows keys.master keys.session keys.p.n) idle same)
+      (λ keys. (idle_replies tells.tape taken old new status 0 (key_rows keys.master keys.session keys.p.n) idle same, link))
   idle_job jobs.Node idle same link = idle_text node_column node_text tells.tape taken old new status text still _ idle same link (λ node. Unserved idle (same, link))
   idle_job jobs.Cluster idle same link = idle_text cluster_column cluster_text tells.tape taken old new status text still _ idle same link (λ cluster. Unserved idle (same, link))
   idle_job jobs.Submit idle same link = idle_text submit_column (λ submit. submit) tells.tape taken old new status text still _ idle same link (λ submit. Unasked idle (same, link))
@@ -136,13 +136,13 @@ module _ {K : Type 0} (tells : Tells) (taken : K → List ℕ) (old new : K) (ba
   pub done_job : (job : Job) (config : Config) → ReadsJob job text (Ok config) → length text ≤ text_limit → IsConfigAnswered job config → IsJobAnswered job
   done_job (jobs.Replay what) config none within answers = absurd none
   done_job (jobs.Drive what) (configs.Drive plan) reads within answers =
-      right_text drive_column planned tells.tape taken old new status text still _ one_plan within plan reads answers.0
+      right_text drive_column planned tells.tape taken old new status text still _ one_plan within plan reads answers
   done_job (jobs.Drive what) (configs.Keys c) none within answers = absurd none
   done_job (jobs.Drive what) (configs.Node c) none within answers = absurd none
   done_job (jobs.Drive what) (configs.Cluster c) none within answers = absurd none
   done_job (jobs.Drive what) (configs.Submit c) none within answers = absurd none
   done_job jobs.Keys (configs.Keys keys) reads within answers =
-      right_text keys_column (λ keys. keys) tells.tape taken old new status text still _ (λ c d e. e) within keys reads answers.0
+      right_text keys_column (λ keys. keys) tells.tape taken old new status text still _ (λ c d e. e) within keys reads answers
   done_job jobs.Keys (configs.Drive c) none within answers = absurd none
   done_job jobs.Keys (configs.Node c) none within answers = absurd none
   done_job jobs.Keys (configs.Cluster c) none within answers = absurd none

@@ -1,7 +1,7 @@
 -- What the status of serving says.
 use Rattle.std.proofs.Common.{◌≡◌, ◌≢◌, ℕ, ◌≤◌, List, [], ◌∷◌, sym, ◌∙◌, inl, inr, subst, arith}
 use Rattle.outside.specs.Faults.{Rose}
-use Rattle.outside.specs.Links.{Gives}
+use Rattle.outside.specs.Links.{LinkAct, Gives}
 use Rattle.outside.specs.declared.link.LinkItem.{LinkItem}
 use Rattle.outside.specs.declared.link.LinkItem.TheVariants as items
 use Rattle.outside.specs.declared.link.LinkPlan.{LinkPlan}
@@ -12,6 +12,7 @@ use Rattle.node_loop.specs.declared.end.ServeEnd.{ServeEnd}
 use Rattle.node_loop.specs.declared.end.ServeEnd.TheVariants as ends
 use Rattle.node_loop.specs.Outs.{Outs, Tells}
 use Rattle.node_loop.specs.Serving.{Serving, Want, after}
+use Rattle.node_session.specs.declared.session.Session.{Session}
 use Rattle.node_session.specs.Session.{SessionEnds, ServesSession}
 use Rattle.ritas.specs.Configs.{AnswersSession, Unserved, Served, HasServed, IsIdle}
 use Rattle.ritas.specs.Run.{Runs}
@@ -41,39 +42,39 @@ low ends.LinkFault = omega arith
 low ends.TapeFault = omega arith
 low ends.Mem = omega arith
 
-output_rose : (h : Header) (plan : LinkPlan) (tells : Tells) (base now : Outs) (end : ServeEnd) (s : Serving) (rule : Want) → SessionEnds h plan tells base now end s rule
+output_rose : (h : Header) (plan : LinkPlan) (tells : Tells) (base now : Outs) (end : ServeEnd) (s : Serving) (sooner news : List LinkAct) (rule : Want) → SessionEnds h plan tells base now end s sooner news rule
     → end_status end ≡ 5 → Rose base.tape_faults now.tape_faults
-output_rose h plan tells base now ends.Done s rule so e = absurd (omega (arith, e))
-output_rose h plan tells base now ends.Limit s rule so e = absurd (omega (arith, e))
-output_rose h plan tells base now ends.End s rule so e = absurd (omega (arith, e))
-output_rose h plan tells base now ends.LinkFault s rule so e = absurd (omega (arith, e))
-output_rose h plan tells base now ends.TapeFault s rule so e = so.0
-output_rose h plan tells base now ends.Mem s rule so e = absurd (omega (arith, e))
+output_rose h plan tells base now ends.Done s sooner news rule so e = absurd (omega (arith, e))
+output_rose h plan tells base now ends.Limit s sooner news rule so e = absurd (omega (arith, e))
+output_rose h plan tells base now ends.End s sooner news rule so e = absurd (omega (arith, e))
+output_rose h plan tells base now ends.LinkFault s sooner news rule so e = absurd (omega (arith, e))
+output_rose h plan tells base now ends.TapeFault s sooner news rule so e = so.0
+output_rose h plan tells base now ends.Mem s sooner news rule so e = absurd (omega (arith, e))
 
-link_rose : (h : Header) (plan : LinkPlan) (tells : Tells) (base now : Outs) (end : ServeEnd) (s : Serving) (rule : Want) → SessionEnds h plan tells base now end s rule
+link_rose : (h : Header) (plan : LinkPlan) (tells : Tells) (base now : Outs) (end : ServeEnd) (s : Serving) (sooner news : List LinkAct) (rule : Want) → SessionEnds h plan tells base now end s sooner news rule
     → end_status end ≡ 6 → Rose base.link_faults now.link_faults
-link_rose h plan tells base now ends.Done s rule so e = absurd (omega (arith, e))
-link_rose h plan tells base now ends.Limit s rule so e = absurd (omega (arith, e))
-link_rose h plan tells base now ends.End s rule so e = absurd (omega (arith, e))
-link_rose h plan tells base now ends.LinkFault s rule so e = so.0
-link_rose h plan tells base now ends.TapeFault s rule so e = absurd (omega (arith, e))
-link_rose h plan tells base now ends.Mem s rule so e = absurd (omega (arith, e))
+link_rose h plan tells base now ends.Done s sooner news rule so e = absurd (omega (arith, e))
+link_rose h plan tells base now ends.Limit s sooner news rule so e = absurd (omega (arith, e))
+link_rose h plan tells base now ends.End s sooner news rule so e = absurd (omega (arith, e))
+link_rose h plan tells base now ends.LinkFault s sooner news rule so e = so.0
+link_rose h plan tells base now ends.TapeFault s sooner news rule so e = absurd (omega (arith, e))
+link_rose h plan tells base now ends.Mem s sooner news rule so e = absurd (omega (arith, e))
 
 -- a session that was served gives these causes
-pub session_runs : {K : Type 0} (faults : K → ℕ) (old new : K) (h : Header) (w : Setting) (plan : LinkPlan) (tells : Tells) (base now : Outs) (end : ServeEnd) (until limit : ℕ) (first : List LinkItem)
-    → base.tape_faults ≡ faults old → now.tape_faults ≡ faults new → ServesSession h w plan tells base now end until limit first
+pub session_runs : {K : Type 0} (faults : K → ℕ) (old new : K) (session : Session) (first : List LinkItem) (w : Setting) (tells : Tells) (base now : Outs) (end : ServeEnd)
+    → base.tape_faults ≡ faults old → now.tape_faults ≡ faults new → ServesSession session first w tells base now end
     → Runs faults old new base.link_faults now.link_faults (end_status end)
-session_runs faults old new h w plan tells base now end until limit first before later serves = record {
+session_runs faults old new session first w tells base now end before later serves = record {
   ends = record {
     listed = low end;
     later = omega (arith, serves.tape_later, before, later);
     output_fault = λ e.
-        let rose = output_rose h plan tells base now end _ _ serves.so e in
+        let rose = output_rose session.header session.plan tells base now end _ _ _ _ serves.so e in
         subst (λ (n : ℕ). Rose (faults old) n) later (subst (λ (n : ℕ). Rose n now.tape_faults) before rose);
     unread = λ e. absurd (no_four end e);
   };
   link_later = serves.link_later;
-  link_fault = λ e. link_rose h plan tells base now end _ _ serves.so e;
+  link_fault = λ e. link_rose session.header session.plan tells base now end _ _ _ _ serves.so e;
   words_are_right = no_two end;
 }
 
@@ -81,21 +82,21 @@ pub session_unread : (end : ServeEnd) → end_status end ≢ 4
 session_unread end = no_four end
 
 -- at 0 events were served to their end
-pub has_served : (h : Header) (plan : LinkPlan) (tells : Tells) (base now : Outs) (untouched : Type 0) (status until limit : ℕ) (first : List LinkItem)
-    → AnswersSession h plan tells base now untouched status until limit first → status ≡ 0 → HasServed h plan tells base now
-has_served h plan tells base now untouched status until limit first (Unserved idle same) zero = absurd (no_zero idle)
+pub has_served : (session : Session) (first : List LinkItem) (tells : Tells) (base now : Outs) (untouched : Type 0) (status : ℕ)
+    → AnswersSession session first tells base now untouched status → status ≡ 0 → HasServed session tells base now
+has_served session first tells base now untouched status (Unserved idle same) zero = absurd (no_zero idle)
   where
     no_zero : IsIdle status → ⊥
     no_zero (inl four) = omega (arith, four, zero)
     no_zero (inr eight) = omega (arith, eight, zero)
-has_served h plan tells base now untouched status until limit first (Served end is serves) zero = by_end end (sym is ∙ zero) serves
+has_served session first tells base now untouched status (Served end is serves) zero = by_end end (sym is ∙ zero) serves
   where
-    by_end : (x : ServeEnd) → end_status x ≡ 0 → ServesSession h (setting_of h) plan tells base now x until limit first → HasServed h plan tells base now
+    by_end : (x : ServeEnd) → end_status x ≡ 0 → ServesSession session first (setting_of session.header) tells base now x → HasServed session tells base now
     by_end ends.Done e run = record { events = _; acts = _; took = run.so.1; true_of = run.true_of }
     by_end ends.Limit e run = record { events = _; acts = _; took = run.so.1; true_of = run.true_of }
     by_end ends.End e run = record {
       events = _;
-      acts = Gives items.End ∷ (after (setting_of h) [] first run.rounds).acts;
+      acts = Gives items.End ∷ (after (setting_of session.header) [] first run.rounds).acts;
       took = run.so.1;
       true_of = record { file = run.true_of.file; frames = run.true_of.frames; replies = run.true_of.replies; agree = run.true_of.agree };
     }

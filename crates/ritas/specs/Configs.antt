@@ -3,7 +3,6 @@ use Rattle.std.specs.Prelude.{◌≡◌, ◌⊎◌, ◌≤◌, ◌<◌, ℕ, Lis
 use Rattle.outside.specs.declared.whole.ReadFault.{ReadFault}
 use Rattle.outside.specs.declared.whole.ReadFault.TheVariants as read_faults
 use Rattle.outside.specs.declared.link.LinkItem.{LinkItem}
-use Rattle.outside.specs.declared.link.LinkPlan.{LinkPlan}
 use Rattle.outside.specs.Links.{LinkAct}
 use Rattle.ritas_base.specs.declared.event.Event.{Event}
 use Rattle.ritas_base.specs.declared.plan.Plan.{Plan}
@@ -11,11 +10,8 @@ use Rattle.cluster_config.specs.declared.config.Config.{Config}
 use Rattle.cluster_config.specs.declared.config.Config.TheVariants as configs
 use Rattle.cluster_config.specs.declared.config.ConfigFault.{ConfigFault}
 use Rattle.cluster_config.specs.declared.config.ConfigFault.TheVariants as config_faults
-use Rattle.cluster_config.specs.declared.cluster.ClusterConfig.{ClusterConfig}
 use Rattle.cluster_config.specs.declared.job.Job.{Job}
 use Rattle.cluster_config.specs.declared.job.Job.TheVariants as jobs
-use Rattle.cluster_config.specs.declared.keys.KeysConfig.{KeysConfig}
-use Rattle.cluster_config.specs.declared.node.NodeConfig.{NodeConfig}
 use Rattle.cluster_config.specs.declared.submit.SubmitConfig.{SubmitConfig}
 use Rattle.cluster_config.specs.Cluster.{cluster_column, cluster_text}
 use Rattle.cluster_config.specs.Columns.{Column, read_text}
@@ -24,12 +20,12 @@ use Rattle.cluster_config.specs.Keys.{keys_column}
 use Rattle.cluster_config.specs.Node.{node_column, node_text}
 use Rattle.cluster_config.specs.Ranges.{FitsNode, FitsCluster}
 use Rattle.cluster_config.specs.Submit.{submit_column}
-use Rattle.schedule_file.specs.declared.header.Header.{Header}
 use Rattle.schedule_replay.specs.Layers.{setting_of}
 use Rattle.key_rows.specs.KeyRows.{key_rows}
 use Rattle.node_loop.specs.declared.end.ServeEnd.{ServeEnd}
 use Rattle.node_loop.specs.Outs.{Outs, Tells}
-use Rattle.node_session.specs.Configs.{node_header, node_plan, cluster_header, cluster_plan, first_item}
+use Rattle.node_session.specs.Configs.{node_session, cluster_session, first_item}
+use Rattle.node_session.specs.declared.session.Session.{Session}
 use Rattle.node_session.specs.Session.{TookAll, IsSession, ServesSession}
 use Rattle.request_submit.specs.declared.end.SubmitEnd.{SubmitEnd}
 use Rattle.request_submit.specs.Submitting.{Submits}
@@ -64,12 +60,11 @@ RefusesText tells taken old new status read_faults.Mem = (status ≡ 8) × (new 
 abbrev pub IsIdle : ℕ → Type 0
 IsIdle status = (status ≡ 4) ⊎ (status ≡ 8)
 
--- The session of a header was served, over a link that was started with this plan, and the status is that of its end. Or, where the input
--- failed or memory ran out, nothing was done.
-pub data AnswersSession (h : Header) (plan : LinkPlan) (tells : Tells) (base now : Outs) (untouched : Type 0) (status until limit : ℕ) (first : List LinkItem) : Type 0 where
-  Unserved : IsIdle status → untouched → AnswersSession h plan tells base now untouched status until limit first
-  Served : (end : ServeEnd) → status ≡ end_status end → ServesSession h (setting_of h) plan tells base now end until limit first
-      → AnswersSession h plan tells base now untouched status until limit first
+-- A session was served, and the status is that of its end. Or, where the input failed or memory ran out, nothing was done.
+pub data AnswersSession (session : Session) (first : List LinkItem) (tells : Tells) (base now : Outs) (untouched : Type 0) (status : ℕ) : Type 0 where
+  Unserved : IsIdle status → untouched → AnswersSession session first tells base now untouched status
+  Served : (end : ServeEnd) → status ≡ end_status end → ServesSession session first (setting_of session.header) tells base now end
+      → AnswersSession session first tells base now untouched status
 
 -- A request was handed in to the nodes, and the line of its end was written. Or nothing was done.
 pub data AnswersSubmit {K : Type 0} (config : SubmitConfig) (tells : Tells) (taken : K → List ℕ) (old new : K) (base now : Outs) (untouched : Type 0) (status : ℕ) : Type 0 where
@@ -80,47 +75,48 @@ pub data AnswersSubmit {K : Type 0} (config : SubmitConfig) (tells : Tells) (tak
       → Replies tells.tape taken old new status (submit_status end) (submit_text end) → AnswersSubmit config tells taken old new base now untouched status
 
 -- where the status of a session is 0, these events were served, and these calls of the link made
-pub record HasServed (h : Header) (plan : LinkPlan) (tells : Tells) (base now : Outs) : Type 0 where
+pub record HasServed (session : Session) (tells : Tells) (base now : Outs) : Type 0 where
   pub events : List Event
   pub acts : List LinkAct
-  pub took : TookAll h plan tells base now events acts
-  pub true_of : IsSession h (setting_of h) events acts
+  pub took : TookAll session.header session.plan tells base now events acts
+  pub true_of : IsSession session.header (setting_of session.header) events acts
 
 -- ---- each job that reads a configuration
 
--- a configuration's numbers are within their ranges
-abbrev pub FitsConfig : Config → Type 0
-FitsConfig (configs.Node node) = FitsNode (node_text node)
-FitsConfig (configs.Cluster cluster) = FitsCluster (cluster_text cluster)
-FitsConfig other = Unit {0}
+abbrev pub IsDrive : Job → Type 0
+IsDrive (jobs.Drive what) = Unit {0}
+IsDrive job = ⊥
+
+-- a plan is that of a job that drives, and a configuration's numbers are within their ranges
+abbrev pub FitsConfig : Job → Config → Type 0
+FitsConfig job (configs.Drive plan) = IsDrive job
+FitsConfig job (configs.Node node) = FitsNode (node_text node)
+FitsConfig job (configs.Cluster cluster) = FitsCluster (cluster_text cluster)
+FitsConfig job other = Unit {0}
 
 -- what comes of a plan is that of what is asked for of its schedule
 abbrev pub DrivesPlan : {K : Type 0} → Bool → (K → List ℕ) → K → K → ℕ → Job → Plan → Type 0
 DrivesPlan tells taken old new status (jobs.Drive what) plan = AnswersPlan tells taken old new what status plan
-DrivesPlan tells taken old new status job plan = Unit {0}
+DrivesPlan tells taken old new status job plan = ⊥
 
 module _ {K : Type 0} (tells : Tells) (taken : K → List ℕ) (old new : K) (base now : Outs) (still : Type 0) (status : ℕ) where
   -- what comes of a configuration
   abbrev pub AnswersConfig : Job → Config → Type 0
   AnswersConfig job (configs.Drive plan) = DrivesPlan tells.tape taken old new status job plan × still
   AnswersConfig job (configs.Keys keys) = Replies tells.tape taken old new status 0 (key_rows keys.master keys.session keys.p.n) × still
-  AnswersConfig job (configs.Node node) =
-      AnswersSession (node_header node) (node_plan node) tells base now ((new ≡ old) × still) status node.until node.limit []
-  AnswersConfig job (configs.Cluster cluster) =
-      AnswersSession (cluster_header cluster) (cluster_plan cluster) tells base now ((new ≡ old) × still) status cluster.until cluster.limit (map first_item cluster.requests)
+  AnswersConfig job (configs.Node node) = AnswersSession (node_session node) [] tells base now ((new ≡ old) × still) status
+  AnswersConfig job (configs.Cluster cluster) = AnswersSession (cluster_session cluster) (map first_item cluster.requests) tells base now ((new ≡ old) × still) status
   AnswersConfig job (configs.Submit submit) = AnswersSubmit submit tells taken old new base now ((new ≡ old) × still) status
+
+  -- a text of these lines is answered by what comes of the configuration that it says
+  abbrev pub AnswersLines : {X C : Type 0} → Column X → (C → X) → (C → Config) → List ℕ → Job → Type 0
+  AnswersLines column says config text job = AnswersText column says tells.tape taken old new status text still (λ c. AnswersConfig job (config c))
 
   -- what comes of the text of a job's configuration
   abbrev pub AnswersJob : List ℕ → Job → Type 0
   AnswersJob text (jobs.Replay what) = Unit {0}
-  AnswersJob text (jobs.Drive what) = AnswersText drive_column planned tells.tape taken old new status text still
-      (λ (plan : Plan). AnswersPlan tells.tape taken old new what status plan)
-  AnswersJob text jobs.Keys = AnswersText keys_column (λ keys. keys) tells.tape taken old new status text still
-      (λ (keys : KeysConfig). Replies tells.tape taken old new status 0 (key_rows keys.master keys.session keys.p.n))
-  AnswersJob text jobs.Node = AnswersText node_column node_text tells.tape taken old new status text still
-      (λ (node : NodeConfig). AnswersSession (node_header node) (node_plan node) tells base now ((new ≡ old) × still) status node.until node.limit [])
-  AnswersJob text jobs.Cluster = AnswersText cluster_column cluster_text tells.tape taken old new status text still
-      (λ (cluster : ClusterConfig). AnswersSession (cluster_header cluster) (cluster_plan cluster) tells base now ((new ≡ old) × still) status cluster.until cluster.limit
-      (map first_item cluster.requests))
-  AnswersJob text jobs.Submit = AnswersText submit_column (λ submit. submit) tells.tape taken old new status text still
-      (λ (submit : SubmitConfig). AnswersSubmit submit tells taken old new base now ((new ≡ old) × still) status)
+  AnswersJob text (jobs.Drive what) = AnswersLines drive_column planned configs.Drive text (jobs.Drive what)
+  AnswersJob text jobs.Keys = AnswersLines keys_column (λ keys. keys) configs.Keys text jobs.Keys
+  AnswersJob text jobs.Node = AnswersLines node_column node_text configs.Node text jobs.Node
+  AnswersJob text jobs.Cluster = AnswersLines cluster_column cluster_text configs.Cluster text jobs.Cluster
+  AnswersJob text jobs.Submit = AnswersLines submit_column (λ submit. submit) configs.Submit text jobs.Submit

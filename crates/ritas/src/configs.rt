@@ -3,7 +3,8 @@ ghost use Rattle.std.specs.Prelude.{◌≡◌, ◌≢◌, ◌≤◌, length, tru
 ghost use Rattle.outside.specs.Faults.{Rose};
 ghost use Rattle.ritas_base.specs.declared.what.What.{What};
 ghost use Rattle.ritas_base.specs.declared.what.DriveWhat.{DriveWhat};
-ghost use Rattle.ritas.specs.Configs.{AnswersConfig, AnswersJob, DrivesPlan, FitsConfig};
+ghost use Rattle.node_loop.specs.Outs.{outs_of};
+ghost use Rattle.ritas.specs.Configs.{AnswersConfig, AnswersJob, DrivesPlan, FitsConfig, IsDrive};
 ghost use Rattle.ritas.specs.Run.{Ends, Runs, is_linked};
 ghost use Rattle.ritas.specs.Statuses.{text_limit};
 
@@ -21,16 +22,16 @@ use std::sync::Wait;
 
 const TEXT_LIMIT: usize = 1_048_576;
 
-// Makes the schedule of a plan, where that is the job.
+// Makes the schedule of a plan.
 fn drive_plan<K: Sink>(alloc: Global, job: Job, plan: &Plan, output: &mut K) -> u8
+    requires { IsDrive job }
     ensures ends { Ends K.faults output.old output.new result }
     ensures others { (result ≢ 2) × (result ≢ 4) × (result ≢ 6) }
     ensures answers { DrivesPlan K.tells K.taken output.old output.new result job plan.now }
 {
     match job {
         Job::Drive(what) => make(alloc, plan, output, what),
-        // No plan comes of another job.
-        Job::Replay(_) | Job::Keys | Job::Node | Job::Cluster | Job::Submit => 8,
+        Job::Replay(_) | Job::Keys | Job::Node | Job::Cluster | Job::Submit => unreachable!(),
     }
 }
 
@@ -43,12 +44,12 @@ fn do_config<R: Net + Wait, K: Sink, L: Link>(
     output: &mut K,
     link: &mut L,
 ) -> u8
-    requires { FitsConfig config }
+    requires { FitsConfig job config }
     ensures runs { Runs K.faults output.old output.new (L.faults link.old) (L.faults link.new) result }
     ensures others { result ≢ 4 }
     ensures answers { AnswersConfig (record { tape = K.tells; link = L.tells }) K.taken output.old output.new
-        (record { taken = K.taken output.old; tape_faults = K.faults output.old; told = L.told link.old; link_faults = L.faults link.old })
-        (record { taken = K.taken output.new; tape_faults = K.faults output.new; told = L.told link.new; link_faults = L.faults link.new })
+        (outs_of K.taken K.faults L.told L.faults output.old link.old)
+        (outs_of K.taken K.faults L.told L.faults output.new link.new)
         (link.new ≡ link.old) result job config }
 {
     match config {
@@ -74,8 +75,8 @@ fn do_text<R: Net + Wait, K: Sink, L: Link>(
     ensures runs { Runs K.faults output.old output.new (L.faults link.old) (L.faults link.new) result }
     ensures others { result ≢ 4 }
     ensures answers { AnswersJob (record { tape = K.tells; link = L.tells }) K.taken output.old output.new
-        (record { taken = K.taken output.old; tape_faults = K.faults output.old; told = L.told link.old; link_faults = L.faults link.old })
-        (record { taken = K.taken output.new; tape_faults = K.faults output.new; told = L.told link.new; link_faults = L.faults link.new })
+        (outs_of K.taken K.faults L.told L.faults output.old link.old)
+        (outs_of K.taken K.faults L.told L.faults output.new link.new)
         (link.new ≡ link.old) result text.now job }
     ensures unlinked { is_linked job ≡ false → link.new ≡ link.old }
     ensures undriven { (what : DriveWhat) → job ≡ Job.Drive what → result ≡ 8 → output.new ≡ output.old }
@@ -100,8 +101,8 @@ pub(crate) fn do_read<R: Net + Wait, S: Source, K: Sink, L: Link>(
     ensures runs { Runs K.faults output.old output.new (L.faults link.old) (L.faults link.new) result }
     ensures input_fault { result ≡ 4 → Rose (S.faults input.old) (S.faults input.new) }
     ensures answers { S.tells ≡ true → AnswersJob (record { tape = K.tells; link = L.tells }) K.taken output.old output.new
-        (record { taken = K.taken output.old; tape_faults = K.faults output.old; told = L.told link.old; link_faults = L.faults link.old })
-        (record { taken = K.taken output.new; tape_faults = K.faults output.new; told = L.told link.new; link_faults = L.faults link.new })
+        (outs_of K.taken K.faults L.told L.faults output.old link.old)
+        (outs_of K.taken K.faults L.told L.faults output.new link.new)
         (link.new ≡ link.old) result (S.left input.old) job }
     ensures unlinked { is_linked job ≡ false → link.new ≡ link.old }
     ensures undriven { (what : DriveWhat) → job ≡ Job.Drive what → result ≡ 8 → output.new ≡ output.old }

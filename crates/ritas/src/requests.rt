@@ -1,5 +1,6 @@
 //! Handing in a request.
 ghost use Rattle.std.specs.Prelude.{◌≡◌, ◌≢◌, IfOk, string_bytes};
+ghost use Rattle.node_loop.specs.Outs.{outs_of};
 ghost use Rattle.ritas.specs.Configs.{AnswersSubmit};
 ghost use Rattle.ritas.specs.Run.{Ends, Replies, Runs};
 ghost use Rattle.ritas.specs.Statuses.{submit_status, submit_text};
@@ -57,8 +58,8 @@ pub(crate) fn run_submit<R: Net + Wait, K: Sink, L: Link>(
     ensures runs { Runs K.faults output.old output.new (L.faults link.old) (L.faults link.new) result }
     ensures others { result ≢ 4 }
     ensures answers { AnswersSubmit config.now (record { tape = K.tells; link = L.tells }) K.taken output.old output.new
-        (record { taken = K.taken output.old; tape_faults = K.faults output.old; told = L.told link.old; link_faults = L.faults link.old })
-        (record { taken = K.taken output.new; tape_faults = K.faults output.new; told = L.told link.new; link_faults = L.faults link.new })
+        (outs_of K.taken K.faults L.told L.faults output.old link.old)
+        (outs_of K.taken K.faults L.told L.faults output.new link.new)
         ((output.new ≡ output.old) × (link.new ≡ link.old)) result }
 {
     let request = &config.request;

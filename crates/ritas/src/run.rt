@@ -24,7 +24,8 @@ ghost use Rattle.cluster_config.specs.declared.cluster.ClusterConfig.{ClusterCon
 ghost use Rattle.cluster_config.specs.declared.node.NodeConfig.{NodeConfig};
 ghost use Rattle.cluster_config.specs.Cluster.{cluster_column, cluster_text};
 ghost use Rattle.cluster_config.specs.Node.{node_column, node_text};
-ghost use Rattle.node_session.specs.Configs.{node_header, node_plan, cluster_header, cluster_plan};
+ghost use Rattle.node_loop.specs.Outs.{outs_of};
+ghost use Rattle.node_session.specs.Configs.{node_session, cluster_session};
 ghost use Rattle.ritas.specs.Run.{Asks, IsReplay, is_linked, IsStatus, IsOwn, Ends, Replays, Runs, Replies, AnswersFile};
 ghost use Rattle.ritas.specs.Configs.{AnswersJob, HasServed};
 ghost use Rattle.ritas.specs.Drives.{AnswersPlan};
@@ -134,8 +135,8 @@ fn work<R: Net + Wait, S: Source, K: Sink, L: Link>(
     ensures agree { (what : What) → job ≡ Job.Replay what → S.tells ≡ true → result ≡ 0 → (h : Header) (es : List Event)
         → file_of (S.left input.old) ≡ Ok (heading h, es) → Agree (setting_of h) es }
     ensures configured { S.tells ≡ true → AnswersJob (record { tape = K.tells; link = L.tells }) K.taken output.old output.new
-        (record { taken = K.taken output.old; tape_faults = K.faults output.old; told = L.told link.old; link_faults = L.faults link.old })
-        (record { taken = K.taken output.new; tape_faults = K.faults output.new; told = L.told link.new; link_faults = L.faults link.new })
+        (outs_of K.taken K.faults L.told L.faults output.old link.old)
+        (outs_of K.taken K.faults L.told L.faults output.new link.new)
         (link.new ≡ link.old) result (S.left input.old) job }
     ensures undriven { (what : DriveWhat) → job ≡ Job.Drive what → result ≡ 8 → output.new ≡ output.old }
 {
@@ -226,8 +227,8 @@ pub fn run<R: Net + Wait, S: Source, K: Sink, L: Link>(
     // first, and at 0 its replicas agree; keys are written; a node or a cluster is served; a request is handed in, and its position written.
     ensures configured { (job : Job) → job_of (map string_bytes words.now.items) ≡ Some job → S.tells ≡ true
         → AnswersJob (record { tape = K.tells; link = L.tells }) K.taken output.old output.new
-        (record { taken = K.taken output.old; tape_faults = K.faults output.old; told = L.told link.old; link_faults = L.faults link.old })
-        (record { taken = K.taken output.new; tape_faults = K.faults output.new; told = L.told link.new; link_faults = L.faults link.new })
+        (outs_of K.taken K.faults L.told L.faults output.old link.old)
+        (outs_of K.taken K.faults L.told L.faults output.new link.new)
         (link.new ≡ link.old) result (S.left input.old) job }
     ensures undriven { (what : DriveWhat) → job_of (map string_bytes words.now.items) ≡ Some (Job.Drive what) → result ≡ 8
         → output.new ≡ output.old }
@@ -243,14 +244,14 @@ pub fn run<R: Net + Wait, S: Source, K: Sink, L: Link>(
     // the audit of the events holds, the replicas agree.
     ensures node { job_of (map string_bytes words.now.items) ≡ Some Job.Node → S.tells ≡ true → (c : NodeConfig)
         → IsText node_column (node_text c) (S.left input.old) → length (S.left input.old) ≤ text_limit → result ≡ 0
-        → HasServed (node_header c) (node_plan c) (record { tape = K.tells; link = L.tells })
-        (record { taken = K.taken output.old; tape_faults = K.faults output.old; told = L.told link.old; link_faults = L.faults link.old })
-        (record { taken = K.taken output.new; tape_faults = K.faults output.new; told = L.told link.new; link_faults = L.faults link.new }) }
+        → HasServed (node_session c) (record { tape = K.tells; link = L.tells })
+        (outs_of K.taken K.faults L.told L.faults output.old link.old)
+        (outs_of K.taken K.faults L.told L.faults output.new link.new) }
     ensures cluster { job_of (map string_bytes words.now.items) ≡ Some Job.Cluster → S.tells ≡ true → (c : ClusterConfig)
         → IsText cluster_column (cluster_text c) (S.left input.old) → length (S.left input.old) ≤ text_limit → result ≡ 0
-        → HasServed (cluster_header c) (cluster_plan c) (record { tape = K.tells; link = L.tells })
-        (record { taken = K.taken output.old; tape_faults = K.faults output.old; told = L.told link.old; link_faults = L.faults link.old })
-        (record { taken = K.taken output.new; tape_faults = K.faults output.new; told = L.told link.new; link_faults = L.faults link.new }) }
+        → HasServed (cluster_session c) (record { tape = K.tells; link = L.tells })
+        (outs_of K.taken K.faults L.told L.faults output.old link.old)
+        (outs_of K.taken K.faults L.told L.faults output.new link.new) }
 {
     file_laws();
     config_laws();

@@ -3,7 +3,8 @@ ghost use Rattle.std.specs.Prelude.{◌≡◌, ◌≢◌, [], map};
 ghost use Rattle.cluster_config.specs.Cluster.{cluster_text};
 ghost use Rattle.cluster_config.specs.Node.{node_text};
 ghost use Rattle.cluster_config.specs.Ranges.{FitsNode, FitsCluster};
-ghost use Rattle.node_session.specs.Configs.{node_header, node_plan, cluster_header, cluster_plan, first_item};
+ghost use Rattle.node_loop.specs.Outs.{outs_of};
+ghost use Rattle.node_session.specs.Configs.{node_session, cluster_session, first_item};
 ghost use Rattle.ritas.specs.Configs.{AnswersSession};
 ghost use Rattle.ritas.specs.Run.{Runs};
 ghost use Rattle.ritas.specs.Statuses.{end_status};
@@ -40,10 +41,10 @@ pub(crate) fn run_node<R: Net + Wait, K: Sink, L: Link>(
     requires { FitsNode (node_text config) }
     ensures runs { Runs K.faults output.old output.new (L.faults link.old) (L.faults link.new) result }
     ensures others { result ≢ 4 }
-    ensures answers { AnswersSession (node_header config) (node_plan config) (record { tape = K.tells; link = L.tells })
-        (record { taken = K.taken output.old; tape_faults = K.faults output.old; told = L.told link.old; link_faults = L.faults link.old })
-        (record { taken = K.taken output.new; tape_faults = K.faults output.new; told = L.told link.new; link_faults = L.faults link.new })
-        ((output.new ≡ output.old) × (link.new ≡ link.old)) result config.until config.limit [] }
+    ensures answers { AnswersSession (node_session config) [] (record { tape = K.tells; link = L.tells })
+        (outs_of K.taken K.faults L.told L.faults output.old link.old)
+        (outs_of K.taken K.faults L.told L.faults output.new link.new)
+        ((output.new ≡ output.old) × (link.new ≡ link.old)) result }
 {
     match serve_node(rt, alloc, config, link, output) {
         Ok(end) => end_status(end),
@@ -62,10 +63,10 @@ pub(crate) fn run_cluster<R: Net + Wait, K: Sink, L: Link>(
     requires { FitsCluster (cluster_text config) }
     ensures runs { Runs K.faults output.old output.new (L.faults link.old) (L.faults link.new) result }
     ensures others { result ≢ 4 }
-    ensures answers { AnswersSession (cluster_header config) (cluster_plan config) (record { tape = K.tells; link = L.tells })
-        (record { taken = K.taken output.old; tape_faults = K.faults output.old; told = L.told link.old; link_faults = L.faults link.old })
-        (record { taken = K.taken output.new; tape_faults = K.faults output.new; told = L.told link.new; link_faults = L.faults link.new })
-        ((output.new ≡ output.old) × (link.new ≡ link.old)) result config.until config.limit (map first_item config.requests) }
+    ensures answers { AnswersSession (cluster_session config) (map first_item config.requests) (record { tape = K.tells; link = L.tells })
+        (outs_of K.taken K.faults L.told L.faults output.old link.old)
+        (outs_of K.taken K.faults L.told L.faults output.new link.new)
+        ((output.new ≡ output.old) × (link.new ≡ link.old)) result }
 {
     match serve_cluster(rt, alloc, config, link, output) {
         Ok(end) => end_status(end),

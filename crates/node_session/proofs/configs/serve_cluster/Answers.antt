@@ -8,11 +8,10 @@ use Rattle.node_loop.specs.Served.{IsFirst}
 use Rattle.node_session.proofs.Headings.{cluster_heading, are_first}
 use Rattle.node_session.proofs.configs.serve_cluster.Goals as goal
 
-pub serve_session-requires-clause-heading : goal.serve_session-requires-clause-heading
-serve_session-requires-clause-heading g c =
-    subst (λ (h : Header). IsHeading (heading h)) (sym c.cluster_header-header.ensures)
-    (cluster_heading c.args.config (search rules) (search rules) (search rules) c.requires)
-
-pub serve_session-requires-clause-firsts : goal.serve_session-requires-clause-firsts
-serve_session-requires-clause-firsts g c =
-    subst (λ (items : List LinkItem). All IsFirst items) (sym c.in_ok-first.ensures) (are_first c.args.config.requests c.requires.short)
+pub serve_session-requires : goal.serve_session-requires
+serve_session-requires g c = record {
+  heading = subst (λ (h : Header). IsHeading (heading h)) (sym c.cluster_header.ensures)
+      (cluster_heading c.args.config (search rules) (search rules) (search rules) c.requires);
+  atomic = rw c.cluster_header.ensures c.requires.root;
+  firsts = subst (λ (items : List LinkItem). All IsFirst items) (sym c.in_ok-first.ensures) (are_first c.args.config.requests c.requires.short);
+}

@@ -7,27 +7,29 @@ use Rattle.node_session.proofs.session.serve_as.Goals as goal
 
 pub returns-in-Err-clause-served : goal.returns-in-Err-clause-served
 returns-in-Err-clause-served g c =
-    let h = c.args.header.now in
+    let session = c.args.session.now in
+    let h = session.header in
     let service = g.S.Service.rules in
     let other = g.E.Broadcast.rules in
     let w = setting_by service other h in
-    let kind = is_world service other h c.requires.heading c.requires.serves (form_of h.mode other g.E.Broadcast.FORM g.met.E.Broadcast.kinds c.requires.form) in
-    fails h w c.args.plan.now _ c.args.until c.args.limit c.args.first.now.items
-    (λ rounds wanted. is_session h w c.requires.heading service other kind refl (λ i right. right) c.frames_are_made.ensures c.events_fit.ensures c.replies_are_true.ensures c.agreement.ensures
-    c.args.until c.args.limit c.args.first.now.items rounds c.requires.firsts wanted)
+    let kind = is_world service other h c.requires.servable.heading c.requires.serves (form_of h.mode other g.E.Broadcast.FORM g.met.E.Broadcast.kinds c.requires.form) in
+    fails session c.args.first.now.items w _
+    (λ rounds wanted. is_session h w c.requires.servable.heading service other kind refl (λ i right. right) c.frames_are_made.ensures c.events_fit.ensures c.replies_are_true.ensures c.agreement.ensures
+    session.until session.limit c.args.first.now.items rounds c.requires.servable.firsts wanted)
     _ _ c.in-Err.end c.in-Err.ensures
 
 pub returns-clause-served : goal.returns-clause-served
 returns-clause-served g c =
-    let h = c.args.header.now in
+    let session = c.args.session.now in
+    let h = session.header in
     let service = g.S.Service.rules in
     let other = g.E.Broadcast.rules in
     let w = setting_by service other h in
     let here = c.in_ok-replicas.ensures in
     let run = c.serve-end.ensures w [] (members w) here in
-    serves h w c.args.plan.now _ c.args.until c.args.limit c.args.first.now.items
-    (λ rounds wanted. is_session h w c.requires.heading service other here.kind refl (λ i right. right) c.frames_are_made.ensures c.events_fit.ensures c.replies_are_true.ensures c.agreement.ensures
-    c.args.until c.args.limit c.args.first.now.items rounds c.requires.firsts wanted)
+    serves session c.args.first.now.items w _
+    (λ rounds wanted. is_session h w c.requires.servable.heading service other here.kind refl (λ i right. right) c.frames_are_made.ensures c.events_fit.ensures c.replies_are_true.ensures c.agreement.ensures
+    session.until session.limit c.args.first.now.items rounds c.requires.servable.firsts wanted)
     _ (members w) c.serve-end.new.replicas.items _ _ _ _ c.in-Ok.ensures c.serve-end.result c.close.result run refl
     refl c.close.ensures.reason
     (λ fault.

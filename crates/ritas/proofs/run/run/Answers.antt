@@ -2,7 +2,7 @@ use Rattle.std.proofs.Common.{[], Err, map, ap, inl, inr, refl, arith, string_by
 use Rattle.cluster_config.specs.declared.job.Job.TheVariants.{Replay, Drive, Node, Cluster}
 use Rattle.cluster_config.specs.Cluster.{cluster_text}
 use Rattle.cluster_config.specs.Node.{node_text}
-use Rattle.node_session.specs.Configs.{node_header, node_plan, cluster_header, cluster_plan, first_item}
+use Rattle.node_session.specs.Configs.{node_session, cluster_session, first_item}
 use Rattle.ritas.proofs.Answering.{idle_job, of_job}
 use Rattle.ritas.proofs.Served.{has_served}
 use Rattle.cluster_config.specs.Drive.{planned}
@@ -48,14 +48,14 @@ pub returns-in-Ok-clause-planned : goal.returns-in-Ok-clause-planned
 returns-in-Ok-clause-planned g c = λ what asks tells p is within.
     let text = g.S.Source.left c.args.input.now in
     let same = one_job (map string_bytes c.args.words.now.items) c.in-Ok.job (Drive what) c.in-Ok.ensures.job asks in
-    (of_job _ g.K.Sink.taken c.args.output.now c.work.new.output _ _ _ c.work.result text c.in-Ok.job _ same (c.work.ensures.configured tells)).right
-    within p (c.config_laws.ensures.drive.only text (planned p) is)
+    ((of_job _ g.K.Sink.taken c.args.output.now c.work.new.output _ _ _ c.work.result text c.in-Ok.job _ same (c.work.ensures.configured tells)).right
+    within p (c.config_laws.ensures.drive.only text (planned p) is)).0
 
 pub returns-in-Ok-clause-node : goal.returns-in-Ok-clause-node
 returns-in-Ok-clause-node g c = λ asks tells config is within zero.
     let text = g.S.Source.left c.args.input.now in
     let same = one_job (map string_bytes c.args.words.now.items) c.in-Ok.job Node c.in-Ok.ensures.job asks in
-    has_served (node_header config) (node_plan config) _ _ _ _ c.work.result config.until config.limit []
+    has_served (node_session config) [] _ _ _ _ c.work.result
     ((of_job _ g.K.Sink.taken c.args.output.now c.work.new.output _ _ _ c.work.result text c.in-Ok.job _ same (c.work.ensures.configured tells)).right
     within config (c.config_laws.ensures.node.only text (node_text config) is)) zero
 
@@ -63,7 +63,7 @@ pub returns-in-Ok-clause-cluster : goal.returns-in-Ok-clause-cluster
 returns-in-Ok-clause-cluster g c = λ asks tells config is within zero.
     let text = g.S.Source.left c.args.input.now in
     let same = one_job (map string_bytes c.args.words.now.items) c.in-Ok.job Cluster c.in-Ok.ensures.job asks in
-    has_served (cluster_header config) (cluster_plan config) _ _ _ _ c.work.result config.until config.limit (map first_item config.requests)
+    has_served (cluster_session config) (map first_item config.requests) _ _ _ _ c.work.result
     ((of_job _ g.K.Sink.taken c.args.output.now c.work.new.output _ _ _ c.work.result text c.in-Ok.job _ same (c.work.ensures.configured tells)).right
     within config (c.config_laws.ensures.cluster.only text (cluster_text config) is)) zero
 
