@@ -1,5 +1,5 @@
 -- The count of faults of a source or a sink, and what a fault says of it.
-use Rattle.std.specs.Prelude.{ℕ, ◌+◌, ◌-◌, ◌^◌, ◌<◌, ◌≤◌, ◌⊎◌, min}
+use Rattle.std.specs.Prelude.{ℕ, ◌+◌, ◌-◌, ◌^◌, ◌<◌, ◌≤◌, ◌⊎◌, min, Result, is_err, if◌then◌else◌}
 
 -- a count goes up to this number, and then stands
 abbrev pub last_count : ℕ
@@ -8,6 +8,10 @@ last_count = 2 ^ 64 - 1
 -- a count after one more
 abbrev pub count_after : ℕ → ℕ
 count_after n = min (n + 1) last_count
+
+-- a count of faults after a call that fails at every error
+abbrev pub counted : {A E : Type 0} → ℕ → Result A E → ℕ
+counted n result = if is_err result then count_after n else n
 
 -- the count rose, or stands at its last value
 abbrev pub Rose : ℕ → ℕ → Type 0

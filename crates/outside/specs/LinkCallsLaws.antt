@@ -4,7 +4,7 @@ use Rattle.std.proofs.Common.{sym, ap, ◌∙◌, append_assoc, arith}
 use Rattle.std.proofs.lemmas.List.{take-append-drop, append-nil, map-append, map_more, reverse-append}
 use Rattle.outside.specs.Faults.{HasCause}
 use Rattle.outside.specs.FaultsLaws.{rose_after}
-use Rattle.outside.specs.Links.{LinkAct}
+use Rattle.outside.specs.Links.{LinkAct, faults_after}
 use Rattle.outside.specs.LinkCalls.{TookBack, LinkDid, each_act}
 use Rattle.outside.specs.declared.link.LinkFault.{LinkFault}
 use Rattle.outside.specs.declared.link.LinkFault.TheVariants.{Failed, Mem}
@@ -36,19 +36,21 @@ back_more old new a b took = record {
 -- ---- one call
 
 pub did_one : (tells : Bool) (act same : LinkAct) (old new : List LinkAct) (x y : ℕ) (r : Result (Unit {0}) LinkFault) → act ≡ same
-    → (tells ≡ true → OnOk r (new ≡ act ∷ old)) → (tells ≡ true → OnErr r (new ≡ old)) → HasCause x y (r ≡ Err Failed)
+    → (tells ≡ true → OnOk r (new ≡ act ∷ old)) → (tells ≡ true → OnErr r (new ≡ old)) → HasCause x y (r ≡ Err Failed) → y ≡ faults_after x r
     → LinkDid tells (same ∷ []) old new x y r
-did_one tells act same old new x y (Ok done) is ok err cause = record {
+did_one tells act same old new x y (Ok done) is ok err cause count = record {
   whole = λ t. rw (← is) (ok t);
   back = λ t. back_all old new (same ∷ []) (rw (← is) (ok t));
   later = cause.later;
   cause = cause.cause;
+  count = count;
 }
-did_one tells act same old new x y (Err fault) is ok err cause = record {
+did_one tells act same old new x y (Err fault) is ok err cause count = record {
   whole = λ t. tt;
   back = λ t. rw (err t) (back_none old (same ∷ []));
   later = cause.later;
   cause = cause.cause;
+  count = count;
 }
 
 -- ---- several
@@ -59,6 +61,7 @@ did_none tells old x = record {
   back = λ t. back_none old [];
   later = omega arith;
   cause = λ e. cc;
+  count = refl;
 }
 
 -- memory ran out before any
@@ -68,6 +71,7 @@ did_stop tells acts old x = record {
   back = λ t. back_none old acts;
   later = omega arith;
   cause = λ e. cc;
+  count = refl;
 }
 
 whole_then : (old mid new a b : List LinkAct) (r : Result (Unit {0}) LinkFault) → mid ≡ a ++ old → OnOk r (new ≡ b ++ mid) → OnOk r (new ≡ (b ++ a) ++ old)
@@ -82,16 +86,18 @@ did_then tells a b old mid new x y z r first second = record {
   back = λ t. back_then old mid new a b (first.whole t) (second.back t);
   later = omega (arith, first.later, second.later);
   cause = λ e. rose_after x y z first.later (second.cause e);
+  count = second.count ∙ ap (λ (n : ℕ). faults_after n r) first.count;
 }
 
 -- some failed, and the others didn't come
-did_fails : (tells : Bool) (a b : List LinkAct) (old new : List LinkAct) (x y : ℕ) (e : LinkFault)
+pub did_fails : (tells : Bool) (a b : List LinkAct) (old new : List LinkAct) (x y : ℕ) (e : LinkFault)
     → LinkDid tells a old new x y (Err e) → LinkDid tells (b ++ a) old new x y (Err e)
 did_fails tells a b old new x y e first = record {
   whole = λ t. tt;
   back = λ t. back_more old new a b (first.back t);
   later = first.later;
   cause = first.cause;
+  count = first.count;
 }
 
 -- ---- a call for each of a list

@@ -1,5 +1,8 @@
 -- What a link gives and is given. Lists of its calls have the newest first.
-use Rattle.std.specs.Prelude.{ℕ, List, [], ◌∷◌}
+use Rattle.std.specs.Prelude.{ℕ, List, [], ◌∷◌, Result, Ok, Err}
+use Rattle.outside.specs.Faults.{count_after}
+use Rattle.outside.specs.declared.link.LinkFault.{LinkFault}
+use Rattle.outside.specs.declared.link.LinkFault.TheVariants as faults
 use Rattle.outside.specs.declared.link.LinkItem.{LinkItem}
 use Rattle.outside.specs.declared.link.LinkItem.TheVariants as items
 use Rattle.outside.specs.declared.link.LinkPlan.{LinkPlan}
@@ -11,6 +14,12 @@ pub data LinkAct : Type 0 where
   Gives : LinkItem → LinkAct
   Sends : Sent → LinkAct
   Replies : Sent → LinkAct
+
+-- how many calls failed after one more: want of memory is no fault
+abbrev pub faults_after : {A : Type 0} → ℕ → Result A LinkFault → ℕ
+faults_after n (Ok x) = n
+faults_after n (Err faults.Failed) = count_after n
+faults_after n (Err faults.Mem) = n
 
 -- the bytes of an item
 abbrev pub bytes_of : LinkItem → List ℕ

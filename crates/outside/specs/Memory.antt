@@ -1,6 +1,6 @@
 -- Sources and sinks in memory: what they hold, and what a call does.
-use Rattle.std.specs.Prelude.{◌≡◌, ◌↔◌, ◌⊎◌, ℕ, ◌<◌, ◌-◌, List, ◌++◌, length, take, drop, min, Contains, Result, IsErr, IfOk, OnErr, if◌then◌else◌, is_err}
-use Rattle.outside.specs.Faults.{count_after}
+use Rattle.std.specs.Prelude.{◌≡◌, ◌↔◌, ◌⊎◌, ℕ, ◌<◌, ◌-◌, List, ◌++◌, length, take, drop, min, Contains, Result, IsErr, IfOk, OnErr}
+use Rattle.outside.specs.Faults.{count_after, counted}
 use Rattle.outside.specs.declared.source.Failed.{Failed}
 
 -- the numbers of the calls that fail, the number of the next call, and how many calls failed
@@ -18,7 +18,7 @@ abbrev pub calls_after : {A : Type 0} → Calls → Result A Failed → Calls
 calls_after calls result = record {
   fails = calls.fails;
   number = count_after calls.number;
-  faults = if is_err result then count_after calls.faults else calls.faults;
+  faults = counted calls.faults result;
 }
 
 -- the next call is one of those that fail

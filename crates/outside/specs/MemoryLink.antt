@@ -1,8 +1,8 @@
 -- A link in memory: what it holds, and what a call does.
-use Rattle.std.specs.Prelude.{◌≡◌, ◌↔◌, ℕ, ◌<◌, ◌^◌, List, [], ◌∷◌, length, Result, Ok, Err, IfOk, OnErr}
+use Rattle.std.specs.Prelude.{◌≡◌, ◌↔◌, ◌<◌, ◌^◌, List, [], ◌∷◌, length, Result, Err, IfOk, OnErr}
 use Rattle.outside.specs.Faults.{count_after}
 use Rattle.outside.specs.Memory.{Calls, IsFault}
-use Rattle.outside.specs.Links.{LinkAct, bytes_of}
+use Rattle.outside.specs.Links.{LinkAct, bytes_of, faults_after}
 use Rattle.outside.specs.declared.link.LinkFault.{LinkFault}
 use Rattle.outside.specs.declared.link.LinkFault.TheVariants as faults
 use Rattle.outside.specs.declared.link.LinkItem.{LinkItem}
@@ -35,12 +35,6 @@ rest_of (item.Reply from bytes ∷ left) = left
 rest_of (item.Down at peer ∷ left) = left
 
 -- ---- what a call does
-
--- how many calls failed after one more: want of memory is no fault
-abbrev pub faults_after : {A : Type 0} → ℕ → Result A LinkFault → ℕ
-faults_after n (Ok x) = n
-faults_after n (Err faults.Failed) = count_after n
-faults_after n (Err faults.Mem) = n
 
 -- the calls after one more
 abbrev pub link_calls_after : {A : Type 0} → Calls → Result A LinkFault → Calls

@@ -1,6 +1,11 @@
 -- How a text is written to a sink.
 use Rattle.std.specs.Prelude.{◌≡◌, ◌≤◌, ℕ, List, ◌++◌, Bool, true, Result, OnOk}
-use Rattle.outside.specs.Faults.{Rose}
+use Rattle.outside.specs.Faults.{count_after, Rose}
+
+-- at Ok no call of a sink failed, and where this one failed, one did
+pub record Counts {A E : Type 0} (before now : ℕ) (result : Result A E) (failed : Type 0) : Type 0 where
+  pub stands : OnOk result (now ≡ before)
+  pub rises : failed → now ≡ count_after before
 
 -- new is old and then a front of the text
 pub record TookFront (old new text : List ℕ) : Type 0 where
@@ -9,10 +14,10 @@ pub record TookFront (old new text : List ℕ) : Type 0 where
   pub parts : text ≡ front ++ rest
   pub taken : new ≡ old ++ front
 
--- At Ok the sink took the whole text, and in any case a front of it. Its count of faults didn't fall, and rose
--- where the call failed.
+-- At Ok the sink took the whole text, and in any case a front of it. At Ok none of its calls failed, and where this one fails, one did.
 pub record Writes {E : Type 0} (text : List ℕ) (tells : Bool) (old new : List ℕ) (before now : ℕ) (result : Result (Unit {0}) E) (failed : Type 0) : Type 0 where
   pub whole : tells ≡ true → OnOk result (new ≡ old ++ text)
   pub front : tells ≡ true → TookFront old new text
   pub later : before ≤ now
   pub cause : failed → Rose before now
+  pub counts : Counts before now result failed

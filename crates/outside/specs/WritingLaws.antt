@@ -3,8 +3,9 @@ use Rattle.std.specs.Prelude.{◌≡◌, ℕ, List, [], ◌++◌, Bool, true, Re
 use Rattle.std.proofs.Common.{sym, ap, ◌∙◌, append_assoc, arith}
 use Rattle.std.proofs.lemmas.List.{take-append-drop, append-nil}
 use Rattle.std.proofs.lemmas.Result.{on_ok_weaker}
+use Rattle.outside.specs.Faults.{count_after}
 use Rattle.outside.specs.FaultsLaws.{rose_after}
-use Rattle.outside.specs.Writing.{TookFront, Writes}
+use Rattle.outside.specs.Writing.{Counts, TookFront, Writes}
 
 pub front_of : (old new text : List ℕ) (k : ℕ) → new ≡ old ++ take k text → TookFront old new text
 front_of old new text k e = record { front = take k text; rest = drop k text; parts = sym (take-append-drop k text); taken = e }
@@ -37,6 +38,14 @@ writes_none text tells old x e not = record {
   front = λ _. none_written old text;
   later = omega arith;
   cause = λ f. absurd (not f);
+  counts = record { stands = tt; rises = λ f. absurd (not f) };
+}
+
+-- the counts of one call, and then of another
+pub counts_then : {A B E D : Type 0} {F G : Type 0} (x y z : ℕ) {a : A} (r : Result B D) → Counts {E = E} x y (Ok a) F → Counts y z r G → Counts x z r G
+counts_then x y z r first second = record {
+  stands = on_ok_weaker r (λ e. e ∙ first.stands) second.stands;
+  rises = λ f. second.rises f ∙ ap count_after first.stands;
 }
 
 -- one text, and then another
@@ -46,6 +55,7 @@ writes_then a b tells old mid new x y z r first second = record {
   front = λ t. front_then old mid new a b [] (a ++ b) (ap (λ (s : List ℕ). a ++ s) (sym (append-nil b))) (first.whole t) (second.front t);
   later = omega (arith, first.later, second.later);
   cause = λ f. rose_after x y z first.later (second.cause f);
+  counts = counts_then x y z r first.counts second.counts;
 }
 
 -- the first of two texts failed
@@ -55,6 +65,7 @@ fails_then a b tells old new x y d e why first = record {
   front = λ t. front_more old new a b (first.front t);
   later = first.later;
   cause = λ f. first.cause (why f);
+  counts = record { stands = tt; rises = λ f. first.counts.rises (why f) };
 }
 
 -- the first of two texts failed, and so did the call that writes both

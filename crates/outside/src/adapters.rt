@@ -1,6 +1,6 @@
-ghost use Rattle.std.specs.Prelude.{◌≡◌, ◌<◌, ◌≤◌, ℕ, [], length, Bool, false, Ok, IfOk, IsErr, if◌then◌else◌, is_err};
+ghost use Rattle.std.specs.Prelude.{◌≡◌, ◌<◌, ◌≤◌, ℕ, [], length, Bool, false, Ok, IfOk, IsErr};
 ghost use Rattle.std.specs.Io.KnownBytes.{ReadConsumes, WriteAppends};
-ghost use Rattle.outside.specs.Faults.{HasCause, count_after};
+ghost use Rattle.outside.specs.Faults.{HasCause, counted};
 
 use crate::sink::Sink;
 use crate::source::{Failed, Source};
@@ -13,7 +13,7 @@ use std::marker::Model;
 fn counted(faults: &mut u64, answer: io::Result<usize>, least: usize) -> Result<usize, Failed>
     ensures own { (k : ℕ) → answer ≡ Ok k → least ≤ k → result ≡ Ok k }
     ensures only { IfOk result (λ k. (answer ≡ Ok k) × (least ≤ k)) }
-    ensures faults { faults.new ≡ (if is_err result then count_after faults.old else faults.old) }
+    ensures counts { faults.new ≡ counted faults.old result }
     ensures cause { HasCause faults.old faults.new (IsErr result) }
 {
     match answer {
@@ -63,7 +63,7 @@ impl<R: Read> Source for FromRead<R> {
         requires { 0 < length buf.old }
         ensures known { ReadConsumes (R.remaining self.old.inner) (R.remaining self.new.inner) result buf.new }
         ensures count { IfOk result (λ k. k ≤ length buf.old) }
-        ensures faults { self.new.faults ≡ (if is_err result then count_after self.old.faults else self.old.faults) }
+        ensures counts { self.new.faults ≡ counted self.old.faults result }
         ensures cause { HasCause self.old.faults self.new.faults (IsErr result) }
     {
         let answer = self.inner.read(buf);
@@ -109,8 +109,8 @@ impl<W: Write> Sink for ToWrite<W> {
         ensures known { WriteAppends (W.contents self.old.inner) (W.contents self.new.inner) result buf.now }
         ensures some { IfOk result (λ k. 0 < k) }
         ensures count { IfOk result (λ k. k ≤ length buf.now) }
-        ensures faults { self.new.faults ≡ (if is_err result then count_after self.old.faults else self.old.faults) }
         ensures cause { HasCause self.old.faults self.new.faults (IsErr result) }
+        ensures counts { self.new.faults ≡ counted self.old.faults result }
     {
         let answer = self.inner.write(buf);
         counted(&mut self.faults, answer, 1)

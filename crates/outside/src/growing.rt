@@ -1,5 +1,5 @@
 ghost use Rattle.std.specs.Prelude.{◌≡◌, ◌<◌, ◌≤◌, ◌++◌, [], true, length, take, IfOk, OnErr, IsOk, IsErr};
-ghost use Rattle.outside.specs.Faults.{HasCause, count_after};
+ghost use Rattle.outside.specs.Faults.{HasCause, count_after, counted};
 
 use crate::sink::Sink;
 use crate::source::Failed;
@@ -65,6 +65,7 @@ impl Sink for Buffer {
         ensures bytes { IfOk result (λ k. self.new.taken ≡ self.old.taken ++ take k buf.now) }
         ensures err { OnErr result (self.new.taken ≡ self.old.taken) }
         ensures cause { HasCause self.old.faults self.new.faults (IsErr result) }
+        ensures counts { self.new.faults ≡ counted self.old.faults result }
     {
         match self.bytes.extend_from_slice(buf) {
             Ok(()) => Ok(buf.len()),

@@ -1,6 +1,6 @@
 ghost use Rattle.std.specs.Prelude.{◌≡◌, ◌↔◌, ◌<◌, ◌∷◌, ◌^◌, List, ℕ, Bool, true, IsTrue, IfOk, OnOk, OnErr, Err, Contains, length};
 ghost use Rattle.outside.specs.Faults.{HasCause};
-ghost use Rattle.outside.specs.Links.{LinkAct, Starts, Gives, Sends, Replies, bytes_of, items_in};
+ghost use Rattle.outside.specs.Links.{LinkAct, Starts, Gives, Sends, Replies, bytes_of, items_in, faults_after};
 
 use crate::source::Failed;
 use ritas_base::{Bytes, Mem, Texts};
@@ -163,7 +163,7 @@ pub struct Sent {
 /// What a replica or a client has to do with others: frames and messages come, and frames and replies go.
 ///
 /// A call that answers Ok joins what is told, and one that answers an error leaves it as it was. `Failed` is answered only
-/// where the count of faults rose, or stands at its last value.
+/// where the count of faults rose, or stands at its last value; every other answer leaves that count as it was.
 pub trait Link {
     /// Whether it is told what was started, given, sent and replied. It isn't of sockets.
     ghost tells: { Bool };
@@ -183,7 +183,8 @@ pub trait Link {
     ) -> Result<(), LinkFault>
         ensures ok { tells ≡ true → OnOk result (told self.new ≡ Starts plan.now ∷ told self.old) }
         ensures err { tells ≡ true → OnErr result (told self.new ≡ told self.old) }
-        ensures cause { HasCause (faults self.old) (faults self.new) (result ≡ Err LinkFault.Failed) };
+        ensures cause { HasCause (faults self.old) (faults self.new) (result ≡ Err LinkFault.Failed) }
+        ensures count { faults self.new ≡ faults_after (faults self.old) result };
 
     /// Gives the next item, of at most 65,535 bytes, for which it may wait. A link that tells gives nothing else once it gave `End`.
     fn next<R: Net + Wait>(&mut self, rt: &R, alloc: Global) -> Result<LinkItem, LinkFault>
@@ -191,7 +192,8 @@ pub trait Link {
         ensures end { tells ≡ true → Contains (items_in (told self.old)) LinkItem.End → IfOk result (λ item. item ≡ LinkItem.End) }
         ensures ok { tells ≡ true → IfOk result (λ item. told self.new ≡ Gives item ∷ told self.old) }
         ensures err { tells ≡ true → OnErr result (told self.new ≡ told self.old) }
-        ensures cause { HasCause (faults self.old) (faults self.new) (result ≡ Err LinkFault.Failed) };
+        ensures cause { HasCause (faults self.old) (faults self.new) (result ≡ Err LinkFault.Failed) }
+        ensures count { faults self.new ≡ faults_after (faults self.old) result };
 
     /// Sends a frame of replica `at` to a peer.
     fn send<R: Net + Wait>(
@@ -204,7 +206,8 @@ pub trait Link {
     ) -> Result<(), LinkFault>
         ensures ok { tells ≡ true → OnOk result (told self.new ≡ Sends (record { at = at; to = peer; bytes = frame.now }) ∷ told self.old) }
         ensures err { tells ≡ true → OnErr result (told self.new ≡ told self.old) }
-        ensures cause { HasCause (faults self.old) (faults self.new) (result ≡ Err LinkFault.Failed) };
+        ensures cause { HasCause (faults self.old) (faults self.new) (result ≡ Err LinkFault.Failed) }
+        ensures count { faults self.new ≡ faults_after (faults self.old) result };
 
     /// Sends a reply of replica `at` to the connection of a client.
     fn reply<R: Net + Wait>(
@@ -217,5 +220,6 @@ pub trait Link {
     ) -> Result<(), LinkFault>
         ensures ok { tells ≡ true → OnOk result (told self.new ≡ Replies (record { at = at; to = conn; bytes = bytes.now }) ∷ told self.old) }
         ensures err { tells ≡ true → OnErr result (told self.new ≡ told self.old) }
-        ensures cause { HasCause (faults self.old) (faults self.new) (result ≡ Err LinkFault.Failed) };
+        ensures cause { HasCause (faults self.old) (faults self.new) (result ≡ Err LinkFault.Failed) }
+        ensures count { faults self.new ≡ faults_after (faults self.old) result };
 }

@@ -1,7 +1,7 @@
 ghost use Rattle.std.specs.Prelude.{◌≡◌, ◌<◌, ◌∷◌, [], ◌^◌, true, reverse, length, IfOk, OnOk, OnErr, Err, All, Contains};
 ghost use Rattle.outside.specs.Faults.{HasCause};
 ghost use Rattle.outside.specs.Memory.{no_calls};
-ghost use Rattle.outside.specs.Links.{Starts, Gives, Sends, Replies, bytes_of, plans_in, items_in, frames_in, replies_in};
+ghost use Rattle.outside.specs.Links.{Starts, Gives, Sends, Replies, bytes_of, plans_in, items_in, frames_in, replies_in, faults_after};
 ghost use Rattle.outside.specs.MemoryLink.{IsShort, LinksMemory, first_of, rest_of};
 
 use crate::course::Course;
@@ -95,6 +95,7 @@ impl Link for MemLink {
         ensures ok { OnOk result (self.new.told ≡ Starts plan.now ∷ self.old.told) }
         ensures err { OnErr result (self.new.told ≡ self.old.told) }
         ensures cause { HasCause self.old.calls.faults self.new.calls.faults (result ≡ Err LinkFault.Failed) }
+        ensures count { self.new.calls.faults ≡ faults_after self.old.calls.faults result }
     {
         self.calls.begin()?;
         let plan = plan.copy(alloc)?;
@@ -110,6 +111,7 @@ impl Link for MemLink {
         ensures ok { IfOk result (λ item. self.new.told ≡ Gives item ∷ self.old.told) }
         ensures err { OnErr result (self.new.told ≡ self.old.told) }
         ensures cause { HasCause self.old.calls.faults self.new.calls.faults (result ≡ Err LinkFault.Failed) }
+        ensures count { self.new.calls.faults ≡ faults_after self.old.calls.faults result }
     {
         self.calls.begin()?;
         Ok(self.course.gave(alloc)?)
@@ -127,6 +129,7 @@ impl Link for MemLink {
         ensures ok { OnOk result (self.new.told ≡ Sends (record { at = at; to = peer; bytes = frame.now }) ∷ self.old.told) }
         ensures err { OnErr result (self.new.told ≡ self.old.told) }
         ensures cause { HasCause self.old.calls.faults self.new.calls.faults (result ≡ Err LinkFault.Failed) }
+        ensures count { self.new.calls.faults ≡ faults_after self.old.calls.faults result }
     {
         self.calls.begin()?;
         let bytes = Bytes::from_slice(alloc, frame)?;
@@ -147,6 +150,7 @@ impl Link for MemLink {
         ensures ok { OnOk result (self.new.told ≡ Replies (record { at = at; to = conn; bytes = bytes.now }) ∷ self.old.told) }
         ensures err { OnErr result (self.new.told ≡ self.old.told) }
         ensures cause { HasCause self.old.calls.faults self.new.calls.faults (result ≡ Err LinkFault.Failed) }
+        ensures count { self.new.calls.faults ≡ faults_after self.old.calls.faults result }
     {
         self.calls.begin()?;
         let bytes = Bytes::from_slice(alloc, bytes)?;

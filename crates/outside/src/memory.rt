@@ -1,5 +1,5 @@
 ghost use Rattle.std.specs.Prelude.{◌≡◌, ◌<◌, ◌≤◌, ◌++◌, ◌↔◌, [], true, length, take, min, IsTrue, IfOk, OnErr, IsErr, Contains, ⊤};
-ghost use Rattle.outside.specs.Faults.{HasCause, count_after};
+ghost use Rattle.outside.specs.Faults.{HasCause, count_after, counted};
 ghost use Rattle.outside.specs.Memory.{no_calls, calls_after, IsFault, ReadsMemory, WritesMemory};
 
 use crate::sink::Sink;
@@ -205,6 +205,7 @@ impl Sink for MemSink {
         ensures bytes { IfOk result (λ k. self.new.taken ≡ self.old.taken ++ take k buf.now) }
         ensures err { OnErr result (self.new.taken ≡ self.old.taken) }
         ensures cause { HasCause self.old.calls.faults self.new.calls.faults (IsErr result) }
+        ensures counts { self.new.calls.faults ≡ counted self.old.calls.faults result }
     {
         let count = buf.len().min(self.room - self.bytes.len());
         if self.calls.is_fault() || count == 0 && !buf.is_empty() {

@@ -5,7 +5,7 @@ use Rattle.std.proofs.lemmas.Grind.{flat_map-append}
 use Rattle.std.proofs.lemmas.List.{append-nil, take-append-drop}
 use Rattle.std.proofs.lemmas.Option.{slice_get_within, get_or_from_slice_get, slice_get_cases, none-some}
 use Rattle.std.proofs.Math.Seq.{take-suc}
-use Rattle.outside.specs.Faults.{Rose}
+use Rattle.outside.specs.Faults.{count_after, Rose}
 use Rattle.outside.specs.Writing.{TookFront, Writes}
 use Rattle.schedule_replay.specs.Frames.{Held}
 
@@ -74,10 +74,11 @@ rose_since before now after le (inr last) = inr last
 
 -- where a front of some lines was written, no more was of a text that begins with them
 pub cut_early : {E : Type 0} (tells : Bool) (old now lines more : List ℕ) (before after : ℕ) (e : E) (failed : Type 0) → (tells ≡ true → TookFront old now lines)
-    → before ≤ after → (failed → Rose before after) → Writes (lines ++ more) tells old now before after (Err e) failed
-cut_early tells old now lines more before after e failed front later cause = record {
+    → before ≤ after → (failed → Rose before after) → (failed → after ≡ count_after before) → Writes (lines ++ more) tells old now before after (Err e) failed
+cut_early tells old now lines more before after e failed front later cause rises = record {
   whole = λ told. tt;
   front = λ told. front_of_more old now lines more (front told);
   later = later;
   cause = cause;
+  counts = record { stands = tt; rises = rises };
 }

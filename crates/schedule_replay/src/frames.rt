@@ -2,7 +2,7 @@
 ghost use Rattle.std.specs.Prelude.{◌≡◌, ◌≢◌, ◌++◌, List, ℕ, [], true, OnOk, MatchResult, string_bytes};
 ghost use Rattle.std.specs.List.{flat_map};
 ghost use Rattle.outside.specs.Faults.{HasCause};
-ghost use Rattle.outside.specs.Writing.{TookFront, Writes};
+ghost use Rattle.outside.specs.Writing.{Counts, TookFront, Writes};
 ghost use Rattle.ritas_base.specs.declared.event.Event.{Event};
 ghost use Rattle.keyed_channel.specs.Keyed.{tags_of};
 ghost use Rattle.ritas_core.specs.Stands.{meaning};
@@ -58,6 +58,7 @@ fn write_frame<K: Sink>(
         (λ _. Held old (K.taken sink.new) (string_bytes text.new) (lines ++ frame_line (made_of made.entry)))
         (λ _. TookFront old (K.taken sink.new) (lines ++ frame_line (made_of made.entry))) }
     ensures cause { HasCause (K.faults sink.old) (K.faults sink.new) (result ≡ Err Cut.Write) }
+    ensures counts { Counts (K.faults sink.old) (K.faults sink.new) result (result ≡ Err Cut.Write) }
 {
     add_frame(alloc, text, made)?;
     if text.len() >= PIECE {
@@ -78,6 +79,7 @@ fn write_lines<S: Service, E: Broadcast, C: Coin + Drop, K: Sink>(
         (λ _. Held (K.taken sink.old) (K.taken sink.new) (string_bytes text.new) (flat_map frame_line (all_made w es)))
         (λ _. TookFront (K.taken sink.old) (K.taken sink.new) (flat_map frame_line (all_made w es))) }
     ensures cause { HasCause (K.faults sink.old) (K.faults sink.new) (result ≡ Err Cut.Write) }
+    ensures counts { Counts (K.faults sink.old) (K.faults sink.new) result (result ≡ Err Cut.Write) }
 {
     for at in 0..world.made_count() {
         match world.made(at) {

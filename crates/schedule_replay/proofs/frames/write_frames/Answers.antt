@@ -1,6 +1,7 @@
 use Rattle.std.proofs.Common.{◌≡◌, ◌++◌, List, ℕ, true, ap, ◌∙◌, arith, string_bytes}
 use Rattle.std.specs.List.{flat_map}
 use Rattle.std.proofs.lemmas.Result.{err_from_is_err_and, on_ok_weaker}
+use Rattle.outside.specs.WritingLaws.{counts_then}
 use Rattle.world_model.specs.Audit.{audit_of}
 use Rattle.world_model.specs.MadeOrder.{all_made}
 use Rattle.schedule_replay.specs.Frames.{frame_line, frames_on}
@@ -15,7 +16,7 @@ returns-in_err-write_lines-clause-writes g c = λ w es stands audit.
     rw (p.1, p.2) (cut_early g.K.Sink.tells (g.K.Sink.taken c.args.sink.now) (g.K.Sink.taken c.write_lines.new.sink) (flat_map frame_line (all_made w es)) (audit_line (audit_of w es))
     (g.K.Sink.faults c.args.sink.now) (g.K.Sink.faults c.write_lines.new.sink) _ _
     (λ tells. c.in_err-write_lines.ensures.lines tells w es stands c.new-text.ensures.bytes)
-    c.in_err-write_lines.ensures.cause.later c.in_err-write_lines.ensures.cause.cause)
+    c.in_err-write_lines.ensures.cause.later c.in_err-write_lines.ensures.cause.cause c.in_err-write_lines.ensures.counts.rises)
 
 pub returns-in_err-last-clause-writes : goal.returns-in_err-last-clause-writes
 unfolding frames_on
@@ -26,7 +27,7 @@ returns-in_err-last-clause-writes g c = λ w es stands audit.
     let lines = flat_map frame_line (all_made w es) in
     rw (p.1, p.2) (cut_early g.K.Sink.tells old now lines (audit_line (audit_of w es)) (g.K.Sink.faults c.args.sink.now) (g.K.Sink.faults c.write_lines.new.sink) _ _
     (λ tells. held_lost old now (string_bytes c.write_lines.new.text) lines (c.in_ok-write_lines.ensures.lines tells w es stands c.new-text.ensures.bytes))
-    c.in_ok-write_lines.ensures.cause.later (λ e. absurd cc))
+    c.in_ok-write_lines.ensures.cause.later (λ e. absurd cc) (λ e. absurd cc))
 
 pub returns-in_err-push_str-clause-writes : goal.returns-in_err-push_str-clause-writes
 unfolding frames_on
@@ -37,7 +38,7 @@ returns-in_err-push_str-clause-writes g c = λ w es stands audit.
     let lines = flat_map frame_line (all_made w es) in
     rw (p.1, p.2) (cut_early g.K.Sink.tells old now lines (audit_line (audit_of w es)) (g.K.Sink.faults c.args.sink.now) (g.K.Sink.faults c.write_lines.new.sink) _ _
     (λ tells. held_lost old now (string_bytes c.write_lines.new.text) lines (c.in_ok-write_lines.ensures.lines tells w es stands c.new-text.ensures.bytes))
-    c.in_ok-write_lines.ensures.cause.later (λ e. absurd cc))
+    c.in_ok-write_lines.ensures.cause.later (λ e. absurd cc) (λ e. absurd cc))
 
 pub returns-clause-writes : goal.returns-clause-writes
 unfolding frames_on
@@ -61,4 +62,5 @@ returns-clause-writes g c = λ w es stands audit.
       front = λ tells. held_cut old now after (held ++ last) (lines ++ last) (so_far tells) (rw bytes at (c.put.ensures.writes.front tells));
       later = omega (arith, c.in_ok-write_lines.ensures.cause.later, c.put.ensures.writes.later);
       cause = λ e. rose_since _ _ _ c.in_ok-write_lines.ensures.cause.later (c.put.ensures.writes.cause e);
+      counts = counts_then _ _ _ c.put.result c.in_ok-write_lines.ensures.counts c.put.ensures.writes.counts;
     }

@@ -1,4 +1,4 @@
-use Rattle.std.proofs.Common.{◌≡◌, ◌+◌, ◌≤◌, Some, sym, take, length, arith}
+use Rattle.std.proofs.Common.{◌≡◌, ◌+◌, ◌≤◌, Some, sym, ◌∙◌, take, length, arith}
 use Rattle.std.specs.List.{flat_map, slice_get}
 use Rattle.std.proofs.lemmas.Result.{err_from_is_err_and}
 use Rattle.world_model.specs.MadeOrder.{made_of, all_made}
@@ -23,7 +23,7 @@ loop-at-preserved g c =
     let old = g.K.Sink.taken c.args.sink.now in
     elim c.match-made.branch [
       | in-Some+in_ok-write_frame-in-Some x ↦ record {
-        later = rw x.sink-is (omega (arith, c.loop-at.invariant.later, x.in_ok-write_frame-in-Some.ensures.cause.later));
+        same = rw x.sink-is (x.in_ok-write_frame-in-Some.ensures.counts.stands ∙ c.loop-at.invariant.same);
         lines = λ tells w es stands none.
             let all = all_made w es in
             let there : slice_get all at ≡ Some (made_of x.in-Some.made) = sym (x.in-Some.ensures.is w es stands) in
@@ -31,7 +31,7 @@ loop-at-preserved g c =
             (x.in_ok-write_frame-in-Some.ensures.lines tells old (flat_map frame_line (take at all)) (c.loop-at.invariant.lines tells w es stands none));
       }
       | in-None x ↦ record {
-        later = rw x.sink-is c.loop-at.invariant.later;
+        same = rw x.sink-is c.loop-at.invariant.same;
         lines = λ tells w es stands none.
             let all = all_made w es in
             let past : length all ≤ at = ended all at (sym (rw x.in-None.is at (c.made.ensures.is w es stands))) in
