@@ -1,6 +1,6 @@
 ghost use Rattle.std.specs.Prelude.{◌≡◌, ◌<◌, ◌^◌, [], false, IfOk, IfSome, length, Err};
 ghost use Rattle.outside.specs.Faults.{HasCause};
-ghost use Rattle.outside.specs.Links.{bytes_of};
+ghost use Rattle.outside.specs.Links.{bytes_of, faults_after};
 
 use crate::pieces::MOST_BYTES;
 use crate::running::Running;
@@ -43,7 +43,8 @@ impl TcpLink {
 
     // The fault that a trouble is, which is counted if it isn't want of memory.
     fn fault(&mut self, trouble: Trouble) -> LinkFault
-        ensures { HasCause self.old.faults self.new.faults (result ≡ LinkFault.Failed) }
+        ensures cause { HasCause self.old.faults self.new.faults (result ≡ LinkFault.Failed) }
+        ensures count { self.new.faults ≡ faults_after {A = Unit {0}} self.old.faults (Err result) }
     {
         let faults = self.faults;
         match trouble {
@@ -59,6 +60,7 @@ impl TcpLink {
     fn step<R: Net>(&mut self, rt: &R, alloc: Global) -> Result<Option<LinkItem>, LinkFault>
         ensures size { IfOk result (λ item. IfSome item (λ x. length (bytes_of x) < 2 ^ 16)) }
         ensures cause { HasCause self.old.faults self.new.faults (result ≡ Err LinkFault.Failed) }
+        ensures count { self.new.faults ≡ faults_after self.old.faults result }
     {
         let Some(running) = &mut self.running else {
             return Ok(Some(LinkItem::End));
@@ -87,6 +89,7 @@ impl Link for TcpLink {
         plan: &LinkPlan,
     ) -> Result<(), LinkFault>
         ensures cause { HasCause self.old.faults self.new.faults (result ≡ Err LinkFault.Failed) }
+        ensures count { self.new.faults ≡ faults_after self.old.faults result }
     {
         match started(rt, alloc, plan) {
             Ok(running) => {
@@ -100,6 +103,7 @@ impl Link for TcpLink {
     fn next<R: Net + Wait>(&mut self, rt: &R, alloc: Global) -> Result<LinkItem, LinkFault>
         ensures size { IfOk result (λ item. length (bytes_of item) < 2 ^ 16) }
         ensures cause { HasCause self.old.faults self.new.faults (result ≡ Err LinkFault.Failed) }
+        ensures count { self.new.faults ≡ faults_after self.old.faults result }
     {
         for _ in rt.forever() {
             match self.step(rt, alloc) {
@@ -120,6 +124,7 @@ impl Link for TcpLink {
         frame: &[u8],
     ) -> Result<(), LinkFault>
         ensures cause { HasCause self.old.faults self.new.faults (result ≡ Err LinkFault.Failed) }
+        ensures count { self.new.faults ≡ faults_after self.old.faults result }
     {
         if frame.len() > MOST_BYTES {
             return Ok(());
@@ -139,6 +144,7 @@ impl Link for TcpLink {
         bytes: &[u8],
     ) -> Result<(), LinkFault>
         ensures cause { HasCause self.old.faults self.new.faults (result ≡ Err LinkFault.Failed) }
+        ensures count { self.new.faults ≡ faults_after self.old.faults result }
     {
         if bytes.len() > MOST_BYTES {
             return Ok(());
