@@ -3,7 +3,7 @@ use Rattle.std.proofs.Common.{◌≡◌, ℕ, ◌≤◌, List, [], ◌∷◌, �
 use Rattle.outside.specs.Faults.{Rose}
 use Rattle.outside.specs.LinkCalls.{TookBack, LinkDid}
 use Rattle.outside.specs.LinkCallsLaws.{back_all}
-use Rattle.outside.specs.Links.{LinkAct, Gives}
+use Rattle.outside.specs.Links.{LinkAct, Gives, faults_after}
 use Rattle.outside.specs.declared.link.LinkFault.{LinkFault}
 use Rattle.outside.specs.declared.link.LinkFault.TheVariants as faults
 use Rattle.outside.specs.declared.link.LinkItem.{LinkItem}
@@ -12,7 +12,7 @@ use Rattle.outside.specs.FaultsLaws.{rose_after}
 use Rattle.client_port.specs.Votes.{Wanted, Ballots, VotesStand}
 use Rattle.request_submit.specs.declared.end.SubmitEnd.{SubmitEnd}
 use Rattle.request_submit.specs.declared.end.SubmitEnd.TheVariants as ends
-use Rattle.request_submit.specs.Submitting.{handed_in, calls_of, settles, EndsSo, Submits}
+use Rattle.request_submit.specs.Submitting.{handed_in, calls_of, settles, faults_at, EndsSo, Submits}
 use Rattle.request_submit.specs.Waiting.{IsEndOf, Waits}
 
 -- ---- a fault is an end
@@ -23,6 +23,10 @@ fault_so : (w : Wanted) (acts : List LinkAct) (tells : Bool) (old new : List Lin
 fault_so w acts tells old new before after faults.Failed end is part cause taken = rw is (cause refl, part)
 fault_so w acts tells old new before after faults.Mem end is part cause taken = rw is part
 
+count_so : (A : Type 0) (before after : ℕ) (fault : LinkFault) (end : SubmitEnd) → IsEndOf fault end → after ≡ faults_after {A = A} before (Err fault) → after ≡ faults_at before end
+count_so A before after faults.Failed end is counts = rw is counts
+count_so A before after faults.Mem end is counts = rw is counts
+
 -- the request wasn't handed in
 pub not_handed_in : (w : Wanted) (nodes : List (List ℕ)) (payload : List ℕ) (tells : Bool) (old new : List LinkAct) (before after : ℕ) (fault : LinkFault) (end : SubmitEnd)
     → LinkDid tells (handed_in w nodes payload) old new before after (Err fault) → IsEndOf fault end → Submits w nodes payload tells old new before after end
@@ -30,6 +34,7 @@ not_handed_in w nodes payload tells old new before after fault end did is = reco
   items = [];
   on = tt;
   later = did.later;
+  count = count_so (Unit {0}) before after fault end is did.count;
   so = fault_so w (handed_in w nodes payload) tells old new before after fault end is did.back (λ e. did.cause (ap Err e)) [];
 }
 
@@ -39,7 +44,7 @@ pub waits_first : (w : Wanted) (nodes : List (List ℕ)) (payload : List ℕ) (t
 waits_first w nodes payload tells old new before after votes did stands = record {
   items = [];
   on = tt;
-  later = did.later;
+  none_failed = did.count;
   told = did.whole;
   stands = stands;
 }
@@ -48,13 +53,15 @@ waits_first w nodes payload tells old new before after votes did stands = record
 
 -- it failed
 pub next_fails : (w : Wanted) (nodes : List (List ℕ)) (payload : List ℕ) (tells : Bool) (base old new : List LinkAct) (x y z : ℕ) (votes : Ballots) (fault : LinkFault) (end : SubmitEnd)
-    → Waits w nodes payload tells base old x y votes → (tells ≡ true → new ≡ old) → y ≤ z → (fault ≡ faults.Failed → Rose y z) → IsEndOf fault end
+    → Waits w nodes payload tells base old x y votes → (tells ≡ true → new ≡ old) → y ≤ z → (fault ≡ faults.Failed → Rose y z) → z ≡ faults_after {A = LinkItem} y (Err fault) → IsEndOf fault end
     → Submits w nodes payload tells base new x z end
-next_fails w nodes payload tells base old new x y z votes fault end waits same later cause is = record {
+next_fails w nodes payload tells base old new x y z votes fault end waits same later cause counts is = record {
   items = waits.items;
   on = waits.on;
-  later = omega (arith, waits.later, later);
-  so = fault_so w _ tells base new x z fault end is (λ t. back_all base new _ (same t ∙ waits.told t)) (λ e. rose_after x y z waits.later (cause e)) waits.items;
+  later = omega (arith, waits.none_failed, later);
+  count = count_so LinkItem x z fault end is (counts ∙ ap (λ (n : ℕ). faults_after {A = LinkItem} n (Err fault)) waits.none_failed);
+  so = fault_so w _ tells base new x z fault end is (λ t. back_all base new _ (same t ∙ waits.told t))
+      (λ e. rose_after x y z (omega (arith, waits.none_failed)) (cause e)) waits.items;
 }
 
 -- the calls with one more
@@ -63,35 +70,37 @@ more_told old new acts base act first second = first ∙ ap (λ (l : List LinkAc
 
 -- it is the link's end
 pub link_ends : (w : Wanted) (nodes : List (List ℕ)) (payload : List ℕ) (tells : Bool) (base old new : List LinkAct) (x y z : ℕ) (votes : Ballots) (item : LinkItem)
-    → Waits w nodes payload tells base old x y votes → (tells ≡ true → new ≡ Gives item ∷ old) → y ≤ z → item ≡ items.End
+    → Waits w nodes payload tells base old x y votes → (tells ≡ true → new ≡ Gives item ∷ old) → z ≡ y → item ≡ items.End
     → Submits w nodes payload tells base new x z ends.NoPosition
-link_ends w nodes payload tells base old new x y z votes item waits told later is = record {
+link_ends w nodes payload tells base old new x y z votes item waits told same is = record {
   items = waits.items;
   on = waits.on;
-  later = omega (arith, waits.later, later);
+  later = omega (arith, waits.none_failed, same);
+  count = same ∙ waits.none_failed;
   so = λ t. more_told old new (map Gives waits.items ++ handed_in w nodes payload) base (Gives items.End) (rw is at (told t)) (waits.told t);
 }
 
 -- it settles a position
 pub item_settles : (w : Wanted) (nodes : List (List ℕ)) (payload : List ℕ) (tells : Bool) (base old new : List LinkAct) (x y z : ℕ) (votes : Ballots) (item : LinkItem) (position : ℕ)
-    → (waits : Waits w nodes payload tells base old x y votes) → (tells ≡ true → new ≡ Gives item ∷ old) → y ≤ z → Some position ≡ settles w waits.items item
+    → (waits : Waits w nodes payload tells base old x y votes) → (tells ≡ true → new ≡ Gives item ∷ old) → z ≡ y → Some position ≡ settles w waits.items item
     → Submits w nodes payload tells base new x z (ends.Position position)
-item_settles w nodes payload tells base old new x y z votes item position waits told later settled = record {
+item_settles w nodes payload tells base old new x y z votes item position waits told same settled = record {
   items = waits.items;
   on = waits.on;
-  later = omega (arith, waits.later, later);
+  later = omega (arith, waits.none_failed, same);
+  count = same ∙ waits.none_failed;
   so = record { item = item; settled = sym settled; told = λ t. more_told old new (map Gives waits.items ++ handed_in w nodes payload) base (Gives item) (told t) (waits.told t) };
 }
 
 -- it settles none
 pub item_passes : (w : Wanted) (nodes : List (List ℕ)) (payload : List ℕ) (tells : Bool) (base old new : List LinkAct) (x y z : ℕ) (votes now : Ballots) (item : LinkItem)
-    → (waits : Waits w nodes payload tells base old x y votes) → (tells ≡ true → new ≡ Gives item ∷ old) → y ≤ z → None ≡ settles w waits.items item
+    → (waits : Waits w nodes payload tells base old x y votes) → (tells ≡ true → new ≡ Gives item ∷ old) → z ≡ y → None ≡ settles w waits.items item
     → (item ≡ items.End → ⊥) → VotesStand w (calls_of (item ∷ waits.items)) now
     → Waits w nodes payload tells base new x z now
-item_passes w nodes payload tells base old new x y z votes now item waits told later quiet more stands = record {
+item_passes w nodes payload tells base old new x y z votes now item waits told same quiet more stands = record {
   items = item ∷ waits.items;
   on = (record { more = more; quiet = sym quiet }, waits.on);
-  later = omega (arith, waits.later, later);
+  none_failed = same ∙ waits.none_failed;
   told = λ t. more_told old new (map Gives waits.items ++ handed_in w nodes payload) base (Gives item) (told t) (waits.told t);
   stands = stands;
 }

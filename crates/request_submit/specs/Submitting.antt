@@ -2,7 +2,7 @@
 -- the newest first.
 use Rattle.std.specs.Prelude.{◌≡◌, ℕ, ◌≤◌, Bool, true, List, [], ◌∷◌, ◌++◌, map, Option, Some, None, Result, Ok, Err}
 use Rattle.ritas_base.specs.History.{replicas}
-use Rattle.outside.specs.Faults.{Rose}
+use Rattle.outside.specs.Faults.{count_after, Rose}
 use Rattle.outside.specs.LinkCalls.{TookBack, each_act}
 use Rattle.outside.specs.Links.{LinkAct, Starts, Gives, Sends}
 use Rattle.outside.specs.declared.link.LinkItem.{LinkItem}
@@ -83,10 +83,18 @@ EndsSo w older acts tells old new before after ends.NoPosition = tells ≡ true 
 EndsSo w older acts tells old new before after ends.LinkFault = Rose before after × (tells ≡ true → TookBack old new acts)
 EndsSo w older acts tells old new before after ends.Mem = tells ≡ true → TookBack old new acts
 
+-- the link's count of faults: one of its calls failed where that ended it, and else none
+abbrev pub faults_at : ℕ → SubmitEnd → ℕ
+faults_at before (ends.Position position) = before
+faults_at before ends.NoPosition = before
+faults_at before ends.LinkFault = count_after before
+faults_at before ends.Mem = before
+
 -- There are items, of which none was the link's end and none settled a position, after which it ended so. The link had been started with
 -- the nodes and given the request for each of them, in order, before it gave the first of these items.
 pub record Submits (w : Wanted) (nodes : List (List ℕ)) (payload : List ℕ) (tells : Bool) (old new : List LinkAct) (before after : ℕ) (end : SubmitEnd) : Type 0 where
   pub items : List LinkItem
   pub on : GoesOn w items
   pub later : before ≤ after
+  pub count : after ≡ faults_at before end
   pub so : EndsSo w items (map Gives items ++ handed_in w nodes payload) tells old new before after end

@@ -1,5 +1,5 @@
 -- What one part of handing in a request does after another.
-use Rattle.std.specs.Prelude.{◌≡◌, ℕ, ◌≤◌, Bool, true, List, ◌++◌, map, Result, Ok, Err}
+use Rattle.std.specs.Prelude.{◌≡◌, ℕ, Bool, true, List, ◌++◌, map, Result, Ok, Err}
 use Rattle.outside.specs.Links.{LinkAct, Gives}
 use Rattle.outside.specs.declared.link.LinkFault.{LinkFault}
 use Rattle.outside.specs.declared.link.LinkFault.TheVariants as faults
@@ -14,11 +14,11 @@ abbrev pub IsEndOf : LinkFault → SubmitEnd → Type 0
 IsEndOf faults.Failed end = end ≡ ends.LinkFault
 IsEndOf faults.Mem end = end ≡ ends.Mem
 
--- since base, the request was handed in, and items were taken with which it goes on; the votes stand for their replies
+-- since base, the request was handed in, items were taken with which it goes on, and no call failed; the votes stand for their replies
 pub record Waits (w : Wanted) (nodes : List (List ℕ)) (payload : List ℕ) (tells : Bool) (base now : List LinkAct) (before after : ℕ) (votes : Ballots) : Type 0 where
   pub items : List LinkItem
   pub on : GoesOn w items
-  pub later : before ≤ after
+  pub none_failed : after ≡ before
   pub told : tells ≡ true → now ≡ (map Gives items ++ handed_in w nodes payload) ++ base
   pub stands : VotesStand w (calls_of items) votes
 

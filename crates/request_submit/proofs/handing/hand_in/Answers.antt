@@ -2,7 +2,7 @@ use Rattle.std.proofs.Common.{◌≡◌, List, ◌∷◌, [], ℕ, ap}
 use Rattle.outside.specs.Links.{Starts}
 use Rattle.client_port.specs.Messages.{request_bytes}
 use Rattle.request_submit.specs.Submitting.{plan_of, sent_to_each}
-use Rattle.outside.specs.LinkCallsLaws.{back_more, did_one, did_stop, did_then}
+use Rattle.outside.specs.LinkCallsLaws.{did_one, did_stop, did_fails, did_then}
 use Rattle.request_submit.proofs.handing.hand_in.Goals as goal
 
 same : {a b : List (List ℕ)} → a ≡ b → Starts (plan_of a) ≡ Starts (plan_of b)
@@ -19,15 +19,10 @@ returns-in-Ok-start g c =
     let message = request_bytes (record { client = c.args.client; request = c.args.request; payload = c.args.payload.now }) in
     let sent = rw (c.n.ensures.value, c.as_slice.ensures, c.in-Ok-write_request.ensures) at c.send_to_each.ensures in
     did_then _ (Starts (plan_of c.args.nodes.now) ∷ []) (sent_to_each c.args.p.now.n message) _ _ _ _ _ _ _
-    (did_one _ _ _ _ _ _ _ _ (same c.in-Ok.ensures) c.in-Ok-start.ensures.ok c.in-Ok-start.ensures.err c.in-Ok-start.ensures.cause) sent
+    (did_one _ _ _ _ _ _ _ _ (same c.in-Ok.ensures) c.in-Ok-start.ensures.ok c.in-Ok-start.ensures.err c.in-Ok-start.ensures.cause c.in-Ok-start.ensures.count) sent
 
 pub returns : goal.returns
 returns g c =
     let message = request_bytes (record { client = c.args.client; request = c.args.request; payload = c.args.payload.now }) in
-    let start = did_one _ _ (Starts (plan_of c.args.nodes.now)) _ _ _ _ _ (same c.in-Ok.ensures) c.in-Err-start.ensures.ok c.in-Err-start.ensures.err c.in-Err-start.ensures.cause in
-    record {
-      whole = λ t. tt;
-      back = λ t. back_more _ _ (Starts (plan_of c.args.nodes.now) ∷ []) (sent_to_each c.args.p.now.n message) (start.back t);
-      later = start.later;
-      cause = start.cause;
-    }
+    did_fails _ (Starts (plan_of c.args.nodes.now) ∷ []) (sent_to_each c.args.p.now.n message) _ _ _ _ _
+    (did_one _ _ _ _ _ _ _ _ (same c.in-Ok.ensures) c.in-Err-start.ensures.ok c.in-Err-start.ensures.err c.in-Err-start.ensures.cause c.in-Err-start.ensures.count)

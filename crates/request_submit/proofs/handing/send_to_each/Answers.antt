@@ -16,7 +16,7 @@ loop-node-preserved g c =
     let here = get_or-range_with_len 0 n k 0 c.loop-node-test.true in
     each_goes (sent_to c.args.message.now) (replicas n) k k 0 _ _ _ _ _ _ _
     (rw (length-range_with_len 0 n) c.loop-node-test.true) (omega (arith, here)) c.loop-node.invariant
-    (did_one _ act act _ _ _ _ _ refl c.in-Ok.ensures.ok c.in-Ok.ensures.err c.in-Ok.ensures.cause)
+    (did_one _ act act _ _ _ _ _ refl c.in-Ok.ensures.ok c.in-Ok.ensures.err c.in-Ok.ensures.cause c.in-Ok.ensures.count)
 
 pub returns-in-Err : goal.returns-in-Err
 returns-in-Err g c =
@@ -26,7 +26,7 @@ returns-in-Err g c =
     let here = get_or-range_with_len 0 n k 0 c.loop-node-test.true in
     each_fails (sent_to c.args.message.now) (replicas n) k k 0 _ _ _ _ _ _ _ _
     (rw (length-range_with_len 0 n) c.loop-node-test.true) (omega (arith, here)) c.loop-node.invariant
-    (did_one _ act act _ _ _ _ _ refl c.in-Err.ensures.ok c.in-Err.ensures.err c.in-Err.ensures.cause)
+    (did_one _ act act _ _ _ _ _ refl c.in-Err.ensures.ok c.in-Err.ensures.err c.in-Err.ensures.cause c.in-Err.ensures.count)
 
 pub returns : goal.returns
 returns g c =
