@@ -1,10 +1,9 @@
 -- Rounds of serving.
-use Rattle.std.proofs.Common.{◌≡◌, ℕ, ◌+◌, Bool, true, false, List, [], ◌∷◌, ◌++◌, map, reverse, filter, Option, Some, None, Result, Ok, Err, OnOk, refl, sym, ap, ap₂, subst, ◌∙◌, append_assoc, arith, ◌≢◌, ◌≤◌, nat_le, ◌⊎◌, inl, inr, if◌then◌else◌}
+use Rattle.std.proofs.Common.{◌≡◌, ℕ, ◌+◌, Bool, true, false, List, [], ◌∷◌, ◌++◌, map, reverse, filter, Option, Some, None, Result, Ok, Err, MatchResult, refl, sym, ap, ap₂, subst, ◌∙◌, append_assoc, arith, ◌≢◌, ◌≤◌, nat_le, ◌⊎◌, inl, inr, if◌then◌else◌}
 use Rattle.ritas_base.specs.declared.event.Event.{Event}
 use Rattle.keyed_channel.specs.KeyRow.{KeyRow}
 use Rattle.ritas_core.specs.Stands.{Meaning}
-use Rattle.outside.specs.Faults.{HasCause}
-use Rattle.outside.specs.Links.{LinkAct, Gives, Replies}
+use Rattle.outside.specs.Links.{LinkAct, Gives, Replies, faults_after}
 use Rattle.outside.specs.WritingLaws.{front_more, all_written}
 use Rattle.outside.specs.declared.link.LinkItem.{LinkItem}
 use Rattle.outside.specs.declared.link.LinkItem.TheVariants as items
@@ -20,23 +19,27 @@ use Rattle.node_loop.specs.declared.end.ServeEnd.TheVariants as ends
 use Rattle.node_loop.specs.declared.house.House.{House}
 use Rattle.node_loop.specs.declared.output.Output.{Output}
 use Rattle.node_loop.specs.declared.rounds.Next.TheVariants as next
-use Rattle.node_loop.specs.Waiting.{nobody}
+use Rattle.node_loop.specs.Waiting.{Waiting, nobody}
 use Rattle.node_loop.specs.Calls.{Outcome}
 use Rattle.node_loop.specs.Serving.{Serving, so_far, sent_by, onto, with_outcome, Want, Begins, Finishes, Turns, Halts, Asks, wants_of, turn_or, first_or, here, busy, is_done, wants, Round, Began, Turned, Took, behind_first, began, at_call, outcome, sent_of, round_does, after, newest, sooner, IsGiven, IsWanted}
-use Rattle.node_loop.specs.Outs.{text_of, Outs, Tells, Agrees, HasCauses, AllWritten, InOrder, Stops, Steps, Fails}
+use Rattle.node_loop.specs.Outs.{text_of, Outs, Tells, Agrees, HasCauses, AllWritten, InOrder, Stops, Steps, IfFailed, Fails}
 use Rattle.node_loop.specs.ServingLaws.{acts_of}
 use Rattle.node_loop.specs.Standing.{HouseStands, Comes, frame_by, reply_by}
-use Rattle.node_loop.specs.Served.{EndsSo, Serves}
+use Rattle.node_loop.specs.Served.{AreHere, EndsSo, Serves}
 use Rattle.node_loop.specs.Running.{IsEndOf, Running, Goes, TookItem, GaveNone, IsNext}
 use Rattle.outside.specs.LinkCallsLaws.{back_none, back_all}
-use Rattle.outside.specs.FaultsLaws.{rose_after}
-use Rattle.node_loop.proofs.Stepping.{with_link, text_next}
+use Rattle.node_loop.proofs.Stepping.{with_link, text_next, has_cause}
 
 -- ---- one step
 
-on_ok : {A : Type 0} (result : Result A Fault) (P : Type 0) → P → OnOk result P
-on_ok (Ok done) P p = p
-on_ok (Err fault) P p = tt
+if_failed : (fault : Fault) (P : Type 0) → P → IfFailed fault P
+if_failed faults.Tape P p = p
+if_failed faults.Link P p = p
+if_failed faults.Mem P p = tt
+
+in_any_case : {A : Type 0} (result : Result A Fault) (P : Type 0) → P → MatchResult result (λ _. P) (λ fault. IfFailed fault P)
+in_any_case (Ok done) P p = p
+in_any_case (Err fault) P p = if_failed fault P p
 
 onto_past : (o : Option Event) (es past : List Event) → onto o (es ++ past) ≡ onto o es ++ past
 onto_past None es past = refl
@@ -62,7 +65,7 @@ module _ {S E C : Type 0} (m : Meaning S E C KeyRow) (w : Setting) (past : List 
       let frames = subst (λ (l : List LinkAct). so did.event l replied) comes.frames events in
       record {
         steps = subst (λ (l : List _). so did.event (sent_by w (so_far past s) did.event) l) comes.replies frames;
-        stands = on_ok result (HouseStands m w (so_far past (with_outcome w past did s)) numbers house did.waiting)
+        stands = in_any_case result (HouseStands m w (so_far past (with_outcome w past did s)) numbers house did.waiting)
             (subst (λ (es : List Event). HouseStands m w es numbers house did.waiting) (onto_past did.event s.events past) comes.stands);
       }
 
@@ -74,9 +77,9 @@ module _ {S E C : Type 0} (m : Meaning S E C KeyRow) (w : Setting) (past : List 
       taken = λ t. front_onto base.taken o.taken did.event s.events (agrees.taken t);
       told = λ t. rw (agrees.told t) (back_none (s.acts ++ base.told) (sent_of w (so_far past s) did));
       order = inr agrees.told;
-      tape_later = agrees.tape_later;
-      link_later = agrees.link_later;
-      cause = tt;
+      tape_later = omega (arith, agrees.tape_stands);
+      link_later = omega (arith, agrees.link_stands);
+      cause = (agrees.tape_stands, agrees.link_stands);
     };
     stands = tt;
   }
@@ -84,40 +87,36 @@ module _ {S E C : Type 0} (m : Meaning S E C KeyRow) (w : Setting) (past : List 
 -- ---- the link's next item
 
 -- it was given
-pub next_given : (tells : Tells) (base o : Outs) (events : List Event) (acts told : List LinkAct) (count : ℕ) (item : LinkItem) (F : Type 0)
-    → Agrees tells base o events acts → (tells.link ≡ true → told ≡ Gives item ∷ o.told) → HasCause o.link_faults count F
+pub next_given : (tells : Tells) (base o : Outs) (events : List Event) (acts told : List LinkAct) (count : ℕ) (item : LinkItem)
+    → Agrees tells base o events acts → (tells.link ≡ true → told ≡ Gives item ∷ o.told) → count ≡ o.link_faults
     → Agrees tells base (with_link o told count) events (Gives item ∷ acts)
-next_given tells base o events acts told count item F agrees is cause = record {
+next_given tells base o events acts told count item agrees is same = record {
   taken = agrees.taken;
   told = λ t. is t ∙ ap (λ (l : List LinkAct). Gives item ∷ l) (agrees.told t);
-  tape_later = agrees.tape_later;
-  link_later = omega (arith, agrees.link_later, cause.later);
+  tape_stands = agrees.tape_stands;
+  link_stands = same ∙ agrees.link_stands;
 }
 
 -- it failed
-given_none : (tells : Tells) (base o : Outs) (told : List LinkAct) (count : ℕ) (x : LinkFault) (fault : Fault) → Fails x fault → base.link_faults ≤ o.link_faults
-    → HasCause o.link_faults count (let failed : Result LinkItem LinkFault = Err link_faults.Failed in Err x ≡ failed)
-    → (fault ≢ faults.Tape) × HasCauses base (with_link o told count) fault
-given_none tells base o told count link_faults.Failed fault is le cause =
-    rw is (λ e. cc, rose_after base.link_faults o.link_faults count le (cause.cause refl))
-given_none tells base o told count link_faults.Mem fault is le cause = rw is (λ e. cc, tt)
+link_alone : (x : LinkFault) (fault : Fault) → Fails x fault → fault ≢ faults.Tape
+link_alone link_faults.Failed fault is = rw is (λ e. cc)
+link_alone link_faults.Mem fault is = rw is (λ e. cc)
 
 pub next_failed : (tells : Tells) (base o : Outs) (s : Serving) (told : List LinkAct) (count : ℕ) (x : LinkFault) (fault : Fault)
     → Fails x fault → Agrees tells base o s.events s.acts → (tells.link ≡ true → told ≡ o.told)
-    → HasCause o.link_faults count (let failed : Result LinkItem LinkFault = Err link_faults.Failed in Err x ≡ failed)
-    → GaveNone tells base (with_link o told count) fault s
-next_failed tells base o s told count x fault is agrees same cause =
-    let none = given_none tells base o told count x fault is agrees.link_later cause in
-    record {
-      agrees = record {
-        taken = agrees.taken;
-        told = λ t. same t ∙ agrees.told t;
-        tape_later = agrees.tape_later;
-        link_later = omega (arith, agrees.link_later, cause.later);
-      };
-      own = none.0;
-      cause = none.1;
-    }
+    → o.link_faults ≤ count → count ≡ faults_after {A = LinkItem} o.link_faults (Err x) → GaveNone tells base (with_link o told count) fault s
+next_failed tells base o s told count x fault is agrees same le counts = record {
+  written = agrees.taken;
+  told = λ t. same t ∙ agrees.told t;
+  link_later = omega (arith, agrees.link_stands, le);
+  own = link_alone x fault is;
+  cause = has_cause LinkItem base o s.events s.acts told tells count x fault is agrees counts;
+}
+
+tape_on : (base o : Outs) (fault : Fault) → fault ≢ faults.Tape → HasCauses base o fault → base.tape_faults ≤ o.tape_faults
+tape_on base o faults.Tape own cause = absurd (own refl)
+tape_on base o faults.Link own cause = omega (arith, cause.0)
+tape_on base o faults.Mem own cause = omega (arith, cause.0)
 
 whole_order : (tells : Tells) (base o : Outs) (fault : Fault) (events : List Event) (sooner : List LinkAct) → fault ≢ faults.Tape → AllWritten tells base o events
     → InOrder tells base o fault events sooner
@@ -134,12 +133,12 @@ none_stops w past first rounds tells base o fault gave =
     let new = newest w past first rounds in
     let old = sooner w past first rounds in
     record {
-      taken = λ t. all_written base.taken o.taken (text_of s.events) (gave.agrees.taken t);
+      taken = λ t. all_written base.taken o.taken (text_of s.events) (gave.written t);
       told = λ t. back_all (old ++ base.told) o.told new
-          (gave.agrees.told t ∙ ap (λ (l : List LinkAct). l ++ base.told) (acts_of w past first rounds) ∙ append_assoc new old base.told);
-      order = whole_order tells base o fault s.events old gave.own gave.agrees.taken;
-      tape_later = gave.agrees.tape_later;
-      link_later = gave.agrees.link_later;
+          (gave.told t ∙ ap (λ (l : List LinkAct). l ++ base.told) (acts_of w past first rounds) ∙ append_assoc new old base.told);
+      order = whole_order tells base o fault s.events old gave.own gave.written;
+      tape_later = tape_on base o fault gave.own gave.cause;
+      link_later = gave.link_later;
       cause = gave.cause;
     }
 
@@ -218,10 +217,10 @@ turns_correct w until limit es taken at = go (is_done w until es)
 
 pub ends_so : {S E C : Type 0} (m : Meaning S E C KeyRow) (w : Setting) (past : List Event) (numbers : List ℕ) (here : List _) (tells : Tells) (base now : Outs)
     (fault : Fault) (end : ServeEnd) (s : Serving) (sooner news : List LinkAct) (rule : Want)
-    → IsEndOf fault end → Stops tells base now fault s.events sooner news → EndsSo {S = S} {E = E} {C = C} m w past numbers here tells base now end s sooner news rule
-ends_so m w past numbers here tells base now faults.Link end s sooner news rule is stops = rw is stops
-ends_so m w past numbers here tells base now faults.Tape end s sooner news rule is stops = rw is stops
-ends_so m w past numbers here tells base now faults.Mem end s sooner news rule is stops = rw is stops
+    → IsEndOf fault end → Stops tells base now fault s.events sooner news → IfFailed fault (AreHere m w (so_far past s) numbers here) → EndsSo {S = S} {E = E} {C = C} m w past numbers here tells base now end s sooner news rule
+ends_so m w past numbers here tells base now faults.Link end s sooner news rule is stops stand = rw is (stops, stand)
+ends_so m w past numbers here tells base now faults.Tape end s sooner news rule is stops stand = rw is (stops, stand)
+ends_so m w past numbers here tells base now faults.Mem end s sooner news rule is stops stand = rw is stops
 
 module _ {S E C : Type 0} (m : Meaning S E C KeyRow) (w : Setting) (past : List Event) (numbers : List ℕ) (tells : Tells) (base : Outs) (until limit : ℕ) (first : List LinkItem) where
   -- where none of the first items is left
@@ -247,16 +246,23 @@ module _ {S E C : Type 0} (m : Meaning S E C KeyRow) (w : Setting) (past : List 
   }
 
   -- or it ended in it
+  only_here : (house : House S E C) (es : List Event) (ws : Waiting) (fault : Fault) → IfFailed fault (HouseStands m w es numbers house ws)
+      → IfFailed fault (AreHere m w es numbers house.replicas.items)
+  only_here house es ws faults.Tape stands = stands.here
+  only_here house es ws faults.Link stands = stands.here
+  only_here house es ws faults.Mem stands = tt
+
   pub round_stops : (old new : House S E C) (o now : Outs) (taken : ℕ) (left : List LinkItem) (x : Round) (fault : Fault) (end : ServeEnd) (run : Running m w past numbers old tells base o taken until limit first left)
-      → IsWanted (wants w past until limit (after w past first run.rounds)) x
-      → Stops tells base now fault (round_does w past x (after w past first run.rounds)).events (sooner w past first (x ∷ run.rounds)) (newest w past first (x ∷ run.rounds))
+      → IsWanted (wants w past until limit (after w past first run.rounds)) x → {A : Type 0}
+      → Goes {A = A} m w past numbers new tells base now (Err fault) (outcome w past x (after w past first run.rounds)) (at_call x (after w past first run.rounds))
       → IsEndOf fault end → Serves m w past numbers new.replicas.items tells base now end until limit first
-  round_stops old new o now taken left x fault end run want stops is =
+  round_stops old new o now taken left x fault end run want goes is =
       let s = round_does w past x (after w past first run.rounds) in
       record {
         rounds = x ∷ run.rounds;
         wanted = (want, run.wanted);
-        so = ends_so m w past numbers new.replicas.items tells base now fault end s (sooner w past first (x ∷ run.rounds)) (newest w past first (x ∷ run.rounds)) (wants w past until limit s) is stops;
+        so = ends_so m w past numbers new.replicas.items tells base now fault end s (sooner w past first (x ∷ run.rounds)) (newest w past first (x ∷ run.rounds)) (wants w past until limit s) is goes.steps
+            (only_here new (so_far past s) s.waiting fault goes.stands);
       }
 
   -- ---- the first items
@@ -280,7 +286,7 @@ module _ {S E C : Type 0} (m : Meaning S E C KeyRow) (w : Setting) (past : List 
     pub began_stops : (new : House S E C) (now : Outs) (fault : Fault) (end : ServeEnd)
         → Goes {A = Unit {0}} m w past numbers new tells base now (Err fault) (outcome w past (Began item) began_at) (began began_at) → IsEndOf fault end
         → Serves m w past numbers new.replicas.items tells base now end until limit first
-    began_stops new now fault end goes is_end = round_stops old new o now 0 left (Began item) fault end run first_wanted goes.steps is_end
+    began_stops new now fault end goes is_end = round_stops old new o now 0 left (Began item) fault end run first_wanted goes is_end
 
   module _ (house : House S E C) (o : Outs) (taken : ℕ) (run : Running m w past numbers house tells base o taken until limit first []) where
     abbrev now_at : Serving
@@ -320,9 +326,9 @@ module _ {S E C : Type 0} (m : Meaning S E C KeyRow) (w : Setting) (past : List 
       turned_on at is done goes = runs_on house new o now taken taken [] [] (Turned at) run (turn_wanted at is) run.rest run.count done goes
 
       pub turn_stops : (at : ℕ) (fault : Fault) (end : ServeEnd) → IsNext next_want (next.Turn at)
-          → Stops tells base now fault (round_does w past (Turned at) now_at).events (sooner w past first (Turned at ∷ run.rounds)) (newest w past first (Turned at ∷ run.rounds)) → IsEndOf fault end
+          → Goes {A = Unit {0}} m w past numbers new tells base now (Err fault) (outcome w past (Turned at) now_at) now_at → IsEndOf fault end
           → Serves m w past numbers new.replicas.items tells base now end until limit first
-      turn_stops at fault end is stops is_end = round_stops house new o now taken [] (Turned at) fault end run (turn_wanted at is) stops is_end
+      turn_stops at fault end is goes is_end = round_stops house new o now taken [] (Turned at) fault end run (turn_wanted at is) goes is_end
 
       pub item_on : IsNext next_want next.Ask → TookItem m w past numbers new tells base now (Ok true) now_at
           → Running m w past numbers new tells base now (taken + 1) until limit first []
@@ -338,13 +344,14 @@ module _ {S E C : Type 0} (m : Meaning S E C KeyRow) (w : Setting) (past : List 
       }
 
       pub asking_stops : (fault : Fault) (end : ServeEnd) → IsNext next_want next.Ask
-          → GaveNone tells base now fault now_at ⊎ TookItem m w past numbers new tells base now (Err fault) now_at → IsEndOf fault end
+          → (GaveNone tells base now fault now_at × HouseStands m w (so_far past now_at) numbers new now_at.waiting) ⊎ TookItem m w past numbers new tells base now (Err fault) now_at → IsEndOf fault end
           → Serves m w past numbers new.replicas.items tells base now end until limit first
       asking_stops fault end is (inl gave) is_end = record {
         rounds = run.rounds;
         wanted = run.wanted;
         so = ends_so m w past numbers new.replicas.items tells base now fault end now_at (sooner w past first run.rounds) (newest w past first run.rounds) (wants w past until limit now_at) is_end
-            (none_stops w past first run.rounds tells base now fault gave);
+            (none_stops w past first run.rounds tells base now fault gave.0)
+            (only_here new (so_far past now_at) now_at.waiting fault (if_failed fault _ gave.1));
       }
       asking_stops fault end is (inr took) is_end =
-          round_stops house new o now taken [] (Took took.item) fault end run (item_wanted took.item is took.is_item) took.goes.steps is_end
+          round_stops house new o now taken [] (Took took.item) fault end run (item_wanted took.item is took.is_item) took.goes is_end

@@ -1,19 +1,18 @@
 -- The tape and the link go on together.
-use Rattle.std.proofs.Common.{◌≡◌, ℕ, ◌≤◌, true, List, [], ◌∷◌, ◌++◌, reverse, Result, Ok, Err, refl, sym, ap, ◌∙◌, append_assoc, arith, inl}
+use Rattle.std.proofs.Common.{◌≡◌, ℕ, ◌≤◌, true, List, [], ◌∷◌, ◌++◌, reverse, Ok, Err, sym, ap, ◌∙◌, append_assoc, arith, inl}
 use Rattle.std.specs.List.{flat_map}
 use Rattle.std.proofs.lemmas.List.{append-nil, reverse-append}
 use Rattle.std.proofs.lemmas.Grind.{flat_map-append}
 use Rattle.ritas_base.specs.declared.event.Event.{Event}
-use Rattle.outside.specs.Faults.{Rose}
+use Rattle.outside.specs.Faults.{count_after}
 use Rattle.outside.specs.LinkCalls.{LinkDid}
 use Rattle.outside.specs.LinkCallsLaws.{back_none, back_then, back_more}
-use Rattle.outside.specs.Links.{LinkAct}
+use Rattle.outside.specs.Links.{LinkAct, faults_after}
 use Rattle.outside.specs.Writing.{TookFront}
 use Rattle.outside.specs.WritingLaws.{all_written, front_then}
 use Rattle.schedule_file.specs.Spelling.{event_text}
 use Rattle.outside.specs.declared.link.LinkFault.{LinkFault}
 use Rattle.outside.specs.declared.link.LinkFault.TheVariants as link_faults
-use Rattle.outside.specs.FaultsLaws.{rose_after}
 use Rattle.node_loop.specs.declared.end.Fault.{Fault}
 use Rattle.node_loop.specs.declared.end.Fault.TheVariants as faults
 use Rattle.node_loop.specs.Outs.{text_of, Outs, Tells, Agrees, HasCauses, AllWritten, InOrder, Stops, Fails}
@@ -29,16 +28,16 @@ text_next e es =
 -- an event wasn't written, and nothing of it went out
 pub write_fails : (tells : Tells) (base : Outs) (old new : List ℕ) (x y : ℕ) (told : List LinkAct) (link_faults : ℕ) (e : Event) (events : List Event) (acts news : List LinkAct)
     → Agrees tells base (record { taken = old; tape_faults = x; told = told; link_faults = link_faults }) events acts
-    → (tells.tape ≡ true → TookFront old new (event_text e)) → x ≤ y → Rose x y
+    → (tells.tape ≡ true → TookFront old new (event_text e)) → x ≤ y → y ≡ count_after x
     → Stops tells base (record { taken = new; tape_faults = y; told = told; link_faults = link_faults }) faults.Tape (e ∷ events) acts news
-write_fails tells base old new x y told link_faults e events acts news agrees front le rose = record {
+write_fails tells base old new x y told link_faults e events acts news agrees front le rises = record {
   taken = λ t. front_then base.taken old new (text_of events) (event_text e) [] (text_of (e ∷ events))
       (text_next e events ∙ ap (λ (l : List ℕ). text_of events ++ l) (sym (append-nil (event_text e)))) (agrees.taken t) (front t);
   told = λ t. rw (agrees.told t) (back_none (acts ++ base.told) news);
   order = agrees.told;
-  tape_later = omega (arith, agrees.tape_later, le);
-  link_later = agrees.link_later;
-  cause = rose_after base.tape_faults x y agrees.tape_later rose;
+  tape_later = omega (arith, agrees.tape_stands, le);
+  link_later = omega (arith, agrees.link_stands);
+  cause = (rises ∙ ap count_after agrees.tape_stands, agrees.link_stands);
 }
 
 -- it stopped before others would have followed
@@ -60,16 +59,16 @@ pub link_goes : (tells : Tells) (base o : Outs) (events : List Event) (acts news
 link_goes tells base o events acts news told count agrees did = record {
   taken = agrees.taken;
   told = λ t. did.whole t ∙ rw (agrees.told t) (sym (append_assoc news acts base.told));
-  tape_later = agrees.tape_later;
-  link_later = omega (arith, agrees.link_later, did.later);
+  tape_stands = agrees.tape_stands;
+  link_stands = did.count ∙ agrees.link_stands;
 }
 
 -- ---- the link wasn't given all
 
-has_cause : (base o : Outs) (told : List LinkAct) (count : ℕ) (x : LinkFault) (fault : Fault) → Fails x fault → base.link_faults ≤ o.link_faults
-    → (let failed : Result (Unit {0}) LinkFault = Err link_faults.Failed in Err x ≡ failed → Rose o.link_faults count) → HasCauses base (with_link o told count) fault
-has_cause base o told count link_faults.Failed fault is le cause = rw is (rose_after base.link_faults o.link_faults count le (cause refl))
-has_cause base o told count link_faults.Mem fault is le cause = rw is tt
+pub has_cause : (A : Type 0) (base o : Outs) (events : List Event) (acts told : List LinkAct) (tells : Tells) (count : ℕ) (x : LinkFault) (fault : Fault) → Fails x fault
+    → Agrees tells base o events acts → count ≡ faults_after {A = A} o.link_faults (Err x) → HasCauses base (with_link o told count) fault
+has_cause A base o events acts told tells count link_faults.Failed fault is agrees counts = rw is (agrees.tape_stands, counts ∙ ap count_after agrees.link_stands)
+has_cause A base o events acts told tells count link_faults.Mem fault is agrees counts = rw is (agrees.tape_stands, counts ∙ agrees.link_stands)
 
 in_order : (tells : Tells) (base o : Outs) (told : List LinkAct) (count : ℕ) (events : List Event) (sooner : List LinkAct) (x : LinkFault) (fault : Fault) → Fails x fault
     → AllWritten tells base o events → InOrder tells base (with_link o told count) fault events sooner
@@ -84,7 +83,7 @@ link_stops tells base o events sooner done news all told count x fault is both a
   taken = λ t. all_written base.taken o.taken (text_of events) (agrees.taken t);
   told = λ t. rw both (back_then (sooner ++ base.told) o.told told done news (agrees.told t ∙ append_assoc done sooner base.told) (did.back t));
   order = in_order tells base o told count events sooner x fault is agrees.taken;
-  tape_later = agrees.tape_later;
-  link_later = omega (arith, agrees.link_later, did.later);
-  cause = has_cause base o told count x fault is agrees.link_later did.cause;
+  tape_later = omega (arith, agrees.tape_stands);
+  link_later = omega (arith, agrees.link_stands, did.later);
+  cause = has_cause (Unit {0}) base o events (done ++ sooner) told tells count x fault is agrees did.count;
 }

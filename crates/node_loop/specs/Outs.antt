@@ -2,7 +2,7 @@
 use Rattle.std.specs.Prelude.{◌≡◌, ℕ, ◌≤◌, Bool, true, List, ◌++◌, reverse, Result, Ok, Err, ◌⊎◌}
 use Rattle.std.specs.List.{flat_map}
 use Rattle.ritas_base.specs.declared.event.Event.{Event}
-use Rattle.outside.specs.Faults.{Rose}
+use Rattle.outside.specs.Faults.{count_after}
 use Rattle.outside.specs.Links.{LinkAct}
 use Rattle.outside.specs.LinkCalls.{TookBack}
 use Rattle.outside.specs.Writing.{TookFront}
@@ -31,25 +31,43 @@ outs_of taken tape_faults told link_faults tape link = record {
   link_faults = link_faults link;
 }
 
+-- no call of them failed
+abbrev pub NoneFailed : Outs → Outs → Type 0
+NoneFailed base now = (now.tape_faults ≡ base.tape_faults) × (now.link_faults ≡ base.link_faults)
+
+-- one call of the tape failed, and none of the link
+abbrev pub TapeFailed : Outs → Outs → Type 0
+TapeFailed base now = (now.tape_faults ≡ count_after base.tape_faults) × (now.link_faults ≡ base.link_faults)
+
+-- one call of the link failed, and none of the tape
+abbrev pub LinkFailed : Outs → Outs → Type 0
+LinkFailed base now = (now.tape_faults ≡ base.tape_faults) × (now.link_faults ≡ count_after base.link_faults)
+
 -- whether a tape and a link tell
 pub record Tells : Type 0 where
   pub tape : Bool
   pub link : Bool
 
--- since base, the tape took these events and the link told these calls
+-- since base, the tape took these events, the link told these calls, and none failed
 pub record Agrees (tells : Tells) (base now : Outs) (events : List Event) (acts : List LinkAct) : Type 0 where
   pub taken : tells.tape ≡ true → now.taken ≡ base.taken ++ text_of events
   pub told : tells.link ≡ true → now.told ≡ acts ++ base.told
-  pub tape_later : base.tape_faults ≤ now.tape_faults
-  pub link_later : base.link_faults ≤ now.link_faults
+  pub tape_stands : now.tape_faults ≡ base.tape_faults
+  pub link_stands : now.link_faults ≡ base.link_faults
 
 -- ---- at a fault, where the calls of the newest event are `news`, and those before are `sooner`
 
--- a fault of the tape or the link has its cause
+-- it holds where the tape or the link failed
+abbrev pub IfFailed : Fault → Type 0 → Type 0
+IfFailed faults.Tape P = P
+IfFailed faults.Link P = P
+IfFailed faults.Mem P = Unit {0}
+
+-- where memory ran out no call of the tape or the link failed
 abbrev pub HasCauses : Outs → Outs → Fault → Type 0
-HasCauses base now faults.Tape = Rose base.tape_faults now.tape_faults
-HasCauses base now faults.Link = Rose base.link_faults now.link_faults
-HasCauses base now faults.Mem = Unit {0}
+HasCauses base now faults.Tape = TapeFailed base now
+HasCauses base now faults.Link = LinkFailed base now
+HasCauses base now faults.Mem = NoneFailed base now
 
 -- the tape took all events
 abbrev pub AllWritten : Tells → Outs → Outs → List Event → Type 0

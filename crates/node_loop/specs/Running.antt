@@ -1,5 +1,5 @@
 -- Serving under way.
-use Rattle.std.specs.Prelude.{◌≡◌, ◌≢◌, ℕ, Bool, true, false, List, [], ◌∷◌, Result, Ok, Err, OnOk, ◌⊎◌}
+use Rattle.std.specs.Prelude.{◌≡◌, ◌≢◌, ℕ, ◌≤◌, Bool, true, false, List, [], ◌∷◌, Result, Ok, Err, MatchResult, ◌⊎◌}
 use Rattle.ritas_base.specs.declared.event.Event.{Event}
 use Rattle.keyed_channel.specs.KeyRow.{KeyRow}
 use Rattle.ritas_core.specs.Stands.{Meaning}
@@ -16,7 +16,7 @@ use Rattle.node_loop.specs.declared.rounds.Next.{Next}
 use Rattle.node_loop.specs.declared.rounds.Next.TheVariants as next
 use Rattle.node_loop.specs.Serving.{Serving, so_far, Want, Finishes, Turns, Halts, Asks, Round, Took, outcome, gave, sent_of, with_outcome, after, AreWanted, IsGiven}
 use Rattle.node_loop.specs.Calls.{Outcome}
-use Rattle.node_loop.specs.Outs.{Outs, Tells, Agrees, HasCauses, Steps}
+use Rattle.node_loop.specs.Outs.{Outs, Tells, Agrees, IfFailed, HasCauses, AllWritten, NoneSent, Steps}
 use Rattle.node_loop.specs.Served.{Serves}
 use Rattle.node_loop.specs.Standing.{HouseStands}
 
@@ -40,7 +40,8 @@ pub record Running {S E C : Type 0} (m : Meaning S E C KeyRow) (w : Setting) (pa
 pub record Goes {S E C A : Type 0} (m : Meaning S E C KeyRow) (w : Setting) (past : List Event) (numbers : List ℕ) (house : House S E C)
     (tells : Tells) (base now : Outs) (result : Result A Fault) (did : Outcome) (s : Serving) : Type 0 where
   pub steps : Steps tells base now result (with_outcome w past did s).events (with_outcome w past did s).acts s.acts (sent_of w (so_far past s) did)
-  pub stands : OnOk result (HouseStands m w (so_far past (with_outcome w past did s)) numbers house did.waiting)
+  pub stands : MatchResult result (λ _. HouseStands m w (so_far past (with_outcome w past did s)) numbers house did.waiting)
+      (λ fault. IfFailed fault (HouseStands m w (so_far past (with_outcome w past did s)) numbers house did.waiting))
 
 -- an item of the link was taken, or a part of the way to it
 pub record TookItem {S E C : Type 0} (m : Meaning S E C KeyRow) (w : Setting) (past : List Event) (numbers : List ℕ) (house : House S E C)
@@ -51,7 +52,9 @@ pub record TookItem {S E C : Type 0} (m : Meaning S E C KeyRow) (w : Setting) (p
 
 -- the link gave none, for a fault of its own or for want of memory
 pub record GaveNone (tells : Tells) (base now : Outs) (fault : Fault) (s : Serving) : Type 0 where
-  pub agrees : Agrees tells base now s.events s.acts
+  pub written : AllWritten tells base now s.events
+  pub told : NoneSent tells base now s.acts
+  pub link_later : base.link_faults ≤ now.link_faults
   pub own : fault ≢ faults.Tape
   pub cause : HasCauses base now fault
 
@@ -62,7 +65,7 @@ AskedLink m w past numbers house tells base now (Ok true) s = TookItem m w past 
 AskedLink m w past numbers house tells base now (Ok false) s =
     Agrees tells base now s.events (Gives End ∷ s.acts) × HouseStands m w (so_far past s) numbers house s.waiting
 AskedLink m w past numbers house tells base now (Err fault) s =
-    GaveNone tells base now fault s ⊎ TookItem m w past numbers house tells base now (Err fault) s
+    (GaveNone tells base now fault s × HouseStands m w (so_far past s) numbers house s.waiting) ⊎ TookItem m w past numbers house tells base now (Err fault) s
 
 -- the first items were taken up, or serving ended before
 abbrev pub BeganAll : {S E C : Type 0} → Meaning S E C KeyRow → Setting → List Event → List ℕ → House S E C → Tells → Outs → Outs → ℕ → ℕ

@@ -47,14 +47,15 @@ Breaks tells base now ends.TapeFault events sooner news = Stops tells base now f
 Breaks tells base now ends.Mem events sooner news = Stops tells base now faults.Mem events sooner news
 Breaks tells base now end events sooner news = ⊥
 
--- each end, where the newest event's calls are `news`, and those before are `sooner`
+-- Each end, where the newest event's calls are `news`, and those before are `sooner`. Unless memory ran out, the replicas stand where all events
+-- leave them, also those that weren't written.
 abbrev pub EndsSo : {S E C : Type 0} → Meaning S E C KeyRow → Setting → List Event → List ℕ → List (Replica S E C) → Tells → Outs → Outs → ServeEnd → Serving
     → List LinkAct → List LinkAct → Want → Type 0
 EndsSo m w past numbers here tells base now ends.Done s sooner news rule = Whole m w past numbers here tells base now s s.acts rule Finishes
 EndsSo m w past numbers here tells base now ends.Limit s sooner news rule = Whole m w past numbers here tells base now s s.acts rule Halts
 EndsSo m w past numbers here tells base now ends.End s sooner news rule = Whole m w past numbers here tells base now s (Gives items.End ∷ s.acts) rule Asks
-EndsSo m w past numbers here tells base now ends.LinkFault s sooner news rule = Breaks tells base now ends.LinkFault s.events sooner news
-EndsSo m w past numbers here tells base now ends.TapeFault s sooner news rule = Breaks tells base now ends.TapeFault s.events sooner news
+EndsSo m w past numbers here tells base now ends.LinkFault s sooner news rule = Breaks tells base now ends.LinkFault s.events sooner news × AreHere m w (so_far past s) numbers here
+EndsSo m w past numbers here tells base now ends.TapeFault s sooner news rule = Breaks tells base now ends.TapeFault s.events sooner news × AreHere m w (so_far past s) numbers here
 EndsSo m w past numbers here tells base now ends.Mem s sooner news rule = Breaks tells base now ends.Mem s.events sooner news
 
 -- There are rounds, each what the rules said, after which serving ended so. The items that these took are those that the link gave, before

@@ -22,14 +22,14 @@ pub loop-given-preserved : goal.loop-given-preserved
 loop-given-preserved g c =
     let given = get_or c.args.replies.now c.loop-given.given-index none in
     each_goes (λ r. Replies (reply_by c.args.at r)) c.args.replies.now c.loop-given.given-index given none _ _ _ _ _ _ _ c.loop-given-test.true refl c.loop-given.invariant
-    (did_one _ (Replies (reply_by c.args.at given)) (Replies (reply_by c.args.at given)) _ _ _ _ _ refl c.in-Ok.ensures.ok c.in-Ok.ensures.err c.in-Ok.ensures.cause)
+    (did_one _ (Replies (reply_by c.args.at given)) (Replies (reply_by c.args.at given)) _ _ _ _ _ refl c.in-Ok.ensures.ok c.in-Ok.ensures.err c.in-Ok.ensures.cause c.in-Ok.ensures.count)
 
 pub returns-in-Err : goal.returns-in-Err
 returns-in-Err g c =
     let given = get_or c.args.replies.now c.loop-given.given-index none in
     rw (as_two c.args.at c.args.replies.now)
     (each_fails (λ r. Replies (reply_by c.args.at r)) c.args.replies.now c.loop-given.given-index given none _ _ _ _ _ _ _ _ c.loop-given-test.true refl c.loop-given.invariant
-    (did_one _ (Replies (reply_by c.args.at given)) (Replies (reply_by c.args.at given)) _ _ _ _ _ refl c.in-Err.ensures.ok c.in-Err.ensures.err c.in-Err.ensures.cause))
+    (did_one _ (Replies (reply_by c.args.at given)) (Replies (reply_by c.args.at given)) _ _ _ _ _ refl c.in-Err.ensures.ok c.in-Err.ensures.err c.in-Err.ensures.cause c.in-Err.ensures.count))
 
 pub returns : goal.returns
 returns g c = rw (as_two c.args.at c.args.replies.now) (rw (take_all c.loop-given.given-index c.args.replies.now c.loop-given-test.false) at c.loop-given.invariant)

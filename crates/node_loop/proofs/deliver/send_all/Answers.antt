@@ -13,9 +13,9 @@ loop-frame-init g c = did_none _ _ _
 pub loop-frame-preserved : goal.loop-frame-preserved
 loop-frame-preserved g c =
     each_goes (frame_by c.args.at) c.args.frames.now c.loop-frame.frame-index c.frame-item.result c.frame-item.result _ _ _ _ _ _ _ c.loop-frame-test.true c.frame-item.is c.loop-frame.invariant
-    (did_one _ _ _ _ _ _ _ _ (same c.as_slice.ensures) c.in-Ok.ensures.ok c.in-Ok.ensures.err c.in-Ok.ensures.cause)
+    (did_one _ _ _ _ _ _ _ _ (same c.as_slice.ensures) c.in-Ok.ensures.ok c.in-Ok.ensures.err c.in-Ok.ensures.cause c.in-Ok.ensures.count)
 
 pub returns-in-Err : goal.returns-in-Err
 returns-in-Err g c =
     each_fails (frame_by c.args.at) c.args.frames.now c.loop-frame.frame-index c.frame-item.result c.frame-item.result _ _ _ _ _ _ _ _ c.loop-frame-test.true c.frame-item.is c.loop-frame.invariant
-    (did_one _ _ _ _ _ _ _ _ (same c.as_slice.ensures) c.in-Err.ensures.ok c.in-Err.ensures.err c.in-Err.ensures.cause)
+    (did_one _ _ _ _ _ _ _ _ (same c.as_slice.ensures) c.in-Err.ensures.ok c.in-Err.ensures.err c.in-Err.ensures.cause c.in-Err.ensures.count)

@@ -1,14 +1,18 @@
-use Rattle.std.proofs.Common.{false, refl, inr}
+use Rattle.std.proofs.Common.{false, refl, inl, inr}
 use Rattle.std.proofs.lemmas.Bool.{both_ways}
 use Rattle.node_loop.specs.Calls.{item_does}
 use Rattle.node_loop.specs.Serving.{so_far, gave}
-use Rattle.node_loop.proofs.Rounding.{goes_on, goes_no_further, next_given}
+use Rattle.node_loop.proofs.Rounding.{goes_on, goes_no_further, next_given, next_failed}
 use Rattle.node_loop.proofs.rounds.ask_link.Goals as goal
+
+pub returns-in-Err : goal.returns-in-Err
+returns-in-Err g c = λ w past numbers base s stands agrees.
+    inl (next_failed _ base _ s _ _ _ _ c.fault_of.ensures agrees c.in-Err.ensures.err c.in-Err.ensures.cause.later c.in-Err.ensures.count, stands)
 
 pub returns-in-Err-take : goal.returns-in-Err-take
 returns-in-Err-take g c = λ w past numbers base s stands agrees.
     let item = c.in-Ok.item in
-    let given = next_given _ base _ s.events s.acts _ _ item _ agrees c.in-Ok.ensures.ok c.in-Ok.ensures.cause in
+    let given = next_given _ base _ s.events s.acts _ _ item agrees c.in-Ok.ensures.ok c.in-Ok.ensures.count in
     inr (record {
       item = item;
       is_item = record { goes_on = λ e. both_ways false refl (c.if-is_end.ensures.1 e); short = c.in-Ok.ensures.size };
@@ -18,7 +22,7 @@ returns-in-Err-take g c = λ w past numbers base s stands agrees.
 pub returns-in-Ok-deliver : goal.returns-in-Ok-deliver
 returns-in-Ok-deliver g c = λ w past numbers base s stands agrees.
     let item = c.in-Ok.item in
-    let given = next_given _ base _ s.events s.acts _ _ item _ agrees c.in-Ok.ensures.ok c.in-Ok.ensures.cause in
+    let given = next_given _ base _ s.events s.acts _ _ item agrees c.in-Ok.ensures.ok c.in-Ok.ensures.count in
     record {
       item = item;
       is_item = record { goes_on = λ e. both_ways false refl (c.if-is_end.ensures.1 e); short = c.in-Ok.ensures.size };
@@ -29,7 +33,7 @@ returns-in-Ok-deliver g c = λ w past numbers base s stands agrees.
 pub returns-in-Err-deliver : goal.returns-in-Err-deliver
 returns-in-Err-deliver g c = λ w past numbers base s stands agrees.
     let item = c.in-Ok.item in
-    let given = next_given _ base _ s.events s.acts _ _ item _ agrees c.in-Ok.ensures.ok c.in-Ok.ensures.cause in
+    let given = next_given _ base _ s.events s.acts _ _ item agrees c.in-Ok.ensures.ok c.in-Ok.ensures.count in
     inr (record {
       item = item;
       is_item = record { goes_on = λ e. both_ways false refl (c.if-is_end.ensures.1 e); short = c.in-Ok.ensures.size };

@@ -19,7 +19,7 @@ returns-in-Err g c = λ w past numbers base first run.
     let s = after w past first run.rounds in
     let is = c.in-Turn.ensures.next w (so_far past s) numbers run.stands.here in
     let correct = turn_at_correct _ w past numbers _ base _ _ first _ _ _ run c.in-Turn.at is in
-    turn_stops _ w past numbers _ base _ _ first _ _ _ run c.turn.new.house _ c.in-Turn.at _ _ is (c.in-Err.ensures w past numbers base s run.stands run.agrees correct).steps c.end_of.ensures
+    turn_stops _ w past numbers _ base _ _ first _ _ _ run c.turn.new.house _ c.in-Turn.at _ _ is (c.in-Err.ensures w past numbers base s run.stands run.agrees correct) c.end_of.ensures
 
 pub returns-in-Halt : goal.returns-in-Halt
 returns-in-Halt g c = λ w past numbers base first run.
