@@ -66,10 +66,11 @@ module _ (h : Header) (plan : LinkPlan) (tells : Tells) where
   -- ---- the ends
 
   pub all_taken : (base mid now last : Outs) (events : List Event) (acts : List LinkAct) → HasBegun (heading h) plan tells base mid → Agrees tells mid now events acts
-      → (tells.tape ≡ true → last.taken ≡ now.taken ++ 0 ∷ []) → last.told ≡ now.told → TookAll h plan tells base last events acts
-  all_taken base mid now last events acts begun served closed same = record {
+      → (tells.tape ≡ true → last.taken ≡ now.taken ++ 0 ∷ []) → last.told ≡ now.told → last.tape_faults ≡ now.tape_faults → last.link_faults ≡ now.link_faults → TookAll h plan tells base last events acts
+  all_taken base mid now last events acts begun served closed same tape link = record {
     file = λ t. in_file base.taken mid.taken now.taken last.taken (text_of events) (0 ∷ []) (begun.taken t) (served.taken t) (closed t);
     told = λ t. same ∙ told_all base.told mid.told now.told acts (begun.told t) (served.told t);
+    none_failed = (tape ∙ (served.tape_stands ∙ begun.tape_stands), link ∙ (served.link_stands ∙ begun.link_stands));
   }
 
   pub part_taken : (base mid now : Outs) (events : List Event) (acts more : List LinkAct) → HasBegun (heading h) plan tells base mid
@@ -121,7 +122,7 @@ module _ (h : Header) (plan : LinkPlan) (tells : Tells) where
       by_end : (x : ServeEnd) → HasFailed (heading h) plan tells base now x → SessionEnds h plan tells base now x s sooner news rule
       by_end ends.LinkFault why = (why.cause, part [], NotStarted why)
       by_end ends.TapeFault why = (why.cause, last_taken base now s.events s.acts rule part, NotStarted why)
-      by_end ends.Mem why = (part [], NotStarted why)
+      by_end ends.Mem why = (why.cause, part [], NotStarted why)
       by_end ends.Done why = absurd why.cause
       by_end ends.Limit why = absurd why.cause
       by_end ends.End why = absurd why.cause

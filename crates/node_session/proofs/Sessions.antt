@@ -12,12 +12,11 @@ use Rattle.std.proofs.lemmas.Bool.{eqb-true, eq-eqb, both_ways}
 use Rattle.layer_api.specs.Broadcast.{BroadcastRules}
 use Rattle.layer_api.specs.Service.{ServiceRules}
 use Rattle.ritas_core.specs.Rules.{HasForm}
-use Rattle.outside.specs.Faults.{Rose}
+use Rattle.outside.specs.Faults.{count_after}
 use Rattle.outside.specs.LinkCalls.{TookBack}
 use Rattle.outside.specs.LinkCallsLaws.{back_then}
 use Rattle.outside.specs.Links.{LinkAct, Gives, frames_in, replies_in}
 use Rattle.outside.specs.declared.link.LinkItem.TheVariants as items
-use Rattle.outside.specs.FaultsLaws.{rose_after}
 use Rattle.outside.specs.declared.link.LinkItem.{LinkItem}
 use Rattle.schedule_file.specs.ReadHeader.{heading}
 use Rattle.schedule_file.specs.Spelling.{IsHeading, IsEvent, IsSized, MayStand, AreKeys}
@@ -35,7 +34,7 @@ use Rattle.world_model.specs.EveryWorld.{IsWorld, AgreementLaw}
 use Rattle.node_loop.specs.declared.end.ServeEnd.{ServeEnd}
 use Rattle.node_loop.specs.declared.end.ServeEnd.TheVariants as ends
 use Rattle.node_loop.specs.Laws.{frames_of, FramesAreMade, RepliesAreTrue, EventsFit, IsServed, IsTrueReply}
-use Rattle.node_loop.specs.Outs.{Outs, Tells, Agrees, Stops}
+use Rattle.node_loop.specs.Outs.{Outs, NoneFailed, TapeFailed, LinkFailed, Tells, Agrees, Stops}
 use Rattle.node_loop.specs.Served.{IsFirst, Serves, Breaks, EndsSo, Whole}
 use Rattle.node_loop.specs.ServingLaws.{acts_of}
 use Rattle.node_loop.specs.Serving.{Serving, begin, so_far, Want, Finishes, Halts, Asks, Round, after, sooner, newest, wants, AreWanted}
@@ -158,16 +157,16 @@ module _ (x : Session) (first : List LinkItem) (w : Setting) (tells : Tells)
 
       -- it ended by its rules, and the end mark was written, or not
       closes : (reason : Want) (acts : List LinkAct) (end result : ServeEnd) → Whole m w [] numbers here tells mid now s acts rule reason
-          → last.told ≡ now.told → Closes tells.tape now.taken last.taken now.tape_faults last.tape_faults end result
+          → last.told ≡ now.told → last.link_faults ≡ now.link_faults → Closes tells.tape now.taken last.taken now.tape_faults last.tape_faults end result
           → ((rule ≡ reason) × TookAll x.header x.plan tells base last s.events acts → EndedAt end)
           → acts ≡ last_acts reason s.acts → EndedAt result
-      closes reason acts end result done same (Closed is later closed) so with_end =
-          subst EndedAt (sym is) (so (done.why, all_taken x.header x.plan tells base mid now last s.events acts begun done.agrees closed same))
-      closes reason acts end result done same (Failed is rose later lost) so with_end =
+      closes reason acts end result done same link (Closed is stands closed) so with_end =
+          subst EndedAt (sym is) (so (done.why, all_taken x.header x.plan tells base mid now last s.events acts begun done.agrees closed same stands link))
+      closes reason acts end result done same link (Failed is rises later lost) so with_end =
           let at_last : acts ≡ last_acts rule s.acts = with_end ∙ ap (λ (r : Want). last_acts r s.acts) (sym done.why) in
           let served : Agrees tells mid now s.events (last_acts rule s.acts) = subst (Agrees tells mid now s.events) at_last done.agrees in
           subst EndedAt (sym is) (
-            rose_after base.tape_faults now.tape_faults last.tape_faults (omega (arith, begun.tape_later, done.agrees.tape_later)) rose,
+            (rises ∙ ap count_after (done.agrees.tape_stands ∙ begun.tape_stands), link ∙ (done.agrees.link_stands ∙ begun.link_stands)),
             mark_lost x.header x.plan tells base mid now last s.events (last_acts rule s.acts) begun served lost same,
             NotClosed mid now begun served refl lost same,
           )
@@ -183,50 +182,60 @@ module _ (x : Session) (first : List LinkItem) (w : Setting) (tells : Tells)
       broke : (end : ServeEnd) → Breaks tells mid now end s.events sooner news → last ≡ now → CameTo x.header x.plan tells base last end s sooner news rule
       broke end stops same = Broke mid begun (subst (λ (o : Outs). Breaks tells mid o end s.events sooner news) (sym same) stops)
 
-      ended : (end result : ServeEnd) → EndsSo m w [] numbers here tells mid now end s sooner news rule → s.acts ≡ news ++ sooner → last.told ≡ now.told
+      -- since it began
+      tape_failed : TapeFailed mid now → last ≡ now → TapeFailed base last
+      tape_failed cause same = rw same (cause.0 ∙ ap count_after begun.tape_stands, cause.1 ∙ begun.link_stands)
+
+      link_failed : LinkFailed mid now → last ≡ now → LinkFailed base last
+      link_failed cause same = rw same (cause.0 ∙ begun.tape_stands, cause.1 ∙ ap count_after begun.link_stands)
+
+      none_failed : NoneFailed mid now → last ≡ now → NoneFailed base last
+      none_failed cause same = rw same (cause.0 ∙ begun.tape_stands, cause.1 ∙ begun.link_stands)
+
+      ended : (end result : ServeEnd) → EndsSo m w [] numbers here tells mid now end s sooner news rule → s.acts ≡ news ++ sooner → last.told ≡ now.told → last.link_faults ≡ now.link_faults
           → (is_reason end ≡ true → Closes tells.tape now.taken last.taken now.tape_faults last.tape_faults end result)
           → (is_reason end ≡ false → (result ≡ end) × (last ≡ now)) → EndedAt result
-      ended ends.Done result so both same closed kept = closes Finishes s.acts ends.Done result so same (closed refl) (λ took. took) refl
-      ended ends.Limit result so both same closed kept = closes Halts s.acts ends.Limit result so same (closed refl) (λ took. took) refl
-      ended ends.End result so both same closed kept = closes Asks (Gives items.End ∷ s.acts) ends.End result so same (closed refl) (λ took. took) refl
-      ended ends.LinkFault result so both same closed kept =
+      ended ends.Done result so both same link closed kept = closes Finishes s.acts ends.Done result so same link (closed refl) (λ took. took) refl
+      ended ends.Limit result so both same link closed kept = closes Halts s.acts ends.Limit result so same link (closed refl) (λ took. took) refl
+      ended ends.End result so both same link closed kept = closes Asks (Gives items.End ∷ s.acts) ends.End result so same link (closed refl) (λ took. took) refl
+      ended ends.LinkFault result so both same link closed kept =
           let k = kept refl in
           subst EndedAt (sym k.0) (
-            subst (λ (o : Outs). Rose base.link_faults o.link_faults) (sym k.1) (rose_after base.link_faults mid.link_faults now.link_faults begun.link_later so.cause),
-            breaks _ [] so both k.1,
-            broke ends.LinkFault so k.1,
+            link_failed so.0.cause k.1,
+            breaks _ [] so.0 both k.1,
+            broke ends.LinkFault so.0 k.1,
           )
-      ended ends.TapeFault result so both same closed kept =
+      ended ends.TapeFault result so both same link closed kept =
           let k = kept refl in
           subst EndedAt (sym k.0) (
-            subst (λ (o : Outs). Rose base.tape_faults o.tape_faults) (sym k.1) (rose_after base.tape_faults mid.tape_faults now.tape_faults begun.tape_later so.cause),
-            last_taken x.header x.plan tells base last s.events s.acts rule (λ more. breaks _ more so both k.1),
-            broke ends.TapeFault so k.1,
+            tape_failed so.0.cause k.1,
+            last_taken x.header x.plan tells base last s.events s.acts rule (λ more. breaks _ more so.0 both k.1),
+            broke ends.TapeFault so.0 k.1,
           )
-      ended ends.Mem result so both same closed kept =
+      ended ends.Mem result so both same link closed kept =
           let k = kept refl in
-          subst EndedAt (sym k.0) (breaks _ [] so both k.1, broke ends.Mem so k.1)
+          subst EndedAt (sym k.0) (none_failed so.cause k.1, breaks _ [] so both k.1, broke ends.Mem so k.1)
 
     -- counts of faults don't fall
     tape_on : (s : Serving) (sooner news : List LinkAct) (rule : Want) (end : ServeEnd) → EndsSo m w [] numbers here tells mid now end s sooner news rule → mid.tape_faults ≤ now.tape_faults
-    tape_on s sooner news rule ends.Done so = so.agrees.tape_later
-    tape_on s sooner news rule ends.Limit so = so.agrees.tape_later
-    tape_on s sooner news rule ends.End so = so.agrees.tape_later
-    tape_on s sooner news rule ends.LinkFault so = so.tape_later
-    tape_on s sooner news rule ends.TapeFault so = so.tape_later
+    tape_on s sooner news rule ends.Done so = omega (arith, so.agrees.tape_stands)
+    tape_on s sooner news rule ends.Limit so = omega (arith, so.agrees.tape_stands)
+    tape_on s sooner news rule ends.End so = omega (arith, so.agrees.tape_stands)
+    tape_on s sooner news rule ends.LinkFault so = so.0.tape_later
+    tape_on s sooner news rule ends.TapeFault so = so.0.tape_later
     tape_on s sooner news rule ends.Mem so = so.tape_later
 
     link_on : (s : Serving) (sooner news : List LinkAct) (rule : Want) (end : ServeEnd) → EndsSo m w [] numbers here tells mid now end s sooner news rule → mid.link_faults ≤ now.link_faults
-    link_on s sooner news rule ends.Done so = so.agrees.link_later
-    link_on s sooner news rule ends.Limit so = so.agrees.link_later
-    link_on s sooner news rule ends.End so = so.agrees.link_later
-    link_on s sooner news rule ends.LinkFault so = so.link_later
-    link_on s sooner news rule ends.TapeFault so = so.link_later
+    link_on s sooner news rule ends.Done so = omega (arith, so.agrees.link_stands)
+    link_on s sooner news rule ends.Limit so = omega (arith, so.agrees.link_stands)
+    link_on s sooner news rule ends.End so = omega (arith, so.agrees.link_stands)
+    link_on s sooner news rule ends.LinkFault so = so.0.link_later
+    link_on s sooner news rule ends.TapeFault so = so.0.link_later
     link_on s sooner news rule ends.Mem so = so.link_later
 
     close_on : (end result : ServeEnd) → Closes tells.tape now.taken last.taken now.tape_faults last.tape_faults end result → now.tape_faults ≤ last.tape_faults
-    close_on end result (Closed is later closed) = later
-    close_on end result (Failed is rose later lost) = later
+    close_on end result (Closed is stands closed) = omega (arith, stands)
+    close_on end result (Failed is rises later lost) = later
 
     end_on : (end result : ServeEnd) (b : Bool) → is_reason end ≡ b → (is_reason end ≡ true → Closes tells.tape now.taken last.taken now.tape_faults last.tape_faults end result)
         → (is_reason end ≡ false → (result ≡ end) × (last ≡ now)) → now.tape_faults ≤ last.tape_faults
@@ -244,8 +253,8 @@ module _ (x : Session) (first : List LinkItem) (w : Setting) (tells : Tells)
         record {
           rounds = run.rounds;
           wanted = run.wanted;
-          so = ended s old new rule end result run.so (acts_of w [] first run.rounds) same closed kept;
+          so = ended s old new rule end result run.so (acts_of w [] first run.rounds) same same_count closed kept;
           true_of = session run.rounds run.wanted;
-          tape_later = omega (arith, begun.tape_later, tape_on s old new rule end run.so, end_on end result (is_reason end) refl closed kept);
-          link_later = omega (arith, begun.link_later, link_on s old new rule end run.so, same_count);
+          tape_later = omega (arith, begun.tape_stands, tape_on s old new rule end run.so, end_on end result (is_reason end) refl closed kept);
+          link_later = omega (arith, begun.link_stands, link_on s old new rule end run.so, same_count);
         }

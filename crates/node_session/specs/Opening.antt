@@ -1,6 +1,6 @@
 -- What a session begins and ends with.
 use Rattle.std.specs.Prelude.{◌≡◌, ℕ, ◌≤◌, Bool, true, false, List, [], ◌∷◌, ◌++◌, Result, Ok, Err}
-use Rattle.outside.specs.Faults.{Rose}
+use Rattle.outside.specs.Faults.{count_after}
 use Rattle.outside.specs.Links.{Starts}
 use Rattle.outside.specs.Writing.{TookFront}
 use Rattle.outside.specs.declared.link.LinkFault.{LinkFault}
@@ -10,7 +10,7 @@ use Rattle.schedule_file.specs.ReadHeader.{Heading}
 use Rattle.schedule_file.specs.Spelling.{header_text}
 use Rattle.node_loop.specs.declared.end.ServeEnd.{ServeEnd}
 use Rattle.node_loop.specs.declared.end.ServeEnd.TheVariants as ends
-use Rattle.node_loop.specs.Outs.{Outs, Tells}
+use Rattle.node_loop.specs.Outs.{Outs, NoneFailed, TapeFailed, LinkFailed, Tells}
 
 -- the end that a fault of the link is
 abbrev pub Ends : LinkFault → ServeEnd → Type 0
@@ -19,18 +19,18 @@ Ends faults.Mem end = end ≡ ends.Mem
 
 -- ---- the beginning
 
--- the header was written and the link was started
+-- the header was written and the link was started, and no call failed
 pub record HasBegun (h : Heading) (plan : LinkPlan) (tells : Tells) (base now : Outs) : Type 0 where
   pub taken : tells.tape ≡ true → now.taken ≡ base.taken ++ header_text h
   pub told : tells.link ≡ true → now.told ≡ Starts plan ∷ base.told
-  pub tape_later : base.tape_faults ≤ now.tape_faults
-  pub link_later : base.link_faults ≤ now.link_faults
+  pub tape_stands : now.tape_faults ≡ base.tape_faults
+  pub link_stands : now.link_faults ≡ base.link_faults
 
 -- a fault came on the way there, and its cause
 abbrev pub HasCause : Outs → Outs → ServeEnd → Type 0
-HasCause base now ends.LinkFault = Rose base.link_faults now.link_faults
-HasCause base now ends.TapeFault = Rose base.tape_faults now.tape_faults
-HasCause base now ends.Mem = Unit {0}
+HasCause base now ends.LinkFault = LinkFailed base now
+HasCause base now ends.TapeFault = TapeFailed base now
+HasCause base now ends.Mem = NoneFailed base now
 HasCause base now end = ⊥
 
 pub record HasFailed (h : Heading) (plan : LinkPlan) (tells : Tells) (base now : Outs) (end : ServeEnd) : Type 0 where
@@ -57,5 +57,5 @@ is_reason ends.Mem = false
 
 -- the end mark was written, or the output failed, which took it or not
 pub data Closes (tells : Bool) (old new : List ℕ) (before now : ℕ) (end result : ServeEnd) : Type 0 where
-  Closed : result ≡ end → before ≤ now → (tells ≡ true → new ≡ old ++ 0 ∷ []) → Closes tells old new before now end result
-  Failed : result ≡ ends.TapeFault → Rose before now → before ≤ now → (tells ≡ true → TookFront old new (0 ∷ [])) → Closes tells old new before now end result
+  Closed : result ≡ end → now ≡ before → (tells ≡ true → new ≡ old ++ 0 ∷ []) → Closes tells old new before now end result
+  Failed : result ≡ ends.TapeFault → now ≡ count_after before → before ≤ now → (tells ≡ true → TookFront old new (0 ∷ [])) → Closes tells old new before now end result

@@ -2,7 +2,6 @@
 use Rattle.std.specs.Prelude.{◌≡◌, ◌≤◌, true, List, [], ◌∷◌, ◌++◌, length, reverse}
 use Rattle.std.specs.List.{All, AllByRecursion}
 use Rattle.ritas_base.specs.declared.event.Event.{Event}
-use Rattle.outside.specs.Faults.{Rose}
 use Rattle.outside.specs.LinkCalls.{TookBack}
 use Rattle.outside.specs.Links.{LinkAct, Starts, Gives, frames_in, replies_in}
 use Rattle.outside.specs.Writing.{TookFront}
@@ -20,7 +19,7 @@ use Rattle.world_model.specs.World.{Setting}
 use Rattle.node_loop.specs.declared.end.ServeEnd.{ServeEnd}
 use Rattle.node_loop.specs.declared.end.ServeEnd.TheVariants as ends
 use Rattle.node_loop.specs.Laws.{frames_of, IsTrueReply}
-use Rattle.node_loop.specs.Outs.{Outs, Tells, Agrees}
+use Rattle.node_loop.specs.Outs.{Outs, NoneFailed, TapeFailed, LinkFailed, Tells, Agrees}
 use Rattle.node_loop.specs.Served.{IsFirst, Breaks}
 use Rattle.node_loop.specs.Serving.{Serving, Want, Begins, Finishes, Turns, Halts, Asks, Round, after, sooner, newest, wants, AreWanted}
 use Rattle.node_session.specs.declared.session.Session.{Session}
@@ -36,10 +35,11 @@ pub record IsServable (s : Session) (first : List LinkItem) : Type 0 where
 
 -- ---- what is served
 
--- the output took the file of the events, and the link was started with the plan and told these calls
+-- the output took the file of the events, the link was started with the plan and told these calls, and no call of them failed
 pub record TookAll (h : Header) (plan : LinkPlan) (tells : Tells) (base now : Outs) (events : List Event) (acts : List LinkAct) : Type 0 where
   pub file : tells.tape ≡ true → now.taken ≡ base.taken ++ FileOf (heading h) events
   pub told : tells.link ≡ true → now.told ≡ (acts ++ Starts plan ∷ []) ++ base.told
+  pub none_failed : NoneFailed base now
 
 -- up to a point
 pub record TookPart (h : Header) (plan : LinkPlan) (tells : Tells) (base now : Outs) (events : List Event) (acts : List LinkAct) : Type 0 where
@@ -62,17 +62,17 @@ pub data CameTo (h : Header) (plan : LinkPlan) (tells : Tells) (base now : Outs)
   NotClosed : (mid whole : Outs) → HasBegun (heading h) plan tells base mid → Agrees tells mid whole s.events (last_acts rule s.acts) → end ≡ ends.TapeFault
       → (tells.tape ≡ true → TookFront whole.taken now.taken (0 ∷ [])) → now.told ≡ whole.told → CameTo h plan tells base now end s sooner news rule
 
--- each end: the rule that applied, or the fault that came
+-- each end: the rule that applied, or the fault that came, which is that of the first call that failed
 abbrev pub SessionEnds : Header → LinkPlan → Tells → Outs → Outs → ServeEnd → Serving → List LinkAct → List LinkAct → Want → Type 0
 SessionEnds h plan tells base now ends.Done s sooner news rule = (rule ≡ Finishes) × TookAll h plan tells base now s.events s.acts
 SessionEnds h plan tells base now ends.Limit s sooner news rule = (rule ≡ Halts) × TookAll h plan tells base now s.events s.acts
 SessionEnds h plan tells base now ends.End s sooner news rule = (rule ≡ Asks) × TookAll h plan tells base now s.events (Gives items.End ∷ s.acts)
 SessionEnds h plan tells base now ends.LinkFault s sooner news rule =
-    Rose base.link_faults now.link_faults × TookPart h plan tells base now s.events s.acts × CameTo h plan tells base now ends.LinkFault s sooner news rule
+    LinkFailed base now × TookPart h plan tells base now s.events s.acts × CameTo h plan tells base now ends.LinkFault s sooner news rule
 SessionEnds h plan tells base now ends.TapeFault s sooner news rule =
-    Rose base.tape_faults now.tape_faults × TookPart h plan tells base now s.events (last_acts rule s.acts) × CameTo h plan tells base now ends.TapeFault s sooner news rule
+    TapeFailed base now × TookPart h plan tells base now s.events (last_acts rule s.acts) × CameTo h plan tells base now ends.TapeFault s sooner news rule
 SessionEnds h plan tells base now ends.Mem s sooner news rule =
-    TookPart h plan tells base now s.events s.acts × CameTo h plan tells base now ends.Mem s sooner news rule
+    NoneFailed base now × TookPart h plan tells base now s.events s.acts × CameTo h plan tells base now ends.Mem s sooner news rule
 
 -- What is true of the events and the calls of a session, in its world w: a file of these events is one, the frames that went to the link are
 -- those that its replicas made, in their order, each reply of a position is true, and where the audit holds the replicas agree.

@@ -102,8 +102,8 @@ fn serve_as<R: Net + Wait, S: Service, E: Broadcast, L: Link, K: Sink>(
 /// in order, and then those that the link gives (`node_loop::serve`).
 ///
 /// The output takes the header, each event before the frames that it makes are sent, and, where serving ends by its rules, the end
-/// mark: a schedule file, which can be replayed where it has at most 67,108,864 bytes. It ends as `serve` does; at a fault the output took a front of a file. The one error
-/// is want of memory for the replicas: then nothing is written, and the link isn't started.
+/// mark: a schedule file, which can be replayed where it has at most 67,108,864 bytes. It ends as `serve` does; at a fault the output
+/// took a front of a file. The one error is want of memory for the replicas: then nothing is written, and the link isn't started.
 ///
 /// Where the audit of the events holds, the replicas agree: their logs of commands are prefixes of one list, with each command once, a
 /// command of one of them stands there only if it was submitted there, and no two decide differently in any instance.

@@ -1,6 +1,7 @@
 -- What the status of serving says.
 use Rattle.std.proofs.Common.{◌≡◌, ◌≢◌, ℕ, ◌≤◌, List, [], ◌∷◌, sym, ◌∙◌, inl, inr, subst, arith}
 use Rattle.outside.specs.Faults.{Rose}
+use Rattle.outside.specs.FaultsLaws.{rose_once}
 use Rattle.outside.specs.Links.{LinkAct, Gives}
 use Rattle.outside.specs.declared.link.LinkItem.{LinkItem}
 use Rattle.outside.specs.declared.link.LinkItem.TheVariants as items
@@ -48,7 +49,7 @@ output_rose h plan tells base now ends.Done s sooner news rule so e = absurd (om
 output_rose h plan tells base now ends.Limit s sooner news rule so e = absurd (omega (arith, e))
 output_rose h plan tells base now ends.End s sooner news rule so e = absurd (omega (arith, e))
 output_rose h plan tells base now ends.LinkFault s sooner news rule so e = absurd (omega (arith, e))
-output_rose h plan tells base now ends.TapeFault s sooner news rule so e = so.0
+output_rose h plan tells base now ends.TapeFault s sooner news rule so e = rw so.0.0 (rose_once base.tape_faults)
 output_rose h plan tells base now ends.Mem s sooner news rule so e = absurd (omega (arith, e))
 
 link_rose : (h : Header) (plan : LinkPlan) (tells : Tells) (base now : Outs) (end : ServeEnd) (s : Serving) (sooner news : List LinkAct) (rule : Want) → SessionEnds h plan tells base now end s sooner news rule
@@ -56,7 +57,7 @@ link_rose : (h : Header) (plan : LinkPlan) (tells : Tells) (base now : Outs) (en
 link_rose h plan tells base now ends.Done s sooner news rule so e = absurd (omega (arith, e))
 link_rose h plan tells base now ends.Limit s sooner news rule so e = absurd (omega (arith, e))
 link_rose h plan tells base now ends.End s sooner news rule so e = absurd (omega (arith, e))
-link_rose h plan tells base now ends.LinkFault s sooner news rule so e = so.0
+link_rose h plan tells base now ends.LinkFault s sooner news rule so e = rw so.0.1 (rose_once base.link_faults)
 link_rose h plan tells base now ends.TapeFault s sooner news rule so e = absurd (omega (arith, e))
 link_rose h plan tells base now ends.Mem s sooner news rule so e = absurd (omega (arith, e))
 
