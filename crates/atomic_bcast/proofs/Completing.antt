@@ -14,7 +14,7 @@ use Rattle.layer_api.specs.Vectors.{VectorRules, VectorLaws}
 use Rattle.layer_api.specs.VectorCalls.{VectorShown}
 use Rattle.atomic_bcast.specs.Identifiers.{kept, is_without, in_order, all_pass, append_ids}
 use Rattle.atomic_bcast.specs.Ordered.{IsSorted, in_order_sorted, kept_sorted}
-use Rattle.atomic_bcast.specs.Rounds.{delivered_ids, wanted, backers, lists_in, entry_ids, has_command, round_desk, round_ask, rounds}
+use Rattle.atomic_bcast.specs.Rounds.{delivered_ids, wanted, backers, entry_ids, has_command, round_desk, round_ask, rounds}
 use Rattle.atomic_bcast.specs.RoundWords.{delivered_good}
 use Rattle.atomic_bcast.specs.Stepping.{current, log_now, heard_words, words_now}
 use Rattle.atomic_bcast.specs.Ledger.{LedgerStands, IsReady, Between}
@@ -28,6 +28,7 @@ use Rattle.atomic_bcast.proofs.Pending.{above_all}
 use Rattle.atomic_bcast.proofs.Stepped.{some_value, all_delivered, complete_where, Goes, stays_or_goes, words_same, was_asked, done}
 use Rattle.atomic_bcast.proofs.Near.{near_before, mid_before}
 use Rattle.atomic_bcast.proofs.Turns.{begun_some, poised_stays, poised_next}
+use Rattle.frame_codec.specs.Values.{entries_of}
 
 -- ---- what is wanted is ready
 
@@ -45,7 +46,7 @@ good_all n (x ∷ xs) most all = let l = all.0.0 in ((omega (arith, l, most), al
 
 wanted_sorted : (p : Numbers) (x : List ℕ) → IsSorted (wanted p x)
 wanted_sorted p x =
-    kept_sorted (λ y. nat_le (p.f + 1) (backers (lists_in x) y)) (in_order (entry_ids (lists_in x))) (in_order_sorted (entry_ids (lists_in x)))
+    kept_sorted (λ y. nat_le (p.f + 1) (backers (entries_of x) y)) (in_order (entry_ids (entries_of x))) (in_order_sorted (entry_ids (entries_of x)))
 
 pub on_err_any : {T E : Type 0} (r : Result T E) (P : Type 0) → P → OnErr r P
 on_err_any (Ok x) P p = tt

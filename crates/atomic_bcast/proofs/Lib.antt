@@ -4,6 +4,7 @@ pub mod Pending
 pub mod Listed
 pub mod LedgerSteps
 pub mod Stepped
+pub mod NearLast
 pub mod Near
 pub mod Turns
 pub mod BackingSteps
@@ -13,3 +14,4 @@ pub mod Completing
 pub mod Beginning
 pub mod Taking
 pub mod RoundHearing
+mod Appending

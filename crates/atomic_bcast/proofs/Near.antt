@@ -5,24 +5,25 @@ use Rattle.std.proofs.lemmas.Bool.{cases_lt, and_left, and_parts, le-ltb}
 use Rattle.ritas_base.specs.declared.slot.Slot.{Slot}
 use Rattle.ritas_base.specs.declared.id.Id.{Id}
 use Rattle.ritas_base.specs.Numbers.{Numbers, IsSession}
-use Rattle.layer_api.specs.Service.{Seat, AreProper, IsPart, Decided, Undecided, Spent}
+use Rattle.layer_api.specs.Service.{Seat, AreProper, IsPart, Decided, Undecided, Spent, vector_with}
 use Rattle.layer_api.specs.Words.{Word, asked}
 use Rattle.layer_api.specs.Part.{passed}
 use Rattle.layer_api.specs.Multi.{Desk}
 use Rattle.layer_api.specs.Vectors.{VectorRules, VectorLaws}
 use Rattle.layer_api.specs.VectorCalls.{VectorShown}
-use Rattle.atomic_bcast.specs.Rounds.{delivered_ids, least_without, is_of_round, round_desk, round_ask, round_words, round_opens, rounds, atomic}
-use Rattle.atomic_bcast.specs.RoundLogs.{log_grows}
+use Rattle.atomic_bcast.specs.Rounds.{delivered_ids, least_without, is_of_round, round_desk, round_ask, round_words, round_opens, rounds, atomic, last_vector}
+use Rattle.atomic_bcast.specs.RoundLogs.{log_grows, complete_small}
 use Rattle.atomic_bcast.specs.Stepping.{current, log_now, heard_words}
 use Rattle.atomic_bcast.specs.SteppingLaws.{steps, full_is}
-use Rattle.atomic_bcast.specs.Boxes.{box_at, opens_in, spent_in, Stood}
+use Rattle.atomic_bcast.specs.Boxes.{box_at, opens_in, spent_in, Stood, last_in}
 use Rattle.atomic_bcast.specs.Shows.{opens_round, base_in}
 use Rattle.atomic_bcast.specs.Abc.{has_begun, Stands}
 use Rattle.atomic_bcast.specs.Turning.{Mid, IsNow, Poised, IsNear}
-use Rattle.atomic_bcast.specs.AbcShows.{told, ruled, none_beyond, same_inside, ruled_nothing, ruled_past, told_nothing, told_ahead, past_box, full_not_spent, base_is, AllShow, stood_opens, stood_spent, nothing_ahead, shows_rules}
+use Rattle.atomic_bcast.specs.AbcShows.{told, ruled, none_beyond, same_inside, ruled_nothing, ruled_past, told_nothing, told_ahead, past_box, full_not_spent, base_is, AllShow, stood_opens, stood_spent, nothing_ahead, shows_rules, stood_vector}
 use Rattle.atomic_bcast.specs.declared.boxes.Boxes.{Boxes}
 use Rattle.atomic_bcast.specs.declared.abc.Abc.{Abc}
 use Rattle.atomic_bcast.proofs.Stepped.{stays_or_goes, words_heard, not_spent_before, not_spent_after, only_current}
+use Rattle.atomic_bcast.proofs.NearLast.{IsNearVector, NearNow, last_near, last_poised}
 
 -- of two answers one holds, behind a test
 near_if : (t o a b d : Bool) → (a ≡ b) ⊎ (a ≡ d) → ((if t then o else a) ≡ (if t then o else b)) ⊎ ((if t then o else a) ≡ (if t then o else d))
@@ -46,16 +47,18 @@ module _ {V : Type 0} (stands : V → Desk → List Word → Type 0) (v : Vector
   pub record BoxNear (one : V) (at : Desk) (u later : List Word) : Type 0 where
     pub opens : (s : Slot) → ((shown one).opens s ≡ v.opens at u s) ⊎ ((shown one).opens s ≡ v.opens at later s)
     pub spent : ((shown one).spent ≡ v.spent at u) ⊎ ((shown one).spent ≡ v.spent at later)
+    pub decided : (((shown one).decision ≡ v.decision at u) × ((shown one).attempt ≡ v.attempt at u))
+        ⊎ (((shown one).decision ≡ v.decision at later) × ((shown one).attempt ≡ v.attempt at later))
 
   abbrev pub OneNear : Option V → Desk → List Word → List Word → Type 0
   OneNear None at u later = u ≡ []
   OneNear (Some one) at u later = BoxNear one at u later
 
   pub near_stood : (one : V) (at : Desk) (u later : List Word) → stands one at u → BoxNear one at u later
-  near_stood one at u later stood = let s = (shows one at u stood).1 in record { opens = λ q. inl (s.opens q); spent = inl s.spent }
+  near_stood one at u later stood = let s = (shows one at u stood).1 in record { opens = λ q. inl (s.opens q); spent = inl s.spent; decided = inl (s.decision, s.attempt) }
 
   pub near_later : (one : V) (at : Desk) (u later : List Word) → stands one at later → BoxNear one at u later
-  near_later one at u later stood = let s = (shows one at later stood).1 in record { opens = λ q. inr (s.opens q); spent = inr s.spent }
+  near_later one at u later stood = let s = (shows one at later stood).1 in record { opens = λ q. inr (s.opens q); spent = inr s.spent; decided = inr (s.decision, s.attempt) }
 
   abbrev pub NearBoxes : Seat → List Word → Word → Boxes V → Type 0
   NearBoxes seat w c b =
@@ -174,6 +177,27 @@ module _ {V : Type 0} (stands : V → Desk → List Word → Type 0) (v : Vector
               (full_not_spent v seat laws w session met.1)))
         ]
 
+    -- the vector of a round in the window
+    vector_near : (a : ℕ) (o : Option V) → OneNear o (round_desk seat a) (round_words v seat a w) (heard_words v seat c w a)
+        → IsNearVector v laws seat session stands live shown shows c w met a o
+    vector_near a None none = inl (stood_vector stands v laws live shown shows None a (round_desk seat a) (round_words v seat a w) none)
+    vector_near a (Some one) near =
+        elim near.decided [
+          | inl e ↦ inl (ap₂ (λ (k : Option ℕ) (d : Option (List ℕ)). vector_with a k d) e.1 e.0)
+          | inr e ↦ inr (ap₂ (λ (k : Option ℕ) (d : Option (List ℕ)). vector_with a k d) e.1 e.0)
+        ]
+
+    vector_now : (o : Option V) → OneNear o (round_desk seat n) (round_words v seat n w) (heard_words v seat c w n)
+        → NearNow v laws seat session stands live shown shows c w met o
+    vector_now None none = stood_vector stands v laws live shown shows None n (round_desk seat n) (round_words v seat n w) none
+    vector_now (Some one) near = vector_near n (Some one) near
+
+    vector_in_window : (b : Boxes V) → NearBoxes seat w c b → is_some b.current ≡ has_begun v seat w
+        → (last_in shown n b ≡ last_vector v seat w) ⊎ (last_in shown n b ≡ last_vector v seat (c ∷ w))
+    vector_in_window b boxes begun =
+        last_near v laws seat session stands live shown shows c w met b begun (λ small. vector_now b.current (boxes n 0 (omega arith) (omega arith) small))
+        (λ k same. let few = complete_small v seat rounds w in vector_near k b.last (boxes k 1 (omega (arith, same)) (omega arith) (omega (arith, same, few))))
+
   -- ---- all is near
 
   pub near_before : (x : Abc V) (seat : Seat) (w : List Word) (c : Word) → Before x seat w c → IsNear stands v shown x seat w c
@@ -189,6 +213,8 @@ module _ {V : Type 0} (stands : V → Desk → List Word → Type 0) (v : Vector
     done_before = b.done_before;
     done_after = b.done_after;
     outcome = ending_near _ _ _ (spent_near seat b.session c w b.met x.boxes b.boxes b.begun);
+    last = subst (λ (k : ℕ). (last_in shown k x.boxes ≡ last_vector v seat w) ⊎ (last_in shown k x.boxes ≡ last_vector v seat (c ∷ w))) (sym b.completed)
+        (vector_in_window seat b.session c w b.met x.boxes b.boxes b.begun);
   }
 
   both_nil : (xs ys : List Word) → xs ++ ys ≡ [] → ys ≡ []
@@ -227,6 +253,7 @@ module _ {V : Type 0} (stands : V → Desk → List Word → Type 0) (v : Vector
         done_before = ([], sym s.done);
         done_after = subst (λ (ys : List Id). IsPart ys (log_now v seat (c ∷ w))) (sym s.done) (log_grows v seat rounds c w);
         outcome = inl s.outcome;
+        last = inl s.last;
       }
 
   pub shows_after : (x : Abc V) (seat : Seat) (w : List Word) (c : Word) → Stands stands v shown x seat (c ∷ w) → IsNear stands v shown x seat w c
@@ -241,6 +268,7 @@ module _ {V : Type 0} (stands : V → Desk → List Word → Type 0) (v : Vector
         done_before = subst (λ (ys : List Id). IsPart (log_now v seat w) ys) (sym s.done) (log_grows v seat rounds c w);
         done_after = ([], s.done);
         outcome = inr s.outcome;
+        last = inr s.last;
       }
 
   -- ---- where the current round may have to begin
@@ -308,4 +336,5 @@ module _ {V : Type 0} (stands : V → Desk → List Word → Type 0) (v : Vector
       done_before = subst (λ (ys : List Id). IsPart (log_now v seat w) ys) (sym p.ledger.listed) (log_grows v seat rounds c w);
       done_after = ([], p.ledger.listed);
       outcome = ending_near _ _ _ (here_spent x.boxes.current p.here);
+      last = inr (ap (λ (k : ℕ). last_in shown k x.boxes) p.completed ∙ last_poised v laws seat p.seated.session stands live shown shows c w p.seated.met x.boxes p.here p.older);
     }

@@ -271,4 +271,4 @@ module _ {V : Type 0} (stands : V → Desk → List Word → Type 0) (v : Vector
           let o = there in
           let y = subst (λ (i : ℕ). (one : V) → box_at x.boxes i ≡ Some one → (next : V) × (b ≡ with_box x.boxes i (Some next)) × VectorHears stands v live shown bits one next s u said made (Err e)) same hears o.0 o.1 in
           let near = y.2.shows (round_desk seat s.a) (round_words v seat s.a w) (stood b o.0 y.0 o.1 y.1) (coin, may_inner) in
-          before_round b o.0 y.0 o.1 y.1 (record { opens = near.opens; spent = near.spent })
+          before_round b o.0 y.0 o.1 y.1 (record { opens = near.opens; spent = near.spent; decided = elim near.ending [ inl e ↦ inl (e.0, e.2) | inr e ↦ inr (e.0, e.2) ] })

@@ -1,30 +1,32 @@
 -- What the getters of a value of atomic broadcast answer is what the rules say.
-use Rattle.std.specs.Prelude.{◌≡◌, ℕ, ◌+◌, ◌-◌, ◌<◌, ◌≤◌, ◌==◌, nat_lt, nat_le, Bool, true, false, not, ◌&&◌, if◌then◌else◌, List, [], ◌∷◌, ◌++◌, slice_index, Option, Some, None, is_some, refl}
+use Rattle.std.specs.Prelude.{◌≡◌, ℕ, ◌+◌, ◌-◌, ◌<◌, ◌≤◌, ◌==◌, nat_lt, nat_le, Bool, true, false, not, ◌&&◌, if◌then◌else◌, List, [], ◌∷◌, ◌++◌, slice_index, Option, Some, None, is_some, refl, zero, suc}
 use Rattle.std.proofs.Common.{sym, ◌∙◌, ap, ap₂, subst, inl, inr, arith}
 use Rattle.std.proofs.lemmas.Bool.{cases_lt, lt-ltb, le-ltb, le-leb, lt-leb, and_right, and_left, or_from, or_left, cond-true, ne_eqb}
 use Rattle.ritas_base.specs.declared.slot.Slot.{Slot}
 use Rattle.ritas_base.specs.declared.id.Id.{Id}
 use Rattle.ritas_base.specs.Numbers.{Numbers, IsSession}
-use Rattle.layer_api.specs.Service.{Seat, AreProper, Decided, Undecided, Spent}
+use Rattle.layer_api.specs.Service.{Seat, AreProper, Decided, Undecided, Spent, LastVector, vector_with}
 use Rattle.layer_api.specs.ServiceCalls.{Shows}
 use Rattle.layer_api.specs.Words.{Word, Ask, Hear}
 use Rattle.layer_api.specs.Part.{newly_asked, passed}
 use Rattle.layer_api.specs.Multi.{Desk}
 use Rattle.layer_api.specs.Vectors.{VectorRules, VectorLaws, is_slot_in}
 use Rattle.layer_api.specs.VectorCalls.{VectorShown, ShowsVector}
-use Rattle.atomic_bcast.specs.Rounds.{delivered_ids, least_without, is_of_round, round_desk, log_below, round_ask, round_words, round_opens, rounds, atomic}
+use Rattle.atomic_bcast.specs.Rounds.{delivered_ids, least_without, is_of_round, round_desk, log_below, round_ask, round_words, round_opens, rounds, atomic, round_decides, vector_of_round, last_complete, last_vector}
 use Rattle.atomic_bcast.specs.RoundWords.{round_stays, round_nothing}
 use Rattle.atomic_bcast.specs.Stepping.{current, log_now}
 use Rattle.atomic_bcast.specs.SteppingLaws.{not_ahead, full_is}
 use Rattle.atomic_bcast.specs.Early.{has_early}
 use Rattle.atomic_bcast.specs.Ledger.{LedgerStands}
 use Rattle.atomic_bcast.specs.Least.{least_from}
-use Rattle.atomic_bcast.specs.Boxes.{box_at, opens_in, spent_in, Stood, BoxesStand}
+use Rattle.atomic_bcast.specs.Boxes.{box_at, opens_in, spent_in, Stood, BoxesStand, vector_in, last_in}
 use Rattle.atomic_bcast.specs.Shows.{opens_round, base_in, shown_by}
 use Rattle.atomic_bcast.specs.Abc.{has_begun, Stands}
 use Rattle.atomic_bcast.specs.declared.ledger.Ledger.{Ledger}
 use Rattle.atomic_bcast.specs.declared.boxes.Boxes.{Boxes}
 use Rattle.atomic_bcast.specs.declared.abc.Abc.{Abc}
+use Rattle.std.specs.Option.{option_or}
+use Rattle.atomic_bcast.specs.RoundLogs.{complete_small}
 
 -- ---- whether a slot of a round is open, by what the box of its round takes
 
@@ -104,6 +106,14 @@ module _ (v : VectorRules) (seat : Seat) where
       go None = laws.spent_first (round_desk seat rounds)
       go (Some x) = laws.spent_asked (round_desk seat rounds) x session
 
+  -- and decides nothing
+  pub full_undecided : (laws : VectorLaws v) (w : List Word) → IsSession seat.numbers → AreProper (atomic v) seat w → round_decides v seat rounds w ≡ None
+  full_undecided laws w session m = ap (v.decision (round_desk seat rounds)) (full_words w m) ∙ go (round_ask v seat rounds w)
+    where
+      go : (o : Option (List ℕ)) → v.decision (round_desk seat rounds) (newly_asked None o) ≡ None
+      go None = laws.decision_first (round_desk seat rounds)
+      go (Some x) = laws.decision_asked (round_desk seat rounds) x session
+
 -- ---- the base
 
 pub base_is : (l : Ledger) (delivered log : List Id) (o : ℕ) → LedgerStands l delivered log → o < 31 → base_in l o ≡ least_without log o
@@ -116,6 +126,11 @@ base_is l delivered log o stands small =
     })
 
 -- ---- what the rules say
+
+-- a round without a decision has no vector
+pub no_vector : (a : ℕ) (o : Option ℕ) → vector_with a o None ≡ None
+no_vector a None = refl
+no_vector a (Some k) = refl
 
 -- a value that stands for some words is live, and its getters answer what the rules say
 abbrev pub AllShow : {V : Type 0} → (V → Desk → List Word → Type 0) → VectorRules → (V → Bool) → (V → VectorShown) → Type 0
@@ -130,6 +145,13 @@ module _ {V : Type 0} (stands : V → Desk → List Word → Type 0) (v : Vector
   pub stood_spent : (one : Option V) (at : Desk) (u : List Word) → Stood stands one at u → spent_in shown one ≡ v.spent at u
   stood_spent None at u none = sym (ap (v.spent at) none ∙ laws.spent_first at)
   stood_spent (Some x) at u stood = (shows x at u stood).1.spent
+
+  -- and its vector
+  pub stood_vector : (one : Option V) (a : ℕ) (at : Desk) (u : List Word) → Stood stands one at u → vector_in shown a one ≡ vector_with a (v.attempt at u) (v.decision at u)
+  stood_vector None a at u none =
+      sym (ap (vector_with a (v.attempt at u)) (ap (v.decision at) none ∙ laws.decision_first at) ∙ no_vector a (v.attempt at u))
+  stood_vector (Some x) a at u stood =
+      let s = (shows x at u stood).1 in ap₂ (λ (o : Option ℕ) (d : Option (List ℕ)). vector_with a o d) s.attempt s.decision
 
   module _ (seat : Seat) (session : IsSession seat.numbers) where
     -- a round ahead takes nothing
@@ -175,6 +197,44 @@ module _ {V : Type 0} (stands : V → Desk → List Word → Type 0) (v : Vector
         none_there None q = refl
         none_there (Some x) q = absurd cc
 
+    -- the last vector is that of the current round, or of the one before it
+    pub now_vector : (w : List Word) (b : Boxes V) → AreProper (atomic v) seat w → is_some b.current ≡ has_begun v seat w
+        → BoxesStand stands seat (current v seat w) (λ a. round_words v seat a w) b
+        → vector_in shown (current v seat w) b.current ≡ vector_of_round v seat (current v seat w) w
+    now_vector w b m begun boxes =
+        elim (cases_lt (current v seat w) rounds) [
+          | inl small ↦
+              stood_vector b.current (current v seat w) (round_desk seat (current v seat w)) (round_words v seat (current v seat w) w)
+              (boxes (current v seat w) 0 (omega arith) (omega arith) small)
+          | inr full ↦
+              let n : ℕ = current v seat w in
+              let same = full_is v laws seat session w full in
+              none_there b.current (begun ∙ and_left (nat_lt n rounds) _ (le-ltb n rounds full))
+              ∙ sym (subst (λ (a : ℕ). vector_of_round v seat a w ≡ None) (sym same)
+              (ap (vector_with rounds (v.attempt (round_desk seat rounds) (round_words v seat rounds w))) (full_undecided v seat laws w session m)
+              ∙ no_vector rounds (v.attempt (round_desk seat rounds) (round_words v seat rounds w))))
+        ]
+      where
+        none_there : (o : Option V) → is_some o ≡ false → vector_in shown (current v seat w) o ≡ None
+        none_there None q = refl
+        none_there (Some x) q = absurd cc
+
+    pub before_vector : (w : List Word) (b : Boxes V) (n : ℕ) → n ≡ current v seat w
+        → BoxesStand stands seat (current v seat w) (λ a. round_words v seat a w) b
+        → (if nat_lt 0 n then vector_in shown (n - 1) b.last else None) ≡ last_complete v seat n w
+    before_vector w b zero same boxes = refl
+    before_vector w b (suc n) same boxes =
+        let few = complete_small v seat rounds w in
+        let less : suc n - 1 ≡ n = omega arith in
+        ap (λ (t : Bool). if t then vector_in shown (suc n - 1) b.last else None) (lt-ltb 0 (suc n) (omega arith))
+        ∙ (ap (λ (k : ℕ). vector_in shown k b.last) less
+        ∙ stood_vector b.last n (round_desk seat n) (round_words v seat n w) (boxes n 1 (omega (arith, same)) (omega arith) (omega (arith, same, few))))
+
+    pub last_is : (w : List Word) (b : Boxes V) → AreProper (atomic v) seat w → is_some b.current ≡ has_begun v seat w
+        → BoxesStand stands seat (current v seat w) (λ a. round_words v seat a w) b → last_in shown (current v seat w) b ≡ last_vector v seat w
+    last_is w b m begun boxes =
+        ap₂ (λ (o u : Option LastVector). option_or o u) (now_vector w b m begun boxes) (before_vector w b (current v seat w) refl boxes)
+
   pub shows_rules : (x : Abc V) (seat : Seat) (w : List Word) → Stands stands v shown x seat w → Shows (atomic v) seat w (shown_by shown x)
   shows_rules x seat w h =
       let seated = h.seated in
@@ -189,4 +249,5 @@ module _ {V : Type 0} (stands : V → Desk → List Word → Type 0) (v : Vector
         given = refl;
         done = h.ledger.listed;
         outcome = ap (λ (t : Bool). if t then Decided Spent else Undecided) (spent_is seat session w x.boxes seated.met h.begun h.boxes);
+        last = ap (λ (n : ℕ). last_in shown n x.boxes) h.completed ∙ last_is seat session w x.boxes seated.met h.begun h.boxes;
       }

@@ -1,11 +1,12 @@
 -- The boxes of the rounds in the window: that of the current round, and those of the two rounds before it.
-use Rattle.std.specs.Prelude.{◌≡◌, ℕ, ◌+◌, ◌<◌, ◌==◌, Bool, false, List, [], ◌∷◌, ◌++◌, Option, Some, None, Result, if◌then◌else◌}
+use Rattle.std.specs.Prelude.{◌≡◌, ℕ, ◌+◌, ◌-◌, ◌<◌, nat_lt, ◌==◌, Bool, false, List, [], ◌∷◌, ◌++◌, Option, Some, None, Result, if◌then◌else◌}
 use Rattle.ritas_base.specs.declared.bytes.Mem.{Mem}
 use Rattle.ritas_base.specs.declared.slot.Slot.{Slot}
 use Rattle.ritas_base.specs.declared.item.Say.{Say}
 use Rattle.ritas_base.specs.declared.id.Id.{Id}
 use Rattle.frame_codec.specs.Values.{ids_bytes}
-use Rattle.layer_api.specs.Service.{Seat}
+use Rattle.std.specs.Option.{option_or}
+use Rattle.layer_api.specs.Service.{Seat, LastVector, vector_with}
 use Rattle.layer_api.specs.Words.{Word, Ask}
 use Rattle.layer_api.specs.Multi.{Desk}
 use Rattle.layer_api.specs.Vectors.{VectorRules, MayVector}
@@ -35,6 +36,15 @@ opens_in shown (Some x) s = (shown x).opens s
 abbrev pub spent_in : {V : Type 0} → (V → VectorShown) → Option V → Bool
 spent_in shown None = false
 spent_in shown (Some x) = (shown x).spent
+
+-- the vector of a round, by its box
+abbrev pub vector_in : {V : Type 0} → (V → VectorShown) → ℕ → Option V → Option LastVector
+vector_in shown a None = None
+vector_in shown a (Some x) = vector_with a (shown x).attempt (shown x).decision
+
+-- and the last one
+abbrev pub last_in : {V : Type 0} → (V → VectorShown) → ℕ → Boxes V → Option LastVector
+last_in shown completed b = option_or (vector_in shown completed b.current) (if nat_lt 0 completed then vector_in shown (completed - 1) b.last else None)
 
 -- a box, where there is one, hears what a slot delivered
 abbrev pub HearsOne : {V : Type 0} → (V → Desk → List Word → Type 0) → VectorRules → (V → Bool) → (V → VectorShown) → (Slot → Bool) → Option V → Option V → Slot → List ℕ

@@ -258,6 +258,12 @@ meanings seat w serves = record {
 pub command_laws : WordLaws commands
 command_laws = record {
   meanings = λ seat w session serves proper. meanings seat w serves;
+  insides = λ seat w session serves proper. record {
+    own = λ x q. refl;
+    last = λ x q. absurd cc;
+    latest = λ a v q. absurd cc;
+    bit = λ a k o q. absurd cc;
+  };
   opens_stays = λ seat c w s proper opens past. opens;
   says_new = says_new;
   says_good = says_good;
@@ -279,6 +285,8 @@ pub command_log : OneLog commands
 command_log = record {
   logs = λ p mode is_correct coins steps run i j ci cj. inl ([], refl);
   outcomes = λ p mode is_correct coins steps run i j d e ci cj a b. absurd cc;
+  unspent = λ p mode is_correct coins steps run i ci a. absurd cc;
+  last_vectors = λ p mode is_correct coins steps run i j x y ci cj a b. absurd cc;
   decisions = λ p mode is_correct coins steps run i j x d e ci cj a b. absurd cc;
   bits = λ p mode is_correct coins steps run i b ci a. absurd cc;
   proposals = λ p mode is_correct coins steps run four i v ci a. absurd cc;

@@ -34,5 +34,6 @@ commands = record {
   given = λ seat w. false;
   done = λ seat w. [];
   outcome = λ seat w. Undecided;
+  last = λ seat w. None;
   decided = λ seat w x. None;
 }

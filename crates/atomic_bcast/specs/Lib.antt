@@ -24,8 +24,10 @@ pub mod RoundRuns
 pub mod RoundLogs
 pub mod RoundStays
 pub mod RoundLog
+pub mod Appended
 pub mod RoundGrowth
 pub mod RoundSays
+pub mod RoundVectors
 pub mod RoundLaws
 pub mod RoundRows
 pub mod RoundAsks

@@ -1,21 +1,22 @@
 -- The laws of a single value of atomic broadcast, from those of its vector consensus.
-use Rattle.std.specs.Prelude.{◌≡◌, ℕ, suc, ◌+◌, ◌≤◌, Bool, true, false, not, ◌==◌, ◌&&◌, nat_le, nat_lt, if◌then◌else◌, List, ◌∷◌, Option, Some, None, refl}
-use Rattle.std.proofs.Common.{sym, ◌∙◌, ap, ap₂, subst, inl, inr, arith}
+use Rattle.std.specs.Prelude.{◌≡◌, ℕ, suc, ◌+◌, ◌≤◌, Bool, true, false, not, ◌==◌, ◌&&◌, nat_le, nat_lt, if◌then◌else◌, List, ◌∷◌, Some, None, refl}
+use Rattle.std.proofs.Common.{sym, ◌∙◌, ap, subst, inl, inr, arith}
 use Rattle.std.proofs.lemmas.Bool.{and_parts, and_from, both_ways, cond-true, cond-false, cases_Bool, cases_order, eqb-true, le-leb, le-ltb, leb-true, ltb-false}
+use Rattle.std.proofs.lemmas.Option.{none-some}
 use Rattle.ritas_base.specs.declared.slot.Slot.{Slot}
 use Rattle.ritas_base.specs.declared.id.Id.{Id}
 use Rattle.ritas_base.specs.Slots.{has_class}
 use Rattle.layer_api.specs.Words.{Word, Hear, asked}
-use Rattle.layer_api.specs.Service.{Seat, Instance, OfBit, OfValue, OfVector, Decision, Spent, Undecided, Decided, AreProper, IsEnding, Meanings, has_id, has_instance, is_finished, is_past, WordLaws}
-use Rattle.layer_api.specs.FedLaws.{shortest_at}
+use Rattle.layer_api.specs.Service.{Seat, Instance, Decision, Spent, Undecided, Decided, AreProper, IsEnding, Meanings, has_id, has_instance, is_finished, is_past, WordLaws}
 use Rattle.layer_api.specs.LogFits.{ids_fit}
 use Rattle.layer_api.specs.Vectors.{VectorRules, VectorLaws, is_vector_slot}
-use Rattle.atomic_bcast.specs.Rounds.{round_scope, round_desk, log_below, complete_of, completes_at, round_words, round_decides, round_opens, vector_decision, inside_of, rounds, atomic}
+use Rattle.atomic_bcast.specs.Rounds.{round_scope, round_desk, log_below, complete_of, round_words, round_decides, round_opens, inside_of, rounds, atomic, round_of}
 use Rattle.atomic_bcast.specs.RoundWords.{session_of, round_met, round_opened}
-use Rattle.atomic_bcast.specs.RoundLogs.{completes_is, complete_stays, log_complete, log_earlier, done_distinct}
-use Rattle.atomic_bcast.specs.RoundStays.{decides_stay, spent_stay, inside_stay, opens_stay}
+use Rattle.atomic_bcast.specs.RoundLogs.{complete_stays, log_complete, log_earlier, done_distinct}
+use Rattle.atomic_bcast.specs.RoundStays.{spent_stay, inside_stay, opens_stay}
 use Rattle.atomic_bcast.specs.RoundGrowth.{least_is, base_stays, command_recent, done_grows, done_heard, done_nothing}
 use Rattle.atomic_bcast.specs.RoundSays.{six_commands, says_new, says_good, commands_said}
+use Rattle.atomic_bcast.specs.RoundVectors.{completes_by, insides}
 use Rattle.atomic_bcast.specs.SteppingLaws.{comes_to, rises, no_step}
 
 -- ---- what the getters mean
@@ -113,17 +114,6 @@ module _ (v : VectorRules) (laws : VectorLaws v) (seat : Seat) where
 
   -- ---- what is decided stays
 
-  if_stays : {X : Type 0} (b : Bool) (o u : Option X) (d : X) → (o ≡ Some d → u ≡ Some d) → (if b then o else None) ≡ Some d → (if b then u else None) ≡ Some d
-  if_stays true o u d stays q = stays q
-  if_stays false o u d stays q = absurd cc
-
-  -- a decision on a vector stays
-  vector_stays : (o u : Option (List ℕ)) (s t : Bool) (d : Decision) → ((x : List ℕ) → o ≡ Some x → u ≡ Some x) → (s ≡ true → (t ≡ true) × (u ≡ None))
-      → vector_decision o s ≡ Some d → vector_decision u t ≡ Some d
-  vector_stays (Some x) u s t d stays spent q = ap (λ o. vector_decision o t) (stays x refl) ∙ q
-  vector_stays None u true t d stays spent q = let e = spent refl in ap₂ vector_decision e.1 e.0 ∙ q
-  vector_stays None u false t d stays spent q = absurd cc
-
   -- nothing is decided where it is spent
   nothing_spent : (a : ℕ) (c : Word) (w : List Word) → AreProper (atomic v) seat (c ∷ w) → v.spent (round_desk seat a) (round_words v seat a w) ≡ true
       → (v.spent (round_desk seat a) (round_words v seat a (c ∷ w)) ≡ true) × (round_decides v seat a (c ∷ w) ≡ None)
@@ -133,28 +123,13 @@ module _ (v : VectorRules) (laws : VectorLaws v) (seat : Seat) where
 
   -- what an instance decided stays
   decided_stays : (c : Word) (w : List Word) (x : Instance) (d : Decision) → AreProper (atomic v) seat (c ∷ w) → inside_of v seat w x ≡ Some d → inside_of v seat (c ∷ w) x ≡ Some d
-  decided_stays c w (OfBit a k) d proper q = if_stays (nat_lt a rounds) _ _ d (inside_stay v laws seat a c w proper (OfBit a k) d) q
-  decided_stays c w (OfValue a k) d proper q = if_stays (nat_lt a rounds) _ _ d (inside_stay v laws seat a c w proper (OfValue a k) d) q
-  decided_stays c w (OfVector a) d proper q =
-      if_stays (nat_lt a rounds) (vector_decision (round_decides v seat a w) (v.spent (round_desk seat a) (round_words v seat a w)))
-      (vector_decision (round_decides v seat a (c ∷ w)) (v.spent (round_desk seat a) (round_words v seat a (c ∷ w)))) d
-      (λ e. vector_stays _ _ _ _ d (decides_stay v laws seat a c w proper) (nothing_spent a c w proper) e) q
+  decided_stays c w x d proper q = inside_stay v laws seat (round_of x) c w proper x d q
 
   -- ---- a round that is spent is never complete
 
-  -- what a round decided at a prefix it has now
-  record IsBefore (a : ℕ) (w h : List Word) : Type 0 where
-    proper : AreProper (atomic v) seat h
-    decides : (x : List ℕ) → round_decides v seat a h ≡ Some x → round_decides v seat a w ≡ Some x
-
   -- a round without a decision isn't complete
   never_complete : (a : ℕ) (w : List Word) (log : List Id) → AreProper (atomic v) seat w → round_decides v seat a w ≡ None → log_below v seat (suc a) w ≡ Some log → ⊥
-  never_complete a w log proper none q =
-      let t = shortest_at (IsBefore a w) (λ c h b. record { proper = b.proper.1; decides = λ x e. b.decides x (decides_stay v laws seat a c h b.proper x e) })
-      (completes_at v seat a (log_below v seat a)) w log (record { proper = proper; decides = λ x e. e }) q in
-      let x = completes_is seat (log_below v seat a t.0) (round_decides v seat a t.0) t.0 log t.2 in
-      let z : None ≡ Some x.vector = sym none ∙ t.1.decides x.vector x.decides in
-      cc
+  never_complete a w log proper none q = let x = completes_by v laws seat a w log proper q in none-some x.vector (sym none ∙ x.decides)
 
   -- where the current round is spent it stays the current one
   same_round : (c : Word) (w : List Word) → AreProper (atomic v) seat (c ∷ w)
@@ -195,6 +170,7 @@ module _ (v : VectorRules) (laws : VectorLaws v) (seat : Seat) where
 pub atomic_word_laws : (v : VectorRules) → VectorLaws v → WordLaws (atomic v)
 atomic_word_laws v laws = record {
   meanings = λ seat w session serves proper. meanings v seat w (eqb-true seat.mode.root 6 serves) proper;
+  insides = λ seat w session serves proper. insides v laws seat w session (eqb-true seat.mode.root 6 serves) proper;
   opens_stays = λ seat c w s proper opens past. opens_stays v laws seat c w s proper opens past;
   says_new = λ seat c w proper. says_new v laws seat (session_of v seat w c proper.0) c w proper;
   says_good = λ seat c w below proper. says_good v laws seat (session_of v seat w c proper.0) c w below proper;

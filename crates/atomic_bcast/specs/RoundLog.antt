@@ -1,5 +1,5 @@
 -- The law of one log of atomic broadcast, over any vector consensus with its laws.
-use Rattle.std.specs.Prelude.{◌≡◌, ℕ, zero, suc, ◌≤◌, Bool, true, false, nat_lt, if◌then◌else◌, List, ◌∷◌, Option, Some, None, refl, ◌⊎◌}
+use Rattle.std.specs.Prelude.{◌≡◌, ℕ, zero, suc, ◌≤◌, Bool, true, false, if◌then◌else◌, List, ◌∷◌, Some, refl, ◌⊎◌}
 use Rattle.std.proofs.Common.{sym, ◌∙◌, ap, ap₂, subst, inl, inr, arith}
 use Rattle.std.proofs.lemmas.Bool.{eqb-true, cases_order}
 use Rattle.ritas_base.specs.declared.slot.Slot.{Slot}
@@ -8,16 +8,24 @@ use Rattle.ritas_base.specs.declared.mode.Mode.{Mode}
 use Rattle.ritas_base.specs.Numbers.{Numbers, IsSession}
 use Rattle.layer_api.specs.Runs.{Step, calls_of, IsEnough}
 use Rattle.layer_api.specs.Words.{Word}
-use Rattle.layer_api.specs.Service.{Seat, Instance, OfBit, OfValue, OfVector, Decision, Bit, Value, Spent, Undecided, Decided, AreProper, IsPart}
+use Rattle.layer_api.specs.Service.{Seat, Instance, Decision, Bit, Spent, Undecided, Decided, IsPart, LastVector}
 use Rattle.layer_api.specs.OneLog.{Session, seat_at, service_play, IsRunOf, OneLog}
 use Rattle.layer_api.specs.Fed.{IsFedRun}
-use Rattle.layer_api.specs.FedLaws.{shortest_at, met}
+use Rattle.layer_api.specs.FedLaws.{met}
 use Rattle.layer_api.specs.Multi.{desk_at}
 use Rattle.layer_api.specs.Vectors.{VectorRules, VectorLaws, vector_play, OneVector}
-use Rattle.atomic_bcast.specs.Rounds.{appended, round_scope, round_desk, completes_at, log_below, complete_of, round_words, round_decides, vector_decision, rounds, atomic}
+use Rattle.atomic_bcast.specs.Rounds.{appended, round_scope, round_desk, log_below, complete_of, round_words, round_decides, rounds, atomic, vector_of_round, last_complete, round_of}
+use Rattle.layer_api.specs.DecisionLaws.{vector_parts}
+use Rattle.atomic_bcast.specs.RoundVectors.{completes_by}
 use Rattle.atomic_bcast.specs.RoundRuns.{play, round_run, round_fed, round_calls}
-use Rattle.atomic_bcast.specs.RoundLogs.{Completes, completes_is, log_stays, log_earlier, log_complete}
-use Rattle.atomic_bcast.specs.RoundStays.{decides_stay}
+use Rattle.atomic_bcast.specs.RoundLogs.{Completes, log_earlier, log_complete}
+use Rattle.std.specs.Option.{option_or}
+use Rattle.ritas_base.specs.Shortest.{option_or_some}
+
+-- a last vector is its parts
+same_last : (x y : LastVector) → x.round ≡ y.round → x.attempt ≡ y.attempt → x.value ≡ y.value → x ≡ y
+same_last x y e f g =
+    ap (λ (a : ℕ). record { round = a; attempt = x.attempt; value = x.value }) e ∙ ap₂ (λ (k : ℕ) (u : List ℕ). record { round = y.round; attempt = k; value = u }) f g
 
 -- ---- a run
 
@@ -44,7 +52,7 @@ module _ (v : VectorRules) (laws : VectorLaws v) (one : OneVector v) (p : Number
   in_run : (a i : ℕ) (P : List Word → Type 0) → P (round_words v (seat i) a (words i)) → P (calls_of i (run a))
   in_run a i P h = subst P (sym (round_calls v laws p mode is_correct coins session a i xs)) h
 
-  to_run : (a i : ℕ) (x : List ℕ) → round_decides v (seat i) a (words i) ≡ Some x → v.decision (desk_at (round_scope p a) coins i) (calls_of i (run a)) ≡ Some x
+  pub to_run : (a i : ℕ) (x : List ℕ) → round_decides v (seat i) a (words i) ≡ Some x → v.decision (desk_at (round_scope p a) coins i) (calls_of i (run a)) ≡ Some x
   to_run a i x q = in_run a i (λ w. v.decision (round_desk (seat i) a) w ≡ Some x) q
 
   -- vectors of one round are equal
@@ -55,28 +63,10 @@ module _ (v : VectorRules) (laws : VectorLaws v) (one : OneVector v) (p : Number
 
   -- ---- the logs
 
-  -- what holds at a prefix holds now
-  record IsBefore (a i : ℕ) (h : List Word) : Type 0 where
-    proper : AreProper (atomic v) (seat i) h
-    decides : (x : List ℕ) → round_decides v (seat i) a h ≡ Some x → round_decides v (seat i) a (words i) ≡ Some x
-    log : (l : List Id) → log_below v (seat i) a h ≡ Some l → log_below v (seat i) a (words i) ≡ Some l
-
-  -- that is so at each shorter prefix
-  before_less : (a i : ℕ) (c : Word) (h : List Word) → IsBefore a i (c ∷ h) → IsBefore a i h
-  before_less a i c h b = record {
-    proper = b.proper.1;
-    decides = λ x q. b.decides x (decides_stay v laws (seat i) a c h b.proper x q);
-    log = λ l q. b.log l (log_stays v (seat i) a c h l q);
-  }
-
   -- a complete round's log is that before it, with what its vector wants
-  completed_by : (a i : ℕ) (log : List Id) → log_below v (seat i) (suc a) (words i) ≡ Some log
+  pub completed_by : (a i : ℕ) (log : List Id) → log_below v (seat i) (suc a) (words i) ≡ Some log
       → Completes p (log_below v (seat i) a (words i)) (round_decides v (seat i) a (words i)) log
-  completed_by a i log q =
-      let t = shortest_at (IsBefore a i) (before_less a i) (completes_at v (seat i) a (log_below v (seat i) a)) (words i) log
-      (record { proper = met (play v laws p mode is_correct coins session) is_correct xs fed i; decides = λ x r. r; log = λ l r. r }) q in
-      let x = completes_is (seat i) (log_below v (seat i) a t.0) (round_decides v (seat i) a t.0) t.0 log t.2 in
-      record { old = x.old; vector = x.vector; there = t.1.log x.old x.there; decides = t.1.decides x.vector x.decides; whole = x.whole }
+  completed_by a i log q = completes_by v laws (seat i) a (words i) log (met (play v laws p mode is_correct coins session) is_correct xs fed i) q
 
   -- logs after as many rounds are equal
   same_log : (a i j : ℕ) (l m : List Id) → is_correct i ≡ true → is_correct j ≡ true
@@ -113,10 +103,6 @@ module _ (v : VectorRules) (laws : VectorLaws v) (one : OneVector v) (p : Number
 
   -- ---- the instances inside
 
-  if_so : {X : Type 0} (c : Bool) (o : Option X) (d : X) → (if c then o else None) ≡ Some d → o ≡ Some d
-  if_so true o d q = q
-  if_so false o d q = absurd cc
-
   -- what an instance inside decided is equal
   same_inner : (a i j : ℕ) (x : Instance) (d e : Decision) → is_correct i ≡ true → is_correct j ≡ true
       → v.inside (round_desk (seat i) a) (round_words v (seat i) a (words i)) x ≡ Some d
@@ -126,42 +112,61 @@ module _ (v : VectorRules) (laws : VectorLaws v) (one : OneVector v) (p : Number
       (in_run a i (λ w. v.inside (round_desk (seat i) a) w x ≡ Some d) q)
       (in_run a j (λ w. v.inside (round_desk (seat j) a) w x ≡ Some e) r)
 
-  -- where one replica has a round's vector, no other one's attempts are spent
-  not_spent : (a i j : ℕ) (x : List ℕ) → is_correct i ≡ true → is_correct j ≡ true → round_decides v (seat i) a (words i) ≡ Some x
-      → v.spent (round_desk (seat j) a) (round_words v (seat j) a (words j)) ≡ true → ⊥
-  not_spent a i j x ci cj q r =
-      one.apart (round_scope p a) is_correct coins (run a) enough refl (run_fed a) i j x ci cj (to_run a i x q)
-      (in_run a j (λ w. v.spent (round_desk (seat j) a) w ≡ true) r)
-
-  -- what a round's vector consensus decided is a vector, or that there is none
-  vector_is : (o : Option (List ℕ)) (s : Bool) (d : Decision) → vector_decision o s ≡ Some d → ((x : List ℕ) × (o ≡ Some x) × (d ≡ Value x)) ⊎ ((s ≡ true) × (d ≡ Spent))
-  vector_is (Some x) s d q = inl (x, refl, cc)
-  vector_is None true d q = inr (refl, cc)
-  vector_is None false d q = absurd cc
-
-  -- what a round's vector consensus decided is equal
-  same_outer : (a i j : ℕ) (d e : Decision) → is_correct i ≡ true → is_correct j ≡ true
-      → vector_decision (round_decides v (seat i) a (words i)) (v.spent (round_desk (seat i) a) (round_words v (seat i) a (words i))) ≡ Some d
-      → vector_decision (round_decides v (seat j) a (words j)) (v.spent (round_desk (seat j) a) (round_words v (seat j) a (words j))) ≡ Some e → d ≡ e
-  same_outer a i j d e ci cj q r =
-      let y_is = vector_is (round_decides v (seat j) a (words j)) (v.spent (round_desk (seat j) a) (round_words v (seat j) a (words j))) e r in
-      elim (vector_is (round_decides v (seat i) a (words i)) (v.spent (round_desk (seat i) a) (round_words v (seat i) a (words i))) d q) [
-        | inl x ↦ elim y_is [
-          | inl y ↦ x.2 ∙ (ap Value (same_vector a i j x.0 y.0 ci cj x.1 y.1) ∙ sym y.2)
-          | inr y ↦ absurd (not_spent a i j x.0 ci cj x.1 y.0)
-        ]
-        | inr x ↦ elim y_is [
-          | inl y ↦ absurd (not_spent a j i y.0 cj ci y.1 x.0)
-          | inr y ↦ x.1 ∙ sym y.1
-        ]
-      ]
+  -- no round's attempts are spent
+  pub unspent : (a i : ℕ) → is_correct i ≡ true → v.spent (round_desk (seat i) a) (round_words v (seat i) a (words i)) ≡ true → ⊥
+  unspent a i ci q =
+      one.unspent (round_scope p a) is_correct coins (run a) enough refl (run_fed a) i ci (in_run a i (λ w. v.spent (round_desk (seat i) a) w ≡ true) q)
 
   -- what each instance decided is equal
   pub decisions : (i j : ℕ) (x : Instance) (d e : Decision) → is_correct i ≡ true → is_correct j ≡ true
       → (atomic v).decided (seat i) (words i) x ≡ Some d → (atomic v).decided (seat j) (words j) x ≡ Some e → d ≡ e
-  decisions i j (OfBit a k) d e ci cj q r = same_inner a i j (OfBit a k) d e ci cj (if_so (nat_lt a rounds) _ d q) (if_so (nat_lt a rounds) _ e r)
-  decisions i j (OfValue a k) d e ci cj q r = same_inner a i j (OfValue a k) d e ci cj (if_so (nat_lt a rounds) _ d q) (if_so (nat_lt a rounds) _ e r)
-  decisions i j (OfVector a) d e ci cj q r = same_outer a i j d e ci cj (if_so (nat_lt a rounds) _ d q) (if_so (nat_lt a rounds) _ e r)
+  decisions i j x d e ci cj q r = same_inner (round_of x) i j x d e ci cj q r
+
+  -- ---- the last vectors
+
+  -- the vector of a round, with the attempt that decided it
+  record HasVector (a i : ℕ) (x : LastVector) : Type 0 where
+    round : x.round ≡ a
+    attempt : v.attempt (round_desk (seat i) a) (round_words v (seat i) a (words i)) ≡ Some x.attempt
+    value : round_decides v (seat i) a (words i) ≡ Some x.value
+
+  has_vector : (a i : ℕ) (x : LastVector) → vector_of_round v (seat i) a (words i) ≡ Some x → HasVector a i x
+  has_vector a i x q =
+      let y = vector_parts a (v.attempt (round_desk (seat i) a) (round_words v (seat i) a (words i))) (round_decides v (seat i) a (words i)) x q in
+      record {
+        round = ap (λ (z : LastVector). z.round) y.4;
+        attempt = y.2 ∙ ap (λ (z : LastVector). Some z.attempt) (sym y.4);
+        value = y.3 ∙ ap (λ (z : LastVector). Some z.value) (sym y.4);
+      }
+
+  -- of whichever round it is
+  last_has : (i : ℕ) (x : LastVector) → (atomic v).last (seat i) (words i) ≡ Some x → HasVector x.round i x
+  last_has i x q = go (complete_of v (seat i) rounds (words i)) q
+    where
+      of_round : (a : ℕ) → HasVector a i x → HasVector x.round i x
+      of_round a h = subst (λ (b : ℕ). HasVector b i x) (sym h.round) h
+
+      complete : (a : ℕ) → last_complete v (seat i) a (words i) ≡ Some x → HasVector x.round i x
+      complete zero q = absurd cc
+      complete (suc a) q = of_round a (has_vector a i x q)
+
+      go : (a : ℕ) → option_or (vector_of_round v (seat i) a (words i)) (last_complete v (seat i) a (words i)) ≡ Some x → HasVector x.round i x
+      go a q =
+          elim (option_or_some (vector_of_round v (seat i) a (words i)) (last_complete v (seat i) a (words i)) x q) [
+            | inl y ↦ of_round a (has_vector a i x y)
+            | inr y ↦ complete a y.1
+          ]
+
+  -- of one round they are one
+  pub one_last : (i j : ℕ) (x y : LastVector) → is_correct i ≡ true → is_correct j ≡ true
+      → (atomic v).last (seat i) (words i) ≡ Some x → (atomic v).last (seat j) (words j) ≡ Some y → x.round ≡ y.round → x ≡ y
+  one_last i j x y ci cj q r same =
+      let a : ℕ = x.round in
+      let h = last_has i x q in
+      let k = subst (λ (b : ℕ). HasVector b j y) (sym same) (last_has j y r) in
+      let attempt = one.attempts (round_scope p a) is_correct coins (run a) enough refl (run_fed a) i j x.attempt y.attempt ci cj
+      (in_run a i (λ w. v.attempt (round_desk (seat i) a) w ≡ Some x.attempt) h.attempt) (in_run a j (λ w. v.attempt (round_desk (seat j) a) w ≡ Some y.attempt) k.attempt) in
+      same_last x y same attempt (same_vector a i j x.value y.value ci cj h.value k.value)
 
 -- ---- the laws
 
@@ -169,6 +174,10 @@ module _ (v : VectorRules) (laws : VectorLaws v) (one : OneVector v) (p : Number
 ending_is : (b : Bool) (d : Decision) → (if b then Decided Spent else Undecided) ≡ Decided d → d ≡ Spent
 ending_is true d q = cc
 ending_is false d q = absurd cc
+
+spent_is : (b : Bool) → (if b then Decided Spent else Undecided) ≡ Decided Spent → b ≡ true
+spent_is true q = refl
+spent_is false q = absurd cc
 
 no_bit : (b : Bool) → Bit b ≡ Spent → ⊥
 no_bit b e = cc
@@ -181,6 +190,10 @@ one_log_law v laws one = record {
   decisions = λ p mode is_correct coins steps run i j x d e ci cj q r. decisions v laws one p mode is_correct coins run.enough steps run.fed i j x d e ci cj q r;
   bits = λ p mode is_correct coins steps run i b ci q. absurd (no_bit b (ending_is _ (Bit b) q));
   proposals = λ p mode is_correct coins steps run four i x ci q. absurd (let e = eqb-true mode.root 6 run.serves in omega (arith, e, four));
+  unspent = λ p mode is_correct coins steps run i ci q.
+      unspent v laws one p mode is_correct coins run.enough steps run.fed (complete_of v (seat_at (record { rules = atomic v; numbers = p; mode = mode; is_correct = is_correct; coins = coins }) i) rounds (calls_of i steps)) i ci
+      (spent_is _ q);
+  last_vectors = λ p mode is_correct coins steps run i j x y ci cj q r same. one_last v laws one p mode is_correct coins run.enough steps run.fed i j x y ci cj q r same;
 }
 
 -- vectors of one round are equal, over every run

@@ -1,5 +1,5 @@
 -- Worked rows of the rounds of atomic broadcast, over a box of vector consensus that decides on the first vector that it hears.
-use Rattle.std.specs.Prelude.{◌≡◌, ℕ, true, false, List, [], ◌∷◌, Some, None, refl}
+use Rattle.std.specs.Prelude.{◌≡◌, ℕ, true, false, List, [], ◌∷◌, Option, Some, None, option_map, refl}
 use Rattle.std.specs.Int.RustNames.{count_ones}
 use Rattle.std.proofs.Common.{lit≤}
 use Rattle.ritas_base.specs.declared.slot.Slot.{Slot}
@@ -8,10 +8,10 @@ use Rattle.ritas_base.specs.declared.id.Id.{Id}
 use Rattle.ritas_base.specs.Slots.{command_slot}
 use Rattle.frame_codec.specs.Values.{mask_of, entries_in, ids_in, len_in, ids_bytes}
 use Rattle.layer_api.specs.Words.{Word, Ask, Hear, value_at}
-use Rattle.layer_api.specs.Service.{Seat}
+use Rattle.layer_api.specs.Service.{Seat, Instance, OfBit, OfValue, OfVector, Decision, Bit, Value}
 use Rattle.layer_api.specs.Vectors.{VectorRules}
 use Rattle.atomic_bcast.specs.Identifiers.{in_order}
-use Rattle.atomic_bcast.specs.Rounds.{proposal, wanted, appended, log_below, log_of, complete_of, round_words}
+use Rattle.atomic_bcast.specs.Rounds.{proposal, wanted, appended, log_below, log_of, complete_of, round_words, vector_of_round, last_complete, inside_of}
 
 abbrev id : ℕ → ℕ → Id
 id origin num = record { origin = origin; num = num }
@@ -36,13 +36,20 @@ all_shared = refl
 abbrev start : ℕ → Slot
 start a = record { class = 3; a = a; attempt = 0; bround = 0; step = 0; origin = 0 }
 
+-- it decides by its first attempt, and that by the bit 1
+abbrev inside_box : Option (List ℕ) → Instance → Option Decision
+inside_box o (OfBit a k) = option_map (λ v. Bit true) o
+inside_box o (OfValue a k) = option_map Value o
+inside_box o (OfVector a) = option_map Value o
+
 abbrev box : VectorRules
 box = record {
   says = λ at w c. [];
   opens = λ at w s. true;
   decision = λ at w. value_at w (start at.scope.a);
+  attempt = λ at w. option_map (λ v. 0) (value_at w (start at.scope.a));
   spent = λ at w. false;
-  inside = λ at w x. None;
+  inside = λ at w x. inside_box (value_at w (start at.scope.a)) x;
 }
 
 -- replica 0 of four, of which one may be faulty
@@ -115,3 +122,40 @@ waits = refl
 then_completes : log_of box four 2 (Hear (command_slot 0 0) (1 ∷ []) ∷ early) ≡ id 0 0 ∷ []
 unfolding mask_of entries_in ids_in len_in count_ones
 then_completes = refl
+
+-- ---- the last vector, and what the instances inside decided
+
+-- the first round's vector is that of the last complete round
+first_vector : vector_of_round box four 0 decided ≡ Some (record { round = 0; attempt = 0; value = vector })
+first_vector = refl
+
+last_of_one : last_complete box four 1 decided ≡ Some (record { round = 0; attempt = 0; value = vector })
+last_of_one = refl
+
+last_of_none : last_complete box four 0 decided ≡ None
+last_of_none = refl
+
+no_second_vector : vector_of_round box four 1 decided ≡ None
+unfolding mask_of entries_in ids_in len_in count_ones
+no_second_vector = refl
+
+-- each instance is looked up in its own round
+inside_vector : inside_of box four decided (OfVector 0) ≡ Some (Value vector)
+inside_vector = refl
+
+inside_value : inside_of box four decided (OfValue 0 0) ≡ Some (Value vector)
+inside_value = refl
+
+inside_bit : inside_of box four decided (OfBit 0 0) ≡ Some (Bit true)
+inside_bit = refl
+
+inside_not_yet : inside_of box four begun (OfVector 0) ≡ None
+inside_not_yet = refl
+
+inside_of_another_round : inside_of box four decided (OfVector 1) ≡ None
+unfolding mask_of entries_in ids_in len_in count_ones
+inside_of_another_round = refl
+
+bit_of_another_round : inside_of box four decided (OfBit 1 0) ≡ None
+unfolding mask_of entries_in ids_in len_in count_ones
+bit_of_another_round = refl

@@ -37,6 +37,11 @@ module _ (v : VectorRules) (laws : VectorLaws v) (seat : Seat) (a : ℕ) (c : Wo
   decides_stay x q =
       round_keeps (λ u. v.decision (round_desk seat a) u ≡ Some x) (λ d u m h. laws.decision_stays (round_desk seat a) d u x session refl m h) q
 
+  -- and so does the attempt that decided it
+  pub attempt_stay : (k : ℕ) → v.attempt (round_desk seat a) (round_words v seat a w) ≡ Some k → v.attempt (round_desk seat a) (round_words v seat a (c ∷ w)) ≡ Some k
+  attempt_stay k q =
+      round_keeps (λ u. v.attempt (round_desk seat a) u ≡ Some k) (λ d u m h. laws.attempt_stays (round_desk seat a) d u k session refl m h) q
+
   -- where its attempts are spent they stay so
   pub spent_stay : v.spent (round_desk seat a) (round_words v seat a w) ≡ true → v.spent (round_desk seat a) (round_words v seat a (c ∷ w)) ≡ true
   spent_stay q = round_keeps (λ u. v.spent (round_desk seat a) u ≡ true) (λ d u m h. laws.spent_stays (round_desk seat a) d u session refl m h) q

@@ -1,22 +1,22 @@
 -- Atomic broadcast by the words so far, the newest first: commands are broadcast, and in each round a vector of lists of identifiers
 -- is agreed on, which says what is appended to the identifier log.
-use Rattle.std.specs.Prelude.{ℕ, zero, suc, ◌+◌, ◌/◌, Bool, true, false, not, ◌==◌, ◌&&◌, nat_le, nat_lt, if◌then◌else◌, List, [], ◌∷◌, ◌++◌, drop, length, count_by, Option, Some, None, is_some, unwrap_or}
+use Rattle.std.specs.Prelude.{ℕ, zero, suc, ◌+◌, ◌/◌, Bool, true, false, not, ◌==◌, ◌&&◌, nat_le, nat_lt, if◌then◌else◌, List, [], ◌∷◌, ◌++◌, length, count_by, Option, Some, None, is_some, unwrap_or}
 use Rattle.std.specs.List.{find, range_with_len}
-use Rattle.std.specs.Int.RustNames.{count_ones}
 use Rattle.ritas_base.specs.declared.slot.Slot.{Slot}
 use Rattle.ritas_base.specs.declared.item.Say.{Say}
 use Rattle.ritas_base.specs.declared.id.Id.{Id}
 use Rattle.ritas_base.specs.Numbers.{Numbers}
 use Rattle.ritas_base.specs.Shortest.{at_shortest}
-use Rattle.frame_codec.specs.Values.{ids_bytes, ids_of, mask_of, entries_in}
+use Rattle.frame_codec.specs.Values.{ids_bytes, ids_of, entries_of}
 use Rattle.ritas_base.specs.Slots.{command_slot}
 use Rattle.layer_api.specs.Words.{Word, Ask, Hear, is_heard, asked}
-use Rattle.layer_api.specs.Service.{ServiceRules, Seat, Instance, OfBit, OfValue, OfVector, Decision, Value, Spent, Undecided, Decided, has_id}
+use Rattle.layer_api.specs.Service.{ServiceRules, Seat, Instance, OfBit, OfValue, OfVector, Decision, Spent, Undecided, Decided, has_id, LastVector, vector_with}
 use Rattle.layer_api.specs.Part.{part_of, part_words, says_in}
 use Rattle.layer_api.specs.Multi.{Scope, Desk}
 use Rattle.layer_api.specs.Vectors.{VectorRules, is_vector_slot}
 use Rattle.atomic_bcast.specs.Commands.{says_of}
 use Rattle.atomic_bcast.specs.Identifiers.{in_order, kept, is_without, all_pass, first_of_each, append_ids}
+use Rattle.std.specs.Option.{option_or}
 
 -- ---- commands
 
@@ -36,13 +36,10 @@ proposal n ids = first_of_each (64 / n) [] (in_order ids)
 
 -- ---- what a vector says
 
--- the lists in a vector
+-- the identifiers of some lists
 abbrev pub entry_ids : List (List ℕ) → List Id
 entry_ids [] = []
 entry_ids (e ∷ es) = ids_of e ++ entry_ids es
-
-abbrev pub lists_in : List ℕ → List (List ℕ)
-lists_in vector = entries_in (count_ones (mask_of vector)) (drop 4 vector)
 
 -- in how many of them an identifier stands
 abbrev pub backers : List (List ℕ) → Id → ℕ
@@ -50,7 +47,7 @@ backers es x = count_by (λ e. has_id (ids_of e) x) es
 
 -- those that stand in f + 1 lists at least, ascending
 abbrev pub wanted : Numbers → List ℕ → List Id
-wanted p vector = kept (λ x. nat_le (p.f + 1) (backers (lists_in vector) x)) (in_order (entry_ids (lists_in vector)))
+wanted p vector = kept (λ x. nat_le (p.f + 1) (backers (entries_of vector) x)) (in_order (entry_ids (entries_of vector)))
 
 -- whether an identifier's command is delivered
 abbrev pub has_command : List Word → Id → Bool
@@ -142,16 +139,29 @@ round_opens v seat w s =
     nat_lt s.a rounds && (nat_le (complete_of v seat rounds w) (s.a + 2)
     && (is_vector_slot (round_scope seat.numbers s.a) s && v.opens (round_desk seat s.a) (round_words v seat s.a w) s))
 
-abbrev pub vector_decision : Option (List ℕ) → Bool → Option Decision
-vector_decision (Some x) is_spent = Some (Value x)
-vector_decision None true = Some Spent
-vector_decision None false = None
+-- the vector of a round, where it is decided
+abbrev pub vector_of_round : VectorRules → Seat → ℕ → List Word → Option LastVector
+vector_of_round v seat a w = vector_with a (v.attempt (round_desk seat a) (round_words v seat a w)) (round_decides v seat a w)
 
+-- that of the last of so many complete rounds
+abbrev pub last_complete : VectorRules → Seat → ℕ → List Word → Option LastVector
+last_complete v seat zero w = None
+last_complete v seat (suc a) w = vector_of_round v seat a w
+
+-- the last vector: that of the round that isn't complete, or else of the last complete one
+abbrev pub last_vector : VectorRules → Seat → List Word → Option LastVector
+last_vector v seat w =
+    let a = complete_of v seat rounds w in option_or (vector_of_round v seat a w) (last_complete v seat a w)
+
+-- the round of an instance
+abbrev pub round_of : Instance → ℕ
+round_of (OfBit a k) = a
+round_of (OfValue a k) = a
+round_of (OfVector a) = a
+
+-- what an instance decided, in its round
 abbrev pub inside_of : VectorRules → Seat → List Word → Instance → Option Decision
-inside_of v seat w (OfBit a k) = if nat_lt a rounds then v.inside (round_desk seat a) (round_words v seat a w) (OfBit a k) else None
-inside_of v seat w (OfValue a k) = if nat_lt a rounds then v.inside (round_desk seat a) (round_words v seat a w) (OfValue a k) else None
-inside_of v seat w (OfVector a) =
-    if nat_lt a rounds then vector_decision (round_decides v seat a w) (v.spent (round_desk seat a) (round_words v seat a w)) else None
+inside_of v seat w x = v.inside (round_desk seat (round_of x)) (round_words v seat (round_of x) w) x
 
 -- atomic broadcast over vector consensus
 abbrev pub atomic : VectorRules → ServiceRules
@@ -166,5 +176,6 @@ atomic v = record {
   done = λ seat w. log_of v seat rounds w;
   outcome = λ seat w.
       let a = complete_of v seat rounds w in if v.spent (round_desk seat a) (round_words v seat a w) then Decided Spent else Undecided;
+  last = λ seat w. last_vector v seat w;
   decided = λ seat w x. inside_of v seat w x;
 }

@@ -1,5 +1,5 @@
 -- What the getters of the service of commands answer.
-use Rattle.std.specs.Prelude.{◌≡◌, ℕ, ◌<◌, nat_lt, false, ◌==◌, List, [], slice_index, refl}
+use Rattle.std.specs.Prelude.{◌≡◌, ℕ, ◌<◌, nat_lt, false, ◌==◌, List, [], slice_index, refl, None}
 use Rattle.std.proofs.Common.{sym, ◌∙◌, inl, arith}
 use Rattle.std.proofs.lemmas.Bool.{or_left, or_from, lt-ltb, le-ltb}
 use Rattle.layer_api.specs.Service.{Seat, Undecided, IsBase}
@@ -21,6 +21,7 @@ shown_with inputs bases = record {
   given = false;
   done = [];
   outcome = Undecided;
+  last = None;
 }
 
 abbrev pub shown_by : CmdRoot → ServiceShown
@@ -48,6 +49,7 @@ shows_rules s seat w stands = record {
   given = refl;
   done = refl;
   outcome = refl;
+  last = refl;
 }
 
 -- where what is kept stays, all is answered as before the call
@@ -61,4 +63,5 @@ shows_as_before s seat w c stands = record {
   done_before = ([], refl);
   done_after = ([], refl);
   outcome = inl refl;
+  last = inl refl;
 }

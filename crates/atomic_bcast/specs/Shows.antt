@@ -6,7 +6,7 @@ use Rattle.layer_api.specs.Service.{Undecided, Decided, Spent}
 use Rattle.layer_api.specs.ServiceCalls.{ServiceShown}
 use Rattle.layer_api.specs.Vectors.{is_slot_in}
 use Rattle.layer_api.specs.VectorCalls.{VectorShown}
-use Rattle.atomic_bcast.specs.Boxes.{box_at, opens_in, spent_in}
+use Rattle.atomic_bcast.specs.Boxes.{box_at, opens_in, spent_in, last_in}
 use Rattle.atomic_bcast.specs.declared.boxes.Boxes.{Boxes}
 use Rattle.atomic_bcast.specs.declared.ledger.Ledger.{Ledger}
 use Rattle.atomic_bcast.specs.declared.abc.Abc.{Abc}
@@ -29,4 +29,5 @@ shown_by shown x = record {
   given = false;
   done = reverse x.ledger.log.items;
   outcome = if spent_in shown x.boxes.current then Decided Spent else Undecided;
+  last = last_in shown x.completed x.boxes;
 }

@@ -254,6 +254,10 @@ impl<V: VectorBox> Service for Abc<V> {
         }
     }
 
+    fn last_vector(&self) -> Option<(u32, u8, &[u8])> {
+        self.boxes.last_vector(self.completed)
+    }
+
     fn live(&self) -> bool {
         self.live
     }

@@ -1,7 +1,7 @@
 //! The boxes of the rounds in the window.
 
-ghost use Rattle.std.specs.Prelude.{◌≡◌, None};
-ghost use Rattle.atomic_bcast.specs.Boxes.{box_at, opens_in, spent_in, HearsOne, HearsBox};
+ghost use Rattle.std.specs.Prelude.{◌≡◌, None, option_map};
+ghost use Rattle.atomic_bcast.specs.Boxes.{box_at, opens_in, spent_in, vector_in, last_in, HearsOne, HearsBox};
 
 use layer_api::VectorBox;
 use ritas_base::{Coin, Mem, Say, Slot};
@@ -45,6 +45,16 @@ fn hear<V: VectorBox, C: Coin>(
     }
 }
 
+// The vector of a round, where the round's box decided one.
+fn vector_in<V: VectorBox>(round: u32, one: &Option<V>) -> Option<(u32, u8, &[u8])>
+    ensures { option_map (λ x. record { round = x.0; attempt = x.1; value = x.2.now }) result ≡ vector_in V.shown round one.now }
+{
+    match one {
+        Some(one) => Some((round, one.decided_try()?, one.decision()?)),
+        None => None,
+    }
+}
+
 impl<V: VectorBox> Boxes<V> {
     /// No round began.
     pub(crate) fn none() -> Boxes<V>
@@ -76,6 +86,17 @@ impl<V: VectorBox> Boxes<V> {
         match &self.current {
             Some(one) => one.spent(),
             None => false,
+        }
+    }
+
+    /// The last vector that is decided, where so many rounds are complete: that of the current round, or of the one before it.
+    pub(crate) fn last_vector(&self, completed: u32) -> Option<(u32, u8, &[u8])>
+        ensures { option_map (λ x. record { round = x.0; attempt = x.1; value = x.2.now }) result ≡ last_in V.shown completed self.now }
+    {
+        match vector_in(completed, &self.current) {
+            Some(found) => Some(found),
+            None if completed > 0 => vector_in(completed - 1, &self.last),
+            None => None,
         }
     }
 

@@ -168,6 +168,10 @@ impl Service for CmdRoot {
         Outcome::Undecided
     }
 
+    fn last_vector(&self) -> Option<(u32, u8, &[u8])> {
+        None
+    }
+
     fn live(&self) -> bool {
         self.live
     }

@@ -8,6 +8,7 @@ ghost use Rattle.ritas_base.specs.Slots.{command_slot};
 ghost use Rattle.atomic_bcast.specs.Commands.{base_of, commands};
 ghost use Rattle.atomic_bcast.specs.Rounds.{atomic};
 ghost use Rattle.atomic_bcast.specs.RoundLog.{VectorsAgree};
+ghost use Rattle.atomic_bcast.specs.Appended.{AppendsProposed};
 
 /// The law of what is said: to an input the service says that input, alone, at the command slot of the next number.
 pub fn says_commands()
@@ -25,14 +26,15 @@ pub fn base_is_least()
 {}
 
 /// The law of atomic broadcast, over any vector consensus that keeps its laws: over every run of correct replicas, of
-/// two identifier logs one is a part of the other, each identifier stands in a log once, and vectors of one round are
-/// equal.
+/// two identifier logs one is a part of the other, each identifier stands in a log once, vectors of one round are equal,
+/// and each identifier that a round appends was in the list that some correct replica proposed in the round.
 ///
 /// It does nothing: its contract is the law.
 pub fn one_log()
     ensures log { (v : VectorRules) → VectorLaws v → OneVector v → OneLog (atomic v) }
     ensures once { (v : VectorRules) (seat : Seat) (w : List Word) → AreDistinct ((atomic v).done seat w) }
     ensures vectors { (v : VectorRules) → VectorLaws v → OneVector v → VectorsAgree v }
+    ensures proposed { (v : VectorRules) → VectorLaws v → OneVector v → AppendsProposed v }
 {}
 
 /// The laws of a single value of atomic broadcast: what is said is new, in the grammar, and at command slots the

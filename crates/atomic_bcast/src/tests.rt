@@ -1,6 +1,6 @@
 ghost use Rattle.std.specs.Prelude.{◌≡◌};
 ghost use Rattle.ritas_base.specs.SlotOrder.{is_slot};
-ghost use Rattle.atomic_bcast.specs.OnePlace.{the_slot};
+ghost use Rattle.atomic_bcast.specs.OnePlace.{slot_of};
 
 use super::*;
 use layer_api::{Outcome, Service, VectorBox};
@@ -30,9 +30,9 @@ fn slot(class: u8, a: u32, step: u8, origin: u8) -> Slot {
     }
 }
 
-// Whether it is the slot of class 3 of attempt 0 and replica 0 in this round.
-fn is_the_slot(slot: &Slot, a: u32) -> bool
-    ensures { result ≡ is_slot slot.now (the_slot a) }
+// Whether it is the slot of class 3 of attempt 0 and this replica in the round.
+fn is_of(slot: &Slot, a: u32, origin: u8) -> bool
+    ensures { result ≡ is_slot slot.now (slot_of a origin) }
 {
     slot.cmp(&Slot {
         class: 3,
@@ -40,36 +40,48 @@ fn is_the_slot(slot: &Slot, a: u32) -> bool
         attempt: 0,
         bround: 0,
         step: 0,
-        origin: 0,
+        origin,
     })
     .is_eq()
 }
 
-// A vector consensus that says nothing, and decides what one slot delivers.
+// A vector consensus that says nothing, and decides what replica 0's slot delivers once it heard f + 1 replicas: replica 0, then
+// replica 1, and so on.
 #[derive(Drop)]
 struct OnePlace {
     a: u32,
+    f: u8,
+    next: u8,
     asked: bool,
     vector: Option<Bytes>,
     live: bool,
 }
 
 impl VectorBox for OnePlace {
-    ghost use Rattle.std.specs.Prelude.{◌≡◌, true, false, nat_lt, refl};
+    ghost use Rattle.std.specs.Prelude.{◌≡◌, ℕ, Bool, List, Option, None, true, false, nat_lt, option_map, if◌then◌else◌, refl};
+    ghost use Rattle.std.proofs.Common.{ap, ap₂};
     ghost use Rattle.layer_api.specs.Words.{asked, value_at};
-    ghost use Rattle.atomic_bcast.specs.OnePlace.{the_slot, one_place, one_place_laws, one_place_agrees};
+    ghost use Rattle.atomic_bcast.specs.OnePlace.{the_slot, in_order, one_place, one_place_laws, one_place_agrees};
 
-    ghost stands = { λ b at w. (b.a ≡ at.scope.a) × (b.asked ≡ nat_lt 0 (asked w)) × (b.vector ≡ value_at w (the_slot at.scope.a)) × (b.live ≡ true) };
+    ghost stands = { λ b at w. (b.a ≡ at.scope.a) × (b.f ≡ at.scope.numbers.f) × (b.next ≡ in_order at.scope.a w)
+        × (b.asked ≡ nat_lt 0 (asked w)) × (b.vector ≡ value_at w (the_slot at.scope.a)) × (b.live ≡ true) };
 
     ghost rules = { one_place };
 
     ghost live = { λ b. b.live };
 
-    ghost shown = { λ b. record { opens = λ s. b.asked; decision = b.vector; spent = false } };
+    ghost shown = { λ b. record {
+      opens = λ s. b.asked;
+      decision = if nat_lt b.f b.next then b.vector else None;
+      attempt = option_map (λ v. 0) (if nat_lt b.f b.next then b.vector else None);
+      spent = false;
+    } };
 
-    fn new(_alloc: Global, _p: &Params, _me: u8, a: u32) -> Result<OnePlace, Mem> {
+    fn new(_alloc: Global, p: &Params, _me: u8, a: u32) -> Result<OnePlace, Mem> {
         Ok(OnePlace {
             a,
+            f: p.f(),
+            next: 0,
             asked: false,
             vector: None,
             live: true,
@@ -89,19 +101,21 @@ impl VectorBox for OnePlace {
         value: &[u8],
         _says: &mut Vec<Say>,
     ) -> Result<(), Mem> {
-        if self.vector.is_some() || !is_the_slot(slot, self.a) {
-            return Ok(());
-        }
-        match Bytes::from_slice(alloc, value) {
-            Ok(bytes) => {
-                self.vector = Some(bytes);
-                Ok(())
-            }
-            Err(mem) => {
-                self.live = false;
-                Err(mem)
+        if self.vector.is_none() && is_of(slot, self.a, 0) {
+            match Bytes::from_slice(alloc, value) {
+                Ok(bytes) => {
+                    self.vector = Some(bytes);
+                }
+                Err(mem) => {
+                    self.live = false;
+                    return Err(mem);
+                }
             }
         }
+        if self.next < 32 && is_of(slot, self.a, self.next) {
+            self.next += 1;
+        }
+        Ok(())
     }
 
     fn is_open(&self, _slot: &Slot) -> bool {
@@ -109,8 +123,18 @@ impl VectorBox for OnePlace {
     }
 
     fn decision(&self) -> Option<&[u8]> {
+        if self.f >= self.next {
+            return None;
+        }
         match &self.vector {
             Some(bytes) => Some(bytes.as_slice()),
+            None => None,
+        }
+    }
+
+    fn decided_try(&self) -> Option<u8> {
+        match self.decision() {
+            Some(_) => Some(0),
             None => None,
         }
     }
@@ -123,7 +147,16 @@ impl VectorBox for OnePlace {
         self.live
     }
 
-    ghost shows = { λ b at w stood. (stood.3, record { opens = λ s. stood.1; decision = stood.2; spent = refl }) };
+    ghost shows = { λ b at w stood.
+        let decided = ap₂ (λ (m : Bool) (o : Option (List ℕ)). if m then o else None) (ap₂ nat_lt stood.1 stood.2) stood.4 in (
+          stood.5,
+          record {
+            opens = λ s. stood.3;
+            decision = decided;
+            attempt = ap (λ (o : Option (List ℕ)). option_map (λ v. 0) o) decided;
+            spent = refl;
+          },
+        ) };
 
     ghost vector_laws = { one_place_laws };
 
@@ -156,6 +189,7 @@ fn a_round_completes(rt: HostRuntime) {
     for (at, value, completed, length) in [
         (slot(1, 0, 0, 1), b"client_1".as_slice(), 0, 0),
         (slot(3, 0, 0, 0), vector.as_slice(), 0, 0),
+        (slot(3, 0, 0, 1), vector.as_slice(), 0, 0),
         (slot(1, 2, 0, 2), b"client_2".as_slice(), 0, 0),
         (slot(1, 5, 0, 3), b"client_3".as_slice(), 1, 2),
     ] {
@@ -167,6 +201,8 @@ fn a_round_completes(rt: HostRuntime) {
         assert!(rt; abc.completed() == completed && abc.done().len() == length);
     }
     assert!(rt; abc.done() == [first, last].as_slice());
+    // the vector of round 0, by its first attempt, though round 1 began
+    assert!(rt; abc.last_vector() == Some((0, 0, vector.as_slice())));
     assert!(rt; abc.base(1) == 1 && abc.base(3) == 0 && abc.base(2) == 0);
     assert!(rt; abc.is_open(&slot(2, 0, 0, 1)) && abc.is_open(&slot(2, 1, 0, 1)));
     assert!(rt; !abc.is_open(&slot(2, 2, 0, 1)) && !abc.is_open(&slot(2, 1, 1, 1)));
@@ -188,11 +224,14 @@ fn rounds_leave_the_window(rt: HostRuntime) {
     let mut abc: Abc<OnePlace> = Abc::new(rt.alloc(), &p, 2).expect(&rt, "memory");
     let mut says: Vec<Say> = Vec::new(rt.alloc());
     // slot and what it delivers; then the rounds that take items
-    let cases: [(Slot, &[u8], u32, u32); 4] = [
+    let cases: [(Slot, &[u8], u32, u32); 7] = [
         (slot(1, 0, 0, 1), b"client_1", 0, 0),
-        (slot(3, 0, 0, 0), NONE_BACKED, 0, 1),
-        (slot(3, 1, 0, 0), NONE_BACKED, 0, 2),
-        (slot(3, 2, 0, 0), NONE_BACKED, 1, 3),
+        (slot(3, 0, 0, 0), NONE_BACKED, 0, 0),
+        (slot(3, 0, 0, 1), NONE_BACKED, 0, 1),
+        (slot(3, 1, 0, 0), NONE_BACKED, 0, 1),
+        (slot(3, 1, 0, 1), NONE_BACKED, 0, 2),
+        (slot(3, 2, 0, 0), NONE_BACKED, 0, 2),
+        (slot(3, 2, 0, 1), NONE_BACKED, 1, 3),
     ];
     for (at, value, first, last) in cases {
         assert!(rt;

@@ -3,9 +3,9 @@
 ghost use Rattle.std.specs.Prelude.{◌≡◌, ℕ, ◌<◌, ◌≤◌, List, [], ◌∷◌, length, drop, nat_le, IfOk, OnOk};
 ghost use Rattle.std.specs.Int.RustNames.{count_ones};
 ghost use Rattle.ritas_base.specs.declared.id.Id.{Id};
-ghost use Rattle.frame_codec.specs.Values.{ids_of, mask_of, entry_in, after_entry};
+ghost use Rattle.frame_codec.specs.Values.{ids_of, mask_of, entry_in, after_entry, entries_of};
 ghost use Rattle.atomic_bcast.specs.Identifiers.{kept, in_order};
-ghost use Rattle.atomic_bcast.specs.Rounds.{backers, entry_ids, lists_in, wanted};
+ghost use Rattle.atomic_bcast.specs.Rounds.{backers, entry_ids, wanted};
 ghost use Rattle.atomic_bcast.specs.Backing.{lists_with, NotesList};
 
 use frame_codec::id_at;
@@ -65,7 +65,7 @@ fn note_list(noted: &mut BTreeMap<Id, u32>, list: &[u8], k: u8) -> Result<(), Me
 
 // In which lists each identifier stands, as a mask: bit j stands for list j.
 fn note_lists(alloc: Global, vector: &[u8]) -> Result<BTreeMap<Id, u32>, Mem>
-    ensures { IfOk result (λ noted. (x : Id) → lists_with noted x ≡ backers (lists_in vector.now) x) }
+    ensures { IfOk result (λ noted. (x : Id) → lists_with noted x ≡ backers (entries_of vector.now) x) }
 {
     let mut noted = BTreeMap::new(alloc);
     if vector.len() < 4 {

@@ -39,5 +39,6 @@ binary_root b = record {
   given = λ seat w. is_given w;
   done = λ seat w. [];
   outcome = λ seat w. ending (b.decision (bench_of seat) w) (b.over (bench_of seat) w);
+  last = λ seat w. None;
   decided = λ seat w x. decided_in (b.decision (bench_of seat) w) x;
 }

@@ -8,7 +8,7 @@ use Rattle.ritas_base.specs.declared.item.Say.{Say}
 use Rattle.ritas_base.specs.declared.mode.Mode.{Mode}
 use Rattle.ritas_base.specs.Numbers.{Numbers}
 use Rattle.ritas_base.specs.Slots.{within, has_class, slot_fault}
-use Rattle.layer_api.specs.Service.{ServiceRules, Seat, Instance, OfBit, OfValue, OfVector, Decision, Bit, Decided, MayAsk, MayHear, AreProper, has_instance, IsEnding, WordLaws}
+use Rattle.layer_api.specs.Service.{ServiceRules, Seat, Instance, OfBit, OfValue, OfVector, Decision, Bit, Decided, ending_decision, own_instance, MayAsk, MayHear, AreProper, has_instance, IsEnding, Insides, WordLaws}
 use Rattle.layer_api.specs.Words.{Word, Ask, Hear, asked, bit_byte}
 use Rattle.layer_api.specs.FreshLaws.{fresh_other}
 use Rattle.layer_api.specs.OneInstance.{is_given, not_given, given_some, given_stays, HasOneInstance, IsInstanceSaid, served, asked_once, instance_word_laws}
@@ -133,6 +133,12 @@ decided_stay o u (OfBit a attempt) d stays e = go (a == 0 && attempt == 0) o ref
 decided_stay o u (OfValue a attempt) d stays e = absurd cc
 decided_stay o u (OfVector a) d stays e = absurd cc
 
+-- the bit is the outcome
+own_decided : (o : Option Bool) (is_over : Bool) → decided_in o (OfBit 0 0) ≡ ending_decision (ending o is_over)
+own_decided (Some bit) is_over = refl
+own_decided None true = refl
+own_decided None false = refl
+
 -- an instance of one bit ends by a bit, or with its rounds
 is_ending : (root : ℕ) (o : Option Bool) (is_over : Bool) → root ≡ 3 → IsEnding root (ending o is_over)
 is_ending root (Some bit) is_over three = three
@@ -155,6 +161,18 @@ module _ (b : BinaryRules) where
         → b.decision (bench_of seat) w ≡ Some x → b.decision (bench_of seat) (c ∷ w) ≡ Some x
     stays seat c w x proper q = laws.decision_stays (bench_of seat) c w x (are_votes b seat (c ∷ w) proper) q
 
+    insides : (seat : Seat) (w : List Word) → seat.mode.root ≡ 3 → Insides (binary_root b) seat w
+    insides seat w three = record {
+      own = λ x q.
+          let o = b.decision (bench_of seat) w in
+          let is_over = b.over (bench_of seat) w in
+          let e : OfBit 0 0 ≡ x = let p = ap own_instance (sym three) ∙ q in cc in
+          subst (λ (y : Instance). decided_in o y ≡ ending_decision (ending o is_over)) e (own_decided o is_over);
+      last = λ x q. absurd cc;
+      latest = λ a v q. absurd cc;
+      bit = λ a k o q. absurd cc;
+    }
+
     pub root_word_laws : WordLaws (binary_root b)
     root_word_laws = instance_word_laws (binary_root b) (one b) (record {
       ending = λ seat w serves. is_ending seat.mode.root (b.decision (bench_of seat) w) (b.over (bench_of seat) w) (root_three b seat serves);
@@ -164,5 +182,6 @@ module _ (b : BinaryRules) where
           (laws.says_new (bench_of seat) c w (are_votes b seat (c ∷ w) proper));
       opens_stays = opens_stays;
       outcome_stays = λ seat c w d proper e. ending_stays _ _ _ _ d (λ x q. stays seat c w x proper q) e;
+      insides = λ seat w session serves proper. insides seat w (root_three b seat serves);
       decided_stays = λ seat c w x d proper e. decided_stay _ _ x d (λ y q. stays seat c w y proper q) e;
     })

@@ -7,7 +7,7 @@ use Rattle.ritas_base.specs.declared.slot.Slot.{Slot}
 use Rattle.ritas_base.specs.declared.mode.Mode.{Mode}
 use Rattle.ritas_base.specs.Numbers.{Numbers}
 use Rattle.layer_api.specs.Runs.{Step, calls_of, Has}
-use Rattle.layer_api.specs.Service.{Instance, OfBit, OfValue, OfVector, Decision, Bit, Decided}
+use Rattle.layer_api.specs.Service.{Instance, OfBit, OfValue, OfVector, Decision, Bit, Decided, Spent}
 use Rattle.layer_api.specs.Words.{Word, Ask, bit_byte}
 use Rattle.layer_api.specs.Fed.{IsFedRun}
 use Rattle.layer_api.specs.FedLaws.{same_fed}
@@ -77,6 +77,9 @@ module _ (b : BinaryRules) (one : OneBit b) (p : Numbers) (mode : Mode) (is_corr
       let m = ending_is _ _ (Bit x) q in
       one.valid p 0 0 is_correct coins steps run.enough voted i x ci (m.1 ∙ ap Some (sym (bit_same x m.0 m.2)))
 
+spent_bit : (b : Bool) → Spent ≡ Bit b → ⊥
+spent_bit b e = cc
+
 pub root_one_log : (b : BinaryRules) → OneBit b → OneLog (binary_root b)
 root_one_log b one = record {
   logs = λ p mode is_correct coins steps run i j ci cj. inl ([], refl);
@@ -84,4 +87,6 @@ root_one_log b one = record {
   decisions = λ p mode is_correct coins steps run. same_decisions b one p mode is_correct coins steps run;
   bits = λ p mode is_correct coins steps run. bits_are_inputs b one p mode is_correct coins steps run;
   proposals = λ p mode is_correct coins steps run four i v ci q. absurd (let e = eqb-true mode.root 3 run.serves in omega (arith, e, four));
+  unspent = λ p mode is_correct coins steps run i ci q. absurd (let x = ending_is _ _ Spent q in spent_bit x.0 x.2);
+  last_vectors = λ p mode is_correct coins steps run i j x y ci cj q. absurd cc;
 }

@@ -1,5 +1,5 @@
 -- What a value of the root service stands for, and what its getters answer.
-use Rattle.std.specs.Prelude.{◌≡◌, ℕ, ◌≤◌, Bool, false, List, [], ◌∷◌, refl, ◌⊎◌}
+use Rattle.std.specs.Prelude.{◌≡◌, ℕ, ◌≤◌, Bool, false, List, [], ◌∷◌, refl, ◌⊎◌, None}
 use Rattle.std.proofs.Common.{sym, ◌∙◌, ap, ap₂, inl, inr}
 use Rattle.ritas_base.specs.declared.slot.Slot.{Slot}
 use Rattle.layer_api.specs.Service.{Seat}
@@ -26,6 +26,7 @@ root_shown shown given = record {
   given = given;
   done = [];
   outcome = ending shown.decision shown.over;
+  last = None;
 }
 
 pub root_shows : (b : BinaryRules) (seat : Seat) (w : List Word) (shown : BoxShown) (given : Bool) → given ≡ is_given w
@@ -38,6 +39,7 @@ root_shows b seat w shown given e s = record {
   given = e;
   done = refl;
   outcome = ap₂ ending s.decision s.over;
+  last = refl;
 }
 
 -- after want of memory: the box answers as before or with the word, and no input was taken
@@ -53,6 +55,7 @@ root_shows_near b seat w c shown given e same s = record {
   done_before = ([], refl);
   done_after = ([], refl);
   outcome = elim s.ending [ inl h ↦ inl (ap₂ ending h.0 h.1) | inr h ↦ inr (ap₂ ending h.0 h.1) ];
+  last = inl refl;
 }
   where
     opens : (q : Slot) → (is_given w ≡ false) ⊎ (is_given (c ∷ w) ≡ is_given w)

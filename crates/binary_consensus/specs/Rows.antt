@@ -3,11 +3,12 @@ use Rattle.std.specs.Prelude.{◌≡◌, ℕ, Bool, true, false, List, [], ◌�
 use Rattle.ritas_base.specs.declared.slot.Slot.{Slot}
 use Rattle.ritas_base.specs.declared.item.Say.{Say}
 use Rattle.ritas_base.specs.SlotOrder.{is_slot}
+use Rattle.layer_api.specs.Service.{OfBit, OfValue, Bit}
 use Rattle.layer_api.specs.Words.{Word, Ask, Hear}
 use Rattle.layer_api.specs.Binary.{Bench}
 use Rattle.binary_consensus.specs.Steps.{step_slot, heard, accepts, accepted}
 use Rattle.binary_consensus.specs.Consensus.{next_vote, verdict, said, decided_below, round_below, says_below}
-use Rattle.binary_consensus.specs.Root.{opens_at}
+use Rattle.binary_consensus.specs.Root.{opens_at, decided_in}
 
 -- replica 0, whose coin is always 0
 abbrev bench : ℕ → ℕ → Bench
@@ -179,3 +180,14 @@ other_slots :
     × (opens_at true 1 (record { class = 5; a = 0; attempt = 1; bround = 1; step = 1; origin = 3 }) ≡ false)
     × (opens_at true 1 (record { class = 5; a = 0; attempt = 0; bround = 1; step = 4; origin = 3 }) ≡ false)
 other_slots = (refl, refl, refl, refl)
+
+-- ---- what the one instance of the root service decided
+
+inside_bit : (decided_in (Some true) (OfBit 0 0) ≡ Some (Bit true)) × (decided_in (Some false) (OfBit 0 0) ≡ Some (Bit false))
+inside_bit = (refl, refl)
+
+inside_undecided : decided_in None (OfBit 0 0) ≡ None
+inside_undecided = refl
+
+inside_no_other : (decided_in (Some true) (OfBit 0 1) ≡ None) × (decided_in (Some true) (OfBit 1 0) ≡ None) × (decided_in (Some true) (OfValue 0 0) ≡ None)
+inside_no_other = (refl, refl, refl)

@@ -95,6 +95,10 @@ impl<B: BinaryBox> Service for BinRoot<B> {
         }
     }
 
+    fn last_vector(&self) -> Option<(u32, u8, &[u8])> {
+        None
+    }
+
     fn live(&self) -> bool {
         self.inner.live()
     }

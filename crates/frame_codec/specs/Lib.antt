@@ -10,5 +10,6 @@ pub mod Ids
 pub mod Laws
 pub mod PartLaws
 pub mod VectorLaws
+pub mod EntryCounts
 pub mod IdLaws
 pub mod ColumnLaws

@@ -1,5 +1,5 @@
 -- What stands in values: identifiers, entries by place, rows by place; and how these are written.
-use Rattle.std.specs.Prelude.{◌≡◌, ◌<◌, ◌==◌, true, slice_index, ℕ, zero, suc, ◌≤◌, ◌/◌, List, [], ◌∷◌, ◌++◌, length, take, drop, Option, Some, None, if◌then◌else◌}
+use Rattle.std.specs.Prelude.{◌≡◌, ◌<◌, ◌==◌, Bool, true, false, slice_index, ℕ, zero, suc, ◌≤◌, ◌/◌, List, [], ◌∷◌, ◌++◌, length, take, drop, Option, Some, None, if◌then◌else◌}
 use Rattle.std.specs.List.{flat_map, slice_get, filter, range_with_len, AllByRecursion}
 use Rattle.std.specs.Int.RustNames.{count_ones}
 use Rattle.std.specs.Int.{w16, w32, to_be_bytes, from_be_bytes}
@@ -56,6 +56,19 @@ after_entry bytes = drop (len_in bytes) (drop 2 bytes)
 unfoldable pub entries_in : ℕ → List ℕ → List (List ℕ)
 entries_in zero bytes = []
 entries_in (suc count) bytes = entry_in bytes ∷ entries_in count (after_entry bytes)
+
+-- all entries of a vector
+abbrev pub entries_of : List ℕ → List (List ℕ)
+entries_of vector = entries_in (count_ones (mask_of vector)) (drop 4 vector)
+
+-- the entry at a replica's place, if it has one
+abbrev pub entry_of : List ℕ → ℕ → Option (List ℕ)
+entry_of vector k = at_place (mask_of vector) (entries_of vector) k
+
+-- whether something is there that passes a test
+abbrev pub is_passed : (List ℕ → Bool) → Option (List ℕ) → Bool
+is_passed test None = false
+is_passed test (Some e) = test e
 
 -- so many entries stand in front
 unfoldable pub HasEntries : ℕ → List ℕ → Type 0

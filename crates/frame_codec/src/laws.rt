@@ -1,17 +1,18 @@
 //! What the formats of values mean on whole values: how they are written, that all are written so, and that what is
 //! written is read again.
 
-ghost use Rattle.std.specs.Prelude.{◌≡◌, ℕ, ◌<◌, ◌≤◌, ◌^◌, List, [], length, drop, true, Some};
+ghost use Rattle.std.specs.Prelude.{◌≡◌, ℕ, ◌<◌, ◌≤◌, ◌^◌, Bool, List, [], length, drop, count_by, true, Some};
 ghost use Rattle.std.specs.List.{slice_get, AllByRecursion};
 ghost use Rattle.std.specs.Int.RustNames.{count_ones};
 ghost use Rattle.ritas_base.specs.Numbers.{Numbers, wait_of, support_of};
+ghost use Rattle.ritas_base.specs.History.{replicas};
 ghost use Rattle.ritas_base.specs.Members.{has_member};
 ghost use Rattle.ritas_base.specs.declared.id.Id.{Id};
 ghost use Rattle.frame_codec.specs.Format.{Is};
 ghost use Rattle.frame_codec.specs.Grammar.{ids, vector, vect, column, class2, class3, is_places};
 ghost use Rattle.frame_codec.specs.Ids.{AreIds};
 ghost use Rattle.frame_codec.specs.Values.{IsBytes, ids_bytes, ids_of, mask_of, places, at_place};
-ghost use Rattle.frame_codec.specs.Values.{IsVector, entries_in, vector_bytes};
+ghost use Rattle.frame_codec.specs.Values.{IsVector, entries_in, entries_of, entry_of, is_passed, vector_bytes};
 ghost use Rattle.frame_codec.specs.Values.{IsColumn, rows_in, row_of, column_bytes, IsVect, vect_bytes};
 
 /// A value is an identifier list exactly where it spells some identifiers that are one in words: at most 64, ascending,
@@ -23,16 +24,19 @@ pub fn list_law()
     ensures again { (xs : List Id) → AllByRecursion (λ x. x.num < 2 ^ 32) xs → ids_of (ids_bytes xs) ≡ xs }
 {}
 
-/// A value is a vector exactly where it is a mask and one entry of class 2 for each of its places.
+/// A value is a vector exactly where it is a mask and one entry of class 2 for each of its places. As many entries pass a
+/// test as replicas have a place with one that does.
 pub fn vector_law()
     ensures written { (p : Numbers) (root mask : ℕ) (es : List (List ℕ)) → mask < 2 ^ 32
         → is_places p.n (wait_of p) mask ≡ true → length es ≡ count_ones mask → AllByRecursion (Is (class2 p root)) es
         → Is (vector p root) (vector_bytes mask es) }
     ensures read { (p : Numbers) (root : ℕ) (value : List ℕ) → IsBytes value → Is (vector p root) value
-        → IsVector p root (mask_of value) (entries_in (count_ones (mask_of value)) (drop 4 value)) value }
+        → IsVector p root (mask_of value) (entries_of value) value }
     ensures again { (mask : ℕ) (es : List (List ℕ)) → mask < 2 ^ 32 → length es ≡ count_ones mask
         → AllByRecursion (λ e. length e < 2 ^ 16) es
         → (mask_of (vector_bytes mask es) ≡ mask) × (entries_in (count_ones mask) (drop 4 (vector_bytes mask es)) ≡ es) }
+    ensures counted { (p : Numbers) (root : ℕ) (value : List ℕ) (test : List ℕ → Bool) → Is (vector p root) value
+        → count_by test (entries_of value) ≡ count_by (λ k. is_passed test (entry_of value k)) (replicas p.n) }
 {}
 
 /// A value of class 2 has 1 to 512 bytes.

@@ -4,11 +4,10 @@ ghost use Rattle.std.specs.Prelude.{◌≡◌, ℕ, suc, ◌<◌, ◌≤◌, ◌
 ghost use Rattle.std.specs.Prelude.{IsTrue, MatchOption, Contains};
 ghost use Rattle.std.specs.Option.{option_copied};
 ghost use Rattle.std.specs.List.{slice_get};
-ghost use Rattle.std.specs.Int.RustNames.{count_ones};
 ghost use Rattle.ritas_base.specs.Numbers.{Numbers};
 ghost use Rattle.frame_codec.specs.Format.{Is};
 ghost use Rattle.frame_codec.specs.Grammar.{vector, vect};
-ghost use Rattle.frame_codec.specs.Values.{ids_of, mask_of, at_place, entries_in, row_of};
+ghost use Rattle.frame_codec.specs.Values.{ids_of, mask_of, entry_of, row_of};
 ghost use Rattle.frame_codec.specs.Values.{len_in, entry_in, after_entry, HasEntries, nth_entry};
 
 use crate::ids::id_from;
@@ -77,8 +76,7 @@ fn nth_entry(at: u32, bytes: &[u8]) -> &[u8]
 /// vector.
 pub fn vector_entry(value: &[u8], k: u8) -> Option<&[u8]>
     requires { (p : Numbers) × (root : ℕ) × Is (vector p root) value.now }
-    ensures { option_copied result
-        ≡ at_place (mask_of value.now) (entries_in (count_ones (mask_of value.now)) (drop 4 value.now)) k }
+    ensures { option_copied result ≡ entry_of value.now k }
 {
     let (places, rest) = split_mask(value);
     if !places.has(k) {

@@ -3,7 +3,7 @@
 -- one notion of a run.
 use Rattle.std.specs.Prelude.{◌≡◌, ℕ, Bool, true, List, [], ◌∷◌, Some, ⊤}
 use Rattle.ritas_base.specs.declared.item.Say.{Say}
-use Rattle.layer_api.specs.Runs.{Step, calls_of}
+use Rattle.layer_api.specs.Runs.{Step, calls_of, Has}
 use Rattle.layer_api.specs.Words.{Word, Ask, Hear, AllMet, HasSay, value_at}
 
 -- the values of one instance: what each replica's said in its words, and when a word may come to it
@@ -32,3 +32,8 @@ IsFed g is_correct steps i c = g.may i (calls_of i steps) c × Brings g is_corre
 abbrev pub IsFedRun : Play → (ℕ → Bool) → List (Step Word) → Type 0
 IsFedRun g is_correct [] = ⊤
 IsFedRun g is_correct (x ∷ xs) = (is_correct x.who ≡ true) × IsFed g is_correct xs x.who x.call × IsFedRun g is_correct xs
+
+-- all that correct replicas proposed is equal
+abbrev pub ProposeOne : (ℕ → Bool) → List (Step Word) → Type 0
+ProposeOne is_correct steps =
+    (j k : ℕ) (v u : List ℕ) → is_correct j ≡ true → is_correct k ≡ true → Has (calls_of j steps) (Ask v) → Has (calls_of k steps) (Ask u) → v ≡ u

@@ -15,6 +15,7 @@ pub mod OneValue
 pub mod OnceLaws
 pub mod EntryLaws
 pub mod Service
+pub mod DecisionLaws
 pub mod ServiceCalls
 pub mod OneLog
 pub mod OneInstance

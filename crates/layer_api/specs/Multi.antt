@@ -1,6 +1,6 @@
 -- What a box of multi-valued consensus means: its rules on lists of words, the newest first, when a word may come, and its laws.
 -- A proposal is the word `Ask` of a value of class 3; what a slot delivered is the word `Hear` of that slot's value.
-use Rattle.std.specs.Prelude.{◌≡◌, ℕ, ◌<◌, Bool, true, false, ◌==◌, ◌&&◌, List, [], ◌∷◌, Option, Some, None}
+use Rattle.std.specs.Prelude.{◌≡◌, ℕ, ◌<◌, Bool, true, false, ◌==◌, ◌&&◌, List, [], ◌∷◌, Option, Some, None, option_map}
 use Rattle.ritas_base.specs.declared.slot.Slot.{Slot}
 use Rattle.ritas_base.specs.declared.item.Say.{Say}
 use Rattle.ritas_base.specs.Numbers.{Numbers, IsSession}
@@ -9,8 +9,8 @@ use Rattle.frame_codec.specs.Format.{Is}
 use Rattle.frame_codec.specs.Grammar.{class3, value}
 use Rattle.layer_api.specs.Runs.{Step, calls_of, Has, IsEnough}
 use Rattle.layer_api.specs.Words.{Word, Ask, Hear, asked, is_heard, AllMet, all_said, AreFresh}
-use Rattle.layer_api.specs.Fed.{Play, IsFedRun}
-use Rattle.layer_api.specs.Service.{Instance, Decision}
+use Rattle.layer_api.specs.Fed.{Play, IsFedRun, ProposeOne}
+use Rattle.layer_api.specs.Service.{Instance, OfValue, Decision, value_decision, GoesByBit}
 
 -- an instance: the numbers and the root service of its session, its round, and its attempt, which is 0 where it has none
 pub record Scope : Type 0 where
@@ -33,7 +33,7 @@ pub record MultiRules : Type 0 where
   pub opens : Desk → List Word → Slot → Bool
   -- what is decided: that no value is, or a value
   pub decision : Desk → List Word → Option (Option (List ℕ))
-  -- what each instance inside decided
+  -- what each instance inside decided, and this one
   pub inside : Desk → List Word → Instance → Option Decision
 
 -- the slot is one of the instance of a round and an attempt: of a proposal, of a VECT, or of a step of its binary consensus
@@ -80,6 +80,9 @@ pub record MultiLaws (r : MultiRules) : Type 0 where
       → r.decision at w ≡ Some d → r.decision at (c ∷ w) ≡ Some d
   pub decision_good : (at : Desk) (w : List Word) (v : List ℕ) → IsSession at.scope.numbers → AreMulti r at w → r.decision at w ≡ Some (Some v)
       → Is (class3 at.scope.numbers at.scope.root) v
+  -- what the instances inside decided, this one among them
+  pub inside_own : (at : Desk) (w : List Word) → r.inside at w (OfValue at.scope.a at.scope.attempt) ≡ option_map value_decision (r.decision at w)
+  pub inside_bit : (at : Desk) (w : List Word) (a attempt : ℕ) → AreMulti r at w → GoesByBit (r.inside at w) a attempt
   pub inside_stays : (at : Desk) (c : Word) (w : List Word) (x : Instance) (d : Decision) → AreMulti r at (c ∷ w)
       → r.inside at w x ≡ Some d → r.inside at (c ∷ w) x ≡ Some d
 
@@ -94,7 +97,8 @@ multi_play r at coins = record {
 }
 
 -- the law of a box, of these rules: over every run all decisions of correct replicas are equal, those for no value too, and so is
--- what they decided in each instance inside; a value that one of them decides was proposed by a correct one
+-- what they decided in each instance inside; a value that one of them decides was proposed by a correct one; and where all that
+-- correct replicas proposed is equal, none of them decides that no value is
 pub record OneDecision (r : MultiRules) : Type 0 where
   pub agree : (at : Scope) (is_correct : ℕ → Bool) (coins : ℕ → Slot → Bool) (steps : List (Step Word))
       → IsEnough at.numbers is_correct → IsFedRun (multi_play r at coins) is_correct steps
@@ -104,6 +108,9 @@ pub record OneDecision (r : MultiRules) : Type 0 where
       → IsEnough at.numbers is_correct → IsFedRun (multi_play r at coins) is_correct steps
       → (i : ℕ) (v : List ℕ) → is_correct i ≡ true → r.decision (desk_at at coins i) (calls_of i steps) ≡ Some (Some v)
       → (k : ℕ) × (is_correct k ≡ true) × Has (calls_of k steps) (Ask v)
+  pub decides : (at : Scope) (is_correct : ℕ → Bool) (coins : ℕ → Slot → Bool) (steps : List (Step Word))
+      → IsEnough at.numbers is_correct → IsFedRun (multi_play r at coins) is_correct steps → ProposeOne is_correct steps
+      → (i : ℕ) → is_correct i ≡ true → r.decision (desk_at at coins i) (calls_of i steps) ≡ Some None → ⊥
   pub insides : (at : Scope) (is_correct : ℕ → Bool) (coins : ℕ → Slot → Bool) (steps : List (Step Word))
       → IsEnough at.numbers is_correct → IsFedRun (multi_play r at coins) is_correct steps
       → (i j : ℕ) (x : Instance) (d e : Decision) → is_correct i ≡ true → is_correct j ≡ true

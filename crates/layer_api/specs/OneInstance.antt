@@ -5,12 +5,13 @@ use Rattle.std.proofs.lemmas.Bool.{and_parts, eqb-true, leb-true, le-ltb, not-fa
 use Rattle.ritas_base.specs.declared.slot.Slot.{Slot}
 use Rattle.ritas_base.specs.declared.item.Say.{Say}
 use Rattle.ritas_base.specs.declared.id.Id.{Id}
+use Rattle.ritas_base.specs.Numbers.{IsSession}
 use Rattle.ritas_base.specs.Slots.{slot_fault, has_class, within}
 use Rattle.frame_codec.specs.Format.{Is}
 use Rattle.frame_codec.specs.Grammar.{value}
 use Rattle.layer_api.specs.Words.{Word, Ask, Hear, asked, AreFresh}
 use Rattle.layer_api.specs.FreshLaws.{fresh_other}
-use Rattle.layer_api.specs.Service.{ServiceRules, Seat, Instance, Decision, Decided, AreProper, AreGoodSays, AreInputs, AreDistinct, AreHeard, said, has_instance, IsEnding, Meanings, is_past, WordLaws}
+use Rattle.layer_api.specs.Service.{ServiceRules, Seat, Instance, Decision, Decided, AreProper, AreGoodSays, AreInputs, AreDistinct, AreHeard, said, has_instance, IsEnding, Meanings, Insides, is_past, WordLaws}
 
 -- ---- the one input
 
@@ -85,6 +86,7 @@ pub record InstanceLaws (r : ServiceRules) : Type 0 where
   pub opens_stays : (seat : Seat) (c : Word) (w : List Word) (s : Slot) → AreProper r seat (c ∷ w) → r.opens seat w s ≡ true → r.opens seat (c ∷ w) s ≡ true
   pub outcome_stays : (seat : Seat) (c : Word) (w : List Word) (d : Decision) → AreProper r seat (c ∷ w)
       → r.outcome seat w ≡ Decided d → r.outcome seat (c ∷ w) ≡ Decided d
+  pub insides : (seat : Seat) (w : List Word) → IsSession seat.numbers → r.serves seat.mode.root ≡ true → AreProper r seat w → Insides r seat w
   pub decided_stays : (seat : Seat) (c : Word) (w : List Word) (x : Instance) (d : Decision) → AreProper r seat (c ∷ w)
       → r.decided seat w x ≡ Some d → r.decided seat (c ∷ w) x ≡ Some d
 
@@ -140,6 +142,7 @@ module _ (r : ServiceRules) (one : HasOneInstance r) where
     pub instance_word_laws : WordLaws r
     instance_word_laws = record {
       meanings = λ seat w session serves proper. meanings seat w serves;
+      insides = λ seat w session serves proper. laws.insides seat w session serves proper;
       opens_stays = λ seat c w s proper opens past. laws.opens_stays seat c w s proper opens;
       says_new = λ seat c w proper. fresh_other (IsInstanceSaid seat) _ _ _ _ (λ y h. h.origin) (λ y h none. none) (laws.says seat c w proper);
       says_good = λ seat c w below proper. good_says seat _ _ below (laws.says seat c w proper);

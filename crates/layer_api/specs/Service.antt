@@ -1,5 +1,5 @@
 -- What a service means: its rules on lists of words, the newest first, and when a word may come.
-use Rattle.std.specs.Prelude.{◌≡◌, ℕ, ◌+◌, ◌<◌, ◌≤◌, ◌⊎◌, nat_lt, nat_le, Bool, true, false, not, ◌==◌, ◌&&◌, ◌||◌, List, [], ◌∷◌, ◌++◌, length, Option, Some, None, ⊤, if◌then◌else◌}
+use Rattle.std.specs.Prelude.{◌≡◌, ℕ, ◌+◌, ◌<◌, ◌≤◌, ◌⊎◌, nat_lt, nat_le, Bool, true, false, not, ◌==◌, ◌&&◌, ◌||◌, List, [], ◌∷◌, ◌++◌, length, Option, Some, None, is_some, ⊤, if◌then◌else◌}
 use Rattle.ritas_base.specs.declared.slot.Slot.{Slot}
 use Rattle.ritas_base.specs.declared.item.Say.{Say}
 use Rattle.ritas_base.specs.declared.id.Id.{Id}
@@ -32,11 +32,50 @@ pub data Decision : Type 0 where
   Value : List ℕ → Decision
   Spent : Decision
 
+-- what a multi-valued consensus decided: that no value is, or a value
+abbrev pub value_decision : Option (List ℕ) → Decision
+value_decision None = Nothing
+value_decision (Some v) = Value v
+
+-- what a vector consensus decided, by its vector and whether its attempts are spent
+abbrev pub vector_decision : Option (List ℕ) → Bool → Option Decision
+vector_decision (Some v) is_spent = Some (Value v)
+vector_decision None true = Some Spent
+vector_decision None false = None
+
+-- a multi-valued consensus decides by the bit inside it: that no value is by 0, and a value by 1
+abbrev pub GoesByBit : (Instance → Option Decision) → ℕ → ℕ → Type 0
+GoesByBit decided a attempt = (o : Option (List ℕ)) → decided (OfValue a attempt) ≡ Some (value_decision o) → decided (OfBit a attempt) ≡ Some (Bit (is_some o))
+
+-- the vector of a round is the value of this attempt, the first that didn't decide that no value is
+pub record IsAttemptOf (decided : Instance → Option Decision) (a attempt : ℕ) (v : List ℕ) : Type 0 where
+  pub vector : decided (OfVector a) ≡ Some (Value v)
+  pub value : decided (OfValue a attempt) ≡ Some (Value v)
+  pub failed : (k : ℕ) → k < attempt → decided (OfValue a k) ≡ Some Nothing
+
 -- what became of a service's one instance: nothing yet, the rounds are over without a decision, or a decision
 pub data Ending : Type 0 where
   Undecided : Ending
   Over : Ending
   Decided : Decision → Ending
+
+-- what it decided, if it did
+abbrev pub ending_decision : Ending → Option Decision
+ending_decision Undecided = None
+ending_decision Over = None
+ending_decision (Decided d) = Some d
+
+-- a vector that is decided: its round, the attempt that decided it, and its value
+pub record LastVector : Type 0 where
+  pub round : ℕ
+  pub attempt : ℕ
+  pub value : List ℕ
+
+-- that of a round, where an attempt decided one
+abbrev pub vector_with : ℕ → Option ℕ → Option (List ℕ) → Option LastVector
+vector_with a None o = None
+vector_with a (Some k) None = None
+vector_with a (Some k) (Some v) = Some (record { round = a; attempt = k; value = v })
 
 -- the meaning of a service at one seat, by the words so far
 pub record ServiceRules : Type 0 where
@@ -58,6 +97,8 @@ pub record ServiceRules : Type 0 where
   pub done : Seat → List Word → List Id
   -- what became of the one instance
   pub outcome : Seat → List Word → Ending
+  -- the vector that was decided in the latest round
+  pub last : Seat → List Word → Option LastVector
   -- what each instance inside decided
   pub decided : Seat → List Word → Instance → Option Decision
 
@@ -171,6 +212,10 @@ pub record IsBase (finished : ℕ → Bool) (b : ℕ) : Type 0 where
 abbrev pub has_instance : ℕ → Bool
 has_instance root = within 3 5 root
 
+-- that instance
+abbrev pub own_instance : ℕ → Option Instance
+own_instance root = if root == 3 then Some (OfBit 0 0) else if root == 4 then Some (OfValue 0 0) else if root == 5 then Some (OfVector 0) else None
+
 -- what may become of the one instance of a root service; root service 6 has none, but that the vector consensus of its round
 -- may be spent
 abbrev pub IsEnding : ℕ → Ending → Type 0
@@ -197,10 +242,22 @@ pub record Meanings (r : ServiceRules) (seat : Seat) (w : List Word) : Type 0 wh
   pub done_few : length (r.done seat w) ≤ 31000000
   pub outcome : IsEnding seat.mode.root (r.outcome seat w)
 
+-- what instances inside decided goes together with what is shown
+pub record Insides (r : ServiceRules) (seat : Seat) (w : List Word) : Type 0 where
+  -- of the one instance of a root service it is the outcome
+  pub own : (x : Instance) → own_instance seat.mode.root ≡ Some x → r.decided seat w x ≡ ending_decision (r.outcome seat w)
+  -- the last vector is decided, by the attempt that is named, and none of a later round is
+  pub last : (x : LastVector) → r.last seat w ≡ Some x → IsAttemptOf (r.decided seat w) x.round x.attempt x.value
+  pub latest : (a : ℕ) (v : List ℕ) → r.decided seat w (OfVector a) ≡ Some (Value v) → (x : LastVector) × (r.last seat w ≡ Some x) × (a ≤ x.round)
+  -- each multi-valued consensus went by its bit
+  pub bit : (a attempt : ℕ) → GoesByBit (r.decided seat w) a attempt
+
 -- laws of a single value, over all words that met their conditions
 pub record WordLaws (r : ServiceRules) : Type 0 where
   -- each getter is what its root service says
   pub meanings : (seat : Seat) (w : List Word) → IsSession seat.numbers → r.serves seat.mode.root ≡ true → AreProper r seat w → Meanings r seat w
+  -- what instances inside decided is what is shown
+  pub insides : (seat : Seat) (w : List Word) → IsSession seat.numbers → r.serves seat.mode.root ≡ true → AreProper r seat w → Insides r seat w
   -- what is open stays open, as long as its window isn't past
   pub opens_stays : (seat : Seat) (c : Word) (w : List Word) (s : Slot) → AreProper r seat (c ∷ w) → r.opens seat w s ≡ true
       → is_past r seat (c ∷ w) s ≡ false → r.opens seat (c ∷ w) s ≡ true

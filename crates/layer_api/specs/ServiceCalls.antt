@@ -1,12 +1,12 @@
 -- What a call on a service's value does, for every list of words that the value stands for.
-use Rattle.std.specs.Prelude.{◌≡◌, ℕ, ◌<◌, ◌⊎◌, Bool, List, ◌∷◌, Result}
+use Rattle.std.specs.Prelude.{◌≡◌, ℕ, ◌<◌, ◌⊎◌, Bool, List, ◌∷◌, Option, Result}
 use Rattle.ritas_base.specs.declared.bytes.Mem.{Mem}
 use Rattle.ritas_base.specs.declared.slot.Slot.{Slot}
 use Rattle.ritas_base.specs.declared.item.Say.{Say}
 use Rattle.ritas_base.specs.declared.id.Id.{Id}
 use Rattle.layer_api.specs.declared.outcome.Outcome.{Outcome}
 use Rattle.layer_api.specs.declared.outcome.Outcome.TheVariants as outcomes
-use Rattle.layer_api.specs.Service.{ServiceRules, Seat, MayAsk, MayHear, IsPart, Ending, Undecided, Over, Decided, Bit, Nothing, Value, Spent}
+use Rattle.layer_api.specs.Service.{ServiceRules, Seat, LastVector, MayAsk, MayHear, IsPart, Ending, Undecided, Over, Decided, Bit, Nothing, Value, Spent}
 use Rattle.layer_api.specs.Words.{Word, Ask, Hear}
 use Rattle.layer_api.specs.Calls.{IsCoin, WordDone}
 
@@ -19,6 +19,7 @@ pub record ServiceShown : Type 0 where
   pub given : Bool
   pub done : List Id
   pub outcome : Ending
+  pub last : Option LastVector
 
 -- they answer what the rules say of these words
 pub record Shows (r : ServiceRules) (seat : Seat) (w : List Word) (shown : ServiceShown) : Type 0 where
@@ -29,6 +30,7 @@ pub record Shows (r : ServiceRules) (seat : Seat) (w : List Word) (shown : Servi
   pub given : shown.given ≡ r.given seat w
   pub done : shown.done ≡ r.done seat w
   pub outcome : shown.outcome ≡ r.outcome seat w
+  pub last : shown.last ≡ r.last seat w
 
 -- each answers as after the first of two lists of words, or as after the second; and the identifier log is between those of
 -- the two
@@ -41,6 +43,7 @@ pub record ShowsBetween (r : ServiceRules) (seat : Seat) (w later : List Word) (
   pub done_before : IsPart (r.done seat w) shown.done
   pub done_after : IsPart shown.done (r.done seat later)
   pub outcome : (shown.outcome ≡ r.outcome seat w) ⊎ (shown.outcome ≡ r.outcome seat later)
+  pub last : (shown.last ≡ r.last seat w) ⊎ (shown.last ≡ r.last seat later)
 
 -- after want of memory they do so with the words before the call, and with these and the call's
 abbrev pub ShowsNear : ServiceRules → Seat → List Word → Word → ServiceShown → Type 0

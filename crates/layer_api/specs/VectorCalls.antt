@@ -12,12 +12,14 @@ use Rattle.layer_api.specs.Vectors.{VectorRules, MayVector}
 pub record VectorShown : Type 0 where
   pub opens : Slot → Bool
   pub decision : Option (List ℕ)
+  pub attempt : Option ℕ
   pub spent : Bool
 
 -- they answer what the rules say of these words
 pub record ShowsVector (r : VectorRules) (at : Desk) (w : List Word) (shown : VectorShown) : Type 0 where
   pub opens : (s : Slot) → shown.opens s ≡ r.opens at w s
   pub decision : shown.decision ≡ r.decision at w
+  pub attempt : shown.attempt ≡ r.attempt at w
   pub spent : shown.spent ≡ r.spent at w
 
 -- after want of memory each answers as after the words before the call, or as after them and the call's
@@ -25,9 +27,9 @@ pub record ShowsVectorNear (r : VectorRules) (at : Desk) (w : List Word) (c : Wo
   pub opens : (s : Slot) → (shown.opens s ≡ r.opens at w s) ⊎ (shown.opens s ≡ r.opens at (c ∷ w) s)
   pub decision : (shown.decision ≡ r.decision at w) ⊎ (shown.decision ≡ r.decision at (c ∷ w))
   pub spent : (shown.spent ≡ r.spent at w) ⊎ (shown.spent ≡ r.spent at (c ∷ w))
-  -- the decision and whether it is spent do so together
-  pub ending : ((shown.decision ≡ r.decision at w) × (shown.spent ≡ r.spent at w))
-      ⊎ ((shown.decision ≡ r.decision at (c ∷ w)) × (shown.spent ≡ r.spent at (c ∷ w)))
+  -- the decision, its attempt and whether it is spent do so together
+  pub ending : ((shown.decision ≡ r.decision at w) × (shown.spent ≡ r.spent at w) × (shown.attempt ≡ r.attempt at w))
+      ⊎ ((shown.decision ≡ r.decision at (c ∷ w)) × (shown.spent ≡ r.spent at (c ∷ w)) × (shown.attempt ≡ r.attempt at (c ∷ w)))
 
 -- each outcome of a proposal, and of what a slot delivered
 abbrev pub VectorProposes : {X : Type 0} → (X → Desk → List Word → Type 0) → VectorRules → (X → Bool) → (X → VectorShown) → X → X → List ℕ

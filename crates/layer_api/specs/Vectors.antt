@@ -1,17 +1,18 @@
 -- What a box of vector consensus means: its rules on lists of words, the newest first, when a word may come, and its laws. A
 -- proposal is the word `Ask` of a value of class 2; what a slot delivered is the word `Hear` of that slot's value. What is decided
 -- is a value of class 3, which is a vector.
-use Rattle.std.specs.Prelude.{◌≡◌, ℕ, ◌<◌, nat_le, Bool, true, false, ◌==◌, ◌&&◌, List, [], ◌∷◌, Option, Some, None, if◌then◌else◌}
+use Rattle.std.specs.Prelude.{◌≡◌, ℕ, ◌<◌, ◌≤◌, nat_le, Bool, true, false, ◌==◌, ◌&&◌, List, [], ◌∷◌, Option, Some, None, is_some, if◌then◌else◌}
 use Rattle.ritas_base.specs.declared.slot.Slot.{Slot}
 use Rattle.ritas_base.specs.declared.item.Say.{Say}
 use Rattle.ritas_base.specs.Numbers.{IsSession}
 use Rattle.ritas_base.specs.Slots.{within, has_count}
 use Rattle.frame_codec.specs.Format.{Is}
 use Rattle.frame_codec.specs.Grammar.{class2, vector, value}
-use Rattle.layer_api.specs.Runs.{Step, calls_of, IsEnough}
+use Rattle.frame_codec.specs.Values.{entry_of}
+use Rattle.layer_api.specs.Runs.{Step, calls_of, Has, IsEnough}
 use Rattle.layer_api.specs.Words.{Word, Ask, Hear, asked, is_heard, AllMet, all_said, AreFresh}
 use Rattle.layer_api.specs.Fed.{Play, IsFedRun}
-use Rattle.layer_api.specs.Service.{Instance, Decision}
+use Rattle.layer_api.specs.Service.{Instance, OfValue, OfVector, Decision, Nothing, vector_decision, GoesByBit, IsAttemptOf}
 use Rattle.layer_api.specs.Multi.{Scope, Desk, desk_at}
 
 -- the meaning of a box at one desk, by the words so far; the attempt of the desk's scope is 0
@@ -22,9 +23,11 @@ pub record VectorRules : Type 0 where
   pub opens : Desk → List Word → Slot → Bool
   -- the vector that is decided
   pub decision : Desk → List Word → Option (List ℕ)
+  -- the attempt that decided it
+  pub attempt : Desk → List Word → Option ℕ
   -- the last attempt decided that no vector is
   pub spent : Desk → List Word → Bool
-  -- what each instance inside decided
+  -- what each instance inside decided, and this one
   pub inside : Desk → List Word → Instance → Option Decision
 
 -- the slot is one of the instance of a round: of a proposal, or of one of the attempts, of which there are f + 1
@@ -82,10 +85,23 @@ pub record VectorLaws (r : VectorRules) : Type 0 where
       → r.decision at w ≡ Some v → r.decision at (c ∷ w) ≡ Some v
   pub spent_stays : (at : Desk) (c : Word) (w : List Word) → IsSession at.scope.numbers → HasVectors at.scope → AreVector r at (c ∷ w)
       → r.spent at w ≡ true → r.spent at (c ∷ w) ≡ true
+  -- an attempt decided exactly where something is decided, and it is one of the f + 1
+  pub attempt_there : (at : Desk) (w : List Word) → is_some (r.attempt at w) ≡ is_some (r.decision at w)
+  pub attempt_few : (at : Desk) (w : List Word) (k : ℕ) → r.attempt at w ≡ Some k → k ≤ at.scope.numbers.f
+  pub attempt_stays : (at : Desk) (c : Word) (w : List Word) (k : ℕ) → IsSession at.scope.numbers → HasVectors at.scope → AreVector r at (c ∷ w)
+      → r.attempt at w ≡ Some k → r.attempt at (c ∷ w) ≡ Some k
   -- nothing is decided where it is spent
   pub spent_alone : (at : Desk) (w : List Word) → AreVector r at w → r.spent at w ≡ true → r.decision at w ≡ None
   pub decision_good : (at : Desk) (w : List Word) (v : List ℕ) → IsSession at.scope.numbers → HasVectors at.scope → AreVector r at w
       → r.decision at w ≡ Some v → Is (vector at.scope.numbers at.scope.root) v
+  -- what the instances inside decided, this one among them: the vector is the value of the attempt that decided it, and where it is
+  -- spent each attempt decided that no value is
+  pub inside_own : (at : Desk) (w : List Word) → r.inside at w (OfVector at.scope.a) ≡ vector_decision (r.decision at w) (r.spent at w)
+  pub inside_attempt : (at : Desk) (w : List Word) (k : ℕ) (v : List ℕ) → r.attempt at w ≡ Some k → r.decision at w ≡ Some v
+      → IsAttemptOf (r.inside at w) at.scope.a k v
+  pub inside_spent : (at : Desk) (w : List Word) (k : ℕ) → r.spent at w ≡ true → k ≤ at.scope.numbers.f → r.inside at w (OfValue at.scope.a k) ≡ Some Nothing
+  pub inside_bit : (at : Desk) (w : List Word) (a attempt : ℕ) → IsSession at.scope.numbers → HasVectors at.scope → AreVector r at w
+      → GoesByBit (r.inside at w) a attempt
   pub inside_stays : (at : Desk) (c : Word) (w : List Word) (x : Instance) (d : Decision) → IsSession at.scope.numbers → HasVectors at.scope
       → AreVector r at (c ∷ w) → r.inside at w x ≡ Some d → r.inside at (c ∷ w) x ≡ Some d
 
@@ -96,17 +112,25 @@ vector_play r at coins = record {
   may = λ i w c. MayVector r (desk_at at coins i) w c;
 }
 
--- the law of a box, of these rules: over every run all decisions of correct replicas are equal, none of them is spent where another
--- has a vector, and what they decided in each instance inside is equal
+-- the law of a box, of these rules: over every run all decisions of correct replicas are equal, and so are the attempts that decided
+-- them; none is spent; in a vector that one of them decides the entry of a correct replica is that one's proposal; and what they decided
+-- in each instance inside is equal
 pub record OneVector (r : VectorRules) : Type 0 where
   pub agree : (at : Scope) (is_correct : ℕ → Bool) (coins : ℕ → Slot → Bool) (steps : List (Step Word))
       → IsEnough at.numbers is_correct → HasVectors at → IsFedRun (vector_play r at coins) is_correct steps
       → (i j : ℕ) (v u : List ℕ) → is_correct i ≡ true → is_correct j ≡ true
       → r.decision (desk_at at coins i) (calls_of i steps) ≡ Some v → r.decision (desk_at at coins j) (calls_of j steps) ≡ Some u → v ≡ u
-  pub apart : (at : Scope) (is_correct : ℕ → Bool) (coins : ℕ → Slot → Bool) (steps : List (Step Word))
+  pub attempts : (at : Scope) (is_correct : ℕ → Bool) (coins : ℕ → Slot → Bool) (steps : List (Step Word))
       → IsEnough at.numbers is_correct → HasVectors at → IsFedRun (vector_play r at coins) is_correct steps
-      → (i j : ℕ) (v : List ℕ) → is_correct i ≡ true → is_correct j ≡ true
-      → r.decision (desk_at at coins i) (calls_of i steps) ≡ Some v → r.spent (desk_at at coins j) (calls_of j steps) ≡ true → ⊥
+      → (i j : ℕ) (k l : ℕ) → is_correct i ≡ true → is_correct j ≡ true
+      → r.attempt (desk_at at coins i) (calls_of i steps) ≡ Some k → r.attempt (desk_at at coins j) (calls_of j steps) ≡ Some l → k ≡ l
+  pub unspent : (at : Scope) (is_correct : ℕ → Bool) (coins : ℕ → Slot → Bool) (steps : List (Step Word))
+      → IsEnough at.numbers is_correct → HasVectors at → IsFedRun (vector_play r at coins) is_correct steps
+      → (i : ℕ) → is_correct i ≡ true → r.spent (desk_at at coins i) (calls_of i steps) ≡ true → ⊥
+  pub entries : (at : Scope) (is_correct : ℕ → Bool) (coins : ℕ → Slot → Bool) (steps : List (Step Word))
+      → IsEnough at.numbers is_correct → HasVectors at → IsFedRun (vector_play r at coins) is_correct steps
+      → (i k : ℕ) (v e : List ℕ) → is_correct i ≡ true → is_correct k ≡ true
+      → r.decision (desk_at at coins i) (calls_of i steps) ≡ Some v → entry_of v k ≡ Some e → Has (calls_of k steps) (Ask e)
   pub insides : (at : Scope) (is_correct : ℕ → Bool) (coins : ℕ → Slot → Bool) (steps : List (Step Word))
       → IsEnough at.numbers is_correct → HasVectors at → IsFedRun (vector_play r at coins) is_correct steps
       → (i j : ℕ) (x : Instance) (d e : Decision) → is_correct i ≡ true → is_correct j ≡ true

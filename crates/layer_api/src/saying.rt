@@ -1,4 +1,4 @@
-ghost use Rattle.std.specs.Prelude.{◌≡◌, ◌++◌, Ok, IfOk, OnErr};
+ghost use Rattle.std.specs.Prelude.{◌≡◌, ◌++◌, [], Ok, IfOk, OnErr};
 
 use ritas_base::{Mem, Say};
 
@@ -11,6 +11,7 @@ pub fn put_out<T: Drop>(
     says: &mut Vec<Say>,
 ) -> Result<T, Mem>
     ensures ok { IfOk result (λ x. (reached ≡ Ok x) × (says.new.items ≡ says.old.items ++ made.old.items)) }
+    ensures emptied { IfOk result (λ x. made.new.items ≡ []) }
     ensures err { OnErr result (says.new.items ≡ says.old.items) }
 {
     let x = reached?;

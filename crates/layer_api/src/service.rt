@@ -1,4 +1,4 @@
-ghost use Rattle.std.specs.Prelude.{◌≡◌, ℕ, ◌<◌, Bool, true, List, [], IfOk, reverse};
+ghost use Rattle.std.specs.Prelude.{◌≡◌, ℕ, ◌<◌, Bool, true, List, [], IfOk, reverse, option_map};
 ghost use Rattle.ritas_base.specs.declared.id.Id.{Id};
 ghost use Rattle.layer_api.specs.Service.{ServiceRules, Seat, WordLaws};
 ghost use Rattle.layer_api.specs.Words.{Word};
@@ -85,6 +85,11 @@ pub trait Service: Drop + Sized {
     fn outcome(&self) -> Outcome<'_>
         ensures rules { (seat : Seat) (w : List Word) → stands self.now seat w → ending_of result ≡ rules.outcome seat w }
         ensures shown { ending_of result ≡ (shown self.now).outcome };
+
+    /// The last vector that is decided: its round, the attempt that decided it, and its value.
+    fn last_vector(&self) -> Option<(u32, u8, &[u8])>
+        ensures rules { (seat : Seat) (w : List Word) → stands self.now seat w → option_map (λ x. record { round = x.0; attempt = x.1; value = x.2.now }) result ≡ rules.last seat w }
+        ensures shown { option_map (λ x. record { round = x.0; attempt = x.1; value = x.2.now }) result ≡ (shown self.now).last };
 
     /// Whether no call on this value answered want of memory.
     fn live(&self) -> bool

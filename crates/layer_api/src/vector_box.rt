@@ -57,6 +57,11 @@ pub trait VectorBox: Drop + Sized {
         ensures rules { (at : Desk) (w : List Word) → stands self.now at w → option_copied result ≡ rules.decision at w }
         ensures shown { option_copied result ≡ (shown self.now).decision };
 
+    /// The attempt that decided, if one did.
+    fn decided_try(&self) -> Option<u8>
+        ensures rules { (at : Desk) (w : List Word) → stands self.now at w → result ≡ rules.attempt at w }
+        ensures shown { result ≡ (shown self.now).attempt };
+
     /// Whether the last attempt decided that no vector is.
     fn spent(&self) -> bool
         ensures rules { (at : Desk) (w : List Word) → stands self.now at w → result ≡ rules.spent at w }

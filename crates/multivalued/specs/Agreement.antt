@@ -17,13 +17,14 @@ use Rattle.ritas_base.specs.Members.{has_member}
 use Rattle.ritas_base.specs.Quorums.{meet_two, some_member, count_without}
 use Rattle.frame_codec.specs.Values.{mask_of}
 use Rattle.layer_api.specs.Runs.{Step, calls_of, Has, IsEnough}
-use Rattle.layer_api.specs.Service.{Instance, OfBit, OfValue, OfVector, Decision, Bit}
+use Rattle.layer_api.specs.Service.{Instance, OfBit, OfValue, OfVector, Decision, Bit, value_decision}
 use Rattle.layer_api.specs.Words.{Word, Ask, HasSay, value_at, bit_byte}
 use Rattle.layer_api.specs.Binary.{BinaryRules, BoxLaws, OneBit}
 use Rattle.layer_api.specs.Fed.{Met, IsFedRun}
-use Rattle.layer_api.specs.FedLaws.{some_if, say_later, shortest_at, proposed_has, value_stays, one_value, heard_said, met}
+use Rattle.layer_api.specs.Part.{proposed}
+use Rattle.layer_api.specs.FedLaws.{some_if, say_later, shortest_at, proposed_has, proposed_stays, value_stays, one_value, heard_said, met}
 use Rattle.layer_api.specs.PartLaws.{part_has}
-use Rattle.layer_api.specs.Multi.{Scope, OneDecision, multi_play}
+use Rattle.layer_api.specs.Multi.{Scope, multi_play}
 use Rattle.multivalued.specs.Consensus.{init_slot, vect_slot, init, has_init, members, lesser, least, backed, valid_of, valid, is_of, is_other, backers, candidates, is_clear, vect, bit_at, bit, bench_of, is_step, bit_asked, bit_words, supported, verdict, decision_at, multivalued}
 use Rattle.multivalued.specs.Inside.{bit_stays, bit_nothing, bit_of, play, desk, bit_run, bit_fed, bit_calls, init_said, decided_still}
 
@@ -73,10 +74,16 @@ verdict_is (Some false) s d q = inl (refl, cc)
 verdict_is (Some true) None d q = absurd cc
 verdict_is (Some true) (Some v) d q = inr (v, refl, refl, cc)
 
+mapped_in : {A : Type 0} (f : A → Decision) (c : Bool) (z : Option A) (d : Decision) → (if c then option_map f z else None) ≡ Some d
+    → (y : A) × (z ≡ Some y) × (d ≡ f y)
+mapped_in f false z d e = absurd cc
+mapped_in f true None d e = absurd cc
+mapped_in f true (Some y) d e = (y, refl, cc)
+
 -- ---- one replica
 
 -- the value that is read from a VECT
-abbrev value_in : List ℕ → Option (List ℕ)
+abbrev pub value_in : List ℕ → Option (List ℕ)
 value_in [] = None
 value_in (b ∷ bs) = Some (drop 4 (b ∷ bs))
 
@@ -88,7 +95,7 @@ backed_is at h mask v w q =
     (leb-true _ _ i.0, sym i.1)
 
 -- a valid VECT has the value that is read from it
-valid_reads : (at : Scope) (h : List Word) (o : Option (List ℕ)) (w : Option (List ℕ)) → valid_of at h o ≡ Some w → (x : List ℕ) × (o ≡ Some x) × (w ≡ value_in x)
+pub valid_reads : (at : Scope) (h : List Word) (o : Option (List ℕ)) (w : Option (List ℕ)) → valid_of at h o ≡ Some w → (x : List ℕ) × (o ≡ Some x) × (w ≡ value_in x)
 valid_reads at h None w q = absurd cc
 valid_reads at h (Some []) w q = ([], refl, cc)
 valid_reads at h (Some (b ∷ bs)) w q = (b ∷ bs, refl, (backed_is at h (mask_of (b ∷ bs)) (drop 4 (b ∷ bs)) w q).1)
@@ -107,31 +114,33 @@ valid_inits at h (Some (b ∷ bs)) v q =
 
 module _ (b : BinaryRules) (laws : BoxLaws b) (one : OneBit b) (at : Scope) (is_correct : ℕ → Bool) (coins : ℕ → Slot → Bool) (xs : List (Step Word))
     (enough : IsEnough at.numbers is_correct) (fed : IsFedRun (multi_play (multivalued b) at coins) is_correct xs) where
-  abbrev words : ℕ → List Word
+  abbrev pub words : ℕ → List Word
   words i = calls_of i xs
 
   -- what the binary instance of replica i decided in some words
-  abbrev bit_decided : ℕ → List Word → Option Bool
+  abbrev pub bit_decided : ℕ → List Word → Option Bool
   bit_decided i w = b.decision (bench_of (desk b at coins i)) (bit_words at w)
 
-  -- part of the words of replica i: the values heard in it are those that it heard, and a bit decided in it is the one that it decided
-  record IsPast (i : ℕ) (g : List Word) : Type 0 where
-    met : Met (play b at coins) i g
-    value : (s : Slot) (v : List ℕ) → value_at g s ≡ Some v → value_at (words i) s ≡ Some v
-    bit : (x : Bool) → bit_decided i g ≡ Some x → bit_decided i (words i) ≡ Some x
+  -- part of the words of replica i: what it proposed in it and the values heard in it are what it proposed and heard, and a bit decided in it is the one that it decided
+  pub record IsPast (i : ℕ) (g : List Word) : Type 0 where
+    pub met : Met (play b at coins) i g
+    pub asked : (v : List ℕ) → proposed g ≡ Some v → proposed (words i) ≡ Some v
+    pub value : (s : Slot) (v : List ℕ) → value_at g s ≡ Some v → value_at (words i) s ≡ Some v
+    pub bit : (x : Bool) → bit_decided i g ≡ Some x → bit_decided i (words i) ≡ Some x
 
   -- all its words are part of them, and a shorter part of a part is one
-  whole : (i : ℕ) → IsPast i (words i)
-  whole i = record { met = met (play b at coins) is_correct xs fed i; value = λ s v q. q; bit = λ x q. q }
+  pub whole : (i : ℕ) → IsPast i (words i)
+  whole i = record { met = met (play b at coins) is_correct xs fed i; asked = λ v q. q; value = λ s v q. q; bit = λ x q. q }
 
-  less : (i : ℕ) (c : Word) (w : List Word) → IsPast i (c ∷ w) → IsPast i w
+  pub less : (i : ℕ) (c : Word) (w : List Word) → IsPast i (c ∷ w) → IsPast i w
   less i c w p = record {
     met = p.met.1;
+    asked = λ v q. p.asked v (proposed_stays c w v q);
     value = λ s v q. p.value s v (value_stays c w s v q);
     bit = λ x q. p.bit x (decided_still b at coins laws i c w p.met x q);
   }
 
-  size : length (replicas at.numbers.n) ≡ at.numbers.n
+  pub size : length (replicas at.numbers.n) ≡ at.numbers.n
   size = length-range_with_len 0 at.numbers.n
 
   -- valid VECTs of one sender are one
@@ -196,7 +205,7 @@ module _ (b : BinaryRules) (laws : BoxLaws b) (one : OneBit b) (at : Scope) (is_
   -- ---- the bit
 
   -- it is what the box decided in its run
-  inner_decided : (i : ℕ) (d : Bool) → bit_decided i (words i) ≡ Some d → b.decision (bench_of (desk b at coins i)) (calls_of i (bit_run b at coins xs)) ≡ Some d
+  pub inner_decided : (i : ℕ) (d : Bool) → bit_decided i (words i) ≡ Some d → b.decision (bench_of (desk b at coins i)) (calls_of i (bit_run b at coins xs)) ≡ Some d
   inner_decided i d q = subst (λ (w : List Word). b.decision (bench_of (desk b at coins i)) w ≡ Some d) (sym (bit_calls b at coins i xs)) q
 
   -- the bits that two correct replicas decided are equal
@@ -238,6 +247,14 @@ module _ (b : BinaryRules) (laws : BoxLaws b) (one : OneBit b) (at : Scope) (is_
             One x.0 (t.1.bit true x.1) (record { who = i; prefix = t.0; correct = ci; past = t.1; many = many }) x.3
       ]
 
+  none_by : (i : ℕ) → ByBit i None → bit_decided i (words i) ≡ Some false
+  none_by i (Zero p q) = p
+  none_by i (One v p k q) = absurd cc
+
+  -- none goes by 0
+  pub none_is_zero : (i : ℕ) → is_correct i ≡ true → decided i ≡ Some None → bit_decided i (words i) ≡ Some false
+  none_is_zero i ci q = none_by i (by_bit i None ci q)
+
   agree_by : (i j : ℕ) (d e : Option (List ℕ)) → is_correct i ≡ true → is_correct j ≡ true → ByBit i d → ByBit j e → d ≡ e
   agree_by i j d e ci cj (Zero p q) (Zero r s) = q ∙ sym s
   agree_by i j d e ci cj (Zero p q) (One v r k s) = absurd (let z = same_bit i j false true ci cj p r in cc)
@@ -251,7 +268,7 @@ module _ (b : BinaryRules) (laws : BoxLaws b) (one : OneBit b) (at : Scope) (is_
 
   -- ---- validity
 
-  said_more : (k : ℕ) (c : Word) (w : List Word) (y : Say) → HasSay ((play b at coins).said k w) y → HasSay ((play b at coins).said k (c ∷ w)) y
+  pub said_more : (k : ℕ) (c : Word) (w : List Word) (y : Say) → HasSay ((play b at coins).said k w) y → HasSay ((play b at coins).said k (c ∷ w)) y
   said_more k c w y h = say_later ((multivalued b).says (desk b at coins k) w c) _ y h
 
   -- a correct replica whose INIT was heard with v proposed v
@@ -285,22 +302,12 @@ module _ (b : BinaryRules) (laws : BoxLaws b) (one : OneBit b) (at : Scope) (is_
 
   pub same_inside : (i j : ℕ) (x : Instance) (d e : Decision) → is_correct i ≡ true → is_correct j ≡ true
       → (multivalued b).inside (desk b at coins i) (words i) x ≡ Some d → (multivalued b).inside (desk b at coins j) (words j) x ≡ Some e → d ≡ e
-  same_inside i j (OfValue a t) d e ci cj q r = absurd cc
   same_inside i j (OfVector a) d e ci cj q r = absurd cc
+  same_inside i j (OfValue a t) d e ci cj q r =
+      let x = mapped_in value_decision (a == at.a && t == at.attempt) _ d q in
+      let y = mapped_in value_decision (a == at.a && t == at.attempt) _ e r in
+      x.2 ∙ (ap value_decision (agree i j x.0 y.0 ci cj x.1 y.1) ∙ sym y.2)
   same_inside i j (OfBit a t) d e ci cj q r =
-      let x = bit_in (a == at.a && t == at.attempt) _ d q in
-      let y = bit_in (a == at.a && t == at.attempt) _ e r in
+      let x = mapped_in Bit (a == at.a && t == at.attempt) _ d q in
+      let y = mapped_in Bit (a == at.a && t == at.attempt) _ e r in
       x.2 ∙ (ap Bit (same_bit i j x.0 y.0 ci cj x.1 y.1) ∙ sym y.2)
-    where
-      bit_in : (c : Bool) (z : Option Bool) (d : Decision) → (if c then option_map Bit z else None) ≡ Some d → (y : Bool) × (z ≡ Some y) × (d ≡ Bit y)
-      bit_in false z d e = absurd cc
-      bit_in true None d e = absurd cc
-      bit_in true (Some y) d e = (y, refl, cc)
-
--- the law of one decision
-pub one_decision_law : (b : BinaryRules) → BoxLaws b → OneBit b → OneDecision (multivalued b)
-one_decision_law b laws one = record {
-  agree = λ at is_correct coins xs enough fed. agree b laws one at is_correct coins xs enough fed;
-  valid = λ at is_correct coins xs enough fed. valid_value b laws one at is_correct coins xs enough fed;
-  insides = λ at is_correct coins xs enough fed. same_inside b laws one at is_correct coins xs enough fed;
-}

@@ -12,7 +12,7 @@ use Rattle.ritas_base.specs.History.{replicas, is_value}
 use Rattle.ritas_base.specs.Members.{has_member}
 use Rattle.ritas_base.specs.Shortest.{at_shortest}
 use Rattle.frame_codec.specs.Values.{mask_of, vect_bytes}
-use Rattle.layer_api.specs.Service.{Instance, OfBit, OfValue, OfVector, Decision, Bit}
+use Rattle.layer_api.specs.Service.{Instance, OfBit, OfValue, OfVector, Decision, Bit, value_decision}
 use Rattle.layer_api.specs.Words.{Word, value_at, bit_byte}
 use Rattle.layer_api.specs.Binary.{BinaryRules, Bench}
 use Rattle.layer_api.specs.Part.{proposed, newly, part_of, part_words, says_in}
@@ -163,10 +163,11 @@ decision_at b at h = verdict (b.decision (bench_of at) (bit_words at.scope h)) (
 abbrev pub decision : BinaryRules → Desk → List Word → Option (Option (List ℕ))
 decision b at w = at_shortest (decision_at b at) w
 
-abbrev pub bit_inside : Scope → Option Bool → Instance → Option Decision
-bit_inside at o (OfBit a attempt) = if a == at.a && attempt == at.attempt then option_map Bit o else None
-bit_inside at o (OfValue a attempt) = None
-bit_inside at o (OfVector a) = None
+-- this instance's decision, and the bit of the binary one inside it
+abbrev pub inside_of : Scope → Option Bool → Option (Option (List ℕ)) → Instance → Option Decision
+inside_of at bit o (OfBit a attempt) = if a == at.a && attempt == at.attempt then option_map Bit bit else None
+inside_of at bit o (OfValue a attempt) = if a == at.a && attempt == at.attempt then option_map value_decision o else None
+inside_of at bit o (OfVector a) = None
 
 abbrev pub opens_at : Scope → List Word → ℕ → Slot → Bool
 opens_at at w round s = is_multi_slot at s && (if is_step s then is_some (bit_asked at w) && nat_le s.bround (round + 1) else is_some (proposed w))
@@ -180,5 +181,5 @@ multivalued b = record {
       ++ says_in (b.says (bench_of at)) (part_of (bit_asked at.scope) is_step w c) (bit_words at.scope w));
   opens = λ at w s. opens_at at.scope w (b.round (bench_of at) (bit_words at.scope w)) s;
   decision = λ at w. decision b at w;
-  inside = λ at w x. bit_inside at.scope (b.decision (bench_of at) (bit_words at.scope w)) x;
+  inside = λ at w x. inside_of at.scope (b.decision (bench_of at) (bit_words at.scope w)) (decision b at w) x;
 }

@@ -2,6 +2,8 @@ pub mod Consensus
 pub mod Rows
 pub mod Inside
 pub mod Agreement
+pub mod OneProposal
+pub mod OneDecisionLaw
 pub mod ValueLaws
 pub mod Root
 pub mod RootLaws

@@ -1,6 +1,6 @@
 -- Multi-valued consensus as a root service: one instance, of round 0 and attempt 0, whose input is a value of class 3.
-use Rattle.std.specs.Prelude.{ℕ, ◌==◌, ◌&&◌, if◌then◌else◌, List, [], Option, Some, None, option_map}
-use Rattle.layer_api.specs.Service.{ServiceRules, Seat, Instance, OfBit, OfValue, OfVector, Decision, Nothing, Value, Ending, Undecided, Decided}
+use Rattle.std.specs.Prelude.{ℕ, ◌==◌, ◌&&◌, List, [], Option, Some, None}
+use Rattle.layer_api.specs.Service.{ServiceRules, Seat, Instance, OfBit, OfValue, OfVector, Decision, value_decision, Ending, Undecided, Decided}
 use Rattle.layer_api.specs.Words.{Word}
 use Rattle.layer_api.specs.OneInstance.{is_given}
 use Rattle.layer_api.specs.Multi.{Desk, MultiRules, is_multi_slot}
@@ -9,17 +9,13 @@ use Rattle.layer_api.specs.Multi.{Desk, MultiRules, is_multi_slot}
 abbrev pub desk_of : Seat → Desk
 desk_of seat = record { scope = record { numbers = seat.numbers; root = 4; a = 0; attempt = 0 }; me = seat.me; coin = seat.coin }
 
-abbrev pub decision_of : Option (List ℕ) → Decision
-decision_of None = Nothing
-decision_of (Some v) = Value v
-
 abbrev pub ending : Option (Option (List ℕ)) → Ending
 ending None = Undecided
-ending (Some o) = Decided (decision_of o)
+ending (Some o) = Decided (value_decision o)
 
 abbrev pub decided_in : MultiRules → Seat → List Word → Instance → Option Decision
 decided_in m seat w (OfBit a k) = m.inside (desk_of seat) w (OfBit a k)
-decided_in m seat w (OfValue a k) = if a == 0 && k == 0 then option_map decision_of (m.decision (desk_of seat) w) else None
+decided_in m seat w (OfValue a k) = m.inside (desk_of seat) w (OfValue a k)
 decided_in m seat w (OfVector a) = None
 
 abbrev pub multi_root : MultiRules → ServiceRules
@@ -33,5 +29,6 @@ multi_root m = record {
   given = λ seat w. is_given w;
   done = λ seat w. [];
   outcome = λ seat w. ending (m.decision (desk_of seat) w);
+  last = λ seat w. None;
   decided = λ seat w x. decided_in m seat w x;
 }

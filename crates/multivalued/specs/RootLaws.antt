@@ -1,5 +1,5 @@
 -- The laws of multi-valued consensus as a root service, from those of its box. The box has the service's own words.
-use Rattle.std.specs.Prelude.{◌≡◌, ℕ, Bool, true, false, ◌==◌, ◌&&◌, if◌then◌else◌, List, [], Option, Some, None, option_map, refl}
+use Rattle.std.specs.Prelude.{◌≡◌, ℕ, Bool, true, ◌==◌, ◌&&◌, if◌then◌else◌, List, [], Option, Some, None, refl}
 use Rattle.std.proofs.Common.{sym, ◌∙◌, ap, subst, inl}
 use Rattle.std.proofs.lemmas.Bool.{and_parts, eqb-true}
 use Rattle.ritas_base.specs.declared.slot.Slot.{Slot}
@@ -9,14 +9,14 @@ use Rattle.frame_codec.specs.Format.{Format, Is}
 use Rattle.frame_codec.specs.Grammar.{class3, value}
 use Rattle.frame_codec.specs.Inputs.{input_format}
 use Rattle.layer_api.specs.Runs.{Step, calls_of, Has}
-use Rattle.layer_api.specs.Service.{Seat, MayAsk, MayHear, MayWord, Instance, OfBit, OfValue, OfVector, Decision, Value, Bit, Decided}
+use Rattle.layer_api.specs.Service.{Seat, MayAsk, MayHear, MayWord, Instance, OfBit, OfValue, OfVector, Decision, Value, Bit, Decided, Spent, value_decision}
 use Rattle.layer_api.specs.Words.{Word, Ask, Hear}
 use Rattle.layer_api.specs.OneLog.{Session, seat_at, service_play, IsRunOf, OneLog}
 use Rattle.layer_api.specs.Fed.{IsFedRun}
 use Rattle.layer_api.specs.FedLaws.{same_fed}
 use Rattle.layer_api.specs.OneInstance.{not_given}
 use Rattle.layer_api.specs.Multi.{Scope, desk_at, is_multi_slot, MayMulti, MultiRules, multi_play, OneDecision}
-use Rattle.multivalued.specs.Root.{desk_of, decision_of, ending, decided_in, multi_root}
+use Rattle.multivalued.specs.Root.{desk_of, ending, decided_in, multi_root}
 
 pub input_class : (p : Numbers) → input_format p 4 ≡ class3 p 4
 unfolding input_format
@@ -46,23 +46,15 @@ pub may_word : (m : MultiRules) (seat : Seat) (w : List Word) (c : Word) → May
 may_word m seat w (Ask v) may = may_ask m seat w v may
 may_word m seat w (Hear s v) may = may_hear m seat w s v may
 
-ending_is : (o : Option (Option (List ℕ))) (d : Decision) → ending o ≡ Decided d → (x : Option (List ℕ)) × (o ≡ Some x) × (d ≡ decision_of x)
+ending_is : (o : Option (Option (List ℕ))) (d : Decision) → ending o ≡ Decided d → (x : Option (List ℕ)) × (o ≡ Some x) × (d ≡ value_decision x)
 ending_is None d q = absurd cc
 ending_is (Some x) d q = (x, refl, cc)
 
-mapped : (o : Option (Option (List ℕ))) (d : Decision) → option_map decision_of o ≡ Some d → (x : Option (List ℕ)) × (o ≡ Some x) × (d ≡ decision_of x)
-mapped None d q = absurd cc
-mapped (Some x) d q = (x, refl, cc)
-
-pub if_so : {X : Type 0} (b : Bool) (o : Option X) (d : X) → (if b then o else None) ≡ Some d → o ≡ Some d
-if_so true o d q = q
-if_so false o d q = absurd cc
-
-no_bit : (x : Option (List ℕ)) (b : Bool) → Bit b ≡ decision_of x → ⊥
+no_bit : (x : Option (List ℕ)) (b : Bool) → Bit b ≡ value_decision x → ⊥
 no_bit None b e = cc
 no_bit (Some v) b e = cc
 
-value_of : (x : Option (List ℕ)) (v : List ℕ) → Value v ≡ decision_of x → x ≡ Some v
+value_of : (x : Option (List ℕ)) (v : List ℕ) → Value v ≡ value_decision x → x ≡ Some v
 value_of None v e = absurd cc
 value_of (Some u) v e = cc
 
@@ -88,16 +80,13 @@ module _ (m : MultiRules) (one : OneDecision m) (p : Numbers) (mode : Mode) (is_
       → ending (m.decision (desk_at at coins j) (calls_of j xs)) ≡ Decided e → d ≡ e
   outcomes i j d e ci cj q r =
       let x = ending_is _ d q in let y = ending_is _ e r in
-      x.2 ∙ (ap decision_of (same i j x.0 y.0 ci cj x.1 y.1) ∙ sym y.2)
+      x.2 ∙ (ap value_decision (same i j x.0 y.0 ci cj x.1 y.1) ∙ sym y.2)
 
   pub decisions : (i j : ℕ) (x : Instance) (d e : Decision) → is_correct i ≡ true → is_correct j ≡ true
       → decided_in m (record { numbers = p; mode = mode; me = i; coin = coins i }) (calls_of i xs) x ≡ Some d
       → decided_in m (record { numbers = p; mode = mode; me = j; coin = coins j }) (calls_of j xs) x ≡ Some e → d ≡ e
   decisions i j (OfBit a k) d e ci cj q r = one.insides at is_correct coins xs run.enough fed i j (OfBit a k) d e ci cj q r
-  decisions i j (OfValue a k) d e ci cj q r =
-      let x = mapped (m.decision (desk_at at coins i) (calls_of i xs)) d (if_so (a == 0 && k == 0) _ d q) in
-      let y = mapped (m.decision (desk_at at coins j) (calls_of j xs)) e (if_so (a == 0 && k == 0) _ e r) in
-      x.2 ∙ (ap decision_of (same i j x.0 y.0 ci cj x.1 y.1) ∙ sym y.2)
+  decisions i j (OfValue a k) d e ci cj q r = one.insides at is_correct coins xs run.enough fed i j (OfValue a k) d e ci cj q r
   decisions i j (OfVector a) d e ci cj q r = absurd cc
 
   pub proposals : (i : ℕ) (v : List ℕ) → is_correct i ≡ true → ending (m.decision (desk_at at coins i) (calls_of i xs)) ≡ Decided (Value v)
@@ -106,6 +95,10 @@ module _ (m : MultiRules) (one : OneDecision m) (p : Numbers) (mode : Mode) (is_
       let x = ending_is _ (Value v) q in
       one.valid at is_correct coins xs run.enough fed i v ci (x.1 ∙ ap Some (value_of x.0 v x.2))
 
+no_spent : (o : Option (List ℕ)) → Spent ≡ value_decision o → ⊥
+no_spent None e = cc
+no_spent (Some v) e = cc
+
 pub root_log : (m : MultiRules) → OneDecision m → OneLog (multi_root m)
 root_log m one = record {
   logs = λ p mode is_correct coins steps run i j ci cj. inl ([], refl);
@@ -113,4 +106,6 @@ root_log m one = record {
   decisions = λ p mode is_correct coins steps run. decisions m one p mode is_correct coins steps run;
   bits = λ p mode is_correct coins steps run i b ci q. absurd (let x = ending_is _ (Bit b) q in no_bit x.0 b x.2);
   proposals = λ p mode is_correct coins steps run four. proposals m one p mode is_correct coins steps run;
+  unspent = λ p mode is_correct coins steps run i ci q. absurd (let x = ending_is _ Spent q in no_spent x.0 x.2);
+  last_vectors = λ p mode is_correct coins steps run i j x y ci cj q. absurd cc;
 }

@@ -1,5 +1,5 @@
 -- What a value of the root service stands for, and what its calls do.
-use Rattle.std.specs.Prelude.{◌≡◌, ℕ, Bool, true, ◌&&◌, List, [], Result, Ok, Err, is_ok, if◌then◌else◌, refl}
+use Rattle.std.specs.Prelude.{◌≡◌, ℕ, Bool, true, ◌&&◌, List, [], Result, Ok, Err, is_ok, if◌then◌else◌, refl, None}
 use Rattle.std.proofs.Common.{sym, ◌∙◌, ap, inl, inr}
 use Rattle.ritas_base.specs.declared.bytes.Mem.{Mem}
 use Rattle.ritas_base.specs.declared.slot.Slot.{Slot}
@@ -28,6 +28,7 @@ root_shown shown given = record {
   given = given;
   done = [];
   outcome = ending shown.decision;
+  last = None;
 }
 
 pub root_shows : (m : MultiRules) (seat : Seat) (w : List Word) (shown : MultiShown) (given : Bool) → given ≡ is_given w
@@ -40,6 +41,7 @@ root_shows m seat w shown given e s = record {
   given = e;
   done = refl;
   outcome = ap ending s.decision;
+  last = refl;
 }
 
 shows_near : (m : MultiRules) (seat : Seat) (w : List Word) (c : Word) (shown : MultiShown) (given : Bool) → given ≡ is_given w
@@ -53,6 +55,7 @@ shows_near m seat w c shown given e s = record {
   done_before = ([], refl);
   done_after = ([], refl);
   outcome = elim s.decision [ inl o ↦ inl (ap ending o) | inr o ↦ inr (ap ending o) ];
+  last = inl refl;
 }
 
 module _ {M : Type 0} (stands : M → Desk → List Word → Type 0) (m : MultiRules) (live : M → Bool) (shown : M → MultiShown) where

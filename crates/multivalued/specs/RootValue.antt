@@ -1,5 +1,5 @@
 -- The laws of a single value of multi-valued consensus as a root service, from those of its box.
-use Rattle.std.specs.Prelude.{◌≡◌, ℕ, ◌<◌, Bool, true, false, ◌==◌, ◌&&◌, if◌then◌else◌, List, [], ◌∷◌, Option, Some, None, option_map, refl, ◌⊎◌}
+use Rattle.std.specs.Prelude.{◌≡◌, ℕ, ◌<◌, true, false, ◌==◌, ◌&&◌, if◌then◌else◌, List, [], ◌∷◌, Option, Some, None, option_map, refl, ◌⊎◌}
 use Rattle.std.proofs.Common.{sym, ◌∙◌, ap, subst, inl, inr}
 use Rattle.std.proofs.lemmas.Bool.{and_parts, and_from, lt-ltb, eqb-true}
 use Rattle.ritas_base.specs.declared.slot.Slot.{Slot}
@@ -10,12 +10,12 @@ use Rattle.ritas_base.specs.Slots.{slot_fault, within, has_class, has_number, ha
 use Rattle.ritas_base.specs.SlotLaws.{slot_is_right}
 use Rattle.frame_codec.specs.Format.{Is}
 use Rattle.frame_codec.specs.Grammar.{value}
-use Rattle.layer_api.specs.Service.{ServiceRules, Seat, Instance, OfBit, OfValue, OfVector, Decision, Decided, AreProper, has_instance, IsEnding, WordLaws}
+use Rattle.layer_api.specs.Service.{ServiceRules, Seat, Instance, OfBit, OfValue, OfVector, Decision, Decided, value_decision, ending_decision, own_instance, AreProper, has_instance, IsEnding, Insides, WordLaws}
 use Rattle.layer_api.specs.FreshLaws.{fresh_other}
 use Rattle.layer_api.specs.OneInstance.{three_to_five, HasOneInstance, IsInstanceSaid, served, instance_word_laws}
 use Rattle.layer_api.specs.Words.{Word, Ask, Hear}
 use Rattle.layer_api.specs.Multi.{MultiRules, is_multi_slot, AreMulti, IsMultiSaid, MultiLaws}
-use Rattle.multivalued.specs.Root.{desk_of, decision_of, ending, decided_in, multi_root}
+use Rattle.multivalued.specs.Root.{desk_of, ending, decided_in, multi_root}
 use Rattle.multivalued.specs.RootLaws.{may_word}
 
 -- ---- slots of the root service
@@ -75,17 +75,29 @@ module _ (m : MultiRules) where
     ending_stays None u d stays e = absurd cc
     ending_stays (Some x) u d stays e = ap ending (stays x refl) ∙ e
 
-    value_stays : (b : Bool) (o u : Option (Option (List ℕ))) (d : Decision) → ((x : Option (List ℕ)) → o ≡ Some x → u ≡ Some x)
-        → (if b then option_map decision_of o else None) ≡ Some d → (if b then option_map decision_of u else None) ≡ Some d
-    value_stays false o u d stays e = absurd cc
-    value_stays true None u d stays e = absurd cc
-    value_stays true (Some x) u d stays e = ap (option_map decision_of) (stays x refl) ∙ e
-
     decided_stays : (seat : Seat) (c : Word) (w : List Word) (x : Instance) (d : Decision) → AreProper r seat (c ∷ w) → decided_in m seat w x ≡ Some d → decided_in m seat (c ∷ w) x ≡ Some d
     decided_stays seat c w (OfBit a k) d proper e = laws.inside_stays (desk_of seat) c w (OfBit a k) d (are_multi seat (c ∷ w) proper) e
-    decided_stays seat c w (OfValue a k) d proper e =
-        value_stays (a == 0 && k == 0) (m.decision (desk_of seat) w) (m.decision (desk_of seat) (c ∷ w)) d (λ x q. laws.decision_stays (desk_of seat) c w x (are_multi seat (c ∷ w) proper) q) e
+    decided_stays seat c w (OfValue a k) d proper e = laws.inside_stays (desk_of seat) c w (OfValue a k) d (are_multi seat (c ∷ w) proper) e
     decided_stays seat c w (OfVector a) d proper e = absurd cc
+
+    own_decided : (seat : Seat) (w : List Word) (x : Instance) → seat.mode.root ≡ 4 → own_instance seat.mode.root ≡ Some x
+        → decided_in m seat w x ≡ ending_decision (ending (m.decision (desk_of seat) w))
+    own_decided seat w x four q =
+        let e : OfValue 0 0 ≡ x = let p = ap own_instance (sym four) ∙ q in cc in
+        subst (λ (y : Instance). decided_in m seat w y ≡ ending_decision (ending (m.decision (desk_of seat) w))) e
+        (laws.inside_own (desk_of seat) w ∙ go (m.decision (desk_of seat) w))
+      where
+        go : (o : Option (Option (List ℕ))) → option_map value_decision o ≡ ending_decision (ending o)
+        go None = refl
+        go (Some d) = refl
+
+    insides : (seat : Seat) (w : List Word) → seat.mode.root ≡ 4 → AreProper r seat w → Insides r seat w
+    insides seat w four proper = record {
+      own = λ x q. own_decided seat w x four q;
+      last = λ x q. absurd cc;
+      latest = λ a v q. absurd cc;
+      bit = λ a k o q. laws.inside_bit (desk_of seat) w a k (are_multi seat w proper) o q;
+    }
 
   one : HasOneInstance r
   one = record {
@@ -112,5 +124,6 @@ module _ (m : MultiRules) where
     opens_stays = opens_stays laws;
     outcome_stays = λ seat c w d proper e.
         ending_stays laws (m.decision (desk_of seat) w) (m.decision (desk_of seat) (c ∷ w)) d (λ x q. laws.decision_stays (desk_of seat) c w x (are_multi seat (c ∷ w) proper) q) e;
+    insides = λ seat w session serves proper. insides laws seat w (eqb-true seat.mode.root 4 serves) proper;
     decided_stays = λ seat c w x d proper e. decided_stays laws seat c w x d proper e;
   })

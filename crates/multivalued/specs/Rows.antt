@@ -4,10 +4,14 @@ use Rattle.std.specs.Option.{option_or}
 use Rattle.std.specs.Str.{bytes_eq}
 use Rattle.ritas_base.specs.Members.{has_member}
 use Rattle.frame_codec.specs.Values.{mask_of}
+use Rattle.layer_api.specs.Service.{Seat, OfBit, OfValue, Bit, Nothing, Value}
 use Rattle.layer_api.specs.Words.{Word, Ask, Hear}
+use Rattle.ritas_base.specs.declared.mode.Vect.TheVariants.{Echo}
+use Rattle.std.proofs.Common.{lit≤}
 use Rattle.layer_api.specs.Binary.{BinaryRules}
 use Rattle.layer_api.specs.Multi.{Scope, Desk}
-use Rattle.multivalued.specs.Consensus.{init_slot, vect_slot, vect, bit, bit_asked, bit_words, supported, verdict, decision}
+use Rattle.multivalued.specs.Consensus.{init_slot, vect_slot, vect, bit, bit_asked, bit_words, supported, verdict, decision, multivalued}
+use Rattle.multivalued.specs.Root.{decided_in}
 
 -- four replicas, of which one may be faulty
 abbrev four : Scope
@@ -163,3 +167,32 @@ alone_says = refl
 alone_proposes : bit_words one alone ≡ Ask (1 ∷ []) ∷ []
 unfolding mask_of has_member
 alone_proposes = refl
+
+-- ---- what the instance inside decided, and the one instance of the root service
+
+inside_bit : (multivalued at_once).inside desk (heard_bit 1 ∷ later_61) (OfBit 0 0) ≡ Some (Bit true)
+unfolding mask_of has_member
+inside_bit = refl
+
+inside_not_yet : (multivalued at_once).inside desk later_61 (OfBit 0 0) ≡ None
+unfolding mask_of has_member
+inside_not_yet = refl
+
+inside_of_another : (multivalued at_once).inside desk (heard_bit 1 ∷ later_61) (OfBit 0 1) ≡ None
+unfolding mask_of has_member
+inside_of_another = refl
+
+abbrev seat : Seat
+seat = record { numbers = four.numbers; mode = record { root = 4; vect = Echo; low = lit≤ tt; high = lit≤ tt }; me = 0; coin = λ s. false }
+
+root_bit : decided_in (multivalued at_once) seat (heard_bit 1 ∷ later_61) (OfBit 0 0) ≡ Some (Bit true)
+unfolding mask_of has_member
+root_bit = refl
+
+root_value : decided_in (multivalued at_once) seat (heard_bit 1 ∷ later_61) (OfValue 0 0) ≡ Some (Value (0x61 ∷ []))
+unfolding mask_of has_member
+root_value = refl
+
+root_nothing : decided_in (multivalued at_once) seat (heard_bit 0 ∷ later_61) (OfValue 0 0) ≡ Some Nothing
+unfolding mask_of has_member
+root_nothing = refl

@@ -21,7 +21,8 @@ use Rattle.frame_codec.specs.Format.{Format, Is}
 use Rattle.frame_codec.specs.Grammar.{class3, value, is_places}
 use Rattle.frame_codec.specs.Grammar as grammar
 use Rattle.frame_codec.specs.ColumnLaws.{vect_written, vect_none}
-use Rattle.layer_api.specs.Service.{Instance, OfBit, OfValue, OfVector, Decision, Bit}
+use Rattle.layer_api.specs.Service.{Instance, OfBit, OfValue, OfVector, Decision, Bit, value_decision, GoesByBit}
+use Rattle.layer_api.specs.DecisionLaws.{decided_value, same_value}
 use Rattle.layer_api.specs.Words.{Word, Ask, Hear, HasSay, is_said, value_at, all_said, AreFresh}
 use Rattle.layer_api.specs.Binary.{BinaryRules, BoxLaws, IsStepSlot, MayBit, IsVoteSaid, bits_said}
 use Rattle.layer_api.specs.Votes.{vote_value}
@@ -33,6 +34,24 @@ use Rattle.layer_api.specs.Multi.{Scope, Desk, MultiRules, is_multi_slot, MayMul
 use Rattle.multivalued.specs.Consensus.{init_slot, vect_slot, init, has_init, members, listed, common, told, vect_at, vect, valid, is_of, backers, candidates, bench_of, is_step, bit_asked, bit_words, supported, verdict, decision_at, decision, multivalued}
 use Rattle.multivalued.specs.Inside.{bit_stays, some_value, votes_said, init_said, vect_said, step_said, bits_met, decided_still, round_still}
 use Rattle.multivalued.specs.Agreement.{of_true, least_passes, verdict_is, valid_inits}
+
+-- ---- decisions
+
+-- that no value is goes by the bit 0, and a value by 1
+verdict_bit : (bit : Option Bool) (v : Option (List ℕ)) (o : Option (List ℕ)) → verdict bit v ≡ Some o → bit ≡ Some (is_some o)
+verdict_bit None v o q = absurd cc
+verdict_bit (Some false) v o q = let e : None ≡ o = cc in ap (λ (x : Option (List ℕ)). Some (is_some x)) e
+verdict_bit (Some true) None o q = absurd cc
+verdict_bit (Some true) (Some v) o q = let e : Some v ≡ o = cc in ap (λ (x : Option (List ℕ)). Some (is_some x)) e
+
+is_own : (at : Scope) → (at.a == at.a && at.attempt == at.attempt) ≡ true
+is_own at = and_from (at.a == at.a) _ (eq-eqb at.a at.a refl) (eq-eqb at.attempt at.attempt refl)
+
+if_stays : {A : Type 0} (f : A → Decision) (k : Bool) (o u : Option A) (d : Decision) → ((x : A) → o ≡ Some x → u ≡ Some x)
+    → (if k then option_map f o else None) ≡ Some d → (if k then option_map f u else None) ≡ Some d
+if_stays f false o u d stays e = absurd cc
+if_stays f true None u d stays e = absurd cc
+if_stays f true (Some x) u d stays e = ap (option_map f) (stays x refl) ∙ e
 
 -- ---- slots
 
@@ -244,16 +263,38 @@ module _ (b : BinaryRules) (laws : BoxLaws b) (at : Desk) where
   decision_stays c w d q = option_or_older (decision b at w) (decision_at b at (c ∷ w)) d q
 
   pub inside_stays : (c : Word) (w : List Word) (x : Instance) (d : Decision) → AreMulti r at (c ∷ w) → r.inside at w x ≡ Some d → r.inside at (c ∷ w) x ≡ Some d
-  inside_stays c w (OfValue a t) d m q = absurd cc
   inside_stays c w (OfVector a) d m q = absurd cc
+  inside_stays c w (OfValue a t) d m q =
+      if_stays value_decision (a == scope.a && t == scope.attempt) (decision b at w) (decision b at (c ∷ w)) d (λ x e. decision_stays c w x e) q
   inside_stays c w (OfBit a t) d m q =
-      go (a == scope.a && t == scope.attempt) (b.decision (bench_of at) (bit_words scope w)) (b.decision (bench_of at) (bit_words scope (c ∷ w)))
+      if_stays Bit (a == scope.a && t == scope.attempt) (b.decision (bench_of at) (bit_words scope w)) (b.decision (bench_of at) (bit_words scope (c ∷ w))) d
       (λ x e. decided_still b scope coins laws at.me c w m x e) q
+
+  -- the words before it, with the bit that was decided in them
+  record IsBefore (w h : List Word) : Type 0 where
+    met : AreMulti r at h
+    bit : (x : Bool) → b.decision (bench_of at) (bit_words scope h) ≡ Some x → b.decision (bench_of at) (bit_words scope w) ≡ Some x
+
+  -- it is decided by the bit
+  bit_by : (w : List Word) (o : Option (List ℕ)) → AreMulti r at w → decision b at w ≡ Some o → b.decision (bench_of at) (bit_words scope w) ≡ Some (is_some o)
+  bit_by w o m q =
+      let t = shortest_at (IsBefore w)
+      (λ c h g. record { met = g.met.1; bit = λ x e. g.bit x (decided_still b scope coins laws at.me c h g.met x e) })
+      (decision_at b at) w o (record { met = m; bit = λ x e. e }) q in
+      t.1.bit (is_some o) (verdict_bit (b.decision (bench_of at) (bit_words scope t.0)) (supported scope t.0) o t.2)
+
+  pub inside_own : (w : List Word) → r.inside at w (OfValue scope.a scope.attempt) ≡ option_map value_decision (decision b at w)
+  inside_own w = ap (λ (k : Bool). if k then option_map value_decision (decision b at w) else None) (is_own scope)
+
+  pub inside_bit : (w : List Word) (a t : ℕ) → AreMulti r at w → GoesByBit (r.inside at w) a t
+  inside_bit w a t m o q = go (a == scope.a && t == scope.attempt) q
     where
-      go : (k : Bool) (o u : Option Bool) → ((x : Bool) → o ≡ Some x → u ≡ Some x) → (if k then option_map Bit o else None) ≡ Some d → (if k then option_map Bit u else None) ≡ Some d
-      go false o u stays e = absurd cc
-      go true None u stays e = absurd cc
-      go true (Some x) u stays e = ap (option_map Bit) (stays x refl) ∙ e
+      go : (k : Bool) → (if k then option_map value_decision (decision b at w) else None) ≡ Some (value_decision o)
+          → (if k then option_map Bit (b.decision (bench_of at) (bit_words scope w)) else None) ≡ Some (Bit (is_some o))
+      go false e = absurd cc
+      go true e =
+          let x = decided_value (decision b at w) (value_decision o) e in
+          ap (option_map Bit) (bit_by w o m (x.1 ∙ ap Some (sym (same_value o x.0 x.2))))
 
   -- a value that enough valid VECTs have is of class 3
   supported_good : IsSession scope.numbers → (h : List Word) (v : List ℕ) → AreMulti r at h → supported scope h ≡ Some v → Is (class3 scope.numbers scope.root) v
@@ -291,5 +332,7 @@ multi_laws_law b laws = record {
   decision_first = λ at. ap (λ (o : Option Bool). verdict o (supported at.scope [])) (laws.decision_first (bench_of at));
   decision_stays = λ at c w d m q. decision_stays b laws at c w d q;
   decision_good = λ at w v session m q. decision_good b laws at session w v m q;
+  inside_own = λ at w. inside_own b laws at w;
+  inside_bit = λ at w a t m. inside_bit b laws at w a t m;
   inside_stays = λ at c w x d m q. inside_stays b laws at c w x d m q;
 }

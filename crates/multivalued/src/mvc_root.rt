@@ -90,6 +90,10 @@ impl<M: MultiBox> Service for MvcRoot<M> {
         }
     }
 
+    fn last_vector(&self) -> Option<(u32, u8, &[u8])> {
+        None
+    }
+
     fn live(&self) -> bool {
         self.inner.live()
     }

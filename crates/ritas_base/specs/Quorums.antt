@@ -1,8 +1,10 @@
 -- Counting by a test, and sets that are large enough to share a member.
-use Rattle.std.specs.Prelude.{◌≡◌, ◌<◌, ◌≤◌, ◌+◌, ◌*◌, Bool, true, false, not, ◌&&◌, List, [], ◌∷◌, map, count_by, cond, length, refl}
+use Rattle.std.specs.Prelude.{◌≡◌, ℕ, zero, suc, ◌<◌, ◌≤◌, ◌+◌, ◌*◌, Bool, true, false, not, ◌&&◌, List, [], ◌∷◌, map, count_by, cond, length, refl}
 use Rattle.std.proofs.Common.{sym, ◌∙◌, ap, inl, inr, arith}
-use Rattle.std.proofs.lemmas.Bool.{cases_Bool, both_ways}
-use Rattle.std.proofs.lemmas.List.Sums.{sum_by-cons, sum_by-le-sum_by}
+use Rattle.std.proofs.lemmas.Bool.{cases_Bool, cases_lt, both_ways}
+use Rattle.std.proofs.lemmas.List.Sums.{sum_by-cons, sum_by-le-sum_by, sum_by_push}
+use Rattle.std.specs.List.{range_with_len}
+use Rattle.ritas_base.specs.RangeLaws.{range_more}
 
 pub count_yes : {A : Type 0} (p : A → Bool) (x : A) (xs : List A) → p x ≡ true → count_by p (x ∷ xs) ≡ 1 + count_by p xs
 count_yes p x xs e = sum_by-cons (λ y. cond (p y) 1 0) x xs ∙ ap (λ (b : Bool). cond b 1 0 + count_by p xs) e
@@ -81,6 +83,19 @@ count_without p q (x ∷ xs) e =
           ]
     ]
 
+-- where each of the first m numbers passes, at least m do
+pub count_first : (p : ℕ → Bool) (m n : ℕ) → ((k : ℕ) → k < m → p k ≡ true) → m ≤ n → m ≤ count_by p (range_with_len 0 n)
+count_first p m zero all few = omega (arith, few)
+count_first p m (suc n) all few =
+    let more = ap (count_by p) (range_more 0 n n (omega arith)) ∙ sum_by_push (λ k. cond {A = ℕ} (p k) 1 0) (range_with_len 0 n) n in
+    elim (cases_lt n m) [
+      | inl last ↦
+          let one : cond {A = ℕ} (p n) 1 0 ≡ 1 = ap (λ (b : Bool). cond {A = ℕ} b 1 0) (all n last) in
+          let before = count_first p n n (λ k l. all k (omega (arith, l, last))) (omega arith) in
+          omega (arith, more, one, before, few)
+      | inr within ↦ let before = count_first p m n all within in omega (arith, more, before)
+    ]
+
 -- an element at which both tests pass
 pub record InTwo {A : Type 0} (p c : A → Bool) : Type 0 where
   pub member : A
@@ -101,6 +116,31 @@ meet_two p c (x ∷ xs) large =
       | inr no_p ↦
           let same_p = count_no p x xs no_p in let more_c = count_step c x xs in
           let rest : length xs < count_by p xs + count_by c xs = omega (arith, large, same_p, more_c) in meet_two p c xs rest
+    ]
+
+-- the common part of two sets
+pub count_meet : {A : Type 0} (p c : A → Bool) (xs : List A) → count_by p xs + count_by c xs ≤ length xs + count_by (λ x. p x && c x) xs
+count_meet p c [] = omega arith
+count_meet p c (x ∷ xs) =
+    let both = count_meet p c xs in
+    elim (cases_Bool (p x)) [
+      | inl in_p ↦
+          let a = count_yes p x xs in_p in
+          elim (cases_Bool (c x)) [
+            | inl in_c ↦
+                let b = count_yes c x xs in_c in
+                let e = count_yes (λ y. p y && c y) x xs (ap (λ (t : Bool). t && c x) in_p ∙ in_c) in
+                omega (arith, both, a, b, e)
+            | inr no_c ↦
+                let b = count_no c x xs no_c in
+                let e = count_no (λ y. p y && c y) x xs (ap (λ (t : Bool). t && c x) in_p ∙ no_c) in
+                omega (arith, both, a, b, e)
+          ]
+      | inr no_p ↦
+          let a = count_no p x xs no_p in
+          let b = count_step c x xs in
+          let e = count_no (λ y. p y && c y) x xs (ap (λ (t : Bool). t && c x) no_p) in
+          omega (arith, both, a, b, e)
     ]
 
 -- an element at which all three tests pass

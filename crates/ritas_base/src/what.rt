@@ -5,6 +5,8 @@ pub enum What {
     Report,
     /// The frames that its correct replicas made.
     Frames,
+    /// The last vector that each correct replica decided, in root services 5 and 6.
+    Vectors,
 }
 
 /// What is written of a schedule that is made.

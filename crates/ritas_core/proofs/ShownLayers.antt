@@ -48,6 +48,7 @@ between_now r seat w later shown part shows = record {
   done_before = subst (λ xs. IsPart (r.done seat w) xs) (sym shows.done) (part_itself (r.done seat w));
   done_after = subst (λ xs. IsPart xs (r.done seat later)) (sym shows.done) part;
   outcome = inl shows.outcome;
+  last = inl shows.last;
 }
 
 between_later : (r : ServiceRules) (seat : Seat) (w later : List Word) (shown : ServiceShown) → IsPart (r.done seat w) (r.done seat later) → Shows r seat later shown →
@@ -61,6 +62,7 @@ between_later r seat w later shown part shows = record {
   done_before = subst (λ xs. IsPart (r.done seat w) xs) (sym shows.done) part;
   done_after = subst (λ xs. IsPart xs (r.done seat later)) (sym shows.done) (part_itself (r.done seat later));
   outcome = inr shows.outcome;
+  last = inr shows.last;
 }
 
 -- ---- the identifier log only grows

@@ -63,6 +63,7 @@ impl Service for Mute {
       given = λ seat w. not (asked w == 0);
       done = λ seat w. [];
       outcome = λ seat w. Undecided;
+      last = λ seat w. None;
       decided = λ seat w x. None;
     } };
 
@@ -76,6 +77,7 @@ impl Service for Mute {
       given = s.given;
       done = [];
       outcome = Undecided;
+      last = None;
     } };
 
     fn serves(root: u8) -> bool {
@@ -130,6 +132,10 @@ impl Service for Mute {
         Outcome::Undecided
     }
 
+    fn last_vector(&self) -> Option<(u32, u8, &[u8])> {
+        None
+    }
+
     fn live(&self) -> bool {
         true
     }
@@ -151,6 +157,7 @@ impl Service for Mute {
       given = stood;
       done = refl;
       outcome = refl;
+      last = refl;
     } };
 
     ghost word_laws = { instance_word_laws _ (record {
@@ -162,6 +169,12 @@ impl Service for Mute {
       done = λ seat w. refl;
     }) (record {
       ending = λ seat w serves. tt;
+      insides = λ seat w session serves met. record {
+        own = λ x q. refl;
+        last = λ x q. absurd (none-some x q);
+        latest = λ a v q. absurd Prim.cc;
+        bit = λ a k o q. absurd Prim.cc;
+      };
       says = λ seat c w met. tt;
       opens_stays = λ seat c w s met e. e;
       outcome_stays = λ seat c w d met e. e;
@@ -174,6 +187,8 @@ impl Service for Mute {
       decisions = λ p mode is_correct coins steps run i j x d e ci cj a b. absurd (none-some d a);
       bits = λ p mode is_correct coins steps run i b ci a. absurd Prim.cc;
       proposals = λ p mode is_correct coins steps run root i v ci a. absurd Prim.cc;
+      unspent = λ p mode is_correct coins steps run i ci a. absurd Prim.cc;
+      last_vectors = λ p mode is_correct coins steps run i j x y ci cj a. absurd (none-some x a);
     } };
 }
 

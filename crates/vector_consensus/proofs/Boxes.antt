@@ -24,7 +24,7 @@ use Rattle.vector_consensus.specs.Begun.{there_is, value_in, IsDecided}
 use Rattle.vector_consensus.specs.Going.{Extends}
 use Rattle.vector_consensus.specs.Holding.{Holds, Heard, Starts, AreNear}
 use Rattle.vector_consensus.specs.Opening.{opens_in, is_allowed, opens_by, attempt_few}
-use Rattle.vector_consensus.specs.Stands.{Stands, HearsSlot, NearSlot, Keeps, Ends, vector_in, shown_by, shown_is, nothing_open, shows_vector}
+use Rattle.vector_consensus.specs.Stands.{Stands, HearsSlot, NearSlot, Keeps, Ends, vector_in, shown_by, shown_is, nothing_open, shows_vector, as_byte, attempt_at}
 use Rattle.vector_consensus.specs.declared.part.Part.{Part}
 use Rattle.vector_consensus.specs.declared.going.Progress.{Progress}
 use Rattle.vector_consensus.specs.declared.vc.Vc.{Vc}
@@ -93,6 +93,10 @@ module _ {M : Type 0} (stands : M → Desk → List Word → Type 0) (m : MultiR
   decision_answers x at w ts found h same e =
       e ∙ (ap (λ (us : List M). vector_in shown x.place.decided us) same ∙ (shows_vector stands m laws live shown shows x at w h).1.decision)
 
+  pub attempt_answers : (x : Vc M) (at : Desk) (w : List Word) (found : Option ℕ) → Stands stands m x at w
+      → found ≡ as_byte x.place.decided → found ≡ (vectors m).attempt at w
+  attempt_answers x at w found h e = e ∙ (shows_vector stands m laws live shown shows x at w h).1.attempt
+
   -- ---- after want of memory
 
   -- those that stay show what they showed
@@ -154,7 +158,8 @@ module _ {M : Type 0} (stands : M → Desk → List Word → Type 0) (m : MultiR
     shows_near =
         let d = decision_near in
         let s = ap (λ (p : Progress). p.spent) keeps.place ∙ h.reached.spent in
-        record { opens = opens_near; decision = inl d; spent = inl s; ending = inl (d, s) }
+        let a = ap (λ (p : Progress). as_byte p.decided) keeps.place ∙ attempt_at stands m laws live shown shows x at w h in
+        record { opens = opens_near; decision = inl d; spent = inl s; ending = inl (d, s, a) }
 
   -- ---- a word is put out
 

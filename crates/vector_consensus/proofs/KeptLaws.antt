@@ -1,20 +1,19 @@
 -- What is kept of the proposals as one more comes.
-use Rattle.std.specs.Prelude.{◌≡◌, ℕ, zero, suc, ◌<◌, ◌≤◌, ◌+◌, ◌^◌, Bool, true, false, ◌==◌, ◌||◌, List, [], ◌∷◌, map, length, count_by, Option, Some, None, is_some, refl, slice_set, cond}
-use Rattle.std.specs.List.{slice_get, All, insert, range_with_len}
+use Rattle.std.specs.Prelude.{◌≡◌, ℕ, zero, suc, ◌<◌, ◌≤◌, ◌+◌, ◌^◌, Bool, true, false, ◌==◌, ◌||◌, List, [], ◌∷◌, map, length, count_by, Option, Some, None, is_some, refl, slice_set}
+use Rattle.std.specs.List.{slice_get, All, insert}
 use Rattle.std.specs.Int.RustNames.{count_ones}
 use Rattle.std.specs.Simd.Lanes.{mask_l}
 use Rattle.std.proofs.Common.{sym, ◌∙◌, ap, subst, arith, inl, inr, get_or, take, drop, replicate}
-use Rattle.std.proofs.lemmas.Bool.{both_ways, cases_Bool, cases_eq, eq-eqb, ne_eqb, or_right}
+use Rattle.std.proofs.lemmas.Bool.{both_ways, cases_eq, eq-eqb, ne_eqb, or_right}
 use Rattle.std.proofs.lemmas.List.{get_or-set_same, get_or-set_other, length-set, length-replicate}
 use Rattle.std.proofs.lemmas.List.Elements.{All-nil, All-append, All-cons, All-take, All-drop}
-use Rattle.std.proofs.lemmas.List.Sums.{sum_by_push, count_by-le-length, count_by_more_yes, count_by_more_no}
+use Rattle.std.proofs.lemmas.List.Sums.{count_by-le-length}
 use Rattle.std.proofs.lemmas.Option.{slice_get_within, slice_get-get_or, get_or_from_slice_get}
 use Rattle.std.proofs.lemmas.Nat.{zero_from_ones}
 use Rattle.std.proofs.lemmas.Simd.{ones-mask_l}
 use Rattle.ritas_base.specs.Members.{has_member, member_count}
-use Rattle.ritas_base.specs.MemberLaws.{same_mask, places_there}
+use Rattle.ritas_base.specs.MemberLaws.{same_mask, places_there, rank_there}
 use Rattle.ritas_base.specs.Quorums.{count_yes, count_no}
-use Rattle.ritas_base.specs.RangeLaws.{range_more}
 use Rattle.ritas_base.specs.Shortest.{not_there}
 use Rattle.vector_consensus.specs.Consensus.{present}
 use Rattle.vector_consensus.specs.Proposals.{present_length}
@@ -54,28 +53,6 @@ present_more (Some u ∷ os) (suc k) v e =
     one_more : (c : ℕ) → 1 + c ≡ suc c
     one_more c = omega arith
 
--- as many are before it as the mask has members below
-rank_is : (os : List (Option (List ℕ))) (k : ℕ) → k ≤ length os → member_count k (mask_l (map is_some os)) ≡ count_by is_some (take k os)
-unfolding member_count
-rank_is os zero l = refl
-rank_is os (suc k) l =
-    let mask = mask_l (map is_some os) in
-    let within : k < length os = omega (arith, l) in
-    let last : suc k ≡ k + 1 = omega arith in
-    let more = ap (count_by (has_member mask)) (range_more 0 k k (omega arith)) ∙ sum_by_push (λ j. cond {A = ℕ} (has_member mask j) 1 0) (range_with_len 0 k) k in
-    let before = rank_is os k (omega (arith, l)) in
-    let here : cond {A = ℕ} (has_member mask k) 1 0 ≡ cond {A = ℕ} (there os k) 1 0 = ap (λ (b : Bool). cond {A = ℕ} b 1 0) (places_there os k) in
-    elim (cases_Bool (there os k)) [
-      | inl is_in ↦
-          let one : cond {A = ℕ} (there os k) 1 0 ≡ 1 = ap (λ (b : Bool). cond {A = ℕ} b 1 0) is_in in
-          let c = count_by_more_yes is_some os k None within is_in in
-          more ∙ (let s : count_by (has_member mask) (range_with_len 0 k) + cond {A = ℕ} (has_member mask k) 1 0 ≡ count_by is_some (take (k + 1) os) = omega (arith, before, here, one, c) in s) ∙ ap (λ (j : ℕ). count_by is_some (take j os)) (sym last)
-      | inr is_out ↦
-          let one : cond {A = ℕ} (there os k) 1 0 ≡ 0 = ap (λ (b : Bool). cond {A = ℕ} b 1 0) is_out in
-          let c = count_by_more_no is_some os k None within is_out in
-          more ∙ (let s : count_by (has_member mask) (range_with_len 0 k) + cond {A = ℕ} (has_member mask k) 1 0 ≡ count_by is_some (take (k + 1) os) = omega (arith, before, here, one, c) in s) ∙ ap (λ (j : ℕ). count_by is_some (take j os)) (sym last)
-    ]
-
 -- what is there then
 there_more : (os : List (Option (List ℕ))) (k j : ℕ) (v : List ℕ) → k < length os → there (slice_set os k (Some v)) j ≡ (there os j || (j == k))
 there_more os k j v l =
@@ -104,7 +81,7 @@ kept_more os k v old new kept none put =
     let most = kept.most in
     let size = length-set os k (Some v) in
     let small : length (slice_set os k (Some v)) ≤ 32 = omega (arith, size, most) in
-    let rank = ap (member_count k) kept.places ∙ rank_is os k (omega (arith, within)) in
+    let rank = ap (member_count k) kept.places ∙ rank_there os k (omega (arith, within)) in
     record {
       most = small;
       places = same_mask new.places (mask_l (map is_some (slice_set os k (Some v)))) (λ j.
@@ -163,7 +140,7 @@ module _ (t : Kept) (some : AreSome t) where
   pub rank_within : (k : ℕ) → k < 32 → member_count k t.places ≤ length t.entries
   rank_within k l =
       let a = some.all in
-      let rank = ap (member_count k) some.kept.places ∙ rank_is some.proposed k (omega (arith, l, a)) in
+      let rank = ap (member_count k) some.kept.places ∙ rank_there some.proposed k (omega (arith, l, a)) in
       let less = count_take some.proposed k in
       let e = kept_count some.proposed t some.kept in
       omega (arith, rank, less, e)

@@ -1,5 +1,5 @@
 -- The law of one vector of vector consensus, over any multi-valued consensus with its laws.
-use Rattle.std.specs.Prelude.{◌≡◌, ℕ, zero, suc, ◌<◌, Bool, true, false, ◌==◌, ◌&&◌, nat_le, if◌then◌else◌, List, Option, Some, None, option_map, refl}
+use Rattle.std.specs.Prelude.{◌≡◌, ℕ, zero, suc, ◌<◌, Bool, true, false, if◌then◌else◌, List, Option, Some, None, option_map, refl}
 use Rattle.std.proofs.Common.{sym, ◌∙◌, ap, subst, inl, inr, arith}
 use Rattle.std.proofs.lemmas.Bool.{and_parts, cases_order}
 use Rattle.std.proofs.lemmas.Option.{none-some}
@@ -7,12 +7,11 @@ use Rattle.ritas_base.specs.declared.slot.Slot.{Slot}
 use Rattle.ritas_base.specs.Numbers.{IsSession}
 use Rattle.ritas_base.specs.Shortest.{option_or_some}
 use Rattle.layer_api.specs.Runs.{Step, calls_of, IsEnough}
-use Rattle.layer_api.specs.Service.{Instance, OfBit, OfValue, OfVector, Decision}
 use Rattle.layer_api.specs.Words.{Word}
 use Rattle.layer_api.specs.Fed.{IsFedRun}
 use Rattle.layer_api.specs.Multi.{Scope, Desk, desk_at, MultiRules, MultiLaws, OneDecision}
-use Rattle.layer_api.specs.Vectors.{HasVectors, vector_play, OneVector}
-use Rattle.vector_consensus.specs.Consensus.{try_scope, try_desk, is_none, value_of, failed_below, decided_below, try_words, try_decides, value_decision, vectors}
+use Rattle.layer_api.specs.Vectors.{HasVectors, vector_play}
+use Rattle.vector_consensus.specs.Consensus.{try_scope, try_desk, is_none, value_of, failed_below, decided_below, attempt_below, try_decides, vectors}
 use Rattle.vector_consensus.specs.Tries.{try_run, try_fed, try_calls}
 
 -- ---- attempts that failed, and that which decided
@@ -63,18 +62,38 @@ decided_by m at (suc n) w v q =
           record { attempt = n; below = omega arith; failed = x.0; decides = value_is (try_decides m at n w) v x.1 }
     ]
 
+-- and so is the attempt that is told
+pub attempt_by : (m : MultiRules) (at : Desk) (n : ℕ) (w : List Word) (k : ℕ) → attempt_below m at n w ≡ Some k
+    → (v : List ℕ) × (x : IsDecidedBy m at n w v) × (x.attempt ≡ k)
+attempt_by m at zero w k q = absurd cc
+attempt_by m at (suc n) w k q =
+    elim (option_or_some (attempt_below m at n w) (if failed_below m at n w then option_map (λ v. n) (value_of (try_decides m at n w)) else None) k q) [
+      | inl a ↦
+          let y = attempt_by m at n w k a in
+          let l = y.1.below in
+          (y.0, record { attempt = y.1.attempt; below = omega (arith, l); failed = y.1.failed; decides = y.1.decides }, y.2)
+      | inr b ↦
+          let x = if_true (failed_below m at n w) (option_map (λ v. n) (value_of (try_decides m at n w))) k b.1 in
+          let d = there (value_of (try_decides m at n w)) x.1 in
+          (d.0, record { attempt = n; below = omega arith; failed = x.0; decides = value_is (try_decides m at n w) d.0 d.1 }, d.2)
+    ]
+  where
+    there : (o : Option (List ℕ)) → option_map (λ v. n) o ≡ Some k → (v : List ℕ) × (o ≡ Some v) × (n ≡ k)
+    there None e = absurd cc
+    there (Some v) e = (v, refl, cc)
+
 -- ---- a run
 
 module _ (m : MultiRules) (laws : MultiLaws m) (one : OneDecision m) (at : Scope) (is_correct : ℕ → Bool) (coins : ℕ → Slot → Bool) (xs : List (Step Word))
     (enough : IsEnough at.numbers is_correct) (has : HasVectors at) (fed : IsFedRun (vector_play (vectors m) at coins) is_correct xs) where
-  abbrev here : ℕ → Desk
+  abbrev pub here : ℕ → Desk
   here i = desk_at at coins i
 
-  abbrev session : IsSession at.numbers
+  abbrev pub session : IsSession at.numbers
   session = enough.session
 
   -- what an attempt decided, its box decided in the attempt's run
-  to_run : (k i : ℕ) (d : Option (List ℕ)) → try_decides m (here i) k (calls_of i xs) ≡ Some d
+  pub to_run : (k i : ℕ) (d : Option (List ℕ)) → try_decides m (here i) k (calls_of i xs) ≡ Some d
       → m.decision (desk_at (try_scope at k) coins i) (calls_of i (try_run m laws at session has coins k xs)) ≡ Some d
   to_run k i d q = subst (λ (w : List Word). m.decision (try_desk (here i) k) w ≡ Some d) (sym (try_calls m laws at session has coins k i xs)) q
 
@@ -106,42 +125,14 @@ module _ (m : MultiRules) (laws : MultiLaws m) (one : OneDecision m) (at : Scope
         | inr (inr more) ↦ absurd (not_failed j i (suc at.numbers.f) u cj ci y x.attempt x.failed more)
       ]
 
-  -- and no replica is spent where another has one
-  pub apart : (i j : ℕ) (v : List ℕ) → is_correct i ≡ true → is_correct j ≡ true
-      → (vectors m).decision (here i) (calls_of i xs) ≡ Some v → (vectors m).spent (here j) (calls_of j xs) ≡ true → ⊥
-  apart i j v ci cj q r =
-      let x = decided_by m (here i) (suc at.numbers.f) (calls_of i xs) v q in
-      not_failed i j (suc at.numbers.f) v ci cj x (suc at.numbers.f) r x.below
-
-  -- ---- the instances inside
-
-  mapped : (o : Option (Option (List ℕ))) (d : Decision) → option_map value_decision o ≡ Some d → (x : Option (List ℕ)) × (o ≡ Some x) × (d ≡ value_decision x)
-  mapped None d q = absurd cc
-  mapped (Some x) d q = (x, refl, cc)
-
-  -- what an instance inside an attempt decided, it decided in the attempt's run
-  inside_run : (k i : ℕ) (x : Instance) (d : Decision) → m.inside (try_desk (here i) k) (try_words m (here i) k (calls_of i xs)) x ≡ Some d
-      → m.inside (desk_at (try_scope at k) coins i) (calls_of i (try_run m laws at session has coins k xs)) x ≡ Some d
-  inside_run k i x d q = subst (λ (w : List Word). m.inside (try_desk (here i) k) w x ≡ Some d) (sym (try_calls m laws at session has coins k i xs)) q
-
-  -- what was decided in each instance inside is equal
-  pub same_inside : (i j : ℕ) (x : Instance) (d e : Decision) → is_correct i ≡ true → is_correct j ≡ true
-      → (vectors m).inside (here i) (calls_of i xs) x ≡ Some d → (vectors m).inside (here j) (calls_of j xs) x ≡ Some e → d ≡ e
-  same_inside i j (OfBit a k) d e ci cj q r =
-      let x = (if_true (a == at.a && nat_le k at.numbers.f) (m.inside (try_desk (here i) k) (try_words m (here i) k (calls_of i xs)) (OfBit a k)) d q).1 in
-      let y = (if_true (a == at.a && nat_le k at.numbers.f) (m.inside (try_desk (here j) k) (try_words m (here j) k (calls_of j xs)) (OfBit a k)) e r).1 in
-      one.insides (try_scope at k) is_correct coins (try_run m laws at session has coins k xs) enough (try_fed m laws at session has coins is_correct k xs fed) i j (OfBit a k) d e ci cj
-      (inside_run k i (OfBit a k) d x) (inside_run k j (OfBit a k) e y)
-  same_inside i j (OfValue a k) d e ci cj q r =
-      let x = mapped (try_decides m (here i) k (calls_of i xs)) d (if_true (a == at.a && nat_le k at.numbers.f) _ d q).1 in
-      let y = mapped (try_decides m (here j) k (calls_of j xs)) e (if_true (a == at.a && nat_le k at.numbers.f) _ e r).1 in
-      x.2 ∙ (ap value_decision (same_try k i j x.0 y.0 ci cj x.1 y.1) ∙ sym y.2)
-  same_inside i j (OfVector a) d e ci cj q r = absurd cc
-
--- the law of one vector
-pub one_vector_law : (m : MultiRules) → MultiLaws m → OneDecision m → OneVector (vectors m)
-one_vector_law m laws one = record {
-  agree = λ at is_correct coins xs enough has fed. agree m laws one at is_correct coins xs enough has fed;
-  apart = λ at is_correct coins xs enough has fed. apart m laws one at is_correct coins xs enough has fed;
-  insides = λ at is_correct coins xs enough has fed. same_inside m laws one at is_correct coins xs enough has fed;
-}
+  -- and so are the attempts that decided them
+  pub same_attempt : (i j : ℕ) (k l : ℕ) → is_correct i ≡ true → is_correct j ≡ true
+      → (vectors m).attempt (here i) (calls_of i xs) ≡ Some k → (vectors m).attempt (here j) (calls_of j xs) ≡ Some l → k ≡ l
+  same_attempt i j k l ci cj q r =
+      let x = attempt_by m (here i) (suc at.numbers.f) (calls_of i xs) k q in
+      let y = attempt_by m (here j) (suc at.numbers.f) (calls_of j xs) l r in
+      elim (cases_order k l) [
+        | inl same ↦ same
+        | inr (inl less) ↦ absurd (not_failed i j (suc at.numbers.f) x.0 ci cj x.1 l (subst (λ (n : ℕ). failed_below m (here j) n (calls_of j xs) ≡ true) y.2 y.1.failed) (let e = x.2 in omega (arith, less, e)))
+        | inr (inr more) ↦ absurd (not_failed j i (suc at.numbers.f) y.0 cj ci y.1 k (subst (λ (n : ℕ). failed_below m (here i) n (calls_of i xs) ≡ true) x.2 x.1.failed) (let e = y.2 in omega (arith, more, e)))
+      ]

@@ -9,7 +9,7 @@ use Rattle.ritas_base.specs.Numbers.{wait_of}
 use Rattle.ritas_base.specs.History.{replicas}
 use Rattle.ritas_base.specs.Shortest.{at_shortest}
 use Rattle.frame_codec.specs.Values.{vector_bytes}
-use Rattle.layer_api.specs.Service.{Instance, OfBit, OfValue, OfVector, Decision, Nothing, Value}
+use Rattle.layer_api.specs.Service.{Instance, OfBit, OfValue, OfVector, Decision, vector_decision}
 use Rattle.layer_api.specs.Words.{Word, value_at}
 use Rattle.layer_api.specs.Part.{proposed, newly, part_of, part_words, says_in}
 use Rattle.layer_api.specs.Multi.{Scope, Desk, MultiRules}
@@ -86,6 +86,12 @@ decided_below m at zero w = None
 decided_below m at (suc k) w =
     option_or (decided_below m at k w) (if failed_below m at k w then value_of (try_decides m at k w) else None)
 
+-- and which that is
+abbrev pub attempt_below : MultiRules → Desk → ℕ → List Word → Option ℕ
+attempt_below m at zero w = None
+attempt_below m at (suc k) w =
+    option_or (attempt_below m at k w) (if failed_below m at k w then option_map (λ v. k) (value_of (try_decides m at k w)) else None)
+
 -- ---- the layer
 
 -- what attempt k is asked
@@ -102,15 +108,16 @@ abbrev pub opens_at : MultiRules → Desk → List Word → Slot → Bool
 opens_at m at w s =
     is_vector_slot at.scope s && (if s.class == 2 then is_some (proposed w) else m.opens (try_desk at s.attempt) (try_words m at s.attempt w) s)
 
-abbrev pub value_decision : Option (List ℕ) → Decision
-value_decision None = Nothing
-value_decision (Some v) = Value v
+-- what an instance inside attempt k decided, the attempt's own among them
+abbrev pub try_inside : MultiRules → Desk → List Word → ℕ → ℕ → Instance → Option Decision
+try_inside m at w a k x = if a == at.scope.a && nat_le k at.scope.numbers.f then m.inside (try_desk at k) (try_words m at k w) x else None
 
+-- and this instance
 abbrev pub inside_at : MultiRules → Desk → List Word → Instance → Option Decision
-inside_at m at w (OfBit a k) =
-    if a == at.scope.a && nat_le k at.scope.numbers.f then m.inside (try_desk at k) (try_words m at k w) (OfBit a k) else None
-inside_at m at w (OfValue a k) = if a == at.scope.a && nat_le k at.scope.numbers.f then option_map value_decision (try_decides m at k w) else None
-inside_at m at w (OfVector a) = None
+inside_at m at w (OfBit a k) = try_inside m at w a k (OfBit a k)
+inside_at m at w (OfValue a k) = try_inside m at w a k (OfValue a k)
+inside_at m at w (OfVector a) =
+    if a == at.scope.a then vector_decision (decided_below m at (suc at.scope.numbers.f) w) (failed_below m at (suc at.scope.numbers.f) w) else None
 
 -- vector consensus over multi-valued consensus, in f + 1 attempts
 abbrev pub vectors : MultiRules → VectorRules
@@ -118,6 +125,7 @@ vectors m = record {
   says = λ at w c. newly (prop_slot at.scope at.me) (proposed w) (proposed (c ∷ w)) ++ says_below m at (suc at.scope.numbers.f) w c;
   opens = λ at w s. opens_at m at w s;
   decision = λ at w. decided_below m at (suc at.scope.numbers.f) w;
+  attempt = λ at w. attempt_below m at (suc at.scope.numbers.f) w;
   spent = λ at w. failed_below m at (suc at.scope.numbers.f) w;
   inside = λ at w x. inside_at m at w x;
 }

@@ -3,6 +3,10 @@ pub mod Rows
 pub mod Proposals
 pub mod Tries
 pub mod Agreement
+pub mod LastAttempt
+pub mod EntryLaws
+pub mod SameInside
+pub mod OneVectorLaw
 pub mod ValueLaws
 pub mod Root
 pub mod RootLaws
@@ -15,3 +19,4 @@ pub mod Going
 pub mod Holding
 pub mod Opening
 pub mod Stands
+pub mod Refusing

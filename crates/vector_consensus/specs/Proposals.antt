@@ -27,7 +27,7 @@ present_length (None ∷ os) = present_length os ∙ sym (count_no is_some None 
 present_length (Some v ∷ os) = let e = count_yes is_some (Some v) os refl in let ih = present_length os in omega (arith, e, ih)
 
 -- each entry was proposed
-present_all : (P : List ℕ → Type 0) (f : ℕ → Option (List ℕ)) → ((k : ℕ) (v : List ℕ) → f k ≡ Some v → P v) → (ks : List ℕ) → AllByRecursion P (present (map f ks))
+pub present_all : (P : List ℕ → Type 0) (f : ℕ → Option (List ℕ)) → ((k : ℕ) (v : List ℕ) → f k ≡ Some v → P v) → (ks : List ℕ) → AllByRecursion P (present (map f ks))
 present_all P f all [] = tt
 present_all P f all (k ∷ ks) = go (f k) refl (present_all P f all ks)
   where

@@ -1,6 +1,6 @@
 -- Vector consensus as a root service: one instance, of round 0, whose input is a value of class 2.
-use Rattle.std.specs.Prelude.{ℕ, Bool, true, false, ◌==◌, ◌&&◌, if◌then◌else◌, List, [], Option, Some, None}
-use Rattle.layer_api.specs.Service.{ServiceRules, Seat, Instance, OfBit, OfValue, OfVector, Decision, Value, Spent, Ending, Undecided, Decided}
+use Rattle.std.specs.Prelude.{ℕ, ◌==◌, ◌&&◌, if◌then◌else◌, List, [], Option, Some, None}
+use Rattle.layer_api.specs.Service.{ServiceRules, Seat, vector_with, Instance, OfBit, OfValue, OfVector, Decision, vector_decision, Ending, Undecided, Decided}
 use Rattle.layer_api.specs.Words.{Word}
 use Rattle.layer_api.specs.OneInstance.{is_given}
 use Rattle.layer_api.specs.Multi.{Desk}
@@ -10,12 +10,6 @@ use Rattle.layer_api.specs.Vectors.{VectorRules, is_vector_slot}
 abbrev pub desk_of : Seat → Desk
 desk_of seat = record { scope = record { numbers = seat.numbers; root = 5; a = 0; attempt = 0 }; me = seat.me; coin = seat.coin }
 
--- what it decided: a vector, or that the attempts are spent
-abbrev pub decision_of : Option (List ℕ) → Bool → Option Decision
-decision_of (Some v) is_spent = Some (Value v)
-decision_of None true = Some Spent
-decision_of None false = None
-
 abbrev pub ending : Option Decision → Ending
 ending None = Undecided
 ending (Some d) = Decided d
@@ -23,7 +17,7 @@ ending (Some d) = Decided d
 abbrev pub decided_in : VectorRules → Seat → List Word → Instance → Option Decision
 decided_in v seat w (OfBit a k) = v.inside (desk_of seat) w (OfBit a k)
 decided_in v seat w (OfValue a k) = v.inside (desk_of seat) w (OfValue a k)
-decided_in v seat w (OfVector a) = if a == 0 then decision_of (v.decision (desk_of seat) w) (v.spent (desk_of seat) w) else None
+decided_in v seat w (OfVector a) = if a == 0 then v.inside (desk_of seat) w (OfVector 0) else None
 
 abbrev pub vector_root : VectorRules → ServiceRules
 vector_root v = record {
@@ -35,6 +29,7 @@ vector_root v = record {
   next_number = λ seat w. 0;
   given = λ seat w. is_given w;
   done = λ seat w. [];
-  outcome = λ seat w. ending (decision_of (v.decision (desk_of seat) w) (v.spent (desk_of seat) w));
+  outcome = λ seat w. ending (vector_decision (v.decision (desk_of seat) w) (v.spent (desk_of seat) w));
+  last = λ seat w. vector_with 0 (v.attempt (desk_of seat) w) (v.decision (desk_of seat) w);
   decided = λ seat w x. decided_in v seat w x;
 }

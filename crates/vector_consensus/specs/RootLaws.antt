@@ -1,6 +1,6 @@
 -- The law of one log of vector consensus as a root service, from that of its box. The box has the service's own words.
-use Rattle.std.specs.Prelude.{◌≡◌, ℕ, Bool, true, false, ◌==◌, if◌then◌else◌, List, [], Option, Some, None, refl, ◌⊎◌}
-use Rattle.std.proofs.Common.{sym, ◌∙◌, ap, subst, inl, inr, arith}
+use Rattle.std.specs.Prelude.{◌≡◌, ℕ, Bool, true, ◌==◌, if◌then◌else◌, List, [], Option, Some, None, refl, ◌⊎◌}
+use Rattle.std.proofs.Common.{sym, ◌∙◌, ap, subst, inl, inr, arith, ap₂}
 use Rattle.std.proofs.lemmas.Bool.{and_parts, eqb-true}
 use Rattle.ritas_base.specs.declared.slot.Slot.{Slot}
 use Rattle.ritas_base.specs.declared.mode.Mode.{Mode}
@@ -9,7 +9,8 @@ use Rattle.frame_codec.specs.Format.{Format, Is}
 use Rattle.frame_codec.specs.Grammar.{class2, value}
 use Rattle.frame_codec.specs.Inputs.{input_format}
 use Rattle.layer_api.specs.Runs.{Step, calls_of}
-use Rattle.layer_api.specs.Service.{Seat, MayAsk, MayHear, MayWord, Instance, OfBit, OfValue, OfVector, Decision, Value, Bit, Spent, Decided}
+use Rattle.layer_api.specs.Service.{Seat, MayAsk, MayHear, MayWord, Instance, OfBit, OfValue, OfVector, Decision, Value, Bit, Spent, Decided, LastVector, vector_decision, vector_with}
+use Rattle.layer_api.specs.DecisionLaws.{decided_vector, vector_parts, if_so}
 use Rattle.layer_api.specs.Words.{Word, Ask, Hear}
 use Rattle.layer_api.specs.OneLog.{Session, seat_at, service_play, IsRunOf, OneLog}
 use Rattle.layer_api.specs.Fed.{IsFedRun}
@@ -17,7 +18,7 @@ use Rattle.layer_api.specs.FedLaws.{same_fed}
 use Rattle.layer_api.specs.OneInstance.{not_given}
 use Rattle.layer_api.specs.Multi.{Scope, desk_at}
 use Rattle.layer_api.specs.Vectors.{VectorRules, is_vector_slot, MayVector, vector_play, OneVector}
-use Rattle.vector_consensus.specs.Root.{desk_of, decision_of, ending, decided_in, vector_root}
+use Rattle.vector_consensus.specs.Root.{desk_of, ending, decided_in, vector_root}
 
 pub input_class : (p : Numbers) → input_format p 5 ≡ class2 p 5
 unfolding input_format
@@ -53,17 +54,11 @@ ending_is : (o : Option Decision) (d : Decision) → ending o ≡ Decided d → 
 ending_is None d q = absurd cc
 ending_is (Some x) d q = cc
 
-decision_is : (o : Option (List ℕ)) (s : Bool) (d : Decision) → decision_of o s ≡ Some d → ((x : List ℕ) × (o ≡ Some x) × (d ≡ Value x)) ⊎ ((s ≡ true) × (d ≡ Spent))
-decision_is (Some x) s d q = inl (x, refl, cc)
-decision_is None true d q = inr (refl, cc)
-decision_is None false d q = absurd cc
-
-if_so : {X : Type 0} (b : Bool) (o : Option X) (d : X) → (if b then o else None) ≡ Some d → o ≡ Some d
-if_so true o d q = q
-if_so false o d q = absurd cc
-
 bit_value : (b : Bool) (x : List ℕ) → Bit b ≡ Value x → ⊥
 bit_value b x e = cc
+
+value_spent : (x : List ℕ) → Spent ≡ Value x → ⊥
+value_spent x e = cc
 
 bit_spent : (b : Bool) → Bit b ≡ Spent → ⊥
 bit_spent b e = cc
@@ -83,19 +78,16 @@ module _ (v : VectorRules) (one : OneVector v) (p : Numbers) (mode : Mode) (is_c
       (λ i w y met h. h) xs run.fed
 
   abbrev decided : ℕ → Option Decision
-  decided i = decision_of (v.decision (desk_at at coins i) (calls_of i xs)) (v.spent (desk_at at coins i) (calls_of i xs))
+  decided i = vector_decision (v.decision (desk_at at coins i) (calls_of i xs)) (v.spent (desk_at at coins i) (calls_of i xs))
 
   same : (i j : ℕ) (d e : Decision) → is_correct i ≡ true → is_correct j ≡ true → decided i ≡ Some d → decided j ≡ Some e → d ≡ e
   same i j d e ci cj q r =
-      elim (decision_is (v.decision (desk_at at coins i) (calls_of i xs)) (v.spent (desk_at at coins i) (calls_of i xs)) d q) [
-        | inl x ↦ elim (decision_is (v.decision (desk_at at coins j) (calls_of j xs)) (v.spent (desk_at at coins j) (calls_of j xs)) e r) [
+      elim (decided_vector (v.decision (desk_at at coins i) (calls_of i xs)) (v.spent (desk_at at coins i) (calls_of i xs)) d q) [
+        | inl x ↦ elim (decided_vector (v.decision (desk_at at coins j) (calls_of j xs)) (v.spent (desk_at at coins j) (calls_of j xs)) e r) [
           | inl y ↦ x.2 ∙ (ap Value (one.agree at is_correct coins xs run.enough refl fed i j x.0 y.0 ci cj x.1 y.1) ∙ sym y.2)
-          | inr y ↦ absurd (one.apart at is_correct coins xs run.enough refl fed i j x.0 ci cj x.1 y.0)
+          | inr y ↦ absurd (one.unspent at is_correct coins xs run.enough refl fed j cj y.0)
         ]
-        | inr x ↦ elim (decision_is (v.decision (desk_at at coins j) (calls_of j xs)) (v.spent (desk_at at coins j) (calls_of j xs)) e r) [
-          | inl y ↦ absurd (one.apart at is_correct coins xs run.enough refl fed j i y.0 cj ci y.1 x.0)
-          | inr y ↦ x.1 ∙ sym y.1
-        ]
+        | inr x ↦ absurd (one.unspent at is_correct coins xs run.enough refl fed i ci x.0)
       ]
 
   pub outcomes : (i j : ℕ) (d e : Decision) → is_correct i ≡ true → is_correct j ≡ true → ending (decided i) ≡ Decided d → ending (decided j) ≡ Decided e → d ≡ e
@@ -106,11 +98,29 @@ module _ (v : VectorRules) (one : OneVector v) (p : Numbers) (mode : Mode) (is_c
       → decided_in v (record { numbers = p; mode = mode; me = j; coin = coins j }) (calls_of j xs) x ≡ Some e → d ≡ e
   decisions i j (OfBit a k) d e ci cj q r = one.insides at is_correct coins xs run.enough refl fed i j (OfBit a k) d e ci cj q r
   decisions i j (OfValue a k) d e ci cj q r = one.insides at is_correct coins xs run.enough refl fed i j (OfValue a k) d e ci cj q r
-  decisions i j (OfVector a) d e ci cj q r = same i j d e ci cj (if_so (a == 0) (decided i) d q) (if_so (a == 0) (decided j) e r)
+  decisions i j (OfVector a) d e ci cj q r =
+      one.insides at is_correct coins xs run.enough refl fed i j (OfVector 0) d e ci cj (if_so (a == 0) _ d q) (if_so (a == 0) _ e r)
+
+  pub not_spent : (i : ℕ) → is_correct i ≡ true → ending (decided i) ≡ Decided Spent → ⊥
+  not_spent i ci q =
+      elim (decided_vector (v.decision (desk_at at coins i) (calls_of i xs)) (v.spent (desk_at at coins i) (calls_of i xs)) Spent (ending_is (decided i) Spent q)) [
+        | inl x ↦ value_spent x.0 x.2
+        | inr x ↦ one.unspent at is_correct coins xs run.enough refl fed i ci x.0
+      ]
+
+  pub one_last : (i j : ℕ) (x y : LastVector) → is_correct i ≡ true → is_correct j ≡ true
+      → vector_with 0 (v.attempt (desk_at at coins i) (calls_of i xs)) (v.decision (desk_at at coins i) (calls_of i xs)) ≡ Some x
+      → vector_with 0 (v.attempt (desk_at at coins j) (calls_of j xs)) (v.decision (desk_at at coins j) (calls_of j xs)) ≡ Some y → x ≡ y
+  one_last i j x y ci cj q r =
+      let a = vector_parts 0 (v.attempt (desk_at at coins i) (calls_of i xs)) (v.decision (desk_at at coins i) (calls_of i xs)) x q in
+      let b = vector_parts 0 (v.attempt (desk_at at coins j) (calls_of j xs)) (v.decision (desk_at at coins j) (calls_of j xs)) y r in
+      a.4 ∙ (ap₂ (λ (k : ℕ) (u : List ℕ). record { round = 0; attempt = k; value = u })
+      (one.attempts at is_correct coins xs run.enough refl fed i j a.0 b.0 ci cj a.2 b.2)
+      (one.agree at is_correct coins xs run.enough refl fed i j a.1 b.1 ci cj a.3 b.3) ∙ sym b.4)
 
   pub no_bits : (i : ℕ) (b : Bool) → ending (decided i) ≡ Decided (Bit b) → ⊥
   no_bits i b q =
-      elim (decision_is (v.decision (desk_at at coins i) (calls_of i xs)) (v.spent (desk_at at coins i) (calls_of i xs)) (Bit b) (ending_is (decided i) (Bit b) q)) [
+      elim (decided_vector (v.decision (desk_at at coins i) (calls_of i xs)) (v.spent (desk_at at coins i) (calls_of i xs)) (Bit b) (ending_is (decided i) (Bit b) q)) [
         | inl x ↦ bit_value b x.0 x.2
         | inr x ↦ bit_spent b x.1
       ]
@@ -122,4 +132,6 @@ root_log v one = record {
   decisions = λ p mode is_correct coins steps run. decisions v one p mode is_correct coins steps run;
   bits = λ p mode is_correct coins steps run i b ci q. absurd (no_bits v one p mode is_correct coins steps run i b q);
   proposals = λ p mode is_correct coins steps run four i x ci q. absurd (let e = eqb-true mode.root 5 run.serves in omega (arith, e, four));
+  unspent = λ p mode is_correct coins steps run. not_spent v one p mode is_correct coins steps run;
+  last_vectors = λ p mode is_correct coins steps run i j x y ci cj q r same. one_last v one p mode is_correct coins steps run i j x y ci cj q r;
 }

@@ -4,14 +4,14 @@ use Rattle.std.proofs.Common.{sym, ◌∙◌, ap₂, inl, inr}
 use Rattle.ritas_base.specs.declared.bytes.Mem.{Mem}
 use Rattle.ritas_base.specs.declared.slot.Slot.{Slot}
 use Rattle.ritas_base.specs.declared.item.Say.{Say}
-use Rattle.layer_api.specs.Service.{Seat}
+use Rattle.layer_api.specs.Service.{Seat, vector_decision, vector_with}
 use Rattle.layer_api.specs.Words.{Word, Ask, Hear}
 use Rattle.layer_api.specs.ServiceCalls.{ServiceShown, Shows, ShowsNear, Inputs, Heeds}
 use Rattle.layer_api.specs.OneInstance.{is_given, given_now}
 use Rattle.layer_api.specs.Multi.{Desk}
 use Rattle.layer_api.specs.Vectors.{VectorRules, is_slot_in}
 use Rattle.layer_api.specs.VectorCalls.{VectorShown, ShowsVector, ShowsVectorNear, VectorProposes, VectorHears}
-use Rattle.vector_consensus.specs.Root.{desk_of, decision_of, ending, vector_root}
+use Rattle.vector_consensus.specs.Root.{desk_of, ending, vector_root}
 use Rattle.vector_consensus.specs.RootLaws.{may_ask, may_hear}
 use Rattle.vector_consensus.specs.declared.vc_root.VcRoot.{VcRoot}
 
@@ -29,7 +29,8 @@ root_shown f shown given = record {
   next_number = 0;
   given = given;
   done = [];
-  outcome = ending (decision_of shown.decision shown.spent);
+  outcome = ending (vector_decision shown.decision shown.spent);
+  last = vector_with 0 shown.attempt shown.decision;
 }
 
 pub root_shows : (m : VectorRules) (seat : Seat) (w : List Word) (shown : VectorShown) (f : ℕ) (given : Bool) → f ≡ seat.numbers.f → given ≡ is_given w
@@ -41,7 +42,8 @@ root_shows m seat w shown f given same e s = record {
   next_number = refl;
   given = e;
   done = refl;
-  outcome = ap₂ (λ (o : Option (List ℕ)) (b : Bool). ending (decision_of o b)) s.decision s.spent;
+  outcome = ap₂ (λ (o : Option (List ℕ)) (b : Bool). ending (vector_decision o b)) s.decision s.spent;
+  last = ap₂ (vector_with 0) s.attempt s.decision;
 }
 
 shows_near : (m : VectorRules) (seat : Seat) (w : List Word) (c : Word) (shown : VectorShown) (f : ℕ) (given : Bool) → f ≡ seat.numbers.f → given ≡ is_given w
@@ -55,8 +57,12 @@ shows_near m seat w c shown f given same e s = record {
   done_before = ([], refl);
   done_after = ([], refl);
   outcome = elim s.ending [
-    | inl o ↦ inl (ap₂ (λ (x : Option (List ℕ)) (b : Bool). ending (decision_of x b)) o.0 o.1)
-    | inr o ↦ inr (ap₂ (λ (x : Option (List ℕ)) (b : Bool). ending (decision_of x b)) o.0 o.1)
+    | inl o ↦ inl (ap₂ (λ (x : Option (List ℕ)) (b : Bool). ending (vector_decision x b)) o.0 o.1)
+    | inr o ↦ inr (ap₂ (λ (x : Option (List ℕ)) (b : Bool). ending (vector_decision x b)) o.0 o.1)
+  ];
+  last = elim s.ending [
+    | inl o ↦ inl (ap₂ (λ (k : Option ℕ) (x : Option (List ℕ)). vector_with 0 k x) o.2 o.0)
+    | inr o ↦ inr (ap₂ (λ (k : Option ℕ) (x : Option (List ℕ)). vector_with 0 k x) o.2 o.0)
   ];
 }
 

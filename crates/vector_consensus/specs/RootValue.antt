@@ -1,6 +1,6 @@
 -- The laws of a single value of vector consensus as a root service, from those of its box.
-use Rattle.std.specs.Prelude.{◌≡◌, ℕ, ◌<◌, Bool, true, false, ◌==◌, if◌then◌else◌, List, [], ◌∷◌, Option, Some, None, refl}
-use Rattle.std.proofs.Common.{sym, ◌∙◌, ap, ap₂, subst, inl, inr}
+use Rattle.std.specs.Prelude.{◌≡◌, ℕ, ◌<◌, ◌≤◌, Bool, true, false, ◌==◌, if◌then◌else◌, List, [], ◌∷◌, Option, Some, None, is_some, refl}
+use Rattle.std.proofs.Common.{sym, ◌∙◌, ap, ap₂, subst, inl, inr, arith}
 use Rattle.std.proofs.lemmas.Bool.{and_parts, eqb-true, and_from}
 use Rattle.ritas_base.specs.declared.slot.Slot.{Slot}
 use Rattle.ritas_base.specs.declared.item.Say.{Say}
@@ -9,13 +9,14 @@ use Rattle.ritas_base.specs.Numbers.{IsSession}
 use Rattle.ritas_base.specs.Slots.{slot_fault, within, has_number}
 use Rattle.frame_codec.specs.Format.{Is}
 use Rattle.frame_codec.specs.Grammar.{value}
-use Rattle.layer_api.specs.Service.{ServiceRules, Seat, Instance, OfBit, OfValue, OfVector, Decision, Decided, AreProper, has_instance, IsEnding, WordLaws}
+use Rattle.layer_api.specs.Service.{ServiceRules, Seat, LastVector, Instance, OfBit, OfValue, OfVector, Decision, Value, Decided, vector_decision, vector_with, IsAttemptOf, ending_decision, own_instance, AreProper, has_instance, IsEnding, Insides, WordLaws}
+use Rattle.layer_api.specs.DecisionLaws.{vector_is, vector_stays, vector_parts, if_stays}
 use Rattle.layer_api.specs.FreshLaws.{fresh_other}
 use Rattle.layer_api.specs.OneInstance.{HasOneInstance, IsInstanceSaid, served, instance_word_laws}
 use Rattle.layer_api.specs.Words.{Word, Ask, Hear}
 use Rattle.layer_api.specs.Vectors.{VectorRules, is_vector_slot, AreVector, IsVectorSaid, VectorLaws}
 use Rattle.layer_api.specs.VectorSlots.{no_command, vector_slot_right}
-use Rattle.vector_consensus.specs.Root.{desk_of, decision_of, ending, decided_in, vector_root}
+use Rattle.vector_consensus.specs.Root.{desk_of, ending, decided_in, vector_root}
 use Rattle.vector_consensus.specs.RootLaws.{may_word}
 
 -- ---- slots of the root service
@@ -24,7 +25,7 @@ root_right : (mode : Mode) (seat : Seat) (s : Slot) → mode.root ≡ 5 → is_v
 root_right mode seat s five e below = vector_slot_right seat.numbers mode 0 s (inl five) (ap (λ (r : ℕ). has_number r 0) five) e below
 
 -- an instance of vectors ends by a vector, or its attempts are spent
-is_ending : (root : ℕ) (o : Option (List ℕ)) (is_spent : Bool) → root ≡ 5 → IsEnding root (ending (decision_of o is_spent))
+is_ending : (root : ℕ) (o : Option (List ℕ)) (is_spent : Bool) → root ≡ 5 → IsEnding root (ending (vector_decision o is_spent))
 is_ending root (Some v) is_spent five = inr five
 is_ending root None true five = inl five
 is_ending root None false five = tt
@@ -63,20 +64,14 @@ module _ (m : VectorRules) where
   }
 
   module _ (laws : VectorLaws m) where
-    decision_stays : (o u : Option (List ℕ)) (s t : Bool) (d : Decision) → ((x : List ℕ) → o ≡ Some x → u ≡ Some x) → (s ≡ true → (t ≡ true) × (u ≡ None))
-        → decision_of o s ≡ Some d → decision_of u t ≡ Some d
-    decision_stays (Some x) u s t d stays spent q = ap (λ o. decision_of o t) (stays x refl) ∙ q
-    decision_stays None u true t d stays spent q = let e = spent refl in ap₂ decision_of e.1 e.0 ∙ q
-    decision_stays None u false t d stays spent q = absurd cc
-
     abbrev now : Seat → List Word → Option Decision
-    now seat w = decision_of (m.decision (desk_of seat) w) (m.spent (desk_of seat) w)
+    now seat w = vector_decision (m.decision (desk_of seat) w) (m.spent (desk_of seat) w)
 
     now_stays : (seat : Seat) (c : Word) (w : List Word) (d : Decision) → AreProper r seat (c ∷ w) → now seat w ≡ Some d → now seat (c ∷ w) ≡ Some d
     now_stays seat c w d proper q =
         let session = session_of seat c w proper in
         let met = are_vector seat (c ∷ w) proper in
-        decision_stays (m.decision (desk_of seat) w) (m.decision (desk_of seat) (c ∷ w)) (m.spent (desk_of seat) w) (m.spent (desk_of seat) (c ∷ w)) d
+        vector_stays (m.decision (desk_of seat) w) (m.decision (desk_of seat) (c ∷ w)) (m.spent (desk_of seat) w) (m.spent (desk_of seat) (c ∷ w)) d
         (λ x e. laws.decision_stays (desk_of seat) c w x session refl met e)
         (λ e. let t = laws.spent_stays (desk_of seat) c w session refl met e in (t, laws.spent_alone (desk_of seat) (c ∷ w) met t)) q
 
@@ -84,14 +79,54 @@ module _ (m : VectorRules) where
     ending_stays None u d stays e = absurd cc
     ending_stays (Some x) u d stays e = ap ending (stays cc)
 
-    if_stays : (b : Bool) (o u : Option Decision) (d : Decision) → (o ≡ Some d → u ≡ Some d) → (if b then o else None) ≡ Some d → (if b then u else None) ≡ Some d
-    if_stays true o u d stays q = stays q
-    if_stays false o u d stays q = absurd cc
-
     decided_stays : (seat : Seat) (c : Word) (w : List Word) (x : Instance) (d : Decision) → AreProper r seat (c ∷ w) → decided_in m seat w x ≡ Some d → decided_in m seat (c ∷ w) x ≡ Some d
     decided_stays seat c w (OfBit a k) d proper e = laws.inside_stays (desk_of seat) c w (OfBit a k) d (session_of seat c w proper) refl (are_vector seat (c ∷ w) proper) e
     decided_stays seat c w (OfValue a k) d proper e = laws.inside_stays (desk_of seat) c w (OfValue a k) d (session_of seat c w proper) refl (are_vector seat (c ∷ w) proper) e
-    decided_stays seat c w (OfVector a) d proper e = if_stays (a == 0) (now seat w) (now seat (c ∷ w)) d (now_stays seat c w d proper) e
+    decided_stays seat c w (OfVector a) d proper e =
+        if_stays (a == 0) (m.inside (desk_of seat) w (OfVector 0)) (m.inside (desk_of seat) (c ∷ w) (OfVector 0)) d
+        (λ y q. laws.inside_stays (desk_of seat) c w (OfVector 0) y (session_of seat c w proper) refl (are_vector seat (c ∷ w) proper) q) e
+
+    own_decided : (seat : Seat) (w : List Word) (x : Instance) → seat.mode.root ≡ 5 → own_instance seat.mode.root ≡ Some x
+        → decided_in m seat w x ≡ ending_decision (ending (now seat w))
+    own_decided seat w x five q =
+        let e : OfVector 0 ≡ x = let p = ap own_instance (sym five) ∙ q in cc in
+        subst (λ (y : Instance). decided_in m seat w y ≡ ending_decision (ending (now seat w))) e (laws.inside_own (desk_of seat) w ∙ go (now seat w))
+      where
+        go : (o : Option Decision) → o ≡ ending_decision (ending o)
+        go None = refl
+        go (Some d) = refl
+
+    last_decided : (seat : Seat) (w : List Word) (x : LastVector) → vector_with 0 (m.attempt (desk_of seat) w) (m.decision (desk_of seat) w) ≡ Some x
+        → IsAttemptOf (decided_in m seat w) x.round x.attempt x.value
+    last_decided seat w x q =
+        let p = vector_parts 0 (m.attempt (desk_of seat) w) (m.decision (desk_of seat) w) x q in
+        let a = laws.inside_attempt (desk_of seat) w p.0 p.1 p.2 p.3 in
+        subst (λ (y : LastVector). IsAttemptOf (decided_in m seat w) y.round y.attempt y.value) (sym p.4) (record { vector = a.vector; value = a.value; failed = a.failed })
+
+    latest : (seat : Seat) (w : List Word) (a : ℕ) (v : List ℕ) → decided_in m seat w (OfVector a) ≡ Some (Value v)
+        → (x : LastVector) × (vector_with 0 (m.attempt (desk_of seat) w) (m.decision (desk_of seat) w) ≡ Some x) × (a ≤ x.round)
+    latest seat w a v q = go (a == 0) refl q
+      where
+        there : (o : Option ℕ) → is_some o ≡ true → (k : ℕ) × (o ≡ Some k)
+        there None e = absurd cc
+        there (Some k) e = (k, refl)
+
+        go : (b : Bool) → (a == 0) ≡ b → (if b then m.inside (desk_of seat) w (OfVector 0) else None) ≡ Some (Value v)
+            → (x : LastVector) × (vector_with 0 (m.attempt (desk_of seat) w) (m.decision (desk_of seat) w) ≡ Some x) × (a ≤ x.round)
+        go false e q = absurd cc
+        go true e q =
+            let d = vector_is (m.decision (desk_of seat) w) (m.spent (desk_of seat) w) v (sym (laws.inside_own (desk_of seat) w) ∙ q) in
+            let k = there (m.attempt (desk_of seat) w) (laws.attempt_there (desk_of seat) w ∙ ap is_some d) in
+            let zero = eqb-true a 0 e in
+            (record { round = 0; attempt = k.0; value = v }, ap₂ (vector_with 0) k.1 d, omega (arith, zero))
+
+    insides : (seat : Seat) (w : List Word) → IsSession seat.numbers → seat.mode.root ≡ 5 → AreProper r seat w → Insides r seat w
+    insides seat w session five proper = record {
+      own = λ x q. own_decided seat w x five q;
+      last = λ x q. last_decided seat w x q;
+      latest = λ a v q. latest seat w a v q;
+      bit = λ a k o q. laws.inside_bit (desk_of seat) w a k session refl (are_vector seat w proper) o q;
+    }
 
   opens_stays : VectorLaws m → (seat : Seat) (c : Word) (w : List Word) (s : Slot) → AreProper r seat (c ∷ w) → r.opens seat w s ≡ true → r.opens seat (c ∷ w) s ≡ true
   opens_stays laws seat c w s proper opens =
@@ -109,5 +144,6 @@ module _ (m : VectorRules) where
     opens_stays = opens_stays laws;
     outcome_stays = λ seat c w d proper e.
         ending_stays laws (now laws seat w) (now laws seat (c ∷ w)) d (now_stays laws seat c w d proper) e;
+    insides = λ seat w session serves proper. insides laws seat w session (eqb-true seat.mode.root 5 serves) proper;
     decided_stays = λ seat c w x d proper e. decided_stays laws seat c w x d proper e;
   })

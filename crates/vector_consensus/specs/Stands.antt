@@ -1,11 +1,12 @@
 -- What a box stands for, and what its getters answer.
-use Rattle.std.specs.Prelude.{◌≡◌, ℕ, ◌≤◌, Bool, true, false, ◌==◌, ◌&&◌, nat_lt, if◌then◌else◌, List, ◌++◌, length, Option, Some, None, is_some, Result, Ok, Err, refl}
+use Rattle.std.specs.Prelude.{◌≡◌, ℕ, suc, ◌<◌, ◌≤◌, Bool, true, false, ◌==◌, ◌&&◌, nat_lt, if◌then◌else◌, List, ◌++◌, length, Option, Some, None, is_some, Result, Ok, Err, refl}
 use Rattle.std.specs.List.{slice_get}
-use Rattle.std.proofs.Common.{sym, ◌∙◌, ap, ap₂, inl, inr}
+use Rattle.std.proofs.Common.{sym, ◌∙◌, ap, ap₂, inl, inr, arith}
 use Rattle.std.proofs.lemmas.Bool.{cases_Bool, cases_lt, lt-ltb, le-ltb}
 use Rattle.ritas_base.specs.declared.bytes.Mem.{Mem}
 use Rattle.ritas_base.specs.declared.slot.Slot.{Slot}
 use Rattle.ritas_base.specs.declared.item.Say.{Say}
+use Rattle.ritas_base.specs.Shortest.{not_there}
 use Rattle.layer_api.specs.Words.{Word, Hear}
 use Rattle.layer_api.specs.Calls.{IsCoin}
 use Rattle.layer_api.specs.Part.{proposed}
@@ -15,6 +16,7 @@ use Rattle.layer_api.specs.Vectors.{MayVectorHear, is_slot_in, is_vector_slot}
 use Rattle.layer_api.specs.VectorCalls.{VectorShown, ShowsVector}
 use Rattle.vector_consensus.specs.Consensus.{try_desk, value_of, try_words, opens_at, vectors}
 use Rattle.vector_consensus.specs.Tries.{untold_words}
+use Rattle.vector_consensus.specs.ValueLaws.{attempt_there, attempt_is}
 use Rattle.vector_consensus.specs.Kept.{Kept}
 use Rattle.vector_consensus.specs.Begun.{there_is, value_in, IsDecided, IsReached}
 use Rattle.vector_consensus.specs.Holding.{Holds, Heard, AreNear}
@@ -56,10 +58,16 @@ abbrev pub vector_in : {M : Type 0} → (M → MultiShown) → Option ℕ → Li
 vector_in shown None ts = None
 vector_in shown (Some k) ts = value_in shown (slice_get ts k)
 
+-- an attempt's number is a byte
+abbrev pub as_byte : Option ℕ → Option ℕ
+as_byte None = None
+as_byte (Some k) = if nat_lt k 256 then Some k else None
+
 abbrev pub shown_by : {M : Type 0} → (M → MultiShown) → Vc M → VectorShown
 shown_by shown x = record {
   opens = opens_by shown x.part x.place x.tries.items;
   decision = vector_in shown x.place.decided x.tries.items;
+  attempt = as_byte x.place.decided;
   spent = x.place.spent;
 }
 
@@ -116,6 +124,21 @@ module _ {M : Type 0} (stands : M → Desk → List Word → Type 0) (m : MultiR
           let b = there_is x.tries.items k d.0 in
           ap (value_in shown) b.1 ∙ (ap value_of ((shown_is x at w h k b.0 b.1).decision ∙ d.1.1) ∙ sym d.1.2)
 
+  pub attempt_at : (x : Vc M) (at : Desk) (w : List Word) → Stands stands m x at w → as_byte x.place.decided ≡ (vectors m).attempt at w
+  attempt_at x at w h = go x.place.decided h.reached.decided
+    where
+      go : (o : Option ℕ) → IsDecided m at w (length x.tries.items) o → as_byte o ≡ (vectors m).attempt at w
+      go None d = sym (not_there ((vectors m).attempt at w) (attempt_there m at (suc at.scope.numbers.f) w ∙ ap is_some d))
+      go (Some k) d =
+          let l = d.0 in
+          let few = h.holds.begun.few in
+          let session = h.holds.part_is.session in
+          let enough = session.enough in
+          let most = session.most in
+          let small : k < 256 = omega (arith, l, few, enough, most) in
+          ap (λ (b : Bool). if b then Some k else None) (lt-ltb k 256 small)
+          ∙ sym (attempt_is m at (suc at.scope.numbers.f) k w d.1.0 (omega (arith, l, few)) (h.holds.begun.failed k l) d.1.1)
+
   -- they answer what the rules say
   pub shows_vector : (x : Vc M) (at : Desk) (w : List Word) → Stands stands m x at w → (x.live ≡ true) × ShowsVector (vectors m) at w (shown_by shown x)
-  shows_vector x at w h = (h.live, record { opens = opens_is x at w h; decision = decision_is x at w h; spent = h.reached.spent })
+  shows_vector x at w h = (h.live, record { opens = opens_is x at w h; decision = decision_is x at w h; attempt = attempt_at x at w h; spent = h.reached.spent })

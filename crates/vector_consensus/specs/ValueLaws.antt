@@ -2,17 +2,18 @@
 use Rattle.std.specs.Prelude.{◌≡◌, ℕ, zero, suc, ◌+◌, ◌<◌, ◌≤◌, Bool, true, false, ◌==◌, ◌&&◌, nat_le, if◌then◌else◌, List, [], ◌∷◌, ◌++◌, count_by, Option, Some, None, is_some, option_map, refl}
 use Rattle.std.specs.Option.{option_or}
 use Rattle.std.proofs.Common.{sym, ◌∙◌, ap, ap₂, subst, inl, inr, arith}
-use Rattle.std.proofs.lemmas.Bool.{and_parts, and_from, and_right, both_ways, lt-leb, eq-eqb}
+use Rattle.std.proofs.lemmas.Bool.{and_parts, and_from, and_right, both_ways, lt-leb, le-leb, eq-eqb, cases_order}
 use Rattle.std.proofs.lemmas.Option.{none-some}
 use Rattle.ritas_base.specs.declared.slot.Slot.{Slot}
 use Rattle.ritas_base.specs.declared.item.Say.{Say}
 use Rattle.ritas_base.specs.Numbers.{IsSession, wait_of}
 use Rattle.ritas_base.specs.History.{replicas}
 use Rattle.ritas_base.specs.Quorums.{count_by-map, count_none}
-use Rattle.ritas_base.specs.Shortest.{option_or_some, option_or_older}
+use Rattle.ritas_base.specs.Shortest.{not_there, option_or_some, option_or_older}
 use Rattle.frame_codec.specs.Format.{Format, Is}
 use Rattle.frame_codec.specs.Grammar.{class2, vector}
-use Rattle.layer_api.specs.Service.{Instance, OfBit, OfValue, OfVector, Decision}
+use Rattle.layer_api.specs.Service.{Instance, OfBit, OfValue, OfVector, Decision, Bit, Nothing, value_decision, vector_decision, GoesByBit, IsAttemptOf}
+use Rattle.layer_api.specs.DecisionLaws.{if_stays, vector_stays}
 use Rattle.layer_api.specs.Words.{Word, Ask, Hear, value_at, HasSay, is_said, all_said, AreFresh}
 use Rattle.layer_api.specs.Part.{proposed, newly, newly_asked, part_of, says_in}
 use Rattle.layer_api.specs.FedLaws.{newly_said, proposed_stays, kept_over}
@@ -20,10 +21,10 @@ use Rattle.layer_api.specs.PartLaws.{says_in_all}
 use Rattle.layer_api.specs.FreshLaws.{unsaid, has_said, fresh_append, fresh_other, fresh_newly, fresh_in}
 use Rattle.layer_api.specs.Multi.{Scope, Desk, MultiRules, MayMulti, AreMulti, IsMultiSaid, MultiLaws}
 use Rattle.layer_api.specs.Vectors.{HasVectors, is_vector_slot, AreVector, IsVectorSaid, VectorLaws}
-use Rattle.vector_consensus.specs.Consensus.{prop_slot, props, vector_of, is_of_try, try_desk, is_none, value_of, failed_below, decided_below, try_words, try_decides, try_ask, says_below, value_decision, inside_at, opens_at, vectors}
+use Rattle.vector_consensus.specs.Consensus.{prop_slot, props, vector_of, is_of_try, try_desk, is_none, value_of, failed_below, decided_below, attempt_below, try_words, try_decides, try_ask, says_below, try_inside, inside_at, opens_at, vectors}
 use Rattle.vector_consensus.specs.Proposals.{prop_value, vector_class}
 use Rattle.vector_consensus.specs.Tries.{IsOfTry, of_try, outer_slot, words_met, tried_good, below_said, try_said, prop_said}
-use Rattle.vector_consensus.specs.Agreement.{none_is, value_is, if_true, decided_by}
+use Rattle.vector_consensus.specs.Agreement.{none_is, value_is, if_true, failed_each, decided_by, attempt_by}
 
 -- where all attempts below one failed, none of them decided a value
 pub failed_nothing : (m : MultiRules) (at : Desk) (n : ℕ) (w : List Word) → failed_below m at n w ≡ true → decided_below m at n w ≡ None
@@ -33,6 +34,35 @@ failed_nothing m at (suc n) w q =
     let d = none_is (try_decides m at n w) x.1 in
     ap₂ (λ (o : Option (List ℕ)) (b : Bool). option_or o (if b then value_of (try_decides m at n w) else None)) (failed_nothing m at n w x.0) x.0
     ∙ ap value_of d
+
+-- an attempt decided where something is decided
+pub attempt_there : (m : MultiRules) (at : Desk) (n : ℕ) (w : List Word) → is_some (attempt_below m at n w) ≡ is_some (decided_below m at n w)
+attempt_there m at zero w = refl
+attempt_there m at (suc n) w = go (attempt_below m at n w) (decided_below m at n w) (failed_below m at n w) (value_of (try_decides m at n w)) (attempt_there m at n w)
+  where
+    go : (o : Option ℕ) (u : Option (List ℕ)) (b : Bool) (d : Option (List ℕ)) → is_some o ≡ is_some u
+        → is_some (option_or o (if b then option_map (λ v. n) d else None)) ≡ is_some (option_or u (if b then d else None))
+    go (Some x) (Some y) b d e = refl
+    go (Some x) None b d e = absurd cc
+    go None (Some y) b d e = absurd cc
+    go None None true None e = refl
+    go None None true (Some v) e = refl
+    go None None false d e = refl
+
+-- where all attempts below one failed and it decided a vector, it is the one
+pub attempt_is : (m : MultiRules) (at : Desk) (n k : ℕ) (w : List Word) (v : List ℕ) → k < n → failed_below m at k w ≡ true → try_decides m at k w ≡ Some (Some v)
+    → attempt_below m at n w ≡ Some k
+attempt_is m at zero k w v l f d = absurd (omega (arith, l))
+attempt_is m at (suc n) k w v l f d =
+    elim (cases_order k n) [
+      | inl same ↦
+          let none : attempt_below m at k w ≡ None = not_there (attempt_below m at k w) (attempt_there m at k w ∙ ap is_some (failed_nothing m at k w f)) in
+          subst (λ (j : ℕ). option_or (attempt_below m at j w) (if failed_below m at j w then option_map (λ x. j) (value_of (try_decides m at j w)) else None) ≡ Some k) same
+          (ap₂ (λ (o : Option ℕ) (b : Bool). option_or o (if b then option_map (λ x. k) (value_of (try_decides m at k w)) else None)) none f
+          ∙ ap (λ (o : Option (Option (List ℕ))). option_map (λ x. k) (value_of o)) d)
+      | inr (inl less) ↦ option_or_older (attempt_below m at n w) _ k (attempt_is m at n k w v less f d)
+      | inr (inr more) ↦ absurd (omega (arith, l, more))
+    ]
 
 -- ---- before any word
 
@@ -91,22 +121,46 @@ module _ (m : MultiRules) (laws : MultiLaws m) (at : Desk) where
   spent_asked v session n =
       and_right (failed_below m at n (Ask v ∷ [])) _ (ap is_none (ap (m.decision (try_desk at n)) (quiet v session n) ∙ laws.decision_first (try_desk at n)))
 
+-- ---- what the instances inside decided, together
+
+module _ (m : MultiRules) (laws : MultiLaws m) (at : Desk) where
+  -- how many attempts there are
+  abbrev attempts : ℕ
+  attempts = suc at.scope.numbers.f
+
+  pub inside_own : (w : List Word) → inside_at m at w (OfVector at.scope.a) ≡ vector_decision (decided_below m at attempts w) (failed_below m at attempts w)
+  inside_own w = ap (λ (b : Bool). if b then vector_decision (decided_below m at attempts w) (failed_below m at attempts w) else None) (eq-eqb at.scope.a at.scope.a refl)
+
+  -- an attempt's own instance has its decision
+  inside_value : (w : List Word) (k : ℕ) → k ≤ at.scope.numbers.f → inside_at m at w (OfValue at.scope.a k) ≡ option_map value_decision (try_decides m at k w)
+  inside_value w k l =
+      ap (λ (b : Bool). if b then m.inside (try_desk at k) (try_words m at k w) (OfValue at.scope.a k) else None)
+      (and_from (at.scope.a == at.scope.a) _ (eq-eqb at.scope.a at.scope.a refl) (le-leb k at.scope.numbers.f l))
+      ∙ laws.inside_own (try_desk at k) (try_words m at k w)
+
+  inside_failed : (w : List Word) (n k : ℕ) → failed_below m at n w ≡ true → k < n → n ≤ attempts → inside_at m at w (OfValue at.scope.a k) ≡ Some Nothing
+  inside_failed w n k q l few = inside_value w k (omega (arith, l, few)) ∙ ap (option_map value_decision) (failed_each m at n w q k l)
+
+  pub inside_attempt : (w : List Word) (k : ℕ) (v : List ℕ) → attempt_below m at attempts w ≡ Some k → decided_below m at attempts w ≡ Some v → IsAttemptOf (inside_at m at w) at.scope.a k v
+  inside_attempt w k v q d =
+      let x = decided_by m at attempts w v d in
+      let below = x.below in
+      let same : x.attempt ≡ k = let e = sym (attempt_is m at attempts x.attempt w v below x.failed x.decides) ∙ q in cc in
+      subst (λ (j : ℕ). IsAttemptOf (inside_at m at w) at.scope.a j v) same (record {
+        vector = inside_own w ∙ ap (λ (o : Option (List ℕ)). vector_decision o (failed_below m at attempts w)) d;
+        value = inside_value w x.attempt (omega (arith, below)) ∙ ap (option_map value_decision) x.decides;
+        failed = λ j l. inside_failed w x.attempt j x.failed l (omega (arith, below));
+      })
+
+  pub inside_spent : (w : List Word) (k : ℕ) → failed_below m at attempts w ≡ true → k ≤ at.scope.numbers.f → inside_at m at w (OfValue at.scope.a k) ≡ Some Nothing
+  inside_spent w k q l = inside_failed w attempts k q (omega (arith, l)) (omega arith)
+
 -- ---- what stays
 
 -- something that stays is there still
 still_some : {X : Type 0} (o u : Option X) → ((x : X) → o ≡ Some x → u ≡ Some x) → is_some o ≡ true → is_some u ≡ true
 still_some None u stays q = absurd cc
 still_some (Some x) u stays q = ap is_some (stays x refl)
-
--- so is what a test lets through, and a decision as the service tells it
-if_stays : {X : Type 0} (b : Bool) (o u : Option X) (x : X) → ((y : X) → o ≡ Some y → u ≡ Some y) → (if b then o else None) ≡ Some x → (if b then u else None) ≡ Some x
-if_stays true o u x stays q = stays x q
-if_stays false o u x stays q = absurd cc
-
-map_stays : (o u : Option (Option (List ℕ))) (d : Decision) → ((e : Option (List ℕ)) → o ≡ Some e → u ≡ Some e)
-    → option_map value_decision o ≡ Some d → option_map value_decision u ≡ Some d
-map_stays None u d stays q = absurd cc
-map_stays (Some x) u d stays q = ap (option_map value_decision) (stays x refl) ∙ q
 
 module _ (m : MultiRules) (laws : MultiLaws m) (at : Desk) (session : IsSession at.scope.numbers) (has : HasVectors at.scope) where
   abbrev coins : ℕ → Slot → Bool
@@ -154,17 +208,42 @@ module _ (m : MultiRules) (laws : MultiLaws m) (at : Desk) (session : IsSession 
             ∙ ap value_of d
       ]
 
+  -- and so does the attempt that decided it
+  pub attempt_stays : (n : ℕ) (c : Word) (w : List Word) (k : ℕ) → AreVector (vectors m) at (c ∷ w)
+      → attempt_below m at n w ≡ Some k → attempt_below m at n (c ∷ w) ≡ Some k
+  attempt_stays n c w k met q =
+      let x = attempt_by m at n w k q in
+      let below = x.1.below in
+      let e : x.1.attempt ≡ k = x.2 in
+      attempt_is m at n k (c ∷ w) x.0 (omega (arith, below, e))
+      (failed_stays k c w met (subst (λ (j : ℕ). failed_below m at j w ≡ true) e x.1.failed))
+      (try_stays k c w (Some x.0) met (subst (λ (j : ℕ). try_decides m at j w ≡ Some (Some x.0)) e x.1.decides))
+
   -- what each instance inside decided stays
+  tried : (a k : ℕ) (x : Instance) (c : Word) (w : List Word) (d : Decision) → AreVector (vectors m) at (c ∷ w)
+      → try_inside m at w a k x ≡ Some d → try_inside m at (c ∷ w) a k x ≡ Some d
+  tried a k x c w d met q =
+      if_stays (a == scope.a && nat_le k scope.numbers.f) (m.inside (try_desk at k) (try_words m at k w) x) (m.inside (try_desk at k) (try_words m at k (c ∷ w)) x) d
+      (λ e r. try_keeps k (λ u. m.inside (try_desk at k) u x ≡ Some e) (λ y u met. laws.inside_stays (try_desk at k) y u x e met) c w met r) q
+
   pub inside_stays : (c : Word) (w : List Word) (x : Instance) (d : Decision) → AreVector (vectors m) at (c ∷ w)
       → inside_at m at w x ≡ Some d → inside_at m at (c ∷ w) x ≡ Some d
-  inside_stays c w (OfBit a k) d met q =
-      if_stays (a == scope.a && nat_le k scope.numbers.f) (m.inside (try_desk at k) (try_words m at k w) (OfBit a k))
-      (m.inside (try_desk at k) (try_words m at k (c ∷ w)) (OfBit a k)) d
-      (λ e r. try_keeps k (λ u. m.inside (try_desk at k) u (OfBit a k) ≡ Some e) (λ y u all. laws.inside_stays (try_desk at k) y u (OfBit a k) e all) c w met r) q
-  inside_stays c w (OfValue a k) d met q =
-      if_stays (a == scope.a && nat_le k scope.numbers.f) (option_map value_decision (try_decides m at k w)) (option_map value_decision (try_decides m at k (c ∷ w))) d
-      (λ e r. map_stays (try_decides m at k w) (try_decides m at k (c ∷ w)) e (λ x s. try_stays k c w x met s) r) q
-  inside_stays c w (OfVector a) d met q = absurd cc
+  inside_stays c w (OfBit a k) d met q = tried a k (OfBit a k) c w d met q
+  inside_stays c w (OfValue a k) d met q = tried a k (OfValue a k) c w d met q
+  inside_stays c w (OfVector a) d met q =
+      let all : ℕ = suc scope.numbers.f in
+      if_stays (a == scope.a) (vector_decision (decided_below m at all w) (failed_below m at all w)) (vector_decision (decided_below m at all (c ∷ w)) (failed_below m at all (c ∷ w))) d
+      (λ e r. vector_stays (decided_below m at all w) (decided_below m at all (c ∷ w)) (failed_below m at all w) (failed_below m at all (c ∷ w)) e
+      (λ v s. decided_stays all c w v met s) (λ s. let t = failed_stays all c w met s in (t, failed_nothing m at all (c ∷ w) t)) r) q
+
+  -- and each multi-valued consensus went by its bit
+  pub inside_bit : (w : List Word) (a k : ℕ) → AreVector (vectors m) at w → GoesByBit (inside_at m at w) a k
+  inside_bit w a k met o q = go (a == scope.a && nat_le k scope.numbers.f) q
+    where
+      go : (b : Bool) → (if b then m.inside (try_desk at k) (try_words m at k w) (OfValue a k) else None) ≡ Some (value_decision o)
+          → (if b then m.inside (try_desk at k) (try_words m at k w) (OfBit a k) else None) ≡ Some (Bit (is_some o))
+      go false e = absurd cc
+      go true e = laws.inside_bit (try_desk at k) (try_words m at k w) a k (tries_met k w met) o e
 
   -- what is open stays open
   pub opens_stays : (c : Word) (w : List Word) (s : Slot) → AreVector (vectors m) at (c ∷ w) → opens_at m at w s ≡ true → opens_at m at (c ∷ w) s ≡ true
@@ -301,7 +380,14 @@ vector_laws_law m laws = record {
   spent_asked = λ at v session. spent_asked m laws at v session at.scope.numbers.f;
   decision_stays = λ at c w v session has met q. decided_stays m laws at session has (suc at.scope.numbers.f) c w v met q;
   spent_stays = λ at c w session has met q. failed_stays m laws at session has (suc at.scope.numbers.f) c w met q;
+  attempt_there = λ at w. attempt_there m at (suc at.scope.numbers.f) w;
+  attempt_few = λ at w k q. let x = attempt_by m at (suc at.scope.numbers.f) w k q in let l = x.1.below in let e = x.2 in omega (arith, l, e);
+  attempt_stays = λ at c w k session has met q. attempt_stays m laws at session has (suc at.scope.numbers.f) c w k met q;
   spent_alone = λ at w met q. failed_nothing m at (suc at.scope.numbers.f) w q;
   decision_good = λ at w v session has met q. decision_good m laws at session has w v met q;
+  inside_own = λ at w. inside_own m laws at w;
+  inside_attempt = λ at w k v q d. inside_attempt m laws at w k v q d;
+  inside_spent = λ at w k q l. inside_spent m laws at w k q l;
+  inside_bit = λ at w a k session has met. inside_bit m laws at session has w a k met;
   inside_stays = λ at c w x d session has met q. inside_stays m laws at session has c w x d met q;
 }

@@ -1,3 +1,6 @@
+ghost use Rattle.std.specs.Prelude.{◌≡◌};
+ghost use Rattle.ritas_base.specs.SlotOrder.{is_slot};
+
 use super::*;
 use layer_api::{Decided, MultiBox, Outcome, Service, VectorBox};
 use ritas_base::{Coin, Mem, Params, Say, Slot};
@@ -16,37 +19,58 @@ impl Coin for Zeros {
     }
 }
 
-// A multi-valued consensus that says nothing, and decides that no value is once it is proposed one.
+// Whether it is the slot of a replica's proposal in this instance.
+fn is_init(slot: &Slot, a: u32, attempt: u8, origin: u8) -> bool
+    ensures { result ≡ is_slot slot.now (record { class = 3; a = a; attempt = attempt; bround = 0; step = 0; origin = origin }) }
+{
+    slot.cmp(&Slot {
+        class: 3,
+        a,
+        attempt,
+        bround: 0,
+        step: 0,
+        origin,
+    })
+    .is_eq()
+}
+
+// A multi-valued consensus that says nothing, and decides that no value is once it heard the proposals of f + 1 replicas: of
+// replica 0, then of replica 1, and so on.
 #[derive(Drop)]
 struct Refuses {
+    a: u32,
+    attempt: u8,
+    f: u8,
+    next: u8,
     asked: bool,
 }
 
 impl MultiBox for Refuses {
-    ghost use Rattle.std.specs.Prelude.{◌≡◌, Bool, true, false, nat_lt, if◌then◌else◌, ◌+◌, [], ◌∷◌, Some, None, refl};
-    ghost use Rattle.std.proofs.Common.{sym, ◌∙◌, ap, arith};
-    ghost use Rattle.std.proofs.lemmas.Bool.{lt-ltb, false≢true};
-    ghost use Rattle.std.proofs.lemmas.Option.{none-some, cond_some};
-    ghost use Rattle.layer_api.specs.Words.{Ask, Hear, asked};
+    ghost use Rattle.std.specs.Prelude.{◌≡◌, ℕ, true, nat_lt, if◌then◌else◌, Some, None, refl};
+    ghost use Rattle.std.proofs.Common.{ap₂};
+    ghost use Rattle.layer_api.specs.Words.{asked};
+    ghost use Rattle.vector_consensus.specs.Refusing.{in_order, refusing, refusing_laws, refusing_agrees};
 
-    ghost stands = { λ b at w. b.asked ≡ nat_lt 0 (asked w) };
+    ghost stands = { λ b at w. (b.a ≡ at.scope.a) × (b.attempt ≡ at.scope.attempt) × (b.f ≡ at.scope.numbers.f)
+        × (b.next ≡ in_order at.scope w) × (b.asked ≡ nat_lt 0 (asked w)) };
 
-    ghost rules = { record {
-      says = λ at w c. [];
-      opens = λ at w s. false;
-      decision = λ at w. if nat_lt 0 (asked w) then Some None else None;
-      inside = λ at w x. None;
-    } };
+    ghost rules = { refusing };
 
     ghost live = { λ b. true };
 
     ghost shown = { λ b. record {
-      opens = λ s. false;
-      decision = if b.asked then Some None else None;
+      opens = λ s. b.asked;
+      decision = if nat_lt b.f b.next then Some None else None;
     } };
 
-    fn new(_alloc: Global, _p: &Params, _me: u8, _a: u32, _attempt: u8) -> Result<Refuses, Mem> {
-        Ok(Refuses { asked: false })
+    fn new(_alloc: Global, p: &Params, _me: u8, a: u32, attempt: u8) -> Result<Refuses, Mem> {
+        Ok(Refuses {
+            a,
+            attempt,
+            f: p.f(),
+            next: 0,
+            asked: false,
+        })
     }
 
     fn propose(&mut self, _alloc: Global, _value: &[u8], _says: &mut Vec<Say>) -> Result<(), Mem> {
@@ -58,19 +82,22 @@ impl MultiBox for Refuses {
         &mut self,
         _alloc: Global,
         _coin: &C,
-        _slot: &Slot,
+        slot: &Slot,
         _value: &[u8],
         _says: &mut Vec<Say>,
     ) -> Result<(), Mem> {
+        if self.next < 32 && is_init(slot, self.a, self.attempt, self.next) {
+            self.next += 1;
+        }
         Ok(())
     }
 
     fn is_open(&self, _slot: &Slot) -> bool {
-        false
+        self.asked
     }
 
     fn decision(&self) -> Decided<'_> {
-        if self.asked {
+        if self.f < self.next {
             Decided::Nothing
         } else {
             Decided::NotYet
@@ -83,28 +110,15 @@ impl MultiBox for Refuses {
 
     ghost shows = { λ b at w stood. (
       refl,
-      record { opens = λ s. refl; decision = ap (λ (t : Bool). if t then Some None else None) stood },
+      record {
+        opens = λ s. stood.4;
+        decision = ap₂ (λ (f n : ℕ). if nat_lt f n then Some None else None) stood.2 stood.3;
+      },
     ) };
 
-    ghost multi_laws = { record {
-      says_new = λ at c w session met. tt;
-      opens_stays = λ at c w s met was. absurd (false≢true was);
-      opens_first = λ at s. refl;
-      decision_first = λ at. refl;
-      decision_stays = λ at c w d met q.
-          elim c as (λ y. (if nat_lt 0 (asked (y ∷ w)) then Some None else None) ≡ Some d) [
-            | Ask v ↦ ap (λ (t : Bool). if t then Some None else None) (lt-ltb 0 (asked w + 1) (Prim.omega arith)) ∙ ap Some (cond_some (nat_lt 0 (asked w)) None d q).1
-            | Hear s v ↦ q
-          ];
-      decision_good = λ at w v session met q. absurd (none-some v (cond_some (nat_lt 0 (asked w)) None (Some v) q).1);
-      inside_stays = λ at c w x d met q. absurd (none-some d q);
-    } };
+    ghost multi_laws = { refusing_laws };
 
-    ghost one_decision = { record {
-      agree = λ at right coins steps enough fed i j d e ci cj q r. sym (cond_some _ None d q).1 ∙ (cond_some _ None e r).1;
-      valid = λ at right coins steps enough fed i v ci q. absurd (none-some v (cond_some _ None (Some v) q).1);
-      insides = λ at right coins steps enough fed i j x d e ci cj q r. absurd (none-some d q);
-    } };
+    ghost one_decision = { refusing_agrees };
 }
 
 fn slot(class: u8, a: u32, attempt: u8, origin: u8) -> Slot {
@@ -119,7 +133,7 @@ fn slot(class: u8, a: u32, attempt: u8, origin: u8) -> Slot {
 }
 
 // Four replicas, of which one may be faulty: the first attempt begins with three proposals, and the second, which is the
-// last, with four.
+// last, with four. In each two replicas' proposals are enough to refuse.
 #[test]
 fn attempts_begin_one_by_one(rt: HostRuntime) {
     one_vector();
@@ -131,14 +145,24 @@ fn attempts_begin_one_by_one(rt: HostRuntime) {
     assert!(rt; vc.propose(rt.alloc(), b"mine", &mut says).is_ok());
     assert!(rt; says.len() == 1 && says[0].slot == slot(2, 7, 0, 2));
     assert!(rt; says[0].value.as_slice() == b"mine".as_slice());
-    for k in 0..4u8 {
-        assert!(rt; vc.is_open(&slot(2, 7, 0, k)) && !vc.is_open(&slot(2, 8, 0, k)));
-        assert!(rt;
-            vc.heard(rt.alloc(), &Zeros, &slot(2, 7, 0, k), &[k], &mut says)
-                .is_ok()
-        );
-        assert!(rt; vc.spent() == (k == 3) && vc.decision().is_none());
-        assert!(rt; !vc.is_open(&slot(3, 7, 0, k)));
+    // the slot that is heard; then whether slots of the two attempts are open, and whether they are spent
+    let cases = [
+        (slot(2, 7, 0, 0), false, false, false),
+        (slot(2, 7, 0, 1), false, false, false),
+        (slot(2, 7, 0, 2), true, false, false),
+        (slot(3, 7, 0, 0), true, false, false),
+        (slot(2, 7, 0, 3), true, false, false),
+        (slot(3, 7, 0, 1), true, true, false),
+        (slot(3, 7, 1, 0), true, true, false),
+        (slot(3, 7, 1, 1), true, true, true),
+    ];
+    for (at, first, last, spent) in cases {
+        assert!(rt; vc.is_open(&at) && !vc.is_open(&Slot { a: 8, ..at }));
+        assert!(rt; vc.heard(rt.alloc(), &Zeros, &at, b"1", &mut says).is_ok());
+        assert_eq!(rt; vc.is_open(&slot(3, 7, 0, 3)), first, "after {at:?}");
+        assert_eq!(rt; vc.is_open(&slot(3, 7, 1, 3)), last, "after {at:?}");
+        assert_eq!(rt; vc.spent(), spent, "after {at:?}");
+        assert!(rt; vc.decision().is_none() && vc.decided_try().is_none());
     }
     assert!(rt; vc.live());
     assert_eq!(rt; says.len(), 1);
@@ -152,14 +176,15 @@ fn an_instance_is_spent(rt: HostRuntime) {
     let mut root: VcRoot<Vc<Refuses>> = VcRoot::new(rt.alloc(), &p, 0).expect(&rt, "memory");
     let mut says: Vec<Say> = Vec::new(rt.alloc());
     assert!(rt; root.input(rt.alloc(), b"mine", &mut says).is_ok());
-    assert!(rt;
-        root.given() && root.is_open(&slot(2, 0, 0, 0)) && root.outcome() == Outcome::Undecided
-    );
-    assert!(rt;
-        root.heard(rt.alloc(), &Zeros, &slot(2, 0, 0, 0), b"mine", &mut says)
-            .is_ok()
-    );
-    assert!(rt; root.outcome() == Outcome::Spent && root.live());
+    assert!(rt; root.given() && root.is_open(&slot(2, 0, 0, 0)));
+    for at in [slot(2, 0, 0, 0), slot(3, 0, 0, 0)] {
+        assert!(rt; root.outcome() == Outcome::Undecided);
+        assert!(rt;
+            root.heard(rt.alloc(), &Zeros, &at, b"mine", &mut says)
+                .is_ok()
+        );
+    }
+    assert!(rt; root.outcome() == Outcome::Spent && root.last_vector().is_none() && root.live());
     assert!(rt;
         root.completed() == 0
             && root.base(0) == 0

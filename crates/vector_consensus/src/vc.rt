@@ -1,6 +1,6 @@
 ghost use Rattle.std.specs.Prelude.{◌≡◌, IfOk};
 ghost use Rattle.std.specs.Option.{option_copied};
-ghost use Rattle.vector_consensus.specs.Stands.{HearsSlot, NearSlot, Keeps, Ends, vector_in};
+ghost use Rattle.vector_consensus.specs.Stands.{HearsSlot, NearSlot, Keeps, Ends, vector_in, as_byte};
 
 use crate::going::Progress;
 use crate::hearing::{hear_proposal, hear_try, start};
@@ -17,6 +17,16 @@ fn vector_in<M: MultiBox>(at: Option<usize>, tries: &[M]) -> Option<&[u8]>
 {
     match tries.get(at?)?.decision() {
         Decided::Value(value) => Some(value),
+        _ => None,
+    }
+}
+
+/// An attempt's number, as a byte.
+fn as_byte(attempt: Option<usize>) -> Option<u8>
+    ensures { result ≡ as_byte attempt }
+{
+    match attempt {
+        Some(k) if k < 256 => Some(k as u8),
         _ => None,
     }
 }
@@ -101,7 +111,7 @@ impl<M: MultiBox> Vc<M> {
 impl<M: MultiBox> VectorBox for Vc<M> {
     ghost use Rattle.vector_consensus.specs.Consensus.{vectors};
     ghost use Rattle.vector_consensus.specs.ValueLaws.{vector_laws_law};
-    ghost use Rattle.vector_consensus.specs.Agreement.{one_vector_law};
+    ghost use Rattle.vector_consensus.specs.OneVectorLaw.{one_vector_law};
     ghost use Rattle.vector_consensus.specs.Stands.{Stands, shown_by, shows_vector};
 
     ghost stands = { Stands M.stands M.rules };
@@ -159,6 +169,10 @@ impl<M: MultiBox> VectorBox for Vc<M> {
 
     fn decision(&self) -> Option<&[u8]> {
         vector_in(self.place.decided, &self.tries)
+    }
+
+    fn decided_try(&self) -> Option<u8> {
+        as_byte(self.place.decided)
     }
 
     fn spent(&self) -> bool {

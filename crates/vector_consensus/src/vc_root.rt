@@ -91,6 +91,10 @@ impl<V: VectorBox> Service for VcRoot<V> {
         }
     }
 
+    fn last_vector(&self) -> Option<(u32, u8, &[u8])> {
+        Some((0, self.inner.decided_try()?, self.inner.decision()?))
+    }
+
     fn live(&self) -> bool {
         self.inner.live()
     }

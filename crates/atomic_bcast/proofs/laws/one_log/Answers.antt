@@ -1,5 +1,6 @@
 use Rattle.atomic_bcast.specs.RoundLog.{one_log_law, vectors_agree}
 use Rattle.atomic_bcast.specs.RoundLogs.{done_distinct}
+use Rattle.atomic_bcast.proofs.Appending.{appends_proposed}
 use Rattle.atomic_bcast.proofs.laws.one_log.Goals as goal
 
 pub returns-clause-log : goal.returns-clause-log
@@ -10,3 +11,6 @@ returns-clause-once c = done_distinct
 
 pub returns-clause-vectors : goal.returns-clause-vectors
 returns-clause-vectors c = vectors_agree
+
+pub returns-clause-proposed : goal.returns-clause-proposed
+returns-clause-proposed c = appends_proposed

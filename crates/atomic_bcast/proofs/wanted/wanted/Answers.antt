@@ -1,13 +1,14 @@
 use Rattle.std.proofs.Common.{◌≡◌, ◌∙◌, ◌+◌, ap, ℕ, nat_le}
 use Rattle.std.proofs.lemmas.Result.{IfOk-weaker}
 use Rattle.atomic_bcast.specs.Identifiers.{kept, in_order}
-use Rattle.atomic_bcast.specs.Rounds.{backers, entry_ids, lists_in, wanted}
+use Rattle.atomic_bcast.specs.Rounds.{backers, entry_ids, wanted}
 use Rattle.atomic_bcast.proofs.wanted.wanted.Goals as goal
+use Rattle.frame_codec.specs.Values.{entries_of}
 
 pub returns : goal.returns
 returns c =
     let vector = c.args.vector.now in
-    let lists = lists_in vector in
+    let lists = entries_of vector in
     IfOk-weaker c.with_backers.result _ (λ ids. ids.items ≡ wanted c.args.p.now vector)
     (λ ids had.
     had lists c.in_ok-noted.ensures ∙ ap (λ (f : ℕ). kept (λ x. nat_le (f + 1) (backers lists x)) (in_order (entry_ids lists))) c.f.ensures.value)

@@ -1,4 +1,5 @@
 use Rattle.frame_codec.specs.ColumnLaws.{vector_again}
+use Rattle.frame_codec.specs.EntryCounts.{entries_by_place}
 use Rattle.frame_codec.specs.VectorLaws.{vector_written, vector_is}
 use Rattle.frame_codec.proofs.laws.vector_law.Goals as goal
 
@@ -10,3 +11,6 @@ returns-clause-read c = vector_is
 
 pub returns-clause-again : goal.returns-clause-again
 returns-clause-again c = vector_again
+
+pub returns-clause-counted : goal.returns-clause-counted
+returns-clause-counted c = entries_by_place

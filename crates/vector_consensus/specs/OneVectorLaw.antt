@@ -1,0 +1,17 @@
+-- The law of one vector of vector consensus.
+use Rattle.layer_api.specs.Multi.{MultiRules, MultiLaws, OneDecision}
+use Rattle.layer_api.specs.Vectors.{OneVector}
+use Rattle.vector_consensus.specs.Consensus.{vectors}
+use Rattle.vector_consensus.specs.Agreement.{agree, same_attempt}
+use Rattle.vector_consensus.specs.LastAttempt.{unspent}
+use Rattle.vector_consensus.specs.EntryLaws.{entry_asked}
+use Rattle.vector_consensus.specs.SameInside.{same_inside}
+
+pub one_vector_law : (m : MultiRules) → MultiLaws m → OneDecision m → OneVector (vectors m)
+one_vector_law m laws one = record {
+  agree = λ at is_correct coins xs enough has fed. agree m laws one at is_correct coins xs enough has fed;
+  attempts = λ at is_correct coins xs enough has fed. same_attempt m laws one at is_correct coins xs enough has fed;
+  unspent = λ at is_correct coins xs enough has fed. unspent m laws one at is_correct coins xs enough has fed;
+  entries = λ at is_correct coins xs enough has fed. entry_asked m laws one at is_correct coins xs enough has fed;
+  insides = λ at is_correct coins xs enough has fed. same_inside m laws one at is_correct coins xs enough has fed;
+}
