@@ -8,3 +8,4 @@ pub mod Passing
 pub mod Opened
 pub mod Made
 pub mod Fresh
+mod Isolated

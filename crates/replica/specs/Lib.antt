@@ -6,5 +6,7 @@ pub mod CommandRows
 pub mod Replica
 pub mod Steps
 pub mod Laws
+pub mod Isolation
+pub mod IsolationRows
 pub mod Rows
 pub mod MovesLaws

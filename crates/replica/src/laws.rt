@@ -1,4 +1,5 @@
 ghost use Rattle.replica.specs.Laws.{MadeByEntry, MadeInAll, MadeLength};
+ghost use Rattle.replica.specs.Isolation.{Isolates, UnopenedIsNothing, Confines};
 
 /// A law: the frames that an entry makes for another replica are those for it among the frames that go out by the entry.
 pub fn made_by_entry()
@@ -13,4 +14,13 @@ pub fn made_length()
 /// A law: an entry makes as many frames as go out by it.
 pub fn made_in_all()
     ensures { MadeInAll }
+{}
+
+/// A law: peers are isolated from each other. What a frame is answered and the frames that it makes are the same in any two
+/// states of one history in which the same items are held for its sender, both stopped or neither. A frame that doesn't open
+/// changes nothing, and one that isn't taken leaves the history, what waits, and what is held for every other peer.
+pub fn isolation()
+    ensures isolates { Isolates }
+    ensures unopened { UnopenedIsNothing }
+    ensures confines { Confines }
 {}

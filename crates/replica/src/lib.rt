@@ -11,7 +11,8 @@
 //! the frames, in which a state is the history of what the core took, what waits and what is held. Each call on
 //! `Replica` does what that says, for every state that its value stands for (`specs/Replica.antt`). Which frames were
 //! made, and how many, follows from the history alone (`specs/Frames.antt`, and the laws [`made_by_entry`],
-//! [`made_length`] and [`made_in_all`]).
+//! [`made_length`] and [`made_in_all`]). What other peers sent, and what is held for them, changes nothing of what a peer's
+//! frame does (`specs/Isolation.antt`, the clauses `isolated` of `on_frame` and `on_opened`, and the law [`isolation`]).
 #![tactic(auto)]
 
 mod following;
@@ -24,6 +25,6 @@ mod sending;
 mod tests;
 
 pub use frame::OutFrame;
-pub use laws::{made_by_entry, made_in_all, made_length};
+pub use laws::{isolation, made_by_entry, made_in_all, made_length};
 pub use refusal::Refusal;
 pub use replica::Replica;

@@ -35,6 +35,7 @@ impl<S: Service, E: Broadcast, C: Coin + Drop> Replica<S, E, C> {
     ghost use Rattle.replica.specs.Handling.{Frame, Input, Turn};
     ghost use Rattle.replica.specs.Stands.{DoesAll, DoesOpened, frames_made};
     ghost use Rattle.replica.specs.Replica.{ReplicaStands, StandsAhead, with_keys};
+    ghost use Rattle.replica.specs.Isolation.{IsIsolated, IsOpenedIsolated};
     ghost use Rattle.replica.specs.Steps.{ReadsOpened, PutsOut, SameRest, SameCore, FeedsOnly, FeedsSome, Feeds, Finishes};
     ghost use Rattle.layer_api.specs.Service.{IsPart};
     ghost use Rattle.replica.specs.CommandRows.{rows_at};
@@ -152,14 +153,19 @@ impl<S: Service, E: Broadcast, C: Coin + Drop> Replica<S, E, C> {
     /// `Body(Mem)` does too. After `Core(Mem)` `out` is as before, and so is the replica where the item was to be held;
     /// where it was to be taken, its log fed or a frame sealed, the replica is stopped, and refuses every later item as
     /// `Stopped`.
+    ///
+    /// Want of memory aside, what is answered and put out goes by the replica's history and by what is held for the frame's
+    /// sender alone: it is the same in each state that has these two, whatever others sent and whatever is held for them.
     pub fn on_frame(
         &mut self,
         alloc: Global,
         bytes: &[u8],
         out: &mut Vec<OutFrame>,
     ) -> Result<Answer, Refusal>
-        ensures { DoesAll (ReplicaStands (with_keys S.stands S.rules S.shown E.stands E.rules E.shown C.bits))
+        ensures does { DoesAll (ReplicaStands (with_keys S.stands S.rules S.shown E.stands E.rules E.shown C.bits))
             self.old self.new (Frame bytes.now) out.old.items out.new.items result }
+        ensures isolated { IsIsolated (ReplicaStands (with_keys S.stands S.rules S.shown E.stands E.rules E.shown C.bits))
+            self.old bytes.now out.old.items out.new.items result }
     {
         match self.core.tagger().open(bytes) {
             Ok(opened) => self.on_opened(alloc, opened.from, opened.body, out),
@@ -173,7 +179,8 @@ impl<S: Service, E: Broadcast, C: Coin + Drop> Replica<S, E, C> {
     ///
     /// `Body` is answered exactly where the body spells no item, also once the replica is stopped, and `Core` where the
     /// core refuses the item: each leaves the replica and `out` as they were. `Body(Mem)` and `Core(Mem)` are as in
-    /// `on_frame`, and `Open` doesn't come.
+    /// `on_frame`, and `Open` doesn't come. What is answered and put out goes by the history and by what is held for the
+    /// sender alone, as in `on_frame`.
     pub fn on_opened(
         &mut self,
         alloc: Global,
@@ -181,8 +188,10 @@ impl<S: Service, E: Broadcast, C: Coin + Drop> Replica<S, E, C> {
         body: &[u8],
         out: &mut Vec<OutFrame>,
     ) -> Result<Answer, Refusal>
-        ensures { DoesOpened (ReplicaStands (with_keys S.stands S.rules S.shown E.stands E.rules E.shown C.bits))
+        ensures does { DoesOpened (ReplicaStands (with_keys S.stands S.rules S.shown E.stands E.rules E.shown C.bits))
             self.old self.new from body.now out.old.items out.new.items result }
+        ensures isolated { IsOpenedIsolated (ReplicaStands (with_keys S.stands S.rules S.shown E.stands E.rules E.shown C.bits))
+            self.old from body.now out.old.items out.new.items result }
     {
         let item = self.read(alloc, from, body)?;
         if self.stopped {
@@ -249,8 +258,8 @@ impl<S: Service, E: Broadcast, C: Coin + Drop> Replica<S, E, C> {
         self.core.tagger().keys()
     }
 
-    /// The core. It stands for the replica's state, but where the replica was without memory to seal a frame: there the core
-    /// is ahead by what the replica lost. What it tags with is the replica's channel.
+    /// The core. It stands for the replica's state; but where the replica is stopped it may be ahead of it, by what the call
+    /// that stopped the replica was to take.
     pub fn core(&self) -> &Core<S, E, C, Channel>
         ensures live { (r : Rules) (k : KeyRow) (st : CoreState)
             → ReplicaStands (with_keys S.stands S.rules S.shown E.stands E.rules E.shown C.bits) self.now r k st

@@ -1,0 +1,73 @@
+-- What is answered to a frame, and the frames that it makes, go by the history and by what is held for its sender alone: what other
+-- peers sent and what is held for them changes neither.
+use Rattle.std.specs.Prelude.{◌≡◌, ◌≢◌, ℕ, List, ◌++◌, Result, Ok, Err, ⊤}
+use Rattle.frame_codec.specs.declared.fault.BodyFault.TheVariants as body
+use Rattle.keyed_channel.specs.KeyRow.{KeyRow}
+use Rattle.keyed_channel.specs.Frames.{Opening, opening}
+use Rattle.keyed_channel.specs.declared.frame.OpenFault.{OpenFault}
+use Rattle.ooc_buffers.specs.Lists.{kept_of}
+use Rattle.ritas_core.specs.declared.answer.Answer.{Answer}
+use Rattle.ritas_core.specs.declared.answer.Answer.TheVariants as answers
+use Rattle.ritas_core.specs.declared.fault.CoreFault.TheVariants as faults
+use Rattle.ritas_core.specs.Rules.{Rules}
+use Rattle.ritas_core.specs.Machine.{CoreState}
+use Rattle.replica.specs.declared.frame.OutFrame.{OutFrame}
+use Rattle.replica.specs.declared.refusal.Refusal.{Refusal}
+use Rattle.replica.specs.declared.refusal.Refusal.TheVariants as refusals
+use Rattle.replica.specs.Handling.{Frame, Handled, handled, refused}
+
+-- ---- what a frame does
+
+-- two states that a peer can't tell apart: of one history, with the same items held for this peer, and both stopped or neither
+pub record AreAlike (peer : ℕ) (a b : CoreState) : Type 0 where
+  pub live : a.live ≡ b.live
+  pub history : a.history ≡ b.history
+  pub held : kept_of a.held peer ≡ kept_of b.held peer
+
+-- to the sender of a frame that opens; one that doesn't open has no sender
+abbrev pub AreAlikeTo : KeyRow → List ℕ → CoreState → CoreState → Type 0
+AreAlikeTo k bytes a b = (o : Opening) → opening k bytes ≡ Ok o → AreAlike o.from a b
+
+pub record SameOutcome (a b : Handled) : Type 0 where
+  pub answer : a.answer ≡ b.answer
+  pub out : a.out ≡ b.out
+
+-- the answer to a frame and the frames that it makes are one in states that are alike to its sender
+abbrev pub Isolates : Type 0
+Isolates = (r : Rules) (k : KeyRow) (a b : CoreState) (bytes : List ℕ) → AreAlikeTo k bytes a b
+    → SameOutcome (handled r k a (Frame bytes)) (handled r k b (Frame bytes))
+
+-- a frame that doesn't open changes nothing, and makes nothing
+abbrev pub UnopenedIsNothing : Type 0
+UnopenedIsNothing = (r : Rules) (k : KeyRow) (st : CoreState) (bytes : List ℕ) (fault : OpenFault) → opening k bytes ≡ Err fault
+    → handled r k st (Frame bytes) ≡ refused st (refusals.Open fault)
+
+-- what a peer's frame that isn't taken leaves: the history, what waits, and what is held for any other peer
+pub record IsConfined (peer : ℕ) (old new : CoreState) : Type 0 where
+  pub history : new.history ≡ old.history
+  pub inbox : new.inbox ≡ old.inbox
+  pub held : (j : ℕ) → j ≢ peer → kept_of new.held j ≡ kept_of old.held j
+
+abbrev pub Confines : Type 0
+Confines = (r : Rules) (k : KeyRow) (st : CoreState) (bytes : List ℕ) (o : Opening) → opening k bytes ≡ Ok o
+    → (handled r k st (Frame bytes)).answer ≢ Ok answers.Took → IsConfined o.from st (handled r k st (Frame bytes)).state
+
+-- ---- what a call on a replica did
+
+-- want of memory aside, the call answered and put out what this handling does
+abbrev pub IsAs : Handled → List OutFrame → List OutFrame → Result Answer Refusal → Type 0
+IsAs h before after (Err (refusals.Core faults.Mem)) = ⊤
+IsAs h before after (Err (refusals.Body body.Mem)) = ⊤
+IsAs h before after result = (result ≡ h.answer) × (after ≡ before ++ h.out)
+
+-- in what follows, Stands is what a replica's value stands for
+-- the frame did what it does in every state that is alike to its sender
+abbrev pub IsIsolated : {R : Type 0} → (R → Rules → KeyRow → CoreState → Type 0) → R → List ℕ → List OutFrame → List OutFrame → Result Answer Refusal → Type 0
+IsIsolated Stands old bytes before after result = (r : Rules) (k : KeyRow) (st other : CoreState) → Stands old r k st
+    → AreAlikeTo k bytes st other → IsAs (handled r k other (Frame bytes)) before after result
+
+-- the same of each frame that opens as from this sender with this body, whatever its number
+abbrev pub IsOpenedIsolated : {R : Type 0} → (R → Rules → KeyRow → CoreState → Type 0) → R → ℕ → List ℕ → List OutFrame → List OutFrame → Result Answer Refusal → Type 0
+IsOpenedIsolated Stands old from body before after result = (r : Rules) (k : KeyRow) (st other : CoreState) → Stands old r k st
+    → AreAlike from st other → (bytes : List ℕ) (seq : ℕ) → opening k bytes ≡ Ok (record { from = from; seq = seq; body = body })
+    → IsAs (handled r k other (Frame bytes)) before after result
