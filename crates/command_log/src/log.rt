@@ -1,7 +1,7 @@
-ghost use Rattle.std.specs.Prelude.{◌≡◌, ℕ, ◌+◌, ◌<◌, ◌≤◌, ◌↔◌, [], length, take, drop, reverse, Some, IfOk, OnOk, OnErr};
+ghost use Rattle.std.specs.Prelude.{◌≡◌, ℕ, ◌+◌, ◌<◌, ◌≤◌, ◌↔◌, false, [], length, take, drop, reverse, Some, IfOk, OnOk, OnErr};
 ghost use Rattle.std.specs.Option.{option_copied};
 ghost use Rattle.std.specs.Int.{w32, from_be_bytes};
-ghost use Rattle.command_log.specs.Rows.{Entry, Row, row_at, position_of, with_entry, entered, HasPlace};
+ghost use Rattle.command_log.specs.Rows.{Entry, Row, client_of, request_of, has_row, row_at, position_of, with_entry, entered, HasPlace};
 ghost use Rattle.command_log.specs.Index.{key_of};
 
 use crate::row::LogRow;
@@ -74,13 +74,15 @@ impl Log {
     ///
     /// `None` is answered exactly where they have a row; then the log stays as it was. The command has its client's
     /// number and its request's, of four bytes each, the most significant first, and then its payload. The log has at
-    /// most 4,294,967,295 rows. The one error is want of memory, after which the log is as it was.
+    /// most 4,294,967,295 rows. The one error is want of memory, after which the log is as it was; it comes only where
+    /// there is a row to enter.
     pub fn append(&mut self, alloc: Global, id: Id, command: &[u8]) -> Result<Option<u32>, Mem>
         requires long { 8 ≤ length command.now }
         requires room { length self.old < 4294967295 }
         ensures position { IfOk result (λ position. position ≡ entered (record { id = id; command = command.now }) self.old) }
         ensures ok { OnOk result (self.new ≡ with_entry (record { id = id; command = command.now }) self.old) }
         ensures err { OnErr result (self.new ≡ self.old) }
+        ensures only { OnErr result (has_row self.old (client_of command.now) (request_of command.now) ≡ false) }
     {
         let client = number(command, 0);
         let request = number(command, 4);

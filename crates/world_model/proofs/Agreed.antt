@@ -64,6 +64,11 @@ agree_of w es sound one holds =
             from.1,
             asked_given (rules_at w from.0) (history_of w es from.0) v (subst (λ (ws : List Word). Has ws (Ask v)) (x.same from.0 from.1) from.2),
           );
+      unspent = λ i correct out.
+          one.unspent w.numbers w.mode w.is_correct w.coin x.steps run i correct (ap (w.service.outcome (seat_of (rules_at w i))) (x.same i correct) ∙ out);
+      last_vectors = λ i j u v left right last_i last_j same.
+          one.last_vectors w.numbers w.mode w.is_correct w.coin x.steps run i j u v left right
+          (ap (w.service.last (seat_of (rules_at w i))) (x.same i left) ∙ last_i) (ap (w.service.last (seat_of (rules_at w j))) (x.same j right) ∙ last_j) same;
     }
 
 -- and of every world

@@ -3,7 +3,7 @@ use Rattle.std.proofs.Common.{◌≡◌, List, [], ◌∷◌, ◌++◌, length, 
 use Rattle.std.proofs.lemmas.List.{length-append}
 use Rattle.layer_api.specs.Service.{IsPart}
 use Rattle.world_model.specs.Agree.{rows_at, log_of}
-use Rattle.world_model.specs.Apart.{NoTwoValues, NoTwoRows, NoTwoIdentifierLogs, NoTwoOutcomes, NoTwoDecisions}
+use Rattle.world_model.specs.Apart.{NoTwoValues, NoTwoRows, NoTwoIdentifierLogs, NoTwoOutcomes, NoTwoDecisions, NoTwoVectors}
 use Rattle.world_model.proofs.Positions.{one_row}
 
 -- a part that is as long is the whole
@@ -34,3 +34,6 @@ no_two_outcomes w es agree i j two d e differ out_i out_j = differ (agree.outcom
 
 pub no_two_decisions : NoTwoDecisions
 no_two_decisions w es agree i j two x d e differ out_i out_j = differ (agree.decisions i j x d e two.first two.second out_i out_j)
+
+pub no_two_vectors : NoTwoVectors
+no_two_vectors w es agree i j two x y differ round out_i out_j = differ (agree.last_vectors i j x y two.first two.second out_i out_j round)

@@ -30,13 +30,15 @@ use Rattle.replica.specs.declared.refusal.Refusal.{Refusal}
 use Rattle.replica.specs.declared.refusal.Refusal.TheVariants as refusals
 use Rattle.replica.specs.declared.replica.Replica.{Replica}
 use Rattle.replica.specs.Handling.{Call, Frame, Input, Turn, handled, given_frame, given_body}
-use Rattle.replica.specs.Stands.{Handles, RunsOut, ReadsNone, DoesAll, DoesOpened}
+use Rattle.replica.specs.Stands.{Handles, RunsOut, ReadsNone, DoesAll, DoesOpened, body_given, frame_given, core_call}
 use Rattle.replica.specs.Replica.{ReplicaStands}
 use Rattle.world_model.specs.declared.seen.Seen.{Seen}
 use Rattle.world_model.specs.declared.seen.Seen.TheVariants as seen_as
 use Rattle.world_model.specs.World.{Setting, rules_at, CallAt, call_at, handled_at, after_call, seen_answer}
 use Rattle.world_model.specs.Stands.{StandsAt, IsReplica, IsLeft, ReplicasStand}
 use Rattle.world_model.specs.Steps.{Calls, CallsOr, Sees, IsWant}
+use Rattle.world_model.specs.Needs.{CoreNeeds, CallNeeds}
+use Rattle.world_model.proofs.Needs.{core_needed}
 use Rattle.world_model.proofs.Left.{none_past, get_set_same, get_set_other, left_called}
 
 -- ---- what isn't stopped goes on
@@ -83,10 +85,10 @@ handled_live r k st Turn live = moved_goes_on r st core.Turn live
 
 -- ---- a call at a place
 
-faulty_call : (w : Setting) (at : ℕ) (call : Call) → w.is_correct at ≡ false → call_at w at call ≡ None
+pub faulty_call : (w : Setting) (at : ℕ) (call : Call) → w.is_correct at ≡ false → call_at w at call ≡ None
 faulty_call w at call faulty = ap (λ b. if b then Some (record { at = at; call = call }) else None) faulty
 
-correct_call : (w : Setting) (at : ℕ) (call : Call) → w.is_correct at ≡ true → call_at w at call ≡ Some (record { at = at; call = call })
+pub correct_call : (w : Setting) (at : ℕ) (call : Call) → w.is_correct at ≡ true → call_at w at call ≡ Some (record { at = at; call = call })
 correct_call w at call right = ap (λ b. if b then Some (record { at = at; call = call }) else None) right
 
 -- nothing happens where no correct replica is
@@ -165,10 +167,25 @@ answered {S = S} {E = E} {C = C} m w states at call replicas old new before afte
 -- it was without memory, and is as it was, or stopped
 wants : {S E C : Type 0} (m : Meaning S E C KeyRow) (w : Setting) (states : ℕ → CoreState) (at : ℕ) (call : Call) (replicas : List (Option (Replica S E C))) (old new : Replica S E C) (before after : List OutFrame) (result : Result Seen Mem) →
     ReplicasStand m w states replicas → slice_get replicas at ≡ Some (Some old)
-    → IsLeft m w states (after_call w states (call_at w at call)) (call_at w at call) at new → IsWant result → CallsOr m w states (call_at w at call) (slice_set replicas at (Some new)) before after result
-wants m w states at call replicas old new before after (Ok seen) stand there left want = absurd want
-wants m w states at call replicas old new before after (Err mem) stand there left want =
-    left_called m w states (after_call w states (call_at w at call)) (call_at w at call) at replicas old new stand there left
+    → IsLeft m w states (after_call w states (call_at w at call)) (call_at w at call) at new → CoreNeeds (rules_at w at) (states at) (core_call (rules_at w at) (w.keys at) call) → IsWant result
+    → CallsOr m w states (call_at w at call) (slice_set replicas at (Some new)) before after result
+wants m w states at call replicas old new before after (Ok seen) stand there left needs want = absurd want
+wants m w states at call replicas old new before after (Err mem) stand there left needs want = (
+  left_called m w states (after_call w states (call_at w at call)) (call_at w at call) at replicas old new stand there left,
+  subst (CallNeeds w states) (sym (correct_call w at call (stand.each at (Some old) there).correct)) needs,
+)
+
+-- it needed memory
+step_needs : {S E C : Type 0} (m : Meaning S E C KeyRow) (new : Replica S E C) (call : Call) (before after : List OutFrame) (r : Rules) (k : KeyRow) (st : CoreState) →
+    RunsOut (ReplicaStands m) new call before after r k st → CoreNeeds r st (core_call r k call)
+step_needs m new call before after r k st did =
+    subst (CoreNeeds r st) (sym did.given) (core_needed r st did.what (elim did.state [ inl held ↦ inl held.0 | inr step ↦ inr step.0 ]))
+
+read_needs : {S E C : Type 0} (m : Meaning S E C KeyRow) (new : Replica S E C) (call : Call) (before after : List OutFrame) (r : Rules) (k : KeyRow) (st : CoreState) →
+    ReadsNone (ReplicaStands m) new call before after r k st → CoreNeeds r st (core_call r k call)
+read_needs m new call before after r k st did =
+    let given : core_call r k call ≡ Some (core.Frame did.item) = ap (core_call r k) did.frame ∙ ap (frame_given r) did.opens ∙ ap body_given did.spells in
+    subst (CoreNeeds r st) (sym given) tt
 
 ran_out : {S E C : Type 0} (m : Meaning S E C KeyRow) (w : Setting) (states : ℕ → CoreState) (at : ℕ) (call : Call) (old new : Replica S E C) (before after : List OutFrame) →
     IsReplica m w states at old → RunsOut (ReplicaStands m) new call before after (rules_at w at) (w.keys at) (states at)
@@ -195,13 +212,14 @@ called : {S E C : Type 0} (m : Meaning S E C KeyRow) (w : Setting) (states : ℕ
     → Sees answer result → CallsOr m w states (call_at w at call) (slice_set replicas at (Some new)) before after result
 called m w states at call replicas old new before after (Err (refusals.Core faults.Mem)) result stand there does saw =
     let is : IsReplica m w states at old = stand.each at (Some old) there in
-    wants m w states at call replicas old new before after result stand there
-    (ran_out m w states at call old new before after is (does (rules_at w at) (w.keys at) (states at) is.stands)) saw
+    let did : RunsOut (ReplicaStands m) new call before after (rules_at w at) (w.keys at) (states at) = does (rules_at w at) (w.keys at) (states at) is.stands in
+    wants m w states at call replicas old new before after result stand there (ran_out m w states at call old new before after is did)
+    (step_needs m new call before after (rules_at w at) (w.keys at) (states at) did) saw
 called m w states at call replicas old new before after (Err (refusals.Body body.Mem)) result stand there does saw =
     let is : IsReplica m w states at old = stand.each at (Some old) there in
     let did : ReadsNone (ReplicaStands m) new call before after (rules_at w at) (w.keys at) (states at) = does (rules_at w at) (w.keys at) (states at) is.stands in
     wants m w states at call replicas old new before after result stand there
-    (inl (record { correct = is.correct; stands = did.state; live = is.live })) saw
+    (inl (record { correct = is.correct; stands = did.state; live = is.live })) (read_needs m new call before after (rules_at w at) (w.keys at) (states at) did) saw
 called m w states at call replicas old new before after answer result stand there does saw =
     answered m w states at call replicas old new before after answer result stand there does saw
 

@@ -1,5 +1,5 @@
 -- The byte that a body begins with, and the item at the front of an inbox.
-use Rattle.std.proofs.Common.{◌≡◌, ℕ, ◌<◌, Bool, true, false, ◌==◌, ◌||◌, Option, Some, None, Ok, List, [], ◌∷◌, length, slice_index, slice_index_or, refl, sym, ◌∙◌, ap, subst, arith, if◌then◌else◌}
+use Rattle.std.proofs.Common.{◌≡◌, ◌≢◌, ℕ, ◌<◌, Bool, true, false, ◌==◌, ◌||◌, Option, Some, None, is_some, Ok, List, [], ◌∷◌, length, slice_index, slice_index_or, refl, sym, ◌∙◌, ap, subst, arith, if◌then◌else◌}
 use Rattle.std.specs.List.{slice_get}
 use Rattle.std.proofs.lemmas.Bool.{eqb-true}
 use Rattle.std.proofs.lemmas.Option.{slice_get-get_or}
@@ -60,6 +60,10 @@ pub front_is : (w : Setting) (states : ℕ → CoreState) (at : ℕ) (front foun
 front_is w states at front found good is looked =
     let all : front ≡ watched (front_of (states at).inbox) = looked ∙ ap watched is in
     record { is = all; good = subst (λ (o : Option Item). IsGoodIf w o) (sym all) (good_front w at (states at).inbox good) }
+
+pub front_waits : (waiting : List Item) → is_some (front_of waiting) ≡ true → waiting ≢ []
+front_waits [] some = absurd cc
+front_waits (item ∷ waiting) some = λ e. cc
 
 -- the replica at its place
 pub replica_there : {S E C : Type 0} (m : Meaning S E C KeyRow) (w : Setting) (states : ℕ → CoreState) (at place : ℕ) (replicas : List (Option (Replica S E C))) (here : Option (Replica S E C)) (rep : Replica S E C) →

@@ -1,6 +1,6 @@
 -- A world after one event more.
 use Rattle.std.proofs.Common.{◌≡◌, ℕ, ◌+◌, ◌-◌, ◌<◌, ◌%◌, ◌^◌, Bool, true, false, not, ◌&&◌, ◌≤◌, List, ◌∷◌, ◌++◌, length, Option, Some, None, Result, Ok, Err, Bor, refl, sym, ◌∙◌, ap, ap₂, subst, arith, slice_index_or}
-use Rattle.std.specs.Result.{IsErr}
+use Rattle.std.specs.Result.{IsErr, OnErr}
 use Rattle.std.specs.List.{slice_get}
 use Rattle.std.specs.Option.{MatchOption, option_copied}
 use Rattle.std.proofs.lemmas.Option.{slice_get-get_or}
@@ -24,6 +24,7 @@ use Rattle.world_model.specs.MadeOrder.{frames_in, all_made}
 use Rattle.world_model.specs.FramesMade.{MadeTable, IsOrderOf, with_frames}
 use Rattle.world_model.specs.Stands.{EventDoes, NoneStops, SeatsStand, StandsAt, IsReplica, ReplicasStand, ReplicasLeft, FramesStand, WorldStands, WorldStopped, Seeing}
 use Rattle.world_model.specs.Watch.{IsAt, IsTold, WatchStands, verdict_after}
+use Rattle.world_model.specs.Needs.{EventNeeds}
 use Rattle.world_model.specs.Steps.{frames_out, Happens}
 use Rattle.world_model.proofs.AtPlaces.{past_is_faulty}
 use Rattle.world_model.proofs.TableAfter.{table_after}
@@ -125,9 +126,9 @@ pub record IsHalted {S E C : Type 0} (old new : World S E C) : Type 0 where
 
 pub halts : {S E C : Type 0} (m : Meaning S E C KeyRow) (old new : World S E C) (w : Setting) (es : List Event) (e : Event) (places : List (Option (Replica S E C))) →
     WorldStands m old w es → ReplicasLeft m w (states_before w es) (after_call w (states_before w es) (call_of w (states_before w es) e)) (call_of w (states_before w es) e) places
-    → (length places ≡ length old.replicas.items → new.replicas.items ≡ places) → IsHalted old new → WorldStopped m new w es e
+    → EventNeeds w (states_before w es) e → (length places ≡ length old.replicas.items → new.replicas.items ≡ places) → IsHalted old new → WorldStopped m new w es e
 unfolding states_of
-halts {S = S} {E = E} {C = C} m old new w es e places stand left same halted =
+halts {S = S} {E = E} {C = C} m old new w es e places stand left needs same halted =
     let P : Seats → Type 0 = λ x. SeatsStand w x in
     let Q : MadeTable → Type 0 = λ t. FramesStand w (states_of w es) t in
     let R : List (Option (Replica S E C)) → Type 0 = λ xs. ReplicasLeft m w (states_of w es) (states_of w (e ∷ es)) (call_of w (states_of w es) e) xs in
@@ -141,12 +142,18 @@ halts {S = S} {E = E} {C = C} m old new w es e places stand left same halted =
       events = halted.events ∙ stand.events;
       verdict = halted.verdict ∙ stand.watch.found;
       live = halted.live;
+      needs = subst (λ (states : ℕ → CoreState). EventNeeds w states e) (sym (found_as_left w es stand.going)) needs;
     }
 
 pub event_stops : {S E C : Type 0} (m : Meaning S E C KeyRow) (new : World S E C) (w : Setting) (es : List Event) (e : Event) (result : Result Seen Mem) →
     IsErr result → WorldStopped m new w es e → EventDoes m new w es e result
 event_stops m new w es e (Ok seen) err stopped = absurd (cc)
 event_stops m new w es e (Err mem) err stopped = stopped
+
+pub event_needed : {S E C : Type 0} (m : Meaning S E C KeyRow) (new : World S E C) (w : Setting) (es : List Event) (e : Event) (result : Result Seen Mem) →
+    EventDoes m new w es e result → OnErr result (EventNeeds w (states_of w es) e)
+event_needed m new w es e (Ok seen) does = tt
+event_needed m new w es e (Err mem) does = does.needs
 
 -- ---- the replica at a place
 

@@ -1,5 +1,5 @@
 -- What an event does to the replicas of a world.
-use Rattle.std.proofs.Common.{◌≡◌, ◌≢◌, ℕ, ◌<◌, ◌≤◌, Bool, true, false, not, ◌&&◌, List, [], ◌++◌, length, reverse, Option, Some, None, Result, refl, sym, ◌∙◌, ap, subst, if◌then◌else◌, slice_index_or}
+use Rattle.std.proofs.Common.{◌≡◌, ◌≢◌, ℕ, ◌<◌, ◌≤◌, Bool, true, false, not, ◌&&◌, List, [], ◌++◌, length, reverse, Option, Some, None, Result, Ok, Err, refl, sym, ◌∙◌, ap, subst, if◌then◌else◌, slice_index_or}
 use Rattle.std.specs.List.{slice_get}
 use Rattle.std.proofs.lemmas.Bool.{ne_eqb}
 use Rattle.std.proofs.lemmas.Option.{slice_get-get_or, slice_get_past}
@@ -25,9 +25,12 @@ use Rattle.world_model.specs.Watch.{IsAt, is_forged_frame}
 use Rattle.world_model.specs.FramesMade.{MadeTable, made_in}
 use Rattle.world_model.specs.Stands.{SeatsStand, ReplicasStand, FramesStand, frames_from}
 use Rattle.ritas_base.specs.Events.{MayHappen}
-use Rattle.world_model.specs.Steps.{Calls, frames_out, is_took, IsFront, IsFrameItem, Happens, HappensOr, is_opened}
+use Rattle.world_model.specs.Steps.{Calls, frames_out, is_took, IsFront, IsFrameItem, Happens, CallHappens, EventHappens, is_opened}
+use Rattle.keyed_channel.specs.Frames.{sealed}
+use Rattle.world_model.proofs.AtPlaces.{faulty_call}
 use Rattle.world_model.proofs.Forging.{IsFound, forged_is}
 use Rattle.world_model.proofs.Members.{got_listed}
+use Rattle.world_model.proofs.Needs.{event_needs}
 use Rattle.world_model.proofs.Takings.{IsItemOf, good_none, frame_item_is, input_item_is, turn_item_is}
 
 at_either : (w : Setting) (at : ℕ) (call : Call) (b : Bool) → w.is_correct at ≡ b → IsAt w (if b then Some (record { at = at; call = call }) else None) at
@@ -110,11 +113,11 @@ passed_is w states t from to k stand from_below to_below other =
 -- the one of this number is the frame
 pub frame_passes_is : {S E C : Type 0} (m : Meaning S E C KeyRow) (w : Setting) (states : ℕ → CoreState) (t : MadeTable) (from to k : ℕ) (list : List (List ℕ)) (frame bytes : List ℕ) (places : List (Option (Replica S E C))) (result : Result Happened Mem) →
     FramesStand w states t → from < w.numbers.n → to < w.numbers.n → from ≢ to → list ≡ made_in t from to → k < length list → frame ≡ slice_index_or list k frame → bytes ≡ frame
-    → HappensOr m w states (call_at w to (Frame bytes)) places result → HappensOr m w states (frame_at w to (passed w states from to k)) places result
+    → CallHappens m w states (call_at w to (Frame bytes)) places result → CallHappens m w states (frame_at w to (passed w states from to k)) places result
 frame_passes_is m w states t from to k list frame bytes places result stand from_below to_below other is within read same does =
     let there : Some bytes ≡ passed w states from to k =
     ap (λ x. Some x) (same ∙ read) ∙ sym (slice_get-get_or list k frame within) ∙ ap (λ xs. slice_get xs k) is ∙ passed_is w states t from to k stand from_below to_below other in
-    let P : Option (List ℕ) → Type 0 = λ x. HappensOr m w states (frame_at w to x) places result in
+    let P : Option (List ℕ) → Type 0 = λ x. CallHappens m w states (frame_at w to x) places result in
     subst P there does
 
 -- it is among those that the sender made
@@ -147,27 +150,46 @@ none_passes m w states t from to k list places happened replicas stand from_belo
 
 -- what is said of some bytes is said of the same
 pub same_frame : {S E C : Type 0} (m : Meaning S E C KeyRow) (w : Setting) (states : ℕ → CoreState) (to : ℕ) (bytes frame : List ℕ) (places : List (Option (Replica S E C))) (result : Result Happened Mem) →
-    bytes ≡ frame → HappensOr m w states (call_at w to (Frame bytes)) places result → HappensOr m w states (call_at w to (Frame frame)) places result
+    bytes ≡ frame → CallHappens m w states (call_at w to (Frame bytes)) places result → CallHappens m w states (call_at w to (Frame frame)) places result
 same_frame m w states to bytes frame places result same does =
-    let P : List ℕ → Type 0 = λ x. HappensOr m w states (call_at w to (Frame x)) places result in
+    let P : List ℕ → Type 0 = λ x. CallHappens m w states (call_at w to (Frame x)) places result in
     subst P same does
+
+-- as the event
+pub sealed_happens : {S E C : Type 0} (m : Meaning S E C KeyRow) (w : Setting) (states : ℕ → CoreState) (from to : ℕ) (body frame : List ℕ) (places : List (Option (Replica S E C))) (result : Result Happened Mem) →
+    frame ≡ sealed (w.keys from) to 0 body → CallHappens m w states (call_at w to (Frame frame)) places result → EventHappens m w states (events.Sealed from to body) places result
+sealed_happens m w states from to body frame places result same does =
+    go result (same_frame m w states to frame (sealed (w.keys from) to 0 body) places result same does)
+  where
+    go : (result : Result Happened Mem) → CallHappens m w states (call_at w to (Frame (sealed (w.keys from) to 0 body))) places result
+        → EventHappens m w states (events.Sealed from to body) places result
+    go (Ok happened) does = does
+    go (Err mem) does = (does.0, event_needs w states (events.Sealed from to body) does.1)
+
+-- nothing is sealed for a faulty receiver
+pub none_sealed : {S E C : Type 0} (m : Meaning S E C KeyRow) (w : Setting) (states : ℕ → CoreState) (from to : ℕ) (body : List ℕ) (places : List (Option (Replica S E C))) (happened : Happened) →
+    ReplicasStand m w states places → w.is_correct to ≡ false → happened.seen ≡ seen_as.Missed → happened.forged ≡ false → happened.taken ≡ None → happened.out.items ≡ []
+    → Happens m w states (call_of w states (events.Sealed from to body)) places happened
+none_sealed m w states from to body places happened replicas faulty seen forged taken out =
+    nothing_happens m w states places happened (call_of w states (events.Sealed from to body)) replicas seen forged taken out
+    (faulty_call w to (Frame (sealed (w.keys from) to 0 body)) faulty)
 
 -- ---- by event
 
 pub by_event : {S E C : Type 0} (m : Meaning S E C KeyRow) (w : Setting) (states : ℕ → CoreState) (e which : Event) (places : List (Option (Replica S E C))) (result : Result Happened Mem) →
-    e ≡ which → (MayHappen w.numbers.n which → HappensOr m w states (call_of w states which) places result) → MayHappen w.numbers.n e → HappensOr m w states (call_of w states e) places result
+    e ≡ which → (MayHappen w.numbers.n which → EventHappens m w states which places result) → MayHappen w.numbers.n e → EventHappens m w states e places result
 by_event m w states e which places result is does =
-    let P : Event → Type 0 = λ x. MayHappen w.numbers.n x → HappensOr m w states (call_of w states x) places result in
+    let P : Event → Type 0 = λ x. MayHappen w.numbers.n x → EventHappens m w states x places result in
     subst P (sym is) does
 
 pub same_input : {S E C : Type 0} (m : Meaning S E C KeyRow) (w : Setting) (states : ℕ → CoreState) (at : ℕ) (bytes input : List ℕ) (places : List (Option (Replica S E C))) (result : Result Happened Mem) →
-    bytes ≡ input → HappensOr m w states (call_at w at (Input bytes)) places result → HappensOr m w states (call_at w at (Input input)) places result
+    bytes ≡ input → CallHappens m w states (call_at w at (Input bytes)) places result → CallHappens m w states (call_at w at (Input input)) places result
 same_input m w states at bytes input places result same does =
-    let P : List ℕ → Type 0 = λ x. HappensOr m w states (call_at w at (Input x)) places result in
+    let P : List ℕ → Type 0 = λ x. CallHappens m w states (call_at w at (Input x)) places result in
     subst P same does
 
 pub same_body : {S E C : Type 0} (m : Meaning S E C KeyRow) (w : Setting) (states : ℕ → CoreState) (from to : ℕ) (bytes body : List ℕ) (places : List (Option (Replica S E C))) (result : Result Happened Mem) →
-    bytes ≡ body → HappensOr m w states (call_of w states (events.Sealed from to bytes)) places result → HappensOr m w states (call_of w states (events.Sealed from to body)) places result
+    bytes ≡ body → EventHappens m w states (events.Sealed from to bytes) places result → EventHappens m w states (events.Sealed from to body) places result
 same_body m w states from to bytes body places result same does =
-    let P : List ℕ → Type 0 = λ x. HappensOr m w states (call_of w states (events.Sealed from to x)) places result in
+    let P : List ℕ → Type 0 = λ x. EventHappens m w states (events.Sealed from to x) places result in
     subst P same does

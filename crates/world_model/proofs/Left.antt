@@ -87,9 +87,9 @@ left_called {S = S} {E = E} {C = C} m w before after c at replicas old new stand
 
 -- as an event's outcome
 pub happens_left : {S E C : Type 0} (m : Meaning S E C KeyRow) (w : Setting) (states : ℕ → CoreState) (c : Option CallAt) (places : List (Option (Replica S E C))) (result : Result Happened Mem) →
-    IsErr result → ReplicasLeft m w states (after_call w states c) c places → HappensOr m w states c places result
-happens_left m w states c places (Ok happened) err left = absurd (cc)
-happens_left m w states c places (Err mem) err left = left
+    (Needing : Type 0) → IsErr result → ReplicasLeft m w states (after_call w states c) c places → Needing → HappensOr m w states c Needing places result
+happens_left m w states c places (Ok happened) Needing err left needs = absurd (cc)
+happens_left m w states c places (Err mem) Needing err left needs = (left, needs)
 
 -- ---- the replica at a place
 

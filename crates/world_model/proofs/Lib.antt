@@ -27,6 +27,7 @@ pub mod EveryWorld
 pub mod Tables
 pub mod TakenBack
 pub mod Numbered
+pub mod Needs
 pub mod Left
 pub mod AtPlaces
 pub mod TableAfter

@@ -2,11 +2,11 @@
 use Rattle.std.specs.Prelude.{◌≡◌, ◌≢◌, ℕ, true, List, length, Some}
 use Rattle.ritas_base.specs.declared.event.Event.{Event}
 use Rattle.ritas_base.specs.declared.slot.Slot.{Slot}
-use Rattle.layer_api.specs.Service.{Instance, Decision, Decided}
+use Rattle.layer_api.specs.Service.{Instance, LastVector, Decision, Decided}
 use Rattle.command_log.specs.Rows.{Row, row_at}
 use Rattle.world_model.specs.World.{Setting}
 use Rattle.world_model.specs.Agreement.{delivered}
-use Rattle.world_model.specs.Agree.{rows_at, log_of, outcome_of, decision_of, Agree}
+use Rattle.world_model.specs.Agree.{rows_at, log_of, outcome_of, decision_of, last_of, Agree}
 
 -- two different replicas, both correct
 pub record AreTwo (w : Setting) (i j : ℕ) : Type 0 where
@@ -38,3 +38,8 @@ NoTwoOutcomes = (w : Setting) (es : List Event) → Agree w es → (i j : ℕ) �
 abbrev pub NoTwoDecisions : Type 0
 NoTwoDecisions = (w : Setting) (es : List Event) → Agree w es → (i j : ℕ) → AreTwo w i j → (x : Instance) (d e : Decision) → d ≢ e
     → decision_of w es i x ≡ Some d → decision_of w es j x ≡ Some e → ⊥
+
+-- their last vectors are no two of one round
+abbrev pub NoTwoVectors : Type 0
+NoTwoVectors = (w : Setting) (es : List Event) → Agree w es → (i j : ℕ) → AreTwo w i j → (x y : LastVector) → x ≢ y → x.round ≡ y.round
+    → last_of w es i ≡ Some x → last_of w es j ≡ Some y → ⊥

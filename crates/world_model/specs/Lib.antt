@@ -9,6 +9,7 @@ pub mod Agree
 pub mod Apart
 pub mod Stopped
 pub mod EveryWorld
+pub mod Needs
 pub mod Stands
 pub mod Steps
 pub mod Met
@@ -19,4 +20,5 @@ pub mod Forging
 pub mod FaceWorlds
 pub mod Quiet
 pub mod Rows
+pub mod VectorRows
 pub mod PlayedRows

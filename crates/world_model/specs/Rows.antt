@@ -44,6 +44,7 @@ silent = record {
   given = λ seat w. false;
   done = λ seat w. [];
   outcome = λ seat w. Undecided;
+  last = λ seat w. None;
   decided = λ seat w x. None;
 }
 

@@ -24,6 +24,7 @@ use Rattle.world_model.specs.World.{Setting, rules_at, CallAt, call_of, states_o
 use Rattle.world_model.specs.Audit.{first_broken}
 use Rattle.world_model.specs.EveryWorld.{IsWorld}
 use Rattle.world_model.specs.MadeOrder.{all_made}
+use Rattle.world_model.specs.Needs.{EventNeeds}
 use Rattle.world_model.specs.FramesMade.{MadeTable, IsSquare, IsOrderOf, made_in}
 use Rattle.world_model.specs.Watch.{WatchStands}
 
@@ -82,10 +83,14 @@ pub record ReplicasStand {S E C : Type 0} (m : Meaning S E C KeyRow) (w : Settin
 abbrev pub members : Setting → List ℕ
 members w = filter w.is_correct (numbers_below w.numbers.n)
 
--- these are the correct replicas, in the order of their numbers
-pub record AreMembers {S E C : Type 0} (m : Meaning S E C KeyRow) (w : Setting) (states : ℕ → CoreState) (here : List (Replica S E C)) : Type 0 where
+-- one stands here for each correct replica, in the order of their numbers, and is as this says
+pub record AreInOrder {R : Type 0} (w : Setting) (Is : ℕ → R → Type 0) (here : List R) : Type 0 where
   pub many : length here ≡ length (members w)
-  pub each : (k i : ℕ) (rep : Replica S E C) → slice_get (members w) k ≡ Some i → slice_get here k ≡ Some rep → IsReplica m w states i rep
+  pub each : (k i : ℕ) (rep : R) → slice_get (members w) k ≡ Some i → slice_get here k ≡ Some rep → Is i rep
+
+-- these are the correct replicas, in the order of their numbers
+abbrev pub AreMembers : {S E C : Type 0} → Meaning S E C KeyRow → Setting → (ℕ → CoreState) → List (Replica S E C) → Type 0
+AreMembers m w states here = AreInOrder w (λ i rep. IsReplica m w states i rep) here
 
 -- the frames that one replica made for another, the oldest first
 abbrev pub frames_from : Setting → (ℕ → CoreState) → ℕ → ℕ → List (List ℕ)
@@ -130,6 +135,10 @@ pub record IsStoppedBy {S E C : Type 0} (m : Meaning S E C KeyRow) (w : Setting)
 abbrev pub IsLeft : {S E C : Type 0} → Meaning S E C KeyRow → Setting → (ℕ → CoreState) → (ℕ → CoreState) → Option CallAt → ℕ → Replica S E C → Type 0
 IsLeft m w before after c i rep = IsReplica m w before i rep ⊎ (IsReplica m w after i rep ⊎ IsStoppedBy m w (before i) c i rep)
 
+-- these are the correct replicas so, in the order of their numbers
+abbrev pub AreMembersLeft : {S E C : Type 0} → Meaning S E C KeyRow → Setting → (ℕ → CoreState) → (ℕ → CoreState) → Option CallAt → List (Replica S E C) → Type 0
+AreMembersLeft m w before after c here = AreInOrder w (λ i rep. IsLeft m w before after c i rep) here
+
 -- there is no replica where it is faulty
 abbrev pub LeftAt : {S E C : Type 0} → Meaning S E C KeyRow → Setting → (ℕ → CoreState) → (ℕ → CoreState) → Option CallAt → ℕ → Option (Replica S E C) → Type 0
 LeftAt m w before after c i None = w.is_correct i ≡ false
@@ -141,7 +150,7 @@ pub record ReplicasLeft {S E C : Type 0} (m : Meaning S E C KeyRow) (w : Setting
   pub within : (i : ℕ) → w.is_correct i ≡ true → i < w.numbers.n
   pub each : (i : ℕ) (place : Option (Replica S E C)) → slice_get replicas i ≡ Some place → LeftAt m w before after c i place
 
--- A world which the event e stopped after these events, for want of memory. It shows what it showed before e; of the replica
+-- A world which the event e stopped after these events, for want of the memory that it needs. It shows what it showed before e; of the replica
 -- that e was to come to, what it has before e or after it, or where e stopped it. What its tables keep for the audit of later
 -- events is lost.
 pub record WorldStopped {S E C : Type 0} (m : Meaning S E C KeyRow) (world : World S E C) (w : Setting) (es : List Event) (e : Event) : Type 0 where
@@ -153,6 +162,7 @@ pub record WorldStopped {S E C : Type 0} (m : Meaning S E C KeyRow) (world : Wor
   pub events : world.events ≡ length es
   pub verdict : world.watch.verdict ≡ first_broken w es
   pub live : world.live ≡ false
+  pub needs : EventNeeds w (states_of w es) e
 
 -- whether a world isn't stopped
 abbrev pub is_live : {S E C : Type 0} → World S E C → Bool

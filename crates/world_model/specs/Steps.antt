@@ -3,6 +3,7 @@ use Rattle.std.specs.Prelude.{◌≡◌, ℕ, ◌≤◌, ◌&&◌, Bool, true, f
 use Rattle.std.specs.List.{slice_get}
 use Rattle.std.specs.Str.{bytes_eq}
 use Rattle.ritas_base.specs.declared.bytes.Mem.{Mem}
+use Rattle.ritas_base.specs.declared.event.Event.{Event}
 use Rattle.ritas_base.specs.declared.item.Item.{Item}
 use Rattle.ritas_base.specs.declared.mode.Mode.{Mode}
 use Rattle.ritas_base.specs.Members.{has_member}
@@ -26,10 +27,11 @@ use Rattle.replica.specs.Replica.{ReplicaStands}
 use Rattle.world_model.specs.declared.happened.Happened.{Happened}
 use Rattle.world_model.specs.declared.seen.Seen.{Seen}
 use Rattle.world_model.specs.declared.seen.Seen.TheVariants as seen_as
-use Rattle.world_model.specs.World.{Setting, CallAt, handled_at, after_call, seen_answer, seen_call}
+use Rattle.world_model.specs.World.{Setting, CallAt, call_of, handled_at, after_call, seen_answer, seen_call}
 use Rattle.world_model.specs.Watch.{watched, IsGoodIf, IsTold}
 use Rattle.world_model.specs.FramesMade.{MadeTable, made_in}
 use Rattle.world_model.specs.Stands.{ReplicasStand, ReplicasLeft}
+use Rattle.world_model.specs.Needs.{CallNeeds, EventNeeds}
 
 -- ---- the first replicas
 
@@ -69,7 +71,7 @@ pub record Calls {S E C : Type 0} (m : Meaning S E C KeyRow) (w : Setting) (stat
 abbrev pub CallsOr : {S E C : Type 0} → Meaning S E C KeyRow → Setting → (ℕ → CoreState) → Option CallAt
     → List (Option (Replica S E C)) → List OutFrame → List OutFrame → Result Seen Mem → Type 0
 CallsOr m w states c places before after (Ok seen) = Calls m w states c places before after seen
-CallsOr m w states c places before after (Err mem) = ReplicasLeft m w states (after_call w states c) c places
+CallsOr m w states c places before after (Err mem) = ReplicasLeft m w states (after_call w states c) c places × CallNeeds w states c
 
 abbrev pub IsWant : Result Seen Mem → Type 0
 IsWant (Ok seen) = ⊥
@@ -129,7 +131,17 @@ pub record Happens {S E C : Type 0} (m : Meaning S E C KeyRow) (w : Setting) (st
   pub out : happened.out.items ≡ frames_out w states c
   pub replicas : ReplicasStand m w (after_call w states c) places
 
-abbrev pub HappensOr : {S E C : Type 0} → Meaning S E C KeyRow → Setting → (ℕ → CoreState) → Option CallAt
+-- each outcome, where this needs memory
+abbrev pub HappensOr : {S E C : Type 0} → Meaning S E C KeyRow → Setting → (ℕ → CoreState) → Option CallAt → Type 0
     → List (Option (Replica S E C)) → Result Happened Mem → Type 0
-HappensOr m w states c places (Ok happened) = Happens m w states c places happened
-HappensOr m w states c places (Err mem) = ReplicasLeft m w states (after_call w states c) c places
+HappensOr m w states c Needing places (Ok happened) = Happens m w states c places happened
+HappensOr m w states c Needing places (Err mem) = ReplicasLeft m w states (after_call w states c) c places × Needing
+
+-- of a call, and of an event
+abbrev pub CallHappens : {S E C : Type 0} → Meaning S E C KeyRow → Setting → (ℕ → CoreState) → Option CallAt
+    → List (Option (Replica S E C)) → Result Happened Mem → Type 0
+CallHappens m w states c places result = HappensOr m w states c (CallNeeds w states c) places result
+
+abbrev pub EventHappens : {S E C : Type 0} → Meaning S E C KeyRow → Setting → (ℕ → CoreState) → Event
+    → List (Option (Replica S E C)) → Result Happened Mem → Type 0
+EventHappens m w states e places result = HappensOr m w states (call_of w states e) (EventNeeds w states e) places result

@@ -7,11 +7,11 @@ ghost use Rattle.layer_api.specs.Runs.{Has};
 ghost use Rattle.ritas_core.specs.Machine.{CoreState};
 ghost use Rattle.ritas_core.specs.Stands.{meaning};
 ghost use Rattle.replica.specs.Handling.{Frame, Input, Turn};
-ghost use Rattle.world_model.specs.World.{Setting, call_at, call_of};
+ghost use Rattle.world_model.specs.World.{Setting, call_at};
 ghost use Rattle.world_model.specs.Audit.{is_forged_call};
 ghost use Rattle.world_model.specs.Stands.{SeatsStand, ReplicasStand, FramesStand, frames_from};
 ghost use Rattle.ritas_base.specs.Events.{MayHappen};
-ghost use Rattle.world_model.specs.Steps.{HappensOr, is_opened};
+ghost use Rattle.world_model.specs.Steps.{CallHappens, EventHappens, is_opened};
 
 use crate::calls::{give_frame, give_input, give_opened, give_turn};
 use crate::happened::Happened;
@@ -48,7 +48,7 @@ fn frame_comes<S: Service, E: Broadcast, C: Coin + Drop>(
 ) -> Result<Happened, Mem>
     ensures { (w : Setting) (states : ℕ → CoreState) → SeatsStand w seats.now → FramesStand w states made.now
         → ReplicasStand (meaning S.stands S.rules S.shown E.stands E.rules E.shown C.bits (λ k. k.me) tags_of) w states replicas.old
-        → HappensOr (meaning S.stands S.rules S.shown E.stands E.rules E.shown C.bits (λ k. k.me) tags_of) w states
+        → CallHappens (meaning S.stands S.rules S.shown E.stands E.rules E.shown C.bits (λ k. k.me) tags_of) w states
         (call_at w to (Frame bytes.now)) replicas.new result }
 {
     spelled();
@@ -75,7 +75,7 @@ fn input_comes<S: Service, E: Broadcast, C: Coin + Drop>(
 ) -> Result<Happened, Mem>
     ensures { (w : Setting) (states : ℕ → CoreState)
         → ReplicasStand (meaning S.stands S.rules S.shown E.stands E.rules E.shown C.bits (λ k. k.me) tags_of) w states replicas.old
-        → HappensOr (meaning S.stands S.rules S.shown E.stands E.rules E.shown C.bits (λ k. k.me) tags_of) w states
+        → CallHappens (meaning S.stands S.rules S.shown E.stands E.rules E.shown C.bits (λ k. k.me) tags_of) w states
         (call_at w at (Input bytes.now)) replicas.new result }
 {
     let mut out = Vec::new(alloc);
@@ -97,7 +97,7 @@ fn turn_comes<S: Service, E: Broadcast, C: Coin + Drop>(
 ) -> Result<Happened, Mem>
     ensures { (w : Setting) (states : ℕ → CoreState)
         → ReplicasStand (meaning S.stands S.rules S.shown E.stands E.rules E.shown C.bits (λ k. k.me) tags_of) w states replicas.old
-        → HappensOr (meaning S.stands S.rules S.shown E.stands E.rules E.shown C.bits (λ k. k.me) tags_of) w states
+        → CallHappens (meaning S.stands S.rules S.shown E.stands E.rules E.shown C.bits (λ k. k.me) tags_of) w states
         (call_at w at Turn) replicas.new result }
 {
     let front = front_item(alloc, replicas, at)?;
@@ -126,7 +126,7 @@ fn opened_comes<S: Service, E: Broadcast, C: Coin + Drop>(
         → ReplicasStand (meaning S.stands S.rules S.shown E.stands E.rules E.shown C.bits (λ k. k.me) tags_of) w states replicas.old
         → opening (w.keys to) bytes.now ≡ Ok (record { from = opened.now.from; seq = opened.now.seq; body = opened.now.body.now })
         → is_forged_call w states to (Frame bytes.now) ≡ false
-        → HappensOr (meaning S.stands S.rules S.shown E.stands E.rules E.shown C.bits (λ k. k.me) tags_of) w states
+        → CallHappens (meaning S.stands S.rules S.shown E.stands E.rules E.shown C.bits (λ k. k.me) tags_of) w states
         (call_at w to (Frame bytes.now)) replicas.new result }
 {
     spelled();
@@ -156,7 +156,7 @@ fn made_comes<S: Service, E: Broadcast, C: Coin + Drop>(
     ensures { (w : Setting) (states : ℕ → CoreState) → SeatsStand w seats.now → FramesStand w states made.now
         → ReplicasStand (meaning S.stands S.rules S.shown E.stands E.rules E.shown C.bits (λ k. k.me) tags_of) w states replicas.old
         → from < w.numbers.n → to < w.numbers.n → from ≢ to → Has (frames_from w states from to) bytes.now
-        → HappensOr (meaning S.stands S.rules S.shown E.stands E.rules E.shown C.bits (λ k. k.me) tags_of) w states
+        → CallHappens (meaning S.stands S.rules S.shown E.stands E.rules E.shown C.bits (λ k. k.me) tags_of) w states
         (call_at w to (Frame bytes.now)) replicas.new result }
 {
     match seats.open_made(from, to, bytes) {
@@ -178,8 +178,8 @@ fn frame_passes<S: Service, E: Broadcast, C: Coin + Drop>(
     ensures { (w : Setting) (states : ℕ → CoreState) → SeatsStand w seats.now → FramesStand w states made.now
         → ReplicasStand (meaning S.stands S.rules S.shown E.stands E.rules E.shown C.bits (λ k. k.me) tags_of) w states replicas.old
         → MayHappen w.numbers.n (Event.Pass from to number)
-        → HappensOr (meaning S.stands S.rules S.shown E.stands E.rules E.shown C.bits (λ k. k.me) tags_of) w states
-        (call_of w states (Event.Pass from to number)) replicas.new result }
+        → EventHappens (meaning S.stands S.rules S.shown E.stands E.rules E.shown C.bits (λ k. k.me) tags_of) w states
+        (Event.Pass from to number) replicas.new result }
 {
     match made.frames(from, to).get(number as usize) {
         Some(frame) => made_comes(alloc, seats, made, replicas, from, to, frame.as_slice()),
@@ -200,12 +200,16 @@ fn sealed_comes<S: Service, E: Broadcast, C: Coin + Drop>(
     ensures { (w : Setting) (states : ℕ → CoreState) → SeatsStand w seats.now → FramesStand w states made.now
         → ReplicasStand (meaning S.stands S.rules S.shown E.stands E.rules E.shown C.bits (λ k. k.me) tags_of) w states replicas.old
         → MayHappen w.numbers.n (Event.Sealed from to body.now)
-        → HappensOr (meaning S.stands S.rules S.shown E.stands E.rules E.shown C.bits (λ k. k.me) tags_of) w states
-        (call_of w states (Event.Sealed from to body.now)) replicas.new result }
+        → EventHappens (meaning S.stands S.rules S.shown E.stands E.rules E.shown C.bits (λ k. k.me) tags_of) w states
+        (Event.Sealed from to body.now) replicas.new result }
 {
     match seats.keys.get(usize::from(from)) {
         Some(keys) => {
             if to >= keys.keys().n() {
+                return Ok(Happened::nothing(alloc, to));
+            }
+            // For a faulty receiver nothing is sealed.
+            if !seats.correct.has(to) {
                 return Ok(Happened::nothing(alloc, to));
             }
             let frame = keys.seal(alloc, to, 0, body)?;
@@ -226,8 +230,8 @@ pub(crate) fn happen<S: Service, E: Broadcast, C: Coin + Drop>(
     ensures { (w : Setting) (states : ℕ → CoreState) → SeatsStand w seats.now → FramesStand w states made.now
         → ReplicasStand (meaning S.stands S.rules S.shown E.stands E.rules E.shown C.bits (λ k. k.me) tags_of) w states replicas.old
         → MayHappen w.numbers.n ev.now
-        → HappensOr (meaning S.stands S.rules S.shown E.stands E.rules E.shown C.bits (λ k. k.me) tags_of) w states
-        (call_of w states ev.now) replicas.new result }
+        → EventHappens (meaning S.stands S.rules S.shown E.stands E.rules E.shown C.bits (λ k. k.me) tags_of) w states
+        ev.now replicas.new result }
 {
     match ev {
         Event::Frame { to, bytes } => {

@@ -5,7 +5,7 @@ ghost use Rattle.world_model.specs.Audit.{audit_of};
 ghost use Rattle.world_model.specs.Agreement.{WorldLaw};
 ghost use Rattle.world_model.specs.CoreLaws.{CoreLaws};
 ghost use Rattle.world_model.specs.Agree.{AgreeLaw};
-ghost use Rattle.world_model.specs.Apart.{NoTwoValues, NoTwoRows, NoTwoIdentifierLogs, NoTwoOutcomes, NoTwoDecisions};
+ghost use Rattle.world_model.specs.Apart.{NoTwoValues, NoTwoRows, NoTwoIdentifierLogs, NoTwoOutcomes, NoTwoDecisions, NoTwoVectors};
 ghost use Rattle.world_model.specs.Stopped.{LostIsTaken, EqualRows, OnePrefix};
 ghost use Rattle.world_model.specs.EveryWorld.{AgreementLaw, LogsGrow};
 
@@ -64,6 +64,11 @@ pub fn prefix_holds()
 ///   instance is equal where both are decided; and so is what they decided in each instance inside, of one bit, of one value
 ///   or of a vector, where no value and no vector are decisions too. Besides, a bit that is decided was an input of some
 ///   correct replica, and so was a value that multi-valued consensus decided.
+/// - *Never spent*: no vector consensus that is the one instance of a correct replica, or is in the round where its atomic
+///   broadcast stands, ends without a vector. And where the last vectors that two of them decided are of one round, they
+///   are one vector, decided in one attempt.
+///
+/// All this is said of what a replica's history, as far as it went, makes its service show, whether it was stopped or not.
 ///
 /// It does nothing: its contract is the law. It rests on what `one_value_each` does, and on the service's own law over
 /// its runs, `OneLog`. The protocols are those of Moniz, Neves, Correia and Veríssimo, RITAS (2011), and, for the log,
@@ -76,7 +81,7 @@ pub fn agreement_each()
 
 /// Two different correct replicas of a world whose replicas agree are never set apart: they deliver no two values at a slot,
 /// their logs of commands have no two rows at a position, their identifier logs are equal where they are equally long, and
-/// no two things become of their one instance, nor of an instance inside.
+/// no two things become of their one instance, nor of an instance inside; and their last vectors are no two of one round.
 ///
 /// It does nothing: its contract is the law.
 pub fn never_apart()
@@ -85,6 +90,7 @@ pub fn never_apart()
     ensures identifiers { NoTwoIdentifierLogs }
     ensures outcomes { NoTwoOutcomes }
     ensures decisions { NoTwoDecisions }
+    ensures vectors { NoTwoVectors }
 {}
 
 /// What the logs of commands have in common where an event stopped the world for want of memory. Let h be the history of a

@@ -1,4 +1,4 @@
-ghost use Rattle.std.specs.Prelude.{◌≡◌, ◌+◌, ◌-◌, ◌*◌, ◌<◌, ◌≤◌, ℕ, map, length, take, List, [], ◌++◌, OnOk, OnErr, IfOk, replicate};
+ghost use Rattle.std.specs.Prelude.{◌≡◌, ◌≢◌, ◌+◌, ◌-◌, ◌*◌, ◌<◌, ◌≤◌, ℕ, map, length, take, List, [], ◌++◌, OnOk, OnErr, IfOk, replicate};
 ghost use Rattle.std.specs.Option.{option_map};
 ghost use Rattle.replica.specs.declared.frame.OutFrame.{OutFrame};
 ghost use Rattle.world_model.specs.MadeOrder.{made_of};
@@ -159,10 +159,11 @@ impl MadeFrames {
 
     /// Each of these frames, which a replica made in this event, goes to the back of the list of its sender and its
     /// receiver, and of the order. The one error is want of memory, as which more than 2^32 frames in a list count too:
-    /// then the table is as before.
+    /// then the table is as before. Where there is no frame, none comes.
     pub(crate) fn add(&mut self, event: u64, from: u8, frames: Vec<OutFrame>) -> Result<(), Mem>
         ensures ok { OnOk result (self.new ≡ with_frames self.old event from frames.items) }
         ensures err { OnErr result (self.new ≡ self.old) }
+        ensures only { OnErr result (frames.items ≢ []) }
     {
         let count = self.count();
         for frame in frames {

@@ -1,6 +1,6 @@
 //! Which SEND or column a call made a replica take: the audit looks at no other item.
 
-ghost use Rattle.std.specs.Prelude.{◌≡◌, ℕ, ◌==◌, ◌||◌, true, Some, None, Ok, IfOk, if◌then◌else◌};
+ghost use Rattle.std.specs.Prelude.{◌≡◌, ℕ, ◌==◌, ◌||◌, ◌≢◌, true, [], Some, None, Ok, IfOk, OnErr, is_some, if◌then◌else◌};
 ghost use Rattle.std.specs.Option.{option_copied};
 ghost use Rattle.ritas_base.specs.declared.item.Item.{Item as an_item};
 ghost use Rattle.ritas_base.specs.declared.mode.Mode.{Mode};
@@ -57,7 +57,8 @@ fn copied(alloc: Global, item: &Item) -> Result<Item, Mem>
 
 // A copy of an item, if there is one and the audit looks at it.
 fn watched(alloc: Global, item: Option<&Item>) -> Result<Option<Item>, Mem>
-    ensures { IfOk result (λ found. found ≡ watched (option_copied item.entry)) }
+    ensures is { IfOk result (λ found. found ≡ watched (option_copied item.entry)) }
+    ensures only { OnErr result (is_some (option_copied item.entry) ≡ true) }
 {
     match item {
         Some(item) => {
@@ -70,15 +71,19 @@ fn watched(alloc: Global, item: Option<&Item>) -> Result<Option<Item>, Mem>
     }
 }
 
-/// The item at the front of a replica's inbox, where the audit looks at it. The one error is want of memory.
+/// The item at the front of a replica's inbox, where the audit looks at it. The one error is want of memory, where an item
+/// waits.
 pub(crate) fn front_item<S: Service, E: Broadcast, C: Coin + Drop>(
     alloc: Global,
     replicas: &[Option<Replica<S, E, C>>],
     at: u8,
 ) -> Result<Option<Item>, Mem>
-    ensures { IfOk result (λ front. (w : Setting) (states : ℕ → CoreState)
+    ensures is { IfOk result (λ front. (w : Setting) (states : ℕ → CoreState)
         → ReplicasStand (meaning S.stands S.rules S.shown E.stands E.rules E.shown C.bits (λ k. k.me) tags_of) w states replicas.now
         → w.is_correct at ≡ true → IsFront w states at front) }
+    ensures only { OnErr result ((w : Setting) (states : ℕ → CoreState)
+        → ReplicasStand (meaning S.stands S.rules S.shown E.stands E.rules E.shown C.bits (λ k. k.me) tags_of) w states replicas.now
+        → (w.is_correct at ≡ true) × ((states at).inbox ≢ [])) }
 {
     let place = usize::from(at);
     if place >= replicas.len() {
@@ -131,7 +136,7 @@ fn body_item(
 }
 
 /// The item that a frame's body spells, where the frame was seen to be taken and the audit looks at the item. The one error
-/// is want of memory.
+/// is want of memory, where it was taken.
 pub(crate) fn frame_item(
     alloc: Global,
     p: &Params,
@@ -139,7 +144,8 @@ pub(crate) fn frame_item(
     seen: &Seen,
     bytes: &[u8],
 ) -> Result<Option<Item>, Mem>
-    ensures { IfOk result (λ found. IsFrameItem p.now mode.now seen.now bytes.now found) }
+    ensures is { IfOk result (λ found. IsFrameItem p.now mode.now seen.now bytes.now found) }
+    ensures only { OnErr result (is_took seen.now ≡ true) }
 {
     if !is_took(seen) || bytes.len() < 43 {
         return Ok(None);

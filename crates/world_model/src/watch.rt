@@ -18,7 +18,7 @@ pub(crate) struct Watch {
 }
 
 impl Watch {
-    ghost use Rattle.std.specs.Prelude.{◌≡◌, ℕ, ◌<◌, true, false, List, [], Option, Some, None, OnOk, IfOk};
+    ghost use Rattle.std.specs.Prelude.{◌≡◌, ℕ, ◌<◌, true, false, List, [], Option, Some, None, OnOk, OnErr, IfOk, is_some};
     ghost use Rattle.std.specs.Option.{option_copied};
     ghost use Rattle.ritas_base.specs.declared.slot.Slot.{Slot};
     ghost use Rattle.ritas_base.specs.Messages.{kind_eq};
@@ -151,7 +151,7 @@ impl Watch {
     }
 
     /// The verdict after a call on a replica: whether its frame forged, and the SEND or the column that it made the replica
-    /// take, if it did. The verdict so far stays until `settle`. The one error is want of memory.
+    /// take, if it did. The verdict so far stays until `settle`. The one error is want of memory, where it took one.
     pub(crate) fn judge(
         &mut self,
         alloc: Global,
@@ -166,6 +166,7 @@ impl Watch {
             → IsTold w states c at forged (option_copied taken.entry) → WatchStands w states verdict self.old
             → WatchStands w (after_call w states c) (verdict_after w states c verdict number) (record self.new { verdict = found })) }
         ensures same { self.new.verdict ≡ self.old.verdict }
+        ensures only { OnErr result (is_some (option_copied taken.entry) ≡ true) }
     {
         match self.verdict {
             Audit::Holds => {}

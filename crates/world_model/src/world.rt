@@ -39,7 +39,8 @@ impl<S: Service, E: Broadcast, C: Coin + Drop> World<S, E, C> {
     ghost use Rattle.world_model.specs.MadeOrder.{made_of, all_made};
     ghost use Rattle.world_model.specs.Audit.{audit_of};
     ghost use Rattle.world_model.specs.Agree.{Agree};
-    ghost use Rattle.world_model.specs.Stands.{AreKeys, IsWorldOf, IsReplica, AreMembers, frames_from, WorldStands, IsLeft, WorldStopped, is_live, EventDoes};
+    ghost use Rattle.world_model.specs.Needs.{EventNeeds};
+    ghost use Rattle.world_model.specs.Stands.{AreKeys, IsWorldOf, IsReplica, AreMembers, AreMembersLeft, frames_from, WorldStands, IsLeft, WorldStopped, is_live, EventDoes};
     ghost use Rattle.ritas_base.specs.Events.{MayHappen};
 
     /// The world of these numbers, mode, correct replicas, and keys and coins of each replica, before any event. The keys
@@ -86,11 +87,19 @@ impl<S: Service, E: Broadcast, C: Coin + Drop> World<S, E, C> {
     /// frame's receiver not its sender. The one error is want of memory, as which more than 2^32 frames of one replica for
     /// another count too: the world stops, and answers it to every later event too. It then shows what it showed before
     /// the event that stopped it; the replica that this came to may have taken it.
+    ///
+    /// No memory is needed, and so the error doesn't come of itself, for an event that is missed, a frame that doesn't open
+    /// or whose body spells no item, an input that is refused, and a turn where no item waits. A body that is to be sealed
+    /// for a correct replica needs it in any case.
     pub fn event(&mut self, alloc: Global, ev: &Event) -> Result<Seen, Mem>
         ensures does { (w : Setting) (es : List Event)
             → WorldStands (meaning S.stands S.rules S.shown E.stands E.rules E.shown C.bits (λ k. k.me) tags_of) self.old w es
             → MayHappen w.numbers.n ev.now → length es < 2 ^ 64 - 1
             → EventDoes (meaning S.stands S.rules S.shown E.stands E.rules E.shown C.bits (λ k. k.me) tags_of) self.new w es ev.now result }
+        ensures needs { (w : Setting) (es : List Event)
+            → WorldStands (meaning S.stands S.rules S.shown E.stands E.rules E.shown C.bits (λ k. k.me) tags_of) self.old w es
+            → MayHappen w.numbers.n ev.now → length es < 2 ^ 64 - 1
+            → OnErr result (EventNeeds w (states_of w es) ev.now) }
         ensures after { (w : Setting) (es : List Event) (e : Event)
             → WorldStopped (meaning S.stands S.rules S.shown E.stands E.rules E.shown C.bits (λ k. k.me) tags_of) self.old w es e
             → IsErr result × WorldStopped (meaning S.stands S.rules S.shown E.stands E.rules E.shown C.bits (λ k. k.me) tags_of) self.new w es e }
@@ -134,7 +143,8 @@ impl<S: Service, E: Broadcast, C: Coin + Drop> World<S, E, C> {
     /// Whether the world's premises held: at least n - f replicas are correct, and no event forged or collided. If not, the
     /// first event that breaks one; one that does both forged. Where they held, the correct replicas agree: their logs of
     /// commands are prefixes of one list, with each command once; a correct replica's command stands there only if it was
-    /// submitted there; and no two of them decide differently in any instance, as `agreement_each` says. A stopped world's
+    /// submitted there; no two of them decide differently in any instance; and no vector consensus of theirs is spent, as
+    /// `agreement_each` says. A stopped world's
     /// is the audit of the events before the one that stopped it; `stopped_between` says what its replicas' rows are.
     pub fn audit(&self) -> Audit
         ensures is { (w : Setting) (es : List Event)
@@ -179,12 +189,18 @@ impl<S: Service, E: Broadcast, C: Coin + Drop> World<S, E, C> {
         }
     }
 
-    /// The correct replicas, in their order, without the rest of their world. The one error is want of memory.
+    /// The correct replicas, in their order, without the rest of their world. The one error is want of memory. Those of a
+    /// stopped world are as `replica` says: that to which the last event came is as it was before that, or as it was to be
+    /// after it, or stopped by it.
     pub fn into_replicas(self, alloc: Global) -> Result<Vec<Replica<S, E, C>>, Mem>
-        ensures { (w : Setting) (es : List Event)
+        ensures is { (w : Setting) (es : List Event)
             → WorldStands (meaning S.stands S.rules S.shown E.stands E.rules E.shown C.bits (λ k. k.me) tags_of) self w es
             → IfOk result (λ replicas. AreMembers (meaning S.stands S.rules S.shown E.stands E.rules E.shown C.bits (λ k. k.me) tags_of)
             w (states_of w es) replicas.items) }
+        ensures stopped { (w : Setting) (es : List Event) (e : Event)
+            → WorldStopped (meaning S.stands S.rules S.shown E.stands E.rules E.shown C.bits (λ k. k.me) tags_of) self w es e
+            → IfOk result (λ replicas. AreMembersLeft (meaning S.stands S.rules S.shown E.stands E.rules E.shown C.bits (λ k. k.me) tags_of)
+            w (states_of w es) (states_of w (e ∷ es)) (call_of w (states_of w es) e) replicas.items) }
     {
         present(alloc, self.replicas)
     }

@@ -1,4 +1,8 @@
-use Rattle.std.proofs.Common.{refl}
+use Rattle.std.proofs.Common.{◌≡◌, true, refl, sym, ◌∙◌, ap}
+use Rattle.replica.specs.Handling.{Frame}
+use Rattle.world_model.specs.World.{call_at}
+use Rattle.world_model.specs.Steps.{is_took}
+use Rattle.world_model.proofs.Needs.{taking_needs}
 use Rattle.world_model.proofs.Left.{left_after, happens_left}
 use Rattle.world_model.proofs.Happening.{frame_happens}
 use Rattle.world_model.proofs.events.frame_comes.Goals as goal
@@ -7,11 +11,16 @@ pub returns : goal.returns
 returns g c = λ w states seats stand replicas.
     frame_happens c.spelled.ensures.answered _ w c.args.seats.now states c.args.made.now c.args.to c.args.bytes.now c.args.replicas.now _ _ c.new-out.result.items c.is_unmade-is_unmade.result
     seats stand replicas c.new-out.ensures.items (c.in_ok-seen.ensures w states replicas) refl
-    (record { value = c.is_unmade-is_unmade.ensures.value; few = c.is_unmade-is_unmade.ensures.few }) c.is_opened_and-forged.ensures c.in_ok-taken.ensures
+    (record { value = c.is_unmade-is_unmade.ensures.value; few = c.is_unmade-is_unmade.ensures.few }) c.is_opened_and-forged.ensures c.in_ok-taken.ensures.is
 
 pub returns-in_err-seen : goal.returns-in_err-seen
-returns-in_err-seen g c = λ w states seats stand replicas. happens_left _ w states _ _ c.from_residual.result c.from_residual.ensures.0 (c.in_err-seen.ensures w states replicas)
+returns-in_err-seen g c = λ w states seats stand replicas.
+    let without = c.in_err-seen.ensures w states replicas in
+    happens_left _ w states _ _ c.from_residual.result _ c.from_residual.ensures.0 without.0 without.1
 
 pub returns-in_err-taken : goal.returns-in_err-taken
 returns-in_err-taken g c = λ w states seats stand replicas.
-    happens_left _ w states _ _ c.from_residual-in_err-taken.result c.from_residual-in_err-taken.ensures.0 (left_after _ w states _ _ _ (c.in_ok-seen.ensures w states replicas).replicas)
+    let did = c.in_ok-seen.ensures w states replicas in
+    let took : is_took c.in_ok-seen.seen ≡ true = c.in_err-taken.ensures.only in
+    happens_left _ w states _ _ c.from_residual-in_err-taken.result _ c.from_residual-in_err-taken.ensures.0 (left_after _ w states _ _ _ did.replicas)
+    (taking_needs w states (call_at w c.args.to (Frame c.args.bytes.now)) (ap is_took (sym did.seen) ∙ took))

@@ -1,6 +1,7 @@
-use Rattle.std.proofs.Common.{◌≡◌, true, ℕ, sym, ◌∙◌, arith}
+use Rattle.std.proofs.Common.{◌≡◌, true, ℕ, sym, ◌∙◌, ap, arith}
 use Rattle.std.proofs.lemmas.Bool.{false≢true}
-use Rattle.std.specs.Option.{option_copied}
+use Rattle.std.specs.Option.{option_copied, is_some}
+use Rattle.std.proofs.lemmas.Result.{on_err_weaker}
 use Rattle.keyed_channel.specs.Keyed.{tags_of}
 use Rattle.ritas_core.specs.Machine.{CoreState}
 use Rattle.ritas_core.specs.Stands.{meaning}
@@ -9,11 +10,11 @@ use Rattle.world_model.specs.Stands.{ReplicasStand}
 use Rattle.world_model.specs.Watch.{watched}
 use Rattle.world_model.specs.Steps.{IsFront}
 use Rattle.world_model.proofs.Meeting.{if_ok}
-use Rattle.world_model.proofs.Bodies.{front_is, replica_there, none_there}
+use Rattle.world_model.proofs.Bodies.{front_is, front_waits, replica_there, none_there}
 use Rattle.world_model.proofs.taken.front_item.Goals as goal
 
-pub returns-in-Some : goal.returns-in-Some
-returns-in-Some g c =
+pub returns-in-Some-clause-is : goal.returns-in-Some-clause-is
+returns-in-Some-clause-is g c =
     if_ok
     (λ found. found ≡ watched (option_copied c.inbox_front.result))
     (λ front. (w : Setting) (states : ℕ → CoreState)
@@ -24,9 +25,19 @@ returns-in-Some g c =
     (omega (arith, c.if-place-replicas.false)) (sym c.index-replicas-place.is ∙ c.in-Some.is) in
     let core = c.core.ensures.live (rules_at w c.args.at) (w.keys c.args.at) (states c.args.at) there.stands there.live in
     front_is w states c.args.at front (option_copied c.inbox_front.result) core.good_inbox (c.inbox_front.ensures (rules_at w c.args.at) (states c.args.at) core) found)
-    c.watched.result c.watched.ensures
+    c.watched.result c.watched.ensures.is
 
-pub returns-in-None : goal.returns-in-None
-returns-in-None g c = λ w states stand right.
+pub returns-in-None-clause-is : goal.returns-in-None-clause-is
+returns-in-None-clause-is g c = λ w states stand right.
     absurd (false≢true (sym (none_there _ w states c.args.at c.from-place.result c.args.replicas.now c.index-replicas-place.result stand c.from-place.ensures
     (omega (arith, c.if-place-replicas.false)) (sym c.index-replicas-place.is ∙ c.in-None.is)) ∙ right))
+
+pub returns-in-Some-clause-only : goal.returns-in-Some-clause-only
+returns-in-Some-clause-only g c =
+    on_err_weaker c.watched.result
+    (λ some. λ w states stand.
+    let there = replica_there _ w states c.args.at c.from-place.result c.args.replicas.now c.index-replicas-place.result c.in-Some.replica stand c.from-place.ensures
+    (omega (arith, c.if-place-replicas.false)) (sym c.index-replicas-place.is ∙ c.in-Some.is) in
+    let core = c.core.ensures.live (rules_at w c.args.at) (w.keys c.args.at) (states c.args.at) there.stands there.live in
+    (there.correct, front_waits (states c.args.at).inbox (ap is_some (sym (c.inbox_front.ensures (rules_at w c.args.at) (states c.args.at) core)) ∙ some)))
+    c.watched.ensures.only

@@ -4,7 +4,7 @@ use Rattle.std.specs.Ordering.{nat_cmp}
 use Rattle.std.specs.BTreeMap.{get, is_at}
 use Rattle.command_log.specs.Rows.{Row, row_of, client_of, request_of, has_row}
 use Rattle.command_log.specs.Index.{key_of, IsIndexed}
-use Rattle.command_log.proofs.Places.{found_has, old_entered, new_entered, index_more, pushed, row_from, row_length}
+use Rattle.command_log.proofs.Places.{found_has, on_err, old_entered, new_entered, index_more, pushed, row_from, row_length}
 use Rattle.command_log.proofs.log.Log.append.Goals as goal
 
 pub returns-then-is_some-clause-position : goal.returns-then-is_some-clause-position
@@ -57,3 +57,18 @@ returns-clause-position c =
 
 pub returns-clause-ok : goal.returns-clause-ok
 returns-clause-ok c = rows_in c ∙ (new_entered (record { id = c.args.id; command = c.args.command.now }) c.args.self.now (none_in c)).1
+
+pub returns-in_err-payload-clause-only : goal.returns-in_err-payload-clause-only
+returns-in_err-payload-clause-only c =
+    let none : is_some c.find.result ≡ false = search rules in
+    on_err c.from_residual.result (found_has _ _ _ _ _ _ false c.number-client.ensures c.number-request.ensures c.find.ensures.value none)
+
+pub returns-in_err-reserve-clause-only : goal.returns-in_err-reserve-clause-only
+returns-in_err-reserve-clause-only c =
+    let none : is_some c.find.result ≡ false = search rules in
+    on_err c.from_residual-in_err-reserve.result (found_has _ _ _ _ _ _ false c.number-client.ensures c.number-request.ensures c.find.ensures.value none)
+
+pub returns-in_err-insert-clause-only : goal.returns-in_err-insert-clause-only
+returns-in_err-insert-clause-only c =
+    let none : is_some c.find.result ≡ false = search rules in
+    on_err c.from_residual-in_err-insert.result (found_has _ _ _ _ _ _ false c.number-client.ensures c.number-request.ensures c.find.ensures.value none)
