@@ -1,5 +1,6 @@
 pub mod Faults
 pub mod FaultsLaws
+pub mod Wholes
 pub mod Memory
 pub mod Links
 pub mod LinkCalls

@@ -6,8 +6,9 @@ use Rattle.outside.specs.Faults.{HasCause}
 use Rattle.outside.specs.FaultsLaws.{rose_after}
 use Rattle.outside.specs.Links.{LinkAct, faults_after}
 use Rattle.outside.specs.LinkCalls.{TookBack, LinkDid, each_act}
+use Rattle.outside.specs.declared.link.FaultCounts.{FaultCounts}
 use Rattle.outside.specs.declared.link.LinkFault.{LinkFault}
-use Rattle.outside.specs.declared.link.LinkFault.TheVariants.{Failed, Mem}
+use Rattle.outside.specs.declared.link.LinkFault.TheVariants.{Failed}
 
 -- ---- parts of what should be told
 
@@ -35,8 +36,8 @@ back_more old new a b took = record {
 
 -- ---- one call
 
-pub did_one : (tells : Bool) (act same : LinkAct) (old new : List LinkAct) (x y : ℕ) (r : Result (Unit {0}) LinkFault) → act ≡ same
-    → (tells ≡ true → OnOk r (new ≡ act ∷ old)) → (tells ≡ true → OnErr r (new ≡ old)) → HasCause x y (r ≡ Err Failed) → y ≡ faults_after x r
+pub did_one : (tells : Bool) (act same : LinkAct) (old new : List LinkAct) (x y : FaultCounts) (r : Result (Unit {0}) LinkFault) → act ≡ same
+    → (tells ≡ true → OnOk r (new ≡ act ∷ old)) → (tells ≡ true → OnErr r (new ≡ old)) → HasCause x.failed y.failed (r ≡ Err Failed) → y ≡ faults_after x r
     → LinkDid tells (same ∷ []) old new x y r
 did_one tells act same old new x y (Ok done) is ok err cause count = record {
   whole = λ t. rw (← is) (ok t);
@@ -55,20 +56,10 @@ did_one tells act same old new x y (Err fault) is ok err cause count = record {
 
 -- ---- several
 
-pub did_none : (tells : Bool) (old : List LinkAct) (x : ℕ) → LinkDid tells [] old old x x (Ok tt)
+pub did_none : (tells : Bool) (old : List LinkAct) (x : FaultCounts) → LinkDid tells [] old old x x (Ok tt)
 did_none tells old x = record {
   whole = λ t. refl;
   back = λ t. back_none old [];
-  later = omega arith;
-  cause = λ e. cc;
-  count = refl;
-}
-
--- memory ran out before any
-pub did_stop : (tells : Bool) (acts old : List LinkAct) (x : ℕ) → LinkDid tells acts old old x x (Err Mem)
-did_stop tells acts old x = record {
-  whole = λ t. tt;
-  back = λ t. back_none old acts;
   later = omega arith;
   cause = λ e. cc;
   count = refl;
@@ -79,18 +70,18 @@ whole_then old mid new a b (Ok done) first second = second ∙ rw first (sym (ap
 whole_then old mid new a b (Err fault) first second = tt
 
 -- some, and then others
-pub did_then : (tells : Bool) (a b : List LinkAct) (old mid new : List LinkAct) (x y z : ℕ) (r : Result (Unit {0}) LinkFault)
+pub did_then : (tells : Bool) (a b : List LinkAct) (old mid new : List LinkAct) (x y z : FaultCounts) (r : Result (Unit {0}) LinkFault)
     → LinkDid tells a old mid x y (Ok tt) → LinkDid tells b mid new y z r → LinkDid tells (b ++ a) old new x z r
 did_then tells a b old mid new x y z r first second = record {
   whole = λ t. whole_then old mid new a b r (first.whole t) (second.whole t);
   back = λ t. back_then old mid new a b (first.whole t) (second.back t);
   later = omega (arith, first.later, second.later);
-  cause = λ e. rose_after x y z first.later (second.cause e);
-  count = second.count ∙ ap (λ (n : ℕ). faults_after n r) first.count;
+  cause = λ e. rose_after x.failed y.failed z.failed first.later (second.cause e);
+  count = second.count ∙ ap (λ (n : FaultCounts). faults_after n r) first.count;
 }
 
 -- some failed, and the others didn't come
-pub did_fails : (tells : Bool) (a b : List LinkAct) (old new : List LinkAct) (x y : ℕ) (e : LinkFault)
+pub did_fails : (tells : Bool) (a b : List LinkAct) (old new : List LinkAct) (x y : FaultCounts) (e : LinkFault)
     → LinkDid tells a old new x y (Err e) → LinkDid tells (b ++ a) old new x y (Err e)
 did_fails tells a b old new x y e first = record {
   whole = λ t. tt;
@@ -113,14 +104,14 @@ each_rest f xs i =
     ∙ (ap reverse (map-append f (take i xs) (drop i xs)) ∙ reverse-append (map f (take i xs)) (map f (drop i xs)))
 
 -- the next one's was made
-pub each_goes : {A : Type 0} (f : A → LinkAct) (xs : List A) (i : ℕ) (x d : A) (tells : Bool) (old mid new : List LinkAct) (k y z : ℕ)
+pub each_goes : {A : Type 0} (f : A → LinkAct) (xs : List A) (i : ℕ) (x d : A) (tells : Bool) (old mid new : List LinkAct) (k y z : FaultCounts)
     → i < length xs → x ≡ get_or xs i d → LinkDid tells (each_act f (take i xs)) old mid k y (Ok tt) → LinkDid tells (f x ∷ []) mid new y z (Ok tt)
     → LinkDid tells (each_act f (take (i + 1) xs)) old new k z (Ok tt)
 each_goes f xs i x d tells old mid new k y z lt is first second =
     rw (each_more f xs i x d lt is) (did_then tells (each_act f (take i xs)) (f x ∷ []) old mid new k y z (Ok tt) first second)
 
 -- it failed
-pub each_fails : {A : Type 0} (f : A → LinkAct) (xs : List A) (i : ℕ) (x d : A) (tells : Bool) (old mid new : List LinkAct) (k y z : ℕ) (e : LinkFault)
+pub each_fails : {A : Type 0} (f : A → LinkAct) (xs : List A) (i : ℕ) (x d : A) (tells : Bool) (old mid new : List LinkAct) (k y z : FaultCounts) (e : LinkFault)
     → i < length xs → x ≡ get_or xs i d → LinkDid tells (each_act f (take i xs)) old mid k y (Ok tt) → LinkDid tells (f x ∷ []) mid new y z (Err e)
     → LinkDid tells (each_act f xs) old new k z (Err e)
 each_fails f xs i x d tells old mid new k y z e lt is first second =

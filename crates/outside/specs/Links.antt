@@ -1,6 +1,7 @@
 -- What a link gives and is given. Lists of its calls have the newest first.
 use Rattle.std.specs.Prelude.{ℕ, List, [], ◌∷◌, Result, Ok, Err}
 use Rattle.outside.specs.Faults.{count_after}
+use Rattle.outside.specs.declared.link.FaultCounts.{FaultCounts}
 use Rattle.outside.specs.declared.link.LinkFault.{LinkFault}
 use Rattle.outside.specs.declared.link.LinkFault.TheVariants as faults
 use Rattle.outside.specs.declared.link.LinkItem.{LinkItem}
@@ -15,11 +16,19 @@ pub data LinkAct : Type 0 where
   Sends : Sent → LinkAct
   Replies : Sent → LinkAct
 
--- how many calls failed after one more: want of memory is no fault
-abbrev pub faults_after : {A : Type 0} → ℕ → Result A LinkFault → ℕ
+-- the counts after one call more that failed
+abbrev pub failed_once : FaultCounts → FaultCounts
+failed_once n = record n { failed = count_after n.failed }
+
+-- after one call more that was without memory
+abbrev pub short_once : FaultCounts → FaultCounts
+short_once n = record n { short = count_after n.short }
+
+-- after one call more, by its answer
+abbrev pub faults_after : {A : Type 0} → FaultCounts → Result A LinkFault → FaultCounts
 faults_after n (Ok x) = n
-faults_after n (Err faults.Failed) = count_after n
-faults_after n (Err faults.Mem) = n
+faults_after n (Err faults.Failed) = failed_once n
+faults_after n (Err faults.Mem) = short_once n
 
 -- the bytes of an item
 abbrev pub bytes_of : LinkItem → List ℕ

@@ -1,18 +1,24 @@
 -- A link in memory: what it holds, and what a call does.
-use Rattle.std.specs.Prelude.{◌≡◌, ◌↔◌, ◌<◌, ◌^◌, List, [], ◌∷◌, length, Result, Err, IfOk, OnErr}
+use Rattle.std.specs.Prelude.{◌≡◌, ℕ, ◌↔◌, ◌<◌, ◌^◌, List, [], ◌∷◌, length, Result, Err, IfOk, OnErr}
 use Rattle.outside.specs.Faults.{count_after}
 use Rattle.outside.specs.Memory.{Calls, IsFault}
 use Rattle.outside.specs.Links.{LinkAct, bytes_of, faults_after}
+use Rattle.outside.specs.declared.link.FaultCounts.{FaultCounts}
 use Rattle.outside.specs.declared.link.LinkFault.{LinkFault}
 use Rattle.outside.specs.declared.link.LinkFault.TheVariants as faults
 use Rattle.outside.specs.declared.link.LinkItem.{LinkItem}
 use Rattle.outside.specs.declared.link.LinkItem.TheVariants as item
 
--- the items that are left, the calls that answered Ok, and those that fail
+-- the items that are left, the calls that answered Ok, those that fail, and how many were without memory
 pub record LinkState : Type 0 where
   pub left : List LinkItem
   pub told : List LinkAct
   pub calls : Calls
+  pub short : ℕ
+
+-- how many of its calls answered each fault
+abbrev pub faults_of : LinkState → FaultCounts
+faults_of s = record { failed = s.calls.faults; short = s.short }
 
 -- ---- which items are given
 
@@ -36,14 +42,12 @@ rest_of (item.Down at peer ∷ left) = left
 
 -- ---- what a call does
 
--- the calls after one more
-abbrev pub link_calls_after : {A : Type 0} → Calls → Result A LinkFault → Calls
-link_calls_after calls result = record { fails = calls.fails; number = count_after calls.number; faults = faults_after calls.faults result }
-
 -- A call fails exactly where its number is listed. Where it answers Ok, it is told and this is left.
 pub record LinksMemory {A : Type 0} (act : A → LinkAct) (left : List LinkItem) (old new : LinkState) (result : Result A LinkFault) : Type 0 where
   pub fails : (result ≡ Err faults.Failed) ↔ IsFault old.calls
-  pub calls : new.calls ≡ link_calls_after old.calls result
+  pub listed : new.calls.fails ≡ old.calls.fails
+  pub number : new.calls.number ≡ count_after old.calls.number
+  pub faults : faults_of new ≡ faults_after (faults_of old) result
   pub told : IfOk result (λ x. new.told ≡ act x ∷ old.told)
   pub rest : IfOk result (λ _. new.left ≡ left)
   pub same : OnErr result ((new.told ≡ old.told) × (new.left ≡ old.left))

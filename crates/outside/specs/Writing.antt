@@ -2,10 +2,11 @@
 use Rattle.std.specs.Prelude.{◌≡◌, ◌≤◌, ℕ, List, ◌++◌, Bool, true, Result, OnOk}
 use Rattle.outside.specs.Faults.{count_after, Rose}
 
--- at Ok no call of a sink failed, and where this one failed, one did
+-- Where this call failed, one call of a sink did, and else none did. So none did at Ok.
 pub record Counts {A E : Type 0} (before now : ℕ) (result : Result A E) (failed : Type 0) : Type 0 where
   pub stands : OnOk result (now ≡ before)
   pub rises : failed → now ≡ count_after before
+  pub others : ¬ failed → now ≡ before
 
 -- new is old and then a front of the text
 pub record TookFront (old new text : List ℕ) : Type 0 where
@@ -14,7 +15,7 @@ pub record TookFront (old new text : List ℕ) : Type 0 where
   pub parts : text ≡ front ++ rest
   pub taken : new ≡ old ++ front
 
--- At Ok the sink took the whole text, and in any case a front of it. At Ok none of its calls failed, and where this one fails, one did.
+-- At Ok the sink took the whole text, and in any case a front of it. Where this call fails, one of the sink's did, and else none.
 pub record Writes {E : Type 0} (text : List ℕ) (tells : Bool) (old new : List ℕ) (before now : ℕ) (result : Result (Unit {0}) E) (failed : Type 0) : Type 0 where
   pub whole : tells ≡ true → OnOk result (new ≡ old ++ text)
   pub front : tells ≡ true → TookFront old new text

@@ -38,7 +38,7 @@ writes_none text tells old x e not = record {
   front = λ _. none_written old text;
   later = omega arith;
   cause = λ f. absurd (not f);
-  counts = record { stands = tt; rises = λ f. absurd (not f) };
+  counts = record { stands = tt; rises = λ f. absurd (not f); others = λ _. refl };
 }
 
 -- the counts of one call, and then of another
@@ -46,6 +46,7 @@ pub counts_then : {A B E D : Type 0} {F G : Type 0} (x y z : ℕ) {a : A} (r : R
 counts_then x y z r first second = record {
   stands = on_ok_weaker r (λ e. e ∙ first.stands) second.stands;
   rises = λ f. second.rises f ∙ ap count_after first.stands;
+  others = λ not. second.others not ∙ first.stands;
 }
 
 -- one text, and then another
@@ -59,16 +60,16 @@ writes_then a b tells old mid new x y z r first second = record {
 }
 
 -- the first of two texts failed
-pub fails_then : {D E F G : Type 0} (a b : List ℕ) (tells : Bool) (old new : List ℕ) (x y : ℕ) (d : D) (e : E) → (G → F) → Writes a tells old new x y (Err d) F → Writes (a ++ b) tells old new x y (Err e) G
-fails_then a b tells old new x y d e why first = record {
+pub fails_then : {D E F G : Type 0} (a b : List ℕ) (tells : Bool) (old new : List ℕ) (x y : ℕ) (d : D) (e : E) → (G → F) → (F → G) → Writes a tells old new x y (Err d) F → Writes (a ++ b) tells old new x y (Err e) G
+fails_then a b tells old new x y d e why back first = record {
   whole = λ t. tt;
   front = λ t. front_more old new a b (first.front t);
   later = first.later;
   cause = λ f. first.cause (why f);
-  counts = record { stands = tt; rises = λ f. first.counts.rises (why f) };
+  counts = record { stands = tt; rises = λ f. first.counts.rises (why f); others = λ not. first.counts.others (λ f. not (back f)) };
 }
 
 -- the first of two texts failed, and so did the call that writes both
 pub fails_as : {D E : Type 0} (a b : List ℕ) (tells : Bool) (old new : List ℕ) (x y : ℕ) (d : D) (r : Result (Unit {0}) E) → IsErr r → Writes a tells old new x y (Err d) (true ≡ true) → Writes (a ++ b) tells old new x y r (IsErr r)
 fails_as a b tells old new x y d (Ok u) failed first = absurd cc
-fails_as a b tells old new x y d (Err e) failed first = fails_then a b tells old new x y d e (λ _. refl) first
+fails_as a b tells old new x y d (Err e) failed first = fails_then a b tells old new x y d e (λ _. refl) (λ _. refl) first

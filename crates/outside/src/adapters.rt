@@ -1,23 +1,28 @@
-ghost use Rattle.std.specs.Prelude.{◌≡◌, ◌<◌, ◌≤◌, ℕ, [], length, Bool, false, Ok, IfOk, IsErr};
-ghost use Rattle.std.specs.Io.KnownBytes.{ReadConsumes, WriteAppends};
+ghost use Rattle.std.specs.Prelude.{◌≡◌, ◌<◌, ◌≤◌, ℕ, [], length, Bool, false, IfOk, IsErr};
+ghost use Rattle.outside.specs.Adapters.{comes_to, ComesOf};
 ghost use Rattle.outside.specs.Faults.{HasCause, counted};
 
+use crate::calls::{ReadCall, WriteCall};
 use crate::sink::Sink;
 use crate::source::{Failed, Source};
 use std::io;
-use std::io::{Read, Write};
 use std::marker::Model;
 
-/// What a call of the system comes to: its own answer, or a fault where it was an error or took fewer bytes than it has
-/// to. A fault raises the count by one up to its last value.
-fn counted(faults: &mut u64, answer: io::Result<usize>, least: usize) -> Result<usize, Failed>
-    ensures own { (k : ℕ) → answer ≡ Ok k → least ≤ k → result ≡ Ok k }
-    ensures only { IfOk result (λ k. (answer ≡ Ok k) × (least ≤ k)) }
+/// What a call of the system comes to: its own answer, or a fault where it was an error, or took fewer bytes than it has to or
+/// more than it may. A fault raises the count by one up to its last value.
+fn counted(
+    faults: &mut u64,
+    answer: io::Result<usize>,
+    least: usize,
+    most: usize,
+) -> Result<usize, Failed>
+    ensures value { result ≡ comes_to least most answer }
+    ensures within { IfOk result (λ k. (least ≤ k) × (k ≤ most)) }
     ensures counts { faults.new ≡ counted faults.old result }
     ensures cause { HasCause faults.old faults.new (IsErr result) }
 {
     match answer {
-        Ok(count) if count >= least => Ok(count),
+        Ok(count) if least <= count && count <= most => Ok(count),
         _ => {
             *faults = faults.saturating_add(1);
             Err(Failed)
@@ -41,7 +46,7 @@ impl<R> Model for FromRead<R> {
     ghost view = { λ s. record { inner = s.inner; faults = s.faults } };
 }
 
-impl<R: Read> FromRead<R> {
+impl<R: ReadCall> FromRead<R> {
     /// A source over this reader, of which no call failed yet.
     pub fn new(inner: R) -> FromRead<R>
         ensures { result ≡ record { inner = inner; faults = 0 } }
@@ -50,24 +55,25 @@ impl<R: Read> FromRead<R> {
     }
 }
 
-impl<R: Read> Source for FromRead<R> {
+impl<R: ReadCall> Source for FromRead<R> {
     ghost tells = { false };
 
     ghost left = { λ _. [] };
 
     ghost faults = { λ s. s.faults };
 
-    /// Reads once. An error of the reader is a fault, and raises the count by one up to its last value. Where the
-    /// reader's own bytes are known, these are the next of them.
+    /// Makes one call of the reader, with this buffer. An error of that is a fault, and raises the count by one up to its last
+    /// value.
     fn read(&mut self, buf: &mut [u8]) -> Result<usize, Failed>
         requires { 0 < length buf.old }
-        ensures known { ReadConsumes (R.remaining self.old.inner) (R.remaining self.new.inner) result buf.new }
+        ensures one { ComesOf (λ answer. R.reads self.old.inner buf.old answer buf.new self.new.inner) 0 (length buf.old) result }
         ensures count { IfOk result (λ k. k ≤ length buf.old) }
         ensures counts { self.new.faults ≡ counted self.old.faults result }
         ensures cause { HasCause self.old.faults self.new.faults (IsErr result) }
     {
-        let answer = self.inner.read(buf);
-        counted(&mut self.faults, answer, 0)
+        let most = buf.len();
+        let answer = self.inner.read_once(buf);
+        counted(&mut self.faults, answer, 0, most)
     }
 }
 
@@ -87,7 +93,7 @@ impl<W> Model for ToWrite<W> {
     ghost view = { λ s. record { inner = s.inner; faults = s.faults } };
 }
 
-impl<W: Write> ToWrite<W> {
+impl<W: WriteCall> ToWrite<W> {
     /// A sink over this writer, of which no call failed yet.
     pub fn new(inner: W) -> ToWrite<W>
         ensures { result ≡ record { inner = inner; faults = 0 } }
@@ -96,149 +102,23 @@ impl<W: Write> ToWrite<W> {
     }
 }
 
-impl<W: Write> Sink for ToWrite<W> {
+impl<W: WriteCall> Sink for ToWrite<W> {
     ghost tells = { false };
 
     ghost taken = { λ _. [] };
 
     ghost faults = { λ s. s.faults };
 
-    /// Writes once. An error of the writer is a fault, and so is a write that takes nothing: each raises the count by
-    /// one up to its last value. Where the writer's own bytes are known, what was taken is appended to them.
+    /// Makes one call of the writer, with these bytes. An error of that is a fault, and so is a write that takes nothing: each
+    /// raises the count by one up to its last value.
     fn write(&mut self, buf: &[u8]) -> Result<usize, Failed>
-        ensures known { WriteAppends (W.contents self.old.inner) (W.contents self.new.inner) result buf.now }
+        ensures one { ComesOf (λ answer. W.writes self.old.inner buf.now answer self.new.inner) 1 (length buf.now) result }
         ensures some { IfOk result (λ k. 0 < k) }
         ensures count { IfOk result (λ k. k ≤ length buf.now) }
         ensures cause { HasCause self.old.faults self.new.faults (IsErr result) }
         ensures counts { self.new.faults ≡ counted self.old.faults result }
     {
-        let answer = self.inner.write(buf);
-        counted(&mut self.faults, answer, 1)
-    }
-}
-
-#[cfg(test)]
-mod tests {
-    use super::{FromRead, ToWrite};
-    use crate::{Failed, Sink, Source, write_all};
-    use std::alloc::Global;
-    use std::io;
-    use std::io::{ErrorKind, Read, Write};
-    use std::test::*;
-
-    // Answers in order: so many bytes, or an error for `None`. Then come ends.
-    #[derive(Drop)]
-    struct Script {
-        answers: [Option<usize>; 5],
-        calls: usize,
-    }
-
-    impl Script {
-        fn new(answers: [Option<usize>; 5]) -> Script {
-            Script { answers, calls: 0 }
-        }
-
-        // The next answer to a call with so many bytes.
-        fn answer(&mut self, most: usize) -> io::Result<usize>
-            ensures { IfOk result (λ k. k ≤ most) }
-        {
-            let answer = self.answers.get(self.calls).copied().unwrap_or(Some(0));
-            self.calls = self.calls.saturating_add(1);
-            match answer {
-                Some(count) => Ok(count.min(most)),
-                None => Err(io::Error::from(ErrorKind::Other)),
-            }
-        }
-    }
-
-    // A reader that gives `x` by a script.
-    #[derive(Drop)]
-    struct ScriptReader(Script);
-
-    impl Read for ScriptReader {
-        fn read(&mut self, buf: &mut [u8]) -> io::Result<usize> {
-            let count = self.0.answer(buf.len())?;
-            buf[..count].fill(b'x');
-            Ok(count)
-        }
-    }
-
-    // A writer that takes bytes by a script, and keeps them.
-    #[derive(Drop)]
-    struct ScriptWriter {
-        script: Script,
-        taken: Vec<u8>,
-    }
-
-    impl Write for ScriptWriter {
-        fn write(&mut self, buf: &[u8]) -> io::Result<usize> {
-            let count = self.script.answer(buf.len())?;
-            self.taken.extend_from_slice(&buf[..count])?;
-            Ok(count)
-        }
-
-        fn flush(&mut self) -> io::Result<()> {
-            Ok(())
-        }
-    }
-
-    fn script_sink(alloc: Global, answers: [Option<usize>; 5]) -> ToWrite<ScriptWriter> {
-        ToWrite::new(ScriptWriter {
-            script: Script::new(answers),
-            taken: Vec::new(alloc),
-        })
-    }
-
-    // A reader that gives less than asked, fails in mid-stream and goes on, and ends.
-    #[test]
-    fn reads_what_the_reader_gives(rt: HostRuntime) -> Result<(), Fail> {
-        let script = Script::new([Some(2), None, Some(9), None, Some(1)]);
-        let mut source = FromRead::new(ScriptReader(script));
-        let mut buf = [b'.'; 3];
-        assert_eq!(rt; source.read(&mut buf), Ok(2));
-        assert_eq!(rt; &buf, b"xx.");
-        assert_eq!(rt; source.read(&mut buf), Err(Failed));
-        assert_eq!(rt; (&buf, source.faults), (b"xx.", 1));
-        for answer in [Ok(3), Err(Failed), Ok(1), Ok(0), Ok(0)] {
-            assert_eq!(rt; source.read(&mut buf), answer);
-        }
-        assert_eq!(rt; (&buf, source.faults), (b"xxx", 2));
-        Ok(())
-    }
-
-    // A writer that takes less than given, fails in mid-stream and goes on, and then takes nothing any more.
-    #[test]
-    fn writes_what_the_writer_takes(rt: HostRuntime) -> Result<(), Fail> {
-        let mut sink = script_sink(rt.alloc(), [Some(2), None, Some(9), Some(0), Some(1)]);
-        for answer in [Ok(2), Err(Failed), Ok(3), Err(Failed), Ok(1), Err(Failed)] {
-            assert_eq!(rt; sink.write(b"abc"), answer);
-        }
-        assert_eq!(rt; sink.inner.taken.as_slice(), b"ababca".as_slice());
-        assert_eq!(rt; sink.faults, 3);
-        Ok(())
-    }
-
-    // A long text in pieces, and then a front of it.
-    #[test]
-    fn writes_a_long_text(rt: HostRuntime) -> Result<(), Fail> {
-        let text = vec![in rt.alloc(); b'x'; 5_000]?;
-        let answers = [Some(1), Some(9), Some(4_096), Some(9_999), Some(5)];
-        let mut sink = script_sink(rt.alloc(), answers);
-        assert_eq!(rt; write_all(&mut sink, &text), Ok(()));
-        assert_eq!(rt; (sink.inner.taken.len(), sink.faults), (5_000, 0));
-        assert_eq!(rt; write_all(&mut sink, &text), Err(Failed));
-        assert_eq!(rt; (sink.inner.taken.len(), sink.faults), (5_005, 1));
-        Ok(())
-    }
-
-    // A text of which a front is taken, and the next one whole.
-    #[test]
-    fn writes_on_after_a_fault(rt: HostRuntime) -> Result<(), Fail> {
-        let answers = [Some(4), None, Some(4), Some(4), None];
-        let mut sink = script_sink(rt.alloc(), answers);
-        assert_eq!(rt; write_all(&mut sink, b"abcdef"), Err(Failed));
-        assert_eq!(rt; write_all(&mut sink, b"ghijkl"), Ok(()));
-        assert_eq!(rt; sink.inner.taken.as_slice(), b"abcdghijkl".as_slice());
-        Ok(())
+        let answer = self.inner.write_once(buf);
+        counted(&mut self.faults, answer, 1, buf.len())
     }
 }

@@ -3,7 +3,7 @@ ghost use Rattle.outside.specs.Links.{Starts, Gives, Sends, Replies, bytes_of, p
 ghost use Rattle.outside.specs.MemoryLink.{IsShort, first_of, rest_of};
 
 use crate::link::{LinkItem, LinkPlan, Sent};
-use ritas_base::Mem;
+use ritas_base::{Bytes, Mem};
 use std::alloc::Global;
 use std::marker::Model;
 
@@ -79,10 +79,11 @@ impl Course {
     }
 
     /// A plan was started.
-    pub(crate) fn started(&mut self, plan: LinkPlan) -> Result<(), Mem>
-        ensures ok { OnOk result (self.new ≡ record self.old { told = Starts plan ∷ self.old.told }) }
+    pub(crate) fn started(&mut self, alloc: Global, plan: &LinkPlan) -> Result<(), Mem>
+        ensures ok { OnOk result (self.new ≡ record self.old { told = Starts plan.now ∷ self.old.told }) }
         ensures err { OnErr result (self.new ≡ self.old) }
     {
+        let plan = plan.copy(alloc)?;
         self.dids.reserve(1)?;
         self.plans.push(plan)?;
         self.dids.push_reserved(Did::Start);
@@ -90,23 +91,31 @@ impl Course {
     }
 
     /// A frame was sent.
-    pub(crate) fn sent(&mut self, frame: Sent) -> Result<(), Mem>
-        ensures ok { OnOk result (self.new ≡ record self.old { told = Sends frame ∷ self.old.told }) }
+    pub(crate) fn sent(&mut self, alloc: Global, at: u8, to: u32, bytes: &[u8]) -> Result<(), Mem>
+        ensures ok { OnOk result (self.new ≡ record self.old { told = Sends (record { at = at; to = to; bytes = bytes.now }) ∷ self.old.told }) }
         ensures err { OnErr result (self.new ≡ self.old) }
     {
+        let bytes = Bytes::from_slice(alloc, bytes)?;
         self.dids.reserve(1)?;
-        self.frames.push(frame)?;
+        self.frames.push(Sent { at, to, bytes })?;
         self.dids.push_reserved(Did::Send);
         Ok(())
     }
 
     /// A reply was sent.
-    pub(crate) fn replied(&mut self, reply: Sent) -> Result<(), Mem>
-        ensures ok { OnOk result (self.new ≡ record self.old { told = Replies reply ∷ self.old.told }) }
+    pub(crate) fn replied(
+        &mut self,
+        alloc: Global,
+        at: u8,
+        to: u32,
+        bytes: &[u8],
+    ) -> Result<(), Mem>
+        ensures ok { OnOk result (self.new ≡ record self.old { told = Replies (record { at = at; to = to; bytes = bytes.now }) ∷ self.old.told }) }
         ensures err { OnErr result (self.new ≡ self.old) }
     {
+        let bytes = Bytes::from_slice(alloc, bytes)?;
         self.dids.reserve(1)?;
-        self.replies.push(reply)?;
+        self.replies.push(Sent { at, to, bytes })?;
         self.dids.push_reserved(Did::Reply);
         Ok(())
     }

@@ -1,13 +1,14 @@
 //! Where bytes come from and where they go, what a replica has to do with others, and the faults of all of these.
 //!
 //! A `Source` gives the bytes that it has left in pieces of its own choice, and a `Sink` takes bytes in pieces. A `Link` is
-//! started with a plan, gives items, and takes frames and replies. Each counts its faults, and a call answers `Failed` only
-//! where that count rose, or stands at its last value, 2^64 - 1.
+//! started with a plan, gives items, and takes frames and replies. Each counts the calls that failed: a call that fails raises
+//! that count by one, up to its last value, 2^64 - 1, and no other call changes it. A link also counts so the calls that were
+//! without memory.
 //!
 //! What a source has left, what a sink took, and which calls of a link answered Ok is told by the forms in memory,
 //! `MemSource`, `MemSink` and `MemLink`, which are exact in their contents and in which calls fail, and by `Buffer`, a sink
-//! that grows and fails only for want of memory. It isn't told by the forms over the system, `FromRead` and `ToWrite`, of
-//! which no contract can say what they give or take.
+//! that grows and fails only for want of memory. It isn't told by the forms over the system, `FromRead` and `ToWrite`: each of
+//! their calls is one call of what they go over, and no contract says what that gives or takes.
 //!
 //! `write_all` writes a whole text to a sink, and `read_whole` reads all that a source has left, up to a limit. How calls
 //! that are made of writes write their texts one after the other is said by the lemmas of `specs/WritingLaws.antt`. The calls
@@ -17,11 +18,10 @@
 #![tactic(auto)]
 
 mod adapters;
+mod calls;
 mod course;
 mod growing;
 mod link;
-#[cfg(test)]
-mod link_tests;
 mod mem_link;
 mod memory;
 mod sink;
@@ -31,8 +31,9 @@ mod tests;
 mod whole;
 
 pub use adapters::{FromRead, ToWrite};
+pub use calls::{ReadCall, WriteCall};
 pub use growing::Buffer;
-pub use link::{Link, LinkFault, LinkItem, LinkPlan, Sent};
+pub use link::{FaultCounts, Link, LinkFault, LinkItem, LinkPlan, Sent};
 pub use mem_link::MemLink;
 pub use memory::{MemSink, MemSource};
 pub use sink::{Sink, write_all};

@@ -1,5 +1,6 @@
 ghost use Rattle.std.specs.Prelude.{◌≡◌, ◌↔◌, ◌<◌, ◌∷◌, ◌^◌, List, ℕ, Bool, true, IsTrue, IfOk, OnOk, OnErr, Err, Contains, length};
-ghost use Rattle.outside.specs.Faults.{HasCause};
+ghost use Rattle.outside.specs.Faults.{HasCause, count_after};
+ghost use Rattle.outside.specs.declared.link.FaultCounts.{FaultCounts};
 ghost use Rattle.outside.specs.Links.{LinkAct, Starts, Gives, Sends, Replies, bytes_of, items_in, faults_after};
 
 use crate::source::Failed;
@@ -57,6 +58,47 @@ impl<T: Drop> From<AllocFailed<T>> for LinkFault {
     ghost from_gives = { λ _ e. e ≡ faults.Mem };
 
     fn from(_: AllocFailed<T>) -> LinkFault {
+        LinkFault::Mem
+    }
+}
+
+/// How many calls of a link answered each of its faults. Each count goes up to its last value, 2^64 - 1, and then stands.
+#[derive(Clone, Copy, Debug, PartialEq, Eq)]
+pub struct FaultCounts {
+    /// How many failed.
+    pub failed: u64,
+    /// How many were without memory.
+    pub short: u64,
+}
+
+impl FaultCounts {
+    /// No call answered a fault yet.
+    pub fn new() -> FaultCounts
+        ensures { result ≡ record { failed = 0; short = 0 } }
+    {
+        FaultCounts {
+            failed: 0,
+            short: 0,
+        }
+    }
+
+    /// What a call that failed answers. One more is counted.
+    pub fn fail(&mut self) -> LinkFault
+        ensures fault { result ≡ LinkFault.Failed }
+        ensures counts { self.new ≡ record self.old { failed = count_after self.old.failed } }
+    {
+        let failed = self.failed;
+        self.failed = failed.saturating_add(1);
+        LinkFault::Failed
+    }
+
+    /// What a call that is without memory answers. One more is counted.
+    pub fn fall_short(&mut self) -> LinkFault
+        ensures fault { result ≡ LinkFault.Mem }
+        ensures counts { self.new ≡ record self.old { short = count_after self.old.short } }
+    {
+        let short = self.short;
+        self.short = short.saturating_add(1);
         LinkFault::Mem
     }
 }
@@ -162,8 +204,9 @@ pub struct Sent {
 
 /// What a replica or a client has to do with others: frames and messages come, and frames and replies go.
 ///
-/// A call that answers Ok joins what is told, and one that answers an error leaves it as it was. `Failed` is answered only
-/// where the count of faults rose, or stands at its last value; every other answer leaves that count as it was.
+/// A call that answers Ok joins what is told, and one that answers an error leaves it as it was. `Failed` raises the count of
+/// calls that failed, and `Mem` the count of those without memory, each by one up to its last value; nothing else changes
+/// these counts.
 pub trait Link {
     /// Whether it is told what was started, given, sent and replied. It isn't of sockets.
     ghost tells: { Bool };
@@ -171,8 +214,8 @@ pub trait Link {
     /// The calls that answered Ok, the newest first, where they are told.
     ghost told: { Self → List LinkAct };
 
-    /// How many of its calls failed, 0 to 2^64 - 1.
-    ghost faults: { Self → ℕ };
+    /// How many of its calls failed, and how many were without memory.
+    ghost faults: { Self → FaultCounts };
 
     /// Starts a plan.
     fn start<R: Net + Wait>(
@@ -183,7 +226,7 @@ pub trait Link {
     ) -> Result<(), LinkFault>
         ensures ok { tells ≡ true → OnOk result (told self.new ≡ Starts plan.now ∷ told self.old) }
         ensures err { tells ≡ true → OnErr result (told self.new ≡ told self.old) }
-        ensures cause { HasCause (faults self.old) (faults self.new) (result ≡ Err LinkFault.Failed) }
+        ensures cause { HasCause (faults self.old).failed (faults self.new).failed (result ≡ Err LinkFault.Failed) }
         ensures count { faults self.new ≡ faults_after (faults self.old) result };
 
     /// Gives the next item, of at most 65,535 bytes, for which it may wait. A link that tells gives nothing else once it gave `End`.
@@ -192,7 +235,7 @@ pub trait Link {
         ensures end { tells ≡ true → Contains (items_in (told self.old)) LinkItem.End → IfOk result (λ item. item ≡ LinkItem.End) }
         ensures ok { tells ≡ true → IfOk result (λ item. told self.new ≡ Gives item ∷ told self.old) }
         ensures err { tells ≡ true → OnErr result (told self.new ≡ told self.old) }
-        ensures cause { HasCause (faults self.old) (faults self.new) (result ≡ Err LinkFault.Failed) }
+        ensures cause { HasCause (faults self.old).failed (faults self.new).failed (result ≡ Err LinkFault.Failed) }
         ensures count { faults self.new ≡ faults_after (faults self.old) result };
 
     /// Sends a frame of replica `at` to a peer.
@@ -206,7 +249,7 @@ pub trait Link {
     ) -> Result<(), LinkFault>
         ensures ok { tells ≡ true → OnOk result (told self.new ≡ Sends (record { at = at; to = peer; bytes = frame.now }) ∷ told self.old) }
         ensures err { tells ≡ true → OnErr result (told self.new ≡ told self.old) }
-        ensures cause { HasCause (faults self.old) (faults self.new) (result ≡ Err LinkFault.Failed) }
+        ensures cause { HasCause (faults self.old).failed (faults self.new).failed (result ≡ Err LinkFault.Failed) }
         ensures count { faults self.new ≡ faults_after (faults self.old) result };
 
     /// Sends a reply of replica `at` to the connection of a client.
@@ -220,6 +263,6 @@ pub trait Link {
     ) -> Result<(), LinkFault>
         ensures ok { tells ≡ true → OnOk result (told self.new ≡ Replies (record { at = at; to = conn; bytes = bytes.now }) ∷ told self.old) }
         ensures err { tells ≡ true → OnErr result (told self.new ≡ told self.old) }
-        ensures cause { HasCause (faults self.old) (faults self.new) (result ≡ Err LinkFault.Failed) }
+        ensures cause { HasCause (faults self.old).failed (faults self.new).failed (result ≡ Err LinkFault.Failed) }
         ensures count { faults self.new ≡ faults_after (faults self.old) result };
 }

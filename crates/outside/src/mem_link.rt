@@ -1,25 +1,26 @@
 ghost use Rattle.std.specs.Prelude.{◌≡◌, ◌<◌, ◌∷◌, [], ◌^◌, true, reverse, length, IfOk, OnOk, OnErr, Err, All, Contains};
-ghost use Rattle.outside.specs.Faults.{HasCause};
+ghost use Rattle.outside.specs.Faults.{HasCause, count_after};
 ghost use Rattle.outside.specs.Memory.{no_calls};
 ghost use Rattle.outside.specs.Links.{Starts, Gives, Sends, Replies, bytes_of, plans_in, items_in, frames_in, replies_in, faults_after};
-ghost use Rattle.outside.specs.MemoryLink.{IsShort, LinksMemory, first_of, rest_of};
+ghost use Rattle.outside.specs.MemoryLink.{IsShort, LinksMemory, faults_of, first_of, rest_of};
 
 use crate::course::Course;
 use crate::link::{Link, LinkFault, LinkItem, LinkPlan, Sent};
-use crate::memory::CallList;
-use ritas_base::{Bytes, Mem};
+use crate::memory::{CallList, raised};
+use ritas_base::Mem;
 use std::alloc::Global;
 use std::marker::Model;
 use std::net::Net;
 use std::sync::Wait;
 
 /// A link in memory, which gives the items that it was made with, in order, up to the first `End`, and then only `End`.
-/// Contracts see the items that are left, the calls that answered Ok, the newest first, and its calls: those that fail, the
-/// number of the next one, and how many failed. A call for which there is not enough memory has a number, and is no fault.
+/// Contracts see the items that are left, the calls that answered Ok, the newest first, its calls: those that fail, the
+/// number of the next one, and how many failed, and how many were without memory. Such a call has a number too.
 #[derive(Drop)]
 pub struct MemLink {
     course: Course,
     calls: CallList,
+    short: u64,
 }
 
 impl Model for MemLink {
@@ -27,7 +28,7 @@ impl Model for MemLink {
 
     ghost Value = { LinkState };
 
-    ghost view = { λ s. record { left = s.course.left; told = s.course.told; calls = s.calls } };
+    ghost view = { λ s. record { left = s.course.left; told = s.course.told; calls = s.calls; short = s.short } };
 }
 
 // A copy of these items.
@@ -47,13 +48,23 @@ impl MemLink {
     /// 2^64 - 1 has that number too. The one error is want of memory.
     pub fn new(alloc: Global, items: &[LinkItem], fails: &[u64]) -> Result<MemLink, Mem>
         requires { All IsShort items.now }
-        ensures { IfOk result (λ s. s ≡ record { left = items.now; told = []; calls = no_calls fails.now }) }
+        ensures { IfOk result (λ s. s ≡ record { left = items.now; told = []; calls = no_calls fails.now; short = 0 }) }
     {
         let items = copied(alloc, items)?;
         Ok(MemLink {
             course: Course::new(alloc, items),
             calls: CallList::new(alloc, fails)?,
+            short: 0,
         })
+    }
+
+    // What a call that is without memory answers. One more is counted.
+    fn fall_short(&mut self) -> LinkFault
+        ensures fault { result ≡ LinkFault.Mem }
+        ensures counts { self.new ≡ record self.old { short = count_after self.old.short } }
+    {
+        self.short = raised(self.short);
+        LinkFault::Mem
     }
 
     /// The plans that were started, in order. It takes no memory.
@@ -83,7 +94,7 @@ impl Link for MemLink {
 
     ghost told = { λ s. s.told };
 
-    ghost faults = { λ s. s.calls.faults };
+    ghost faults = { λ s. faults_of s };
 
     fn start<R: Net + Wait>(
         &mut self,
@@ -95,12 +106,13 @@ impl Link for MemLink {
         ensures ok { OnOk result (self.new.told ≡ Starts plan.now ∷ self.old.told) }
         ensures err { OnErr result (self.new.told ≡ self.old.told) }
         ensures cause { HasCause self.old.calls.faults self.new.calls.faults (result ≡ Err LinkFault.Failed) }
-        ensures count { self.new.calls.faults ≡ faults_after self.old.calls.faults result }
+        ensures count { faults_of self.new ≡ faults_after (faults_of self.old) result }
     {
         self.calls.begin()?;
-        let plan = plan.copy(alloc)?;
-        self.course.started(plan)?;
-        Ok(())
+        match self.course.started(alloc, plan) {
+            Ok(()) => Ok(()),
+            Err(Mem) => Err(self.fall_short()),
+        }
     }
 
     fn next<R: Net + Wait>(&mut self, _rt: &R, alloc: Global) -> Result<LinkItem, LinkFault>
@@ -111,10 +123,13 @@ impl Link for MemLink {
         ensures ok { IfOk result (λ item. self.new.told ≡ Gives item ∷ self.old.told) }
         ensures err { OnErr result (self.new.told ≡ self.old.told) }
         ensures cause { HasCause self.old.calls.faults self.new.calls.faults (result ≡ Err LinkFault.Failed) }
-        ensures count { self.new.calls.faults ≡ faults_after self.old.calls.faults result }
+        ensures count { faults_of self.new ≡ faults_after (faults_of self.old) result }
     {
         self.calls.begin()?;
-        Ok(self.course.gave(alloc)?)
+        match self.course.gave(alloc) {
+            Ok(item) => Ok(item),
+            Err(Mem) => Err(self.fall_short()),
+        }
     }
 
     fn send<R: Net + Wait>(
@@ -129,13 +144,13 @@ impl Link for MemLink {
         ensures ok { OnOk result (self.new.told ≡ Sends (record { at = at; to = peer; bytes = frame.now }) ∷ self.old.told) }
         ensures err { OnErr result (self.new.told ≡ self.old.told) }
         ensures cause { HasCause self.old.calls.faults self.new.calls.faults (result ≡ Err LinkFault.Failed) }
-        ensures count { self.new.calls.faults ≡ faults_after self.old.calls.faults result }
+        ensures count { faults_of self.new ≡ faults_after (faults_of self.old) result }
     {
         self.calls.begin()?;
-        let bytes = Bytes::from_slice(alloc, frame)?;
-        let to = u32::from(peer);
-        self.course.sent(Sent { at, to, bytes })?;
-        Ok(())
+        match self.course.sent(alloc, at, u32::from(peer), frame) {
+            Ok(()) => Ok(()),
+            Err(Mem) => Err(self.fall_short()),
+        }
     }
 
     fn reply<R: Net + Wait>(
@@ -150,15 +165,12 @@ impl Link for MemLink {
         ensures ok { OnOk result (self.new.told ≡ Replies (record { at = at; to = conn; bytes = bytes.now }) ∷ self.old.told) }
         ensures err { OnErr result (self.new.told ≡ self.old.told) }
         ensures cause { HasCause self.old.calls.faults self.new.calls.faults (result ≡ Err LinkFault.Failed) }
-        ensures count { self.new.calls.faults ≡ faults_after self.old.calls.faults result }
+        ensures count { faults_of self.new ≡ faults_after (faults_of self.old) result }
     {
         self.calls.begin()?;
-        let bytes = Bytes::from_slice(alloc, bytes)?;
-        self.course.replied(Sent {
-            at,
-            to: conn,
-            bytes,
-        })?;
-        Ok(())
+        match self.course.replied(alloc, at, conn, bytes) {
+            Ok(()) => Ok(()),
+            Err(Mem) => Err(self.fall_short()),
+        }
     }
 }

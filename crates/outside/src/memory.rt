@@ -9,7 +9,7 @@ use std::alloc::Global;
 use std::marker::Model;
 
 /// A count after one more, which stands at its last value.
-fn raised(count: u64) -> u64
+pub(crate) fn raised(count: u64) -> u64
     ensures value { result ≡ count_after count }
     ensures cause { HasCause count result ⊤ }
 {
@@ -133,6 +133,7 @@ impl Source for MemSource {
         ensures end { IfOk result (λ k. k ≡ 0 → self.old.left ≡ []) }
         ensures err { OnErr result (self.new.left ≡ self.old.left) }
         ensures cause { HasCause self.old.calls.faults self.new.calls.faults (IsErr result) }
+        ensures counts { self.new.calls.faults ≡ counted self.old.calls.faults result }
     {
         self.calls.begin()?;
         if self.at >= self.bytes.len() {

@@ -1,5 +1,6 @@
 ghost use Rattle.std.specs.Prelude.{◌≡◌, ◌≢◌, ◌<◌, ◌≤◌, ◌+◌, ◌^◌, ◌↔◌, [], true, length, Err, IfOk};
 ghost use Rattle.outside.specs.Faults.{HasCause};
+ghost use Rattle.outside.specs.Wholes.{faults_after};
 ghost use Rattle.outside.specs.declared.whole.ReadFault.TheVariants as faults;
 
 use crate::source::{Failed, Source};
@@ -39,7 +40,8 @@ impl From<AllocError> for ReadFault {
 /// is taken as the bytes come.
 ///
 /// `TooLong` says that more than `most` are left. `Failed` is answered only where the source's count of faults rose, or
-/// stands at its last value. After a fault the bytes that came before it are lost.
+/// stands at its last value, and every other answer leaves that count as it was. After a fault the bytes that came before it
+/// are lost.
 pub fn read_whole<S: Source>(
     alloc: Global,
     source: &mut S,
@@ -57,6 +59,7 @@ pub fn read_whole<S: Source>(
     // In any case at most one byte more was taken.
     ensures taken { S.tells ≡ true → length (S.left source.old) ≤ length (S.left source.new) + most + 1 }
     ensures cause { HasCause (S.faults source.old) (S.faults source.new) (result ≡ Err ReadFault.Failed) }
+    ensures counts { S.faults source.new ≡ faults_after (S.faults source.old) result }
 {
     let mut bytes = Vec::new(alloc);
     let mut piece = [0; PIECE];

@@ -1,5 +1,6 @@
 pub mod Reading
 pub mod FileBytes
+pub mod SourceFaults
 pub mod Place
 pub mod ReadHeader
 pub mod Spelling

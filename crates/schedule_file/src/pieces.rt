@@ -1,7 +1,8 @@
 ghost use Rattle.std.specs.Prelude.{◌^◌, ◌≡◌, ◌<◌, ◌≤◌, ◌+◌, ◌-◌, ◌++◌, [], true, false, Ok, Err, length, take, drop, IfOk, IfErr, IsOk, IsErr, OnOk, MatchResult, ◌≢◌};
 ghost use Rattle.std.specs.Bool.{OnTrue, OnFalse};
-ghost use Rattle.outside.specs.Faults.{HasCause};
+ghost use Rattle.outside.specs.Faults.{HasCause, counted};
 ghost use Rattle.schedule_file.specs.declared.fault.FileFault.TheVariants.{Read};
+ghost use Rattle.schedule_file.specs.SourceFaults.{faults_after};
 ghost use Rattle.schedule_file.specs.Reading.{test};
 ghost use Rattle.schedule_file.specs.FileBytes.{Gives, Fails, byte_at, end_at, bytes_at, u16_at, u32_at, u64_at, text_at, limit};
 ghost use Rattle.schedule_file.specs.Place.{spot};
@@ -110,6 +111,7 @@ impl Pieces {
         ensures end { S.tells ≡ true → IfOk result (λ k. k ≡ 0 → S.left source.new ≡ []) }
         ensures at { self.new.at ≡ self.old.at }
         ensures cause { HasCause (S.faults source.old) (S.faults source.new) (IsErr result) }
+        ensures counts { S.faults source.new ≡ counted (S.faults source.old) result }
     {
         self.to = move_to_front(&mut self.piece, self.from, self.to);
         self.from = 0;
@@ -125,6 +127,7 @@ impl Pieces {
         ensures enough { S.tells ≡ true → OnOk result (length self.new.bytes < len → S.left source.new ≡ []) }
         ensures at { self.new.at ≡ self.old.at }
         ensures cause { HasCause (S.faults source.old) (S.faults source.new) (IsErr result) }
+        ensures counts { S.faults source.new ≡ counted (S.faults source.old) result }
     {
         while self.len() < len {
             let came = self.read_on(source)?;
@@ -142,6 +145,7 @@ impl Pieces {
         ensures none { S.tells ≡ true → IfOk result (λ b. OnFalse b (self.new.bytes ++ S.left source.new ≡ [])) }
         ensures at { self.new.at ≡ self.old.at }
         ensures cause { HasCause (S.faults source.old) (S.faults source.new) (IsErr result) }
+        ensures counts { S.faults source.new ≡ counted (S.faults source.old) result }
     {
         self.gather(source, 1)?;
         Ok(self.len() > 0)
@@ -156,6 +160,7 @@ impl Pieces {
         ensures at { self.new.at ≡ self.old.at }
         ensures memory { result ≢ Err FileFault.Mem }
         ensures cause { HasCause (S.faults source.old) (S.faults source.new) (result ≡ Err Read) }
+        ensures counts { S.faults source.new ≡ faults_after (S.faults source.old) result }
     {
         if !self.refill(source)? {
             return Ok(false);
@@ -172,6 +177,7 @@ impl Pieces {
         ensures exact { S.tells ≡ true → Gives (λ b. b) result (spot self.new (S.left source.new)) (byte_at (spot self.old (S.left source.old))) }
         ensures memory { result ≢ Err FileFault.Mem }
         ensures cause { HasCause (S.faults source.old) (S.faults source.new) (result ≡ Err Read) }
+        ensures counts { S.faults source.new ≡ faults_after (S.faults source.old) result }
     {
         if !self.has_more(source)? {
             return Err(FileFault::Truncated(self.at));
@@ -188,6 +194,7 @@ impl Pieces {
         ensures exact { S.tells ≡ true → Gives (λ b. b) result (spot self.new (S.left source.new)) (end_at (spot self.old (S.left source.old))) }
         ensures memory { result ≢ Err FileFault.Mem }
         ensures cause { HasCause (S.faults source.old) (S.faults source.new) (result ≡ Err Read) }
+        ensures counts { S.faults source.new ≡ faults_after (S.faults source.old) result }
     {
         if self.has_more(source)? {
             return Err(FileFault::Trailing(self.at));
@@ -204,6 +211,7 @@ impl Pieces {
         ensures err { S.tells ≡ true → IfErr result (λ e. Fails e (bytes_at len (spot self.old (S.left source.old)))) }
         ensures memory { result ≢ Err FileFault.Mem }
         ensures cause { HasCause (S.faults source.old) (S.faults source.new) (result ≡ Err Read) }
+        ensures counts { S.faults source.new ≡ faults_after (S.faults source.old) result }
     {
         self.gather(source, len)?;
         let have = self.len().min(len);
@@ -224,6 +232,7 @@ impl Pieces {
             (bytes_at (length out.old) (spot self.old (S.left source.old))) }
         ensures memory { result ≢ Err FileFault.Mem }
         ensures cause { HasCause (S.faults source.old) (S.faults source.new) (result ≡ Err Read) }
+        ensures counts { S.faults source.new ≡ faults_after (S.faults source.old) result }
     {
         self.hold(source, out.len())?;
         out.copy_from_slice(self.front(out.len()));
@@ -236,6 +245,7 @@ impl Pieces {
         ensures exact { S.tells ≡ true → Gives (λ b. b) result (spot self.new (S.left source.new)) (u16_at (spot self.old (S.left source.old))) }
         ensures memory { result ≢ Err FileFault.Mem }
         ensures cause { HasCause (S.faults source.old) (S.faults source.new) (result ≡ Err Read) }
+        ensures counts { S.faults source.new ≡ faults_after (S.faults source.old) result }
     {
         let mut bytes = [0; 2];
         self.fill(source, &mut bytes)?;
@@ -247,6 +257,7 @@ impl Pieces {
         ensures exact { S.tells ≡ true → Gives (λ b. b) result (spot self.new (S.left source.new)) (u32_at (spot self.old (S.left source.old))) }
         ensures memory { result ≢ Err FileFault.Mem }
         ensures cause { HasCause (S.faults source.old) (S.faults source.new) (result ≡ Err Read) }
+        ensures counts { S.faults source.new ≡ faults_after (S.faults source.old) result }
     {
         let mut bytes = [0; 4];
         self.fill(source, &mut bytes)?;
@@ -258,6 +269,7 @@ impl Pieces {
         ensures exact { S.tells ≡ true → Gives (λ b. b) result (spot self.new (S.left source.new)) (u64_at (spot self.old (S.left source.old))) }
         ensures memory { result ≢ Err FileFault.Mem }
         ensures cause { HasCause (S.faults source.old) (S.faults source.new) (result ≡ Err Read) }
+        ensures counts { S.faults source.new ≡ faults_after (S.faults source.old) result }
     {
         let mut bytes = [0; 8];
         self.fill(source, &mut bytes)?;
@@ -276,6 +288,7 @@ impl Pieces {
         ensures len { IfOk result (λ v. length v ≡ len) }
         ensures memory { S.tells ≡ true → result ≡ Err FileFault.Mem → IsOk (bytes_at len (spot self.old (S.left source.old))) }
         ensures cause { HasCause (S.faults source.old) (S.faults source.new) (result ≡ Err Read) }
+        ensures counts { S.faults source.new ≡ faults_after (S.faults source.old) result }
     {
         self.hold(source, len as usize)?;
         let bytes = Bytes::from_slice(alloc, self.front(len as usize))?;
@@ -290,6 +303,7 @@ impl Pieces {
         ensures len { IfOk result (λ v. length v < 2 ^ 16) }
         ensures memory { S.tells ≡ true → result ≡ Err FileFault.Mem → IsOk (text_at (spot self.old (S.left source.old))) }
         ensures cause { HasCause (S.faults source.old) (S.faults source.new) (result ≡ Err Read) }
+        ensures counts { S.faults source.new ≡ faults_after (S.faults source.old) result }
     {
         let len = self.number16(source)?;
         self.bytes(alloc, source, len)

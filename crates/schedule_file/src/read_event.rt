@@ -1,6 +1,7 @@
 ghost use Rattle.std.specs.Prelude.{◌<◌, IfOk, IfSome, IsOk, ◌≡◌, ◌≢◌, true, Err, None};
 ghost use Rattle.outside.specs.Faults.{HasCause};
 ghost use Rattle.schedule_file.specs.declared.fault.FileFault.TheVariants.{Read};
+ghost use Rattle.schedule_file.specs.SourceFaults.{faults_after};
 ghost use Rattle.schedule_file.specs.FileBytes.{Gives};
 ghost use Rattle.schedule_file.specs.Place.{spot};
 ghost use Rattle.schedule_file.specs.Scopes.{IsTheOne, IsInScope};
@@ -25,6 +26,7 @@ fn read_replica<S: Source>(
     ensures one { IfOk result (IsTheOne scope.only) }
     ensures memory { result ≢ Err FileFault.Mem }
     ensures cause { HasCause (S.faults source.old) (S.faults source.new) (result ≡ Err Read) }
+    ensures counts { S.faults source.new ≡ faults_after (S.faults source.old) result }
 {
     let at = pieces.byte(source)?;
     test(scope.has(at), FileFault::Event(begin))?;
@@ -43,6 +45,7 @@ fn read_pair<S: Source>(
     ensures pair { IfOk result (λ x. (x.0 < scope.n) × (x.1 < scope.n) × (x.0 ≢ x.1)) }
     ensures memory { result ≢ Err FileFault.Mem }
     ensures cause { HasCause (S.faults source.old) (S.faults source.new) (result ≡ Err Read) }
+    ensures counts { S.faults source.new ≡ faults_after (S.faults source.old) result }
 {
     test(scope.only.is_none(), FileFault::Event(begin))?;
     let from = read_replica(pieces, source, scope, begin)?;
@@ -63,6 +66,7 @@ fn read_frame<S: Source>(
     ensures event { IfOk result (IsInScope scope) }
     ensures memory { S.tells ≡ true → result ≡ Err FileFault.Mem → IsOk (frame_at scope begin (spot pieces.old (S.left source.old))) }
     ensures cause { HasCause (S.faults source.old) (S.faults source.new) (result ≡ Err Read) }
+    ensures counts { S.faults source.new ≡ faults_after (S.faults source.old) result }
 {
     let to = read_replica(pieces, source, scope, begin)?;
     let bytes = pieces.text(alloc, source)?;
@@ -81,6 +85,7 @@ fn read_input<S: Source>(
     ensures event { IfOk result (IsInScope scope) }
     ensures memory { S.tells ≡ true → result ≡ Err FileFault.Mem → IsOk (input_at scope begin (spot pieces.old (S.left source.old))) }
     ensures cause { HasCause (S.faults source.old) (S.faults source.new) (result ≡ Err Read) }
+    ensures counts { S.faults source.new ≡ faults_after (S.faults source.old) result }
 {
     let at = read_replica(pieces, source, scope, begin)?;
     let bytes = pieces.text(alloc, source)?;
@@ -98,6 +103,7 @@ fn read_turn<S: Source>(
     ensures event { IfOk result (IsInScope scope) }
     ensures memory { result ≢ Err FileFault.Mem }
     ensures cause { HasCause (S.faults source.old) (S.faults source.new) (result ≡ Err Read) }
+    ensures counts { S.faults source.new ≡ faults_after (S.faults source.old) result }
 {
     let at = read_replica(pieces, source, scope, begin)?;
     Ok(Event::Turn { at })
@@ -114,6 +120,7 @@ fn read_pass<S: Source>(
     ensures event { IfOk result (IsInScope scope) }
     ensures memory { result ≢ Err FileFault.Mem }
     ensures cause { HasCause (S.faults source.old) (S.faults source.new) (result ≡ Err Read) }
+    ensures counts { S.faults source.new ≡ faults_after (S.faults source.old) result }
 {
     let (from, to) = read_pair(pieces, source, scope, begin)?;
     let m = pieces.number32(source)?;
@@ -132,6 +139,7 @@ fn read_sealed<S: Source>(
     ensures event { IfOk result (IsInScope scope) }
     ensures memory { S.tells ≡ true → result ≡ Err FileFault.Mem → IsOk (sealed_at scope begin (spot pieces.old (S.left source.old))) }
     ensures cause { HasCause (S.faults source.old) (S.faults source.new) (result ≡ Err Read) }
+    ensures counts { S.faults source.new ≡ faults_after (S.faults source.old) result }
 {
     let (from, to) = read_pair(pieces, source, scope, begin)?;
     let body = pieces.text(alloc, source)?;
@@ -151,6 +159,7 @@ fn read_kind<S: Source>(
     ensures event { IfOk result (IsInScope scope) }
     ensures memory { S.tells ≡ true → result ≡ Err FileFault.Mem → IsOk (kind_at scope begin kind (spot pieces.old (S.left source.old))) }
     ensures cause { HasCause (S.faults source.old) (S.faults source.new) (result ≡ Err Read) }
+    ensures counts { S.faults source.new ≡ faults_after (S.faults source.old) result }
 {
     match kind {
         1 => read_frame(alloc, pieces, source, scope, begin),
@@ -174,6 +183,7 @@ pub fn read_event<S: Source>(
     ensures event { IfOk result (λ o. IfSome o (IsInScope scope)) }
     ensures memory { S.tells ≡ true → result ≡ Err FileFault.Mem → IsOk (event_at scope (spot pieces.old (S.left source.old))) }
     ensures cause { HasCause (S.faults source.old) (S.faults source.new) (result ≡ Err Read) }
+    ensures counts { S.faults source.new ≡ faults_after (S.faults source.old) result }
 {
     let begin = pieces.at();
     let kind = pieces.byte(source)?;

@@ -1,6 +1,7 @@
 ghost use Rattle.std.specs.Prelude.{◌^◌, ◌≡◌, ◌≢◌, ◌<◌, ◌≤◌, true, false, Err, IfOk, IsTrue};
 ghost use Rattle.outside.specs.Faults.{HasCause};
 ghost use Rattle.schedule_file.specs.declared.fault.FileFault.TheVariants.{Read};
+ghost use Rattle.schedule_file.specs.SourceFaults.{faults_after};
 ghost use Rattle.schedule_file.specs.FileBytes.{Gives, bytes_at};
 ghost use Rattle.schedule_file.specs.Place.{spot};
 ghost use Rattle.schedule_file.specs.Spelling.{IsKey, IsRow, AreKeys, IsHeading};
@@ -26,6 +27,7 @@ fn read_start<S: Source>(pieces: &mut Pieces, source: &mut S) -> Result<u64, Fil
     ensures exact { S.tells ≡ true → Gives (λ x. x) result (spot pieces.new (S.left source.new)) (start_at (spot pieces.old (S.left source.old))) }
     ensures memory { result ≢ Err FileFault.Mem }
     ensures cause { HasCause (S.faults source.old) (S.faults source.new) (result ≡ Err Read) }
+    ensures counts { S.faults source.new ≡ faults_after (S.faults source.old) result }
 {
     let magic = pieces.number32(source)?;
     test(magic == 0x5249_5453, FileFault::Magic)?;
@@ -40,6 +42,7 @@ fn read_numbers<S: Source>(pieces: &mut Pieces, source: &mut S) -> Result<Params
     ensures session { IfOk result IsSession }
     ensures memory { result ≢ Err FileFault.Mem }
     ensures cause { HasCause (S.faults source.old) (S.faults source.new) (result ≡ Err Read) }
+    ensures counts { S.faults source.new ≡ faults_after (S.faults source.old) result }
 {
     let n = pieces.byte(source)?;
     test(1 <= n && n <= 31, FileFault::Header(13))?;
@@ -57,6 +60,7 @@ fn read_root<S: Source>(pieces: &mut Pieces, source: &mut S) -> Result<u8, FileF
     ensures root { IfOk result (λ root. (1 ≤ root) × (root ≤ 6)) }
     ensures memory { result ≢ Err FileFault.Mem }
     ensures cause { HasCause (S.faults source.old) (S.faults source.new) (result ≡ Err Read) }
+    ensures counts { S.faults source.new ≡ faults_after (S.faults source.old) result }
 {
     let root = pieces.byte(source)?;
     test(is_root(root), FileFault::Header(15))?;
@@ -68,6 +72,7 @@ fn read_vect<S: Source>(pieces: &mut Pieces, source: &mut S) -> Result<Vect, Fil
     ensures exact { S.tells ≡ true → Gives (λ x. x) result (spot pieces.new (S.left source.new)) (vect_at (spot pieces.old (S.left source.old))) }
     ensures memory { result ≢ Err FileFault.Mem }
     ensures cause { HasCause (S.faults source.old) (S.faults source.new) (result ≡ Err Read) }
+    ensures counts { S.faults source.new ≡ faults_after (S.faults source.old) result }
 {
     match pieces.byte(source)? {
         1 => Ok(Vect::Echo),
@@ -83,6 +88,7 @@ fn read_mask<S: Source>(pieces: &mut Pieces, source: &mut S, n: u8) -> Result<Se
     ensures below { IfOk result (λ mask. mask < 2 ^ n) }
     ensures memory { result ≢ Err FileFault.Mem }
     ensures cause { HasCause (S.faults source.old) (S.faults source.new) (result ≡ Err Read) }
+    ensures counts { S.faults source.new ≡ faults_after (S.faults source.old) result }
 {
     let mask = pieces.number32(source)?;
     test(mask < 1 << n, FileFault::Header(17))?;
@@ -94,6 +100,7 @@ fn read_key<S: Source>(pieces: &mut Pieces, source: &mut S) -> Result<[u8; 32], 
     ensures len { IfOk result IsKey }
     ensures memory { result ≢ Err FileFault.Mem }
     ensures cause { HasCause (S.faults source.old) (S.faults source.new) (result ≡ Err Read) }
+    ensures counts { S.faults source.new ≡ faults_after (S.faults source.old) result }
 {
     let mut key = [0; 32];
     pieces.fill(source, &mut key)?;
@@ -113,6 +120,7 @@ fn read_me<S: Source>(
     ensures me { IfOk result (λ me. (me < n) × (correct ≡ 2 ^ me)) }
     ensures memory { result ≢ Err FileFault.Mem }
     ensures cause { HasCause (S.faults source.old) (S.faults source.new) (result ≡ Err Read) }
+    ensures counts { S.faults source.new ≡ faults_after (S.faults source.old) result }
 {
     let me = pieces.byte(source)?;
     test(me < n, FileFault::Header(22))?;
@@ -131,6 +139,7 @@ fn read_row<S: Source>(
     ensures row { IfOk result (IsRow n) }
     ensures memory { result ≢ Err FileFault.Mem }
     ensures cause { HasCause (S.faults source.old) (S.faults source.new) (result ≡ Err Read) }
+    ensures counts { S.faults source.new ≡ faults_after (S.faults source.old) result }
 {
     let mut row = [[0; 32]; 31];
     for j in 0..n {
@@ -151,6 +160,7 @@ fn read_alone<S: Source>(
     ensures keys { IfOk result (AreKeys n correct) }
     ensures memory { result ≢ Err FileFault.Mem }
     ensures cause { HasCause (S.faults source.old) (S.faults source.new) (result ≡ Err Read) }
+    ensures counts { S.faults source.new ≡ faults_after (S.faults source.old) result }
 {
     let me = read_me(pieces, source, n, correct)?;
     let row = read_row(pieces, source, n)?;
@@ -170,6 +180,7 @@ fn read_keys<S: Source>(
     ensures keys { IfOk result (AreKeys n correct) }
     ensures memory { result ≢ Err FileFault.Mem }
     ensures cause { HasCause (S.faults source.old) (S.faults source.new) (result ≡ Err Read) }
+    ensures counts { S.faults source.new ≡ faults_after (S.faults source.old) result }
 {
     match pieces.byte(source)? {
         0 => Ok(HeaderKeys::Master(read_key(pieces, source)?)),
@@ -185,6 +196,7 @@ pub fn read_header<S: Source>(pieces: &mut Pieces, source: &mut S) -> Result<Hea
     ensures header { IfOk result (λ h. IsHeading (heading h)) }
     ensures memory { result ≢ Err FileFault.Mem }
     ensures cause { HasCause (S.faults source.old) (S.faults source.new) (result ≡ Err Read) }
+    ensures counts { S.faults source.new ≡ faults_after (S.faults source.old) result }
 {
     let session = read_start(pieces, source)?;
     let p = read_numbers(pieces, source)?;

@@ -1,6 +1,7 @@
 ghost use Rattle.std.specs.Prelude.{◌≡◌, ◌≢◌, true, Ok, Err, None, IfOk, IfSome, IsOk, MatchResult};
 ghost use Rattle.outside.specs.Faults.{HasCause};
 ghost use Rattle.schedule_file.specs.declared.fault.FileFault.TheVariants.{Read};
+ghost use Rattle.schedule_file.specs.SourceFaults.{faults_after};
 ghost use Rattle.schedule_file.specs.declared.stage.Stage.TheVariants.{Open, Ended, Stopped};
 ghost use Rattle.schedule_file.specs.Reading.{start_of};
 ghost use Rattle.schedule_file.specs.FileBytes.{Gives, Fails};
@@ -52,6 +53,7 @@ impl Reader {
         ensures header { IfOk result (λ x. IsHeading (heading x.0)) }
         ensures memory { result ≢ Err FileFault.Mem }
         ensures cause { HasCause (S.faults src.old) (S.faults src.new) (result ≡ Err Read) }
+        ensures counts { S.faults src.new ≡ faults_after (S.faults src.old) result }
     {
         let mut pieces = Pieces::new();
         let header = read_header(&mut pieces, src)?;
@@ -90,6 +92,7 @@ impl Reader {
         ensures same { self.old.stage ≢ Open → (self.new ≡ self.old) × (src.new ≡ src.old) }
 
         ensures cause { HasCause (S.faults src.old) (S.faults src.new) ((self.old.stage ≡ Open) × (result ≡ Err Read)) }
+        ensures counts { self.old.stage ≡ Open → S.faults src.new ≡ faults_after (S.faults src.old) result }
     {
         match self.stage {
             Stage::Open => {}

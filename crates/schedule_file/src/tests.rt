@@ -1,3 +1,5 @@
+// What is answered of files that are cut or changed is a table of the program, in `cases/hostile-input`.
+
 use crate::{FileFault, Header, HeaderKeys, Reader, Writer, event_size};
 use outside::{Buffer, Failed, MemSink, MemSource, Source};
 use ritas_base::{Bytes, Event, Mode, Params, SenderSet, Vect};
@@ -46,70 +48,6 @@ fn outcome<S: Source>(alloc: Global, source: &mut S) -> (u32, Option<FileFault>)
         }
     }
     (9_999, None)
-}
-
-// One place of the empty file changed, and what follows it.
-#[test]
-fn faults_by_place(rt: HostRuntime) -> Result<(), Fail> {
-    let cases = [
-        (3, 0x58, FileFault::Magic),
-        (4, 3, FileFault::Version),
-        (13, 0, FileFault::Header(13)),
-        (13, 32, FileFault::Header(13)),
-        (14, 1, FileFault::Header(14)),
-        (15, 0, FileFault::Header(15)),
-        (15, 7, FileFault::Header(15)),
-        (16, 0, FileFault::Header(16)),
-        (16, 3, FileFault::Header(16)),
-        (20, 2, FileFault::Header(17)),
-        (21, 2, FileFault::Header(21)),
-        (54, 6, FileFault::Event(54)),
-    ];
-    for (at, value, fault) in cases {
-        let mut bytes = EMPTY;
-        if at < bytes.len() {
-            bytes[at] = value;
-        }
-        let mut source = MemSource::new(rt.alloc(), &bytes, &[])?;
-        assert_eq!(rt; outcome(rt.alloc(), &mut source), (0, Some(fault)));
-    }
-    Ok(())
-}
-
-// Bytes in place of the empty file's end mark.
-#[test]
-fn faults_of_events(rt: HostRuntime) -> Result<(), Fail> {
-    let cases: [(&[u8], (u32, Option<FileFault>)); 8] = [
-        (&[0], (0, None)),
-        (&[0, 0], (0, Some(FileFault::Trailing(55)))),
-        (&[3, 0, 0], (1, None)),
-        (&[3, 0, 3, 1], (1, Some(FileFault::Event(56)))),
-        (&[1, 1], (0, Some(FileFault::Event(54)))),
-        (&[2, 0, 0, 3, 1, 2], (0, Some(FileFault::Truncated(60)))),
-        (&[4, 0, 0], (0, Some(FileFault::Event(54)))),
-        (&[5, 1, 0], (0, Some(FileFault::Event(54)))),
-    ];
-    for (events, want) in cases {
-        let mut bytes = Vec::from_slice(rt.alloc(), &EMPTY[..54])?;
-        bytes.extend_from_slice(events)?;
-        let mut source = MemSource::new(rt.alloc(), &bytes, &[])?;
-        assert_eq!(rt; outcome(rt.alloc(), &mut source), want);
-    }
-    Ok(())
-}
-
-#[test]
-fn truncated_anywhere(rt: HostRuntime) -> Result<(), Fail> {
-    for k in 0..FIVE.len() {
-        let mut source = MemSource::new(rt.alloc(), &FIVE[..k], &[])?;
-        assert_eq!(rt;
-            outcome(rt.alloc(), &mut source).1,
-            Some(FileFault::Truncated(k as u32))
-        );
-    }
-    let mut source = MemSource::new(rt.alloc(), &FIVE, &[])?;
-    assert_eq!(rt; outcome(rt.alloc(), &mut source), (5, None));
-    Ok(())
 }
 
 // A file that comes in five pieces, since 65,536 bytes are held at most, and a source that fails before one of them.
@@ -177,62 +115,6 @@ fn all_fields(rt: HostRuntime) -> Result<(), Fail> {
         matches!(&sealed, Ok(Some(Event::Sealed { from: 1, to: 0, body })) if body.as_slice().is_empty())
     );
     assert!(rt; matches!(reader.next(rt.alloc(), &mut source), Ok(None)));
-    Ok(())
-}
-
-// One place of a header with the keys of one replica alone changed.
-#[test]
-fn faults_by_place_alone(rt: HostRuntime) -> Result<(), Fail> {
-    let cases = [
-        (13, 1, FileFault::Header(17)),
-        (20, 3, FileFault::Header(17)),
-        (20, 4, FileFault::Header(17)),
-        (21, 2, FileFault::Header(21)),
-        (22, 0, FileFault::Header(17)),
-        (22, 2, FileFault::Header(22)),
-    ];
-    for (at, value, fault) in cases {
-        let mut bytes = ALONE;
-        if at < bytes.len() {
-            bytes[at] = value;
-        }
-        let mut source = MemSource::new(rt.alloc(), &bytes, &[])?;
-        assert_eq!(rt; outcome(rt.alloc(), &mut source), (0, Some(fault)));
-    }
-    Ok(())
-}
-
-// What follows such a header: events at replica 1 alone, and none that another made.
-#[test]
-fn faults_of_events_alone(rt: HostRuntime) -> Result<(), Fail> {
-    let cases: [(&[u8], (u32, Option<FileFault>)); 8] = [
-        (&[3, 1, 2, 1, 0, 0, 0], (2, None)),
-        (&[], (0, Some(FileFault::Truncated(119)))),
-        (&[1, 0], (0, Some(FileFault::Event(119)))),
-        (&[3, 1, 2, 2], (1, Some(FileFault::Event(121)))),
-        (&[3, 0], (0, Some(FileFault::Event(119)))),
-        (&[4], (0, Some(FileFault::Event(119)))),
-        (&[5], (0, Some(FileFault::Event(119)))),
-        (&[1, 1, 0, 2, 97], (0, Some(FileFault::Truncated(124)))),
-    ];
-    for (events, want) in cases {
-        let mut bytes = Vec::from_slice(rt.alloc(), &ALONE)?;
-        bytes.extend_from_slice(events)?;
-        let mut source = MemSource::new(rt.alloc(), &bytes, &[])?;
-        assert_eq!(rt; outcome(rt.alloc(), &mut source), want);
-    }
-    Ok(())
-}
-
-#[test]
-fn truncated_anywhere_alone(rt: HostRuntime) -> Result<(), Fail> {
-    for k in 0..ALONE.len() {
-        let mut source = MemSource::new(rt.alloc(), &ALONE[..k], &[])?;
-        assert_eq!(rt;
-            outcome(rt.alloc(), &mut source),
-            (0, Some(FileFault::Truncated(k as u32)))
-        );
-    }
     Ok(())
 }
 

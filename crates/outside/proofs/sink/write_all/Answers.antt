@@ -21,5 +21,5 @@ returns-in_err-at g c =
       front = λ tells. front_of _ _ _ c.loop-at.at (c.in_err-at.ensures.err tells ∙ c.loop-at.invariant.2 tells);
       later = omega (arith, c.in_err-at.ensures.cause.later, same);
       cause = λ _. rose_after _ _ _ (omega (arith, same)) (c.in_err-at.ensures.cause.cause refl);
-      counts = record { stands = IfOk-from_err c.from_residual.result _ c.from_residual.ensures.0; rises = λ _. c.in_err-at.ensures.counts ∙ ap count_after same };
+      counts = record { stands = IfOk-from_err c.from_residual.result _ c.from_residual.ensures.0; rises = λ _. c.in_err-at.ensures.counts ∙ ap count_after same; others = λ not. absurd (not c.from_residual.ensures.0) };
     }

@@ -4,7 +4,7 @@ use Rattle.outside.proofs.whole.read_whole.Given as goal
 abbrev pub invariant-loop-piece : goal.invariant-loop-piece
 invariant-loop-piece g l = record {
   within : length l.bytes.items ≤ l.most + 1;
-  later : g.S.Source.faults l.initial.source ≤ g.S.Source.faults l.source;
+  stands : g.S.Source.faults l.source ≡ g.S.Source.faults l.initial.source;
   parts : g.S.Source.tells ≡ true → g.S.Source.left l.initial.source ≡ l.bytes.items ++ g.S.Source.left l.source;
 }
 

@@ -19,7 +19,7 @@ loop-j-preserved g c =
     let within : j < length row = omega (arith, is.places, low) in
     record {
       row = row_more j row c.in_ok-row.field-0 low c.in_ok-row.ensures.len is;
-      later = omega (arith, c.loop-j.invariant.later, c.in_ok-row.ensures.cause.later);
+      stands = c.in_ok-row.ensures.counts ∙ c.loop-j.invariant.stands;
       read = λ tells.
           key_came c.args.n j row c.in_ok-row.field-0 (spot c.loop-j.pieces (g.S.Source.left c.loop-j.source)) (spot c.read_key.new.pieces (g.S.Source.left c.read_key.new.source))
           c.loop-j-test.true within (c.in_ok-row.ensures.exact tells)

@@ -12,4 +12,4 @@ invariant_of-self-2 c =
 pub returns-clause-ok : goal.returns-clause-ok
 returns-clause-ok c =
     let did = c.push_reserved.ensures.items ∙ ap (λ (x : List Did). x ++ Start ∷ []) c.reserve.ensures.items in
-    state_more (λ x. x) _ _ _ _ _ _ refl (told_start _ _ _ _ _ _ _ _ did c.in_ok-push.ensures.items) c.self.view_is
+    rw (← c.in_ok-plan.ensures) (state_more (λ x. x) _ _ _ _ _ _ refl (told_start _ _ _ _ _ _ _ _ did c.in_ok-push.ensures.items) c.self.view_is)
