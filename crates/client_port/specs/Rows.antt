@@ -1,6 +1,9 @@
 -- Worked rows: four replicas, of which one may be faulty, and request 1 of client 7.
-use Rattle.std.specs.Prelude.{◌≡◌, ℕ, List, [], ◌∷◌, codes, replicate, Some, None, Ok, Err, refl}
-use Rattle.client_port.specs.Messages.{number_at, request_bytes, request_in, position_reply, refusal_reply}
+use Rattle.std.specs.Prelude.{◌≡◌, ℕ, ◌<◌, ◌^◌, Bool, true, nat_lt, List, [], ◌∷◌, codes, length, replicate, Option, Some, None, Ok, Err, refl, if◌then◌else◌}
+use Rattle.std.proofs.Common.{arith, lit<, lit≤}
+use Rattle.std.proofs.lemmas.Bool.{lt-ltb}
+use Rattle.client_port.specs.Laws.{HasRoom, IsFromLog, IsLogged, PositionLaw}
+use Rattle.client_port.specs.Messages.{Request, number_at, request_bytes, request_in, position_reply, refusal_reply}
 use Rattle.client_port.specs.Votes.{Wanted, Call, tally, fault_of, answer_of}
 use Rattle.client_port.specs.declared.votes.ReplyFault.TheVariants as faults
 
@@ -106,3 +109,57 @@ no_form = refl
 other_request : answer_of wanted (gives 0 5 ∷ []) (record { from = 0; bytes = position_reply 7 2 5 }) ≡ Err faults.NotMine
 unfolding answer_of fault_of number_at
 other_request = refl
+
+-- ---- the room of a request
+
+abbrev asks : List ℕ → Request
+asks payload = record { client = 4294967295; request = 4294967295; payload = payload }
+
+longest : (payload : List ℕ) → length payload ≡ 4088 → HasRoom (asks payload)
+longest payload long = record { client = lit< tt; request = lit< tt; payload = omega (arith, long) }
+
+one_byte_more : (payload : List ℕ) → length payload ≡ 4089 → HasRoom (asks payload) → ⊥
+one_byte_more payload long room = let within = room.payload in omega (arith, long, within)
+
+five_bytes : (payload : List ℕ) (client : ℕ) → client ≡ 2 ^ 32 → HasRoom (record { client = client; request = 1; payload = payload }) → ⊥
+five_bytes payload client large room = let within = room.client in omega (arith, large, within)
+
+-- ---- positions and logs: replicas 0, 1 and 2 are correct and have the request at position 5
+
+abbrev is_correct : ℕ → Bool
+is_correct k = nat_lt k 3
+
+abbrev log : ℕ → Option ℕ
+log k = Some (if nat_lt k 3 then 5 else 9)
+
+-- what a faulty replica replies is free, and so is a refusal; a correct one replies what its log has
+any_of_faulty : IsFromLog wanted is_correct log (gives 3 6)
+any_of_faulty = λ position correct is. absurd cc
+
+own_position : IsFromLog wanted is_correct log (gives 0 5)
+unfolding number_at
+own_position = λ position correct is. is
+
+any_refusal : IsFromLog wanted is_correct log (refuses 0 7)
+unfolding number_at
+any_refusal = λ position correct is. absurd cc
+
+no_other_position : IsFromLog wanted is_correct log (gives 0 6) → ⊥
+unfolding number_at
+no_other_position from = let other : log 0 ≡ Some 6 = from 6 refl refl in cc
+
+-- the log of a faulty replica says nothing, and neither does one of no replica
+apart : ◌≡◌ {A = Option ℕ} (Some 5) (Some 9) → ⊥
+apart same = cc
+
+only_of_correct : IsLogged wanted is_correct log 9 → ⊥
+only_of_correct logged = apart (rw logged.correct at logged.stands)
+
+only_of_session : IsLogged wanted (λ k. true) (λ k. Some (if nat_lt k 4 then 5 else 9)) 9 → ⊥
+only_of_session logged = apart (rw (lt-ltb logged.replica 4 logged.within) at logged.stands)
+
+-- the law asks for n - f correct replicas, which are three of the four here
+three_are_enough : PositionLaw → IsLogged wanted is_correct log 5
+unfolding answer_of fault_of number_at
+three_are_enough law = law wanted is_correct log (gives 3 9 ∷ gives 0 5 ∷ []) (gives 2 5) 5 (lit≤ tt)
+    ((λ position correct is. is), ((λ position correct is. absurd cc), ((λ position correct is. is), tt))) refl

@@ -7,6 +7,7 @@ use Rattle.outside.specs.Links.{LinkAct, Gives, Replies, faults_after}
 use Rattle.outside.specs.WritingLaws.{front_more, all_written}
 use Rattle.outside.specs.declared.link.LinkItem.{LinkItem}
 use Rattle.outside.specs.declared.link.LinkItem.TheVariants as items
+use Rattle.outside.specs.declared.link.FaultCounts.{FaultCounts}
 use Rattle.outside.specs.declared.link.LinkFault.{LinkFault}
 use Rattle.outside.specs.declared.link.LinkFault.TheVariants as link_faults
 use Rattle.outside.specs.Writing.{TookFront}
@@ -28,7 +29,7 @@ use Rattle.node_loop.specs.Standing.{HouseStands, Comes, frame_by, reply_by}
 use Rattle.node_loop.specs.Served.{AreHere, EndsSo, Serves}
 use Rattle.node_loop.specs.Running.{IsEndOf, Running, Goes, TookItem, GaveNone, IsNext}
 use Rattle.outside.specs.LinkCallsLaws.{back_none, back_all}
-use Rattle.node_loop.proofs.Stepping.{with_link, text_next, has_cause}
+use Rattle.node_loop.proofs.Stepping.{with_link, text_next, has_cause, same_failed}
 
 -- ---- one step
 
@@ -78,8 +79,8 @@ module _ {S E C : Type 0} (m : Meaning S E C KeyRow) (w : Setting) (past : List 
       told = λ t. rw (agrees.told t) (back_none (s.acts ++ base.told) (sent_of w (so_far past s) did));
       order = inr agrees.told;
       tape_later = omega (arith, agrees.tape_stands);
-      link_later = omega (arith, agrees.link_stands);
-      cause = (agrees.tape_stands, agrees.link_stands);
+      link_later = omega (arith, same_failed agrees.link_stands);
+      cause = (agrees.tape_stands, inl agrees.link_stands);
     };
     stands = tt;
   }
@@ -87,7 +88,7 @@ module _ {S E C : Type 0} (m : Meaning S E C KeyRow) (w : Setting) (past : List 
 -- ---- the link's next item
 
 -- it was given
-pub next_given : (tells : Tells) (base o : Outs) (events : List Event) (acts told : List LinkAct) (count : ℕ) (item : LinkItem)
+pub next_given : (tells : Tells) (base o : Outs) (events : List Event) (acts told : List LinkAct) (count : FaultCounts) (item : LinkItem)
     → Agrees tells base o events acts → (tells.link ≡ true → told ≡ Gives item ∷ o.told) → count ≡ o.link_faults
     → Agrees tells base (with_link o told count) events (Gives item ∷ acts)
 next_given tells base o events acts told count item agrees is same = record {
@@ -102,13 +103,13 @@ link_alone : (x : LinkFault) (fault : Fault) → Fails x fault → fault ≢ fau
 link_alone link_faults.Failed fault is = rw is (λ e. cc)
 link_alone link_faults.Mem fault is = rw is (λ e. cc)
 
-pub next_failed : (tells : Tells) (base o : Outs) (s : Serving) (told : List LinkAct) (count : ℕ) (x : LinkFault) (fault : Fault)
+pub next_failed : (tells : Tells) (base o : Outs) (s : Serving) (told : List LinkAct) (count : FaultCounts) (x : LinkFault) (fault : Fault)
     → Fails x fault → Agrees tells base o s.events s.acts → (tells.link ≡ true → told ≡ o.told)
-    → o.link_faults ≤ count → count ≡ faults_after {A = LinkItem} o.link_faults (Err x) → GaveNone tells base (with_link o told count) fault s
+    → o.link_faults.failed ≤ count.failed → count ≡ faults_after {A = LinkItem} o.link_faults (Err x) → GaveNone tells base (with_link o told count) fault s
 next_failed tells base o s told count x fault is agrees same le counts = record {
   written = agrees.taken;
   told = λ t. same t ∙ agrees.told t;
-  link_later = omega (arith, agrees.link_stands, le);
+  link_later = omega (arith, same_failed agrees.link_stands, le);
   own = link_alone x fault is;
   cause = has_cause LinkItem base o s.events s.acts told tells count x fault is agrees counts;
 }

@@ -7,3 +7,4 @@ pub mod Served
 pub mod Standing
 pub mod Running
 pub mod Laws
+pub mod Rows

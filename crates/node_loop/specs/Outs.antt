@@ -3,9 +3,10 @@ use Rattle.std.specs.Prelude.{◌≡◌, ℕ, ◌≤◌, Bool, true, List, ◌++
 use Rattle.std.specs.List.{flat_map}
 use Rattle.ritas_base.specs.declared.event.Event.{Event}
 use Rattle.outside.specs.Faults.{count_after}
-use Rattle.outside.specs.Links.{LinkAct}
+use Rattle.outside.specs.Links.{LinkAct, failed_once, short_once}
 use Rattle.outside.specs.LinkCalls.{TookBack}
 use Rattle.outside.specs.Writing.{TookFront}
+use Rattle.outside.specs.declared.link.FaultCounts.{FaultCounts}
 use Rattle.outside.specs.declared.link.LinkFault.{LinkFault}
 use Rattle.outside.specs.declared.link.LinkFault.TheVariants as link_faults
 use Rattle.schedule_file.specs.Spelling.{event_text}
@@ -16,14 +17,14 @@ use Rattle.node_loop.specs.declared.end.Fault.TheVariants as faults
 abbrev pub text_of : List Event → List ℕ
 text_of events = flat_map event_text (reverse events)
 
--- a tape and a link: what was taken, what was told, and how many calls of each failed
+-- a tape and a link: what was taken, what was told, how many calls of each failed, and how many of the link's were without memory
 pub record Outs : Type 0 where
   pub taken : List ℕ
   pub tape_faults : ℕ
   pub told : List LinkAct
-  pub link_faults : ℕ
+  pub link_faults : FaultCounts
 
-abbrev pub outs_of : {K L : Type 0} → (K → List ℕ) → (K → ℕ) → (L → List LinkAct) → (L → ℕ) → K → L → Outs
+abbrev pub outs_of : {K L : Type 0} → (K → List ℕ) → (K → ℕ) → (L → List LinkAct) → (L → FaultCounts) → K → L → Outs
 outs_of taken tape_faults told link_faults tape link = record {
   taken = taken tape;
   tape_faults = tape_faults tape;
@@ -31,24 +32,28 @@ outs_of taken tape_faults told link_faults tape link = record {
   link_faults = link_faults link;
 }
 
--- no call of them failed
+-- no call of them failed, and none of the link was without memory
 abbrev pub NoneFailed : Outs → Outs → Type 0
 NoneFailed base now = (now.tape_faults ≡ base.tape_faults) × (now.link_faults ≡ base.link_faults)
 
--- one call of the tape failed, and none of the link
+-- one call of the tape failed, and none of the link did or was without memory
 abbrev pub TapeFailed : Outs → Outs → Type 0
 TapeFailed base now = (now.tape_faults ≡ count_after base.tape_faults) × (now.link_faults ≡ base.link_faults)
 
--- one call of the link failed, and none of the tape
+-- one call of the link failed, none was without memory, and none of the tape failed
 abbrev pub LinkFailed : Outs → Outs → Type 0
-LinkFailed base now = (now.tape_faults ≡ base.tape_faults) × (now.link_faults ≡ count_after base.link_faults)
+LinkFailed base now = (now.tape_faults ≡ base.tape_faults) × (now.link_faults ≡ failed_once base.link_faults)
+
+-- no call of them failed, and at most one of the link was without memory
+abbrev pub FellShort : Outs → Outs → Type 0
+FellShort base now = (now.tape_faults ≡ base.tape_faults) × ((now.link_faults ≡ base.link_faults) ⊎ (now.link_faults ≡ short_once base.link_faults))
 
 -- whether a tape and a link tell
 pub record Tells : Type 0 where
   pub tape : Bool
   pub link : Bool
 
--- since base, the tape took these events, the link told these calls, and none failed
+-- since base, the tape took these events, the link told these calls, and none failed or was without memory
 pub record Agrees (tells : Tells) (base now : Outs) (events : List Event) (acts : List LinkAct) : Type 0 where
   pub taken : tells.tape ≡ true → now.taken ≡ base.taken ++ text_of events
   pub told : tells.link ≡ true → now.told ≡ acts ++ base.told
@@ -63,11 +68,11 @@ IfFailed faults.Tape P = P
 IfFailed faults.Link P = P
 IfFailed faults.Mem P = Unit {0}
 
--- where memory ran out no call of the tape or the link failed
+-- what ended it is the one call that failed, or, where memory ran out, at most one call of the link was without it
 abbrev pub HasCauses : Outs → Outs → Fault → Type 0
 HasCauses base now faults.Tape = TapeFailed base now
 HasCauses base now faults.Link = LinkFailed base now
-HasCauses base now faults.Mem = NoneFailed base now
+HasCauses base now faults.Mem = FellShort base now
 
 -- the tape took all events
 abbrev pub AllWritten : Tells → Outs → Outs → List Event → Type 0
@@ -90,7 +95,7 @@ pub record Stops (tells : Tells) (base now : Outs) (fault : Fault) (events : Lis
   pub told : tells.link ≡ true → TookBack (sooner ++ base.told) now.told news
   pub order : InOrder tells base now fault events sooner
   pub tape_later : base.tape_faults ≤ now.tape_faults
-  pub link_later : base.link_faults ≤ now.link_faults
+  pub link_later : base.link_faults.failed ≤ now.link_faults.failed
   pub cause : HasCauses base now fault
 
 -- ---- each outcome of a step that leads to these events and calls

@@ -54,7 +54,7 @@ pub record TookItem {S E C : Type 0} (m : Meaning S E C KeyRow) (w : Setting) (p
 pub record GaveNone (tells : Tells) (base now : Outs) (fault : Fault) (s : Serving) : Type 0 where
   pub written : AllWritten tells base now s.events
   pub told : NoneSent tells base now s.acts
-  pub link_later : base.link_faults ≤ now.link_faults
+  pub link_later : base.link_faults.failed ≤ now.link_faults.failed
   pub own : fault ≢ faults.Tape
   pub cause : HasCauses base now fault
 

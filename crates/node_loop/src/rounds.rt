@@ -259,11 +259,15 @@ fn serve_house<R: Net + Wait, S: Service, E: Broadcast, C: Coin + Drop, L: Link,
 ///
 /// A frame for a replica that is here is a call of its `on_frame`; a client's message is answered or submitted (`specs/Calls.antt`).
 /// Each call is an event, which goes to the tape before the call's frames go to the link, and these go before its replies. It ends
-/// with `LinkFault` or `TapeFault` at the first call that fails, only where the count of faults of that rose, or stands at its last value,
-/// and with `Mem` where one is without memory, also one of a replica. Unless memory ran out, the replicas then stand where all events
-/// leave them, also one that the tape didn't take. It waits nowhere but in the link's calls; nothing says that turns ever end.
+/// with `LinkFault` or `TapeFault` at the first call that fails, and with `Mem` at the first that is without memory, be it a call of
+/// the link or of a replica: no further call of the link or the tape is made then. Unless memory ran out, the replicas then stand
+/// where all events leave them, also one that the tape didn't take. It waits nowhere but in the link's calls; nothing says that turns
+/// ever end.
 ///
-/// The replicas have different numbers, each is `live` and of root service 6. The tape has its header already.
+/// What the contract says holds where the replicas are of one world (`AreHere`): they are its correct ones, all of them, each once and
+/// in any order, as they stand after the events of that world before serving began, in which none is stopped, and its root service is
+/// 6. Nothing is said where that isn't so, as of replicas of two sessions or where one of them was left out or had other calls. The
+/// tape is taken as it is: for a schedule file it has its header already.
 pub fn serve<R: Net + Wait, S: Service, E: Broadcast, C: Coin + Drop, L: Link, K: Sink>(
     rt: &R,
     alloc: Global,

@@ -1,5 +1,5 @@
 -- What is true of a session.
-use Rattle.std.proofs.Common.{◌≡◌, ℕ, ◌<◌, ◌≤◌, ◌^◌, ◌==◌, Bool, true, false, List, [], ◌∷◌, ◌++◌, reverse, refl, sym, ◌∙◌, ap, subst, arith}
+use Rattle.std.proofs.Common.{◌≡◌, ℕ, ◌<◌, ◌≤◌, ◌^◌, ◌==◌, Bool, true, false, List, [], ◌∷◌, ◌++◌, reverse, refl, sym, ◌∙◌, ap, subst, arith, inl, inr}
 use Rattle.std.specs.List.{All, AllByRecursion}
 use Rattle.std.proofs.lemmas.List.{append-nil, reverse-append}
 use Rattle.ritas_base.specs.declared.event.Event.{Event}
@@ -15,7 +15,8 @@ use Rattle.ritas_core.specs.Rules.{HasForm}
 use Rattle.outside.specs.Faults.{count_after}
 use Rattle.outside.specs.LinkCalls.{TookBack}
 use Rattle.outside.specs.LinkCallsLaws.{back_then}
-use Rattle.outside.specs.Links.{LinkAct, Gives, frames_in, replies_in}
+use Rattle.outside.specs.Links.{LinkAct, Gives, failed_once, short_once, frames_in, replies_in}
+use Rattle.outside.specs.declared.link.FaultCounts.{FaultCounts}
 use Rattle.outside.specs.declared.link.LinkItem.TheVariants as items
 use Rattle.outside.specs.declared.link.LinkItem.{LinkItem}
 use Rattle.schedule_file.specs.ReadHeader.{heading}
@@ -34,12 +35,12 @@ use Rattle.world_model.specs.EveryWorld.{IsWorld, AgreementLaw}
 use Rattle.node_loop.specs.declared.end.ServeEnd.{ServeEnd}
 use Rattle.node_loop.specs.declared.end.ServeEnd.TheVariants as ends
 use Rattle.node_loop.specs.Laws.{frames_of, FramesAreMade, RepliesAreTrue, EventsFit, IsServed, IsTrueReply}
-use Rattle.node_loop.specs.Outs.{Outs, NoneFailed, TapeFailed, LinkFailed, Tells, Agrees, Stops}
+use Rattle.node_loop.specs.Outs.{Outs, TapeFailed, LinkFailed, FellShort, Tells, Agrees, Stops}
 use Rattle.node_loop.specs.Served.{IsFirst, Serves, Breaks, EndsSo, Whole}
 use Rattle.node_loop.specs.ServingLaws.{acts_of}
 use Rattle.node_loop.specs.Serving.{Serving, begin, so_far, Want, Finishes, Halts, Asks, Round, after, sooner, newest, wants, AreWanted}
 use Rattle.node_session.specs.declared.session.Session.{Session}
-use Rattle.node_session.specs.Session.{TookAll, TookPart, IsSession, ServesSession, last_acts, CameTo, Broke, NotClosed, SessionEnds}
+use Rattle.node_session.specs.Session.{TookAll, TookPart, IsTrueSession, ServesSession, last_acts, CameTo, Broke, NotClosed, SessionEnds}
 use Rattle.node_session.specs.Opening.{HasBegun, HasFailed, Closes, Closed, Failed, is_reason}
 use Rattle.node_session.proofs.Composing.{all_taken, part_taken, mark_lost, last_taken, not_begun}
 
@@ -116,7 +117,7 @@ module _ (h : Header) (w : Setting) (is : IsHeading (heading h)) (service : Serv
     (numbers : w.numbers ≡ h.p) (correct : (i : ℕ) → w.is_correct i ≡ true → has_member h.correct i ≡ true)
     (made : FramesAreMade) (fit : EventsFit) (replied : RepliesAreTrue service other) (agreed : AgreementLaw service other) where
   pub is_session : (until limit : ℕ) (first : List LinkItem) (rounds : List Round) → All IsFirst first → AreWanted w [] until limit first rounds
-      → IsSession h w (after w [] first rounds).events (after w [] first rounds).acts
+      → IsTrueSession h w (after w [] first rounds).events (after w [] first rounds).acts
   unfolding all_made
   is_session until limit first rounds firsts wanted =
       let s = after w [] first rounds in
@@ -136,9 +137,12 @@ module _ (h : Header) (w : Setting) (is : IsHeading (heading h)) (service : Serv
 
 -- ---- the session as a whole
 
+same_failed : {a b : FaultCounts} → a ≡ b → a.failed ≡ b.failed
+same_failed e = ap (λ (n : FaultCounts). n.failed) e
+
 module _ (x : Session) (first : List LinkItem) (w : Setting) (tells : Tells)
     (session : (rounds : List Round) → AreWanted w [] x.until x.limit first rounds
-    → IsSession x.header w (after w [] first rounds).events (after w [] first rounds).acts) where
+    → IsTrueSession x.header w (after w [] first rounds).events (after w [] first rounds).acts) where
   -- it ended before it was served
   pub fails : (base now : Outs) (end : ServeEnd) → HasFailed (heading x.header) x.plan tells base now end → ServesSession x first w tells base now end
   fails base now end failed = record {
@@ -187,10 +191,13 @@ module _ (x : Session) (first : List LinkItem) (w : Setting) (tells : Tells)
       tape_failed cause same = rw same (cause.0 ∙ ap count_after begun.tape_stands, cause.1 ∙ begun.link_stands)
 
       link_failed : LinkFailed mid now → last ≡ now → LinkFailed base last
-      link_failed cause same = rw same (cause.0 ∙ begun.tape_stands, cause.1 ∙ ap count_after begun.link_stands)
+      link_failed cause same = rw same (cause.0 ∙ begun.tape_stands, cause.1 ∙ ap failed_once begun.link_stands)
 
-      none_failed : NoneFailed mid now → last ≡ now → NoneFailed base last
-      none_failed cause same = rw same (cause.0 ∙ begun.tape_stands, cause.1 ∙ begun.link_stands)
+      fell_short : FellShort mid now → last ≡ now → FellShort base last
+      fell_short cause same = rw same (
+        cause.0 ∙ begun.tape_stands,
+        elim cause.1 [ inl none ↦ inl (none ∙ begun.link_stands) | inr one ↦ inr (one ∙ ap short_once begun.link_stands) ],
+      )
 
       ended : (end result : ServeEnd) → EndsSo m w [] numbers here tells mid now end s sooner news rule → s.acts ≡ news ++ sooner → last.told ≡ now.told → last.link_faults ≡ now.link_faults
           → (is_reason end ≡ true → Closes tells.tape now.taken last.taken now.tape_faults last.tape_faults end result)
@@ -214,7 +221,7 @@ module _ (x : Session) (first : List LinkItem) (w : Setting) (tells : Tells)
           )
       ended ends.Mem result so both same link closed kept =
           let k = kept refl in
-          subst EndedAt (sym k.0) (none_failed so.cause k.1, breaks _ [] so both k.1, broke ends.Mem so k.1)
+          subst EndedAt (sym k.0) (fell_short so.cause k.1, breaks _ [] so both k.1, broke ends.Mem so k.1)
 
     -- counts of faults don't fall
     tape_on : (s : Serving) (sooner news : List LinkAct) (rule : Want) (end : ServeEnd) → EndsSo m w [] numbers here tells mid now end s sooner news rule → mid.tape_faults ≤ now.tape_faults
@@ -225,10 +232,10 @@ module _ (x : Session) (first : List LinkItem) (w : Setting) (tells : Tells)
     tape_on s sooner news rule ends.TapeFault so = so.0.tape_later
     tape_on s sooner news rule ends.Mem so = so.tape_later
 
-    link_on : (s : Serving) (sooner news : List LinkAct) (rule : Want) (end : ServeEnd) → EndsSo m w [] numbers here tells mid now end s sooner news rule → mid.link_faults ≤ now.link_faults
-    link_on s sooner news rule ends.Done so = omega (arith, so.agrees.link_stands)
-    link_on s sooner news rule ends.Limit so = omega (arith, so.agrees.link_stands)
-    link_on s sooner news rule ends.End so = omega (arith, so.agrees.link_stands)
+    link_on : (s : Serving) (sooner news : List LinkAct) (rule : Want) (end : ServeEnd) → EndsSo m w [] numbers here tells mid now end s sooner news rule → mid.link_faults.failed ≤ now.link_faults.failed
+    link_on s sooner news rule ends.Done so = omega (arith, same_failed so.agrees.link_stands)
+    link_on s sooner news rule ends.Limit so = omega (arith, same_failed so.agrees.link_stands)
+    link_on s sooner news rule ends.End so = omega (arith, same_failed so.agrees.link_stands)
     link_on s sooner news rule ends.LinkFault so = so.0.link_later
     link_on s sooner news rule ends.TapeFault so = so.0.link_later
     link_on s sooner news rule ends.Mem so = so.link_later
@@ -256,5 +263,5 @@ module _ (x : Session) (first : List LinkItem) (w : Setting) (tells : Tells)
           so = ended s old new rule end result run.so (acts_of w [] first run.rounds) same same_count closed kept;
           true_of = session run.rounds run.wanted;
           tape_later = omega (arith, begun.tape_stands, tape_on s old new rule end run.so, end_on end result (is_reason end) refl closed kept);
-          link_later = omega (arith, begun.link_stands, link_on s old new rule end run.so, same_count);
+          link_later = omega (arith, same_failed begun.link_stands, link_on s old new rule end run.so, same_failed same_count);
         }

@@ -10,7 +10,7 @@ use Rattle.schedule_file.specs.ReadHeader.{Heading}
 use Rattle.schedule_file.specs.Spelling.{header_text}
 use Rattle.node_loop.specs.declared.end.ServeEnd.{ServeEnd}
 use Rattle.node_loop.specs.declared.end.ServeEnd.TheVariants as ends
-use Rattle.node_loop.specs.Outs.{Outs, NoneFailed, TapeFailed, LinkFailed, Tells}
+use Rattle.node_loop.specs.Outs.{Outs, TapeFailed, LinkFailed, FellShort, Tells}
 
 -- the end that a fault of the link is
 abbrev pub Ends : LinkFault → ServeEnd → Type 0
@@ -19,7 +19,7 @@ Ends faults.Mem end = end ≡ ends.Mem
 
 -- ---- the beginning
 
--- the header was written and the link was started, and no call failed
+-- the header was written and the link was started, and no call failed or was without memory
 pub record HasBegun (h : Heading) (plan : LinkPlan) (tells : Tells) (base now : Outs) : Type 0 where
   pub taken : tells.tape ≡ true → now.taken ≡ base.taken ++ header_text h
   pub told : tells.link ≡ true → now.told ≡ Starts plan ∷ base.told
@@ -30,14 +30,14 @@ pub record HasBegun (h : Heading) (plan : LinkPlan) (tells : Tells) (base now : 
 abbrev pub HasCause : Outs → Outs → ServeEnd → Type 0
 HasCause base now ends.LinkFault = LinkFailed base now
 HasCause base now ends.TapeFault = TapeFailed base now
-HasCause base now ends.Mem = NoneFailed base now
+HasCause base now ends.Mem = FellShort base now
 HasCause base now end = ⊥
 
 pub record HasFailed (h : Heading) (plan : LinkPlan) (tells : Tells) (base now : Outs) (end : ServeEnd) : Type 0 where
   pub taken : tells.tape ≡ true → TookFront base.taken now.taken (header_text h)
   pub told : tells.link ≡ true → now.told ≡ base.told
   pub tape_later : base.tape_faults ≤ now.tape_faults
-  pub link_later : base.link_faults ≤ now.link_faults
+  pub link_later : base.link_faults.failed ≤ now.link_faults.failed
   pub cause : HasCause base now end
 
 abbrev pub Opens : Heading → LinkPlan → Tells → Outs → Outs → Result (Unit {0}) ServeEnd → Type 0

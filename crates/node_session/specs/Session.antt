@@ -19,7 +19,7 @@ use Rattle.world_model.specs.World.{Setting}
 use Rattle.node_loop.specs.declared.end.ServeEnd.{ServeEnd}
 use Rattle.node_loop.specs.declared.end.ServeEnd.TheVariants as ends
 use Rattle.node_loop.specs.Laws.{frames_of, IsTrueReply}
-use Rattle.node_loop.specs.Outs.{Outs, NoneFailed, TapeFailed, LinkFailed, Tells, Agrees}
+use Rattle.node_loop.specs.Outs.{Outs, NoneFailed, TapeFailed, LinkFailed, FellShort, Tells, Agrees}
 use Rattle.node_loop.specs.Served.{IsFirst, Breaks}
 use Rattle.node_loop.specs.Serving.{Serving, Want, Begins, Finishes, Turns, Halts, Asks, Round, after, sooner, newest, wants, AreWanted}
 use Rattle.node_session.specs.declared.session.Session.{Session}
@@ -35,7 +35,7 @@ pub record IsServable (s : Session) (first : List LinkItem) : Type 0 where
 
 -- ---- what is served
 
--- the output took the file of the events, the link was started with the plan and told these calls, and no call of them failed
+-- the output took the file of the events, the link was started with the plan and told these calls, and no call of them failed or was without memory
 pub record TookAll (h : Header) (plan : LinkPlan) (tells : Tells) (base now : Outs) (events : List Event) (acts : List LinkAct) : Type 0 where
   pub file : tells.tape ≡ true → now.taken ≡ base.taken ++ FileOf (heading h) events
   pub told : tells.link ≡ true → now.told ≡ (acts ++ Starts plan ∷ []) ++ base.told
@@ -62,7 +62,7 @@ pub data CameTo (h : Header) (plan : LinkPlan) (tells : Tells) (base now : Outs)
   NotClosed : (mid whole : Outs) → HasBegun (heading h) plan tells base mid → Agrees tells mid whole s.events (last_acts rule s.acts) → end ≡ ends.TapeFault
       → (tells.tape ≡ true → TookFront whole.taken now.taken (0 ∷ [])) → now.told ≡ whole.told → CameTo h plan tells base now end s sooner news rule
 
--- each end: the rule that applied, or the fault that came, which is that of the first call that failed
+-- each end: the rule that applied, or the fault that came, which is that of the first call that failed or was without memory
 abbrev pub SessionEnds : Header → LinkPlan → Tells → Outs → Outs → ServeEnd → Serving → List LinkAct → List LinkAct → Want → Type 0
 SessionEnds h plan tells base now ends.Done s sooner news rule = (rule ≡ Finishes) × TookAll h plan tells base now s.events s.acts
 SessionEnds h plan tells base now ends.Limit s sooner news rule = (rule ≡ Halts) × TookAll h plan tells base now s.events s.acts
@@ -72,11 +72,11 @@ SessionEnds h plan tells base now ends.LinkFault s sooner news rule =
 SessionEnds h plan tells base now ends.TapeFault s sooner news rule =
     TapeFailed base now × TookPart h plan tells base now s.events (last_acts rule s.acts) × CameTo h plan tells base now ends.TapeFault s sooner news rule
 SessionEnds h plan tells base now ends.Mem s sooner news rule =
-    NoneFailed base now × TookPart h plan tells base now s.events s.acts × CameTo h plan tells base now ends.Mem s sooner news rule
+    FellShort base now × TookPart h plan tells base now s.events s.acts × CameTo h plan tells base now ends.Mem s sooner news rule
 
 -- What is true of the events and the calls of a session, in its world w: a file of these events is one, the frames that went to the link are
 -- those that its replicas made, in their order, each reply of a position is true, and where the audit holds the replicas agree.
-pub record IsSession (h : Header) (w : Setting) (events : List Event) (acts : List LinkAct) : Type 0 where
+pub record IsTrueSession (h : Header) (w : Setting) (events : List Event) (acts : List LinkAct) : Type 0 where
   pub file : length (FileOf (heading h) events) ≤ file.limit → IsFile (FileOf (heading h) events) (heading h) events
   pub frames : frames_of w events ≡ reverse (frames_in acts)
   pub replies : AllByRecursion (IsTrueReply w events) (replies_in acts)
@@ -88,6 +88,6 @@ pub record ServesSession (s : Session) (first : List LinkItem) (w : Setting) (te
   pub wanted : AreWanted w [] s.until s.limit first rounds
   pub so : SessionEnds s.header s.plan tells base now end (after w [] first rounds) (sooner w [] first rounds) (newest w [] first rounds)
       (wants w [] s.until s.limit (after w [] first rounds))
-  pub true_of : IsSession s.header w (after w [] first rounds).events (after w [] first rounds).acts
+  pub true_of : IsTrueSession s.header w (after w [] first rounds).events (after w [] first rounds).acts
   pub tape_later : base.tape_faults ≤ now.tape_faults
-  pub link_later : base.link_faults ≤ now.link_faults
+  pub link_later : base.link_faults.failed ≤ now.link_faults.failed

@@ -1,9 +1,10 @@
 -- How waiting goes on and ends.
-use Rattle.std.proofs.Common.{◌≡◌, ℕ, ◌≤◌, List, [], ◌∷◌, ◌++◌, map, Bool, true, Some, None, Ok, Err, refl, sym, ap, ◌∙◌, arith}
+use Rattle.std.proofs.Common.{◌≡◌, ℕ, ◌≤◌, List, [], ◌∷◌, ◌++◌, map, Bool, true, Some, None, Ok, Err, refl, sym, ap, ◌∙◌, arith, inl, inr}
 use Rattle.outside.specs.Faults.{Rose}
 use Rattle.outside.specs.LinkCalls.{TookBack, LinkDid}
-use Rattle.outside.specs.LinkCallsLaws.{back_all}
+use Rattle.outside.specs.LinkCallsLaws.{back_none, back_all}
 use Rattle.outside.specs.Links.{LinkAct, Gives, faults_after}
+use Rattle.outside.specs.declared.link.FaultCounts.{FaultCounts}
 use Rattle.outside.specs.declared.link.LinkFault.{LinkFault}
 use Rattle.outside.specs.declared.link.LinkFault.TheVariants as faults
 use Rattle.outside.specs.declared.link.LinkItem.{LinkItem}
@@ -12,34 +13,48 @@ use Rattle.outside.specs.FaultsLaws.{rose_after}
 use Rattle.client_port.specs.Votes.{Wanted, Ballots, VotesStand}
 use Rattle.request_submit.specs.declared.end.SubmitEnd.{SubmitEnd}
 use Rattle.request_submit.specs.declared.end.SubmitEnd.TheVariants as ends
-use Rattle.request_submit.specs.Submitting.{handed_in, calls_of, settles, faults_at, EndsSo, Submits}
+use Rattle.request_submit.specs.Submitting.{handed_in, calls_of, settles, HasCause, EndsSo, Submits}
 use Rattle.request_submit.specs.Waiting.{IsEndOf, Waits}
+
+same_failed : {a b : FaultCounts} → a ≡ b → a.failed ≡ b.failed
+same_failed e = ap (λ (n : FaultCounts). n.failed) e
 
 -- ---- a fault is an end
 
-fault_so : (w : Wanted) (acts : List LinkAct) (tells : Bool) (old new : List LinkAct) (before after : ℕ) (fault : LinkFault) (end : SubmitEnd)
-    → IsEndOf fault end → (tells ≡ true → TookBack old new acts) → (fault ≡ faults.Failed → Rose before after) → (taken : List LinkItem)
+fault_so : (w : Wanted) (acts : List LinkAct) (tells : Bool) (old new : List LinkAct) (before after : FaultCounts) (fault : LinkFault) (end : SubmitEnd)
+    → IsEndOf fault end → (tells ≡ true → TookBack old new acts) → (fault ≡ faults.Failed → Rose before.failed after.failed) → (taken : List LinkItem)
     → EndsSo w taken acts tells old new before after end
 fault_so w acts tells old new before after faults.Failed end is part cause taken = rw is (cause refl, part)
 fault_so w acts tells old new before after faults.Mem end is part cause taken = rw is part
 
-count_so : (A : Type 0) (before after : ℕ) (fault : LinkFault) (end : SubmitEnd) → IsEndOf fault end → after ≡ faults_after {A = A} before (Err fault) → after ≡ faults_at before end
-count_so A before after faults.Failed end is counts = rw is counts
-count_so A before after faults.Mem end is counts = rw is counts
+cause_so : (A : Type 0) (before after : FaultCounts) (fault : LinkFault) (end : SubmitEnd) → IsEndOf fault end → after ≡ faults_after {A = A} before (Err fault) → HasCause before after end
+cause_so A before after faults.Failed end is counts = rw is counts
+cause_so A before after faults.Mem end is counts = rw is (inr counts)
+
+-- memory ran out before the link was started
+pub not_prepared : (w : Wanted) (nodes : List (List ℕ)) (payload : List ℕ) (tells : Bool) (old : List LinkAct) (before : FaultCounts)
+    → Submits w nodes payload tells old old before before ends.Mem
+not_prepared w nodes payload tells old before = record {
+  items = [];
+  on = tt;
+  later = omega arith;
+  cause = inl refl;
+  so = λ t. back_none old (handed_in w nodes payload);
+}
 
 -- the request wasn't handed in
-pub not_handed_in : (w : Wanted) (nodes : List (List ℕ)) (payload : List ℕ) (tells : Bool) (old new : List LinkAct) (before after : ℕ) (fault : LinkFault) (end : SubmitEnd)
+pub not_handed_in : (w : Wanted) (nodes : List (List ℕ)) (payload : List ℕ) (tells : Bool) (old new : List LinkAct) (before after : FaultCounts) (fault : LinkFault) (end : SubmitEnd)
     → LinkDid tells (handed_in w nodes payload) old new before after (Err fault) → IsEndOf fault end → Submits w nodes payload tells old new before after end
 not_handed_in w nodes payload tells old new before after fault end did is = record {
   items = [];
   on = tt;
   later = did.later;
-  count = count_so (Unit {0}) before after fault end is did.count;
+  cause = cause_so (Unit {0}) before after fault end is did.count;
   so = fault_so w (handed_in w nodes payload) tells old new before after fault end is did.back (λ e. did.cause (ap Err e)) [];
 }
 
 -- it was, and nothing was taken yet
-pub waits_first : (w : Wanted) (nodes : List (List ℕ)) (payload : List ℕ) (tells : Bool) (old new : List LinkAct) (before after : ℕ) (votes : Ballots)
+pub waits_first : (w : Wanted) (nodes : List (List ℕ)) (payload : List ℕ) (tells : Bool) (old new : List LinkAct) (before after : FaultCounts) (votes : Ballots)
     → LinkDid tells (handed_in w nodes payload) old new before after (Ok tt) → VotesStand w [] votes → Waits w nodes payload tells old new before after votes
 waits_first w nodes payload tells old new before after votes did stands = record {
   items = [];
@@ -52,16 +67,16 @@ waits_first w nodes payload tells old new before after votes did stands = record
 -- ---- the link's next item
 
 -- it failed
-pub next_fails : (w : Wanted) (nodes : List (List ℕ)) (payload : List ℕ) (tells : Bool) (base old new : List LinkAct) (x y z : ℕ) (votes : Ballots) (fault : LinkFault) (end : SubmitEnd)
-    → Waits w nodes payload tells base old x y votes → (tells ≡ true → new ≡ old) → y ≤ z → (fault ≡ faults.Failed → Rose y z) → z ≡ faults_after {A = LinkItem} y (Err fault) → IsEndOf fault end
+pub next_fails : (w : Wanted) (nodes : List (List ℕ)) (payload : List ℕ) (tells : Bool) (base old new : List LinkAct) (x y z : FaultCounts) (votes : Ballots) (fault : LinkFault) (end : SubmitEnd)
+    → Waits w nodes payload tells base old x y votes → (tells ≡ true → new ≡ old) → y.failed ≤ z.failed → (fault ≡ faults.Failed → Rose y.failed z.failed) → z ≡ faults_after {A = LinkItem} y (Err fault) → IsEndOf fault end
     → Submits w nodes payload tells base new x z end
 next_fails w nodes payload tells base old new x y z votes fault end waits same later cause counts is = record {
   items = waits.items;
   on = waits.on;
-  later = omega (arith, waits.none_failed, later);
-  count = count_so LinkItem x z fault end is (counts ∙ ap (λ (n : ℕ). faults_after {A = LinkItem} n (Err fault)) waits.none_failed);
+  later = omega (arith, same_failed waits.none_failed, later);
+  cause = cause_so LinkItem x z fault end is (counts ∙ ap (λ (n : FaultCounts). faults_after {A = LinkItem} n (Err fault)) waits.none_failed);
   so = fault_so w _ tells base new x z fault end is (λ t. back_all base new _ (same t ∙ waits.told t))
-      (λ e. rose_after x y z (omega (arith, waits.none_failed)) (cause e)) waits.items;
+      (λ e. rose_after x.failed y.failed z.failed (omega (arith, same_failed waits.none_failed)) (cause e)) waits.items;
 }
 
 -- the calls with one more
@@ -69,31 +84,31 @@ more_told : (old new acts base : List LinkAct) (act : LinkAct) → new ≡ act �
 more_told old new acts base act first second = first ∙ ap (λ (l : List LinkAct). act ∷ l) second
 
 -- it is the link's end
-pub link_ends : (w : Wanted) (nodes : List (List ℕ)) (payload : List ℕ) (tells : Bool) (base old new : List LinkAct) (x y z : ℕ) (votes : Ballots) (item : LinkItem)
+pub link_ends : (w : Wanted) (nodes : List (List ℕ)) (payload : List ℕ) (tells : Bool) (base old new : List LinkAct) (x y z : FaultCounts) (votes : Ballots) (item : LinkItem)
     → Waits w nodes payload tells base old x y votes → (tells ≡ true → new ≡ Gives item ∷ old) → z ≡ y → item ≡ items.End
     → Submits w nodes payload tells base new x z ends.NoPosition
 link_ends w nodes payload tells base old new x y z votes item waits told same is = record {
   items = waits.items;
   on = waits.on;
-  later = omega (arith, waits.none_failed, same);
-  count = same ∙ waits.none_failed;
+  later = omega (arith, same_failed waits.none_failed, same_failed same);
+  cause = same ∙ waits.none_failed;
   so = λ t. more_told old new (map Gives waits.items ++ handed_in w nodes payload) base (Gives items.End) (rw is at (told t)) (waits.told t);
 }
 
 -- it settles a position
-pub item_settles : (w : Wanted) (nodes : List (List ℕ)) (payload : List ℕ) (tells : Bool) (base old new : List LinkAct) (x y z : ℕ) (votes : Ballots) (item : LinkItem) (position : ℕ)
+pub item_settles : (w : Wanted) (nodes : List (List ℕ)) (payload : List ℕ) (tells : Bool) (base old new : List LinkAct) (x y z : FaultCounts) (votes : Ballots) (item : LinkItem) (position : ℕ)
     → (waits : Waits w nodes payload tells base old x y votes) → (tells ≡ true → new ≡ Gives item ∷ old) → z ≡ y → Some position ≡ settles w waits.items item
     → Submits w nodes payload tells base new x z (ends.Position position)
 item_settles w nodes payload tells base old new x y z votes item position waits told same settled = record {
   items = waits.items;
   on = waits.on;
-  later = omega (arith, waits.none_failed, same);
-  count = same ∙ waits.none_failed;
+  later = omega (arith, same_failed waits.none_failed, same_failed same);
+  cause = same ∙ waits.none_failed;
   so = record { item = item; settled = sym settled; told = λ t. more_told old new (map Gives waits.items ++ handed_in w nodes payload) base (Gives item) (told t) (waits.told t) };
 }
 
 -- it settles none
-pub item_passes : (w : Wanted) (nodes : List (List ℕ)) (payload : List ℕ) (tells : Bool) (base old new : List LinkAct) (x y z : ℕ) (votes now : Ballots) (item : LinkItem)
+pub item_passes : (w : Wanted) (nodes : List (List ℕ)) (payload : List ℕ) (tells : Bool) (base old new : List LinkAct) (x y z : FaultCounts) (votes now : Ballots) (item : LinkItem)
     → (waits : Waits w nodes payload tells base old x y votes) → (tells ≡ true → new ≡ Gives item ∷ old) → z ≡ y → None ≡ settles w waits.items item
     → (item ≡ items.End → ⊥) → VotesStand w (calls_of (item ∷ waits.items)) now
     → Waits w nodes payload tells base new x z now

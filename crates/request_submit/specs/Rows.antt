@@ -1,12 +1,17 @@
 -- Worked rows: four nodes, of which one may be faulty, and request 1 of client 7, which asks "hi".
-use Rattle.std.specs.Prelude.{◌≡◌, ℕ, List, [], ◌∷◌, codes, Some, None, refl}
+use Rattle.std.specs.Prelude.{◌≡◌, ℕ, Bool, false, nat_lt, List, [], ◌∷◌, codes, Option, Some, None, refl, if◌then◌else◌}
+use Rattle.std.proofs.Common.{arith, lit≤}
+use Rattle.outside.specs.declared.link.FaultCounts.{FaultCounts}
+use Rattle.client_port.specs.Laws.{IsLogged}
+use Rattle.request_submit.specs.Laws.{OneOfLogs}
+use Rattle.request_submit.specs.declared.end.SubmitEnd.TheVariants.{Position}
 use Rattle.outside.specs.Links.{Starts, Sends}
 use Rattle.outside.specs.declared.link.LinkItem.{LinkItem}
 use Rattle.outside.specs.declared.link.LinkItem.TheVariants as items
 use Rattle.outside.specs.declared.link.LinkPlan.TheVariants as plans
 use Rattle.client_port.specs.Messages.{number_at, position_reply, refusal_reply}
 use Rattle.client_port.specs.Votes.{Wanted, fault_of, answer_of}
-use Rattle.request_submit.specs.Submitting.{handed_in, settles, GoesOn}
+use Rattle.request_submit.specs.Submitting.{handed_in, settles, GoesOn, Submits}
 
 abbrev wanted : Wanted
 wanted = record { numbers = record { n = 4; f = 1 }; client = 7; request = 1 }
@@ -64,3 +69,31 @@ others_between = refl
 
 other_item : settles wanted (gives 0 5 ∷ []) (items.Client 2 0 (position_reply 7 1 5)) ≡ None
 other_item = refl
+
+-- ---- positions and logs: nodes 0, 1 and 2 are correct and have the request at position 5
+
+abbrev is_correct : ℕ → Bool
+is_correct k = nat_lt k 3
+
+abbrev log : ℕ → Option ℕ
+log k = Some (if nat_lt k 3 then 5 else 9)
+
+abbrev no_faults : FaultCounts
+no_faults = record { failed = 0; short = 0 }
+
+-- node 0 replied it, node 3 another one, and node 2 settled it
+ended : Submits wanted nodes (codes "hi") false [] [] no_faults no_faults (Position 5)
+unfolding answer_of fault_of number_at
+ended = record {
+  items = gives 3 9 ∷ gives 0 5 ∷ [];
+  on = (record { more = λ e. cc; quiet = refl }, (record { more = λ e. cc; quiet = refl }, tt));
+  later = omega arith;
+  cause = refl;
+  so = record { item = gives 2 5; settled = refl; told = λ tells. absurd cc };
+}
+
+-- the law asks for n - f correct nodes, which are three of the four here; what the faulty one replied is free
+three_are_enough : OneOfLogs → IsLogged wanted is_correct log 5
+unfolding answer_of fault_of number_at ended
+three_are_enough law = law wanted nodes (codes "hi") false [] [] no_faults no_faults 5 is_correct log (lit≤ tt) ended
+    ((λ position correct is. is), ((λ position correct is. absurd cc), ((λ position correct is. is), tt)))

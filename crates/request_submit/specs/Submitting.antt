@@ -1,10 +1,11 @@
 -- What handing in a request does to a link, and how it ends. Lists of the link's calls, of its items and of the calls of the votes have
 -- the newest first.
-use Rattle.std.specs.Prelude.{◌≡◌, ℕ, ◌≤◌, Bool, true, List, [], ◌∷◌, ◌++◌, map, Option, Some, None, Result, Ok, Err}
+use Rattle.std.specs.Prelude.{◌≡◌, ◌⊎◌, ℕ, ◌≤◌, Bool, true, List, [], ◌∷◌, ◌++◌, map, Option, Some, None, Result, Ok, Err}
 use Rattle.ritas_base.specs.History.{replicas}
-use Rattle.outside.specs.Faults.{count_after, Rose}
+use Rattle.outside.specs.Faults.{Rose}
 use Rattle.outside.specs.LinkCalls.{TookBack, each_act}
-use Rattle.outside.specs.Links.{LinkAct, Starts, Gives, Sends}
+use Rattle.outside.specs.Links.{LinkAct, Starts, Gives, Sends, failed_once, short_once}
+use Rattle.outside.specs.declared.link.FaultCounts.{FaultCounts}
 use Rattle.outside.specs.declared.link.LinkItem.{LinkItem}
 use Rattle.outside.specs.declared.link.LinkItem.TheVariants as items
 use Rattle.outside.specs.declared.link.LinkPlan.{LinkPlan}
@@ -77,24 +78,24 @@ pub record SettledBy (w : Wanted) (older : List LinkItem) (position : ℕ) (tell
   pub told : tells ≡ true → new ≡ Gives item ∷ acts ++ old
 
 -- each end, where these items were taken and these calls were made or to be made
-abbrev pub EndsSo : Wanted → List LinkItem → List LinkAct → Bool → List LinkAct → List LinkAct → ℕ → ℕ → SubmitEnd → Type 0
+abbrev pub EndsSo : Wanted → List LinkItem → List LinkAct → Bool → List LinkAct → List LinkAct → FaultCounts → FaultCounts → SubmitEnd → Type 0
 EndsSo w older acts tells old new before after (ends.Position position) = SettledBy w older position tells old new acts
 EndsSo w older acts tells old new before after ends.NoPosition = tells ≡ true → new ≡ Gives items.End ∷ acts ++ old
-EndsSo w older acts tells old new before after ends.LinkFault = Rose before after × (tells ≡ true → TookBack old new acts)
+EndsSo w older acts tells old new before after ends.LinkFault = Rose before.failed after.failed × (tells ≡ true → TookBack old new acts)
 EndsSo w older acts tells old new before after ends.Mem = tells ≡ true → TookBack old new acts
 
--- the link's count of faults: one of its calls failed where that ended it, and else none
-abbrev pub faults_at : ℕ → SubmitEnd → ℕ
-faults_at before (ends.Position position) = before
-faults_at before ends.NoPosition = before
-faults_at before ends.LinkFault = count_after before
-faults_at before ends.Mem = before
+-- the link's counts: one of its calls failed where that ended it, at most one was without memory where that did, and else none
+abbrev pub HasCause : FaultCounts → FaultCounts → SubmitEnd → Type 0
+HasCause before after (ends.Position position) = after ≡ before
+HasCause before after ends.NoPosition = after ≡ before
+HasCause before after ends.LinkFault = after ≡ failed_once before
+HasCause before after ends.Mem = (after ≡ before) ⊎ (after ≡ short_once before)
 
 -- There are items, of which none was the link's end and none settled a position, after which it ended so. The link had been started with
 -- the nodes and given the request for each of them, in order, before it gave the first of these items.
-pub record Submits (w : Wanted) (nodes : List (List ℕ)) (payload : List ℕ) (tells : Bool) (old new : List LinkAct) (before after : ℕ) (end : SubmitEnd) : Type 0 where
+pub record Submits (w : Wanted) (nodes : List (List ℕ)) (payload : List ℕ) (tells : Bool) (old new : List LinkAct) (before after : FaultCounts) (end : SubmitEnd) : Type 0 where
   pub items : List LinkItem
   pub on : GoesOn w items
-  pub later : before ≤ after
-  pub count : after ≡ faults_at before end
+  pub later : before.failed ≤ after.failed
+  pub cause : HasCause before after end
   pub so : EndsSo w items (map Gives items ++ handed_in w nodes payload) tells old new before after end

@@ -1,6 +1,7 @@
 -- What one part of handing in a request does after another.
 use Rattle.std.specs.Prelude.{◌≡◌, ℕ, Bool, true, List, ◌++◌, map, Result, Ok, Err}
 use Rattle.outside.specs.Links.{LinkAct, Gives}
+use Rattle.outside.specs.declared.link.FaultCounts.{FaultCounts}
 use Rattle.outside.specs.declared.link.LinkFault.{LinkFault}
 use Rattle.outside.specs.declared.link.LinkFault.TheVariants as faults
 use Rattle.outside.specs.declared.link.LinkItem.{LinkItem}
@@ -14,8 +15,8 @@ abbrev pub IsEndOf : LinkFault → SubmitEnd → Type 0
 IsEndOf faults.Failed end = end ≡ ends.LinkFault
 IsEndOf faults.Mem end = end ≡ ends.Mem
 
--- since base, the request was handed in, items were taken with which it goes on, and no call failed; the votes stand for their replies
-pub record Waits (w : Wanted) (nodes : List (List ℕ)) (payload : List ℕ) (tells : Bool) (base now : List LinkAct) (before after : ℕ) (votes : Ballots) : Type 0 where
+-- since base, the request was handed in, items were taken with which it goes on, and no call failed or was without memory; the votes stand for their replies
+pub record Waits (w : Wanted) (nodes : List (List ℕ)) (payload : List ℕ) (tells : Bool) (base now : List LinkAct) (before after : FaultCounts) (votes : Ballots) : Type 0 where
   pub items : List LinkItem
   pub on : GoesOn w items
   pub none_failed : after ≡ before
@@ -23,6 +24,6 @@ pub record Waits (w : Wanted) (nodes : List (List ℕ)) (payload : List ℕ) (te
   pub stands : VotesStand w (calls_of items) votes
 
 -- it waits on, or ended
-abbrev pub Goes : Wanted → List (List ℕ) → List ℕ → Bool → List LinkAct → List LinkAct → ℕ → ℕ → Ballots → Result (Unit {0}) SubmitEnd → Type 0
+abbrev pub Goes : Wanted → List (List ℕ) → List ℕ → Bool → List LinkAct → List LinkAct → FaultCounts → FaultCounts → Ballots → Result (Unit {0}) SubmitEnd → Type 0
 Goes w nodes payload tells base now before after votes (Ok done) = Waits w nodes payload tells base now before after votes
 Goes w nodes payload tells base now before after votes (Err end) = Submits w nodes payload tells base now before after end

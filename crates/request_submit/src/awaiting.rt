@@ -1,6 +1,7 @@
 //! Waiting for a position.
 ghost use Rattle.std.specs.Prelude.{◌≡◌, ◌∷◌, ℕ, List};
 ghost use Rattle.outside.specs.Links.{LinkAct};
+ghost use Rattle.outside.specs.declared.link.FaultCounts.{FaultCounts};
 ghost use Rattle.outside.specs.declared.link.LinkItem.{LinkItem};
 ghost use Rattle.client_port.specs.Votes.{Wanted, VotesStand};
 ghost use Rattle.request_submit.specs.Submitting.{calls_of, settles, Submits};
@@ -37,7 +38,7 @@ fn take<R: Net + Wait, L: Link>(
     votes: &mut Votes,
     link: &mut L,
 ) -> Result<(), SubmitEnd>
-    ensures { (w : Wanted) (nodes : List (List ℕ)) (payload : List ℕ) (base : List LinkAct) (before : ℕ)
+    ensures { (w : Wanted) (nodes : List (List ℕ)) (payload : List ℕ) (base : List LinkAct) (before : FaultCounts)
         → Waits w nodes payload L.tells base (L.told link.old) before (L.faults link.old) votes.old
         → Goes w nodes payload L.tells base (L.told link.new) before (L.faults link.new) votes.new result }
 {
@@ -61,7 +62,7 @@ pub(crate) fn await_position<R: Net + Wait, L: Link>(
     votes: Votes,
     link: &mut L,
 ) -> SubmitEnd
-    ensures { (w : Wanted) (nodes : List (List ℕ)) (payload : List ℕ) (base : List LinkAct) (before : ℕ)
+    ensures { (w : Wanted) (nodes : List (List ℕ)) (payload : List ℕ) (base : List LinkAct) (before : FaultCounts)
         → Waits w nodes payload L.tells base (L.told link.old) before (L.faults link.old) votes
         → Submits w nodes payload L.tells base (L.told link.new) before (L.faults link.new) result }
 {

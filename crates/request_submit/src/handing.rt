@@ -1,12 +1,15 @@
 //! Handing a request to the nodes.
+ghost use Rattle.std.specs.Prelude.{◌≡◌, ◌∷◌, ◌++◌, [], IfOk};
 ghost use Rattle.outside.specs.LinkCalls.{LinkDid};
-ghost use Rattle.request_submit.specs.Submitting.{handed_in, sent_to_each, Submits};
+ghost use Rattle.outside.specs.Links.{Starts};
+ghost use Rattle.client_port.specs.Messages.{request_bytes};
+ghost use Rattle.request_submit.specs.Submitting.{plan_of, sent_to_each, Submits};
 
 use crate::awaiting::await_position;
 use crate::end::{SubmitEnd, end_of};
 use client_port::{Votes, write_request};
 use outside::{Link, LinkFault, LinkPlan};
-use ritas_base::{Mem, Params, Texts};
+use ritas_base::{Bytes, Mem, Params, Texts};
 use std::alloc::Global;
 use std::net::Net;
 use std::sync::Wait;
@@ -30,29 +33,35 @@ fn send_to_each<R: Net + Wait, L: Link>(
     Ok(())
 }
 
-// Starts the link, and sends the request to each node.
-fn hand_in<R: Net + Wait, L: Link>(
-    rt: &R,
+// What the link is started with, and the request's message.
+fn prepared(
     alloc: Global,
-    p: &Params,
     nodes: &Texts,
     client: u32,
     request: u32,
     payload: &[u8],
+) -> Result<(LinkPlan, Bytes), Mem>
+    ensures plan { IfOk result (λ x. x.0 ≡ plan_of nodes.now) }
+    ensures message { IfOk result (λ x. x.1 ≡ request_bytes (record { client = client; request = request; payload = payload.now })) }
+{
+    let nodes = nodes.copy(alloc)?;
+    let message = write_request(alloc, client, request, payload)?;
+    Ok((LinkPlan::Client { nodes }, message))
+}
+
+// Starts the link, and sends the message to each node.
+fn hand_in<R: Net + Wait, L: Link>(
+    rt: &R,
+    alloc: Global,
+    count: u8,
+    plan: &LinkPlan,
+    message: &[u8],
     link: &mut L,
 ) -> Result<(), LinkFault>
-    ensures { LinkDid L.tells (handed_in (record { numbers = p.now; client = client; request = request }) nodes.now payload.now) (L.told link.old) (L.told link.new) (L.faults link.old) (L.faults link.new) result }
+    ensures { LinkDid L.tells (sent_to_each count message.now ++ Starts plan.now ∷ []) (L.told link.old) (L.told link.new) (L.faults link.old) (L.faults link.new) result }
 {
-    let nodes = match nodes.copy(alloc) {
-        Ok(nodes) => nodes,
-        Err(Mem) => return Err(LinkFault::Mem),
-    };
-    let message = match write_request(alloc, client, request, payload) {
-        Ok(message) => message,
-        Err(Mem) => return Err(LinkFault::Mem),
-    };
-    match link.start(rt, alloc, &LinkPlan::Client { nodes }) {
-        Ok(()) => send_to_each(rt, alloc, link, p.n(), message.as_slice()),
+    match link.start(rt, alloc, plan) {
+        Ok(()) => send_to_each(rt, alloc, link, count, message),
         Err(fault) => Err(fault),
     }
 }
@@ -66,8 +75,9 @@ fn hand_in<R: Net + Wait, L: Link>(
 /// item.
 ///
 /// It ends with `Position` at the first reply whose position f + 1 nodes have given with it, with `NoPosition` at the link's
-/// end, with `LinkFault` at the first call of the link that fails, only where its count of faults rose or stands at its last
-/// value, and with `Mem` where there is not enough memory. It waits nowhere but in the link's calls.
+/// end, with `LinkFault` at the first call of the link that fails, and with `Mem` where there is not enough memory, also at the
+/// first call of the link that is without it: no call follows one that fails or is without memory. It waits nowhere but in the
+/// link's calls.
 pub fn submit<R: Net + Wait, L: Link>(
     rt: &R,
     alloc: Global,
@@ -80,7 +90,11 @@ pub fn submit<R: Net + Wait, L: Link>(
 ) -> SubmitEnd
     ensures { Submits (record { numbers = p.now; client = client; request = request }) nodes.now payload.now L.tells (L.told link.old) (L.told link.new) (L.faults link.old) (L.faults link.new) result }
 {
-    match hand_in(rt, alloc, p, nodes, client, request, payload, link) {
+    let (plan, message) = match prepared(alloc, nodes, client, request, payload) {
+        Ok(prepared) => prepared,
+        Err(Mem) => return SubmitEnd::Mem,
+    };
+    match hand_in(rt, alloc, p.n(), &plan, message.as_slice(), link) {
         Ok(()) => await_position(rt, alloc, Votes::new(p, client, request), link),
         Err(fault) => end_of(fault),
     }

@@ -11,4 +11,4 @@ returns g c =
     let world = c.in_ok-world.ensures in
     IfOk-weaker c.into_replicas.result _ _
     (λ replicas stand. are_here _ w [] replicas.items world.kind world.going c.requires.atomic stand)
-    (c.into_replicas.ensures w [] world)
+    (c.into_replicas.ensures.is w [] world)

@@ -10,7 +10,7 @@ returns-clause-does g c = λ w es numbers at stand number alone. elim c.match-ev
   | in-Frame b ↦
       gave _ w es numbers c.args.self.now.replicas.items c.match-event.self.replicas.items c.args.place at c.in-Some.replica.now b.on_frame-answer.new.self c.args.event.now (Frame b.as_slice.result.now)
       c.args.frames.now.items b.on_frame-answer.new.out.items c.match-event.frames.items b.on_frame-answer.result c.match-event.answer c.refusal_number.result
-      stand number c.in-Some.ensures.item.3.0 c.in-Some.ensures.value alone (ap (λ x. Frame x) b.as_slice.ensures ∙ sym (ap call_in b.in-Frame.is)) b.on_frame-answer.ensures c.refusal_number.ensures b.answer-is (ap (λ h. h.replicas.items) b.self-is) (ap (λ v. v.items) b.frames-is)
+      stand number c.in-Some.ensures.item.3.0 c.in-Some.ensures.value alone (ap (λ x. Frame x) b.as_slice.ensures ∙ sym (ap call_in b.in-Frame.is)) b.on_frame-answer.ensures.does c.refusal_number.ensures b.answer-is (ap (λ h. h.replicas.items) b.self-is) (ap (λ v. v.items) b.frames-is)
   | in-Input b ↦
       gave _ w es numbers c.args.self.now.replicas.items c.match-event.self.replicas.items c.args.place at c.in-Some.replica.now b.on_input-answer.new.self c.args.event.now (Input b.as_slice-in-Input.result.now)
       c.args.frames.now.items b.on_input-answer.new.out.items c.match-event.frames.items b.on_input-answer.result c.match-event.answer c.refusal_number.result
@@ -26,7 +26,7 @@ returns-clause-refused g c = λ w es numbers at stand number alone. elim c.match
   | in-Frame b ↦
       refuses _ w es numbers c.args.self.now.replicas.items c.args.place at c.in-Some.replica.now b.on_frame-answer.new.self c.args.event.now (Frame b.as_slice.result.now)
       c.args.frames.now.items b.on_frame-answer.new.out.items b.on_frame-answer.result c.match-event.answer c.refusal_number.result
-      stand number c.in-Some.ensures.item.3.0 c.in-Some.ensures.value alone (ap (λ x. Frame x) b.as_slice.ensures ∙ sym (ap call_in b.in-Frame.is)) b.on_frame-answer.ensures c.refusal_number.ensures b.answer-is
+      stand number c.in-Some.ensures.item.3.0 c.in-Some.ensures.value alone (ap (λ x. Frame x) b.as_slice.ensures ∙ sym (ap call_in b.in-Frame.is)) b.on_frame-answer.ensures.does c.refusal_number.ensures b.answer-is
   | in-Input b ↦
       refuses _ w es numbers c.args.self.now.replicas.items c.args.place at c.in-Some.replica.now b.on_input-answer.new.self c.args.event.now (Input b.as_slice-in-Input.result.now)
       c.args.frames.now.items b.on_input-answer.new.out.items b.on_input-answer.result c.match-event.answer c.refusal_number.result
