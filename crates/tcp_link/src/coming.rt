@@ -1,10 +1,14 @@
 //! Connections that come in at the doors, and those that are begun.
 
-use crate::conn::{Conn, Whom};
+use crate::conn::Conn;
 use crate::dials::{begin, watched};
-use crate::doors::{Arrival, Entry};
+use crate::doors::Arrival;
+use crate::outcome::Nobody;
 use crate::retries::Retry;
-use crate::sockets::{Down, Sockets, list};
+use crate::side::Side;
+use crate::sockets::{Sockets, list};
+use crate::stage::Stage;
+use crate::whom::Whom;
 use mio::Registry;
 use mio::net::TcpStream;
 use ritas_base::Mem;
@@ -51,18 +55,20 @@ impl Sockets {
         let Some(door) = self.doors.get_mut(number) else {
             return Ok(false);
         };
-        if let (Entry::Clients { at: _ }, u32::MAX) = (door.entry, self.next_client) {
+        let entry = door.entry;
+        if !entry.admits(self.clients) {
             return Ok(false);
         }
         match door.look() {
             Arrival::Stream(stream) => {
-                let entry = door.entry;
-                self.enter(alloc, registry, entry, stream)?;
+                let whom = entry.whom(self.clients);
+                self.clients = entry.numbered_after(self.clients);
+                self.enter(alloc, registry, whom, stream)?;
                 Ok(true)
             }
-            Arrival::Gone => Ok(true),
-            Arrival::Nobody => Ok(false),
-            Arrival::Closed => {
+            Arrival::None(Nobody::Gone) => Ok(true),
+            Arrival::None(Nobody::Waits) => Ok(false),
+            Arrival::None(Nobody::Closed) => {
                 door.is_listed = true;
                 self.retries.add(Retry::Door(number))?;
                 Ok(false)
@@ -75,22 +81,21 @@ impl Sockets {
         &mut self,
         alloc: Global,
         registry: &Registry,
-        entry: Entry,
+        whom: Whom,
         stream: TcpStream,
     ) -> Result<(), Mem> {
-        let whom = match entry {
-            Entry::Replicas { at } => Whom::Unnamed { at },
-            Entry::Clients { at } => {
-                let conn = self.next_client;
-                self.next_client = conn.saturating_add(1);
-                Whom::Client { at, conn }
-            }
-        };
         let Some(token) = self.conns.next_token() else {
             return Ok(());
         };
         match watched(registry, stream, token) {
-            Ok(stream) => self.conns.add(Conn::new(alloc, stream, token, whom, None)),
+            Ok(stream) => {
+                let side = Side::new(alloc, whom, None);
+                self.conns.add(Conn {
+                    stream,
+                    token,
+                    side,
+                })
+            }
             Err(_) => Ok(()),
         }
     }
@@ -111,11 +116,15 @@ impl Sockets {
         };
         match begin(rt, registry, dial.address, token) {
             Ok(stream) => {
-                let mut conn = Conn::new(alloc, stream, token, dial.whom, Some(number));
-                if let Whom::Peer { at, peer: _ } = dial.whom {
-                    conn.tell(at)?;
+                let mut side = Side::new(alloc, dial.whom, Some(number));
+                if let Some(number) = dial.whom.told_first() {
+                    side.tell(number)?;
                 }
-                self.conns.add(conn)
+                self.conns.add(Conn {
+                    stream,
+                    token,
+                    side,
+                })
             }
             Err(_) => self.not_begun(number, dial.whom),
         }
@@ -123,13 +132,7 @@ impl Sockets {
 
     // A connection couldn't be begun: it is tried again after a pause, but not by a client.
     fn not_begun(&mut self, number: usize, whom: Whom) -> Result<(), Mem> {
-        match whom {
-            Whom::Node { from } => {
-                self.downs.push_back(Down { at: 0, peer: from })?;
-                Ok(())
-            }
-            _ => self.retries.add(Retry::Dial(number)),
-        }
+        self.closed(whom, Stage::Refused, Some(number))
     }
 
     /// Tries again what is due.

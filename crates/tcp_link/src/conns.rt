@@ -1,39 +1,30 @@
 //! The connections of a link, by their tokens, by their peers and by the numbers of clients.
 
-use crate::conn::{Conn, Stage, Whom};
+ghost use Rattle.std.specs.Prelude.{◌≡◌, ◌<◌, ◌==◌, OnOk, count_by, option_copied};
+ghost use Rattle.std.specs.Option.{SomeIff};
+ghost use Rattle.std.specs.Ordering.{nat_cmp};
+ghost use Rattle.std.specs.BTreeMap.{get as get_client};
+ghost use Rattle.slab.specs.Slab.{slab_len};
+ghost use Rattle.tcp_link.specs.Connections.{conn_at, is_up_at, newest, noting, place_noted};
+ghost use Rattle.tcp_link.specs.Tokens.{most_conns, token_of, serial_after, place_of};
+
+use crate::conn::Conn;
+use crate::tokens::{MOST_REPLICAS, Tokens, place_in, place_of};
+use crate::whom::Whom;
 use ritas_base::Mem;
 use slab::Slab;
 use std::alloc::Global;
 use std::collections::BTreeMap;
 
-/// The most replicas of a session.
-pub(crate) const MOST_REPLICAS: usize = 31;
-
-/// There are at most so many connections at a time. A token below is none of a connection.
-pub(crate) const MOST_CONNS: usize = 16_777_216;
-
-// So many connections are made before one may have the token of an old one.
-const MOST_SERIALS: usize = 1_000_000_000_000;
-
 /// Connections. Each has a token of its own: the place where it stands, and a number that no other one there had.
 #[derive(Drop)]
 pub(crate) struct Conns {
     places: Slab<Conn>,
-    serial: usize,
+    tokens: Tokens,
     /// The token of the connection of replica `at` with `peer`, at `at * 31 + peer`.
     peers: Vec<Option<usize>>,
     /// The token of a client's connection, by its number.
     clients: BTreeMap<u32, usize>,
-}
-
-// Where the token of a connection with a peer stands, if both numbers are below 31.
-fn place_of(at: u8, peer: u8) -> Option<usize> {
-    let (at, peer) = (usize::from(at), usize::from(peer));
-    if at < MOST_REPLICAS && peer < MOST_REPLICAS {
-        Some(at * MOST_REPLICAS + peer)
-    } else {
-        None
-    }
 }
 
 impl Conns {
@@ -41,30 +32,31 @@ impl Conns {
     pub(crate) fn new(alloc: Global) -> Result<Conns, Mem> {
         Ok(Conns {
             places: Slab::new(alloc),
-            serial: 0,
+            tokens: Tokens::new(),
             peers: Vec::from_elem(alloc, None, MOST_REPLICAS * MOST_REPLICAS)?,
             clients: BTreeMap::new(alloc),
         })
     }
 
     /// Whether there is none.
-    pub(crate) fn is_empty(&self) -> bool {
+    pub(crate) fn is_empty(&self) -> bool
+        ensures { result ≡ (slab_len self.now.places == 0) }
+    {
         self.places.is_empty()
     }
 
     /// The token of the connection that is added next, if there may be one more.
-    pub(crate) fn next_token(&mut self) -> Option<usize> {
-        let place = self.places.vacant_key();
-        if place >= MOST_CONNS {
-            return None;
-        }
-        self.serial = self.serial % MOST_SERIALS + 1;
-        Some(self.serial.wrapping_mul(MOST_CONNS).wrapping_add(place))
+    pub(crate) fn next_token(&mut self) -> Option<usize>
+        ensures { SomeIff result (self.old.places.vacant_key < most_conns) (token_of (serial_after self.old.tokens.serial) self.old.places.vacant_key) }
+    {
+        self.tokens.next(self.places.vacant_key())
     }
 
     /// Adds a connection, which has the token that was next. The one error is want of memory.
-    pub(crate) fn add(&mut self, conn: Conn) -> Result<(), Mem> {
-        match conn.whom {
+    pub(crate) fn add(&mut self, conn: Conn) -> Result<(), Mem>
+        ensures { OnOk result (self.new.peers.items ≡ noting self.old.peers.items (place_noted conn.side.whom) conn.token) }
+    {
+        match conn.side.whom {
             Whom::Unnamed { at: _ } => {}
             Whom::Peer { at, peer } => self.set_peer(at, peer, conn.token),
             Whom::Client {
@@ -80,8 +72,10 @@ impl Conns {
     }
 
     /// The connection of a token, if it is there.
-    pub(crate) fn get(&self, token: usize) -> Option<&Conn> {
-        let conn = self.places.get(token % MOST_CONNS)?;
+    pub(crate) fn get(&self, token: usize) -> Option<&Conn>
+        ensures { option_copied result ≡ conn_at self.now.places token }
+    {
+        let conn = self.places.get(place_in(token))?;
         if conn.token == token {
             Some(conn)
         } else {
@@ -91,7 +85,7 @@ impl Conns {
 
     /// The connection of a token, if it is there.
     pub(crate) fn get_mut(&mut self, token: usize) -> Option<&mut Conn> {
-        let conn = self.places.get_mut(token % MOST_CONNS)?;
+        let conn = self.places.get_mut(place_in(token))?;
         if conn.token == token {
             Some(conn)
         } else {
@@ -100,13 +94,15 @@ impl Conns {
     }
 
     /// Takes out a connection.
-    pub(crate) fn remove(&mut self, token: usize) -> Option<Conn> {
+    pub(crate) fn remove(&mut self, token: usize) -> Option<Conn>
+        ensures { result ≡ conn_at self.old.places token }
+    {
         self.get(token)?;
-        let conn = self.places.try_remove(token % MOST_CONNS)?;
+        let conn = self.places.try_remove(place_in(token))?;
         if let Whom::Client {
             at: _,
             conn: number,
-        } = conn.whom
+        } = conn.side.whom
         {
             self.clients.remove(&number);
         }
@@ -114,12 +110,19 @@ impl Conns {
     }
 
     /// The token of the newest connection of a replica with a peer.
-    pub(crate) fn peer(&self, at: u8, peer: u8) -> Option<usize> {
-        self.peers.get(place_of(at, peer)?).copied()?
+    pub(crate) fn peer(&self, at: u8, peer: u8) -> Option<usize>
+        ensures { result ≡ newest self.now.peers.items at peer }
+    {
+        match self.peers.get(place_of(at, peer)?) {
+            Some(token) => *token,
+            None => None,
+        }
     }
 
     /// This is the newest connection of a replica with a peer from now on.
-    pub(crate) fn set_peer(&mut self, at: u8, peer: u8, token: usize) {
+    pub(crate) fn set_peer(&mut self, at: u8, peer: u8, token: usize)
+        ensures { self.new.peers.items ≡ noting self.old.peers.items (place_of at peer) token }
+    {
         if let Some(place) = place_of(at, peer) {
             if let Some(newest) = self.peers.get_mut(place) {
                 *newest = Some(token);
@@ -128,20 +131,29 @@ impl Conns {
     }
 
     /// The token of a client's connection.
-    pub(crate) fn client(&self, number: u32) -> Option<usize> {
+    pub(crate) fn client(&self, number: u32) -> Option<usize>
+        ensures { result ≡ get_client nat_cmp self.now.clients number }
+    {
         self.clients.get(&number).copied()
     }
 
     // Whether the connection of this token stands.
-    fn is_up(&self, token: Option<usize>) -> bool {
-        match token.and_then(|token| self.get(token)) {
-            Some(conn) => conn.stage == Stage::Up,
+    fn is_up(&self, token: Option<usize>) -> bool
+        ensures { result ≡ is_up_at self.now.places token }
+    {
+        let Some(token) = token else {
+            return false;
+        };
+        match self.get(token) {
+            Some(conn) => conn.side.stage.is_up(),
             None => false,
         }
     }
 
     /// How many connections with peers stand.
-    pub(crate) fn peers_up(&self) -> usize {
+    pub(crate) fn peers_up(&self) -> usize
+        ensures { result ≡ count_by (is_up_at self.now.places) self.now.peers.items }
+    {
         self.peers
             .iter()
             .filter(|token| self.is_up(**token))

@@ -1,6 +1,6 @@
 //! Connections that are begun here.
 
-use crate::conn::Whom;
+use crate::whom::Whom;
 use mio::net::TcpStream;
 use mio::{Interest, Registry, Token};
 use std::io;

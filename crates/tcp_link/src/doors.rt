@@ -1,18 +1,11 @@
 //! Where connections to replicas come in.
 
+use crate::entry::Entry;
+use crate::outcome::{Nobody, nobody_at};
 use mio::net::{TcpListener, TcpStream};
 use mio::{Interest, Registry, Token};
 use std::net::{Net, SocketAddr};
 use std::{io, str};
-
-/// Who comes in by a door.
-#[derive(Clone, Copy, Debug)]
-pub(crate) enum Entry {
-    /// Replicas, to replica `at`.
-    Replicas { at: u8 },
-    /// Clients, to replica `at`.
-    Clients { at: u8 },
-}
 
 /// A door.
 #[derive(Drop)]
@@ -28,12 +21,8 @@ pub(crate) struct Door {
 pub(crate) enum Arrival {
     /// A connection.
     Stream(TcpStream),
-    /// One that was gone before it was accepted.
-    Gone,
-    /// No connection waits.
-    Nobody,
-    /// None can be accepted now, as for want of descriptors.
-    Closed,
+    /// None.
+    None(Nobody),
 }
 
 /// The address that a text is, as `127.0.0.1:8080`.
@@ -66,11 +55,7 @@ impl Door {
     pub(crate) fn look(&self) -> Arrival {
         match self.listener.accept() {
             Ok((stream, _)) => Arrival::Stream(stream),
-            Err(e) => match e.kind() {
-                io::ErrorKind::WouldBlock => Arrival::Nobody,
-                io::ErrorKind::ConnectionAborted | io::ErrorKind::Interrupted => Arrival::Gone,
-                _ => Arrival::Closed,
-            },
+            Err(e) => Arrival::None(nobody_at(e.kind())),
         }
     }
 }

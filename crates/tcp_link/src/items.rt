@@ -1,96 +1,59 @@
 //! The items that a link gives.
 
-ghost use Rattle.std.specs.Prelude.{◌<◌, ◌^◌, IfOk, IfSome, length};
+ghost use Rattle.std.specs.Prelude.{◌≡◌, ◌<◌, ◌^◌, ◌&&◌, ◌==◌, not, nat_lt, IfOk, IfSome, length};
+ghost use Rattle.slab.specs.Slab.{slab_len};
 ghost use Rattle.outside.specs.Links.{bytes_of};
 
+use crate::agenda::Next;
 use crate::sockets::Sockets;
 use outside::LinkItem;
 use ritas_base::Mem;
 use std::alloc::Global;
 
 impl Sockets {
-    // Takes a piece from a connection on a list, off which it is from then on.
+    // The piece of a connection that came next. It is closed if it is over and has no more.
     fn take_from(&mut self, alloc: Global, token: usize) -> Result<Option<LinkItem>, Mem>
         ensures { IfOk result (λ item. IfSome item (λ x. length (bytes_of x) < 2 ^ 16)) }
     {
         let Some(conn) = self.conns.get_mut(token) else {
             return Ok(None);
         };
-        conn.listed.gives = false;
-        conn.take(alloc)
+        let item = conn.side.give(alloc, &mut self.agenda, token)?;
+        self.close_if_over(token)?;
+        Ok(item)
     }
 
-    // Puts a connection on its list again, if it has one piece more; else it is closed if it is over.
-    fn list_again(&mut self, token: usize) -> Result<(), Mem> {
-        self.list_piece(token)?;
-        self.close_if_over(token)
-    }
-
-    // The same, but it is the first on the list of frames.
-    fn list_first(&mut self, token: usize) -> Result<(), Mem> {
-        match self.conns.get_mut(token) {
-            Some(conn) if conn.has_piece() => {
-                conn.listed.gives = true;
-                self.frames.push_front(token)?;
-                Ok(())
-            }
-            _ => self.list_again(token),
-        }
-    }
-
-    // The next piece of a peer or a node. All of a connection come one after the other, so those of an older connection of the
-    // same peer before those of a newer one.
-    fn take_frame(&mut self, alloc: Global) -> Result<Option<LinkItem>, Mem>
+    // The item that comes next, if its connection still has it.
+    fn take_next(&mut self, alloc: Global, next: Next) -> Result<Option<LinkItem>, Mem>
         ensures { IfOk result (λ item. IfSome item (λ x. length (bytes_of x) < 2 ^ 16)) }
     {
-        for _ in 0..self.frames.len() {
-            let Some(token) = self.frames.pop_front() else {
-                break;
-            };
-            let item = self.take_from(alloc, token)?;
-            self.list_first(token)?;
-            if item.is_some() {
-                return Ok(item);
-            }
+        match next {
+            Next::Down(down) => Ok(Some(down.item())),
+            Next::Frame(token) | Next::Message(token) => self.take_from(alloc, token),
         }
-        Ok(None)
     }
 
-    // The next piece of a client, of which one is given in each turn.
-    fn take_message(&mut self, alloc: Global) -> Result<Option<LinkItem>, Mem>
-        ensures { IfOk result (λ item. IfSome item (λ x. length (bytes_of x) < 2 ^ 16)) }
+    // Whether no item follows: a client's link ends once it has no connection left, and that was told of each.
+    fn is_at_end(&self) -> bool
+        ensures { result ≡ (self.now.is_client && (slab_len self.now.conns.places == 0) && not (nat_lt 0 (length self.now.agenda.downs))) }
     {
-        for _ in 0..self.messages_due {
-            let Some(token) = self.messages.pop_front() else {
-                break;
-            };
-            self.messages_due = self.messages_due.saturating_sub(1);
-            let item = self.take_from(alloc, token)?;
-            self.list_again(token)?;
-            if item.is_some() {
-                return Ok(item);
-            }
-        }
-        Ok(None)
+        self.is_client && self.conns.is_empty() && !self.agenda.has_downs()
     }
 
-    /// The next item, if one came: of peers that have no connection any more, of frames, and then of messages of clients.
+    /// The next item, if one came. The one error is want of memory.
     pub(crate) fn take_item(&mut self, alloc: Global) -> Result<Option<LinkItem>, Mem>
         ensures { IfOk result (λ item. IfSome item (λ x. length (bytes_of x) < 2 ^ 16)) }
     {
-        if let Some(down) = self.downs.pop_front() {
-            return Ok(Some(LinkItem::Down {
-                at: down.at,
-                peer: down.peer,
-            }));
+        for _ in 0..self.agenda.len() {
+            let Some(next) = self.agenda.next() else {
+                break;
+            };
+            let item = self.take_next(alloc, next)?;
+            if item.is_some() {
+                return Ok(item);
+            }
         }
-        if let Some(item) = self.take_frame(alloc)? {
-            return Ok(Some(item));
-        }
-        if let Some(item) = self.take_message(alloc)? {
-            return Ok(Some(item));
-        }
-        if self.is_client && self.conns.is_empty() && self.downs.is_empty() {
+        if self.is_at_end() {
             return Ok(Some(LinkItem::End));
         }
         Ok(None)

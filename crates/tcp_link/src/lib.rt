@@ -9,23 +9,34 @@
 //! given, and one message of each client that has one.
 #![tactic(auto)]
 
+mod agenda;
+mod clock;
 mod coming;
 mod conn;
 mod conns;
 mod dials;
 mod doors;
+mod entry;
+mod giving;
 mod input;
 mod items;
+mod laws;
 mod link;
+mod outcome;
 mod output;
 mod pieces;
 mod retries;
 mod running;
 mod sending;
+mod side;
 mod sockets;
+mod stage;
 mod starting;
 #[cfg(test)]
 mod tests;
+mod tokens;
 mod trouble;
+mod whom;
 
+pub use laws::{gives_in_order, over_stays, pause_ends, tokens_are_apart};
 pub use link::TcpLink;

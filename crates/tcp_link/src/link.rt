@@ -6,7 +6,8 @@ use crate::pieces::MOST_BYTES;
 use crate::running::Running;
 use crate::starting::started;
 use crate::trouble::Trouble;
-use outside::{Link, LinkFault, LinkItem, LinkPlan};
+use outside::{FaultCounts, Link, LinkFault, LinkItem, LinkPlan};
+use ritas_base::Mem;
 use std::alloc::Global;
 use std::net::Net;
 use std::sync::Wait;
@@ -18,17 +19,17 @@ use std::sync::Wait;
 #[derive(Drop)]
 pub struct TcpLink {
     running: Option<Running>,
-    faults: u64,
+    faults: FaultCounts,
 }
 
 impl TcpLink {
     /// A link that wasn't started.
     pub fn new(_alloc: Global) -> TcpLink
-        ensures { result.faults ≡ 0 }
+        ensures { result.faults ≡ record { failed = 0; short = 0 } }
     {
         TcpLink {
             running: None,
-            faults: 0,
+            faults: FaultCounts::new(),
         }
     }
 
@@ -41,32 +42,32 @@ impl TcpLink {
         }
     }
 
-    // The fault that a trouble is, which is counted if it isn't want of memory.
+    // The fault that a trouble is, which is counted.
     fn fault(&mut self, trouble: Trouble) -> LinkFault
-        ensures cause { HasCause self.old.faults self.new.faults (result ≡ LinkFault.Failed) }
+        ensures cause { HasCause self.old.faults.failed self.new.faults.failed (result ≡ LinkFault.Failed) }
         ensures count { self.new.faults ≡ faults_after {A = Unit {0}} self.old.faults (Err result) }
     {
-        let faults = self.faults;
+        // it is read, so that the proof has its range
+        let _failed = self.faults.failed;
         match trouble {
-            Trouble::System => {
-                self.faults = faults.saturating_add(1);
-                LinkFault::Failed
-            }
-            Trouble::Mem => LinkFault::Mem,
+            Trouble::System => self.faults.fail(),
+            Trouble::Mem => self.faults.fall_short(),
         }
     }
 
     // The next item, if one came by now.
     fn step<R: Net>(&mut self, rt: &R, alloc: Global) -> Result<Option<LinkItem>, LinkFault>
         ensures size { IfOk result (λ item. IfSome item (λ x. length (bytes_of x) < 2 ^ 16)) }
-        ensures cause { HasCause self.old.faults self.new.faults (result ≡ Err LinkFault.Failed) }
+        ensures cause { HasCause self.old.faults.failed self.new.faults.failed (result ≡ Err LinkFault.Failed) }
         ensures count { self.new.faults ≡ faults_after self.old.faults result }
     {
         let Some(running) = &mut self.running else {
             return Ok(Some(LinkItem::End));
         };
-        if let Some(item) = running.sockets.take_item(alloc)? {
-            return Ok(Some(item));
+        match running.sockets.take_item(alloc) {
+            Ok(Some(item)) => return Ok(Some(item)),
+            Ok(None) => {}
+            Err(Mem) => return Err(self.faults.fall_short()),
         }
         match running.turn(rt, alloc) {
             Ok(()) => Ok(None),
@@ -88,7 +89,7 @@ impl Link for TcpLink {
         alloc: Global,
         plan: &LinkPlan,
     ) -> Result<(), LinkFault>
-        ensures cause { HasCause self.old.faults self.new.faults (result ≡ Err LinkFault.Failed) }
+        ensures cause { HasCause self.old.faults.failed self.new.faults.failed (result ≡ Err LinkFault.Failed) }
         ensures count { self.new.faults ≡ faults_after self.old.faults result }
     {
         match started(rt, alloc, plan) {
@@ -102,7 +103,7 @@ impl Link for TcpLink {
 
     fn next<R: Net + Wait>(&mut self, rt: &R, alloc: Global) -> Result<LinkItem, LinkFault>
         ensures size { IfOk result (λ item. length (bytes_of item) < 2 ^ 16) }
-        ensures cause { HasCause self.old.faults self.new.faults (result ≡ Err LinkFault.Failed) }
+        ensures cause { HasCause self.old.faults.failed self.new.faults.failed (result ≡ Err LinkFault.Failed) }
         ensures count { self.new.faults ≡ faults_after self.old.faults result }
     {
         for _ in rt.forever() {
@@ -123,15 +124,18 @@ impl Link for TcpLink {
         peer: u8,
         frame: &[u8],
     ) -> Result<(), LinkFault>
-        ensures cause { HasCause self.old.faults self.new.faults (result ≡ Err LinkFault.Failed) }
+        ensures cause { HasCause self.old.faults.failed self.new.faults.failed (result ≡ Err LinkFault.Failed) }
         ensures count { self.new.faults ≡ faults_after self.old.faults result }
     {
         if frame.len() > MOST_BYTES {
             return Ok(());
         }
-        match &mut self.running {
-            Some(running) => Ok(running.sockets.send(at, peer, frame)?),
-            None => Ok(()),
+        let Some(running) = &mut self.running else {
+            return Ok(());
+        };
+        match running.sockets.send(at, peer, frame) {
+            Ok(()) => Ok(()),
+            Err(Mem) => Err(self.faults.fall_short()),
         }
     }
 
@@ -143,15 +147,18 @@ impl Link for TcpLink {
         conn: u32,
         bytes: &[u8],
     ) -> Result<(), LinkFault>
-        ensures cause { HasCause self.old.faults self.new.faults (result ≡ Err LinkFault.Failed) }
+        ensures cause { HasCause self.old.faults.failed self.new.faults.failed (result ≡ Err LinkFault.Failed) }
         ensures count { self.new.faults ≡ faults_after self.old.faults result }
     {
         if bytes.len() > MOST_BYTES {
             return Ok(());
         }
-        match &mut self.running {
-            Some(running) => Ok(running.sockets.reply(at, conn, bytes)?),
-            None => Ok(()),
+        let Some(running) = &mut self.running else {
+            return Ok(());
+        };
+        match running.sockets.reply(at, conn, bytes) {
+            Ok(()) => Ok(()),
+            Err(Mem) => Err(self.faults.fall_short()),
         }
     }
 }

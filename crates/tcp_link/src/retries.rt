@@ -1,9 +1,12 @@
-//! What is tried again after a pause, and the time that passes meanwhile.
+//! What is tried again after a pause.
 
+ghost use Rattle.std.specs.Prelude.{◌≡◌, ◌++◌, ◌∷◌, [], OnOk, length, if◌then◌else◌};
+ghost use Rattle.tcp_link.specs.Waits.{first_clock, after_wait, due_at, due_in, left_in, wait_of};
+
+use crate::clock::Clock;
 use ritas_base::Mem;
 use std::alloc::Global;
 use std::collections::VecDeque;
-use std::time::Duration;
 
 /// What is tried again.
 #[derive(Clone, Copy, Debug)]
@@ -14,81 +17,82 @@ pub(crate) enum Retry {
     Door(usize),
 }
 
-// How long the pause is, in microseconds.
-const PAUSE: u64 = 100_000;
+/// What is tried again, and when.
+#[derive(Clone, Copy, Debug)]
+pub(crate) struct Waiting {
+    pub(crate) due_micros: u64,
+    pub(crate) retry: Retry,
+}
 
-// How long the first of some quiet waits is, and the longest, in milliseconds.
-const FIRST_WAIT: u64 = 1;
-
-const LONGEST_WAIT: u64 = 32;
-
-// What a wait that an event ended counts, in microseconds.
-const SHORT_WAIT: u64 = 50;
-
-/// What is tried again, in the order in which it is due.
-///
-/// A link has no clock, so time is counted by its waits: one that no event ended lasted as long as it was to, and each after
-/// the first is twice as long. One that an event ended counts little. So where events come all the time, less is counted than
-/// passed, and a pause is longer.
+/// What is tried again, in the order in which it is due, and the time that was counted meanwhile.
 #[derive(Drop)]
 pub(crate) struct Retries {
-    /// Each with the time at which it is due.
-    waiting: VecDeque<(u64, Retry)>,
-    /// The time that was counted, in microseconds.
-    now: u64,
-    /// How long the next wait is, in milliseconds.
-    wait: u64,
+    waiting: VecDeque<Waiting>,
+    clock: Clock,
 }
 
 impl Retries {
     /// Nothing is tried again.
-    pub(crate) fn new(alloc: Global) -> Retries {
+    pub(crate) fn new(alloc: Global) -> Retries
+        ensures none { result.waiting.items ≡ [] }
+        ensures clock { result.clock ≡ first_clock }
+    {
         Retries {
             waiting: VecDeque::new(alloc),
-            now: 0,
-            wait: FIRST_WAIT,
+            clock: Clock::new(),
         }
     }
 
-    /// Has this tried again after a pause.
-    pub(crate) fn add(&mut self, retry: Retry) -> Result<(), Mem> {
-        let due = self.now.saturating_add(PAUSE);
-        self.waiting.push_back((due, retry))?;
+    /// Has this tried again after a pause. The one error is want of memory.
+    pub(crate) fn add(&mut self, retry: Retry) -> Result<(), Mem>
+        ensures last { OnOk result (self.new.waiting.items ≡ self.old.waiting.items ++ (record { due_micros = due_at self.old.clock; retry = retry }) ∷ []) }
+        ensures clock { self.new.clock ≡ self.old.clock }
+    {
+        let due_micros = self.clock.due();
+        self.waiting.push_back(Waiting { due_micros, retry })?;
         Ok(())
     }
 
     /// How much is to be tried again.
-    pub(crate) fn len(&self) -> usize {
+    pub(crate) fn len(&self) -> usize
+        ensures { result ≡ length self.now.waiting.items }
+    {
         self.waiting.len()
     }
 
-    /// How long to wait for an event; without end where nothing is to be tried again.
-    pub(crate) fn wait(&self) -> Option<Duration> {
-        if self.waiting.is_empty() {
+    /// How many milliseconds to wait for an event at most: none where something is to be done before, and without end where nothing
+    /// is to be tried again.
+    pub(crate) fn wait_millis(&self, is_busy: bool) -> Option<u64>
+        ensures { result ≡ (if is_busy then Some 0 else wait_of self.now.clock self.now.waiting.items) }
+    {
+        if is_busy {
+            Some(0)
+        } else if self.waiting.is_empty() {
             None
         } else {
-            Some(Duration::from_millis(self.wait))
+            Some(self.clock.wait_millis)
         }
     }
 
     /// A wait ended, quietly or by an event.
-    pub(crate) fn waited(&mut self, is_quiet: bool) {
-        if is_quiet {
-            self.now = self.now.saturating_add(self.wait.saturating_mul(1000));
-            self.wait = self.wait.saturating_mul(2).min(LONGEST_WAIT);
-        } else {
-            self.now = self.now.saturating_add(SHORT_WAIT);
-            self.wait = FIRST_WAIT;
-        }
+    pub(crate) fn waited(&mut self, is_quiet: bool)
+        ensures clock { self.new.clock ≡ after_wait self.old.clock is_quiet }
+        ensures same { self.new.waiting.items ≡ self.old.waiting.items }
+    {
+        self.clock = self.clock.after(is_quiet);
     }
 
-    /// The next that is due by now.
-    pub(crate) fn next(&mut self) -> Option<Retry> {
-        let due = self.waiting.front()?.0;
-        if due > self.now {
+    /// Takes the next that is due by now.
+    pub(crate) fn next(&mut self) -> Option<Retry>
+        ensures first { result ≡ due_in self.old.clock self.old.waiting.items }
+        ensures left { self.new.waiting.items ≡ left_in self.old.clock self.old.waiting.items }
+        ensures clock { self.new.clock ≡ self.old.clock }
+    {
+        let first = *self.waiting.front()?;
+        if first.due_micros > self.clock.counted_micros {
             return None;
         }
-        let (_, retry) = self.waiting.pop_front()?;
-        Some(retry)
+        self.waiting.pop_front();
+        Some(first.retry)
     }
 }

@@ -36,11 +36,8 @@ impl Running {
     // Waits for events, unless something is to be done before one comes, and takes note of them.
     fn wait(&mut self) -> Result<(), Trouble> {
         let is_busy = self.sockets.is_busy();
-        let timeout = if is_busy {
-            Some(Duration::from_millis(0))
-        } else {
-            self.sockets.retries.wait()
-        };
+        let wait_millis = self.sockets.retries.wait_millis(is_busy);
+        let timeout = wait_millis.map(Duration::from_millis);
         self.poll.poll(&mut self.events, timeout)?;
         let is_quiet = !is_busy && self.events.is_empty();
         self.sockets.retries.waited(is_quiet);
@@ -59,7 +56,7 @@ impl Running {
         self.sockets.retry_all(rt, alloc, registry)?;
         self.sockets.accept_all(alloc, registry)?;
         self.sockets.read_all()?;
-        self.sockets.messages_due = self.sockets.messages.len();
+        self.sockets.agenda.begin_turn();
         Ok(())
     }
 }

@@ -2,8 +2,8 @@
 
 ghost use Rattle.std.specs.Prelude.{◌<◌, ◌^◌, length};
 
-use crate::conn::{MOST_FRAME, Stage, Whom};
 use crate::sockets::{Sockets, list};
+use crate::whom::sent_through;
 use ritas_base::Mem;
 
 impl Sockets {
@@ -12,10 +12,9 @@ impl Sockets {
     pub(crate) fn send(&mut self, at: u8, peer: u8, bytes: &[u8]) -> Result<(), Mem>
         requires { length bytes.now < 2 ^ 16 }
     {
-        let at = if self.is_client { 0 } else { at };
-        if !self.is_client && bytes.len() > MOST_FRAME {
+        let Some(at) = sent_through(self.is_client, at, bytes.len()) else {
             return Ok(());
-        }
+        };
         match self.conns.peer(at, peer) {
             Some(token) => self.put(token, bytes),
             None => Ok(()),
@@ -30,11 +29,8 @@ impl Sockets {
             return Ok(());
         };
         match self.conns.get(token) {
-            Some(conn) => match conn.whom {
-                Whom::Client { at: own, conn: _ } if own == at => self.put(token, bytes),
-                _ => Ok(()),
-            },
-            None => Ok(()),
+            Some(conn) if conn.side.whom.is_client_of(at) => self.put(token, bytes),
+            _ => Ok(()),
         }
     }
 
@@ -45,12 +41,12 @@ impl Sockets {
         let Some(conn) = self.conns.get_mut(token) else {
             return Ok(());
         };
-        if conn.is_over() {
+        if conn.side.stage.is_over() {
             return Ok(());
         }
         conn.put(bytes)?;
-        if conn.stage == Stage::Up && !conn.is_blocked && conn.has_output() {
-            list(&mut conn.listed.writes, token, &mut self.writers)?;
+        if conn.side.is_ready() && conn.side.has_output() {
+            list(&mut conn.side.listed.writes, token, &mut self.writers)?;
         }
         self.close_if_over(token)
     }

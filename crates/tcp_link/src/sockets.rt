@@ -1,11 +1,19 @@
 //! The sockets of a link, and what is to be done with them.
 
-use crate::conn::{Conn, Stage, Whom};
-use crate::conns::{Conns, MOST_CONNS};
+ghost use Rattle.std.specs.Prelude.{◌≡◌, ◌++◌, ◌∷◌, [], true, OnOk, if◌then◌else◌};
+ghost use Rattle.tcp_link.specs.Names.{down_of, dial_again};
+ghost use Rattle.tcp_link.specs.Queues.{with_told};
+ghost use Rattle.tcp_link.specs.Waits.{redial};
+
+use crate::agenda::Agenda;
+use crate::conns::Conns;
 use crate::dials::Dial;
 use crate::doors::Door;
-use crate::pieces::Front;
+use crate::outcome::told_by;
 use crate::retries::{Retries, Retry};
+use crate::stage::{Change, Stage};
+use crate::tokens::door_of;
+use crate::whom::{Naming, Whom, dial_again};
 use mio::event::Event;
 use ritas_base::Mem;
 use std::alloc::Global;
@@ -13,13 +21,6 @@ use std::collections::VecDeque;
 
 // A connection is read by so many bytes at a time, and then the next one is: so peers that have much to give come on together.
 const BUFFER_BYTES: usize = 2_048;
-
-/// A peer of a replica, or a node, which has no connection any more.
-#[derive(Clone, Copy, Debug)]
-pub(crate) struct Down {
-    pub(crate) at: u8,
-    pub(crate) peer: u8,
-}
 
 /// The sockets of a link. The lists are of tokens, or of numbers of doors, and have each at most once.
 #[derive(Drop)]
@@ -31,8 +32,8 @@ pub(crate) struct Sockets {
     pub(crate) doors: Vec<Door>,
     pub(crate) dials: Vec<Dial>,
     pub(crate) conns: Conns,
-    /// The number of the next client.
-    pub(crate) next_client: u32,
+    /// How many clients were numbered.
+    pub(crate) clients: u32,
     pub(crate) retries: Retries,
     /// Doors where connections may wait.
     pub(crate) open_doors: VecDeque<usize>,
@@ -40,13 +41,8 @@ pub(crate) struct Sockets {
     pub(crate) readers: VecDeque<usize>,
     /// Connections that may take bytes.
     pub(crate) writers: VecDeque<usize>,
-    /// Connections of peers and nodes with a whole piece.
-    pub(crate) frames: VecDeque<usize>,
-    /// Connections of clients with a whole piece.
-    pub(crate) messages: VecDeque<usize>,
-    /// How many messages are still given in this turn.
-    pub(crate) messages_due: usize,
-    pub(crate) downs: VecDeque<Down>,
+    /// What is to be given.
+    pub(crate) agenda: Agenda,
     buffer: Vec<u8>,
 }
 
@@ -55,21 +51,15 @@ pub(crate) fn list(
     is_listed: &mut bool,
     token: usize,
     queue: &mut VecDeque<usize>,
-) -> Result<(), Mem> {
+) -> Result<(), Mem>
+    ensures on { OnOk result (is_listed.new ≡ true) }
+    ensures last { OnOk result (queue.new.items ≡ (if is_listed.old then queue.old.items else queue.old.items ++ token ∷ [])) }
+{
     if !*is_listed {
         queue.push_back(token)?;
         *is_listed = true;
     }
     Ok(())
-}
-
-// What to tell of a connection that is closed.
-fn down_of(stage: Stage, whom: Whom) -> Option<Down> {
-    match whom {
-        Whom::Peer { at, peer } if stage == Stage::Over => Some(Down { at, peer }),
-        Whom::Node { from } => Some(Down { at: 0, peer: from }),
-        _ => None,
-    }
 }
 
 impl Sockets {
@@ -81,22 +71,19 @@ impl Sockets {
             doors: Vec::new(alloc),
             dials: Vec::new(alloc),
             conns: Conns::new(alloc)?,
-            next_client: 0,
+            clients: 0,
             retries: Retries::new(alloc),
             open_doors: VecDeque::new(alloc),
             readers: VecDeque::new(alloc),
             writers: VecDeque::new(alloc),
-            frames: VecDeque::new(alloc),
-            messages: VecDeque::new(alloc),
-            messages_due: 0,
-            downs: VecDeque::new(alloc),
+            agenda: Agenda::new(alloc),
             buffer: Vec::from_elem(alloc, 0, BUFFER_BYTES)?,
         })
     }
 
     /// Whether something is to be done before an event comes.
     pub(crate) fn is_busy(&self) -> bool {
-        !self.open_doors.is_empty() || !self.readers.is_empty() || !self.messages.is_empty()
+        !self.open_doors.is_empty() || !self.readers.is_empty() || self.agenda.has_messages()
     }
 
     // Takes note of an event at a door.
@@ -110,22 +97,19 @@ impl Sockets {
     /// Takes note of an event.
     pub(crate) fn note(&mut self, event: &Event) -> Result<(), Mem> {
         let token = event.token().0;
-        if token < MOST_CONNS {
-            return self.note_door(token);
+        if let Some(number) = door_of(token) {
+            return self.note_door(number);
         }
         let Some(conn) = self.conns.get_mut(token) else {
             return Ok(());
         };
-        let is_hung_up = event.is_read_closed() || event.is_error() || event.is_write_closed();
-        conn.is_hung_up = conn.is_hung_up || is_hung_up;
-        if event.is_writable() || is_hung_up {
-            conn.is_blocked = false;
-            if conn.stage == Stage::Begun || conn.has_output() {
-                list(&mut conn.listed.writes, token, &mut self.writers)?;
-            }
+        let seen = told_by(event);
+        conn.side.note(seen);
+        if conn.side.is_write_due(seen) {
+            list(&mut conn.side.listed.writes, token, &mut self.writers)?;
         }
-        if event.is_readable() || is_hung_up {
-            list(&mut conn.listed.reads, token, &mut self.readers)?;
+        if seen.may_read() {
+            list(&mut conn.side.listed.reads, token, &mut self.readers)?;
         }
         Ok(())
     }
@@ -144,11 +128,10 @@ impl Sockets {
         let Some(conn) = self.conns.get_mut(token) else {
             return Ok(());
         };
-        conn.listed.writes = false;
-        if conn.stage == Stage::Begun {
+        if conn.side.off_writers() {
             conn.look();
         }
-        if conn.stage == Stage::Up && !conn.is_blocked {
+        if conn.side.is_ready() {
             conn.write();
         }
         self.close_if_over(token)
@@ -168,12 +151,11 @@ impl Sockets {
         let Some(conn) = self.conns.get_mut(token) else {
             return Ok(());
         };
-        conn.listed.reads = false;
-        if conn.stage != Stage::Up {
+        if !conn.side.off_readers() {
             return Ok(());
         }
-        if conn.is_fed() || conn.read(&mut self.buffer)? {
-            list(&mut conn.listed.reads, token, &mut self.readers)?;
+        if conn.side.is_fed() || conn.read(&mut self.buffer)? {
+            list(&mut conn.side.listed.reads, token, &mut self.readers)?;
         }
         self.take_name(token)?;
         self.list_piece(token)?;
@@ -185,20 +167,12 @@ impl Sockets {
         let Some(conn) = self.conns.get_mut(token) else {
             return Ok(());
         };
-        let Whom::Unnamed { at } = conn.whom else {
+        let Naming::Names { at, peer } = conn.side.take_name(self.n) else {
             return Ok(());
         };
-        let Some(peer) = conn.take_number() else {
-            return Ok(());
-        };
-        if peer <= at || peer >= self.n {
-            conn.end();
-            return Ok(());
-        }
-        conn.whom = Whom::Peer { at, peer };
         if let Some(older) = self.conns.peer(at, peer) {
             if let Some(older_conn) = self.conns.get_mut(older) {
-                older_conn.stage = Stage::Replaced;
+                older_conn.side.change(Change::IsReplaced);
             }
             self.close_if_over(older)?;
         }
@@ -206,31 +180,18 @@ impl Sockets {
         Ok(())
     }
 
-    /// Puts a connection on the list of those from which a piece is to be given, if it has one. With a length that isn't allowed
-    /// it ends.
-    pub(crate) fn list_piece(&mut self, token: usize) -> Result<(), Mem> {
+    // Puts a connection among those that have pieces, if it has one. With a length that isn't allowed it ends.
+    fn list_piece(&mut self, token: usize) -> Result<(), Mem> {
         let Some(conn) = self.conns.get_mut(token) else {
             return Ok(());
         };
-        match conn.front() {
-            Front::Piece(_) => match conn.whom {
-                Whom::Client { at: _, conn: _ } => {
-                    list(&mut conn.listed.gives, token, &mut self.messages)
-                }
-                _ => list(&mut conn.listed.gives, token, &mut self.frames),
-            },
-            Front::Part => Ok(()),
-            Front::TooLong => {
-                conn.end();
-                Ok(())
-            }
-        }
+        conn.side.list_piece(&mut self.agenda, token)
     }
 
     /// Closes a connection that is over, once no piece is to be given from it.
     pub(crate) fn close_if_over(&mut self, token: usize) -> Result<(), Mem> {
         match self.conns.get(token) {
-            Some(conn) if conn.is_over() && !conn.listed.gives => self.close(token),
+            Some(conn) if conn.side.is_done() => self.close(token),
             _ => Ok(()),
         }
     }
@@ -239,12 +200,26 @@ impl Sockets {
         let Some(conn) = self.conns.remove(token) else {
             return Ok(());
         };
-        if let Some(down) = down_of(conn.stage, conn.whom) {
-            self.downs.push_back(down)?;
+        self.closed(conn.side.whom, conn.side.stage, conn.side.dial)
+    }
+
+    /// A connection was closed at a stage, or one of a dial couldn't be begun: who is down is told, and the dial comes again. The one
+    /// error is want of memory.
+    pub(crate) fn closed(
+        &mut self,
+        whom: Whom,
+        stage: Stage,
+        dial: Option<usize>,
+    ) -> Result<(), Mem>
+        ensures told { OnOk result (self.new.agenda ≡ with_told self.old.agenda (down_of stage whom)) }
+        ensures again { OnOk result (self.new.retries.waiting.items ≡ self.old.retries.waiting.items ++ redial self.old.retries.clock (dial_again self.old.is_client dial)) }
+    {
+        if let Some(down) = whom.down(stage) {
+            self.agenda.add_down(down)?;
         }
-        match conn.dial {
-            Some(dial) if !self.is_client => self.retries.add(Retry::Dial(dial)),
-            _ => Ok(()),
+        match dial_again(self.is_client, dial) {
+            Some(dial) => self.retries.add(Retry::Dial(dial)),
+            None => Ok(()),
         }
     }
 }

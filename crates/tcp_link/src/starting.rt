@@ -1,22 +1,18 @@
 //! How the links of the three plans begin.
 
-use crate::conn::Whom;
-use crate::conns::MOST_REPLICAS;
 use crate::dials::Dial;
-use crate::doors::{Entry, address_of, open};
+use crate::doors::{address_of, open};
+use crate::entry::Entry;
 use crate::running::Running;
-use crate::sockets::Down;
+use crate::stage::Stage;
+use crate::tokens::{count_of, ends_of_all};
 use crate::trouble::Trouble;
+use crate::whom::Whom;
 use outside::LinkPlan;
 use ritas_base::{Mem, Texts};
 use std::alloc::Global;
 use std::net::Net;
 use std::sync::Wait;
-
-// How many replicas these are; more than 31 aren't reached.
-fn count_of(texts: &Texts) -> u8 {
-    u8::try_from(texts.len().min(MOST_REPLICAS)).unwrap_or(0)
-}
 
 impl Running {
     // Opens a door of a replica.
@@ -34,10 +30,7 @@ impl Running {
     // reached.
     fn reach<R: Net>(&mut self, rt: &R, alloc: Global, text: &[u8], whom: Whom) -> Result<(), Mem> {
         let Some(address) = address_of(text) else {
-            if let Whom::Node { from } = whom {
-                self.sockets.downs.push_back(Down { at: 0, peer: from })?;
-            }
-            return Ok(());
+            return self.sockets.closed(whom, Stage::Refused, None);
         };
         let number = self.sockets.dials.len();
         self.sockets.dials.push(Dial { address, whom })?;
@@ -62,8 +55,7 @@ impl Running {
 
     // Goes on until every two replicas are connected, as both of them know.
     fn join<R: Net + Wait>(&mut self, rt: &R, alloc: Global) -> Result<(), Trouble> {
-        let n = usize::from(self.sockets.n);
-        let wanted = n * n.saturating_sub(1);
+        let wanted = ends_of_all(self.sockets.n);
         for _ in rt.forever() {
             if self.sockets.conns.peers_up() >= wanted {
                 return Ok(());
@@ -82,7 +74,7 @@ fn start_node<R: Net>(
     peers: &Texts,
     client: &[u8],
 ) -> Result<Running, Trouble> {
-    let mut running = Running::new(rt, alloc, count_of(peers), false)?;
+    let mut running = Running::new(rt, alloc, count_of(peers.len()), false)?;
     running.open(rt, peers.get(usize::from(at)), Entry::Replicas { at })?;
     running.open(rt, Some(client), Entry::Clients { at })?;
     running.reach_lesser(rt, alloc, at, peers)?;
@@ -91,7 +83,7 @@ fn start_node<R: Net>(
 
 // All replicas of a session.
 fn start_cluster<R: Net + Wait>(rt: &R, alloc: Global, peers: &Texts) -> Result<Running, Trouble> {
-    let n = count_of(peers);
+    let n = count_of(peers.len());
     let mut running = Running::new(rt, alloc, n, false)?;
     for at in 0..n {
         running.open(rt, peers.get(usize::from(at)), Entry::Replicas { at })?;
@@ -105,7 +97,7 @@ fn start_cluster<R: Net + Wait>(rt: &R, alloc: Global, peers: &Texts) -> Result<
 
 // A client of these nodes.
 fn start_client<R: Net>(rt: &R, alloc: Global, nodes: &Texts) -> Result<Running, Trouble> {
-    let n = count_of(nodes);
+    let n = count_of(nodes.len());
     let mut running = Running::new(rt, alloc, n, true)?;
     for from in 0..n {
         if let Some(text) = nodes.get(usize::from(from)) {

@@ -1,0 +1,48 @@
+-- Connections, as they are found by their tokens, and by pairs of replicas.
+use Rattle.std.specs.Prelude.{ℕ, Bool, false, ◌==◌, List, Option, Some, None, slice_set, slice_index_or, if◌then◌else◌}
+use Rattle.slab.specs.Slab.{Slab, get}
+use Rattle.tcp_link.specs.Stages.{is_up}
+use Rattle.tcp_link.specs.Tokens.{place_in, place_of}
+use Rattle.tcp_link.specs.declared.whom.Whom.{Whom}
+use Rattle.tcp_link.specs.declared.whom.Whom.TheVariants.{Unnamed, Peer, Client, Node}
+use Rattle.tcp_link.specs.declared.conn.Conn.{Conn}
+
+-- a connection, if this is its token
+abbrev pub if_token : ℕ → Option Conn → Option Conn
+if_token token None = None
+if_token token (Some c) = if c.token == token then Some c else None
+
+-- the connection of a token: one that stands at its place, and has this very token
+abbrev pub conn_at : Slab Conn → ℕ → Option Conn
+conn_at places token = if_token token (get places (place_in token))
+
+-- a connection stands
+abbrev pub is_up_conn : Option Conn → Bool
+is_up_conn None = false
+is_up_conn (Some c) = is_up c.side.stage
+
+-- the connection of a token that was noted stands: one that was replaced is noted no more, and one that ended doesn't
+abbrev pub is_up_at : Slab Conn → Option ℕ → Bool
+is_up_at places None = false
+is_up_at places (Some token) = is_up_conn (conn_at places token)
+
+-- what is noted at a place
+abbrev pub noted_at : List (Option ℕ) → Option ℕ → Option ℕ
+noted_at peers None = None
+noted_at peers (Some place) = slice_index_or peers place None
+
+-- the token of the newest connection of a replica with a peer
+abbrev pub newest : List (Option ℕ) → ℕ → ℕ → Option ℕ
+newest peers at peer = noted_at peers (place_of at peer)
+
+-- where a new connection is noted: one that was begun, by its peer or node; one that came in only once it has its name
+abbrev pub place_noted : Whom → Option ℕ
+place_noted (Unnamed at) = None
+place_noted (Peer at peer) = place_of at peer
+place_noted (Client at conn) = None
+place_noted (Node from) = place_of 0 from
+
+-- it is noted at a place
+abbrev pub noting : List (Option ℕ) → Option ℕ → ℕ → List (Option ℕ)
+noting peers None token = peers
+noting peers (Some place) token = slice_set peers place (Some token)

@@ -1,0 +1,45 @@
+-- The numbers by which connections, doors and pairs of replicas are found.
+use Rattle.std.specs.Prelude.{◌≡◌, ℕ, ◌+◌, ◌*◌, ◌%◌, ◌-◌, ◌<◌, ◌≤◌, ◌&&◌, nat_lt, min, Option, Some, None, if◌then◌else◌}
+
+-- at most so many connections stand at a time; a number below names no connection, but a door
+abbrev pub most_conns : ℕ
+most_conns = 16777216
+
+-- so many connections are made before one may have the token of an old one
+abbrev pub most_serials : ℕ
+most_serials = 1000000000000
+
+-- a token: the serial number of a connection, and the place where it stands
+abbrev pub token_of : ℕ → ℕ → ℕ
+token_of serial place = serial * most_conns + place
+
+-- serial numbers run from 1
+abbrev pub serial_after : ℕ → ℕ
+serial_after serial = serial % most_serials + 1
+
+-- where the connection of a token stands
+abbrev pub place_in : ℕ → ℕ
+place_in token = token % most_conns
+
+-- two connections have one token only if their places and serial numbers are the same; and none has the number of a door
+abbrev pub TokenLaw : Type 0
+TokenLaw = (serial place serial' place' : ℕ) → place < most_conns → place' < most_conns
+    → (place_in (token_of serial place) ≡ place)
+    × (token_of serial place ≡ token_of serial' place' → (serial ≡ serial') × (place ≡ place'))
+    × (most_conns ≤ token_of (serial_after serial) place)
+
+-- where the connection of replica `at` with `peer` is noted, if both numbers are below 31
+abbrev pub place_of : ℕ → ℕ → Option ℕ
+place_of at peer = if nat_lt at 31 && nat_lt peer 31 then Some (at * 31 + peer) else None
+
+-- no two pairs are noted at one place
+abbrev pub PairLaw : Type 0
+PairLaw = (at peer at' peer' place : ℕ) → place_of at peer ≡ Some place → place_of at' peer' ≡ Some place → (at ≡ at') × (peer ≡ peer')
+
+-- each of n replicas has a connection with each other one, and both know of it
+abbrev pub ends_of_all : ℕ → ℕ
+ends_of_all n = n * (n - 1)
+
+-- the replicas of a list of addresses: at most 31
+abbrev pub count_of : ℕ → ℕ
+count_of length = min length 31

@@ -1,0 +1,59 @@
+-- The time that passes, as it is counted by waits, and what is due by then. Times are in microseconds, and waits in milliseconds.
+use Rattle.std.specs.Prelude.{ℕ, ◌+◌, ◌*◌, ◌^◌, ◌-◌, ◌<◌, ◌≤◌, Bool, min, nat_le, List, [], ◌∷◌, length, Option, Some, None, if◌then◌else◌}
+use Rattle.tcp_link.specs.declared.clock.Clock.{Clock}
+use Rattle.tcp_link.specs.declared.retries.Retry.{Retry}
+use Rattle.tcp_link.specs.declared.retries.Retry.TheVariants.{Dial}
+use Rattle.tcp_link.specs.declared.retries.Waiting.{Waiting}
+
+-- a number of 64 bits: a greater one is the greatest
+abbrev pub capped_64 : ℕ → ℕ
+capped_64 n = min n (2 ^ 64 - 1)
+
+-- nothing was counted yet, and the first wait has one millisecond
+abbrev pub first_clock : Clock
+first_clock = record { counted_micros = 0; wait_millis = 1 }
+
+-- a quiet wait lasted as long as it was to, and the next one is twice as long, up to 32 milliseconds
+abbrev pub after_quiet : Clock → Clock
+after_quiet c = record { counted_micros = capped_64 (c.counted_micros + 1000 * c.wait_millis); wait_millis = min (2 * c.wait_millis) 32 }
+
+-- one that an event ended counts 50 microseconds, and the next one has one millisecond
+abbrev pub after_event : Clock → Clock
+after_event c = record { counted_micros = capped_64 (c.counted_micros + 50); wait_millis = 1 }
+
+abbrev pub after_wait : Clock → Bool → Clock
+after_wait c is_quiet = if is_quiet then after_quiet c else after_event c
+
+-- after these waits, of which the oldest is the first
+abbrev pub after_waits : Clock → List Bool → Clock
+after_waits c [] = c
+after_waits c (is_quiet ∷ waits) = after_waits (after_wait c is_quiet) waits
+
+-- what is tried again is due after a tenth of a second
+abbrev pub due_at : Clock → ℕ
+due_at c = capped_64 (c.counted_micros + 100000)
+
+-- a dial that comes again
+abbrev pub redial : Clock → Option ℕ → List Waiting
+redial c None = []
+redial c (Some dial) = (record { due_micros = due_at c; retry = Dial dial }) ∷ []
+
+-- the first that waits, if it is due
+abbrev pub due_in : Clock → List Waiting → Option Retry
+due_in c [] = None
+due_in c (w ∷ ws) = if nat_le w.due_micros c.counted_micros then Some w.retry else None
+
+-- and what waits then
+abbrev pub left_in : Clock → List Waiting → List Waiting
+left_in c [] = []
+left_in c (w ∷ ws) = if nat_le w.due_micros c.counted_micros then ws else w ∷ ws
+
+-- how long to wait: without end where nothing is to be tried again
+abbrev pub wait_of : Clock → List Waiting → Option ℕ
+wait_of c [] = None
+wait_of c (w ∷ ws) = Some c.wait_millis
+
+-- a pause ends: what is added is due after 2,000 waits at the latest, however they end
+abbrev pub PauseEnds : Type 0
+PauseEnds = (c : Clock) (waits : List Bool) → 0 < c.wait_millis
+    → 2000 ≤ length waits → due_at c ≤ (after_waits c waits).counted_micros

@@ -1,0 +1,31 @@
+//! Laws of the definitions. These functions do nothing: their contracts are the laws.
+
+ghost use Rattle.tcp_link.specs.Queues.{DownsFirst, FramesInOrder, MessagesInOrder};
+ghost use Rattle.tcp_link.specs.Stages.{OverStays};
+ghost use Rattle.tcp_link.specs.Tokens.{PairLaw, TokenLaw};
+ghost use Rattle.tcp_link.specs.Waits.{PauseEnds};
+
+/// The order in which a link gives what came before its next turn: who is down, then all frames connection by connection, then one
+/// message of each client. What comes next is the first of all that is given, and the rest follows in the same order.
+pub fn gives_in_order()
+    ensures downs { DownsFirst }
+    ensures frames { FramesInOrder }
+    ensures messages { MessagesInOrder }
+{}
+
+/// What is tried again comes: it is due after 2,000 waits at the latest, however they end.
+pub fn pause_ends()
+    ensures { PauseEnds }
+{}
+
+/// Two connections have one token only if they stand at one place with one serial number, no connection has the number of a door,
+/// and no two pairs of replicas are noted at one place.
+pub fn tokens_are_apart()
+    ensures tokens { TokenLaw }
+    ensures pairs { PairLaw }
+{}
+
+/// A connection that is over stays over.
+pub fn over_stays()
+    ensures { OverStays }
+{}

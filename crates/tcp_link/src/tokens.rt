@@ -1,0 +1,87 @@
+//! The numbers by which connections, doors and pairs of replicas are found.
+
+ghost use Rattle.std.specs.Prelude.{◌≡◌, ◌<◌, ◌≤◌, Some, IfSome, IfNone};
+ghost use Rattle.std.specs.Option.{SomeIff};
+ghost use Rattle.tcp_link.specs.Tokens.{most_conns, token_of, serial_after, place_in, place_of, ends_of_all, count_of};
+
+/// The most replicas of a session.
+pub(crate) const MOST_REPLICAS: usize = 31;
+
+// There are at most so many connections at a time. A token below is none of a connection.
+const MOST_CONNS: usize = 16_777_216;
+
+// So many connections are made before one may have the token of an old one.
+const MOST_SERIALS: usize = 1_000_000_000_000;
+
+/// Makes tokens of connections, no two of which are the same among 1,000,000,000,000 in a row.
+#[derive(Clone, Copy, Debug)]
+pub(crate) struct Tokens {
+    serial: usize,
+}
+
+impl Tokens {
+    /// No token was made.
+    pub(crate) fn new() -> Tokens
+        ensures { result.serial ≡ 0 }
+    {
+        Tokens { serial: 0 }
+    }
+
+    /// The token of a connection that is to stand at this place, if there may be one more.
+    pub(crate) fn next(&mut self, place: usize) -> Option<usize>
+        ensures room { SomeIff result (place < most_conns) (token_of (serial_after self.old.serial) place) }
+        ensures made { place < most_conns → self.new.serial ≡ serial_after self.old.serial }
+        ensures full { most_conns ≤ place → self.new ≡ self.old }
+    {
+        if place >= MOST_CONNS {
+            return None;
+        }
+        self.serial = self.serial % MOST_SERIALS + 1;
+        Some(self.serial * MOST_CONNS + place)
+    }
+}
+
+/// Where the connection of a token stands.
+pub(crate) fn place_in(token: usize) -> usize
+    ensures { result ≡ place_in token }
+{
+    token % MOST_CONNS
+}
+
+/// The number of the door of a token, if it is one's.
+pub(crate) fn door_of(token: usize) -> Option<usize>
+    ensures { SomeIff result (token < most_conns) token }
+{
+    if token < MOST_CONNS {
+        Some(token)
+    } else {
+        None
+    }
+}
+
+/// Where the connection of replica `at` with `peer` is noted, if both numbers are below 31.
+pub(crate) fn place_of(at: u8, peer: u8) -> Option<usize>
+    ensures { result ≡ place_of at peer }
+{
+    let (at, peer) = (usize::from(at), usize::from(peer));
+    if at < MOST_REPLICAS && peer < MOST_REPLICAS {
+        Some(at * MOST_REPLICAS + peer)
+    } else {
+        None
+    }
+}
+
+/// How many ends of connections stand once every two of n replicas are connected.
+pub(crate) fn ends_of_all(n: u8) -> usize
+    ensures { result ≡ ends_of_all n }
+{
+    let n = usize::from(n);
+    n * n.saturating_sub(1)
+}
+
+/// How many replicas so many addresses are of: more than 31 aren't reached.
+pub(crate) fn count_of(addresses: usize) -> u8
+    ensures { result ≡ count_of addresses }
+{
+    addresses.min(MOST_REPLICAS) as u8
+}

@@ -1,0 +1,163 @@
+//! Whom a connection is with, and what follows from it.
+
+ghost use Rattle.std.specs.Prelude.{◌≡◌, ◌<◌, ◌^◌, IfSome, length};
+ghost use Rattle.std.specs.Option.{SomeIff};
+ghost use Rattle.outside.specs.Links.{bytes_of};
+ghost use Rattle.tcp_link.specs.Names.{IsName, most_of, item_of, is_client, is_client_of, sent_through, down_of, dial_again, told_first};
+
+use crate::pieces::MOST_BYTES;
+use crate::stage::Stage;
+use outside::LinkItem;
+use ritas_base::Bytes;
+
+/// The most bytes of a frame.
+const MOST_FRAME: usize = 16_384;
+
+/// Whom a connection is with.
+#[derive(Clone, Copy, Debug)]
+pub(crate) enum Whom {
+    /// Of replica `at`, with one that hasn't told its number yet.
+    Unnamed { at: u8 },
+    /// Of replica `at`, with another.
+    Peer { at: u8, peer: u8 },
+    /// Of replica `at`, with a client.
+    Client { at: u8, conn: u32 },
+    /// Of a client, with a node.
+    Node { from: u8 },
+}
+
+/// A peer of a replica, or a node, which has no connection any more.
+#[derive(Clone, Copy, Debug)]
+pub(crate) struct Down {
+    pub(crate) at: u8,
+    pub(crate) peer: u8,
+}
+
+/// What is done at the first byte of a connection.
+#[derive(Clone, Copy, Debug)]
+pub(crate) enum Naming {
+    /// Nothing: it didn't come yet, or the connection has its name.
+    Waits,
+    /// It names a peer of replica `at`.
+    Names { at: u8, peer: u8 },
+    /// The connection is closed.
+    Closes,
+}
+
+/// The peer that the first byte of a connection names, at replica `at` of n.
+pub(crate) fn named(n: u8, at: u8, byte: u8) -> Option<u8>
+    ensures { SomeIff result (IsName n at byte) byte }
+{
+    if at < byte && byte < n {
+        Some(byte)
+    } else {
+        None
+    }
+}
+
+/// The replica through which a link sends bytes; a client's link has but one. A frame over 16,384 bytes isn't sent.
+pub(crate) fn sent_through(is_client: bool, at: u8, len: usize) -> Option<u8>
+    ensures { result ≡ sent_through is_client at len }
+{
+    if is_client {
+        Some(0)
+    } else if len <= MOST_FRAME {
+        Some(at)
+    } else {
+        None
+    }
+}
+
+/// The dial that comes again for a connection that is closed, of a link that is a client's or isn't.
+pub(crate) fn dial_again(is_client: bool, dial: Option<usize>) -> Option<usize>
+    ensures { result ≡ dial_again is_client dial }
+{
+    if is_client { None } else { dial }
+}
+
+impl Down {
+    /// The item that tells it.
+    pub(crate) fn item(self) -> LinkItem
+        ensures { result ≡ LinkItem.Down self.at self.peer }
+    {
+        LinkItem::Down {
+            at: self.at,
+            peer: self.peer,
+        }
+    }
+}
+
+impl Whom {
+    /// The most bytes of its pieces.
+    pub(crate) fn most(self) -> Option<usize>
+        ensures is { result ≡ most_of self }
+        ensures fits { IfSome result (λ most. most < 2 ^ 16) }
+    {
+        match self {
+            Whom::Unnamed { at: _ } => None,
+            Whom::Peer { at: _, peer: _ } => Some(MOST_FRAME),
+            Whom::Client { at: _, conn: _ } | Whom::Node { from: _ } => Some(MOST_BYTES),
+        }
+    }
+
+    /// The item that a piece is.
+    pub(crate) fn item(self, bytes: Bytes) -> Option<LinkItem>
+        requires { length bytes < 2 ^ 16 }
+        ensures is { result ≡ item_of self bytes }
+        ensures size { IfSome result (λ item. length (bytes_of item) < 2 ^ 16) }
+    {
+        match self {
+            Whom::Unnamed { at: _ } => None,
+            Whom::Peer { at, peer: _ } => Some(LinkItem::Frame { to: at, bytes }),
+            Whom::Client { at, conn } => Some(LinkItem::Client { at, conn, bytes }),
+            Whom::Node { from } => Some(LinkItem::Reply { from, bytes }),
+        }
+    }
+
+    /// Whether it is a client.
+    pub(crate) fn is_client(self) -> bool
+        ensures { result ≡ is_client self }
+    {
+        match self {
+            Whom::Client { at: _, conn: _ } => true,
+            Whom::Unnamed { at: _ } | Whom::Peer { at: _, peer: _ } | Whom::Node { from: _ } => {
+                false
+            }
+        }
+    }
+
+    /// Whether it is a client of this replica.
+    pub(crate) fn is_client_of(self, own: u8) -> bool
+        ensures { result ≡ is_client_of own self }
+    {
+        match self {
+            Whom::Client { at, conn: _ } => at == own,
+            Whom::Unnamed { at: _ } | Whom::Peer { at: _, peer: _ } | Whom::Node { from: _ } => {
+                false
+            }
+        }
+    }
+
+    /// Who is down once the connection is closed, at this stage.
+    pub(crate) fn down(self, stage: Stage) -> Option<Down>
+        ensures { result ≡ down_of stage self }
+    {
+        match (self, stage) {
+            (Whom::Peer { at, peer }, Stage::Over) => Some(Down { at, peer }),
+            (Whom::Node { from }, _) => Some(Down { at: 0, peer: from }),
+            _ => None,
+        }
+    }
+
+    /// The number that a connection tells first which was begun here.
+    pub(crate) fn told_first(self) -> Option<u8>
+        ensures { result ≡ told_first self }
+    {
+        match self {
+            Whom::Peer { at, peer: _ } => Some(at),
+            Whom::Unnamed { at: _ } | Whom::Client { at: _, conn: _ } | Whom::Node { from: _ } => {
+                None
+            }
+        }
+    }
+}
