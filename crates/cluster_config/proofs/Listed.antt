@@ -106,6 +106,7 @@ job_listed n (w ∷ rest) plain =
 listed_back : (job : Job) → listed (list_of job) ≡ Some job
 listed_back (Replay what.Report) = refl
 listed_back (Replay what.Frames) = refl
+listed_back (Replay what.Vectors) = refl
 listed_back (Drive drive_what.Report) = refl
 listed_back (Drive drive_what.Schedule) = refl
 listed_back Keys = refl
@@ -131,7 +132,8 @@ value_of f (v ∷ u ∷ rest) job e = absurd cc
 replay_value : (v : Text) (job : Job) → replay_named (Some v) ≡ Some job → codes "replay" ∷ v ∷ [] ≡ list_of job
 replay_value v job =
     split (bytes_eq v (codes "report")) _ _ job (λ same e. rw (← is_job (Replay what.Report) job e, (bytes_eq-Decides v (codes "report")).0 same) refl)
-    (split (bytes_eq v (codes "frames")) _ _ job (λ same e. rw (← is_job (Replay what.Frames) job e, (bytes_eq-Decides v (codes "frames")).0 same) refl) (λ e. absurd cc))
+    (split (bytes_eq v (codes "frames")) _ _ job (λ same e. rw (← is_job (Replay what.Frames) job e, (bytes_eq-Decides v (codes "frames")).0 same) refl)
+    (split (bytes_eq v (codes "vectors")) _ _ job (λ same e. rw (← is_job (Replay what.Vectors) job e, (bytes_eq-Decides v (codes "vectors")).0 same) refl) (λ e. absurd cc)))
 
 drive_value : (v : Text) (job : Job) → drive_named (Some v) ≡ Some job → codes "drive" ∷ v ∷ [] ≡ list_of job
 drive_value v job =

@@ -3,7 +3,7 @@ use Rattle.std.specs.Prelude.{◌≡◌, ℕ, List, [], ◌∷◌, ◌++◌, cod
 use Rattle.clap.proofs.OnLiterals.{clap_on_literals}
 use Rattle.hex.specs.Hex.{decode_pairs}
 use Rattle.ritas_base.specs.declared.mode.Vect.TheVariants.{Echo}
-use Rattle.ritas_base.specs.declared.what.What.TheVariants.{Frames}
+use Rattle.ritas_base.specs.declared.what.What.TheVariants.{Frames, Vectors}
 use Rattle.ritas_base.specs.declared.what.DriveWhat.TheVariants.{Schedule}
 use Rattle.ritas_base.specs.declared.plan.Order.TheVariants.{Random}
 use Rattle.ritas_base.specs.declared.plan.Attack.TheVariants.{Absent}
@@ -22,15 +22,24 @@ replays : job_of (codes "ritas" ∷ codes "replay" ∷ codes "frames" ∷ []) �
 unfolding job_of clap_on_literals
 replays = refl
 
+-- and for the vectors
+shows_vectors : job_of (codes "ritas" ∷ codes "replay" ∷ codes "vectors" ∷ []) ≡ Some (Replay Vectors)
+unfolding job_of clap_on_literals
+shows_vectors = refl
+
 -- driving, under another name
 drives : job_of (codes "" ∷ codes "drive" ∷ codes "schedule" ∷ []) ≡ Some (Drive Schedule)
 unfolding job_of clap_on_literals
 drives = refl
 
--- a value that the other subcommand has
+-- values that the other subcommand has
 other_value : job_of (codes "ritas" ∷ codes "drive" ∷ codes "frames" ∷ []) ≡ None
 unfolding job_of clap_on_literals
 other_value = refl
+
+no_vectors : job_of (codes "ritas" ∷ codes "drive" ∷ codes "vectors" ∷ []) ≡ None
+unfolding job_of clap_on_literals
+no_vectors = refl
 
 -- a job without a value
 runs : job_of (codes "ritas" ∷ codes "node" ∷ []) ≡ Some Node

@@ -13,6 +13,7 @@ use Rattle.cluster_config.specs.Command.{ritas}
 abbrev pub list_of : Job → List Text
 list_of (Replay what.Report) = codes "replay" ∷ codes "report" ∷ []
 list_of (Replay what.Frames) = codes "replay" ∷ codes "frames" ∷ []
+list_of (Replay what.Vectors) = codes "replay" ∷ codes "vectors" ∷ []
 list_of (Drive drive_what.Report) = codes "drive" ∷ codes "report" ∷ []
 list_of (Drive drive_what.Schedule) = codes "drive" ∷ codes "schedule" ∷ []
 list_of Keys = codes "keys" ∷ []
@@ -29,7 +30,8 @@ is_hyphened (x ∷ xs) = x == 45
 abbrev pub replay_named : Option Text → Option Job
 replay_named None = None
 replay_named (Some value) = if bytes_eq value (codes "report") then Some (Replay what.Report)
-    else (if bytes_eq value (codes "frames") then Some (Replay what.Frames) else None)
+    else (if bytes_eq value (codes "frames") then Some (Replay what.Frames)
+    else (if bytes_eq value (codes "vectors") then Some (Replay what.Vectors) else None))
 
 abbrev pub drive_named : Option Text → Option Job
 drive_named None = None

@@ -2,7 +2,7 @@
 //!
 //! | Words after the program's name | Job | Configuration |
 //! |---|---|---|
-//! | `replay report`, `replay frames` | `Job::Replay` | none |
+//! | `replay report`, `replay frames`, `replay vectors` | `Job::Replay` | none |
 //! | `drive report`, `drive schedule` | `Job::Drive` | `Config::Drive`, a plan |
 //! | `keys` | `Job::Keys` | `Config::Keys` |
 //! | `node` | `Job::Node` | `Config::Node` |

@@ -1,10 +1,8 @@
-//! Cases, a right text for each job. `cases/configs` has the tables of wrong texts and words.
+//! Cases of each call. `cases/configs` has the tables of texts and words.
 
-mod cluster;
-mod drive;
 mod keys;
 mod lines;
-mod node;
+mod requests;
 mod submit;
 mod words;
 

@@ -17,7 +17,7 @@ use std::alloc::Global;
 /// Why the words name no job.
 #[derive(Clone, Copy, Debug, PartialEq, Eq)]
 pub enum WordsFault {
-    /// The command doesn't take them, or their value isn't one of the two that it may be.
+    /// The command doesn't take them, or their value isn't one that it may be.
     Usage,
     /// There was not enough memory.
     Mem,
@@ -30,6 +30,8 @@ fn replay_named(value: &str) -> Option<Job>
         Some(Job::Replay(What::Report))
     } else if value == "frames" {
         Some(Job::Replay(What::Frames))
+    } else if value == "vectors" {
+        Some(Job::Replay(What::Vectors))
     } else {
         None
     }

@@ -2,7 +2,6 @@
 use Rattle.std.proofs.Common.{◌≡◌, ◌≢◌, ℕ, Bool, true, List, [], ◌∷◌, ◌++◌, Some, None, refl, sym, ◌∙◌, ap, inl, inr, arith}
 use Rattle.std.proofs.lemmas.List.{append-nil}
 use Rattle.std.specs.Prelude.{◌⊎◌}
-use Rattle.outside.specs.Faults.{HasCause}
 use Rattle.outside.specs.Writing.{TookFront}
 use Rattle.ritas_base.specs.declared.plan.Plan.{Plan}
 use Rattle.ritas_base.specs.declared.what.What.TheVariants as whats
@@ -14,7 +13,7 @@ use Rattle.schedule_file.specs.Spelling.{FrontOf}
 use Rattle.schedule_file.specs.SpellingLaws.{file_ends}
 use Rattle.schedule_replay.specs.declared.end.ReplayEnd.{ReplayEnd}
 use Rattle.schedule_replay.specs.declared.end.ReplayEnd.TheVariants as replay_ends
-use Rattle.schedule_replay.specs.Replay.{ShowsWorld}
+use Rattle.schedule_replay.specs.Replay.{CountsIf, ShowsWorld}
 use Rattle.world_model.specs.declared.audit.Audit.{Audit}
 use Rattle.world_model.specs.declared.audit.Audit.TheVariants.{Holds, Collision}
 use Rattle.world_model.specs.Agree.{Agree}
@@ -148,23 +147,36 @@ module _ {K : Type 0} (tells : Bool) (taken : K → List ℕ) (old new : K) (w :
 
 -- ---- every sink
 
+none_failed : {F : Type 0} (x y : ℕ) → (F → ⊥) → y ≡ x → CountsIf x y F
+none_failed x y not same = record { rises = λ f. absurd (not f); stands = λ _. same }
+
 pub report_ended : {K : Type 0} (faults : K → ℕ) (old new : K) (end : ReplayEnd) → ((e : FileFault) → end ≢ replay_ends.File e)
-    → HasCause (faults old) (faults new) (end ≡ replay_ends.Write) → (end ≡ replay_ends.Mem → new ≡ old) → Ended faults old new (end_of end)
-report_ended faults old new (replay_ends.Done a) own cause memory = record { later = cause.later; write = λ e. absurd cc; limit = λ x e. absurd cc; wanting = λ e. absurd cc }
-report_ended faults old new (replay_ends.File fault) own cause memory = absurd (own fault refl)
-report_ended faults old new replay_ends.Write own cause memory = record { later = cause.later; write = λ e. cause.cause refl; limit = λ x e. absurd cc; wanting = λ e. absurd cc }
-report_ended faults old new replay_ends.Mem own cause memory = record { later = cause.later; write = λ e. absurd cc; limit = λ x e. absurd cc; wanting = λ e. memory refl }
+    → CountsIf (faults old) (faults new) (end ≡ replay_ends.Write) → (end ≡ replay_ends.Mem → new ≡ old) → Ended faults old new (end_of end)
+report_ended faults old new (replay_ends.Done a) own counts memory = record {
+  counts = none_failed (faults old) (faults new) (λ e. cc) (counts.stands (λ e. cc));
+  limit = λ x e. absurd cc;
+  wanting = λ e. absurd cc;
+}
+report_ended faults old new (replay_ends.File fault) own counts memory = absurd (own fault refl)
+report_ended faults old new replay_ends.Write own counts memory = record {
+  counts = record { rises = λ _. counts.rises refl; stands = λ not. absurd (not refl) };
+  limit = λ x e. absurd cc;
+  wanting = λ e. absurd cc;
+}
+report_ended faults old new replay_ends.Mem own counts memory = record {
+  counts = none_failed (faults old) (faults new) (λ e. cc) (counts.stands (λ e. cc));
+  limit = λ x e. absurd cc;
+  wanting = λ e. memory refl;
+}
 
 pub halt_ended : {K : Type 0} (faults : K → ℕ) (old new : K) (halt : Halt) → new ≡ old → Ended faults old new (end_at halt)
 halt_ended faults old new (halts.Limit x) same = record {
-  later = let e = ap faults same in omega (arith, e);
-  write = λ e. absurd cc;
+  counts = none_failed (faults old) (faults new) (λ e. cc) (ap faults same);
   limit = λ y e. same;
   wanting = λ e. absurd cc;
 }
 halt_ended faults old new halts.Mem same = record {
-  later = let e = ap faults same in omega (arith, e);
-  write = λ e. absurd cc;
+  counts = none_failed (faults old) (faults new) (λ e. cc) (ap faults same);
   limit = λ y e. absurd cc;
   wanting = λ e. same;
 }

@@ -1,6 +1,5 @@
 -- How a call that makes a plan's schedule ends, and what it writes.
-use Rattle.std.specs.Prelude.{◌≡◌, ◌≤◌, ◌⊎◌, ℕ, List, ◌++◌, Bool, true, Some, None}
-use Rattle.outside.specs.Faults.{Rose}
+use Rattle.std.specs.Prelude.{◌≡◌, ◌⊎◌, ℕ, List, ◌++◌, Bool, true, Some, None}
 use Rattle.outside.specs.Writing.{TookFront}
 use Rattle.ritas_base.specs.declared.event.Event.{Event}
 use Rattle.ritas_base.specs.declared.plan.Plan.{Plan}
@@ -14,6 +13,7 @@ use Rattle.world_model.specs.Agree.{Agree}
 use Rattle.world_model.specs.Audit.{audit_of}
 use Rattle.world_model.specs.Forging.{ForgesNothing}
 use Rattle.world_model.specs.World.{Setting}
+use Rattle.schedule_replay.specs.Replay.{CountsIf}
 use Rattle.schedule_replay.specs.Report.{report_on}
 use Rattle.schedule_replay.specs.declared.end.ReplayEnd.{ReplayEnd}
 use Rattle.schedule_replay.specs.declared.end.ReplayEnd.TheVariants as replay_ends
@@ -51,11 +51,10 @@ abbrev pub end_at : Halt → DriveEnd
 end_at (halts.Limit x) = ends.Limit x
 end_at halts.Mem = ends.Mem
 
--- For a sink before and after the call, whether or not it tells: its count of faults didn't fall, and rose where `Write` is
--- answered. At a limit, and where memory ran out, nothing was done to it.
+-- For a sink before and after the call, whether or not it tells: one call of it failed just where `Write` is answered. At a limit, and where
+-- memory ran out, nothing was done to it.
 pub record Ended {K : Type 0} (faults : K → ℕ) (old new : K) (end : DriveEnd) : Type 0 where
-  pub later : faults old ≤ faults new
-  pub write : end ≡ ends.Write → Rose (faults old) (faults new)
+  pub counts : CountsIf (faults old) (faults new) (end ≡ ends.Write)
   pub limit : (x : ℕ) → end ≡ ends.Limit x → new ≡ old
   pub wanting : end ≡ ends.Mem → new ≡ old
 

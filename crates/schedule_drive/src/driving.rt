@@ -131,7 +131,7 @@ fn drive_with<S: Service, K: Sink>(
 /// commands are prefixes of one list, with each command once; a correct replica's command stands there only if it was
 /// submitted there; and no two of them decide differently in any instance. At `Limit` the schedule would pass this limit: it
 /// would have more than 4,000,000 steps, or, where it hasn't, its file more than 67,108,864 bytes. Then nothing was written, nor
-/// at `Mem`. `Write` is answered only where the sink failed.
+/// at `Mem`. `Write` is answered just where a call of the sink failed.
 pub fn drive<K: Sink>(alloc: Global, plan: &Plan, sink: &mut K, what: DriveWhat) -> DriveEnd
     // For every sink, whether or not it tells what it took.
     ensures ended { Ended K.faults sink.old sink.new result }

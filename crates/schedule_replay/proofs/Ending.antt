@@ -1,18 +1,18 @@
 -- How a call ends where reading met a fault, which writes nothing.
-use Rattle.std.proofs.Common.{◌≡◌, ◌≢◌, ◌≤◌, ◌⊎◌, ℕ, Bool, false, List, [], Result, Ok, Err, refl, sym, ◌∙◌, inl, inr, arith}
+use Rattle.std.proofs.Common.{◌≡◌, ◌≢◌, ◌⊎◌, ℕ, Bool, false, List, [], Result, Ok, Err, refl, sym, ◌∙◌, inl, inr, arith}
 use Rattle.std.proofs.lemmas.List.{append-nil}
-use Rattle.outside.specs.Faults.{Rose}
 use Rattle.ritas_base.specs.declared.event.Event.{Event}
 use Rattle.schedule_file.specs.declared.fault.FileFault.{FileFault}
 use Rattle.schedule_file.specs.declared.fault.FileFault.TheVariants as faults
 use Rattle.schedule_file.specs.declared.header.Header.{Header}
 use Rattle.schedule_file.specs.FileBytes.{is_outside, Fails}
+use Rattle.schedule_file.specs.SourceFaults.{faults_after}
 use Rattle.world_model.specs.declared.audit.Audit.{Audit}
 use Rattle.world_model.specs.Audit.{audit_of}
 use Rattle.world_model.specs.World.{Setting}
 use Rattle.schedule_replay.specs.declared.end.ReplayEnd.TheVariants as ends
 use Rattle.ritas_base.specs.declared.what.What.{What}
-use Rattle.schedule_replay.specs.Replay.{text_on, end_at, IsEndOf, IsEndAt, Ended, ShowsWorld}
+use Rattle.schedule_replay.specs.Replay.{text_on, end_at, IsEndOf, IsEndAt, CountsIf, Ended, ShowsWorld}
 
 -- a fault is of the source, or of memory, or of the file
 kinds : (fault : FileFault) → (fault ≡ faults.Read) ⊎ ((fault ≡ faults.Mem) ⊎ ((is_outside fault ≡ false) × (end_at fault ≡ ends.File fault)))
@@ -53,7 +53,7 @@ end_file fault e file =
     ]
 
 -- nothing was written
-never_written : (fault : FileFault) → (end_at fault ≢ ends.Write) × ((a : Audit) → end_at fault ≢ ends.Done a)
+pub never_written : (fault : FileFault) → (end_at fault ≢ ends.Write) × ((a : Audit) → end_at fault ≢ ends.Done a)
 never_written fault =
     elim (kinds fault) [
       | inl is ↦ rw is ((λ e. cc), λ a e. cc)
@@ -61,14 +61,27 @@ never_written fault =
       | inr (inr own) ↦ rw own.1 ((λ e. cc), λ a e. cc)
     ]
 
+-- of the source one call failed just at its own fault
+read_fails : (x y : ℕ) (fault : FileFault) → y ≡ faults_after {A = Unit {0}} x (Err fault) → CountsIf x y (end_at fault ≡ ends.File faults.Read)
+read_fails x y faults.Read is = record { rises = λ _. is; stands = λ not. absurd (not refl) }
+read_fails x y faults.Magic is = record { rises = λ e. absurd cc; stands = λ _. is }
+read_fails x y faults.Version is = record { rises = λ e. absurd cc; stands = λ _. is }
+read_fails x y (faults.Header p) is = record { rises = λ e. absurd cc; stands = λ _. is }
+read_fails x y (faults.Event p) is = record { rises = λ e. absurd cc; stands = λ _. is }
+read_fails x y (faults.Truncated p) is = record { rises = λ e. absurd cc; stands = λ _. is }
+read_fails x y (faults.Trailing p) is = record { rises = λ e. absurd cc; stands = λ _. is }
+read_fails x y faults.TooLong is = record { rises = λ e. absurd cc; stands = λ _. is }
+read_fails x y faults.Mem is = record { rises = λ e. absurd cc; stands = λ _. is }
+
+-- no call failed
+pub none_failed : {F : Type 0} (x y : ℕ) → (F → ⊥) → y ≡ x → CountsIf x y F
+none_failed x y not same = record { rises = λ f. absurd (not f); stands = λ _. same }
+
 pub ended_at : {S K : Type 0} (source_faults : S → ℕ) (before after : S) (sink_faults : K → ℕ) (k : K) (what : What) (fault : FileFault)
-    → source_faults before ≤ source_faults after → (fault ≡ faults.Read → Rose (source_faults before) (source_faults after))
-    → Ended source_faults before after sink_faults k k what (end_at fault)
-ended_at source_faults before after sink_faults k what fault later cause = record {
-  source_later = later;
-  sink_later = omega arith;
-  read = λ e. cause (end_file fault faults.Read e).0;
-  write = λ e. absurd ((never_written fault).0 e);
+    → source_faults after ≡ faults_after {A = Unit {0}} (source_faults before) (Err fault) → Ended source_faults before after sink_faults k k what (end_at fault)
+ended_at source_faults before after sink_faults k what fault counts = record {
+  source = read_fails (source_faults before) (source_faults after) fault counts;
+  sink = none_failed (sink_faults k) (sink_faults k) (never_written fault).0 refl;
   own = λ e. (end_file fault faults.Mem e).1 refl;
   unread = λ e file. refl;
   wanting = λ report mem. refl;
@@ -81,4 +94,5 @@ shows_nothing tells taken k what fault h w es is = record {
   whole = λ tells a e. absurd ((never_written fault).1 a e);
   front = λ tells. record { front = []; rest = text_on what h w es; parts = refl; taken = sym (append-nil (taken k)) };
   agree = λ e. absurd ((never_written fault).1 _ e);
+  vectors = λ asked e. absurd ((never_written fault).1 _ e);
 }

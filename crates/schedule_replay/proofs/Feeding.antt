@@ -1,14 +1,16 @@
 -- Events that a loop takes one after the other, the newest first: what it has so far, and what reading on gives.
-use Rattle.std.proofs.Common.{◌≡◌, ℕ, suc, ◌-◌, ◌+◌, ◌≤◌, ◌<◌, List, [], ◌∷◌, ◌++◌, reverse, Some, None, Result, Ok, Err, refl, sym, ap, ◌∙◌, append_assoc, arith}
+use Rattle.std.proofs.Common.{◌≡◌, ℕ, suc, ◌-◌, ◌+◌, ◌≤◌, ◌<◌, ◌==◌, Bool, true, false, List, [], ◌∷◌, ◌++◌, reverse, Option, Some, None, Result, Ok, Err, refl, sym, ap, ◌∙◌, append_assoc, arith}
+use Rattle.std.specs.Prelude.{nat_lt, if◌then◌else◌}
 use Rattle.std.proofs.lemmas.List.{append-nil, reverse-append}
 use Rattle.ritas_base.specs.declared.event.Event.{Event}
 use Rattle.schedule_file.specs.declared.fault.FileFault.{FileFault}
-use Rattle.schedule_file.specs.declared.fault.FileFault.TheVariants.{TooLong}
+use Rattle.schedule_file.specs.declared.fault.FileFault.TheVariants.{TooLong, Trailing}
 use Rattle.schedule_file.specs.declared.scope.Scope.{Scope}
 use Rattle.schedule_file.specs.Reading.{◌>>=◌, Spot, start_of}
-use Rattle.schedule_file.specs.FileBytes.{limit, Fails}
+use Rattle.schedule_file.specs.FileBytes.{limit, Fails, byte_at, end_at, end_from}
+use Rattle.schedule_file.specs.Place.{Held, spot}
 use Rattle.schedule_file.specs.ReadHeader.{Heading, header_at}
-use Rattle.schedule_file.specs.ReadEvents.{event_at, events_at}
+use Rattle.schedule_file.specs.ReadEvents.{event_at, event_of, events_at, kind_at, no_event, some_event}
 use Rattle.schedule_file.specs.Schedule.{file_of}
 use Rattle.schedule_file.specs.Scopes.{scope_of}
 use Rattle.schedule_replay.specs.Onto.{onto}
@@ -52,6 +54,51 @@ too_many h most i scope s total le so_far =
     let k : most - i ≡ 0 = omega arith in
     let one : onto h (events_at (most - i) scope s) ≡ Err TooLong = rw k refl in
     sym so_far ∙ one
+
+-- ---- the end
+
+abbrev rest_in : Result (Option Event × Spot) FileFault → List ℕ
+rest_in (Ok x) = x.1.rest
+rest_in (Err x) = []
+
+abbrev event_in : Result (Option Event × Spot) FileFault → Option Event
+event_in (Ok x) = x.0
+event_in (Err x) = None
+
+not_there : {A : Type 0} (b : Bool) (x y : FileFault) (next : Spot) → ((if b then Err x else Err y) >>= λ u. Ok (no_event u)) ≡ Ok (None, next) → A
+not_there true x y next e = absurd cc
+not_there false x y next e = absurd cc
+
+no_byte : (at : ℕ) (rest : List ℕ) (next : Spot) → (end_from at rest >>= λ x. Ok (no_event x)) ≡ Ok (None, next) → next.rest ≡ []
+no_byte at [] next e = ap rest_in (sym e)
+no_byte at (b ∷ rest) next e = not_there (nat_lt at limit) (Trailing at) TooLong next e
+
+some_more : {A : Type 0} (read : Result (Event × Spot) FileFault) (next : Spot) → (read >>= λ x. Ok (some_event x)) ≡ Ok (None, next) → A
+some_more (Ok x) next e = absurd (let both : Some x.0 ≡ None = ap event_in e in cc)
+some_more (Err x) next e = absurd cc
+
+by_kind : (b : Bool) (s : Spot) (more : Result (Event × Spot) FileFault) (next : Spot)
+    → (if b then (end_at s >>= λ x. Ok (no_event x)) else (more >>= λ x. Ok (some_event x))) ≡ Ok (None, next) → next.rest ≡ []
+unfolding end_at
+by_kind true s more next e = no_byte s.at s.rest next e
+by_kind false s more next e = some_more more next e
+
+by_byte : (scope : Scope) (at : ℕ) (read : Result (ℕ × Spot) FileFault) (next : Spot) → (read >>= λ kind. event_of scope at kind.0 kind.1) ≡ Ok (None, next) → next.rest ≡ []
+by_byte scope at (Ok kind) next e = by_kind (kind.0 == 0) kind.1 (kind_at scope at kind.0 kind.1) next e
+by_byte scope at (Err x) next e = absurd cc
+
+-- no byte follows the end mark
+at_end : (scope : Scope) (s next : Spot) → event_at scope s ≡ Ok (None, next) → next.rest ≡ []
+unfolding event_at
+at_end scope s next e = by_byte scope s.at (byte_at s) next e
+
+tail_none : (xs ys : List ℕ) → xs ++ ys ≡ [] → ys ≡ []
+tail_none [] ys e = e
+tail_none (x ∷ xs) ys e = absurd cc
+
+-- so the source has none left
+pub all_read : (scope : Scope) (s : Spot) (held : Held) (left : List ℕ) → event_at scope s ≡ Ok (None, spot held left) → left ≡ []
+all_read scope s held left e = tail_none held.bytes left (at_end scope s (spot held left) e)
 
 -- ---- the file
 

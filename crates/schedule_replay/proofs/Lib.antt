@@ -1,4 +1,5 @@
 pub mod Feeding
+pub mod Asking
 pub mod Files
 pub mod Deals
 pub mod Written
@@ -7,3 +8,4 @@ pub mod Totals
 pub mod Dealt
 pub mod Ending
 pub mod Pieces
+pub mod Showing

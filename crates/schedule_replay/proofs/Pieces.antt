@@ -74,11 +74,11 @@ rose_since before now after le (inr last) = inr last
 
 -- where a front of some lines was written, no more was of a text that begins with them
 pub cut_early : {E : Type 0} (tells : Bool) (old now lines more : List ℕ) (before after : ℕ) (e : E) (failed : Type 0) → (tells ≡ true → TookFront old now lines)
-    → before ≤ after → (failed → Rose before after) → (failed → after ≡ count_after before) → Writes (lines ++ more) tells old now before after (Err e) failed
-cut_early tells old now lines more before after e failed front later cause rises = record {
+    → before ≤ after → (failed → Rose before after) → (failed → after ≡ count_after before) → (¬ failed → after ≡ before) → Writes (lines ++ more) tells old now before after (Err e) failed
+cut_early tells old now lines more before after e failed front later cause rises others = record {
   whole = λ told. tt;
   front = λ told. front_of_more old now lines more (front told);
   later = later;
   cause = cause;
-  counts = record { stands = tt; rises = rises };
+  counts = record { stands = tt; rises = rises; others = others };
 }

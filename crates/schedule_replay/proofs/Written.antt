@@ -54,7 +54,3 @@ lines_chosen p line (x ∷ xs) =
           ap (flat_map line) (cond-false (p x) (x ∷ filter p xs) (filter p xs) fails)
           ∙ (lines_chosen p line xs ∙ ap (λ (l : List ℕ). l ++ flat_map (chosen p line) xs) (sym (cond-false (p x) (line x) [] fails)))
     ]
-
--- four texts, one after the other
-pub four_texts : (a b c d one two three four : List ℕ) → one ≡ a → two ≡ one ++ b → three ≡ two ++ c → four ≡ three ++ d → four ≡ a ++ (b ++ (c ++ d))
-four_texts a b c d one two three four e f g h = h ∙ rw (g, f, e) (append_assoc (a ++ b) c d ∙ append_assoc a b (c ++ d))

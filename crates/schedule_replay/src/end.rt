@@ -9,7 +9,8 @@ use world_model::Audit;
 pub enum ReplayEnd {
     /// The text was written, of a world with this audit.
     Done(Audit),
-    /// The bytes aren't a schedule file, by this first fault, or the source failed.
+    /// The bytes aren't a schedule file, by this first fault, or the source failed. `Header(15)` is also answered of a file
+    /// that has no such text, for its root service.
     File(FileFault),
     /// The sink failed.
     Write,

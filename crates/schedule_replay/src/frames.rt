@@ -101,7 +101,7 @@ pub(crate) fn write_frames<S: Service, E: Broadcast, C: Coin + Drop, K: Sink>(
         (w : Setting) (es : List Event) → WorldStands m world.now w es → audit ≡ audit_of w es
         → Writes (frames_on w es) K.tells (K.taken sink.old) (K.taken sink.new) (K.faults sink.old) (K.faults sink.new)
         result (result ≡ Err Cut.Write) }
-    ensures cause { HasCause (K.faults sink.old) (K.faults sink.new) (result ≡ Err Cut.Write) }
+    ensures counts { Counts (K.faults sink.old) (K.faults sink.new) result (result ≡ Err Cut.Write) }
 {
     let mut text = String::new(alloc);
     write_lines(alloc, sink, &mut text, world)?;

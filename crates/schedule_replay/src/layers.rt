@@ -6,9 +6,10 @@ ghost use Rattle.schedule_file.specs.ReadHeader.{heading};
 ghost use Rattle.schedule_file.specs.Schedule.{file_of};
 ghost use Rattle.schedule_file.specs.Scopes.{scope_of};
 ghost use Rattle.schedule_file.specs.Spelling.{IsHeading};
+ghost use Rattle.world_model.specs.declared.audit.Audit.{Audit};
 ghost use Rattle.schedule_replay.specs.Layers.{setting_by, setting_of, other_of};
 ghost use Rattle.schedule_replay.specs.Onto.{more_events};
-ghost use Rattle.schedule_replay.specs.Replay.{Ended, ShowsEvents, ShowsFile};
+ghost use Rattle.schedule_replay.specs.Replay.{Ended, ShowsEvents, ShowsFile, has_text, asked_behind, asked_of};
 
 use crate::end::{ReplayEnd, end_at};
 use crate::played::load;
@@ -21,11 +22,22 @@ use multivalued::{Mvc, MvcRoot};
 use outside::{Sink, Source};
 use reliable_bcast::Rb;
 use ritas_base::{Mode, Vect, What};
-use schedule_file::{Header, Reader};
+use schedule_file::{FileFault, Header, Reader};
 use std::alloc::Global;
 use vector_consensus::{Vc, VcRoot};
 
-// Replays a schedule whose header was read, in a world of these layers.
+// Whether there is such a text of a schedule with this root service. Vectors are decided in root services 5 and 6 alone.
+fn has_text(what: What, root: u8) -> bool
+    ensures { result ≡ has_text what root }
+{
+    match what {
+        What::Report | What::Frames => true,
+        What::Vectors => matches!(root, 5..=6),
+    }
+}
+
+// Replays a schedule whose header was read, in a world of these layers. One that has no such text is refused once it was read to
+// its end, for its root service.
 fn replay_as<S: Service, E: Broadcast, I: Source, K: Sink>(
     alloc: Global,
     header: Header,
@@ -40,11 +52,14 @@ fn replay_as<S: Service, E: Broadcast, I: Source, K: Sink>(
     requires open { reader.old.stage ≡ Open }
     requires scope { reader.old.scope ≡ scope_of (heading header) }
     ensures ended { Ended I.faults src.old src.new K.faults sink.old sink.new what result }
+    ensures to_its_end { I.tells ≡ true → (a : Audit) → result ≡ ReplayEnd.Done a → I.left src.new ≡ [] }
     ensures shows { I.tells ≡ true → ShowsEvents K.tells K.taken sink.old sink.new what result header
-        (setting_by S.rules E.rules header) (more_events [] reader.old (I.left src.old)) }
+        (setting_by S.rules E.rules header) (asked_behind what header.mode.root (more_events [] reader.old (I.left src.old))) }
 {
+    let is_there = has_text(what, header.mode.root);
     match load::<S, E, I>(alloc, header, reader, src) {
-        Ok(x) => show(alloc, sink, &x, what),
+        Ok(x) if is_there => show(alloc, sink, &x, what),
+        Ok(_) => ReplayEnd::File(FileFault::Header(15)),
         Err(fault) => end_at(fault),
     }
 }
@@ -74,8 +89,9 @@ fn replay_with<S: Service, I: Source, K: Sink>(
     requires open { reader.old.stage ≡ Open }
     requires scope { reader.old.scope ≡ scope_of (heading header) }
     ensures ended { Ended I.faults src.old src.new K.faults sink.old sink.new what result }
+    ensures to_its_end { I.tells ≡ true → (a : Audit) → result ≡ ReplayEnd.Done a → I.left src.new ≡ [] }
     ensures shows { I.tells ≡ true → ShowsEvents K.tells K.taken sink.old sink.new what result header
-        (setting_by S.rules (other_of header.mode) header) (more_events [] reader.old (I.left src.old)) }
+        (setting_by S.rules (other_of header.mode) header) (asked_behind what header.mode.root (more_events [] reader.old (I.left src.old))) }
 {
     if has_echo(&header.mode) {
         replay_as::<S, Eb, I, K>(alloc, header, reader, src, sink, what)
@@ -97,8 +113,9 @@ fn replay_events<I: Source, K: Sink>(
     requires open { reader.old.stage ≡ Open }
     requires scope { reader.old.scope ≡ scope_of (heading header) }
     ensures ended { Ended I.faults src.old src.new K.faults sink.old sink.new what result }
+    ensures to_its_end { I.tells ≡ true → (a : Audit) → result ≡ ReplayEnd.Done a → I.left src.new ≡ [] }
     ensures shows { I.tells ≡ true → ShowsEvents K.tells K.taken sink.old sink.new what result header
-        (setting_of header) (more_events [] reader.old (I.left src.old)) }
+        (setting_of header) (asked_behind what header.mode.root (more_events [] reader.old (I.left src.old))) }
 {
     match header.mode.root {
         3 => replay_with::<BinRoot<Bin>, I, K>(alloc, header, reader, src, sink, what),
@@ -114,15 +131,19 @@ fn replay_events<I: Source, K: Sink>(
 ///
 /// At `Done` the whole text was written, and in any case a front of it. Where the audit then holds, the correct replicas
 /// agree: their logs of commands are prefixes of one list, with each command once; a correct replica's command stands
-/// there only if it was submitted there; and no two of them decide differently in any instance. At `File` nothing was
-/// written, nor at `Mem` where a report is asked for. `File(Read)` is answered only where the source failed, and `Write`
-/// only where the sink failed. `File(Mem)` is never answered: `Mem` is, where there was not enough memory.
+/// there only if it was submitted there; and no two of them decide differently in any instance. Then no line of the text of
+/// their vectors says that attempts are spent, and lines of one round are equal but for the replica's number. At `File`
+/// nothing was written, nor at `Mem` unless frames are asked for. `File(Header(15))` is answered also where vectors are asked
+/// for of a file without a fault whose root service isn't 5 or 6. `File(Read)` is answered just where a call of the source failed,
+/// and `Write` just where one of the sink did. `File(Mem)` is never answered: `Mem` is, where there was not enough memory.
 pub fn replay<S: Source, K: Sink>(alloc: Global, src: &mut S, sink: &mut K, what: What) -> ReplayEnd
     // For every source and sink, whether or not they tell what they hold.
     ensures ended { Ended S.faults src.old src.new K.faults sink.old sink.new what result }
 
-    // The text of the file's world is written, or the file's first fault is answered.
-    ensures shows { S.tells ≡ true → ShowsFile K.tells K.taken sink.old sink.new what result (file_of (S.left src.old)) }
+    // The text of the file's world is written, or the file's first fault is answered, where a file of which there is no such text
+    // has that of its root service last. At `Done` the source was read to its end.
+    ensures to_its_end { S.tells ≡ true → (a : Audit) → result ≡ ReplayEnd.Done a → S.left src.new ≡ [] }
+    ensures shows { S.tells ≡ true → ShowsFile K.tells K.taken sink.old sink.new what result (asked_of what (file_of (S.left src.old))) }
 {
     match Reader::start(alloc, src) {
         Ok((header, mut reader)) => replay_events(alloc, header, &mut reader, src, sink, what),

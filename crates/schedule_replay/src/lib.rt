@@ -14,9 +14,11 @@ mod frames;
 mod layers;
 mod lines;
 mod played;
+mod replicas;
 mod report;
 #[cfg(test)]
 mod tests;
+mod vectors;
 mod write;
 
 pub use deal::deal_keys;

@@ -1,8 +1,9 @@
-//! The lines of a report.
-ghost use Rattle.std.specs.Prelude.{◌≡◌, ◌++◌, ◌%◌, ◌^◌, IfOk, string_bytes, codes, Some, None};
-ghost use Rattle.layer_api.specs.Service.{Decided, Value};
+//! The lines of the texts.
+ghost use Rattle.std.specs.Prelude.{◌≡◌, ◌++◌, ◌%◌, ◌^◌, IfOk, string_bytes, codes, Some, None, option_map};
+ghost use Rattle.layer_api.specs.Service.{LastVector, Decided, Value};
 ghost use Rattle.layer_api.specs.ServiceCalls.{ending_of};
 ghost use Rattle.schedule_replay.specs.Report.{head_line, answered_part, refused_part, count_line, vect_name, out_line, hex_or_dash, id_part, command_part, row_line, rounds_line, ending_line, audit_line, numbers_line};
+ghost use Rattle.schedule_replay.specs.Vectors.{SaysVector, last_says, says_of, vector_line};
 
 use command_log::LogRow;
 use layer_api::Outcome;
@@ -158,6 +159,46 @@ fn decision_line(alloc: Global, value: &[u8]) -> Result<String, AllocError>
 {
     let text = hex::encode(alloc, value)?;
     format!(in alloc; "decision {text}\n")
+}
+
+/// The line that says what a replica decided last: a vector, in its round and attempt, or that its attempts are spent, or that it
+/// decided none.
+pub(crate) fn vector_line(
+    alloc: Global,
+    i: u8,
+    outcome: Outcome<'_>,
+    last: Option<(u32, u8, &[u8])>,
+) -> Result<String, AllocError>
+    ensures { let vector = option_map (λ x. record { round = x.0; attempt = x.1; value = x.2.now }) last.entry in
+        IfOk result (λ s. string_bytes s ≡ vector_line i (says_of (ending_of outcome.entry) vector)) }
+{
+    match outcome {
+        Outcome::Spent => format!(in alloc; "vector {i} spent\n"),
+        _ => last_line(alloc, i, last),
+    }
+}
+
+fn last_line(alloc: Global, i: u8, last: Option<(u32, u8, &[u8])>) -> Result<String, AllocError>
+    ensures { let vector = option_map (λ x. record { round = x.0; attempt = x.1; value = x.2.now }) last.entry in
+        IfOk result (λ s. string_bytes s ≡ vector_line i (last_says vector)) }
+{
+    match last {
+        Some((round, attempt, value)) => decided_line(alloc, i, round, attempt, value),
+        None => format!(in alloc; "vector {i} undecided\n"),
+    }
+}
+
+fn decided_line(
+    alloc: Global,
+    i: u8,
+    round: u32,
+    attempt: u8,
+    value: &[u8],
+) -> Result<String, AllocError>
+    ensures { IfOk result (λ s. string_bytes s ≡ vector_line i (SaysVector (record { round = round; attempt = attempt; value = value.now }))) }
+{
+    let text = hex::encode(alloc, value)?;
+    format!(in alloc; "vector {i} {round} {attempt} {text}\n")
 }
 
 /// The line that says what the audit found.

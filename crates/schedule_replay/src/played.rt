@@ -1,9 +1,8 @@
 //! Reading a schedule, and replaying it as it is read.
 ghost use Rattle.std.specs.Prelude.{◌≡◌, List, [], true, Ok, Err, IfOk, MatchResult};
-ghost use Rattle.outside.specs.Faults.{HasCause};
+ghost use Rattle.schedule_file.specs.SourceFaults.{faults_after};
 ghost use Rattle.ritas_base.specs.declared.event.Event.{Event};
 ghost use Rattle.ritas_core.specs.Rules.{other_form};
-ghost use Rattle.schedule_file.specs.declared.fault.FileFault.TheVariants.{Read};
 ghost use Rattle.schedule_file.specs.declared.stage.Stage.TheVariants.{Open};
 ghost use Rattle.schedule_file.specs.FileBytes.{Fails};
 ghost use Rattle.schedule_file.specs.ReadHeader.{heading};
@@ -32,10 +31,9 @@ pub struct Played<S: Service, E: Broadcast> {
 
 impl<S: Service, E: Broadcast> Played<S, E> {
     ghost use Rattle.std.specs.Prelude.{◌≡◌, ◌<◌, ◌≤◌, ◌+◌, ◌-◌, ◌^◌, List, [], ◌∷◌, true, Ok, Err, OnOk, IfOk, MatchResult};
-    ghost use Rattle.outside.specs.Faults.{HasCause};
+    ghost use Rattle.schedule_file.specs.SourceFaults.{faults_after};
     ghost use Rattle.ritas_base.specs.declared.event.Event.{Event};
     ghost use Rattle.ritas_core.specs.Rules.{other_form};
-    ghost use Rattle.schedule_file.specs.declared.fault.FileFault.TheVariants.{Read};
     ghost use Rattle.schedule_file.specs.declared.stage.Stage.TheVariants.{Open};
     ghost use Rattle.schedule_file.specs.FileBytes.{Fails};
     ghost use Rattle.schedule_file.specs.ReadHeader.{heading};
@@ -116,8 +114,9 @@ impl<S: Service, E: Broadcast> Played<S, E> {
             (λ _. (es : List Event) × StandsFor m self.new es
             × (more_events before reader.old (I.left input.old) ≡ Ok es))
             (λ e. Fails e (more_events before reader.old (I.left input.old))) }
+        ensures end { I.tells ≡ true → IfOk result (λ _. I.left input.new ≡ []) }
         ensures header { self.new.header ≡ self.old.header }
-        ensures cause { HasCause (I.faults input.old) (I.faults input.new) (result ≡ Err Read) }
+        ensures counts { I.faults input.new ≡ faults_after (I.faults input.old) result }
     {
         for _ in 0..67_108_865u32 {
             match reader.next(alloc, input)? {
@@ -131,7 +130,7 @@ impl<S: Service, E: Broadcast> Played<S, E> {
 
 /// Reads the events behind a header, to the end of the schedule, and replays them as they are read.
 ///
-/// `Read` is answered only where the source failed.
+/// `Read` is answered just where a call of the source failed. At Ok all was read that the source had left.
 pub(crate) fn load<S: Service, E: Broadcast, I: Source>(
     alloc: Global,
     header: Header,
@@ -148,8 +147,9 @@ pub(crate) fn load<S: Service, E: Broadcast, I: Source>(
         (λ x. (es : List Event) × StandsFor m x es
         × (more_events [] reader.old (I.left input.old) ≡ Ok es))
         (λ e. Fails e (more_events [] reader.old (I.left input.old))) }
+    ensures end { I.tells ≡ true → IfOk result (λ _. I.left input.new ≡ []) }
     ensures header { IfOk result (λ x. x.header ≡ header) }
-    ensures cause { HasCause (I.faults input.old) (I.faults input.new) (result ≡ Err Read) }
+    ensures counts { I.faults input.new ≡ faults_after (I.faults input.old) result }
 {
     let mut played = Played::new(alloc, header)?;
     played.play(alloc, reader, input)?;

@@ -1,6 +1,5 @@
 //! The text of a report.
-ghost use Rattle.std.specs.Prelude.{◌≡◌, ◌<◌, ◌≤◌, ◌++◌, List, true, Some, OnOk, IfOk, string_bytes, filter};
-ghost use Rattle.std.specs.List.{flat_map, range_with_len};
+ghost use Rattle.std.specs.Prelude.{◌≡◌, ◌<◌, ◌≤◌, ◌++◌, List, true, Some, OnOk, IfOk, string_bytes};
 ghost use Rattle.ritas_base.specs.declared.event.Event.{Event};
 ghost use Rattle.keyed_channel.specs.Keyed.{tags_of};
 ghost use Rattle.keyed_channel.specs.KeyRow.{KeyRow};
@@ -14,16 +13,15 @@ ghost use Rattle.ritas_core.specs.Rules.{Rules, seat_of, other_form};
 ghost use Rattle.ritas_core.specs.Shown.{delivered_at};
 ghost use Rattle.ritas_core.specs.Stands.{meaning, CoreStands};
 ghost use Rattle.world_model.specs.Audit.{audit_of};
-ghost use Rattle.world_model.specs.Stands.{WorldStands};
-ghost use Rattle.world_model.specs.World.{Setting};
-ghost use Rattle.schedule_replay.specs.Layers.{setting_by, layers_by, AreCoresOf};
+ghost use Rattle.schedule_replay.specs.Layers.{setting_by, layers_by};
 ghost use Rattle.schedule_replay.specs.Played.{StandsFor};
-ghost use Rattle.schedule_replay.specs.Report.{out_line, origin_lines, outs_of, out_lines, ending_line, row_line, row_lines, log_lines, service_lines, lines_of, replica_lines, report_on};
+ghost use Rattle.schedule_replay.specs.Report.{out_line, origin_lines, outs_of, out_lines, ending_line, row_line, row_lines, log_lines, service_lines, lines_of, report_on};
 
 use crate::lines::{
-    audit_line, count_line, ending_line, head_line, out_line, replica_line, rounds_line, row_line,
+    count_line, ending_line, head_line, out_line, replica_line, rounds_line, row_line,
 };
 use crate::played::Played;
+use crate::replicas::{Lines, add_rest};
 use command_log::Log;
 use keyed_channel::Channel;
 use layer_api::{Broadcast, Service};
@@ -31,7 +29,7 @@ use replica::Replica;
 use ritas_base::{Coin, Slot};
 use ritas_core::{Core, delivered_within};
 use std::alloc::{AllocError, Global};
-use world_model::{Audit, World};
+use world_model::Audit;
 
 fn command_slot(origin: u8, num: u32) -> Slot
     ensures { result ≡ command_slot origin num }
@@ -194,8 +192,8 @@ fn add_service<S: Service, E: Broadcast, C: Coin + Drop>(
     }
 }
 
-// Appends the lines of a replica: how it stands, and what its service shows.
-fn add_replica<S: Service, E: Broadcast, C: Coin + Drop>(
+/// Appends the lines of a replica: how it stands, and what its service shows.
+pub(crate) fn add_replica<S: Service, E: Broadcast, C: Coin + Drop>(
     alloc: Global,
     text: &mut String,
     i: u8,
@@ -209,27 +207,6 @@ fn add_replica<S: Service, E: Broadcast, C: Coin + Drop>(
     let line = replica_line(alloc, i, replica.sent(), core.inbox_len(), core.held())?;
     text.push_str(line.as_str())?;
     add_service(alloc, text, replica)?;
-    Ok(())
-}
-
-// Appends the lines of the correct replicas of a world, of n.
-fn add_replicas<S: Service, E: Broadcast, C: Coin + Drop>(
-    alloc: Global,
-    text: &mut String,
-    world: &World<S, E, C>,
-    n: u8,
-) -> Result<(), AllocError>
-    ensures { let m = meaning S.stands S.rules S.shown E.stands E.rules E.shown C.bits (λ k. k.me) tags_of in
-        (w : Setting) (es : List Event) → WorldStands m world.now w es → n ≡ w.numbers.n → AreCoresOf S.rules E.rules w
-        → OnOk result (string_bytes text.new ≡ string_bytes text.old
-        ++ flat_map (replica_lines w es) (filter w.is_correct (range_with_len 0 w.numbers.n))) }
-{
-    for i in 0..n {
-        match world.replica(i) {
-            Some(replica) => add_replica(alloc, text, i, replica)?,
-            None => {}
-        }
-    }
     Ok(())
 }
 
@@ -248,8 +225,6 @@ pub(crate) fn report_text<S: Service, E: Broadcast>(
     let mut text = head_line(alloc, &x.header)?;
     let counts = count_line(alloc, x.world.events(), &x.counts)?;
     text.push_str(counts.as_str())?;
-    add_replicas(alloc, &mut text, &x.world, x.header.p.n())?;
-    let last = audit_line(alloc, audit)?;
-    text.push_str(last.as_str())?;
+    add_rest(alloc, &mut text, Lines::Report, x, audit)?;
     Ok(text)
 }

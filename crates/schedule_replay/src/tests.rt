@@ -1,6 +1,7 @@
 use crate::{ReplayEnd, replay};
 use outside::{MemSink, MemSource};
 use ritas_base::What;
+use schedule_file::FileFault;
 use std::alloc::Global;
 use std::test::*;
 use world_model::Audit;
@@ -33,6 +34,14 @@ const FRAMES: &str =
 audit too many faulty
 ";
 
+// One replica in root service 5: an input, and turns until none is left.
+const DECIDES: &[u8] = b"RITS\x01\0\0\0\0\0\0\0\0\x01\0\x05\x01\0\0\0\x01\0\
+\0\0\0\0\0\0\0\0\0\0\0\0\0\0\0\0\0\0\0\0\0\0\0\0\0\0\0\0\0\0\0\0\x02\0\0\x01a\
+\x03\0\x03\0\x03\0\x03\0\x03\0\x03\0\x03\0\x03\0\x03\0\x03\0\x03\0\x03\0\x03\0\x03\0\
+\x03\0\x03\0\x03\0\x03\0\x03\0\x03\0\x03\0\x03\0\x03\0\x03\0\x03\0\x03\0\x03\0\x03\0\0";
+
+const VECTORS: &str = "vector 0 0 0 00000001000161\naudit holds\n";
+
 // The end of a file's replay, where the text is this one.
 fn end(alloc: Global, file: &[u8], what: What, text: &str) -> Result<Option<ReplayEnd>, Fail> {
     let mut src = MemSource::new(alloc, file, &[])?;
@@ -55,5 +64,18 @@ fn replays_with_ample_memory(rt: HostRuntime) -> Result<(), Fail> {
             );
         }
     }
+    Ok(())
+}
+
+#[test]
+fn shows_a_vector(rt: HostRuntime) -> Result<(), Fail> {
+    assert_eq!(rt;
+        end(rt.alloc(), DECIDES, What::Vectors, VECTORS)?,
+        Some(ReplayEnd::Done(Audit::Holds))
+    );
+    assert_eq!(rt;
+        end(rt.alloc(), OUTNUMBERED, What::Vectors, "")?,
+        Some(ReplayEnd::File(FileFault::Header(15)))
+    );
     Ok(())
 }

