@@ -1,5 +1,7 @@
 pub mod Headers
 pub mod Statuses
+pub mod Counts
+pub mod Asked
 pub mod Texts
 pub mod Ones
 pub mod Answering

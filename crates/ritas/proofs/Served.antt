@@ -1,7 +1,5 @@
 -- What the status of serving says.
-use Rattle.std.proofs.Common.{◌≡◌, ◌≢◌, ℕ, ◌≤◌, List, [], ◌∷◌, sym, ◌∙◌, inl, inr, subst, arith}
-use Rattle.outside.specs.Faults.{Rose}
-use Rattle.outside.specs.FaultsLaws.{rose_once}
+use Rattle.std.proofs.Common.{◌≡◌, ◌≢◌, ℕ, ◌≤◌, List, [], ◌∷◌, refl, sym, ◌∙◌, inl, inr, subst, arith}
 use Rattle.outside.specs.Links.{LinkAct, Gives}
 use Rattle.outside.specs.declared.link.LinkItem.{LinkItem}
 use Rattle.outside.specs.declared.link.LinkItem.TheVariants as items
@@ -16,8 +14,10 @@ use Rattle.node_loop.specs.Serving.{Serving, Want, after}
 use Rattle.node_session.specs.declared.session.Session.{Session}
 use Rattle.node_session.specs.Session.{SessionEnds, ServesSession}
 use Rattle.ritas.specs.Configs.{AnswersSession, Unserved, Served, HasServed, IsIdle}
-use Rattle.ritas.specs.Run.{Runs}
+use Rattle.schedule_replay.specs.Replay.{CountsIf}
+use Rattle.ritas.specs.Run.{LinkCounts, Runs}
 use Rattle.ritas.specs.Statuses.{end_status}
+use Rattle.ritas.proofs.Counts.{none_failed, one_failed, link_stood, link_failed, link_short}
 
 no_four : (end : ServeEnd) → end_status end ≢ 4
 no_four ends.Done e = omega (arith, e)
@@ -43,39 +43,37 @@ low ends.LinkFault = omega arith
 low ends.TapeFault = omega arith
 low ends.Mem = omega arith
 
-output_rose : (h : Header) (plan : LinkPlan) (tells : Tells) (base now : Outs) (end : ServeEnd) (s : Serving) (sooner news : List LinkAct) (rule : Want) → SessionEnds h plan tells base now end s sooner news rule
-    → end_status end ≡ 5 → Rose base.tape_faults now.tape_faults
-output_rose h plan tells base now ends.Done s sooner news rule so e = absurd (omega (arith, e))
-output_rose h plan tells base now ends.Limit s sooner news rule so e = absurd (omega (arith, e))
-output_rose h plan tells base now ends.End s sooner news rule so e = absurd (omega (arith, e))
-output_rose h plan tells base now ends.LinkFault s sooner news rule so e = absurd (omega (arith, e))
-output_rose h plan tells base now ends.TapeFault s sooner news rule so e = rw so.0.0 (rose_once base.tape_faults)
-output_rose h plan tells base now ends.Mem s sooner news rule so e = absurd (omega (arith, e))
+tape_counts : (h : Header) (plan : LinkPlan) (tells : Tells) (base now : Outs) (end : ServeEnd) (s : Serving) (sooner news : List LinkAct) (rule : Want) → SessionEnds h plan tells base now end s sooner news rule
+    → CountsIf base.tape_faults now.tape_faults (end_status end ≡ 5)
+tape_counts h plan tells base now ends.Done s sooner news rule so = none_failed _ _ (λ e. omega (arith, e)) so.1.none_failed.0
+tape_counts h plan tells base now ends.Limit s sooner news rule so = none_failed _ _ (λ e. omega (arith, e)) so.1.none_failed.0
+tape_counts h plan tells base now ends.End s sooner news rule so = none_failed _ _ (λ e. omega (arith, e)) so.1.none_failed.0
+tape_counts h plan tells base now ends.LinkFault s sooner news rule so = none_failed _ _ (λ e. omega (arith, e)) so.0.0
+tape_counts h plan tells base now ends.TapeFault s sooner news rule so = one_failed _ _ refl so.0.0
+tape_counts h plan tells base now ends.Mem s sooner news rule so = none_failed _ _ (λ e. omega (arith, e)) so.0.0
 
-link_rose : (h : Header) (plan : LinkPlan) (tells : Tells) (base now : Outs) (end : ServeEnd) (s : Serving) (sooner news : List LinkAct) (rule : Want) → SessionEnds h plan tells base now end s sooner news rule
-    → end_status end ≡ 6 → Rose base.link_faults now.link_faults
-link_rose h plan tells base now ends.Done s sooner news rule so e = absurd (omega (arith, e))
-link_rose h plan tells base now ends.Limit s sooner news rule so e = absurd (omega (arith, e))
-link_rose h plan tells base now ends.End s sooner news rule so e = absurd (omega (arith, e))
-link_rose h plan tells base now ends.LinkFault s sooner news rule so e = rw so.0.1 (rose_once base.link_faults)
-link_rose h plan tells base now ends.TapeFault s sooner news rule so e = absurd (omega (arith, e))
-link_rose h plan tells base now ends.Mem s sooner news rule so e = absurd (omega (arith, e))
+link_counts : (h : Header) (plan : LinkPlan) (tells : Tells) (base now : Outs) (end : ServeEnd) (s : Serving) (sooner news : List LinkAct) (rule : Want) → SessionEnds h plan tells base now end s sooner news rule
+    → LinkCounts base.link_faults now.link_faults (end_status end)
+link_counts h plan tells base now ends.Done s sooner news rule so = link_stood _ _ 0 (λ e. omega (arith, e)) so.1.none_failed.1
+link_counts h plan tells base now ends.Limit s sooner news rule so = link_stood _ _ 0 (λ e. omega (arith, e)) so.1.none_failed.1
+link_counts h plan tells base now ends.End s sooner news rule so = link_stood _ _ 0 (λ e. omega (arith, e)) so.1.none_failed.1
+link_counts h plan tells base now ends.LinkFault s sooner news rule so = link_failed _ _ 6 refl so.0.1
+link_counts h plan tells base now ends.TapeFault s sooner news rule so = link_stood _ _ 5 (λ e. omega (arith, e)) so.0.1
+link_counts h plan tells base now ends.Mem s sooner news rule so = link_short _ _ 8 refl so.0.1
 
--- a session that was served gives these causes
+-- a session that was served gives these counts
 pub session_runs : {K : Type 0} (faults : K → ℕ) (old new : K) (session : Session) (first : List LinkItem) (w : Setting) (tells : Tells) (base now : Outs) (end : ServeEnd)
     → base.tape_faults ≡ faults old → now.tape_faults ≡ faults new → ServesSession session first w tells base now end
     → Runs faults old new base.link_faults now.link_faults (end_status end)
 session_runs faults old new session first w tells base now end before later serves = record {
   ends = record {
     listed = low end;
-    later = omega (arith, serves.tape_later, before, later);
-    output_fault = λ e.
-        let rose = output_rose session.header session.plan tells base now end _ _ _ _ serves.so e in
-        subst (λ (n : ℕ). Rose (faults old) n) later (subst (λ (n : ℕ). Rose n now.tape_faults) before rose);
+    counts =
+        let counts = tape_counts session.header session.plan tells base now end _ _ _ _ serves.so in
+        subst (λ (n : ℕ). CountsIf (faults old) n (end_status end ≡ 5)) later (subst (λ (n : ℕ). CountsIf n now.tape_faults (end_status end ≡ 5)) before counts);
     unread = λ e. absurd (no_four end e);
   };
-  link_later = serves.link_later;
-  link_fault = λ e. link_rose session.header session.plan tells base now end _ _ _ _ serves.so e;
+  link_counts = link_counts session.header session.plan tells base now end _ _ _ _ serves.so;
   words_are_right = no_two end;
 }
 

@@ -1,5 +1,5 @@
 -- What is answered to the configuration of a job.
-use Rattle.std.specs.Prelude.{◌≡◌, ◌⊎◌, ◌≤◌, ◌<◌, ℕ, List, [], map, length, Bool, Ok, Err}
+use Rattle.std.specs.Prelude.{◌≡◌, ◌≢◌, ◌⊎◌, ◌≤◌, ◌<◌, ◌+◌, ℕ, List, [], map, length, Bool, Ok, Err}
 use Rattle.outside.specs.declared.whole.ReadFault.{ReadFault}
 use Rattle.outside.specs.declared.whole.ReadFault.TheVariants as read_faults
 use Rattle.outside.specs.declared.link.LinkItem.{LinkItem}
@@ -26,7 +26,7 @@ use Rattle.node_loop.specs.declared.end.ServeEnd.{ServeEnd}
 use Rattle.node_loop.specs.Outs.{Outs, Tells}
 use Rattle.node_session.specs.Configs.{node_session, cluster_session, first_item}
 use Rattle.node_session.specs.declared.session.Session.{Session}
-use Rattle.node_session.specs.Session.{TookAll, IsSession, ServesSession}
+use Rattle.node_session.specs.Session.{TookAll, IsTrueSession, ServesSession}
 use Rattle.request_submit.specs.declared.end.SubmitEnd.{SubmitEnd}
 use Rattle.request_submit.specs.Submitting.{Submits}
 use Rattle.ritas.specs.Drives.{AnswersPlan}
@@ -54,6 +54,14 @@ RefusesText tells taken old new status read_faults.TooLong = Replies tells taken
 RefusesText tells taken old new status read_faults.Failed = (status ≡ 4) × (new ≡ old)
 RefusesText tells taken old new status read_faults.Mem = (status ≡ 8) × (new ≡ old)
 
+-- ---- what is read
+
+-- What a job took of an input that has the text of its configuration: at most one byte more than a configuration may have, and all of a text
+-- within that limit, unless the input failed or memory ran out.
+pub record TakesText (old new : List ℕ) (status : ℕ) : Type 0 where
+  pub most : length old ≤ length new + text_limit + 1
+  pub all : length old ≤ text_limit → status ≢ 4 → status ≢ 8 → new ≡ []
+
 -- ---- what comes of a configuration
 
 -- the input failed, or memory ran out
@@ -79,7 +87,7 @@ pub record HasServed (session : Session) (tells : Tells) (base now : Outs) : Typ
   pub events : List Event
   pub acts : List LinkAct
   pub took : TookAll session.header session.plan tells base now events acts
-  pub true_of : IsSession session.header (setting_of session.header) events acts
+  pub true_of : IsTrueSession session.header (setting_of session.header) events acts
 
 -- ---- each job that reads a configuration
 

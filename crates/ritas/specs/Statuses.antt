@@ -28,7 +28,7 @@ status_of h es = audit_status (audit_of (setting_of h) es)
 -- ---- what is written where no schedule was replayed
 
 abbrev pub usage : List ℕ
-usage = codes "usage: ritas replay report|frames, drive report|schedule, keys, node, cluster, submit" ++ end_of_line
+usage = codes "usage: ritas replay report|frames|vectors, drive report|schedule, keys, node, cluster, submit" ++ end_of_line
 
 abbrev pub placed : List ℕ → ℕ → List ℕ
 placed name place = codes "input " ++ (name ++ (codes " at " ++ (decimal place ++ end_of_line)))

@@ -1,11 +1,11 @@
 //! The jobs that read a configuration.
 ghost use Rattle.std.specs.Prelude.{◌≡◌, ◌≢◌, ◌≤◌, length, true, false};
-ghost use Rattle.outside.specs.Faults.{Rose};
 ghost use Rattle.ritas_base.specs.declared.what.What.{What};
 ghost use Rattle.ritas_base.specs.declared.what.DriveWhat.{DriveWhat};
 ghost use Rattle.node_loop.specs.Outs.{outs_of};
-ghost use Rattle.ritas.specs.Configs.{AnswersConfig, AnswersJob, DrivesPlan, FitsConfig, IsDrive};
-ghost use Rattle.ritas.specs.Run.{Ends, Runs, is_linked};
+ghost use Rattle.ritas.specs.Configs.{AnswersConfig, AnswersJob, DrivesPlan, FitsConfig, IsDrive, TakesText};
+ghost use Rattle.schedule_replay.specs.Replay.{CountsIf};
+ghost use Rattle.ritas.specs.Run.{Ends, LeavesLink, Runs, is_linked};
 ghost use Rattle.ritas.specs.Statuses.{text_limit};
 
 use crate::drives::make;
@@ -50,7 +50,7 @@ fn do_config<R: Net + Wait, K: Sink, L: Link>(
     ensures answers { AnswersConfig (record { tape = K.tells; link = L.tells }) K.taken output.old output.new
         (outs_of K.taken K.faults L.told L.faults output.old link.old)
         (outs_of K.taken K.faults L.told L.faults output.new link.new)
-        (link.new ≡ link.old) result job config }
+        (LeavesLink link.old link.new result) result job config }
 {
     match config {
         Config::Drive(plan) => drive_plan(alloc, job, &plan, output),
@@ -77,8 +77,8 @@ fn do_text<R: Net + Wait, K: Sink, L: Link>(
     ensures answers { AnswersJob (record { tape = K.tells; link = L.tells }) K.taken output.old output.new
         (outs_of K.taken K.faults L.told L.faults output.old link.old)
         (outs_of K.taken K.faults L.told L.faults output.new link.new)
-        (link.new ≡ link.old) result text.now job }
-    ensures unlinked { is_linked job ≡ false → link.new ≡ link.old }
+        (LeavesLink link.old link.new result) result text.now job }
+    ensures unlinked { is_linked job ≡ false → LeavesLink link.old link.new result }
     ensures undriven { (what : DriveWhat) → job ≡ Job.Drive what → result ≡ 8 → output.new ≡ output.old }
 {
     config_ranges();
@@ -99,12 +99,13 @@ pub(crate) fn do_read<R: Net + Wait, S: Source, K: Sink, L: Link>(
 ) -> u8
     requires { (what : What) → job ≢ Job.Replay what }
     ensures runs { Runs K.faults output.old output.new (L.faults link.old) (L.faults link.new) result }
-    ensures input_fault { result ≡ 4 → Rose (S.faults input.old) (S.faults input.new) }
+    ensures input_counts { CountsIf (S.faults input.old) (S.faults input.new) (result ≡ 4) }
+    ensures taken { S.tells ≡ true → TakesText (S.left input.old) (S.left input.new) result }
     ensures answers { S.tells ≡ true → AnswersJob (record { tape = K.tells; link = L.tells }) K.taken output.old output.new
         (outs_of K.taken K.faults L.told L.faults output.old link.old)
         (outs_of K.taken K.faults L.told L.faults output.new link.new)
-        (link.new ≡ link.old) result (S.left input.old) job }
-    ensures unlinked { is_linked job ≡ false → link.new ≡ link.old }
+        (LeavesLink link.old link.new result) result (S.left input.old) job }
+    ensures unlinked { is_linked job ≡ false → LeavesLink link.old link.new result }
     ensures undriven { (what : DriveWhat) → job ≡ Job.Drive what → result ≡ 8 → output.new ≡ output.old }
 {
     match read_whole(alloc, input, TEXT_LIMIT) {

@@ -4,6 +4,8 @@
 
 mod configs;
 mod drives;
+#[cfg(test)]
+mod fault_tests;
 mod keys;
 mod lines;
 mod refusals;

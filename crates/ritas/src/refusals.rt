@@ -1,5 +1,5 @@
 //! The lines that are written of what is refused.
-ghost use Rattle.std.specs.Prelude.{◌≡◌, ◌≢◌};
+ghost use Rattle.std.specs.Prelude.{◌≡◌, ◌≢◌, ◌↔◌};
 ghost use Rattle.ritas.specs.Run.{Ends, Replies};
 ghost use Rattle.ritas.specs.Configs.{RefusesConfig, RefusesText};
 ghost use Rattle.ritas.specs.Statuses.{limit_text, line_text};
@@ -53,7 +53,7 @@ pub(crate) fn refuse_config<K: Sink>(alloc: Global, output: &mut K, fault: Confi
 pub(crate) fn refuse_text<K: Sink>(alloc: Global, output: &mut K, fault: ReadFault) -> u8
     ensures ends { Ends K.faults output.old output.new result }
     ensures refuses { RefusesText K.tells K.taken output.old output.new result fault }
-    ensures input_fault { result ≡ 4 → fault ≡ ReadFault.Failed }
+    ensures input { (result ≡ 4) ↔ (fault ≡ ReadFault.Failed) }
     ensures others { (result ≢ 2) × (result ≢ 6) }
     ensures wanting { result ≡ 8 → output.new ≡ output.old }
 {

@@ -1,8 +1,8 @@
 //! Handing in a request.
-ghost use Rattle.std.specs.Prelude.{◌≡◌, ◌≢◌, IfOk, string_bytes};
+ghost use Rattle.std.specs.Prelude.{◌≡◌, ◌≢◌, ◌↔◌, IfOk, string_bytes};
 ghost use Rattle.node_loop.specs.Outs.{outs_of};
 ghost use Rattle.ritas.specs.Configs.{AnswersSubmit};
-ghost use Rattle.ritas.specs.Run.{Ends, Replies, Runs};
+ghost use Rattle.ritas.specs.Run.{Ends, LeavesLink, Replies, Runs};
 ghost use Rattle.ritas.specs.Statuses.{submit_status, submit_text};
 
 use crate::run::finish;
@@ -36,7 +36,8 @@ fn write_position<K: Sink>(alloc: Global, output: &mut K, position: u32) -> u8
 fn write_end<K: Sink>(alloc: Global, output: &mut K, end: SubmitEnd) -> u8
     ensures ends { Ends K.faults output.old output.new result }
     ensures replies { Replies K.tells K.taken output.old output.new result (submit_status end) (submit_text end) }
-    ensures link_fault { result ≡ 6 → end ≡ SubmitEnd.LinkFault }
+    ensures link { (result ≡ 6) ↔ (end ≡ SubmitEnd.LinkFault) }
+    ensures memory { end ≡ SubmitEnd.Mem → result ≡ 8 }
     ensures others { (result ≢ 2) × (result ≢ 4) }
 {
     match end {
@@ -60,7 +61,7 @@ pub(crate) fn run_submit<R: Net + Wait, K: Sink, L: Link>(
     ensures answers { AnswersSubmit config.now (record { tape = K.tells; link = L.tells }) K.taken output.old output.new
         (outs_of K.taken K.faults L.told L.faults output.old link.old)
         (outs_of K.taken K.faults L.told L.faults output.new link.new)
-        ((output.new ≡ output.old) × (link.new ≡ link.old)) result }
+        ((output.new ≡ output.old) × LeavesLink link.old link.new result) result }
 {
     let request = &config.request;
     let end = submit(

@@ -1,7 +1,7 @@
 //! What a run does, and the status that it ends with.
-ghost use Rattle.std.specs.Prelude.{◌≡◌, ◌≢◌, ◌⊎◌, ◌≤◌, ◌↔◌, false, true, List, map, length, Some, None, Ok, string_bytes};
-ghost use Rattle.outside.specs.Faults.{Rose};
+ghost use Rattle.std.specs.Prelude.{◌≡◌, ◌≢◌, ◌⊎◌, ◌≤◌, ◌↔◌, false, true, List, [], map, length, Some, None, Ok, string_bytes, codes};
 ghost use Rattle.ritas_base.specs.declared.event.Event.{Event};
+ghost use Rattle.ritas_base.specs.Members.{has_member};
 ghost use Rattle.schedule_file.specs.declared.fault.FileFault.TheVariants.{Read};
 ghost use Rattle.schedule_file.specs.declared.header.Header.{Header};
 ghost use Rattle.schedule_file.specs.FileBytes.{is_outside};
@@ -11,7 +11,7 @@ ghost use Rattle.schedule_file.specs.Schedule.{file_of};
 ghost use Rattle.schedule_file.specs.Spelling.{IsFile};
 ghost use Rattle.world_model.specs.Agree.{Agree};
 ghost use Rattle.ritas_base.specs.declared.what.What.{What};
-ghost use Rattle.ritas_base.specs.declared.what.What.TheVariants.{Report};
+ghost use Rattle.ritas_base.specs.declared.what.What.TheVariants.{Frames, Vectors};
 ghost use Rattle.ritas_base.specs.declared.what.DriveWhat.{DriveWhat};
 ghost use Rattle.ritas_base.specs.declared.plan.Plan.{Plan};
 ghost use Rattle.cluster_config.specs.declared.job.Job.{Job};
@@ -19,17 +19,18 @@ ghost use Rattle.cluster_config.specs.Columns.{IsText};
 ghost use Rattle.cluster_config.specs.Drive.{drive_column, planned};
 ghost use Rattle.cluster_config.specs.Words.{job_of};
 ghost use Rattle.schedule_replay.specs.Layers.{setting_of};
-ghost use Rattle.schedule_replay.specs.Replay.{text};
+ghost use Rattle.schedule_replay.specs.Replay.{CountsIf, text, has_text, asked_of};
+ghost use Rattle.schedule_replay.specs.Vectors.{vectors_text, VectorsAgree};
 ghost use Rattle.cluster_config.specs.declared.cluster.ClusterConfig.{ClusterConfig};
 ghost use Rattle.cluster_config.specs.declared.node.NodeConfig.{NodeConfig};
 ghost use Rattle.cluster_config.specs.Cluster.{cluster_column, cluster_text};
 ghost use Rattle.cluster_config.specs.Node.{node_column, node_text};
 ghost use Rattle.node_loop.specs.Outs.{outs_of};
 ghost use Rattle.node_session.specs.Configs.{node_session, cluster_session};
-ghost use Rattle.ritas.specs.Run.{Asks, IsReplay, is_linked, IsStatus, IsOwn, Ends, Replays, Runs, Replies, AnswersFile};
-ghost use Rattle.ritas.specs.Configs.{AnswersJob, HasServed};
+ghost use Rattle.ritas.specs.Run.{Asks, IsReplay, is_linked, IsStatus, IsOwn, LinkCounts, LeavesLink, Ends, Replays, Runs, Replies, AnswersFile, WroteVectors};
+ghost use Rattle.ritas.specs.Configs.{AnswersJob, HasServed, TakesText};
 ghost use Rattle.ritas.specs.Drives.{AnswersPlan};
-ghost use Rattle.ritas.specs.Statuses.{usage, text_limit, status_of, fault_text, fault_status};
+ghost use Rattle.ritas.specs.Statuses.{usage, text_limit, status_of, placed, fault_text, fault_status};
 
 use crate::configs::do_read;
 use crate::lines::{audit_status, fault_status, fault_text};
@@ -43,7 +44,7 @@ use std::net::Net;
 use std::sync::Wait;
 
 const USAGE: &[u8] =
-    b"usage: ritas replay report|frames, drive report|schedule, keys, node, cluster, submit\n";
+    b"usage: ritas replay report|frames|vectors, drive report|schedule, keys, node, cluster, submit\n";
 
 /// Writes a text and gives a status, or 5 where the output failed.
 pub(crate) fn finish<K: Sink>(output: &mut K, text: &[u8], status: u8) -> u8
@@ -64,7 +65,7 @@ fn refuse<K: Sink>(alloc: Global, output: &mut K, fault: FileFault) -> u8
     requires { is_outside fault ≡ false }
     ensures ends { Ends K.faults output.old output.new result }
     ensures replies { Replies K.tells K.taken output.old output.new result (fault_status fault) (fault_text fault) }
-    ensures others { (result ≢ 0) × (result ≢ 2) × (result ≢ 4) × (result ≢ 6) }
+    ensures others { (result ≢ 0) × (result ≢ 1) × (result ≢ 2) × (result ≢ 4) × (result ≢ 6) }
     ensures wanting { result ≡ 8 → output.new ≡ output.old }
 {
     match fault_text(alloc, fault) {
@@ -78,7 +79,7 @@ fn give_up<K: Sink>(alloc: Global, output: &mut K, fault: FileFault) -> u8
     ensures ends { Ends K.faults output.old output.new result }
     ensures replies { Replies K.tells K.taken output.old output.new result (fault_status fault) (fault_text fault) }
     ensures read { (result ≡ 4) ↔ (fault ≡ Read) }
-    ensures others { (result ≢ 0) × (result ≢ 2) × (result ≢ 6) }
+    ensures others { (result ≢ 0) × (result ≢ 1) × (result ≢ 2) × (result ≢ 6) }
     ensures wanting { result ≡ 8 → output.new ≡ output.old }
 {
     match fault {
@@ -94,7 +95,11 @@ fn reply<S: Source, K: Sink>(alloc: Global, input: &mut S, output: &mut K, what:
     ensures answers { S.tells ≡ true
         → AnswersFile K.tells K.taken output.old output.new what result (file_of (S.left input.old)) }
     ensures agree { S.tells ≡ true → result ≡ 0 → (h : Header) (es : List Event)
-        → file_of (S.left input.old) ≡ Ok (heading h, es) → Agree (setting_of h) es }
+        → asked_of what (file_of (S.left input.old)) ≡ Ok (heading h, es) → Agree (setting_of h) es }
+    ensures vectors { what ≡ Vectors → S.tells ≡ true → result ≡ 0 → (h : Header) (es : List Event)
+        → asked_of what (file_of (S.left input.old)) ≡ Ok (heading h, es)
+        → VectorsAgree (has_member h.correct) h.p.n (vectors_text h es) }
+    ensures taken { S.tells ≡ true → result ≤ 1 → S.left input.new ≡ [] }
 {
     match replay(alloc, input, output, what) {
         ReplayEnd::Done(audit) => audit_status(audit),
@@ -127,17 +132,23 @@ fn work<R: Net + Wait, S: Source, K: Sink, L: Link>(
     link: &mut L,
 ) -> u8
     ensures runs { Runs K.faults output.old output.new (L.faults link.old) (L.faults link.new) result }
-    ensures input_fault { result ≡ 4 → Rose (S.faults input.old) (S.faults input.new) }
-    ensures unlinked { is_linked job ≡ false → link.new ≡ link.old }
-    ensures wanting { job ≡ Job.Replay Report → result ≡ 8 → output.new ≡ output.old }
+    ensures input_counts { CountsIf (S.faults input.old) (S.faults input.new) (result ≡ 4) }
+    ensures unlinked { is_linked job ≡ false → LeavesLink link.old link.new result }
+    ensures wanting { (what : What) → job ≡ Job.Replay what → what ≢ Frames → result ≡ 8 → output.new ≡ output.old }
     ensures answers { (what : What) → job ≡ Job.Replay what → S.tells ≡ true
         → AnswersFile K.tells K.taken output.old output.new what result (file_of (S.left input.old)) }
     ensures agree { (what : What) → job ≡ Job.Replay what → S.tells ≡ true → result ≡ 0 → (h : Header) (es : List Event)
-        → file_of (S.left input.old) ≡ Ok (heading h, es) → Agree (setting_of h) es }
+        → asked_of what (file_of (S.left input.old)) ≡ Ok (heading h, es) → Agree (setting_of h) es }
+    ensures vectors { (what : What) → job ≡ Job.Replay what → what ≡ Vectors → S.tells ≡ true → result ≡ 0 → (h : Header) (es : List Event)
+        → asked_of what (file_of (S.left input.old)) ≡ Ok (heading h, es)
+        → VectorsAgree (has_member h.correct) h.p.n (vectors_text h es) }
+    ensures replayed { (what : What) → job ≡ Job.Replay what → S.tells ≡ true → result ≤ 1 → S.left input.new ≡ [] }
+    ensures taken { ((what : What) → job ≢ Job.Replay what) → S.tells ≡ true
+        → TakesText (S.left input.old) (S.left input.new) result }
     ensures configured { S.tells ≡ true → AnswersJob (record { tape = K.tells; link = L.tells }) K.taken output.old output.new
         (outs_of K.taken K.faults L.told L.faults output.old link.old)
         (outs_of K.taken K.faults L.told L.faults output.new link.new)
-        (link.new ≡ link.old) result (S.left input.old) job }
+        (LeavesLink link.old link.new result) result (S.left input.old) job }
     ensures undriven { (what : DriveWhat) → job ≡ Job.Drive what → result ≡ 8 → output.new ≡ output.old }
 {
     match job {
@@ -152,8 +163,9 @@ fn work<R: Net + Wait, S: Source, K: Sink, L: Link>(
 ///
 /// - `replay report` reads a schedule file from the input, to its end, lets its events happen to a world of replicas as it is read, and
 ///   then writes a report. `replay frames` does the same, and then writes a line for each frame that a correct replica made, in the order
-///   of events and within an event in the order in which they were put out, and the line of the audit. It is 0 where the audit of the
-///   world holds, and 1 where it doesn't.
+///   of events and within an event in the order in which they were put out, and the line of the audit. `replay vectors` writes a line for
+///   each correct replica, with the last vector that it decided, and the line of the audit; of a file without a fault whose root service
+///   isn't 5 or 6, the line that names it at 15, with 3. It is 0 where the audit of the world holds, and 1 where it doesn't.
 /// - `drive report` reads a plan, makes its schedule, honest or hostile, in a world of replicas and of faces of faulty ones, and writes
 ///   the report of that world; `drive schedule` writes the schedule's file. It is 0 or 1 by the audit.
 /// - `keys` deals the keys of all replicas of a session from a master key, and writes a line for each.
@@ -165,16 +177,21 @@ fn work<R: Net + Wait, S: Source, K: Sink, L: Link>(
 /// A file that isn't a schedule is answered with a line that names its first fault and the place of it, and 3, or 7 for one
 /// that is longer than 64 MiB. A text that isn't the job's configuration is answered with a line that names its first wrong or missing
 /// line, and 3, or 7 for one that is longer than 1 MiB; a plan whose schedule would have more than 4,000,000 steps, or a file of more than
-/// 64 MiB, with a line that names that limit, and 7. Other words are answered with a line on usage, and 2. It is 4 where the
-/// input failed, and then nothing was written; 5 where the output failed, which took a front of the text; 6 where the link failed; and 8
-/// where memory ran out: then nothing was written of a report or of a schedule that was made, and a front of frames or of what was served.
+/// 64 MiB, with a line that names that limit, and 7. Other words are answered with a line on usage, and 2. It is 4 where a call of
+/// the input failed, and then nothing was written; 5 where one of the output failed, which took a front of the text; and 6 where one of the
+/// link failed, which only `node`, `cluster` and `submit` use. By its count of faults just one call failed then, and none at any other
+/// status. It is 8 where memory ran out: then nothing was written of a report, of vectors or of a schedule that was made, and a front of
+/// frames or of what was served.
+///
+/// Of a schedule all is read before 0 or 1, and of a configuration one byte more than 1 MiB at most.
 ///
 /// Where a schedule was replayed or made with 0, or what a cluster served has an audit that holds, correct replicas' logs of commands are
 /// prefixes of one list, with each command once: one row for each client
 /// and request. A correct replica's command stands there only if it was submitted there: the row has the client, the request
 /// and the payload of its input of that number. And no two correct replicas decided differently in any instance: at each slot
 /// all that delivered a value delivered the same one, of a correct replica what it started there, and so it is of what their
-/// one instance and each instance inside decided. A bit or a value that one of them decided was the input of a correct replica.
+/// one instance and each instance inside decided. A bit that one of them decided in root service 3 was an input of a correct replica,
+/// and so was a value in root service 4. No vector consensus of one of them is spent: `replay vectors` then has no line that says so.
 /// The broadcasts and binary consensus are those of Bracha, "Asynchronous Byzantine Agreement Protocols" (1987), vector
 /// consensus is that of Correia, Neves and Veríssimo, "From Consensus to Atomic Broadcast" (2006), and these and multi-valued
 /// consensus are those of Moniz, Neves, Correia and Veríssimo, "RITAS: Services for Randomized Intrusion Tolerance" (2011).
@@ -188,39 +205,53 @@ pub fn run<R: Net + Wait, S: Source, K: Sink, L: Link>(
     output: &mut K,
     link: &mut L,
 ) -> u8
-    // The status is one of nine. 5 comes only where the output failed, and at 4 nothing was written.
+    // The status is one of nine. One call of the output failed just at 5, and at 4 nothing was written.
     ensures ends { Ends K.faults output.old output.new result }
 
-    // 4 comes only where the input failed, and 6 only where the link failed.
-    ensures input_fault { result ≡ 4 → Rose (S.faults input.old) (S.faults input.new) }
-    ensures link_fault { result ≡ 6 → Rose (L.faults link.old) (L.faults link.new) }
+    // One call of the input failed just at 4, and one of the link just at 6. At most one of the link was without memory, and that only at 8.
+    ensures input_counts { CountsIf (S.faults input.old) (S.faults input.new) (result ≡ 4) }
+    ensures link_counts { LinkCounts (L.faults link.old) (L.faults link.new) result }
 
     // At words that name no job the usage line is written, with status 2, unless the output fails or memory runs out, and neither the input
-    // nor the link is touched. Only the jobs that serve or submit touch the link.
+    // nor the link is touched. Only the jobs that serve or submit touch the link, and only they end with 6.
     ensures usage { job_of (map string_bytes words.now.items) ≡ None
         → Replies K.tells K.taken output.old output.new result 2 usage }
     ensures others { job_of (map string_bytes words.now.items) ≡ None → (result ≡ 2) ⊎ (result ≡ 5) ⊎ (result ≡ 8) }
     ensures unread { job_of (map string_bytes words.now.items) ≡ None → (input.new ≡ input.old) × (link.new ≡ link.old) }
     ensures named { (job : Job) → job_of (map string_bytes words.now.items) ≡ Some job → result ≢ 2 }
-    ensures unlinked { (job : Job) → job_of (map string_bytes words.now.items) ≡ Some job → is_linked job ≡ false → link.new ≡ link.old }
+    ensures unlinked { (job : Job) → job_of (map string_bytes words.now.items) ≡ Some job → is_linked job ≡ false
+        → LeavesLink link.old link.new result }
 
     // Where a schedule is to be replayed, what is asked for of the file's world is written, with its status, or the line of the
-    // file's first fault. Where memory runs out for a report, nothing is written.
-    ensures wanting { Asks (map string_bytes words.now.items) Report → result ≡ 8 → output.new ≡ output.old }
+    // file's first fault. Where memory runs out, nothing is written of a report or of vectors. At 0 and 1 the input was read to its end.
+    ensures wanting { (what : What) → Asks (map string_bytes words.now.items) what → what ≢ Frames → result ≡ 8
+        → output.new ≡ output.old }
     ensures answers { (what : What) → Asks (map string_bytes words.now.items) what → S.tells ≡ true
         → AnswersFile K.tells K.taken output.old output.new what result (file_of (S.left input.old)) }
+    ensures to_its_end { IsReplay (map string_bytes words.now.items) → S.tells ≡ true → result ≤ 1 → S.left input.new ≡ [] }
 
-    // Each file of a header and events is replayed, and nothing else is.
+    // Each file of a header and events is replayed, and nothing else is; but vectors are written in root services 5 and 6 alone, and in the
+    // others the root service is named as the file's fault.
     ensures every { (what : What) → Asks (map string_bytes words.now.items) what → S.tells ≡ true → (h : Header) (es : List Event)
-        → IsFile (S.left input.old) (heading h) es
+        → IsFile (S.left input.old) (heading h) es → has_text what h.mode.root ≡ true
         → Replies K.tells K.taken output.old output.new result (status_of h es) (text what h es) }
-    ensures only { IsReplay (map string_bytes words.now.items) → S.tells ≡ true → IsBytes (S.left input.old) → result ≤ 1
-        → (h : Header) × (es : List Event) × IsFile (S.left input.old) (heading h) es × (result ≡ status_of h es) }
+    ensures without { (what : What) → Asks (map string_bytes words.now.items) what → S.tells ≡ true → (h : Header) (es : List Event)
+        → IsFile (S.left input.old) (heading h) es → has_text what h.mode.root ≡ false
+        → Replies K.tells K.taken output.old output.new result 3 (placed (codes "header") 15) }
+    ensures only { (what : What) → Asks (map string_bytes words.now.items) what → S.tells ≡ true → IsBytes (S.left input.old) → result ≤ 1
+        → (h : Header) × (es : List Event) × IsFile (S.left input.old) (heading h) es × (has_text what h.mode.root ≡ true)
+        × (result ≡ status_of h es) }
 
     // Where it is 0, the replicas agree: on their logs of commands, at each slot on one value, on the inputs of the correct
     // ones, and on what is decided.
     ensures agree { IsReplay (map string_bytes words.now.items) → S.tells ≡ true → IsBytes (S.left input.old) → result ≡ 0
         → (h : Header) (es : List Event) → IsFile (S.left input.old) (heading h) es → Agree (setting_of h) es }
+
+    // Where vectors are asked for and it is 0 or 1, the text of the last vectors was written. At 0, where its last line says that the audit
+    // holds, no line says that attempts are spent, and lines of one round are equal but for the replica.
+    ensures vectors { Asks (map string_bytes words.now.items) Vectors → S.tells ≡ true → IsBytes (S.left input.old) → result ≤ 1
+        → (h : Header) (es : List Event) → IsFile (S.left input.old) (heading h) es
+        → WroteVectors K.tells K.taken output.old output.new result h es }
 
     // Of the text of another job's configuration: what comes of what it says; of a text that isn't one, or is too long, the line of its
     // first fault, or of the limit, and the link isn't touched. A plan's schedule is written, or the line of the limit that it passes
@@ -229,9 +260,14 @@ pub fn run<R: Net + Wait, S: Source, K: Sink, L: Link>(
         → AnswersJob (record { tape = K.tells; link = L.tells }) K.taken output.old output.new
         (outs_of K.taken K.faults L.told L.faults output.old link.old)
         (outs_of K.taken K.faults L.told L.faults output.new link.new)
-        (link.new ≡ link.old) result (S.left input.old) job }
+        (LeavesLink link.old link.new result) result (S.left input.old) job }
     ensures undriven { (what : DriveWhat) → job_of (map string_bytes words.now.items) ≡ Some (Job.Drive what) → result ≡ 8
         → output.new ≡ output.old }
+
+    // Of such an input at most one byte more is read than a configuration may have, and all of a text within that limit, unless the input
+    // failed or memory ran out.
+    ensures taken { (job : Job) → job_of (map string_bytes words.now.items) ≡ Some job → ((what : What) → job ≢ Job.Replay what)
+        → S.tells ≡ true → TakesText (S.left input.old) (S.left input.new) result }
 
     // Each text of the lines of a plan is driven, line by line as they are written.
     ensures planned { (what : DriveWhat) → job_of (map string_bytes words.now.items) ≡ Some (Job.Drive what) → S.tells ≡ true → (p : Plan)

@@ -1,6 +1,7 @@
 ghost use Rattle.std.specs.Prelude.{◌<◌, ◌^◌, length, All, IfOk, OnOk};
 ghost use Rattle.outside.specs.MemoryLink.{IsShort};
 
+use crate::fault_tests::file;
 use crate::run::run;
 use outside::{LinkItem, MemLink, MemSink, MemSource};
 use ritas_base::{Bytes, Mem};
@@ -102,7 +103,12 @@ fn status<R: Net + Wait>(
     Ok(run(rt, alloc, &words, &mut input, output, link))
 }
 
-// The request is submitted once, makes thirty turns, and is replied to both connections.
+// A header, the request, which is submitted once and makes thirty turns, and the end mark.
+fn served(alloc: Global) -> Result<Vec<u8>, Fail> {
+    file(alloc, 6, 1, 87, b"\x02\0\0\x0a\0\0\0\x07\0\0\0\x01hi", 30)
+}
+
+// The request is replied to both connections.
 #[test]
 fn node_serves_a_request(rt: HostRuntime) -> Result<(), Fail> {
     let items = twice(rt.alloc())?;
@@ -112,16 +118,29 @@ fn node_serves_a_request(rt: HostRuntime) -> Result<(), Fail> {
         status(&rt, rt.alloc(), "node", NODE, &mut link, &mut output)?,
         0
     );
-    let file = output.taken();
+    let file = served(rt.alloc())?;
     assert_eq!(rt; file.len(), 162);
-    assert_eq!(rt;
-        &file[87..103],
-        b"\x02\0\0\x0a\0\0\0\x07\0\0\0\x01hi\x03\0".as_slice()
-    );
+    assert_eq!(rt; output.taken(), file.as_slice());
     assert_eq!(rt; link.replies().len(), 2);
     for (reply, conn) in link.replies().iter().zip([0, 1]) {
         assert!(rt; reply.at == 0 && reply.to == conn);
         assert_eq!(rt; reply.bytes.as_slice(), POSITION_0);
+    }
+    Ok(())
+}
+
+// The link is started, gives two messages and its end, and takes two replies: where one of these calls fails, the file ends early.
+#[test]
+fn each_call_of_the_link_fails(rt: HostRuntime) -> Result<(), Fail> {
+    let items = twice(rt.alloc())?;
+    let file = served(rt.alloc())?;
+    for call in 0..8u64 {
+        let mut link = MemLink::new(rt.alloc(), &items, &[call])?;
+        let mut output = MemSink::new(rt.alloc(), 1000, &[])?;
+        let ended = status(&rt, rt.alloc(), "node", NODE, &mut link, &mut output)?;
+        assert_eq!(rt; ended, if call < 6 { 6 } else { 0 });
+        assert_eq!(rt; output.taken().len() == 162, 6 <= call);
+        assert!(rt; file.starts_with(output.taken()));
     }
     Ok(())
 }

@@ -6,7 +6,7 @@ ghost use Rattle.cluster_config.specs.Ranges.{FitsNode, FitsCluster};
 ghost use Rattle.node_loop.specs.Outs.{outs_of};
 ghost use Rattle.node_session.specs.Configs.{node_session, cluster_session, first_item};
 ghost use Rattle.ritas.specs.Configs.{AnswersSession};
-ghost use Rattle.ritas.specs.Run.{Runs};
+ghost use Rattle.ritas.specs.Run.{LeavesLink, Runs};
 ghost use Rattle.ritas.specs.Statuses.{end_status};
 
 use cluster_config::{ClusterConfig, NodeConfig};
@@ -44,7 +44,7 @@ pub(crate) fn run_node<R: Net + Wait, K: Sink, L: Link>(
     ensures answers { AnswersSession (node_session config) [] (record { tape = K.tells; link = L.tells })
         (outs_of K.taken K.faults L.told L.faults output.old link.old)
         (outs_of K.taken K.faults L.told L.faults output.new link.new)
-        ((output.new ≡ output.old) × (link.new ≡ link.old)) result }
+        ((output.new ≡ output.old) × LeavesLink link.old link.new result) result }
 {
     match serve_node(rt, alloc, config, link, output) {
         Ok(end) => end_status(end),
@@ -66,7 +66,7 @@ pub(crate) fn run_cluster<R: Net + Wait, K: Sink, L: Link>(
     ensures answers { AnswersSession (cluster_session config) (map first_item config.requests) (record { tape = K.tells; link = L.tells })
         (outs_of K.taken K.faults L.told L.faults output.old link.old)
         (outs_of K.taken K.faults L.told L.faults output.new link.new)
-        ((output.new ≡ output.old) × (link.new ≡ link.old)) result }
+        ((output.new ≡ output.old) × LeavesLink link.old link.new result) result }
 {
     match serve_cluster(rt, alloc, config, link, output) {
         Ok(end) => end_status(end),

@@ -75,7 +75,7 @@ audit holds
 ";
 
 const USAGE: &str =
-    "usage: ritas replay report|frames, drive report|schedule, keys, node, cluster, submit\n";
+    "usage: ritas replay report|frames|vectors, drive report|schedule, keys, node, cluster, submit\n";
 
 // The command line `ritas replay` and another word.
 fn words(alloc: Global, second: &str) -> Result<Vec<String>, Fail> {
@@ -150,15 +150,7 @@ fn frames(rt: HostRuntime) -> Result<(), Fail> {
 }
 
 #[test]
-fn faults_and_other_words(rt: HostRuntime) -> Result<(), Fail> {
-    assert_eq!(rt;
-        status(&rt, rt.alloc(), "report", ALONE, 1000, &[0], "")?,
-        4
-    );
-    assert_eq!(rt;
-        status(&rt, rt.alloc(), "report", ALONE, 5, &[], "ritas")?,
-        5
-    );
+fn other_words(rt: HostRuntime) -> Result<(), Fail> {
     assert_eq!(rt;
         status(&rt, rt.alloc(), "rapport", ALONE, 1000, &[0], USAGE)?,
         2

@@ -1,6 +1,7 @@
 use Rattle.std.proofs.Common.{◌≤◌, length, Err, refl, ap, ◌∙◌, arith}
 use Rattle.ritas.specs.Statuses.{text_limit}
 use Rattle.ritas.proofs.Answering.{text_job, of_text}
+use Rattle.ritas.proofs.Counts.{text_counts, text_taken}
 use Rattle.ritas.proofs.Texts.{same_fault}
 use Rattle.ritas.proofs.configs.do_read.Goals as goal
 
@@ -18,4 +19,17 @@ returns-in-Ok-clause-answers g c = λ tells.
 pub returns-in-Err-clause-answers : goal.returns-in-Err-clause-answers
 returns-in-Err-clause-answers g c = λ tells.
     text_job _ g.K.Sink.taken c.args.output.now c.refuse_text.new.output _ _ _ c.refuse_text.result (g.S.Source.left c.args.input.now) c.args.job c.in-Err.fault
-    (λ failed memory long. (c.in-Err.ensures.too_long tells (λ e. failed (same_fault _ _ e)) (λ e. memory (same_fault _ _ e))).0 (ap Err long)) c.refuse_text.ensures.refuses refl
+    (λ failed memory long. (c.in-Err.ensures.too_long tells (λ e. failed (same_fault _ _ e)) (λ e. memory (same_fault _ _ e))).0 (ap Err long)) c.refuse_text.ensures.refuses (refl, c.refuse_text.ensures.others.1)
+
+pub returns-in-Ok-clause-taken : goal.returns-in-Ok-clause-taken
+unfolding text_limit
+returns-in-Ok-clause-taken g c = λ tells. record { most = c.in-Ok.ensures.taken tells; all = λ within four eight. c.in-Ok.ensures.end tells }
+
+pub returns-in-Err-clause-taken : goal.returns-in-Err-clause-taken
+returns-in-Err-clause-taken g c = λ tells.
+    text_taken _ g.K.Sink.taken c.args.output.now c.refuse_text.new.output c.refuse_text.result (g.S.Source.left c.args.input.now) _ c.in-Err.fault
+    (λ failed memory long. (c.in-Err.ensures.too_long tells (λ e. failed (same_fault _ _ e)) (λ e. memory (same_fault _ _ e))).0 (ap Err long)) c.refuse_text.ensures.refuses
+    (c.in-Err.ensures.taken tells)
+
+pub returns-in-Err-clause-input_counts : goal.returns-in-Err-clause-input_counts
+returns-in-Err-clause-input_counts g c = text_counts _ _ c.refuse_text.result c.in-Err.fault c.refuse_text.ensures.input c.in-Err.ensures.counts

@@ -30,4 +30,4 @@ pub returns-in-Err-clause-answers : goal.returns-in-Err-clause-answers
 returns-in-Err-clause-answers g c =
     let said = c.in-Err.ensures in
     fault_job _ g.K.Sink.taken c.args.output.now c.refuse_config.new.output _ _ _ c.refuse_config.result c.args.text.now c.args.job c.in-Err.fault
-    (reads_job c.args.job c.args.text.now (Err c.in-Err.fault) c.requires.job said.drive said.keys said.node said.cluster said.submit) c.requires.within c.refuse_config.ensures.refuses refl
+    (reads_job c.args.job c.args.text.now (Err c.in-Err.fault) c.requires.job said.drive said.keys said.node said.cluster said.submit) c.requires.within c.refuse_config.ensures.refuses (refl, c.refuse_config.ensures.others.2)

@@ -23,3 +23,8 @@ pub returns-in-Done-clause-agree : goal.returns-in-Done-clause-agree
 returns-in-Done-clause-agree g c = λ tells none h es file.
     let holds = holds_at_0 c.in-Done.audit (sym c.audit_status.ensures ∙ none) in
     ((c.replay.ensures.shows tells).shown h es file).agree (rw holds at c.in-Done.is)
+
+pub returns-in-Done-clause-vectors : goal.returns-in-Done-clause-vectors
+returns-in-Done-clause-vectors g c = λ asked tells none h es file.
+    let holds = holds_at_0 c.in-Done.audit (sym c.audit_status.ensures ∙ none) in
+    rw asked at (((c.replay.ensures.shows tells).shown h es file).vectors asked (rw holds at c.in-Done.is))
