@@ -1,0 +1,23 @@
+"""What the scripts of this folder have in common: the program, by way of `serving`, and how they tell what is wrong."""
+import os
+import sys
+
+sys.path.append(os.path.join(os.path.dirname(os.path.dirname(os.path.abspath(__file__))), "examples"))
+import serving  # noqa: E402
+
+
+def tell(rows) -> int:
+    """Prints each row that something is wrong with, and then how many passed. Rows are pairs of a name and what is wrong, or nothing.
+
+    The program is built first where it isn't built. The result is an exit status.
+    """
+    if not serving.is_built():
+        print("the program isn't built")
+        return 1
+    passed = failed = 0
+    for name, wrong in rows:
+        passed, failed = passed + (not wrong), failed + bool(wrong)
+        if wrong:
+            print(f"{name}: {wrong}", flush=True)
+    print(f"{passed} passed, {failed} failed")
+    return 0 if passed and not failed else 1
