@@ -17,6 +17,8 @@ PATIENCE = 30
 KEY_DIGITS = 64
 END_MARK = b"\x00"
 FORM_AT, N_AT, MASTER_HEADER = 21, 13, 54
+# The events that have no length of their own.
+SIZES = {3: 2, 4: 7}
 
 
 def run(text: bytes, *words: str, seconds: float = 120):
@@ -123,11 +125,12 @@ class Node:
 
 
 def event_end(text: bytes, at: int) -> int:
-    """Where the event at this offset of a record ends; past the text's end where it isn't whole."""
-    head = text[at : at + 4]
-    if head[0] == 3:
-        return at + 2
-    return at + 4 + int.from_bytes(head[2:], "big") if len(head) == 4 else at + 4
+    """Where the event at this offset of a schedule file ends; past the text's end where it isn't whole."""
+    kind = text[at]
+    if kind in SIZES:
+        return at + SIZES[kind]
+    front = at + (5 if kind == 5 else 4)
+    return front + int.from_bytes(text[front - 2 : front], "big") if len(text) >= front else front
 
 
 def header_end(text: bytes) -> int:
@@ -149,6 +152,16 @@ def completed(text: bytes) -> bytes:
             break
         end = following
     return text[:end] + END_MARK
+
+
+def events_of(text: bytes) -> list:
+    """The events of a whole schedule file, without the end mark."""
+    events, at = [], header_end(text)
+    while text[at] != 0:
+        end = event_end(text, at)
+        events.append(text[at:end])
+        at = end
+    return events
 
 
 def report_of(record: bytes) -> bytes:
