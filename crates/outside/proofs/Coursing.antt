@@ -89,7 +89,9 @@ ended_more (item.End ∷ left) given ended has = refl
 ended_more (item.Frame to bytes ∷ left) given ended has = contains_cons _ _ given _ (λ e. absurd cc) (λ h. absurd cc (ended h)) has
 ended_more (item.Client at conn bytes ∷ left) given ended has = contains_cons _ _ given _ (λ e. absurd cc) (λ h. absurd cc (ended h)) has
 ended_more (item.Reply from bytes ∷ left) given ended has = contains_cons _ _ given _ (λ e. absurd cc) (λ h. absurd cc (ended h)) has
+ended_more (item.Up at peer ∷ left) given ended has = contains_cons _ _ given _ (λ e. absurd cc) (λ h. absurd cc (ended h)) has
 ended_more (item.Down at peer ∷ left) given ended has = contains_cons _ _ given _ (λ e. absurd cc) (λ h. absurd cc (ended h)) has
+ended_more (item.Left at conn ∷ left) given ended has = contains_cons _ _ given _ (λ e. absurd cc) (λ h. absurd cc (ended h)) has
 
 pub fits_next : (items : List LinkItem) (at at2 : ℕ) (dids dids2 : List Did) (plans : List LinkPlan) (frames replies : List Sent) → dids2 ≡ dids ++ Next at ∷ [] → drop at2 items ≡ rest_of (drop at items) → Fits items at dids plans frames replies → Fits items at2 dids2 plans frames replies
 fits_next items at at2 dids dids2 plans frames replies did moved f =

@@ -35,7 +35,9 @@ abbrev pub bytes_of : LinkItem → List ℕ
 bytes_of (items.Frame to bytes) = bytes
 bytes_of (items.Client at conn bytes) = bytes
 bytes_of (items.Reply from bytes) = bytes
+bytes_of (items.Up at peer) = []
 bytes_of (items.Down at peer) = []
+bytes_of (items.Left at conn) = []
 bytes_of items.End = []
 
 -- of these calls, the plans that were started

@@ -38,7 +38,9 @@ rest_of (item.End ∷ left) = item.End ∷ left
 rest_of (item.Frame to bytes ∷ left) = left
 rest_of (item.Client at conn bytes ∷ left) = left
 rest_of (item.Reply from bytes ∷ left) = left
+rest_of (item.Up at peer ∷ left) = left
 rest_of (item.Down at peer ∷ left) = left
+rest_of (item.Left at conn ∷ left) = left
 
 -- ---- what a call does
 

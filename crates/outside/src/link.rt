@@ -112,8 +112,12 @@ pub enum LinkItem {
     Client { at: u8, conn: u32, bytes: Bytes },
     /// A reply of a replica, to a client.
     Reply { from: u8, bytes: Bytes },
+    /// A peer of a replica has a connection.
+    Up { at: u8, peer: u8 },
     /// A peer of a replica has no connection any more.
     Down { at: u8, peer: u8 },
+    /// A client's connection to a replica is gone, and nobody is there to be replied to any more.
+    Left { at: u8, conn: u32 },
     /// No item follows.
     End,
 }
@@ -128,7 +132,9 @@ impl LinkItem {
             LinkItem::Frame { .. } => false,
             LinkItem::Client { .. } => false,
             LinkItem::Reply { .. } => false,
+            LinkItem::Up { .. } => false,
             LinkItem::Down { .. } => false,
+            LinkItem::Left { .. } => false,
         }
     }
 
@@ -150,9 +156,17 @@ impl LinkItem {
                 from: *from,
                 bytes: bytes.copy(alloc)?,
             }),
+            LinkItem::Up { at, peer } => Ok(LinkItem::Up {
+                at: *at,
+                peer: *peer,
+            }),
             LinkItem::Down { at, peer } => Ok(LinkItem::Down {
                 at: *at,
                 peer: *peer,
+            }),
+            LinkItem::Left { at, conn } => Ok(LinkItem::Left {
+                at: *at,
+                conn: *conn,
             }),
             LinkItem::End => Ok(LinkItem::End),
         }
