@@ -1,6 +1,6 @@
 -- What opens was sealed by its sender.
 use Rattle.std.specs.Prelude.{◌≡◌, ◌≢◌, ℕ, ◌+◌, ◌-◌, ◌<◌, ◌≤◌, Bool, true, false, not, ◌==◌, ◌&&◌, nat_le, nat_lt, List, [], ◌∷◌, ◌++◌, length, take, drop, slice_index, slice_range, None, refl}
-use Rattle.std.specs.Int.{w64, to_be_bytes}
+use Rattle.std.specs.Int.{w64, to_be_bytes, from_be_bytes}
 use Rattle.std.proofs.Common.{sym, ◌∙◌, ap, ap₂, subst, inl, inr, arith}
 use Rattle.std.proofs.Math.ListN.{get_or, get_or-eq_default}
 use Rattle.std.proofs.Math.Seq.{take-add}
@@ -13,7 +13,7 @@ use Rattle.keyed_channel.specs.Hmac.{hmac_of}
 use Rattle.keyed_channel.specs.KeyRow.{KeyRow, key_with}
 use Rattle.keyed_channel.specs.Keyed.{dealt}
 use Rattle.keyed_channel.specs.Frames.{frame_front, sealed, front_of, tag_of, version_of, sender_of, receiver_of, seq_of, body_of, parts_of, is_peer, is_tagged, plain_fault, Opening}
-use Rattle.keyed_channel.specs.Laws.{OpenedFromPeer, OpensSealed}
+use Rattle.keyed_channel.specs.Laws.{OpenedFromPeer, OpenedParts, OpensSealed}
 use Rattle.keyed_channel.proofs.Opens.{five, opening_ok}
 use Rattle.keyed_channel.proofs.Dealt.{key_with-dealt, pair_key_swapped}
 
@@ -43,7 +43,7 @@ pub both_true : (a b : Bool) → (a && b) ≡ true → (a ≡ true) × (b ≡ tr
 both_true true b h = (refl, h)
 both_true false b h = cc
 
-not_true : (b : Bool) → not b ≡ true → b ≡ false
+pub not_true : (b : Bool) → not b ≡ true → b ≡ false
 not_true true h = cc
 not_true false h = refl
 
@@ -66,27 +66,29 @@ split_front (a ∷ b ∷ c ∷ xs) m low high =
     ap (λ k. take k (a ∷ b ∷ c ∷ xs)) parts ∙ take-add 3 (8 + (m - 11)) (a ∷ b ∷ c ∷ xs)
     ∙ ap (λ l. a ∷ b ∷ c ∷ l) (take-add 8 (m - 11) xs)
 
--- a list of bytes from 3 on
-middle_small : (xs : List ℕ) → ((k : ℕ) → slice_index xs k < 256) → (i : ℕ) → get_or (slice_range xs 3 11) i 0 < 256
-middle_small xs small i =
+-- eight bytes of a list of bytes
+word_small : (xs : List ℕ) (from : ℕ) → ((k : ℕ) → slice_index xs k < 256) → (i : ℕ) → get_or (take 8 (drop from xs)) i 0 < 256
+word_small xs from small i =
     elim (leb_tells 8 i) [
       | inl out ↦
-          let size : length (slice_range xs 3 11) ≤ i = omega (arith, length-take 8 (drop 3 xs), out.1) in
-          omega (arith, get_or-eq_default (slice_range xs 3 11) 0 size)
-      | inr within ↦ omega (arith, get_or-take 8 (drop 3 xs) i 0 within.1, get_or-drop 3 xs i 0, small (3 + i))
+          let size : length (take 8 (drop from xs)) ≤ i = omega (arith, length-take 8 (drop from xs), out.1) in
+          omega (arith, get_or-eq_default (take 8 (drop from xs)) 0 size)
+      | inr within ↦ omega (arith, get_or-take 8 (drop from xs) i 0 within.1, get_or-drop from xs i 0, small (from + i))
     ]
 
-seq_is : (xs : List ℕ) → 43 ≤ length xs → ((k : ℕ) → slice_index xs k < 256) → slice_range xs 3 11 ≡ to_be_bytes w64 (seq_of xs)
-seq_is xs long small =
-    let size : length (slice_range xs 3 11) ≡ 8 = omega (arith, length-take 8 (drop 3 xs), length-drop 3 xs) in
-    sym (be_bytes_8 (slice_range xs 3 11) (seq_of xs) size (middle_small xs small) refl)
+pub word_is : (xs : List ℕ) (from : ℕ) → from + 8 ≤ length xs → ((k : ℕ) → slice_index xs k < 256)
+    → take 8 (drop from xs) ≡ to_be_bytes w64 (from_be_bytes w64 (take 8 (drop from xs)))
+word_is xs from long small =
+    let word = take 8 (drop from xs) in
+    let size : length word ≡ 8 = omega (arith, length-take 8 (drop from xs), length-drop from xs) in
+    sym (be_bytes_8 word (from_be_bytes w64 word) size (word_small xs from small) refl)
 
 front_is : (xs : List ℕ) (j : ℕ) → 43 ≤ length xs → ((k : ℕ) → slice_index xs k < 256) → version_of xs ≡ 1 → receiver_of xs ≡ j
     → front_of xs ≡ frame_front (sender_of xs) j (seq_of xs) (body_of xs)
 front_is xs j long small one mine =
     split_front xs (length xs - 32) (omega arith) (omega arith)
     ∙ ap₂ (λ (v r : ℕ). v ∷ sender_of xs ∷ r ∷ (slice_range xs 3 11 ++ body_of xs)) one mine
-    ∙ ap (λ l. 1 ∷ sender_of xs ∷ j ∷ (l ++ body_of xs)) (seq_is xs long small)
+    ∙ ap (λ l. 1 ∷ sender_of xs ∷ j ∷ (l ++ body_of xs)) (word_is xs 3 (omega arith) small)
 
 -- ---- the law
 
@@ -134,3 +136,8 @@ opened_from_peer_holds k bytes o opens =
     let t = opening_ok k bytes o opens in
     let P : Opening → Type 0 = λ x. IsFromPeer k bytes x in
     subst P t.2 (from_peer k bytes t.0)
+
+pub opened_parts_hold : OpenedParts
+opened_parts_hold k bytes o opens =
+    let t = opening_ok k bytes o opens in
+    (leb-true 43 (length bytes) (passed k bytes t.0).long, sym t.2)

@@ -5,3 +5,5 @@ mod Dealt
 mod Sealing
 mod FromSender
 mod Shared
+mod Noting
+mod NotedBySender

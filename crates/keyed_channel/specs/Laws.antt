@@ -1,10 +1,12 @@
 -- What holds of any row of keys and its frames, and of keys that were dealt from one master key.
-use Rattle.std.specs.Prelude.{◌≡◌, ◌≢◌, ℕ, ◌+◌, ◌^◌, ◌<◌, ◌≤◌, ◌⊎◌, List, length, slice_index, Ok, Err}
+use Rattle.std.specs.Prelude.{◌≡◌, ◌≢◌, ℕ, ◌+◌, ◌^◌, ◌<◌, ◌≤◌, ◌⊎◌, List, length, slice_index, true, Some, Ok, Err}
 use Rattle.ritas_base.specs.declared.slot.Slot.{Slot}
 use Rattle.keyed_channel.specs.KeyRow.{KeyRow}
 use Rattle.keyed_channel.specs.Keyed.{pair_key, dealt, entry_of, tags_of}
-use Rattle.keyed_channel.specs.Frames.{sealed, receiver_of, opening, Opening}
-use Rattle.keyed_channel.specs.declared.frame.OpenFault.TheVariants.{Long}
+use Rattle.keyed_channel.specs.Frames.{sealed, receiver_of, parts_of, opening, Opening}
+use Rattle.keyed_channel.specs.declared.frame.OpenFault.TheVariants.{Short, Long, Version}
+use Rattle.keyed_channel.specs.Notes.{sealed_note, ack_note, again_note, is_note, noted}
+use Rattle.keyed_channel.specs.declared.note.Note.TheVariants.{Ack, Again}
 
 -- what i seals for j opens at j
 abbrev pub SealedOpens : Type 0
@@ -26,6 +28,10 @@ OpensAsSealed = (a b : KeyRow) (to seq : ℕ) (body : List ℕ) (o : Opening) �
 abbrev pub OpenedFromPeer : Type 0
 OpenedFromPeer = (k : KeyRow) (bytes : List ℕ) (o : Opening) → opening k bytes ≡ Ok o
     → (o.from < k.n) × (o.from ≢ k.me) × (receiver_of bytes ≡ k.me)
+
+-- whatever opens has 43 bytes at least, and says its parts
+abbrev pub OpenedParts : Type 0
+OpenedParts = (k : KeyRow) (bytes : List ℕ) (o : Opening) → opening k bytes ≡ Ok o → (43 ≤ length bytes) × (o ≡ parts_of bytes)
 
 -- a frame has 43 bytes beside its body
 abbrev pub SealedLength : Type 0
@@ -51,3 +57,34 @@ abbrev pub EntriesAgree : Type 0
 EntriesAgree = (master : List ℕ) (session n i j : ℕ) (s : Slot) (echoer verifier : ℕ) (d : List ℕ)
     → i < n → j < n → MayAsk i echoer verifier → MayAsk j echoer verifier
     → (tags_of (dealt master session n i)).entry s echoer verifier d ≡ (tags_of (dealt master session n j)).entry s echoer verifier d
+
+-- ---- notes
+
+-- what i notes for j says so at j
+abbrev pub NotesOpen : Type 0
+NotesOpen = (master : List ℕ) (session n i j seq : ℕ) → i < n → j < n → i ≢ j → seq < 2 ^ 64
+    → (noted (dealt master session n j) (ack_note (dealt master session n i) j seq) ≡ Some (Ack i seq))
+    × (noted (dealt master session n j) (again_note (dealt master session n i) j) ≡ Some (Again i))
+
+-- what is noted at j is what its sender notes, another replica
+abbrev pub NotesSealed : Type 0
+NotesSealed = (master : List ℕ) (session n j : ℕ) (bytes : List ℕ) → j < n → ((k : ℕ) → slice_index bytes k < 256)
+    → ((i seq : ℕ) → noted (dealt master session n j) bytes ≡ Some (Ack i seq)
+    → (i < n) × (i ≢ j) × (bytes ≡ ack_note (dealt master session n i) j seq))
+    × ((i : ℕ) → noted (dealt master session n j) bytes ≡ Some (Again i)
+    → (i < n) × (i ≢ j) × (bytes ≡ again_note (dealt master session n i) j))
+
+-- whatever is noted is of another replica
+abbrev pub NotedFromPeer : Type 0
+NotedFromPeer = (k : KeyRow) (bytes : List ℕ)
+    → ((from seq : ℕ) → noted k bytes ≡ Some (Ack from seq) → (from < k.n) × (from ≢ k.me))
+    × ((from : ℕ) → noted k bytes ≡ Some (Again from) → (from < k.n) × (from ≢ k.me))
+
+-- what begins as a note doesn't open as a frame: it is too short or too long for one, or its version is wrong
+abbrev pub NotesAreNoFrames : Type 0
+NotesAreNoFrames = (k : KeyRow) (bytes : List ℕ) → is_note bytes ≡ true
+    → (opening k bytes ≡ Err Short) ⊎ (opening k bytes ≡ Err Long) ⊎ (opening k bytes ≡ Err Version)
+
+-- a note of 44 bytes has a wrong version
+abbrev pub NoteHasVersion : Type 0
+NoteHasVersion = (k by : KeyRow) (to form number : ℕ) → opening k (sealed_note by to form number) ≡ Err Version

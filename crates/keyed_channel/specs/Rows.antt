@@ -1,9 +1,11 @@
 -- Worked rows.
-use Rattle.std.specs.Prelude.{◌≡◌, [], ◌∷◌, replicate, length, Err, refl}
+use Rattle.std.specs.Prelude.{◌≡◌, [], ◌∷◌, replicate, length, Some, None, Err, refl}
 use Rattle.ritas_base.specs.declared.slot.Slot.{Slot}
 use Rattle.keyed_channel.specs.KeyRow.{KeyRow, filled_row}
 use Rattle.keyed_channel.specs.Keyed.{pair_string, coin_key_string, entry_string, coin_string, other_of}
 use Rattle.keyed_channel.specs.Frames.{frame_front, opening}
+use Rattle.keyed_channel.specs.Notes.{note_front, note_of}
+use Rattle.keyed_channel.specs.declared.note.Note.TheVariants.{Ack, Again}
 use Rattle.keyed_channel.specs.declared.frame.OpenFault.TheVariants.{Short, Version, NotMine, NoSuchReplica}
 
 -- the front of frame 258 from 3 to 1, with two bytes
@@ -47,3 +49,16 @@ opening_rows : (opening keys_row (replicate 42 1) ≡ Err Short)
     × (opening keys_row (1 ∷ 4 ∷ 1 ∷ replicate 40 0) ≡ Err NoSuchReplica)
 unfolding opening
 opening_rows = (refl, refl, refl, refl, refl)
+
+-- the front of the note that frame 258 was taken, from 3 to 1
+note_row : note_front 3 1 1 258 ≡ 0x4e ∷ 3 ∷ 1 ∷ 1 ∷ 0 ∷ 0 ∷ 0 ∷ 0 ∷ 0 ∷ 0 ∷ 1 ∷ 2 ∷ []
+note_row = refl
+
+-- form 1 says its number, form 2 has number 0, and there is no other
+note_rows : (note_of 3 1 258 ≡ Some (Ack 3 258)) × (note_of 3 2 0 ≡ Some (Again 3)) × (note_of 3 2 1 ≡ None) × (note_of 3 0 0 ≡ None) × (note_of 3 3 0 ≡ None)
+note_rows = (refl, refl, refl, refl, refl)
+
+-- 44 bytes that begin as a note don't open as a frame, and without its tag it is no note
+note_opening_row : opening keys_row (0x4e ∷ 0 ∷ 1 ∷ 1 ∷ replicate 40 0) ≡ Err Version
+unfolding opening
+note_opening_row = refl

@@ -3,10 +3,12 @@ ghost use Rattle.keyed_channel.specs.Hmac.{hmac_of};
 ghost use Rattle.keyed_channel.specs.KeyRow.{key_with, shares_key};
 ghost use Rattle.keyed_channel.specs.Keyed.{entry_of, tags_of};
 ghost use Rattle.keyed_channel.specs.Frames.{sealed, opening};
+ghost use Rattle.keyed_channel.specs.Notes.{sealed_note, ack_note, again_note, noted};
 
 use crate::frame::{OpenFault, Opened, TAG_LEN, check, front, parts, tagged};
 use crate::hashed_key::HashedKey;
 use crate::keys::Keys;
+use crate::note::{Note, is_plain_note, note_front, note_of, tagged_note};
 use crate::tags::digest;
 use ritas_base::{Bytes, Mem, Slot, Tagger};
 use std::alloc::Global;
@@ -90,6 +92,47 @@ impl Channel {
             return Err(OpenFault::BadTag);
         }
         Ok(parts(bytes))
+    }
+
+    // A note of a form and a number.
+    fn seal_note(&self, to: u8, form: u8, number: u64) -> [u8; 44]
+        requires { to < self.now.n }
+        ensures { result ≡ sealed_note self.now to form number }
+    {
+        let front = note_front(self.keys.me(), to, form, number);
+        let tag = self.tag(to, &front);
+        tagged_note(&front, &tag)
+    }
+
+    /// The note that a frame was taken, as `seal_ack` makes it. It takes no memory.
+    pub fn seal_ack(&self, to: u8, seq: u64) -> [u8; 44]
+        requires { to < self.now.n }
+        ensures { result ≡ ack_note self.now to seq }
+    {
+        self.seal_note(to, 1, seq)
+    }
+
+    /// The note that frames are to be sent again, as `seal_again` makes it. It takes no memory.
+    pub fn seal_again(&self, to: u8) -> [u8; 44]
+        requires { to < self.now.n }
+        ensures { result ≡ again_note self.now to }
+    {
+        self.seal_note(to, 2, 0)
+    }
+
+    /// What a note says, as `open_note` answers it. It takes no memory.
+    pub fn open_note(&self, bytes: &[u8]) -> Option<Note>
+        ensures { result ≡ noted self.now bytes.now }
+    {
+        if !is_plain_note(&self.keys, bytes) {
+            return None;
+        }
+        let (front, tag) = bytes.split_at(bytes.len() - TAG_LEN);
+        let right = self.tag(bytes[1], front);
+        if right.as_slice() != tag {
+            return None;
+        }
+        note_of(bytes)
     }
 
     /// What a frame opens to that the sender sealed, where the two share their key: then its tag is right, and isn't

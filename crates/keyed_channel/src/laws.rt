@@ -1,4 +1,4 @@
-ghost use Rattle.keyed_channel.specs.Laws.{EntriesAgree, EntryByPair, OpenedFromPeer, OpensAsSealed, OpensSealed, SealedLength, SealedLong, SealedOpens};
+ghost use Rattle.keyed_channel.specs.Laws.{EntriesAgree, EntryByPair, NotedFromPeer, NotesAreNoFrames, NoteHasVersion, NotesOpen, NotesSealed, OpenedFromPeer, OpenedParts, OpensAsSealed, OpensSealed, SealedLength, SealedLong, SealedOpens};
 
 /// A law: what replica i seals for replica j, both with keys dealt from one master key, opens at j as from i, with the
 /// same sequence number and body. The body has at most 16,341 bytes.
@@ -23,6 +23,11 @@ pub fn opened_from_peer()
     ensures { OpenedFromPeer }
 {}
 
+/// A law for every row of keys: what opens has at least 43 bytes, and says the sender, the number and the body that stand in it.
+pub fn opened_parts()
+    ensures { OpenedParts }
+{}
+
 /// A law: a frame has 43 bytes more than its body.
 pub fn sealed_length()
     ensures { SealedLength }
@@ -41,4 +46,31 @@ pub fn entry_by_pair()
 /// A law: two replicas with keys dealt from one master key tag an entry alike, wherever both may be asked for it.
 pub fn entries_agree()
     ensures { EntriesAgree }
+{}
+
+/// A law: what replica i notes for replica j, both with keys dealt from one master key, says at j what i noted.
+pub fn notes_open()
+    ensures { NotesOpen }
+{}
+
+/// A law: what replica j opens as a note of replica i, both with keys dealt from one master key, is to the byte what i notes
+/// for j, and i is another replica.
+pub fn notes_sealed()
+    ensures { NotesSealed }
+{}
+
+/// A law for every row of keys: what opens as a note is of another of the n replicas.
+pub fn noted_from_peer()
+    ensures { NotedFromPeer }
+{}
+
+/// A law for every row of keys: what begins as a note opens as no frame. It is too short or too long for one, or its first
+/// byte isn't 1.
+pub fn notes_are_no_frames()
+    ensures { NotesAreNoFrames }
+{}
+
+/// A law for every two rows of keys: a note is no frame, since its first byte isn't 1.
+pub fn note_has_version()
+    ensures { NoteHasVersion }
 {}

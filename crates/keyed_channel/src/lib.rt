@@ -11,6 +11,7 @@
 //! | of a frame | key of sender and receiver | 1, sender, receiver, sequence number (8), body |
 //! | entry | key of echoer and verifier | 0x45, session (8), slot (9), echoer, verifier, SHA-256 of the message (32) |
 //! | coin | coin key | 0x43, session (8), slot (9) |
+//! | of a note | key of sender and receiver | 0x4e, sender, receiver, form, number (8) |
 //!
 //! A frame is what its tag is of, and then the tag's 32 bytes. The contracts say each of these byte for byte. `seal`
 //! gives exactly that frame; `open_frame` gives the first fault that the bytes have, and their parts where they have
@@ -29,6 +30,7 @@ mod frame;
 mod hashed_key;
 mod keys;
 mod laws;
+mod note;
 mod tags;
 #[cfg(test)]
 mod tests;
@@ -38,7 +40,9 @@ pub use coin::{SeedCoin, coin_key};
 pub use frame::{OpenFault, Opened, open_frame, seal};
 pub use keys::Keys;
 pub use laws::{
-    entries_agree, entry_by_pair, opened_from_peer, opens_as_sealed, opens_sealed, sealed_length,
-    sealed_long, sealed_opens,
+    entries_agree, entry_by_pair, note_has_version, noted_from_peer, notes_are_no_frames,
+    notes_open, notes_sealed, opened_from_peer, opened_parts, opens_as_sealed, opens_sealed,
+    sealed_length, sealed_long, sealed_opens,
 };
+pub use note::{Note, open_note, seal_ack, seal_again};
 pub use tags::{digest, hmac};

@@ -1,4 +1,7 @@
-use crate::{Channel, Keys, OpenFault, SeedCoin, coin_key, digest, hmac, open_frame, seal};
+use crate::{
+    Channel, Keys, Note, OpenFault, SeedCoin, coin_key, digest, hmac, open_frame, open_note, seal,
+    seal_ack, seal_again,
+};
 use ritas_base::{Coin, Params, Slot, Tagger};
 use std::process::Abort;
 use std::test::Fail;
@@ -187,4 +190,33 @@ fn coins(rt: HostRuntime) {
         };
         assert_eq!(rt; coin.toss(&slot), bit);
     }
+}
+
+// From 3 to 1: that frame 258 was taken, and that frames are to be sent again.
+const ACK: &[u8] =
+    b"\x4e\x03\x01\x01\x00\x00\x00\x00\x00\x00\x01\x02\xa5\x05\x42\xaa\x4f\x00\x9b\x55\x43\xc5\xe7\x48\x1e\x09\x39\x2b\xc5\x75\xd7\xcc\xd1\x08\x9d\xc7\x63\xbd\x7e\x1c\xfa\xd4\xf2\x94";
+
+const AGAIN: &[u8] =
+    b"\x4e\x03\x01\x02\x00\x00\x00\x00\x00\x00\x00\x00\xbe\x98\x83\x7f\x78\x2e\x60\x08\x5e\xbf\x8f\x67\x26\x7b\x3f\x98\x18\x56\xab\x4c\xba\x08\x39\xb1\xdc\xb4\x72\x59\x2d\xc0\xac\x14";
+
+// With right tags: form 2 with number 1, and form 3.
+const NUMBERED: &[u8] =
+    b"\x4e\x03\x01\x02\x00\x00\x00\x00\x00\x00\x00\x01\x69\x69\xdd\xfb\x90\x05\xc5\x69\x5a\x92\x27\xb6\x2f\xdb\x3f\x77\xff\xe3\xc1\xcb\x19\x54\x7e\x3c\xda\xde\x3b\xb4\x23\x69\x33\xa1";
+
+const OTHER: &[u8] =
+    b"\x4e\x03\x01\x03\x00\x00\x00\x00\x00\x00\x00\x00\xe8\x1c\x86\x54\x67\x64\x5a\xcb\xb1\x2e\x6f\xc1\x6a\x38\xd0\xc2\x50\xa9\xce\xb7\x50\x3b\x22\x6c\x15\x0e\x6e\x41\x4d\x49\xa5\x58";
+
+#[test]
+fn notes_of_dealt_keys(rt: HostRuntime) {
+    let (one, three) = (dealt(&rt, 1), dealt(&rt, 3));
+    assert!(rt; three.n() > 1);
+    assert_eq!(rt; seal_ack(&three, 1, 258).as_slice(), ACK);
+    assert_eq!(rt; seal_again(&three, 1).as_slice(), AGAIN);
+    assert!(rt; open_note(&one, ACK) == Some(Note::Ack { from: 3, seq: 258 }));
+    assert!(rt; open_note(&one, AGAIN) == Some(Note::Again { from: 3 }));
+    for bytes in [NUMBERED, OTHER, FRAME, &ACK[..43], b"".as_slice()] {
+        assert!(rt; open_note(&one, bytes).is_none());
+    }
+    assert!(rt; open_note(&three, ACK).is_none());
+    assert!(rt; open_frame(&one, ACK).is_err_and(|fault| fault == OpenFault::Version));
 }

@@ -1,0 +1,146 @@
+-- What is noted was noted by its sender.
+use Rattle.std.specs.Prelude.{◌≡◌, ◌≢◌, ℕ, ◌+◌, ◌-◌, ◌<◌, ◌≤◌, Bool, true, false, not, ◌==◌, ◌&&◌, nat_lt, List, [], ◌∷◌, ◌++◌, length, take, drop, slice_index, slice_range, Option, Some, None, refl, if◌then◌else◌}
+use Rattle.std.specs.Int.{w64, to_be_bytes}
+use Rattle.std.proofs.Common.{sym, ◌∙◌, ap, ap₂, subst, arith}
+use Rattle.std.proofs.lemmas.List.{take-append-drop}
+use Rattle.std.proofs.lemmas.Bool.{ltb-true, eqb-true, eqb-false}
+use Rattle.std.proofs.lemmas.Slice.Eq.{bytes_eq-Decides}
+use Rattle.keyed_channel.specs.Hmac.{hmac_of}
+use Rattle.keyed_channel.specs.KeyRow.{KeyRow, key_with}
+use Rattle.keyed_channel.specs.Keyed.{dealt}
+use Rattle.keyed_channel.specs.Frames.{front_of, tag_of, sender_of, receiver_of, is_peer, is_tagged}
+use Rattle.keyed_channel.specs.Notes.{note_front, sealed_note, ack_note, again_note, form_of, number_of, note_of, is_note, is_plain_note, noted}
+use Rattle.keyed_channel.specs.Laws.{NotedFromPeer, NotesSealed}
+use Rattle.keyed_channel.specs.declared.note.Note.{Note}
+use Rattle.keyed_channel.specs.declared.note.Note.TheVariants.{Ack, Again}
+use Rattle.keyed_channel.proofs.Dealt.{key_with-dealt, pair_key_swapped}
+use Rattle.keyed_channel.proofs.FromSender.{both_true, not_true, word_is}
+
+-- ---- the front of a note, by its parts
+
+four : (xs : List ℕ) → 12 ≤ length xs
+    → take 12 xs ≡ slice_index xs 0 ∷ slice_index xs 1 ∷ slice_index xs 2 ∷ slice_index xs 3 ∷ slice_range xs 4 12
+four [] h = absurd (omega (arith, h))
+four (a ∷ []) h = absurd (omega (arith, h))
+four (a ∷ b ∷ []) h = absurd (omega (arith, h))
+four (a ∷ b ∷ c ∷ []) h = absurd (omega (arith, h))
+four (a ∷ b ∷ c ∷ d ∷ xs) h = refl
+
+front_is : (xs : List ℕ) (j : ℕ) → length xs ≡ 44 → ((k : ℕ) → slice_index xs k < 256) → is_note xs ≡ true → receiver_of xs ≡ j
+    → front_of xs ≡ note_front (sender_of xs) j (form_of xs) (number_of xs)
+front_is xs j long small note mine =
+    let size : length xs - 32 ≡ 12 = omega (arith, long) in
+    ap (λ m. take m xs) size ∙ four xs (omega (arith, long))
+    ∙ ap₂ (λ (v r : ℕ). v ∷ sender_of xs ∷ r ∷ form_of xs ∷ slice_range xs 4 12) (eqb-true _ _ note) mine
+    ∙ ap (λ l. 0x4e ∷ sender_of xs ∷ j ∷ form_of xs ∷ l) (word_is xs 4 (omega (arith, long)) small)
+
+-- ---- the note, by its sender
+
+abbrev IsFromSender : List ℕ → ℕ → ℕ → ℕ → List ℕ → ℕ → ℕ → ℕ → Type 0
+IsFromSender master session n j bytes i form number =
+    (i < n) × (i ≢ j) × (bytes ≡ sealed_note (dealt master session n i) j form number)
+
+from_sender : (master : List ℕ) (session n j : ℕ) (bytes : List ℕ) → j < n → ((k : ℕ) → slice_index bytes k < 256)
+    → is_plain_note (dealt master session n j) bytes ≡ true → is_tagged (dealt master session n j) bytes ≡ true
+    → IsFromSender master session n j bytes (sender_of bytes) (form_of bytes) (number_of bytes)
+from_sender master session n j bytes j_in small plain tagged =
+    let i = sender_of bytes in
+    let k = dealt master session n j in
+    let by = dealt master session n i in
+    let long = both_true (length bytes == 44) (is_note bytes && (receiver_of bytes == j && is_peer k i)) plain in
+    let note = both_true (is_note bytes) (receiver_of bytes == j && is_peer k i) long.1 in
+    let mine = both_true (receiver_of bytes == j) (is_peer k i) note.1 in
+    let peer = both_true (nat_lt i n) (not (i == j)) mine.1 in
+    let i_in : i < n = ltb-true i n peer.0 in
+    let front = front_is bytes j (eqb-true _ _ long.0) small note.0 (eqb-true _ _ mine.0) in
+    let key : key_with k i ≡ key_with by j =
+    key_with-dealt master session n j i i_in ∙ pair_key_swapped master session j i ∙ sym (key_with-dealt master session n i j j_in) in
+    let tag = sym ((bytes_eq-Decides (hmac_of (key_with k i) (front_of bytes)) (tag_of bytes)).0 tagged) ∙ ap₂ hmac_of key front in
+    (i_in, eqb-false i j (not_true (i == j) peer.1), sym (take-append-drop (length bytes - 32) bytes) ∙ ap₂ (λ (x y : List ℕ). x ++ y) front tag)
+
+-- and by what its parts are
+from_parts : (master : List ℕ) (session n j : ℕ) (bytes : List ℕ) (i form number : ℕ)
+    → sender_of bytes ≡ i → form_of bytes ≡ form → number_of bytes ≡ number
+    → IsFromSender master session n j bytes (sender_of bytes) (form_of bytes) (number_of bytes)
+    → IsFromSender master session n j bytes i form number
+from_parts master session n j bytes i form number is_i is_form is_number by =
+    let by_number : IsFromSender master session n j bytes (sender_of bytes) (form_of bytes) number =
+    subst (λ (x : ℕ). IsFromSender master session n j bytes (sender_of bytes) (form_of bytes) x) is_number by in
+    let by_form : IsFromSender master session n j bytes (sender_of bytes) form number =
+    subst (λ (x : ℕ). IsFromSender master session n j bytes (sender_of bytes) x number) is_form by_number in
+    subst (λ (x : ℕ). IsFromSender master session n j bytes x form number) is_i by_form
+
+-- ---- what is said, by its parts
+
+said_by : (a b : Bool) (said : Option Note) (x : Note) → (if a && b then said else None) ≡ Some x → (a ≡ true) × (b ≡ true) × (said ≡ Some x)
+said_by true true said x h = (refl, refl, h)
+said_by true false said x h = cc
+said_by false b said x h = cc
+
+noted_by : (k : KeyRow) (bytes : List ℕ) (x : Note) → noted k bytes ≡ Some x
+    → (is_plain_note k bytes ≡ true) × (is_tagged k bytes ≡ true) × (note_of (sender_of bytes) (form_of bytes) (number_of bytes) ≡ Some x)
+unfolding noted
+noted_by k bytes x h = said_by _ _ _ x h
+
+ack_by : (a b : Bool) (from number i seq : ℕ) → (if a then Some (Ack from number) else if b then Some (Again from) else None) ≡ Some (Ack i seq)
+    → (a ≡ true) × (from ≡ i) × (number ≡ seq)
+ack_by true b from number i seq h = (refl, cc, cc)
+ack_by false true from number i seq h = cc
+ack_by false false from number i seq h = cc
+
+again_by : (a b : Bool) (from number i : ℕ) → (if a then Some (Ack from number) else if b then Some (Again from) else None) ≡ Some (Again i)
+    → (b ≡ true) × (from ≡ i)
+again_by true b from number i h = cc
+again_by false true from number i h = (refl, cc)
+again_by false false from number i h = cc
+
+-- ---- the law
+
+acked : (master : List ℕ) (session n j : ℕ) (bytes : List ℕ) → j < n → ((k : ℕ) → slice_index bytes k < 256)
+    → (i seq : ℕ) → noted (dealt master session n j) bytes ≡ Some (Ack i seq)
+    → IsFromSender master session n j bytes i 1 seq
+acked master session n j bytes j_in small i seq h =
+    let parts = noted_by (dealt master session n j) bytes (Ack i seq) h in
+    let ack = ack_by (form_of bytes == 1) (form_of bytes == 2 && number_of bytes == 0) (sender_of bytes) (number_of bytes) i seq parts.2 in
+    let form : form_of bytes ≡ 1 = eqb-true _ _ ack.0 in
+    from_parts master session n j bytes i 1 seq ack.1 form ack.2 (from_sender master session n j bytes j_in small parts.0 parts.1)
+
+wished : (master : List ℕ) (session n j : ℕ) (bytes : List ℕ) → j < n → ((k : ℕ) → slice_index bytes k < 256)
+    → (i : ℕ) → noted (dealt master session n j) bytes ≡ Some (Again i)
+    → IsFromSender master session n j bytes i 2 0
+wished master session n j bytes j_in small i h =
+    let parts = noted_by (dealt master session n j) bytes (Again i) h in
+    let again = again_by (form_of bytes == 1) (form_of bytes == 2 && number_of bytes == 0) (sender_of bytes) (number_of bytes) i parts.2 in
+    let both = both_true (form_of bytes == 2) (number_of bytes == 0) again.0 in
+    let form : form_of bytes ≡ 2 = eqb-true _ _ both.0 in
+    let number : number_of bytes ≡ 0 = eqb-true _ _ both.1 in
+    from_parts master session n j bytes i 2 0 again.1 form number (from_sender master session n j bytes j_in small parts.0 parts.1)
+
+pub notes_sealed_holds : NotesSealed
+notes_sealed_holds master session n j bytes j_in small = (acked master session n j bytes j_in small, wished master session n j bytes j_in small)
+
+-- ---- what is noted, whatever the keys
+
+plain_peer : (k : KeyRow) (bytes : List ℕ) → is_plain_note k bytes ≡ true → (sender_of bytes < k.n) × (sender_of bytes ≢ k.me)
+plain_peer k bytes plain =
+    let i = sender_of bytes in
+    let long = both_true (length bytes == 44) (is_note bytes && (receiver_of bytes == k.me && is_peer k i)) plain in
+    let note = both_true (is_note bytes) (receiver_of bytes == k.me && is_peer k i) long.1 in
+    let mine = both_true (receiver_of bytes == k.me) (is_peer k i) note.1 in
+    let peer = both_true (nat_lt i k.n) (not (i == k.me)) mine.1 in
+    (ltb-true i k.n peer.0, eqb-false i k.me (not_true (i == k.me) peer.1))
+
+ack_from_peer : (k : KeyRow) (bytes : List ℕ) (from seq : ℕ) → noted k bytes ≡ Some (Ack from seq) → (from < k.n) × (from ≢ k.me)
+ack_from_peer k bytes from seq h =
+    let parts = noted_by k bytes (Ack from seq) h in
+    let ack = ack_by (form_of bytes == 1) (form_of bytes == 2 && number_of bytes == 0) (sender_of bytes) (number_of bytes) from seq parts.2 in
+    subst (λ (x : ℕ). (x < k.n) × (x ≢ k.me)) ack.1 (plain_peer k bytes parts.0)
+
+again_from_peer : (k : KeyRow) (bytes : List ℕ) (from : ℕ) → noted k bytes ≡ Some (Again from) → (from < k.n) × (from ≢ k.me)
+again_from_peer k bytes from h =
+    let parts = noted_by k bytes (Again from) h in
+    let again = again_by (form_of bytes == 1) (form_of bytes == 2 && number_of bytes == 0) (sender_of bytes) (number_of bytes) from parts.2 in
+    subst (λ (x : ℕ). (x < k.n) × (x ≢ k.me)) again.1 (plain_peer k bytes parts.0)
+
+pub noted_from_peer_holds : NotedFromPeer
+noted_from_peer_holds k bytes = (ack_from_peer k bytes, again_from_peer k bytes)

@@ -1,0 +1,122 @@
+ghost use Rattle.std.specs.Prelude.{◌≡◌, ◌<◌, ◌≤◌, ◌++◌, true, length};
+ghost use Rattle.keyed_channel.specs.Frames.{sender_of};
+ghost use Rattle.keyed_channel.specs.Notes.{note_front, sealed_note, ack_note, again_note, form_of, number_of, note_of, is_plain_note, noted};
+
+use crate::frame::TAG_LEN;
+use crate::keys::Keys;
+use crate::tags::hmac;
+
+// The first byte of a note.
+const NOTE: u8 = 0x4e;
+
+// The bytes of a note, and of its front.
+const NOTE_LEN: usize = 44;
+
+const ACK: u8 = 1;
+
+const AGAIN: u8 = 2;
+
+/// What a note says, and which replica sent it.
+#[derive(Clone, Copy, Debug, PartialEq, Eq)]
+pub enum Note {
+    /// The frame with this number was taken.
+    Ack { from: u8, seq: u64 },
+    /// The frames that weren't acknowledged are to be sent again.
+    Again { from: u8 },
+}
+
+// The note without its tag.
+pub(crate) fn note_front(me: u8, to: u8, form: u8, number: u64) -> [u8; 12]
+    ensures { result ≡ note_front me to form number }
+{
+    let n = number.to_be_bytes();
+    [
+        NOTE, me, to, form, n[0], n[1], n[2], n[3], n[4], n[5], n[6], n[7],
+    ]
+}
+
+// The front with its tag behind it.
+pub(crate) fn tagged_note(front: &[u8; 12], tag: &[u8; 32]) -> [u8; 44]
+    ensures { result ≡ front.now ++ tag.now }
+{
+    let mut note = [0; 44];
+    note[12..].copy_from_slice(tag);
+    note[..12].copy_from_slice(front);
+    note
+}
+
+// The tests that need no key.
+pub(crate) fn is_plain_note(keys: &Keys, bytes: &[u8]) -> bool
+    ensures value { result ≡ is_plain_note keys.now bytes.now }
+    ensures long { result ≡ true → length bytes.now ≡ 44 }
+    ensures sender { result ≡ true → (sender_of bytes.now < keys.now.n) × (keys.now.n ≤ 31) }
+{
+    bytes.len() == NOTE_LEN
+        && bytes[0] == NOTE
+        && bytes[2] == keys.me()
+        && bytes[1] < keys.n()
+        && bytes[1] != keys.me()
+}
+
+// What the parts of a note say.
+pub(crate) fn note_of(bytes: &[u8]) -> Option<Note>
+    requires { length bytes.now ≡ 44 }
+    ensures { result ≡ note_of (sender_of bytes.now) (form_of bytes.now) (number_of bytes.now) }
+{
+    let mut number = [0; 8];
+    number.copy_from_slice(&bytes[4..12]);
+    let seq = u64::from_be_bytes(number);
+    let from = bytes[1];
+    if bytes[3] == ACK {
+        Some(Note::Ack { from, seq })
+    } else if bytes[3] == AGAIN && seq == 0 {
+        Some(Note::Again { from })
+    } else {
+        None
+    }
+}
+
+// A note of a form and a number.
+fn seal_note(keys: &Keys, to: u8, form: u8, number: u64) -> [u8; 44]
+    requires { to < keys.now.n }
+    ensures { result ≡ sealed_note keys.now to form number }
+{
+    let front = note_front(keys.me(), to, form, number);
+    let tag = hmac(keys.key(to), &front);
+    tagged_note(&front, &tag)
+}
+
+/// The note for a replica that its frame with this number was taken: 0x4e, sender, receiver, form 1, the number (8 bytes,
+/// big-endian), and the tag of all these bytes (HMAC-SHA-256, RFC 2104) under the key that sender and receiver share. It
+/// takes no memory.
+pub fn seal_ack(keys: &Keys, to: u8, seq: u64) -> [u8; 44]
+    requires { to < keys.now.n }
+    ensures { result ≡ ack_note keys.now to seq }
+{
+    seal_note(keys, to, ACK, seq)
+}
+
+/// The note for a replica that it is to send its frames again: as that of `seal_ack`, with form 2 and number 0. It takes no
+/// memory.
+pub fn seal_again(keys: &Keys, to: u8) -> [u8; 44]
+    requires { to < keys.now.n }
+    ensures { result ≡ again_note keys.now to }
+{
+    seal_note(keys, to, AGAIN, 0)
+}
+
+/// What a note says: `None` exactly where the bytes aren't a note for this replica, from another one below n, with a right
+/// tag, of form 1, or of form 2 with number 0. It takes no memory.
+pub fn open_note(keys: &Keys, bytes: &[u8]) -> Option<Note>
+    ensures { result ≡ noted keys.now bytes.now }
+{
+    if !is_plain_note(keys, bytes) {
+        return None;
+    }
+    let (front, tag) = bytes.split_at(bytes.len() - TAG_LEN);
+    let wanted = hmac(keys.key(bytes[1]), front);
+    if wanted.as_slice() != tag {
+        return None;
+    }
+    note_of(bytes)
+}
