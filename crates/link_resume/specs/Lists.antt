@@ -1,0 +1,37 @@
+-- Frames that are kept: one list for each peer, each in the order in which its frames were kept.
+use Rattle.std.specs.Prelude.{ℕ, ◌==◌, ◌<◌, ◌≤◌, Bool, not, List, [], ◌∷◌, ◌++◌, filter, slice_index_or, slice_set, length, sum_by}
+use Rattle.std.specs.List.{AllPairs, AllWithin}
+use Rattle.link_resume.specs.declared.kept.Kept.{Kept}
+
+-- what is kept for a peer
+abbrev pub kept_for : List (List Kept) → ℕ → List Kept
+kept_for lists peer = slice_index_or lists peer []
+
+-- how many bytes these frames have
+abbrev pub bytes_in : List Kept → ℕ
+bytes_in kept = sum_by (λ k. length k.frame) kept
+
+-- the most that are kept for one peer
+abbrev pub most_bytes : ℕ
+most_bytes = 8388608
+
+-- a frame of this number is kept behind the others of the peer
+abbrev pub with_kept : List (List Kept) → ℕ → ℕ → List ℕ → List (List Kept)
+with_kept lists peer seq frame = slice_set lists peer (kept_for lists peer ++ record { seq = seq; frame = frame } ∷ [])
+
+-- those that have another number
+abbrev pub all_but : ℕ → List Kept → List Kept
+all_but seq kept = filter (λ k. not (k.seq == seq)) kept
+
+-- the frames of this number aren't kept any more
+abbrev pub without : List (List Kept) → ℕ → ℕ → List (List Kept)
+without lists peer seq = slice_set lists peer (all_but seq (kept_for lists peer))
+
+-- each has a greater number than those before it
+abbrev pub Ascend : List Kept → Type 0
+Ascend kept = AllPairs (λ a b. a.seq < b.seq) kept
+
+-- the frames before a place have lesser numbers, and those from it on haven't
+pub record IsPlace (seq at : ℕ) (kept : List Kept) : Type 0 where
+  pub before : AllWithin (λ k. k.seq < seq) kept 0 at
+  pub behind : AllWithin (λ k. seq ≤ k.seq) kept at (length kept)

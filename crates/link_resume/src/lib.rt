@@ -1,0 +1,19 @@
+//! Frames that were sent and aren't acknowledged yet, kept for each peer so that they can be sent again.
+//!
+//! A connection may break with frames on the way. So a replica keeps what it sends to a peer until the peer acknowledges it
+//! by its number, and gives it to the link again when the peer has a connection again, or asks for it. At most 8,388,608
+//! bytes are kept for one peer, so no peer that doesn't answer takes the room of others.
+//!
+//! Contracts see `Resume` as one list for each peer, in the order in which its frames were kept (`specs/Lists.antt`). Numbers
+//! may come in any order; where they ascend, as those of a replica's frames do, an acknowledgement is found by halving, and
+//! the shorter side of the list moves: for the oldest frame none does.
+#![tactic(auto)]
+
+mod kept;
+mod lane;
+mod resume;
+#[cfg(test)]
+mod tests;
+
+pub use kept::{KeepFault, Kept};
+pub use resume::Resume;

@@ -1,0 +1,48 @@
+use super::*;
+
+// The frames that were acknowledged go, and the others stay in their order.
+#[test]
+fn an_acknowledged_frame_goes(rt: HostRuntime) {
+    let mut resume = Resume::new(rt.alloc(), 2).expect(&rt, "memory");
+    assert!(rt; resume.peers() == 2);
+    assert!(rt; resume.keep(rt.alloc(), 1, 0, &[7; 43]).is_ok());
+    assert!(rt; resume.keep(rt.alloc(), 1, 1, &[8; 44]).is_ok());
+    resume.acked(1, 0);
+    resume.acked(1, 0);
+    assert!(rt; resume.bytes(1) == 44);
+    assert!(rt;
+        resume
+            .waiting(1, 0)
+            .is_some_and(|kept| kept.seq == 1 && kept.frame.as_slice().len() == 44)
+    );
+    assert!(rt; resume.waiting(1, 1).is_none());
+}
+
+// 512 frames of 16,384 bytes for one peer, and then one of 43: it isn't kept, and another peer's is.
+#[test]
+fn a_full_queue_is_told(rt: HostRuntime) {
+    let mut resume = Resume::new(rt.alloc(), 2).expect(&rt, "memory");
+    for seq in 0..512 {
+        assert!(rt; resume.peers() == 2);
+        assert!(rt; resume.keep(rt.alloc(), 0, seq, &[0; 16_384]).is_ok());
+    }
+    assert!(rt; resume.peers() == 2);
+    assert!(rt; resume.keep(rt.alloc(), 0, 512, &[0; 43]) == Err(KeepFault::QueueFull(8_388_608)));
+    assert!(rt; resume.peers() == 2);
+    assert!(rt; resume.keep(rt.alloc(), 1, 512, &[0; 43]).is_ok());
+}
+
+// Numbers may come in any order, and more than once.
+#[test]
+fn numbers_come_in_any_order(rt: HostRuntime) {
+    let mut resume = Resume::new(rt.alloc(), 1).expect(&rt, "memory");
+    for seq in [5, 3, 5, 9] {
+        assert!(rt; resume.peers() == 1);
+        assert!(rt; resume.keep(rt.alloc(), 0, seq, &[1; 50]).is_ok());
+    }
+    assert!(rt; resume.peers() == 1);
+    resume.acked(0, 5);
+    assert!(rt; resume.bytes(0) == 100);
+    assert!(rt; resume.waiting(0, 0).is_some_and(|kept| kept.seq == 3));
+    assert!(rt; resume.waiting(0, 1).is_some_and(|kept| kept.seq == 9));
+}
