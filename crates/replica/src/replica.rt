@@ -258,6 +258,15 @@ impl<S: Service, E: Broadcast, C: Coin + Drop> Replica<S, E, C> {
         self.core.tagger().keys()
     }
 
+    /// The channel to the other replicas: the keys of the replica, made ready to tag with.
+    pub fn channel(&self) -> &Channel
+        ensures { (r : Rules) (k : KeyRow) (st : CoreState)
+            → ReplicaStands (with_keys S.stands S.rules S.shown E.stands E.rules E.shown C.bits) self.now r k st
+            → result.now ≡ k }
+    {
+        self.core.tagger()
+    }
+
     /// The core. It stands for the replica's state; but where the replica is stopped it may be ahead of it, by what the call
     /// that stopped the replica was to take.
     pub fn core(&self) -> &Core<S, E, C, Channel>
