@@ -13,10 +13,14 @@ use Rattle.world_model.specs.World.{Setting, seen_of}
 use Rattle.world_model.specs.Agree.{rows_at}
 use Rattle.node_loop.specs.Waiting.{Waiting, with_waiter}
 use Rattle.node_loop.specs.Calls.{Outcome, called, asked_in, refusal_in, submitted, submitted_so, silent, is_waited_for, asked_so, asks_so, asks, if_here, item_does, first_does}
-use Rattle.node_loop.specs.Serving.{so_far, onto, Want, Begins, Finishes, Turns, Halts, Asks, is_done, busy, turn_or, wants_of, first_or, Round, Began, Turned, Took, behind_first, after, IsWanted, AreWanted}
+use Rattle.node_loop.specs.Serving.{so_far, onto, Want, Begins, Finishes, Turns, Halts, Reminds, Asks, here, is_done, busy, turn_or, remind_or, wants_of, first_or, Round, Began, Turned, Reminded, Took, behind_first, after, IsWanted, AreWanted}
 use Rattle.node_loop.specs.Served.{IsFirst}
 use Rattle.node_loop.specs.Laws.{IsServed}
-use Rattle.node_loop.proofs.Rounding.{turns_correct}
+use Rattle.node_loop.proofs.Turning.{turns_correct}
+use Rattle.keyed_channel.specs.Notes.{is_note}
+use Rattle.node_loop.specs.Peers.{Peers}
+use Rattle.node_loop.specs.declared.peers.Pair.{Pair}
+use Rattle.node_loop.specs.Resending.{due}
 
 -- ---- the first items that are left
 
@@ -29,6 +33,7 @@ left_fits : (w : Setting) (past : List Event) (first : List LinkItem) (rounds : 
 left_fits w past first [] all = all
 left_fits w past first (Began item ∷ rounds) all = behind_fits (after w past first rounds).left (left_fits w past first rounds all)
 left_fits w past first (Turned i ∷ rounds) all = left_fits w past first rounds all
+left_fits w past first (Reminded i j ∷ rounds) all = left_fits w past first rounds all
 left_fits w past first (Took item ∷ rounds) all = left_fits w past first rounds all
 
 -- one that is taken up is a first one
@@ -38,6 +43,7 @@ begun_fits [] (Begins x) item all none want = absurd (none x refl)
 begun_fits [] Finishes item all none want = absurd want
 begun_fits [] (Turns i) item all none want = absurd want
 begun_fits [] Halts item all none want = absurd want
+begun_fits [] (Reminds i j) item all none want = absurd want
 begun_fits [] Asks item all none want = absurd want
 begun_fits (x ∷ left) other item all none want = subst IsFirst want all.0
 
@@ -74,12 +80,20 @@ here_fits w at did ws fits = here (w.is_correct at) refl
     here true right = fits right
     here false wrong = tt
 
+note_fits : (w : Setting) (es : List Event) (to : ℕ) (bytes : List ℕ) (ws : Waiting) (b : Bool) → IsServed w (events.Frame to bytes)
+    → FitsOutcome w (if b then silent [] ws else called w es to (events.Frame to bytes) ws).event
+note_fits w es to bytes ws true fits = tt
+note_fits w es to bytes ws false fits = fits
+
 item_fits : (w : Setting) (es : List Event) (item : LinkItem) (ws : Waiting) → length (bytes_of item) < 2 ^ 16 → FitsOutcome w (item_does w es item ws).event
-item_fits w es (items.Frame to bytes) ws short = here_fits w to (called w es to (events.Frame to bytes) ws) ws (λ right. (right, short))
+item_fits w es (items.Frame to bytes) ws short =
+    here_fits w to (if is_note bytes then silent [] ws else called w es to (events.Frame to bytes) ws) ws (λ right. note_fits w es to bytes ws (is_note bytes) (right, short))
 item_fits w es (items.Client at conn bytes) ws short =
     here_fits w at (asks w es at (Some conn) bytes ws) ws (λ right. asks_fits w es at (Some conn) bytes ws (request_in bytes) (right, short))
 item_fits w es (items.Reply from bytes) ws short = tt
+item_fits w es (items.Up at peer) ws short = tt
 item_fits w es (items.Down at peer) ws short = tt
+item_fits w es (items.Left at conn) ws short = tt
 item_fits w es items.End ws short = tt
 
 first_fits : (w : Setting) (es : List Event) (item : LinkItem) (ws : Waiting) → IsFirst item → FitsOutcome w (first_does w es item ws).event
@@ -87,7 +101,9 @@ first_fits w es (items.Client at conn bytes) ws short =
     here_fits w at (asks w es at None bytes ws) ws (λ right. asks_fits w es at None bytes ws (request_in bytes) (right, short))
 first_fits w es (items.Frame to bytes) ws none = absurd none
 first_fits w es (items.Reply from bytes) ws none = absurd none
+first_fits w es (items.Up at peer) ws none = absurd none
 first_fits w es (items.Down at peer) ws none = absurd none
+first_fits w es (items.Left at conn) ws none = absurd none
 first_fits w es items.End ws none = absurd none
 
 -- ---- serving
@@ -97,38 +113,43 @@ onto_fits w es None fits all = all
 onto_fits w es (Some e) fits all = (fits, all)
 
 -- what is wanted of rules is no first item
-no_first : (w : Setting) (until limit : ℕ) (es : List Event) (taken : ℕ) (x : LinkItem) → wants_of w until limit es taken ≡ Begins x → ⊥
-no_first w until limit es taken x = go (is_done w until es)
+no_first : (w : Setting) (until limit : ℕ) (es : List Event) (taken : ℕ) (p : Peers) (x : LinkItem) → wants_of w until limit es taken p ≡ Begins x → ⊥
+no_first w until limit es taken p x = go (is_done w until es)
   where
-    either : (b : Bool) → (if b then Halts else Asks) ≡ Begins x → ⊥
-    either true e = absurd (cc)
-    either false e = absurd (cc)
+    reminds : (pairs : List Pair) → remind_or pairs ≡ Begins x → ⊥
+    reminds [] e = absurd (cc)
+    reminds (pair ∷ pairs) e = absurd (cc)
 
-    turns : (is : List ℕ) → turn_or is (if nat_le limit taken then Halts else Asks) ≡ Begins x → ⊥
+    either : (b : Bool) → (if b then Halts else remind_or (due w es (here w) p)) ≡ Begins x → ⊥
+    either true e = absurd (cc)
+    either false e = reminds (due w es (here w) p) e
+
+    turns : (is : List ℕ) → turn_or is (if nat_le limit taken then Halts else remind_or (due w es (here w) p)) ≡ Begins x → ⊥
     turns [] e = either (nat_le limit taken) e
     turns (i ∷ is) e = absurd (cc)
 
-    go : (b : Bool) → (if b then Finishes else turn_or (busy w es) (if nat_le limit taken then Halts else Asks)) ≡ Begins x → ⊥
+    go : (b : Bool) → (if b then Finishes else turn_or (busy w es) (if nat_le limit taken then Halts else remind_or (due w es (here w) p))) ≡ Begins x → ⊥
     go true e = absurd (cc)
     go false e = turns (busy w es) e
 
 -- a turn that is wanted is one at a correct replica
-turned_fits : (w : Setting) (until limit : ℕ) (es : List Event) (taken i : ℕ) (left : List LinkItem)
-    → IsWanted (first_or left (wants_of w until limit es taken)) (Turned i) → w.is_correct i ≡ true
-turned_fits w until limit es taken i [] want = by_rule (wants_of w until limit es taken) refl want
+turned_fits : (w : Setting) (until limit : ℕ) (es : List Event) (taken i : ℕ) (p : Peers) (left : List LinkItem)
+    → IsWanted (first_or left (wants_of w until limit es taken p)) (Turned i) → w.is_correct i ≡ true
+turned_fits w until limit es taken i p [] want = by_rule (wants_of w until limit es taken p) refl want
   where
-    by_rule : (rule : Want) → wants_of w until limit es taken ≡ rule → IsWanted rule (Turned i) → w.is_correct i ≡ true
-    by_rule (Turns j) is same = subst (λ (k : ℕ). w.is_correct k ≡ true) same (turns_correct w until limit es taken j is)
+    by_rule : (rule : Want) → wants_of w until limit es taken p ≡ rule → IsWanted rule (Turned i) → w.is_correct i ≡ true
+    by_rule (Turns j) is same = subst (λ (k : ℕ). w.is_correct k ≡ true) same (turns_correct w until limit es taken p j is)
     by_rule (Begins x) is none = absurd none
     by_rule Finishes is none = absurd none
     by_rule Halts is none = absurd none
+    by_rule (Reminds k l) is none = absurd none
     by_rule Asks is none = absurd none
-turned_fits w until limit es taken i (x ∷ left) none = absurd none
+turned_fits w until limit es taken i p (x ∷ left) none = absurd none
 
 -- an item that was asked for is short
-took_fits : (w : Setting) (until limit : ℕ) (es : List Event) (taken : ℕ) (item : LinkItem) (left : List LinkItem)
-    → IsWanted (first_or left (wants_of w until limit es taken)) (Took item) → length (bytes_of item) < 2 ^ 16
-took_fits w until limit es taken item [] want = by_rule (wants_of w until limit es taken) want
+took_fits : (w : Setting) (until limit : ℕ) (es : List Event) (taken : ℕ) (item : LinkItem) (p : Peers) (left : List LinkItem)
+    → IsWanted (first_or left (wants_of w until limit es taken p)) (Took item) → length (bytes_of item) < 2 ^ 16
+took_fits w until limit es taken item p [] want = by_rule (wants_of w until limit es taken p) want
   where
     by_rule : (rule : Want) → IsWanted rule (Took item) → length (bytes_of item) < 2 ^ 16
     by_rule Asks given = given.short
@@ -136,22 +157,24 @@ took_fits w until limit es taken item [] want = by_rule (wants_of w until limit 
     by_rule (Begins x) none = absurd none
     by_rule Finishes none = absurd none
     by_rule Halts none = absurd none
-took_fits w until limit es taken item (x ∷ left) none = absurd none
+    by_rule (Reminds k l) none = absurd none
+took_fits w until limit es taken item p (x ∷ left) none = absurd none
 
 pub all_fit : (w : Setting) (past : List Event) (until limit : ℕ) (first : List LinkItem) (rounds : List Round) → All IsFirst first
     → AreWanted w past until limit first rounds → AllByRecursion (IsServed w) (after w past first rounds).events
 all_fit w past until limit first [] all wanted = tt
 all_fit w past until limit first (Began item ∷ rounds) all wanted =
     let s = after w past first rounds in
-    let is_first = begun_fits s.left (wants_of w until limit (so_far past s) s.taken) item (left_fits w past first rounds (recursion_from_All IsFirst first all))
-    (no_first w until limit (so_far past s) s.taken) wanted.0 in
+    let is_first = begun_fits s.left (wants_of w until limit (so_far past s) s.taken s.peers) item (left_fits w past first rounds (recursion_from_All IsFirst first all))
+    (no_first w until limit (so_far past s) s.taken s.peers) wanted.0 in
     onto_fits w s.events (first_does w (so_far past s) item s.waiting).event (first_fits w (so_far past s) item s.waiting is_first)
     (all_fit w past until limit first rounds all wanted.1)
 all_fit w past until limit first (Turned i ∷ rounds) all wanted =
     let s = after w past first rounds in
-    (turned_fits w until limit (so_far past s) s.taken i s.left wanted.0, all_fit w past until limit first rounds all wanted.1)
+    (turned_fits w until limit (so_far past s) s.taken i s.peers s.left wanted.0, all_fit w past until limit first rounds all wanted.1)
+all_fit w past until limit first (Reminded i j ∷ rounds) all wanted = all_fit w past until limit first rounds all wanted.1
 all_fit w past until limit first (Took item ∷ rounds) all wanted =
     let s = after w past first rounds in
     onto_fits w s.events (item_does w (so_far past s) item s.waiting).event
-    (item_fits w (so_far past s) item s.waiting (took_fits w until limit (so_far past s) s.taken item s.left wanted.0))
+    (item_fits w (so_far past s) item s.waiting (took_fits w until limit (so_far past s) s.taken item s.peers s.left wanted.0))
     (all_fit w past until limit first rounds all wanted.1)

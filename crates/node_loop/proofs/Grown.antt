@@ -6,8 +6,10 @@ use Rattle.outside.specs.declared.link.LinkItem.{LinkItem}
 use Rattle.outside.specs.Links.{Gives, Replies}
 use Rattle.layer_api.specs.Service.{IsPart}
 use Rattle.world_model.specs.World.{Setting}
-use Rattle.node_loop.specs.Calls.{Outcome, called, item_does, first_does}
-use Rattle.node_loop.specs.Serving.{Serving, so_far, sent_by, onto, with_outcome, Round, Began, Turned, Took, began, gave, round_does, after}
+use Rattle.node_loop.specs.Calls.{Outcome, called, silent, item_does, first_does}
+use Rattle.node_loop.specs.Deeds.{act_of}
+use Rattle.node_loop.specs.Resending.{Brought}
+use Rattle.node_loop.specs.Serving.{Serving, so_far, sent_by, onto, with_outcome, Round, Began, Turned, Reminded, Took, began, gave, brought, round_does, after}
 use Rattle.node_loop.specs.Laws.{OnlyGrows}
 
 abbrev Grown : Serving → Serving → Type 0
@@ -20,18 +22,20 @@ part_onto : (o : Option Event) (xs ys : List Event) → IsPart xs ys → IsPart 
 part_onto None xs ys part = part
 part_onto (Some e) xs ys part = part_front (e ∷ []) xs ys part
 
-grown_outcome : (w : Setting) (past : List Event) (did : Outcome) (s t : Serving) → Grown s t → Grown s (with_outcome w past did t)
-grown_outcome w past did s t grown = (
+grown_outcome : (w : Setting) (past : List Event) (did : Outcome) (more : Brought) (s t : Serving) → Grown s t → Grown s (with_outcome w past did more t)
+grown_outcome w past did more s t grown = (
   part_onto did.event s.events t.events grown.0,
-  part_front (reverse (map Replies did.replies)) s.acts (reverse (sent_by w (so_far past t) did.event) ++ t.acts)
-      (part_front (reverse (sent_by w (so_far past t) did.event)) s.acts t.acts grown.1),
+  part_front (reverse (map Replies did.replies)) s.acts (reverse (map (act_of w.keys) more.deeds) ++ (reverse (sent_by w (so_far past t) did.event) ++ t.acts))
+      (part_front (reverse (map (act_of w.keys) more.deeds)) s.acts (reverse (sent_by w (so_far past t) did.event) ++ t.acts)
+      (part_front (reverse (sent_by w (so_far past t) did.event)) s.acts t.acts grown.1)),
 )
 
 grown_round : (w : Setting) (past : List Event) (x : Round) (s t : Serving) → Grown s t → Grown s (round_does w past x t)
-grown_round w past (Began item) s t grown = grown_outcome w past (first_does w (so_far past t) item t.waiting) s (began t) grown
-grown_round w past (Turned i) s t grown = grown_outcome w past (called w (so_far past t) i (events.Turn i) t.waiting) s t grown
+grown_round w past (Began item) s t grown = grown_outcome w past (first_does w (so_far past t) item t.waiting) (brought w past (Began item) t) s (began t) grown
+grown_round w past (Turned i) s t grown = grown_outcome w past (called w (so_far past t) i (events.Turn i) t.waiting) (brought w past (Turned i) t) s t grown
+grown_round w past (Reminded i j) s t grown = grown_outcome w past (silent [] t.waiting) (brought w past (Reminded i j) t) s t grown
 grown_round w past (Took item) s t grown =
-    grown_outcome w past (item_does w (so_far past t) item t.waiting) s (gave item t) (grown.0, part_front (Gives item ∷ []) s.acts t.acts grown.1)
+    grown_outcome w past (item_does w (so_far past t) item t.waiting) (brought w past (Took item) t) s (gave item t) (grown.0, part_front (Gives item ∷ []) s.acts t.acts grown.1)
 
 grown_more : (w : Setting) (past : List Event) (first : List LinkItem) (more xs : List Round) → Grown (after w past first xs) (after w past first (more ++ xs))
 grown_more w past first [] xs = (([], refl), ([], refl))

@@ -1,6 +1,7 @@
 -- The replicas that are here, and a call on one of them.
-use Rattle.std.proofs.Common.{◌≡◌, ℕ, ◌<◌, ◌≤◌, true, List, ◌∷◌, ◌++◌, length, map, slice_index_or, Option, Some, Result, Ok, Err, OnOk, IfOk, inl, inr, sym, ◌∙◌, ap, subst, arith, slice_set}
+use Rattle.std.proofs.Common.{◌≡◌, ℕ, ◌<◌, ◌≤◌, true, List, ◌∷◌, ◌++◌, length, map, slice_index_or, Some, Result, Ok, Err, OnOk, IfOk, inl, inr, refl, sym, ◌∙◌, ap, subst, arith, slice_set}
 use Rattle.std.specs.List.{slice_get}
+use Rattle.std.proofs.lemmas.Bool.{both_ways}
 use Rattle.std.proofs.lemmas.Bool.Decides.{eqb_tells}
 use Rattle.std.proofs.lemmas.List.{length-set, map-append}
 use Rattle.std.proofs.lemmas.Option.{same_Some, slice_get_within, slice_get-get_or}
@@ -25,11 +26,10 @@ use Rattle.replica.specs.Replica.{ReplicaStands}
 use Rattle.world_model.specs.World.{Setting, rules_at, states_of, seen_answer, seen_of}
 use Rattle.world_model.specs.Stands.{IsReplica}
 use Rattle.world_model.specs.Agree.{rows_at}
-use Rattle.node_loop.specs.Calls.{refusal_in}
 use Rattle.node_loop.specs.Serving.{sent_by}
 use Rattle.node_loop.specs.Served.{AreHere}
 use Rattle.schedule_file.specs.Spelling.{IsAlone}
-use Rattle.node_loop.specs.Standing.{IsWant, Numbers, frame_by}
+use Rattle.node_loop.specs.Standing.{is_want, TellsWant, frame_by}
 use Rattle.world_model.proofs.AtPlaces.{handled_live}
 use Rattle.world_model.proofs.Left.{get_set_same, get_set_other}
 use Rattle.node_loop.proofs.Alone.{call_in, done_by, alone_state, other_state, alone_seen, alone_sent}
@@ -104,23 +104,26 @@ abbrev pub Given : {S E C : Type 0} → Meaning S E C KeyRow → Setting → Lis
 Given m w es numbers here at e before after =
     AreHere m w (e ∷ es) numbers here × (map (frame_by at) after ≡ map (frame_by at) before ++ sent_by w es (Some e))
 
-wants : (P : Type 0) (result : Result (Option ℕ) Mem) → IsWant result → OnOk result P
-wants P (Ok refused) want = absurd want
-wants P (Err mem) want = tt
+wants : (P : Type 0) (answer : Result Answer Refusal) (result : Result (Result Answer Refusal) Mem) → is_want answer ≡ true → TellsWant answer result → OnOk result P
+wants P answer (Ok told) want tells = absurd (both_ways (is_want answer) tells.1 want)
+wants P answer (Err mem) want tells = tt
 
-wants_none : (P : Option ℕ → Type 0) (result : Result (Option ℕ) Mem) → IsWant result → IfOk result P
-wants_none P (Ok refused) want = absurd want
-wants_none P (Err mem) want = tt
+wants_none : (P : Result Answer Refusal → Type 0) (answer : Result Answer Refusal) (result : Result (Result Answer Refusal) Mem) → is_want answer ≡ true → TellsWant answer result → IfOk result P
+wants_none P answer (Ok told) want tells = absurd (both_ways (is_want answer) tells.1 want)
+wants_none P answer (Err mem) want tells = tt
+
+on_any : (P : Type 0) (result : Result (Result Answer Refusal) Mem) → P → OnOk result P
+on_any P (Ok told) is = is
+on_any P (Err mem) is = tt
 
 answered : {S E C : Type 0} (m : Meaning S E C KeyRow) (w : Setting) (es : List Event) (numbers : List ℕ) (here : List (Replica S E C)) (place at : ℕ) (old new : Replica S E C) (e : Event)
-    (before after : List OutFrame) (answer : Result Answer Refusal) (result : Result (Option ℕ) Mem)
+    (before after : List OutFrame) (answer : Result Answer Refusal) (result : Result (Result Answer Refusal) Mem)
     → AreHere m w es numbers here → slice_get numbers place ≡ Some at → slice_get here place ≡ Some old → IsAlone at e
     → Handles (ReplicaStands m) new (call_in e) before after answer (rules_at w at) (w.keys at) (states_of w es at)
-    → result ≡ Ok (refusal_in (seen_answer answer)) → OnOk result (Given m w es numbers (slice_set here place new) at e before after)
-answered m w es numbers here place at old new e before after answer result stand number there alone did saw =
+    → OnOk result (Given m w es numbers (slice_set here place new) at e before after)
+answered m w es numbers here place at old new e before after answer result stand number there alone did =
     let is : IsReplica m w (states_of w es) at old = stand.each place at old number there in
-    let P : Result (Option ℕ) Mem → Type 0 = λ x. OnOk x (Given m w es numbers (slice_set here place new) at e before after) in
-    subst P (sym saw) (
+    on_any (Given m w es numbers (slice_set here place new) at e before after) result (
       called_here m w es numbers here place at old new e stand number there alone did.state,
       ap (map (frame_by at)) did.out ∙ map-append (frame_by at) before (done_by w es at e).out
           ∙ ap (λ xs. map (frame_by at) before ++ xs) (sym (alone_sent w es at e stand.going is.correct alone)),
@@ -128,40 +131,39 @@ answered m w es numbers here place at old new e before after answer result stand
 
 -- a call
 pub given : {S E C : Type 0} (m : Meaning S E C KeyRow) (w : Setting) (es : List Event) (numbers : List ℕ) (here : List (Replica S E C)) (place at : ℕ) (old new : Replica S E C) (e : Event)
-    (before after : List OutFrame) (answer : Result Answer Refusal) (result : Result (Option ℕ) Mem)
+    (before after : List OutFrame) (answer : Result Answer Refusal) (result : Result (Result Answer Refusal) Mem)
     → AreHere m w es numbers here → slice_get numbers place ≡ Some at → slice_get here place ≡ Some old → IsAlone at e
-    → DoesAll (ReplicaStands m) old new (call_in e) before after answer → Numbers answer result
+    → DoesAll (ReplicaStands m) old new (call_in e) before after answer → TellsWant answer result
     → OnOk result (Given m w es numbers (slice_set here place new) at e before after)
 given m w es numbers here place at old new e before after (Err (refusals.Core faults.Mem)) result stand number there alone does saw =
-    wants (Given m w es numbers (slice_set here place new) at e before after) result saw
+    wants (Given m w es numbers (slice_set here place new) at e before after) (Err (refusals.Core faults.Mem)) result refl saw
 given m w es numbers here place at old new e before after (Err (refusals.Body body.Mem)) result stand number there alone does saw =
-    wants (Given m w es numbers (slice_set here place new) at e before after) result saw
+    wants (Given m w es numbers (slice_set here place new) at e before after) (Err (refusals.Body body.Mem)) result refl saw
 given m w es numbers here place at old new e before after answer result stand number there alone does saw =
     let is : IsReplica m w (states_of w es) at old = stand.each place at old number there in
-    answered m w es numbers here place at old new e before after answer result stand number there alone (does (rules_at w at) (w.keys at) (states_of w es at) is.stands) saw
+    answered m w es numbers here place at old new e before after answer result stand number there alone (does (rules_at w at) (w.keys at) (states_of w es at) is.stands)
 
-refused_so : {S E C : Type 0} (m : Meaning S E C KeyRow) (w : Setting) (es : List Event) (at : ℕ) (new : Replica S E C) (e : Event)
-    (before after : List OutFrame) (answer : Result Answer Refusal) (result : Result (Option ℕ) Mem)
+seen_so : {S E C : Type 0} (m : Meaning S E C KeyRow) (w : Setting) (es : List Event) (at : ℕ) (new : Replica S E C) (e : Event)
+    (before after : List OutFrame) (answer : Result Answer Refusal) (result : Result (Result Answer Refusal) Mem)
     → seen_of w es e ≡ seen_answer (done_by w es at e).answer
     → Handles (ReplicaStands m) new (call_in e) before after answer (rules_at w at) (w.keys at) (states_of w es at)
-    → result ≡ Ok (refusal_in (seen_answer answer)) → IfOk result (λ code. code ≡ refusal_in (seen_of w es e))
-refused_so m w es at new e before after answer result seen did saw =
-    let P : Result (Option ℕ) Mem → Type 0 = λ x. IfOk x (λ code. code ≡ refusal_in (seen_of w es e)) in
-    subst P (sym saw) (ap (λ x. refusal_in (seen_answer x)) did.answer ∙ ap refusal_in (sym seen))
+    → TellsWant answer result → IfOk result (λ told. seen_answer told ≡ seen_of w es e)
+seen_so m w es at new e before after answer (Ok told) seen did saw = ap seen_answer (saw.0 ∙ did.answer) ∙ sym seen
+seen_so m w es at new e before after answer (Err mem) seen did saw = tt
 
--- is refused as its event is
-pub refused : {S E C : Type 0} (m : Meaning S E C KeyRow) (w : Setting) (es : List Event) (numbers : List ℕ) (here : List (Replica S E C)) (place at : ℕ) (old new : Replica S E C) (e : Event)
-    (before after : List OutFrame) (answer : Result Answer Refusal) (result : Result (Option ℕ) Mem)
+-- is answered as its event is
+pub tells : {S E C : Type 0} (m : Meaning S E C KeyRow) (w : Setting) (es : List Event) (numbers : List ℕ) (here : List (Replica S E C)) (place at : ℕ) (old new : Replica S E C) (e : Event)
+    (before after : List OutFrame) (answer : Result Answer Refusal) (result : Result (Result Answer Refusal) Mem)
     → AreHere m w es numbers here → slice_get numbers place ≡ Some at → slice_get here place ≡ Some old → IsAlone at e
-    → DoesAll (ReplicaStands m) old new (call_in e) before after answer → Numbers answer result
-    → IfOk result (λ code. code ≡ refusal_in (seen_of w es e))
-refused m w es numbers here place at old new e before after (Err (refusals.Core faults.Mem)) result stand number there alone does saw =
-    wants_none (λ code. code ≡ refusal_in (seen_of w es e)) result saw
-refused m w es numbers here place at old new e before after (Err (refusals.Body body.Mem)) result stand number there alone does saw =
-    wants_none (λ code. code ≡ refusal_in (seen_of w es e)) result saw
-refused m w es numbers here place at old new e before after answer result stand number there alone does saw =
+    → DoesAll (ReplicaStands m) old new (call_in e) before after answer → TellsWant answer result
+    → IfOk result (λ told. seen_answer told ≡ seen_of w es e)
+tells m w es numbers here place at old new e before after (Err (refusals.Core faults.Mem)) result stand number there alone does saw =
+    wants_none (λ told. seen_answer told ≡ seen_of w es e) (Err (refusals.Core faults.Mem)) result refl saw
+tells m w es numbers here place at old new e before after (Err (refusals.Body body.Mem)) result stand number there alone does saw =
+    wants_none (λ told. seen_answer told ≡ seen_of w es e) (Err (refusals.Body body.Mem)) result refl saw
+tells m w es numbers here place at old new e before after answer result stand number there alone does saw =
     let is : IsReplica m w (states_of w es) at old = stand.each place at old number there in
-    refused_so m w es at new e before after answer result (alone_seen w es at e stand.going is.correct alone) (does (rules_at w at) (w.keys at) (states_of w es at) is.stands) saw
+    seen_so m w es at new e before after answer result (alone_seen w es at e stand.going is.correct alone) (does (rules_at w at) (w.keys at) (states_of w es at) is.stands) saw
 
 -- ---- as the code has it
 
@@ -173,29 +175,29 @@ does_so : {S E C : Type 0} (m : Meaning S E C KeyRow) (old new : Replica S E C) 
 does_so m old new e call before after answer is does =
     let P : Call → Type 0 = λ x. DoesAll (ReplicaStands m) old new x before after answer in subst P is does
 
-numbers_so : (answer said : Result Answer Refusal) (result : Result (Option ℕ) Mem) → said ≡ answer → Numbers said result → Numbers answer result
-numbers_so answer said result is saw = let P : Result Answer Refusal → Type 0 = λ x. Numbers x result in subst P is saw
+told_so : (answer said : Result Answer Refusal) (result : Result (Result Answer Refusal) Mem) → said ≡ answer → TellsWant said result → TellsWant answer result
+told_so answer said result is saw = let P : Result Answer Refusal → Type 0 = λ x. TellsWant x result in subst P is saw
 
 pub gave : {S E C : Type 0} (m : Meaning S E C KeyRow) (w : Setting) (es : List Event) (numbers : List ℕ) (here now : List (Replica S E C)) (place at : ℕ) (old new : Replica S E C) (e : Event) (call : Call)
-    (before after out : List OutFrame) (answer said : Result Answer Refusal) (result : Result (Option ℕ) Mem)
+    (before after out : List OutFrame) (answer said : Result Answer Refusal) (result : Result (Result Answer Refusal) Mem)
     → AreHere m w es numbers here → slice_get numbers place ≡ Some at → place < length here → old ≡ slice_index_or here place old → IsAlone at e → call ≡ call_in e
-    → DoesAll (ReplicaStands m) old new call before after answer → Numbers said result → said ≡ answer → now ≡ slice_set here place new → out ≡ after
+    → DoesAll (ReplicaStands m) old new call before after answer → TellsWant said result → said ≡ answer → now ≡ slice_set here place new → out ≡ after
     → OnOk result (Given m w es numbers now at e before out)
 gave {S = S} {E = E} {C = C} m w es numbers here now place at old new e call before after out answer said result stand number within is alone calls does saw same now_is out_is =
     let P : List (Replica S E C) → Type 0 = λ x. OnOk result (Given m w es numbers x at e before out) in
     let Q : List OutFrame → Type 0 = λ x. OnOk result (Given m w es numbers (slice_set here place new) at e before x) in
     subst P (sym now_is) (subst Q (sym out_is)
     (given m w es numbers here place at old new e before after answer result stand number (is_there here place old within is) alone
-    (does_so m old new e call before after answer calls does) (numbers_so answer said result same saw)))
+    (does_so m old new e call before after answer calls does) (told_so answer said result same saw)))
 
-pub refuses : {S E C : Type 0} (m : Meaning S E C KeyRow) (w : Setting) (es : List Event) (numbers : List ℕ) (here : List (Replica S E C)) (place at : ℕ) (old new : Replica S E C) (e : Event) (call : Call)
-    (before after : List OutFrame) (answer said : Result Answer Refusal) (result : Result (Option ℕ) Mem)
+pub answers : {S E C : Type 0} (m : Meaning S E C KeyRow) (w : Setting) (es : List Event) (numbers : List ℕ) (here : List (Replica S E C)) (place at : ℕ) (old new : Replica S E C) (e : Event) (call : Call)
+    (before after : List OutFrame) (answer said : Result Answer Refusal) (result : Result (Result Answer Refusal) Mem)
     → AreHere m w es numbers here → slice_get numbers place ≡ Some at → place < length here → old ≡ slice_index_or here place old → IsAlone at e → call ≡ call_in e
-    → DoesAll (ReplicaStands m) old new call before after answer → Numbers said result → said ≡ answer
-    → IfOk result (λ code. code ≡ refusal_in (seen_of w es e))
-refuses m w es numbers here place at old new e call before after answer said result stand number within is alone calls does saw same =
-    refused m w es numbers here place at old new e before after answer result stand number (is_there here place old within is) alone
-    (does_so m old new e call before after answer calls does) (numbers_so answer said result same saw)
+    → DoesAll (ReplicaStands m) old new call before after answer → TellsWant said result → said ≡ answer
+    → IfOk result (λ told. seen_answer told ≡ seen_of w es e)
+answers m w es numbers here place at old new e call before after answer said result stand number within is alone calls does saw same =
+    tells m w es numbers here place at old new e before after answer result stand number (is_there here place old within is) alone
+    (does_so m old new e call before after answer calls does) (told_so answer said result same saw)
 
 -- ---- what is read of a replica
 

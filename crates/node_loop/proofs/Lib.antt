@@ -4,6 +4,7 @@ pub mod FramesSent
 pub mod Logs
 pub mod TrueReplies
 pub mod Stepping
+pub mod Turning
 pub mod Rounding
 pub mod Alone
 pub mod Heres
@@ -14,3 +15,12 @@ pub mod Seating
 pub mod Rows
 pub mod Comings
 pub mod Fitting
+pub mod Reopening
+pub mod Earning
+pub mod Keeping
+pub mod Keepers
+pub mod Wishing
+pub mod Hearing
+pub mod KeptFrames
+pub mod SentOut
+pub mod Delivering

@@ -8,7 +8,7 @@ use Rattle.outside.specs.declared.link.LinkItem.{LinkItem}
 use Rattle.layer_api.specs.Service.{IsPart}
 use Rattle.world_model.specs.World.{Setting}
 use Rattle.world_model.specs.Agree.{OneIsPart}
-use Rattle.node_loop.specs.Serving.{Want, Begins, Finishes, Turns, Halts, Asks, wants, Round, Began, Turned, Took, after, IsWanted, AreWanted}
+use Rattle.node_loop.specs.Serving.{Want, Begins, Finishes, Turns, Halts, Reminds, Asks, wants, Round, Began, Turned, Reminded, Took, after, IsWanted, AreWanted}
 use Rattle.node_loop.specs.Laws.{items_of, OneRun}
 
 -- ---- parts
@@ -49,6 +49,7 @@ items_more : (more xs : List Round) → IsPart (items_of xs) (items_of (more ++ 
 items_more [] xs = part_itself (items_of xs)
 items_more (Began item ∷ more) xs = items_more more xs
 items_more (Turned i ∷ more) xs = items_more more xs
+items_more (Reminded i j ∷ more) xs = items_more more xs
 items_more (Took item ∷ more) xs = let part = items_more more xs in (item ∷ part.0, ap (λ (l : List LinkItem). item ∷ l) part.1)
 
 wanted_before : (w : Setting) (past : List Event) (until limit : ℕ) (first : List LinkItem) (more xs : List Round)
@@ -64,20 +65,33 @@ same_item a b is one = let e = one_length (a ∷ is) (b ∷ is) one refl in cc
 -- two rounds that are wanted where the same was wanted
 same_round : (want : Want) (x y : Round) (xs : List Round) → IsWanted want x → IsWanted want y → OneIsPart (items_of (x ∷ xs)) (items_of (y ∷ xs)) → x ≡ y
 same_round (Begins item) (Began a) (Began b) xs left right one = ap (λ (i : LinkItem). Began i) (sym left ∙ right)
-same_round (Begins item) (Began a) (Turned j) xs left right one = absurd right
-same_round (Begins item) (Began a) (Took b) xs left right one = absurd right
-same_round (Begins item) (Turned i) y xs left right one = absurd left
-same_round (Begins item) (Took a) y xs left right one = absurd left
+same_round (Begins item) (Began a) (Turned c) xs left right one = absurd right
+same_round (Begins item) (Began a) (Reminded c d) xs left right one = absurd right
+same_round (Begins item) (Began a) (Took c) xs left right one = absurd right
+same_round (Begins item) (Turned c) y xs left right one = absurd left
+same_round (Begins item) (Reminded c d) y xs left right one = absurd left
+same_round (Begins item) (Took c) y xs left right one = absurd left
 same_round (Turns k) (Turned i) (Turned j) xs left right one = ap (λ (i : ℕ). Turned i) (sym left ∙ right)
-same_round (Turns k) (Turned i) (Began b) xs left right one = absurd right
-same_round (Turns k) (Turned i) (Took b) xs left right one = absurd right
-same_round (Turns k) (Began a) y xs left right one = absurd left
-same_round (Turns k) (Took a) y xs left right one = absurd left
+same_round (Turns k) (Turned i) (Began c) xs left right one = absurd right
+same_round (Turns k) (Turned i) (Reminded c d) xs left right one = absurd right
+same_round (Turns k) (Turned i) (Took c) xs left right one = absurd right
+same_round (Turns k) (Began c) y xs left right one = absurd left
+same_round (Turns k) (Reminded c d) y xs left right one = absurd left
+same_round (Turns k) (Took c) y xs left right one = absurd left
+same_round (Reminds k l) (Reminded i j) (Reminded m n) xs left right one = ap₂ (λ (a b : ℕ). Reminded a b) (sym left.0 ∙ right.0) (sym left.1 ∙ right.1)
+same_round (Reminds k l) (Reminded i j) (Began c) xs left right one = absurd right
+same_round (Reminds k l) (Reminded i j) (Turned c) xs left right one = absurd right
+same_round (Reminds k l) (Reminded i j) (Took c) xs left right one = absurd right
+same_round (Reminds k l) (Began c) y xs left right one = absurd left
+same_round (Reminds k l) (Turned c) y xs left right one = absurd left
+same_round (Reminds k l) (Took c) y xs left right one = absurd left
 same_round Asks (Took a) (Took b) xs left right one = ap (λ (i : LinkItem). Took i) (same_item a b (items_of xs) one)
-same_round Asks (Took a) (Began b) xs left right one = absurd right
-same_round Asks (Took a) (Turned j) xs left right one = absurd right
-same_round Asks (Began a) y xs left right one = absurd left
-same_round Asks (Turned i) y xs left right one = absurd left
+same_round Asks (Took a) (Began c) xs left right one = absurd right
+same_round Asks (Took a) (Turned c) xs left right one = absurd right
+same_round Asks (Took a) (Reminded c d) xs left right one = absurd right
+same_round Asks (Began c) y xs left right one = absurd left
+same_round Asks (Turned c) y xs left right one = absurd left
+same_round Asks (Reminded c d) y xs left right one = absurd left
 same_round Finishes x y xs left right one = absurd left
 same_round Halts x y xs left right one = absurd left
 

@@ -17,9 +17,15 @@ use Rattle.world_model.specs.Agree.{rows_at}
 use Rattle.world_model.specs.MadeOrder as made
 use Rattle.world_model.specs.MadeOrder.{MadeFrame}
 use Rattle.node_loop.specs.declared.waiting.Asked.{Asked}
+use Rattle.keyed_channel.specs.KeyRow.{KeyRow}
+use Rattle.keyed_channel.specs.Notes.{is_note}
+use Rattle.node_loop.specs.Peers.{keep_all}
+use Rattle.node_loop.specs.Deeds.{Deed, Came, Made, Resent, Acked, Wished, Replied, act_of}
+use Rattle.node_loop.specs.Resending.{Brought}
+use Rattle.node_loop.proofs.FramesSent.{IsBesides, item_besides}
 use Rattle.node_loop.specs.Waiting.{Waiting, with_waiter}
 use Rattle.node_loop.specs.Calls.{Outcome, reply, reply_each, asked_by, left_by, replies_by, called, asked_in, refusal_in, submitted, submitted_so, silent, is_waited_for, asked_so, asks_so, asks, if_here, item_does, first_does}
-use Rattle.node_loop.specs.Serving.{Serving, so_far, as_sent, sent_by, onto, with_outcome, Round, Began, Turned, Took, began, gave, after}
+use Rattle.node_loop.specs.Serving.{Serving, so_far, as_sent, made_by, sent_by, onto, with_outcome, Round, Began, Turned, Reminded, Took, began, gave, brought, after}
 use Rattle.node_loop.specs.Laws.{IsTrueReply}
 use Rattle.node_loop.proofs.Logs.{rows_are_once, position_in_part}
 
@@ -60,13 +66,28 @@ no_replies [] = refl
 no_replies (f ∷ fs) = rw (reverse_cons (as_sent f) (map as_sent fs), replies_more (reverse (map as_sent fs)) (as_sent f ∷ []), no_replies fs) refl
 
 none_sent : (w : Setting) (es : List Event) (o : Option Event) → replies_in (reverse (sent_by w es o)) ≡ []
-none_sent w es None = refl
-none_sent w es (Some e) = no_replies (made.frames_in (length es) w (states_before w es) (call_of w (states_before w es) e))
+none_sent w es o = no_replies (made_by w es o)
 
-acts_replies : (w : Setting) (es : List Event) (o : Option Event) (xs : List Sent) (acts : List LinkAct)
-    → replies_in (reverse (map Replies xs) ++ (reverse (sent_by w es o) ++ acts)) ≡ reverse xs ++ replies_in acts
-acts_replies w es o xs acts =
-    rw (replies_more (reverse (map Replies xs)) (reverse (sent_by w es o) ++ acts), replies_more (reverse (sent_by w es o)) acts, none_sent w es o, all_replies xs) refl
+besides_none : (keys : ℕ → KeyRow) (more : List Deed) → AllByRecursion IsBesides more → replies_in (reverse (map (act_of keys) more)) ≡ []
+besides_none keys [] all = refl
+besides_none keys (Came item ∷ more) all = absurd all.0
+besides_none keys (Made f ∷ more) all = absurd all.0
+besides_none keys (Resent i j frame ∷ more) all =
+    rw (reverse_cons (act_of keys (Resent i j frame)) (map (act_of keys) more), replies_more (reverse (map (act_of keys) more)) (act_of keys (Resent i j frame) ∷ []), besides_none keys more all.1) refl
+besides_none keys (Acked i j seq ∷ more) all =
+    rw (reverse_cons (act_of keys (Acked i j seq)) (map (act_of keys) more), replies_more (reverse (map (act_of keys) more)) (act_of keys (Acked i j seq) ∷ []), besides_none keys more all.1) refl
+besides_none keys (Wished i j ∷ more) all =
+    rw (reverse_cons (act_of keys (Wished i j)) (map (act_of keys) more), replies_more (reverse (map (act_of keys) more)) (act_of keys (Wished i j) ∷ []), besides_none keys more all.1) refl
+besides_none keys (Replied sent ∷ more) all = absurd all.0
+
+acts_replies : (w : Setting) (es : List Event) (o : Option Event) (more : List Deed) (xs : List Sent) (acts : List LinkAct) → AllByRecursion IsBesides more
+    → replies_in (reverse (map Replies xs) ++ (reverse (map (act_of w.keys) more) ++ (reverse (sent_by w es o) ++ acts))) ≡ reverse xs ++ replies_in acts
+acts_replies w es o more xs acts besides =
+    replies_more (reverse (map Replies xs)) (reverse (map (act_of w.keys) more) ++ (reverse (sent_by w es o) ++ acts))
+    ∙ ap₂ (λ (a b : List Sent). a ++ b) (all_replies xs)
+    (replies_more (reverse (map (act_of w.keys) more)) (reverse (sent_by w es o) ++ acts)
+    ∙ ap₂ (λ (a b : List Sent). a ++ b) (besides_none w.keys more besides)
+    (replies_more (reverse (sent_by w es o)) acts ∙ ap (λ (l : List Sent). l ++ replies_in acts) (none_sent w es o)))
 
 -- ---- what is replied
 
@@ -171,19 +192,29 @@ here_true w es at did ws holds = here (w.is_correct at)
     here true = holds
     here false = tt
 
+note_true : (w : Setting) (es : List Event) (to : ℕ) (bytes : List ℕ) (ws : Waiting) (b : Bool)
+    → IsTrueOutcome w es (if b then silent [] ws else called w es to (events.Frame to bytes) ws)
+note_true w es to bytes ws true = tt
+note_true w es to bytes ws false = called_true w es to (events.Frame to bytes) ws
+
 item_true : (w : Setting) (es : List Event) (item : LinkItem) (ws : Waiting) → IsTrueOutcome w es (item_does w es item ws)
-item_true w es (items.Frame to bytes) ws = here_true w es to (called w es to (events.Frame to bytes) ws) ws (called_true w es to (events.Frame to bytes) ws)
+item_true w es (items.Frame to bytes) ws =
+    here_true w es to (if is_note bytes then silent [] ws else called w es to (events.Frame to bytes) ws) ws (note_true w es to bytes ws (is_note bytes))
 item_true w es (items.Client at conn bytes) ws =
     here_true w es at (asks w es at (Some conn) bytes ws) ws (asks_true w es at (Some conn) bytes ws (request_in bytes) refl)
 item_true w es (items.Reply from bytes) ws = tt
+item_true w es (items.Up at peer) ws = tt
 item_true w es (items.Down at peer) ws = tt
+item_true w es (items.Left at conn) ws = tt
 item_true w es items.End ws = tt
 
 first_true : (w : Setting) (es : List Event) (item : LinkItem) (ws : Waiting) → IsTrueOutcome w es (first_does w es item ws)
 first_true w es (items.Client at conn bytes) ws = here_true w es at (asks w es at None bytes ws) ws (asks_true w es at None bytes ws (request_in bytes) refl)
 first_true w es (items.Frame to bytes) ws = tt
 first_true w es (items.Reply from bytes) ws = tt
+first_true w es (items.Up at peer) ws = tt
 first_true w es (items.Down at peer) ws = tt
+first_true w es (items.Left at conn) ws = tt
 first_true w es items.End ws = tt
 
 -- ---- serving
@@ -209,11 +240,11 @@ module _ (w : Setting) (grow : (more es : List Event) (i : ℕ) → IsPart (rows
   now_true None past s xs all = all
   now_true (Some e) past s xs all = all
 
-  outcome_true : (past : List Event) (did : Outcome) (s : Serving) → AreTrue w (so_far past s) (replies_in s.acts) → IsTrueOutcome w (so_far past s) did
-      → AreTrue w (so_far past (with_outcome w past did s)) (replies_in (with_outcome w past did s).acts)
-  outcome_true past did s all holds =
+  outcome_true : (past : List Event) (did : Outcome) (more : Brought) (s : Serving) → AllByRecursion IsBesides more.deeds → AreTrue w (so_far past s) (replies_in s.acts) → IsTrueOutcome w (so_far past s) did
+      → AreTrue w (so_far past (with_outcome w past did more s)) (replies_in (with_outcome w past did more s).acts)
+  outcome_true past did more s besides all holds =
       let es = onto did.event s.events ++ past in
-      subst (λ (l : List Sent). AreTrue w es l) (sym (acts_replies w (so_far past s) did.event did.replies s.acts))
+      subst (λ (l : List Sent). AreTrue w es l) (sym (acts_replies w (so_far past s) did.event more.deeds did.replies s.acts besides))
       (all_append (IsTrueReply w es) (reverse did.replies) (replies_in s.acts)
       (all_reverse (IsTrueReply w es) did.replies (now_true did.event past s did.replies holds)) (all_stay did.event past s all))
 
@@ -222,10 +253,14 @@ module _ (w : Setting) (grow : (more es : List Event) (i : ℕ) → IsPart (rows
   replies_true past first [] = tt
   replies_true past first (Began item ∷ rounds) =
       let s = after w past first rounds in
-      outcome_true past (first_does w (so_far past s) item s.waiting) (began s) (replies_true past first rounds) (first_true w (so_far past s) item s.waiting)
+      outcome_true past (first_does w (so_far past s) item s.waiting) (brought w past (Began item) s) (began s) tt (replies_true past first rounds) (first_true w (so_far past s) item s.waiting)
   replies_true past first (Turned i ∷ rounds) =
       let s = after w past first rounds in
-      outcome_true past (called w (so_far past s) i (events.Turn i) s.waiting) s (replies_true past first rounds) (called_true w (so_far past s) i (events.Turn i) s.waiting)
+      outcome_true past (called w (so_far past s) i (events.Turn i) s.waiting) (brought w past (Turned i) s) s tt (replies_true past first rounds) (called_true w (so_far past s) i (events.Turn i) s.waiting)
+  replies_true past first (Reminded i j ∷ rounds) =
+      let s = after w past first rounds in
+      outcome_true past (silent [] s.waiting) (brought w past (Reminded i j) s) s (tt, tt) (replies_true past first rounds) tt
   replies_true past first (Took item ∷ rounds) =
       let s = after w past first rounds in
-      outcome_true past (item_does w (so_far past s) item s.waiting) (gave item s) (replies_true past first rounds) (item_true w (so_far past s) item s.waiting)
+      outcome_true past (item_does w (so_far past s) item s.waiting) (brought w past (Took item) s) (gave item s)
+      (item_besides w (so_far past s) item (keep_all (made_by w (so_far past s) (item_does w (so_far past s) item s.waiting).event) s.peers)) (replies_true past first rounds) (item_true w (so_far past s) item s.waiting)

@@ -6,6 +6,7 @@ use Rattle.ritas_base.specs.declared.event.Event.TheVariants as events
 use Rattle.outside.specs.declared.link.LinkItem.{LinkItem}
 use Rattle.outside.specs.declared.link.LinkItem.TheVariants as items
 use Rattle.outside.specs.declared.link.Sent.{Sent}
+use Rattle.keyed_channel.specs.Notes.{is_note}
 use Rattle.client_port.specs.Messages.{Request, number_at, request_in, position_reply, refusal_reply}
 use Rattle.command_log.specs.Rows.{Row, position_of}
 use Rattle.ritas_core.specs.declared.fault.CoreFault.{CoreFault}
@@ -16,7 +17,7 @@ use Rattle.world_model.specs.declared.seen.Seen.TheVariants as seen
 use Rattle.world_model.specs.World.{Setting, seen_of}
 use Rattle.world_model.specs.Agree.{rows_at}
 use Rattle.node_loop.specs.declared.waiting.Asked.{Asked}
-use Rattle.node_loop.specs.Waiting.{Waiting, with_waiter, without}
+use Rattle.node_loop.specs.Waiting.{Waiting, with_waiter, without, left_off}
 
 -- what comes of an item or a turn: the event that it is, if it is one, the replies, and who waits then
 pub record Outcome : Type 0 where
@@ -135,12 +136,14 @@ asks w es at conn bytes ws = asks_so w es at conn bytes ws (request_in bytes)
 abbrev pub if_here : Setting → ℕ → Outcome → Waiting → Outcome
 if_here w at did ws = if w.is_correct at then did else silent [] ws
 
--- an item that the link gave
+-- an item that the link gave: a note is no call
 abbrev pub item_does : Setting → List Event → LinkItem → Waiting → Outcome
-item_does w es (items.Frame to bytes) ws = if_here w to (called w es to (events.Frame to bytes) ws) ws
+item_does w es (items.Frame to bytes) ws = if_here w to (if is_note bytes then silent [] ws else called w es to (events.Frame to bytes) ws) ws
 item_does w es (items.Client at conn bytes) ws = if_here w at (asks w es at (Some conn) bytes ws) ws
 item_does w es (items.Reply from bytes) ws = silent [] ws
+item_does w es (items.Up at peer) ws = silent [] ws
 item_does w es (items.Down at peer) ws = silent [] ws
+item_does w es (items.Left at conn) ws = silent [] (left_off at conn ws)
 item_does w es items.End ws = silent [] ws
 
 -- one with which serving begins gets no reply

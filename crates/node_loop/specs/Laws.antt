@@ -1,21 +1,25 @@
 -- What serving keeps to.
-use Rattle.std.specs.Prelude.{◌≡◌, ℕ, ◌<◌, ◌^◌, true, List, [], ◌∷◌, ◌++◌, length, map, reverse, Some}
+use Rattle.std.specs.Prelude.{◌≡◌, ℕ, ◌<◌, ◌^◌, true, false, List, [], ◌∷◌, ◌++◌, length, map, reverse, Some, Ok}
 use Rattle.std.specs.List.{All, AllByRecursion}
 use Rattle.ritas_base.specs.declared.event.Event.{Event}
 use Rattle.ritas_base.specs.declared.event.Event.TheVariants as events
 use Rattle.outside.specs.declared.link.LinkItem.{LinkItem}
 use Rattle.outside.specs.declared.link.Sent.{Sent}
-use Rattle.outside.specs.Links.{frames_in, replies_in}
+use Rattle.outside.specs.Links.{replies_in}
 use Rattle.client_port.specs.Messages.{form_in, position_reply}
 use Rattle.command_log.specs.Rows.{position_of}
 use Rattle.layer_api.specs.Broadcast.{BroadcastRules}
 use Rattle.layer_api.specs.Service.{ServiceRules, IsPart}
-use Rattle.world_model.specs.World.{Setting}
+use Rattle.world_model.specs.World.{Setting, seen_of}
 use Rattle.world_model.specs.EveryWorld.{IsWorld}
 use Rattle.world_model.specs.MadeOrder.{MadeFrame, all_made}
 use Rattle.world_model.specs.Agree.{OneIsPart, rows_at}
 use Rattle.node_loop.specs.Served.{IsFirst}
-use Rattle.node_loop.specs.Serving.{so_far, Round, Began, Turned, Took, after, AreWanted}
+use Rattle.node_loop.specs.Serving.{so_far, Round, Began, Turned, Reminded, Took, after, AreWanted, deeds_of}
+use Rattle.node_loop.specs.Deeds.{Deed, Came, Made, Resent, Acked, Wished, Replied, act_of, firsts_in, is_open}
+use Rattle.node_loop.specs.Resending.{is_deferred}
+use Rattle.keyed_channel.specs.Frames.{opening}
+use Rattle.outside.specs.declared.link.LinkItem.TheVariants as items
 
 -- ---- one run
 
@@ -24,6 +28,7 @@ abbrev pub items_of : List Round → List LinkItem
 items_of [] = []
 items_of (Began item ∷ rounds) = items_of rounds
 items_of (Turned i ∷ rounds) = items_of rounds
+items_of (Reminded i j ∷ rounds) = items_of rounds
 items_of (Took item ∷ rounds) = item ∷ items_of rounds
 
 -- the items decide: of the rounds of two runs over one list of items, each as far as it came, the ones are the first of the others
@@ -46,10 +51,54 @@ sent_as f = record { at = f.from; to = f.to; bytes = f.bytes }
 abbrev pub frames_of : Setting → List Event → List Sent
 frames_of w es = map sent_as (all_made w es)
 
--- the frames that the link was given are those that the calls made, in their order
+-- the link's calls are the deeds
+abbrev pub ActsAreDeeds : Type 0
+ActsAreDeeds = (w : Setting) (past : List Event) (first : List LinkItem) (rounds : List Round)
+    → (after w past first rounds).acts ≡ map (act_of w.keys) (deeds_of w past first rounds)
+
+-- what went out for the first time are the frames that the calls made, in their order
 abbrev pub FramesAreMade : Type 0
 FramesAreMade = (w : Setting) (past : List Event) (first : List LinkItem) (rounds : List Round)
-    → frames_of w (so_far past (after w past first rounds)) ≡ frames_of w past ++ reverse (frames_in (after w past first rounds).acts)
+    → all_made w (so_far past (after w past first rounds)) ≡ all_made w past ++ reverse (firsts_in (deeds_of w past first rounds))
+
+-- each frame that went out again went out for the first time before it, and no acknowledgement of it came between the two
+abbrev pub AreOpen : Setting → List Deed → Type 0
+AreOpen w [] = Unit {0}
+AreOpen w (Came item ∷ ds) = AreOpen w ds
+AreOpen w (Made f ∷ ds) = AreOpen w ds
+AreOpen w (Resent i j frame ∷ ds) = (is_open w i j frame ds ≡ true) × AreOpen w ds
+AreOpen w (Acked i j seq ∷ ds) = AreOpen w ds
+AreOpen w (Wished i j ∷ ds) = AreOpen w ds
+AreOpen w (Replied sent ∷ ds) = AreOpen w ds
+
+abbrev pub ResendsAreOpen : Type 0
+ResendsAreOpen = (w : Setting) (past : List Event) (first : List LinkItem) (rounds : List Round) → AreOpen w (deeds_of w past first rounds)
+
+-- a frame of j with this number came to i and opened there, and its call was answered otherwise than that it is to come again
+pub record IsEarned (w : Setting) (es : List Event) (i j seq : ℕ) (ds : List Deed) : Type 0 where
+  pub bytes : List ℕ
+  pub before : List Event
+  pub newer : List Deed
+  pub older : List Deed
+  pub came : ds ≡ newer ++ Came (items.Frame i bytes) ∷ older
+  pub called : IsPart (events.Frame i bytes ∷ before) es
+  pub body : List ℕ
+  pub opens : opening (w.keys i) bytes ≡ Ok (record { from = j; seq = seq; body = body })
+  pub taken : is_deferred (seen_of w before (events.Frame i bytes)) ≡ false
+
+-- each acknowledgement went out after such a frame
+abbrev pub AreEarned : Setting → List Event → List Deed → Type 0
+AreEarned w es [] = Unit {0}
+AreEarned w es (Came item ∷ ds) = AreEarned w es ds
+AreEarned w es (Made f ∷ ds) = AreEarned w es ds
+AreEarned w es (Resent i j frame ∷ ds) = AreEarned w es ds
+AreEarned w es (Acked i j seq ∷ ds) = IsEarned w es i j seq ds × AreEarned w es ds
+AreEarned w es (Wished i j ∷ ds) = AreEarned w es ds
+AreEarned w es (Replied sent ∷ ds) = AreEarned w es ds
+
+abbrev pub AcksAreEarned : Type 0
+AcksAreEarned = (w : Setting) (past : List Event) (first : List LinkItem) (rounds : List Round)
+    → AreEarned w (so_far past (after w past first rounds)) (deeds_of w past first rounds)
 
 -- ---- the replies
 

@@ -1,10 +1,15 @@
 pub mod Waiting
 pub mod Calls
+pub mod Peers
+pub mod Deeds
+pub mod Resending
 pub mod Serving
 pub mod ServingLaws
 pub mod Outs
 pub mod Served
+pub mod PeersStanding
 pub mod Standing
 pub mod Running
 pub mod Laws
 pub mod Rows
+pub mod PeerRows

@@ -14,10 +14,11 @@ use Rattle.node_loop.specs.declared.end.ServeEnd.TheVariants as ends
 use Rattle.node_loop.specs.declared.house.House.{House}
 use Rattle.node_loop.specs.declared.rounds.Next.{Next}
 use Rattle.node_loop.specs.declared.rounds.Next.TheVariants as next
-use Rattle.node_loop.specs.Serving.{Serving, so_far, Want, Finishes, Turns, Halts, Asks, Round, Took, outcome, gave, sent_of, with_outcome, after, AreWanted, IsGiven}
+use Rattle.node_loop.specs.Resending.{Brought}
+use Rattle.node_loop.specs.Serving.{Serving, so_far, Want, Finishes, Turns, Halts, Reminds, Asks, Round, Took, outcome, brought, gave, sent_of, with_outcome, after, AreWanted, IsGiven}
 use Rattle.node_loop.specs.Calls.{Outcome}
 use Rattle.node_loop.specs.Outs.{Outs, Tells, Agrees, IfFailed, HasCauses, AllWritten, NoneSent, Steps}
-use Rattle.node_loop.specs.Served.{Serves}
+use Rattle.node_loop.specs.Served.{AreHere, Serves}
 use Rattle.node_loop.specs.Standing.{HouseStands}
 
 -- the end that a fault is
@@ -33,22 +34,22 @@ pub record Running {S E C : Type 0} (m : Meaning S E C KeyRow) (w : Setting) (pa
   pub wanted : AreWanted w past until limit first rounds
   pub rest : (after w past first rounds).left ≡ left
   pub count : taken ≡ (after w past first rounds).taken
-  pub stands : HouseStands m w (so_far past (after w past first rounds)) numbers house (after w past first rounds).waiting
+  pub stands : HouseStands m w (so_far past (after w past first rounds)) numbers house (after w past first rounds).waiting (after w past first rounds).peers
   pub agrees : Agrees tells base now (after w past first rounds).events (after w past first rounds).acts
 
--- what came of an item or a turn was delivered, or a part of it
+-- What came of an item or a turn was delivered, or a part of it. At a fault the replicas stand where it leaves them, unless memory ran out.
 pub record Goes {S E C A : Type 0} (m : Meaning S E C KeyRow) (w : Setting) (past : List Event) (numbers : List ℕ) (house : House S E C)
-    (tells : Tells) (base now : Outs) (result : Result A Fault) (did : Outcome) (s : Serving) : Type 0 where
-  pub steps : Steps tells base now result (with_outcome w past did s).events (with_outcome w past did s).acts s.acts (sent_of w (so_far past s) did)
-  pub stands : MatchResult result (λ _. HouseStands m w (so_far past (with_outcome w past did s)) numbers house did.waiting)
-      (λ fault. IfFailed fault (HouseStands m w (so_far past (with_outcome w past did s)) numbers house did.waiting))
+    (tells : Tells) (base now : Outs) (result : Result A Fault) (did : Outcome) (more : Brought) (s : Serving) : Type 0 where
+  pub steps : Steps tells base now result (with_outcome w past did more s).events (with_outcome w past did more s).acts s.acts (sent_of w (so_far past s) did more)
+  pub stands : MatchResult result (λ _. HouseStands m w (so_far past (with_outcome w past did more s)) numbers house did.waiting more.peers)
+      (λ fault. IfFailed fault (AreHere m w (so_far past (with_outcome w past did more s)) numbers house.replicas.items))
 
 -- an item of the link was taken, or a part of the way to it
 pub record TookItem {S E C : Type 0} (m : Meaning S E C KeyRow) (w : Setting) (past : List Event) (numbers : List ℕ) (house : House S E C)
     (tells : Tells) (base now : Outs) (result : Result Bool Fault) (s : Serving) : Type 0 where
   pub item : LinkItem
   pub is_item : IsGiven item
-  pub goes : Goes m w past numbers house tells base now result (outcome w past (Took item) s) (gave item s)
+  pub goes : Goes m w past numbers house tells base now result (outcome w past (Took item) s) (brought w past (Took item) s) (gave item s)
 
 -- the link gave none, for a fault of its own or for want of memory
 pub record GaveNone (tells : Tells) (base now : Outs) (fault : Fault) (s : Serving) : Type 0 where
@@ -63,9 +64,9 @@ abbrev pub AskedLink : {S E C : Type 0} → Meaning S E C KeyRow → Setting →
     → Result Bool Fault → Serving → Type 0
 AskedLink m w past numbers house tells base now (Ok true) s = TookItem m w past numbers house tells base now (Ok true) s
 AskedLink m w past numbers house tells base now (Ok false) s =
-    Agrees tells base now s.events (Gives End ∷ s.acts) × HouseStands m w (so_far past s) numbers house s.waiting
+    Agrees tells base now s.events (Gives End ∷ s.acts) × HouseStands m w (so_far past s) numbers house s.waiting s.peers
 AskedLink m w past numbers house tells base now (Err fault) s =
-    (GaveNone tells base now fault s × HouseStands m w (so_far past s) numbers house s.waiting) ⊎ TookItem m w past numbers house tells base now (Err fault) s
+    (GaveNone tells base now fault s × HouseStands m w (so_far past s) numbers house s.waiting s.peers) ⊎ TookItem m w past numbers house tells base now (Err fault) s
 
 -- the first items were taken up, or serving ended before
 abbrev pub BeganAll : {S E C : Type 0} → Meaning S E C KeyRow → Setting → List Event → List ℕ → House S E C → Tells → Outs → Outs → ℕ → ℕ
@@ -88,5 +89,6 @@ abbrev pub IsNext : Want → Next → Type 0
 IsNext Finishes next.Finish = Unit {0}
 IsNext (Turns i) (next.Turn j) = i ≡ j
 IsNext Halts next.Halt = Unit {0}
+IsNext (Reminds i j) (next.Remind pair) = (i ≡ pair.at) × (j ≡ pair.peer)
 IsNext Asks next.Ask = Unit {0}
 IsNext want done = ⊥

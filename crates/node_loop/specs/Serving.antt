@@ -13,19 +13,25 @@ use Rattle.world_model.specs.World.{Setting, states_of, states_before, call_of}
 use Rattle.world_model.specs.MadeOrder.{MadeFrame, frames_in}
 use Rattle.world_model.specs.Agree.{rows_at}
 use Rattle.node_loop.specs.Waiting.{Waiting, nobody}
-use Rattle.node_loop.specs.Calls.{Outcome, called, item_does, first_does}
+use Rattle.node_loop.specs.Calls.{Outcome, called, silent, item_does, first_does}
+use Rattle.node_loop.specs.Peers.{Peers, no_peers, keep_all}
+use Rattle.node_loop.specs.Deeds.{Deed, Came, Made, Replied, pushed, act_of}
+use Rattle.outside.specs.declared.link.Sent.{Sent}
+use Rattle.node_loop.specs.Resending.{Brought, nothing_more, item_brings, asks_for_more, due}
+use Rattle.node_loop.specs.declared.peers.Pair.{Pair}
 
 -- The items with which serving begins that weren't taken up yet; who waits; how many items of the link were taken; and, since it began,
--- the events and the link's calls.
+-- the events and the link's calls; and what is kept for peers, and who of them is marked.
 pub record Serving : Type 0 where
   pub left : List LinkItem
   pub waiting : Waiting
+  pub peers : Peers
   pub taken : ℕ
   pub events : List Event
   pub acts : List LinkAct
 
 abbrev pub begin : List LinkItem → Serving
-begin first = record { left = first; waiting = nobody; taken = 0; events = []; acts = [] }
+begin first = record { left = first; waiting = nobody; peers = no_peers; taken = 0; events = []; acts = [] }
 
 -- all events, with those before it began
 abbrev pub so_far : List Event → Serving → List Event
@@ -36,36 +42,43 @@ so_far past s = s.events ++ past
 abbrev pub as_sent : MadeFrame → LinkAct
 as_sent f = Sends (record { at = f.from; to = f.to; bytes = f.bytes })
 
--- the frames that the call of an event made are sent, in their order
+-- the frames that the call of an event made, in their order
+abbrev pub made_by : Setting → List Event → Option Event → List MadeFrame
+made_by w es None = []
+made_by w es (Some e) = frames_in (length es) w (states_before w es) (call_of w (states_before w es) e)
+
+-- they are sent
 abbrev pub sent_by : Setting → List Event → Option Event → List LinkAct
-sent_by w es None = []
-sent_by w es (Some e) = map as_sent (frames_in (length es) w (states_before w es) (call_of w (states_before w es) e))
+sent_by w es e = map as_sent (made_by w es e)
 
 -- the event of a call, onto those before it
 abbrev pub onto : Option Event → List Event → List Event
 onto None es = es
 onto (Some e) es = e ∷ es
 
--- the calls of the link that come of an item or a turn: its frames, and then its replies
-abbrev pub sent_of : Setting → List Event → Outcome → List LinkAct
-sent_of w es did = reverse (map Replies did.replies) ++ reverse (sent_by w es did.event)
+-- the calls of the link that come of an item or a turn: its frames, then what goes to peers besides, and then its replies
+abbrev pub sent_of : Setting → List Event → Outcome → Brought → List LinkAct
+sent_of w es did more = reverse (map Replies did.replies) ++ (reverse (map (act_of w.keys) more.deeds) ++ reverse (sent_by w es did.event))
 
--- what came of an item or a turn joins the rest: its event, its frames, and then its replies
-abbrev pub with_outcome : Setting → List Event → Outcome → Serving → Serving
-with_outcome w past did s = record s {
+-- what came of an item or a turn joins the rest: its event, its frames, what goes to peers besides, and then its replies
+abbrev pub with_outcome : Setting → List Event → Outcome → Brought → Serving → Serving
+with_outcome w past did more s = record s {
   waiting = did.waiting;
+  peers = more.peers;
   events = onto did.event s.events;
-  acts = reverse (map Replies did.replies) ++ (reverse (sent_by w (so_far past s) did.event) ++ s.acts);
+  acts = reverse (map Replies did.replies) ++ (reverse (map (act_of w.keys) more.deeds) ++ (reverse (sent_by w (so_far past s) did.event) ++ s.acts));
 }
 
 -- ---- the rules
 
--- what it does next: it takes up one of its first items, ends as done, takes a turn at a replica, ends at its limit, or asks the link
+-- what it does next: it takes up one of its first items, ends as done, takes a turn at a replica, ends at its limit, asks a marked peer of a
+-- replica to send again, or asks the link
 pub data Want : Type 0 where
   Begins : LinkItem → Want
   Finishes : Want
   Turns : ℕ → Want
   Halts : Want
+  Reminds : ℕ → ℕ → Want
   Asks : Want
 
 -- the replicas here
@@ -89,9 +102,14 @@ abbrev pub turn_or : List ℕ → Want → Want
 turn_or [] other = other
 turn_or (i ∷ is) other = Turns i
 
-abbrev pub wants_of : Setting → ℕ → ℕ → List Event → ℕ → Want
-wants_of w until limit es taken =
-    if is_done w until es then Finishes else turn_or (busy w es) (if nat_le limit taken then Halts else Asks)
+-- the first of these peers is asked to send again, or else the link for an item
+abbrev pub remind_or : List Pair → Want
+remind_or [] = Asks
+remind_or (pair ∷ pairs) = Reminds pair.at pair.peer
+
+abbrev pub wants_of : Setting → ℕ → ℕ → List Event → ℕ → Peers → Want
+wants_of w until limit es taken p =
+    if is_done w until es then Finishes else turn_or (busy w es) (if nat_le limit taken then Halts else remind_or (due w es (here w) p))
 
 abbrev pub first_or : List LinkItem → Want → Want
 first_or [] other = other
@@ -99,14 +117,16 @@ first_or (item ∷ left) other = Begins item
 
 -- for so many rows in each log and so many items of the link
 abbrev pub wants : Setting → List Event → ℕ → ℕ → Serving → Want
-wants w past until limit s = first_or s.left (wants_of w until limit (so_far past s) s.taken)
+wants w past until limit s = first_or s.left (wants_of w until limit (so_far past s) s.taken s.peers)
 
 -- ---- rounds
 
--- one of the first items was taken up, a turn was taken at a replica, or an item of the link was
+-- one of the first items was taken up, a turn was taken at a replica, a peer of a replica was asked to send again, or an item of the link was
+-- taken
 pub data Round : Type 0 where
   Began : LinkItem → Round
   Turned : ℕ → Round
+  Reminded : ℕ → ℕ → Round
   Took : LinkItem → Round
 
 abbrev pub behind_first : List LinkItem → List LinkItem
@@ -125,15 +145,27 @@ gave item s = record s { taken = s.taken + 1; acts = Gives item ∷ s.acts }
 abbrev pub at_call : Round → Serving → Serving
 at_call (Began item) s = began s
 at_call (Turned i) s = s
+at_call (Reminded i j) s = s
 at_call (Took item) s = gave item s
 
 abbrev pub outcome : Setting → List Event → Round → Serving → Outcome
 outcome w past (Began item) s = first_does w (so_far past s) item s.waiting
 outcome w past (Turned i) s = called w (so_far past s) i (events.Turn i) s.waiting
+outcome w past (Reminded i j) s = silent [] s.waiting
 outcome w past (Took item) s = item_does w (so_far past s) item s.waiting
 
+-- what comes of it for peers, where what is kept has the frames of its call
+abbrev pub brings : Setting → List Event → Round → Peers → Brought
+brings w es (Began item) p = nothing_more p
+brings w es (Turned i) p = nothing_more p
+brings w es (Reminded i j) p = asks_for_more i j p
+brings w es (Took item) p = item_brings w es item p
+
+abbrev pub brought : Setting → List Event → Round → Serving → Brought
+brought w past x s = brings w (so_far past s) x (keep_all (made_by w (so_far past s) (outcome w past x s).event) s.peers)
+
 abbrev pub round_does : Setting → List Event → Round → Serving → Serving
-round_does w past x s = with_outcome w past (outcome w past x s) (at_call x s)
+round_does w past x s = with_outcome w past (outcome w past x s) (brought w past x s) (at_call x s)
 
 -- what stands after these rounds, of serving that begins with these items
 abbrev pub after : Setting → List Event → List LinkItem → List Round → Serving
@@ -143,7 +175,7 @@ after w past first (x ∷ xs) = round_does w past x (after w past first xs)
 -- of these rounds, the link's calls that came of the newest one's event, and those before
 abbrev pub newest : Setting → List Event → List LinkItem → List Round → List LinkAct
 newest w past first [] = []
-newest w past first (x ∷ xs) = let s = after w past first xs in sent_of w (so_far past (at_call x s)) (outcome w past x s)
+newest w past first (x ∷ xs) = let s = after w past first xs in sent_of w (so_far past (at_call x s)) (outcome w past x s) (brought w past x s)
 
 abbrev pub sooner : Setting → List Event → List LinkItem → List Round → List LinkAct
 sooner w past first [] = []
@@ -158,6 +190,7 @@ pub record IsGiven (item : LinkItem) : Type 0 where
 abbrev pub IsWanted : Want → Round → Type 0
 IsWanted (Begins item) (Began taken) = item ≡ taken
 IsWanted (Turns i) (Turned j) = i ≡ j
+IsWanted (Reminds i j) (Reminded k l) = (i ≡ k) × (j ≡ l)
 IsWanted Asks (Took item) = IsGiven item
 IsWanted want round = ⊥
 
@@ -166,3 +199,23 @@ abbrev pub AreWanted : Setting → List Event → ℕ → ℕ → List LinkItem 
 AreWanted w past until limit first [] = Unit {0}
 AreWanted w past until limit first (x ∷ xs) =
     IsWanted (wants w past until limit (after w past first xs)) x × AreWanted w past until limit first xs
+
+-- ---- the deeds
+
+-- the item that the link gave for it, if it is one
+abbrev pub came : Round → List Deed → List Deed
+came (Began item) ds = ds
+came (Turned i) ds = ds
+came (Reminded i j) ds = ds
+came (Took item) ds = Came item ∷ ds
+
+-- with what a round adds: its item, its frames, what goes to peers besides, and its replies
+abbrev pub with_deeds : List MadeFrame → List Deed → List Sent → List Deed → List Deed
+with_deeds frames more replies ds = pushed (map Replied replies) (pushed more (pushed (map Made frames) ds))
+
+-- what the link gave and was given in these rounds, with why
+abbrev pub deeds_of : Setting → List Event → List LinkItem → List Round → List Deed
+deeds_of w past first [] = []
+deeds_of w past first (x ∷ xs) = let s = after w past first xs in
+    with_deeds (made_by w (so_far past s) (outcome w past x s).event) (brought w past x s).deeds (outcome w past x s).replies
+    (came x (deeds_of w past first xs))

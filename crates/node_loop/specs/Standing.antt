@@ -1,5 +1,6 @@
 -- What the values of serving stand for.
-use Rattle.std.specs.Prelude.{◌≡◌, ℕ, Bool, true, nat_lt, List, [], map, Option, Some, None, Result, Ok, Err}
+use Rattle.std.specs.Prelude.{◌≡◌, ℕ, ◌<◌, Bool, true, false, nat_lt, List, [], ◌∷◌, length, map, Option, Some, None, Result, Ok, Err}
+use Rattle.std.specs.List.{slice_get}
 use Rattle.std.specs.declared.cmp.Ordering.{Ordering}
 use Rattle.std.specs.declared.vec.Vec.{Vec}
 use Rattle.std.specs.Ordering.{nat_cmp, then_cmp, on}
@@ -16,15 +17,22 @@ use Rattle.outside.specs.Links.{LinkAct, Sends}
 use Rattle.replica.specs.declared.frame.OutFrame.{OutFrame}
 use Rattle.replica.specs.declared.refusal.Refusal.{Refusal}
 use Rattle.replica.specs.declared.refusal.Refusal.TheVariants as refusals
-use Rattle.world_model.specs.World.{Setting, seen_answer}
+use Rattle.world_model.specs.World.{Setting}
 use Rattle.node_loop.specs.declared.waiting.Asked.{Asked}
 use Rattle.node_loop.specs.declared.waiting.Waiters.{Waiters}
+use Rattle.node_loop.specs.declared.output.More.{More}
+use Rattle.node_loop.specs.declared.output.More.TheVariants as mores
 use Rattle.node_loop.specs.declared.output.Output.{Output}
 use Rattle.node_loop.specs.declared.output.Reply.{Reply}
 use Rattle.node_loop.specs.declared.house.House.{House}
+use Rattle.node_loop.specs.declared.peers.Keeper.{Keeper}
 use Rattle.node_loop.specs.Waiting.{Waiting}
-use Rattle.node_loop.specs.Calls.{Outcome, refusal_in}
-use Rattle.node_loop.specs.Serving.{sent_by, onto}
+use Rattle.node_loop.specs.Calls.{Outcome}
+use Rattle.node_loop.specs.Peers.{Peers, keep_all}
+use Rattle.node_loop.specs.Deeds.{Resent, act_of, sends}
+use Rattle.node_loop.specs.Resending.{Brought}
+use Rattle.node_loop.specs.Serving.{made_by, sent_by, onto}
+use Rattle.node_loop.specs.PeersStanding.{IsKeeper}
 use Rattle.node_loop.specs.Served.{AreHere}
 
 -- ---- who waits
@@ -43,9 +51,11 @@ IsWaiting waiters ws = (a : Asked) → conns_in (get asked_cmp waiters.by_reques
 -- ---- the replicas and who waits at them
 
 pub record HouseStands {S E C : Type 0} (m : Meaning S E C KeyRow) (w : Setting) (es : List Event) (numbers : List ℕ) (house : House S E C)
-    (ws : Waiting) : Type 0 where
+    (ws : Waiting) (p : Peers) : Type 0 where
   pub here : AreHere m w es numbers house.replicas.items
   pub waiting : IsWaiting house.waiting ws
+  pub many : length house.keepers.items ≡ length numbers
+  pub keepers : (k i : ℕ) (keeper : Keeper) → slice_get numbers k ≡ Some i → slice_get house.keepers.items k ≡ Some keeper → IsKeeper w.numbers.n i keeper p
 
 -- ---- what comes of an item or a turn, at replica `at`
 
@@ -60,15 +70,27 @@ reply_by at r = record { at = at; to = r.conn; bytes = r.bytes }
 pub record IsClear (o : Output) : Type 0 where
   pub event : o.event ≡ None
   pub frames : o.frames.items ≡ []
+  pub more : o.more ≡ mores.Nothing
   pub replies : o.replies.items ≡ []
 
--- it is put out, and the replicas and those who wait stand for it
+-- what goes to a peer besides: nothing, a note, or all that is kept for it
+abbrev pub IsMore : Setting → ℕ → More → Brought → Type 0
+IsMore w at mores.Nothing more = more.deeds ≡ []
+IsMore w at (mores.Note peer bytes) more = map (act_of w.keys) more.deeds ≡ sends at peer bytes ∷ []
+IsMore w at (mores.Kept peer) more = (peer < w.numbers.n) × (more.deeds ≡ map (λ k. Resent at peer k.frame) (more.peers.keeping at peer))
+
+-- It is put out, and the replicas and those who wait stand for it; the peers stand for it once the frames of its call are kept, as they
+-- are when they go out. What is for a replica that isn't here brings nothing.
 pub record Comes {S E C : Type 0} (m : Meaning S E C KeyRow) (w : Setting) (es : List Event) (numbers : List ℕ) (now : House S E C)
-    (output : Output) (did : Outcome) : Type 0 where
+    (output : Output) (did : Outcome) (more : Brought) : Type 0 where
   pub event : output.event ≡ did.event
   pub frames : map (frame_by output.at) output.frames.items ≡ sent_by w es did.event
+  pub besides : IsMore w output.at output.more more
+  pub nowhere : w.is_correct output.at ≡ false → (did.event ≡ None) × (more.deeds ≡ [])
   pub replies : map (reply_by output.at) output.replies.items ≡ did.replies
-  pub stands : HouseStands m w (onto did.event es) numbers now did.waiting
+  pub before : Peers
+  pub kept : keep_all (made_by w es did.event) before ≡ more.peers
+  pub stands : HouseStands m w (onto did.event es) numbers now did.waiting before
 
 abbrev pub is_less : ℕ → Option ℕ → Bool
 is_less number None = true
@@ -76,12 +98,18 @@ is_less number (Some other) = nat_lt number other
 
 -- ---- refusals
 
-abbrev pub IsWant : Result (Option ℕ) Mem → Type 0
-IsWant (Ok refused) = ⊥
-IsWant (Err mem) = Unit {0}
+-- a call answered want of memory
+abbrev pub is_want : Result Answer Refusal → Bool
+is_want (Err (refusals.Core faults.Mem)) = true
+is_want (Err (refusals.Body body.Mem)) = true
+is_want _ = false
 
--- a call answered want of memory, or the number of the fault with which it was refused
-abbrev pub Numbers : Result Answer Refusal → Result (Option ℕ) Mem → Type 0
-Numbers (Err (refusals.Core faults.Mem)) result = IsWant result
-Numbers (Err (refusals.Body body.Mem)) result = IsWant result
-Numbers answer result = result ≡ Ok (refusal_in (seen_answer answer))
+-- a frame that was answered so opened
+abbrev pub is_opened : Result Answer Refusal → Bool
+is_opened (Err (refusals.Open fault)) = false
+is_opened _ = true
+
+-- want of memory is told apart from all other answers
+abbrev pub TellsWant : Result Answer Refusal → Result (Result Answer Refusal) Mem → Type 0
+TellsWant answer (Ok told) = (told ≡ answer) × (is_want answer ≡ false)
+TellsWant answer (Err mem) = is_want answer ≡ true

@@ -1,15 +1,22 @@
 //! The messages of clients, and the items of a link.
-ghost use Rattle.std.specs.Prelude.{◌≡◌, ◌++◌, map, OnOk};
+ghost use Rattle.std.specs.Prelude.{◌≡◌, ◌<◌, ◌++◌, length, map, OnOk, MatchOption};
+ghost use Rattle.keyed_channel.specs.Frames.{sender_of, seq_of};
+ghost use Rattle.keyed_channel.specs.Notes.{is_note};
 ghost use Rattle.node_loop.specs.Calls.{asked_in, reply};
 ghost use Rattle.node_loop.specs.Standing.{reply_by};
 
 use crate::house::House;
-use crate::output::{Output, Reply};
+use crate::output::{More, Output, Reply};
+use crate::peers::mark_of;
+use crate::refusals::{is_deferred, is_opened, refusal_in};
 use crate::waiting::Asked;
 use client_port::{read_request, write_refusal, write_reply};
+use keyed_channel::{Note, noted_from_peer, opened_from_peer, opened_parts};
 use layer_api::{Broadcast, Service};
 use outside::LinkItem;
+use replica::Refusal;
 use ritas_base::{Bytes, Coin, Event, Mem};
+use ritas_core::Answer;
 use std::alloc::Global;
 
 // The request that a message is at a replica; of one with under 8 bytes the numbers are 0.
@@ -31,10 +38,39 @@ fn asked_in(at: u8, bytes: &[u8]) -> Asked
     }
 }
 
+// Whether bytes are a note, or else a frame.
+fn is_note(bytes: &[u8]) -> bool
+    ensures { result ≡ is_note bytes.now }
+{
+    bytes.first() == Some(&0x4e)
+}
+
+// Whose frame it is, and its number.
+#[derive(Clone, Copy, Debug)]
+struct Carried {
+    from: u8,
+    seq: u64,
+}
+
+// Whose frame bytes are, and its number, as they stand in it. What is too short for a frame has none.
+fn sender_and_number(bytes: &[u8]) -> Option<Carried>
+    ensures { MatchOption result (length bytes.now < 43) (λ c. (c.from ≡ sender_of bytes.now) × (c.seq ≡ seq_of bytes.now)) }
+{
+    if bytes.len() < 43 {
+        return None;
+    }
+    let mut seq = [0; 8];
+    seq.copy_from_slice(&bytes[3..11]);
+    Some(Carried {
+        from: bytes[1],
+        seq: u64::from_be_bytes(seq),
+    })
+}
+
 // Replies so to a connection, if there is one.
 fn reply(output: &mut Output, conn: Option<u32>, bytes: [u8; 13]) -> Result<(), Mem>
     ensures replies { (at : _) → OnOk result (map (reply_by at) output.new.replies.items ≡ map (reply_by at) output.old.replies.items ++ reply at bytes conn) }
-    ensures same { (output.new.at ≡ output.old.at) × (output.new.event ≡ output.old.event) × (output.new.frames ≡ output.old.frames) }
+    ensures same { (output.new.at ≡ output.old.at) × (output.new.event ≡ output.old.event) × (output.new.frames ≡ output.old.frames) × (output.new.more ≡ output.old.more) }
 {
     if let Some(conn) = conn {
         output.replies.push(Reply { conn, bytes })?;
@@ -43,7 +79,7 @@ fn reply(output: &mut Output, conn: Option<u32>, bytes: [u8; 13]) -> Result<(), 
 }
 
 impl<S: Service, E: Broadcast, C: Coin + Drop> House<S, E, C> {
-    ghost use Rattle.std.specs.Prelude.{◌≡◌, ℕ, ◌<◌, ◌^◌, List, length, Some, IfSome, OnOk};
+    ghost use Rattle.std.specs.Prelude.{◌≡◌, ℕ, ◌<◌, ◌^◌, true, false, List, [], length, None, Some, IfSome, OnOk};
     ghost use Rattle.std.specs.List.{slice_get};
     ghost use Rattle.ritas_base.specs.declared.event.Event.{Event};
     ghost use Rattle.ritas_base.specs.declared.event.Event.TheVariants.{Frame};
@@ -51,12 +87,19 @@ impl<S: Service, E: Broadcast, C: Coin + Drop> House<S, E, C> {
     ghost use Rattle.command_log.specs.Rows.{position_of};
     ghost use Rattle.replica.specs.Replica.{with_keys};
     ghost use Rattle.schedule_file.specs.Spelling.{IsSized};
-    ghost use Rattle.world_model.specs.World.{Setting};
+    ghost use Rattle.world_model.specs.World.{Setting, seen_answer};
     ghost use Rattle.world_model.specs.Agree.{rows_at};
     ghost use Rattle.node_loop.specs.Waiting.{Waiting};
-    ghost use Rattle.node_loop.specs.Calls.{called, submitted, asked_so, asks, if_here, item_does, first_does};
+    ghost use Rattle.keyed_channel.specs.Frames.{opening};
+    ghost use Rattle.keyed_channel.specs.Notes.{ack_note, noted};
+    ghost use Rattle.outside.specs.declared.link.LinkItem.TheVariants as items;
+    ghost use Rattle.node_loop.specs.declared.output.More.TheVariants as mores;
+    ghost use Rattle.node_loop.specs.Calls.{called, silent, submitted, asked_so, asks, if_here, item_does, first_does};
+    ghost use Rattle.node_loop.specs.Peers.{Peers, keep_all, with_mark};
+    ghost use Rattle.node_loop.specs.Resending.{nothing_more, mark_at, is_deferred, noted_so, opened_so, item_brings};
+    ghost use Rattle.node_loop.specs.Serving.{made_by};
     ghost use Rattle.node_loop.specs.Served.{AreHere, IsFirst};
-    ghost use Rattle.node_loop.specs.Standing.{HouseStands, Comes, IsClear};
+    ghost use Rattle.node_loop.specs.Standing.{HouseStands, Comes, IsClear, is_opened};
 
     // A message is an input of the replica at a place: what is refused is replied to, and what is taken waits for its row.
     fn submit(
@@ -68,9 +111,10 @@ impl<S: Service, E: Broadcast, C: Coin + Drop> House<S, E, C> {
         output: &mut Output,
     ) -> Result<(), Mem>
         ensures comes { let m = with_keys S.stands S.rules S.shown E.stands E.rules E.shown C.bits in
-            (w : Setting) (es : List Event) (numbers : List ℕ) (ws : Waiting) → HouseStands m w es numbers self.old ws
+            (w : Setting) (es : List Event) (numbers : List ℕ) (ws : Waiting) (p : Peers) → HouseStands m w es numbers self.old ws p
             → slice_get numbers place ≡ Some output.old.at → IsClear output.old
-            → OnOk result (Comes m w es numbers self.new output.new (submitted w es output.old.at conn bytes ws)) }
+            → OnOk result (Comes m w es numbers self.new output.new (submitted w es output.old.at conn bytes ws)
+            (nothing_more (keep_all (made_by w es (submitted w es output.old.at conn bytes ws).event) p))) }
         ensures sized { length bytes < 2 ^ 16 → OnOk result (IfSome output.new.event IsSized) }
     {
         let count = self.rows_at(place);
@@ -79,9 +123,9 @@ impl<S: Service, E: Broadcast, C: Coin + Drop> House<S, E, C> {
             at: output.at,
             bytes,
         };
-        let refused = self.give(alloc, place, &event, &mut output.frames)?;
+        let answer = self.give(alloc, place, &event, &mut output.frames)?;
         output.event = Some(event);
-        match refused {
+        match refusal_in(answer) {
             Some(code) => {
                 self.enter(alloc, place, count, output)?;
                 let refusal = write_refusal(asked.client, asked.request, code);
@@ -116,10 +160,11 @@ impl<S: Service, E: Broadcast, C: Coin + Drop> House<S, E, C> {
         output: &mut Output,
     ) -> Result<(), Mem>
         ensures comes { let m = with_keys S.stands S.rules S.shown E.stands E.rules E.shown C.bits in
-            (w : Setting) (es : List Event) (numbers : List ℕ) (ws : Waiting) → HouseStands m w es numbers self.old ws
+            (w : Setting) (es : List Event) (numbers : List ℕ) (ws : Waiting) (p : Peers) → HouseStands m w es numbers self.old ws p
             → slice_get numbers place ≡ Some output.old.at → IsClear output.old
-            → OnOk result (Comes m w es numbers self.new output.new (asked_so w es output.old.at conn bytes ws
-            (position_of (rows_at w es output.old.at) (asked_in output.old.at bytes).client (asked_in output.old.at bytes).request))) }
+            → let did = asked_so w es output.old.at conn bytes ws
+            (position_of (rows_at w es output.old.at) (asked_in output.old.at bytes).client (asked_in output.old.at bytes).request) in
+            OnOk result (Comes m w es numbers self.new output.new did (nothing_more (keep_all (made_by w es did.event) p))) }
         ensures sized { length bytes < 2 ^ 16 → IfSome output.old.event IsSized → OnOk result (IfSome output.new.event IsSized) }
     {
         let asked = asked_in(output.at, bytes.as_slice());
@@ -143,8 +188,9 @@ impl<S: Service, E: Broadcast, C: Coin + Drop> House<S, E, C> {
         output: &mut Output,
     ) -> Result<(), Mem>
         ensures comes { let m = with_keys S.stands S.rules S.shown E.stands E.rules E.shown C.bits in
-            (w : Setting) (es : List Event) (numbers : List ℕ) (ws : Waiting) → HouseStands m w es numbers self.old ws
-            → OnOk result (Comes m w es numbers self.new output.new (if_here w at (asks w es at conn bytes ws) ws)) }
+            (w : Setting) (es : List Event) (numbers : List ℕ) (ws : Waiting) (p : Peers) → HouseStands m w es numbers self.old ws p
+            → let did = if_here w at (asks w es at conn bytes ws) ws in
+            OnOk result (Comes m w es numbers self.new output.new did (nothing_more (keep_all (made_by w es did.event) p))) }
         ensures sized { length bytes < 2 ^ 16 → OnOk result (IfSome output.new.event IsSized) }
     {
         output.clear(at);
@@ -158,17 +204,159 @@ impl<S: Service, E: Broadcast, C: Coin + Drop> House<S, E, C> {
         }
     }
 
-    // A frame comes to a replica, if that is here. The one error is want of memory.
+    // A note comes to the replica at a place: what is acknowledged isn't kept any more, or what is kept is to go out again.
+    fn note(&mut self, place: usize, bytes: &[u8], output: &mut Output)
+        ensures comes { let m = with_keys S.stands S.rules S.shown E.stands E.rules E.shown C.bits in
+            (w : Setting) (es : List Event) (numbers : List ℕ) (ws : Waiting) (p : Peers) → HouseStands m w es numbers self.old ws p
+            → slice_get numbers place ≡ Some output.old.at → IsClear output.old
+            → Comes m w es numbers self.new output.new (silent [] ws) (noted_so output.old.at p (noted (w.keys output.old.at) bytes.now)) }
+        ensures none { output.new.event ≡ output.old.event }
+    {
+        noted_from_peer();
+        let Some(replica) = self.replicas.get(place) else {
+            return;
+        };
+        match replica.channel().open_note(bytes) {
+            Some(Note::Ack { from, seq }) => {
+                if let Some(keeper) = self.keepers.get_mut(place) {
+                    keeper.acked(from, seq);
+                }
+            }
+            Some(Note::Again { from }) => output.more = More::Kept { peer: from },
+            None => {}
+        }
+    }
+
+    // A peer is marked at the replica at a place, as that stands now.
+    fn mark(&mut self, place: usize, peer: u8)
+        ensures { let m = with_keys S.stands S.rules S.shown E.stands E.rules E.shown C.bits in
+            (w : Setting) (es : List Event) (numbers : List ℕ) (ws : Waiting) (p : Peers) (at : ℕ) → HouseStands m w es numbers self.old ws p
+            → slice_get numbers place ≡ Some at
+            → HouseStands m w es numbers self.new ws (with_mark at peer (Some (mark_at w es at peer)) p) }
+    {
+        if let Some(replica) = self.replicas.get(place) {
+            let mark = mark_of(replica, peer);
+            if let Some(keeper) = self.keepers.get_mut(place) {
+                keeper.mark(peer, mark);
+            }
+        }
+    }
+
+    // The note that the replica at a place took the frame of this number is to go to its sender.
+    fn acknowledge(&self, place: usize, frame: Carried, output: &mut Output)
+        ensures note { let m = with_keys S.stands S.rules S.shown E.stands E.rules E.shown C.bits in
+            (w : Setting) (es : List Event) (numbers : List ℕ) (at : ℕ) → AreHere m w es numbers self.now.replicas.items → slice_get numbers place ≡ Some at
+            → frame.from < w.numbers.n → output.new.more ≡ mores.Note frame.from (ack_note (w.keys at) frame.from frame.seq) }
+        ensures same { (output.new.at ≡ output.old.at) × (output.new.event ≡ output.old.event) × (output.new.frames ≡ output.old.frames) × (output.new.replies ≡ output.old.replies) }
+    {
+        if let Some(replica) = self.replicas.get(place) {
+            let channel = replica.channel();
+            if frame.from < channel.keys().n() {
+                output.more = More::Note {
+                    peer: frame.from,
+                    bytes: channel.seal_ack(frame.from, frame.seq),
+                };
+            }
+        }
+    }
+
+    // What a frame was answered is for its sender: where it opened, that it was taken, or a mark where it is to come again.
+    fn respond(
+        &mut self,
+        place: usize,
+        carried: Option<Carried>,
+        answer: Result<Answer, Refusal>,
+        output: &mut Output,
+    )
+        ensures none { is_opened answer ≡ false → (self.new ≡ self.old) × (output.new.more ≡ output.old.more) }
+        ensures marks { let m = with_keys S.stands S.rules S.shown E.stands E.rules E.shown C.bits in
+            (w : Setting) (es : List Event) (numbers : List ℕ) (ws : Waiting) (p : Peers) (at : ℕ) → HouseStands m w es numbers self.old ws p
+            → slice_get numbers place ≡ Some at → is_opened answer ≡ true → is_deferred (seen_answer answer) ≡ true
+            → IfSome carried (λ frame. HouseStands m w es numbers self.new ws (with_mark at frame.from (Some (mark_at w es at frame.from)) p)
+            × (output.new.more ≡ output.old.more)) }
+        ensures takes { let m = with_keys S.stands S.rules S.shown E.stands E.rules E.shown C.bits in
+            (w : Setting) (es : List Event) (numbers : List ℕ) (at : ℕ) → AreHere m w es numbers self.old.replicas.items
+            → slice_get numbers place ≡ Some at → is_opened answer ≡ true → is_deferred (seen_answer answer) ≡ false
+            → IfSome carried (λ frame. frame.from < w.numbers.n
+            → (self.new ≡ self.old) × (output.new.more ≡ mores.Note frame.from (ack_note (w.keys at) frame.from frame.seq))) }
+        ensures same { (output.new.at ≡ output.old.at) × (output.new.event ≡ output.old.event) × (output.new.frames ≡ output.old.frames) × (output.new.replies ≡ output.old.replies) }
+    {
+        match carried {
+            Some(frame) if is_opened(answer) => {
+                if is_deferred(answer) {
+                    self.mark(place, frame.from);
+                } else {
+                    self.acknowledge(place, frame, output);
+                }
+            }
+            _ => {}
+        }
+    }
+
+    // A frame comes to the replica at a place. Where it opens its sender is told that it was taken, or is marked where it is to come
+    // again.
+    fn frame(
+        &mut self,
+        alloc: Global,
+        place: usize,
+        bytes: Bytes,
+        output: &mut Output,
+    ) -> Result<(), Mem>
+        ensures comes { let m = with_keys S.stands S.rules S.shown E.stands E.rules E.shown C.bits in
+            (w : Setting) (es : List Event) (numbers : List ℕ) (ws : Waiting) (p : Peers) (at : ℕ) → HouseStands m w es numbers self.old ws p
+            → at ≡ output.old.at → slice_get numbers place ≡ Some at → IsClear output.old
+            → OnOk result (Comes m w es numbers self.new output.new (called w es at (Frame at bytes) ws)
+            (opened_so w es at bytes (keep_all (made_by w es (Some (Frame at bytes))) p) (opening (w.keys at) bytes))) }
+        ensures sized { length bytes < 2 ^ 16 → OnOk result (IfSome output.new.event IsSized) }
+    {
+        opened_parts();
+        opened_from_peer();
+        let count = self.rows_at(place);
+        let carried = sender_and_number(bytes.as_slice());
+        let event = Event::Frame {
+            to: output.at,
+            bytes,
+        };
+        let answer = self.give(alloc, place, &event, &mut output.frames)?;
+        output.event = Some(event);
+        self.respond(place, carried, answer, output);
+        self.enter(alloc, place, count, output)
+    }
+
+    // A frame or a note comes to a replica, if that is here. The one error is want of memory.
     fn hear(&mut self, alloc: Global, to: u8, bytes: Bytes, output: &mut Output) -> Result<(), Mem>
         ensures comes { let m = with_keys S.stands S.rules S.shown E.stands E.rules E.shown C.bits in
-            (w : Setting) (es : List Event) (numbers : List ℕ) (ws : Waiting) → HouseStands m w es numbers self.old ws
-            → OnOk result (Comes m w es numbers self.new output.new (if_here w to (called w es to (Frame to bytes) ws) ws)) }
+            (w : Setting) (es : List Event) (numbers : List ℕ) (ws : Waiting) (p : Peers) → HouseStands m w es numbers self.old ws p
+            → let did = item_does w es (items.Frame to bytes) ws in
+            OnOk result (Comes m w es numbers self.new output.new did (item_brings w es (items.Frame to bytes) (keep_all (made_by w es did.event) p))) }
         ensures sized { length bytes < 2 ^ 16 → OnOk result (IfSome output.new.event IsSized) }
     {
         output.clear(to);
-        match self.place_of(to) {
-            Some(place) => self.call(alloc, place, Event::Frame { to, bytes }, output),
-            None => Ok(()),
+        let Some(place) = self.place_of(to) else {
+            return Ok(());
+        };
+        if is_note(bytes.as_slice()) {
+            self.note(place, bytes.as_slice(), output);
+            return Ok(());
+        }
+        self.frame(alloc, place, bytes, output)
+    }
+
+    // A peer of a replica has a connection: what is kept for it is to go out again.
+    fn up(&mut self, at: u8, peer: u8, output: &mut Output)
+        ensures comes { let m = with_keys S.stands S.rules S.shown E.stands E.rules E.shown C.bits in
+            (w : Setting) (es : List Event) (numbers : List ℕ) (ws : Waiting) (p : Peers) → HouseStands m w es numbers self.old ws p
+            → Comes m w es numbers self.new output.new (silent [] ws) (item_brings w es (items.Up at peer) p) }
+        ensures none { output.new.event ≡ None }
+    {
+        output.clear(at);
+        let Some(place) = self.place_of(at) else {
+            return;
+        };
+        if let Some(replica) = self.replicas.get(place) {
+            if peer < replica.keys().n() {
+                output.more = More::Kept { peer };
+            }
         }
     }
 
@@ -181,13 +369,23 @@ impl<S: Service, E: Broadcast, C: Coin + Drop> House<S, E, C> {
     ) -> Result<(), Mem>
         requires { length (bytes_of item) < 2 ^ 16 }
         ensures comes { let m = with_keys S.stands S.rules S.shown E.stands E.rules E.shown C.bits in
-            (w : Setting) (es : List Event) (numbers : List ℕ) (ws : Waiting) → HouseStands m w es numbers self.old ws
-            → OnOk result (Comes m w es numbers self.new output.new (item_does w es item ws)) }
+            (w : Setting) (es : List Event) (numbers : List ℕ) (ws : Waiting) (p : Peers) → HouseStands m w es numbers self.old ws p
+            → let did = item_does w es item ws in
+            OnOk result (Comes m w es numbers self.new output.new did (item_brings w es item (keep_all (made_by w es did.event) p))) }
         ensures sized { OnOk result (IfSome output.new.event IsSized) }
     {
         match item {
             LinkItem::Frame { to, bytes } => self.hear(alloc, to, bytes, output),
             LinkItem::Client { at, conn, bytes } => self.ask(alloc, at, Some(conn), bytes, output),
+            LinkItem::Up { at, peer } => {
+                self.up(at, peer, output);
+                Ok(())
+            }
+            LinkItem::Left { at, conn } => {
+                output.clear(at);
+                self.waiting.leave(at, conn);
+                Ok(())
+            }
             _ => {
                 output.clear(0);
                 Ok(())
@@ -204,8 +402,9 @@ impl<S: Service, E: Broadcast, C: Coin + Drop> House<S, E, C> {
     ) -> Result<(), Mem>
         requires { IsFirst item.now }
         ensures comes { let m = with_keys S.stands S.rules S.shown E.stands E.rules E.shown C.bits in
-            (w : Setting) (es : List Event) (numbers : List ℕ) (ws : Waiting) → HouseStands m w es numbers self.old ws
-            → OnOk result (Comes m w es numbers self.new output.new (first_does w es item.now ws)) }
+            (w : Setting) (es : List Event) (numbers : List ℕ) (ws : Waiting) (p : Peers) → HouseStands m w es numbers self.old ws p
+            → let did = first_does w es item.now ws in
+            OnOk result (Comes m w es numbers self.new output.new did (nothing_more (keep_all (made_by w es did.event) p))) }
         ensures sized { OnOk result (IfSome output.new.event IsSized) }
     {
         match item {

@@ -2,10 +2,11 @@
 use crate::enter::enter_rows;
 use crate::house::House;
 use crate::output::Output;
-use crate::refusals::refusal_number;
+use crate::refusals::told;
 use layer_api::{Broadcast, Service};
-use replica::OutFrame;
+use replica::{OutFrame, Refusal};
 use ritas_base::{Coin, Event, Mem};
+use ritas_core::Answer;
 use std::alloc::Global;
 
 impl<S: Service, E: Broadcast, C: Coin + Drop> House<S, E, C> {
@@ -15,11 +16,13 @@ impl<S: Service, E: Broadcast, C: Coin + Drop> House<S, E, C> {
     ghost use Rattle.ritas_base.specs.declared.event.Event.TheVariants.{Turn};
     ghost use Rattle.replica.specs.Replica.{with_keys};
     ghost use Rattle.schedule_file.specs.Spelling.{IsAlone, IsSized};
-    ghost use Rattle.world_model.specs.World.{Setting, seen_of};
+    ghost use Rattle.world_model.specs.World.{Setting, seen_of, seen_answer};
     ghost use Rattle.world_model.specs.Agree.{rows_at};
     ghost use Rattle.node_loop.specs.Waiting.{Waiting};
-    ghost use Rattle.node_loop.specs.Calls.{called, refusal_in, left_by, replies_by};
-    ghost use Rattle.node_loop.specs.Serving.{sent_by};
+    ghost use Rattle.node_loop.specs.Calls.{called, left_by, replies_by};
+    ghost use Rattle.node_loop.specs.Peers.{Peers, keep_all};
+    ghost use Rattle.node_loop.specs.Resending.{nothing_more};
+    ghost use Rattle.node_loop.specs.Serving.{made_by, sent_by};
     ghost use Rattle.node_loop.specs.Served.{AreHere};
     ghost use Rattle.node_loop.specs.Standing.{HouseStands, Comes, IsClear, frame_by, reply_by};
 
@@ -35,36 +38,35 @@ impl<S: Service, E: Broadcast, C: Coin + Drop> House<S, E, C> {
         }
     }
 
-    /// Makes the call that an event is on the replica at a place, and answers the number of the fault with which it is refused, if it
-    /// is. The one error is want of memory.
+    /// Makes the call that an event is on the replica at a place, and answers what it answered. The one error is want of memory.
     pub(crate) fn give(
         &mut self,
         alloc: Global,
         place: usize,
         event: &Event,
         frames: &mut Vec<OutFrame>,
-    ) -> Result<Option<u32>, Mem>
+    ) -> Result<Result<Answer, Refusal>, Mem>
         ensures does { let m = with_keys S.stands S.rules S.shown E.stands E.rules E.shown C.bits in
             (w : Setting) (es : List Event) (numbers : List ℕ) (at : ℕ) → AreHere m w es numbers self.old.replicas.items → slice_get numbers place ≡ Some at
             → IsAlone at event.now → OnOk result (AreHere m w (event.now ∷ es) numbers self.new.replicas.items
             × (map (frame_by at) frames.new.items ≡ map (frame_by at) frames.old.items ++ sent_by w es (Some event.now))) }
-        ensures refused { let m = with_keys S.stands S.rules S.shown E.stands E.rules E.shown C.bits in
+        ensures answered { let m = with_keys S.stands S.rules S.shown E.stands E.rules E.shown C.bits in
             (w : Setting) (es : List Event) (numbers : List ℕ) (at : ℕ) → AreHere m w es numbers self.old.replicas.items → slice_get numbers place ≡ Some at
-            → IsAlone at event.now → IfOk result (λ code. code ≡ refusal_in (seen_of w es event.now)) }
-        ensures waiting { self.new.waiting ≡ self.old.waiting }
+            → IsAlone at event.now → IfOk result (λ answer. seen_answer answer ≡ seen_of w es event.now) }
+        ensures same { (self.new.waiting ≡ self.old.waiting) × (self.new.keepers ≡ self.old.keepers) }
     {
         let Some(replica) = self.replicas.get_mut(place) else {
             // There is no such place.
-            return Ok(None);
+            return Ok(Ok(Answer::Idle));
         };
         let answer = match event {
             Event::Frame { bytes, .. } => replica.on_frame(alloc, bytes.as_slice(), frames),
             Event::Input { bytes, .. } => replica.on_input(alloc, bytes.as_slice(), frames),
             Event::Turn { .. } => replica.on_turn(alloc, frames),
             // No other event is a call on one replica alone.
-            _ => return Ok(None),
+            _ => return Ok(Ok(Answer::Idle)),
         };
-        refusal_number(answer)
+        told(answer)
     }
 
     /// The rows that came into the log of the replica at a place, behind the first so many.
@@ -76,11 +78,11 @@ impl<S: Service, E: Broadcast, C: Coin + Drop> House<S, E, C> {
         output: &mut Output,
     ) -> Result<(), Mem>
         ensures enters { let m = with_keys S.stands S.rules S.shown E.stands E.rules E.shown C.bits in
-            (w : Setting) (es : List Event) (numbers : List ℕ) (ws : Waiting) → HouseStands m w es numbers self.old ws → slice_get numbers place ≡ Some output.old.at
-            → OnOk result (HouseStands m w es numbers self.new (left_by output.old.at count (rows_at w es output.old.at) ws)
+            (w : Setting) (es : List Event) (numbers : List ℕ) (ws : Waiting) (p : Peers) → HouseStands m w es numbers self.old ws p → slice_get numbers place ≡ Some output.old.at
+            → OnOk result (HouseStands m w es numbers self.new (left_by output.old.at count (rows_at w es output.old.at) ws) p
             × (map (reply_by output.old.at) output.new.replies.items
             ≡ map (reply_by output.old.at) output.old.replies.items ++ replies_by output.old.at count (rows_at w es output.old.at) ws)) }
-        ensures same { (output.new.at ≡ output.old.at) × (output.new.event ≡ output.old.event) × (output.new.frames ≡ output.old.frames) }
+        ensures same { (output.new.at ≡ output.old.at) × (output.new.event ≡ output.old.event) × (output.new.frames ≡ output.old.frames) × (output.new.more ≡ output.old.more) }
     {
         match self.replicas.get(place) {
             Some(replica) => enter_rows(
@@ -95,7 +97,7 @@ impl<S: Service, E: Broadcast, C: Coin + Drop> House<S, E, C> {
         }
     }
 
-    /// An event at the replica at a place, which is a frame or a turn. The one error is want of memory.
+    /// An event at the replica at a place of which nothing goes to peers but the frames of its call. The one error is want of memory.
     pub(crate) fn call(
         &mut self,
         alloc: Global,
@@ -104,13 +106,13 @@ impl<S: Service, E: Broadcast, C: Coin + Drop> House<S, E, C> {
         output: &mut Output,
     ) -> Result<(), Mem>
         ensures comes { let m = with_keys S.stands S.rules S.shown E.stands E.rules E.shown C.bits in
-            (w : Setting) (es : List Event) (numbers : List ℕ) (ws : Waiting) → HouseStands m w es numbers self.old ws → slice_get numbers place ≡ Some output.old.at
+            (w : Setting) (es : List Event) (numbers : List ℕ) (ws : Waiting) (p : Peers) → HouseStands m w es numbers self.old ws p → slice_get numbers place ≡ Some output.old.at
             → IsAlone output.old.at event → IsClear output.old
-            → OnOk result (Comes m w es numbers self.new output.new (called w es output.old.at event ws)) }
+            → OnOk result (Comes m w es numbers self.new output.new (called w es output.old.at event ws) (nothing_more (keep_all (made_by w es (Some event)) p))) }
         ensures sized { IsSized event → OnOk result (IfSome output.new.event IsSized) }
     {
         let count = self.rows_at(place);
-        self.give(alloc, place, &event, &mut output.frames)?;
+        let _ = self.give(alloc, place, &event, &mut output.frames)?;
         output.event = Some(event);
         self.enter(alloc, place, count, output)
     }
@@ -118,8 +120,8 @@ impl<S: Service, E: Broadcast, C: Coin + Drop> House<S, E, C> {
     /// A turn at a replica. The one error is want of memory.
     pub(crate) fn turn(&mut self, alloc: Global, at: u8, output: &mut Output) -> Result<(), Mem>
         ensures comes { let m = with_keys S.stands S.rules S.shown E.stands E.rules E.shown C.bits in
-            (w : Setting) (es : List Event) (numbers : List ℕ) (ws : Waiting) → HouseStands m w es numbers self.old ws → w.is_correct at ≡ true
-            → OnOk result (Comes m w es numbers self.new output.new (called w es at (Turn at) ws)) }
+            (w : Setting) (es : List Event) (numbers : List ℕ) (ws : Waiting) (p : Peers) → HouseStands m w es numbers self.old ws p → w.is_correct at ≡ true
+            → OnOk result (Comes m w es numbers self.new output.new (called w es at (Turn at) ws) (nothing_more (keep_all (made_by w es (Some (Turn at))) p))) }
         ensures sized { OnOk result (IfSome output.new.event IsSized) }
     {
         output.clear(at);

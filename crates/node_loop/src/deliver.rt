@@ -1,21 +1,68 @@
 //! What a tape and a link are given.
-ghost use Rattle.std.specs.Prelude.{◌≡◌, ◌++◌, List, map, IfSome};
+ghost use Rattle.std.specs.Prelude.{◌≡◌, ℕ, ◌<◌, ◌≤◌, [], ◌++◌, List, length, map, reverse, None, false, All, IfSome, OnOk};
 ghost use Rattle.ritas_base.specs.declared.event.Event.{Event};
 ghost use Rattle.outside.specs.LinkCalls.{LinkDid, each_act};
 ghost use Rattle.outside.specs.Links.{LinkAct, Replies};
+ghost use Rattle.link_resume.specs.Lists.{kept_for};
 ghost use Rattle.schedule_file.specs.Spelling.{IsSized};
+ghost use Rattle.replica.specs.Replica.{with_keys};
+ghost use Rattle.world_model.specs.World.{Setting};
+ghost use Rattle.node_loop.specs.Calls.{Outcome};
+ghost use Rattle.node_loop.specs.Peers.{Peers, keep_all};
+ghost use Rattle.node_loop.specs.PeersStanding.{AreKept, kept_by, more_acts, made_as};
+ghost use Rattle.node_loop.specs.Resending.{Brought};
 ghost use Rattle.node_loop.specs.Outs.{Outs, outs_of, Tells, Agrees, Steps, Fails};
-ghost use Rattle.node_loop.specs.Serving.{onto};
-ghost use Rattle.node_loop.specs.Standing.{frame_by, reply_by};
+ghost use Rattle.node_loop.specs.Deeds.{act_of};
+ghost use Rattle.node_loop.specs.Serving.{Serving, so_far, sent_by, onto};
+ghost use Rattle.node_loop.specs.Standing.{HouseStands, Comes, IsMore, frame_by, reply_by};
+ghost use Rattle.node_loop.specs.Running.{Goes};
 
 use crate::end::Fault;
-use crate::output::{Output, Reply};
+use crate::house::House;
+use crate::output::{More, Output, Reply};
+use crate::peers::keep;
+use layer_api::{Broadcast, Service};
+use link_resume::Resume;
 use outside::{Link, LinkFault, Sink};
 use replica::OutFrame;
+use ritas_base::{Coin, Mem};
 use schedule_file::Writer;
 use std::alloc::Global;
 use std::net::Net;
 use std::sync::Wait;
+
+// Keeps these frames of a replica for their peers, in order. The one error is want of memory.
+fn keep_each(resume: &mut Resume, alloc: Global, frames: &[OutFrame]) -> Result<(), Mem>
+    ensures { (n i k : ℕ) (p : Peers) → All (λ f. 11 ≤ length f.bytes) frames.now → AreKept n i resume.old p.keeping
+        → OnOk result (AreKept n i resume.new (keep_all (map (made_as k i) frames.now) p).keeping) }
+{
+    for frame in frames {
+        keep(resume, alloc, frame.to, frame.bytes.as_slice())?;
+    }
+    Ok(())
+}
+
+// Keeps the frames that came for their peers. The one error is want of memory.
+fn keep_frames<S: Service, E: Broadcast, C: Coin + Drop>(
+    house: &mut House<S, E, C>,
+    alloc: Global,
+    output: &Output,
+) -> Result<(), Mem>
+    ensures { let m = with_keys S.stands S.rules S.shown E.stands E.rules E.shown C.bits in
+        (w : Setting) (es : List Event) (numbers : List ℕ) (did : Outcome) (more : Brought)
+        → Comes m w es numbers house.old output.now did more
+        → OnOk result (HouseStands m w (onto did.event es) numbers house.new did.waiting more.peers) }
+{
+    keyed_channel::sealed_length();
+    let Some(place) = house.place_of(output.at) else {
+        // Nothing comes of what is for a replica that isn't here.
+        return Ok(());
+    };
+    match house.keepers.get_mut(place) {
+        Some(keeper) => keep_each(&mut keeper.resume, alloc, output.frames.as_slice()),
+        None => Ok(()),
+    }
+}
 
 // Sends the frames of a replica, in order.
 fn send_all<R: Net + Wait, L: Link>(
@@ -34,6 +81,82 @@ fn send_all<R: Net + Wait, L: Link>(
         }
     }
     Ok(())
+}
+
+// Sends all that is kept for a peer again, the oldest first.
+fn send_kept<R: Net + Wait, L: Link>(
+    rt: &R,
+    alloc: Global,
+    link: &mut L,
+    at: u8,
+    resume: &Resume,
+    peer: u8,
+) -> Result<(), LinkFault>
+    requires { peer < length resume.now }
+    ensures { LinkDid L.tells (each_act (kept_by at peer) (kept_for resume.now peer)) (L.told link.old) (L.told link.new) (L.faults link.old) (L.faults link.new) result }
+{
+    for place in 0..resume.count(peer) {
+        let Some(kept) = resume.waiting(peer, place) else {
+            // There is no such place.
+            return Ok(());
+        };
+        match link.send(rt, alloc, at, peer, kept.frame.as_slice()) {
+            Ok(()) => {}
+            Err(fault) => return Err(fault),
+        }
+    }
+    Ok(())
+}
+
+// Sends what goes to a peer besides.
+fn send_more<R: Net + Wait, L: Link>(
+    rt: &R,
+    alloc: Global,
+    link: &mut L,
+    at: u8,
+    resume: &Resume,
+    more: More,
+) -> Result<(), LinkFault>
+    ensures { LinkDid L.tells (more_acts at resume.now more) (L.told link.old) (L.told link.new) (L.faults link.old) (L.faults link.new) result }
+{
+    match more {
+        More::Nothing => Ok(()),
+        More::Note { peer, bytes } => link.send(rt, alloc, at, peer, &bytes),
+        More::Kept { peer } if usize::from(peer) < resume.peers() => {
+            send_kept(rt, alloc, link, at, resume, peer)
+        }
+        // Nothing is kept for what is no peer.
+        More::Kept { .. } => Ok(()),
+    }
+}
+
+// Sends what goes to peers: the frames, and what goes to a peer besides.
+fn send_out<R: Net + Wait, S: Service, E: Broadcast, C: Coin + Drop, L: Link>(
+    rt: &R,
+    alloc: Global,
+    house: &House<S, E, C>,
+    link: &mut L,
+    output: &Output,
+) -> Result<(), LinkFault>
+    ensures { let m = with_keys S.stands S.rules S.shown E.stands E.rules E.shown C.bits in
+        (w : Setting) (es : List Event) (numbers : List ℕ) (did : Outcome) (more : Brought)
+        → HouseStands m w (onto did.event es) numbers house.now did.waiting more.peers
+        → map (frame_by output.now.at) output.now.frames.items ≡ sent_by w es did.event → IsMore w output.now.at output.now.more more
+        → (w.is_correct output.now.at ≡ false → (did.event ≡ None) × (more.deeds ≡ []))
+        → LinkDid L.tells (reverse (map (act_of w.keys) more.deeds) ++ reverse (sent_by w es did.event)) (L.told link.old) (L.told link.new) (L.faults link.old) (L.faults link.new) result }
+{
+    let Some(place) = house.place_of(output.at) else {
+        return Ok(());
+    };
+    let Some(keeper) = house.keepers.get(place) else {
+        // There is no such place.
+        return Ok(());
+    };
+    match send_all(rt, alloc, link, output.at, output.frames.as_slice()) {
+        Ok(()) => {}
+        Err(fault) => return Err(fault),
+    }
+    send_more(rt, alloc, link, output.at, &keeper.resume, output.more)
 }
 
 // Sends its replies, in order.
@@ -81,29 +204,34 @@ fn write<K: Sink>(tape: &mut K, output: &Output) -> Result<(), Fault>
     Ok(())
 }
 
-/// Writes the event that came to the tape, and then gives the link its frames and its replies.
-pub(crate) fn deliver<R: Net + Wait, L: Link, K: Sink>(
+/// Writes the event that came to the tape, keeps its frames for their peers, and then gives the link the frames, what goes to a peer
+/// besides, and the replies.
+pub(crate) fn deliver<R: Net + Wait, S: Service, E: Broadcast, C: Coin + Drop, L: Link, K: Sink>(
     rt: &R,
     alloc: Global,
+    house: &mut House<S, E, C>,
     link: &mut L,
     tape: &mut K,
     output: &Output,
 ) -> Result<(), Fault>
     requires { IfSome output.now.event IsSized }
-    ensures { (base : Outs) (events : List Event) (acts : List LinkAct)
+    ensures { let m = with_keys S.stands S.rules S.shown E.stands E.rules E.shown C.bits in
+        (w : Setting) (past : List Event) (numbers : List ℕ) (base : Outs) (s : Serving) (did : Outcome) (more : Brought)
+        → Comes m w (so_far past s) numbers house.old output.now did more
         → Agrees (record { tape = K.tells; link = L.tells }) base
-        (outs_of K.taken K.faults L.told L.faults tape.old link.old) events acts
-        → Steps (record { tape = K.tells; link = L.tells }) base
-        (outs_of K.taken K.faults L.told L.faults tape.new link.new) result
-        (onto output.now.event events)
-        (each_act Replies (map (reply_by output.now.at) output.now.replies.items) ++ (each_act (frame_by output.now.at) output.now.frames.items ++ acts))
-        acts (each_act Replies (map (reply_by output.now.at) output.now.replies.items) ++ each_act (frame_by output.now.at) output.now.frames.items) }
+        (outs_of K.taken K.faults L.told L.faults tape.old link.old) s.events s.acts
+        → Goes m w past numbers house.new (record { tape = K.tells; link = L.tells }) base
+        (outs_of K.taken K.faults L.told L.faults tape.new link.new) result did more s }
 {
     match write(tape, output) {
         Ok(()) => {}
         Err(fault) => return Err(fault),
     }
-    match send_all(rt, alloc, link, output.at, output.frames.as_slice()) {
+    match keep_frames(house, alloc, output) {
+        Ok(()) => {}
+        Err(Mem) => return Err(Fault::Mem),
+    }
+    match send_out(rt, alloc, house, link, output) {
         Ok(()) => {}
         Err(fault) => return Err(fault_of(fault)),
     }

@@ -9,17 +9,20 @@ ghost use Rattle.world_model.specs.Agree.{rows_at};
 ghost use Rattle.node_loop.specs.Serving.{is_busy};
 ghost use Rattle.node_loop.specs.Standing.{is_less};
 
+use crate::output::{More, Output};
+use crate::peers::{Keeper, Pair};
 use crate::waiting::Waiters;
 use layer_api::{Broadcast, Service};
 use replica::Replica;
-use ritas_base::Coin;
+use ritas_base::{Coin, Mem};
 use std::alloc::Global;
 
-/// The replicas that are here, and who waits at them.
+/// The replicas that are here, who waits at them, and what is kept for the peers of each.
 #[derive(Drop)]
 pub(crate) struct House<S: Service, E: Broadcast, C: Coin + Drop> {
     pub replicas: Vec<Replica<S, E, C>>,
     pub waiting: Waiters,
+    pub keepers: Vec<Keeper>,
 }
 
 // Whether a number is less than the least one, if there is one.
@@ -77,25 +80,40 @@ fn lesser<S: Service, E: Broadcast, C: Coin + Drop>(
 }
 
 impl<S: Service, E: Broadcast, C: Coin + Drop> House<S, E, C> {
-    ghost use Rattle.std.specs.Prelude.{◌≡◌, ℕ, [], ◌∷◌, List, true, false, MatchOption, Some};
+    ghost use Rattle.std.specs.Prelude.{◌≡◌, ℕ, ◌<◌, ◌&&◌, nat_lt, [], ◌∷◌, ◌++◌, length, List, true, false, MatchOption, Some, None, IfOk, OnErr, if◌then◌else◌};
     ghost use Rattle.std.specs.List.{slice_get};
     ghost use Rattle.ritas_base.specs.declared.event.Event.{Event};
     ghost use Rattle.replica.specs.Replica.{with_keys};
     ghost use Rattle.world_model.specs.World.{Setting};
-    ghost use Rattle.node_loop.specs.Waiting.{nobody};
-    ghost use Rattle.node_loop.specs.Serving.{busy, is_done};
+    ghost use Rattle.node_loop.specs.declared.peers.Pair.{Pair as APair};
+    ghost use Rattle.node_loop.specs.Waiting.{Waiting, nobody};
+    ghost use Rattle.node_loop.specs.Calls.{silent};
+    ghost use Rattle.node_loop.specs.Peers.{Peers, no_peers, with_mark};
+    ghost use Rattle.node_loop.specs.Resending.{asks_for_more, due_at, due};
+    ghost use Rattle.node_loop.specs.Serving.{here, busy, is_done};
     ghost use Rattle.node_loop.specs.Served.{AreHere};
-    ghost use Rattle.node_loop.specs.Standing.{HouseStands};
+    ghost use Rattle.node_loop.specs.Standing.{HouseStands, IsMore, Comes, is_less};
 
-    /// These replicas, at which nobody waits. It takes no memory.
-    pub(crate) fn new(alloc: Global, replicas: Vec<Replica<S, E, C>>) -> House<S, E, C>
-        ensures { let m = with_keys S.stands S.rules S.shown E.stands E.rules E.shown C.bits in
-            (w : Setting) (es : List Event) (numbers : List ℕ) → AreHere m w es numbers replicas.items → HouseStands m w es numbers result nobody }
+    /// These replicas, at which nobody waits, and for whose peers nothing is kept. The one error is want of memory, and then the
+    /// replicas are as they were.
+    pub(crate) fn new(
+        alloc: Global,
+        replicas: &mut Vec<Replica<S, E, C>>,
+    ) -> Result<House<S, E, C>, Mem>
+        ensures stands { let m = with_keys S.stands S.rules S.shown E.stands E.rules E.shown C.bits in
+            (w : Setting) (es : List Event) (numbers : List ℕ) → AreHere m w es numbers replicas.old.items
+            → IfOk result (λ house. HouseStands m w es numbers house nobody no_peers) }
+        ensures err { OnErr result (replicas.new ≡ replicas.old) }
     {
-        House {
-            replicas,
-            waiting: Waiters::new(alloc),
+        let mut keepers = Vec::new(alloc);
+        for replica in replicas.iter() {
+            keepers.push(Keeper::new(alloc, replica.keys().n())?)?;
         }
+        Ok(House {
+            replicas: std::mem::replace(replicas, Vec::new(alloc)),
+            waiting: Waiters::new(alloc),
+            keepers,
+        })
     }
 
     /// Where the replica of a number stands, if it is here.
@@ -123,6 +141,102 @@ impl<S: Service, E: Broadcast, C: Coin + Drop> House<S, E, C> {
             least = lesser(replica, least);
         }
         least
+    }
+
+    // The peer of the replica at a place that is to be asked to send again, the least if there are several.
+    fn due_at(&self, place: usize) -> Option<u8>
+        ensures { let m = with_keys S.stands S.rules S.shown E.stands E.rules E.shown C.bits in
+            (w : Setting) (es : List Event) (numbers : List ℕ) (ws : Waiting) (p : Peers) (at : ℕ) → HouseStands m w es numbers self.now ws p
+            → slice_get numbers place ≡ Some at
+            → MatchOption result (due_at w es p at ≡ []) (λ j. (more : List APair) × (due_at w es p at ≡ record { at = at; peer = j } ∷ more)) }
+    {
+        self.keepers.get(place)?.due(self.replicas.get(place)?)
+    }
+
+    // The number of the replica at a place, if a peer of it is to be asked to send again and the number is less than the least one; else
+    // this.
+    fn lesser_wishing(&self, place: usize, number: u8, least: Option<u8>) -> Option<u8>
+        ensures { let m = with_keys S.stands S.rules S.shown E.stands E.rules E.shown C.bits in
+            (w : Setting) (es : List Event) (numbers : List ℕ) (ws : Waiting) (p : Peers) (at : ℕ) → HouseStands m w es numbers self.now ws p
+            → slice_get numbers place ≡ Some at
+            → result ≡ (if nat_lt 0 (length (due_at w es p at)) && is_less number least then Some number else least) }
+    {
+        if self.due_at(place).is_some() && is_less(number, least) {
+            Some(number)
+        } else {
+            least
+        }
+    }
+
+    // The least number of a replica that has a peer which is to be asked to send again.
+    fn least_wishing(&self) -> Option<u8>
+        ensures { let m = with_keys S.stands S.rules S.shown E.stands E.rules E.shown C.bits in
+            (w : Setting) (es : List Event) (numbers : List ℕ) (ws : Waiting) (p : Peers) → HouseStands m w es numbers self.now ws p
+            → MatchOption result (due w es (here w) p ≡ []) (λ i. (more : List APair) × (w.is_correct i ≡ true)
+            × (nat_lt 0 (length (due_at w es p i)) ≡ true) × (due w es (here w) p ≡ due_at w es p i ++ more)) }
+    {
+        let mut least: Option<u8> = None;
+        for (place, replica) in self.replicas.iter().enumerate() {
+            least = self.lesser_wishing(place, number_of(replica), least);
+        }
+        least
+    }
+
+    /// The least peer, of the least replica that has one, which is to be asked to send again.
+    pub(crate) fn least_due(&self) -> Option<Pair>
+        ensures { let m = with_keys S.stands S.rules S.shown E.stands E.rules E.shown C.bits in
+            (w : Setting) (es : List Event) (numbers : List ℕ) (ws : Waiting) (p : Peers) → HouseStands m w es numbers self.now ws p
+            → MatchOption result (due w es (here w) p ≡ []) (λ pair. (more : List APair) × (due w es (here w) p ≡ pair ∷ more)) }
+    {
+        let at = self.least_wishing()?;
+        let peer = self.due_at(self.place_of(at)?)?;
+        Some(Pair { at, peer })
+    }
+
+    // A peer of the replica at a place isn't marked any more.
+    fn unmark(&mut self, place: usize, peer: u8)
+        ensures { let m = with_keys S.stands S.rules S.shown E.stands E.rules E.shown C.bits in
+            (w : Setting) (es : List Event) (numbers : List ℕ) (ws : Waiting) (p : Peers) (at : ℕ) → HouseStands m w es numbers self.old ws p
+            → slice_get numbers place ≡ Some at → HouseStands m w es numbers self.new ws (with_mark at peer None p) }
+    {
+        if let Some(keeper) = self.keepers.get_mut(place) {
+            keeper.unmark(peer);
+        }
+    }
+
+    // The note that asks a peer of the replica at a place to send again.
+    fn again_to(&self, place: usize, peer: u8) -> More
+        ensures { let m = with_keys S.stands S.rules S.shown E.stands E.rules E.shown C.bits in
+            (w : Setting) (es : List Event) (numbers : List ℕ) (p : Peers) (at : ℕ) → AreHere m w es numbers self.now.replicas.items
+            → slice_get numbers place ≡ Some at → peer < w.numbers.n → IsMore w at result (asks_for_more at peer p) }
+    {
+        let Some(replica) = self.replicas.get(place) else {
+            return More::Nothing;
+        };
+        let channel = replica.channel();
+        if peer >= channel.keys().n() {
+            return More::Nothing;
+        }
+        More::Note {
+            peer,
+            bytes: channel.seal_again(peer),
+        }
+    }
+
+    /// A peer of a replica is asked to send again, and isn't marked any more.
+    pub(crate) fn remind(&mut self, pair: Pair, output: &mut Output)
+        ensures comes { let m = with_keys S.stands S.rules S.shown E.stands E.rules E.shown C.bits in
+            (w : Setting) (es : List Event) (numbers : List ℕ) (ws : Waiting) (p : Peers) → HouseStands m w es numbers self.old ws p
+            → w.is_correct pair.at ≡ true → pair.peer < w.numbers.n
+            → Comes m w es numbers self.new output.new (silent [] ws) (asks_for_more pair.at pair.peer p) }
+        ensures none { output.new.event ≡ None }
+    {
+        output.clear(pair.at);
+        let Some(place) = self.place_of(pair.at) else {
+            return;
+        };
+        self.unmark(place, pair.peer);
+        output.more = self.again_to(place, pair.peer);
     }
 
     /// Whether each log has so many rows, if that isn't 0.

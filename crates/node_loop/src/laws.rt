@@ -1,5 +1,5 @@
 //! What serving keeps to, whatever the link gives.
-ghost use Rattle.node_loop.specs.Laws.{OneRun, OnlyGrows, FramesAreMade, EventsFit, RepliesAreTrue};
+ghost use Rattle.node_loop.specs.Laws.{OneRun, OnlyGrows, ActsAreDeeds, FramesAreMade, ResendsAreOpen, AcksAreEarned, EventsFit, RepliesAreTrue};
 
 use layer_api::{Broadcast, Service};
 
@@ -18,11 +18,33 @@ pub fn only_grows()
     ensures { OnlyGrows }
 {}
 
-/// The frames that the link was given are those that the calls of the events made, in their order, and no others.
+/// The link's calls are the deeds of the rounds: what it gave, and what it was given and why.
+///
+/// It does nothing: its contract is the law.
+pub fn acts_are_deeds()
+    ensures { ActsAreDeeds }
+{}
+
+/// The frames that went out for the first time are those that the calls of the events made, in their order, and no others.
 ///
 /// It does nothing: its contract is the law.
 pub fn frames_are_made()
     ensures { FramesAreMade }
+{}
+
+/// A frame that goes out again went out for the first time before, and no acknowledgement of its number by that peer came between the two.
+///
+/// It does nothing: its contract is the law.
+pub fn resends_are_open()
+    ensures { ResendsAreOpen }
+{}
+
+/// An acknowledgement goes out only after a frame of that peer with that number opened, and was answered otherwise than that it is to come
+/// again.
+///
+/// It does nothing: its contract is the law.
+pub fn acks_are_earned()
+    ensures { AcksAreEarned }
 {}
 
 /// The events are at the replicas that are served, and have at most 65,535 bytes: so they may stand in a schedule file.

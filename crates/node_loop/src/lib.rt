@@ -16,6 +16,7 @@ mod enter;
 mod house;
 mod laws;
 mod output;
+mod peers;
 mod refusals;
 mod rounds;
 #[cfg(test)]
@@ -23,5 +24,8 @@ mod tests;
 mod waiting;
 
 pub use end::ServeEnd;
-pub use laws::{events_fit, frames_are_made, one_run, only_grows, replies_are_true};
+pub use laws::{
+    acks_are_earned, acts_are_deeds, events_fit, frames_are_made, one_run, only_grows,
+    replies_are_true, resends_are_open,
+};
 pub use rounds::serve;

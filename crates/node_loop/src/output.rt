@@ -1,5 +1,6 @@
 //! What comes of an item or a turn.
 ghost use Rattle.std.specs.Prelude.{◌≡◌, [], None};
+ghost use Rattle.node_loop.specs.declared.output.More.TheVariants as mores;
 
 use replica::OutFrame;
 use ritas_base::Event;
@@ -14,7 +15,19 @@ pub(crate) struct Reply {
     pub bytes: [u8; 13],
 }
 
-/// What comes of an item or a turn at one replica: the event that it is, if it is one, the frames of its call, and the replies.
+/// What goes to a peer besides the frames of a call.
+#[derive(Clone, Copy, Debug)]
+pub(crate) enum More {
+    /// Nothing.
+    Nothing,
+    /// A note.
+    Note { peer: u8, bytes: [u8; 44] },
+    /// All frames that it didn't acknowledge.
+    Kept { peer: u8 },
+}
+
+/// What comes of an item or a turn at one replica: the event that it is, if it is one, the frames of its call, what goes to a peer
+/// besides, and the replies.
 #[derive(Drop)]
 pub(crate) struct Output {
     /// The replica's number.
@@ -23,6 +36,8 @@ pub(crate) struct Output {
     pub event: Option<Event>,
     /// The frames, in the order in which they were made.
     pub frames: Vec<OutFrame>,
+    /// What goes to a peer besides.
+    pub more: More,
     /// The replies, in the order in which they go out.
     pub replies: Vec<Reply>,
 }
@@ -30,12 +45,13 @@ pub(crate) struct Output {
 impl Output {
     /// Nothing comes. It takes no memory.
     pub(crate) fn new(alloc: Global) -> Output
-        ensures { (result.event ≡ None) × (result.frames.items ≡ []) × (result.replies.items ≡ []) }
+        ensures { (result.event ≡ None) × (result.frames.items ≡ []) × (result.more ≡ mores.Nothing) × (result.replies.items ≡ []) }
     {
         Output {
             at: 0,
             event: None,
             frames: Vec::new(alloc),
+            more: More::Nothing,
             replies: Vec::new(alloc),
         }
     }
@@ -43,11 +59,12 @@ impl Output {
     /// Nothing comes yet of what is next, at this replica. What it took of memory is kept.
     pub(crate) fn clear(&mut self, at: u8)
         ensures at { self.new.at ≡ at }
-        ensures none { (self.new.event ≡ None) × (self.new.frames.items ≡ []) × (self.new.replies.items ≡ []) }
+        ensures none { (self.new.event ≡ None) × (self.new.frames.items ≡ []) × (self.new.more ≡ mores.Nothing) × (self.new.replies.items ≡ []) }
     {
         self.at = at;
         self.event = None;
         self.frames.clear();
+        self.more = More::Nothing;
         self.replies.clear();
     }
 }

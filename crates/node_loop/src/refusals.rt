@@ -1,7 +1,10 @@
-//! Why a call is refused, as a client is told it.
+//! What a call answered: whether it was without memory, why it is refused as a client is told it, and whether a frame is to come
+//! again.
 ghost use Rattle.std.specs.Prelude.{◌≡◌};
-ghost use Rattle.node_loop.specs.Calls.{fault_number};
-ghost use Rattle.node_loop.specs.Standing.{Numbers};
+ghost use Rattle.world_model.specs.World.{seen_answer};
+ghost use Rattle.node_loop.specs.Calls.{fault_number, refusal_in};
+ghost use Rattle.node_loop.specs.Resending.{is_deferred};
+ghost use Rattle.node_loop.specs.Standing.{is_opened, TellsWant};
 
 use frame_codec::BodyFault;
 use replica::Refusal;
@@ -26,13 +29,43 @@ fn fault_number(fault: CoreFault) -> u32
     }
 }
 
-/// The number of the fault with which the core refused a call, if it did. The one error is want of memory, as the call answered it.
-pub(crate) fn refusal_number(answer: Result<Answer, Refusal>) -> Result<Option<u32>, Mem>
-    ensures { Numbers answer result }
+/// The answer of a call. The one error is want of memory, as the call answered it.
+pub(crate) fn told(answer: Result<Answer, Refusal>) -> Result<Result<Answer, Refusal>, Mem>
+    ensures { TellsWant answer result }
 {
     match answer {
         Err(Refusal::Core(CoreFault::Mem)) | Err(Refusal::Body(BodyFault::Mem)) => Err(Mem),
-        Err(Refusal::Core(fault)) => Ok(Some(fault_number(fault))),
-        _ => Ok(None),
+        told => Ok(told),
+    }
+}
+
+/// The number of the fault with which the core refused an input, if it did.
+pub(crate) fn refusal_in(answer: Result<Answer, Refusal>) -> Option<u32>
+    ensures { result ≡ refusal_in (seen_answer answer) }
+{
+    match answer {
+        Err(Refusal::Core(fault)) => Some(fault_number(fault)),
+        _ => None,
+    }
+}
+
+/// Whether a frame that was answered so opened.
+pub(crate) fn is_opened(answer: Result<Answer, Refusal>) -> bool
+    ensures { result ≡ is_opened answer }
+{
+    !matches!(answer, Err(Refusal::Open(_)))
+}
+
+/// Whether a frame that was answered so is to come again.
+pub(crate) fn is_deferred(answer: Result<Answer, Refusal>) -> bool
+    ensures { result ≡ is_deferred (seen_answer answer) }
+{
+    match answer {
+        Err(Refusal::Core(fault)) => match fault {
+            CoreFault::Ahead(_) | CoreFault::HeldFull(_) | CoreFault::Mem | CoreFault::Stopped =>
+                true,
+            _ => false,
+        },
+        _ => false,
     }
 }

@@ -4,8 +4,9 @@ ghost use Rattle.ritas_base.specs.declared.event.Event.{Event};
 ghost use Rattle.outside.specs.declared.link.LinkItem.{LinkItem};
 ghost use Rattle.replica.specs.Replica.{with_keys};
 ghost use Rattle.world_model.specs.World.{Setting};
-ghost use Rattle.node_loop.specs.Waiting.{nobody};
-ghost use Rattle.node_loop.specs.Serving.{Serving, so_far, wants_of, Turned, outcome};
+ghost use Rattle.node_loop.specs.Waiting.{Waiting, nobody};
+ghost use Rattle.node_loop.specs.Peers.{Peers, no_peers};
+ghost use Rattle.node_loop.specs.Serving.{Serving, so_far, wants_of, Turned, Reminded, outcome, brought};
 ghost use Rattle.node_loop.specs.Outs.{Outs, outs_of, Agrees};
 ghost use Rattle.node_loop.specs.Standing.{HouseStands};
 ghost use Rattle.node_loop.specs.Served.{AreHere, IsFirst, Serves};
@@ -15,6 +16,7 @@ use crate::deliver::{deliver, fault_of};
 use crate::end::{Fault, ServeEnd};
 use crate::house::House;
 use crate::output::Output;
+use crate::peers::Pair;
 use layer_api::{Broadcast, Service};
 use outside::{Link, LinkItem, Sink};
 use replica::Replica;
@@ -29,6 +31,7 @@ pub(crate) enum Next {
     Finish,
     Turn(u8),
     Halt,
+    Remind(Pair),
     Ask,
 }
 
@@ -47,8 +50,8 @@ fn next_of<S: Service, E: Broadcast, C: Coin + Drop>(
 ) -> Next
     ensures room { result ≡ Next.Ask → taken < bounds.limit }
     ensures next { let m = with_keys S.stands S.rules S.shown E.stands E.rules E.shown C.bits in
-        (w : Setting) (es : List Event) (numbers : List ℕ) → AreHere m w es numbers house.now.replicas.items
-        → IsNext (wants_of w bounds.until bounds.limit es taken) result }
+        (w : Setting) (es : List Event) (numbers : List ℕ) (ws : Waiting) (p : Peers) → HouseStands m w es numbers house.now ws p
+        → IsNext (wants_of w bounds.until bounds.limit es taken p) result }
 {
     if house.is_done(bounds.until) {
         Next::Finish
@@ -56,6 +59,8 @@ fn next_of<S: Service, E: Broadcast, C: Coin + Drop>(
         Next::Turn(at)
     } else if taken >= bounds.limit {
         Next::Halt
+    } else if let Some(pair) = house.least_due() {
+        Next::Remind(pair)
     } else {
         Next::Ask
     }
@@ -72,6 +77,29 @@ fn end_of(fault: Fault) -> ServeEnd
     }
 }
 
+// A peer of a replica is asked to send again.
+fn remind<R: Net + Wait, S: Service, E: Broadcast, C: Coin + Drop, L: Link, K: Sink>(
+    rt: &R,
+    alloc: Global,
+    house: &mut House<S, E, C>,
+    link: &mut L,
+    tape: &mut K,
+    pair: Pair,
+    output: &mut Output,
+) -> Result<(), Fault>
+    ensures { let m = with_keys S.stands S.rules S.shown E.stands E.rules E.shown C.bits in
+        (w : Setting) (past : List Event) (numbers : List ℕ) (base : Outs) (s : Serving) → HouseStands m w (so_far past s) numbers house.old s.waiting s.peers
+        → Agrees (record { tape = K.tells; link = L.tells }) base
+        (outs_of K.taken K.faults L.told L.faults tape.old link.old) s.events s.acts
+        → w.is_correct pair.at ≡ true → pair.peer < w.numbers.n
+        → Goes m w past numbers house.new (record { tape = K.tells; link = L.tells }) base
+        (outs_of K.taken K.faults L.told L.faults tape.new link.new)
+        result (outcome w past (Reminded pair.at pair.peer) s) (brought w past (Reminded pair.at pair.peer) s) s }
+{
+    house.remind(pair, output);
+    deliver(rt, alloc, house, link, tape, output)
+}
+
 // Takes a turn at a replica.
 fn turn<R: Net + Wait, S: Service, E: Broadcast, C: Coin + Drop, L: Link, K: Sink>(
     rt: &R,
@@ -83,16 +111,16 @@ fn turn<R: Net + Wait, S: Service, E: Broadcast, C: Coin + Drop, L: Link, K: Sin
     output: &mut Output,
 ) -> Result<(), Fault>
     ensures { let m = with_keys S.stands S.rules S.shown E.stands E.rules E.shown C.bits in
-        (w : Setting) (past : List Event) (numbers : List ℕ) (base : Outs) (s : Serving) → HouseStands m w (so_far past s) numbers house.old s.waiting
+        (w : Setting) (past : List Event) (numbers : List ℕ) (base : Outs) (s : Serving) → HouseStands m w (so_far past s) numbers house.old s.waiting s.peers
         → Agrees (record { tape = K.tells; link = L.tells }) base
         (outs_of K.taken K.faults L.told L.faults tape.old link.old) s.events s.acts
         → w.is_correct at ≡ true
         → Goes m w past numbers house.new (record { tape = K.tells; link = L.tells }) base
         (outs_of K.taken K.faults L.told L.faults tape.new link.new)
-        result (outcome w past (Turned at) s) s }
+        result (outcome w past (Turned at) s) (brought w past (Turned at) s) s }
 {
     match house.turn(alloc, at, output) {
-        Ok(()) => deliver(rt, alloc, link, tape, output),
+        Ok(()) => deliver(rt, alloc, house, link, tape, output),
         Err(Mem) => Err(Fault::Mem),
     }
 }
@@ -107,7 +135,7 @@ fn ask_link<R: Net + Wait, S: Service, E: Broadcast, C: Coin + Drop, L: Link, K:
     output: &mut Output,
 ) -> Result<bool, Fault>
     ensures { let m = with_keys S.stands S.rules S.shown E.stands E.rules E.shown C.bits in
-        (w : Setting) (past : List Event) (numbers : List ℕ) (base : Outs) (s : Serving) → HouseStands m w (so_far past s) numbers house.old s.waiting
+        (w : Setting) (past : List Event) (numbers : List ℕ) (base : Outs) (s : Serving) → HouseStands m w (so_far past s) numbers house.old s.waiting s.peers
         → Agrees (record { tape = K.tells; link = L.tells }) base
         (outs_of K.taken K.faults L.told L.faults tape.old link.old) s.events s.acts
         → AskedLink m w past numbers house.new (record { tape = K.tells; link = L.tells }) base
@@ -125,7 +153,7 @@ fn ask_link<R: Net + Wait, S: Service, E: Broadcast, C: Coin + Drop, L: Link, K:
         Ok(()) => {}
         Err(Mem) => return Err(Fault::Mem),
     }
-    match deliver(rt, alloc, link, tape, output) {
+    match deliver(rt, alloc, house, link, tape, output) {
         Ok(()) => Ok(true),
         Err(fault) => Err(fault),
     }
@@ -158,6 +186,10 @@ fn run_round<R: Net + Wait, S: Service, E: Broadcast, C: Coin + Drop, L: Link, K
             Err(fault) => Err(end_of(fault)),
         },
         Next::Halt => Err(ServeEnd::Limit),
+        Next::Remind(pair) => match remind(rt, alloc, house, link, tape, pair, output) {
+            Ok(()) => Ok(()),
+            Err(fault) => Err(end_of(fault)),
+        },
         Next::Ask => match ask_link(rt, alloc, house, link, tape, output) {
             Ok(true) => {
                 *taken += 1;
@@ -211,7 +243,7 @@ fn begin<R: Net + Wait, S: Service, E: Broadcast, C: Coin + Drop, L: Link, K: Si
     requires { All IsFirst first.now }
     ensures { let m = with_keys S.stands S.rules S.shown E.stands E.rules E.shown C.bits in
         (w : Setting) (past : List Event) (numbers : List ℕ) (base : Outs) (until limit : ℕ)
-        → HouseStands m w past numbers house.old nobody → Agrees (record { tape = K.tells; link = L.tells }) base (outs_of K.taken K.faults L.told L.faults tape.old link.old) [] []
+        → HouseStands m w past numbers house.old nobody no_peers → Agrees (record { tape = K.tells; link = L.tells }) base (outs_of K.taken K.faults L.told L.faults tape.old link.old) [] []
         → BeganAll m w past numbers house.new (record { tape = K.tells; link = L.tells }) base (outs_of K.taken K.faults L.told L.faults tape.new link.new) until limit first.now result }
 {
     for item in first {
@@ -219,7 +251,7 @@ fn begin<R: Net + Wait, S: Service, E: Broadcast, C: Coin + Drop, L: Link, K: Si
             Ok(()) => {}
             Err(Mem) => return Err(Fault::Mem),
         }
-        match deliver(rt, alloc, link, tape, output) {
+        match deliver(rt, alloc, house, link, tape, output) {
             Ok(()) => {}
             Err(fault) => return Err(fault),
         }
@@ -239,7 +271,7 @@ fn serve_house<R: Net + Wait, S: Service, E: Broadcast, C: Coin + Drop, L: Link,
 ) -> ServeEnd
     requires { All IsFirst first.now }
     ensures { let m = with_keys S.stands S.rules S.shown E.stands E.rules E.shown C.bits in
-        (w : Setting) (past : List Event) (numbers : List ℕ) → HouseStands m w past numbers house.old nobody
+        (w : Setting) (past : List Event) (numbers : List ℕ) → HouseStands m w past numbers house.old nobody no_peers
         → Serves m w past numbers house.new.replicas.items (record { tape = K.tells; link = L.tells }) (outs_of K.taken K.faults L.told L.faults tape.old link.old) (outs_of K.taken K.faults L.told L.faults tape.new link.new) result bounds.until bounds.limit first.now }
 {
     let mut output = Output::new(alloc);
@@ -255,14 +287,22 @@ fn serve_house<R: Net + Wait, S: Service, E: Broadcast, C: Coin + Drop, L: Link,
 /// 1. It ends with `Done` where `until` isn't 0 and every log has at least that many rows.
 /// 2. A turn is taken at the least replica whose inbox isn't empty, if there is one.
 /// 3. It ends with `Limit` where `limit` items of the link were taken.
-/// 4. The link's next item is taken; it ends with `End` where that is the link's end.
+/// 4. The least peer, of the least replica that has one, which is to be asked to send again, is asked: an AGAIN goes to it.
+/// 5. The link's next item is taken; it ends with `End` where that is the link's end.
 ///
 /// A frame for a replica that is here is a call of its `on_frame`; a client's message is answered or submitted (`specs/Calls.antt`).
-/// Each call is an event, which goes to the tape before the call's frames go to the link, and these go before its replies. It ends
-/// with `LinkFault` or `TapeFault` at the first call that fails, and with `Mem` at the first that is without memory, be it a call of
-/// the link or of a replica: no further call of the link or the tape is made then. Unless memory ran out, the replicas then stand
-/// where all events leave them, also one that the tape didn't take. It waits nowhere but in the link's calls; nothing says that turns
-/// ever end.
+/// Each call is an event, which goes to the tape before the call's frames go to the link, and these go before its replies.
+///
+/// Each frame of a call is kept for its peer, at most 8,388,608 bytes for one, and then goes out for the first time; where it would be
+/// more, it goes out and isn't kept. What is kept for a peer goes out again, the oldest first, where the peer has a connection again or
+/// asks for it, until it is acknowledged. A frame of a peer that opens is acknowledged right behind the frames of its call, unless it is to
+/// come again, being ahead of the replica or finding its peer's room full: then the peer is marked, and asked to send again once the
+/// replica has come further or holds fewer bytes for it (`specs/Resending.antt`). A note of a peer is no call.
+///
+/// It ends with `LinkFault` or `TapeFault` at the first call that fails, and with `Mem` where memory runs out, be it at a call of the link or
+/// of a replica, or for what is kept: no further call of the link or the tape is made then. Unless memory ran out, the replicas then
+/// stand where all events leave them, also one that the tape didn't take. It waits nowhere but in the link's calls; nothing says that
+/// turns ever end.
 ///
 /// What the contract says holds where the replicas are of one world (`AreHere`): they are its correct ones, all of them, each once and
 /// in any order, as they stand after the events of that world before serving began, in which none is stopped, and its root service is
@@ -286,7 +326,10 @@ pub fn serve<R: Net + Wait, S: Service, E: Broadcast, C: Coin + Drop, L: Link, K
         (outs_of K.taken K.faults L.told L.faults tape.new link.new)
         result until limit first.now.items }
 {
-    let mut house = House::new(alloc, std::mem::replace(replicas, Vec::new(alloc)));
+    let mut house = match House::new(alloc, replicas) {
+        Ok(house) => house,
+        Err(Mem) => return ServeEnd::Mem,
+    };
     let bounds = Bounds { until, limit };
     let end = serve_house(rt, alloc, &mut house, link, tape, bounds, first.as_slice());
     *replicas = house.replicas;

@@ -1,6 +1,6 @@
 //! Who waits for which request.
-ghost use Rattle.std.specs.Prelude.{◌≡◌, ℕ, List, [], OnOk, OnErr};
-ghost use Rattle.node_loop.specs.Waiting.{Waiting as waiting, nobody, with_waiter, without};
+ghost use Rattle.std.specs.Prelude.{◌≡◌, ◌==◌, ℕ, List, [], not, Some, OnOk, OnErr, if◌then◌else◌};
+ghost use Rattle.node_loop.specs.Waiting.{Waiting as waiting, nobody, is_conn, joined, with_waiter, without_conn, left_off, without};
 ghost use Rattle.node_loop.specs.Calls.{is_waited_for};
 ghost use Rattle.node_loop.specs.Standing.{IsWaiting};
 
@@ -25,6 +25,48 @@ pub(crate) struct Waiters {
     by_request: BTreeMap<Asked, Vec<Option<u32>>>,
 }
 
+// A connection waits with these, if it doesn't already. The one error is want of memory.
+fn join(conns: &mut Vec<Option<u32>>, conn: Option<u32>) -> Result<(), Mem>
+    ensures { OnOk result (conns.new.items ≡ joined conn conns.old.items) }
+{
+    if !conns.contains(&conn) {
+        conns.push(conn)?;
+    }
+    Ok(())
+}
+
+// Whether one that waits is another than this connection.
+fn is_other(one: Option<u32>, conn: u32) -> bool
+    ensures { result ≡ not (is_conn (Some conn) one) }
+{
+    match one {
+        Some(other) => other != conn,
+        None => true,
+    }
+}
+
+// A connection doesn't wait with these any more; but where it was the only one, nobody in particular waits on.
+fn leave(conns: &mut Vec<Option<u32>>, conn: u32)
+    ensures { conns.new.items ≡ without_conn conn conns.old.items }
+{
+    if conns.len() == 1 {
+        if conns[0] == Some(conn) {
+            conns[0] = None;
+        }
+    } else {
+        conns.retain(move |other| is_other(*other, conn));
+    }
+}
+
+// It doesn't wait with these any more, if they wait for a request at its replica.
+fn leave_at(asked: Asked, conns: &mut Vec<Option<u32>>, at: u8, conn: u32)
+    ensures { conns.new.items ≡ (if asked.at == at then without_conn conn conns.old.items else conns.old.items) }
+{
+    if asked.at == at {
+        leave(conns, conn);
+    }
+}
+
 impl Waiters {
     /// Nobody waits. It takes no memory.
     pub(crate) fn new(alloc: Global) -> Waiters
@@ -45,12 +87,12 @@ impl Waiters {
         }
     }
 
-    /// One more waits. The one error is want of memory.
+    /// One more waits, unless it waits already. The one error is want of memory.
     pub(crate) fn push(&mut self, alloc: Global, asked: Asked, conn: Option<u32>) -> Result<(), Mem>
         ensures { (ws : waiting) → IsWaiting self.old ws → OnOk result (IsWaiting self.new (with_waiter asked conn ws)) }
     {
         match self.by_request.get_mut(&asked) {
-            Some(conns) => conns.push(conn)?,
+            Some(conns) => join(conns, conn)?,
             None => {
                 let mut conns = Vec::new(alloc);
                 conns.push(conn)?;
@@ -69,5 +111,15 @@ impl Waiters {
             Some(conns) => conns,
             None => Vec::new(alloc),
         }
+    }
+
+    /// A connection of a replica is gone, and doesn't wait any more; what it asked for waits on. It takes no memory.
+    pub(crate) fn leave(&mut self, at: u8, conn: u32)
+        ensures { (ws : waiting) → IsWaiting self.old ws → IsWaiting self.new (left_off at conn ws) }
+    {
+        self.by_request.retain(move |asked, conns| {
+            leave_at(*asked, conns, at, conn);
+            true
+        });
     }
 }

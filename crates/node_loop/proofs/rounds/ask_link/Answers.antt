@@ -1,8 +1,8 @@
-use Rattle.std.proofs.Common.{false, refl, inl, inr}
+use Rattle.std.proofs.Common.{true, false, refl, inl, inr}
 use Rattle.std.proofs.lemmas.Bool.{both_ways}
 use Rattle.node_loop.specs.Calls.{item_does}
-use Rattle.node_loop.specs.Serving.{so_far, gave}
-use Rattle.node_loop.proofs.Rounding.{goes_on, goes_no_further, next_given, next_failed}
+use Rattle.node_loop.specs.Serving.{so_far, gave, Took, brought}
+use Rattle.node_loop.proofs.Rounding.{goes_no_further, goes_as, goes_fail, next_given, next_failed}
 use Rattle.node_loop.proofs.rounds.ask_link.Goals as goal
 
 pub returns-in-Err : goal.returns-in-Err
@@ -16,7 +16,7 @@ returns-in-Err-take g c = λ w past numbers base s stands agrees.
     inr (record {
       item = item;
       is_item = record { goes_on = λ e. both_ways false refl (c.if-is_end.ensures.1 e); short = c.in-Ok.ensures.size };
-      goes = goes_no_further _ w past numbers _ base _ _ (item_does w (so_far past s) item s.waiting) (gave item s) given;
+      goes = goes_no_further _ w past numbers _ base _ _ (item_does w (so_far past s) item s.waiting) (brought w past (Took item) s) (gave item s) given;
     })
 
 pub returns-in-Ok-deliver : goal.returns-in-Ok-deliver
@@ -26,8 +26,9 @@ returns-in-Ok-deliver g c = λ w past numbers base s stands agrees.
     record {
       item = item;
       is_item = record { goes_on = λ e. both_ways false refl (c.if-is_end.ensures.1 e); short = c.in-Ok.ensures.size };
-      goes = goes_on _ w past numbers _ base _ _ _ (item_does w (so_far past s) item s.waiting) (gave item s) _
-          (c.in-Ok-take.ensures.comes w (so_far past s) numbers s.waiting stands) (c.in-Ok-deliver.ensures base s.events (gave item s).acts given);
+      goes = goes_as _ w past numbers _ base _ _ _ true (item_does w (so_far past s) item s.waiting) (brought w past (Took item) s) (gave item s)
+          (c.in-Ok-deliver.ensures w past numbers base (gave item s) (item_does w (so_far past s) item s.waiting) (brought w past (Took item) s)
+          (c.in-Ok-take.ensures.comes w (so_far past s) numbers s.waiting s.peers stands) given);
     }
 
 pub returns-in-Err-deliver : goal.returns-in-Err-deliver
@@ -37,6 +38,7 @@ returns-in-Err-deliver g c = λ w past numbers base s stands agrees.
     inr (record {
       item = item;
       is_item = record { goes_on = λ e. both_ways false refl (c.if-is_end.ensures.1 e); short = c.in-Ok.ensures.size };
-      goes = goes_on _ w past numbers _ base _ _ _ (item_does w (so_far past s) item s.waiting) (gave item s) _
-          (c.in-Ok-take.ensures.comes w (so_far past s) numbers s.waiting stands) (c.in-Err-deliver.ensures base s.events (gave item s).acts given);
+      goes = goes_fail _ w past numbers _ base _ _ _ (item_does w (so_far past s) item s.waiting) (brought w past (Took item) s) (gave item s)
+          (c.in-Err-deliver.ensures w past numbers base (gave item s) (item_does w (so_far past s) item s.waiting) (brought w past (Took item) s)
+          (c.in-Ok-take.ensures.comes w (so_far past s) numbers s.waiting s.peers stands) given);
     })

@@ -3,8 +3,8 @@ use Rattle.std.proofs.lemmas.List.{drop_more, drop_all}
 use Rattle.outside.specs.declared.link.LinkItem.{LinkItem}
 use Rattle.node_loop.specs.declared.end.Fault.TheVariants as faults
 use Rattle.node_loop.specs.Calls.{first_does}
-use Rattle.node_loop.specs.Serving.{so_far, began, after}
-use Rattle.node_loop.proofs.Rounding.{goes_on, goes_no_further, runs_first, began_on, began_stops}
+use Rattle.node_loop.specs.Serving.{so_far, began, Began, brought, after}
+use Rattle.node_loop.proofs.Rounding.{goes_no_further, runs_first, began_on, began_stops}
 use Rattle.node_loop.proofs.rounds.begin.Goals as goal
 
 -- the next of a list stands in front of those behind it
@@ -22,7 +22,7 @@ returns-in-Err g c = λ w past numbers base until limit stands agrees end is_end
     let run = c.loop-item.invariant w past numbers base until limit stands agrees in
     let s = after w past xs run.rounds in
     began_stops _ w past numbers _ base until limit xs _ _ item (drop i xs) (drop (i + 1) xs) run (next_first xs i item c.loop-item-test.true c.item-item.is)
-    c.begin.new.self _ faults.Mem end (goes_no_further _ w past numbers _ base _ _ (first_does w (so_far past s) item s.waiting) (began s) run.agrees) is_end
+    c.begin.new.self _ faults.Mem end (goes_no_further _ w past numbers _ base _ _ (first_does w (so_far past s) item s.waiting) (brought w past (Began item) s) (began s) run.agrees) is_end
 
 pub returns-in-Err-deliver : goal.returns-in-Err-deliver
 returns-in-Err-deliver g c = λ w past numbers base until limit stands agrees end is_end.
@@ -32,8 +32,8 @@ returns-in-Err-deliver g c = λ w past numbers base until limit stands agrees en
     let run = c.loop-item.invariant w past numbers base until limit stands agrees in
     let s = after w past xs run.rounds in
     began_stops _ w past numbers _ base until limit xs _ _ item (drop i xs) (drop (i + 1) xs) run (next_first xs i item c.loop-item-test.true c.item-item.is)
-    c.begin.new.self _ c.in-Err-deliver.fault end (goes_on _ w past numbers _ base _ _ _ (first_does w (so_far past s) item s.waiting) (began s) _
-    (c.in-Ok.ensures.comes w (so_far past s) numbers s.waiting run.stands) (c.in-Err-deliver.ensures base s.events s.acts run.agrees)) is_end
+    c.deliver.new.house _ c.in-Err-deliver.fault end (c.in-Err-deliver.ensures w past numbers base (began s) (first_does w (so_far past s) item s.waiting) (brought w past (Began item) s)
+    (c.in-Ok.ensures.comes w (so_far past s) numbers s.waiting s.peers run.stands) run.agrees) is_end
 
 pub loop-item-preserved : goal.loop-item-preserved
 loop-item-preserved g c = λ w past numbers base until limit stands agrees.
@@ -43,8 +43,8 @@ loop-item-preserved g c = λ w past numbers base until limit stands agrees.
     let run = c.loop-item.invariant w past numbers base until limit stands agrees in
     let s = after w past xs run.rounds in
     began_on _ w past numbers _ base until limit xs _ _ item (drop i xs) (drop (i + 1) xs) run (next_first xs i item c.loop-item-test.true c.item-item.is)
-    c.begin.new.self _ c.in-Ok-deliver.field-0 (goes_on _ w past numbers _ base _ _ _ (first_does w (so_far past s) item s.waiting) (began s) _
-    (c.in-Ok.ensures.comes w (so_far past s) numbers s.waiting run.stands) (c.in-Ok-deliver.ensures base s.events s.acts run.agrees))
+    c.deliver.new.house _ c.in-Ok-deliver.field-0 (c.in-Ok-deliver.ensures w past numbers base (began s) (first_does w (so_far past s) item s.waiting) (brought w past (Began item) s)
+    (c.in-Ok.ensures.comes w (so_far past s) numbers s.waiting s.peers run.stands) run.agrees)
 
 pub returns : goal.returns
 returns g c = λ w past numbers base until limit stands agrees.

@@ -1,7 +1,20 @@
-use Rattle.node_loop.proofs.Rounding.{next_is_turn}
+use Rattle.std.proofs.Common.{sym}
+use Rattle.std.proofs.lemmas.Bool.{lt-leb}
+use Rattle.node_loop.proofs.Rounding.{wants_turn, wants_remind, wants_ask}
 use Rattle.node_loop.proofs.rounds.next_of.Goals as goal
 
 pub returns-in-Some-clause-next : goal.returns-in-Some-clause-next
-returns-in-Some-clause-next g c = λ w es numbers are_here.
-    let first = c.in-Some.ensures w es numbers are_here in
-    next_is_turn w c.args.bounds.until c.args.bounds.limit es c.args.taken c.in-Some.at first.0 (c.if-is_done.ensures w es numbers are_here) first.1
+returns-in-Some-clause-next g c = λ w es numbers ws p stands.
+    let first = c.in-Some.ensures w es numbers stands.here in
+    wants_turn w c.args.bounds.until c.args.bounds.limit es c.args.taken p c.in-Some.at first.0 (sym (c.if-is_done.ensures w es numbers stands.here)) first.1
+
+pub returns-in-Some-least_due-clause-next : goal.returns-in-Some-least_due-clause-next
+returns-in-Some-least_due-clause-next g c = λ w es numbers ws p stands.
+    let first = c.in-Some-least_due.ensures w es numbers ws p stands in
+    wants_remind w c.args.bounds.until c.args.bounds.limit es c.args.taken p c.in-Some-least_due.pair first.0 (sym (c.if-is_done.ensures w es numbers stands.here))
+    (c.in_default.ensures w es numbers stands.here) (lt-leb c.args.bounds.limit c.args.taken c.if-taken-bounds.false) first.1
+
+pub returns-in_default-least_due-clause-next : goal.returns-in_default-least_due-clause-next
+returns-in_default-least_due-clause-next g c = λ w es numbers ws p stands.
+    wants_ask w c.args.bounds.until c.args.bounds.limit es c.args.taken p (sym (c.if-is_done.ensures w es numbers stands.here))
+    (c.in_default.ensures w es numbers stands.here) (lt-leb c.args.bounds.limit c.args.taken c.if-taken-bounds.false) (c.in_default-least_due.ensures w es numbers ws p stands)

@@ -1,5 +1,9 @@
+use Rattle.node_loop.proofs.Rounding.{none_served}
 use Rattle.node_loop.proofs.rounds.serve.Goals as goal
+
+pub returns-in-Err : goal.returns-in-Err
+returns-in-Err g c = λ w past numbers are_here. none_served _ w past numbers _ _ _ _ _ _
 
 pub returns : goal.returns
 returns g c = λ w past numbers are_here.
-    rw (← c.as_slice.ensures.value) (c.serve_house-end.ensures w past numbers (c.new-house.ensures w past numbers (rw c.replace.ensures.value are_here)))
+    rw (← c.as_slice.ensures.value) (c.serve_house-end.ensures w past numbers (c.in-Ok.ensures.stands w past numbers are_here))

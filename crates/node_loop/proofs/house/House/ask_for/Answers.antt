@@ -1,4 +1,4 @@
-use Rattle.std.proofs.Common.{◌≡◌, [], ◌++◌, map, sym, ap, ◌∙◌}
+use Rattle.std.proofs.Common.{◌≡◌, [], ◌++◌, map, refl, sym, ap, ◌∙◌}
 use Rattle.std.proofs.lemmas.Result.{on_ok_weaker}
 use Rattle.client_port.specs.Messages.{position_reply}
 use Rattle.command_log.specs.Rows.{position_of}
@@ -7,11 +7,11 @@ use Rattle.node_loop.specs.declared.waiting.Asked.{Asked}
 use Rattle.node_loop.specs.Waiting.{with_waiter}
 use Rattle.node_loop.specs.Calls.{asked_in, reply, silent, submitted, asked_so}
 use Rattle.node_loop.specs.Standing.{reply_by}
-use Rattle.node_loop.proofs.Comings.{only_replies, nothing_comes, comes_as, asked_waits, asked_first}
+use Rattle.node_loop.proofs.Comings.{wait_else, quietly, only_replies, nothing_comes, comes_as, asked_waits, asked_first}
 use Rattle.node_loop.proofs.house.House.ask_for.Goals as goal
 
 pub returns-in-Some-clause-comes : goal.returns-in-Some-clause-comes
-returns-in-Some-clause-comes g c = λ w es numbers ws stand number clear.
+returns-in-Some-clause-comes g c = λ w es numbers ws p stand number clear.
     let at = c.args.output.now.at in
     let bytes = c.args.bytes in
     let asked : c.asked_in-asked.result ≡ asked_in at bytes = c.asked_in-asked.ensures ∙ ap (asked_in at) c.as_slice.ensures in
@@ -20,32 +20,33 @@ returns-in-Some-clause-comes g c = λ w es numbers ws stand number clear.
     let more = reply at (position_reply (asked_in at bytes).client (asked_in at bytes).request c.in-Some.position) c.args.conn in
     on_ok_weaker c.reply.result
     (λ replied. comes_as _ w es numbers c.args.self.now c.reply.new.output (silent more ws)
-    (asked_so w es at c.args.conn bytes ws (position_of (rows_at w es at) (asked_in at bytes).client (asked_in at bytes).request))
+    (asked_so w es at c.args.conn bytes ws (position_of (rows_at w es at) (asked_in at bytes).client (asked_in at bytes).request)) (quietly w es p)
     (sym (ap (asked_so w es at c.args.conn bytes ws) found))
-    (only_replies _ w es numbers c.args.self.now c.args.output.now c.reply.new.output more ws stand clear c.reply.ensures.same.0 c.reply.ensures.same.1 c.reply.ensures.same.2
+    (only_replies _ w es numbers c.args.self.now c.args.output.now c.reply.new.output more ws p stand clear c.reply.ensures.same.0 c.reply.ensures.same.1 c.reply.ensures.same.2 c.reply.ensures.same.3
     (replied ∙ ap (λ b. map (reply_by at) c.args.output.now.replies.items ++ reply at b c.args.conn) said)))
     (c.reply.ensures.replies at)
 
 pub returns-then-has-clause-comes : goal.returns-then-has-clause-comes
-returns-then-has-clause-comes g c = λ w es numbers ws stand number clear.
+returns-then-has-clause-comes g c = λ w es numbers ws p stand number clear.
     let at = c.args.output.now.at in
     let bytes = c.args.bytes in
     let asked : c.asked_in-asked.result ≡ asked_in at bytes = c.asked_in-asked.ensures ∙ ap (asked_in at) c.as_slice.ensures in
     let us = with_waiter c.asked_in-asked.result c.args.conn ws in
     on_ok_weaker c.push.result
-    (λ waits. comes_as _ w es numbers (record { replicas = c.args.self.now.replicas; waiting = c.push.new.self }) c.args.output.now (silent [] us)
-    (asked_so w es at c.args.conn bytes ws (position_of (rows_at w es at) (asked_in at bytes).client (asked_in at bytes).request))
+    (λ waits. comes_as _ w es numbers (record { replicas = c.args.self.now.replicas; waiting = c.push.new.self; keepers = c.args.self.now.keepers }) c.args.output.now (silent [] us)
+    (asked_so w es at c.args.conn bytes ws (position_of (rows_at w es at) (asked_in at bytes).client (asked_in at bytes).request)) (quietly w es p)
     (asked_waits w es at c.args.conn bytes ws c.asked_in-asked.result asked (sym (c.position_at.ensures w es numbers at stand.here number) ∙ c.in_default.is) (sym (c.has.ensures ws stand.waiting) ∙ c.if-has.true))
-    (nothing_comes _ w es numbers (record { replicas = c.args.self.now.replicas; waiting = c.push.new.self }) c.args.output.now us (record { here = stand.here; waiting = waits }) clear))
+    (nothing_comes _ w es numbers (record { replicas = c.args.self.now.replicas; waiting = c.push.new.self; keepers = c.args.self.now.keepers }) c.args.output.now us p
+    (wait_else _ w es numbers c.args.self.now (record { replicas = c.args.self.now.replicas; waiting = c.push.new.self; keepers = c.args.self.now.keepers }) ws us p stand refl refl waits) clear))
     (c.push.ensures ws stand.waiting)
 
 pub returns-clause-comes : goal.returns-clause-comes
-returns-clause-comes g c = λ w es numbers ws stand number clear.
+returns-clause-comes g c = λ w es numbers ws p stand number clear.
     let at = c.args.output.now.at in
     let bytes = c.args.bytes in
     let asked : c.asked_in-asked.result ≡ asked_in at bytes = c.asked_in-asked.ensures ∙ ap (asked_in at) c.as_slice.ensures in
     on_ok_weaker c.submit.result
     (comes_as _ w es numbers c.submit.new.self c.submit.new.output (submitted w es at c.args.conn bytes ws)
-    (asked_so w es at c.args.conn bytes ws (position_of (rows_at w es at) (asked_in at bytes).client (asked_in at bytes).request))
+    (asked_so w es at c.args.conn bytes ws (position_of (rows_at w es at) (asked_in at bytes).client (asked_in at bytes).request)) (quietly w es p)
     (asked_first w es at c.args.conn bytes ws c.asked_in-asked.result asked (sym (c.position_at.ensures w es numbers at stand.here number) ∙ c.in_default.is) (sym (c.has.ensures ws stand.waiting) ∙ c.if-has.false)))
-    (c.submit.ensures.comes w es numbers ws stand number clear)
+    (c.submit.ensures.comes w es numbers ws p stand number clear)

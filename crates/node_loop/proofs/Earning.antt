@@ -1,0 +1,177 @@
+-- An acknowledgement goes out only after its frame.
+use Rattle.std.proofs.Common.{◌≡◌, ℕ, ◌&&◌, Bool, true, false, nat_lt, List, [], ◌∷◌, ◌++◌, map, reverse, Option, Some, None, Result, Ok, Err, refl, sym, ◌∙◌, ap, subst, append_assoc, if◌then◌else◌}
+use Rattle.std.proofs.lemmas.List.{reverse-append}
+use Rattle.ritas_base.specs.declared.event.Event.{Event}
+use Rattle.ritas_base.specs.declared.event.Event.TheVariants as events
+use Rattle.outside.specs.declared.link.LinkItem.{LinkItem}
+use Rattle.outside.specs.declared.link.LinkItem.TheVariants as items
+use Rattle.outside.specs.declared.link.Sent.{Sent}
+use Rattle.keyed_channel.specs.Frames.{Opening, opening}
+use Rattle.keyed_channel.specs.Notes.{is_note, noted}
+use Rattle.keyed_channel.specs.declared.frame.OpenFault.{OpenFault}
+use Rattle.keyed_channel.specs.declared.note.Note.{Note}
+use Rattle.keyed_channel.specs.declared.note.Note.TheVariants as notes
+use Rattle.link_resume.specs.declared.kept.Kept.{Kept}
+use Rattle.layer_api.specs.Service.{IsPart}
+use Rattle.world_model.specs.World.{Setting, seen_of}
+use Rattle.node_loop.specs.Resending.{mark_at}
+use Rattle.world_model.specs.MadeOrder.{MadeFrame}
+use Rattle.node_loop.specs.Waiting.{Waiting}
+use Rattle.node_loop.specs.Calls.{Outcome, called, silent, item_does, first_does}
+use Rattle.node_loop.specs.Peers.{Peers, keep_all, with_mark}
+use Rattle.node_loop.specs.Deeds.{Deed, Came, Made, Resent, Acked, Wished, Replied, pushed}
+use Rattle.node_loop.specs.Resending.{Brought, nothing_more, is_deferred, opened_so, resends, noted_so}
+use Rattle.node_loop.specs.Serving.{Serving, so_far, onto, Round, Began, Turned, Reminded, Took, made_by, outcome, brought, round_does, after, came, with_deeds, deeds_of}
+use Rattle.node_loop.specs.Laws.{IsEarned, AreEarned, AcksAreEarned}
+use Rattle.node_loop.proofs.Reopening.{did_so, brings_so}
+
+pushed_is : (xs ds : List Deed) → pushed xs ds ≡ reverse xs ++ ds
+pushed_is [] ds = refl
+pushed_is (x ∷ xs) ds =
+    pushed_is xs (x ∷ ds)
+    ∙ (sym (append_assoc (reverse xs) (x ∷ []) ds) ∙ ap (λ (l : List Deed). l ++ ds) (sym (reverse-append (x ∷ []) xs)))
+
+part_more : (front xs ys : List Event) → IsPart xs ys → IsPart xs (front ++ ys)
+part_more front xs ys part = (front ++ part.0, append_assoc front part.0 xs ∙ ap (λ (l : List Event). front ++ l) part.1)
+
+-- more events change nothing
+earned_later : (w : Setting) (es : List Event) (o : Option Event) (ds : List Deed) → AreEarned w es ds → AreEarned w (onto o es) ds
+earned_later w es None ds all = all
+earned_later w es (Some e) [] all = tt
+earned_later w es (Some e) (Came item ∷ ds) all = earned_later w es (Some e) ds all
+earned_later w es (Some e) (Made f ∷ ds) all = earned_later w es (Some e) ds all
+earned_later w es (Some e) (Resent i j frame ∷ ds) all = earned_later w es (Some e) ds all
+earned_later w es (Some e) (Acked i j seq ∷ ds) all = (
+  record {
+    bytes = all.0.bytes;
+    before = all.0.before;
+    newer = all.0.newer;
+    older = all.0.older;
+    came = all.0.came;
+    called = part_more (e ∷ []) (events.Frame i all.0.bytes ∷ all.0.before) es all.0.called;
+    body = all.0.body;
+    opens = all.0.opens;
+    taken = all.0.taken;
+  },
+  earned_later w es (Some e) ds all.1,
+)
+earned_later w es (Some e) (Wished i j ∷ ds) all = earned_later w es (Some e) ds all
+earned_later w es (Some e) (Replied sent ∷ ds) all = earned_later w es (Some e) ds all
+
+-- what is no acknowledgement changes nothing
+made_earned : (w : Setting) (es : List Event) (fs : List MadeFrame) (ds : List Deed) → AreEarned w es ds → AreEarned w es (pushed (map Made fs) ds)
+made_earned w es [] ds all = all
+made_earned w es (f ∷ fs) ds all = made_earned w es fs (Made f ∷ ds) all
+
+replied_earned : (w : Setting) (es : List Event) (rs : List Sent) (ds : List Deed) → AreEarned w es ds → AreEarned w es (pushed (map Replied rs) ds)
+replied_earned w es [] ds all = all
+replied_earned w es (r ∷ rs) ds all = replied_earned w es rs (Replied r ∷ ds) all
+
+resent_earned : (w : Setting) (es : List Event) (i j : ℕ) (ks : List Kept) (ds : List Deed) → AreEarned w es ds
+    → AreEarned w es (pushed (map (λ k. Resent i j k.frame) ks) ds)
+resent_earned w es i j [] ds all = all
+resent_earned w es i j (k ∷ ks) ds all = resent_earned w es i j ks (Resent i j k.frame ∷ ds) all
+
+noted_earned : (w : Setting) (es : List Event) (i : ℕ) (p : Peers) (said : Option Note) (ds : List Deed) → AreEarned w es ds
+    → AreEarned w es (pushed (noted_so i p said).deeds ds)
+noted_earned w es i p None ds all = all
+noted_earned w es i p (Some (notes.Ack from seq)) ds all = all
+noted_earned w es i p (Some (notes.Again from)) ds all = resent_earned w es i from (p.keeping i from) ds all
+
+-- a frame that opened, and whose call is the newest event
+ack_earned : (w : Setting) (es : List Event) (i : ℕ) (bytes : List ℕ) (fs : List MadeFrame) (ds : List Deed) (o : Opening)
+    → opening (w.keys i) bytes ≡ Ok o → is_deferred (seen_of w es (events.Frame i bytes)) ≡ false
+    → IsEarned w (events.Frame i bytes ∷ es) i o.from o.seq (pushed (map Made fs) (Came (items.Frame i bytes) ∷ ds))
+ack_earned w es i bytes fs ds o is answered = record {
+  bytes = bytes;
+  before = es;
+  newer = reverse (map Made fs);
+  older = ds;
+  came = pushed_is (map Made fs) (Came (items.Frame i bytes) ∷ ds);
+  called = ([], refl);
+  body = o.body;
+  opens = is;
+  taken = answered;
+}
+
+opened_by : (w : Setting) (es : List Event) (i : ℕ) (bytes : List ℕ) (p : Peers) (o : Opening) → Bool → Brought
+opened_by w es i bytes p o t = if t
+    then nothing_more (with_mark i o.from (Some (mark_at w (events.Frame i bytes ∷ es) i o.from)) p)
+    else record { deeds = Acked i o.from o.seq ∷ []; peers = p }
+
+answer_earned : (w : Setting) (es : List Event) (i : ℕ) (bytes : List ℕ) (p : Peers) (fs : List MadeFrame) (ds : List Deed) (o : Opening) (t : Bool)
+    → opening (w.keys i) bytes ≡ Ok o → is_deferred (seen_of w es (events.Frame i bytes)) ≡ t
+    → AreEarned w (events.Frame i bytes ∷ es) ds
+    → AreEarned w (events.Frame i bytes ∷ es) (pushed (opened_by w es i bytes p o t).deeds (pushed (map Made fs) (Came (items.Frame i bytes) ∷ ds)))
+unfolding opened_by
+answer_earned w es i bytes p fs ds o true is answered all = made_earned w (events.Frame i bytes ∷ es) fs (Came (items.Frame i bytes) ∷ ds) all
+answer_earned w es i bytes p fs ds o false is answered all =
+    (ack_earned w es i bytes fs ds o is answered, made_earned w (events.Frame i bytes ∷ es) fs (Came (items.Frame i bytes) ∷ ds) all)
+
+opened_earned : (w : Setting) (es : List Event) (i : ℕ) (bytes : List ℕ) (p : Peers) (fs : List MadeFrame) (ds : List Deed) (said : Result Opening OpenFault)
+    → opening (w.keys i) bytes ≡ said → AreEarned w (events.Frame i bytes ∷ es) ds
+    → AreEarned w (events.Frame i bytes ∷ es) (pushed (opened_so w es i bytes p said).deeds (pushed (map Made fs) (Came (items.Frame i bytes) ∷ ds)))
+unfolding opened_by
+opened_earned w es i bytes p fs ds (Err fault) is all = made_earned w (events.Frame i bytes ∷ es) fs (Came (items.Frame i bytes) ∷ ds) all
+opened_earned w es i bytes p fs ds (Ok o) is all =
+    answer_earned w es i bytes p fs ds o (is_deferred (seen_of w es (events.Frame i bytes))) is refl all
+
+-- ---- rounds
+
+abbrev FrameEarned : Setting → List Event → List Event → ℕ → List ℕ → Waiting → Peers → List Deed → Bool → Bool → Type 0
+FrameEarned w now past to bytes ws p ds here note =
+    let es = now ++ past in
+    let did = did_so here note (called w es to (events.Frame to bytes) ws) ws in
+    let fs = made_by w es did.event in
+    let q = keep_all fs p in
+    let more = brings_so here note (noted_so to q (noted (w.keys to) bytes)) (opened_so w es to bytes q (opening (w.keys to) bytes)) q in
+    AreEarned w (onto did.event now ++ past) (with_deeds fs more.deeds did.replies (Came (items.Frame to bytes) ∷ ds))
+
+frame_earned : (w : Setting) (now past : List Event) (to : ℕ) (bytes : List ℕ) (ws : Waiting) (p : Peers) (ds : List Deed) (here note : Bool)
+    → AreEarned w (now ++ past) ds → FrameEarned w now past to bytes ws p ds here note
+frame_earned w now past to bytes ws p ds false note all = all
+frame_earned w now past to bytes ws p ds true true all = noted_earned w (now ++ past) to p (noted (w.keys to) bytes) (Came (items.Frame to bytes) ∷ ds) all
+frame_earned w now past to bytes ws p ds true false all =
+    let es = now ++ past in
+    let did = called w es to (events.Frame to bytes) ws in
+    let fs = made_by w es did.event in
+    replied_earned w (events.Frame to bytes ∷ es) did.replies _
+    (opened_earned w es to bytes (keep_all fs p) fs ds (opening (w.keys to) bytes) refl (earned_later w es (Some (events.Frame to bytes)) ds all))
+
+onto_past : (o : Option Event) (now past : List Event) → onto o now ++ past ≡ onto o (now ++ past)
+onto_past None now past = refl
+onto_past (Some e) now past = refl
+
+-- its frames and its replies alone
+plain_earned : (w : Setting) (now past : List Event) (did : Outcome) (ds : List Deed) → AreEarned w (now ++ past) ds
+    → AreEarned w (onto did.event now ++ past) (with_deeds (made_by w (now ++ past) did.event) [] did.replies ds)
+plain_earned w now past did ds all =
+    replied_earned w (onto did.event now ++ past) did.replies _
+    (made_earned w (onto did.event now ++ past) (made_by w (now ++ past) did.event) ds
+    (subst (λ (es : List Event). AreEarned w es ds) (sym (onto_past did.event now past)) (earned_later w (now ++ past) did.event ds all)))
+
+up_earned : (w : Setting) (es : List Event) (at peer : ℕ) (p : Peers) (ds : List Deed) (b : Bool) → AreEarned w es ds
+    → AreEarned w es (pushed (if b then resends at peer p else nothing_more p).deeds ds)
+up_earned w es at peer p ds true all = resent_earned w es at peer (p.keeping at peer) ds all
+up_earned w es at peer p ds false all = all
+
+round_earned : (w : Setting) (past : List Event) (x : Round) (s : Serving) (ds : List Deed) → AreEarned w (so_far past s) ds
+    → AreEarned w (so_far past (round_does w past x s))
+    (with_deeds (made_by w (so_far past s) (outcome w past x s).event) (brought w past x s).deeds (outcome w past x s).replies (came x ds))
+round_earned w past (Began item) s ds all = plain_earned w s.events past (first_does w (so_far past s) item s.waiting) ds all
+round_earned w past (Turned i) s ds all = plain_earned w s.events past (called w (so_far past s) i (events.Turn i) s.waiting) ds all
+round_earned w past (Reminded i j) s ds all = all
+round_earned w past (Took (items.Frame to bytes)) s ds all =
+    frame_earned w s.events past to bytes s.waiting s.peers ds (w.is_correct to) (is_note bytes) all
+round_earned w past (Took (items.Client at conn bytes)) s ds all =
+    plain_earned w s.events past (item_does w (so_far past s) (items.Client at conn bytes) s.waiting) (Came (items.Client at conn bytes) ∷ ds) all
+round_earned w past (Took (items.Reply from bytes)) s ds all = all
+round_earned w past (Took (items.Up at peer)) s ds all =
+    up_earned w (so_far past s) at peer s.peers (Came (items.Up at peer) ∷ ds) (w.is_correct at && nat_lt peer w.numbers.n) all
+round_earned w past (Took (items.Down at peer)) s ds all = all
+round_earned w past (Took (items.Left at conn)) s ds all = all
+round_earned w past (Took items.End) s ds all = all
+
+pub are_earned : AcksAreEarned
+are_earned w past first [] = tt
+are_earned w past first (x ∷ rounds) = round_earned w past x (after w past first rounds) (deeds_of w past first rounds) (are_earned w past first rounds)

@@ -1,0 +1,367 @@
+-- What a replica hears of its peers, and what it keeps for them then.
+use Rattle.std.proofs.Common.{◌≡◌, ℕ, ◌<◌, ◌≤◌, ◌==◌, ◌&&◌, Bool, true, false, List, [], ◌∷◌, ◌++◌, length, map, slice_set, slice_index_or, Option, Some, None, Result, Ok, Err, inl, inr, refl, sym, ◌∙◌, ap, ap₂, subst, get_or-set_other, get_or-set_same, arith, if◌then◌else◌}
+use Rattle.std.specs.List.{slice_get}
+use Rattle.std.specs.Option.{MatchOption, IfSome}
+use Rattle.std.proofs.lemmas.Bool.{cases_Bool, cases_eq, eq-eqb, eqb-true}
+use Rattle.std.proofs.lemmas.Bool.Decides.{eqb_tells}
+use Rattle.std.proofs.lemmas.List.{length-set}
+use Rattle.std.proofs.lemmas.Option.{same_Some, slice_get-get_or}
+use Rattle.ritas_base.specs.declared.event.Event.{Event}
+use Rattle.ritas_base.specs.declared.event.Event.TheVariants as events
+use Rattle.ritas_base.specs.declared.item.Item.{Item}
+use Rattle.frame_codec.specs.declared.fault.BodyFault.{BodyFault}
+use Rattle.keyed_channel.specs.Frames.{Opening, sender_of, seq_of, parts_of, opening}
+use Rattle.keyed_channel.specs.Laws.{OpenedParts, OpenedFromPeer}
+use Rattle.keyed_channel.specs.Notes.{ack_note, is_note, noted}
+use Rattle.keyed_channel.specs.declared.frame.OpenFault.{OpenFault}
+use Rattle.keyed_channel.specs.KeyRow.{KeyRow}
+use Rattle.ritas_core.specs.declared.answer.Answer.{Answer}
+use Rattle.ritas_core.specs.declared.fault.CoreFault.{CoreFault}
+use Rattle.ritas_core.specs.Machine.{CoreState}
+use Rattle.ritas_core.specs.Rules.{Rules}
+use Rattle.ritas_core.specs.Stands.{Meaning}
+use Rattle.link_resume.specs.declared.kept.Kept.{Kept}
+use Rattle.outside.specs.declared.link.LinkItem.{LinkItem}
+use Rattle.outside.specs.declared.link.LinkItem.TheVariants as items
+use Rattle.replica.specs.declared.refusal.Refusal.{Refusal}
+use Rattle.replica.specs.declared.refusal.Refusal.TheVariants as refusals
+use Rattle.replica.specs.Handling.{core_answer, given_body, given_frame}
+use Rattle.replica.specs.declared.replica.Replica.{Replica}
+use Rattle.world_model.specs.declared.seen.Seen.{Seen}
+use Rattle.world_model.specs.declared.seen.Seen.TheVariants as seen
+use Rattle.world_model.specs.Agree.{rows_at}
+use Rattle.world_model.specs.Stands.{NoneStops}
+use Rattle.world_model.specs.World.{Setting, rules_at, states_of, seen_answer, seen_of}
+use Rattle.world_model.specs.MadeOrder.{MadeFrame}
+use Rattle.world_model.proofs.Left.{get_set_same, get_set_other}
+use Rattle.node_loop.specs.declared.asks.Carried.{Carried}
+use Rattle.node_loop.specs.declared.output.More.{More}
+use Rattle.node_loop.specs.declared.output.More.TheVariants as mores
+use Rattle.node_loop.specs.declared.output.Reply.{Reply}
+use Rattle.node_loop.specs.declared.house.House.{House}
+use Rattle.node_loop.specs.declared.output.Output.{Output}
+use Rattle.node_loop.specs.declared.peers.Keeper.{Keeper}
+use Rattle.node_loop.specs.declared.peers.Mark.{Mark}
+use Rattle.node_loop.specs.declared.waiting.Waiters.{Waiters}
+use Rattle.node_loop.specs.Waiting.{Waiting}
+use Rattle.node_loop.specs.Calls.{Outcome, called, silent, item_does, left_by, replies_by}
+use Rattle.node_loop.specs.Deeds.{Acked}
+use Rattle.node_loop.specs.Peers.{Peers, is_pair, with_list, with_mark, keep_all}
+use Rattle.node_loop.specs.PeersStanding.{AreKept, IsKeeper}
+use Rattle.node_loop.specs.Resending.{Brought, nothing_more, mark_at, is_deferred, opened_so, noted_so, item_brings}
+use Rattle.node_loop.specs.Serving.{made_by}
+use Rattle.node_loop.specs.Served.{AreHere}
+use Rattle.node_loop.specs.Standing.{IsWaiting, HouseStands, Comes, IsClear, IsMore, is_opened, reply_by}
+use Rattle.node_loop.proofs.Alone.{alone_seen}
+use Rattle.node_loop.proofs.Comings.{right_at, is_none, nothing_comes}
+
+-- ---- one pair of replicas
+
+not_first : (i j a b : ℕ) → (a ≡ i → ⊥) → is_pair i j a b ≡ false
+not_first i j a b other = elim (cases_Bool (a == i)) [
+  | inl same ↦ absurd (other (eqb-true a i same))
+  | inr apart ↦ ap (λ (t : Bool). t && b == j) apart
+]
+
+not_second : (i j b : ℕ) → (b ≡ j → ⊥) → is_pair i j i b ≡ false
+not_second i j b other = elim (cases_Bool (b == j)) [
+  | inl same ↦ absurd (other (eqb-true b j same))
+  | inr apart ↦ ap₂ (λ (s t : Bool). s && t) (eq-eqb i i refl) apart
+]
+
+this_pair : (i j : ℕ) → is_pair i j i j ≡ true
+this_pair i j = ap₂ (λ (s t : Bool). s && t) (eq-eqb i i refl) (eq-eqb j j refl)
+
+-- what another replica keeps stays
+pub list_elsewhere : (n i at j : ℕ) (list : List Kept) (keeper : Keeper) (p : Peers) → (i ≡ at → ⊥) → IsKeeper n i keeper p → IsKeeper n i keeper (with_list at j list p)
+list_elsewhere n i at j list keeper p other is = record {
+  kept = record {
+    many = is.kept.many;
+    each = λ k within. is.kept.each k within ∙ sym (ap (λ (t : Bool). if t then list else p.keeping i k) (not_first at j i k other));
+  };
+  marked = is.marked;
+}
+
+pub mark_elsewhere : (n i at j : ℕ) (mark : Option Mark) (keeper : Keeper) (p : Peers) → (i ≡ at → ⊥) → IsKeeper n i keeper p → IsKeeper n i keeper (with_mark at j mark p)
+mark_elsewhere n i at j mark keeper p other is = record {
+  kept = is.kept;
+  marked = record {
+    many = is.marked.many;
+    each = λ k within. is.marked.each k within ∙ sym (ap (λ (t : Bool). if t then mark else p.marks i k) (not_first at j i k other));
+  };
+}
+
+-- a peer got a mark
+pub mark_there : (n at j : ℕ) (mark : Option Mark) (old new : Keeper) (p : Peers) → IsKeeper n at old p → new.resume ≡ old.resume
+    → new.marks.items ≡ slice_set old.marks.items j mark → IsKeeper n at new (with_mark at j mark p)
+mark_there n at j mark old new p is same marks = record {
+  kept = let P : List (List Kept) → Type 0 = λ ls. AreKept n at ls p.keeping in subst P (sym same) is.kept;
+  marked = record {
+    many = ap length marks ∙ length-set old.marks.items j mark ∙ is.marked.many;
+    each = λ k within. ap (λ xs. slice_index_or xs k None) marks ∙ elim (cases_eq k j) [
+      | inl one ↦
+          let here : j < length old.marks.items = omega (arith, within, one, is.marked.many) in
+          ap (λ x. slice_index_or (slice_set old.marks.items j mark) x None) one ∙ get_or-set_same old.marks.items j mark None here
+          ∙ sym (ap (λ (t : Bool). if t then mark else p.marks at k) (ap (is_pair at j at) one ∙ this_pair at j))
+      | inr other ↦
+          get_or-set_other old.marks.items j k mark None other ∙ is.marked.each k within
+          ∙ sym (ap (λ (t : Bool). if t then mark else p.marks at k) (not_second at j k other))
+    ];
+  };
+}
+
+-- ---- one keeper
+
+at_item : {X : Type 0} (xs : List X) (place : ℕ) (x : X) → place < length xs → x ≡ slice_index_or xs place x → slice_get xs place ≡ Some x
+at_item xs place x within is = slice_get-get_or xs place x within ∙ ap (λ y. Some y) (sym is)
+
+-- the keeper at a place
+pub keeper_at : {S E C : Type 0} (m : Meaning S E C KeyRow) (w : Setting) (es : List Event) (numbers : List ℕ) (house : House S E C) (ws : Waiting) (p : Peers) (place at : ℕ) (keeper : Keeper)
+    → HouseStands m w es numbers house ws p → slice_get numbers place ≡ Some at → place < length house.keepers.items → keeper ≡ slice_index_or house.keepers.items place keeper
+    → IsKeeper w.numbers.n at keeper p
+keeper_at m w es numbers house ws p place at keeper stands number within is =
+    stands.keepers place at keeper number (at_item house.keepers.items place keeper within is)
+
+-- one keeper changed, and what the others keep stays
+pub one_keeper : {S E C : Type 0} (m : Meaning S E C KeyRow) (w : Setting) (es : List Event) (numbers : List ℕ) (old now : House S E C) (ws : Waiting) (p q : Peers) (place at : ℕ) (was keeper : Keeper)
+    → HouseStands m w es numbers old ws p → slice_get numbers place ≡ Some at → place < length old.keepers.items → was ≡ slice_index_or old.keepers.items place was
+    → now.replicas ≡ old.replicas → now.waiting ≡ old.waiting → now.keepers.items ≡ slice_set old.keepers.items place keeper
+    → IsKeeper w.numbers.n at keeper q → ((i : ℕ) (k : Keeper) → (i ≡ at → ⊥) → IsKeeper w.numbers.n i k p → IsKeeper w.numbers.n i k q)
+    → HouseStands m w es numbers now ws q
+one_keeper {S = S} {E = E} {C = C} m w es numbers old now ws p q place at was keeper stands number within is reps waits items it others =
+    let there = at_item old.keepers.items place was within is in
+    record {
+      here = let P : List (Replica S E C) → Type 0 = λ x. AreHere m w es numbers x in subst P (sym (ap (λ v. v.items) reps)) stands.here;
+      waiting = let P : Waiters → Type 0 = λ x. IsWaiting x ws in subst P (sym waits) stands.waiting;
+      many = ap length items ∙ length-set old.keepers.items place keeper ∙ stands.many;
+      keepers = λ k i other numbered seen. elim (eqb_tells place k) [
+        | inl same ↦
+            let one : at ≡ i = same_Some at i (sym number ∙ ap (slice_get numbers) same.1 ∙ numbered) in
+            let is_new : keeper ≡ other =
+            same_Some keeper other (sym (get_set_same old.keepers.items place was keeper there) ∙ ap (slice_get (slice_set old.keepers.items place keeper)) same.1 ∙ sym (ap (λ xs. slice_get xs k) items) ∙ seen) in
+            let P : ℕ → Type 0 = λ x. IsKeeper w.numbers.n x keeper q in
+            let Q : Keeper → Type 0 = λ x. IsKeeper w.numbers.n i x q in
+            subst Q is_new (subst P one it)
+        | inr apart ↦
+            others i other (λ one. apart.1 (stands.here.apart place k i (number ∙ ap (λ x. Some x) (sym one)) numbered))
+            (stands.keepers k i other numbered (sym (get_set_other old.keepers.items place k keeper (λ h. apart.1 (sym h))) ∙ sym (ap (λ xs. slice_get xs k) items) ∙ seen))
+      ];
+    }
+
+-- the same for peers by another name
+pub comes_with : {S E C : Type 0} (m : Meaning S E C KeyRow) (w : Setting) (es : List Event) (numbers : List ℕ) (now : House S E C) (output : Output) (did : Outcome) (more other : Brought) → more ≡ other
+    → Comes m w es numbers now output did more → Comes m w es numbers now output did other
+comes_with m w es numbers now output did more other same comes = let P : Brought → Type 0 = λ x. Comes m w es numbers now output did x in subst P same comes
+
+-- a mark stays where frames are kept
+pub keep_marked : (fs : List MadeFrame) (i j : ℕ) (mark : Option Mark) (p : Peers) → keep_all fs (with_mark i j mark p) ≡ with_mark i j mark (keep_all fs p)
+keep_marked [] i j mark p = refl
+keep_marked (f ∷ fs) i j mark p = keep_marked fs i j mark _
+
+-- the same mark by another name
+pub marked_so : {S E C : Type 0} (m : Meaning S E C KeyRow) (w : Setting) (es : List Event) (numbers : List ℕ) (now : House S E C) (ws : Waiting) (at j : ℕ) (mark other : Mark) (p : Peers) → mark ≡ other
+    → HouseStands m w es numbers now ws (with_mark at j (Some mark) p) → HouseStands m w es numbers now ws (with_mark at j (Some other) p)
+marked_so m w es numbers now ws at j mark other p same stands = let P : Mark → Type 0 = λ x. HouseStands m w es numbers now ws (with_mark at j (Some x) p) in subst P same stands
+
+-- where there is one, it is this
+pub if_some_at : {X : Type 0} (P : X → Type 0) (o : Option X) (x : X) → o ≡ Some x → P x → IfSome o P
+if_some_at P o x is holds = let Q : Option _ → Type 0 = λ y. IfSome y P in subst Q (sym is) holds
+
+-- ---- whether a frame opened is read off the answer
+
+abbrev opened_seen : Seen → Bool
+opened_seen (seen.Refused (refusals.Open fault)) = false
+opened_seen other = true
+
+opened_is : (answer : Result Answer Refusal) → is_opened answer ≡ opened_seen (seen_answer answer)
+opened_is (Ok answer) = refl
+opened_is (Err (refusals.Open fault)) = refl
+opened_is (Err (refusals.Body fault)) = refl
+opened_is (Err (refusals.Core fault)) = refl
+
+core_opens : (answer : Result Answer CoreFault) → opened_seen (seen_answer (core_answer answer)) ≡ true
+core_opens (Ok answer) = refl
+core_opens (Err fault) = refl
+
+body_opens : (r : Rules) (k : KeyRow) (st : CoreState) (item : Result Item BodyFault) → opened_seen (seen_answer (given_body r k st item).answer) ≡ true
+body_opens r k st (Ok item) = core_opens _
+body_opens r k st (Err fault) = refl
+
+abbrev is_ok : {A B : Type 0} → Result A B → Bool
+is_ok (Ok x) = true
+is_ok (Err e) = false
+
+frame_opens : (r : Rules) (k : KeyRow) (st : CoreState) (o : Result Opening OpenFault) → opened_seen (seen_answer (given_frame r k st o).answer) ≡ is_ok o
+frame_opens r k st (Ok o) = body_opens r k st _
+frame_opens r k st (Err fault) = refl
+
+-- a frame that was answered so opened, where it did
+answered_opens : (w : Setting) (es : List Event) (at : ℕ) (bytes : List ℕ) (answer : Result Answer Refusal) → NoneStops w → w.is_correct at ≡ true
+    → seen_answer answer ≡ seen_of w es (events.Frame at bytes) → is_opened answer ≡ is_ok (opening (w.keys at) bytes)
+answered_opens w es at bytes answer going right saw =
+    opened_is answer ∙ ap opened_seen (saw ∙ alone_seen w es at (events.Frame at bytes) going right refl) ∙ frame_opens (rules_at w at) (w.keys at) (states_of w es at) (opening (w.keys at) bytes)
+
+-- ---- what comes of a frame for its sender
+
+-- so the house stands before the frames of the call are kept, and this goes to a peer besides
+pub record Heard {S E C : Type 0} (m : Meaning S E C KeyRow) (w : Setting) (es : List Event) (numbers : List ℕ) (now : House S E C) (ws : Waiting) (at : ℕ) (e : Event) (out : More) (brought : Brought) : Type 0 where
+  pub before : Peers
+  pub besides : IsMore w at out brought
+  pub kept : keep_all (made_by w es (Some e)) before ≡ brought.peers
+  pub stands : HouseStands m w (e ∷ es) numbers now ws before
+
+heard_as : {S E C : Type 0} (m : Meaning S E C KeyRow) (w : Setting) (es : List Event) (numbers : List ℕ) (now : House S E C) (ws : Waiting) (at : ℕ) (e : Event) (out : More) (brought other : Brought)
+    → brought ≡ other → Heard m w es numbers now ws at e out brought → Heard m w es numbers now ws at e out other
+heard_as m w es numbers now ws at e out brought other same heard = let P : Brought → Type 0 = λ x. Heard m w es numbers now ws at e out x in subst P same heard
+
+-- it opens, and is to come again or isn't
+opened_comes : {S E C : Type 0} (m : Meaning S E C KeyRow) (w : Setting) (es : List Event) (numbers : List ℕ) (given now : House S E C) (ws : Waiting) (p : Peers) (at : ℕ) (bytes : List ℕ) (frame : Carried) (o : Opening)
+    (was out : More) (answer : Result Answer Refusal) (b : Bool)
+    → HouseStands m w (events.Frame at bytes ∷ es) numbers given ws p → was ≡ mores.Nothing → frame.from ≡ o.from → frame.seq ≡ o.seq → o.from < w.numbers.n
+    → is_deferred (seen_of w es (events.Frame at bytes)) ≡ b → is_deferred (seen_answer answer) ≡ b
+    → (is_deferred (seen_answer answer) ≡ true
+    → HouseStands m w (events.Frame at bytes ∷ es) numbers now ws (with_mark at frame.from (Some (mark_at w (events.Frame at bytes ∷ es) at frame.from)) p) × (out ≡ was))
+    → (is_deferred (seen_answer answer) ≡ false → frame.from < w.numbers.n → (now ≡ given) × (out ≡ mores.Note frame.from (ack_note (w.keys at) frame.from frame.seq)))
+    → Heard m w es numbers now ws at (events.Frame at bytes) out (opened_so w es at bytes (keep_all (made_by w es (Some (events.Frame at bytes))) p) (Ok o))
+opened_comes m w es numbers given now ws p at bytes frame o was out answer true stands clear from_is seq_is below deferred told marks takes =
+    let e = events.Frame at bytes in
+    let fs = made_by w es (Some e) in
+    let marked = marks told in
+    let mark : ℕ → Option Mark = λ j. Some (mark_at w (e ∷ es) at j) in
+    heard_as m w es numbers now ws at e out (nothing_more (with_mark at o.from (mark o.from) (keep_all fs p))) _
+    (sym (ap (λ (t : Bool). if t then nothing_more (with_mark at o.from (mark o.from) (keep_all fs p)) else record { deeds = Acked at o.from o.seq ∷ []; peers = keep_all fs p }) deferred))
+    (record {
+      before = with_mark at frame.from (mark frame.from) p;
+      besides = is_none w at out (nothing_more (with_mark at o.from (mark o.from) (keep_all fs p))) (marked.1 ∙ clear) refl;
+      kept = keep_marked fs at frame.from (mark frame.from) p ∙ ap (λ j. with_mark at j (mark j) (keep_all fs p)) from_is;
+      stands = marked.0;
+    })
+opened_comes {S = S} {E = E} {C = C} m w es numbers given now ws p at bytes frame o was out answer false stands clear from_is seq_is below deferred told marks takes =
+    let e = events.Frame at bytes in
+    let fs = made_by w es (Some e) in
+    let took = takes told (omega (arith, below, from_is)) in
+    let mark : ℕ → Option Mark = λ j. Some (mark_at w (e ∷ es) at j) in
+    let note : ℕ → ℕ → More = λ j seq. mores.Note j (ack_note (w.keys at) j seq) in
+    heard_as m w es numbers now ws at e out (record { deeds = Acked at o.from o.seq ∷ []; peers = keep_all fs p }) _
+    (sym (ap (λ (t : Bool). if t then nothing_more (with_mark at o.from (mark o.from) (keep_all fs p)) else record { deeds = Acked at o.from o.seq ∷ []; peers = keep_all fs p }) deferred))
+    (record {
+      before = p;
+      besides = let P : More → Type 0 = λ x. IsMore w at x (record { deeds = Acked at o.from o.seq ∷ []; peers = keep_all fs p }) in
+          subst P (sym (took.1 ∙ ap₂ note from_is seq_is)) refl;
+      kept = refl;
+      stands = let P : House S E C → Type 0 = λ x. HouseStands m w (e ∷ es) numbers x ws p in subst P (sym took.0) stands;
+    })
+
+heard_by : {S E C : Type 0} (m : Meaning S E C KeyRow) (w : Setting) (es : List Event) (numbers : List ℕ) (given now : House S E C) (ws : Waiting) (p : Peers) (at : ℕ) (bytes : List ℕ) (carried : Option Carried)
+    (was out : More) (answer : Result Answer Refusal) (o : Result Opening OpenFault)
+    → HouseStands m w (events.Frame at bytes ∷ es) numbers given ws p → was ≡ mores.Nothing
+    → seen_answer answer ≡ seen_of w es (events.Frame at bytes) → is_opened answer ≡ is_ok o
+    → MatchOption carried (length bytes < 43) (λ f. (f.from ≡ sender_of bytes) × (f.seq ≡ seq_of bytes))
+    → ((x : Opening) → o ≡ Ok x → (43 ≤ length bytes) × (x ≡ parts_of bytes) × (x.from < w.numbers.n))
+    → (is_opened answer ≡ false → (now ≡ given) × (out ≡ was))
+    → (is_opened answer ≡ true → is_deferred (seen_answer answer) ≡ true → IfSome carried (λ f.
+    HouseStands m w (events.Frame at bytes ∷ es) numbers now ws (with_mark at f.from (Some (mark_at w (events.Frame at bytes ∷ es) at f.from)) p) × (out ≡ was)))
+    → (is_opened answer ≡ true → is_deferred (seen_answer answer) ≡ false → IfSome carried (λ f.
+    f.from < w.numbers.n → (now ≡ given) × (out ≡ mores.Note f.from (ack_note (w.keys at) f.from f.seq))))
+    → Heard m w es numbers now ws at (events.Frame at bytes) out (opened_so w es at bytes (keep_all (made_by w es (Some (events.Frame at bytes))) p) o)
+heard_by {S = S} {E = E} {C = C} m w es numbers given now ws p at bytes carried was out answer (Err fault) stands clear saw opened reads says none marks takes =
+    let e = events.Frame at bytes in
+    let same = none opened in
+    record {
+      before = p;
+      besides = is_none w at out (nothing_more (keep_all (made_by w es (Some e)) p)) (same.1 ∙ clear) refl;
+      kept = refl;
+      stands = let P : House S E C → Type 0 = λ x. HouseStands m w (e ∷ es) numbers x ws p in subst P (sym same.0) stands;
+    }
+heard_by m w es numbers given now ws p at bytes None was out answer (Ok o) stands clear saw opened reads says none marks takes =
+    let long = (says o refl).0 in absurd (omega (arith, long, reads))
+heard_by m w es numbers given now ws p at bytes (Some frame) was out answer (Ok o) stands clear saw opened reads says none marks takes =
+    let said = says o refl in
+    opened_comes m w es numbers given now ws p at bytes frame o was out answer (is_deferred (seen_answer answer)) stands clear
+    (reads.0 ∙ sym (ap (λ (x : Opening). x.from) said.1)) (reads.1 ∙ sym (ap (λ (x : Opening). x.seq) said.1)) said.2
+    (ap is_deferred (sym saw)) refl (marks opened) (takes opened)
+
+-- what was read of bytes, by another name
+pub reads_of : (xs ys : List ℕ) (carried : Option Carried) → xs ≡ ys → MatchOption carried (length xs < 43) (λ f. (f.from ≡ sender_of xs) × (f.seq ≡ seq_of xs))
+    → MatchOption carried (length ys < 43) (λ f. (f.from ≡ sender_of ys) × (f.seq ≡ seq_of ys))
+reads_of xs ys carried same reads =
+    let P : List ℕ → Type 0 = λ x. MatchOption carried (length x < 43) (λ f. (f.from ≡ sender_of x) × (f.seq ≡ seq_of x)) in subst P same reads
+
+-- the frame was called with, and this was heard
+pub heard : {S E C : Type 0} (m : Meaning S E C KeyRow) (w : Setting) (es : List Event) (numbers : List ℕ) (old : List (Replica S E C)) (given now : House S E C) (ws : Waiting) (p : Peers) (place at : ℕ) (bytes : List ℕ) (carried : Option Carried)
+    (was out : More) (answer : Result Answer Refusal)
+    → AreHere m w es numbers old → slice_get numbers place ≡ Some at
+    → HouseStands m w (events.Frame at bytes ∷ es) numbers given ws p → was ≡ mores.Nothing → seen_answer answer ≡ seen_of w es (events.Frame at bytes)
+    → MatchOption carried (length bytes < 43) (λ f. (f.from ≡ sender_of bytes) × (f.seq ≡ seq_of bytes)) → OpenedParts → OpenedFromPeer
+    → (is_opened answer ≡ false → (now ≡ given) × (out ≡ was))
+    → (is_opened answer ≡ true → is_deferred (seen_answer answer) ≡ true → IfSome carried (λ f.
+    HouseStands m w (events.Frame at bytes ∷ es) numbers now ws (with_mark at f.from (Some (mark_at w (events.Frame at bytes ∷ es) at f.from)) p) × (out ≡ was)))
+    → (is_opened answer ≡ true → is_deferred (seen_answer answer) ≡ false → IfSome carried (λ f.
+    f.from < w.numbers.n → (now ≡ given) × (out ≡ mores.Note f.from (ack_note (w.keys at) f.from f.seq))))
+    → Heard m w es numbers now ws at (events.Frame at bytes) out (opened_so w es at bytes (keep_all (made_by w es (Some (events.Frame at bytes))) p) (opening (w.keys at) bytes))
+heard m w es numbers old given now ws p place at bytes carried was out answer stand number stands clear saw reads parts peer none marks takes =
+    let right = right_at m w es numbers old place at stand number in
+    let own : (w.keys at).n ≡ w.numbers.n = (stand.kind.own at (stand.kind.within at right)).1 in
+    heard_by m w es numbers given now ws p at bytes carried was out answer (opening (w.keys at) bytes) stands clear saw
+    (answered_opens w es at bytes answer stand.going right saw) reads
+    (λ x opens. ((parts (w.keys at) bytes x opens).0, (parts (w.keys at) bytes x opens).1, (let below = (peer (w.keys at) bytes x opens).0 in omega (arith, below, own))))
+    none marks takes
+
+-- the rows that came in, of a replica by another name
+pub entered_at : {S E C : Type 0} (m : Meaning S E C KeyRow) (w : Setting) (es : List Event) (numbers : List ℕ) (now : House S E C) (count : ℕ) (ws : Waiting) (p : Peers) (after quiet : List Reply) (k at : ℕ) → k ≡ at
+    → HouseStands m w es numbers now (left_by k count (rows_at w es k) ws) p × (map (reply_by k) after ≡ map (reply_by k) quiet ++ replies_by k count (rows_at w es k) ws)
+    → HouseStands m w es numbers now (left_by at count (rows_at w es at) ws) p × (map (reply_by at) after ≡ map (reply_by at) quiet ++ replies_by at count (rows_at w es at) ws)
+entered_at m w es numbers now count ws p after quiet k at same entered =
+    let P : ℕ → Type 0 = λ x. HouseStands m w es numbers now (left_by x count (rows_at w es x) ws) p × (map (reply_by x) after ≡ map (reply_by x) quiet ++ replies_by x count (rows_at w es x) ws) in
+    subst P same entered
+
+-- ---- an item
+
+-- what comes of an item of the link
+abbrev pub ComesOf : {S E C : Type 0} → Meaning S E C KeyRow → Setting → List Event → List ℕ → House S E C → Output → Waiting → Peers → LinkItem → Type 0
+ComesOf m w es numbers now output ws p item =
+    Comes m w es numbers now output (item_does w es item ws) (item_brings w es item (keep_all (made_by w es (item_does w es item ws).event) p))
+
+pub same_item : {S E C : Type 0} (m : Meaning S E C KeyRow) (w : Setting) (es : List Event) (numbers : List ℕ) (now : House S E C) (output : Output) (ws : Waiting) (p : Peers) (item other : LinkItem) → item ≡ other
+    → ComesOf m w es numbers now output ws p item → ComesOf m w es numbers now output ws p other
+same_item m w es numbers now output ws p item other same comes = let P : LinkItem → Type 0 = λ x. ComesOf m w es numbers now output ws p x in subst P same comes
+
+-- a frame or a note, by whether the replica is here and whether it is a note
+abbrev frame_does : Setting → List Event → ℕ → List ℕ → Waiting → Bool → Bool → Outcome
+frame_does w es to bytes ws right note = if right then (if note then silent [] ws else called w es to (events.Frame to bytes) ws) else silent [] ws
+
+abbrev frame_brings : Setting → List Event → ℕ → List ℕ → Peers → Bool → Bool → Brought
+frame_brings w es to bytes p right note =
+    if right then (if note then noted_so to p (noted (w.keys to) bytes) else opened_so w es to bytes p (opening (w.keys to) bytes)) else nothing_more p
+
+abbrev FrameComes : {S E C : Type 0} → Meaning S E C KeyRow → Setting → List Event → List ℕ → House S E C → Output → Waiting → Peers → ℕ → List ℕ → Bool → Bool → Type 0
+FrameComes m w es numbers now output ws p to bytes right note =
+    Comes m w es numbers now output (frame_does w es to bytes ws right note)
+    (frame_brings w es to bytes (keep_all (made_by w es (frame_does w es to bytes ws right note).event) p) right note)
+
+by_tests : {S E C : Type 0} (m : Meaning S E C KeyRow) (w : Setting) (es : List Event) (numbers : List ℕ) (now : House S E C) (output : Output) (ws : Waiting) (p : Peers) (to : ℕ) (bytes : List ℕ) (right note : Bool)
+    → w.is_correct to ≡ right → is_note bytes ≡ note → FrameComes m w es numbers now output ws p to bytes right note → ComesOf m w es numbers now output ws p (items.Frame to bytes)
+by_tests m w es numbers now output ws p to bytes right note here is comes =
+    let P : Bool → Type 0 = λ a. FrameComes m w es numbers now output ws p to bytes a (is_note bytes) in
+    let Q : Bool → Type 0 = λ b. FrameComes m w es numbers now output ws p to bytes right b in
+    subst P (sym here) (subst Q (sym is) comes)
+
+-- of a replica that isn't here nothing comes
+pub frame_nowhere : {S E C : Type 0} (m : Meaning S E C KeyRow) (w : Setting) (es : List Event) (numbers : List ℕ) (now : House S E C) (output : Output) (ws : Waiting) (p : Peers) (to : ℕ) (bytes : List ℕ)
+    → w.is_correct to ≡ false → HouseStands m w es numbers now ws p → IsClear output → ComesOf m w es numbers now output ws p (items.Frame to bytes)
+frame_nowhere m w es numbers now output ws p to bytes faulty stands clear =
+    by_tests m w es numbers now output ws p to bytes false (is_note bytes) faulty refl (nothing_comes m w es numbers now output ws p stands clear)
+
+pub note_here : {S E C : Type 0} (m : Meaning S E C KeyRow) (w : Setting) (es : List Event) (numbers : List ℕ) (now : House S E C) (output : Output) (ws : Waiting) (p : Peers) (to at : ℕ) (bytes read : List ℕ)
+    → w.is_correct to ≡ true → is_note read ≡ true → at ≡ to → read ≡ bytes → Comes m w es numbers now output (silent [] ws) (noted_so at p (noted (w.keys at) read))
+    → ComesOf m w es numbers now output ws p (items.Frame to bytes)
+note_here m w es numbers now output ws p to at bytes read right note at_is read_is comes =
+    by_tests m w es numbers now output ws p to bytes true true right (ap is_note (sym read_is) ∙ note)
+    (comes_with m w es numbers now output (silent [] ws) (noted_so at p (noted (w.keys at) read)) (noted_so to p (noted (w.keys to) bytes)) (ap₂ (λ k b. noted_so k p (noted (w.keys k) b)) at_is read_is) comes)
+
+pub frame_here : {S E C : Type 0} (m : Meaning S E C KeyRow) (w : Setting) (es : List Event) (numbers : List ℕ) (now : House S E C) (output : Output) (ws : Waiting) (p : Peers) (to : ℕ) (bytes read : List ℕ)
+    → w.is_correct to ≡ true → is_note read ≡ false → read ≡ bytes
+    → Comes m w es numbers now output (called w es to (events.Frame to bytes) ws) (opened_so w es to bytes (keep_all (made_by w es (Some (events.Frame to bytes))) p) (opening (w.keys to) bytes))
+    → ComesOf m w es numbers now output ws p (items.Frame to bytes)
+frame_here m w es numbers now output ws p to bytes read right note read_is comes =
+    by_tests m w es numbers now output ws p to bytes true false right (ap is_note (sym read_is) ∙ note) comes

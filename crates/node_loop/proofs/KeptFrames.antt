@@ -1,0 +1,197 @@
+-- The frames of a call are kept for their peers, and the house stands so.
+use Rattle.std.proofs.Common.{◌≡◌, ℕ, ◌≤◌, ◌+◌, ◌%◌, ◌^◌, ◌==◌, ◌&&◌, Bool, List, [], ◌∷◌, ◌++◌, length, map, Option, Some, None, Result, Ok, Err, refl, sym, ◌∙◌, ap, subst, arith, inl, inr, slice_set, if◌then◌else◌}
+use Rattle.std.specs.List.{All, AllByRecursion, slice_get}
+use Rattle.std.proofs.Math.ListN.{length-set}
+use Rattle.std.proofs.lemmas.Bool.{cases_Bool, eqb-true}
+use Rattle.std.proofs.lemmas.Bool.Decides.{eqb_tells}
+use Rattle.std.proofs.lemmas.List.Elements.{All-from_recursion}
+use Rattle.std.proofs.lemmas.Option.{same_Some}
+use Rattle.std.specs.Vec.{with_item}
+use Rattle.ritas_base.specs.declared.event.Event.{Event}
+use Rattle.ritas_base.specs.declared.item.Item.{Item}
+use Rattle.ritas_base.specs.declared.item.Msg.{Msg}
+use Rattle.frame_codec.specs.declared.fault.BodyFault.{BodyFault}
+use Rattle.frame_codec.specs.Body.{body_answer}
+use Rattle.keyed_channel.specs.KeyRow.{KeyRow}
+use Rattle.keyed_channel.specs.Frames.{Opening, opening}
+use Rattle.keyed_channel.specs.Laws.{SealedLength}
+use Rattle.keyed_channel.specs.declared.frame.OpenFault.{OpenFault}
+use Rattle.ritas_core.specs.Order.{sent_to}
+use Rattle.ritas_core.specs.Rules.{Rules}
+use Rattle.ritas_core.specs.Machine.{CoreState}
+use Rattle.ritas_core.specs.Stands.{Meaning}
+use Rattle.replica.specs.declared.frame.OutFrame.{OutFrame}
+use Rattle.replica.specs.Frames.{body_of, frame_for, receivers, frames_of}
+use Rattle.replica.specs.Handling.{Call, Frame, Input, Turn, handled, given_body, given_frame}
+use Rattle.outside.specs.Links.{LinkAct, Sends}
+use Rattle.world_model.specs.World.{Setting, CallAt, call_of, handled_at, states_before}
+use Rattle.world_model.specs.MadeOrder.{MadeFrame, frames_in}
+use Rattle.world_model.proofs.Left.{get_set_same, get_set_other}
+use Rattle.node_loop.specs.declared.house.House.{House}
+use Rattle.node_loop.specs.declared.peers.Keeper.{Keeper}
+use Rattle.node_loop.specs.Waiting.{Waiting}
+use Rattle.node_loop.specs.Peers.{Peers, with_list, keeps, keep_one, keep_all}
+use Rattle.node_loop.specs.PeersStanding.{AreKept, IsKeeper, made_as}
+use Rattle.node_loop.specs.Serving.{as_sent, made_by, sent_by, onto}
+use Rattle.node_loop.specs.Standing.{HouseStands, frame_by}
+
+-- ---- frames are long enough for a number
+
+abbrev AreLong : List OutFrame → Type 0
+AreLong frames = AllByRecursion (λ f. 11 ≤ length f.bytes) frames
+
+both_long : (fs gs : List OutFrame) → AreLong fs → AreLong gs → AreLong (fs ++ gs)
+both_long [] gs first second = second
+both_long (f ∷ fs) gs first second = (first.0, both_long fs gs first.1 second)
+
+each_long : SealedLength → (k : KeyRow) (counts : ℕ → ℕ) (m : Msg) (js : List ℕ) → AreLong (map (λ j. frame_for k j (counts j) m) js)
+each_long law k counts m [] = tt
+each_long law k counts m (j ∷ js) =
+    let size = law k j (counts j % 2 ^ 64) (body_of k.me m) in
+    (omega (arith, size), each_long law k counts m js)
+
+all_long : SealedLength → (k : KeyRow) (counts : ℕ → ℕ) (ms : List Msg) → AreLong (frames_of k counts ms)
+all_long law k counts [] = tt
+all_long law k counts (m ∷ ms) =
+    both_long (map (λ j. frame_for k j (counts j) m) (receivers k m)) _ (each_long law k counts m (receivers k m)) (all_long law k (λ j. counts j + length (sent_to j (m ∷ []))) ms)
+
+body_long : SealedLength → (r : Rules) (k : KeyRow) (st : CoreState) (body : Result Item BodyFault) → AreLong (given_body r k st body).out
+body_long law r k st (Ok item) = all_long law k _ _
+body_long law r k st (Err fault) = tt
+
+frame_long : SealedLength → (r : Rules) (k : KeyRow) (st : CoreState) (o : Result Opening OpenFault) → AreLong (given_frame r k st o).out
+frame_long law r k st (Ok o) = body_long law r k st (body_answer r.casts.numbers r.mode o.from o.body)
+frame_long law r k st (Err fault) = tt
+
+out_long : SealedLength → (r : Rules) (k : KeyRow) (st : CoreState) (call : Call) → AreLong (handled r k st call).out
+out_long law r k st (Frame bytes) = frame_long law r k st (opening k bytes)
+out_long law r k st (Input bytes) = all_long law k _ _
+out_long law r k st Turn = all_long law k _ _
+
+abbrev IsLong : LinkAct → Type 0
+IsLong (Sends s) = 11 ≤ length s.bytes
+IsLong other = Unit {0}
+
+sent_long : (k at : ℕ) (frames : List OutFrame) → AreLong frames → AllByRecursion IsLong (map as_sent (map (λ o. record { event = k; from = at; to = o.to; bytes = o.bytes }) frames))
+sent_long k at [] long = tt
+sent_long k at (f ∷ fs) long = (long.0, sent_long k at fs long.1)
+
+call_long : SealedLength → (k : ℕ) (w : Setting) (states : ℕ → CoreState) (c : Option CallAt) → AllByRecursion IsLong (map as_sent (frames_in k w states c))
+call_long law k w states None = tt
+call_long law k w states (Some c) = sent_long k c.at (handled_at w states c).out (out_long law _ (w.keys c.at) (states c.at) c.call)
+
+made_long : SealedLength → (w : Setting) (es : List Event) (e : Option Event) → AllByRecursion IsLong (sent_by w es e)
+made_long law w es None = tt
+made_long law w es (Some e) = call_long law (length es) w (states_before w es) (call_of w (states_before w es) e)
+
+long_again : (at : ℕ) (frames : List OutFrame) → AllByRecursion IsLong (map (frame_by at) frames) → AreLong frames
+long_again at [] long = tt
+long_again at (f ∷ fs) long = (long.0, long_again at fs long.1)
+
+-- each frame of a call has a number
+pub have_numbers : SealedLength → (w : Setting) (es : List Event) (e : Option Event) (at : ℕ) (frames : List OutFrame)
+    → map (frame_by at) frames ≡ sent_by w es e → All (λ f. 11 ≤ length f.bytes) frames
+have_numbers law w es e at frames is =
+    All-from_recursion (λ f. 11 ≤ length f.bytes) frames (long_again at frames (subst (λ (acts : List LinkAct). AllByRecursion IsLong acts) (sym is) (made_long law w es e)))
+
+-- ---- what is kept doesn't depend on the event
+
+abbrev keep_act : LinkAct → Peers → Peers
+keep_act (Sends s) p = with_list s.at s.to (keeps s.bytes (p.keeping s.at s.to)) p
+keep_act other p = p
+
+abbrev keep_acts : List LinkAct → Peers → Peers
+keep_acts [] p = p
+keep_acts (a ∷ acts) p = keep_acts acts (keep_act a p)
+
+as_acts : (fs : List MadeFrame) (p : Peers) → keep_all fs p ≡ keep_acts (map as_sent fs) p
+as_acts [] p = refl
+as_acts (f ∷ fs) p = as_acts fs (keep_one f p)
+
+sent_so : (k at : ℕ) (frames : List OutFrame) → map as_sent (map (made_as k at) frames) ≡ map (frame_by at) frames
+sent_so k at [] = refl
+sent_so k at (f ∷ fs) = ap (λ (acts : List LinkAct). frame_by at f ∷ acts) (sent_so k at fs)
+
+pub same_kept : (w : Setting) (es : List Event) (e : Option Event) (k at : ℕ) (frames : List OutFrame) (p : Peers) → map (frame_by at) frames ≡ sent_by w es e
+    → keep_all (map (made_as k at) frames) p ≡ keep_all (made_by w es e) p
+same_kept w es e k at frames p is =
+    as_acts (map (made_as k at) frames) p
+    ∙ (ap (λ (acts : List LinkAct). keep_acts acts p) (sent_so k at frames ∙ is) ∙ sym (as_acts (made_by w es e) p))
+
+-- ---- the keepers
+
+other_pair : (at to i j : ℕ) (p : Peers) (list : List _) → (i ≡ at → ⊥) → (with_list at to list p).keeping i j ≡ p.keeping i j
+other_pair at to i j p list other = elim (cases_Bool (i == at)) [
+  | inl same ↦ absurd (other (eqb-true i at same))
+  | inr not_same ↦ ap (λ (b : Bool). if b && (j == to) then list else p.keeping i j) not_same
+]
+
+-- what other replicas keep stays
+others_stay : (k at i j : ℕ) (frames : List OutFrame) (p : Peers) → (i ≡ at → ⊥) → (keep_all (map (made_as k at) frames) p).keeping i j ≡ p.keeping i j
+others_stay k at i j [] p other = refl
+others_stay k at i j (f ∷ fs) p other =
+    others_stay k at i j fs (keep_one (made_as k at f) p) other ∙ other_pair at f.to i j p (keeps f.bytes (p.keeping at f.to)) other
+
+-- and all marks do
+marks_stay : (fs : List MadeFrame) (p : Peers) → (keep_all fs p).marks ≡ p.marks
+marks_stay [] p = refl
+marks_stay (f ∷ fs) p = marks_stay fs (keep_one f p)
+
+other_keeper : (n k at i : ℕ) (frames : List OutFrame) (p : Peers) (keeper : Keeper) → (i ≡ at → ⊥) → IsKeeper n i keeper p → IsKeeper n i keeper (keep_all (map (made_as k at) frames) p)
+other_keeper n k at i frames p keeper other is = record {
+  kept = record { many = is.kept.many; each = λ j within. is.kept.each j within ∙ sym (others_stay k at i j frames p other) };
+  marked = record {
+    many = is.marked.many;
+    each = λ j within. is.marked.each j within ∙ ap (λ (marks : ℕ → ℕ → _). marks i j) (sym (marks_stay (map (made_as k at) frames) p));
+  };
+}
+
+own_keeper : (n k at : ℕ) (frames : List OutFrame) (p : Peers) (old : Keeper) (lists : _) → IsKeeper n at old p → AreKept n at lists (keep_all (map (made_as k at) frames) p).keeping
+    → IsKeeper n at (record { resume = lists; marks = old.marks }) (keep_all (map (made_as k at) frames) p)
+own_keeper n k at frames p old lists is kept = record {
+  kept = kept;
+  marked = record {
+    many = is.marked.many;
+    each = λ j within. is.marked.each j within ∙ ap (λ (marks : ℕ → ℕ → _). marks at j) (sym (marks_stay (map (made_as k at) frames) p));
+  };
+}
+
+house_with : {S E C : Type 0} (m : Meaning S E C KeyRow) (w : Setting) (es : List Event) (numbers : List ℕ) (house : House S E C) (ws : Waiting) (p : Peers)
+    (k at place : ℕ) (frames : List OutFrame) (old : Keeper) (lists : _)
+    → HouseStands m w es numbers house ws p → slice_get numbers place ≡ Some at → slice_get house.keepers.items place ≡ Some old
+    → AreKept w.numbers.n at lists (keep_all (map (made_as k at) frames) p).keeping
+    → HouseStands m w es numbers (record house { keepers = with_item house.keepers place (record { resume = lists; marks = old.marks }) }) ws (keep_all (map (made_as k at) frames) p)
+house_with m w es numbers house ws p k at place frames old lists stands number there kept =
+    let new : Keeper = record { resume = lists; marks = old.marks } in
+    let now : Peers = keep_all (map (made_as k at) frames) p in
+    let is : IsKeeper w.numbers.n at new now = own_keeper w.numbers.n k at frames p old lists (stands.keepers place at old number there) kept in
+    record {
+      here = stands.here;
+      waiting = stands.waiting;
+      many = length-set house.keepers.items place new ∙ stands.many;
+      keepers = λ q i keeper numbered seen. elim (eqb_tells place q) [
+        | inl same ↦
+            let one : at ≡ i = same_Some at i (sym number ∙ ap (slice_get numbers) same.1 ∙ numbered) in
+            let is_new : new ≡ keeper = same_Some new keeper (sym (get_set_same house.keepers.items place old new there) ∙ ap (slice_get (slice_set house.keepers.items place new)) same.1 ∙ seen) in
+            subst (λ (x : Keeper). IsKeeper w.numbers.n i x now) is_new (subst (λ (x : ℕ). IsKeeper w.numbers.n x new now) one is)
+        | inr other ↦
+            other_keeper w.numbers.n k at i frames p keeper (λ one. other.1 (stands.here.apart place q i (number ∙ ap (λ x. Some x) (sym one)) numbered))
+            (stands.keepers q i keeper numbered (sym (get_set_other house.keepers.items place q new (λ h. other.1 (sym h))) ∙ seen))
+      ];
+    }
+
+-- the house stands, where one keeper kept the frames of its replica
+pub house_kept : {S E C : Type 0} (m : Meaning S E C KeyRow) (w : Setting) (es : List Event) (numbers : List ℕ) (house : House S E C) (ws : Waiting) (p q : Peers)
+    (k at place : ℕ) (frames : List OutFrame) (old : Keeper) (lists : _)
+    → HouseStands m w es numbers house ws p → slice_get numbers place ≡ Some at → slice_get house.keepers.items place ≡ Some old
+    → keep_all (map (made_as k at) frames) p ≡ q → AreKept w.numbers.n at lists (keep_all (map (made_as k at) frames) p).keeping
+    → HouseStands m w es numbers (record house { keepers = with_item house.keepers place (record { resume = lists; marks = old.marks }) }) ws q
+house_kept m w es numbers house ws p q k at place frames old lists stands number there same kept =
+    subst (λ (r : Peers). HouseStands m w es numbers (record house { keepers = with_item house.keepers place (record { resume = lists; marks = old.marks }) }) ws r) same
+    (house_with m w es numbers house ws p k at place frames old lists stands number there kept)
+
+-- where there was no call, all stands
+pub none_kept : {S E C : Type 0} (m : Meaning S E C KeyRow) (w : Setting) (es : List Event) (numbers : List ℕ) (house : House S E C) (ws : Waiting) (e : Option Event) (p q : Peers)
+    → e ≡ None → keep_all (made_by w es e) p ≡ q → HouseStands m w (onto e es) numbers house ws p → HouseStands m w (onto e es) numbers house ws q
+none_kept m w es numbers house ws e p q none is stands =
+    subst (λ (r : Peers). HouseStands m w (onto e es) numbers house ws r) (sym (ap (λ (o : Option Event). keep_all (made_by w es o) p) none) ∙ is) stands

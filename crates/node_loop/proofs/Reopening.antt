@@ -1,0 +1,321 @@
+-- What is kept for a peer went out, and no acknowledgement of it came since.
+use Rattle.std.specs.Prelude.{◌≡◌, ℕ, ◌+◌, ◌==◌, ◌&&◌, ◌||◌, not, Bool, true, false, cond, nat_le, nat_lt, List, [], ◌∷◌, ◌++◌, length, map, filter, Option, Some, None, Result, Ok, Err, refl, if◌then◌else◌}
+use Rattle.std.specs.List.{AllByRecursion}
+use Rattle.std.specs.Str.{bytes_eq}
+use Rattle.std.proofs.Common.{sym, ◌∙◌, ap, ap₂, subst, inl, inr}
+use Rattle.std.proofs.lemmas.Bool.{cases_Bool, eqb-true, eq-eqb}
+use Rattle.std.proofs.lemmas.Slice.Eq.{bytes_eq-Decides}
+use Rattle.ritas_base.specs.declared.event.Event.{Event}
+use Rattle.ritas_base.specs.declared.event.Event.TheVariants as events
+use Rattle.outside.specs.declared.link.LinkItem.{LinkItem}
+use Rattle.outside.specs.declared.link.LinkItem.TheVariants as items
+use Rattle.outside.specs.declared.link.Sent.{Sent}
+use Rattle.keyed_channel.specs.Frames.{Opening, opening, seq_of}
+use Rattle.keyed_channel.specs.Notes.{is_note, noted}
+use Rattle.keyed_channel.specs.declared.frame.OpenFault.{OpenFault}
+use Rattle.keyed_channel.specs.declared.note.Note.{Note}
+use Rattle.keyed_channel.specs.declared.note.Note.TheVariants as notes
+use Rattle.link_resume.specs.declared.kept.Kept.{Kept}
+use Rattle.link_resume.specs.Lists.{bytes_in, most_bytes, all_but}
+use Rattle.world_model.specs.World.{Setting, seen_of}
+use Rattle.world_model.specs.MadeOrder.{MadeFrame}
+use Rattle.node_loop.specs.Waiting.{Waiting}
+use Rattle.node_loop.specs.Calls.{Outcome, called, asks, silent, if_here, item_does, first_does}
+use Rattle.node_loop.specs.declared.peers.Mark.{Mark}
+use Rattle.node_loop.specs.Peers.{Peers, is_pair, with_list, with_mark, keeps, keep_one, keep_all, acknowledged}
+use Rattle.node_loop.specs.Deeds.{Deed, Came, Made, Resent, Acked, Wished, Replied, pushed, says_so, acks, is_first, is_open}
+use Rattle.node_loop.specs.Resending.{Brought, nothing_more, mark_at, is_deferred, opened_so, resends, noted_so, item_brings}
+use Rattle.node_loop.specs.Serving.{Serving, so_far, Round, Began, Turned, Reminded, Took, made_by, brought, outcome, after, came, with_deeds, deeds_of}
+use Rattle.node_loop.specs.Laws.{AreOpen, ResendsAreOpen}
+
+-- ---- tests
+
+or_left : (a b : Bool) → a ≡ true → (a || b) ≡ true
+or_left true b h = refl
+or_left false b h = absurd (cc)
+
+or_right : (a b : Bool) → b ≡ true → (a || b) ≡ true
+or_right true b h = refl
+or_right false b h = h
+
+not_and : (a b : Bool) → a ≡ false → b ≡ true → (not a && b) ≡ true
+not_and a b fails passes = ap₂ (λ (x y : Bool). not x && y) fails passes
+
+both : (a b : Bool) → (a && b) ≡ true → (a ≡ true) × (b ≡ true)
+both true b h = (refl, h)
+both false b h = absurd (cc)
+
+-- ---- what is kept
+
+abbrev pub IsSent : Setting → ℕ → ℕ → List Deed → Kept → Type 0
+IsSent w i j ds k = (k.seq ≡ seq_of k.frame) × (is_open w i j k.frame ds ≡ true)
+
+pub record AllSent (w : Setting) (p : Peers) (ds : List Deed) : Type 0 where
+  pub each : (i j : ℕ) → AllByRecursion (IsSent w i j ds) (p.keeping i j)
+
+-- so it is of all that is kept, and of all that went out again
+pub record Good (w : Setting) (p : Peers) (ds : List Deed) : Type 0 where
+  pub sent : AllSent w p ds
+  pub again : AreOpen w ds
+
+append_all : {X : Type 0} (P : X → Type 0) (xs : List X) (y : X) → AllByRecursion P xs → P y → AllByRecursion P (xs ++ y ∷ [])
+append_all P [] y all one = (one, tt)
+append_all P (x ∷ xs) y all one = (all.0, append_all P xs y all.1 one)
+
+-- one list changes
+pair_is : (i j a b : ℕ) → is_pair i j a b ≡ true → (a ≡ i) × (b ≡ j)
+pair_is i j a b h = let t = both (a == i) (b == j) h in (eqb-true a i t.0, eqb-true b j t.1)
+
+one_list : (w : Setting) (i j : ℕ) (kept : List Kept) (p : Peers) (ds : List Deed) → AllByRecursion (IsSent w i j ds) kept
+    → ((a b : ℕ) → is_pair i j a b ≡ false → AllByRecursion (IsSent w a b ds) (p.keeping a b)) → AllSent w (with_list i j kept p) ds
+one_list w i j kept p ds here others = record {
+  each = λ a b. by_pair a b (is_pair i j a b) refl;
+}
+  where
+    by_pair : (a b : ℕ) (t : Bool) → is_pair i j a b ≡ t → AllByRecursion (IsSent w a b ds) (if t then kept else p.keeping a b)
+    by_pair a b true same =
+        let e = pair_is i j a b same in
+        subst (λ (x : ℕ). AllByRecursion (IsSent w x b ds) kept) (sym e.0) (subst (λ (y : ℕ). AllByRecursion (IsSent w i y ds) kept) (sym e.1) here)
+    by_pair a b false other = others a b other
+
+-- ---- frames that go out for the first time
+
+made_stays : (w : Setting) (f : MadeFrame) (i j : ℕ) (ds : List Deed) (ks : List Kept) → AllByRecursion (IsSent w i j ds) ks
+    → AllByRecursion (IsSent w i j (Made f ∷ ds)) ks
+made_stays w f i j ds [] all = tt
+made_stays w f i j ds (k ∷ ks) all =
+    ((all.0.0, or_right (is_first f i j k.frame) (is_open w i j k.frame ds) all.0.1), made_stays w f i j ds ks all.1)
+
+first_itself : (f : MadeFrame) → is_first f f.from f.to f.bytes ≡ true
+first_itself f =
+    ap₂ (λ (x y : Bool). x && y) (eq-eqb f.from f.from refl)
+    (ap₂ (λ (x y : Bool). x && y) (eq-eqb f.to f.to refl) ((bytes_eq-Decides f.bytes f.bytes).1 refl))
+
+keeps_sent : (w : Setting) (f : MadeFrame) (ds : List Deed) (ks : List Kept) → AllByRecursion (IsSent w f.from f.to ds) ks
+    → AllByRecursion (IsSent w f.from f.to (Made f ∷ ds)) (keeps f.bytes ks)
+keeps_sent w f ds ks all = by_room (nat_le (bytes_in ks + length f.bytes) most_bytes)
+  where
+    by_room : (b : Bool) → AllByRecursion (IsSent w f.from f.to (Made f ∷ ds)) (if b then ks ++ record { seq = seq_of f.bytes; frame = f.bytes } ∷ [] else ks)
+    by_room true =
+        append_all (IsSent w f.from f.to (Made f ∷ ds)) ks (record { seq = seq_of f.bytes; frame = f.bytes }) (made_stays w f f.from f.to ds ks all)
+        (refl, or_left (is_first f f.from f.to f.bytes) (is_open w f.from f.to f.bytes ds) (first_itself f))
+    by_room false = made_stays w f f.from f.to ds ks all
+
+one_made : (w : Setting) (f : MadeFrame) (p : Peers) (ds : List Deed) → Good w p ds → Good w (keep_one f p) (Made f ∷ ds)
+one_made w f p ds good = record {
+  sent = one_list w f.from f.to (keeps f.bytes (p.keeping f.from f.to)) p (Made f ∷ ds) (keeps_sent w f ds (p.keeping f.from f.to) (good.sent.each f.from f.to))
+      (λ a b _. made_stays w f a b ds (p.keeping a b) (good.sent.each a b));
+  again = good.again;
+}
+
+pub all_made_good : (w : Setting) (fs : List MadeFrame) (p : Peers) (ds : List Deed) → Good w p ds → Good w (keep_all fs p) (pushed (map Made fs) ds)
+all_made_good w [] p ds good = good
+all_made_good w (f ∷ fs) p ds good = all_made_good w fs (keep_one f p) (Made f ∷ ds) (one_made w f p ds good)
+
+-- ---- frames that go out again, and what changes nothing
+
+again_sent : (w : Setting) (i j : ℕ) (p : Peers) (frame : List ℕ) (ds : List Deed) → AllSent w p ds → AllSent w p (Resent i j frame ∷ ds)
+again_sent w i j p frame ds sent = record { each = sent.each }
+
+resent_good : (w : Setting) (i j : ℕ) (p : Peers) (ks : List Kept) (ds : List Deed) → AllByRecursion (IsSent w i j ds) ks → Good w p ds
+    → Good w p (pushed (map (λ k. Resent i j k.frame) ks) ds)
+resent_good w i j p [] ds all good = good
+resent_good w i j p (k ∷ ks) ds all good =
+    resent_good w i j p ks (Resent i j k.frame ∷ ds) all.1 (record { sent = again_sent w i j p k.frame ds good.sent; again = (all.0.1, good.again) })
+
+resends_good : (w : Setting) (i j : ℕ) (p : Peers) (ds : List Deed) → Good w p ds → Good w (resends i j p).peers (pushed (resends i j p).deeds ds)
+resends_good w i j p ds good = resent_good w i j p (p.keeping i j) ds (good.sent.each i j) good
+
+replied_good : (w : Setting) (rs : List Sent) (p : Peers) (ds : List Deed) → Good w p ds → Good w p (pushed (map Replied rs) ds)
+replied_good w [] p ds good = good
+replied_good w (r ∷ rs) p ds good = replied_good w rs p (Replied r ∷ ds) (record { sent = record { each = good.sent.each }; again = good.again })
+
+acked_good : (w : Setting) (i j seq : ℕ) (p : Peers) (ds : List Deed) → Good w p ds → Good w p (Acked i j seq ∷ ds)
+acked_good w i j seq p ds good = record { sent = record { each = good.sent.each }; again = good.again }
+
+marked_good : (w : Setting) (i j : ℕ) (mark : Option Mark) (p : Peers) (ds : List Deed) → Good w p ds → Good w (with_mark i j mark p) ds
+marked_good w i j mark p ds good = record { sent = record { each = good.sent.each }; again = good.again }
+
+asked_good : (w : Setting) (i j : ℕ) (p : Peers) (ds : List Deed) → Good w p ds → Good w (with_mark i j None p) (Wished i j ∷ ds)
+asked_good w i j p ds good = record { sent = record { each = good.sent.each }; again = good.again }
+
+-- ---- items that are no acknowledgement
+
+came_stays : (w : Setting) (item : LinkItem) (i j : ℕ) (ds : List Deed) (ks : List Kept) → ((seq : ℕ) → acks w item i j seq ≡ false)
+    → AllByRecursion (IsSent w i j ds) ks → AllByRecursion (IsSent w i j (Came item ∷ ds)) ks
+came_stays w item i j ds [] none all = tt
+came_stays w item i j ds (k ∷ ks) none all =
+    ((all.0.0, not_and (acks w item i j (seq_of k.frame)) (is_open w i j k.frame ds) (none (seq_of k.frame)) all.0.1), came_stays w item i j ds ks none all.1)
+
+came_good : (w : Setting) (item : LinkItem) (p : Peers) (ds : List Deed) → ((i j seq : ℕ) → acks w item i j seq ≡ false) → Good w p ds → Good w p (Came item ∷ ds)
+came_good w item p ds none good = record {
+  sent = record { each = λ i j. came_stays w item i j ds (p.keeping i j) (none i j) (good.sent.each i j) };
+  again = good.again;
+}
+
+-- ---- an acknowledgement
+
+-- what it acknowledges
+acks_is : (w : Setting) (to from number : ℕ) (bytes : List ℕ) → w.is_correct to ≡ true → is_note bytes ≡ true → noted (w.keys to) bytes ≡ Some (notes.Ack from number)
+    → (i j seq : ℕ) → acks w (items.Frame to bytes) i j seq ≡ (to == i && (from == j && number == seq))
+acks_is w to from number bytes here note said i j seq =
+    ap₂ (λ (x y : Bool). x && (to == i && y)) here (ap₂ (λ (x y : Bool). x && y) note (ap (λ (o : Option Note). says_so o j seq) said))
+
+and_false : (a b : Bool) → b ≡ false → (a && b) ≡ false
+and_false true b h = h
+and_false false b h = refl
+
+other_seq : (a b : ℕ) → not (b == a) ≡ true → (a == b) ≡ false
+other_seq a b h = elim (cases_Bool (a == b)) [
+  | inl same ↦
+      let e : not (b == a) ≡ false = ap not (eq-eqb b a (sym (eqb-true a b same))) in
+      absurd (cc)
+  | inr other ↦ other
+]
+
+taken_step : (w : Setting) (to from number : ℕ) (bytes : List ℕ) → ((i j seq : ℕ) → acks w (items.Frame to bytes) i j seq ≡ (to == i && (from == j && number == seq)))
+    → (ds : List Deed) (k : Kept) (ks : List Kept) (b : Bool) → not (k.seq == number) ≡ b → IsSent w to from ds k
+    → AllByRecursion (IsSent w to from (Came (items.Frame to bytes) ∷ ds)) ks
+    → AllByRecursion (IsSent w to from (Came (items.Frame to bytes) ∷ ds)) (if b then k ∷ ks else ks)
+taken_step w to from number bytes is ds k ks true other one rest =
+    let none : acks w (items.Frame to bytes) to from (seq_of k.frame) ≡ false =
+    is to from (seq_of k.frame)
+    ∙ and_false (to == to) (from == from && number == seq_of k.frame) (and_false (from == from) (number == seq_of k.frame)
+    (ap (λ (n : ℕ). number == n) (sym one.0) ∙ other_seq number k.seq other)) in
+    ((one.0, not_and (acks w (items.Frame to bytes) to from (seq_of k.frame)) (is_open w to from k.frame ds) none one.1), rest)
+taken_step w to from number bytes is ds k ks false same one rest = rest
+
+taken_stays : (w : Setting) (to from number : ℕ) (bytes : List ℕ) → ((i j seq : ℕ) → acks w (items.Frame to bytes) i j seq ≡ (to == i && (from == j && number == seq)))
+    → (ds : List Deed) (ks : List Kept) → AllByRecursion (IsSent w to from ds) ks → AllByRecursion (IsSent w to from (Came (items.Frame to bytes) ∷ ds)) (all_but number ks)
+taken_stays w to from number bytes is ds [] all = tt
+taken_stays w to from number bytes is ds (k ∷ ks) all =
+    taken_step w to from number bytes is ds k (all_but number ks) (not (k.seq == number)) refl all.0 (taken_stays w to from number bytes is ds ks all.1)
+
+other_pair : (to from a b : ℕ) (x : Bool) → is_pair to from a b ≡ false → (to == a && (from == b && x)) ≡ false
+other_pair to from a b x other = elim (cases_Bool (to == a)) [
+  | inl one ↦ elim (cases_Bool (from == b)) [
+    | inl two ↦
+        let e : is_pair to from a b ≡ true = ap₂ (λ (x y : Bool). x && y) (eq-eqb a to (sym (eqb-true to a one))) (eq-eqb b from (sym (eqb-true from b two))) in
+        absurd (cc)
+    | inr two ↦ and_false (to == a) (from == b && x) (ap (λ (y : Bool). y && x) two)
+  ]
+  | inr one ↦ ap (λ (y : Bool). y && (from == b && x)) one
+]
+
+ack_good : (w : Setting) (to from number : ℕ) (bytes : List ℕ) (p : Peers) (ds : List Deed)
+    → ((i j seq : ℕ) → acks w (items.Frame to bytes) i j seq ≡ (to == i && (from == j && number == seq)))
+    → Good w p ds → Good w (acknowledged to from number p) (Came (items.Frame to bytes) ∷ ds)
+ack_good w to from number bytes p ds is good = record {
+  sent = one_list w to from (all_but number (p.keeping to from)) p (Came (items.Frame to bytes) ∷ ds)
+      (taken_stays w to from number bytes is ds (p.keeping to from) (good.sent.each to from))
+      (λ a b other. came_stays w (items.Frame to bytes) a b ds (p.keeping a b) (λ seq. is a b seq ∙ other_pair to from a b (number == seq) other) (good.sent.each a b));
+  again = good.again;
+}
+
+-- ---- a frame of the link
+
+-- it says otherwise
+acks_none : (w : Setting) (to : ℕ) (bytes : List ℕ) (i j seq : ℕ) → says_so (noted (w.keys to) bytes) j seq ≡ false → acks w (items.Frame to bytes) i j seq ≡ false
+acks_none w to bytes i j seq h =
+    and_false (w.is_correct to) (to == i && (is_note bytes && says_so (noted (w.keys to) bytes) j seq))
+    (and_false (to == i) (is_note bytes && says_so (noted (w.keys to) bytes) j seq) (and_false (is_note bytes) (says_so (noted (w.keys to) bytes) j seq) h))
+
+-- it is no note
+acks_frame : (w : Setting) (to : ℕ) (bytes : List ℕ) (i j seq : ℕ) → is_note bytes ≡ false → acks w (items.Frame to bytes) i j seq ≡ false
+acks_frame w to bytes i j seq h =
+    and_false (w.is_correct to) (to == i && (is_note bytes && says_so (noted (w.keys to) bytes) j seq))
+    (and_false (to == i) (is_note bytes && says_so (noted (w.keys to) bytes) j seq) (ap (λ (b : Bool). b && says_so (noted (w.keys to) bytes) j seq) h))
+
+-- what a note leaves
+note_good : (w : Setting) (to : ℕ) (bytes : List ℕ) (p : Peers) (ds : List Deed) (said : Option Note) → w.is_correct to ≡ true → is_note bytes ≡ true
+    → noted (w.keys to) bytes ≡ said → Good w p ds → Good w (noted_so to p said).peers (pushed (noted_so to p said).deeds (Came (items.Frame to bytes) ∷ ds))
+note_good w to bytes p ds None here note is good =
+    came_good w (items.Frame to bytes) p ds (λ i j seq. acks_none w to bytes i j seq (ap (λ (o : Option Note). says_so o j seq) is)) good
+note_good w to bytes p ds (Some (notes.Ack from number)) here note is good =
+    ack_good w to from number bytes p ds (acks_is w to from number bytes here note is) good
+note_good w to bytes p ds (Some (notes.Again from)) here note is good =
+    resends_good w to from p (Came (items.Frame to bytes) ∷ ds)
+    (came_good w (items.Frame to bytes) p ds (λ i j seq. acks_none w to bytes i j seq (ap (λ (o : Option Note). says_so o j seq) is)) good)
+
+-- whichever of two comes
+either_good : (w : Setting) (x y : Brought) (ds : List Deed) (b : Bool) → Good w x.peers (pushed x.deeds ds) → Good w y.peers (pushed y.deeds ds)
+    → Good w (if b then x else y).peers (pushed (if b then x else y).deeds ds)
+either_good w x y ds true first second = first
+either_good w x y ds false first second = second
+
+-- what a frame leaves that is no note
+opened_good : (w : Setting) (es : List Event) (to : ℕ) (bytes : List ℕ) (p : Peers) (ds : List Deed) (said : Result Opening OpenFault) → Good w p ds
+    → Good w (opened_so w es to bytes p said).peers (pushed (opened_so w es to bytes p said).deeds ds)
+opened_good w es to bytes p ds (Err fault) good = good
+opened_good w es to bytes p ds (Ok o) good =
+    either_good w (nothing_more (with_mark to o.from (Some (mark_at w (events.Frame to bytes ∷ es) to o.from)) p)) (record { deeds = Acked to o.from o.seq ∷ []; peers = p })
+    ds (is_deferred (seen_of w es (events.Frame to bytes)))
+    (marked_good w to o.from (Some (mark_at w (events.Frame to bytes ∷ es) to o.from)) p ds good) (acked_good w to o.from o.seq p ds good)
+
+abbrev pub did_so : Bool → Bool → Outcome → Waiting → Outcome
+did_so here note did ws = if here then (if note then silent [] ws else did) else silent [] ws
+
+abbrev pub brings_so : Bool → Bool → Brought → Brought → Peers → Brought
+brings_so here note a b p = if here then (if note then a else b) else nothing_more p
+
+abbrev FrameGood : Setting → List Event → ℕ → List ℕ → Waiting → Peers → List Deed → Bool → Bool → Type 0
+FrameGood w es to bytes ws p ds here note =
+    let did = did_so here note (called w es to (events.Frame to bytes) ws) ws in
+    let fs = made_by w es did.event in
+    let q = keep_all fs p in
+    let more = brings_so here note (noted_so to q (noted (w.keys to) bytes)) (opened_so w es to bytes q (opening (w.keys to) bytes)) q in
+    Good w more.peers (with_deeds fs more.deeds did.replies (Came (items.Frame to bytes) ∷ ds))
+
+frame_good : (w : Setting) (es : List Event) (to : ℕ) (bytes : List ℕ) (ws : Waiting) (p : Peers) (ds : List Deed) (here note : Bool)
+    → w.is_correct to ≡ here → is_note bytes ≡ note → Good w p ds → FrameGood w es to bytes ws p ds here note
+frame_good w es to bytes ws p ds false note is kind good =
+    came_good w (items.Frame to bytes) p ds (λ i j seq. ap (λ (b : Bool). b && (to == i && (is_note bytes && says_so (noted (w.keys to) bytes) j seq))) is) good
+frame_good w es to bytes ws p ds true true is kind good = note_good w to bytes p ds (noted (w.keys to) bytes) is kind refl good
+frame_good w es to bytes ws p ds true false is kind good =
+    let did = called w es to (events.Frame to bytes) ws in
+    let fs = made_by w es did.event in
+    let came_so = came_good w (items.Frame to bytes) p ds
+    (λ i j seq. acks_frame w to bytes i j seq kind) good in
+    replied_good w did.replies _ _
+    (opened_good w es to bytes (keep_all fs p) (pushed (map Made fs) (Came (items.Frame to bytes) ∷ ds)) (opening (w.keys to) bytes)
+    (all_made_good w fs p (Came (items.Frame to bytes) ∷ ds) came_so))
+
+-- ---- rounds
+
+abbrev RoundGood : Setting → List Event → Round → Serving → List Deed → Type 0
+RoundGood w past x s ds =
+    Good w (brought w past x s).peers (with_deeds (made_by w (so_far past s) (outcome w past x s).event) (brought w past x s).deeds (outcome w past x s).replies (came x ds))
+
+-- its frames and its replies alone
+plain_good : (w : Setting) (es : List Event) (did : Outcome) (p : Peers) (ds : List Deed) → Good w p ds
+    → Good w (keep_all (made_by w es did.event) p) (with_deeds (made_by w es did.event) [] did.replies ds)
+plain_good w es did p ds good = replied_good w did.replies _ _ (all_made_good w (made_by w es did.event) p ds good)
+
+up_good : (w : Setting) (at peer : ℕ) (p : Peers) (ds : List Deed) (b : Bool) → Good w p ds
+    → Good w (if b then resends at peer p else nothing_more p).peers (pushed (if b then resends at peer p else nothing_more p).deeds ds)
+up_good w at peer p ds true good = resends_good w at peer p ds good
+up_good w at peer p ds false good = good
+
+round_good : (w : Setting) (past : List Event) (x : Round) (s : Serving) (ds : List Deed) → Good w s.peers ds → RoundGood w past x s ds
+round_good w past (Began item) s ds good = plain_good w (so_far past s) (first_does w (so_far past s) item s.waiting) s.peers ds good
+round_good w past (Turned i) s ds good = plain_good w (so_far past s) (called w (so_far past s) i (events.Turn i) s.waiting) s.peers ds good
+round_good w past (Reminded i j) s ds good = asked_good w i j s.peers ds good
+round_good w past (Took (items.Frame to bytes)) s ds good =
+    frame_good w (so_far past s) to bytes s.waiting s.peers ds (w.is_correct to) (is_note bytes) refl refl good
+round_good w past (Took (items.Client at conn bytes)) s ds good =
+    plain_good w (so_far past s) (item_does w (so_far past s) (items.Client at conn bytes) s.waiting) s.peers (Came (items.Client at conn bytes) ∷ ds)
+    (came_good w (items.Client at conn bytes) s.peers ds (λ i j seq. refl) good)
+round_good w past (Took (items.Reply from bytes)) s ds good = came_good w (items.Reply from bytes) s.peers ds (λ i j seq. refl) good
+round_good w past (Took (items.Up at peer)) s ds good =
+    up_good w at peer s.peers (Came (items.Up at peer) ∷ ds) (w.is_correct at && nat_lt peer w.numbers.n)
+    (came_good w (items.Up at peer) s.peers ds (λ i j seq. refl) good)
+round_good w past (Took (items.Down at peer)) s ds good = came_good w (items.Down at peer) s.peers ds (λ i j seq. refl) good
+round_good w past (Took (items.Left at conn)) s ds good = came_good w (items.Left at conn) s.peers ds (λ i j seq. refl) good
+round_good w past (Took items.End) s ds good = came_good w items.End s.peers ds (λ i j seq. refl) good
+
+pub all_good : (w : Setting) (past : List Event) (first : List LinkItem) (rounds : List Round) → Good w (after w past first rounds).peers (deeds_of w past first rounds)
+all_good w past first [] = record { sent = record { each = λ i j. tt }; again = tt }
+all_good w past first (x ∷ rounds) = round_good w past x (after w past first rounds) (deeds_of w past first rounds) (all_good w past first rounds)
+
+pub resends_open : ResendsAreOpen
+resends_open w past first rounds = (all_good w past first rounds).again

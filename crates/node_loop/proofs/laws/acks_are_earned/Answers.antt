@@ -1,0 +1,5 @@
+use Rattle.node_loop.proofs.Earning.{are_earned}
+use Rattle.node_loop.proofs.laws.acks_are_earned.Goals as goal
+
+pub returns : goal.returns
+returns c = are_earned

@@ -1,0 +1,61 @@
+-- What is kept for peers until they acknowledge it, and who is to be asked to send again. All lists here have the oldest first.
+use Rattle.std.specs.Prelude.{ℕ, ◌+◌, ◌==◌, ◌&&◌, ◌||◌, Bool, true, false, nat_le, nat_lt, List, [], ◌∷◌, ◌++◌, length, map, Option, Some, None, if◌then◌else◌}
+use Rattle.link_resume.specs.declared.kept.Kept.{Kept}
+use Rattle.link_resume.specs.Lists.{bytes_in, most_bytes, all_but}
+use Rattle.keyed_channel.specs.Frames.{seq_of}
+use Rattle.world_model.specs.MadeOrder.{MadeFrame}
+use Rattle.node_loop.specs.declared.peers.Mark.{Mark}
+
+-- the frames of a replica that wait for a peer to acknowledge them
+abbrev pub Keeping : Type 0
+Keeping = ℕ → ℕ → List Kept
+
+-- the peers of a replica that are to be asked to send again: how far it had come, and how many bytes it held for the peer, when a frame of
+-- that peer came too early
+abbrev pub Marks : Type 0
+Marks = ℕ → ℕ → Option Mark
+
+pub record Peers : Type 0 where
+  pub keeping : Keeping
+  pub marks : Marks
+
+abbrev pub no_peers : Peers
+no_peers = record { keeping = λ i j. []; marks = λ i j. None }
+
+abbrev pub is_pair : ℕ → ℕ → ℕ → ℕ → Bool
+is_pair i j a b = a == i && b == j
+
+-- what replica i keeps for j is this
+abbrev pub with_list : ℕ → ℕ → List Kept → Peers → Peers
+with_list i j kept p = record p { keeping = λ a b. if is_pair i j a b then kept else p.keeping a b }
+
+-- the mark that j has at i is this
+abbrev pub with_mark : ℕ → ℕ → Option Mark → Peers → Peers
+with_mark i j mark p = record p { marks = λ a b. if is_pair i j a b then mark else p.marks a b }
+
+-- ---- what is kept
+
+-- a frame is kept under the number that it carries, unless the bytes would be too many
+abbrev pub keeps : List ℕ → List Kept → List Kept
+keeps frame kept = if nat_le (bytes_in kept + length frame) most_bytes then kept ++ record { seq = seq_of frame; frame = frame } ∷ [] else kept
+
+abbrev pub keep_one : MadeFrame → Peers → Peers
+keep_one f p = with_list f.from f.to (keeps f.bytes (p.keeping f.from f.to)) p
+
+abbrev pub keep_all : List MadeFrame → Peers → Peers
+keep_all [] p = p
+keep_all (f ∷ fs) p = keep_all fs (keep_one f p)
+
+-- replica i is told that j took the frame of a number
+abbrev pub acknowledged : ℕ → ℕ → ℕ → Peers → Peers
+acknowledged i j seq p = with_list i j (all_but seq (p.keeping i j)) p
+
+-- ---- who is asked
+
+-- the held bytes are fewer now, or the replica has come further
+abbrev pub is_due : Mark → Mark → Bool
+is_due was now = nat_lt now.held was.held || nat_lt was.progress now.progress
+
+abbrev pub is_due_of : Option Mark → Mark → Bool
+is_due_of None now = false
+is_due_of (Some was) now = is_due was now

@@ -1,0 +1,43 @@
+-- What the values that keep frames stand for.
+use Rattle.std.specs.Prelude.{◌≡◌, ℕ, ◌<◌, List, [], ◌∷◌, length, slice_index_or, Option, None}
+use Rattle.outside.specs.Links.{LinkAct}
+use Rattle.outside.specs.LinkCalls.{each_act}
+use Rattle.link_resume.specs.declared.kept.Kept.{Kept}
+use Rattle.link_resume.specs.Lists.{kept_for}
+use Rattle.replica.specs.declared.frame.OutFrame.{OutFrame}
+use Rattle.world_model.specs.MadeOrder.{MadeFrame}
+use Rattle.node_loop.specs.declared.output.More.{More}
+use Rattle.node_loop.specs.declared.output.More.TheVariants as mores
+use Rattle.node_loop.specs.declared.peers.Keeper.{Keeper}
+use Rattle.node_loop.specs.declared.peers.Mark.{Mark}
+use Rattle.node_loop.specs.Peers.{Keeping, Marks, Peers}
+use Rattle.node_loop.specs.Deeds.{sends}
+
+-- these lists are what replica i, one of n, keeps for its peers
+pub record AreKept (n i : ℕ) (lists : List (List Kept)) (keeping : Keeping) : Type 0 where
+  pub many : length lists ≡ n
+  pub each : (j : ℕ) → j < n → kept_for lists j ≡ keeping i j
+
+-- these are the marks of its peers
+pub record AreMarked (n i : ℕ) (list : List (Option Mark)) (marks : Marks) : Type 0 where
+  pub many : length list ≡ n
+  pub each : (j : ℕ) → j < n → slice_index_or list j None ≡ marks i j
+
+-- a keeper is that of replica i, one of n
+pub record IsKeeper (n i : ℕ) (keeper : Keeper) (p : Peers) : Type 0 where
+  pub kept : AreKept n i keeper.resume p.keeping
+  pub marked : AreMarked n i keeper.marks.items p.marks
+
+-- a kept frame as it goes out again
+abbrev pub kept_by : ℕ → ℕ → Kept → LinkAct
+kept_by at peer k = sends at peer k.frame
+
+-- what goes to a peer besides, of these that are kept for each peer: the newest first
+abbrev pub more_acts : ℕ → List (List Kept) → More → List LinkAct
+more_acts at lists mores.Nothing = []
+more_acts at lists (mores.Note peer bytes) = sends at peer bytes ∷ []
+more_acts at lists (mores.Kept peer) = each_act (kept_by at peer) (kept_for lists peer)
+
+-- a frame that a replica made, in the event of a number
+abbrev pub made_as : ℕ → ℕ → OutFrame → MadeFrame
+made_as event at f = record { event = event; from = at; to = f.to; bytes = f.bytes }

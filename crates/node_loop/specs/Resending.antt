@@ -1,0 +1,102 @@
+-- What comes of an item for the peers of the replicas that are here: acknowledgements, and frames that are sent again.
+use Rattle.std.specs.Prelude.{ℕ, ◌+◌, ◌&&◌, Bool, true, false, nat_lt, List, [], ◌∷◌, ◌++◌, map, filter, sum_by, Option, Some, None, Result, Ok, Err, if◌then◌else◌}
+use Rattle.std.specs.List.{flat_map}
+use Rattle.ritas_base.specs.declared.event.Event.{Event}
+use Rattle.ritas_base.specs.declared.event.Event.TheVariants as events
+use Rattle.ritas_base.specs.History.{replicas}
+use Rattle.outside.specs.declared.link.LinkItem.{LinkItem}
+use Rattle.outside.specs.declared.link.LinkItem.TheVariants as items
+use Rattle.keyed_channel.specs.Frames.{Opening, opening}
+use Rattle.keyed_channel.specs.Notes.{is_note, noted}
+use Rattle.keyed_channel.specs.declared.frame.OpenFault.{OpenFault}
+use Rattle.keyed_channel.specs.declared.note.Note.{Note}
+use Rattle.keyed_channel.specs.declared.note.Note.TheVariants as notes
+use Rattle.ooc_buffers.specs.Lists.{held_bytes}
+use Rattle.ritas_core.specs.declared.fault.CoreFault.TheVariants as faults
+use Rattle.ritas_core.specs.Rules.{Rules, seat_of}
+use Rattle.ritas_core.specs.Parts.{parts}
+use Rattle.ritas_core.specs.Machine.{CoreState}
+use Rattle.replica.specs.declared.refusal.Refusal.TheVariants as refusals
+use Rattle.world_model.specs.declared.seen.Seen.{Seen}
+use Rattle.world_model.specs.declared.seen.Seen.TheVariants as seen
+use Rattle.world_model.specs.World.{Setting, rules_at, states_of, seen_of}
+use Rattle.node_loop.specs.Peers.{Peers, with_mark, acknowledged, is_due_of}
+use Rattle.node_loop.specs.declared.peers.Mark.{Mark}
+use Rattle.node_loop.specs.declared.peers.Pair.{Pair}
+use Rattle.node_loop.specs.Deeds.{Deed, Resent, Acked, Wished}
+
+-- what comes of an item or a turn for peers: what goes out after the frames of the call and before its replies, in order, and
+-- what is kept and who is marked then
+pub record Brought : Type 0 where
+  pub deeds : List Deed
+  pub peers : Peers
+
+abbrev pub nothing_more : Peers → Brought
+nothing_more p = record { deeds = []; peers = p }
+
+-- ---- how far a replica is
+
+-- its completed rounds and all its bases
+abbrev pub progress_of : Rules → CoreState → ℕ → ℕ
+progress_of r st n = let words = (parts r st.history).words in
+    r.service.completed (seat_of r) words + sum_by (λ o. r.service.base (seat_of r) words o) (replicas n)
+
+-- where replica i stands after these events, and what it holds for j
+abbrev pub mark_at : Setting → List Event → ℕ → ℕ → Mark
+mark_at w es i j = record { progress = progress_of (rules_at w i) (states_of w es i) w.numbers.n; held = held_bytes (states_of w es i).held j }
+
+-- ---- a frame
+
+-- a frame that was answered so is to come again
+abbrev pub is_deferred : Seen → Bool
+is_deferred (seen.Refused (refusals.Core (faults.Ahead x))) = true
+is_deferred (seen.Refused (refusals.Core (faults.HeldFull x))) = true
+is_deferred (seen.Refused (refusals.Core faults.Mem)) = true
+is_deferred (seen.Refused (refusals.Core faults.Stopped)) = true
+is_deferred _ = false
+
+-- what opens is acknowledged, or its sender is marked; the mark is of where the call leaves the replica
+abbrev pub opened_so : Setting → List Event → ℕ → List ℕ → Peers → Result Opening OpenFault → Brought
+opened_so w es i bytes p (Err fault) = nothing_more p
+opened_so w es i bytes p (Ok o) = if is_deferred (seen_of w es (events.Frame i bytes))
+    then nothing_more (with_mark i o.from (Some (mark_at w (events.Frame i bytes ∷ es) i o.from)) p)
+    else record { deeds = Acked i o.from o.seq ∷ []; peers = p }
+
+-- ---- a note
+
+-- what is kept for a peer is sent again
+abbrev pub resends : ℕ → ℕ → Peers → Brought
+resends i j p = record { deeds = map (λ k. Resent i j k.frame) (p.keeping i j); peers = p }
+
+abbrev pub noted_so : ℕ → Peers → Option Note → Brought
+noted_so i p None = nothing_more p
+noted_so i p (Some (notes.Ack from seq)) = nothing_more (acknowledged i from seq p)
+noted_so i p (Some (notes.Again from)) = resends i from p
+
+-- ---- an item
+
+-- with what was kept of the frames of its call
+abbrev pub item_brings : Setting → List Event → LinkItem → Peers → Brought
+item_brings w es (items.Frame to bytes) p = if w.is_correct to
+    then (if is_note bytes then noted_so to p (noted (w.keys to) bytes) else opened_so w es to bytes p (opening (w.keys to) bytes))
+    else nothing_more p
+item_brings w es (items.Up at peer) p = if w.is_correct at && nat_lt peer w.numbers.n then resends at peer p else nothing_more p
+item_brings w es (items.Client at conn bytes) p = nothing_more p
+item_brings w es (items.Reply from bytes) p = nothing_more p
+item_brings w es (items.Down at peer) p = nothing_more p
+item_brings w es (items.Left at conn) p = nothing_more p
+item_brings w es items.End p = nothing_more p
+
+-- a marked peer is asked, and isn't marked any more
+abbrev pub asks_for_more : ℕ → ℕ → Peers → Brought
+asks_for_more i j p = record { deeds = Wished i j ∷ []; peers = with_mark i j None p }
+
+-- ---- who is to be asked
+
+-- the peers of a replica that are due, in order
+abbrev pub due_at : Setting → List Event → Peers → ℕ → List Pair
+due_at w es p i = map (λ j. record { at = i; peer = j }) (filter (λ j. is_due_of (p.marks i j) (mark_at w es i j)) (replicas w.numbers.n))
+
+-- those that are due, by replica and then by peer
+abbrev pub due : Setting → List Event → List ℕ → Peers → List Pair
+due w es here p = flat_map (due_at w es p) here
