@@ -13,7 +13,7 @@ use Rattle.schedule_file.specs.declared.header.Header.{Header}
 use Rattle.node_loop.specs.declared.end.ServeEnd.{ServeEnd}
 use Rattle.node_loop.specs.declared.end.ServeEnd.TheVariants as ends
 use Rattle.node_loop.specs.Outs.{Outs, Tells, Agrees, text_of}
-use Rattle.node_loop.specs.Serving.{Serving, Want, Begins, Finishes, Turns, Halts, Asks}
+use Rattle.node_loop.specs.Serving.{Serving, Want, Begins, Finishes, Turns, Halts, Reminds, Asks}
 use Rattle.node_session.specs.Session.{TookAll, TookPart, last_acts, NotStarted, SessionEnds}
 use Rattle.node_session.specs.Opening.{HasBegun, HasFailed}
 
@@ -95,6 +95,7 @@ module _ (h : Header) (plan : LinkPlan) (tells : Tells) where
   last_more Finishes acts = ([], refl)
   last_more (Turns i) acts = ([], refl)
   last_more Halts acts = ([], refl)
+  last_more (Reminds i j) acts = ([], refl)
   last_more Asks acts = (Gives items.End ∷ [], refl)
 
   pub last_taken : (base now : Outs) (events : List Event) (acts : List LinkAct) (rule : Want) → ((more : List LinkAct) → TookPart h plan tells base now events (more ++ acts))

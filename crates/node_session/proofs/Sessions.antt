@@ -1,5 +1,5 @@
 -- What is true of a session.
-use Rattle.std.proofs.Common.{◌≡◌, ℕ, ◌<◌, ◌≤◌, ◌^◌, ◌==◌, Bool, true, false, List, [], ◌∷◌, ◌++◌, reverse, refl, sym, ◌∙◌, ap, subst, arith, inl, inr}
+use Rattle.std.proofs.Common.{◌≡◌, ℕ, ◌<◌, ◌≤◌, ◌^◌, ◌==◌, Bool, true, false, List, [], ◌∷◌, ◌++◌, reverse, refl, sym, ◌∙◌, ap, subst, arith, inl, inr, map}
 use Rattle.std.specs.List.{All, AllByRecursion}
 use Rattle.std.proofs.lemmas.List.{append-nil, reverse-append}
 use Rattle.ritas_base.specs.declared.event.Event.{Event}
@@ -15,7 +15,7 @@ use Rattle.ritas_core.specs.Rules.{HasForm}
 use Rattle.outside.specs.Faults.{count_after}
 use Rattle.outside.specs.LinkCalls.{TookBack}
 use Rattle.outside.specs.LinkCallsLaws.{back_then}
-use Rattle.outside.specs.Links.{LinkAct, Gives, failed_once, short_once, frames_in, replies_in}
+use Rattle.outside.specs.Links.{LinkAct, Gives, failed_once, short_once, replies_in}
 use Rattle.outside.specs.declared.link.FaultCounts.{FaultCounts}
 use Rattle.outside.specs.declared.link.LinkItem.TheVariants as items
 use Rattle.outside.specs.declared.link.LinkItem.{LinkItem}
@@ -34,11 +34,12 @@ use Rattle.world_model.specs.MadeOrder.{all_made}
 use Rattle.world_model.specs.EveryWorld.{IsWorld, AgreementLaw}
 use Rattle.node_loop.specs.declared.end.ServeEnd.{ServeEnd}
 use Rattle.node_loop.specs.declared.end.ServeEnd.TheVariants as ends
-use Rattle.node_loop.specs.Laws.{frames_of, FramesAreMade, RepliesAreTrue, EventsFit, IsServed, IsTrueReply}
+use Rattle.node_loop.specs.Deeds.{firsts_in}
+use Rattle.node_loop.specs.Laws.{sent_as, ActsAreDeeds, FramesAreMade, ResendsAreOpen, AreEarned, AcksAreEarned, RepliesAreTrue, EventsFit, IsServed, IsTrueReply}
 use Rattle.node_loop.specs.Outs.{Outs, TapeFailed, LinkFailed, FellShort, Tells, Agrees, Stops}
 use Rattle.node_loop.specs.Served.{IsFirst, Serves, Breaks, EndsSo, Whole}
 use Rattle.node_loop.specs.ServingLaws.{acts_of}
-use Rattle.node_loop.specs.Serving.{Serving, begin, so_far, Want, Finishes, Halts, Asks, Round, after, sooner, newest, wants, AreWanted}
+use Rattle.node_loop.specs.Serving.{Serving, begin, so_far, Want, Finishes, Halts, Asks, Round, after, deeds_of, sooner, newest, wants, AreWanted}
 use Rattle.node_session.specs.declared.session.Session.{Session}
 use Rattle.node_session.specs.Session.{TookAll, TookPart, IsTrueSession, ServesSession, last_acts, CameTo, Broke, NotClosed, SessionEnds}
 use Rattle.node_session.specs.Opening.{HasBegun, HasFailed, Closes, Closed, Failed, is_reason}
@@ -115,12 +116,13 @@ all_back {X = X} P (x ∷ xs) all =
 
 module _ (h : Header) (w : Setting) (is : IsHeading (heading h)) (service : ServiceRules) (other : BroadcastRules) (kind : IsWorld service other w)
     (numbers : w.numbers ≡ h.p) (correct : (i : ℕ) → w.is_correct i ≡ true → has_member h.correct i ≡ true)
-    (made : FramesAreMade) (fit : EventsFit) (replied : RepliesAreTrue service other) (agreed : AgreementLaw service other) where
+    (done : ActsAreDeeds) (made : FramesAreMade) (kept : ResendsAreOpen) (earned : AcksAreEarned) (fit : EventsFit) (replied : RepliesAreTrue service other) (agreed : AgreementLaw service other) where
   pub is_session : (until limit : ℕ) (first : List LinkItem) (rounds : List Round) → All IsFirst first → AreWanted w [] until limit first rounds
-      → IsTrueSession h w (after w [] first rounds).events (after w [] first rounds).acts
+      → IsTrueSession h w (after w [] first rounds).events (deeds_of w [] first rounds) (after w [] first rounds).acts
   unfolding all_made
   is_session until limit first rounds firsts wanted =
       let s = after w [] first rounds in
+      let deeds = deeds_of w [] first rounds in
       let same : so_far [] s ≡ s.events = append-nil s.events in
       let within : (i : ℕ) → w.is_correct i ≡ true → i < h.p.n = λ i right. subst (λ (p : Numbers). i < p.n) numbers (kind.within i right) in
       record {
@@ -130,7 +132,10 @@ module _ (h : Header) (w : Setting) (is : IsHeading (heading h)) (service : Serv
           each = all_back (IsEvent (heading h)) s.events (all_stand h w is within correct s.events (fit w [] until limit first rounds firsts wanted));
           size = size;
         };
-        frames = subst (λ (es : List Event). frames_of w es ≡ reverse (frames_in s.acts)) same (made w [] first rounds);
+        calls = done w [] first rounds;
+        frames = ap (map sent_as) (subst (λ (es : List Event). all_made w es ≡ reverse (firsts_in deeds)) same (made w [] first rounds));
+        resends = kept w [] first rounds;
+        acknowledged = subst (λ (es : List Event). AreEarned w es deeds) same (earned w [] first rounds);
         replies = subst (λ (es : List Event). AllByRecursion (IsTrueReply w es) (replies_in s.acts)) same (replied w [] first rounds kind);
         agree = λ holds. agreed w s.events kind holds;
       }
@@ -142,7 +147,7 @@ same_failed e = ap (λ (n : FaultCounts). n.failed) e
 
 module _ (x : Session) (first : List LinkItem) (w : Setting) (tells : Tells)
     (session : (rounds : List Round) → AreWanted w [] x.until x.limit first rounds
-    → IsTrueSession x.header w (after w [] first rounds).events (after w [] first rounds).acts) where
+    → IsTrueSession x.header w (after w [] first rounds).events (deeds_of w [] first rounds) (after w [] first rounds).acts) where
   -- it ended before it was served
   pub fails : (base now : Outs) (end : ServeEnd) → HasFailed (heading x.header) x.plan tells base now end → ServesSession x first w tells base now end
   fails base now end failed = record {

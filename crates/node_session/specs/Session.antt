@@ -1,9 +1,9 @@
 -- Serving the session of a header: what an output and a link took of it. Lists of events and of the link's calls have the newest first.
-use Rattle.std.specs.Prelude.{◌≡◌, ◌≤◌, true, List, [], ◌∷◌, ◌++◌, length, reverse}
+use Rattle.std.specs.Prelude.{◌≡◌, ◌≤◌, true, List, [], ◌∷◌, ◌++◌, length, map, reverse}
 use Rattle.std.specs.List.{All, AllByRecursion}
 use Rattle.ritas_base.specs.declared.event.Event.{Event}
 use Rattle.outside.specs.LinkCalls.{TookBack}
-use Rattle.outside.specs.Links.{LinkAct, Starts, Gives, frames_in, replies_in}
+use Rattle.outside.specs.Links.{LinkAct, Starts, Gives, replies_in}
 use Rattle.outside.specs.Writing.{TookFront}
 use Rattle.outside.specs.declared.link.LinkItem.{LinkItem}
 use Rattle.outside.specs.declared.link.LinkItem.TheVariants as items
@@ -18,10 +18,11 @@ use Rattle.world_model.specs.Audit.{audit_of}
 use Rattle.world_model.specs.World.{Setting}
 use Rattle.node_loop.specs.declared.end.ServeEnd.{ServeEnd}
 use Rattle.node_loop.specs.declared.end.ServeEnd.TheVariants as ends
-use Rattle.node_loop.specs.Laws.{frames_of, IsTrueReply}
+use Rattle.node_loop.specs.Deeds.{Deed, act_of, firsts_in}
+use Rattle.node_loop.specs.Laws.{sent_as, frames_of, AreOpen, AreEarned, IsTrueReply}
 use Rattle.node_loop.specs.Outs.{Outs, NoneFailed, TapeFailed, LinkFailed, FellShort, Tells, Agrees}
 use Rattle.node_loop.specs.Served.{IsFirst, Breaks}
-use Rattle.node_loop.specs.Serving.{Serving, Want, Begins, Finishes, Turns, Halts, Asks, Round, after, sooner, newest, wants, AreWanted}
+use Rattle.node_loop.specs.Serving.{Serving, Want, Begins, Finishes, Turns, Halts, Reminds, Asks, Round, after, deeds_of, sooner, newest, wants, AreWanted}
 use Rattle.node_session.specs.declared.session.Session.{Session}
 use Rattle.node_session.specs.Opening.{HasBegun, HasFailed}
 
@@ -52,6 +53,7 @@ last_acts (Begins item) acts = acts
 last_acts Finishes acts = acts
 last_acts (Turns i) acts = acts
 last_acts Halts acts = acts
+last_acts (Reminds i j) acts = acts
 last_acts Asks acts = Gives items.End ∷ acts
 
 -- How far it came at a fault, where the calls of the newest event are `news`, and those before are `sooner`: the link wasn't started, or
@@ -74,11 +76,16 @@ SessionEnds h plan tells base now ends.TapeFault s sooner news rule =
 SessionEnds h plan tells base now ends.Mem s sooner news rule =
     FellShort base now × TookPart h plan tells base now s.events s.acts × CameTo h plan tells base now ends.Mem s sooner news rule
 
--- What is true of the events and the calls of a session, in its world w: a file of these events is one, the frames that went to the link are
--- those that its replicas made, in their order, each reply of a position is true, and where the audit holds the replicas agree.
-pub record IsTrueSession (h : Header) (w : Setting) (events : List Event) (acts : List LinkAct) : Type 0 where
+-- What is true of the events and the calls of a session, in its world w, where the link's calls are these deeds: a file of these events is one;
+-- the frames that went out for the first time are those that its replicas made, in their order; each that went out again did so after its
+-- first time, with no acknowledgement of it between the two; each acknowledgement is of a frame that came, opened, and was answered otherwise
+-- than that it is to come again; each reply of a position is true; and where the audit holds the replicas agree.
+pub record IsTrueSession (h : Header) (w : Setting) (events : List Event) (deeds : List Deed) (acts : List LinkAct) : Type 0 where
   pub file : length (FileOf (heading h) events) ≤ file.limit → IsFile (FileOf (heading h) events) (heading h) events
-  pub frames : frames_of w events ≡ reverse (frames_in acts)
+  pub calls : acts ≡ map (act_of w.keys) deeds
+  pub frames : frames_of w events ≡ map sent_as (reverse (firsts_in deeds))
+  pub resends : AreOpen w deeds
+  pub acknowledged : AreEarned w events deeds
   pub replies : AllByRecursion (IsTrueReply w events) (replies_in acts)
   pub agree : audit_of w events ≡ Holds → Agree w events
 
@@ -88,6 +95,6 @@ pub record ServesSession (s : Session) (first : List LinkItem) (w : Setting) (te
   pub wanted : AreWanted w [] s.until s.limit first rounds
   pub so : SessionEnds s.header s.plan tells base now end (after w [] first rounds) (sooner w [] first rounds) (newest w [] first rounds)
       (wants w [] s.until s.limit (after w [] first rounds))
-  pub true_of : IsTrueSession s.header w (after w [] first rounds).events (after w [] first rounds).acts
+  pub true_of : IsTrueSession s.header w (after w [] first rounds).events (deeds_of w [] first rounds) (after w [] first rounds).acts
   pub tape_later : base.tape_faults ≤ now.tape_faults
   pub link_later : base.link_faults.failed ≤ now.link_faults.failed

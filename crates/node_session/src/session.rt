@@ -17,7 +17,10 @@ use echo_bcast::Eb;
 use keyed_channel::SeedCoin;
 use layer_api::{Broadcast, Service};
 use multivalued::Mvc;
-use node_loop::{ServeEnd, events_fit, frames_are_made, replies_are_true, serve};
+use node_loop::{
+    ServeEnd, acks_are_earned, acts_are_deeds, events_fit, frames_are_made, replies_are_true,
+    resends_are_open, serve,
+};
 use outside::{Link, LinkItem, LinkPlan, Sink};
 use reliable_bcast::Rb;
 use replica::Replica;
@@ -77,7 +80,10 @@ fn serve_as<R: Net + Wait, S: Service, E: Broadcast, L: Link, K: Sink>(
     ensures unserved { OnErr result ((output.new ≡ output.old) × (link.new ≡ link.old)) }
 {
     events_fit();
+    acts_are_deeds();
     frames_are_made();
+    resends_are_open();
+    acks_are_earned();
     replies_are_true::<S, E>();
     agreement::<S, E>();
     let mut replicas = first_replicas::<S, E>(alloc, &session.header)?;

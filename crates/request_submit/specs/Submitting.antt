@@ -43,7 +43,9 @@ calls_of [] = []
 calls_of (items.Frame to bytes ∷ older) = calls_of older
 calls_of (items.Client at conn bytes ∷ older) = calls_of older
 calls_of (items.Reply from bytes ∷ older) = record { from = from; bytes = bytes } ∷ calls_of older
+calls_of (items.Up at peer ∷ older) = calls_of older
 calls_of (items.Down at peer ∷ older) = calls_of older
+calls_of (items.Left at conn ∷ older) = calls_of older
 calls_of (items.End ∷ older) = calls_of older
 
 -- the position that an answer of the votes has: a reply that is refused has none
@@ -56,7 +58,9 @@ abbrev pub settles : Wanted → List LinkItem → LinkItem → Option ℕ
 settles w older (items.Frame to bytes) = None
 settles w older (items.Client at conn bytes) = None
 settles w older (items.Reply from bytes) = position_of (answer_of w (calls_of older) (record { from = from; bytes = bytes }))
+settles w older (items.Up at peer) = None
 settles w older (items.Down at peer) = None
+settles w older (items.Left at conn) = None
 settles w older items.End = None
 
 -- an item that isn't the link's end, and settles nothing behind older ones

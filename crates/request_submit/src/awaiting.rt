@@ -26,7 +26,9 @@ fn count(votes: &mut Votes, item: &LinkItem) -> Option<u32>
         },
         LinkItem::Frame { .. } => None,
         LinkItem::Client { .. } => None,
+        LinkItem::Up { .. } => None,
         LinkItem::Down { .. } => None,
+        LinkItem::Left { .. } => None,
         LinkItem::End => None,
     }
 }

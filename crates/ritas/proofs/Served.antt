@@ -1,5 +1,5 @@
 -- What the status of serving says.
-use Rattle.std.proofs.Common.{◌≡◌, ◌≢◌, ℕ, ◌≤◌, List, [], ◌∷◌, refl, sym, ◌∙◌, inl, inr, subst, arith}
+use Rattle.std.proofs.Common.{◌≡◌, ◌≢◌, ℕ, ◌≤◌, List, [], ◌∷◌, refl, sym, ◌∙◌, ap, inl, inr, subst, arith}
 use Rattle.outside.specs.Links.{LinkAct, Gives}
 use Rattle.outside.specs.declared.link.LinkItem.{LinkItem}
 use Rattle.outside.specs.declared.link.LinkItem.TheVariants as items
@@ -10,7 +10,8 @@ use Rattle.world_model.specs.World.{Setting}
 use Rattle.node_loop.specs.declared.end.ServeEnd.{ServeEnd}
 use Rattle.node_loop.specs.declared.end.ServeEnd.TheVariants as ends
 use Rattle.node_loop.specs.Outs.{Outs, Tells}
-use Rattle.node_loop.specs.Serving.{Serving, Want, after}
+use Rattle.node_loop.specs.Deeds.{Came}
+use Rattle.node_loop.specs.Serving.{Serving, Want, after, deeds_of}
 use Rattle.node_session.specs.declared.session.Session.{Session}
 use Rattle.node_session.specs.Session.{SessionEnds, ServesSession}
 use Rattle.ritas.specs.Configs.{AnswersSession, Unserved, Served, HasServed, IsIdle}
@@ -91,13 +92,22 @@ has_served session first tells base now untouched status (Unserved idle same) ze
 has_served session first tells base now untouched status (Served end is serves) zero = by_end end (sym is ∙ zero) serves
   where
     by_end : (x : ServeEnd) → end_status x ≡ 0 → ServesSession session first (setting_of session.header) tells base now x → HasServed session tells base now
-    by_end ends.Done e run = record { events = _; acts = _; took = run.so.1; true_of = run.true_of }
-    by_end ends.Limit e run = record { events = _; acts = _; took = run.so.1; true_of = run.true_of }
+    by_end ends.Done e run = record { events = _; deeds = _; acts = _; took = run.so.1; true_of = run.true_of }
+    by_end ends.Limit e run = record { events = _; deeds = _; acts = _; took = run.so.1; true_of = run.true_of }
     by_end ends.End e run = record {
       events = _;
+      deeds = Came items.End ∷ deeds_of (setting_of session.header) [] first run.rounds;
       acts = Gives items.End ∷ (after (setting_of session.header) [] first run.rounds).acts;
       took = run.so.1;
-      true_of = record { file = run.true_of.file; frames = run.true_of.frames; replies = run.true_of.replies; agree = run.true_of.agree };
+      true_of = record {
+        file = run.true_of.file;
+        calls = ap (λ (l : List LinkAct). Gives items.End ∷ l) run.true_of.calls;
+        frames = run.true_of.frames;
+        resends = run.true_of.resends;
+        acknowledged = run.true_of.acknowledged;
+        replies = run.true_of.replies;
+        agree = run.true_of.agree;
+      };
     }
     by_end ends.LinkFault e run = absurd (omega (arith, e))
     by_end ends.TapeFault e run = absurd (omega (arith, e))

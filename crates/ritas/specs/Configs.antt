@@ -26,6 +26,7 @@ use Rattle.node_loop.specs.declared.end.ServeEnd.{ServeEnd}
 use Rattle.node_loop.specs.Outs.{Outs, Tells}
 use Rattle.node_session.specs.Configs.{node_session, cluster_session, first_item}
 use Rattle.node_session.specs.declared.session.Session.{Session}
+use Rattle.node_loop.specs.Deeds.{Deed}
 use Rattle.node_session.specs.Session.{TookAll, IsTrueSession, ServesSession}
 use Rattle.request_submit.specs.declared.end.SubmitEnd.{SubmitEnd}
 use Rattle.request_submit.specs.Submitting.{Submits}
@@ -82,12 +83,13 @@ pub data AnswersSubmit {K : Type 0} (config : SubmitConfig) (tells : Tells) (tak
       tells.link base.told now.told base.link_faults now.link_faults end
       → Replies tells.tape taken old new status (submit_status end) (submit_text end) → AnswersSubmit config tells taken old new base now untouched status
 
--- where the status of a session is 0, these events were served, and these calls of the link made
+-- where the status of a session is 0, these events were served, and these calls of the link made, for these reasons
 pub record HasServed (session : Session) (tells : Tells) (base now : Outs) : Type 0 where
   pub events : List Event
+  pub deeds : List Deed
   pub acts : List LinkAct
   pub took : TookAll session.header session.plan tells base now events acts
-  pub true_of : IsTrueSession session.header (setting_of session.header) events acts
+  pub true_of : IsTrueSession session.header (setting_of session.header) events deeds acts
 
 -- ---- each job that reads a configuration
 

@@ -275,9 +275,10 @@ pub fn run<R: Net + Wait, S: Source, K: Sink, L: Link>(
         → AnswersPlan K.tells K.taken output.old output.new what result p }
 
     // Where a node or a cluster is served to 0, the output took the file of the events that were served, and the link was started once, with
-    // the configuration's plan. The frames that it was given are those that the replicas of the file's world make, in their order: those
-    // that `replay frames` prints of the file. Each position that was replied is that of the request in the log of its replica. And where
-    // the audit of the events holds, the replicas agree.
+    // the configuration's plan. The frames that it was given for the first time are those that the replicas of the file's world make, in
+    // their order: those that `replay frames` prints of the file. Each frame that it was given again had gone out before, and no
+    // acknowledgement of it came between the two; and only frames that came, opened and needn't come again were acknowledged. Each position
+    // that was replied is that of the request in the log of its replica. And where the audit of the events holds, the replicas agree.
     ensures node { job_of (map string_bytes words.now.items) ≡ Some Job.Node → S.tells ≡ true → (c : NodeConfig)
         → IsText node_column (node_text c) (S.left input.old) → length (S.left input.old) ≤ text_limit → result ≡ 0
         → HasServed (node_session c) (record { tape = K.tells; link = L.tells })
