@@ -1,3 +1,4 @@
 pub mod Order
 pub mod Pauses
 pub mod Apart
+pub mod Turns

@@ -2,9 +2,9 @@
 use Rattle.std.proofs.Common.{◌≡◌, ℕ, true, nat_eq, List, [], ◌∷◌, ◌++◌, map, drop, Some, refl, ap, arith}
 use Rattle.std.specs.List.{flat_map}
 use Rattle.std.proofs.lemmas.Bool.Decides.{nat_tests}
-use Rattle.tcp_link.specs.declared.whom.Down.{Down}
+use Rattle.tcp_link.specs.declared.news.News.{News}
 use Rattle.tcp_link.specs.declared.agenda.Next.TheVariants as next
-use Rattle.tcp_link.specs.Queues.{Queue, next_in, without, Given, IsDown, Piece, pieces_of, piece_of, all_given, came_but, after_frame, after_message, IsNoneOf, DownsFirst, FramesInOrder, MessagesInOrder}
+use Rattle.tcp_link.specs.Queues.{Queue, next_in, without, Given, IsTold, Piece, pieces_of, piece_of, all_given, came_but, after_frame, after_message, IsNoneOf, NewsFirst, FramesInOrder, MessagesInOrder}
 
 same_number : (t : ℕ) → nat_eq t t ≡ true
 same_number t = grind (arith, nat_tests)
@@ -22,17 +22,17 @@ others_one came t left (u ∷ us) none = rw (none.0, others_one came t left us n
 
 -- ---- over the lists of a queue
 
-abbrev queue : List Down → List ℕ → List ℕ → List ℕ → Queue
-queue downs frames due later = record { downs = downs; frames = frames; due = due; later = later }
+abbrev queue : List News → List ℕ → List ℕ → List ℕ → Queue
+queue news frames due later = record { news = news; frames = frames; due = due; later = later }
 
-down_lists : (came : ℕ → List (List ℕ)) (downs : List Down) (frames due later : List ℕ) (d : Down) → next_in downs frames due ≡ Some (next.Down d)
-    → all_given came (queue downs frames due later) ≡ IsDown d ∷ all_given came (without (queue downs frames due later) (next_in downs frames due))
-down_lists came (x ∷ downs) frames due later d is =
+news_lists : (came : ℕ → List (List ℕ)) (news : List News) (frames due later : List ℕ) (d : News) → next_in news frames due ≡ Some (next.Told d)
+    → all_given came (queue news frames due later) ≡ IsTold d ∷ all_given came (without (queue news frames due later) (next_in news frames due))
+news_lists came (x ∷ news) frames due later d is =
     let same : x ≡ d = cc in
     rw same refl
-down_lists came [] (t ∷ frames) due later d is = cc
-down_lists came [] [] (t ∷ due) later d is = cc
-down_lists came [] [] [] later d is = cc
+news_lists came [] (t ∷ frames) due later d is = cc
+news_lists came [] [] (t ∷ due) later d is = cc
+news_lists came [] [] [] later d is = cc
 
 -- the pieces of a connection that is the first again, or is on no list
 frames_left : (came : ℕ → List (List ℕ)) (frames due later : List ℕ) (t : ℕ) (pieces : List (List ℕ)) → IsNoneOf frames t → IsNoneOf due t
@@ -42,11 +42,11 @@ frames_left came frames due later t [] apart apart_due = rw (others_all came t [
 frames_left came frames due later t (p ∷ pieces) apart apart_due =
     rw (same_number t, others_all came t (p ∷ pieces) frames apart, others_one came t (p ∷ pieces) due apart_due) refl
 
-frame_lists : (came : ℕ → List (List ℕ)) (downs : List Down) (frames due later : List ℕ) (t : ℕ) (piece : List ℕ) (pieces : List (List ℕ))
-    → next_in downs frames due ≡ Some (next.Frame t) → came t ≡ piece ∷ pieces → IsNoneOf (drop 1 frames) t → IsNoneOf due t
-    → all_given came (queue downs frames due later)
-    ≡ Piece t piece ∷ all_given (came_but came t pieces) (after_frame (without (queue downs frames due later) (next_in downs frames due)) t pieces)
-frame_lists came (x ∷ downs) frames due later t piece pieces is here apart apart_due = cc
+frame_lists : (came : ℕ → List (List ℕ)) (news : List News) (frames due later : List ℕ) (t : ℕ) (piece : List ℕ) (pieces : List (List ℕ))
+    → next_in news frames due ≡ Some (next.Frame t) → came t ≡ piece ∷ pieces → IsNoneOf (drop 1 frames) t → IsNoneOf due t
+    → all_given came (queue news frames due later)
+    ≡ Piece t piece ∷ all_given (came_but came t pieces) (after_frame (without (queue news frames due later) (next_in news frames due)) t pieces)
+frame_lists came (x ∷ news) frames due later t piece pieces is here apart apart_due = cc
 frame_lists came [] (u ∷ frames) due later t piece pieces is here apart apart_due =
     let same : u ≡ t = cc in
     rw (same, here) (ap (λ (gs : List Given). Piece t piece ∷ gs) (frames_left came frames due later t pieces apart apart_due))
@@ -58,11 +58,11 @@ messages_left : (came : ℕ → List (List ℕ)) (due later : List ℕ) (t : ℕ
 messages_left came due later t [] apart = rw (others_one came t [] due apart) refl
 messages_left came due later t (p ∷ pieces) apart = rw (others_one came t (p ∷ pieces) due apart) refl
 
-message_lists : (came : ℕ → List (List ℕ)) (downs : List Down) (frames due later : List ℕ) (t : ℕ) (piece : List ℕ) (pieces : List (List ℕ))
-    → next_in downs frames due ≡ Some (next.Message t) → came t ≡ piece ∷ pieces → IsNoneOf (drop 1 due) t
-    → all_given came (queue downs frames due later)
-    ≡ Piece t piece ∷ all_given (came_but came t pieces) (after_message (without (queue downs frames due later) (next_in downs frames due)) t pieces)
-message_lists came (x ∷ downs) frames due later t piece pieces is here apart = cc
+message_lists : (came : ℕ → List (List ℕ)) (news : List News) (frames due later : List ℕ) (t : ℕ) (piece : List ℕ) (pieces : List (List ℕ))
+    → next_in news frames due ≡ Some (next.Message t) → came t ≡ piece ∷ pieces → IsNoneOf (drop 1 due) t
+    → all_given came (queue news frames due later)
+    ≡ Piece t piece ∷ all_given (came_but came t pieces) (after_message (without (queue news frames due later) (next_in news frames due)) t pieces)
+message_lists came (x ∷ news) frames due later t piece pieces is here apart = cc
 message_lists came [] (u ∷ frames) due later t piece pieces is here apart = cc
 message_lists came [] [] (u ∷ due) later t piece pieces is here apart =
     let same : u ≡ t = cc in
@@ -71,11 +71,11 @@ message_lists came [] [] [] later t piece pieces is here apart = cc
 
 -- ---- the laws
 
-pub downs_first : DownsFirst
-downs_first came q d is = down_lists came q.downs q.frames q.due q.later d is
+pub news_first : NewsFirst
+news_first came q d is = news_lists came q.news q.frames q.due q.later d is
 
 pub frames_in_order : FramesInOrder
-frames_in_order came q t piece pieces is here apart apart_due = frame_lists came q.downs q.frames q.due q.later t piece pieces is here apart apart_due
+frames_in_order came q t piece pieces is here apart apart_due = frame_lists came q.news q.frames q.due q.later t piece pieces is here apart apart_due
 
 pub messages_in_order : MessagesInOrder
-messages_in_order came q t piece pieces is here apart = message_lists came q.downs q.frames q.due q.later t piece pieces is here apart
+messages_in_order came q t piece pieces is here apart = message_lists came q.news q.frames q.due q.later t piece pieces is here apart

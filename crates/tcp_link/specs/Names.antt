@@ -1,12 +1,14 @@
--- Whom a connection is with: what a first byte is answered, which number a client gets, and of whom is told that he is down.
+-- Whom a connection is with: what a first byte is answered, which number a client gets, and what is told of peers and clients.
 use Rattle.std.specs.Prelude.{ℕ, ◌+◌, ◌<◌, Bool, true, false, ◌&&◌, nat_lt, nat_le, nat_eq, List, [], ◌∷◌, Option, Some, None, if◌then◌else◌}
 use Rattle.outside.specs.declared.link.LinkItem.{LinkItem}
 use Rattle.outside.specs.declared.link.LinkItem.TheVariants.{Frame, Client as Message, Reply}
+use Rattle.outside.specs.declared.link.LinkItem.TheVariants as items
 use Rattle.tcp_link.specs.declared.stage.Stage.{Stage}
-use Rattle.tcp_link.specs.declared.stage.Stage.TheVariants.{Begun, Up, Refused, Over, Replaced}
+use Rattle.tcp_link.specs.declared.stage.Stage.TheVariants.{Begun, Up, Half, Broken, Older, Refused, Over, Replaced}
 use Rattle.tcp_link.specs.declared.whom.Whom.{Whom}
 use Rattle.tcp_link.specs.declared.whom.Whom.TheVariants.{Unnamed, Peer, Client, Node}
-use Rattle.tcp_link.specs.declared.whom.Down.{Down}
+use Rattle.tcp_link.specs.declared.news.News.{News}
+use Rattle.tcp_link.specs.declared.news.News.TheVariants as news
 use Rattle.tcp_link.specs.declared.whom.Naming.{Naming}
 use Rattle.tcp_link.specs.declared.whom.Naming.TheVariants.{Waits, Names, Closes}
 use Rattle.tcp_link.specs.declared.entry.Entry.{Entry}
@@ -40,6 +42,16 @@ abbrev pub admits : Entry → ℕ → Bool
 admits (entries.Replicas at) numbered = true
 admits (entries.Clients at) numbered = nat_lt numbered most_clients
 
+-- at most so many clients are there at a time
+abbrev pub most_at_once : ℕ
+most_at_once = 768
+
+-- whether there is room for one that came in, where so many clients are there and all spare descriptors or not: a client takes none that
+-- a peer may need
+abbrev pub has_room : Entry → ℕ → Bool → Bool
+has_room (entries.Replicas at) there has_spares = true
+has_room (entries.Clients at) there has_spares = nat_lt there most_at_once && has_spares
+
 -- whom a connection is with that came in, where so many clients were numbered
 abbrev pub whom_at : Entry → ℕ → Whom
 whom_at (entries.Replicas at) numbered = Unnamed at
@@ -59,6 +71,13 @@ most_of (Peer at peer) = Some 16384
 most_of (Client at conn) = Some 65535
 most_of (Node from) = Some 65535
 
+-- with more kept bytes a connection takes no more: a client takes 128 KiB, and others 16 MiB
+abbrev pub most_kept : Whom → ℕ
+most_kept (Unnamed at) = 16777216
+most_kept (Peer at peer) = 16777216
+most_kept (Client at conn) = 131072
+most_kept (Node from) = 16777216
+
 -- the item that a piece is
 abbrev pub item_of : Whom → List ℕ → Option LinkItem
 item_of (Unnamed at) bytes = None
@@ -73,6 +92,20 @@ is_client (Peer at peer) = false
 is_client (Client at conn) = true
 is_client (Node from) = false
 
+-- it is with a node
+abbrev pub is_node : Whom → Bool
+is_node (Unnamed at) = false
+is_node (Peer at peer) = false
+is_node (Client at conn) = false
+is_node (Node from) = true
+
+-- it is with a peer
+abbrev pub is_peer : Whom → Bool
+is_peer (Unnamed at) = false
+is_peer (Peer at peer) = true
+is_peer (Client at conn) = false
+is_peer (Node from) = false
+
 -- it is a client's connection to this replica
 abbrev pub is_client_of : ℕ → Whom → Bool
 is_client_of own (Unnamed at) = false
@@ -84,18 +117,42 @@ is_client_of own (Node from) = false
 abbrev pub sent_through : Bool → ℕ → ℕ → Option ℕ
 sent_through is_client_link at length = if is_client_link then Some 0 else if nat_le length 16384 then Some at else None
 
--- ---- down
+-- ---- news
 
--- what a closed connection tells: of a peer, that it is down, if the connection stood and none is in its place; of a node always
-abbrev pub down_of : Stage → Whom → Option Down
-down_of stage (Unnamed at) = None
-down_of stage (Client at conn) = None
-down_of stage (Node from) = Some (record { at = 0; peer = from })
-down_of Over (Peer at peer) = Some (record { at = at; peer = peer })
-down_of Begun (Peer at peer) = None
-down_of Up (Peer at peer) = None
-down_of Refused (Peer at peer) = None
-down_of Replaced (Peer at peer) = None
+-- the item that tells it
+abbrev pub item_told : News → LinkItem
+item_told (news.Up at peer) = items.Up at peer
+item_told (news.Down at peer) = items.Down at peer
+item_told (news.Left at conn) = items.Left at conn
+
+-- what is told of a connection that came to a stage, by being made or by its number: of a peer, that it is up
+abbrev pub up_of : Stage → Whom → Option News
+up_of stage (Unnamed at) = None
+up_of stage (Client at conn) = None
+up_of stage (Node from) = None
+up_of Up (Peer at peer) = Some (news.Up at peer)
+up_of Begun (Peer at peer) = None
+up_of Half (Peer at peer) = None
+up_of Broken (Peer at peer) = None
+up_of Older (Peer at peer) = None
+up_of Refused (Peer at peer) = None
+up_of Over (Peer at peer) = None
+up_of Replaced (Peer at peer) = None
+
+-- what is told of a closed connection: of a peer, that it is down, if the connection stood and none is in its place; of a node always;
+-- of a client, that it left, if something of it was given
+abbrev pub told_at_end : Stage → Bool → Whom → Option News
+told_at_end stage has_given (Unnamed at) = None
+told_at_end stage has_given (Client at conn) = if has_given then Some (news.Left at conn) else None
+told_at_end stage has_given (Node from) = Some (news.Down 0 from)
+told_at_end Over has_given (Peer at peer) = Some (news.Down at peer)
+told_at_end Begun has_given (Peer at peer) = None
+told_at_end Up has_given (Peer at peer) = None
+told_at_end Half has_given (Peer at peer) = None
+told_at_end Broken has_given (Peer at peer) = None
+told_at_end Older has_given (Peer at peer) = None
+told_at_end Refused has_given (Peer at peer) = None
+told_at_end Replaced has_given (Peer at peer) = None
 
 -- the dial that comes again for a closed connection: a client connects once
 abbrev pub dial_again : Bool → Option ℕ → Option ℕ

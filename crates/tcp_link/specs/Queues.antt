@@ -1,46 +1,46 @@
 -- The order in which a link gives what came. A connection is named by its token, and is at most once among those with pieces.
 use Rattle.std.specs.Prelude.{◌≡◌, ℕ, false, nat_eq, List, [], ◌∷◌, ◌++◌, map, take, drop, Option, Some, None, if◌then◌else◌}
 use Rattle.std.specs.List.{flat_map}
-use Rattle.tcp_link.specs.declared.whom.Down.{Down}
+use Rattle.tcp_link.specs.declared.news.News.{News}
 use Rattle.tcp_link.specs.declared.agenda.Next.{Next}
 use Rattle.tcp_link.specs.declared.agenda.Next.TheVariants as next
 
--- who is down; the connections of peers and nodes with pieces; those of clients from which one piece is given in this turn; and
+-- news of peers, nodes and clients; the connections of peers and nodes with pieces; those of clients from which one piece is given in this turn; and
 -- those whose turn comes later
 pub record Queue : Type 0 where
-  pub downs : List Down
+  pub news : List News
   pub frames : List ℕ
   pub due : List ℕ
   pub later : List ℕ
 
 abbrev pub nothing : Queue
-nothing = record { downs = []; frames = []; due = []; later = [] }
+nothing = record { news = []; frames = []; due = []; later = [] }
 
--- ---- what comes next: who is down, then frames, then the messages of this turn
+-- ---- what comes next: news, then frames, then the messages of this turn
 
-abbrev pub next_in : List Down → List ℕ → List ℕ → Option Next
-next_in (d ∷ downs) frames due = Some (next.Down d)
+abbrev pub next_in : List News → List ℕ → List ℕ → Option Next
+next_in (one ∷ news) frames due = Some (next.Told one)
 next_in [] (t ∷ frames) due = Some (next.Frame t)
 next_in [] [] (t ∷ due) = Some (next.Message t)
 next_in [] [] [] = None
 
 abbrev pub next_of : Queue → Option Next
-next_of q = next_in q.downs q.frames q.due
+next_of q = next_in q.news q.frames q.due
 
 abbrev pub without : Queue → Option Next → Queue
-without q (Some (next.Down d)) = record q { downs = drop 1 q.downs }
+without q (Some (next.Told one)) = record q { news = drop 1 q.news }
 without q (Some (next.Frame t)) = record q { frames = drop 1 q.frames }
 without q (Some (next.Message t)) = record q { due = drop 1 q.due }
 without q None = q
 
 -- ---- what is put where
 
-abbrev pub with_down : Queue → Down → Queue
-with_down q d = record q { downs = q.downs ++ d ∷ [] }
+abbrev pub with_news : Queue → News → Queue
+with_news q one = record q { news = q.news ++ one ∷ [] }
 
-abbrev pub with_told : Queue → Option Down → Queue
+abbrev pub with_told : Queue → Option News → Queue
 with_told q None = q
-with_told q (Some d) = with_down q d
+with_told q (Some one) = with_news q one
 
 -- a connection of a peer or a node that has pieces is the last of them
 abbrev pub with_frame : Queue → ℕ → Queue
@@ -54,15 +54,18 @@ with_frame_first q t = record q { frames = t ∷ q.frames }
 abbrev pub with_message : Queue → ℕ → Queue
 with_message q t = record q { later = q.later ++ t ∷ [] }
 
--- a turn begins: each client that has a piece gives one
+-- a turn begins: the first 16 clients of those that have a piece give one each, and the others wait for a later turn
+abbrev pub most_messages : ℕ
+most_messages = 16
+
 abbrev pub in_turn : Queue → Queue
-in_turn q = record q { due = q.due ++ q.later; later = [] }
+in_turn q = record q { due = take most_messages (q.due ++ q.later); later = drop most_messages (q.due ++ q.later) }
 
 -- ---- the whole order, where it is known which pieces came by each connection
 
--- what is given: that a peer is down, or a piece of a connection
+-- what is given: news, or a piece of a connection
 pub data Given : Type 0 where
-  IsDown : Down → Given
+  IsTold : News → Given
   Piece : ℕ → List ℕ → Given
 
 -- all pieces of a connection
@@ -73,9 +76,9 @@ pieces_of came t = map (Piece t) (came t)
 abbrev pub piece_of : (ℕ → List (List ℕ)) → ℕ → List Given
 piece_of came t = take 1 (pieces_of came t)
 
--- what is given before the next turn: all who are down, all frames connection by connection, and one message of each client
+-- what is given before the next turn: all news, all frames connection by connection, and one message of each client
 abbrev pub all_given : (ℕ → List (List ℕ)) → Queue → List Given
-all_given came q = map IsDown q.downs ++ (flat_map (pieces_of came) q.frames ++ flat_map (piece_of came) q.due)
+all_given came q = map IsTold q.news ++ (flat_map (pieces_of came) q.frames ++ flat_map (piece_of came) q.due)
 
 -- the pieces that are left, where these are of one connection
 abbrev pub came_but : (ℕ → List (List ℕ)) → ℕ → List (List ℕ) → ℕ → List (List ℕ)
@@ -96,10 +99,10 @@ abbrev pub IsNoneOf : List ℕ → ℕ → Type 0
 IsNoneOf [] t = Unit {0}
 IsNoneOf (u ∷ us) t = (nat_eq u t ≡ false) × IsNoneOf us t
 
--- who is down comes first
-abbrev pub DownsFirst : Type 0
-DownsFirst = (came : ℕ → List (List ℕ)) (q : Queue) (d : Down) → next_of q ≡ Some (next.Down d)
-    → all_given came q ≡ IsDown d ∷ all_given came (without q (next_of q))
+-- news comes first
+abbrev pub NewsFirst : Type 0
+NewsFirst = (came : ℕ → List (List ℕ)) (q : Queue) (one : News) → next_of q ≡ Some (next.Told one)
+    → all_given came q ≡ IsTold one ∷ all_given came (without q (next_of q))
 
 -- a frame that comes next is the first of all that is given, and then the rest is, in the same order
 abbrev pub FramesInOrder : Type 0

@@ -1,18 +1,24 @@
 -- Worked rows, each of which fails where a definition is turned.
 use Rattle.std.specs.Prelude.{◌≡◌, true, false, [], ◌∷◌, replicate, Some, None, refl}
-use Rattle.tcp_link.specs.Names.{naming, admits, whom_at, numbered_after, most_of, sent_through, down_of, dial_again, told_first}
+use Rattle.std.specs.Fn.{iterate}
+use Rattle.tcp_link.specs.Names.{naming, admits, has_room, item_of, whom_at, numbered_after, most_of, most_kept, sent_through, up_of, told_at_end, dial_again, told_first}
 use Rattle.tcp_link.specs.Outcomes.{moved_at, reads_on, change_seen, nobody_at}
-use Rattle.tcp_link.specs.Queues.{Queue, next_of, without, with_frame, with_frame_first, with_message, in_turn}
-use Rattle.tcp_link.specs.Stages.{first_stage, stage_after, is_up, is_over}
-use Rattle.tcp_link.specs.Tokens.{token_of, serial_after, place_of, ends_of_all, count_of}
-use Rattle.tcp_link.specs.Waits.{first_clock, after_waits, due_at}
+use Rattle.tcp_link.specs.Queues.{Queue, nothing, next_of, without, with_frame, with_frame_first, with_message, in_turn}
+use Rattle.tcp_link.specs.Stages.{first_stage, stage_after, is_read, is_written}
+use Rattle.tcp_link.specs.Tokens.{token_of, serial_after, place_of, ends_of_all, spares_for, count_of}
+use Rattle.tcp_link.specs.Waits.{first_clock, after_waits, after_work, due_at, look_at}
+use Rattle.tcp_link.specs.Sides.{most_looks, looked, kept, read}
+use Rattle.outside.specs.declared.link.LinkItem.TheVariants.{Frame}
 use Rattle.std.specs.declared.io.ErrorKind.TheVariants.{WouldBlock, Interrupted, ConnectionAborted, ConnectionReset}
 use Rattle.tcp_link.specs.declared.agenda.Next.TheVariants as next
 use Rattle.tcp_link.specs.declared.entry.Entry.TheVariants.{Replicas, Clients}
+use Rattle.tcp_link.specs.declared.news.News.TheVariants as news
 use Rattle.tcp_link.specs.declared.outcome.Moved.TheVariants as moved
 use Rattle.tcp_link.specs.declared.outcome.Nobody.TheVariants as nobody
-use Rattle.tcp_link.specs.declared.stage.Change.TheVariants.{Stands, Ends, IsReplaced}
-use Rattle.tcp_link.specs.declared.stage.Stage.TheVariants.{Up, Refused, Over, Replaced}
+use Rattle.tcp_link.specs.declared.side.Listed.{Listed}
+use Rattle.tcp_link.specs.declared.side.Side.{Side}
+use Rattle.tcp_link.specs.declared.stage.Change.TheVariants.{Stands, Closes, Breaks, Ends, IsReplaced}
+use Rattle.tcp_link.specs.declared.stage.Stage.TheVariants.{Up, Older, Refused, Over, Replaced}
 use Rattle.tcp_link.specs.declared.whom.Naming.TheVariants.{Waits, Names, Closes}
 use Rattle.tcp_link.specs.declared.whom.Whom.TheVariants.{Unnamed, Peer, Client, Node}
 
@@ -32,15 +38,44 @@ came_in = refl
 too_late : stage_after Refused Stands ≡ Refused
 too_late = refl
 
--- one that a newer one replaced doesn't stand, also where it had ended
-replaced_is_down : is_up (stage_after Up IsReplaced) ≡ false
-replaced_is_down = refl
+-- one that a newer one replaced is read to its end, takes no bytes, and tells nothing at its end
+older_is_read : is_read (stage_after Up IsReplaced) ≡ true
+older_is_read = refl
 
-replaced_is_over : is_over (stage_after Up IsReplaced) ≡ true
-replaced_is_over = refl
+older_is_not_written : is_written (stage_after Up IsReplaced) ≡ false
+older_is_not_written = refl
+
+older_ends : stage_after (stage_after Up IsReplaced) Ends ≡ Replaced
+older_ends = refl
 
 ended_is_replaced : stage_after (stage_after Up Ends) IsReplaced ≡ Replaced
 ended_is_replaced = refl
+
+-- after a write that failed it is read, and then it is over
+broken_is_read : is_read (stage_after Up Breaks) ≡ true
+broken_is_read = refl
+
+broken_is_not_written : is_written (stage_after Up Breaks) ≡ false
+broken_is_not_written = refl
+
+broken_ends : stage_after (stage_after Up Breaks) Ends ≡ Over
+broken_ends = refl
+
+broken_is_replaced : stage_after (stage_after Up Breaks) IsReplaced ≡ Older
+broken_is_replaced = refl
+
+-- one that sends no more takes bytes, and is over once it takes none
+half_is_written : is_written (stage_after Up Closes) ≡ true
+half_is_written = refl
+
+half_is_not_read : is_read (stage_after Up Closes) ≡ false
+half_is_not_read = refl
+
+half_breaks : stage_after (stage_after Up Closes) Breaks ≡ Over
+half_breaks = refl
+
+broken_closes : stage_after (stage_after Up Breaks) Closes ≡ Over
+broken_closes = refl
 
 -- ---- the first byte, at replica 1 of 4
 
@@ -110,24 +145,43 @@ most_of_a_peer = refl
 most_of_a_client : most_of (Client 0 1) ≡ Some 65535
 most_of_a_client = refl
 
--- ---- who is down, and which dial comes again
+kept_of_a_peer : most_kept (Peer 0 1) ≡ 16777216
+kept_of_a_peer = refl
 
-peer_down : down_of Over (Peer 1 2) ≡ Some (record { at = 1; peer = 2 })
+kept_of_a_client : most_kept (Client 0 1) ≡ 131072
+kept_of_a_client = refl
+
+-- ---- what is told, and which dial comes again
+
+peer_up : up_of Up (Peer 1 2) ≡ Some (news.Up 1 2)
+peer_up = refl
+
+peer_not_yet : up_of (first_stage true) (Peer 1 2) ≡ None
+peer_not_yet = refl
+
+node_up : up_of Up (Node 2) ≡ None
+node_up = refl
+
+peer_down : told_at_end Over true (Peer 1 2) ≡ Some (news.Down 1 2)
 peer_down = refl
 
-peer_replaced : down_of Replaced (Peer 1 2) ≡ None
+peer_replaced : told_at_end Replaced true (Peer 1 2) ≡ None
 peer_replaced = refl
 
-peer_never_there : down_of Refused (Peer 1 2) ≡ None
+peer_never_there : told_at_end Refused false (Peer 1 2) ≡ None
 peer_never_there = refl
 
-node_never_there : down_of Refused (Node 2) ≡ Some (record { at = 0; peer = 2 })
+node_never_there : told_at_end Refused false (Node 2) ≡ Some (news.Down 0 2)
 node_never_there = refl
 
-client_gone : down_of Over (Client 1 7) ≡ None
+client_gone : told_at_end Over true (Client 1 7) ≡ Some (news.Left 1 7)
 client_gone = refl
 
-stranger_gone : down_of Over (Unnamed 1) ≡ None
+-- one of which nothing was given is nobody's who waits
+client_said_nothing : told_at_end Over false (Client 1 7) ≡ None
+client_said_nothing = refl
+
+stranger_gone : told_at_end Over false (Unnamed 1) ≡ None
 stranger_gone = refl
 
 again : dial_again false (Some 3) ≡ Some 3
@@ -144,7 +198,7 @@ not_ready = refl
 was_interrupted : moved_at Interrupted ≡ moved.Again
 was_interrupted = refl
 
-was_reset : moved_at ConnectionReset ≡ moved.Ended
+was_reset : moved_at ConnectionReset ≡ moved.Failed
 was_reset = refl
 
 filled : reads_on 2048 false (moved.Bytes 2048) ≡ true
@@ -188,10 +242,104 @@ after_eight = refl
 after_an_event : after_waits first_clock (true ∷ true ∷ false ∷ []) ≡ record { counted_micros = 3050; wait_millis = 1 }
 after_an_event = refl
 
+-- what is done counts as an event does, and makes no wait short
+after_one_thing : after_work (record { counted_micros = 95000; wait_millis = 32 }) ≡ record { counted_micros = 95050; wait_millis = 32 }
+after_one_thing = refl
+
+look_at_first : look_at first_clock ≡ 5000000
+look_at_first = refl
+
+-- ---- looks
+
+unnamed_at_first_look : most_looks Up (Unnamed 1) ≡ Some 1
+unnamed_at_first_look = refl
+
+dial_at_first_look : most_looks (first_stage true) (Peer 1 0) ≡ Some 1
+dial_at_first_look = refl
+
+silent_peer : most_looks Up (Peer 1 2) ≡ Some 12
+silent_peer = refl
+
+half_a_minute : most_looks (stage_after Up Closes) (Client 0 1) ≡ Some 6
+half_a_minute = refl
+
+client_may_be_silent : most_looks Up (Client 0 1) ≡ None
+client_may_be_silent = refl
+
+-- a connection that came in to replica 1, with peer 2
+abbrev new_peer : Side
+new_peer = record {
+  whom = Peer 1 2;
+  stage = Up;
+  dial = None;
+  is_hung_up = false;
+  has_given = false;
+  is_blocked = false;
+  behind = None;
+  newer = None;
+  owed = 0;
+  is_unread = false;
+  looks = 0;
+  has_come = false;
+  has_sent = false;
+  ticks = 0;
+  idle = 0;
+  listed = record { reads = false; writes = false; gives = false; drains = false; looks = true };
+  input = [];
+  output = [];
+}
+
+-- one that says nothing and isn't sent anything stays as it is, however often it is looked at
+not_asked : iterate looked 100 new_peer ≡ new_peer
+not_asked = refl
+
+-- one that is sent something and says nothing ends at the 12th look from then on, also where nothing more is sent
+asked_for_55_seconds : (iterate looked 11 (kept (iterate looked 30 new_peer) (7 ∷ []))).stage ≡ Up
+asked_for_55_seconds = refl
+
+asked_for_a_minute : (iterate looked 12 (kept (iterate looked 30 new_peer) (7 ∷ []))).stage ≡ Over
+asked_for_a_minute = refl
+
+-- what comes begins the count anew, and then no answer is due
+answered : (looked (read (iterate looked 11 (kept new_peer (7 ∷ []))) (moved.Bytes 1) (9 ∷ []))).looks ≡ 0
+answered = refl
+
+answered_at_last : (iterate looked 100 (read (iterate looked 11 (kept new_peer (7 ∷ []))) (moved.Bytes 1) (9 ∷ []))).stage ≡ Up
+answered_at_last = refl
+
+-- one that told no number ends at the first look
+stranger_ends : (looked (record new_peer { whom = Unnamed 1 })).stage ≡ Over
+stranger_ends = refl
+
+-- ---- who has room
+
+last_place : has_room (Clients 0) 767 true ≡ true
+last_place = refl
+
+no_place : has_room (Clients 0) 768 true ≡ false
+no_place = refl
+
+no_spares : has_room (Clients 0) 0 false ≡ false
+no_spares = refl
+
+peers_have_room : has_room (Replicas 0) 768 false ≡ true
+peers_have_room = refl
+
+spares_of_four : spares_for 4 ≡ 16
+spares_of_four = refl
+
+-- ---- pieces between replicas
+
+empty_frame : item_of (Peer 0 1) [] ≡ Some (Frame 0 [])
+empty_frame = refl
+
+frame_of_a_byte : item_of (Peer 0 1) (7 ∷ []) ≡ Some (Frame 0 (7 ∷ []))
+frame_of_a_byte = refl
+
 -- ---- what is given
 
 abbrev both : Queue
-both = record { downs = []; frames = 5 ∷ 6 ∷ []; due = 7 ∷ []; later = 8 ∷ [] }
+both = record { news = []; frames = 5 ∷ 6 ∷ []; due = 7 ∷ []; later = 8 ∷ [] }
 
 frames_first : next_of both ≡ Some (next.Frame 5)
 frames_first = refl
@@ -205,8 +353,15 @@ newer_is_last = refl
 client_waits : (with_message both 9).later ≡ 8 ∷ 9 ∷ []
 client_waits = refl
 
-next_turn : in_turn both ≡ record { downs = []; frames = 5 ∷ 6 ∷ []; due = 7 ∷ 8 ∷ []; later = [] }
+next_turn : in_turn both ≡ record { news = []; frames = 5 ∷ 6 ∷ []; due = 7 ∷ 8 ∷ []; later = [] }
 next_turn = refl
+
+-- of 20 clients 16 give in one turn
+many : (in_turn (record nothing { later = replicate 20 3 })).due ≡ replicate 16 3
+many = refl
+
+left_for_later : (in_turn (record nothing { later = replicate 20 3 })).later ≡ replicate 4 3
+left_for_later = refl
 
 -- ---- numbers
 

@@ -1,20 +1,24 @@
 -- What is known of a connection without its stream, and what becomes of it.
-use Rattle.std.specs.Prelude.{◌≡◌, ◌⊎◌, ℕ, ◌+◌, ◌≤◌, Bool, true, false, not, ◌&&◌, ◌||◌, nat_lt, nat_le, List, ◌++◌, length, take, drop, Option, Some, None, if◌then◌else◌}
+use Rattle.std.specs.Prelude.{◌≡◌, ◌⊎◌, ℕ, ◌+◌, ◌-◌, ◌≤◌, nat_eq, is_none, is_some, Bool, true, false, not, ◌&&◌, ◌||◌, nat_lt, nat_le, List, [], ◌++◌, length, take, drop, Option, Some, None, if◌then◌else◌}
 use Rattle.outside.specs.declared.link.LinkItem.{LinkItem}
 use Rattle.tcp_link.specs.Queues.{Queue, with_frame, with_frame_first, with_message}
 use Rattle.tcp_link.specs.Pieces.{piece, length_told, IsFront}
-use Rattle.tcp_link.specs.Stages.{stage_after, is_up, is_begun, is_over}
-use Rattle.tcp_link.specs.Names.{most_of, item_of, is_client}
+use Rattle.tcp_link.specs.Stages.{stage_after, is_up, is_begun, is_half, is_draining, is_read, is_written, is_over}
+use Rattle.tcp_link.specs.Names.{most_of, most_kept, item_of, is_client, is_node, is_peer}
+use Rattle.tcp_link.specs.Waits.{capped_64}
 use Rattle.tcp_link.specs.Outcomes.{may_write}
 use Rattle.tcp_link.specs.declared.pieces.Front.{Front}
 use Rattle.tcp_link.specs.declared.pieces.Front.TheVariants as front
+use Rattle.tcp_link.specs.declared.stage.Stage.{Stage}
+use Rattle.tcp_link.specs.declared.stage.Stage.TheVariants.{Begun, Up, Half, Broken, Older, Refused, Over, Replaced}
 use Rattle.tcp_link.specs.declared.stage.Change.{Change}
-use Rattle.tcp_link.specs.declared.stage.Change.TheVariants.{Ends}
-use Rattle.tcp_link.specs.declared.whom.Whom.TheVariants.{Peer}
+use Rattle.tcp_link.specs.declared.whom.Whom.{Whom}
+use Rattle.tcp_link.specs.declared.stage.Change.TheVariants.{Closes, Breaks, Ends}
+use Rattle.tcp_link.specs.declared.whom.Whom.TheVariants.{Unnamed, Peer, Client, Node}
 use Rattle.tcp_link.specs.declared.whom.Naming.{Naming}
 use Rattle.tcp_link.specs.declared.whom.Naming.TheVariants.{Waits, Names, Closes}
 use Rattle.tcp_link.specs.declared.outcome.Moved.{Moved}
-use Rattle.tcp_link.specs.declared.outcome.Moved.TheVariants.{Bytes, Later, Again, Ended}
+use Rattle.tcp_link.specs.declared.outcome.Moved.TheVariants.{Bytes, Later, Again, Closed, Failed}
 use Rattle.tcp_link.specs.declared.outcome.Seen.{Seen}
 use Rattle.tcp_link.specs.declared.side.Side.{Side}
 use Rattle.tcp_link.specs.declared.side.Gives.{Gives}
@@ -29,38 +33,112 @@ changed s change = record s { stage = stage_after s.stage change }
 abbrev pub ended : Side → Side
 ended s = changed s Ends
 
--- it is over, and no piece is to be given from it
+-- no byte goes out any more
+abbrev pub broken : Side → Side
+broken s = changed s Breaks
+
+-- a client that sends no more was replied all that it asked, as far as is known, and took it
+abbrev pub is_replied : Side → Bool
+is_replied s = is_half s.stage && nat_eq s.owed 0 && nat_eq (length s.output) 0
+
+-- it is over or was replied all, and no piece is to be given from it
 abbrev pub is_done : Side → Bool
-is_done s = is_over s.stage && not s.listed.gives
+is_done s = (is_over s.stage || is_replied s) && not s.listed.gives
+
+-- one that takes no bytes is read to its end: what was to go out is let go of, and the time is counted from then on
+abbrev pub is_drain_due : Side → Bool
+is_drain_due s = is_draining s.stage && not s.listed.drains
+
+abbrev pub draining : Side → Side
+draining s = if is_drain_due s then record s { listed = record s.listed { drains = true }; output = []; ticks = 0; idle = 0 } else s
+
+-- after a tenth of a second more it ends, if nothing came for a second, or if it was read for five; one that waits for an older one
+-- isn't read, and isn't counted
+abbrev pub ticked : Side → Side
+ticked s =
+    if is_some s.behind then s
+    else if nat_le 9 s.idle || nat_le 49 s.ticks then ended s
+    else record s { ticks = s.ticks + 1; idle = s.idle + 1 }
+
+-- ---- looks, every five seconds
+
+-- after how many looks in a row, between which nothing came, a connection ends: a peer is called again at the first, a node is given up
+-- after 30 seconds, one that told no number is closed at the first, a client that sends no more after 30 seconds, and a peer that doesn't
+-- answer after 60; others aren't looked at
+abbrev pub looks_of_begun : Whom → ℕ
+looks_of_begun (Unnamed at) = 1
+looks_of_begun (Peer at peer) = 1
+looks_of_begun (Client at conn) = 1
+looks_of_begun (Node from) = 6
+
+abbrev pub looks_of_up : Whom → Option ℕ
+looks_of_up (Unnamed at) = Some 1
+looks_of_up (Peer at peer) = Some 12
+looks_of_up (Client at conn) = None
+looks_of_up (Node from) = None
+
+abbrev pub most_looks : Stage → Whom → Option ℕ
+most_looks Begun whom = Some (looks_of_begun whom)
+most_looks Up whom = looks_of_up whom
+most_looks Half whom = Some 6
+most_looks Broken whom = None
+most_looks Older whom = None
+most_looks Refused whom = None
+most_looks Over whom = None
+most_looks Replaced whom = None
+
+-- a peer's connection that stands, to which nothing was sent since the last look, and of which no look was counted yet: no answer is due
+abbrev pub is_at_rest : Side → Bool
+is_at_rest s = is_up s.stage && is_peer s.whom && not s.has_sent && nat_eq s.looks 0
+
+-- so many looks were in a row without anything that came: those of a peer are counted from the first before which something was sent to it
+abbrev pub quiet_looks : Side → ℕ
+quiet_looks s = if s.has_come || is_at_rest s then 0 else s.looks + 1
+
+abbrev pub looked_at : Side → Option ℕ → Side
+looked_at s None = record s { listed = record s.listed { looks = false } }
+looked_at s (Some most) =
+    if nat_le most (quiet_looks s) then ended (record s { listed = record s.listed { looks = false } })
+    else record s { looks = quiet_looks s; has_come = false; has_sent = false }
+
+-- after a look
+abbrev pub looked : Side → Side
+looked s = looked_at s (most_looks s.stage s.whom)
 
 -- ---- bytes that go out
 
--- it stands, and takes bytes as far as is known
+-- it takes bytes as far as is known
 abbrev pub is_ready : Side → Bool
-is_ready s = is_up s.stage && not s.is_blocked
+is_ready s = is_written s.stage && not s.is_blocked
 
--- a piece is kept behind what is kept
+-- a piece may be kept for it: it takes bytes, or is with a node and yet to stand. What is for a peer whose connection is being made is
+-- dropped
+abbrev pub takes : Side → Bool
+takes s = is_written s.stage || (is_begun s.stage && is_node s.whom)
+
+-- a piece is kept behind what is kept, and is one reply less that is owed
 abbrev pub kept : Side → List ℕ → Side
-kept s bytes = record s { output = s.output ++ piece bytes }
+kept s bytes = record s { output = s.output ++ piece bytes; owed = s.owed - 1; has_sent = true }
 
 -- with 65,536 kept bytes they are written at once, if they are taken
 abbrev pub has_much : Side → Bool
 has_much s = is_ready s && nat_le 65536 (length s.output)
 
--- with more than 16,777,216 kept bytes it ends
+-- with more kept bytes than may be it takes no more
 abbrev pub capped : Side → Side
-capped s = if nat_lt 16777216 (length s.output) then ended s else s
+capped s = if nat_lt (most_kept s.whom) (length s.output) then broken s else s
 
--- it has no more kept bytes than may be, or is over
+-- it has no more kept bytes than may be, or takes none
 abbrev pub IsCapped : Side → Type 0
-IsCapped s = (length s.output ≤ 16777216) ⊎ (is_over s.stage ≡ true)
+IsCapped s = (length s.output ≤ most_kept s.whom) ⊎ (takes s ≡ false)
 
--- after a write: what went out is kept no more
+-- after a write: what went out is kept no more, and after one that failed no byte goes out any more
 abbrev pub written : Side → Moved → Side
 written s (Bytes n) = record s { output = drop n s.output }
 written s Later = record s { is_blocked = true }
 written s Again = s
-written s Ended = ended s
+written s Closed = broken s
+written s Failed = broken s
 
 -- ---- bytes that come
 
@@ -68,12 +146,24 @@ written s Ended = ended s
 abbrev pub is_fed : Side → Bool
 is_fed s = nat_le 65537 (length s.input)
 
+-- more is read of one that was fed, once it isn't any more
+abbrev pub is_read_due : Side → Bool
+is_read_due s = s.is_unread && not (is_fed s)
+
+abbrev pub unread_taken : Side → Side
+unread_taken s = record s { is_unread = s.is_unread && is_fed s }
+
+-- the other side sends no more: a client is still replied
+abbrev pub closed : Side → Side
+closed s = changed s (if is_client s.whom then Closes else Ends)
+
 -- after a read: what came stands behind what had come
 abbrev pub read : Side → Moved → List ℕ → Side
-read s (Bytes n) buffer = record s { input = s.input ++ take n buffer }
+read s (Bytes n) buffer = record s { input = s.input ++ take n buffer; idle = 0; has_come = true }
 read s Later buffer = s
 read s Again buffer = s
-read s Ended buffer = ended s
+read s Closed buffer = closed s
+read s Failed buffer = ended s
 
 -- the first byte is taken where it is asked for
 abbrev pub named : Side → Naming → Side
@@ -104,10 +194,11 @@ is_whole s = is_whole_at (most_of s.whom) s.input
 abbrev pub is_too_long : Side → Bool
 is_too_long s = is_too_long_at (most_of s.whom) s.input
 
--- what it has to give
+-- what it has to give: nothing while an older connection of the same peer is read to its end
 abbrev pub gives_of : Side → Gives
 gives_of s =
-    if is_whole s then (if is_client s.whom then gives.Message else gives.Frame)
+    if is_some s.behind then gives.Nothing
+    else if is_whole s then (if is_client s.whom then gives.Message else gives.Frame)
     else if is_too_long s then gives.TooLong else gives.Nothing
 
 -- the bytes of the piece at the front, and what follows it
@@ -117,18 +208,26 @@ front_piece bytes = take (length_told bytes) (drop 2 bytes)
 abbrev pub behind_piece : List ℕ → List ℕ
 behind_piece bytes = drop (2 + length_told bytes) bytes
 
--- the item that is taken, and what stays
+-- the item that is taken, and what stays; it is noted that something was given, and that one reply more is owed
 abbrev pub item_taken : Side → Option LinkItem
 item_taken s = if is_whole s then item_of s.whom (front_piece s.input) else None
 
 abbrev pub taken : Side → Side
-taken s = if is_whole s then record s { input = behind_piece s.input } else s
+taken s = if is_whole s then record s { input = behind_piece s.input; has_given = true; owed = capped_64 (s.owed + 1) } else s
 
 -- ---- events
 
--- after an event
+-- after an event: a client that sent no more is gone where nothing can go out any more
 abbrev pub noted : Side → Seen → Side
-noted s e = record s { is_hung_up = s.is_hung_up || e.is_closed; is_blocked = s.is_blocked && not (may_write e) }
+noted s e = record s {
+  is_hung_up = s.is_hung_up || e.is_closed;
+  is_blocked = s.is_blocked && not (may_write e);
+  stage = if is_half s.stage && e.is_broken then stage_after s.stage Ends else s.stage;
+}
+
+-- it is read: it isn't where an older connection of the same peer is read to its end
+abbrev pub is_reading : Side → Bool
+is_reading s = is_read s.stage && is_none s.behind
 
 -- whether it is to be written to after an event: it waits to stand, or has bytes to go out
 abbrev pub is_write_due : Side → Seen → Bool

@@ -40,6 +40,10 @@ PairLaw = (at peer at' peer' place : ℕ) → place_of at peer ≡ Some place �
 abbrev pub ends_of_all : ℕ → ℕ
 ends_of_all n = n * (n - 1)
 
+-- so many descriptors are held for peers: two for each other replica, and eight for those that told no number yet
+abbrev pub spares_for : ℕ → ℕ
+spares_for n = 2 * n + 8
+
 -- the replicas of a list of addresses: at most 31
 abbrev pub count_of : ℕ → ℕ
 count_of length = min length 31

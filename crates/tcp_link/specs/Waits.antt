@@ -1,5 +1,5 @@
 -- The time that passes, as it is counted by waits, and what is due by then. Times are in microseconds, and waits in milliseconds.
-use Rattle.std.specs.Prelude.{ℕ, ◌+◌, ◌*◌, ◌^◌, ◌-◌, ◌<◌, ◌≤◌, Bool, min, nat_le, List, [], ◌∷◌, length, Option, Some, None, if◌then◌else◌}
+use Rattle.std.specs.Prelude.{ℕ, ◌+◌, ◌*◌, ◌^◌, ◌-◌, ◌<◌, ◌≤◌, Bool, min, nat_le, List, [], ◌∷◌, length, Option, Some, None, is_some, if◌then◌else◌}
 use Rattle.tcp_link.specs.declared.clock.Clock.{Clock}
 use Rattle.tcp_link.specs.declared.retries.Retry.{Retry}
 use Rattle.tcp_link.specs.declared.retries.Retry.TheVariants.{Dial}
@@ -8,6 +8,10 @@ use Rattle.tcp_link.specs.declared.retries.Waiting.{Waiting}
 -- a number of 64 bits: a greater one is the greatest
 abbrev pub capped_64 : ℕ → ℕ
 capped_64 n = min n (2 ^ 64 - 1)
+
+-- what a link does counts 50 microseconds: one read, one connection that came in, one piece that is given
+abbrev pub after_work : Clock → Clock
+after_work c = record c { counted_micros = capped_64 (c.counted_micros + 50) }
 
 -- nothing was counted yet, and the first wait has one millisecond
 abbrev pub first_clock : Clock
@@ -29,6 +33,10 @@ abbrev pub after_waits : Clock → List Bool → Clock
 after_waits c [] = c
 after_waits c (is_quiet ∷ waits) = after_waits (after_wait c is_quiet) waits
 
+-- a connection is looked at again after five seconds
+abbrev pub look_at : Clock → ℕ
+look_at c = capped_64 (c.counted_micros + 5000000)
+
 -- what is tried again is due after a tenth of a second
 abbrev pub due_at : Clock → ℕ
 due_at c = capped_64 (c.counted_micros + 100000)
@@ -48,10 +56,19 @@ abbrev pub left_in : Clock → List Waiting → List Waiting
 left_in c [] = []
 left_in c (w ∷ ws) = if nat_le w.due_micros c.counted_micros then ws else w ∷ ws
 
--- how long to wait: without end where nothing is to be tried again
-abbrev pub wait_of : Clock → List Waiting → Option ℕ
-wait_of c [] = None
-wait_of c (w ∷ ws) = Some c.wait_millis
+-- the first that is due of two lists: what is tried again comes before what is looked at
+abbrev pub due_of : Clock → List Waiting → List Waiting → Option Retry
+due_of c soon late = if is_some (due_in c soon) then due_in c soon else due_in c late
+
+-- and what waits to be looked at then
+abbrev pub late_of : Clock → List Waiting → List Waiting → List Waiting
+late_of c soon late = if is_some (due_in c soon) then late else left_in c late
+
+-- how long to wait: without end where nothing is to be tried again or to be looked at
+abbrev pub wait_of : Clock → List Waiting → List Waiting → Option ℕ
+wait_of c [] [] = None
+wait_of c (w ∷ ws) late = Some c.wait_millis
+wait_of c [] (w ∷ ws) = Some c.wait_millis
 
 -- a pause ends: what is added is due after 2,000 waits at the latest, however they end
 abbrev pub PauseEnds : Type 0

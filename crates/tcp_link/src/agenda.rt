@@ -1,30 +1,33 @@
 //! What a link is to give, in the order in which it is given.
 
-ghost use Rattle.std.specs.Prelude.{◌≡◌, ◌+◌, ◌++◌, ◌∷◌, [], OnOk, length, drop, nat_lt, slice_get};
-ghost use Rattle.tcp_link.specs.Queues.{Queue, nothing, next_of, without, with_down, with_frame, with_frame_first, with_message, in_turn};
+ghost use Rattle.std.specs.Prelude.{◌≡◌, ◌++◌, ◌∷◌, [], OnOk, length, drop, nat_lt, slice_get};
+ghost use Rattle.tcp_link.specs.Queues.{Queue, nothing, next_of, without, with_news, with_told, with_frame, with_frame_first, with_message, in_turn};
 
-use crate::whom::Down;
+use crate::news::News;
 use ritas_base::Mem;
 use std::alloc::Global;
 use std::collections::VecDeque;
 use std::marker::Model;
 
+// So many clients give a message in one turn at most, so that peers don't wait for them.
+const MOST_MESSAGES: usize = 16;
+
 /// What is given next.
 #[derive(Clone, Copy, Debug)]
 pub(crate) enum Next {
-    /// That this peer or node is down.
-    Down(Down),
+    /// News of a connection.
+    Told(News),
     /// A piece of a peer or a node, by the connection of this token.
     Frame(usize),
     /// A piece of a client.
     Message(usize),
 }
 
-/// What is to be given: peers that are down, then frames, then one message of each client that has one in this turn. Connections
+/// What is to be given: news, then frames, then one message of each client that has one in this turn. Connections
 /// stand here by their tokens.
 #[derive(Drop)]
 pub(crate) struct Agenda {
-    downs: VecDeque<Down>,
+    news: VecDeque<News>,
     frames: VecDeque<usize>,
     messages: VecDeque<usize>,
     /// How many messages are still given in this turn.
@@ -38,7 +41,7 @@ impl Model for Agenda {
     ghost Value = { Queue };
 
     ghost view = { λ a. record {
-      downs = a.downs.items;
+      news = a.news.items;
       frames = a.frames.items;
       due = take a.messages_due a.messages.items;
       later = drop a.messages_due a.messages.items;
@@ -53,39 +56,42 @@ impl Agenda {
         ensures { result ≡ nothing }
     {
         Agenda {
-            downs: VecDeque::new(alloc),
+            news: VecDeque::new(alloc),
             frames: VecDeque::new(alloc),
             messages: VecDeque::new(alloc),
             messages_due: 0,
         }
     }
 
-    /// Whether messages are left for a later turn, or for this one.
-    pub(crate) fn has_messages(&self) -> bool
-        ensures { result ≡ nat_lt 0 (length self.now.due + length self.now.later) }
+    /// Whether news is to be given.
+    pub(crate) fn has_news(&self) -> bool
+        ensures { result ≡ nat_lt 0 (length self.now.news) }
     {
-        !self.messages.is_empty()
-    }
-
-    /// Whether nobody is down of whom it wasn't given.
-    pub(crate) fn has_downs(&self) -> bool
-        ensures { result ≡ nat_lt 0 (length self.now.downs) }
-    {
-        !self.downs.is_empty()
+        !self.news.is_empty()
     }
 
     /// How often something may come next at most, before something is put here.
     pub(crate) fn len(&self) -> usize {
         let pieces = self.frames.len().saturating_add(self.messages.len());
-        pieces.saturating_add(self.downs.len())
+        pieces.saturating_add(self.news.len())
     }
 
-    /// A peer or a node is down. The one error is want of memory.
-    pub(crate) fn add_down(&mut self, down: Down) -> Result<(), Mem>
-        ensures { OnOk result (self.new ≡ with_down self.old down) }
+    /// There is news. The one error is want of memory.
+    pub(crate) fn add_news(&mut self, news: News) -> Result<(), Mem>
+        ensures { OnOk result (self.new ≡ with_news self.old news) }
     {
-        self.downs.push_back(down)?;
+        self.news.push_back(news)?;
         Ok(())
+    }
+
+    /// There is this news, if any. The one error is want of memory.
+    pub(crate) fn add_told(&mut self, told: Option<News>) -> Result<(), Mem>
+        ensures { OnOk result (self.new ≡ with_told self.old told) }
+    {
+        match told {
+            Some(news) => self.add_news(news),
+            None => Ok(()),
+        }
     }
 
     /// A connection of a peer or a node has a piece. The one error is want of memory.
@@ -116,7 +122,7 @@ impl Agenda {
     pub(crate) fn begin_turn(&mut self)
         ensures { self.new ≡ in_turn self.old }
     {
-        self.messages_due = self.messages.len();
+        self.messages_due = self.messages.len().min(MOST_MESSAGES);
     }
 
     // The next message of this turn.
@@ -137,8 +143,8 @@ impl Agenda {
         ensures next { result ≡ next_of self.old }
         ensures rest { self.new ≡ without self.old result }
     {
-        if let Some(down) = self.downs.pop_front() {
-            return Some(Next::Down(down));
+        if let Some(news) = self.news.pop_front() {
+            return Some(Next::Told(news));
         }
         if let Some(token) = self.frames.pop_front() {
             return Some(Next::Frame(token));

@@ -3,6 +3,7 @@
 use crate::conn::Conn;
 use crate::dials::{begin, watched};
 use crate::doors::Arrival;
+use crate::entry::Entry;
 use crate::outcome::Nobody;
 use crate::retries::Retry;
 use crate::side::Side;
@@ -13,10 +14,10 @@ use mio::Registry;
 use mio::net::TcpStream;
 use ritas_base::Mem;
 use std::alloc::Global;
-use std::net::Net;
+use std::net::{Net, SocketAddr};
 
-// At most so many connections are accepted at a door in one turn.
-const MOST_ARRIVALS: usize = 64;
+// One of a replica that told no number is closed once so many came in after it.
+const MOST_STRANGERS: usize = 64;
 
 impl Sockets {
     /// Accepts connections at the doors on the list.
@@ -31,10 +32,11 @@ impl Sockets {
 
     // Accepts connections at a door, which is on the list again if more may wait.
     fn accept_at(&mut self, alloc: Global, registry: &Registry, number: usize) -> Result<(), Mem> {
-        if let Some(door) = self.doors.get_mut(number) {
-            door.is_listed = false;
-        }
-        for _ in 0..MOST_ARRIVALS {
+        let Some(door) = self.doors.get_mut(number) else {
+            return Ok(());
+        };
+        door.is_listed = false;
+        for _ in 0..door.entry.most_a_turn() {
             if !self.accept_one(alloc, registry, number)? {
                 return Ok(());
             }
@@ -61,13 +63,15 @@ impl Sockets {
         }
         match door.look() {
             Arrival::Stream(stream) => {
-                let whom = entry.whom(self.clients);
-                self.clients = entry.numbered_after(self.clients);
-                self.enter(alloc, registry, whom, stream)?;
+                self.retries.worked();
+                self.enter(alloc, registry, entry, stream)?;
                 Ok(true)
             }
             Arrival::None(Nobody::Gone) => Ok(true),
             Arrival::None(Nobody::Waits) => Ok(false),
+            Arrival::None(Nobody::Closed) if entry.is_of_replicas() && self.spares.spend() => {
+                Ok(true)
+            }
             Arrival::None(Nobody::Closed) => {
                 door.is_listed = true;
                 self.retries.add(Retry::Door(number))?;
@@ -76,14 +80,20 @@ impl Sockets {
         }
     }
 
-    // Adds a connection that came in. It is closed where it can't be watched.
+    // Adds a connection that came in. It is closed where there is no room for it, or it can't be watched.
     fn enter(
         &mut self,
         alloc: Global,
         registry: &Registry,
-        whom: Whom,
+        entry: Entry,
         stream: TcpStream,
     ) -> Result<(), Mem> {
+        let has_spares = self.spares.are_all();
+        if !entry.admits(self.clients) || !entry.has_room(self.conns.clients_there(), has_spares) {
+            return Ok(());
+        }
+        let whom = entry.whom(self.clients);
+        self.clients = entry.numbered_after(self.clients);
         let Some(token) = self.conns.next_token() else {
             return Ok(());
         };
@@ -94,9 +104,44 @@ impl Sockets {
                     stream,
                     token,
                     side,
-                })
+                })?;
+                self.enter_stranger(entry, token)
             }
             Err(_) => Ok(()),
+        }
+    }
+
+    // One that came in at a door for replicas is looked at, and closed once many came in after it, unless it told its number by then.
+    fn enter_stranger(&mut self, entry: Entry, token: usize) -> Result<(), Mem> {
+        if !entry.is_of_replicas() {
+            return Ok(());
+        }
+        self.look_later(token)?;
+        self.strangers.push_back(token)?;
+        if self.strangers.len() <= MOST_STRANGERS {
+            return Ok(());
+        }
+        let Some(oldest) = self.strangers.pop_front() else {
+            return Ok(());
+        };
+        match self.conns.get(oldest) {
+            Some(conn) if conn.side.whom.is_unnamed() => self.end(oldest),
+            _ => Ok(()),
+        }
+    }
+
+    // Begins a connection, by a spare descriptor if there is no other.
+    fn begin<R: Net>(
+        &mut self,
+        rt: &R,
+        registry: &Registry,
+        address: SocketAddr,
+        token: usize,
+    ) -> Option<TcpStream> {
+        match begin(rt, registry, address, token) {
+            Ok(stream) => Some(stream),
+            Err(_) if self.spares.spend() => begin(rt, registry, address, token).ok(),
+            Err(_) => None,
         }
     }
 
@@ -114,8 +159,8 @@ impl Sockets {
         let Some(token) = self.conns.next_token() else {
             return self.not_begun(number, dial.whom);
         };
-        match begin(rt, registry, dial.address, token) {
-            Ok(stream) => {
+        match self.begin(rt, registry, dial.address, token) {
+            Some(stream) => {
                 let mut side = Side::new(alloc, dial.whom, Some(number));
                 if let Some(number) = dial.whom.told_first() {
                     side.tell(number)?;
@@ -124,15 +169,16 @@ impl Sockets {
                     stream,
                     token,
                     side,
-                })
+                })?;
+                self.look_later(token)
             }
-            Err(_) => self.not_begun(number, dial.whom),
+            None => self.not_begun(number, dial.whom),
         }
     }
 
     // A connection couldn't be begun: it is tried again after a pause, but not by a client.
     fn not_begun(&mut self, number: usize, whom: Whom) -> Result<(), Mem> {
-        self.closed(whom, Stage::Refused, Some(number))
+        self.closed(whom.ended(Stage::Refused, false), Some(number))
     }
 
     /// Tries again what is due.
@@ -146,6 +192,8 @@ impl Sockets {
             match self.retries.next() {
                 Some(Retry::Dial(number)) => self.dial(rt, alloc, registry, number)?,
                 Some(Retry::Door(number)) => self.accept_at(alloc, registry, number)?,
+                Some(Retry::Drain(token)) => self.drain_on(token)?,
+                Some(Retry::Look(token)) => self.look(token)?,
                 None => break,
             }
         }

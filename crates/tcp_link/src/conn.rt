@@ -9,6 +9,7 @@ use crate::stage::Change;
 use mio::net::TcpStream;
 use ritas_base::Mem;
 use std::io::{Read, Write};
+use std::net::Shutdown;
 
 /// A connection.
 #[derive(Drop)]
@@ -51,7 +52,12 @@ impl Conn {
         }
     }
 
-    /// Keeps a piece to go out; many bytes are written at once, and it ends with too many. The one error is want of memory.
+    /// Tells the other side that no byte goes out any more.
+    pub(crate) fn stop_writing(&self) {
+        let _ = self.stream.shutdown(Shutdown::Write);
+    }
+
+    /// Keeps a piece to go out; many bytes are written at once, and with too many it takes no more. The one error is want of memory.
     pub(crate) fn put(&mut self, bytes: &[u8]) -> Result<(), Mem>
         requires { length bytes.now < 2 ^ 16 }
         ensures { OnOk result (IsCapped self.new.side) }

@@ -130,6 +130,11 @@ impl Conns {
         }
     }
 
+    /// How many clients are there.
+    pub(crate) fn clients_there(&self) -> usize {
+        self.clients.len()
+    }
+
     /// The token of a client's connection.
     pub(crate) fn client(&self, number: u32) -> Option<usize>
         ensures { result ≡ get_client nat_cmp self.now.clients number }

@@ -1,12 +1,20 @@
 //! Who comes in by a door.
 
 ghost use Rattle.std.specs.Prelude.{◌≡◌, true};
-ghost use Rattle.tcp_link.specs.Names.{admits, whom_at, numbered_after};
+ghost use Rattle.tcp_link.specs.Names.{admits, has_room, whom_at, numbered_after};
 
 use crate::whom::Whom;
 
 // So many clients are numbered, from 0 on, and then no more come in.
 const MOST_CLIENTS: u32 = 4_294_967_295;
+
+// At most so many clients are there at a time.
+const MOST_AT_ONCE: usize = 768;
+
+// So many connections are accepted in one turn at a door for replicas, and at one for clients.
+const MOST_REPLICAS_A_TURN: usize = 64;
+
+const MOST_CLIENTS_A_TURN: usize = 16;
 
 /// Who comes in by a door.
 #[derive(Clone, Copy, Debug)]
@@ -25,6 +33,32 @@ impl Entry {
         match self {
             Entry::Replicas { at: _ } => true,
             Entry::Clients { at: _ } => numbered < MOST_CLIENTS,
+        }
+    }
+
+    /// How many connections are accepted in one turn at most.
+    pub(crate) fn most_a_turn(self) -> usize {
+        match self {
+            Entry::Replicas { at: _ } => MOST_REPLICAS_A_TURN,
+            Entry::Clients { at: _ } => MOST_CLIENTS_A_TURN,
+        }
+    }
+
+    /// Whether there is room for one that came in, where so many clients are there, and all spare descriptors or not.
+    pub(crate) fn has_room(self, there: usize, has_spares: bool) -> bool
+        ensures { result ≡ has_room self there has_spares }
+    {
+        match self {
+            Entry::Replicas { at: _ } => true,
+            Entry::Clients { at: _ } => there < MOST_AT_ONCE && has_spares,
+        }
+    }
+
+    /// Whether replicas come in by it.
+    pub(crate) fn is_of_replicas(self) -> bool {
+        match self {
+            Entry::Replicas { at: _ } => true,
+            Entry::Clients { at: _ } => false,
         }
     }
 

@@ -19,7 +19,11 @@ impl Sockets {
             return Ok(None);
         };
         let item = conn.side.give(alloc, &mut self.agenda, token)?;
-        self.close_if_over(token)?;
+        if conn.side.take_unread() {
+            self.list_reader(token)?;
+        }
+        self.retries.worked();
+        self.settle(token)?;
         Ok(item)
     }
 
@@ -28,16 +32,16 @@ impl Sockets {
         ensures { IfOk result (λ item. IfSome item (λ x. length (bytes_of x) < 2 ^ 16)) }
     {
         match next {
-            Next::Down(down) => Ok(Some(down.item())),
+            Next::Told(news) => Ok(Some(news.item())),
             Next::Frame(token) | Next::Message(token) => self.take_from(alloc, token),
         }
     }
 
     // Whether no item follows: a client's link ends once it has no connection left, and that was told of each.
     fn is_at_end(&self) -> bool
-        ensures { result ≡ (self.now.is_client && (slab_len self.now.conns.places == 0) && not (nat_lt 0 (length self.now.agenda.downs))) }
+        ensures { result ≡ (self.now.is_client && (slab_len self.now.conns.places == 0) && not (nat_lt 0 (length self.now.agenda.news))) }
     {
-        self.is_client && self.conns.is_empty() && !self.agenda.has_downs()
+        self.is_client && self.conns.is_empty() && !self.agenda.has_news()
     }
 
     /// The next item, if one came. The one error is want of memory.

@@ -1,14 +1,14 @@
 //! Laws of the definitions. These functions do nothing: their contracts are the laws.
 
-ghost use Rattle.tcp_link.specs.Queues.{DownsFirst, FramesInOrder, MessagesInOrder};
-ghost use Rattle.tcp_link.specs.Stages.{OverStays};
+ghost use Rattle.tcp_link.specs.Queues.{NewsFirst, FramesInOrder, MessagesInOrder};
+ghost use Rattle.tcp_link.specs.Stages.{OverStays, BrokenStays};
 ghost use Rattle.tcp_link.specs.Tokens.{PairLaw, TokenLaw};
 ghost use Rattle.tcp_link.specs.Waits.{PauseEnds};
 
-/// The order in which a link gives what came before its next turn: who is down, then all frames connection by connection, then one
+/// The order in which a link gives what came before its next turn: news, then all frames connection by connection, then one
 /// message of each client. What comes next is the first of all that is given, and the rest follows in the same order.
 pub fn gives_in_order()
-    ensures downs { DownsFirst }
+    ensures news { NewsFirst }
     ensures frames { FramesInOrder }
     ensures messages { MessagesInOrder }
 {}
@@ -25,7 +25,8 @@ pub fn tokens_are_apart()
     ensures pairs { PairLaw }
 {}
 
-/// A connection that is over stays over.
+/// A connection that is over stays over, and one that takes no more bytes never takes any again.
 pub fn over_stays()
-    ensures { OverStays }
+    ensures over { OverStays }
+    ensures broken { BrokenStays }
 {}

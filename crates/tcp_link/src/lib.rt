@@ -4,9 +4,12 @@
 //! pieces: a length of two bytes, the greater first, and so many bytes. A piece is a frame, of at most 16,384 bytes. A client
 //! connects to a node's address for clients, where both sides write pieces of at most 65,535 bytes from the beginning.
 //!
-//! A connection that ends or fails is closed, which is told once, of a peer or a node. The one that began a connection between
-//! replicas begins it again after a pause. In each turn, each connection that has bytes is read once, then all whole frames are
-//! given, and one message of each client that has one.
+//! A peer that was sent something and of which then nothing comes for a minute is taken for gone.
+//!
+//! News comes first: that a peer has a connection, that a peer or a node has none any more, or that a client left. The one that began
+//! a connection between replicas begins it again after a pause. One that takes no more bytes, or in whose place a newer one stands, is
+//! read to its end for some seconds, and what came by it is given before what comes by the newer one. In each turn, each connection of
+//! a peer that has bytes is read once, and some of clients; then all whole frames are given, and one message of some clients.
 #![tactic(auto)]
 
 mod agenda;
@@ -16,12 +19,15 @@ mod conn;
 mod conns;
 mod dials;
 mod doors;
+mod ending;
 mod entry;
 mod giving;
 mod input;
 mod items;
 mod laws;
 mod link;
+mod looking;
+mod news;
 mod outcome;
 mod output;
 mod pieces;
@@ -30,6 +36,7 @@ mod running;
 mod sending;
 mod side;
 mod sockets;
+mod spares;
 mod stage;
 mod starting;
 #[cfg(test)]

@@ -18,8 +18,10 @@ pub(crate) enum Moved {
     Later,
     /// It was interrupted.
     Again,
-    /// The connection ended or failed.
-    Ended,
+    /// The other side sends no more.
+    Closed,
+    /// The connection failed.
+    Failed,
 }
 
 /// Why no connection came in at a door.
@@ -42,6 +44,8 @@ pub(crate) struct Seen {
     pub(crate) is_writable: bool,
     /// The other side sends or takes no more, or the connection failed.
     pub(crate) is_closed: bool,
+    /// Nothing can go out any more.
+    pub(crate) is_broken: bool,
 }
 
 fn moved_at(kind: ErrorKind) -> Moved
@@ -50,16 +54,16 @@ fn moved_at(kind: ErrorKind) -> Moved
     match kind {
         ErrorKind::WouldBlock => Moved::Later,
         ErrorKind::Interrupted => Moved::Again,
-        _ => Moved::Ended,
+        _ => Moved::Failed,
     }
 }
 
-/// What a read or write means: no byte is the end.
+/// What a read or write means: no byte is the end of what the other side sends.
 pub(crate) fn moved_by(outcome: io::Result<usize>) -> Moved
     ensures { result ≡ moved_of outcome }
 {
     match outcome {
-        Ok(0) => Moved::Ended,
+        Ok(0) => Moved::Closed,
         Ok(count) => Moved::Bytes(count),
         Err(e) => moved_at(e.kind()),
     }
@@ -116,6 +120,7 @@ pub(crate) fn told_by(event: &Event) -> Seen
         is_readable: event.is_readable(),
         is_writable: event.is_writable(),
         is_closed: event.is_read_closed() || event.is_error() || event.is_write_closed(),
+        is_broken: event.is_error() || event.is_write_closed(),
     }
 }
 
@@ -143,7 +148,7 @@ impl Moved {
         match self {
             Moved::Bytes(count) => count == room || is_hung_up,
             Moved::Again => true,
-            Moved::Later | Moved::Ended => false,
+            Moved::Later | Moved::Closed | Moved::Failed => false,
         }
     }
 
@@ -153,7 +158,7 @@ impl Moved {
     {
         match self {
             Moved::Bytes(_) | Moved::Again => true,
-            Moved::Later | Moved::Ended => false,
+            Moved::Later | Moved::Closed | Moved::Failed => false,
         }
     }
 }

@@ -71,6 +71,14 @@ impl Output {
         put_piece(&mut self.bytes, bytes)
     }
 
+    /// Lets go of all.
+    pub(crate) fn let_go(&mut self)
+        ensures { self.new ≡ [] }
+    {
+        self.written = 0;
+        self.bytes.clear();
+    }
+
     /// So many bytes from the front were written.
     pub(crate) fn wrote(&mut self, count: usize)
         requires { count ≤ length self.old }

@@ -1,7 +1,7 @@
 //! What is tried again after a pause.
 
-ghost use Rattle.std.specs.Prelude.{◌≡◌, ◌++◌, ◌∷◌, [], OnOk, length, if◌then◌else◌};
-ghost use Rattle.tcp_link.specs.Waits.{first_clock, after_wait, due_at, due_in, left_in, wait_of};
+ghost use Rattle.std.specs.Prelude.{◌≡◌, ◌++◌, ◌∷◌, [], OnOk, if◌then◌else◌};
+ghost use Rattle.tcp_link.specs.Waits.{first_clock, after_wait, after_work, due_at, look_at, due_in, left_in, due_of, late_of, wait_of};
 
 use crate::clock::Clock;
 use ritas_base::Mem;
@@ -15,6 +15,10 @@ pub(crate) enum Retry {
     Dial(usize),
     /// Accepting at the door of this number.
     Door(usize),
+    /// To look at the connection of this token, which is read to its end.
+    Drain(usize),
+    /// To look at the connection of this token, as every five seconds.
+    Look(usize),
 }
 
 /// What is tried again, and when.
@@ -24,21 +28,37 @@ pub(crate) struct Waiting {
     pub(crate) retry: Retry,
 }
 
-/// What is tried again, in the order in which it is due, and the time that was counted meanwhile.
+/// What is tried again and what is looked at, each in the order in which it is due, and the time that was counted meanwhile.
 #[derive(Drop)]
 pub(crate) struct Retries {
     waiting: VecDeque<Waiting>,
+    looks: VecDeque<Waiting>,
     clock: Clock,
+}
+
+// Takes the first of a list, if it is due by now.
+fn take_due(clock: Clock, waiting: &mut VecDeque<Waiting>) -> Option<Retry>
+    ensures first { result ≡ due_in clock waiting.old.items }
+    ensures left { waiting.new.items ≡ left_in clock waiting.old.items }
+{
+    let first = *waiting.front()?;
+    if first.due_micros > clock.counted_micros {
+        return None;
+    }
+    waiting.pop_front();
+    Some(first.retry)
 }
 
 impl Retries {
     /// Nothing is tried again.
     pub(crate) fn new(alloc: Global) -> Retries
         ensures none { result.waiting.items ≡ [] }
+        ensures looks { result.looks.items ≡ [] }
         ensures clock { result.clock ≡ first_clock }
     {
         Retries {
             waiting: VecDeque::new(alloc),
+            looks: VecDeque::new(alloc),
             clock: Clock::new(),
         }
     }
@@ -46,6 +66,7 @@ impl Retries {
     /// Has this tried again after a pause. The one error is want of memory.
     pub(crate) fn add(&mut self, retry: Retry) -> Result<(), Mem>
         ensures last { OnOk result (self.new.waiting.items ≡ self.old.waiting.items ++ (record { due_micros = due_at self.old.clock; retry = retry }) ∷ []) }
+        ensures looks { self.new.looks ≡ self.old.looks }
         ensures clock { self.new.clock ≡ self.old.clock }
     {
         let due_micros = self.clock.due();
@@ -53,21 +74,33 @@ impl Retries {
         Ok(())
     }
 
-    /// How much is to be tried again.
-    pub(crate) fn len(&self) -> usize
-        ensures { result ≡ length self.now.waiting.items }
+    /// Has the connection of this token looked at after five seconds. The one error is want of memory.
+    pub(crate) fn look_at(&mut self, token: usize) -> Result<(), Mem>
+        ensures last { OnOk result (self.new.looks.items ≡ self.old.looks.items ++ (record { due_micros = look_at self.old.clock; retry = Retry.Look token }) ∷ []) }
+        ensures waiting { self.new.waiting ≡ self.old.waiting }
+        ensures clock { self.new.clock ≡ self.old.clock }
     {
-        self.waiting.len()
+        let due_micros = self.clock.look();
+        self.looks.push_back(Waiting {
+            due_micros,
+            retry: Retry::Look(token),
+        })?;
+        Ok(())
+    }
+
+    /// How much is to be tried again or looked at.
+    pub(crate) fn len(&self) -> usize {
+        self.waiting.len().saturating_add(self.looks.len())
     }
 
     /// How many milliseconds to wait for an event at most: none where something is to be done before, and without end where nothing
-    /// is to be tried again.
+    /// is to be tried again or looked at.
     pub(crate) fn wait_millis(&self, is_busy: bool) -> Option<u64>
-        ensures { result ≡ (if is_busy then Some 0 else wait_of self.now.clock self.now.waiting.items) }
+        ensures { result ≡ (if is_busy then Some 0 else wait_of self.now.clock self.now.waiting.items self.now.looks.items) }
     {
         if is_busy {
             Some(0)
-        } else if self.waiting.is_empty() {
+        } else if self.waiting.is_empty() && self.looks.is_empty() {
             None
         } else {
             Some(self.clock.wait_millis)
@@ -77,22 +110,32 @@ impl Retries {
     /// A wait ended, quietly or by an event.
     pub(crate) fn waited(&mut self, is_quiet: bool)
         ensures clock { self.new.clock ≡ after_wait self.old.clock is_quiet }
-        ensures same { self.new.waiting.items ≡ self.old.waiting.items }
+        ensures waiting { self.new.waiting ≡ self.old.waiting }
+        ensures looks { self.new.looks ≡ self.old.looks }
     {
         self.clock = self.clock.after(is_quiet);
     }
 
+    /// One thing was done.
+    pub(crate) fn worked(&mut self)
+        ensures clock { self.new.clock ≡ after_work self.old.clock }
+        ensures waiting { self.new.waiting ≡ self.old.waiting }
+        ensures looks { self.new.looks ≡ self.old.looks }
+    {
+        self.clock = self.clock.worked();
+    }
+
     /// Takes the next that is due by now.
     pub(crate) fn next(&mut self) -> Option<Retry>
-        ensures first { result ≡ due_in self.old.clock self.old.waiting.items }
-        ensures left { self.new.waiting.items ≡ left_in self.old.clock self.old.waiting.items }
+        ensures first { result ≡ due_of self.old.clock self.old.waiting.items self.old.looks.items }
+        ensures waiting { self.new.waiting.items ≡ left_in self.old.clock self.old.waiting.items }
+        ensures looks { self.new.looks.items ≡ late_of self.old.clock self.old.waiting.items self.old.looks.items }
         ensures clock { self.new.clock ≡ self.old.clock }
     {
-        let first = *self.waiting.front()?;
-        if first.due_micros > self.clock.counted_micros {
-            return None;
+        let clock = self.clock;
+        if let Some(retry) = take_due(clock, &mut self.waiting) {
+            return Some(retry);
         }
-        self.waiting.pop_front();
-        Some(first.retry)
+        take_due(clock, &mut self.looks)
     }
 }

@@ -8,7 +8,7 @@ use std::net::Net;
 use std::time::Duration;
 
 // So many events are taken by one wait.
-const MOST_EVENTS: usize = 256;
+const MOST_EVENTS: usize = 1_024;
 
 /// A link that runs: the poll, and its sockets.
 #[derive(Drop)]
@@ -47,15 +47,17 @@ impl Running {
         Ok(())
     }
 
-    /// Writes what waits, waits for events, and does what they ask for.
+    /// Writes what waits, waits for events, and does what they ask for: first what peers need, and then some of what clients do.
     pub(crate) fn turn<R: Net>(&mut self, rt: &R, alloc: Global) -> Result<(), Trouble> {
         self.sockets.write_all()?;
         self.wait()?;
         let registry = self.poll.registry();
         self.sockets.write_all()?;
         self.sockets.retry_all(rt, alloc, registry)?;
+        self.sockets.spares.fill(rt)?;
         self.sockets.accept_all(alloc, registry)?;
         self.sockets.read_all()?;
+        self.sockets.read_clients()?;
         self.sockets.agenda.begin_turn();
         Ok(())
     }

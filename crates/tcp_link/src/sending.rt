@@ -7,8 +7,8 @@ use crate::whom::sent_through;
 use ritas_base::Mem;
 
 impl Sockets {
-    /// Sends a frame to a peer of a replica, or a message to a node. It is kept where the connection was begun and doesn't stand
-    /// yet. It is dropped where there is none, and a frame also where it is longer than the peer takes.
+    /// Sends a frame to a peer of a replica, or a message to a node. It is dropped where no connection stands; but a message is kept
+    /// where the connection was begun and doesn't stand yet. A frame is also dropped where it is longer than the peer takes.
     pub(crate) fn send(&mut self, at: u8, peer: u8, bytes: &[u8]) -> Result<(), Mem>
         requires { length bytes.now < 2 ^ 16 }
     {
@@ -41,13 +41,13 @@ impl Sockets {
         let Some(conn) = self.conns.get_mut(token) else {
             return Ok(());
         };
-        if conn.side.stage.is_over() {
+        if !conn.side.takes() {
             return Ok(());
         }
         conn.put(bytes)?;
         if conn.side.is_ready() && conn.side.has_output() {
             list(&mut conn.side.listed.writes, token, &mut self.writers)?;
         }
-        self.close_if_over(token)
+        self.settle(token)
     }
 }

@@ -1,12 +1,12 @@
 //! What is known of a connection without its stream: how far it is, whom it is with, and the bytes that came and that go.
 
-ghost use Rattle.std.specs.Prelude.{◌≡◌, ◌<◌, ◌^◌, ◌++◌, ◌∷◌, [], IfOk, IfSome, OnOk, length, is_some, nat_lt};
+ghost use Rattle.std.specs.Prelude.{◌≡◌, ◌<◌, ◌^◌, ◌++◌, ◌∷◌, [], IfOk, IfSome, OnOk, length, is_some, nat_lt, false};
 ghost use Rattle.outside.specs.Links.{bytes_of};
 ghost use Rattle.tcp_link.specs.Names.{naming, most_of};
 ghost use Rattle.tcp_link.specs.Outcomes.{IsWithin};
 ghost use Rattle.tcp_link.specs.Pieces.{FitsIn};
-ghost use Rattle.tcp_link.specs.Stages.{first_stage, is_up, is_begun};
-ghost use Rattle.tcp_link.specs.Sides.{changed, ended, is_done, is_ready, kept, has_much, capped, IsCapped, written, is_fed, read, named, IsFrontAt, gives_of, item_taken, taken, noted, is_write_due, off_readers, off_writers};
+ghost use Rattle.tcp_link.specs.Stages.{first_stage, is_begun};
+ghost use Rattle.tcp_link.specs.Sides.{changed, ended, is_done, is_replied, is_drain_due, draining, ticked, is_ready, is_reading, takes, kept, has_much, capped, IsCapped, written, is_fed, read, named, IsFrontAt, gives_of, item_taken, taken, noted, is_write_due, off_readers, off_writers};
 
 use crate::input::Input;
 use crate::outcome::{Moved, Seen};
@@ -18,14 +18,16 @@ use outside::LinkItem;
 use ritas_base::{Bytes, Mem};
 use std::alloc::Global;
 
-// A connection with more bytes to go out is closed.
-const MOST_KEPT: usize = 16_777_216;
-
 // With so many bytes to go out, they are written before the link would wait.
 const MANY_KEPT: usize = 65_536;
 
 // With so many bytes that came, there is a whole piece among them, and no more are read.
 const MANY_CAME: usize = LENGTH_BYTES + MOST_BYTES;
+
+// One that is read to its end ends after so many tenths of a second in which nothing came, and after so many in all.
+const MOST_IDLE: u8 = 10;
+
+const MOST_TICKS: u8 = 50;
 
 /// Which lists a connection is on.
 #[derive(Clone, Copy, Debug, Default)]
@@ -36,6 +38,10 @@ pub(crate) struct Listed {
     pub(crate) writes: bool,
     /// Of those from which a piece is to be given.
     pub(crate) gives: bool,
+    /// Of those that are read to their end.
+    pub(crate) drains: bool,
+    /// Of those that are looked at every five seconds.
+    pub(crate) looks: bool,
 }
 
 /// What a connection has to give.
@@ -60,8 +66,28 @@ pub(crate) struct Side {
     pub(crate) dial: Option<usize>,
     /// The other side sends no more, or it failed: the next reads tell.
     pub(crate) is_hung_up: bool,
+    /// Something of it was given.
+    pub(crate) has_given: bool,
     /// The socket takes no byte until an event says so.
     pub(crate) is_blocked: bool,
+    /// The older connection of the same peer that is read to its end first.
+    pub(crate) behind: Option<usize>,
+    /// The newer one, which waits for that.
+    pub(crate) newer: Option<usize>,
+    /// How many messages of a client were given that weren't replied.
+    pub(crate) owed: usize,
+    /// It was fed when it was to be read.
+    pub(crate) is_unread: bool,
+    /// At how many looks in a row nothing had come, as they are counted.
+    pub(crate) looks: u8,
+    /// Whether bytes came since the last look.
+    pub(crate) has_come: bool,
+    /// Whether a piece was kept to go out since the last look.
+    pub(crate) has_sent: bool,
+    /// How many tenths of a second it is read to its end.
+    pub(crate) ticks: u8,
+    /// And in how many of these nothing came.
+    pub(crate) idle: u8,
     pub(crate) listed: Listed,
     pub(crate) input: Input,
     pub(crate) output: Output,
@@ -73,6 +99,7 @@ impl Side {
         ensures whom { result.whom ≡ whom }
         ensures stage { result.stage ≡ first_stage (is_some dial) }
         ensures dial { result.dial ≡ dial }
+        ensures given { result.has_given ≡ false }
         ensures input { result.input ≡ [] }
         ensures output { result.output ≡ [] }
     {
@@ -81,7 +108,17 @@ impl Side {
             stage: Stage::first(dial.is_some()),
             dial,
             is_hung_up: false,
+            has_given: false,
             is_blocked: false,
+            behind: None,
+            newer: None,
+            owed: 0,
+            is_unread: false,
+            looks: 0,
+            has_come: false,
+            has_sent: false,
+            ticks: 0,
+            idle: 0,
             listed: Listed::default(),
             input: Input::new(alloc),
             output: Output::new(alloc),
@@ -95,18 +132,62 @@ impl Side {
         self.stage = self.stage.after(change);
     }
 
-    /// Whether it is over, and no piece is to be given from it.
+    // Whether a client that sends no more was replied all that it asked, as far as is known, and took it.
+    fn is_replied(&self) -> bool
+        ensures { result ≡ is_replied self.now }
+    {
+        self.stage.is_half() && self.owed == 0 && self.output.rest().is_empty()
+    }
+
+    /// Whether it is over or was replied all, and no piece is to be given from it.
     pub(crate) fn is_done(&self) -> bool
         ensures { result ≡ is_done self.now }
     {
-        self.stage.is_over() && !self.listed.gives
+        (self.stage.is_over() || self.is_replied()) && !self.listed.gives
     }
 
-    /// Whether it stands, and takes bytes as far as is known.
+    /// Begins to read it to its end, if it takes no bytes and wasn't begun with, and says so. What was to go out is let go of.
+    pub(crate) fn begin_to_drain(&mut self) -> bool
+        ensures is { result ≡ is_drain_due self.old }
+        ensures new { self.new ≡ draining self.old }
+    {
+        if !self.stage.is_draining() || self.listed.drains {
+            return false;
+        }
+        self.listed.drains = true;
+        self.output.let_go();
+        self.ticks = 0;
+        self.idle = 0;
+        true
+    }
+
+    /// A tenth of a second passed in which it was read to its end.
+    pub(crate) fn tick(&mut self)
+        ensures { self.new ≡ ticked self.old }
+    {
+        if self.behind.is_some() {
+            return;
+        }
+        if self.idle >= MOST_IDLE - 1 || self.ticks >= MOST_TICKS - 1 {
+            self.change(Change::Ends);
+        } else {
+            self.ticks += 1;
+            self.idle += 1;
+        }
+    }
+
+    /// Whether it takes bytes as far as is known.
     pub(crate) fn is_ready(&self) -> bool
         ensures { result ≡ is_ready self.now }
     {
-        self.stage.is_up() && !self.is_blocked
+        self.stage.is_written() && !self.is_blocked
+    }
+
+    /// Whether a piece may be kept for it.
+    pub(crate) fn takes(&self) -> bool
+        ensures { result ≡ takes self.now }
+    {
+        self.stage.is_written() || (self.stage.is_begun() && self.whom.is_node())
     }
 
     /// Whether bytes are to go out.
@@ -118,11 +199,11 @@ impl Side {
 
     /// Takes it off the list of those that may have bytes to be read, and says whether it is read.
     pub(crate) fn off_readers(&mut self) -> bool
-        ensures is { result ≡ is_up self.old.stage }
+        ensures is { result ≡ is_reading self.old }
         ensures new { self.new ≡ off_readers self.old }
     {
         self.listed.reads = false;
-        self.stage.is_up()
+        self.stage.is_read() && self.behind.is_none()
     }
 
     /// Takes it off the list of those that may take bytes, and says whether it is yet to be seen that it stands.
@@ -140,6 +221,9 @@ impl Side {
     {
         self.is_hung_up = self.is_hung_up || seen.is_closed;
         self.is_blocked = self.is_blocked && !seen.may_write();
+        if self.stage.is_half() && seen.is_broken {
+            self.change(Change::Ends);
+        }
     }
 
     /// Whether it is to be written to after an event.
@@ -162,9 +246,14 @@ impl Side {
         ensures { OnOk result (self.new ≡ read self.old moved buffer.now) }
     {
         match moved {
-            Moved::Bytes(count) => self.input.append(&buffer[..count])?,
+            Moved::Bytes(count) => {
+                self.input.append(&buffer[..count])?;
+                self.idle = 0;
+                self.has_come = true;
+            }
             Moved::Later | Moved::Again => {}
-            Moved::Ended => self.change(Change::Ends),
+            Moved::Closed if self.whom.is_client() => self.change(Change::Closes),
+            Moved::Closed | Moved::Failed => self.change(Change::Ends),
         }
         Ok(())
     }
@@ -178,7 +267,7 @@ impl Side {
             Moved::Bytes(count) => self.output.wrote(count),
             Moved::Later => self.is_blocked = true,
             Moved::Again => {}
-            Moved::Ended => self.change(Change::Ends),
+            Moved::Closed | Moved::Failed => self.change(Change::Breaks),
         }
     }
 
@@ -194,7 +283,10 @@ impl Side {
         requires { length bytes.now < 2 ^ 16 }
         ensures { OnOk result (self.new ≡ kept self.old bytes.now) }
     {
-        self.output.put(bytes)
+        self.output.put(bytes)?;
+        self.owed = self.owed.saturating_sub(1);
+        self.has_sent = true;
+        Ok(())
     }
 
     /// Whether so many bytes are kept that they are written at once.
@@ -204,13 +296,13 @@ impl Side {
         self.is_ready() && self.output.rest().len() >= MANY_KEPT
     }
 
-    /// It ends if too many bytes are kept.
+    /// It takes no more if too many bytes are kept.
     pub(crate) fn cap(&mut self)
         ensures new { self.new ≡ capped self.old }
         ensures capped { IsCapped self.new }
     {
-        if self.output.rest().len() > MOST_KEPT {
-            self.change(Change::Ends);
+        if self.output.rest().len() > self.whom.most_kept() {
+            self.change(Change::Breaks);
         }
     }
 
@@ -266,6 +358,9 @@ impl Side {
     pub(crate) fn gives(&self) -> Gives
         ensures { result ≡ gives_of self.now }
     {
+        if self.behind.is_some() {
+            return Gives::Nothing;
+        }
         match self.front() {
             Front::Piece(_) if self.whom.is_client() => Gives::Message,
             Front::Piece(_) => Gives::Frame,
@@ -285,6 +380,8 @@ impl Side {
             Front::Part | Front::TooLong => return Ok(None),
         };
         self.input.take(LENGTH_BYTES + bytes.as_slice().len());
+        self.has_given = true;
+        self.owed = self.owed.saturating_add(1);
         Ok(self.whom.item(bytes))
     }
 }

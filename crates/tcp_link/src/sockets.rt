@@ -1,7 +1,7 @@
 //! The sockets of a link, and what is to be done with them.
 
 ghost use Rattle.std.specs.Prelude.{◌≡◌, ◌++◌, ◌∷◌, [], true, OnOk, if◌then◌else◌};
-ghost use Rattle.tcp_link.specs.Names.{down_of, dial_again};
+ghost use Rattle.tcp_link.specs.Names.{dial_again};
 ghost use Rattle.tcp_link.specs.Queues.{with_told};
 ghost use Rattle.tcp_link.specs.Waits.{redial};
 
@@ -9,11 +9,12 @@ use crate::agenda::Agenda;
 use crate::conns::Conns;
 use crate::dials::Dial;
 use crate::doors::Door;
+use crate::news::News;
 use crate::outcome::told_by;
 use crate::retries::{Retries, Retry};
-use crate::stage::{Change, Stage};
-use crate::tokens::door_of;
-use crate::whom::{Naming, Whom, dial_again};
+use crate::spares::Spares;
+use crate::tokens::{door_of, spares_for};
+use crate::whom::dial_again;
 use mio::event::Event;
 use ritas_base::Mem;
 use std::alloc::Global;
@@ -21,6 +22,9 @@ use std::collections::VecDeque;
 
 // A connection is read by so many bytes at a time, and then the next one is: so peers that have much to give come on together.
 const BUFFER_BYTES: usize = 2_048;
+
+// So many clients are read in one turn at most, so that peers don't wait for them.
+const MOST_CLIENTS_READ: usize = 32;
 
 /// The sockets of a link. The lists are of tokens, or of numbers of doors, and have each at most once.
 #[derive(Drop)]
@@ -37,8 +41,14 @@ pub(crate) struct Sockets {
     pub(crate) retries: Retries,
     /// Doors where connections may wait.
     pub(crate) open_doors: VecDeque<usize>,
-    /// Connections that may have bytes to be read.
+    /// Connections that may have bytes to be read, but for those of clients.
     pub(crate) readers: VecDeque<usize>,
+    /// Those of clients.
+    pub(crate) client_readers: VecDeque<usize>,
+    /// The last connections that came in at doors for replicas.
+    pub(crate) strangers: VecDeque<usize>,
+    /// Descriptors for peers.
+    pub(crate) spares: Spares,
     /// Connections that may take bytes.
     pub(crate) writers: VecDeque<usize>,
     /// What is to be given.
@@ -75,6 +85,9 @@ impl Sockets {
             retries: Retries::new(alloc),
             open_doors: VecDeque::new(alloc),
             readers: VecDeque::new(alloc),
+            client_readers: VecDeque::new(alloc),
+            strangers: VecDeque::new(alloc),
+            spares: Spares::new(alloc, if is_client { 0 } else { spares_for(n) }),
             writers: VecDeque::new(alloc),
             agenda: Agenda::new(alloc),
             buffer: Vec::from_elem(alloc, 0, BUFFER_BYTES)?,
@@ -83,7 +96,10 @@ impl Sockets {
 
     /// Whether something is to be done before an event comes.
     pub(crate) fn is_busy(&self) -> bool {
-        !self.open_doors.is_empty() || !self.readers.is_empty() || self.agenda.has_messages()
+        !self.open_doors.is_empty()
+            || !self.readers.is_empty()
+            || !self.client_readers.is_empty()
+            || self.agenda.len() > 0
     }
 
     // Takes note of an event at a door.
@@ -109,9 +125,21 @@ impl Sockets {
             list(&mut conn.side.listed.writes, token, &mut self.writers)?;
         }
         if seen.may_read() {
-            list(&mut conn.side.listed.reads, token, &mut self.readers)?;
+            self.list_reader(token)?;
         }
-        Ok(())
+        self.settle(token)
+    }
+
+    /// Puts a connection among those that may have bytes to be read, if it isn't there.
+    pub(crate) fn list_reader(&mut self, token: usize) -> Result<(), Mem> {
+        let Some(conn) = self.conns.get_mut(token) else {
+            return Ok(());
+        };
+        if conn.side.whom.is_client() {
+            list(&mut conn.side.listed.reads, token, &mut self.client_readers)
+        } else {
+            list(&mut conn.side.listed.reads, token, &mut self.readers)
+        }
     }
 
     /// Writes what the connections on the list can take.
@@ -130,14 +158,25 @@ impl Sockets {
         };
         if conn.side.off_writers() {
             conn.look();
+            self.agenda.add_told(conn.side.whom.up(conn.side.stage))?;
         }
         if conn.side.is_ready() {
             conn.write();
         }
-        self.close_if_over(token)
+        self.settle(token)
     }
 
-    /// Reads once from each connection on the list.
+    /// Reads once from some clients, each in its turn.
+    pub(crate) fn read_clients(&mut self) -> Result<(), Mem> {
+        for _ in 0..self.client_readers.len().min(MOST_CLIENTS_READ) {
+            if let Some(token) = self.client_readers.pop_front() {
+                self.read_from(token)?;
+            }
+        }
+        Ok(())
+    }
+
+    /// Reads once from each connection on the list of those that aren't clients'.
     pub(crate) fn read_all(&mut self) -> Result<(), Mem> {
         for _ in 0..self.readers.len() {
             if let Some(token) = self.readers.pop_front() {
@@ -154,30 +193,24 @@ impl Sockets {
         if !conn.side.off_readers() {
             return Ok(());
         }
-        if conn.side.is_fed() || conn.read(&mut self.buffer)? {
-            list(&mut conn.side.listed.reads, token, &mut self.readers)?;
+        if conn.side.is_fed() {
+            conn.side.is_unread = true;
+        } else if conn.read(&mut self.buffer)? {
+            self.list_reader(token)?;
         }
+        self.retries.worked();
+        self.look_at_half(token)?;
         self.take_name(token)?;
         self.list_piece(token)?;
-        self.close_if_over(token)
+        self.settle(token)
     }
 
-    // Takes the number that a peer told, whose connection stands in place of an older one from then on.
-    fn take_name(&mut self, token: usize) -> Result<(), Mem> {
-        let Some(conn) = self.conns.get_mut(token) else {
-            return Ok(());
-        };
-        let Naming::Names { at, peer } = conn.side.take_name(self.n) else {
-            return Ok(());
-        };
-        if let Some(older) = self.conns.peer(at, peer) {
-            if let Some(older_conn) = self.conns.get_mut(older) {
-                older_conn.side.change(Change::IsReplaced);
-            }
-            self.close_if_over(older)?;
+    // A client that sends no more is looked at from then on.
+    fn look_at_half(&mut self, token: usize) -> Result<(), Mem> {
+        match self.conns.get(token) {
+            Some(conn) if conn.side.stage.is_half() => self.look_later(token),
+            _ => Ok(()),
         }
-        self.conns.set_peer(at, peer, token);
-        Ok(())
     }
 
     // Puts a connection among those that have pieces, if it has one. With a length that isn't allowed it ends.
@@ -188,35 +221,13 @@ impl Sockets {
         conn.side.list_piece(&mut self.agenda, token)
     }
 
-    /// Closes a connection that is over, once no piece is to be given from it.
-    pub(crate) fn close_if_over(&mut self, token: usize) -> Result<(), Mem> {
-        match self.conns.get(token) {
-            Some(conn) if conn.side.is_done() => self.close(token),
-            _ => Ok(()),
-        }
-    }
-
-    fn close(&mut self, token: usize) -> Result<(), Mem> {
-        let Some(conn) = self.conns.remove(token) else {
-            return Ok(());
-        };
-        self.closed(conn.side.whom, conn.side.stage, conn.side.dial)
-    }
-
-    /// A connection was closed at a stage, or one of a dial couldn't be begun: who is down is told, and the dial comes again. The one
-    /// error is want of memory.
-    pub(crate) fn closed(
-        &mut self,
-        whom: Whom,
-        stage: Stage,
-        dial: Option<usize>,
-    ) -> Result<(), Mem>
-        ensures told { OnOk result (self.new.agenda ≡ with_told self.old.agenda (down_of stage whom)) }
+    /// A connection was closed, or one of a dial couldn't be begun: this is told of it, and the dial comes again. The one error is want
+    /// of memory.
+    pub(crate) fn closed(&mut self, told: Option<News>, dial: Option<usize>) -> Result<(), Mem>
+        ensures told { OnOk result (self.new.agenda ≡ with_told self.old.agenda told) }
         ensures again { OnOk result (self.new.retries.waiting.items ≡ self.old.retries.waiting.items ++ redial self.old.retries.clock (dial_again self.old.is_client dial)) }
     {
-        if let Some(down) = whom.down(stage) {
-            self.agenda.add_down(down)?;
-        }
+        self.agenda.add_told(told)?;
         match dial_again(self.is_client, dial) {
             Some(dial) => self.retries.add(Retry::Dial(dial)),
             None => Ok(()),

@@ -30,7 +30,7 @@ impl Running {
     // reached.
     fn reach<R: Net>(&mut self, rt: &R, alloc: Global, text: &[u8], whom: Whom) -> Result<(), Mem> {
         let Some(address) = address_of(text) else {
-            return self.sockets.closed(whom, Stage::Refused, None);
+            return self.sockets.closed(whom.ended(Stage::Refused, false), None);
         };
         let number = self.sockets.dials.len();
         self.sockets.dials.push(Dial { address, whom })?;

@@ -76,7 +76,21 @@ fn gives_down<R: Net + Wait>(
     }
 }
 
-// Whether frames of replica 1 come to replica 0 in their order.
+// Whether the next item is that a replica has a connection with its peer.
+fn gives_up<R: Net + Wait>(
+    rt: &R,
+    alloc: Global,
+    link: &mut TcpLink,
+    own: u8,
+    other: u8,
+) -> Result<bool, LinkFault> {
+    match link.next(rt, alloc)? {
+        LinkItem::Up { at, peer } => Ok(at == own && peer == other),
+        _ => Ok(false),
+    }
+}
+
+// Whether both replicas are up first, as each of them knows, and then frames of replica 1 come to replica 0 in their order.
 fn frames_come<R: Net + Wait>(
     rt: &R,
     alloc: Global,
@@ -84,7 +98,8 @@ fn frames_come<R: Net + Wait>(
 ) -> Result<bool, LinkFault> {
     link.send(rt, alloc, 1, 0, b"one")?;
     link.send(rt, alloc, 1, 0, b"other")?;
-    Ok(gives_frame(rt, alloc, link, b"one")? && gives_frame(rt, alloc, link, b"other")?)
+    let are_up = gives_up(rt, alloc, link, 1, 0)? && gives_up(rt, alloc, link, 0, 1)?;
+    Ok(are_up && gives_frame(rt, alloc, link, b"one")? && gives_frame(rt, alloc, link, b"other")?)
 }
 
 #[test]

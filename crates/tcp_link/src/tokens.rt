@@ -2,7 +2,7 @@
 
 ghost use Rattle.std.specs.Prelude.{◌≡◌, ◌<◌, ◌≤◌, Some, IfSome, IfNone};
 ghost use Rattle.std.specs.Option.{SomeIff};
-ghost use Rattle.tcp_link.specs.Tokens.{most_conns, token_of, serial_after, place_in, place_of, ends_of_all, count_of};
+ghost use Rattle.tcp_link.specs.Tokens.{most_conns, token_of, serial_after, place_in, place_of, ends_of_all, spares_for, count_of};
 
 /// The most replicas of a session.
 pub(crate) const MOST_REPLICAS: usize = 31;
@@ -77,6 +77,13 @@ pub(crate) fn ends_of_all(n: u8) -> usize
 {
     let n = usize::from(n);
     n * n.saturating_sub(1)
+}
+
+/// How many descriptors are held for peers of n replicas.
+pub(crate) fn spares_for(n: u8) -> usize
+    ensures { result ≡ spares_for n }
+{
+    2 * usize::from(n) + 8
 }
 
 /// How many replicas so many addresses are of: more than 31 aren't reached.

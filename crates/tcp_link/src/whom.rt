@@ -3,15 +3,19 @@
 ghost use Rattle.std.specs.Prelude.{◌≡◌, ◌<◌, ◌^◌, IfSome, length};
 ghost use Rattle.std.specs.Option.{SomeIff};
 ghost use Rattle.outside.specs.Links.{bytes_of};
-ghost use Rattle.tcp_link.specs.Names.{IsName, most_of, item_of, is_client, is_client_of, sent_through, down_of, dial_again, told_first};
+ghost use Rattle.tcp_link.specs.Names.{IsName, most_of, item_of, is_client, is_client_of, is_node, is_peer, most_kept, sent_through, dial_again, told_first};
 
 use crate::pieces::MOST_BYTES;
-use crate::stage::Stage;
 use outside::LinkItem;
 use ritas_base::Bytes;
 
 /// The most bytes of a frame.
 const MOST_FRAME: usize = 16_384;
+
+// A connection with more bytes to go out takes no more.
+const MOST_KEPT: usize = 16_777_216;
+
+const MOST_KEPT_OF_A_CLIENT: usize = 131_072;
 
 /// Whom a connection is with.
 #[derive(Clone, Copy, Debug)]
@@ -24,13 +28,6 @@ pub(crate) enum Whom {
     Client { at: u8, conn: u32 },
     /// Of a client, with a node.
     Node { from: u8 },
-}
-
-/// A peer of a replica, or a node, which has no connection any more.
-#[derive(Clone, Copy, Debug)]
-pub(crate) struct Down {
-    pub(crate) at: u8,
-    pub(crate) peer: u8,
 }
 
 /// What is done at the first byte of a connection.
@@ -75,18 +72,6 @@ pub(crate) fn dial_again(is_client: bool, dial: Option<usize>) -> Option<usize>
     if is_client { None } else { dial }
 }
 
-impl Down {
-    /// The item that tells it.
-    pub(crate) fn item(self) -> LinkItem
-        ensures { result ≡ LinkItem.Down self.at self.peer }
-    {
-        LinkItem::Down {
-            at: self.at,
-            peer: self.peer,
-        }
-    }
-}
-
 impl Whom {
     /// The most bytes of its pieces.
     pub(crate) fn most(self) -> Option<usize>
@@ -126,6 +111,44 @@ impl Whom {
         }
     }
 
+    /// Whether it hasn't told its number yet.
+    pub(crate) fn is_unnamed(self) -> bool {
+        match self {
+            Whom::Unnamed { at: _ } => true,
+            _ => false,
+        }
+    }
+
+    /// Whether it is a node.
+    pub(crate) fn is_node(self) -> bool
+        ensures { result ≡ is_node self }
+    {
+        match self {
+            Whom::Node { from: _ } => true,
+            _ => false,
+        }
+    }
+
+    /// Whether it is a peer.
+    pub(crate) fn is_peer(self) -> bool
+        ensures { result ≡ is_peer self }
+    {
+        match self {
+            Whom::Peer { at: _, peer: _ } => true,
+            _ => false,
+        }
+    }
+
+    /// The most bytes that are kept for it to go out.
+    pub(crate) fn most_kept(self) -> usize
+        ensures { result ≡ most_kept self }
+    {
+        match self {
+            Whom::Client { at: _, conn: _ } => MOST_KEPT_OF_A_CLIENT,
+            _ => MOST_KEPT,
+        }
+    }
+
     /// Whether it is a client of this replica.
     pub(crate) fn is_client_of(self, own: u8) -> bool
         ensures { result ≡ is_client_of own self }
@@ -135,17 +158,6 @@ impl Whom {
             Whom::Unnamed { at: _ } | Whom::Peer { at: _, peer: _ } | Whom::Node { from: _ } => {
                 false
             }
-        }
-    }
-
-    /// Who is down once the connection is closed, at this stage.
-    pub(crate) fn down(self, stage: Stage) -> Option<Down>
-        ensures { result ≡ down_of stage self }
-    {
-        match (self, stage) {
-            (Whom::Peer { at, peer }, Stage::Over) => Some(Down { at, peer }),
-            (Whom::Node { from }, _) => Some(Down { at: 0, peer: from }),
-            _ => None,
         }
     }
 

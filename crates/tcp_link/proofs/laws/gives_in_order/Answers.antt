@@ -1,8 +1,8 @@
-use Rattle.tcp_link.proofs.Order.{downs_first, frames_in_order, messages_in_order}
+use Rattle.tcp_link.proofs.Order.{news_first, frames_in_order, messages_in_order}
 use Rattle.tcp_link.proofs.laws.gives_in_order.Goals as goal
 
-pub returns-clause-downs : goal.returns-clause-downs
-returns-clause-downs c = downs_first
+pub returns-clause-news : goal.returns-clause-news
+returns-clause-news c = news_first
 
 pub returns-clause-frames : goal.returns-clause-frames
 returns-clause-frames c = frames_in_order

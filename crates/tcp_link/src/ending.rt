@@ -1,0 +1,98 @@
+//! Connections that are replaced, read to their end, and closed.
+
+use crate::retries::Retry;
+use crate::sockets::Sockets;
+use crate::stage::Change;
+use crate::whom::Naming;
+use ritas_base::Mem;
+
+impl Sockets {
+    /// Takes the number that a peer told, whose connection stands in place of an older one from then on.
+    pub(crate) fn take_name(&mut self, token: usize) -> Result<(), Mem> {
+        let Some(conn) = self.conns.get_mut(token) else {
+            return Ok(());
+        };
+        let Naming::Names { at, peer } = conn.side.take_name(self.n) else {
+            return Ok(());
+        };
+        self.agenda.add_told(conn.side.whom.up(conn.side.stage))?;
+        if let Some(older) = self.conns.peer(at, peer) {
+            self.replace(older, token)?;
+        }
+        self.conns.set_peer(at, peer, token);
+        Ok(())
+    }
+
+    // A newer connection of a peer waits until the older one is read to its end. Where that one waits itself, the oldest ends.
+    fn replace(&mut self, older: usize, newer: usize) -> Result<(), Mem> {
+        let Some(conn) = self.conns.get_mut(older) else {
+            return Ok(());
+        };
+        conn.side.change(Change::IsReplaced);
+        conn.side.newer = Some(newer);
+        let oldest = conn.side.behind;
+        if let Some(conn) = self.conns.get_mut(newer) {
+            conn.side.behind = Some(older);
+        }
+        if let Some(oldest) = oldest {
+            self.end(oldest)?;
+        }
+        self.settle(older)
+    }
+
+    /// A connection ends.
+    pub(crate) fn end(&mut self, token: usize) -> Result<(), Mem> {
+        if let Some(conn) = self.conns.get_mut(token) {
+            conn.side.change(Change::Ends);
+        }
+        self.settle(token)
+    }
+
+    /// Begins to read a connection to its end, once it takes no bytes, and closes it, once it is over and no piece is to be given from
+    /// it.
+    pub(crate) fn settle(&mut self, token: usize) -> Result<(), Mem> {
+        let Some(conn) = self.conns.get_mut(token) else {
+            return Ok(());
+        };
+        if conn.side.begin_to_drain() {
+            conn.stop_writing();
+            self.list_reader(token)?;
+            self.retries.add(Retry::Drain(token))?;
+        }
+        match self.conns.get(token) {
+            Some(conn) if conn.side.is_done() => self.close(token),
+            _ => Ok(()),
+        }
+    }
+
+    /// Looks again at a connection that is read to its end, which ends after a while.
+    pub(crate) fn drain_on(&mut self, token: usize) -> Result<(), Mem> {
+        let Some(conn) = self.conns.get_mut(token) else {
+            return Ok(());
+        };
+        conn.side.tick();
+        if conn.side.stage.is_draining() {
+            self.retries.add(Retry::Drain(token))?;
+        }
+        self.settle(token)
+    }
+
+    fn close(&mut self, token: usize) -> Result<(), Mem> {
+        let Some(conn) = self.conns.remove(token) else {
+            return Ok(());
+        };
+        if let Some(newer) = conn.side.newer {
+            self.release(newer)?;
+        }
+        let told = conn.side.whom.ended(conn.side.stage, conn.side.has_given);
+        self.closed(told, conn.side.dial)
+    }
+
+    // A connection waits for no older one any more, and is read.
+    fn release(&mut self, token: usize) -> Result<(), Mem> {
+        if let Some(conn) = self.conns.get_mut(token) {
+            conn.side.behind = None;
+        }
+        self.list_reader(token)
+    }
+}

@@ -1,0 +1,100 @@
+//! Connections are looked at every five seconds.
+
+ghost use Rattle.std.specs.Prelude.{◌≡◌, ◌≤◌, IfSome};
+ghost use Rattle.tcp_link.specs.Sides.{most_looks, looked, is_at_rest, is_read_due, unread_taken};
+
+use crate::side::Side;
+use crate::sockets::Sockets;
+use crate::stage::{Change, Stage};
+use crate::whom::Whom;
+use ritas_base::Mem;
+
+// Each is a number of looks, of five seconds each.
+const ONE: u8 = 1;
+
+const HALF_A_MINUTE: u8 = 6;
+
+const A_MINUTE: u8 = 12;
+
+// After how many looks in a row, between which nothing came, a connection ends.
+fn most_looks(stage: Stage, whom: Whom) -> Option<u8>
+    ensures is { result ≡ most_looks stage whom }
+    ensures few { IfSome result (λ most. most ≤ 12) }
+{
+    match (stage, whom) {
+        (Stage::Begun, Whom::Node { from: _ }) => Some(HALF_A_MINUTE),
+        (Stage::Begun, _) => Some(ONE),
+        (Stage::Up, Whom::Unnamed { at: _ }) => Some(ONE),
+        (Stage::Up, Whom::Peer { at: _, peer: _ }) => Some(A_MINUTE),
+        (Stage::Half, _) => Some(HALF_A_MINUTE),
+        _ => None,
+    }
+}
+
+impl Side {
+    // Whether it is a peer's that stands, and no answer is due: nothing was sent since the last look, and no look was counted yet.
+    fn is_at_rest(&self) -> bool
+        ensures { result ≡ is_at_rest self.now }
+    {
+        self.stage.is_up() && self.whom.is_peer() && !self.has_sent && self.looks == 0
+    }
+
+    /// It is looked at, and ends if nothing came for long. Looks at a peer are counted from the first before which something was sent
+    /// to it.
+    pub(crate) fn look(&mut self)
+        ensures { self.new ≡ looked self.old }
+    {
+        let Some(most) = most_looks(self.stage, self.whom) else {
+            self.listed.looks = false;
+            return;
+        };
+        let quiet = if self.has_come || self.is_at_rest() {
+            0
+        } else {
+            self.looks.saturating_add(1)
+        };
+        if quiet >= most {
+            self.listed.looks = false;
+            self.change(Change::Ends);
+        } else {
+            self.looks = quiet;
+            self.has_come = false;
+            self.has_sent = false;
+        }
+    }
+
+    /// Whether more is read of one that was fed, which is noted.
+    pub(crate) fn take_unread(&mut self) -> bool
+        ensures is { result ≡ is_read_due self.old }
+        ensures new { self.new ≡ unread_taken self.old }
+    {
+        let is_due = self.is_unread && !self.is_fed();
+        self.is_unread = self.is_unread && !is_due;
+        is_due
+    }
+}
+
+impl Sockets {
+    /// A connection is looked at in five seconds, if it isn't to be looked at already.
+    pub(crate) fn look_later(&mut self, token: usize) -> Result<(), Mem> {
+        match self.conns.get_mut(token) {
+            Some(conn) if !conn.side.listed.looks => {
+                conn.side.listed.looks = true;
+                self.retries.look_at(token)
+            }
+            _ => Ok(()),
+        }
+    }
+
+    /// Looks at a connection.
+    pub(crate) fn look(&mut self, token: usize) -> Result<(), Mem> {
+        let Some(conn) = self.conns.get_mut(token) else {
+            return Ok(());
+        };
+        conn.side.look();
+        if conn.side.listed.looks {
+            self.retries.look_at(token)?;
+        }
+        self.settle(token)
+    }
+}
