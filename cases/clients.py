@@ -14,6 +14,11 @@ def check(is_right: bool, wrong: str) -> None:
         raise AssertionError(wrong)
 
 
+def command_of(row: list) -> Command:
+    """The command of a row of a report."""
+    return Command(int(row[2]), int(row[3]), b"" if row[4] == "-" else bytes.fromhex(row[4]))
+
+
 class Desk:
     """A client's connection with one node, and the commands that go by it."""
 

@@ -8,6 +8,8 @@ import serving
 INIT, ECHO, READY = 1, 2, 3
 MOST_FRAME = 16384
 TAG_BYTES, HEAD_BYTES = 32, 11
+NOTE, ACK = 0x4E, 1
+NUMBER_AT = 3
 KIND_AT, ORIGIN_AT, PAYLOAD_AT = 0, 9, 10
 
 
@@ -26,6 +28,21 @@ def seal(key: bytes, sender: int, receiver: int, number: int, body: bytes) -> by
 
 def body_of(frame: bytes) -> bytes:
     return frame[HEAD_BYTES:-TAG_BYTES]
+
+
+def number_of(frame: bytes) -> int:
+    return int.from_bytes(frame[NUMBER_AT:HEAD_BYTES], "big")
+
+
+def is_note(text: bytes) -> bool:
+    """Whether a piece is no frame."""
+    return text[:1] == bytes([NOTE])
+
+
+def acknowledgement(key: bytes, sender: int, receiver: int, number: int) -> bytes:
+    """The note that the frame of this number was taken."""
+    text = struct.pack(">BBBBQ", NOTE, sender, receiver, ACK, number)
+    return text + tag(key, text)
 
 
 def command_body(origin: int, number: int, client: int, request: int, payload: bytes) -> bytes:
@@ -73,7 +90,7 @@ class Pieces:
 
 
 class Mirror:
-    """A replica of two, number 1, that proposes what the other one proposes and votes for all that it hears of."""
+    """A replica of two, number 1, that acknowledges each frame, proposes what the other one proposes and votes for all that it hears of."""
 
     def __init__(self, session: serving.Session):
         self.key = bytes.fromhex(session.rows[1])[:32]
@@ -85,6 +102,9 @@ class Mirror:
             self.link.send(seal(self.key, 1, 0, self.number, body))
             self.number += 1
 
+    def acknowledge(self, frame: bytes) -> None:
+        self.link.send(acknowledgement(self.key, 1, 0, number_of(frame)))
+
     def answer(self, body: bytes) -> None:
         if body[KIND_AT] != INIT:
             return
@@ -92,10 +112,11 @@ class Mirror:
         self.say(own, *(bytes([kind]) + each[1:] for each in (body, own) for kind in (ECHO, READY)))
 
     def listen(self) -> bool:
-        """Answers what came, and says whether more may come."""
+        """Answers the frames that came, and says whether more may come."""
         goes_on = self.link.read()
-        frames = self.link.take()
+        frames = [text for text in self.link.take() if not is_note(text)]
         self.heard += frames
         for frame in frames if goes_on else ():
+            self.acknowledge(frame)
             self.answer(body_of(frame))
         return goes_on
