@@ -185,26 +185,41 @@ def are_prefixes(logs: list) -> bool:
     return all(longest[: len(log)] == log for log in logs)
 
 
-def links_up(ports: list):
-    """How many connections stand at these ports with nothing left to be read; nothing where the system doesn't tell."""
+def sockets_at(ports: list):
+    """The sockets at these ports, as the system's rows of words; nothing where it doesn't tell."""
     try:
         with open("/proc/net/tcp") as file:
             lines = [line.split() for line in file.readlines()[1:]]
     except OSError:
         return None
     wanted = {f"{port:04X}" for port in ports}
-    return sum(line[1].split(":")[1] in wanted and line[3] == "01" and line[4].endswith(":00000000") for line in lines)
+    return [line for line in lines if line[1].split(":")[1] in wanted]
+
+
+def doors_open(sockets: list) -> int:
+    """How many of them listen."""
+    return sum(line[3] == "0A" for line in sockets)
+
+
+def links_up(sockets: list) -> int:
+    """How many of them are connections with nothing left to be read."""
+    return sum(line[3] == "01" and line[4].endswith(":00000000") for line in sockets)
 
 
 def await_links(nodes: list, session: Session) -> None:
-    """Waits until every two of these nodes are connected. What is handed in before is sent to nobody who comes later."""
+    """Waits until these nodes listen and every two of them are connected. What is handed in before is sent to nobody who comes later."""
+    peers, clients = ([doors[node.me] for node in nodes] for doors in (session.peers, session.clients))
     wanted = len(nodes) * (len(nodes) - 1) // 2
     until = time.monotonic() + PATIENCE
-    while (up := links_up([session.peers[node.me] for node in nodes])) is not None and up < wanted:
+    while (here := sockets_at(peers)) is not None:
+        doors, links = doors_open(here) + doors_open(sockets_at(clients) or []), links_up(here)
+        if doors >= 2 * len(nodes) and links >= wanted:
+            break
         if not all(node.is_alive() for node in nodes) or time.monotonic() > until:
-            raise RuntimeError(f"{up} of {wanted} links stand; nodes ended with {[node.process.poll() for node in nodes]}")
+            ends = [node.process.poll() for node in nodes]
+            raise RuntimeError(f"{doors} doors are open and {links} of {wanted} links stand; nodes ended with {ends}")
         time.sleep(0.02)
-    time.sleep(0.2 if up is not None else 3)
+    time.sleep(0.2 if here is not None else 3)
 
 
 def start(folder: str, session: Session, numbers, until: int = 0) -> list:
