@@ -24,7 +24,9 @@ kind_of_rank (suc zero) = kinds.Echo
 kind_of_rank (suc (suc zero)) = kinds.Ready
 kind_of_rank (suc (suc (suc zero))) = kinds.Send
 kind_of_rank (suc (suc (suc (suc zero)))) = kinds.Hashes
-kind_of_rank _ = kinds.Column
+kind_of_rank (suc (suc (suc (suc (suc zero))))) = kinds.Column
+kind_of_rank (suc (suc (suc (suc (suc (suc zero)))))) = kinds.Want
+kind_of_rank _ = kinds.Value
 
 kind_back : (a : Kind) → kind_of_rank (kind_rank a) ≡ a
 unfolding kind_of_rank
@@ -34,6 +36,8 @@ kind_back kinds.Ready = refl
 kind_back kinds.Send = refl
 kind_back kinds.Hashes = refl
 kind_back kinds.Column = refl
+kind_back kinds.Want = refl
+kind_back kinds.Value = refl
 
 -- kinds of one rank are one
 pub same_rank : (a b : Kind) → kind_rank a ≡ kind_rank b → a ≡ b

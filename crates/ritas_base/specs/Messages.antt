@@ -29,6 +29,8 @@ kind_rank kinds.Ready = 2
 kind_rank kinds.Send = 3
 kind_rank kinds.Hashes = 4
 kind_rank kinds.Column = 5
+kind_rank kinds.Want = 6
+kind_rank kinds.Value = 7
 
 abbrev pub kind_eq : Kind → Kind → Bool
 kind_eq a b = kind_rank a == kind_rank b

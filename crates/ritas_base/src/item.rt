@@ -5,7 +5,8 @@ use crate::bytes::{Bytes, Mem};
 use crate::slot::Slot;
 use std::alloc::Global;
 
-/// The kinds of messages: those of reliable broadcast, and then those of echo broadcast.
+/// The kinds of messages: those of reliable broadcast, those of echo broadcast, and then those that reliable broadcast by
+/// digests has beside its own.
 #[derive(Clone, Copy, Debug, PartialEq, Eq, PartialOrd, Ord)]
 pub enum Kind {
     Init,
@@ -14,6 +15,8 @@ pub enum Kind {
     Send,
     Hashes,
     Column,
+    Want,
+    Value,
 }
 
 /// What one replica hears from another.

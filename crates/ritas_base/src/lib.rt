@@ -22,7 +22,7 @@ pub use event::Event;
 pub use id::Id;
 pub use item::{Item, Kind, Msg, Say, To};
 pub use laws::order_of_bytes;
-pub use mode::{Mode, Vect};
+pub use mode::{FrameVersion, Mode, Vect};
 pub use params::{ParamFault, Params};
 pub use plan::{Attack, Order, Plan};
 pub use sender_set::SenderSet;

@@ -1,8 +1,8 @@
 ghost use Rattle.std.specs.Prelude.{◌≡◌, Some, None, MatchResult, OnOk, if◌then◌else◌, ◌==◌, ◌&&◌};
 ghost use Rattle.ritas_base.specs.Numbers.{IsSession};
-ghost use Rattle.ritas_base.specs.Slots.{slot_fault, slot_bytes, by_echo, has_class, has_count, within};
+ghost use Rattle.ritas_base.specs.Slots.{slot_fault, slot_bytes, by_echo, form_of, has_class, has_count, within};
 
-use crate::mode::{Mode, Vect};
+use crate::mode::{FrameVersion, Mode, Vect};
 use crate::params::Params;
 
 /// One broadcast: a class (1 command, 2 vector proposal, 3 multi-valued proposal, 4 VECT, 5 step of binary
@@ -133,6 +133,20 @@ impl Slot {
             1 => mode.root == 2,
             4 => matches!(mode.vect, Vect::Echo),
             _ => false,
+        }
+    }
+
+    /// The form of the slot's broadcast: 1 reliable with values, 2 echo, 3 reliable with digests.
+    #[tactic(auto, unfolding(crate::specs::Slots::form_of))]
+    pub fn form(&self, mode: &Mode) -> u8
+        ensures { result ≡ form_of mode.now self.now }
+    {
+        if self.by_echo(mode) {
+            return 2;
+        }
+        match mode.version {
+            FrameVersion::One => 1,
+            FrameVersion::Two => 3,
         }
     }
 }

@@ -1,5 +1,5 @@
 ghost use Rattle.std.specs.Prelude.{◌≡◌, ℕ, Bool, ◌<◌, ◌⊎◌};
-ghost use Rattle.ritas_base.specs.Tags.{Tags};
+ghost use Rattle.ritas_base.specs.Tags.{Tags, HasDigests};
 ghost use Rattle.ritas_base.specs.declared.slot.Slot.{Slot};
 
 use crate::slot::Slot;
@@ -11,6 +11,9 @@ pub trait Tagger {
 
     /// What it answers.
     ghost tags: { Self → Tags };
+
+    /// A digest has 32 bytes.
+    ghost digests: { (t : Self) → HasDigests (tags t) };
 
     /// The number of the replica.
     fn me(&self) -> u8
