@@ -5,11 +5,13 @@ use Rattle.std.proofs.lemmas.Bool.{ltb-false, ltb-true, le-ltb, eqb-true, ne_eqb
 use Rattle.std.proofs.lemmas.List.{nil_from_length}
 use Rattle.std.proofs.lemmas.Nat.{be_bytes_4, from_be_bytes-to_be_bytes_4}
 use Rattle.ritas_base.specs.Numbers.{Numbers, IsSession}
-use Rattle.ritas_base.specs.Slots.{first_failed, slot_fault, slot_bytes, by_echo, has_class, within, has_number, has_attempt, has_count}
+use Rattle.ritas_base.specs.Slots.{first_failed, slot_fault, slot_bytes, by_echo, reliable_form, form_of, has_class, within, has_number, has_attempt, has_count}
 use Rattle.ritas_base.specs.declared.slot.Slot.{Slot}
 use Rattle.ritas_base.specs.declared.slot.SlotFault.{SlotFault}
 use Rattle.ritas_base.specs.declared.slot.SlotFault.TheVariants as slot_faults
 use Rattle.ritas_base.specs.declared.mode.Mode.{Mode}
+use Rattle.ritas_base.specs.declared.mode.FrameVersion.{FrameVersion}
+use Rattle.ritas_base.specs.declared.mode.FrameVersion.TheVariants as versions
 use Rattle.ritas_base.specs.declared.item.Item.{Item}
 use Rattle.ritas_base.specs.declared.item.Kind.{Kind}
 use Rattle.ritas_base.specs.declared.item.Kind.TheVariants as kinds
@@ -17,7 +19,7 @@ use Rattle.frame_codec.specs.declared.fault.BodyFault.{BodyFault}
 use Rattle.frame_codec.specs.declared.fault.BodyFault.TheVariants as faults
 use Rattle.frame_codec.specs.Format.{read}
 use Rattle.frame_codec.specs.Grammar.{payload}
-use Rattle.frame_codec.specs.Body.{kind_byte, kind_of, kind_at, is_of_broadcast, slot_of, IsInGrammar, Spells, spelling, unless, slot_fault_of, slot_answer, kind_answer, head_answer, payload_fault, body_answer, Answers}
+use Rattle.frame_codec.specs.Body.{kind_byte, kind_of, kind_at, is_of_version, if_of_version, is_of_form, slot_of, IsInGrammar, Spells, spelling, unless, slot_fault_of, slot_answer, kind_answer, head_answer, payload_fault, body_answer, Answers}
 use Rattle.frame_codec.specs.Values.{IsBytes}
 use Rattle.frame_codec.proofs.Formats.{bind_ok, read_is, is_read}
 
@@ -48,9 +50,15 @@ kind_back b kind e =
             | inl h ↦ found b kinds.Send kind h
             | inr e ↦ elim (pick (eqb b 5) kinds.Hashes _ kind e) [
               | inl h ↦ found b kinds.Hashes kind h
-              | inr e ↦ elim (pick (eqb b 6) kinds.Column None kind e) [
+              | inr e ↦ elim (pick (eqb b 6) kinds.Column _ kind e) [
                 | inl h ↦ found b kinds.Column kind h
-                | inr e ↦ absurd cc
+                | inr e ↦ elim (pick (eqb b 7) kinds.Want _ kind e) [
+                  | inl h ↦ found b kinds.Want kind h
+                  | inr e ↦ elim (pick (eqb b 8) kinds.Value None kind e) [
+                    | inl h ↦ found b kinds.Value kind h
+                    | inr e ↦ absurd cc
+                  ]
+                ]
               ]
             ]
           ]
@@ -65,6 +73,35 @@ kind_again kinds.Ready = refl
 kind_again kinds.Send = refl
 kind_again kinds.Hashes = refl
 kind_again kinds.Column = refl
+kind_again kinds.Want = refl
+kind_again kinds.Value = refl
+
+-- a kind that a version's frames have is theirs
+versioned : (version : FrameVersion) (o : Option Kind) (kind : Kind) → if_of_version version o ≡ Some kind → o ≡ Some kind
+versioned version None kind e = absurd cc
+versioned version (Some k) kind e = go (is_of_version version k) e
+  where
+    go : (t : Bool) → cond t (Some k) None ≡ Some kind → Some k ≡ Some kind
+    go true e = e
+    go false e = absurd cc
+
+-- a form's kinds are those of its version
+by_version : (version : FrameVersion) (echo : Bool) (kind : Kind) → is_of_form (cond echo 2 (reliable_form version)) kind ≡ true → is_of_version version kind ≡ true
+by_version versions.One true kinds.Want e = absurd cc
+by_version versions.One false kinds.Want e = absurd cc
+by_version versions.One true kinds.Value e = absurd cc
+by_version versions.One false kinds.Value e = absurd cc
+by_version versions.One echo kinds.Init e = refl
+by_version versions.One echo kinds.Echo e = refl
+by_version versions.One echo kinds.Ready e = refl
+by_version versions.One echo kinds.Send e = refl
+by_version versions.One echo kinds.Hashes e = refl
+by_version versions.One echo kinds.Column e = refl
+by_version versions.Two echo kind e = refl
+
+has_version : (mode : Mode) (s : Slot) (kind : Kind) → is_of_form (form_of mode s) kind ≡ true → is_of_version mode.version kind ≡ true
+unfolding form_of
+has_version mode s kind e = by_version mode.version (by_echo mode s) kind e
 
 -- ---- slots
 
@@ -136,24 +173,24 @@ record Head (p : Numbers) (mode : Mode) (bytes : List ℕ) (head : Kind × Slot)
   kind : kind_of (slice_index bytes 0) ≡ Some head.0
   made : slot_of (take 9 (drop 1 bytes)) ≡ head.1
   right : slot_fault p mode head.1 ≡ None
-  goes : is_of_broadcast (by_echo mode head.1) head.0 ≡ true
+  goes : is_of_form (form_of mode head.1) head.0 ≡ true
 
-first_kind : (t : Bool) (b : ℕ) (kind : Kind) → cond t None (kind_of b) ≡ Some kind → kind_of b ≡ Some kind
-first_kind true b kind e = absurd cc
-first_kind false b kind e = e
+first_kind : (version : FrameVersion) (t : Bool) (b : ℕ) (kind : Kind) → cond t None (if_of_version version (kind_of b)) ≡ Some kind → kind_of b ≡ Some kind
+first_kind version true b kind e = absurd cc
+first_kind version false b kind e = versioned version (kind_of b) kind e
 
-kind_ok : (p : Numbers) (mode : Mode) (bytes : List ℕ) (o : Option Kind) (head : Kind × Slot) → kind_at bytes ≡ o → kind_answer p mode bytes o ≡ Ok head → Head p mode bytes head
+kind_ok : (p : Numbers) (mode : Mode) (bytes : List ℕ) (o : Option Kind) (head : Kind × Slot) → kind_at mode.version bytes ≡ o → kind_answer p mode bytes o ≡ Ok head → Head p mode bytes head
 kind_ok p mode bytes None head is e = absurd cc
 kind_ok p mode bytes (Some kind) head is e =
     let slot = slot_of (take 9 (drop 1 bytes)) in
     let a = empty_ok (ltb (length bytes) 10) (faults.Slot slot_faults.Whole) (slot_answer p mode kind slot) head e in
-    let b = slot_ok (slot_fault p mode slot) (cond (is_of_broadcast (by_echo mode slot) kind) (Ok (kind, slot)) (Err faults.Kind)) head a.1 in
-    let w = when_ok (is_of_broadcast (by_echo mode slot) kind) faults.Kind (kind, slot) head b.1 in
-    subst (Head p mode bytes) w.1 (record { long = ltb-false _ _ a.0; kind = first_kind (eqb (length bytes) 0) (slice_index bytes 0) kind is; made = refl; right = b.0; goes = w.0 })
+    let b = slot_ok (slot_fault p mode slot) (cond (is_of_form (form_of mode slot) kind) (Ok (kind, slot)) (Err faults.Kind)) head a.1 in
+    let w = when_ok (is_of_form (form_of mode slot) kind) faults.Kind (kind, slot) head b.1 in
+    subst (Head p mode bytes) w.1 (record { long = ltb-false _ _ a.0; kind = first_kind mode.version (eqb (length bytes) 0) (slice_index bytes 0) kind is; made = refl; right = b.0; goes = w.0 })
 
 head_ok : (p : Numbers) (mode : Mode) (bytes : List ℕ) (head : Kind × Slot) → head_answer p mode bytes ≡ Ok head → Head p mode bytes head
 unfolding head_answer
-head_ok p mode bytes head e = kind_ok p mode bytes (kind_at bytes) head refl e
+head_ok p mode bytes head e = kind_ok p mode bytes (kind_at mode.version bytes) head refl e
 
 -- the item of this kind and slot
 abbrev made_of : ℕ → List ℕ → Kind × Slot → Item
@@ -162,18 +199,18 @@ made_of from bytes head = record { from = from; kind = head.0; slot = head.1; va
 record Answered (p : Numbers) (mode : Mode) (from : ℕ) (bytes : List ℕ) (item : Item) : Type 0 where
   head : Kind × Slot
   found : Head p mode bytes head
-  whole : read (payload p mode.root head.0 head.1) (drop 10 bytes) ≡ Ok []
+  whole : read (payload p mode head.0 head.1) (drop 10 bytes) ≡ Ok []
   made : made_of from bytes head ≡ item
 
 answered : (p : Numbers) (mode : Mode) (from : ℕ) (bytes : List ℕ) (item : Item) → body_answer p mode from bytes ≡ Ok item → Answered p mode from bytes item
 unfolding body_answer
 answered p mode from bytes item e =
-    let b = bind_ok (head_answer p mode bytes) (λ head. unless (payload_fault (length bytes) (read (payload p mode.root head.0 head.1) (drop 10 bytes))) (Ok (record { from = from; kind = head.0; slot = head.1; value = drop 10 bytes }))) item e in
-    let u = unless_ok (payload_fault (length bytes) (read (payload p mode.root b.0.0 b.0.1) (drop 10 bytes))) (made_of from bytes b.0) item b.2 in
+    let b = bind_ok (head_answer p mode bytes) (λ head. unless (payload_fault (length bytes) (read (payload p mode head.0 head.1) (drop 10 bytes))) (Ok (record { from = from; kind = head.0; slot = head.1; value = drop 10 bytes }))) item e in
+    let u = unless_ok (payload_fault (length bytes) (read (payload p mode b.0.0 b.0.1) (drop 10 bytes))) (made_of from bytes b.0) item b.2 in
     record {
       head = b.0;
       found = head_ok p mode bytes b.0 b.1;
-      whole = no_fault (length bytes) (read (payload p mode.root b.0.0 b.0.1) (drop 10 bytes)) u.0;
+      whole = no_fault (length bytes) (read (payload p mode b.0.0 b.0.1) (drop 10 bytes)) u.0;
       made = u.1;
     }
 
@@ -182,7 +219,7 @@ made_good p mode from bytes item session a = record {
   session = session;
   slot = a.found.right;
   kind = a.found.goes;
-  payload_is = read_is (payload p mode.root a.head.0 a.head.1) (drop 10 bytes) a.whole;
+  payload_is = read_is (payload p mode a.head.0 a.head.1) (drop 10 bytes) a.whole;
 }
 
 -- what is answered is in the grammar, and from the sender
@@ -213,12 +250,13 @@ head_again p mode item is =
     let some : eqb (length bytes) 0 ≡ false = ne_eqb _ _ (omega arith) in
     let slot : slot_of (take 9 (drop 1 bytes)) ≡ item.slot = slot_again item.slot (number_fits p mode item.slot is.slot) in
     let kind = kind_again item.kind in
-    rw (some, kind, long, slot, is.slot, is.kind) refl
+    let version : is_of_version mode.version item.kind ≡ true = has_version mode item.slot item.kind is.kind in
+    rw (some, kind, version, long, slot, is.slot, is.kind) refl
 
 pub spells_answer : (p : Numbers) (mode : Mode) (from : ℕ) (bytes : List ℕ) (item : Item) → Spells p mode from bytes item → body_answer p mode from bytes ≡ Ok item
 unfolding body_answer
 spells_answer p mode from bytes item is =
-    let whole = is_read (payload p mode.root item.kind item.slot) item.value is.in_grammar.payload_is in
+    let whole = is_read (payload p mode item.kind item.slot) item.value is.in_grammar.payload_is in
     rw (is.is_spelling, head_again p mode item is.in_grammar, whole, ← is.sender) refl
 
 -- ---- the two laws, at what a function returned

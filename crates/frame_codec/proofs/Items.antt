@@ -2,16 +2,18 @@
 use Rattle.std.proofs.Common.{◌≡◌, ℕ, ◌<◌, ◌≤◌, ◌&&◌, ◌||◌, Bool, true, false, not, cond, eqb, leb, ltb, List, length, None, Result, Ok, refl, sym, ap, subst, ◌∙◌, arith, inl, inr, ◌⊎◌}
 use Rattle.std.proofs.lemmas.Bool.{eqb-true, leb-true, lt-ltb, and_parts, and_from, or_right}
 use Rattle.ritas_base.specs.Numbers.{Numbers, IsSession}
-use Rattle.ritas_base.specs.Slots.{within, has_class, has_number, slot_fault, by_echo, command_slot}
+use Rattle.ritas_base.specs.Slots.{within, has_class, has_number, slot_fault, by_echo, reliable_form, form_of, command_slot}
 use Rattle.ritas_base.specs.declared.slot.Slot.{Slot}
 use Rattle.ritas_base.specs.declared.mode.Mode.{Mode}
+use Rattle.ritas_base.specs.declared.mode.FrameVersion.{FrameVersion}
+use Rattle.ritas_base.specs.declared.mode.FrameVersion.TheVariants as versions
 use Rattle.ritas_base.specs.declared.item.Item.{Item}
 use Rattle.ritas_base.specs.declared.item.Kind.{Kind}
 use Rattle.ritas_base.specs.declared.item.Kind.TheVariants as kinds
 use Rattle.frame_codec.specs.declared.fault.BodyFault.{BodyFault}
 use Rattle.frame_codec.specs.Format.{Format, Is}
-use Rattle.frame_codec.specs.Grammar.{class1, class2, class3, bit, value, payload}
-use Rattle.frame_codec.specs.Body.{IsInGrammar, Spells, spelling, body_answer, is_of_broadcast, carries_value}
+use Rattle.frame_codec.specs.Grammar.{class1, class2, class3, bit, value, carries_digest, digest, payload}
+use Rattle.frame_codec.specs.Body.{IsInGrammar, Spells, spelling, body_answer, is_of_form, carries_value}
 use Rattle.frame_codec.specs.Inputs.{IsInput, input_format, takes_input, first_kind}
 use Rattle.frame_codec.proofs.Bodies.{spells_answer}
 use Rattle.frame_codec.proofs.Spans.{value_below}
@@ -40,63 +42,52 @@ spelling_short p mode item is = omega (arith, value_below p mode item is)
 
 -- ---- the slot's value
 
-pub payload_is_value : (p : Numbers) (root : ℕ) (kind : Kind) (s : Slot) → carries_value kind ≡ true → payload p root kind s ≡ value p root s
-unfolding payload
-payload_is_value p root kinds.Init s e = refl
-payload_is_value p root kinds.Echo s e = refl
-payload_is_value p root kinds.Ready s e = refl
-payload_is_value p root kinds.Send s e = refl
-payload_is_value p root kinds.Hashes s e = absurd cc
-payload_is_value p root kinds.Column s e = absurd cc
+chosen : (t : Bool) (a b : Format) → not t ≡ true → cond t a b ≡ b
+chosen true a b e = absurd cc
+chosen false a b e = refl
 
-pub value_from : (p : Numbers) (mode : Mode) (item : Item) → carries_value item.kind ≡ true → IsInGrammar p mode item
+pub payload_is_value : (p : Numbers) (mode : Mode) (kind : Kind) (s : Slot) → carries_value (form_of mode s) kind ≡ true → payload p mode kind s ≡ value p mode.root s
+unfolding payload
+payload_is_value p mode kinds.Hashes s e = absurd cc
+payload_is_value p mode kinds.Column s e = absurd cc
+payload_is_value p mode kinds.Init s e = chosen (carries_digest (form_of mode s) kinds.Init) digest (value p mode.root s) e
+payload_is_value p mode kinds.Echo s e = chosen (carries_digest (form_of mode s) kinds.Echo) digest (value p mode.root s) e
+payload_is_value p mode kinds.Ready s e = chosen (carries_digest (form_of mode s) kinds.Ready) digest (value p mode.root s) e
+payload_is_value p mode kinds.Send s e = chosen (carries_digest (form_of mode s) kinds.Send) digest (value p mode.root s) e
+payload_is_value p mode kinds.Want s e = chosen (carries_digest (form_of mode s) kinds.Want) digest (value p mode.root s) e
+payload_is_value p mode kinds.Value s e = chosen (carries_digest (form_of mode s) kinds.Value) digest (value p mode.root s) e
+
+pub value_from : (p : Numbers) (mode : Mode) (item : Item) → carries_value (form_of mode item.slot) item.kind ≡ true → IsInGrammar p mode item
     → Is (value p mode.root item.slot) item.value
 value_from p mode item carries is =
-    subst (λ (f : Format). Is f item.value) (payload_is_value p mode.root item.kind item.slot carries) is.payload_is
+    subst (λ (f : Format). Is f item.value) (payload_is_value p mode item.kind item.slot carries) is.payload_is
 
-pub item_from : (p : Numbers) (mode : Mode) (item : Item) → carries_value item.kind ≡ true → IsSession p
-    → slot_fault p mode item.slot ≡ None → is_of_broadcast (by_echo mode item.slot) item.kind ≡ true
+pub item_from : (p : Numbers) (mode : Mode) (item : Item) → carries_value (form_of mode item.slot) item.kind ≡ true → IsSession p
+    → slot_fault p mode item.slot ≡ None → is_of_form (form_of mode item.slot) item.kind ≡ true
     → Is (value p mode.root item.slot) item.value → IsInGrammar p mode item
 item_from p mode item carries session slot goes is = record {
   session = session;
   slot = slot;
   kind = goes;
-  payload_is = subst (λ (f : Format). Is f item.value) (sym (payload_is_value p mode.root item.kind item.slot carries)) is;
+  payload_is = subst (λ (f : Format). Is f item.value) (sym (payload_is_value p mode item.kind item.slot carries)) is;
 }
-
-reliable_carries : (kind : Kind) → is_of_broadcast false kind ≡ true → carries_value kind ≡ true
-reliable_carries kinds.Init e = refl
-reliable_carries kinds.Echo e = refl
-reliable_carries kinds.Ready e = refl
-reliable_carries kinds.Send e = absurd cc
-reliable_carries kinds.Hashes e = absurd cc
-reliable_carries kinds.Column e = absurd cc
-
-reliable_goes : (echo : Bool) (kind : Kind) → is_of_broadcast false kind ≡ true → is_of_broadcast echo kind ≡ not echo
-reliable_goes echo kinds.Init e = refl
-reliable_goes echo kinds.Echo e = refl
-reliable_goes echo kinds.Ready e = refl
-reliable_goes echo kinds.Send e = absurd cc
-reliable_goes echo kinds.Hashes e = absurd cc
-reliable_goes echo kinds.Column e = absurd cc
 
 pub same_senders : (p : Numbers) (mode : Mode) (a b : Item) → a.kind ≡ b.kind → a.slot ≡ b.slot → a.value ≡ b.value
     → IsInGrammar p mode a → IsInGrammar p mode b
 same_senders p mode a b kind slot same is = record {
   session = is.session;
   slot = subst (λ (s : Slot). slot_fault p mode s ≡ None) slot is.slot;
-  kind = subst (λ (s : Slot). is_of_broadcast (by_echo mode s) b.kind ≡ true) slot (subst (λ (k : Kind). is_of_broadcast (by_echo mode a.slot) k ≡ true) kind is.kind);
-  payload_is = subst (Is (payload p mode.root b.kind b.slot)) same (subst (λ (s : Slot). Is (payload p mode.root b.kind s) a.value) slot (subst (λ (k : Kind). Is (payload p mode.root k a.slot) a.value) kind is.payload_is));
+  kind = subst (λ (s : Slot). is_of_form (form_of mode s) b.kind ≡ true) slot (subst (λ (k : Kind). is_of_form (form_of mode a.slot) k ≡ true) kind is.kind);
+  payload_is = subst (Is (payload p mode b.kind b.slot)) same (subst (λ (s : Slot). Is (payload p mode b.kind s) a.value) slot (subst (λ (k : Kind). Is (payload p mode k a.slot) a.value) kind is.payload_is));
 }
 
-pub same_kinds : (p : Numbers) (mode : Mode) (a b : Item) → is_of_broadcast false a.kind ≡ true → is_of_broadcast false b.kind ≡ true
-    → a.slot ≡ b.slot → a.value ≡ b.value → IsInGrammar p mode a → IsInGrammar p mode b
-same_kinds p mode a b x y slot same is =
-    let echo = by_echo mode a.slot in
+pub same_kinds : (p : Numbers) (mode : Mode) (a b : Item) → carries_value (form_of mode a.slot) a.kind ≡ true → carries_value (form_of mode b.slot) b.kind ≡ true
+    → is_of_form (form_of mode b.slot) b.kind ≡ true → a.slot ≡ b.slot → a.value ≡ b.value → IsInGrammar p mode a → IsInGrammar p mode b
+same_kinds p mode a b x y goes slot same is =
     let other : Item = record a { kind = b.kind } in
-    let goes = reliable_goes echo b.kind y ∙ sym (reliable_goes echo a.kind x) ∙ is.kind in
-    let made : IsInGrammar p mode other =
-    item_from p mode other (reliable_carries b.kind y) is.session is.slot goes (value_from p mode a (reliable_carries a.kind x) is) in
+    let here : is_of_form (form_of mode a.slot) b.kind ≡ true = ap (λ (s : Slot). is_of_form (form_of mode s) b.kind) slot ∙ goes in
+    let carries : carries_value (form_of mode a.slot) b.kind ≡ true = ap (λ (s : Slot). carries_value (form_of mode s) b.kind) slot ∙ y in
+    let made : IsInGrammar p mode other = item_from p mode other carries is.session is.slot here (value_from p mode a x is) in
     same_senders p mode other b refl slot same made
 
 -- ---- inputs
@@ -169,13 +160,25 @@ unfolding slot_fault
 command_slot_right p mode origin num has lt small =
     rw (has, command_numbered mode.root num has small, no_tries (leb 5 mode.root) p.f, lt-ltb origin p.n lt) refl
 
-first_goes : (echo : Bool) → is_of_broadcast echo (first_kind echo) ≡ true
-first_goes true = refl
-first_goes false = refl
+first_by : (version : FrameVersion) (echo : Bool) → is_of_form (cond echo 2 (reliable_form version)) (first_kind echo) ≡ true
+first_by versions.One true = refl
+first_by versions.Two true = refl
+first_by versions.One false = refl
+first_by versions.Two false = refl
 
-first_carries : (echo : Bool) → carries_value (first_kind echo) ≡ true
-first_carries true = refl
-first_carries false = refl
+first_goes : (mode : Mode) (s : Slot) → is_of_form (form_of mode s) (first_kind (by_echo mode s)) ≡ true
+unfolding form_of
+first_goes mode s = first_by mode.version (by_echo mode s)
+
+carries_by : (version : FrameVersion) (echo : Bool) → carries_value (cond echo 2 (reliable_form version)) (first_kind echo) ≡ true
+carries_by versions.One true = refl
+carries_by versions.Two true = refl
+carries_by versions.One false = refl
+carries_by versions.Two false = refl
+
+first_carries : (mode : Mode) (s : Slot) → carries_value (form_of mode s) (first_kind (by_echo mode s)) ≡ true
+unfolding form_of
+first_carries mode s = carries_by mode.version (by_echo mode s)
 
 command_takes : (t3 t4 t5 : Bool) (root : ℕ) → (root ≤ 2) ⊎ (root ≡ 6) → (t3 ≡ true → root ≡ 3) → (t4 ≡ true → root ≡ 4) → (t5 ≡ true → root ≡ 5)
     → cond t3 false (cond t4 false (cond t5 false true)) ≡ true
@@ -200,6 +203,6 @@ command_is p mode item num session has slot lt small kind is =
     let echo = by_echo mode item.slot in
     let right : slot_fault p mode item.slot ≡ None = ap (slot_fault p mode) slot ∙ command_slot_right p mode item.slot.origin num has lt small in
     let takes : takes_input mode.root item.slot ≡ true = ap (takes_input mode.root) slot ∙ command_takes_input mode.root item.slot.origin num has in
-    let carries : carries_value item.kind ≡ true = ap carries_value kind ∙ first_carries echo in
-    let goes : is_of_broadcast echo item.kind ≡ true = ap (is_of_broadcast echo) kind ∙ first_goes echo in
+    let carries : carries_value (form_of mode item.slot) item.kind ≡ true = ap (carries_value (form_of mode item.slot)) kind ∙ first_carries mode item.slot in
+    let goes : is_of_form (form_of mode item.slot) item.kind ≡ true = ap (is_of_form (form_of mode item.slot)) kind ∙ first_goes mode item.slot in
     item_from p mode item carries session right goes (input_value p mode item.slot item.value takes is)

@@ -12,11 +12,12 @@ use Rattle.ritas_base.specs.declared.item.Kind.TheVariants as kinds
 use Rattle.ritas_base.specs.declared.item.Item.{Item}
 use Rattle.ritas_base.specs.declared.mode.Mode.{Mode}
 use Rattle.frame_codec.specs.declared.ids.Run.{Run}
+use Rattle.ritas_base.specs.Slots.{form_of}
 use Rattle.frame_codec.specs.Body.{IsInGrammar}
 use Rattle.frame_codec.specs.Inputs.{input_format}
 use Rattle.frame_codec.proofs.Formats.{is_read}
 use Rattle.frame_codec.specs.Format.{Format, Done, Number, Block, Plain, Left, ◌>>◌, ◌>>=◌, read}
-use Rattle.frame_codec.specs.Grammar.{any, id_of, no_ids, with_id, comes_after, ids_from, ids, is_places, entry, times, vector, class1, class2, class3, vect, bit, value, hashes, column, payload}
+use Rattle.frame_codec.specs.Grammar.{carries_digest, digest, any, id_of, no_ids, with_id, comes_after, ids_from, ids, is_places, entry, times, vector, class1, class2, class3, vect, bit, value, hashes, column, payload}
 
 abbrev pub IsShort : ℕ → Format → Type 0
 IsShort k Done = Unit {0}
@@ -175,17 +176,21 @@ column_short p is = (
       (omega (arith, is.most), λ x ok. tt),
 )
 
-pub payload_short : (p : Numbers) (root : ℕ) (kind : Kind) (s : Slot) → IsSession p → IsShort 15942 (payload p root kind s)
+digest_short : IsShort 15942 digest
+unfolding digest
+digest_short = (lit≤ tt, λ x ok. tt)
+
+pub payload_short : (p : Numbers) (mode : Mode) (kind : Kind) (s : Slot) → IsSession p → IsShort 15942 (payload p mode kind s)
 unfolding payload
-payload_short p root kinds.Hashes s is = hashes_short p is
-payload_short p root kinds.Column s is = column_short p is
-payload_short p root _ s is = value_short p root s is
+payload_short p mode kinds.Hashes s is = hashes_short p is
+payload_short p mode kinds.Column s is = column_short p is
+payload_short p mode kind s is = choice_short (carries_digest (form_of mode s) kind) 15942 digest (value p mode.root s) digest_short (value_short p mode.root s is)
 
 -- the payload of an item in the grammar is short
 pub value_below : (p : Numbers) (mode : Mode) (item : Item) → IsInGrammar p mode item → length item.value ≤ 15942
 value_below p mode item is =
-    let format = payload p mode.root item.kind item.slot in
-    let spans = short_spans format 15942 item.value (payload_short p mode.root item.kind item.slot is.session) in
+    let format = payload p mode item.kind item.slot in
+    let spans = short_spans format 15942 item.value (payload_short p mode item.kind item.slot is.session) in
     let s = subst (Spans 15942 (length item.value)) (is_read format item.value is.payload_is) spans in
     omega (arith, s.1)
 

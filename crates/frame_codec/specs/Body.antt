@@ -2,18 +2,20 @@
 use Rattle.std.specs.Prelude.{◌≡◌, ℕ, ◌-◌, Bool, true, false, not, ◌==◌, nat_lt, List, ◌∷◌, ◌++◌, length, slice_index, take, drop, Option, Some, None, Result, Ok, Err, if◌then◌else◌}
 use Rattle.std.specs.Int.{w32, from_be_bytes}
 use Rattle.ritas_base.specs.Numbers.{Numbers, IsSession}
-use Rattle.ritas_base.specs.Slots.{slot_fault, slot_bytes, by_echo}
+use Rattle.ritas_base.specs.Slots.{slot_fault, slot_bytes, form_of}
 use Rattle.ritas_base.specs.declared.slot.Slot.{Slot}
 use Rattle.ritas_base.specs.declared.slot.SlotFault.{SlotFault}
 use Rattle.ritas_base.specs.declared.slot.SlotFault.TheVariants.{Whole}
 use Rattle.ritas_base.specs.declared.mode.Mode.{Mode}
+use Rattle.ritas_base.specs.declared.mode.FrameVersion.{FrameVersion}
+use Rattle.ritas_base.specs.declared.mode.FrameVersion.TheVariants.{One}
 use Rattle.ritas_base.specs.declared.item.Item.{Item}
 use Rattle.ritas_base.specs.declared.item.Kind.{Kind}
 use Rattle.ritas_base.specs.declared.item.Kind.TheVariants as kinds
 use Rattle.frame_codec.specs.declared.fault.BodyFault.{BodyFault}
 use Rattle.frame_codec.specs.declared.fault.BodyFault.TheVariants as faults
 use Rattle.frame_codec.specs.Format.{Is, read, ◌>>=◌}
-use Rattle.frame_codec.specs.Grammar.{payload}
+use Rattle.frame_codec.specs.Grammar.{carries_digest, payload}
 
 abbrev pub kind_byte : Kind → ℕ
 kind_byte kinds.Init = 1
@@ -22,29 +24,33 @@ kind_byte kinds.Ready = 3
 kind_byte kinds.Send = 4
 kind_byte kinds.Hashes = 5
 kind_byte kinds.Column = 6
+kind_byte kinds.Want = 7
+kind_byte kinds.Value = 8
 
--- whether a broadcast has this kind
-abbrev pub is_of_broadcast : Bool → Kind → Bool
-is_of_broadcast echo kinds.Init = not echo
-is_of_broadcast echo kinds.Echo = not echo
-is_of_broadcast echo kinds.Ready = not echo
-is_of_broadcast echo kinds.Send = echo
-is_of_broadcast echo kinds.Hashes = echo
-is_of_broadcast echo kinds.Column = echo
+-- whether a broadcast of this form has this kind: form 2 is echo broadcast, and 3 reliable broadcast with digests
+abbrev pub is_of_form : ℕ → Kind → Bool
+is_of_form form kinds.Init = not (form == 2)
+is_of_form form kinds.Echo = not (form == 2)
+is_of_form form kinds.Ready = not (form == 2)
+is_of_form form kinds.Send = form == 2
+is_of_form form kinds.Hashes = form == 2
+is_of_form form kinds.Column = form == 2
+is_of_form form kinds.Want = form == 3
+is_of_form form kinds.Value = form == 3
 
--- whether what comes with this kind is the slot's value
-abbrev pub carries_value : Kind → Bool
-carries_value kinds.Hashes = false
-carries_value kinds.Column = false
-carries_value _ = true
+-- whether what comes with this kind in a broadcast of this form is the slot's value
+abbrev pub carries_value : ℕ → Kind → Bool
+carries_value form kinds.Hashes = false
+carries_value form kinds.Column = false
+carries_value form kind = not (carries_digest form kind)
 
 -- ---- the grammar
 
 pub record IsInGrammar (p : Numbers) (mode : Mode) (item : Item) : Type 0 where
   pub session : IsSession p
   pub slot : slot_fault p mode item.slot ≡ None
-  pub kind : is_of_broadcast (by_echo mode item.slot) item.kind ≡ true
-  pub payload_is : Is (payload p mode.root item.kind item.slot) item.value
+  pub kind : is_of_form (form_of mode item.slot) item.kind ≡ true
+  pub payload_is : Is (payload p mode item.kind item.slot) item.value
 
 -- the one spelling of an item
 abbrev pub spelling : Item → List ℕ
@@ -65,11 +71,24 @@ kind_of b =
     else if b == 4 then Some kinds.Send
     else if b == 5 then Some kinds.Hashes
     else if b == 6 then Some kinds.Column
+    else if b == 7 then Some kinds.Want
+    else if b == 8 then Some kinds.Value
     else None
 
+-- whether frames of this version have this kind
+abbrev pub is_of_version : FrameVersion → Kind → Bool
+is_of_version One kinds.Want = false
+is_of_version One kinds.Value = false
+is_of_version version kind = true
+
+-- the kind, where frames of this version have it
+abbrev pub if_of_version : FrameVersion → Option Kind → Option Kind
+if_of_version version None = None
+if_of_version version (Some kind) = if is_of_version version kind then Some kind else None
+
 -- the kind that a body begins with
-abbrev pub kind_at : List ℕ → Option Kind
-kind_at bytes = if length bytes == 0 then None else kind_of (slice_index bytes 0)
+abbrev pub kind_at : FrameVersion → List ℕ → Option Kind
+kind_at version bytes = if length bytes == 0 then None else if_of_version version (kind_of (slice_index bytes 0))
 
 -- the slot that nine bytes are
 unfoldable pub slot_of : List ℕ → Slot
@@ -98,7 +117,7 @@ slot_fault_of (Some x) = Some (faults.Slot x)
 abbrev pub slot_answer : Numbers → Mode → Kind → Slot → Result (Kind × Slot) BodyFault
 slot_answer p mode kind slot =
     unless (slot_fault_of (slot_fault p mode slot))
-    (if is_of_broadcast (by_echo mode slot) kind then Ok (kind, slot) else Err faults.Kind)
+    (if is_of_form (form_of mode slot) kind then Ok (kind, slot) else Err faults.Kind)
 
 abbrev pub kind_answer : Numbers → Mode → List ℕ → Option Kind → Result (Kind × Slot) BodyFault
 kind_answer p mode bytes None = Err faults.Kind
@@ -106,7 +125,7 @@ kind_answer p mode bytes (Some kind) =
     if nat_lt (length bytes) 10 then Err (faults.Slot Whole) else slot_answer p mode kind (slot_at bytes)
 
 unfoldable pub head_answer : Numbers → Mode → List ℕ → Result (Kind × Slot) BodyFault
-head_answer p mode bytes = kind_answer p mode bytes (kind_at bytes)
+head_answer p mode bytes = kind_answer p mode bytes (kind_at mode.version bytes)
 
 -- offsets are counted from the body's first byte
 abbrev pub payload_fault : ℕ → Result (List ℕ) ℕ → Option BodyFault
@@ -116,7 +135,7 @@ payload_fault len (Ok rest) = if length rest == 0 then None else Some (faults.Re
 unfoldable pub body_answer : Numbers → Mode → ℕ → List ℕ → Result Item BodyFault
 body_answer p mode from bytes = do
   head ← head_answer p mode bytes
-  unless (payload_fault (length bytes) (read (payload p mode.root head.0 head.1) (drop 10 bytes)))
+  unless (payload_fault (length bytes) (read (payload p mode head.0 head.1) (drop 10 bytes)))
       (Ok (record { from = from; kind = head.0; slot = head.1; value = drop 10 bytes }))
 
 -- What a function returned is this answer, or it has run out of memory where the answer is an item.

@@ -3,10 +3,11 @@ use Rattle.std.specs.Prelude.{ℕ, zero, suc, ◌+◌, ◌-◌, ◌*◌, ◌/◌
 use Rattle.std.specs.Int.{w8, w16, w32, from_be_bytes}
 use Rattle.std.specs.Int.RustNames.{count_ones}
 use Rattle.ritas_base.specs.Numbers.{Numbers, wait_of, support_of}
-use Rattle.ritas_base.specs.Slots.{within}
+use Rattle.ritas_base.specs.Slots.{within, form_of}
 use Rattle.ritas_base.specs.declared.slot.Slot.{Slot}
 use Rattle.ritas_base.specs.declared.item.Kind.{Kind}
-use Rattle.ritas_base.specs.declared.item.Kind.TheVariants.{Hashes, Column}
+use Rattle.ritas_base.specs.declared.mode.Mode.{Mode}
+use Rattle.ritas_base.specs.declared.item.Kind.TheVariants.{Echo, Ready, Hashes, Column, Want}
 use Rattle.ritas_base.specs.declared.id.Id.{Id}
 use Rattle.frame_codec.specs.declared.ids.Run.{Run}
 use Rattle.frame_codec.specs.Format.{Format, Done, Number, Block, Plain, Left, ◌>>◌, ◌>>=◌, block_at}
@@ -110,7 +111,21 @@ hashes n = Block (32 * n) any (λ _. Done)
 unfoldable pub column : ℕ → Format
 column n = Number w32 (is_places n 1) (λ mask. Block (32 * count_ones mask) any (λ _. Done))
 
-unfoldable pub payload : Numbers → ℕ → Kind → Slot → Format
-payload p root Hashes s = hashes p.n
-payload p root Column s = column p.n
-payload p root _ s = value p root s
+-- the kinds that carry a digest where reliable broadcast goes by digests
+abbrev pub is_of_digest : Kind → Bool
+is_of_digest Echo = true
+is_of_digest Ready = true
+is_of_digest Want = true
+is_of_digest _ = false
+
+-- whether a digest comes with this kind in a broadcast of this form
+abbrev pub carries_digest : ℕ → Kind → Bool
+carries_digest form kind = form == 3 && is_of_digest kind
+
+unfoldable pub digest : Format
+digest = Block 32 any (λ _. Done)
+
+unfoldable pub payload : Numbers → Mode → Kind → Slot → Format
+payload p mode Hashes s = hashes p.n
+payload p mode Column s = column p.n
+payload p mode kind s = if carries_digest (form_of mode s) kind then digest else value p mode.root s

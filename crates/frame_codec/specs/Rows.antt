@@ -5,15 +5,18 @@ use Rattle.std.proofs.Common.{lit≤}
 use Rattle.std.specs.Int.RustNames.{count_ones}
 use Rattle.ritas_base.specs.Members.{has_member, member_count}
 use Rattle.ritas_base.specs.Numbers.{Numbers}
-use Rattle.ritas_base.specs.Slots.{has_class, slot_fault, by_echo}
+use Rattle.ritas_base.specs.Slots.{has_class, slot_fault, by_echo, form_of}
 use Rattle.ritas_base.specs.declared.slot.SlotFault.TheVariants.{Class, Closed, Number, Attempt, Round, Step, Origin, Whole}
 use Rattle.ritas_base.specs.declared.mode.Mode.{Mode}
 use Rattle.ritas_base.specs.declared.mode.Vect.TheVariants.{Echo}
+use Rattle.ritas_base.specs.declared.mode.FrameVersion.TheVariants.{One, Two}
+use Rattle.ritas_base.specs.declared.item.Kind.{Kind as a_kind}
+use Rattle.ritas_base.specs.declared.item.Kind.TheVariants as kinds
 use Rattle.ritas_base.specs.declared.item.Item.{Item}
 use Rattle.ritas_base.specs.declared.item.Kind.TheVariants.{Init}
 use Rattle.frame_codec.specs.declared.fault.BodyFault.{BodyFault}
 use Rattle.frame_codec.specs.declared.fault.BodyFault.TheVariants.{Kind, Slot as SlotWrong, Payload, Rest}
-use Rattle.frame_codec.specs.Grammar.{ids_from, ids, class1, class2, class3, vect, bit, value, payload}
+use Rattle.frame_codec.specs.Grammar.{ids_from, ids, class1, class2, class3, vect, bit, value, digest, payload}
 use Rattle.frame_codec.specs.Body.{slot_of, head_answer, body_answer}
 use Rattle.frame_codec.specs.Inputs.{input_format, input_fault}
 use Rattle.frame_codec.specs.Values.{mask_of, at_place, rows_in, row_of}
@@ -24,19 +27,19 @@ four = record { n = 4; f = 1 }
 -- the root services
 
 abbrev one : Mode
-one = record { root = 1; vect = Echo; low = lit≤ tt; high = lit≤ tt }
+one = record { root = 1; vect = Echo; version = One; low = lit≤ tt; high = lit≤ tt }
 
 abbrev three : Mode
-three = record { root = 3; vect = Echo; low = lit≤ tt; high = lit≤ tt }
+three = record { root = 3; vect = Echo; version = One; low = lit≤ tt; high = lit≤ tt }
 
 abbrev fourth : Mode
-fourth = record { root = 4; vect = Echo; low = lit≤ tt; high = lit≤ tt }
+fourth = record { root = 4; vect = Echo; version = One; low = lit≤ tt; high = lit≤ tt }
 
 abbrev five : Mode
-five = record { root = 5; vect = Echo; low = lit≤ tt; high = lit≤ tt }
+five = record { root = 5; vect = Echo; version = One; low = lit≤ tt; high = lit≤ tt }
 
 abbrev six : Mode
-six = record { root = 6; vect = Echo; low = lit≤ tt; high = lit≤ tt }
+six = record { root = 6; vect = Echo; version = One; low = lit≤ tt; high = lit≤ tt }
 
 -- ---- bodies, from replica 2
 
@@ -50,72 +53,152 @@ init class bround step value = Ok (record {
 })
 
 empty : body_answer four one 2 [] ≡ Err Kind
-unfolding body_answer head_answer slot_of slot_fault has_class by_echo payload value class1 class2 class3 vect bit ids ids_from
+unfolding body_answer head_answer slot_of slot_fault has_class by_echo form_of payload digest value class1 class2 class3 vect bit ids ids_from
 empty = refl
 
 no_such_kind : body_answer four one 2 (7 ∷ 1 ∷ 0 ∷ 0 ∷ 0 ∷ 0 ∷ 0 ∷ 0 ∷ 0 ∷ 0 ∷ 97 ∷ []) ≡ Err Kind
-unfolding body_answer head_answer slot_of slot_fault has_class by_echo payload value class1 class2 class3 vect bit ids ids_from
+unfolding body_answer head_answer slot_of slot_fault has_class by_echo form_of payload digest value class1 class2 class3 vect bit ids ids_from
 no_such_kind = refl
 
 send_at_a_reliable_broadcast : body_answer four one 2 (4 ∷ 1 ∷ 0 ∷ 0 ∷ 0 ∷ 0 ∷ 0 ∷ 0 ∷ 0 ∷ 0 ∷ 97 ∷ []) ≡ Err Kind
-unfolding body_answer head_answer slot_of slot_fault has_class by_echo payload value class1 class2 class3 vect bit ids ids_from
+unfolding body_answer head_answer slot_of slot_fault has_class by_echo form_of payload digest value class1 class2 class3 vect bit ids ids_from
 send_at_a_reliable_broadcast = refl
 
 no_whole_slot : body_answer four one 2 (1 ∷ 1 ∷ 0 ∷ []) ≡ Err (SlotWrong Whole)
-unfolding body_answer head_answer slot_of slot_fault has_class by_echo payload value class1 class2 class3 vect bit ids ids_from
+unfolding body_answer head_answer slot_of slot_fault has_class by_echo form_of payload digest value class1 class2 class3 vect bit ids ids_from
 no_whole_slot = refl
 
 no_such_class : body_answer four one 2 (1 ∷ 6 ∷ 0 ∷ 0 ∷ 0 ∷ 0 ∷ 0 ∷ 0 ∷ 0 ∷ 0 ∷ 97 ∷ []) ≡ Err (SlotWrong Class)
-unfolding body_answer head_answer slot_of slot_fault has_class by_echo payload value class1 class2 class3 vect bit ids ids_from
+unfolding body_answer head_answer slot_of slot_fault has_class by_echo form_of payload digest value class1 class2 class3 vect bit ids ids_from
 no_such_class = refl
 
 class_of_another_root_service : body_answer four one 2 (1 ∷ 5 ∷ 0 ∷ 0 ∷ 0 ∷ 0 ∷ 0 ∷ 0 ∷ 1 ∷ 1 ∷ 0 ∷ []) ≡ Err (SlotWrong Closed)
-unfolding body_answer head_answer slot_of slot_fault has_class by_echo payload value class1 class2 class3 vect bit ids ids_from
+unfolding body_answer head_answer slot_of slot_fault has_class by_echo form_of payload digest value class1 class2 class3 vect bit ids ids_from
 class_of_another_root_service = refl
 
 number_too_large : body_answer four one 2 (1 ∷ 1 ∷ 0 ∷ 15 ∷ 66 ∷ 64 ∷ 0 ∷ 0 ∷ 0 ∷ 0 ∷ 97 ∷ []) ≡ Err (SlotWrong Number)
-unfolding body_answer head_answer slot_of slot_fault has_class by_echo payload value class1 class2 class3 vect bit ids ids_from
+unfolding body_answer head_answer slot_of slot_fault has_class by_echo form_of payload digest value class1 class2 class3 vect bit ids ids_from
 number_too_large = refl
 
 try_of_a_command : body_answer four one 2 (1 ∷ 1 ∷ 0 ∷ 0 ∷ 0 ∷ 0 ∷ 1 ∷ 0 ∷ 0 ∷ 0 ∷ 97 ∷ []) ≡ Err (SlotWrong Attempt)
-unfolding body_answer head_answer slot_of slot_fault has_class by_echo payload value class1 class2 class3 vect bit ids ids_from
+unfolding body_answer head_answer slot_of slot_fault has_class by_echo form_of payload digest value class1 class2 class3 vect bit ids ids_from
 try_of_a_command = refl
 
 round_of_a_command : body_answer four one 2 (1 ∷ 1 ∷ 0 ∷ 0 ∷ 0 ∷ 0 ∷ 0 ∷ 1 ∷ 0 ∷ 0 ∷ 97 ∷ []) ≡ Err (SlotWrong Round)
-unfolding body_answer head_answer slot_of slot_fault has_class by_echo payload value class1 class2 class3 vect bit ids ids_from
+unfolding body_answer head_answer slot_of slot_fault has_class by_echo form_of payload digest value class1 class2 class3 vect bit ids ids_from
 round_of_a_command = refl
 
 step_of_a_command : body_answer four one 2 (1 ∷ 1 ∷ 0 ∷ 0 ∷ 0 ∷ 0 ∷ 0 ∷ 0 ∷ 1 ∷ 0 ∷ 97 ∷ []) ≡ Err (SlotWrong Step)
-unfolding body_answer head_answer slot_of slot_fault has_class by_echo payload value class1 class2 class3 vect bit ids ids_from
+unfolding body_answer head_answer slot_of slot_fault has_class by_echo form_of payload digest value class1 class2 class3 vect bit ids ids_from
 step_of_a_command = refl
 
 no_such_origin : body_answer four one 2 (1 ∷ 1 ∷ 0 ∷ 0 ∷ 0 ∷ 0 ∷ 0 ∷ 0 ∷ 0 ∷ 4 ∷ 97 ∷ []) ≡ Err (SlotWrong Origin)
-unfolding body_answer head_answer slot_of slot_fault has_class by_echo payload value class1 class2 class3 vect bit ids ids_from
+unfolding body_answer head_answer slot_of slot_fault has_class by_echo form_of payload digest value class1 class2 class3 vect bit ids ids_from
 no_such_origin = refl
 
 empty_command : body_answer four one 2 (1 ∷ 1 ∷ 0 ∷ 0 ∷ 0 ∷ 0 ∷ 0 ∷ 0 ∷ 0 ∷ 0 ∷ []) ≡ Err (Payload 10)
-unfolding body_answer head_answer slot_of slot_fault has_class by_echo payload value class1 class2 class3 vect bit ids ids_from
+unfolding body_answer head_answer slot_of slot_fault has_class by_echo form_of payload digest value class1 class2 class3 vect bit ids ids_from
 empty_command = refl
 
 command : body_answer four one 2 (1 ∷ 1 ∷ 0 ∷ 0 ∷ 0 ∷ 0 ∷ 0 ∷ 0 ∷ 0 ∷ 0 ∷ 97 ∷ []) ≡ init 1 0 0 (97 ∷ [])
-unfolding body_answer head_answer slot_of slot_fault has_class by_echo payload value class1 class2 class3 vect bit ids ids_from
+unfolding body_answer head_answer slot_of slot_fault has_class by_echo form_of payload digest value class1 class2 class3 vect bit ids ids_from
 command = refl
 
 unmarked_in_step_1 : body_answer four three 2 (1 ∷ 5 ∷ 0 ∷ 0 ∷ 0 ∷ 0 ∷ 0 ∷ 1 ∷ 1 ∷ 0 ∷ 2 ∷ []) ≡ Err (Payload 10)
-unfolding body_answer head_answer slot_of slot_fault has_class by_echo payload value class1 class2 class3 vect bit ids ids_from
+unfolding body_answer head_answer slot_of slot_fault has_class by_echo form_of payload digest value class1 class2 class3 vect bit ids ids_from
 unmarked_in_step_1 = refl
 
 more_than_a_bit : body_answer four three 2 (1 ∷ 5 ∷ 0 ∷ 0 ∷ 0 ∷ 0 ∷ 0 ∷ 1 ∷ 1 ∷ 0 ∷ 0 ∷ 0 ∷ []) ≡ Err (Rest 11)
-unfolding body_answer head_answer slot_of slot_fault has_class by_echo payload value class1 class2 class3 vect bit ids ids_from
+unfolding body_answer head_answer slot_of slot_fault has_class by_echo form_of payload digest value class1 class2 class3 vect bit ids ids_from
 more_than_a_bit = refl
 
 unmarked_in_step_3 : body_answer four three 2 (1 ∷ 5 ∷ 0 ∷ 0 ∷ 0 ∷ 0 ∷ 0 ∷ 1 ∷ 3 ∷ 0 ∷ 2 ∷ []) ≡ init 5 1 3 (2 ∷ [])
-unfolding body_answer head_answer slot_of slot_fault has_class by_echo payload value class1 class2 class3 vect bit ids ids_from
+unfolding body_answer head_answer slot_of slot_fault has_class by_echo form_of payload digest value class1 class2 class3 vect bit ids ids_from
 unmarked_in_step_3 = refl
 
 list_of_one_identifier : body_answer four six 2 (1 ∷ 2 ∷ 0 ∷ 0 ∷ 0 ∷ 0 ∷ 0 ∷ 0 ∷ 0 ∷ 0 ∷ 0 ∷ 0 ∷ 0 ∷ 0 ∷ 0 ∷ []) ≡ init 2 0 0 (0 ∷ 0 ∷ 0 ∷ 0 ∷ 0 ∷ [])
-unfolding body_answer head_answer slot_of slot_fault has_class by_echo payload value class1 class2 class3 vect bit ids ids_from
+unfolding body_answer head_answer slot_of slot_fault has_class by_echo form_of payload digest value class1 class2 class3 vect bit ids ids_from
 list_of_one_identifier = refl
+
+-- ---- bodies of version 2
+
+abbrev one_two : Mode
+one_two = record { root = 1; vect = Echo; version = Two; low = lit≤ tt; high = lit≤ tt }
+
+abbrev two_two : Mode
+two_two = record { root = 2; vect = Echo; version = Two; low = lit≤ tt; high = lit≤ tt }
+
+abbrev body_of : a_kind → List ℕ → Result Item BodyFault
+body_of kind value = Ok (record {
+  from = 2;
+  kind = kind;
+  slot = record { class = 1; a = 0; attempt = 0; bround = 0; step = 0; origin = 0 };
+  value = value;
+})
+
+init_of_a_command : body_answer four one_two 2 (1 ∷ 1 ∷ 0 ∷ 0 ∷ 0 ∷ 0 ∷ 0 ∷ 0 ∷ 0 ∷ 0 ∷ 97 ∷ []) ≡ body_of kinds.Init (97 ∷ [])
+unfolding body_answer head_answer slot_of slot_fault has_class by_echo form_of payload digest value class1 class2 class3 vect bit ids ids_from
+init_of_a_command = refl
+
+echo_of_a_digest : body_answer four one_two 2 (2 ∷ 1 ∷ 0 ∷ 0 ∷ 0 ∷ 0 ∷ 0 ∷ 0 ∷ 0 ∷ 0 ∷ replicate 32 7) ≡ body_of kinds.Echo (replicate 32 7)
+unfolding body_answer head_answer slot_of slot_fault has_class by_echo form_of payload digest value class1 class2 class3 vect bit ids ids_from
+echo_of_a_digest = refl
+
+echo_of_a_value : body_answer four one_two 2 (2 ∷ 1 ∷ 0 ∷ 0 ∷ 0 ∷ 0 ∷ 0 ∷ 0 ∷ 0 ∷ 0 ∷ 97 ∷ []) ≡ Err (Payload 11)
+unfolding body_answer head_answer slot_of slot_fault has_class by_echo form_of payload digest value class1 class2 class3 vect bit ids ids_from
+echo_of_a_value = refl
+
+digest_and_a_byte : body_answer four one_two 2 (2 ∷ 1 ∷ 0 ∷ 0 ∷ 0 ∷ 0 ∷ 0 ∷ 0 ∷ 0 ∷ 0 ∷ replicate 33 7) ≡ Err (Rest 42)
+unfolding body_answer head_answer slot_of slot_fault has_class by_echo form_of payload digest value class1 class2 class3 vect bit ids ids_from
+digest_and_a_byte = refl
+
+ready_of_a_digest : body_answer four one_two 2 (3 ∷ 1 ∷ 0 ∷ 0 ∷ 0 ∷ 0 ∷ 0 ∷ 0 ∷ 0 ∷ 0 ∷ replicate 32 7) ≡ body_of kinds.Ready (replicate 32 7)
+unfolding body_answer head_answer slot_of slot_fault has_class by_echo form_of payload digest value class1 class2 class3 vect bit ids ids_from
+ready_of_a_digest = refl
+
+ready_of_no_digest : body_answer four one_two 2 (3 ∷ 1 ∷ 0 ∷ 0 ∷ 0 ∷ 0 ∷ 0 ∷ 0 ∷ 0 ∷ 0 ∷ replicate 31 7) ≡ Err (Payload 41)
+unfolding body_answer head_answer slot_of slot_fault has_class by_echo form_of payload digest value class1 class2 class3 vect bit ids ids_from
+ready_of_no_digest = refl
+
+want_of_a_digest : body_answer four one_two 2 (7 ∷ 1 ∷ 0 ∷ 0 ∷ 0 ∷ 0 ∷ 0 ∷ 0 ∷ 0 ∷ 0 ∷ replicate 32 7) ≡ body_of kinds.Want (replicate 32 7)
+unfolding body_answer head_answer slot_of slot_fault has_class by_echo form_of payload digest value class1 class2 class3 vect bit ids ids_from
+want_of_a_digest = refl
+
+want_and_a_byte : body_answer four one_two 2 (7 ∷ 1 ∷ 0 ∷ 0 ∷ 0 ∷ 0 ∷ 0 ∷ 0 ∷ 0 ∷ 0 ∷ replicate 33 7) ≡ Err (Rest 42)
+unfolding body_answer head_answer slot_of slot_fault has_class by_echo form_of payload digest value class1 class2 class3 vect bit ids ids_from
+want_and_a_byte = refl
+
+value_of_a_command : body_answer four one_two 2 (8 ∷ 1 ∷ 0 ∷ 0 ∷ 0 ∷ 0 ∷ 0 ∷ 0 ∷ 0 ∷ 0 ∷ 97 ∷ []) ≡ body_of kinds.Value (97 ∷ [])
+unfolding body_answer head_answer slot_of slot_fault has_class by_echo form_of payload digest value class1 class2 class3 vect bit ids ids_from
+value_of_a_command = refl
+
+value_of_nothing : body_answer four one_two 2 (8 ∷ 1 ∷ 0 ∷ 0 ∷ 0 ∷ 0 ∷ 0 ∷ 0 ∷ 0 ∷ 0 ∷ []) ≡ Err (Payload 10)
+unfolding body_answer head_answer slot_of slot_fault has_class by_echo form_of payload digest value class1 class2 class3 vect bit ids ids_from
+value_of_nothing = refl
+
+no_ninth_kind : body_answer four one_two 2 (9 ∷ 1 ∷ 0 ∷ 0 ∷ 0 ∷ 0 ∷ 0 ∷ 0 ∷ 0 ∷ 0 ∷ 97 ∷ []) ≡ Err Kind
+unfolding body_answer head_answer slot_of slot_fault has_class by_echo form_of payload digest value class1 class2 class3 vect bit ids ids_from
+no_ninth_kind = refl
+
+send_at_an_echo_broadcast : body_answer four two_two 2 (4 ∷ 1 ∷ 0 ∷ 0 ∷ 0 ∷ 0 ∷ 0 ∷ 0 ∷ 0 ∷ 0 ∷ 97 ∷ []) ≡ body_of kinds.Send (97 ∷ [])
+unfolding body_answer head_answer slot_of slot_fault has_class by_echo form_of payload digest value class1 class2 class3 vect bit ids ids_from
+send_at_an_echo_broadcast = refl
+
+want_at_an_echo_broadcast : body_answer four two_two 2 (7 ∷ 1 ∷ 0 ∷ 0 ∷ 0 ∷ 0 ∷ 0 ∷ 0 ∷ 0 ∷ 0 ∷ replicate 32 7) ≡ Err Kind
+unfolding body_answer head_answer slot_of slot_fault has_class by_echo form_of payload digest value class1 class2 class3 vect bit ids ids_from
+want_at_an_echo_broadcast = refl
+
+value_in_version_1 : body_answer four one 2 (8 ∷ 1 ∷ 0 ∷ 0 ∷ 0 ∷ 0 ∷ 0 ∷ 0 ∷ 0 ∷ 0 ∷ 97 ∷ []) ≡ Err Kind
+unfolding body_answer head_answer slot_of slot_fault has_class by_echo form_of payload digest value class1 class2 class3 vect bit ids ids_from
+value_in_version_1 = refl
+
+want_without_slot : body_answer four one_two 2 (7 ∷ 1 ∷ []) ≡ Err (SlotWrong Whole)
+unfolding body_answer head_answer slot_of slot_fault has_class by_echo form_of payload digest value class1 class2 class3 vect bit ids ids_from
+want_without_slot = refl
+
+no_want_in_version_1 : body_answer four one 2 (7 ∷ 1 ∷ []) ≡ Err Kind
+unfolding body_answer head_answer slot_of slot_fault has_class by_echo form_of payload digest value class1 class2 class3 vect bit ids ids_from
+no_want_in_version_1 = refl
 
 -- ---- inputs
 

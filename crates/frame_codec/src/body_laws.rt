@@ -2,7 +2,7 @@
 
 ghost use Rattle.std.specs.Prelude.{◌≡◌, ◌↔◌, ℕ, ◌<◌, ◌≤◌, List, length, true, false, None, Ok, Err};
 ghost use Rattle.ritas_base.specs.Numbers.{Numbers, IsSession};
-ghost use Rattle.ritas_base.specs.Slots.{has_class, slot_fault, by_echo, command_slot};
+ghost use Rattle.ritas_base.specs.Slots.{has_class, slot_fault, by_echo, form_of, command_slot};
 ghost use Rattle.ritas_base.specs.declared.slot.Slot.{Slot};
 ghost use Rattle.ritas_base.specs.declared.mode.Mode.{Mode};
 ghost use Rattle.ritas_base.specs.declared.item.Item.{Item};
@@ -11,7 +11,7 @@ ghost use Rattle.frame_codec.specs.declared.fault.BodyFault.TheVariants as fault
 ghost use Rattle.frame_codec.specs.Faults.{IsKindFault, IsSlotFault, IsPayloadFault, IsRestFault};
 ghost use Rattle.frame_codec.specs.Format.{Is};
 ghost use Rattle.frame_codec.specs.Grammar.{value};
-ghost use Rattle.frame_codec.specs.Body.{Spells, IsInGrammar, spelling, body_answer, is_of_broadcast, carries_value};
+ghost use Rattle.frame_codec.specs.Body.{Spells, IsInGrammar, spelling, body_answer, is_of_form, carries_value};
 ghost use Rattle.frame_codec.specs.Inputs.{IsInput, first_kind};
 ghost use Rattle.frame_codec.specs.Laws.{AnswersGood, AnswersSpelled, InputsFaultless, InputsAreValues, CommandSlotsRight};
 
@@ -45,19 +45,19 @@ pub fn body_faults()
         → (body_answer p mode from bytes ≡ Err (fault.Rest offset)) ↔ IsRestFault p mode bytes offset }
 {}
 
-/// Whether a value is in the grammar of its slot doesn't depend on the sender, nor on which of INIT, ECHO and READY it
-/// comes with.
+/// Whether a value is in the grammar of its slot doesn't depend on the sender, nor on with which of the kinds that carry
+/// values it comes.
 pub fn same_value()
-    ensures kinds { (p : Numbers) (mode : Mode) (a b : Item) → is_of_broadcast false a.kind ≡ true
-        → is_of_broadcast false b.kind ≡ true → a.slot ≡ b.slot → a.value ≡ b.value
+    ensures kinds { (p : Numbers) (mode : Mode) (a b : Item) → carries_value (form_of mode a.slot) a.kind ≡ true
+        → carries_value (form_of mode b.slot) b.kind ≡ true → is_of_form (form_of mode b.slot) b.kind ≡ true → a.slot ≡ b.slot → a.value ≡ b.value
         → IsInGrammar p mode a → IsInGrammar p mode b }
     ensures senders { (p : Numbers) (mode : Mode) (a b : Item) → a.kind ≡ b.kind → a.slot ≡ b.slot → a.value ≡ b.value
         → IsInGrammar p mode a → IsInGrammar p mode b }
-    // What comes with INIT, ECHO, READY and SEND is the slot's value.
-    ensures value { (p : Numbers) (mode : Mode) (item : Item) → carries_value item.kind ≡ true
+    // What comes with these kinds is the slot's value: INIT, SEND and VALUE, and in version 1 ECHO and READY.
+    ensures value { (p : Numbers) (mode : Mode) (item : Item) → carries_value (form_of mode item.slot) item.kind ≡ true
         → IsInGrammar p mode item → Is (value p mode.root item.slot) item.value }
-    ensures item { (p : Numbers) (mode : Mode) (item : Item) → carries_value item.kind ≡ true → IsSession p
-        → slot_fault p mode item.slot ≡ None → is_of_broadcast (by_echo mode item.slot) item.kind ≡ true
+    ensures item { (p : Numbers) (mode : Mode) (item : Item) → carries_value (form_of mode item.slot) item.kind ≡ true → IsSession p
+        → slot_fault p mode item.slot ≡ None → is_of_form (form_of mode item.slot) item.kind ≡ true
         → Is (value p mode.root item.slot) item.value → IsInGrammar p mode item }
 {}
 

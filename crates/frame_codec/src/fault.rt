@@ -8,7 +8,8 @@ use ritas_base::{Mem, SlotFault};
 /// Why bytes are no body. Offsets are counted from the body's first byte, so the payload begins at 10.
 #[derive(Clone, Copy, Debug, PartialEq, Eq)]
 pub enum BodyFault {
-    /// The body is empty, its first byte is no kind, or its slot is right and goes by a broadcast without this kind.
+    /// The body is empty, its first byte is no kind of the session's version, or its slot is right and goes by a broadcast
+    /// without this kind.
     Kind,
     /// The slot is wrong, or `Whole`: there is a kind, and the body has fewer than 10 bytes.
     Slot(SlotFault),

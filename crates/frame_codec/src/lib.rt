@@ -3,12 +3,17 @@
 //! A body is the kind of a message (1 byte), its slot (9 bytes) and a payload. All numbers are big-endian. A mask is 4
 //! bytes, and its bit k stands for replica k.
 //!
-//! | Byte | Kind | Broadcast | Payload |
-//! |---|---|---|---|
-//! | 1, 2, 3 | INIT, ECHO, READY | reliable | the slot's value |
-//! | 4 | SEND | echo | the slot's value |
-//! | 5 | HASHES | echo | n entries of 32 bytes |
-//! | 6 | COLUMN | echo | a mask that isn't 0, with bits below n alone, and 32 bytes for each of its bits, ascending |
+//! The kinds go by the session's frame version, which the `Mode` has. A digest is 32 bytes, any ones.
+//!
+//! | Byte | Kind | Broadcast | Payload in version 1 | In version 2 |
+//! |---|---|---|---|---|
+//! | 1 | INIT | reliable | the slot's value | the slot's value |
+//! | 2, 3 | ECHO, READY | reliable | the slot's value | a digest |
+//! | 4 | SEND | echo | the slot's value | the slot's value |
+//! | 5 | HASHES | echo | n entries of 32 bytes | the same |
+//! | 6 | COLUMN | echo | a mask that isn't 0, with bits below n alone, and 32 bytes for each of its bits, ascending | the same |
+//! | 7 | WANT | reliable | no such kind | a digest |
+//! | 8 | VALUE | reliable | no such kind | the slot's value |
 //!
 //! | Class | Root service | Value |
 //! |---|---|---|

@@ -3,7 +3,7 @@
 ghost use Rattle.std.specs.Prelude.{◌≡◌};
 ghost use Rattle.frame_codec.specs.Format.{Gives, read};
 ghost use Rattle.frame_codec.specs.Inputs.{input_format};
-ghost use Rattle.frame_codec.specs.Grammar.{entry, times, vector, class1, class2, class3, vect, bit, value, hashes, column, payload};
+ghost use Rattle.frame_codec.specs.Grammar.{entry, times, vector, class1, class2, class3, vect, bit, value, hashes, column, carries_digest, digest, payload};
 
 use crate::fault::Wrong;
 use crate::fields::{block, byte_below, entry_len, places, plain};
@@ -118,20 +118,35 @@ fn column<'a>(p: &Params, bytes: &'a [u8]) -> Result<&'a [u8], Wrong>
     Ok(rest)
 }
 
+#[tactic(auto, unfolding(crate::specs::Grammar::digest))]
+fn digest(bytes: &[u8]) -> Result<&[u8], Wrong>
+    ensures { Gives (λ rest. rest.now) result (read digest bytes.now) }
+{
+    let (_, rest) = block(32, bytes)?;
+    Ok(rest)
+}
+
+fn carries_digest(form: u8, kind: Kind) -> bool
+    ensures { result ≡ carries_digest form kind }
+{
+    form == 3 && matches!(kind, Kind::Echo | Kind::Ready | Kind::Want)
+}
+
 #[tactic(auto, unfolding(crate::specs::Grammar::payload))]
 pub(crate) fn payload<'a>(
     p: &Params,
-    root: u8,
+    mode: &Mode,
     kind: Kind,
     slot: &Slot,
     bytes: &'a [u8],
 ) -> Result<&'a [u8], Wrong>
-    ensures { Gives (λ rest. rest.now) result (read (payload p.now root kind slot.now) bytes.now) }
+    ensures { Gives (λ rest. rest.now) result (read (payload p.now mode.now kind slot.now) bytes.now) }
 {
     match kind {
         Kind::Hashes => hashes(p, bytes),
         Kind::Column => column(p, bytes),
-        Kind::Init | Kind::Echo | Kind::Ready | Kind::Send => value(p, root, slot, bytes),
+        _ if carries_digest(slot.form(mode), kind) => digest(bytes),
+        _ => value(p, mode.root, slot, bytes),
     }
 }
 

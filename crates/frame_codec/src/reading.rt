@@ -2,7 +2,7 @@
 
 ghost use Rattle.std.specs.Prelude.{◌≡◌, ℕ, ◌+◌, ◌<◌, ◌≤◌, ◌^◌, length};
 ghost use Rattle.std.specs.Prelude.{IfOk, OnOk, MatchResult, Ok, Some, None};
-ghost use Rattle.frame_codec.specs.Body.{kind_of, slot_of, is_of_broadcast, head_answer, payload_fault};
+ghost use Rattle.frame_codec.specs.Body.{kind_of, is_of_version, if_of_version, slot_of, is_of_form, head_answer, payload_fault};
 ghost use Rattle.frame_codec.specs.Body.{body_answer, Answers, Spells};
 ghost use Rattle.frame_codec.specs.Format.{read};
 ghost use Rattle.frame_codec.specs.Grammar.{payload};
@@ -11,7 +11,7 @@ ghost use Rattle.ritas_base.specs.declared.item.Item.{Item as an_item};
 
 use crate::fault::{BodyFault, Wrong};
 use crate::payload::payload;
-use ritas_base::{Bytes, Item, Kind, Mode, Params, Slot, SlotFault};
+use ritas_base::{Bytes, FrameVersion, Item, Kind, Mode, Params, Slot, SlotFault};
 use std::alloc::Global;
 
 fn kind_of(b: u8) -> Option<Kind>
@@ -24,16 +24,39 @@ fn kind_of(b: u8) -> Option<Kind>
         4 => Some(Kind::Send),
         5 => Some(Kind::Hashes),
         6 => Some(Kind::Column),
+        7 => Some(Kind::Want),
+        8 => Some(Kind::Value),
         _ => None,
     }
 }
 
-fn is_of_broadcast(echo: bool, kind: Kind) -> bool
-    ensures { result ≡ is_of_broadcast echo kind }
+fn is_of_version(version: FrameVersion, kind: Kind) -> bool
+    ensures { result ≡ is_of_version version kind }
+{
+    match (version, kind) {
+        (FrameVersion::One, Kind::Want | Kind::Value) => false,
+        _ => true,
+    }
+}
+
+/// The kind with this number, where frames of the version have it.
+fn kind_in(version: FrameVersion, b: u8) -> Option<Kind>
+    ensures { result ≡ if_of_version version (kind_of b) }
+{
+    let kind = kind_of(b)?;
+    if !is_of_version(version, kind) {
+        return None;
+    }
+    Some(kind)
+}
+
+fn is_of_form(form: u8, kind: Kind) -> bool
+    ensures { result ≡ is_of_form form kind }
 {
     match kind {
-        Kind::Init | Kind::Echo | Kind::Ready => !echo,
-        Kind::Send | Kind::Hashes | Kind::Column => echo,
+        Kind::Init | Kind::Echo | Kind::Ready => form != 2,
+        Kind::Send | Kind::Hashes | Kind::Column => form == 2,
+        Kind::Want | Kind::Value => form == 3,
     }
 }
 
@@ -62,7 +85,7 @@ fn head(p: &Params, mode: &Mode, bytes: &[u8]) -> Result<(Kind, Slot), BodyFault
     if bytes.is_empty() {
         return Err(BodyFault::Kind);
     }
-    let Some(kind) = kind_of(bytes[0]) else {
+    let Some(kind) = kind_in(mode.version, bytes[0]) else {
         return Err(BodyFault::Kind);
     };
     if bytes.len() < 10 {
@@ -72,7 +95,7 @@ fn head(p: &Params, mode: &Mode, bytes: &[u8]) -> Result<(Kind, Slot), BodyFault
     if let Err(fault) = slot.check(p, mode) {
         return Err(BodyFault::Slot(fault));
     }
-    if !is_of_broadcast(slot.by_echo(mode), kind) {
+    if !is_of_form(slot.form(mode), kind) {
         return Err(BodyFault::Kind);
     }
     Ok((kind, slot))
@@ -81,7 +104,7 @@ fn head(p: &Params, mode: &Mode, bytes: &[u8]) -> Result<(Kind, Slot), BodyFault
 /// Whether a payload, the last of so many bytes, is whole and right.
 fn check_payload(
     p: &Params,
-    root: u8,
+    mode: &Mode,
     kind: Kind,
     slot: &Slot,
     len: usize,
@@ -90,10 +113,10 @@ fn check_payload(
     requires whole { len ≡ 10 + length bytes.now }
     requires session { IsSession p.now }
     ensures { MatchResult result
-        (λ _. payload_fault len (read (payload p.now root kind slot.now) bytes.now) ≡ None)
-        (λ fault. payload_fault len (read (payload p.now root kind slot.now) bytes.now) ≡ Some fault) }
+        (λ _. payload_fault len (read (payload p.now mode.now kind slot.now) bytes.now) ≡ None)
+        (λ fault. payload_fault len (read (payload p.now mode.now kind slot.now) bytes.now) ≡ Some fault) }
 {
-    match payload(p, root, kind, slot, bytes) {
+    match payload(p, mode, kind, slot, bytes) {
         Err(Wrong { left }) => Err(BodyFault::Payload((len - left) as u32)),
         Ok([]) => Ok(()),
         Ok(rest) => Err(BodyFault::Rest((len - rest.len()) as u32)),
@@ -107,7 +130,7 @@ fn answer(alloc: Global, p: &Params, mode: &Mode, from: u8, bytes: &[u8]) -> Res
 {
     let (kind, slot) = head(p, mode, bytes)?;
     let value = &bytes[10..];
-    check_payload(p, mode.root, kind, &slot, bytes.len(), value)?;
+    check_payload(p, mode, kind, &slot, bytes.len(), value)?;
     let value = Bytes::from_slice(alloc, value)?;
     Ok(Item {
         from,
@@ -119,10 +142,11 @@ fn answer(alloc: Global, p: &Params, mode: &Mode, from: u8, bytes: &[u8]) -> Res
 
 /// The one item that the bytes spell, as from this replica.
 ///
-/// `Kind` comes exactly where the body is empty, its first byte isn't 1 to 6, or its slot is right and goes by a broadcast
-/// without this kind; `Slot` exactly where the first byte is 1 to 6 and the slot isn't whole, or has this fault.
-/// Otherwise the payload is read from the left: `Payload` comes at the first field that is wrong or isn't whole, and
-/// `Rest` exactly where bytes follow a whole payload. `Mem` can come in place of the item alone.
+/// `Kind` comes exactly where the body is empty, its first byte isn't 1 to 6 (in version 2: 1 to 8), or its slot is right
+/// and goes by a broadcast without this kind; `Slot` exactly where the first byte is one of these and the slot isn't whole,
+/// or has this fault. Otherwise the payload is read from the left: `Payload` comes at the first field that is wrong or
+/// isn't whole, and `Rest` exactly where bytes follow a whole payload. A digest is one field, which is never wrong. `Mem`
+/// can come in place of the item alone.
 pub fn read_body(
     alloc: Global,
     p: &Params,

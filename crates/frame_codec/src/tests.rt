@@ -1,5 +1,7 @@
 use super::*;
-use ritas_base::{Bytes, Id, Item, Kind, Mode, Params, SenderSet, SlotFault, Vect};
+use ritas_base::{
+    Bytes, FrameVersion, Id, Item, Kind, Mem, Mode, Params, SenderSet, SlotFault, Vect,
+};
 use std::alloc::Global;
 use std::test::*;
 
@@ -86,6 +88,69 @@ fn bodies_that_are_items(rt: HostRuntime) -> Result<(), Fail> {
         );
         let written = write_body(rt.alloc(), &item).ok().ok_or("no memory")?;
         assert_eq!(rt; written.as_slice(), bytes);
+    }
+    Ok(())
+}
+
+// A body of replica 0's first command, with this kind byte.
+fn body(alloc: Global, kind: u8, payload: &[u8]) -> Result<Bytes, Mem> {
+    let mut out = Vec::new(alloc);
+    out.push(kind)?;
+    out.extend_from_slice(b"\x01\0\0\0\0\0\0\0\0")?;
+    out.extend_from_slice(payload)?;
+    Ok(Bytes::from_vec(out))
+}
+
+fn read_in_version_2(alloc: Global, root: u8, bytes: &Bytes) -> Option<Result<Item, BodyFault>> {
+    let (p, mode) = session(root)?;
+    let mode = mode.with_version(FrameVersion::Two);
+    Some(read_body(alloc, &p, &mode, 2, bytes.as_slice()))
+}
+
+// ECHO, READY and WANT carry a digest, and INIT, SEND and VALUE the value. Root service 2 goes by echo broadcast.
+#[test]
+fn kinds_of_version_2(rt: HostRuntime) -> Result<(), Fail> {
+    let digest = [7; 32];
+    let hashes = [8; 128];
+    let mut column = [9; 36];
+    column[..4].copy_from_slice(&[0, 0, 0, 8]);
+    let cases: [(u8, u8, Kind, &[u8]); 8] = [
+        (1, 1, Kind::Init, b"a"),
+        (1, 2, Kind::Echo, &digest),
+        (1, 3, Kind::Ready, &digest),
+        (2, 4, Kind::Send, b"a"),
+        (2, 5, Kind::Hashes, &hashes),
+        (2, 6, Kind::Column, &column),
+        (1, 7, Kind::Want, &digest),
+        (1, 8, Kind::Value, b"a"),
+    ];
+    for (root, byte, kind, payload) in cases {
+        let bytes = body(rt.alloc(), byte, payload)?;
+        let answer = read_in_version_2(rt.alloc(), root, &bytes).ok_or("no session")?;
+        let item = answer.ok().ok_or("no item")?;
+        assert_eq!(rt; (item.from, item.kind), (2, kind));
+        assert_eq!(rt; item.value.as_slice(), payload, "of kind {byte}");
+        let written = write_body(rt.alloc(), &item)?;
+        assert_eq!(rt; written.as_slice(), bytes.as_slice());
+    }
+    Ok(())
+}
+
+#[test]
+fn refused_in_version_2(rt: HostRuntime) -> Result<(), Fail> {
+    let long = [7; 33];
+    let cases: [(u8, &[u8], BodyFault); 6] = [
+        (2, b"a", BodyFault::Payload(11)),
+        (3, &long[..31], BodyFault::Payload(41)),
+        (7, &long, BodyFault::Rest(42)),
+        (8, b"", BodyFault::Payload(10)),
+        (4, b"a", BodyFault::Kind),
+        (9, b"a", BodyFault::Kind),
+    ];
+    for (byte, payload, want) in cases {
+        let bytes = body(rt.alloc(), byte, payload)?;
+        let answer = read_in_version_2(rt.alloc(), 1, &bytes).ok_or("no session")?;
+        assert_eq!(rt; answer.err(), Some(want), "of kind {byte}");
     }
     Ok(())
 }

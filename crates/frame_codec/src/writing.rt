@@ -21,6 +21,8 @@ fn kind_byte(kind: Kind) -> u8
         Kind::Send => 4,
         Kind::Hashes => 5,
         Kind::Column => 6,
+        Kind::Want => 7,
+        Kind::Value => 8,
     }
 }
 
