@@ -11,8 +11,9 @@ use Rattle.std.proofs.lemmas.Bool.Decides.{leb_tells}
 use Rattle.std.proofs.lemmas.Slice.Eq.{bytes_eq-Decides}
 use Rattle.keyed_channel.specs.Hmac.{hmac_of}
 use Rattle.keyed_channel.specs.KeyRow.{KeyRow, key_with}
-use Rattle.keyed_channel.specs.Keyed.{dealt}
-use Rattle.keyed_channel.specs.Frames.{frame_front, sealed, front_of, tag_of, version_of, sender_of, receiver_of, seq_of, body_of, parts_of, is_peer, is_tagged, plain_fault, Opening}
+use Rattle.keyed_channel.specs.Keyed.{dealt_for}
+use Rattle.ritas_base.specs.declared.mode.FrameVersion.{FrameVersion}
+use Rattle.keyed_channel.specs.Frames.{version_byte, frame_front, sealed, front_of, tag_of, version_of, sender_of, receiver_of, seq_of, body_of, parts_of, is_peer, is_tagged, plain_fault, Opening}
 use Rattle.keyed_channel.specs.Laws.{OpenedFromPeer, OpenedParts, OpensSealed}
 use Rattle.keyed_channel.proofs.Opens.{five, opening_ok}
 use Rattle.keyed_channel.proofs.Dealt.{key_with-dealt, pair_key_swapped}
@@ -36,7 +37,7 @@ five_passed true true true true false h = cc
 five_passed true true true true true h = record { long = refl; short = refl; version = refl; mine = refl; peer = refl }
 
 pub passed : (k : KeyRow) (bytes : List ℕ) → plain_fault k bytes ≡ None
-    → AllPassed (nat_le 43 (length bytes)) (nat_le (length bytes) 16384) (version_of bytes == 1) (receiver_of bytes == k.me) (is_peer k (sender_of bytes))
+    → AllPassed (nat_le 43 (length bytes)) (nat_le (length bytes) 16384) (version_of bytes == version_byte k.version) (receiver_of bytes == k.me) (is_peer k (sender_of bytes))
 passed k bytes h = five_passed _ _ _ _ _ h
 
 pub both_true : (a b : Bool) → (a && b) ≡ true → (a ≡ true) × (b ≡ true)
@@ -83,31 +84,31 @@ word_is xs from long small =
     let size : length word ≡ 8 = omega (arith, length-take 8 (drop from xs), length-drop from xs) in
     sym (be_bytes_8 word (from_be_bytes w64 word) size (word_small xs from small) refl)
 
-front_is : (xs : List ℕ) (j : ℕ) → 43 ≤ length xs → ((k : ℕ) → slice_index xs k < 256) → version_of xs ≡ 1 → receiver_of xs ≡ j
-    → front_of xs ≡ frame_front (sender_of xs) j (seq_of xs) (body_of xs)
-front_is xs j long small one mine =
+front_is : (version : FrameVersion) (xs : List ℕ) (j : ℕ) → 43 ≤ length xs → ((k : ℕ) → slice_index xs k < 256) → version_of xs ≡ version_byte version → receiver_of xs ≡ j
+    → front_of xs ≡ frame_front version (sender_of xs) j (seq_of xs) (body_of xs)
+front_is version xs j long small one mine =
     split_front xs (length xs - 32) (omega arith) (omega arith)
     ∙ ap₂ (λ (v r : ℕ). v ∷ sender_of xs ∷ r ∷ (slice_range xs 3 11 ++ body_of xs)) one mine
-    ∙ ap (λ l. 1 ∷ sender_of xs ∷ j ∷ (l ++ body_of xs)) (word_is xs 3 (omega arith) small)
+    ∙ ap (λ l. version_byte version ∷ sender_of xs ∷ j ∷ (l ++ body_of xs)) (word_is xs 3 (omega arith) small)
 
 -- ---- the law
 
-abbrev IsFromSender : List ℕ → ℕ → ℕ → ℕ → List ℕ → Opening → Type 0
-IsFromSender master session n j bytes o =
-    (o.from < n) × (o.from ≢ j) × (bytes ≡ sealed (dealt master session n o.from) j o.seq o.body)
+abbrev IsFromSender : FrameVersion → List ℕ → ℕ → ℕ → ℕ → List ℕ → Opening → Type 0
+IsFromSender version master session n j bytes o =
+    (o.from < n) × (o.from ≢ j) × (bytes ≡ sealed (dealt_for version master session n o.from) j o.seq o.body)
 
-from_sender : (master : List ℕ) (session n j : ℕ) (bytes : List ℕ) → j < n → ((k : ℕ) → slice_index bytes k < 256)
-    → plain_fault (dealt master session n j) bytes ≡ None → is_tagged (dealt master session n j) bytes ≡ true
-    → IsFromSender master session n j bytes (parts_of bytes)
-from_sender master session n j bytes j_in small plain tagged =
+from_sender : (version : FrameVersion) (master : List ℕ) (session n j : ℕ) (bytes : List ℕ) → j < n → ((k : ℕ) → slice_index bytes k < 256)
+    → plain_fault (dealt_for version master session n j) bytes ≡ None → is_tagged (dealt_for version master session n j) bytes ≡ true
+    → IsFromSender version master session n j bytes (parts_of bytes)
+from_sender version master session n j bytes j_in small plain tagged =
     let i = sender_of bytes in
-    let k = dealt master session n j in
-    let by = dealt master session n i in
+    let k = dealt_for version master session n j in
+    let by = dealt_for version master session n i in
     let tests = passed k bytes plain in
     let long : 43 ≤ length bytes = leb-true 43 (length bytes) tests.long in
     let peer = both_true (nat_lt i n) (not (i == j)) tests.peer in
     let i_in : i < n = ltb-true i n peer.0 in
-    let front = front_is bytes j long small (eqb-true _ _ tests.version) (eqb-true _ _ tests.mine) in
+    let front = front_is version bytes j long small (eqb-true _ _ tests.version) (eqb-true _ _ tests.mine) in
     let key : key_with k i ≡ key_with by j =
     key_with-dealt master session n j i i_in ∙ pair_key_swapped master session j i ∙ sym (key_with-dealt master session n i j j_in) in
     let tag = sym ((bytes_eq-Decides (hmac_of (key_with k i) (front_of bytes)) (tag_of bytes)).0 tagged) ∙ ap₂ hmac_of key front in
@@ -115,10 +116,10 @@ from_sender master session n j bytes j_in small plain tagged =
     (i_in, other, sym (take-append-drop (length bytes - 32) bytes) ∙ ap₂ (λ (x y : List ℕ). x ++ y) front tag)
 
 pub opens_sealed_holds : OpensSealed
-opens_sealed_holds master session n j bytes o j_in small opens =
-    let t = opening_ok (dealt master session n j) bytes o opens in
-    let P : Opening → Type 0 = λ x. IsFromSender master session n j bytes x in
-    subst P t.2 (from_sender master session n j bytes j_in small t.0 t.1)
+opens_sealed_holds version master session n j bytes o j_in small opens =
+    let t = opening_ok (dealt_for version master session n j) bytes o opens in
+    let P : Opening → Type 0 = λ x. IsFromSender version master session n j bytes x in
+    subst P t.2 (from_sender version master session n j bytes j_in small t.0 t.1)
 
 -- ---- what opens, whatever the keys
 

@@ -1,15 +1,15 @@
 -- What is noted was noted by its sender.
-use Rattle.std.specs.Prelude.{◌≡◌, ◌≢◌, ℕ, ◌+◌, ◌-◌, ◌<◌, ◌≤◌, Bool, true, false, not, ◌==◌, ◌&&◌, nat_lt, List, [], ◌∷◌, ◌++◌, length, take, drop, slice_index, slice_range, Option, Some, None, refl, if◌then◌else◌}
-use Rattle.std.specs.Int.{w64, to_be_bytes}
+use Rattle.std.specs.Prelude.{◌≡◌, ◌≢◌, ℕ, ◌-◌, ◌<◌, ◌≤◌, Bool, true, false, not, ◌==◌, ◌&&◌, nat_lt, List, [], ◌∷◌, ◌++◌, length, take, slice_index, slice_range, Option, Some, None, refl, if◌then◌else◌}
 use Rattle.std.proofs.Common.{sym, ◌∙◌, ap, ap₂, subst, arith}
 use Rattle.std.proofs.lemmas.List.{take-append-drop}
 use Rattle.std.proofs.lemmas.Bool.{ltb-true, eqb-true, eqb-false}
 use Rattle.std.proofs.lemmas.Slice.Eq.{bytes_eq-Decides}
+use Rattle.ritas_base.specs.declared.mode.FrameVersion.{FrameVersion}
 use Rattle.keyed_channel.specs.Hmac.{hmac_of}
 use Rattle.keyed_channel.specs.KeyRow.{KeyRow, key_with}
-use Rattle.keyed_channel.specs.Keyed.{dealt}
+use Rattle.keyed_channel.specs.Keyed.{dealt_for}
 use Rattle.keyed_channel.specs.Frames.{front_of, tag_of, sender_of, receiver_of, is_peer, is_tagged}
-use Rattle.keyed_channel.specs.Notes.{note_front, sealed_note, ack_note, again_note, form_of, number_of, note_of, is_note, is_plain_note, noted}
+use Rattle.keyed_channel.specs.Notes.{note_front, sealed_note, form_of, number_of, note_of, is_note, is_plain_note, noted}
 use Rattle.keyed_channel.specs.Laws.{NotedFromPeer, NotesSealed}
 use Rattle.keyed_channel.specs.declared.note.Note.{Note}
 use Rattle.keyed_channel.specs.declared.note.Note.TheVariants.{Ack, Again}
@@ -36,17 +36,17 @@ front_is xs j long small note mine =
 
 -- ---- the note, by its sender
 
-abbrev IsFromSender : List ℕ → ℕ → ℕ → ℕ → List ℕ → ℕ → ℕ → ℕ → Type 0
-IsFromSender master session n j bytes i form number =
-    (i < n) × (i ≢ j) × (bytes ≡ sealed_note (dealt master session n i) j form number)
+abbrev IsFromSender : FrameVersion → List ℕ → ℕ → ℕ → ℕ → List ℕ → ℕ → ℕ → ℕ → Type 0
+IsFromSender version master session n j bytes i form number =
+    (i < n) × (i ≢ j) × (bytes ≡ sealed_note (dealt_for version master session n i) j form number)
 
-from_sender : (master : List ℕ) (session n j : ℕ) (bytes : List ℕ) → j < n → ((k : ℕ) → slice_index bytes k < 256)
-    → is_plain_note (dealt master session n j) bytes ≡ true → is_tagged (dealt master session n j) bytes ≡ true
-    → IsFromSender master session n j bytes (sender_of bytes) (form_of bytes) (number_of bytes)
-from_sender master session n j bytes j_in small plain tagged =
+from_sender : (version : FrameVersion) (master : List ℕ) (session n j : ℕ) (bytes : List ℕ) → j < n → ((k : ℕ) → slice_index bytes k < 256)
+    → is_plain_note (dealt_for version master session n j) bytes ≡ true → is_tagged (dealt_for version master session n j) bytes ≡ true
+    → IsFromSender version master session n j bytes (sender_of bytes) (form_of bytes) (number_of bytes)
+from_sender version master session n j bytes j_in small plain tagged =
     let i = sender_of bytes in
-    let k = dealt master session n j in
-    let by = dealt master session n i in
+    let k = dealt_for version master session n j in
+    let by = dealt_for version master session n i in
     let long = both_true (length bytes == 44) (is_note bytes && (receiver_of bytes == j && is_peer k i)) plain in
     let note = both_true (is_note bytes) (receiver_of bytes == j && is_peer k i) long.1 in
     let mine = both_true (receiver_of bytes == j) (is_peer k i) note.1 in
@@ -59,16 +59,16 @@ from_sender master session n j bytes j_in small plain tagged =
     (i_in, eqb-false i j (not_true (i == j) peer.1), sym (take-append-drop (length bytes - 32) bytes) ∙ ap₂ (λ (x y : List ℕ). x ++ y) front tag)
 
 -- and by what its parts are
-from_parts : (master : List ℕ) (session n j : ℕ) (bytes : List ℕ) (i form number : ℕ)
+from_parts : (version : FrameVersion) (master : List ℕ) (session n j : ℕ) (bytes : List ℕ) (i form number : ℕ)
     → sender_of bytes ≡ i → form_of bytes ≡ form → number_of bytes ≡ number
-    → IsFromSender master session n j bytes (sender_of bytes) (form_of bytes) (number_of bytes)
-    → IsFromSender master session n j bytes i form number
-from_parts master session n j bytes i form number is_i is_form is_number by =
-    let by_number : IsFromSender master session n j bytes (sender_of bytes) (form_of bytes) number =
-    subst (λ (x : ℕ). IsFromSender master session n j bytes (sender_of bytes) (form_of bytes) x) is_number by in
-    let by_form : IsFromSender master session n j bytes (sender_of bytes) form number =
-    subst (λ (x : ℕ). IsFromSender master session n j bytes (sender_of bytes) x number) is_form by_number in
-    subst (λ (x : ℕ). IsFromSender master session n j bytes x form number) is_i by_form
+    → IsFromSender version master session n j bytes (sender_of bytes) (form_of bytes) (number_of bytes)
+    → IsFromSender version master session n j bytes i form number
+from_parts version master session n j bytes i form number is_i is_form is_number by =
+    let by_number : IsFromSender version master session n j bytes (sender_of bytes) (form_of bytes) number =
+    subst (λ (x : ℕ). IsFromSender version master session n j bytes (sender_of bytes) (form_of bytes) x) is_number by in
+    let by_form : IsFromSender version master session n j bytes (sender_of bytes) form number =
+    subst (λ (x : ℕ). IsFromSender version master session n j bytes (sender_of bytes) x number) is_form by_number in
+    subst (λ (x : ℕ). IsFromSender version master session n j bytes x form number) is_i by_form
 
 -- ---- what is said, by its parts
 
@@ -96,28 +96,28 @@ again_by false false from number i h = cc
 
 -- ---- the law
 
-acked : (master : List ℕ) (session n j : ℕ) (bytes : List ℕ) → j < n → ((k : ℕ) → slice_index bytes k < 256)
-    → (i seq : ℕ) → noted (dealt master session n j) bytes ≡ Some (Ack i seq)
-    → IsFromSender master session n j bytes i 1 seq
-acked master session n j bytes j_in small i seq h =
-    let parts = noted_by (dealt master session n j) bytes (Ack i seq) h in
+acked : (version : FrameVersion) (master : List ℕ) (session n j : ℕ) (bytes : List ℕ) → j < n → ((k : ℕ) → slice_index bytes k < 256)
+    → (i seq : ℕ) → noted (dealt_for version master session n j) bytes ≡ Some (Ack i seq)
+    → IsFromSender version master session n j bytes i 1 seq
+acked version master session n j bytes j_in small i seq h =
+    let parts = noted_by (dealt_for version master session n j) bytes (Ack i seq) h in
     let ack = ack_by (form_of bytes == 1) (form_of bytes == 2 && number_of bytes == 0) (sender_of bytes) (number_of bytes) i seq parts.2 in
     let form : form_of bytes ≡ 1 = eqb-true _ _ ack.0 in
-    from_parts master session n j bytes i 1 seq ack.1 form ack.2 (from_sender master session n j bytes j_in small parts.0 parts.1)
+    from_parts version master session n j bytes i 1 seq ack.1 form ack.2 (from_sender version master session n j bytes j_in small parts.0 parts.1)
 
-wished : (master : List ℕ) (session n j : ℕ) (bytes : List ℕ) → j < n → ((k : ℕ) → slice_index bytes k < 256)
-    → (i : ℕ) → noted (dealt master session n j) bytes ≡ Some (Again i)
-    → IsFromSender master session n j bytes i 2 0
-wished master session n j bytes j_in small i h =
-    let parts = noted_by (dealt master session n j) bytes (Again i) h in
+wished : (version : FrameVersion) (master : List ℕ) (session n j : ℕ) (bytes : List ℕ) → j < n → ((k : ℕ) → slice_index bytes k < 256)
+    → (i : ℕ) → noted (dealt_for version master session n j) bytes ≡ Some (Again i)
+    → IsFromSender version master session n j bytes i 2 0
+wished version master session n j bytes j_in small i h =
+    let parts = noted_by (dealt_for version master session n j) bytes (Again i) h in
     let again = again_by (form_of bytes == 1) (form_of bytes == 2 && number_of bytes == 0) (sender_of bytes) (number_of bytes) i parts.2 in
     let both = both_true (form_of bytes == 2) (number_of bytes == 0) again.0 in
     let form : form_of bytes ≡ 2 = eqb-true _ _ both.0 in
     let number : number_of bytes ≡ 0 = eqb-true _ _ both.1 in
-    from_parts master session n j bytes i 2 0 again.1 form number (from_sender master session n j bytes j_in small parts.0 parts.1)
+    from_parts version master session n j bytes i 2 0 again.1 form number (from_sender version master session n j bytes j_in small parts.0 parts.1)
 
 pub notes_sealed_holds : NotesSealed
-notes_sealed_holds master session n j bytes j_in small = (acked master session n j bytes j_in small, wished master session n j bytes j_in small)
+notes_sealed_holds version master session n j bytes j_in small = (acked version master session n j bytes j_in small, wished version master session n j bytes j_in small)
 
 -- ---- what is noted, whatever the keys
 

@@ -1,14 +1,16 @@
 -- What a note says, by the tests that need no key and then by the tag.
-use Rattle.std.specs.Prelude.{◌≡◌, ◌≢◌, ℕ, ◌^◌, ◌<◌, Bool, true, false, not, ◌&&◌, ◌==◌, nat_le, List, ◌++◌, length, Option, Some, None, Err, refl, ◌⊎◌, if◌then◌else◌}
+use Rattle.std.specs.Prelude.{◌≡◌, ◌≢◌, ℕ, ◌^◌, ◌<◌, Bool, true, false, not, ◌&&◌, ◌==◌, nat_le, List, ◌++◌, length, Option, Some, None, refl, ◌⊎◌, if◌then◌else◌}
 use Rattle.std.proofs.Common.{sym, ◌∙◌, ap, ap₂, inl, inr, arith}
 use Rattle.std.proofs.lemmas.List.{length-append}
 use Rattle.std.proofs.lemmas.Nat.{from_be_bytes-to_be_bytes_8}
 use Rattle.std.proofs.lemmas.Bool.{eqb-true, le-leb, lt-ltb, eq-eqb, ne_eqb}
 use Rattle.std.proofs.lemmas.Slice.Eq.{bytes_eq-Decides}
+use Rattle.ritas_base.specs.declared.mode.FrameVersion.{FrameVersion}
+use Rattle.ritas_base.specs.declared.mode.FrameVersion.TheVariants.{One, Two}
 use Rattle.keyed_channel.specs.Hmac.{hmac_of}
 use Rattle.keyed_channel.specs.KeyRow.{KeyRow, key_with}
-use Rattle.keyed_channel.specs.Keyed.{dealt}
-use Rattle.keyed_channel.specs.Frames.{version_of, sender_of, receiver_of, front_of, tag_of, is_peer, is_tagged, opening}
+use Rattle.keyed_channel.specs.Keyed.{dealt_for}
+use Rattle.keyed_channel.specs.Frames.{version_byte, version_of, sender_of, receiver_of, front_of, tag_of, is_peer, is_tagged}
 use Rattle.keyed_channel.specs.Notes.{note_front, sealed_note, form_of, number_of, note_of, is_note, is_plain_note, noted}
 use Rattle.keyed_channel.specs.Laws.{NotesOpen, NotesAreNoFrames, NoteHasVersion}
 use Rattle.keyed_channel.specs.declared.note.Note.{Note}
@@ -42,12 +44,16 @@ short_or_long true false c d e v = inr (inl refl)
 short_or_long true true true d e v = absurd (cc)
 short_or_long true true false d e v = inr (inr refl)
 
-version_wrong : (bytes : List ℕ) → is_note bytes ≡ true → (version_of bytes == 1) ≡ false
-version_wrong bytes note = ap (λ (v : ℕ). v == 1) (eqb-true (version_of bytes) 0x4e note)
+no_version : (v : FrameVersion) → (0x4e == version_byte v) ≡ false
+no_version One = refl
+no_version Two = refl
+
+version_wrong : (v : FrameVersion) (bytes : List ℕ) → is_note bytes ≡ true → (version_of bytes == version_byte v) ≡ false
+version_wrong v bytes note = ap (λ (b : ℕ). b == version_byte v) (eqb-true (version_of bytes) 0x4e note) ∙ no_version v
 
 pub no_frames : NotesAreNoFrames
 no_frames k bytes note =
-    elim (short_or_long (nat_le 43 (length bytes)) (nat_le (length bytes) 16384) (version_of bytes == 1) (receiver_of bytes == k.me) (is_peer k (sender_of bytes)) (version_wrong bytes note)) [
+    elim (short_or_long (nat_le 43 (length bytes)) (nat_le (length bytes) 16384) (version_of bytes == version_byte k.version) (receiver_of bytes == k.me) (is_peer k (sender_of bytes)) (version_wrong k.version bytes note)) [
       | inl short ↦ inl (opening_plain k bytes Short short)
       | inr other ↦ elim other [
         | inl long ↦ inr (inl (opening_plain k bytes Long long))
@@ -67,16 +73,16 @@ has_version k by to form number =
     let size = length-sealed_note by to form number in
     let enough : nat_le 43 (length bytes) ≡ true = le-leb 43 (length bytes) (omega (arith, size)) in
     let most : nat_le (length bytes) 16384 ≡ true = le-leb (length bytes) 16384 (omega (arith, size)) in
-    opening_plain k bytes Version (wrong_only _ _ (version_of bytes == 1) (receiver_of bytes == k.me) (is_peer k (sender_of bytes)) enough most refl)
+    opening_plain k bytes Version (wrong_only _ _ (version_of bytes == version_byte k.version) (receiver_of bytes == k.me) (is_peer k (sender_of bytes)) enough most (no_version k.version))
 
 -- ---- what is noted
 
 -- the tag is right at the other end
-tagged_there : (master : List ℕ) (session n i j form number : ℕ) → i < n → j < n
-    → is_tagged (dealt master session n j) (sealed_note (dealt master session n i) j form number) ≡ true
-tagged_there master session n i j form number i_in j_in =
-    let mine = key_with (dealt master session n i) j in
-    let theirs = key_with (dealt master session n j) i in
+tagged_there : (version : FrameVersion) (master : List ℕ) (session n i j form number : ℕ) → i < n → j < n
+    → is_tagged (dealt_for version master session n j) (sealed_note (dealt_for version master session n i) j form number) ≡ true
+tagged_there version master session n i j form number i_in j_in =
+    let mine = key_with (dealt_for version master session n i) j in
+    let theirs = key_with (dealt_for version master session n j) i in
     let front = note_front i j form number in
     let tag = hmac_of mine front in
     let long = length-hmac_of mine front in
@@ -85,20 +91,20 @@ tagged_there master session n i j form number i_in j_in =
     let wanted = ap₂ hmac_of same (front_is front tag long) ∙ sym (tag_is front tag long) in
     (bytes_eq-Decides (hmac_of theirs (front_of (front ++ tag))) (tag_of (front ++ tag))).1 wanted
 
-plain_there : (master : List ℕ) (session n i j form number : ℕ) → i < n → i ≢ j
-    → is_plain_note (dealt master session n j) (sealed_note (dealt master session n i) j form number) ≡ true
-plain_there master session n i j form number i_in ne =
-    let long = eq-eqb (length (sealed_note (dealt master session n i) j form number)) 44 (length-sealed_note (dealt master session n i) j form number) in
-    let peer : is_peer (dealt master session n j) i ≡ true = ap₂ (λ (x y : Bool). x && not y) (lt-ltb i n i_in) (ne_eqb i j ne) in
+plain_there : (version : FrameVersion) (master : List ℕ) (session n i j form number : ℕ) → i < n → i ≢ j
+    → is_plain_note (dealt_for version master session n j) (sealed_note (dealt_for version master session n i) j form number) ≡ true
+plain_there version master session n i j form number i_in ne =
+    let long = eq-eqb (length (sealed_note (dealt_for version master session n i) j form number)) 44 (length-sealed_note (dealt_for version master session n i) j form number) in
+    let peer : is_peer (dealt_for version master session n j) i ≡ true = ap₂ (λ (x y : Bool). x && not y) (lt-ltb i n i_in) (ne_eqb i j ne) in
     ap₂ (λ (x y : Bool). x && y) long (ap₂ (λ (x y : Bool). x && y) (eq-eqb j j refl) peer)
 
-said : (master : List ℕ) (session n i j form number : ℕ) → i < n → j < n → i ≢ j → number < 2 ^ 64
-    → noted (dealt master session n j) (sealed_note (dealt master session n i) j form number) ≡ note_of i form number
-said master session n i j form number i_in j_in ne small =
-    let bytes = sealed_note (dealt master session n i) j form number in
-    note_tagged (dealt master session n j) bytes (plain_there master session n i j form number i_in ne) (tagged_there master session n i j form number i_in j_in)
+said : (version : FrameVersion) (master : List ℕ) (session n i j form number : ℕ) → i < n → j < n → i ≢ j → number < 2 ^ 64
+    → noted (dealt_for version master session n j) (sealed_note (dealt_for version master session n i) j form number) ≡ note_of i form number
+said version master session n i j form number i_in j_in ne small =
+    let bytes = sealed_note (dealt_for version master session n i) j form number in
+    note_tagged (dealt_for version master session n j) bytes (plain_there version master session n i j form number i_in ne) (tagged_there version master session n i j form number i_in j_in)
     ∙ ap (λ (q : ℕ). note_of i form q) (from_be_bytes-to_be_bytes_8 number small)
 
 pub notes_say : NotesOpen
-notes_say master session n i j seq i_in j_in ne small =
-    (said master session n i j 1 seq i_in j_in ne small, said master session n i j 2 0 i_in j_in ne (omega arith))
+notes_say version master session n i j seq i_in j_in ne small =
+    (said version master session n i j 1 seq i_in j_in ne small, said version master session n i j 2 0 i_in j_in ne (omega arith))

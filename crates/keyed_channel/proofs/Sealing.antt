@@ -10,8 +10,9 @@ use Rattle.sha2.proofs.Facts256.{length-sha256}
 use Rattle.sha2.specs.Sha256.{sha256}
 use Rattle.keyed_channel.specs.Hmac.{hmac_of, pad}
 use Rattle.keyed_channel.specs.KeyRow.{key_with}
-use Rattle.keyed_channel.specs.Keyed.{dealt}
-use Rattle.keyed_channel.specs.Frames.{frame_front, sealed, front_of, tag_of, version_of, sender_of, receiver_of, seq_of, body_of, parts_of, is_peer, is_tagged, plain_fault, Opening}
+use Rattle.keyed_channel.specs.Keyed.{dealt_for}
+use Rattle.ritas_base.specs.declared.mode.FrameVersion.{FrameVersion}
+use Rattle.keyed_channel.specs.Frames.{version_byte, frame_front, sealed, front_of, tag_of, version_of, sender_of, receiver_of, seq_of, body_of, parts_of, is_peer, is_tagged, plain_fault, Opening}
 use Rattle.keyed_channel.specs.Laws.{OpensAsSealed, SealedLength, SealedLong, SealedOpens}
 use Rattle.keyed_channel.specs.declared.frame.OpenFault.TheVariants.{Long}
 use Rattle.keyed_channel.proofs.Opens.{five_pass, too_long, opening_plain, opening_ok, opening_tagged}
@@ -22,14 +23,14 @@ pub length-hmac_of : (key text : List ℕ) → length (hmac_of key text) ≡ 32
 unfolding hmac_of
 length-hmac_of key text = length-sha256 (pad 0x5c key ++ sha256 (pad 0x36 key ++ text))
 
-length-front : (from to seq : ℕ) (body : List ℕ) → length (frame_front from to seq body) ≡ length body + 11
-length-front from to seq body = omega arith
+length-front : (version : FrameVersion) (from to seq : ℕ) (body : List ℕ) → length (frame_front version from to seq body) ≡ length body + 11
+length-front version from to seq body = omega arith
 
 pub sealed_length_holds : SealedLength
 sealed_length_holds k to seq body =
-    let front = frame_front k.me to seq body in
+    let front = frame_front k.version k.me to seq body in
     let tag = hmac_of (key_with k to) front in
-    omega (arith, length-append front tag, length-front k.me to seq body, length-hmac_of (key_with k to) front)
+    omega (arith, length-append front tag, length-front k.version k.me to seq body, length-hmac_of (key_with k to) front)
 
 -- a front with a tag behind it comes apart again
 pub front_is : (front tag : List ℕ) → length tag ≡ 32 → front_of (front ++ tag) ≡ front
@@ -42,10 +43,10 @@ tag_is front tag long =
     let at : length (front ++ tag) - 32 ≡ length front = omega (arith, length-append front tag) in
     ap (λ k. drop k (front ++ tag)) at ∙ drop-append_seam front tag
 
-parts_are : (from to seq : ℕ) (body tag : List ℕ) → seq < 2 ^ 64 → length tag ≡ 32
-    → parts_of (frame_front from to seq body ++ tag) ≡ record { from = from; seq = seq; body = body }
-parts_are from to seq body tag small long =
-    let bytes = frame_front from to seq body ++ tag in
+parts_are : (version : FrameVersion) (from to seq : ℕ) (body tag : List ℕ) → seq < 2 ^ 64 → length tag ≡ 32
+    → parts_of (frame_front version from to seq body ++ tag) ≡ record { from = from; seq = seq; body = body }
+parts_are version from to seq body tag small long =
+    let bytes = frame_front version from to seq body ++ tag in
     let number : seq_of bytes ≡ seq = from_be_bytes-to_be_bytes_8 seq small in
     let at : length bytes - 32 - 11 ≡ length body = omega (arith, length-append body tag) in
     let said : body_of bytes ≡ body = ap (λ k. take k (body ++ tag)) at ∙ take-append_seam body tag in
@@ -55,9 +56,9 @@ parts_are from to seq body tag small long =
 -- what opens are the parts
 pub opens_as_sealed_holds : OpensAsSealed
 opens_as_sealed_holds a b to seq body o small opens =
-    let front = frame_front a.me to seq body in
+    let front = frame_front a.version a.me to seq body in
     let t = opening_ok b (sealed a to seq body) o opens in
-    sym t.2 ∙ parts_are a.me to seq body (hmac_of (key_with a to) front) small (length-hmac_of (key_with a to) front)
+    sym t.2 ∙ parts_are a.version a.me to seq body (hmac_of (key_with a to) front) small (length-hmac_of (key_with a to) front)
 
 -- ---- what doesn't open, and what does
 
@@ -67,15 +68,15 @@ sealed_long_holds k by to seq body long =
     let size = sealed_length_holds by to seq body in
     let enough : nat_le 43 (length bytes) ≡ true = le-leb 43 (length bytes) (omega arith) in
     let over : nat_le (length bytes) 16384 ≡ false = lt-leb (length bytes) 16384 (omega arith) in
-    opening_plain k bytes Long (too_long _ _ (version_of bytes == 1) (receiver_of bytes == k.me) (is_peer k (sender_of bytes)) enough over)
+    opening_plain k bytes Long (too_long _ _ (version_of bytes == version_byte k.version) (receiver_of bytes == k.me) (is_peer k (sender_of bytes)) enough over)
 
 -- the tag is right at the other end
-tagged_there : (master : List ℕ) (session n i j seq : ℕ) (body : List ℕ) → i < n → j < n
-    → is_tagged (dealt master session n j) (sealed (dealt master session n i) j seq body) ≡ true
-tagged_there master session n i j seq body i_in j_in =
-    let mine = key_with (dealt master session n i) j in
-    let theirs = key_with (dealt master session n j) i in
-    let front = frame_front i j seq body in
+tagged_there : (version : FrameVersion) (master : List ℕ) (session n i j seq : ℕ) (body : List ℕ) → i < n → j < n
+    → is_tagged (dealt_for version master session n j) (sealed (dealt_for version master session n i) j seq body) ≡ true
+tagged_there version master session n i j seq body i_in j_in =
+    let mine = key_with (dealt_for version master session n i) j in
+    let theirs = key_with (dealt_for version master session n j) i in
+    let front = frame_front version i j seq body in
     let tag = hmac_of mine front in
     let long = length-hmac_of mine front in
     let same : theirs ≡ mine =
@@ -84,15 +85,15 @@ tagged_there master session n i j seq body i_in j_in =
     (bytes_eq-Decides (hmac_of theirs (front_of (front ++ tag))) (tag_of (front ++ tag))).1 wanted
 
 pub sealed_opens_holds : SealedOpens
-sealed_opens_holds master session n i j seq body i_in j_in ne small short =
-    let k = dealt master session n j in
-    let by = dealt master session n i in
+sealed_opens_holds version master session n i j seq body i_in j_in ne small short =
+    let k = dealt_for version master session n j in
+    let by = dealt_for version master session n i in
     let bytes = sealed by j seq body in
     let size = sealed_length_holds by j seq body in
     let enough : nat_le 43 (length bytes) ≡ true = le-leb 43 (length bytes) (omega arith) in
     let most : nat_le (length bytes) 16384 ≡ true = le-leb (length bytes) 16384 (omega arith) in
     let peer : is_peer k i ≡ true = ap₂ (λ (x y : Bool). x && not y) (lt-ltb i n i_in) (ne_eqb i j ne) in
     let plain : plain_fault k bytes ≡ None =
-    five_pass _ _ _ _ _ enough most refl (eq-eqb j j refl) peer in
-    opening_tagged k bytes plain (tagged_there master session n i j seq body i_in j_in)
-    ∙ ap Ok (parts_are i j seq body _ small (length-hmac_of (key_with by j) (frame_front i j seq body)))
+    five_pass _ _ _ _ _ enough most (eq-eqb (version_byte version) (version_byte version) refl) (eq-eqb j j refl) peer in
+    opening_tagged k bytes plain (tagged_there version master session n i j seq body i_in j_in)
+    ∙ ap Ok (parts_are version i j seq body _ small (length-hmac_of (key_with by j) (frame_front version i j seq body)))

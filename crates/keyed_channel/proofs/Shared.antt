@@ -17,7 +17,7 @@ tagged_shared : (k by : KeyRow) (to seq : ℕ) (body : List ℕ) → shares_key 
 tagged_shared k by to seq body shared plain =
     let mine = key_with by to in
     let theirs = key_with k by.me in
-    let front = frame_front by.me to seq body in
+    let front = frame_front by.version by.me to seq body in
     let tag = hmac_of mine front in
     let long = length-hmac_of mine front in
     let one : theirs ≡ key_with by k.me = (bytes_eq-Decides theirs (key_with by k.me)).0 (both_true (k.session == by.session) (bytes_eq theirs (key_with by k.me)) shared).1 in

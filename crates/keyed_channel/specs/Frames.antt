@@ -2,6 +2,8 @@
 use Rattle.std.specs.Prelude.{ℕ, Bool, not, ◌==◌, ◌&&◌, ◌-◌, nat_le, nat_lt, List, [], ◌∷◌, ◌++◌, length, take, drop, slice_index, slice_range, Option, Some, None, Result, Ok, Err, if◌then◌else◌}
 use Rattle.std.specs.Int.{w64, to_be_bytes, from_be_bytes}
 use Rattle.std.specs.Str.{bytes_eq}
+use Rattle.ritas_base.specs.declared.mode.FrameVersion.{FrameVersion}
+use Rattle.ritas_base.specs.declared.mode.FrameVersion.TheVariants.{One, Two}
 use Rattle.keyed_channel.specs.Hmac.{hmac_of}
 use Rattle.keyed_channel.specs.KeyRow.{KeyRow, key_with}
 use Rattle.keyed_channel.specs.declared.frame.OpenFault.{OpenFault}
@@ -9,13 +11,18 @@ use Rattle.keyed_channel.specs.declared.frame.OpenFault.TheVariants as faults
 
 -- ---- sealing
 
--- the frame without its tag: version 1, sender, receiver, sequence number, body
-abbrev pub frame_front : ℕ → ℕ → ℕ → List ℕ → List ℕ
-frame_front from to seq body = 1 ∷ from ∷ to ∷ to_be_bytes w64 seq ++ body
+-- the first byte of a version's frames
+abbrev pub version_byte : FrameVersion → ℕ
+version_byte One = 1
+version_byte Two = 2
+
+-- the frame without its tag: version, sender, receiver, sequence number, body
+abbrev pub frame_front : FrameVersion → ℕ → ℕ → ℕ → List ℕ → List ℕ
+frame_front version from to seq body = version_byte version ∷ from ∷ to ∷ to_be_bytes w64 seq ++ body
 
 -- the frame: its front, and the front's tag under the key of sender and receiver
 abbrev pub sealed : KeyRow → ℕ → ℕ → List ℕ → List ℕ
-sealed k to seq body = frame_front k.me to seq body ++ hmac_of (key_with k to) (frame_front k.me to seq body)
+sealed k to seq body = frame_front k.version k.me to seq body ++ hmac_of (key_with k to) (frame_front k.version k.me to seq body)
 
 -- ---- the parts of a frame
 
@@ -60,7 +67,7 @@ abbrev pub plain_tests : KeyRow → List ℕ → List (Bool × OpenFault)
 plain_tests k bytes =
     (nat_le 43 (length bytes), faults.Short)
     ∷ (nat_le (length bytes) 16384, faults.Long)
-    ∷ (version_of bytes == 1, faults.Version)
+    ∷ (version_of bytes == version_byte k.version, faults.Version)
     ∷ (receiver_of bytes == k.me, faults.NotMine)
     ∷ (is_peer k (sender_of bytes), faults.NoSuchReplica)
     ∷ []

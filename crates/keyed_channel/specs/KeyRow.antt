@@ -1,6 +1,7 @@
 -- The keys of one replica.
 use Rattle.std.specs.Prelude.{◌≡◌, ℕ, Bool, ◌==◌, ◌&&◌, ◌-◌, ◌<◌, ◌≤◌, List, ◌++◌, length, drop, replicate, slice_index_or}
 use Rattle.std.specs.Str.{bytes_eq}
+use Rattle.ritas_base.specs.declared.mode.FrameVersion.{FrameVersion}
 
 -- the replica's number, the number of replicas, and the key that it shares with each replica: 31 places, and those
 -- from n on are zero
@@ -9,6 +10,8 @@ pub record KeyRow : Type 0 where
   pub n : ℕ
   pub me : ℕ
   pub row : List (List ℕ)
+  -- the version of the frames that are sealed and opened with them
+  pub version : FrameVersion
 
 abbrev pub zero_key : List ℕ
 zero_key = replicate 32 0

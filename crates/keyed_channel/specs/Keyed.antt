@@ -4,6 +4,8 @@ use Rattle.std.specs.List.{range_with_len}
 use Rattle.std.specs.Int.{w64, to_be_bytes, bit_at}
 use Rattle.sha2.specs.Sha256.{sha256}
 use Rattle.ritas_base.specs.Slots.{slot_bytes}
+use Rattle.ritas_base.specs.declared.mode.FrameVersion.{FrameVersion}
+use Rattle.ritas_base.specs.declared.mode.FrameVersion.TheVariants.{One}
 use Rattle.ritas_base.specs.Tags.{Tags}
 use Rattle.ritas_base.specs.declared.slot.Slot.{Slot}
 use Rattle.keyed_channel.specs.Hmac.{hmac_of}
@@ -34,7 +36,11 @@ dealt_keys master session n i = map (pair_key master session i) (range_with_len 
 -- the keys of replica i, dealt from a master key
 abbrev pub dealt : List ℕ → ℕ → ℕ → ℕ → KeyRow
 dealt master session n i =
-    record { session = session; n = n; me = i; row = filled_row (dealt_keys master session n i) }
+    record { session = session; n = n; me = i; row = filled_row (dealt_keys master session n i); version = One }
+
+-- the same for frames of this version
+abbrev pub dealt_for : FrameVersion → List ℕ → ℕ → ℕ → ℕ → KeyRow
+dealt_for version master session n i = record (dealt master session n i) { version = version }
 
 -- ---- entries of the hash matrix
 

@@ -1,8 +1,9 @@
 -- What holds of any row of keys and its frames, and of keys that were dealt from one master key.
 use Rattle.std.specs.Prelude.{◌≡◌, ◌≢◌, ℕ, ◌+◌, ◌^◌, ◌<◌, ◌≤◌, ◌⊎◌, List, length, slice_index, true, Some, Ok, Err}
 use Rattle.ritas_base.specs.declared.slot.Slot.{Slot}
+use Rattle.ritas_base.specs.declared.mode.FrameVersion.{FrameVersion}
 use Rattle.keyed_channel.specs.KeyRow.{KeyRow}
-use Rattle.keyed_channel.specs.Keyed.{pair_key, dealt, entry_of, tags_of}
+use Rattle.keyed_channel.specs.Keyed.{pair_key, dealt, dealt_for, entry_of, tags_of}
 use Rattle.keyed_channel.specs.Frames.{sealed, receiver_of, parts_of, opening, Opening}
 use Rattle.keyed_channel.specs.declared.frame.OpenFault.TheVariants.{Short, Long, Version}
 use Rattle.keyed_channel.specs.Notes.{sealed_note, ack_note, again_note, is_note, noted}
@@ -10,14 +11,14 @@ use Rattle.keyed_channel.specs.declared.note.Note.TheVariants.{Ack, Again}
 
 -- what i seals for j opens at j
 abbrev pub SealedOpens : Type 0
-SealedOpens = (master : List ℕ) (session n i j seq : ℕ) (body : List ℕ) → i < n → j < n → i ≢ j → seq < 2 ^ 64 → length body ≤ 16341
-    → opening (dealt master session n j) (sealed (dealt master session n i) j seq body) ≡ Ok (record { from = i; seq = seq; body = body })
+SealedOpens = (version : FrameVersion) (master : List ℕ) (session n i j seq : ℕ) (body : List ℕ) → i < n → j < n → i ≢ j → seq < 2 ^ 64 → length body ≤ 16341
+    → opening (dealt_for version master session n j) (sealed (dealt_for version master session n i) j seq body) ≡ Ok (record { from = i; seq = seq; body = body })
 
 -- what opens at j is what its sender seals, another replica
 abbrev pub OpensSealed : Type 0
-OpensSealed = (master : List ℕ) (session n j : ℕ) (bytes : List ℕ) (o : Opening) → j < n → ((k : ℕ) → slice_index bytes k < 256)
-    → opening (dealt master session n j) bytes ≡ Ok o
-    → (o.from < n) × (o.from ≢ j) × (bytes ≡ sealed (dealt master session n o.from) j o.seq o.body)
+OpensSealed = (version : FrameVersion) (master : List ℕ) (session n j : ℕ) (bytes : List ℕ) (o : Opening) → j < n → ((k : ℕ) → slice_index bytes k < 256)
+    → opening (dealt_for version master session n j) bytes ≡ Ok o
+    → (o.from < n) × (o.from ≢ j) × (bytes ≡ sealed (dealt_for version master session n o.from) j o.seq o.body)
 
 -- whatever two rows of keys these are: a frame that opens says what was sealed
 abbrev pub OpensAsSealed : Type 0
@@ -62,17 +63,17 @@ EntriesAgree = (master : List ℕ) (session n i j : ℕ) (s : Slot) (echoer veri
 
 -- what i notes for j says so at j
 abbrev pub NotesOpen : Type 0
-NotesOpen = (master : List ℕ) (session n i j seq : ℕ) → i < n → j < n → i ≢ j → seq < 2 ^ 64
-    → (noted (dealt master session n j) (ack_note (dealt master session n i) j seq) ≡ Some (Ack i seq))
-    × (noted (dealt master session n j) (again_note (dealt master session n i) j) ≡ Some (Again i))
+NotesOpen = (version : FrameVersion) (master : List ℕ) (session n i j seq : ℕ) → i < n → j < n → i ≢ j → seq < 2 ^ 64
+    → (noted (dealt_for version master session n j) (ack_note (dealt_for version master session n i) j seq) ≡ Some (Ack i seq))
+    × (noted (dealt_for version master session n j) (again_note (dealt_for version master session n i) j) ≡ Some (Again i))
 
 -- what is noted at j is what its sender notes, another replica
 abbrev pub NotesSealed : Type 0
-NotesSealed = (master : List ℕ) (session n j : ℕ) (bytes : List ℕ) → j < n → ((k : ℕ) → slice_index bytes k < 256)
-    → ((i seq : ℕ) → noted (dealt master session n j) bytes ≡ Some (Ack i seq)
-    → (i < n) × (i ≢ j) × (bytes ≡ ack_note (dealt master session n i) j seq))
-    × ((i : ℕ) → noted (dealt master session n j) bytes ≡ Some (Again i)
-    → (i < n) × (i ≢ j) × (bytes ≡ again_note (dealt master session n i) j))
+NotesSealed = (version : FrameVersion) (master : List ℕ) (session n j : ℕ) (bytes : List ℕ) → j < n → ((k : ℕ) → slice_index bytes k < 256)
+    → ((i seq : ℕ) → noted (dealt_for version master session n j) bytes ≡ Some (Ack i seq)
+    → (i < n) × (i ≢ j) × (bytes ≡ ack_note (dealt_for version master session n i) j seq))
+    × ((i : ℕ) → noted (dealt_for version master session n j) bytes ≡ Some (Again i)
+    → (i < n) × (i ≢ j) × (bytes ≡ again_note (dealt_for version master session n i) j))
 
 -- whatever is noted is of another replica
 abbrev pub NotedFromPeer : Type 0

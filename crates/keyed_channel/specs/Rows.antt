@@ -3,13 +3,17 @@ use Rattle.std.specs.Prelude.{◌≡◌, [], ◌∷◌, replicate, length, Some,
 use Rattle.ritas_base.specs.declared.slot.Slot.{Slot}
 use Rattle.keyed_channel.specs.KeyRow.{KeyRow, filled_row}
 use Rattle.keyed_channel.specs.Keyed.{pair_string, coin_key_string, entry_string, coin_string, other_of}
+use Rattle.ritas_base.specs.declared.mode.FrameVersion.TheVariants.{One, Two}
 use Rattle.keyed_channel.specs.Frames.{frame_front, opening}
 use Rattle.keyed_channel.specs.Notes.{note_front, note_of}
 use Rattle.keyed_channel.specs.declared.note.Note.TheVariants.{Ack, Again}
 use Rattle.keyed_channel.specs.declared.frame.OpenFault.TheVariants.{Short, Version, NotMine, NoSuchReplica}
 
 -- the front of frame 258 from 3 to 1, with two bytes
-front_row : frame_front 3 1 258 (0xaa ∷ 0xbb ∷ []) ≡ 1 ∷ 3 ∷ 1 ∷ 0 ∷ 0 ∷ 0 ∷ 0 ∷ 0 ∷ 0 ∷ 1 ∷ 2 ∷ 0xaa ∷ 0xbb ∷ []
+front_row_of_two : frame_front Two 3 1 258 (0xaa ∷ []) ≡ 2 ∷ 3 ∷ 1 ∷ 0 ∷ 0 ∷ 0 ∷ 0 ∷ 0 ∷ 0 ∷ 1 ∷ 2 ∷ 0xaa ∷ []
+front_row_of_two = refl
+
+front_row : frame_front One 3 1 258 (0xaa ∷ 0xbb ∷ []) ≡ 1 ∷ 3 ∷ 1 ∷ 0 ∷ 0 ∷ 0 ∷ 0 ∷ 0 ∷ 0 ∷ 1 ∷ 2 ∷ 0xaa ∷ 0xbb ∷ []
 front_row = refl
 
 -- the string of replicas 5 and 2 in session 7: the lesser number comes first
@@ -39,7 +43,7 @@ other_rows = (refl, refl, refl)
 
 -- replica 1 of 4
 abbrev keys_row : KeyRow
-keys_row = record { session = 7; n = 4; me = 1; row = filled_row (replicate 4 (replicate 32 9)) }
+keys_row = record { session = 7; n = 4; me = 1; row = filled_row (replicate 4 (replicate 32 9)); version = One }
 
 -- 42 bytes are too few, and then the first byte, the receiver and the sender are tested
 opening_rows : (opening keys_row (replicate 42 1) ≡ Err Short)
@@ -49,6 +53,16 @@ opening_rows : (opening keys_row (replicate 42 1) ≡ Err Short)
     × (opening keys_row (1 ∷ 4 ∷ 1 ∷ replicate 40 0) ≡ Err NoSuchReplica)
 unfolding opening
 opening_rows = (refl, refl, refl, refl, refl)
+
+-- the same in version 2, where a frame of version 1 doesn't open
+abbrev keys_row_of_two : KeyRow
+keys_row_of_two = record keys_row { version = Two }
+
+opening_rows_of_two : (opening keys_row_of_two (1 ∷ 0 ∷ 1 ∷ replicate 40 0) ≡ Err Version)
+    × (opening keys_row_of_two (2 ∷ 1 ∷ 0 ∷ replicate 40 0) ≡ Err NotMine)
+    × (opening keys_row_of_two (2 ∷ 4 ∷ 1 ∷ replicate 40 0) ≡ Err NoSuchReplica)
+unfolding opening
+opening_rows_of_two = (refl, refl, refl)
 
 -- the front of the note that frame 258 was taken, from 3 to 1
 note_row : note_front 3 1 1 258 ≡ 0x4e ∷ 3 ∷ 1 ∷ 1 ∷ 0 ∷ 0 ∷ 0 ∷ 0 ∷ 0 ∷ 0 ∷ 1 ∷ 2 ∷ []

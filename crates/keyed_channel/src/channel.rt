@@ -1,4 +1,5 @@
-ghost use Rattle.std.specs.Prelude.{◌≡◌, ℕ, ◌<◌, true, List, IfOk, IsErr, MatchOption, MatchResult, Ok, Err};
+ghost use Rattle.sha2.proofs.Facts256.{length-sha256};
+ghost use Rattle.std.specs.Prelude.{◌≡◌, ℕ, ◌<◌, true, false, List, Option, None, IfOk, IsErr, MatchOption, MatchResult, Ok, Err};
 ghost use Rattle.keyed_channel.specs.Hmac.{hmac_of};
 ghost use Rattle.keyed_channel.specs.KeyRow.{key_with, shares_key};
 ghost use Rattle.keyed_channel.specs.Keyed.{entry_of, tags_of};
@@ -74,7 +75,7 @@ impl Channel {
         requires { to < self.now.n }
         ensures { IfOk result (λ frame. frame ≡ sealed self.now to seq body.now) }
     {
-        let front = front(alloc, self.keys.me(), to, seq, body)?;
+        let front = front(alloc, self.keys.version(), self.keys.me(), to, seq, body)?;
         let tag = self.tag(to, front.as_slice());
         tagged(front, &tag)
     }
@@ -139,9 +140,10 @@ impl Channel {
     /// computed. `None` where they don't share it, or the frame doesn't open. Of bytes that the sender didn't seal nothing
     /// is said. It takes no memory.
     pub fn open_shared<'a>(&self, sender: &Channel, bytes: &'a [u8]) -> Option<Opened<'a>>
-        ensures { (to seq : ℕ) (body : List ℕ) → bytes.now ≡ sealed sender.now to seq body → MatchOption result
+        ensures opens { (to seq : ℕ) (body : List ℕ) → bytes.now ≡ sealed sender.now to seq body → MatchOption result
             (shares_key self.now sender.now ≡ true → IsErr (opening self.now bytes.now))
             (λ o. opening self.now bytes.now ≡ Ok (record { from = o.from; seq = o.seq; body = o.body.now })) }
+        ensures apart { shares_key self.now sender.now ≡ false → result ≡ None }
     {
         if !self.shares_key(sender) {
             return None;
@@ -157,6 +159,8 @@ impl Tagger for Channel {
     ghost me = { λ k. k.me };
 
     ghost tags = { tags_of };
+
+    ghost digests = { λ k. length-sha256 };
 
     fn me(&self) -> u8 {
         self.keys.me()

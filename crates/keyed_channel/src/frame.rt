@@ -1,13 +1,20 @@
 ghost use Rattle.std.specs.Prelude.{◌≡◌, ◌<◌, ◌≤◌, ◌++◌, length, IfOk, OnOk, MatchResult, Ok, Err, Some, None};
-ghost use Rattle.keyed_channel.specs.Frames.{sealed, frame_front, opening, plain_fault, parts_of, sender_of};
+ghost use Rattle.keyed_channel.specs.Frames.{version_byte, sealed, frame_front, opening, plain_fault, parts_of, sender_of};
 
 use crate::keys::Keys;
 use crate::tags::hmac;
-use ritas_base::{Bytes, Mem};
+use ritas_base::{Bytes, FrameVersion, Mem};
 use std::alloc::Global;
 
-// The version of a frame, its first byte.
-const VERSION: u8 = 1;
+// The first byte of a version's frames.
+pub(crate) fn version_byte(version: FrameVersion) -> u8
+    ensures { result ≡ version_byte version }
+{
+    match version {
+        FrameVersion::One => 1,
+        FrameVersion::Two => 2,
+    }
+}
 
 // The bytes of a frame beside its body, and of its tag.
 const LEAST_LEN: usize = 43;
@@ -24,7 +31,7 @@ pub enum OpenFault {
     Short,
     /// It has more than 16,384 bytes.
     Long,
-    /// The first byte isn't 1.
+    /// The first byte isn't that of the keys' version.
     Version,
     /// The receiver isn't this replica.
     NotMine,
@@ -46,11 +53,18 @@ pub struct Opened<'a> {
 }
 
 // The frame without its tag, with room for the tag.
-pub(crate) fn front(alloc: Global, me: u8, to: u8, seq: u64, body: &[u8]) -> Result<Vec<u8>, Mem>
-    ensures { IfOk result (λ frame. frame.items ≡ frame_front me to seq body.now) }
+pub(crate) fn front(
+    alloc: Global,
+    version: FrameVersion,
+    me: u8,
+    to: u8,
+    seq: u64,
+    body: &[u8],
+) -> Result<Vec<u8>, Mem>
+    ensures { IfOk result (λ frame. frame.items ≡ frame_front version me to seq body.now) }
 {
     let mut frame = Vec::with_capacity(alloc, body.len() + LEAST_LEN)?;
-    frame.extend_from_slice(&[VERSION, me, to])?;
+    frame.extend_from_slice(&[version_byte(version), me, to])?;
     frame.extend_from_slice(&seq.to_be_bytes())?;
     frame.extend_from_slice(body)?;
     Ok(frame)
@@ -64,14 +78,14 @@ pub(crate) fn tagged(mut front: Vec<u8>, tag: &[u8; 32]) -> Result<Bytes, Mem>
     Ok(Bytes::from_vec(front))
 }
 
-/// The frame that carries a body to a replica: version 1, sender, receiver, sequence number (8 bytes, big-endian),
+/// The frame that carries a body to a replica: the version of the keys, sender, receiver, sequence number (8 bytes, big-endian),
 /// body, and the tag of all these bytes (HMAC-SHA-256, RFC 2104) under the key that sender and receiver share. The one
 /// error is want of memory. A body of more than 16,341 bytes gives a frame that opens nowhere.
 pub fn seal(alloc: Global, keys: &Keys, to: u8, seq: u64, body: &[u8]) -> Result<Bytes, Mem>
     requires { to < keys.now.n }
     ensures { IfOk result (λ frame. frame ≡ sealed keys.now to seq body.now) }
 {
-    let front = front(alloc, keys.me(), to, seq, body)?;
+    let front = front(alloc, keys.version(), keys.me(), to, seq, body)?;
     let tag = hmac(keys.key(to), front.as_slice());
     tagged(front, &tag)
 }
@@ -90,7 +104,7 @@ pub(crate) fn check(keys: &Keys, bytes: &[u8]) -> Result<(), OpenFault>
     if bytes.len() > MOST_LEN {
         return Err(OpenFault::Long);
     }
-    if bytes[0] != VERSION {
+    if bytes[0] != version_byte(keys.version()) {
         return Err(OpenFault::Version);
     }
     if bytes[2] != keys.me() {

@@ -1,10 +1,12 @@
 ghost use Rattle.std.specs.Prelude.{◌≡◌, ◌<◌, ◌≤◌, ℕ, List, length, take};
+ghost use Rattle.sha2.proofs.Facts256.{length-sha256};
+ghost use Rattle.ritas_base.specs.declared.mode.FrameVersion.TheVariants.{One};
 ghost use Rattle.keyed_channel.specs.KeyRow.{IsKeyRow, filled_row, key_with};
 ghost use Rattle.keyed_channel.specs.Keyed.{pair_key, dealt_keys, dealt, tags_of};
 
 use crate::hashed_key::HashedKey;
 use crate::tags::{digest, finished, inner, outer};
-use ritas_base::{Params, Slot, Tagger};
+use ritas_base::{FrameVersion, Params, Slot, Tagger};
 use sha2::Digest;
 use std::marker::Model;
 
@@ -15,6 +17,7 @@ pub struct Keys {
     n: u8,
     me: u8,
     row: [[u8; 32]; 31],
+    version: FrameVersion,
 }
 
 impl Model for Keys {
@@ -22,11 +25,11 @@ impl Model for Keys {
 
     ghost Value = { KeyRow };
 
-    ghost view = { λ k. record { session = k.session; n = k.n; me = k.me; row = k.row } };
+    ghost view = { λ k. record { session = k.session; n = k.n; me = k.me; row = k.row; version = k.version } };
 
-    ghost invariant = { λ k. IsKeyRow (record { session = k.session; n = k.n; me = k.me; row = k.row }) };
+    ghost invariant = { λ k. IsKeyRow (record { session = k.session; n = k.n; me = k.me; row = k.row; version = k.version }) };
 
-    ghost inverse = { λ k. record { session = k.session; n = k.n; me = k.me; row = k.row } };
+    ghost inverse = { λ k. record { session = k.session; n = k.n; me = k.me; row = k.row; version = k.version } };
 }
 
 // The key that replicas i and j share.
@@ -64,7 +67,7 @@ fn filled_row(keys: &[[u8; 32]]) -> [[u8; 32]; 31]
 
 impl Keys {
     /// The keys of replica me, dealt from a master key: the one that i and j share is HMAC-SHA-256 (RFC 2104) under it of
-    /// 0x4b, the session (8 bytes, big-endian), and the lesser and the greater of i and j.
+    /// 0x4b, the session (8 bytes, big-endian), and the lesser and the greater of i and j. Its frames are of version 1.
     pub fn deal(master: &[u8; 32], session: u64, p: &Params, me: u8) -> Keys
         requires { me < p.now.n }
         ensures { result ≡ dealt master.now session p.now.n me }
@@ -76,14 +79,15 @@ impl Keys {
             n,
             me,
             row,
+            version: FrameVersion::One,
         }
     }
 
-    /// The keys of replica me, where place k of the row is the key that it shares with replica k.
+    /// The keys of replica me, where place k of the row is the key that it shares with replica k. Its frames are of version 1.
     pub fn from_row(session: u64, p: &Params, me: u8, row: &[[u8; 32]]) -> Keys
         requires mine { me < p.now.n }
         requires each { length row.now ≡ p.now.n }
-        ensures { result ≡ record { session = session; n = p.now.n; me = me; row = filled_row row.now } }
+        ensures { result ≡ record { session = session; n = p.now.n; me = me; row = filled_row row.now; version = One } }
     {
         let n = p.n();
         let row = filled_row(row);
@@ -92,7 +96,29 @@ impl Keys {
             n,
             me,
             row,
+            version: FrameVersion::One,
         }
+    }
+
+    /// The same keys for frames of this version.
+    pub fn with_version(self, version: FrameVersion) -> Keys
+        ensures { result ≡ record self { version = version } }
+    {
+        let row = self.row;
+        Keys {
+            session: self.session,
+            n: self.n,
+            me: self.me,
+            row,
+            version,
+        }
+    }
+
+    /// The version of the frames that they seal and open.
+    pub fn version(&self) -> FrameVersion
+        ensures { result ≡ self.now.version }
+    {
+        self.version
     }
 
     /// The number of the replica, below n.
@@ -140,6 +166,8 @@ impl Tagger for Keys {
     ghost me = { λ k. k.me };
 
     ghost tags = { tags_of };
+
+    ghost digests = { λ k. length-sha256 };
 
     fn me(&self) -> u8 {
         self.me

@@ -1,13 +1,13 @@
 ghost use Rattle.keyed_channel.specs.Laws.{EntriesAgree, EntryByPair, NotedFromPeer, NotesAreNoFrames, NoteHasVersion, NotesOpen, NotesSealed, OpenedFromPeer, OpenedParts, OpensAsSealed, OpensSealed, SealedLength, SealedLong, SealedOpens};
 
-/// A law: what replica i seals for replica j, both with keys dealt from one master key, opens at j as from i, with the
-/// same sequence number and body. The body has at most 16,341 bytes.
+/// A law of both versions: what replica i seals for replica j, both with keys dealt from one master key, opens at j as from
+/// i, with the same sequence number and body. The body has at most 16,341 bytes.
 pub fn sealed_opens()
     ensures { SealedOpens }
 {}
 
-/// A law: what opens at replica j, with keys dealt from a master key, is the very frame that its sender, another
-/// replica, seals for j with that sequence number and body.
+/// A law of both versions: what opens at replica j, with keys dealt from a master key, is the very frame that its sender,
+/// another replica, seals for j with that sequence number and body.
 pub fn opens_sealed()
     ensures { OpensSealed }
 {}
@@ -65,12 +65,12 @@ pub fn noted_from_peer()
 {}
 
 /// A law for every row of keys: what begins as a note opens as no frame. It is too short or too long for one, or its first
-/// byte isn't 1.
+/// byte is that of no version.
 pub fn notes_are_no_frames()
     ensures { NotesAreNoFrames }
 {}
 
-/// A law for every two rows of keys: a note is no frame, since its first byte isn't 1.
+/// A law for every two rows of keys: a note is no frame, since its first byte is that of no version.
 pub fn note_has_version()
     ensures { NoteHasVersion }
 {}

@@ -8,10 +8,14 @@
 //! |---|---|---|
 //! | key of i and j | master key | 0x4b, session (8), the lesser of i and j, the greater |
 //! | coin key of i | master key | 0x53, session (8), i |
-//! | of a frame | key of sender and receiver | 1, sender, receiver, sequence number (8), body |
+//! | of a frame | key of sender and receiver | version (1 or 2), sender, receiver, sequence number (8), body |
 //! | entry | key of echoer and verifier | 0x45, session (8), slot (9), echoer, verifier, SHA-256 of the message (32) |
 //! | coin | coin key | 0x43, session (8), slot (9) |
 //! | of a note | key of sender and receiver | 0x4e, sender, receiver, form, number (8) |
+//!
+//! The version is the session's, which the keys have: 1 from `Keys::deal` and `Keys::from_row`, another by
+//! `Keys::with_version`. A frame of one version doesn't open in a session of the other. Everything else here is the same in
+//! both.
 //!
 //! A frame is what its tag is of, and then the tag's 32 bytes. The contracts say each of these byte for byte. `seal`
 //! gives exactly that frame; `open_frame` gives the first fault that the bytes have, and their parts where they have

@@ -2,7 +2,7 @@ use crate::{
     Channel, Keys, Note, OpenFault, SeedCoin, coin_key, digest, hmac, open_frame, open_note, seal,
     seal_ack, seal_again,
 };
-use ritas_base::{Coin, Params, Slot, Tagger};
+use ritas_base::{Coin, FrameVersion, Params, Slot, Tagger};
 use std::process::Abort;
 use std::test::Fail;
 
@@ -23,6 +23,10 @@ const COIN_KEY: &[u8; 32] =
 // From 3 to 1, number 258, with two bytes.
 const FRAME: &[u8] =
     b"\x01\x03\x01\x00\x00\x00\x00\x00\x00\x01\x02\xaa\xbb\x5a\x56\xc1\x02\x05\xa1\x75\xb4\xd5\xf0\x04\x2e\xfd\xd1\x0a\x68\x66\x57\x50\x9d\x2b\xea\x1e\xb4\xa0\x61\x22\x16\x85\xb8\xd9\x09";
+
+// The same in version 2.
+const FRAME_2: &[u8] =
+    b"\x02\x03\x01\x00\x00\x00\x00\x00\x00\x01\x02\xaa\xbb\x66\x7b\x85\xf3\x17\xa5\x0d\x50\x7d\x7c\xed\xe3\x85\x2c\x79\xd5\xb6\x26\xff\x70\xd1\x6f\xf7\xc6\x84\xaf\x75\x8e\xf8\xcb\x03\xf6";
 
 // Test cases 1 to 4 of RFC 4231.
 const CASES: [(&[u8], &[u8], &[u8]); 4] = [
@@ -218,5 +222,58 @@ fn notes_of_dealt_keys(rt: HostRuntime) {
         assert!(rt; open_note(&one, bytes).is_none());
     }
     assert!(rt; open_note(&three, ACK).is_none());
+    assert!(rt; open_frame(&one, ACK).is_err_and(|fault| fault == OpenFault::Version));
+}
+
+// A session of version 2 has frames of its own, and opens none of version 1.
+#[test]
+fn frames_of_version_2(rt: HostRuntime) -> Result<(), Fail> {
+    let old = dealt(&rt, 1);
+    let receiver = old.with_version(FrameVersion::Two);
+    let sender = dealt(&rt, 3).with_version(FrameVersion::Two);
+    assert!(rt; 1 < sender.n());
+    let frame = seal(rt.alloc(), &sender, 1, 258, b"\xaa\xbb")?;
+    assert_eq!(rt; frame.as_slice(), FRAME_2);
+    let opened = open_frame(&receiver, FRAME_2)?;
+    assert_eq!(rt; (opened.from, opened.seq), (3, 258));
+    assert_eq!(rt; opened.body, b"\xaa\xbb".as_slice());
+    assert!(rt; open_frame(&old, FRAME_2).is_err_and(|fault| fault == OpenFault::Version));
+    assert!(rt; open_frame(&receiver, FRAME).is_err_and(|fault| fault == OpenFault::Version));
+    Ok(())
+}
+
+#[test]
+fn a_channel_of_version_2(rt: HostRuntime) -> Result<(), Fail> {
+    let sender = Channel::new(rt.alloc(), dealt(&rt, 3).with_version(FrameVersion::Two))?;
+    let old = Channel::new(rt.alloc(), dealt(&rt, 1))?;
+    let receiver = Channel::new(rt.alloc(), dealt(&rt, 1).with_version(FrameVersion::Two))?;
+    assert!(rt; 1 < sender.keys().n());
+    let frame = sender.seal(rt.alloc(), 1, 258, b"\xaa\xbb")?;
+    assert_eq!(rt; frame.as_slice(), FRAME_2);
+    assert_eq!(rt; receiver.open(FRAME_2)?.seq, 258);
+    assert!(rt;
+        old.open(FRAME_2)
+            .is_err_and(|fault| fault == OpenFault::Version)
+    );
+    assert!(rt;
+        receiver
+            .open(FRAME)
+            .is_err_and(|fault| fault == OpenFault::Version)
+    );
+    assert!(rt; receiver.open_shared(&sender, FRAME_2).is_some());
+    assert!(rt; old.open_shared(&sender, FRAME_2).is_none());
+    Ok(())
+}
+
+// Notes are the same in both versions.
+#[test]
+fn notes_of_version_2(rt: HostRuntime) {
+    let one = dealt(&rt, 1).with_version(FrameVersion::Two);
+    let three = dealt(&rt, 3).with_version(FrameVersion::Two);
+    assert!(rt; three.n() > 1);
+    assert_eq!(rt; seal_ack(&three, 1, 258).as_slice(), ACK);
+    assert_eq!(rt; seal_again(&three, 1).as_slice(), AGAIN);
+    assert!(rt; open_note(&one, ACK) == Some(Note::Ack { from: 3, seq: 258 }));
+    assert!(rt; open_note(&one, AGAIN) == Some(Note::Again { from: 3 }));
     assert!(rt; open_frame(&one, ACK).is_err_and(|fault| fault == OpenFault::Version));
 }
