@@ -1,7 +1,9 @@
 -- Entries: what the replicas of an echo broadcast hash of a message, give to the origin, and find again in its columns.
 -- Lists of calls have the newest first.
-use Rattle.std.specs.Prelude.{◌≡◌, ℕ, Bool, false, ◌&&◌, List, [], ◌∷◌, ◌++◌, ◌*◌, map, take, drop, Option, Some, None}
+use Rattle.std.specs.Prelude.{◌≡◌, ℕ, Bool, false, ◌==◌, ◌&&◌, List, [], ◌∷◌, ◌++◌, ◌*◌, map, take, drop, Option, Some, None}
 use Rattle.ritas_base.specs.declared.slot.Slot.{Slot}
+use Rattle.ritas_base.specs.declared.item.Kind.{Kind}
+use Rattle.ritas_base.specs.declared.item.Kind.TheVariants as kinds
 use Rattle.ritas_base.specs.declared.item.Kind.TheVariants.{Send, Column}
 use Rattle.ritas_base.specs.declared.item.Item.{Item}
 use Rattle.ritas_base.specs.Messages.{Place, kind_eq}
@@ -72,9 +74,17 @@ abbrev pub prints_for : Place → Tags → Option (List ℕ) → List Print
 prints_for at tags None = []
 prints_for at tags (Some m) = prints_of at tags m
 
--- what a replica met at a slot
-abbrev pub met : Place → Tags → List Call → List Print
-met at tags h = prints_for at tags (sent at h)
+-- the kinds of which a broadcast of this form hashes what it takes
+abbrev pub is_hashed : ℕ → Kind → Bool
+is_hashed form kinds.Send = form == 2
+is_hashed form kinds.Init = form == 3
+is_hashed form kinds.Value = form == 3
+is_hashed form _ = false
+
+-- what is hashed of a message of this kind: of a SEND the entries too, and of another the message alone
+abbrev pub prints_at_kind : Place → Tags → Kind → List ℕ → List Print
+prints_at_kind at tags kinds.Send m = prints_of at tags m
+prints_at_kind at tags _ m = OfMessage m (tags.digest m) ∷ []
 
 -- two prints don't collide: of one image there is one input
 abbrev pub IsApart : Print → Print → Type 0

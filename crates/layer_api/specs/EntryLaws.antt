@@ -1,5 +1,5 @@
 -- Where the entries come from that HASHES and columns carry. Lists of calls have the newest first.
-use Rattle.std.specs.Prelude.{◌≡◌, ℕ, ◌<◌, List, length, Some}
+use Rattle.std.specs.Prelude.{◌≡◌, ℕ, ◌<◌, List, ◌∷◌, length, Some, true}
 use Rattle.ritas_base.specs.declared.slot.Slot.{Slot}
 use Rattle.ritas_base.specs.declared.item.Kind.TheVariants.{Hashes, Column}
 use Rattle.ritas_base.specs.declared.item.Item.{Item}
@@ -10,7 +10,7 @@ use Rattle.ritas_base.specs.Messages.{Place}
 use Rattle.ritas_base.specs.Tags.{Tags}
 use Rattle.layer_api.specs.Broadcast.{BroadcastRules}
 use Rattle.frame_codec.specs.Values.{row_of}
-use Rattle.layer_api.specs.Entries.{given, entry_in}
+use Rattle.layer_api.specs.Entries.{given, entry_in, Print, is_hashed, prints_at_kind}
 use Rattle.layer_api.specs.OneValue.{AreGoodCalls, IsOfSlot}
 use Rattle.layer_api.specs.Runs.{Has}
 
@@ -28,6 +28,13 @@ pub record IsHashedBy (n : ℕ) (h : List Call) (echoer : ℕ) (entry : List ℕ
 abbrev pub HasEntries : Tags → Type 0
 HasEntries tags = (s : Slot) (echoer verifier : ℕ) (digest : List ℕ) → length (tags.entry s echoer verifier digest) ≡ 32
 
+-- a print is of an item that was taken, of a kind of which the broadcast hashes what it takes
+pub record IsMetOf (r : BroadcastRules) (at : Place) (tags : Tags) (h : List Call) (a : Print) : Type 0 where
+  pub item : Item
+  pub taken : Has h (Take item)
+  pub kind : is_hashed r.form item.kind ≡ true
+  pub print : Has (prints_at_kind at tags item.kind item.value) a
+
 pub record EntryLaws (r : BroadcastRules) : Type 0 where
   -- HASHES that are due carry entries that were given
   pub hashes : (at : Place) (tags : Tags) (h : List Call) (m : Msg) → HasEntries tags → Has (r.due at tags h) m → m.kind ≡ Hashes
@@ -36,3 +43,6 @@ pub record EntryLaws (r : BroadcastRules) : Type 0 where
   pub columns : (at : Place) (tags : Tags) (mode : Mode) (h : List Call) (m : Msg) → IsOfSlot r at.numbers mode at.slot → AreGoodCalls at.numbers mode at.slot h
       → Has (r.due at tags h) m → m.kind ≡ Column → (echoer : ℕ) (entry : List ℕ) → row_of m.value echoer ≡ Some entry
       → IsHashedBy at.numbers.n h echoer entry
+  -- what was hashed is of what was taken, and stays
+  pub met_taken : (at : Place) (tags : Tags) (h : List Call) (a : Print) → Has (r.met at tags h) a → IsMetOf r at tags h a
+  pub met_stays : (at : Place) (tags : Tags) (h : List Call) (c : Call) (a : Print) → Has (r.met at tags h) a → Has (r.met at tags (c ∷ h)) a

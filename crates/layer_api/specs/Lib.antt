@@ -1,4 +1,5 @@
 pub mod Runs
+pub mod Replicas
 pub mod RunsLaws
 pub mod HasLaws
 pub mod Words

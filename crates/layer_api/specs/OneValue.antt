@@ -6,18 +6,17 @@ use Rattle.ritas_base.specs.declared.item.Item.{Item}
 use Rattle.ritas_base.specs.declared.item.Msg.{Msg}
 use Rattle.ritas_base.specs.declared.item.To.{To}
 use Rattle.ritas_base.specs.declared.item.To.TheVariants.{All, One}
-use Rattle.ritas_base.specs.declared.item.Kind.{Kind}
 use Rattle.ritas_base.specs.declared.mode.Mode.{Mode}
 use Rattle.ritas_base.specs.Numbers.{Numbers, IsSession}
-use Rattle.ritas_base.specs.Slots.{slot_fault, by_echo}
+use Rattle.ritas_base.specs.Slots.{slot_fault, form_of}
 use Rattle.frame_codec.specs.Format.{Is}
 use Rattle.frame_codec.specs.Grammar.{value}
-use Rattle.frame_codec.specs.Body.{IsInGrammar, is_of_broadcast}
+use Rattle.frame_codec.specs.Body.{IsInGrammar, is_of_form}
 use Rattle.ritas_base.specs.Messages.{Place, reaches, item_of, kind_eq, has}
 use Rattle.ritas_base.specs.History.{Call, Start, Take, started, first}
-use Rattle.ritas_base.specs.Tags.{Tags}
+use Rattle.ritas_base.specs.Tags.{Tags, HasDigests}
 use Rattle.layer_api.specs.Broadcast.{BroadcastRules, MayStart, MayTake}
-use Rattle.layer_api.specs.Entries.{given, met, is_claim, Print, IsApart}
+use Rattle.layer_api.specs.Entries.{given, is_claim, Print, IsApart}
 use Rattle.frame_codec.specs.Values.{row_of}
 use Rattle.layer_api.specs.Runs.{Step, calls_of, Has, IsEnough}
 
@@ -51,7 +50,7 @@ given_at g i steps = given (place_of g i) (g.tags i) (calls_of i steps)
 
 -- what a replica met
 abbrev pub met_at : Group → ℕ → List (Step Call) → List Print
-met_at g i steps = met (place_of g i) (g.tags i) (calls_of i steps)
+met_at g i steps = g.rules.met (place_of g i) (g.tags i) (calls_of i steps)
 
 -- a call of replica i after these steps meets its conditions; what a correct replica sent was due there before, and
 -- each valid entry of a correct echoer is one that it gave before
@@ -122,7 +121,7 @@ AreGoodCalls p mode s (Take x ∷ h) = (x.slot ≡ s) × IsInGrammar p mode x ×
 pub record IsOfSlot (r : BroadcastRules) (p : Numbers) (mode : Mode) (s : Slot) : Type 0 where
   pub session : IsSession p
   pub slot : slot_fault p mode s ≡ None
-  pub kinds : (kind : Kind) → r.has_kind kind ≡ true → is_of_broadcast (by_echo mode s) kind ≡ true
+  pub form : r.form ≡ form_of mode s
 
 -- laws of a single value, over all calls
 pub record ValueLaws (r : BroadcastRules) : Type 0 where
@@ -135,12 +134,12 @@ pub record ValueLaws (r : BroadcastRules) : Type 0 where
   pub due_nothing : (at : Place) (tags : Tags) → r.due at tags [] ≡ []
   pub due_stays : (at : Place) (tags : Tags) (h : List Call) (c : Call) (m : Msg) → has (r.due at tags h) m ≡ true → has (r.due at tags (c ∷ h)) m ≡ true
   pub due_slot : (at : Place) (tags : Tags) (h : List Call) (m : Msg) → has (r.due at tags h) m ≡ true → m.slot ≡ at.slot
-  pub due_kind : (at : Place) (tags : Tags) (h : List Call) (m : Msg) → Has (r.due at tags h) m → r.has_kind m.kind ≡ true
+  pub due_kind : (at : Place) (tags : Tags) (h : List Call) (m : Msg) → Has (r.due at tags h) m → is_of_form r.form m.kind ≡ true
   pub due_to : (at : Place) (tags : Tags) (h : List Call) (m : Msg) → at.slot.origin < at.numbers.n → Has (r.due at tags h) m → IsReceiver at.numbers.n m.to
   -- and it is due once, where no item was taken twice
   pub due_once : (at : Place) (tags : Tags) (h : List Call) → AreTaken r at tags h → AreFirst r at tags h → IsOnce (r.due at tags h)
   -- where the values started and the items taken are in the grammar, each message and what is delivered are
-  pub due_good : (at : Place) (tags : Tags) (mode : Mode) (h : List Call) (m : Msg) → IsOfSlot r at.numbers mode at.slot → AreGoodCalls at.numbers mode at.slot h
+  pub due_good : (at : Place) (tags : Tags) (mode : Mode) (h : List Call) (m : Msg) → HasDigests tags → IsOfSlot r at.numbers mode at.slot → AreGoodCalls at.numbers mode at.slot h
       → Has (r.due at tags h) m → IsInGrammar at.numbers mode (item_of at.me m)
   pub out_good : (at : Place) (tags : Tags) (mode : Mode) (h : List Call) (v : List ℕ) → IsOfSlot r at.numbers mode at.slot → AreGoodCalls at.numbers mode at.slot h
       → r.out at tags h ≡ Some v → Is (value at.numbers mode.root at.slot) v
@@ -150,4 +149,4 @@ pub record ValueLaws (r : BroadcastRules) : Type 0 where
       → r.repeats at tags h i ≡ is_some (first h i.from i.kind)
   -- at first all that isn't a column can be taken, and what can be taken still can be later
   pub ready_stays : (at : Place) (tags : Tags) (h : List Call) (c : Call) (i : Item) → r.ready at tags h i ≡ true → r.ready at tags (c ∷ h) i ≡ true
-  pub ready_nothing : (at : Place) (tags : Tags) (i : Item) → r.has_kind i.kind ≡ true → r.ready at tags [] i ≡ not (kind_eq i.kind Column)
+  pub ready_nothing : (at : Place) (tags : Tags) (i : Item) → is_of_form r.form i.kind ≡ true → r.ready at tags [] i ≡ not (kind_eq i.kind Column)

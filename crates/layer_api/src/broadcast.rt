@@ -1,8 +1,6 @@
 ghost use Rattle.std.specs.Prelude.{◌≡◌, ℕ, ◌<◌, ◌==◌, Bool, true, false, List, [], IfOk};
 ghost use Rattle.std.specs.Option.{option_copied};
-ghost use Rattle.ritas_base.specs.declared.item.Kind.{Kind};
 ghost use Rattle.ritas_base.specs.declared.item.Msg.{Msg};
-ghost use Rattle.frame_codec.specs.Body.{is_of_broadcast};
 ghost use Rattle.ritas_base.specs.Messages.{Place};
 ghost use Rattle.ritas_base.specs.History.{Call};
 ghost use Rattle.ritas_base.specs.Tags.{Tags};
@@ -23,7 +21,8 @@ pub enum Heard {
     Repeat,
 }
 
-/// One replica's part in one broadcast.
+/// One replica's part in one broadcast. There are three: reliable broadcast in which ECHO and READY carry the value, for
+/// sessions of frame version 1, the same with its digest, for version 2, and echo broadcast, for both.
 pub trait Broadcast: Drop + Sized {
     /// The value stands for these calls, the newest first, at this place, with a tagger that answers so.
     ghost stands: { Self → Place → Tags → List Call → Type 0 };
@@ -34,13 +33,14 @@ pub trait Broadcast: Drop + Sized {
     /// No call on it was without memory.
     ghost live: { Self → Bool };
 
-    /// The form: 1 reliable, 2 echo.
+    /// The form, as below.
     ghost FORM: { ℕ };
 
     /// What its getters answer.
     ghost shown: { Self → CastShown };
 
-    /// Which broadcast it is: 1 is reliable broadcast, 2 is echo broadcast.
+    /// Which broadcast it is: 1 is reliable broadcast with values, 2 is echo broadcast, and 3 is reliable broadcast with
+    /// digests, which sessions of version 2 have in place of 1.
     const FORM: u8;
 
     /// The part of replica `me` in the broadcast of a slot, before any call. The one error is want of memory.
@@ -88,8 +88,8 @@ pub trait Broadcast: Drop + Sized {
     /// A value that stands for some calls is live, and its getters answer what the rules say.
     ghost shows: { (b : Self) (at : Place) (tags : Tags) (h : List Call) → stands b at tags h → (live b ≡ true) × ShowsCast rules at tags h (shown b) };
 
-    /// It has the kinds of its form.
-    ghost kinds: { (kind : Kind) → rules.has_kind kind ≡ is_of_broadcast (FORM == 2) kind };
+    /// It means what its form says.
+    ghost form: { rules.form ≡ FORM };
 
     /// The laws of a single value.
     ghost value_laws: { ValueLaws rules };
