@@ -1,3 +1,5 @@
 pub mod Calls
 pub mod Reading
 pub mod TallyLaws
+mod DigestValues
+mod DigestCalls

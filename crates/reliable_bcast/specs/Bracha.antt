@@ -1,14 +1,14 @@
 -- Bracha's reliable broadcast at one slot, as the calls on a replica's value tell it.
-use Rattle.std.specs.Prelude.{ℕ, Bool, true, false, ◌||◌, List, ◌++◌, Option, is_some, nat_le}
+use Rattle.std.specs.Prelude.{ℕ, Bool, true, ◌||◌, List, [], ◌++◌, Option, is_some, nat_le}
 use Rattle.std.specs.List.{find}
 use Rattle.ritas_base.specs.declared.item.Kind.{Kind}
-use Rattle.ritas_base.specs.declared.item.Kind.TheVariants as kinds
 use Rattle.ritas_base.specs.declared.item.Kind.TheVariants.{Init, Echo, Ready}
 use Rattle.ritas_base.specs.declared.item.Msg.{Msg}
 use Rattle.ritas_base.specs.Numbers.{Numbers, quorum_of, ready_of, deliver_of}
 use Rattle.ritas_base.specs.History.{Call, first, started, voters, values}
 use Rattle.ritas_base.specs.Messages.{Place, to_all}
 use Rattle.ritas_base.specs.Shortest.{at_shortest}
+use Rattle.frame_codec.specs.Body.{is_of_form}
 use Rattle.layer_api.specs.Broadcast.{BroadcastRules}
 
 -- m has a quorum of ECHO voters, or enough READY voters
@@ -41,20 +41,17 @@ due_of at h =
     to_all at.slot Init (started h) ++ to_all at.slot Echo (first h at.slot.origin Init)
     ++ to_all at.slot Ready (ready_value at.numbers h)
 
+-- the kinds of reliable broadcast with values
 abbrev pub is_reliable : Kind → Bool
-is_reliable kinds.Init = true
-is_reliable kinds.Echo = true
-is_reliable kinds.Ready = true
-is_reliable kinds.Send = false
-is_reliable kinds.Hashes = false
-is_reliable kinds.Column = false
+is_reliable kind = is_of_form 1 kind
 
 -- the rules of reliable broadcast: it hashes nothing, and its items can always be taken
 abbrev pub bracha : BroadcastRules
 bracha = record {
-  has_kind = is_reliable;
+  form = 1;
   due = λ at tags h. due_of at h;
   out = λ at tags h. out_of at h;
   repeats = λ at tags h i. is_some (first h i.from i.kind);
   ready = λ at tags h i. true;
+  met = λ at tags h. [];
 }

@@ -22,6 +22,8 @@ value_due at h kinds.Ready = ready_value at.numbers h
 value_due at h kinds.Send = None
 value_due at h kinds.Hashes = None
 value_due at h kinds.Column = None
+value_due at h kinds.Want = None
+value_due at h kinds.Value = None
 
 -- what is due stays due
 pub value_stays : (at : Place) (c : Call) (h : List Call) (kind : Kind) (v : List ℕ) → value_due at h kind ≡ Some v → value_due at (c ∷ h) kind ≡ Some v
@@ -31,6 +33,8 @@ value_stays at c h kinds.Ready v e = at_shortest_stays (some_backed at.numbers) 
 value_stays at c h kinds.Send v e = absurd (cc)
 value_stays at c h kinds.Hashes v e = absurd (cc)
 value_stays at c h kinds.Column v e = absurd (cc)
+value_stays at c h kinds.Want v e = absurd (cc)
+value_stays at c h kinds.Value v e = absurd (cc)
 
 due_has : (at : Place) (h : List Call) (m : Msg)
     → has (due_of at h) m ≡ ((has (to_all at.slot Init (started h)) m || has (to_all at.slot Echo (first h at.slot.origin Init)) m) || has (to_all at.slot Ready (ready_value at.numbers h)) m)
@@ -71,6 +75,8 @@ due_from at h kinds.Ready v e = due_has at h (message at.slot Ready v) ∙ or_ri
 due_from at h kinds.Send v e = absurd (cc)
 due_from at h kinds.Hashes v e = absurd (cc)
 due_from at h kinds.Column v e = absurd (cc)
+due_from at h kinds.Want v e = absurd (cc)
+due_from at h kinds.Value v e = absurd (cc)
 
 pub due_more : (at : Place) (h : List Call) (c : Call) (m : Msg) → has (due_of at h) m ≡ true → has (due_of at (c ∷ h)) m ≡ true
 due_more at h c m e =

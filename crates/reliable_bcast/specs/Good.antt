@@ -1,5 +1,5 @@
 -- What is due, and what is delivered, is in the grammar, where what was started and taken is.
-use Rattle.std.specs.Prelude.{◌≡◌, ℕ, Bool, true, false, not, List, [], ◌∷◌, ◌++◌, Some, None, refl, cond}
+use Rattle.std.specs.Prelude.{◌≡◌, ℕ, Bool, true, false, List, [], ◌∷◌, ◌++◌, Some, None, refl, cond}
 use Rattle.std.proofs.Common.{sym, ◌∙◌, ap, subst, inl, inr}
 use Rattle.std.specs.List.{find}
 use Rattle.std.proofs.lemmas.Bool.{cases_Bool, cond-true, cond-false}
@@ -11,66 +11,37 @@ use Rattle.ritas_base.specs.declared.item.Msg.{Msg}
 use Rattle.ritas_base.specs.declared.slot.Slot.{Slot}
 use Rattle.ritas_base.specs.declared.mode.Mode.{Mode}
 use Rattle.ritas_base.specs.Numbers.{Numbers}
-use Rattle.ritas_base.specs.Slots.{by_echo, slot_fault}
+use Rattle.ritas_base.specs.Slots.{form_of, slot_fault}
 use Rattle.ritas_base.specs.Messages.{Place, item_of}
 use Rattle.ritas_base.specs.History.{Call, Start, Take, started, first, told, values}
 use Rattle.ritas_base.specs.Shortest.{at_shortest, at_shortest_is, option_or_some}
-use Rattle.frame_codec.specs.Format.{Is}
+use Rattle.frame_codec.specs.Format.{Format, Is}
 use Rattle.frame_codec.specs.Grammar.{payload, value}
-use Rattle.frame_codec.specs.Body.{IsInGrammar, is_of_broadcast}
+use Rattle.frame_codec.specs.Body.{IsInGrammar, is_of_form}
 use Rattle.layer_api.specs.OneValue.{AreGoodCalls, IsOfSlot}
 use Rattle.reliable_bcast.specs.Bracha.{bracha, is_reliable, is_backed, is_carried, out_of}
 use Rattle.reliable_bcast.specs.Due.{value_due, IsDue}
 
--- the payload of a reliable kind is the slot's value
-plain : (p : Numbers) (root : ℕ) (kind : Kind) (s : Slot) (v : List ℕ) → is_reliable kind ≡ true → Is (payload p root kind s) v → Is (value p root s) v
+-- in form 1 the payload of a reliable kind is the slot's value
+plain_at : (p : Numbers) (mode : Mode) (form : ℕ) (kind : Kind) (s : Slot) → form ≡ 1 → form_of mode s ≡ form → is_reliable kind ≡ true → payload p mode kind s ≡ value p mode.root s
 unfolding payload
-plain p root kinds.Init s v e g = g
-plain p root kinds.Echo s v e g = g
-plain p root kinds.Ready s v e g = g
-plain p root kinds.Send s v e g = absurd (cc)
-plain p root kinds.Hashes s v e g = absurd (cc)
-plain p root kinds.Column s v e g = absurd (cc)
+plain_at p mode form kinds.Init s one same e = rw (same, one) refl
+plain_at p mode form kinds.Echo s one same e = rw (same, one) refl
+plain_at p mode form kinds.Ready s one same e = rw (same, one) refl
+plain_at p mode form kinds.Send s one same e = absurd (cc)
+plain_at p mode form kinds.Hashes s one same e = absurd (cc)
+plain_at p mode form kinds.Column s one same e = absurd (cc)
+plain_at p mode form kinds.Want s one same e = absurd (cc)
+plain_at p mode form kinds.Value s one same e = absurd (cc)
 
-as_payload : (p : Numbers) (root : ℕ) (kind : Kind) (s : Slot) (v : List ℕ) → is_reliable kind ≡ true → Is (value p root s) v → Is (payload p root kind s) v
-unfolding payload
-as_payload p root kinds.Init s v e g = g
-as_payload p root kinds.Echo s v e g = g
-as_payload p root kinds.Ready s v e g = g
-as_payload p root kinds.Send s v e g = absurd (cc)
-as_payload p root kinds.Hashes s v e g = absurd (cc)
-as_payload p root kinds.Column s v e g = absurd (cc)
-
-from_not : (b : Bool) → not b ≡ true → b ≡ false
-from_not true e = absurd (cc)
-from_not false e = refl
-
--- the slot goes by reliable broadcast
-by_reliable : (p : Numbers) (mode : Mode) (s : Slot) → IsOfSlot bracha p mode s → by_echo mode s ≡ false
-by_reliable p mode s of_slot = from_not (by_echo mode s) (of_slot.kinds Init refl)
-
-only_reliable : (kind : Kind) → is_of_broadcast false kind ≡ true → is_reliable kind ≡ true
-only_reliable kinds.Init e = refl
-only_reliable kinds.Echo e = refl
-only_reliable kinds.Ready e = refl
-only_reliable kinds.Send e = absurd (cc)
-only_reliable kinds.Hashes e = absurd (cc)
-only_reliable kinds.Column e = absurd (cc)
-
-with_reliable : (kind : Kind) → is_reliable kind ≡ true → is_of_broadcast false kind ≡ true
-with_reliable kinds.Init e = refl
-with_reliable kinds.Echo e = refl
-with_reliable kinds.Ready e = refl
-with_reliable kinds.Send e = absurd (cc)
-with_reliable kinds.Hashes e = absurd (cc)
-with_reliable kinds.Column e = absurd (cc)
+plain : (p : Numbers) (mode : Mode) (kind : Kind) (s : Slot) → IsOfSlot bracha p mode s → is_reliable kind ≡ true → payload p mode kind s ≡ value p mode.root s
+plain p mode kind s of_slot e = plain_at p mode 1 kind s refl (sym of_slot.form) e
 
 -- an item of the slot carries a value of the slot
 item_good : (p : Numbers) (mode : Mode) (s : Slot) (x : Item) → IsOfSlot bracha p mode s → x.slot ≡ s → IsInGrammar p mode x → Is (value p mode.root s) x.value
 item_good p mode s x of_slot here good =
-    let reliable : is_reliable x.kind ≡ true =
-    only_reliable x.kind (ap (λ (b : Bool). is_of_broadcast b x.kind) (sym (ap (by_echo mode) here ∙ by_reliable p mode s of_slot)) ∙ good.kind) in
-    subst (λ (q : Slot). Is (value p mode.root q) x.value) here (plain p mode.root x.kind x.slot x.value reliable good.payload_is)
+    let reliable : is_reliable x.kind ≡ true = ap (λ (form : ℕ). is_of_form form x.kind) (of_slot.form ∙ ap (form_of mode) (sym here)) ∙ good.kind in
+    subst (λ (f : Format). Is f x.value) (plain p mode x.kind s of_slot reliable) (subst (λ (q : Slot). Is (payload p mode x.kind q) x.value) here good.payload_is)
 
 -- each of these values is of the slot
 abbrev AreOf : Numbers → Mode → Slot → List (List ℕ) → Type 0
@@ -93,7 +64,7 @@ found_good p mode s test (w ∷ vs) v good e =
       | inr fails ↦ found_good p mode s test vs v good.1 (sym (cond-false (test w) (Some w) (find test vs) fails) ∙ e)
     ]
 
-good_prefix : (p : Numbers) (mode : Mode) (s : Slot) (later h : List Call) → AreGoodCalls p mode s (later ++ h) → AreGoodCalls p mode s h
+pub good_prefix : (p : Numbers) (mode : Mode) (s : Slot) (later h : List Call) → AreGoodCalls p mode s (later ++ h) → AreGoodCalls p mode s h
 good_prefix p mode s [] h good = good
 good_prefix p mode s (Start v ∷ later) h good = good_prefix p mode s later h good.1
 good_prefix p mode s (Take x ∷ later) h good = good_prefix p mode s later h good.2
@@ -106,7 +77,7 @@ shortest_good p mode s test h v of_slot good e =
     let before : AreGoodCalls p mode s at.prefix = good_prefix p mode s at.later at.prefix (subst (λ (l : List Call). AreGoodCalls p mode s l) (sym at.whole) good) in
     found_good p mode s (test at.prefix) (values at.prefix) v (values_good p mode s at.prefix of_slot before) at.gives
 
-started_good : (p : Numbers) (mode : Mode) (s : Slot) (h : List Call) (v : List ℕ) → AreGoodCalls p mode s h → started h ≡ Some v → Is (value p mode.root s) v
+pub started_good : (p : Numbers) (mode : Mode) (s : Slot) (h : List Call) (v : List ℕ) → AreGoodCalls p mode s h → started h ≡ Some v → Is (value p mode.root s) v
 started_good p mode s [] v good e = absurd (cc)
 started_good p mode s (Start u ∷ h) v good e =
     elim (option_or_some (started h) (Some u) v e) [
@@ -145,20 +116,22 @@ value_good at mode h kinds.Ready v of_slot good e = shortest_good at.numbers mod
 value_good at mode h kinds.Send v of_slot good e = absurd (cc)
 value_good at mode h kinds.Hashes v of_slot good e = absurd (cc)
 value_good at mode h kinds.Column v of_slot good e = absurd (cc)
+value_good at mode h kinds.Want v of_slot good e = absurd (cc)
+value_good at mode h kinds.Value v of_slot good e = absurd (cc)
 
 pub due_good : (at : Place) (mode : Mode) (h : List Call) (m : Msg)
     → IsOfSlot bracha at.numbers mode at.slot → AreGoodCalls at.numbers mode at.slot h → IsDue at h m → IsInGrammar at.numbers mode (item_of at.me m)
 due_good at mode h m of_slot good due =
     let here : at.slot ≡ m.slot = ap (λ (x : Msg). x.slot) (sym due.whole) in
-    let plain_kind : is_of_broadcast (by_echo mode m.slot) m.kind ≡ true =
-    ap (λ (b : Bool). is_of_broadcast b m.kind) (ap (by_echo mode) (sym here) ∙ by_reliable at.numbers mode at.slot of_slot) ∙ with_reliable m.kind due.reliable in
-    let right : Is (value at.numbers mode.root m.slot) m.value =
-    subst (λ (q : Slot). Is (value at.numbers mode.root q) m.value) here (value_good at mode h m.kind m.value of_slot good due.value) in
+    let plain_kind : is_of_form (form_of mode m.slot) m.kind ≡ true =
+    ap (λ (form : ℕ). is_of_form form m.kind) (ap (form_of mode) (sym here) ∙ sym of_slot.form) ∙ due.reliable in
+    let right : Is (payload at.numbers mode m.kind at.slot) m.value =
+    subst (λ (f : Format). Is f m.value) (sym (plain at.numbers mode m.kind at.slot of_slot due.reliable)) (value_good at mode h m.kind m.value of_slot good due.value) in
     record {
       session = of_slot.session;
       slot = subst (λ (q : Slot). slot_fault at.numbers mode q ≡ None) here of_slot.slot;
       kind = plain_kind;
-      payload_is = as_payload at.numbers mode.root m.kind m.slot m.value due.reliable right;
+      payload_is = subst (λ (q : Slot). Is (payload at.numbers mode m.kind q) m.value) here right;
     }
 
 pub out_good : (at : Place) (mode : Mode) (h : List Call) (v : List ℕ)

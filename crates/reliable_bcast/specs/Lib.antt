@@ -5,6 +5,17 @@ pub mod Steps
 pub mod Due
 pub mod Good
 pub mod ValueLaws
+pub mod Voted
 pub mod OneValue
 pub mod Reading
 pub mod Rows
+pub mod Digests
+pub mod DigestRows
+pub mod DigestOneValue
+pub mod DigestState
+pub mod DigestDue
+pub mod DigestGood
+pub mod DigestLaws
+pub mod DigestNews
+pub mod DigestSteps
+pub mod DigestShown

@@ -1,8 +1,7 @@
 -- Worked rows: four replicas, one of which may be faulty. Of a list of calls or steps the newest is first.
-use Rattle.std.specs.Prelude.{◌≡◌, ℕ, Bool, true, ◌==◌, ◌&&◌, nat_lt, List, [], ◌∷◌, Some, None, Option, refl, ⊤, false}
-use Rattle.std.specs.Option.{option_or}
-use Rattle.std.proofs.Common.{arith, inl, inr, sym, subst, ap, ◌∙◌}
-use Rattle.std.proofs.lemmas.Bool.{or_cases, and_parts, ltb-true, cond_both, both_ways}
+use Rattle.std.specs.Prelude.{◌≡◌, ℕ, Bool, true, ◌&&◌, nat_lt, List, [], ◌∷◌, Some, None, refl, false}
+use Rattle.std.proofs.Common.{arith, inl, inr, sym}
+use Rattle.std.proofs.lemmas.Bool.{or_cases, and_parts, ltb-true, both_ways}
 use Rattle.ritas_base.specs.declared.item.Kind.{Kind}
 use Rattle.ritas_base.specs.declared.item.Kind.TheVariants as kinds
 use Rattle.ritas_base.specs.declared.item.Kind.TheVariants.{Init, Echo, Ready, Send, Column}
@@ -11,15 +10,13 @@ use Rattle.ritas_base.specs.declared.item.Msg.{Msg}
 use Rattle.ritas_base.specs.declared.slot.Slot.{Slot}
 use Rattle.ritas_base.specs.Numbers.{Numbers}
 use Rattle.ritas_base.specs.History.{Call, Start, Take, told}
-use Rattle.ritas_base.specs.Shortest.{option_or_none}
 use Rattle.ritas_base.specs.Messages.{Place, msg_cmp, msg_eq, has, kind_eq, without, to_all}
 use Rattle.ritas_base.specs.MessagesLaws.{message, same_message}
 use Rattle.ritas_base.specs.Tags.{Tags}
 use Rattle.layer_api.specs.Broadcast.{news, is_of_origin, is_for_origin}
 use Rattle.layer_api.specs.Broadcast.{IsPayload}
-use Rattle.layer_api.specs.Entries.{sent, prints_for}
-use Rattle.layer_api.specs.Runs.{Step, Has, calls_of, IsEnough}
-use Rattle.layer_api.specs.OneValue.{Group, place_of, due_at, out_at, IsRun, IsClear, SameDigests}
+use Rattle.layer_api.specs.Runs.{Step, Has, IsEnough}
+use Rattle.layer_api.specs.OneValue.{Group, due_at, out_at, IsRun, IsClear, SameDigests}
 use Rattle.reliable_bcast.specs.Bracha.{bracha, is_reliable, due_of, out_of}
 
 abbrev numbers : Numbers
@@ -129,22 +126,9 @@ enough =
 pub one_digest : SameDigests group.tags
 one_digest = λ i j m. refl
 
--- no call of these brings a SEND
-abbrev AreQuiet : List (Step Call) → Type 0
-AreQuiet [] = ⊤
-AreQuiet (x ∷ xs) = (told 0 Send x.call ≡ None) × AreQuiet xs
-
-nothing_sent : (steps : List (Step Call)) → AreQuiet steps → (i : ℕ) → sent (place_of group i) (calls_of i steps) ≡ None
-nothing_sent [] quiet i = refl
-nothing_sent (x ∷ xs) quiet i =
-    cond_both (x.who == i) (x.call ∷ calls_of i xs) (calls_of i xs) (λ h. sent (place_of group i) h ≡ None)
-    (λ q. ap (option_or (sent (place_of group i) (calls_of i xs))) quiet.0 ∙ (option_or_none (sent (place_of group i) (calls_of i xs)) ∙ nothing_sent xs quiet.1 i))
-    (λ q. nothing_sent xs quiet.1 i)
-
+-- nothing is hashed
 pub clear : IsClear group talk
-clear = λ i j x y ci cj there.
-    let quiet : AreQuiet talk = (refl, (refl, (refl, (refl, (refl, (refl, (refl, (refl, (refl, (refl, (refl, (refl, (refl, (refl, (refl, tt))))))))))))))) in
-    absurd (subst (λ (o : Option (List ℕ)). Has (prints_for (place_of group i) tags o) x) (nothing_sent talk quiet i) there)
+clear = λ i j x y ci cj there. absurd there
 
 not_column : (kind : Kind) → is_reliable kind ≡ true → kind_eq kind Column ≡ false
 not_column kinds.Init e = refl
@@ -153,14 +137,18 @@ not_column kinds.Ready e = refl
 not_column kinds.Send e = absurd cc
 not_column kinds.Hashes e = absurd cc
 not_column kinds.Column e = absurd cc
+not_column kinds.Want e = absurd cc
+not_column kinds.Value e = absurd cc
 
-no_payload : (kind : Kind) → is_reliable kind ≡ true → (v : List ℕ) → IsPayload 4 kind v
+no_payload : (kind : Kind) → is_reliable kind ≡ true → (v : List ℕ) → IsPayload 1 4 kind v
 no_payload kinds.Init e v = tt
 no_payload kinds.Echo e v = tt
 no_payload kinds.Ready e v = tt
 no_payload kinds.Send e v = absurd cc
 no_payload kinds.Hashes e v = absurd cc
 no_payload kinds.Column e v = absurd cc
+no_payload kinds.Want e v = absurd cc
+no_payload kinds.Value e v = absurd cc
 
 -- the steps are a run
 pub record Told (steps : List (Step Call)) : Type 0 where

@@ -54,10 +54,10 @@ shortest_vote P h i same =
     (λ none. find_newest (P h) (P (Take i ∷ h)) i.value same (values h) (at_shortest_none (λ b. find (P b) (values b)) h none))
 
 -- tests on two lists of votes
-abbrev backing : Numbers → List (Option (List ℕ)) → List (Option (List ℕ)) → List ℕ → Bool
+abbrev pub backing : Numbers → List (Option (List ℕ)) → List (Option (List ℕ)) → List ℕ → Bool
 backing p es rs m = nat_le (quorum_of p) (count_by (is_value m) es) || nat_le (ready_of p) (count_by (is_value m) rs)
 
-abbrev carrying : Numbers → List (Option (List ℕ)) → List ℕ → Bool
+abbrev pub carrying : Numbers → List (Option (List ℕ)) → List ℕ → Bool
 carrying p rs m = nat_le (deliver_of p) (count_by (is_value m) rs)
 
 -- where no value of an item is backed, none is
@@ -100,7 +100,7 @@ backed_same p h c echo ready w =
 pub carried_same : (p : Numbers) (h : List Call) (c : Call) → ((k : ℕ) → told k Ready c ≡ None) → (w : List ℕ) → is_carried p (c ∷ h) w ≡ is_carried p h w
 carried_same p h c ready w = ap (nat_le (deliver_of p)) (voters_same p.n h Ready c ready w)
 
-ready_quiet : (p : Numbers) (h : List Call) (c : Call) → ((k : ℕ) → told k Echo c ≡ None) → ((k : ℕ) → told k Ready c ≡ None)
+pub ready_quiet : (p : Numbers) (h : List Call) (c : Call) → ((k : ℕ) → told k Echo c ≡ None) → ((k : ℕ) → told k Ready c ≡ None)
     → ready_value p (c ∷ h) ≡ ready_value p h
 ready_quiet p h c echo ready = shortest_quiet (is_backed p) h c (backed_same p h c echo ready) (unvoted_backed p h)
 
@@ -108,7 +108,7 @@ pub out_quiet : (at : Place) (h : List Call) (c : Call) → ((k : ℕ) → told 
 out_quiet at h c ready = shortest_quiet (is_carried at.numbers) h c (carried_same at.numbers h c ready) (unvoted_carried at.numbers h)
 
 -- an ECHO that is the first of its sender
-ready_echo : (p : Numbers) (h : List Call) (i : Item) → i.kind ≡ Echo → first h i.from Echo ≡ None → i.from < p.n
+pub ready_echo : (p : Numbers) (h : List Call) (i : Item) → i.kind ≡ Echo → first h i.from Echo ≡ None → i.from < p.n
     → ready_value p (Take i ∷ h) ≡ option_or (ready_value p h) (cond (backing p (set (firsts p.n h Echo) i.from (Some i.value)) (firsts p.n h Ready) i.value) (Some i.value) None)
 ready_echo p h i kind new within =
     let es = firsts_vote p.n h Echo i (ap (λ k. kind_eq k Echo) kind) new within in
@@ -117,7 +117,7 @@ ready_echo p h i kind new within =
     ∙ (ap (λ x. option_or (ready_value p h) (cond (backing p x (firsts p.n (Take i ∷ h) Ready) i.value) (Some i.value) None)) es
     ∙ ap (λ x. option_or (ready_value p h) (cond (backing p (set (firsts p.n h Echo) i.from (Some i.value)) x i.value) (Some i.value) None)) rs)
 
-ready_ready : (p : Numbers) (h : List Call) (i : Item) → i.kind ≡ Ready → first h i.from Ready ≡ None → i.from < p.n
+pub ready_ready : (p : Numbers) (h : List Call) (i : Item) → i.kind ≡ Ready → first h i.from Ready ≡ None → i.from < p.n
     → ready_value p (Take i ∷ h) ≡ option_or (ready_value p h) (cond (backing p (firsts p.n h Echo) (set (firsts p.n h Ready) i.from (Some i.value)) i.value) (Some i.value) None)
 ready_ready p h i kind new within =
     let rs = firsts_vote p.n h Ready i (ap (λ k. kind_eq k Ready) kind) new within in
@@ -126,7 +126,7 @@ ready_ready p h i kind new within =
     ∙ (ap (λ x. option_or (ready_value p h) (cond (backing p x (firsts p.n (Take i ∷ h) Ready) i.value) (Some i.value) None)) es
     ∙ ap (λ x. option_or (ready_value p h) (cond (backing p (firsts p.n h Echo) x i.value) (Some i.value) None)) rs)
 
-out_ready : (at : Place) (h : List Call) (i : Item) → i.kind ≡ Ready → first h i.from Ready ≡ None → i.from < at.numbers.n
+pub out_ready : (at : Place) (h : List Call) (i : Item) → i.kind ≡ Ready → first h i.from Ready ≡ None → i.from < at.numbers.n
     → out_of at (Take i ∷ h) ≡ option_or (out_of at h) (cond (carrying at.numbers (set (firsts at.numbers.n h Ready) i.from (Some i.value)) i.value) (Some i.value) None)
 out_ready at h i kind new within =
     let p = at.numbers in
@@ -195,12 +195,12 @@ same_box : (at : Place) (e e' r r' : Bool) (es es' rs rs' : List (Option (List �
     (record { params = at.numbers; slot = at.slot; echoed = e'; readied = r'; echoes = es'; readies = rs'; delivered = d'; live = true })
 same_box at e e' r r' es es' rs rs' d d' p q s t u = cc
 
-is_some_or : {A : Type 0} (o : Option A) (b : Bool) (m : A) → is_some (option_or o (cond b (Some m) None)) ≡ (is_some o || b)
+pub is_some_or : {A : Type 0} (o : Option A) (b : Bool) (m : A) → is_some (option_or o (cond b (Some m) None)) ≡ (is_some o || b)
 is_some_or None true m = refl
 is_some_or None false m = refl
 is_some_or (Some x) b m = refl
 
-is_some_or_some : {A : Type 0} (o : Option A) (m : A) → is_some (option_or o (Some m)) ≡ true
+pub is_some_or_some : {A : Type 0} (o : Option A) (m : A) → is_some (option_or o (Some m)) ≡ true
 is_some_or_some None m = refl
 is_some_or_some (Some x) m = refl
 
@@ -282,7 +282,7 @@ step_start at tags h m new =
 
 -- ---- an item, as the state and as the calls tell it
 
-awaited_is : (n : ℕ) (h : List Call) (kind : Kind) (k : ℕ) → k < n → is_awaited (firsts n h kind) k ≡ is_none (first h k kind)
+pub awaited_is : (n : ℕ) (h : List Call) (kind : Kind) (k : ℕ) → k < n → is_awaited (firsts n h kind) k ≡ is_none (first h k kind)
 awaited_is n h kind k lt =
     let inside : k < length (firsts n h kind) = subst (λ (x : ℕ). k < x) (sym (length-firsts n h kind)) lt in
     ap (λ (t : Bool). t && is_none (get_or (firsts n h kind) k None)) (lt-ltb k (length (firsts n h kind)) inside)
@@ -300,6 +300,8 @@ counts_kind at h kinds.Ready k reliable within mine = awaited_is at.numbers.n h 
 counts_kind at h kinds.Send k reliable within mine = absurd (cc)
 counts_kind at h kinds.Hashes k reliable within mine = absurd (cc)
 counts_kind at h kinds.Column k reliable within mine = absurd (cc)
+counts_kind at h kinds.Want k reliable within mine = absurd (cc)
+counts_kind at h kinds.Value k reliable within mine = absurd (cc)
 
 from_origin : (at : Place) (tags : Tags) (h : List Call) (i : Item) → MayTake bracha at tags h i → i.kind ≡ Init → i.from ≡ at.slot.origin
 from_origin at tags h i may e = may.origin (ap (λ (k : Kind). is_of_origin k) e)
@@ -317,8 +319,10 @@ step_kind at tags h i kinds.Ready e reliable may new = step_ready at tags h i e 
 step_kind at tags h i kinds.Send e reliable may new = absurd (cc)
 step_kind at tags h i kinds.Hashes e reliable may new = absurd (cc)
 step_kind at tags h i kinds.Column e reliable may new = absurd (cc)
+step_kind at tags h i kinds.Want e reliable may new = absurd (cc)
+step_kind at tags h i kinds.Value e reliable may new = absurd (cc)
 
-from_not : {A : Type 0} (o : Option A) (b : Bool) → b ≡ not (is_some o) → b ≡ true → o ≡ None
+pub from_not : {A : Type 0} (o : Option A) (b : Bool) → b ≡ not (is_some o) → b ≡ true → o ≡ None
 from_not None b e t = refl
 from_not (Some x) b e t = absurd (both_ways b e t)
 
@@ -328,7 +332,7 @@ pub step_take : (at : Place) (tags : Tags) (h : List Call) (i : Item) → MayTak
 step_take at tags h i may counts =
     step_kind at tags h i i.kind refl may.kind may (from_not (first h i.from i.kind) _ (counts_is at tags h i may) counts)
 
-nobody_yet : (n : ℕ) (kind : Kind) → replicate n None ≡ firsts n [] kind
+pub nobody_yet : (n : ℕ) (kind : Kind) → replicate n None ≡ firsts n [] kind
 nobody_yet n kind =
     let nobody : Option (List ℕ) = None in
     fill_by_all (λ k. first [] k kind) (replicate n nobody) n nobody (length-replicate n nobody) (λ k lt. get_or-replicate n k nobody nobody lt)

@@ -1,5 +1,5 @@
 -- The laws of a single value, over the rules of reliable broadcast.
-use Rattle.std.specs.Prelude.{◌≡◌, true, false, not, refl, List, [], ◌∷◌, ◌++◌}
+use Rattle.std.specs.Prelude.{◌≡◌, true, not, refl, List, [], ◌∷◌, ◌++◌}
 use Rattle.std.proofs.Common.{ap, sym, ◌∙◌, subst, inl, inr}
 use Rattle.std.proofs.lemmas.Bool.{or_cases}
 use Rattle.ritas_base.specs.declared.item.Kind.{Kind}
@@ -11,7 +11,7 @@ use Rattle.ritas_base.specs.History.{Call, Start, started, first}
 use Rattle.ritas_base.specs.Messages.{Place, kind_eq, has, to_all}
 use Rattle.ritas_base.specs.MessagesLaws.{has_append}
 use Rattle.ritas_base.specs.Shortest.{at_shortest_stays}
-use Rattle.frame_codec.specs.Body.{is_of_broadcast}
+use Rattle.frame_codec.specs.Body.{is_of_form}
 use Rattle.layer_api.specs.OneValue.{ValueLaws, IsOnce, IsReceiver}
 use Rattle.layer_api.specs.OnceLaws.{once_append, once_to_all, kinds_apart}
 use Rattle.layer_api.specs.EntryLaws.{EntryLaws}
@@ -21,13 +21,15 @@ use Rattle.reliable_bcast.specs.Steps.{out_quiet}
 use Rattle.reliable_bcast.specs.Due.{due_more, due_is, listed_has}
 use Rattle.reliable_bcast.specs.Good.{due_good, out_good}
 
-at_first : (kind : Kind) → bracha.has_kind kind ≡ true → true ≡ not (kind_eq kind Column)
+at_first : (kind : Kind) → is_of_form bracha.form kind ≡ true → true ≡ not (kind_eq kind Column)
 at_first kinds.Init e = refl
 at_first kinds.Echo e = refl
 at_first kinds.Ready e = refl
 at_first kinds.Send e = absurd (cc)
 at_first kinds.Hashes e = absurd (cc)
 at_first kinds.Column e = absurd (cc)
+at_first kinds.Want e = absurd (cc)
+at_first kinds.Value e = absurd (cc)
 
 -- what is due is of three kinds, each to all and of one value
 due_once : (at : Place) (h : List Call) → IsOnce (due_of at h)
@@ -58,7 +60,7 @@ value_laws_of_bracha =
       due_kind = λ at tags h m there. (due_is at h m (listed_has (due_of at h) m there)).reliable;
       due_to = λ at tags h m origin there. subst (λ (to : To). IsReceiver at.numbers.n to) (ap (λ (x : Msg). x.to) (sym (due_is at h m (listed_has (due_of at h) m there)).whole)) tt;
       due_once = λ at tags h taken first_ones. due_once at h;
-      due_good = λ at tags mode h m of_slot good there. due_good at mode h m of_slot good (due_is at h m (listed_has (due_of at h) m there));
+      due_good = λ at tags mode h m digests of_slot good there. due_good at mode h m of_slot good (due_is at h m (listed_has (due_of at h) m there));
       out_good = λ at tags mode h v of_slot good e. out_good at mode h v of_slot good e;
       repeats_nothing = λ at tags i. refl;
       repeats_is = λ at tags h i other. refl;
@@ -74,6 +76,8 @@ reliable_only kinds.Ready e = (λ (s : kinds.Ready ≡ Hashes). absurd (cc), λ 
 reliable_only kinds.Send e = absurd (cc)
 reliable_only kinds.Hashes e = absurd (cc)
 reliable_only kinds.Column e = absurd (cc)
+reliable_only kinds.Want e = absurd (cc)
+reliable_only kinds.Value e = absurd (cc)
 
 -- nothing that is due is HASHES or a column
 only_values : (at : Place) (h : List Call) (m : Msg) → Has (due_of at h) m → (m.kind ≡ Hashes → ⊥) × (m.kind ≡ Column → ⊥)
@@ -84,13 +88,6 @@ entry_laws_of_bracha =
     record {
       hashes = λ at tags h m whole there kind k below. absurd ((only_values at h m there).0 kind);
       columns = λ at tags mode h m of_slot good there kind echoer entry row. absurd ((only_values at h m there).1 kind);
+      met_taken = λ at tags h a there. absurd there;
+      met_stays = λ at tags h c a there. there;
     }
-
--- the kinds of reliable broadcast are those of its form
-pub kinds_of_bracha : (kind : Kind) → bracha.has_kind kind ≡ is_of_broadcast false kind
-kinds_of_bracha kinds.Init = refl
-kinds_of_bracha kinds.Echo = refl
-kinds_of_bracha kinds.Ready = refl
-kinds_of_bracha kinds.Send = refl
-kinds_of_bracha kinds.Hashes = refl
-kinds_of_bracha kinds.Column = refl

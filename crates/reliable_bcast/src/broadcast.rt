@@ -3,10 +3,11 @@ ghost use Rattle.std.proofs.Common.{ap};
 ghost use Rattle.reliable_bcast.specs.declared.rb.Rb.{Rb};
 ghost use Rattle.reliable_bcast.specs.Bracha.{bracha};
 ghost use Rattle.reliable_bcast.specs.State.{state_of};
-ghost use Rattle.reliable_bcast.specs.ValueLaws.{value_laws_of_bracha, entry_laws_of_bracha, kinds_of_bracha};
+ghost use Rattle.reliable_bcast.specs.ValueLaws.{value_laws_of_bracha, entry_laws_of_bracha};
 ghost use Rattle.reliable_bcast.specs.OneValue.{one_value_of_bracha};
 
 use crate::rb::Rb;
+use crate::saying::say_init;
 use layer_api::{Broadcast, Heard};
 use ritas_base::{Item, Mem, Msg, Params, Slot, Tagger};
 use std::alloc::Global;
@@ -24,7 +25,7 @@ impl Broadcast for Rb {
 
     ghost shows = { λ b at tags h e. (ap (λ (x : Rb). x.live) e, record { out = ap (λ (x : Rb). x.delivered) e; ready = λ i. refl }) };
 
-    ghost kinds = { kinds_of_bracha };
+    ghost form = { refl };
 
     ghost value_laws = { value_laws_of_bracha };
 
@@ -45,7 +46,7 @@ impl Broadcast for Rb {
         value: &[u8],
         out: &mut Vec<Msg>,
     ) -> Result<(), Mem> {
-        let said = self.begin(alloc, value, out);
+        let said = say_init(alloc, self.slot, value, out);
         if said.is_err() {
             self.live = false;
         }

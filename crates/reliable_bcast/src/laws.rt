@@ -1,19 +1,28 @@
 ghost use Rattle.ritas_base.specs.Numbers.{Numbers};
 ghost use Rattle.ritas_base.specs.Messages.{Place};
 ghost use Rattle.reliable_bcast.specs.Bracha.{bracha, is_backed, is_carried, ready_value, out_of};
+ghost use Rattle.reliable_bcast.specs.Digests.{by_digest};
 ghost use Rattle.reliable_bcast.specs.Reading.{IsTheValue};
 ghost use Rattle.layer_api.specs.OneValue.{OneValue};
 
-/// In every run where at least n - f replicas are correct, what correct replicas deliver is one value, and a correct
-/// origin's is what it started.
+/// In every run with values where at least n - f replicas are correct, what correct replicas deliver is one value, and a
+/// correct origin's is what it started.
 ///
 /// It does nothing: its contract is the law.
 pub fn one_value()
     ensures { OneValue bracha }
 {}
 
+/// In every run with digests where at least n - f replicas are correct, and no two of the values that these took with INIT
+/// and VALUE have one digest, what correct replicas deliver is one value, and a correct origin's is what it started.
+///
+/// It does nothing: its contract is the law.
+pub fn one_value_by_digest()
+    ensures { OneValue by_digest }
+{}
+
 /// READY is due of a value exactly where that value has an echo quorum of ECHO voters or f + 1 READY voters at the
-/// shortest prefix of the calls with such a value; there it is the only one.
+/// shortest prefix of the calls with such a value; there it is the only one. With digests, read digest for value.
 ///
 /// It does nothing: its contract is the law.
 pub fn one_backed()
@@ -21,7 +30,7 @@ pub fn one_backed()
 {}
 
 /// A value is delivered exactly where it has 2f + 1 READY voters at the shortest prefix of the calls with such a
-/// value; there it is the only one.
+/// value; there it is the only one. With digests, this is the digest whose value is delivered.
 ///
 /// It does nothing: its contract is the law.
 pub fn one_carried()

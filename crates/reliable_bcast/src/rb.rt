@@ -1,18 +1,18 @@
 ghost use Rattle.std.specs.Prelude.{◌≡◌, ◌++◌, IfOk, OnErr, OnOk, None, Some, replicate, true, false};
 ghost use Rattle.std.specs.Option.{option_copied};
-ghost use Rattle.ritas_base.specs.Messages.{to_all};
 ghost use Rattle.reliable_bcast.specs.State.{settled, carried, ready_message, Hears};
 
+use crate::saying::say;
 use crate::votes::Votes;
 use layer_api::Heard;
-use ritas_base::{Bytes, Item, Kind, Mem, Msg, Params, Slot, To};
+use ritas_base::{Bytes, Item, Kind, Mem, Msg, Params, Slot};
 use std::alloc::Global;
 
-/// One replica's part in one reliable broadcast.
+/// One replica's part in one reliable broadcast whose ECHO and READY carry the value: that of frame version 1.
 #[derive(Debug, Drop)]
 pub struct Rb {
     params: Params,
-    slot: Slot,
+    pub(crate) slot: Slot,
     echoed: bool,
     readied: bool,
     echoes: Votes,
@@ -48,28 +48,6 @@ impl Rb {
         }
     }
 
-    /// Says a value to all.
-    fn say(&self, kind: Kind, value: Bytes, out: &mut Vec<Msg>) -> Result<(), Mem>
-        ensures ok { OnOk result (out.new.items ≡ out.old.items ++ to_all self.now.slot kind (Some value)) }
-        ensures err { OnErr result (out.new.items ≡ out.old.items) }
-    {
-        out.push(Msg {
-            to: To::All,
-            kind,
-            slot: self.slot,
-            value,
-        })?;
-        Ok(())
-    }
-
-    /// Says INIT.
-    pub(crate) fn begin(&self, alloc: Global, value: &[u8], out: &mut Vec<Msg>) -> Result<(), Mem>
-        ensures ok { OnOk result (out.new.items ≡ out.old.items ++ to_all self.now.slot Kind.Init (Some value.now)) }
-        ensures err { OnErr result (out.new.items ≡ out.old.items) }
-    {
-        self.say(Kind::Init, Bytes::from_slice(alloc, value)?, out)
-    }
-
     /// Says READY of a value where it has the votes, once.
     fn settle(&mut self, alloc: Global, value: &Bytes, out: &mut Vec<Msg>) -> Result<(), Mem>
         ensures state { OnOk result (self.new ≡ settled self.old value.now) }
@@ -82,7 +60,7 @@ impl Rb {
         if self.echoes.count(value) >= self.params.q()
             || self.readies.count(value) >= self.params.ready()
         {
-            self.say(Kind::Ready, value.copy(alloc)?, out)?;
+            say(self.slot, Kind::Ready, value.copy(alloc)?, out)?;
             self.readied = true;
         }
         Ok(())
@@ -117,7 +95,7 @@ impl Rb {
                 if self.echoed {
                     return Ok(Heard::Repeat);
                 }
-                self.say(Kind::Echo, item.value.copy(alloc)?, out)?;
+                say(self.slot, Kind::Echo, item.value.copy(alloc)?, out)?;
                 self.echoed = true;
                 Ok(Heard::Took)
             }
@@ -138,7 +116,9 @@ impl Rb {
                 self.settle(alloc, &item.value, out)?;
                 Ok(Heard::Took)
             }
-            Kind::Send | Kind::Hashes | Kind::Column => Ok(Heard::Repeat),
+            Kind::Send | Kind::Hashes | Kind::Column | Kind::Want | Kind::Value => {
+                Ok(Heard::Repeat)
+            },
         }
     }
 

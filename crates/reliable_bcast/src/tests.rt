@@ -1,11 +1,11 @@
-ghost use Rattle.std.specs.Prelude.{◌≡◌, IfOk, replicate};
+ghost use Rattle.std.specs.Prelude.{◌≡◌, refl, IfOk, replicate};
 
 use crate::Rb;
 use layer_api::{Broadcast, Heard};
 use ritas_base::{Bytes, Item, Kind, Mem, Msg, Params, Slot, Tagger};
 use std::alloc::Global;
 
-const SLOT: Slot = Slot {
+pub(crate) const SLOT: Slot = Slot {
     class: 1,
     a: 0,
     attempt: 0,
@@ -24,6 +24,8 @@ impl Tagger for Zeros {
 
     ghost tags = { λ t. record { digest = λ m. replicate 32 0; entry = λ s echoer verifier d. replicate 32 0 } };
 
+    ghost digests = { λ t m. refl };
+
     fn me(&self) -> u8 {
         self.me
     }
@@ -37,7 +39,7 @@ impl Tagger for Zeros {
     }
 }
 
-fn item(alloc: Global, from: u8, kind: Kind, value: &[u8]) -> Result<Item, Mem> {
+pub(crate) fn item(alloc: Global, from: u8, kind: Kind, value: &[u8]) -> Result<Item, Mem> {
     Ok(Item {
         from,
         kind,

@@ -5,4 +5,4 @@ use Rattle.reliable_bcast.proofs.broadcast.RbBroadcast.start.Goals as goal
 pub returns-else-is_err : goal.returns-else-is_err
 returns-else-is_err g c =
     started_well (record { me = g.T.Tagger.me c.args._t.now; tags = g.T.Tagger.tags c.args._t.now }) c.args.self.now c.args.value.now c.args.out.now.items
-    c.begin-said.new.out.items c.begin-said.result (sym c.is_err.ensures.value ∙ c.if-is_err.false) c.begin-said.ensures.ok
+    c.say_init-said.new.out.items c.say_init-said.result (sym c.is_err.ensures.value ∙ c.if-is_err.false) c.say_init-said.ensures.ok
