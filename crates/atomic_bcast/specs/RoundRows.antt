@@ -4,6 +4,7 @@ use Rattle.std.specs.Int.RustNames.{count_ones}
 use Rattle.std.proofs.Common.{lit≤}
 use Rattle.ritas_base.specs.declared.slot.Slot.{Slot}
 use Rattle.ritas_base.specs.declared.mode.Vect.TheVariants.{Echo}
+use Rattle.ritas_base.specs.declared.mode.FrameVersion.TheVariants.{One}
 use Rattle.ritas_base.specs.declared.id.Id.{Id}
 use Rattle.ritas_base.specs.Slots.{command_slot}
 use Rattle.frame_codec.specs.Values.{mask_of, entries_in, ids_in, len_in, ids_bytes}
@@ -54,7 +55,7 @@ box = record {
 
 -- replica 0 of four, of which one may be faulty
 abbrev four : Seat
-four = record { numbers = record { n = 4; f = 1 }; mode = record { root = 6; vect = Echo; low = lit≤ tt; high = lit≤ tt }; me = 0; coin = λ s. false }
+four = record { numbers = record { n = 4; f = 1 }; mode = record { root = 6; vect = Echo; version = One; low = lit≤ tt; high = lit≤ tt }; me = 0; coin = λ s. false }
 
 -- a vector of the places 0, 1 and 2: identifier (0, 0) stands in each list, and (3, 9) in the last one alone
 abbrev vector : List ℕ

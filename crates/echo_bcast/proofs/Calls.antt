@@ -188,7 +188,7 @@ after_send : (at : Place) (tags : Tags) (h : List Call) (x : Item) → x.kind �
 after_send at tags h x kind may = ap (λ (k : Kind). not (kind_eq k Column) || is_some (sent at h)) (sym kind) ∙ may.in_time
 
 column_payload : (at : Place) (tags : Tags) (h : List Call) (x : Item) → x.kind ≡ Column → MayTake echo at tags h x → Is (column at.numbers.n) x.value
-column_payload at tags h x kind may = subst (λ (k : Kind). IsPayload at.numbers.n k x.value) kind may.payload
+column_payload at tags h x kind may = subst (λ (k : Kind). IsPayload 2 at.numbers.n k x.value) kind may.payload
 
 heard_column : (t : Tagging) (old new : Eb) (x : Item) (before after : List Msg) (heard : Heard) → x.kind ≡ Column
     → HearsColumn t old new x before after heard → TakesAs t old new x before after (Ok heard)
@@ -241,6 +241,8 @@ heard_well t old new x before after r e hears = go x.kind refl hears
     go kinds.Send kind h = heard_send t old new x before after r kind e h
     go kinds.Hashes kind h = heard_hashes t old new x before after r kind e h
     go kinds.Column kind h = column_well r kind h
+    go kinds.Want kind h = other_kind t old new x before after r (ap (λ (k : Kind). is_of_echo k) kind) h
+    go kinds.Value kind h = other_kind t old new x before after r (ap (λ (k : Kind). is_of_echo k) kind) h
 
 pub heard_half : (t : Tagging) (old new : Eb) (x : Item) (before after : List Msg) (r : Result Heard Mem) → is_err r ≡ true
     → Hears x.kind t old new x before after r → TakesAs t old (record new { live = false }) x before after r
@@ -260,6 +262,8 @@ heard_half t old new x before after r e hears = go x.kind refl hears
     go kinds.Send kind h = half_send t old new x before after r kind e h
     go kinds.Hashes kind h = half_hashes t old new x before after r kind e h
     go kinds.Column kind h = column_half r e h
+    go kinds.Want kind h = not_other h.0
+    go kinds.Value kind h = not_other h.0
 
 -- ---- the start
 

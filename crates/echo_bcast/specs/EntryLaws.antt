@@ -14,22 +14,22 @@ use Rattle.ritas_base.specs.declared.item.Kind.TheVariants.{Send, Hashes, Column
 use Rattle.ritas_base.specs.declared.item.Item.{Item}
 use Rattle.ritas_base.specs.declared.item.Msg.{Msg}
 use Rattle.ritas_base.specs.declared.mode.Mode.{Mode}
-use Rattle.ritas_base.specs.History.{Call, Take, first, replicas}
-use Rattle.ritas_base.specs.HistoryLaws.{first_cases, length-firsts, firsts_at}
+use Rattle.ritas_base.specs.History.{Call, Take, told, first, replicas}
+use Rattle.ritas_base.specs.HistoryLaws.{first_stays, first_cases, length-firsts, firsts_at}
 use Rattle.ritas_base.specs.Members.{has_member, member_count}
 use Rattle.ritas_base.specs.Messages.{Place}
 use Rattle.ritas_base.specs.Quorums.{count_yes, count_no, count_same}
 use Rattle.ritas_base.specs.Tags.{Tags}
 use Rattle.frame_codec.specs.Values.{at_place, rows_in, if_whole, row_of, column_bytes}
 use Rattle.frame_codec.specs.RowLaws.{whole_place}
-use Rattle.layer_api.specs.Entries.{given, entries_for, entries_of, entry_in, entry_of}
-use Rattle.layer_api.specs.EntryLaws.{IsHashedBy, HasEntries, EntryLaws}
+use Rattle.layer_api.specs.Entries.{sent, given, entries_for, entries_of, entry_in, entry_of, Print, prints_of, prints_for, is_hashed, prints_at_kind}
+use Rattle.layer_api.specs.EntryLaws.{IsHashedBy, IsMetOf, HasEntries, EntryLaws}
 use Rattle.layer_api.specs.OneValue.{AreGoodCalls, IsOfSlot}
 use Rattle.layer_api.specs.Runs.{Has}
 use Rattle.layer_api.specs.HasLaws.{has_right}
 use Rattle.echo_bcast.specs.Matrix.{echo, as_entry, hashes_bytes, hashes_in, senders_of, rows_for}
 use Rattle.echo_bcast.specs.Columns.{as_entry_is, AreLong, senders_ones, senders_have, column_mask}
-use Rattle.echo_bcast.specs.Members.{replica_below}
+use Rattle.layer_api.specs.Replicas.{replica_below}
 use Rattle.echo_bcast.specs.Due.{IsDue, OfSend, OfHashes, OfColumn, IsHashes, IsColumnOf, due_is}
 use Rattle.echo_bcast.specs.Good.{columns_long}
 
@@ -207,10 +207,28 @@ column_alone at tags h m kind (OfSend s) = absurd (let other : m.kind ≡ Send =
 column_alone at tags h m kind (OfHashes s) = absurd (let other : m.kind ≡ Hashes = ap (λ (x : Msg). x.kind) s.whole in cc)
 column_alone at tags h m kind (OfColumn s) = s
 
+-- what was met is of the SEND that was taken, and stays
+met_of : (at : Place) (tags : Tags) (h : List Call) (a : Print) (o : Option (List ℕ)) → sent at h ≡ o → Has (prints_for at tags o) a → IsMetOf echo at tags h a
+met_of at tags h a None e there = absurd there
+met_of at tags h a (Some m) e there =
+    let x = first_item h at.slot.origin Send m e in
+    record {
+      item = x.item;
+      taken = x.taken;
+      kind = ap (is_hashed 2) x.kind_is;
+      print = subst (λ (k : Kind). Has (prints_at_kind at tags k x.item.value) a) (sym x.kind_is) (subst (λ (v : List ℕ). Has (prints_of at tags v) a) (sym x.value) there);
+    }
+
+met_stays : (at : Place) (tags : Tags) (c : Call) (h : List Call) (a : Print) (o : Option (List ℕ)) → sent at h ≡ o → Has (prints_for at tags o) a → Has (prints_for at tags (sent at (c ∷ h))) a
+met_stays at tags c h a None e there = absurd there
+met_stays at tags c h a (Some m) e there = subst (λ (u : Option (List ℕ)). Has (prints_for at tags u) a) (sym (first_stays (told at.slot.origin Send) c h m e)) there
+
 pub entry_laws_of_echo : EntryLaws echo
 entry_laws_of_echo =
     record {
       hashes = λ at tags h m whole there kind k lt. hashes_given at tags h m whole (hashes_alone at tags h m kind (due_is at tags h m there)) k lt;
       columns = λ at tags mode h m of_slot good there kind echoer entry row.
           column_hashed at mode h m of_slot good (column_alone at tags h m kind (due_is at tags h m there)) echoer entry row;
+      met_taken = λ at tags h a there. met_of at tags h a (sent at h) refl there;
+      met_stays = λ at tags h c a there. met_stays at tags c h a (sent at h) refl there;
     }

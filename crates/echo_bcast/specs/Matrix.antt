@@ -1,9 +1,8 @@
 -- Matrix echo broadcast at one slot, as the calls on a replica's value tell it. Lists of calls have the newest first.
-use Rattle.std.specs.Prelude.{ℕ, Bool, true, false, not, ◌==◌, ◌&&◌, ◌||◌, List, [], ◌∷◌, ◌++◌, map, take, replicate, Option, Some, None, is_some, nat_le, count_by, if◌then◌else◌}
+use Rattle.std.specs.Prelude.{ℕ, Bool, false, not, ◌==◌, ◌&&◌, ◌||◌, List, [], ◌∷◌, ◌++◌, map, take, replicate, Option, Some, None, is_some, nat_le, count_by, if◌then◌else◌}
 use Rattle.std.specs.List.{flat_map, list_any}
 use Rattle.std.specs.Simd.Lanes.{mask_l}
 use Rattle.ritas_base.specs.declared.item.Kind.{Kind}
-use Rattle.ritas_base.specs.declared.item.Kind.TheVariants as kinds
 use Rattle.ritas_base.specs.declared.item.Kind.TheVariants.{Send, Hashes, Column}
 use Rattle.ritas_base.specs.declared.item.To.TheVariants.{One}
 use Rattle.ritas_base.specs.declared.item.Item.{Item}
@@ -14,8 +13,9 @@ use Rattle.ritas_base.specs.History.{Call, Start, Take, first, started, firsts, 
 use Rattle.ritas_base.specs.Messages.{Place, kind_eq, to_all}
 use Rattle.ritas_base.specs.Tags.{Tags}
 use Rattle.frame_codec.specs.Values.{column_bytes}
+use Rattle.frame_codec.specs.Body.{is_of_form}
 use Rattle.layer_api.specs.Broadcast.{BroadcastRules}
-use Rattle.layer_api.specs.Entries.{sent, entries_of, entry_in, is_claim}
+use Rattle.layer_api.specs.Entries.{sent, entries_of, entry_in, is_claim, prints_for}
 
 -- ---- HASHES
 
@@ -101,19 +101,15 @@ abbrev pub is_ready : Place → List Call → Item → Bool
 is_ready at h x = not (kind_eq x.kind Column) || is_some (sent at h)
 
 abbrev pub is_of_echo : Kind → Bool
-is_of_echo kinds.Init = false
-is_of_echo kinds.Echo = false
-is_of_echo kinds.Ready = false
-is_of_echo kinds.Send = true
-is_of_echo kinds.Hashes = true
-is_of_echo kinds.Column = true
+is_of_echo kind = is_of_form 2 kind
 
 -- the rules of echo broadcast
 abbrev pub echo : BroadcastRules
 echo = record {
-  has_kind = is_of_echo;
+  form = 2;
   due = λ at tags h. due_of at tags h;
   out = λ at tags h. out_of at tags h;
   repeats = λ at tags h x. repeats_one at tags h x;
   ready = λ at tags h x. is_ready at h x;
+  met = λ at tags h. prints_for at tags (sent at h);
 }

@@ -30,7 +30,7 @@ use Rattle.layer_api.specs.HasLaws.{has_listed}
 use Rattle.echo_bcast.specs.Matrix.{echo, hashes_for, hashes_in, senders_of, rows_for, column_for, columns_of, columns_at, columns_due, due_of, has_news, repeats_one}
 use Rattle.echo_bcast.specs.Columns.{hashes_long, are_long, rows_length}
 use Rattle.echo_bcast.specs.Due.{send_is, hashes_is, columns_of_is, column_is, column_due}
-use Rattle.echo_bcast.specs.Members.{replica_below}
+use Rattle.layer_api.specs.Replicas.{replica_below}
 
 -- ---- items that repeat none
 
@@ -85,7 +85,7 @@ first_long at tags (Take x ∷ h) k v taken e =
       | inl was ↦ first_long at tags h k v taken.1 was
       | inr now ↦
           let is = told_item k Hashes x v now.1 in
-          ap length (sym is.2) ∙ hashes_long at.numbers.n x.value (subst (λ (q : Kind). IsPayload at.numbers.n q x.value) is.1 taken.0.payload)
+          ap length (sym is.2) ∙ hashes_long at.numbers.n x.value (subst (λ (q : Kind). IsPayload 2 at.numbers.n q x.value) is.1 taken.0.payload)
     ]
 
 column_length : (at : Place) (tags : Tags) (h : List Call) (k : ℕ) → AreTaken echo at tags h → k < at.numbers.n

@@ -2,8 +2,6 @@
 use Rattle.std.specs.Prelude.{◌≡◌, ℕ, ◌<◌, Bool, true, false, not, ◌==◌, ◌||◌, List, [], ◌∷◌, ◌++◌, Option, Some, None, is_some, count_by, nat_le, if◌then◌else◌, refl}
 use Rattle.std.proofs.Common.{sym, ◌∙◌, ap, subst, inl, inr, arith}
 use Rattle.std.proofs.lemmas.Bool.{or_right, le-leb, cond-true}
-use Rattle.ritas_base.specs.declared.item.Kind.{Kind}
-use Rattle.ritas_base.specs.declared.item.Kind.TheVariants as kinds
 use Rattle.ritas_base.specs.declared.item.Kind.TheVariants.{Send, Column}
 use Rattle.ritas_base.specs.declared.item.To.{To}
 use Rattle.ritas_base.specs.declared.item.Msg.{Msg}
@@ -14,13 +12,12 @@ use Rattle.ritas_base.specs.Numbers.{quorum_of}
 use Rattle.ritas_base.specs.Quorums.{count_more}
 use Rattle.ritas_base.specs.Shortest.{option_or_none}
 use Rattle.ritas_base.specs.Tags.{Tags}
-use Rattle.frame_codec.specs.Body.{is_of_broadcast}
 use Rattle.layer_api.specs.Entries.{sent, is_claim}
 use Rattle.layer_api.specs.Runs.{Has}
 use Rattle.layer_api.specs.HasLaws.{has_either, has_left, has_listed, has_right, listed_has}
 use Rattle.layer_api.specs.OneValue.{ValueLaws, IsReceiver}
 use Rattle.echo_bcast.specs.Matrix.{echo, hashes_for, columns_at, columns_due, due_of, is_good, out_of, is_of_echo}
-use Rattle.echo_bcast.specs.Members.{replica_below}
+use Rattle.layer_api.specs.Replicas.{replica_below}
 use Rattle.echo_bcast.specs.Due.{IsDue, OfSend, OfHashes, OfColumn, due_is}
 use Rattle.echo_bcast.specs.OneValue.{out_is}
 use Rattle.echo_bcast.specs.Once.{repeats_other, stays_there, due_once}
@@ -119,19 +116,10 @@ value_laws_of_echo =
       due_kind = λ at tags h m there. due_kind at tags h m (due_is at tags h m there);
       due_to = λ at tags h m origin there. due_to at tags h m origin (due_is at tags h m there);
       due_once = λ at tags h taken first_ones. due_once at tags h taken first_ones;
-      due_good = λ at tags mode h m of_slot good there. due_good at tags mode h m of_slot good (due_is at tags h m there);
+      due_good = λ at tags mode h m digests of_slot good there. due_good at tags mode h m of_slot good (due_is at tags h m there);
       out_good = λ at tags mode h v of_slot good e. out_good at mode h v good (out_is at tags h v e).1;
       repeats_nothing = λ at tags i. false_both (kind_eq i.kind Column);
       repeats_is = λ at tags h i other. repeats_other at tags h i other;
       ready_stays = λ at tags h c i e. ready_stays at h c (not (kind_eq i.kind Column)) e;
       ready_nothing = λ at tags i has_it. or_nothing (not (kind_eq i.kind Column));
     }
-
--- the kinds of echo broadcast are those of its form
-pub kinds_of_echo : (kind : Kind) → echo.has_kind kind ≡ is_of_broadcast true kind
-kinds_of_echo kinds.Init = refl
-kinds_of_echo kinds.Echo = refl
-kinds_of_echo kinds.Ready = refl
-kinds_of_echo kinds.Send = refl
-kinds_of_echo kinds.Hashes = refl
-kinds_of_echo kinds.Column = refl

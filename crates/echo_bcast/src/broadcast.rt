@@ -1,9 +1,9 @@
-ghost use Rattle.std.specs.Prelude.{◌≡◌};
+ghost use Rattle.std.specs.Prelude.{◌≡◌, refl};
 ghost use Rattle.echo_bcast.specs.declared.eb.Eb.{Eb};
 ghost use Rattle.echo_bcast.specs.Matrix.{echo};
 ghost use Rattle.echo_bcast.specs.State.{Keeps, shown_of};
 ghost use Rattle.echo_bcast.specs.Shown.{shows_cast};
-ghost use Rattle.echo_bcast.specs.ValueLaws.{value_laws_of_echo, kinds_of_echo};
+ghost use Rattle.echo_bcast.specs.ValueLaws.{value_laws_of_echo};
 ghost use Rattle.echo_bcast.specs.EntryLaws.{entry_laws_of_echo};
 ghost use Rattle.echo_bcast.specs.OneValue.{one_value_of_echo};
 
@@ -25,7 +25,7 @@ impl Broadcast for Eb {
 
     ghost shows = { λ b at tags h keeps. (keeps.live, shows_cast b at tags h keeps) };
 
-    ghost kinds = { kinds_of_echo };
+    ghost form = { refl };
 
     ghost value_laws = { value_laws_of_echo };
 

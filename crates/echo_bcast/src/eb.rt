@@ -151,7 +151,7 @@ impl Eb {
             Kind::Send => self.echo(alloc, t, item, out),
             Kind::Hashes => self.gather(alloc, item, out),
             Kind::Column => Ok(self.judge(t, item)),
-            Kind::Init | Kind::Echo | Kind::Ready => Ok(Heard::Repeat),
+            Kind::Init | Kind::Echo | Kind::Ready | Kind::Want | Kind::Value => Ok(Heard::Repeat),
         }
     }
 

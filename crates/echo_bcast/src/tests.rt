@@ -1,4 +1,4 @@
-ghost use Rattle.std.specs.Prelude.{◌≡◌, replicate, slice_set};
+ghost use Rattle.std.specs.Prelude.{◌≡◌, refl, replicate, slice_set};
 
 use crate::Eb;
 use layer_api::{Broadcast, Heard};
@@ -24,6 +24,8 @@ impl Tagger for Plain {
     ghost me = { λ t. t.me };
 
     ghost tags = { λ t. record { digest = λ m. replicate 32 7; entry = λ s echoer verifier d. slice_set (slice_set (replicate 32 0) 0 echoer) 1 verifier } };
+
+    ghost digests = { λ t m. refl };
 
     fn me(&self) -> u8 {
         self.me

@@ -7,6 +7,7 @@ use Rattle.frame_codec.specs.Values.{mask_of}
 use Rattle.layer_api.specs.Service.{Seat, OfBit, OfValue, Bit, Nothing, Value}
 use Rattle.layer_api.specs.Words.{Word, Ask, Hear}
 use Rattle.ritas_base.specs.declared.mode.Vect.TheVariants.{Echo}
+use Rattle.ritas_base.specs.declared.mode.FrameVersion.TheVariants.{One}
 use Rattle.std.proofs.Common.{lit≤}
 use Rattle.layer_api.specs.Binary.{BinaryRules}
 use Rattle.layer_api.specs.Multi.{Scope, Desk}
@@ -183,7 +184,7 @@ unfolding mask_of has_member
 inside_of_another = refl
 
 abbrev seat : Seat
-seat = record { numbers = four.numbers; mode = record { root = 4; vect = Echo; low = lit≤ tt; high = lit≤ tt }; me = 0; coin = λ s. false }
+seat = record { numbers = four.numbers; mode = record { root = 4; vect = Echo; version = One; low = lit≤ tt; high = lit≤ tt }; me = 0; coin = λ s. false }
 
 root_bit : decided_in (multivalued at_once) seat (heard_bit 1 ∷ later_61) (OfBit 0 0) ≡ Some (Bit true)
 unfolding mask_of has_member

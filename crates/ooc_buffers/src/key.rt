@@ -30,6 +30,8 @@ fn rank(kind: Kind) -> u8
         Kind::Send => 3,
         Kind::Hashes => 4,
         Kind::Column => 5,
+        Kind::Want => 6,
+        Kind::Value => 7,
     }
 }
 

@@ -5,6 +5,7 @@ use Rattle.layer_api.specs.Service.{Seat, Instance, OfBit, OfValue, OfVector, De
 use Rattle.layer_api.specs.Words.{Word, Ask, Hear, is_heard}
 use Rattle.layer_api.specs.Multi.{Scope, Desk, MultiRules}
 use Rattle.ritas_base.specs.declared.mode.Vect.TheVariants.{Echo}
+use Rattle.ritas_base.specs.declared.mode.FrameVersion.TheVariants.{One}
 use Rattle.std.proofs.Common.{lit≤}
 use Rattle.vector_consensus.specs.Consensus.{prop_slot, try_words, failed_below, decided_below, inside_at, vectors}
 use Rattle.vector_consensus.specs.Root.{decided_in, vector_root}
@@ -142,7 +143,7 @@ inside_undecided : inside_at none_box four second (OfVector 0) ≡ None
 inside_undecided = refl
 
 abbrev seat : Seat
-seat = record { numbers = record { n = 4; f = 1 }; mode = record { root = 5; vect = Echo; low = lit≤ tt; high = lit≤ tt }; me = 0; coin = λ s. false }
+seat = record { numbers = record { n = 4; f = 1 }; mode = record { root = 5; vect = Echo; version = One; low = lit≤ tt; high = lit≤ tt }; me = 0; coin = λ s. false }
 
 root_failed : decided_in (vectors none_box) seat failed (OfValue 0 0) ≡ Some Nothing
 root_failed = refl

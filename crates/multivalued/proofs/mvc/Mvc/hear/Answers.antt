@@ -56,5 +56,5 @@ returns-in_default-clause-ok g c =
     let low = range.0 in
     let high = range.1 in
     let five : c.args.slot.now.class ≡ 5 = omega (arith, low, high) in
-    by_vote stands rules x y next before after at w s v may bits c.vote_of.result h.met five coin c.vote_of.ensures follows h.holds)
+    by_vote stands rules x y next before after at w s v may bits c.vote_of.result h.met five coin c.vote_of.ensures.vote follows h.holds)
     c.hear_vote.ensures.ok
