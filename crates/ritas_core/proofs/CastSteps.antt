@@ -16,8 +16,8 @@ use Rattle.layer_api.specs.Broadcast.{BroadcastRules, IsTagger, MayStart}
 use Rattle.layer_api.specs.BroadcastCalls.{CastShown, ShowsCast, Starts, Dies}
 use Rattle.ritas_base.specs.declared.mode.Mode.{Mode}
 use Rattle.ritas_core.specs.declared.cast.Cast.{Cast}
-use Rattle.ritas_core.specs.Rules.{CastRules, by_other, casts_by, place_at, out_at}
-use Rattle.ritas_core.specs.Cast.{CastStands, CastStandsAt, rules_by, is_live, shown_by}
+use Rattle.ritas_core.specs.Rules.{rules_by, CastRules, route_of, casts_by, place_at, out_at}
+use Rattle.ritas_core.specs.Cast.{CastStands, CastStandsAt, is_live, shown_by}
 use Rattle.ritas_core.specs.Casts.{CastsStand, called, newly}
 use Rattle.ritas_core.specs.CastCalls.{CanStart, StartsCast, StartsNone, CanTake, HearsItem, CastsFail, CastsHear}
 use Rattle.layer_api.specs.OneValue.{ValueLaws}
@@ -108,7 +108,7 @@ module _ {E : Type 0} (mode : Mode) (stands : E → Place → Tags → List Call
   stood_there h can = there h can.stood
 
   pub casts_hear : ValueLaws rules → (before after : List Msg) (r : Result Taken Mem) →
-      HearsItem (CastStands (by_other mode item.slot) stands) (rules_by (by_other mode item.slot) rules) (shown_by shown)
+      HearsItem (CastStands (route_of mode item.slot) stands) (rules_by (route_of mode item.slot) rules) (shown_by shown)
       (record { me = number; tags = tags }) old new item before after r →
       CastsHear (CastStandsAt mode stands) (shown_by shown) (casts_by mode numbers me tags rules) number m n item before after r
   casts_hear values before after (Ok (Took d)) hears = record {
@@ -117,8 +117,8 @@ module _ {E : Type 0} (mode : Mode) (stands : E → Place → Tags → List Call
     made = λ h can. hears.takes.made _ tags (h item.slot) (stood_there h can) (tagger_of h can) can.may;
     delivered = λ h can.
         newly_shown _ _ _ _
-        (shows_at stands rules live shown shows (by_other mode item.slot) old (place_at (casts_by mode numbers me tags rules) item.slot) tags (h item.slot) (stood_there h can)).out
-        (shows_at stands rules live shown shows (by_other mode item.slot) new (place_at (casts_by mode numbers me tags rules) item.slot) tags (Take item ∷ h item.slot)
+        (shows_at stands rules live shown shows (route_of mode item.slot) old (place_at (casts_by mode numbers me tags rules) item.slot) tags (h item.slot) (stood_there h can)).out
+        (shows_at stands rules live shown shows (route_of mode item.slot) new (place_at (casts_by mode numbers me tags rules) item.slot) tags (Take item ∷ h item.slot)
         (hears.takes.grows _ tags (h item.slot) (stood_there h can) (tagger_of h can) can.may)).out
         ∙ sym hears.delivered;
     counts = λ h can. hears.takes.counts _ tags (h item.slot) (stood_there h can) (tagger_of h can) can.may;
@@ -147,7 +147,7 @@ pub casts_missed : {E : Type 0} (mode : Mode) (stands : E → Place → Tags →
     StandsThere mode stands rules numbers me tags m say.slot old →
     ((q : Slot) → get slot_cmp n q ≡ cond (is_slot say.slot q) (Some new) (get slot_cmp m q)) →
     (value : List ℕ) (before after : List Msg) →
-    Dies (CastStands (by_other mode say.slot) stands) (rules_by (by_other mode say.slot) rules) (is_live live) (shown_by shown)
+    Dies (CastStands (route_of mode say.slot) stands) (rules_by (route_of mode say.slot) rules) (is_live live) (shown_by shown)
     (record { me = number; tags = tags }) old new (Start value) (λ at tags h. MayStart at h) before after →
     StartsNone (CastStandsAt mode stands) (shown_by shown) (casts_by mode numbers me tags rules) number m n say
 casts_missed {E} mode stands rules live shown shows values numbers me number tags m n say old new there put value before after dies h can =
@@ -168,12 +168,12 @@ pub casts_start : {E : Type 0} (mode : Mode) (stands : E → Place → Tags → 
     StandsThere mode stands rules numbers me tags m say.slot old →
     ((q : Slot) → get slot_cmp n q ≡ cond (is_slot say.slot q) (Some new) (get slot_cmp m q)) →
     (value : List ℕ) → value ≡ say.value → (before after : List Msg) →
-    Starts (CastStands (by_other mode say.slot) stands) (rules_by (by_other mode say.slot) rules)
+    Starts (CastStands (route_of mode say.slot) stands) (rules_by (route_of mode say.slot) rules)
     (record { me = number; tags = tags }) old new value before after →
     StartsCast (CastStandsAt mode stands) (casts_by mode numbers me tags rules) number m n say before after
 casts_start {E} mode stands rules numbers me number tags m n say old new there put value same before after started_it =
     let c = casts_by mode numbers me tags rules in
-    let starts = subst (λ (v : List ℕ). Starts (CastStands (by_other mode say.slot) stands) (rules_by (by_other mode say.slot) rules)
+    let starts = subst (λ (v : List ℕ). Starts (CastStands (route_of mode say.slot) stands) (rules_by (route_of mode say.slot) rules)
     (record { me = number; tags = tags }) old new v before after) same started_it in
     let tagger : (h : Slot → List Call) → CanStart (CastStandsAt mode stands) c number m say h
     → IsTagger (place_at c say.slot) tags (record { me = number; tags = tags }) = λ h can.

@@ -1,5 +1,5 @@
 -- What a slot with no fault has, and what an item in the grammar gives its broadcast.
-use Rattle.std.proofs.Common.{◌≡◌, ℕ, ◌<◌, Bool, true, false, None, List, [], ◌∷◌, refl, sym, ◌∙◌}
+use Rattle.std.proofs.Common.{◌≡◌, ℕ, ◌<◌, Bool, true, false, None, List, [], ◌∷◌, refl, sym, ◌∙◌, ap, subst, cond}
 use Rattle.std.proofs.Math.Dec.{ltb}
 use Rattle.std.proofs.lemmas.Bool.{ltb-true}
 use Rattle.ritas_base.specs.declared.slot.Slot.{Slot}
@@ -8,13 +8,13 @@ use Rattle.ritas_base.specs.declared.slot.SlotFault.TheVariants as faults
 use Rattle.ritas_base.specs.declared.mode.Mode.{Mode}
 use Rattle.ritas_base.specs.declared.item.Item.{Item}
 use Rattle.ritas_base.specs.Numbers.{Numbers}
-use Rattle.ritas_base.specs.Slots.{first_failed, slot_fault, within, has_class, has_number, has_attempt, has_count}
+use Rattle.ritas_base.specs.Slots.{first_failed, slot_fault, form_of, within, has_class, has_number, has_attempt, has_count}
 use Rattle.ritas_base.specs.declared.item.Kind.{Kind}
 use Rattle.ritas_base.specs.declared.item.Kind.TheVariants as kinds
-use Rattle.frame_codec.specs.Format.{Is}
-use Rattle.frame_codec.specs.Grammar.{payload}
-use Rattle.frame_codec.specs.Body.{IsInGrammar}
-use Rattle.layer_api.specs.Broadcast.{IsPayload}
+use Rattle.frame_codec.specs.Format.{Format, Is}
+use Rattle.frame_codec.specs.Grammar.{payload, value, digest, carries_digest}
+use Rattle.frame_codec.specs.Body.{IsInGrammar, is_of_form}
+use Rattle.layer_api.specs.Broadcast.{IsPayload, IsDigestIf}
 use Rattle.layer_api.specs.OneValue.{IsOfSlot}
 use Rattle.ritas_core.specs.Rules.{Rules}
 use Rattle.ritas_core.specs.Laws.{LayerLaws}
@@ -55,21 +55,30 @@ slot_origin p mode s e = (fields p mode s e).origin
 
 -- the broadcast of a slot with no fault is the slot's
 pub of_slot : (r : Rules) → LayerLaws r → (s : Slot) → slot_fault r.casts.numbers r.mode s ≡ None → IsOfSlot (r.casts.at_slot s) r.casts.numbers r.mode s
-of_slot r laws s right = record { session = laws.session; slot = right; kinds = λ kind has. sym (laws.kinds s kind right) ∙ has }
+of_slot r laws s right = record { session = laws.session; slot = right; form = laws.kinds.forms s right }
 
 -- an item in the grammar has a kind of its slot's broadcast
-pub kind_fits : (r : Rules) → LayerLaws r → (item : Item) → IsInGrammar r.casts.numbers r.mode item → (r.casts.at_slot item.slot).has_kind item.kind ≡ true
-kind_fits r laws item good = laws.kinds item.slot item.kind good.slot ∙ good.kind
+pub kind_fits : (r : Rules) → LayerLaws r → (item : Item) → IsInGrammar r.casts.numbers r.mode item → is_of_form (r.casts.at_slot item.slot).form item.kind ≡ true
+kind_fits r laws item good = ap (λ (form : ℕ). is_of_form form item.kind) (laws.kinds.forms item.slot good.slot) ∙ good.kind
 
 -- and a payload of its kind
-payload_by : (p : Numbers) (root : ℕ) (kind : Kind) (s : Slot) (v : List ℕ) → Is (payload p root kind s) v → IsPayload p.n kind v
-unfolding payload
-payload_by p root kinds.Init s v is = tt
-payload_by p root kinds.Echo s v is = tt
-payload_by p root kinds.Ready s v is = tt
-payload_by p root kinds.Send s v is = tt
-payload_by p root kinds.Hashes s v is = is
-payload_by p root kinds.Column s v is = is
+digest_if : (b : Bool) (f : Format) (v : List ℕ) → Is (cond b digest f) v → IsDigestIf b v
+digest_if true f v is = is
+digest_if false f v is = tt
 
-pub payload_fits : (r : Rules) (item : Item) → IsInGrammar r.casts.numbers r.mode item → IsPayload r.casts.numbers.n item.kind item.value
-payload_fits r item good = payload_by r.casts.numbers r.mode.root item.kind item.slot item.value good.payload_is
+payload_by : (p : Numbers) (mode : Mode) (kind : Kind) (s : Slot) (v : List ℕ) → Is (payload p mode kind s) v → IsPayload (form_of mode s) p.n kind v
+unfolding payload
+payload_by p mode kinds.Hashes s v is = is
+payload_by p mode kinds.Column s v is = is
+payload_by p mode kinds.Init s v is = digest_if (carries_digest (form_of mode s) kinds.Init) (value p mode.root s) v is
+payload_by p mode kinds.Echo s v is = digest_if (carries_digest (form_of mode s) kinds.Echo) (value p mode.root s) v is
+payload_by p mode kinds.Ready s v is = digest_if (carries_digest (form_of mode s) kinds.Ready) (value p mode.root s) v is
+payload_by p mode kinds.Send s v is = digest_if (carries_digest (form_of mode s) kinds.Send) (value p mode.root s) v is
+payload_by p mode kinds.Want s v is = digest_if (carries_digest (form_of mode s) kinds.Want) (value p mode.root s) v is
+payload_by p mode kinds.Value s v is = digest_if (carries_digest (form_of mode s) kinds.Value) (value p mode.root s) v is
+
+pub payload_fits : (r : Rules) → LayerLaws r → (item : Item) → IsInGrammar r.casts.numbers r.mode item
+    → IsPayload (r.casts.at_slot item.slot).form r.casts.numbers.n item.kind item.value
+payload_fits r laws item good =
+    subst (λ (form : ℕ). IsPayload form r.casts.numbers.n item.kind item.value) (sym (laws.kinds.forms item.slot good.slot))
+    (payload_by r.casts.numbers r.mode item.kind item.slot item.value good.payload_is)

@@ -66,7 +66,7 @@ AreInGrammar r ms = (m : Msg) → Has ms m → IsInGrammar r.casts.numbers r.mod
 news_good : (r : Rules) → LayerLaws r → (s : Slot) (calls : List Call) (c : Call) → slot_fault r.casts.numbers r.mode s ≡ None →
     AreGoodCalls r.casts.numbers r.mode s (c ∷ calls) → AreInGrammar r (news_at r.casts s calls c)
 news_good r laws s calls c right good m here =
-    (laws.casts s).due_good (place_at r.casts s) r.casts.tags r.mode (c ∷ calls) m (of_slot r laws s right) good
+    (laws.casts s).due_good (place_at r.casts s) r.casts.tags r.mode (c ∷ calls) m laws.kinds.digests (of_slot r laws s right) good
     (has_without_from (due_at r.casts s calls) (due_at r.casts s (c ∷ calls)) m here)
 
 append_in_grammar : (r : Rules) (xs ys : List Msg) → AreInGrammar r xs → AreInGrammar r ys → AreInGrammar r (xs ++ ys)

@@ -134,7 +134,7 @@ module _ {S E C T : Type 0} (m : Meaning S E C T) (layers : Layers S E C T) (law
         sender = good.sender;
         origin = λ only. eqb-true item.from item.slot.origin (from_neither (is_of_origin item.kind) (eqb item.from item.slot.origin) told.origin only);
         receiver = λ only. eqb-true r.casts.me item.slot.origin (from_neither (is_for_origin item.kind) (eqb r.casts.me item.slot.origin) told.receiver only);
-        payload = payload_fits r item good.in_grammar;
+        payload = payload_fits r laws item good.in_grammar;
         in_time = right_true (m.service.opens (seat_of r) p.words item.slot) _ (sym (let_same m layers laws p stood item good) ∙ let_in);
       }
 

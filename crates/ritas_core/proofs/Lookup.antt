@@ -15,6 +15,7 @@ use Rattle.ritas_base.specs.SlotOrder.{is_slot, same_slot}
 use Rattle.ritas_base.specs.Shortest.{option_or_none}
 use Rattle.ritas_base.specs.History.{Call, Start, Take, first}
 use Rattle.ritas_base.specs.Tags.{Tags}
+use Rattle.frame_codec.specs.Body.{is_of_form}
 use Rattle.layer_api.specs.Broadcast.{BroadcastRules}
 use Rattle.layer_api.specs.OneValue.{ValueLaws}
 use Rattle.layer_api.specs.Service.{ServiceRules, Seat, is_past, is_ahead, AreProper, WordLaws}
@@ -119,7 +120,7 @@ open_where_taken r laws (Given v ∷ h) met =
     open_told r laws (Ask v) (parts r h) (met.0.may, words_proper r laws h met.1) (open_where_taken r laws h met.1)
 
 -- ---- what isn't a column can be taken at any time
-pub ready_always : (r : BroadcastRules) → ValueLaws r → (at : Place) (tags : Tags) (h : List Call) (i : Item) → r.has_kind i.kind ≡ true →
+pub ready_always : (r : BroadcastRules) → ValueLaws r → (at : Place) (tags : Tags) (h : List Call) (i : Item) → is_of_form r.form i.kind ≡ true →
     kind_eq i.kind Column ≡ false → r.ready at tags h i ≡ true
 ready_always r laws at tags [] i has other = laws.ready_nothing at tags i has ∙ ap not other
 ready_always r laws at tags (c ∷ h) i has other = laws.ready_stays at tags h c i (ready_always r laws at tags h i has other)

@@ -15,7 +15,7 @@ use Rattle.layer_api.specs.Broadcast.{BroadcastRules, Tagging}
 use Rattle.layer_api.specs.BroadcastCalls.{CastShown, ShowsCast, TakesNew, TakesNone}
 use Rattle.layer_api.specs.OneValue.{ValueLaws}
 use Rattle.ritas_core.specs.declared.cast.Cast.{Cast}
-use Rattle.ritas_core.specs.Rules.{CastRules, by_other, casts_by, place_at, out_at}
+use Rattle.ritas_core.specs.Rules.{CastRules, route_of, casts_by, place_at, out_at}
 use Rattle.ritas_core.specs.RulesLaws.{laws_at}
 use Rattle.ritas_core.specs.Cast.{CastStandsAt, shown_by}
 use Rattle.ritas_core.specs.Casts.{CastsStand, CastsShowAt, CastsShow, called, started_all, shown_out}
@@ -33,7 +33,7 @@ module _ {E : Type 0} (mode : Mode) (stands : E → Place → Tags → List Call
   shown_at casts h stood s None none =
       sym (ap (λ (l : List Call). out_at Casts s l) (stood.unmade s none) ∙ (laws_at mode rules values s).out_nothing (place_at Casts s) tags)
   shown_at casts h stood s (Some b) some =
-      (shows_at stands rules live shown shows (by_other mode s) b (place_at Casts s) tags (h s) (stood.made s b some)).out
+      (shows_at stands rules live shown shows (route_of mode s) b (place_at Casts s) tags (h s) (stood.made s b some)).out
 
   -- each slot of a map shows what it delivers by the calls that the map stands for
   pub stands_shown : (casts : BTreeMap Slot (Cast E)) (h : Slot → List Call) → CastsStand (CastStandsAt mode stands) Casts casts h →

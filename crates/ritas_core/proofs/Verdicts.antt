@@ -163,7 +163,7 @@ takable_by r laws p held item good taken = record {
     sender = good.sender;
     origin = λ only. eqb-true item.from item.slot.origin (from_neither (is_of_origin item.kind) (eqb item.from item.slot.origin) taken.origin only);
     receiver = λ only. eqb-true r.casts.me item.slot.origin (from_neither (is_for_origin item.kind) (eqb r.casts.me item.slot.origin) taken.receiver only);
-    payload = payload_fits r item good.in_grammar;
+    payload = payload_fits r laws item good.in_grammar;
     in_time = ready_from (not (is_item_past r p item)) (not (is_item_ahead r p item)) (r.service.opens (seat_of r) p.words item.slot)
         ((r.casts.at_slot item.slot).ready (place_at r.casts item.slot) r.casts.tags (p.calls item.slot) item) taken.opened;
   };

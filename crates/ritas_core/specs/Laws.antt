@@ -14,7 +14,7 @@ use Rattle.layer_api.specs.Service.{WordLaws, said, MayHear, AreProper}
 use Rattle.layer_api.specs.Words.{Ask, Hear, is_said, said_value, is_heard}
 use Rattle.ooc_buffers.specs.Lists.{Kept}
 use Rattle.ritas_core.specs.declared.verdict.Verdict.TheVariants.{Take}
-use Rattle.ritas_core.specs.Rules.{Rules, seat_of, place_at, out_at, due_at, KindsFit}
+use Rattle.ritas_core.specs.Rules.{Rules, seat_of, place_at, out_at, due_at, FormsFit}
 use Rattle.ritas_core.specs.Casts.{MayStartAll}
 use Rattle.ritas_core.specs.Parts.{Parts, Entry, parts, taken_at, item_delivers}
 use Rattle.ritas_core.specs.Order.{is_before, new_messages}
@@ -27,7 +27,7 @@ pub record LayerLaws (r : Rules) : Type 0 where
   pub session : IsSession r.casts.numbers
   pub me : r.casts.me < r.casts.numbers.n
   pub serves : r.service.serves r.mode.root ≡ true
-  pub kinds : KindsFit r.casts.numbers r.mode r.casts.at_slot
+  pub kinds : FormsFit r.mode r.casts
 
 -- the message is due, at its slot, after a history
 abbrev pub is_due : Rules → Parts → Msg → Bool

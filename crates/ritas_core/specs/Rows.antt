@@ -4,6 +4,7 @@ use Rattle.std.proofs.Common.{lit≤}
 use Rattle.ritas_base.specs.Numbers.{Numbers}
 use Rattle.ritas_base.specs.declared.mode.Mode.{Mode}
 use Rattle.ritas_base.specs.declared.mode.Vect.TheVariants.{Reliable}
+use Rattle.ritas_base.specs.declared.mode.FrameVersion.TheVariants.{One}
 use Rattle.ritas_base.specs.declared.item.Item.{Item}
 use Rattle.ritas_base.specs.declared.item.Kind.{Kind}
 use Rattle.ritas_base.specs.declared.item.Kind.TheVariants.{Init, Echo, Ready}
@@ -28,7 +29,7 @@ abbrev four : Numbers
 four = record { n = 4; f = 1 }
 
 abbrev one : Mode
-one = record { root = 1; vect = Reliable; low = lit≤ tt; high = lit≤ tt }
+one = record { root = 1; vect = Reliable; version = One; low = lit≤ tt; high = lit≤ tt }
 
 abbrev no_tags : Tags
 no_tags = record { digest = λ m. []; entry = λ s echoer verifier d. [] }

@@ -8,27 +8,31 @@ use Rattle.ritas_base.specs.declared.slot.SlotFault.TheVariants as faults
 use Rattle.ritas_base.specs.declared.mode.Mode.{Mode}
 use Rattle.ritas_base.specs.declared.mode.Vect.{Vect}
 use Rattle.ritas_base.specs.declared.mode.Vect.TheVariants.{Echo, Reliable}
-use Rattle.ritas_base.specs.declared.item.Kind.{Kind}
 use Rattle.ritas_base.specs.Numbers.{Numbers}
-use Rattle.ritas_base.specs.Slots.{first_failed, slot_fault, within, has_class, has_number, has_attempt, has_count, by_echo}
-use Rattle.frame_codec.specs.Body.{is_of_broadcast}
+use Rattle.ritas_base.specs.Slots.{first_failed, slot_fault, within, has_class, has_number, has_attempt, has_count, by_echo, reliable_form, form_of}
 use Rattle.layer_api.specs.Broadcast.{BroadcastRules}
 use Rattle.layer_api.specs.OneValue.{ValueLaws}
-use Rattle.reliable_bcast.specs.Bracha.{bracha}
-use Rattle.reliable_bcast.specs.ValueLaws.{value_laws_of_bracha, kinds_of_bracha}
-use Rattle.ritas_core.specs.Rules.{by_other, other_form, at_slot_of, KindsFit, HasForm}
+use Rattle.reliable_bcast.specs.ValueLaws.{value_laws_of_bracha}
+use Rattle.reliable_bcast.specs.DigestLaws.{value_laws_by_digest}
+use Rattle.ritas_core.specs.Rules.{by_other, other_form, reliable_route, route_of, rules_by, at_slot_of, casts_by, FormsFit, HasForm}
+use Rattle.ritas_core.specs.declared.route.Route.{Route}
+use Rattle.ritas_core.specs.declared.route.Route.TheVariants as routes
+use Rattle.ritas_base.specs.Tags.{Tags, HasDigests}
+use Rattle.ritas_base.specs.declared.mode.FrameVersion.{FrameVersion}
+use Rattle.ritas_base.specs.declared.mode.FrameVersion.TheVariants.{One, Two}
 
 -- ---- the laws of a single value
 
-laws_by : (is_other : Bool) (other : BroadcastRules) → ValueLaws other → ValueLaws (cond is_other other bracha)
-laws_by true other laws = laws
-laws_by false other laws = value_laws_of_bracha
+laws_by : (route : Route) (other : BroadcastRules) → ValueLaws other → ValueLaws (rules_by route other)
+laws_by routes.Values other laws = value_laws_of_bracha
+laws_by routes.Digests other laws = value_laws_by_digest
+laws_by routes.Other other laws = laws
 
 -- each slot's broadcast keeps them, where the other one does
 pub laws_at : (mode : Mode) (other : BroadcastRules) → ValueLaws other → (s : Slot) → ValueLaws (at_slot_of mode other s)
-laws_at mode other laws s = laws_by (by_other mode s) other laws
+laws_at mode other laws s = laws_by (route_of mode s) other laws
 
--- ---- the kinds
+-- ---- the forms
 
 -- a slot with no fault has a class of its root service
 past_first : (t : Bool) (x : SlotFault) (rest : List (Bool × SlotFault)) → first_failed ((t, x) ∷ rest) ≡ None → (t ≡ true) × (first_failed rest ≡ None)
@@ -54,30 +58,32 @@ no_vect_in root class four there two =
     let at_two = subst (λ (n : ℕ). has_class n class ≡ true) (eqb-true root 2 two) there in
     false≢true (subst (λ (n : ℕ). has_class 2 n ≡ true) (eqb-true class 4 four) at_two)
 
-abbrev form_by : Bool → Vect → ℕ
-form_by two vect = cond two 2 (elim vect [ Echo ↦ 2 | Reliable ↦ 1 ])
+abbrev form_by : Bool → Vect → FrameVersion → ℕ
+form_by two vect version = cond two 2 (elim vect [ Echo ↦ 2 | Reliable ↦ reliable_form version ])
 
 abbrev has_echo : Vect → Bool
 has_echo vect = elim vect [ Echo ↦ true | Reliable ↦ false ]
 
-kinds_by : (one two four : Bool) (vect : Vect) (other : BroadcastRules) → (four ≡ true → two ≡ true → ⊥) →
-    ((kind : Kind) → other.has_kind kind ≡ is_of_broadcast (eqb (form_by two vect) 2) kind) → (kind : Kind) →
-    (cond (cond one two four) other bracha).has_kind kind ≡ is_of_broadcast (cond one two (four && has_echo vect)) kind
-kinds_by true true four vect other apart form kind = form kind
-kinds_by true false four vect other apart form kind = kinds_of_bracha kind
-kinds_by false two false vect other apart form kind = kinds_of_bracha kind
-kinds_by false true true vect other apart form kind = absurd (apart refl refl)
-kinds_by false false true Echo other apart form kind = form kind
-kinds_by false false true Reliable other apart form kind = form kind
+reliable_by : (version : FrameVersion) (other : BroadcastRules) → (rules_by (reliable_route version) other).form ≡ reliable_form version
+reliable_by One other = refl
+reliable_by Two other = refl
 
--- each slot's broadcast has the kinds that the grammar gives to it, where the other one has the form of the mode
-pub kinds_fit : (numbers : Numbers) (mode : Mode) (other : BroadcastRules) → HasForm mode other → KindsFit numbers mode (at_slot_of mode other)
-unfolding by_other other_form by_echo
-kinds_fit numbers mode other form s kind right =
-    kinds_by (eqb s.class 1) (eqb mode.root 2) (eqb s.class 4) mode.vect other
-    (λ four two. no_vect_in mode.root s.class four (class_is_there numbers mode s right) two) form kind
+forms_by : (one two four : Bool) (vect : Vect) (version : FrameVersion) (other : BroadcastRules) → (four ≡ true → two ≡ true → ⊥) →
+    other.form ≡ form_by two vect version →
+    (rules_by (cond (cond one two four) routes.Other (reliable_route version)) other).form ≡ cond (cond one two (four && has_echo vect)) 2 (reliable_form version)
+forms_by true true four vect version other apart form = form
+forms_by true false four vect version other apart form = reliable_by version other
+forms_by false two false vect version other apart form = reliable_by version other
+forms_by false true true vect version other apart form = absurd (apart refl refl)
+forms_by false false true Echo version other apart form = form
+forms_by false false true Reliable version other apart form = form
 
--- it has that form where its number says so
-pub form_of : (mode : Mode) (other : BroadcastRules) (form : ℕ) → ((kind : Kind) → other.has_kind kind ≡ is_of_broadcast (eqb form 2) kind) →
-    form ≡ other_form mode → HasForm mode other
-form_of mode other form kinds same kind = kinds kind ∙ ap (λ (n : ℕ). is_of_broadcast (eqb n 2) kind) same
+-- each slot's broadcast has the form that the grammar gives to it, where the other one has the form of the mode
+pub kinds_fit : (numbers : Numbers) (mode : Mode) (me : ℕ) (tags : Tags) (other : BroadcastRules) → HasForm mode other → HasDigests tags → FormsFit mode (casts_by mode numbers me tags other)
+unfolding by_other other_form by_echo form_of
+kinds_fit numbers mode me tags other form digests = record {
+  forms = λ s right.
+      forms_by (eqb s.class 1) (eqb mode.root 2) (eqb s.class 4) mode.vect mode.version other
+      (λ four two. no_vect_in mode.root s.class four (class_is_there numbers mode s right) two) form;
+  digests = digests;
+}

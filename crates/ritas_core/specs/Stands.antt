@@ -13,7 +13,7 @@ use Rattle.layer_api.specs.ServiceCalls.{ServiceShown, ShowsBetween}
 use Rattle.ooc_buffers.specs.Lists.{Kept}
 use Rattle.ritas_core.specs.declared.layers.Layers.{Layers}
 use Rattle.ritas_core.specs.declared.kernel.Core.{Core}
-use Rattle.ritas_core.specs.Rules.{Rules, casts_by, seat_of, KindsFit}
+use Rattle.ritas_core.specs.Rules.{Rules, casts_by, seat_of, FormsFit}
 use Rattle.ritas_core.specs.Cast.{CastStandsAt, shown_by}
 use Rattle.ritas_core.specs.Casts.{CastsStand, CastsShow}
 use Rattle.ritas_core.specs.Parts.{Parts, parts}
@@ -80,7 +80,7 @@ AreGoodLists r (kept ∷ held) = AreGoodKept r kept × AreGoodLists r held
 pub record CoreStands {S E C T : Type 0} (m : Meaning S E C T) (core : Core S E C T) (r : Rules) (st : CoreState) : Type 0 where
   pub rules : rules_of m core.layers ≡ r
   pub own : m.me core.layers.tagger ≡ r.casts.me
-  pub kinds : KindsFit r.casts.numbers r.mode r.casts.at_slot
+  pub kinds : FormsFit r.mode r.casts
   pub session : IsSession r.casts.numbers
   pub me : r.casts.me < r.casts.numbers.n
   pub serves : r.service.serves r.mode.root ≡ true

@@ -1,33 +1,41 @@
-ghost use Rattle.std.specs.Prelude.{◌≡◌, ◌<◌, Bool, List, [], IfOk};
+ghost use Rattle.std.specs.Prelude.{◌≡◌, ◌<◌, List, [], IfOk};
 ghost use Rattle.std.specs.Option.{option_copied};
 ghost use Rattle.ritas_base.specs.Messages.{Place};
 ghost use Rattle.ritas_base.specs.History.{Call};
 ghost use Rattle.ritas_base.specs.Tags.{Tags};
 ghost use Rattle.layer_api.specs.BroadcastCalls.{Started, Takes};
-ghost use Rattle.ritas_core.specs.Rules.{by_other};
-ghost use Rattle.ritas_core.specs.Cast.{CastStands, CastStandsAt, rules_by, is_live, shown_by};
+ghost use Rattle.ritas_core.specs.declared.route.Route.{Route};
+ghost use Rattle.ritas_core.specs.Rules.{route_of, rules_by};
+ghost use Rattle.ritas_core.specs.Cast.{CastStands, CastStandsAt, is_live, shown_by};
 
+use crate::route::Route;
 use layer_api::{Broadcast, Heard};
-use reliable_bcast::Rb;
-use ritas_base::{Item, Mem, Mode, Msg, Params, Slot, Tagger};
+use reliable_bcast::{DigestRb, Rb};
+use ritas_base::{FrameVersion, Item, Mem, Mode, Msg, Params, Slot, Tagger};
 use std::alloc::Global;
 
-/// The broadcast of a slot: reliable broadcast, or the core's other one.
+/// The broadcast of a slot: reliable broadcast with values, or with digests, or the core's other one.
 #[derive(Drop)]
 pub enum Cast<E> {
     Plain(Rb),
+    Digest(DigestRb),
     Other(E),
 }
 
-/// Whether a slot goes by the core's other broadcast.
+/// By which broadcast a slot goes.
 #[tactic(auto, unfolding(crate::specs::Rules::by_other))]
-fn goes_by_other(mode: &Mode, slot: &Slot) -> bool
-    ensures { result ≡ by_other mode.now slot.now }
+fn route_of(mode: &Mode, slot: &Slot) -> Route
+    ensures { result ≡ route_of mode.now slot.now }
 {
-    if slot.class == 1 {
+    let is_other = if slot.class == 1 {
         mode.root == 2
     } else {
         slot.class == 4
+    };
+    match (is_other, mode.version) {
+        (true, _) => Route::Other,
+        (false, FrameVersion::One) => Route::Values,
+        (false, FrameVersion::Two) => Route::Digests,
     }
 }
 
@@ -45,10 +53,10 @@ impl<E: Broadcast> Cast<E> {
         ensures { IfOk result (λ cast. (tags : Tags) →
             CastStandsAt mode.now E.stands cast (record { numbers = p.now; me = me; slot = slot }) tags []) }
     {
-        if goes_by_other(mode, &slot) {
-            Ok(Cast::Other(E::new(alloc, p, me, slot)?))
-        } else {
-            Ok(Cast::Plain(Rb::new(alloc, p, me, slot)?))
+        match route_of(mode, &slot) {
+            Route::Values => Ok(Cast::Plain(Rb::new(alloc, p, me, slot)?)),
+            Route::Digests => Ok(Cast::Digest(DigestRb::new(alloc, p, me, slot)?)),
+            Route::Other => Ok(Cast::Other(E::new(alloc, p, me, slot)?)),
         }
     }
 
@@ -60,11 +68,12 @@ impl<E: Broadcast> Cast<E> {
         value: &[u8],
         out: &mut Vec<Msg>,
     ) -> Result<(), Mem>
-        ensures { (other : Bool) → Started (CastStands other E.stands) (rules_by other E.rules) (is_live E.live) (shown_by E.shown)
+        ensures { (route : Route) → Started (CastStands route E.stands) (rules_by route E.rules) (is_live E.live) (shown_by E.shown)
             (record { me = T.me t.now; tags = T.tags t.now }) self.old self.new value.now out.old.items out.new.items result }
     {
         match self {
             Cast::Plain(cast) => cast.start(alloc, t, value, out),
+            Cast::Digest(cast) => cast.start(alloc, t, value, out),
             Cast::Other(cast) => cast.start(alloc, t, value, out),
         }
     }
@@ -77,11 +86,12 @@ impl<E: Broadcast> Cast<E> {
         item: &Item,
         out: &mut Vec<Msg>,
     ) -> Result<Heard, Mem>
-        ensures { (other : Bool) → Takes (CastStands other E.stands) (rules_by other E.rules) (is_live E.live) (shown_by E.shown)
+        ensures { (route : Route) → Takes (CastStands route E.stands) (rules_by route E.rules) (is_live E.live) (shown_by E.shown)
             (record { me = T.me t.now; tags = T.tags t.now }) self.old self.new item.now out.old.items out.new.items result }
     {
         match self {
             Cast::Plain(cast) => cast.take(alloc, t, item, out),
+            Cast::Digest(cast) => cast.take(alloc, t, item, out),
             Cast::Other(cast) => cast.take(alloc, t, item, out),
         }
     }
@@ -92,6 +102,7 @@ impl<E: Broadcast> Cast<E> {
     {
         match self {
             Cast::Plain(cast) => cast.ready_for(item),
+            Cast::Digest(cast) => cast.ready_for(item),
             Cast::Other(cast) => cast.ready_for(item),
         }
     }
@@ -102,6 +113,7 @@ impl<E: Broadcast> Cast<E> {
     {
         match self {
             Cast::Plain(cast) => cast.delivered(),
+            Cast::Digest(cast) => cast.delivered(),
             Cast::Other(cast) => cast.delivered(),
         }
     }

@@ -6,8 +6,9 @@ ghost use Rattle.ritas_base.specs.SlotOrder.{slot_cmp};
 ghost use Rattle.ritas_base.specs.History.{Call};
 ghost use Rattle.ritas_base.specs.Numbers.{Numbers};
 ghost use Rattle.ritas_base.specs.Tags.{Tags};
-ghost use Rattle.ritas_core.specs.Rules.{casts_by};
-ghost use Rattle.ritas_core.specs.Cast.{CastStands, CastStandsAt, rules_by, shown_by};
+ghost use Rattle.ritas_core.specs.declared.route.Route.{Route};
+ghost use Rattle.ritas_core.specs.Rules.{casts_by, rules_by};
+ghost use Rattle.ritas_core.specs.Cast.{CastStands, CastStandsAt, shown_by};
 ghost use Rattle.ritas_core.specs.Casts.{CastsStand};
 ghost use Rattle.ritas_core.specs.CastCalls.{HearsItem, CastsHear, is_ready_in};
 
@@ -43,7 +44,7 @@ fn hear<E: Broadcast, T: Tagger>(
     item: &Item,
     made: &mut Vec<Msg>,
 ) -> Result<Taken, Mem>
-    ensures { (other : Bool) → HearsItem (CastStands other E.stands) (rules_by other E.rules) (shown_by E.shown) (record { me = T.me t.now; tags = T.tags t.now })
+    ensures { (route : Route) → HearsItem (CastStands route E.stands) (rules_by route E.rules) (shown_by E.shown) (record { me = T.me t.now; tags = T.tags t.now })
         cast.old cast.new item.now made.old.items made.new.items result }
 {
     let had = cast.delivered().is_some();

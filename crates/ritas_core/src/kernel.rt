@@ -56,7 +56,7 @@ impl<S: Service, E: Broadcast, C: Coin + Drop, T: Tagger + Drop> Core<S, E, C, T
     ///
     /// The tagger is the replica's, the service serves the mode's root service, and the form of the other broadcast, by
     /// which VECTs go and the commands of root service 2, is 2 in root service 2 or where VECT goes by echo broadcast, and
-    /// otherwise 1.
+    /// otherwise that of reliable broadcast in the mode's version of frames: 1 in version 1, 3 in version 2.
     pub fn new(alloc: Global, p: Params, mode: Mode, me: u8, t: T, coin: C) -> Result<Self, Mem>
         requires below { me < p.n }
         requires own { T.me t ≡ me }

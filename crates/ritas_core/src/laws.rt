@@ -9,7 +9,8 @@ ghost use Rattle.ritas_base.specs.Messages.{has};
 ghost use Rattle.layer_api.specs.Broadcast.{BroadcastRules};
 ghost use Rattle.layer_api.specs.Runs.{Has};
 ghost use Rattle.layer_api.specs.OneValue.{IsReceiver, IsOnce};
-ghost use Rattle.ritas_core.specs.Rules.{Rules, seat_of, out_at, at_slot_of, KindsFit, HasForm};
+ghost use Rattle.ritas_core.specs.Rules.{Rules, seat_of, out_at, casts_by, FormsFit, HasForm};
+ghost use Rattle.ritas_base.specs.Tags.{Tags, HasDigests};
 ghost use Rattle.ritas_core.specs.Parts.{Entry, parts};
 ghost use Rattle.ritas_core.specs.Order.{new_messages};
 ghost use Rattle.ritas_core.specs.Checks.{IsHistory};
@@ -86,11 +87,11 @@ pub fn verdict_laws()
     ensures repeats { FoundIsRepeat }
 {}
 
-/// The broadcast of each slot has exactly the kinds that the grammar gives to it, where the other broadcast has the form
+/// The broadcast of each slot has the form that the grammar gives to it, where the other broadcast has the form
 /// of the mode.
 ///
 /// It does nothing: its contract is the law.
 pub fn kinds_fit()
-    ensures { (numbers : Numbers) (mode : Mode) (other : BroadcastRules) → HasForm mode other →
-        KindsFit numbers mode (at_slot_of mode other) }
+    ensures { (numbers : Numbers) (mode : Mode) (me : ℕ) (tags : Tags) (other : BroadcastRules) → HasForm mode other → HasDigests tags →
+        FormsFit mode (casts_by mode numbers me tags other) }
 {}

@@ -22,6 +22,7 @@ mod kernel;
 mod laws;
 mod layers;
 mod limits;
+mod route;
 mod send;
 mod steps;
 mod taken;
@@ -31,6 +32,7 @@ pub use answer::Answer;
 pub use fault::CoreFault;
 pub use kernel::Core;
 pub use laws::{delivered_within, entry_laws, history_laws, kinds_fit, new_is_due, verdict_laws};
+pub use route::Route;
 pub use verdict::Verdict;
 
 #[cfg(test)]

@@ -1,4 +1,4 @@
-ghost use Rattle.std.specs.Prelude.{◌≡◌, ◌<◌, replicate};
+ghost use Rattle.std.specs.Prelude.{◌≡◌, refl, ◌<◌, replicate};
 
 use super::*;
 use layer_api::{Outcome, Service};
@@ -16,6 +16,8 @@ impl Tagger for Zeros {
     ghost me = { λ t. t.me };
 
     ghost tags = { λ t. record { digest = λ m. replicate 32 0; entry = λ s echoer verifier d. replicate 32 0 } };
+
+    ghost digests = { λ t m. refl };
 
     fn me(&self) -> u8 {
         self.me

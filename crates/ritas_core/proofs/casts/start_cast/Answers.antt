@@ -1,6 +1,6 @@
 use Rattle.std.proofs.Common.{sym, ap}
 use Rattle.std.specs.Option.{is_some}
-use Rattle.ritas_core.specs.Rules.{by_other}
+use Rattle.ritas_core.specs.Rules.{route_of}
 use Rattle.ritas_core.proofs.TestLaws.{on_ok_by, on_err_by}
 use Rattle.ritas_core.proofs.CastSteps.{there_found, casts_start, casts_missed}
 use Rattle.ritas_core.proofs.casts.start_cast.Goals as goal
@@ -15,7 +15,7 @@ returns-in-Some-clause-ok g c =
     (there_found c.args.mode.now b.stands b.rules c.args.p.now c.args.me (t.tags c.args.t.now) c.args.casts.now c.args.say.now.slot c.in-Some.cast.now found)
     ((c.get_mut.follows.holds c.start.new.self).3 (ap is_some found)).0
     c.as_slice.result.now c.as_slice.ensures c.args.made.now.items c.start.new.out.items
-    (rw is at (c.start.ensures (by_other c.args.mode.now c.args.say.now.slot))))
+    (rw is at (c.start.ensures (route_of c.args.mode.now c.args.say.now.slot))))
 
 pub returns-in-Some-clause-err : goal.returns-in-Some-clause-err
 returns-in-Some-clause-err g c =
@@ -27,4 +27,4 @@ returns-in-Some-clause-err g c =
     (there_found c.args.mode.now b.stands b.rules c.args.p.now c.args.me (t.tags c.args.t.now) c.args.casts.now c.args.say.now.slot c.in-Some.cast.now found)
     ((c.get_mut.follows.holds c.start.new.self).3 (ap is_some found)).0
     c.as_slice.result.now c.args.made.now.items c.start.new.out.items
-    (rw is at (c.start.ensures (by_other c.args.mode.now c.args.say.now.slot))))
+    (rw is at (c.start.ensures (route_of c.args.mode.now c.args.say.now.slot))))

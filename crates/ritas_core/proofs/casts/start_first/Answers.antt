@@ -1,5 +1,5 @@
 use Rattle.std.proofs.Common.{refl}
-use Rattle.ritas_core.specs.Rules.{by_other}
+use Rattle.ritas_core.specs.Rules.{route_of}
 use Rattle.ritas_core.proofs.TestLaws.{on_err_here}
 use Rattle.ritas_core.proofs.CastSteps.{there_new, same_at, casts_start, casts_unstarted}
 use Rattle.ritas_core.proofs.casts.start_first.Goals as goal
@@ -37,4 +37,4 @@ returns-clause-ok g c =
     (there_new c.args.mode.now b.stands b.rules c.args.p.now c.args.me (t.tags c.args.t.now) c.args.casts.now c.args.say.now.slot c.in_ok-cast.cast
     c.requires.unmade (c.in_ok-cast.ensures (t.tags c.args.t.now)))
     c.in_ok-insert.ensures.updates.0
-    c.as_slice.result.now c.as_slice.ensures c.args.made.now.items c.start.new.out.items (c.in_ok-start.ensures (by_other c.args.mode.now c.args.say.now.slot))
+    c.as_slice.result.now c.as_slice.ensures c.args.made.now.items c.start.new.out.items (c.in_ok-start.ensures (route_of c.args.mode.now c.args.say.now.slot))

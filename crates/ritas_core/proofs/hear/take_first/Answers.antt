@@ -1,6 +1,6 @@
 use Rattle.std.proofs.Common.{Ok, refl}
 use Rattle.std.proofs.lemmas.Result.{err_from_is_err_and}
-use Rattle.ritas_core.specs.Rules.{by_other}
+use Rattle.ritas_core.specs.Rules.{route_of}
 use Rattle.ritas_core.proofs.CastSteps.{there_new, same_at, casts_hear, casts_unmade}
 use Rattle.ritas_core.proofs.hear.take_first.Goals as goal
 
@@ -37,4 +37,4 @@ returns g c =
     (there_new c.args.mode.now b.stands b.rules c.args.p.now c.args.me (t.tags c.args.t.now) c.args.casts.now c.args.item.now.slot c.in_ok-cast.cast
     c.requires.unmade (c.in_ok-cast.ensures (t.tags c.args.t.now)))
     c.in_ok-insert.ensures.updates.0
-    g.met.E.Broadcast.value_laws c.args.made.now.items c.hear.new.made.items (Ok c.in_ok-taken.taken) (c.in_ok-taken.ensures (by_other c.args.mode.now c.args.item.now.slot))
+    g.met.E.Broadcast.value_laws c.args.made.now.items c.hear.new.made.items (Ok c.in_ok-taken.taken) (c.in_ok-taken.ensures (route_of c.args.mode.now c.args.item.now.slot))

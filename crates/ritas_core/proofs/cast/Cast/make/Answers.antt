@@ -1,5 +1,8 @@
 use Rattle.std.proofs.Common.{sym, ◌∙◌}
 use Rattle.ritas_core.proofs.cast.Cast.make.Goals as goal
 
-pub returns-in_ok-new-2 : goal.returns-in_ok-new-2
-returns-in_ok-new-2 g c = λ tags. (sym c.goes_by_other.ensures ∙ c.if-goes_by_other.false, c.in_ok-new-2.ensures tags)
+pub returns-in_ok-new-in-Values : goal.returns-in_ok-new-in-Values
+returns-in_ok-new-in-Values g c = λ tags. (sym c.route_of.ensures ∙ c.in-Values.is, c.in_ok-new-in-Values.ensures tags)
+
+pub returns-in_ok-new-in-Digests : goal.returns-in_ok-new-in-Digests
+returns-in_ok-new-in-Digests g c = λ tags. (sym c.route_of.ensures ∙ c.in-Digests.is, c.in_ok-new-in-Digests.ensures tags)

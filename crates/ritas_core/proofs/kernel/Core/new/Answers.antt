@@ -4,7 +4,7 @@ use Rattle.ritas_core.specs.declared.layers.Layers.{Layers}
 use Rattle.ritas_core.specs.Parts.{nothing}
 use Rattle.ritas_core.specs.Stands.{Meaning, meaning, rules_of, LayersStand}
 use Rattle.ritas_core.proofs.ShownLayers.{MeansWell, layers_show}
-use Rattle.ritas_core.specs.RulesLaws.{kinds_fit, form_of}
+use Rattle.ritas_core.specs.RulesLaws.{kinds_fit}
 use Rattle.ritas_core.proofs.Goodness.{good_none_held}
 use Rattle.ritas_core.proofs.kernel.Core.new.Goals as goal
 
@@ -33,7 +33,7 @@ returns-clause-stands g c =
     record {
       rules = refl;
       own = c.requires.own;
-      kinds = kinds_fit _ _ g.E.Broadcast.rules (form_of _ g.E.Broadcast.rules g.E.Broadcast.FORM g.met.E.Broadcast.kinds c.requires.form);
+      kinds = kinds_fit c.args.p c.args.mode c.args.me _ g.E.Broadcast.rules (g.met.E.Broadcast.form ∙ c.requires.form) (g.T.Tagger.digests c.args.t);
       session = c.n.ensures.session;
       me = c.requires.below;
       serves = c.requires.serves;
