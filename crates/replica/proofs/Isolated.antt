@@ -42,11 +42,11 @@ item_from : (p : Numbers) (mode : Mode) (from : ℕ) (bytes : List ℕ) (item : 
 unfolding body_answer
 item_from p mode from bytes item e =
     let b = bind_ok (head_answer p mode bytes) rest item e in
-    un (payload_fault (length bytes) (read (payload p mode.root b.0.0 b.0.1) (drop 10 bytes))) _ refl b.2
+    un (payload_fault (length bytes) (read (payload p mode b.0.0 b.0.1) (drop 10 bytes))) _ refl b.2
   where
     rest : Kind × Slot → Result Item BodyFault
     rest head =
-        unless (payload_fault (length bytes) (read (payload p mode.root head.0 head.1) (drop 10 bytes)))
+        unless (payload_fault (length bytes) (read (payload p mode head.0 head.1) (drop 10 bytes)))
         (Ok (record { from = from; kind = head.0; slot = head.1; value = drop 10 bytes }))
 
     un : (f : Option BodyFault) (made : Item) → made.from ≡ from → unless f (Ok made) ≡ Ok item → item.from ≡ from

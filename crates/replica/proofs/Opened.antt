@@ -10,7 +10,7 @@ use Rattle.frame_codec.specs.Body.{body_answer, Answers, Spells, IsInGrammar}
 use Rattle.keyed_channel.specs.KeyRow.{KeyRow}
 use Rattle.keyed_channel.specs.declared.frame.OpenFault.{OpenFault}
 use Rattle.keyed_channel.specs.declared.frame.OpenFault.TheVariants.{Short, Long, Version, NotMine, NoSuchReplica, BadTag}
-use Rattle.keyed_channel.specs.Frames.{Opening, opening, opening_but, open_fault, parts_of, first_failed, is_tagged, is_peer, version_of, sender_of, receiver_of}
+use Rattle.keyed_channel.specs.Frames.{version_byte, Opening, opening, opening_but, open_fault, parts_of, first_failed, is_tagged, is_peer, version_of, sender_of, receiver_of}
 use Rattle.ritas_core.specs.Rules.{Rules}
 use Rattle.ritas_core.specs.Machine as core
 use Rattle.ritas_core.specs.Machine.{CoreState, moved}
@@ -49,7 +49,7 @@ pub opens_from : (k : KeyRow) (bytes : List ℕ) (o : Opening) → opening k byt
 unfolding opening
 opens_from k bytes o h =
     let fine = no_fault (open_fault k bytes) (parts_of bytes) o h in
-    let peer : is_peer k (sender_of bytes) ≡ true = fifth (nat_le 43 (length bytes)) (nat_le (length bytes) 16384) (version_of bytes == 1) (receiver_of bytes == k.me) (is_peer k (sender_of bytes)) (is_tagged k bytes) fine.0 in
+    let peer : is_peer k (sender_of bytes) ≡ true = fifth (nat_le 43 (length bytes)) (nat_le (length bytes) 16384) (version_of bytes == version_byte k.version) (receiver_of bytes == k.me) (is_peer k (sender_of bytes)) (is_tagged k bytes) fine.0 in
     let P : Opening → Type 0 = λ x. x.from < k.n in
     subst P fine.1 (ltb-true _ _ (both_true (nat_lt (sender_of bytes) k.n) (not (sender_of bytes == k.me)) peer))
 

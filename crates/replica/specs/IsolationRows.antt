@@ -4,6 +4,7 @@ use Rattle.std.proofs.Common.{lit≤, ap, arith}
 use Rattle.ritas_base.specs.Numbers.{Numbers}
 use Rattle.ritas_base.specs.declared.mode.Mode.{Mode}
 use Rattle.ritas_base.specs.declared.mode.Vect.TheVariants.{Reliable}
+use Rattle.ritas_base.specs.declared.mode.FrameVersion.TheVariants.{One}
 use Rattle.ritas_base.specs.declared.item.Item.{Item}
 use Rattle.ritas_base.specs.declared.item.Kind.TheVariants.{Init}
 use Rattle.ritas_base.specs.Slots.{command_slot}
@@ -33,7 +34,7 @@ abbrev four : Numbers
 four = record { n = 4; f = 1 }
 
 abbrev one : Mode
-one = record { root = 1; vect = Reliable; low = lit≤ tt; high = lit≤ tt }
+one = record { root = 1; vect = Reliable; version = One; low = lit≤ tt; high = lit≤ tt }
 
 abbrev no_tags : Tags
 no_tags = record { digest = λ m. []; entry = λ s echoer verifier d. [] }
@@ -57,7 +58,7 @@ abbrev rules : Rules
 rules = record { mode = one; casts = casts_by one four 0 no_tags bracha; coin = λ s. false; service = closed }
 
 abbrev first : KeyRow
-first = record { session = 7; n = 4; me = 0; row = [] }
+first = record { session = 7; n = 4; me = 0; row = []; version = One }
 
 -- INIT of a replica's command of this number
 abbrev init : ℕ → ℕ → Item

@@ -4,13 +4,14 @@ use Rattle.ritas_base.specs.declared.slot.Slot.{Slot}
 use Rattle.ritas_base.specs.declared.item.Kind.TheVariants.{Echo, Hashes}
 use Rattle.ritas_base.specs.declared.item.To.TheVariants.{All, One}
 use Rattle.ritas_base.specs.declared.item.Msg.{Msg}
+use Rattle.ritas_base.specs.declared.mode.FrameVersion.TheVariants.{One}
 use Rattle.keyed_channel.specs.KeyRow.{KeyRow}
 use Rattle.replica.specs.Frames.{receivers}
 use Rattle.replica.specs.Stands.{peers}
 
 -- replica 2 of 4
 abbrev second : KeyRow
-second = record { session = 7; n = 4; me = 2; row = [] }
+second = record { session = 7; n = 4; me = 2; row = []; version = One }
 
 abbrev command : Slot
 command = record { class = 1; a = 3; attempt = 0; bround = 0; step = 0; origin = 1 }
