@@ -25,7 +25,7 @@ founded_at w sound i below = record {
     session = sound.world.session;
     me = below;
     serves = sound.world.serves;
-    kinds = sound.world.kinds;
+    kinds = sound.world.kinds i;
   };
   core = sound.core;
 }

@@ -1,5 +1,5 @@
 -- The byte that a body begins with, and the item at the front of an inbox.
-use Rattle.std.proofs.Common.{◌≡◌, ◌≢◌, ℕ, ◌<◌, Bool, true, false, ◌==◌, ◌||◌, Option, Some, None, is_some, Ok, List, [], ◌∷◌, length, slice_index, slice_index_or, refl, sym, ◌∙◌, ap, subst, arith, if◌then◌else◌}
+use Rattle.std.proofs.Common.{◌≡◌, ◌≢◌, ℕ, ◌<◌, Bool, true, false, cond, ◌==◌, Option, Some, None, is_some, Ok, List, [], ◌∷◌, length, slice_index, slice_index_or, refl, ◌∙◌, ap, ap₂, subst, arith}
 use Rattle.std.specs.List.{slice_get}
 use Rattle.std.proofs.lemmas.Bool.{eqb-true}
 use Rattle.std.proofs.lemmas.Option.{slice_get-get_or}
@@ -7,10 +7,14 @@ use Rattle.ritas_base.specs.declared.item.Item.{Item}
 use Rattle.ritas_base.specs.declared.item.Kind.{Kind}
 use Rattle.ritas_base.specs.declared.item.Kind.TheVariants as kinds
 use Rattle.ritas_base.specs.declared.mode.Mode.{Mode}
+use Rattle.ritas_base.specs.declared.mode.FrameVersion.{FrameVersion}
+use Rattle.ritas_base.specs.declared.mode.FrameVersion.TheVariants.{One, Two}
+use Rattle.ritas_base.specs.declared.slot.Slot.{Slot}
+use Rattle.ritas_base.specs.Slots.{by_echo, reliable_form, form_of}
 use Rattle.ritas_base.specs.Numbers.{Numbers, IsSession}
-use Rattle.frame_codec.specs.Body.{kind_byte, spelling, body_answer}
+use Rattle.frame_codec.specs.Body.{kind_byte, spelling, body_answer, is_of_form}
 use Rattle.frame_codec.specs.Values.{IsBytes}
-use Rattle.frame_codec.specs.Laws.{AnswersSpelled}
+use Rattle.frame_codec.specs.Laws.{AnswersSpelled, AnswersGood}
 use Rattle.keyed_channel.specs.KeyRow.{KeyRow}
 use Rattle.ritas_core.specs.Shown.{front_of}
 use Rattle.ritas_core.specs.Machine.{CoreState, AreGood}
@@ -18,26 +22,64 @@ use Rattle.ritas_core.specs.Stands.{Meaning}
 use Rattle.replica.specs.declared.replica.Replica.{Replica}
 use Rattle.world_model.specs.World.{Setting, rules_at}
 use Rattle.world_model.specs.Stands.{IsReplica, ReplicasStand}
-use Rattle.world_model.specs.Watch.{is_watched, watched, IsGoodIf}
+use Rattle.world_model.specs.Watch.{is_watched, watched, is_watched_byte, IsGoodIf}
 use Rattle.world_model.specs.Steps.{IsFront}
 
 -- ---- bodies
 
-by_byte : (kind : Kind) → (kind_byte kind == 4 || kind_byte kind == 6) ≡ is_watched kind
-by_byte kinds.Init = refl
-by_byte kinds.Echo = refl
-by_byte kinds.Ready = refl
-by_byte kinds.Send = refl
-by_byte kinds.Hashes = refl
-by_byte kinds.Column = refl
+-- in version 1 reliable broadcast hashes nothing, and in version 2 what it takes of values
+by_byte_one : (echo : Bool) (kind : Kind) → is_of_form (cond echo 2 1) kind ≡ true → is_watched_byte One (kind_byte kind) ≡ is_watched (cond echo 2 1) kind
+by_byte_one true kinds.Init of_form = absurd (cc)
+by_byte_one true kinds.Echo of_form = refl
+by_byte_one true kinds.Ready of_form = refl
+by_byte_one true kinds.Send of_form = refl
+by_byte_one true kinds.Hashes of_form = refl
+by_byte_one true kinds.Column of_form = refl
+by_byte_one true kinds.Want of_form = refl
+by_byte_one true kinds.Value of_form = absurd (cc)
+by_byte_one false kinds.Init of_form = refl
+by_byte_one false kinds.Echo of_form = refl
+by_byte_one false kinds.Ready of_form = refl
+by_byte_one false kinds.Send of_form = absurd (cc)
+by_byte_one false kinds.Hashes of_form = refl
+by_byte_one false kinds.Column of_form = refl
+by_byte_one false kinds.Want of_form = refl
+by_byte_one false kinds.Value of_form = absurd (cc)
+
+by_byte_two : (echo : Bool) (kind : Kind) → is_of_form (cond echo 2 3) kind ≡ true → is_watched_byte Two (kind_byte kind) ≡ is_watched (cond echo 2 3) kind
+by_byte_two true kinds.Init of_form = absurd (cc)
+by_byte_two true kinds.Echo of_form = refl
+by_byte_two true kinds.Ready of_form = refl
+by_byte_two true kinds.Send of_form = refl
+by_byte_two true kinds.Hashes of_form = refl
+by_byte_two true kinds.Column of_form = refl
+by_byte_two true kinds.Want of_form = refl
+by_byte_two true kinds.Value of_form = absurd (cc)
+by_byte_two false kinds.Init of_form = refl
+by_byte_two false kinds.Echo of_form = refl
+by_byte_two false kinds.Ready of_form = refl
+by_byte_two false kinds.Send of_form = absurd (cc)
+by_byte_two false kinds.Hashes of_form = refl
+by_byte_two false kinds.Column of_form = refl
+by_byte_two false kinds.Want of_form = refl
+by_byte_two false kinds.Value of_form = refl
+
+by_byte : (version : FrameVersion) (echo : Bool) (kind : Kind) → is_of_form (cond echo 2 (reliable_form version)) kind ≡ true
+    → is_watched_byte version (kind_byte kind) ≡ is_watched (cond echo 2 (reliable_form version)) kind
+by_byte One echo kind of_form = by_byte_one echo kind of_form
+by_byte Two echo kind of_form = by_byte_two echo kind of_form
+
+by_form : (mode : Mode) (s : Slot) (kind : Kind) → is_of_form (form_of mode s) kind ≡ true → is_watched_byte mode.version (kind_byte kind) ≡ is_watched (form_of mode s) kind
+unfolding form_of
+by_form mode s kind of_form = by_byte mode.version (by_echo mode s) kind of_form
 
 -- a body begins with its kind
-pub watched_byte : AnswersSpelled → (p : Numbers) (mode : Mode) (from : ℕ) (body : List ℕ) (item : Item) (byte : ℕ) (result : Bool) → IsSession p → IsBytes body → body_answer p mode from body ≡ Ok item →
-    byte ≡ slice_index body 0 → result ≡ (byte == 4 || byte == 6) → result ≡ is_watched item.kind
-watched_byte spelled p mode from body item byte result session fits reads first is =
+pub watched_byte : AnswersSpelled → AnswersGood → (p : Numbers) (mode : Mode) (from : ℕ) (body : List ℕ) (item : Item) (byte : ℕ) (result : Bool) → IsSession p → IsBytes body → body_answer p mode from body ≡ Ok item →
+    byte ≡ slice_index body 0 → result ≡ is_watched_byte mode.version byte → result ≡ is_watched (form_of mode item.slot) item.kind
+watched_byte spelled answered p mode from body item byte result session fits reads first is =
     let spells = spelled p mode from body item session fits reads in
     let here : byte ≡ kind_byte item.kind = first ∙ ap (λ (xs : List ℕ). slice_index xs 0) spells.is_spelling in
-    is ∙ ap (λ (b : ℕ). b == 4 || b == 6) here ∙ by_byte item.kind
+    is ∙ ap (is_watched_byte mode.version) here ∙ by_form mode item.slot item.kind (answered p mode from body item session reads).0.kind
 
 pub no_body : AnswersSpelled → (p : Numbers) (mode : Mode) (from : ℕ) (body : List ℕ) (item : Item) → IsSession p → IsBytes body → body_answer p mode from body ≡ Ok item → (length body == 0) ≡ true → ⊥
 no_body spelled p mode from body item session fits reads none =
@@ -48,18 +90,14 @@ no_body spelled p mode from body item session fits reads none =
 
 -- ---- the front of an inbox
 
-good_front : (w : Setting) (at : ℕ) (inbox : List Item) → AreGood (rules_at w at) inbox → IsGoodIf w (watched (front_of inbox))
+good_front : (w : Setting) (at : ℕ) (inbox : List Item) → AreGood (rules_at w at) inbox → IsGoodIf w (front_of inbox)
 good_front w at [] good = tt
-good_front w at (x ∷ xs) good = good_either (is_watched x.kind)
-  where
-    good_either : (b : Bool) → IsGoodIf w (if b then Some x else None)
-    good_either true = good.0.in_grammar
-    good_either false = tt
+good_front w at (x ∷ xs) good = good.0.in_grammar
 
-pub front_is : (w : Setting) (states : ℕ → CoreState) (at : ℕ) (front found : Option Item) → AreGood (rules_at w at) (states at).inbox → found ≡ front_of (states at).inbox → front ≡ watched found → IsFront w states at front
-front_is w states at front found good is looked =
-    let all : front ≡ watched (front_of (states at).inbox) = looked ∙ ap watched is in
-    record { is = all; good = subst (λ (o : Option Item). IsGoodIf w o) (sym all) (good_front w at (states at).inbox good) }
+pub front_is : (w : Setting) (states : ℕ → CoreState) (at : ℕ) (mode : Mode) (front found : Option Item) → mode ≡ w.mode → AreGood (rules_at w at) (states at).inbox → found ≡ front_of (states at).inbox → front ≡ watched mode found →
+    IsFront w states at front
+front_is w states at mode front found here good is looked =
+    record { is = looked ∙ ap₂ (λ (x : Mode) (o : Option Item). watched x o) here is; good = good_front w at (states at).inbox good }
 
 pub front_waits : (waiting : List Item) → is_some (front_of waiting) ≡ true → waiting ≢ []
 front_waits [] some = absurd cc

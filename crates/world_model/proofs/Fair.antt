@@ -1,10 +1,9 @@
 -- What a world keeps to whose players forge nothing, and that every world of one service and one broadcast does.
-use Rattle.std.proofs.Common.{ℕ, ◌≤◌, Bool, true, false, List, ◌++◌, length, sym, subst, if◌then◌else◌}
+use Rattle.std.proofs.Common.{ℕ, ◌≤◌, List, ◌++◌, length}
 use Rattle.sha2.proofs.Facts256.{length-sha256}
 use Rattle.sha2.specs.Sha256.{sha256}
 use Rattle.ritas_base.specs.declared.item.Item.{Item}
 use Rattle.ritas_base.specs.declared.mode.Mode.{Mode}
-use Rattle.ritas_base.specs.declared.slot.Slot.{Slot}
 use Rattle.ritas_base.specs.Numbers.{Numbers}
 use Rattle.frame_codec.specs.Body.{IsInGrammar, spelling}
 use Rattle.layer_api.specs.Broadcast.{BroadcastRules}
@@ -12,12 +11,10 @@ use Rattle.layer_api.specs.EntryLaws.{EntryLaws, HasEntries}
 use Rattle.layer_api.specs.OneValue.{ValueLaws, OneValue}
 use Rattle.layer_api.specs.Service.{ServiceRules, WordLaws}
 use Rattle.reliable_bcast.specs.Bracha.{bracha}
-use Rattle.reliable_bcast.specs.ValueLaws.{entry_laws_of_bracha}
 use Rattle.keyed_channel.specs.Hmac.{hmac_of, pad}
 use Rattle.keyed_channel.specs.KeyRow.{KeyRow, key_with}
 use Rattle.keyed_channel.specs.Keyed.{tags_of, other_of, entry_string}
 use Rattle.keyed_channel.specs.Laws.{OpensAsSealed, OpenedFromPeer, SealedLength}
-use Rattle.ritas_core.specs.Rules.{by_other}
 use Rattle.world_model.specs.World.{Setting}
 use Rattle.world_model.specs.Agreement.{Codec}
 use Rattle.world_model.specs.CoreLaws.{CoreLaws}
@@ -26,10 +23,9 @@ use Rattle.world_model.specs.Stands.{NoneStops}
 use Rattle.world_model.proofs.Below.{IsSoundOver}
 use Rattle.world_model.proofs.EveryWorld.{world_sound}
 
--- what a world keeps to: beside what it does for agreement, the entries of its layers
+-- what a world keeps to: beside what it does for agreement, entries have 32 bytes
 pub record IsFair (w : Setting) : Type 0 where
   pub sound : IsSoundOver w
-  pub entries : (s : Slot) → EntryLaws (w.at_slot s)
   pub whole : (i : ℕ) → HasEntries (tags_of (w.keys i))
   pub going : NoneStops w
 
@@ -58,17 +54,12 @@ whole_entries k s echoer verifier digest =
     let key : List ℕ = key_with k (other_of k.me echoer verifier) in
     length-sha256 (pad 0x5c key ++ sha256 (pad 0x36 key ++ entry_string k.session s echoer verifier digest))
 
-entries_at : (b : Bool) (other : BroadcastRules) → EntryLaws other → EntryLaws (if b then other else bracha)
-entries_at true other laws = laws
-entries_at false other laws = entry_laws_of_bracha
-
 pub world_fair : (service : ServiceRules) (other : BroadcastRules) → AreLayers service other → (w : Setting) → IsWorld service other w → NoneStops w → IsFair w
 world_fair service other layers w is going = record {
   sound = record {
-    world = world_sound service other w is layers.values layers.one_value layers.one_of_bracha layers.words layers.opens_as_sealed layers.opened_from_peer (layers.codec w is);
+    world = world_sound service other w is layers.values layers.one_value layers.entries layers.one_of_bracha layers.words layers.opens_as_sealed layers.opened_from_peer (layers.codec w is);
     core = layers.core;
   };
-  entries = λ s. subst (λ (x : BroadcastRules). EntryLaws x) (sym (is.casts s)) (entries_at (by_other w.mode s) other layers.entries);
   whole = λ i. whole_entries (w.keys i);
   going = going;
 }

@@ -4,11 +4,12 @@ use Rattle.std.specs.List.{slice_get}
 use Rattle.std.proofs.lemmas.List.{length-append}
 use Rattle.std.proofs.lemmas.Option.{slice_get-get_or, same_Some}
 use Rattle.ritas_base.specs.declared.mode.Mode.{Mode}
+use Rattle.ritas_base.specs.declared.mode.FrameVersion.{FrameVersion}
 use Rattle.ritas_base.specs.Numbers.{Numbers}
 use Rattle.keyed_channel.specs.KeyRow.{KeyRow}
 use Rattle.ritas_core.specs.Stands.{Meaning}
 use Rattle.replica.specs.declared.replica.Replica.{Replica}
-use Rattle.world_model.specs.Stands.{AreKeys}
+use Rattle.world_model.specs.Stands.{AreKeys, AreOfVersion}
 use Rattle.world_model.specs.Steps.{IsFirst, AreFirst}
 
 -- an element of a list with one more at its back
@@ -74,3 +75,7 @@ within_rows m p root members rows coins so_far places at number are same less = 
 -- the keys at a place were made for as many replicas
 pub keys_of : (n : ℕ) (rows : List KeyRow) (at : ℕ) (keys : KeyRow) → AreKeys n rows → at < length rows → keys ≡ slice_index_or rows at keys → keys.n ≡ n
 keys_of n rows at keys are within read = (are at keys (slice_get-get_or rows at keys within ∙ ap (λ k. Some k) (sym read))).1
+
+-- and are of this version
+pub version_of : (version : FrameVersion) (rows : List KeyRow) (at : ℕ) (keys : KeyRow) → AreOfVersion version rows → at < length rows → keys ≡ slice_index_or rows at keys → keys.version ≡ version
+version_of version rows at keys are within read = are at keys (slice_get-get_or rows at keys within ∙ ap (λ k. Some k) (sym read))

@@ -10,7 +10,7 @@ use Rattle.frame_codec.specs.Body.{body_answer}
 use Rattle.keyed_channel.specs.KeyRow.{KeyRow}
 use Rattle.keyed_channel.specs.declared.frame.OpenFault.{OpenFault}
 use Rattle.keyed_channel.specs.declared.frame.OpenFault.TheVariants.{Short, Long, Version, NotMine, NoSuchReplica, BadTag}
-use Rattle.keyed_channel.specs.Frames.{Opening, opening, opening_but, open_fault, parts_of, first_failed, is_tagged, is_peer, version_of, sender_of, receiver_of, seq_of}
+use Rattle.keyed_channel.specs.Frames.{version_byte, Opening, opening, opening_but, open_fault, parts_of, first_failed, is_tagged, is_peer, version_of, sender_of, receiver_of, seq_of}
 use Rattle.ritas_core.specs.declared.answer.Answer.{Answer}
 use Rattle.ritas_core.specs.declared.fault.CoreFault.{CoreFault}
 use Rattle.ritas_core.specs.Rules.{Rules}
@@ -58,7 +58,7 @@ pub what_opened : (k : KeyRow) (bytes : List ℕ) (o : Opening) → opening k by
 unfolding opening
 what_opened k bytes o h =
     let fine = no_fault (open_fault k bytes) (parts_of bytes) o h in
-    let passed = first_and_fifth (nat_le 43 (length bytes)) (nat_le (length bytes) 16384) (version_of bytes == 1) (receiver_of bytes == k.me) (is_peer k (sender_of bytes)) (is_tagged k bytes) fine.0 in
+    let passed = first_and_fifth (nat_le 43 (length bytes)) (nat_le (length bytes) 16384) (version_of bytes == version_byte k.version) (receiver_of bytes == k.me) (is_peer k (sender_of bytes)) (is_tagged k bytes) fine.0 in
     let long : 43 ≤ length bytes = leb-true _ _ passed.0 in
     let peer = both (nat_lt (sender_of bytes) k.n) (not (sender_of bytes == k.me)) passed.1 in
     record {

@@ -2,14 +2,11 @@
 use Rattle.std.proofs.Common.{◌≡◌, ℕ, ◌<◌, ◌==◌, Bool, true, false, List, [], ◌∷◌, ◌++◌, Option, Some, None, refl, sym, subst, inl, inr, if◌then◌else◌}
 use Rattle.std.proofs.lemmas.Bool.{eqb-true, both_ways}
 use Rattle.ritas_base.specs.declared.event.Event.{Event}
-use Rattle.ritas_base.specs.Slots.{by_echo}
 use Rattle.layer_api.specs.Broadcast.{BroadcastRules}
 use Rattle.layer_api.specs.OneValue.{ValueLaws}
 use Rattle.layer_api.specs.Service.{ServiceRules, WordLaws, IsPart}
-use Rattle.frame_codec.specs.Body.{is_of_broadcast}
 use Rattle.keyed_channel.specs.Laws.{OpenedFromPeer}
-use Rattle.ritas_core.specs.Rules.{Rules, by_other}
-use Rattle.ritas_core.specs.RulesLaws.{kinds_fit}
+use Rattle.ritas_core.specs.Rules.{Rules, route_of}
 use Rattle.ritas_core.specs.Checks.{IsHistory}
 use Rattle.ritas_core.specs.Machine.{CoreState}
 use Rattle.ritas_core.specs.Parts.{Entry}
@@ -22,7 +19,7 @@ use Rattle.world_model.specs.CoreLaws.{CoreLaws}
 use Rattle.world_model.specs.EveryWorld.{IsWorld, LogsGrow}
 use Rattle.world_model.proofs.Below.{IsFounded}
 use Rattle.world_model.proofs.Conditions.{IsLaid, well_after}
-use Rattle.world_model.proofs.EveryWorld.{values_at}
+use Rattle.world_model.proofs.EveryWorld.{values_at, forms_at}
 use Rattle.world_model.proofs.Histories.{Grew, grew}
 use Rattle.world_model.proofs.Positions.{part_of_part}
 use Rattle.world_model.proofs.Worlds.{IsAtCorrect, event_at}
@@ -34,13 +31,12 @@ laid : (service : ServiceRules) (other : BroadcastRules) (w : Setting) → IsWor
 laid service other w is values words opened_from_peer codec core = record {
   founded = λ i below. record {
     layers = record {
-      casts = λ s. subst (λ (x : BroadcastRules). ValueLaws x) (sym (is.casts s)) (values_at (by_other w.mode s) other values);
+      casts = λ s. subst (λ (x : BroadcastRules). ValueLaws x) (sym (is.casts s)) (values_at (route_of w.mode s) other values);
       words = subst (λ (x : ServiceRules). WordLaws x) (sym is.words) words;
       session = is.session;
       me = below;
       serves = subst (λ (x : ServiceRules). x.serves w.mode.root ≡ true) (sym is.words) is.serves;
-      kinds = λ s kind free.
-          subst (λ (x : BroadcastRules). x.has_kind kind ≡ is_of_broadcast (by_echo w.mode s) kind) (sym (is.casts s)) (kinds_fit w.numbers w.mode other is.form s kind free);
+      kinds = forms_at service other w is i;
     };
     core = core;
   };

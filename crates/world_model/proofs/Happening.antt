@@ -31,7 +31,7 @@ use Rattle.world_model.proofs.AtPlaces.{faulty_call}
 use Rattle.world_model.proofs.Forging.{IsFound, forged_is}
 use Rattle.world_model.proofs.Members.{got_listed}
 use Rattle.world_model.proofs.Needs.{event_needs}
-use Rattle.world_model.proofs.Takings.{IsItemOf, good_none, frame_item_is, input_item_is, turn_item_is}
+use Rattle.world_model.proofs.Takings.{IsItemOf, frame_item_is, input_item_is, turn_item_is}
 
 at_either : (w : Setting) (at : ℕ) (call : Call) (b : Bool) → w.is_correct at ≡ b → IsAt w (if b then Some (record { at = at; call = call }) else None) at
 at_either w at call true e = (refl, e)
@@ -135,7 +135,7 @@ nothing_happens : {S E C : Type 0} (m : Meaning S E C KeyRow) (w : Setting) (sta
     → Happens m w states c places happened
 nothing_happens m w states places happened c replicas seen forged taken out none =
     let P : Option CallAt → Type 0 = λ x. Happens m w states x places happened in
-    subst P (sym none) (record { told = record { place = tt; frame = forged; item = taken; good = good_none w happened.taken taken }; seen = seen; out = out; replicas = replicas })
+    subst P (sym none) (record { told = record { place = tt; frame = forged; item = taken; good = tt }; seen = seen; out = out; replicas = replicas })
 
 pub none_passes : {S E C : Type 0} (m : Meaning S E C KeyRow) (w : Setting) (states : ℕ → CoreState) (t : MadeTable) (from to k : ℕ) (list : List (List ℕ)) (places : List (Option (Replica S E C))) (happened : Happened) →
     ReplicasStand m w states places → FramesStand w states t → from < w.numbers.n → to < w.numbers.n → from ≢ to → list ≡ made_in t from to → length list ≤ k

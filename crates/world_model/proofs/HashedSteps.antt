@@ -1,5 +1,5 @@
 -- One replica more that met something, and one message or entry more, in a table.
-use Rattle.std.proofs.Common.{◌≡◌, ℕ, Bool, true, false, not, ◌&&◌, List, ◌∷◌, Option, Some, None, refl, sym, ◌∙◌, ap, ap₂, subst, inl, inr, cond, if◌then◌else◌}
+use Rattle.std.proofs.Common.{◌≡◌, ℕ, Bool, true, false, not, ◌&&◌, List, ◌∷◌, Option, Some, None, refl, sym, ◌∙◌, ap, ap₂, subst, ◌⊎◌, inl, inr, cond, if◌then◌else◌}
 use Rattle.std.specs.Cmp.{IsTotalOrder, nat_cmp_total, then_total, on_total}
 use Rattle.std.proofs.lemmas.Cmp.{tied_itself}
 use Rattle.std.proofs.lemmas.Map.Lookups.{CmpEqualImpliesEq, exact_pairs, exact_unsigned}
@@ -9,17 +9,21 @@ use Rattle.std.specs.Str.{bytes_eq}
 use Rattle.std.specs.List.{list_any}
 use Rattle.std.specs.Option.{option_or, is_some}
 use Rattle.std.proofs.lemmas.Bool.{eq-eqb, false≢true}
+use Rattle.std.proofs.lemmas.Option.{same_Some}
+use Rattle.sha2.specs.Sha256.{sha256}
 use Rattle.std.proofs.lemmas.Slice.Eq.{bytes_eq-Decides}
 use Rattle.std.proofs.lemmas.Map.Text.{is_eq-slice_cmp}
 use Rattle.ritas_base.specs.declared.slot.Slot.{Slot}
 use Rattle.ritas_base.specs.SlotOrder.{slot_cmp, slot_itself, exact_slots, slots_total, equal_from}
+use Rattle.keyed_channel.specs.KeyRow.{KeyRow}
+use Rattle.keyed_channel.specs.Keyed.{tags_of}
 use Rattle.layer_api.specs.Runs.{Has}
 use Rattle.layer_api.specs.Entries.{EntryInput, Print, OfMessage, OfEntry}
 use Rattle.world_model.specs.declared.met.SlotAt.{SlotAt}
 use Rattle.world_model.specs.declared.hashed.HashedEntry.{HashedEntry}
 use Rattle.world_model.specs.declared.hashed.Hashed.{Hashed}
 use Rattle.world_model.specs.Met.{MetEntries}
-use Rattle.world_model.specs.Hashed.{at_cmp, met_at, is_same_at, image_cmp, input_of, input_in, message_at, input_at, HashedStand, Clash, Adds}
+use Rattle.world_model.specs.Hashed.{at_cmp, met_at, is_same_at, image_cmp, input_of, input_in, digest_at, has_digest, input_at, HashedStand, IsDigestOf, Clash, Adds}
 use Rattle.world_model.specs.Audit.{is_same_input, clashes, collide}
 use Rattle.world_model.proofs.Prints.{same_input}
 use Rattle.world_model.proofs.Anywhere.{all_fail, any_of}
@@ -93,10 +97,6 @@ not_same a b apart = differ (bytes_eq a b) refl
     differ true same = absurd (false≢true (sym apart ∙ (ap (bytes_eq b) (same_bytes a b same) ∙ bytes_itself b)))
     differ false other = other
 
--- a message's
-one_message : (m v : List ℕ) → (x : Option (List ℕ)) → x ≡ Some m → x ≡ Some v → m ≡ v
-one_message m v x a b = cc
-
 -- what clashes
 pub clash_messages : (m v d : List ℕ) → bytes_eq m v ≡ false → clashes (OfMessage m d) (OfMessage v d) ≡ true
 clash_messages m v d apart = ap₂ (λ a b. a && not b) (bytes_itself d) apart
@@ -114,7 +114,7 @@ apart_messages : (h : Hashed) (prints : List Print) → HashedStand h prints →
     (b && not (bytes_eq m v)) ≡ false
 apart_messages h prints stand m v d e one other true same =
     let image = same_bytes d e same in
-    let alike = one_message m v (message_at h e) (ap (message_at h) (sym image) ∙ stand.messages m d one) (stand.messages v e other) in
+    let alike = stand.one_message m v e (stand.messages m d one ∙ ap (λ (x : List ℕ). Some x) image) (stand.messages v e other) in
     ap not (ap (bytes_eq m) (sym alike) ∙ bytes_itself m)
 apart_messages h prints stand m v d e one other false same = refl
 
@@ -154,16 +154,20 @@ one_image : (d e : List ℕ) → is_at (image_cmp d) e ≡ true → d ≡ e
 one_image d e h = same_bytes d e (sym (is_image d e) ∙ h)
 
 -- a message that is there
-message_again : (h : Hashed) (prints : List Print) → HashedStand h prints → (m d : List ℕ) → message_at h d ≡ Some m → HashedStand h (OfMessage m d ∷ prints)
+pub message_again : (h : Hashed) (prints : List Print) → HashedStand h prints → (m d : List ℕ) → digest_at h m ≡ Some d → HashedStand h (OfMessage m d ∷ prints)
 message_again h prints stand m d found = record {
   messages = λ v e here. elim here [
     | inl same ↦
         let value : m ≡ v = cc in
         let image : d ≡ e = cc in
-        ap (message_at h) (sym image) ∙ found ∙ ap (λ (x : List ℕ). Some x) value
+        ap (digest_at h) (sym value) ∙ found ∙ ap (λ (x : List ℕ). Some x) image
     | inr there ↦ stand.messages v e there
   ];
   no_other_message = λ v e is. inr (stand.no_other_message v e is);
+  right = stand.right;
+  digests = stand.digests;
+  no_other_digest = stand.no_other_digest;
+  one_message = stand.one_message;
   entries = λ x e here. elim here [
     | inl same ↦ absurd (cc)
     | inr there ↦ stand.entries x e there
@@ -171,51 +175,124 @@ message_again h prints stand m d found = record {
   no_other_entry = λ x e is. inr (stand.no_other_entry x e is);
 }
 
-message_either : (h : Hashed) (prints : List Print) (m d other : List ℕ) (b : Bool) → message_at h d ≡ Some other → bytes_eq other m ≡ b → HashedStand h prints → Adds h (OfMessage m d) prints (not b)
-message_either h prints m d other true found same stand =
-    message_again h prints stand m d (found ∙ ap (λ (x : List ℕ). Some x) (same_bytes other m same))
-message_either h prints m d other false found apart stand = record {
-  other = OfMessage other d;
-  listed = stand.no_other_message other d found;
-  differ = clash_messages m other d (not_same m other apart);
-}
+-- it has its digest
+pub message_found : (h : Hashed) (k : KeyRow) (m d : List ℕ) → digest_at h m ≡ Some d → (prints : List Print) → HashedStand h prints → IsDigestOf h k m prints (Some d)
+message_found h k m d found prints stand = (stand.right m d found, message_again h prints stand m d found)
 
-pub message_found : (h : Hashed) (m d other : List ℕ) (clash : Bool) → message_at h d ≡ Some other → clash ≡ not (bytes_eq other m) → (prints : List Print) → HashedStand h prints → Adds h (OfMessage m d) prints clash
-message_found h m d other clash found is prints stand =
-    let P : Bool → Type 0 = λ b. Adds h (OfMessage m d) prints b in
-    subst P (sym is) (message_either h prints m d other (bytes_eq other m) found refl stand)
+-- a new message whose digest is there clashes
+pub digest_taken : (h : Hashed) (k : KeyRow) (m d : List ℕ) (added : Bool) → added ≡ not (has_digest h d) → added ≡ false → d ≡ (tags_of k).digest m → digest_at h m ≡ None
+    → (prints : List Print) → HashedStand h prints → Clash (OfMessage m ((tags_of k).digest m)) prints
+digest_taken h k m d added is old digest none prints stand =
+    let there : has_digest h d ≡ true = not_false (has_digest h d) (sym is ∙ old) in
+    let other = stand.no_other_digest d there in
+    let apart : bytes_eq m other.0 ≡ false = differ other.0 other.1 (bytes_eq m other.0) refl in
+    record {
+      other = OfMessage other.0 d;
+      listed = stand.no_other_message other.0 d other.1;
+      differ = ap (λ (x : List ℕ). clashes (OfMessage m x) (OfMessage other.0 d)) (sym digest) ∙ clash_messages m other.0 d apart;
+    }
+  where
+    not_false : (b : Bool) → not b ≡ false → b ≡ true
+    not_false true e = refl
+    not_false false e = absurd (cc)
+
+    differ : (v : List ℕ) → digest_at h v ≡ Some d → (b : Bool) → bytes_eq m v ≡ b → bytes_eq m v ≡ false
+    differ v here true same =
+        let missing : None ≡ Some d = sym none ∙ (ap (digest_at h) (same_bytes m v same) ∙ here) in
+        absurd (cc)
+    differ v here false other = other
+
+pub was_new : (there added : Bool) → added ≡ not there → added ≡ true → there ≡ false
+was_new true added is new = absurd (false≢true (sym is ∙ new))
+was_new false added is new = refl
 
 -- a message more
-module _ (h n : Hashed) (m d : List ℕ) (none : message_at h d ≡ None) (same : n.entries ≡ h.entries)
-    (put : (e : List ℕ) → message_at n e ≡ cond (is_at (image_cmp d) e) (Some m) (message_at h e)) where
-  message_kept : (v e : List ℕ) (b : Bool) → is_at (image_cmp d) e ≡ b → message_at n e ≡ cond b (Some m) (message_at h e) → message_at h e ≡ Some v → message_at n e ≡ Some v
-  message_kept v e true here now there =
-      let image = one_image d e here in
-      let missing : None ≡ Some v = sym none ∙ (ap (message_at h) image ∙ there) in
+module _ (h n : Hashed) (k : KeyRow) (m d : List ℕ) (none : digest_at h m ≡ None) (new : has_digest h d ≡ false) (digest : d ≡ (tags_of k).digest m) (same : n.entries ≡ h.entries)
+    (put : (v : List ℕ) → digest_at n v ≡ cond (bytes_eq m v) (Some d) (digest_at h v))
+    (added : (e : List ℕ) → has_digest n e ≡ cond (is_at (image_cmp d) e) true (has_digest h e)) where
+  -- a message that is there is the new one, or was there
+  message_is : (v e : List ℕ) (b : Bool) → bytes_eq m v ≡ b → digest_at n v ≡ cond b (Some d) (digest_at h v) → digest_at n v ≡ Some e →
+      ((m ≡ v) × (d ≡ e)) ⊎ (digest_at h v ≡ Some e)
+  message_is v e true here now is = inl (same_bytes m v here, same_Some d e (sym now ∙ is))
+  message_is v e false here now is = inr (sym now ∙ is)
+
+  is_there : (v e : List ℕ) → digest_at n v ≡ Some e → ((m ≡ v) × (d ≡ e)) ⊎ (digest_at h v ≡ Some e)
+  is_there v e is = message_is v e (bytes_eq m v) refl (put v) is
+
+  message_here : digest_at n m ≡ Some d
+  message_here = put m ∙ ap (λ b. cond b (Some d) (digest_at h m)) (bytes_itself m)
+
+  kept_at_bytes : (v e : List ℕ) (b : Bool) → bytes_eq m v ≡ b → digest_at n v ≡ cond b (Some d) (digest_at h v) → digest_at h v ≡ Some e → digest_at n v ≡ Some e
+  kept_at_bytes v e true here now there =
+      let missing : None ≡ Some e = sym none ∙ (ap (digest_at h) (same_bytes m v here) ∙ there) in
       absurd (cc)
-  message_kept v e false here now there = now ∙ there
+  kept_at_bytes v e false here now there = now ∙ there
 
-  message_new : (prints : List Print) → HashedStand h prints → (v e : List ℕ) (b : Bool) → is_at (image_cmp d) e ≡ b → message_at n e ≡ cond b (Some m) (message_at h e) → message_at n e ≡ Some v →
-      Has (OfMessage m d ∷ prints) (OfMessage v e)
-  message_new prints stand v e true here now is = inl (ap₂ (λ (x y : List ℕ). OfMessage x y) (one_message m v (message_at n e) now is) (one_image d e here))
-  message_new prints stand v e false here now is = inr (stand.no_other_message v e (sym now ∙ is))
+  message_kept : (v e : List ℕ) → digest_at h v ≡ Some e → digest_at n v ≡ Some e
+  message_kept v e there = kept_at_bytes v e (bytes_eq m v) refl (put v) there
 
-  pub message_put : (prints : List Print) → HashedStand h prints → HashedStand n (OfMessage m d ∷ prints)
-  message_put prints stand = record {
-    messages = λ v e here. elim here [
-      | inl one ↦
-          let value : m ≡ v = cc in
-          let image : d ≡ e = cc in
-          ap (message_at n) (sym image) ∙ put d ∙ ap (λ b. cond b (Some m) (message_at h d)) (image_itself d) ∙ ap (λ (x : List ℕ). Some x) value
-      | inr there ↦ message_kept v e (is_at (image_cmp d) e) refl (put e) (stand.messages v e there)
-    ];
-    no_other_message = λ v e is. message_new prints stand v e (is_at (image_cmp d) e) refl (put e) is;
-    entries = λ x e here. elim here [
-      | inl one ↦ absurd (cc)
-      | inr there ↦ ap (λ (es : BTreeMap (List ℕ) HashedEntry). input_in (get image_cmp es e)) same ∙ stand.entries x e there
-    ];
-    no_other_entry = λ x e is. inr (stand.no_other_entry x e (sym (ap (λ (es : BTreeMap (List ℕ) HashedEntry). input_in (get image_cmp es e)) same) ∙ is));
-  }
+  -- so it is of digests
+  digest_here : has_digest n d ≡ true
+  digest_here = added d ∙ ap (λ b. cond b true (has_digest h d)) (image_itself d)
+
+  digest_stays : (e : List ℕ) (b : Bool) → has_digest n e ≡ cond b true (has_digest h e) → has_digest h e ≡ true → has_digest n e ≡ true
+  digest_stays e true now there = now
+  digest_stays e false now there = now ∙ there
+
+  digest_is : (e : List ℕ) (b : Bool) → is_at (image_cmp d) e ≡ b → has_digest n e ≡ cond b true (has_digest h e) → has_digest n e ≡ true → (d ≡ e) ⊎ (has_digest h e ≡ true)
+  digest_is e true here now is = inl (one_image d e here)
+  digest_is e false here now is = inr (sym now ∙ is)
+
+  module _ (prints : List Print) (stand : HashedStand h prints) where
+    -- no message that was there has the new digest
+    not_new : (v : List ℕ) → digest_at h v ≡ Some d → ⊥
+    not_new v there = false≢true (sym new ∙ stand.digests v d there)
+
+    listed : (v e : List ℕ) → ((m ≡ v) × (d ≡ e)) ⊎ (digest_at h v ≡ Some e) → Has (OfMessage m d ∷ prints) (OfMessage v e)
+    listed v e (inl both) = inl (ap₂ (λ (x y : List ℕ). OfMessage x y) both.0 both.1)
+    listed v e (inr there) = inr (stand.no_other_message v e there)
+
+    hashes_right : (v e : List ℕ) → ((m ≡ v) × (d ≡ e)) ⊎ (digest_at h v ≡ Some e) → e ≡ sha256 v
+    hashes_right v e (inl both) = sym both.1 ∙ digest ∙ ap sha256 both.0
+    hashes_right v e (inr there) = stand.right v e there
+
+    has_it : (v e : List ℕ) → ((m ≡ v) × (d ≡ e)) ⊎ (digest_at h v ≡ Some e) → has_digest n e ≡ true
+    has_it v e (inl both) = subst (λ (x : List ℕ). has_digest n x ≡ true) both.1 digest_here
+    has_it v e (inr there) = digest_stays e (is_at (image_cmp d) e) (added e) (stand.digests v e there)
+
+    of_message : (e : List ℕ) → (d ≡ e) ⊎ (has_digest h e ≡ true) → (v : List ℕ) × (digest_at n v ≡ Some e)
+    of_message e (inl same) = (m, message_here ∙ ap (λ (x : List ℕ). Some x) same)
+    of_message e (inr there) = let old = stand.no_other_digest e there in (old.0, message_kept old.0 e old.1)
+
+    one_of_both : (v u e : List ℕ) → ((m ≡ v) × (d ≡ e)) ⊎ (digest_at h v ≡ Some e) → ((m ≡ u) × (d ≡ e)) ⊎ (digest_at h u ≡ Some e) → v ≡ u
+    one_of_both v u e (inl one) (inl other) = sym one.0 ∙ other.0
+    one_of_both v u e (inl one) (inr other) = absurd (not_new u (other ∙ ap (λ (x : List ℕ). Some x) (sym one.1)))
+    one_of_both v u e (inr one) (inl other) = absurd (not_new v (one ∙ ap (λ (x : List ℕ). Some x) (sym other.1)))
+    one_of_both v u e (inr one) (inr other) = stand.one_message v u e one other
+
+    message_stands : HashedStand n (OfMessage m d ∷ prints)
+    message_stands = record {
+      messages = λ v e here. elim here [
+        | inl one ↦
+            let value : m ≡ v = cc in
+            let image : d ≡ e = cc in
+            ap (digest_at n) (sym value) ∙ message_here ∙ ap (λ (x : List ℕ). Some x) image
+        | inr there ↦ message_kept v e (stand.messages v e there)
+      ];
+      no_other_message = λ v e is. listed v e (is_there v e is);
+      right = λ v e is. hashes_right v e (is_there v e is);
+      digests = λ v e is. has_it v e (is_there v e is);
+      no_other_digest = λ e is. of_message e (digest_is e (is_at (image_cmp d) e) refl (added e) is);
+      one_message = λ v u e one other. one_of_both v u e (is_there v e one) (is_there u e other);
+      entries = λ x e here. elim here [
+        | inl one ↦ absurd (cc)
+        | inr there ↦ ap (λ (es : BTreeMap (List ℕ) HashedEntry). input_in (get image_cmp es e)) same ∙ stand.entries x e there
+      ];
+      no_other_entry = λ x e is. inr (stand.no_other_entry x e (sym (ap (λ (es : BTreeMap (List ℕ) HashedEntry). input_in (get image_cmp es e)) same) ∙ is));
+    }
+
+    pub message_put : IsDigestOf n k m prints (Some d)
+    message_put = (digest, message_stands)
 
 -- an entry that is there
 entry_again : (h : Hashed) (prints : List Print) → HashedStand h prints → (x : EntryInput) (d : List ℕ) → input_at h d ≡ Some x → HashedStand h (OfEntry x d ∷ prints)
@@ -225,6 +302,10 @@ entry_again h prints stand x d found = record {
     | inr there ↦ stand.messages v e there
   ];
   no_other_message = λ v e is. inr (stand.no_other_message v e is);
+  right = stand.right;
+  digests = stand.digests;
+  no_other_digest = stand.no_other_digest;
+  one_message = stand.one_message;
   entries = λ y e here. elim here [
     | inl same ↦
         let value : x ≡ y = cc in
@@ -264,7 +345,8 @@ input_cond : (b : Bool) (x : HashedEntry) (o : Option HashedEntry) → input_in 
 input_cond true x o = refl
 input_cond false x o = refl
 
-module _ (h n : Hashed) (x : EntryInput) (d : List ℕ) (none : input_at h d ≡ None) (same : n.messages ≡ h.messages)
+module _ (h n : Hashed) (x : EntryInput) (d : List ℕ) (none : input_at h d ≡ None) (same : (v : List ℕ) → digest_at n v ≡ digest_at h v)
+    (same_digests : (e : List ℕ) → has_digest n e ≡ has_digest h e)
     (put : (e : List ℕ) → input_at n e ≡ cond (is_at (image_cmp d) e) (Some x) (input_at h e)) where
   entry_kept : (y : EntryInput) (e : List ℕ) (b : Bool) → is_at (image_cmp d) e ≡ b → input_at n e ≡ cond b (Some x) (input_at h e) → input_at h e ≡ Some y → input_at n e ≡ Some y
   entry_kept y e true here now there =
@@ -282,9 +364,13 @@ module _ (h n : Hashed) (x : EntryInput) (d : List ℕ) (none : input_at h d ≡
   entry_put prints stand = record {
     messages = λ v e here. elim here [
       | inl one ↦ absurd (cc)
-      | inr there ↦ ap (λ (ms : BTreeMap (List ℕ) (List ℕ)). get image_cmp ms e) same ∙ stand.messages v e there
+      | inr there ↦ same v ∙ stand.messages v e there
     ];
-    no_other_message = λ v e is. inr (stand.no_other_message v e (sym (ap (λ (ms : BTreeMap (List ℕ) (List ℕ)). get image_cmp ms e) same) ∙ is));
+    no_other_message = λ v e is. inr (stand.no_other_message v e (sym (same v) ∙ is));
+    right = λ v e is. stand.right v e (sym (same v) ∙ is);
+    digests = λ v e is. same_digests e ∙ stand.digests v e (sym (same v) ∙ is);
+    no_other_digest = λ e is. let old = stand.no_other_digest e (sym (same_digests e) ∙ is) in (old.0, same old.0 ∙ old.1);
+    one_message = λ v u e one other. stand.one_message v u e (sym (same v) ∙ one) (sym (same u) ∙ other);
     entries = λ y e here. elim here [
       | inl one ↦
           let value : x ≡ y = cc in
@@ -295,8 +381,8 @@ module _ (h n : Hashed) (x : EntryInput) (d : List ℕ) (none : input_at h d ≡
     no_other_entry = λ y e is. entry_new prints stand y e (is_at (image_cmp d) e) refl (put e) is;
   }
 
-pub input_put : (h n : Hashed) (input : HashedEntry) (d : List ℕ) → get image_cmp h.entries d ≡ None → n.messages ≡ h.messages →
+pub input_put : (h n : Hashed) (input : HashedEntry) (d : List ℕ) → get image_cmp h.entries d ≡ None → ((v : List ℕ) → digest_at n v ≡ digest_at h v) → ((e : List ℕ) → has_digest n e ≡ has_digest h e) →
     ((e : List ℕ) → get image_cmp n.entries e ≡ cond (is_at (image_cmp d) e) (Some input) (get image_cmp h.entries e)) →
     (prints : List Print) → HashedStand h prints → HashedStand n (OfEntry (input_of input) d ∷ prints)
-input_put h n input d none same put =
-    entry_put h n (input_of input) d (ap input_in none) same (λ e. ap input_in (put e) ∙ input_cond (is_at (image_cmp d) e) input (get image_cmp h.entries e))
+input_put h n input d none same same_digests put =
+    entry_put h n (input_of input) d (ap input_in none) same same_digests (λ e. ap input_in (put e) ∙ input_cond (is_at (image_cmp d) e) input (get image_cmp h.entries e))

@@ -1,13 +1,10 @@
 -- Items whose entries of correct echoers were given by these.
-use Rattle.std.proofs.Common.{◌≡◌, ℕ, ◌<◌, Bool, true, false, cond, List, [], ◌∷◌, Option, Some, None, refl, sym, ◌∙◌, subst, inl, inr, ◌⊎◌}
+use Rattle.std.proofs.Common.{◌≡◌, ℕ, ◌<◌, Bool, true, false, cond, List, ◌∷◌, Option, Some, None, refl, sym, ◌∙◌, subst}
 use Rattle.ritas_base.specs.declared.item.Kind.TheVariants.{Send, Hashes, Column}
 use Rattle.ritas_base.specs.declared.item.Item.{Item}
 use Rattle.ritas_base.specs.declared.item.Msg.{Msg}
-use Rattle.ritas_base.specs.declared.item.Say.{Say}
-use Rattle.ritas_base.specs.declared.mode.Mode.{Mode}
 use Rattle.ritas_base.specs.declared.slot.Slot.{Slot}
-use Rattle.ritas_base.specs.Numbers.{Numbers}
-use Rattle.ritas_base.specs.History.{Call, Start, Take, told}
+use Rattle.ritas_base.specs.History.{Call, Take, told}
 use Rattle.ritas_base.specs.HistoryLaws.{first_stays}
 use Rattle.ritas_base.specs.SlotOrder.{is_slot}
 use Rattle.ritas_base.specs.Messages.{Place, item_of}
@@ -17,11 +14,9 @@ use Rattle.layer_api.specs.Entries.{given, entries_for, entry_in, sent}
 use Rattle.layer_api.specs.HasLaws.{has_listed}
 use Rattle.layer_api.specs.OneValue.{AreGoodCalls, IsOfSlot}
 use Rattle.layer_api.specs.Runs.{Has}
-use Rattle.layer_api.specs.Words.{Ask, Hear}
 use Rattle.keyed_channel.specs.Keyed.{tags_of}
-use Rattle.ritas_core.specs.Rules.{Rules, seat_of, due_at}
-use Rattle.ritas_core.specs.Casts.{called, started_all}
-use Rattle.ritas_core.specs.Parts.{Parts, Entry, Took, Given, parts, heard_at, taken_at, item_delivers}
+use Rattle.ritas_core.specs.Rules.{Rules, due_at}
+use Rattle.ritas_core.specs.Parts.{Entry, Took, Given, parts}
 use Rattle.ritas_core.specs.Checks.{IsHistory}
 use Rattle.ritas_core.specs.Laws.{is_due}
 use Rattle.world_model.specs.World.{Setting, rules_at}
@@ -29,6 +24,7 @@ use Rattle.world_model.specs.Audit.{place_in}
 use Rattle.world_model.proofs.Below.{IsFounded}
 use Rattle.world_model.proofs.Fair.{IsFair}
 use Rattle.world_model.proofs.Prints.{sent_taken, sent_given}
+use Rattle.world_model.proofs.Took.{AllTook, took_called, good_taken}
 
 -- the entries that replica i gave at a slot, by its history
 abbrev pub given_in : Setting → ℕ → List Entry → Slot → List (List ℕ)
@@ -72,51 +68,6 @@ given_grows w i e h s entry there = go (sent (place_in w i s) ((parts (rules_at 
     go (Some v) is here =
         subst (λ (o : Option (List ℕ)). Has (entries_for (place_in w i s) (tags_of (w.keys i)) o) entry) (sym (sent_stays (rules_at w i) (place_in w i s) e h s v is)) here
 
--- ---- what was taken
-abbrev pub AllTook : (Item → Type 0) → List Entry → Type 0
-AllTook P [] = Unit {0}
-AllTook P (Given v ∷ h) = AllTook P h
-AllTook P (Took x ∷ h) = P x × AllTook P h
-
-pub took_map : (P Q : Item → Type 0) → ((x : Item) → P x → Q x) → (h : List Entry) → AllTook P h → AllTook Q h
-took_map P Q f [] all = tt
-took_map P Q f (Given v ∷ h) all = took_map P Q f h all
-took_map P Q f (Took x ∷ h) all = (f x all.0, took_map P Q f h all.1)
-
-same_take : (x y : Item) → Take x ≡ Take y → x ≡ y
-same_take x y e = cc
-
-take_if : (b : Bool) (c : Call) (h : List Call) (x : Item) → Has (cond b (c ∷ h) h) (Take x) → (c ≡ Take x) ⊎ Has h (Take x)
-take_if true c h x there = there
-take_if false c h x there = inr there
-
-take_starts : (says : List Say) (h : Slot → List Call) (s : Slot) (x : Item) → Has (started_all says h s) (Take x) → Has (h s) (Take x)
-take_starts [] h s x there = there
-take_starts (say ∷ says) h s x there =
-    elim (take_if (is_slot say.slot s) (Start say.value) (h s) x (take_starts says (called h say.slot (Start say.value)) s x there)) [ inl e ↦ absurd cc | inr was ↦ was ]
-
-take_heard : (r : Rules) (q : Slot) (o : Option (List ℕ)) (p : Parts) (s : Slot) (x : Item) → Has ((heard_at r q o p).calls s) (Take x) → Has (p.calls s) (Take x)
-take_heard r q None p s x there = there
-take_heard r q (Some u) p s x there = take_starts (r.service.says (seat_of r) p.words (Hear q u)) p.calls s x there
-
--- what a broadcast took, the replica took
-took_called : (P : Item → Type 0) (r : Rules) (h : List Entry) → AllTook P h → (s : Slot) (x : Item) → Has ((parts r h).calls s) (Take x) → P x
-took_called P r [] all s x there = absurd there
-took_called P r (Given v ∷ h) all s x there =
-    took_called P r h all s x (take_starts (r.service.says (seat_of r) (parts r h).words (Ask v)) (parts r h).calls s x there)
-took_called P r (Took y ∷ h) all s x there =
-    elim (take_if (is_slot y.slot s) (Take y) ((parts r h).calls s) x (take_heard r y.slot (item_delivers r y (parts r h)) (taken_at y (parts r h)) s x there)) [
-      | inl e ↦ subst P (same_take y x e) all.0
-      | inr was ↦ took_called P r h all.1 s x was
-    ]
-
-slot_of : (p : Numbers) (mode : Mode) (s : Slot) (h : List Call) (x : Item) → AreGoodCalls p mode s h → Has h (Take x) → x.slot ≡ s
-slot_of p mode s [] x good there = absurd there
-slot_of p mode s (Start v ∷ h) x good (inl e) = absurd cc
-slot_of p mode s (Start v ∷ h) x good (inr there) = slot_of p mode s h x good.1 there
-slot_of p mode s (Take y ∷ h) x good (inl e) = subst (λ (z : Item). z.slot ≡ s) (same_take y x e) good.0
-slot_of p mode s (Take y ∷ h) x good (inr there) = slot_of p mode s h x good.2 there
-
 -- ---- what is due
 -- what replica i gave is among what it is known to have given
 abbrev pub IsOwn : Setting → (ℕ → List Entry) → ℕ → List Entry → Type 0
@@ -131,15 +82,15 @@ due_honest w fair i laws hist h met took own m due grammar =
     let listed : Has (due_at r.casts m.slot calls) m = has_listed (due_at r.casts m.slot calls) m due in
     let good : AreGoodCalls w.numbers w.mode m.slot calls = laws.core.calls r laws.layers h met m.slot in
     let of_slot : IsOfSlot (w.at_slot m.slot) w.numbers w.mode m.slot =
-    record { session = laws.layers.session; slot = grammar.slot; kinds = λ kind e. sym (laws.layers.kinds m.slot kind grammar.slot) ∙ e } in
+    record { session = laws.layers.session; slot = grammar.slot; form = laws.layers.kinds.forms m.slot grammar.slot } in
     record {
       grammar = grammar;
       sender = laws.layers.me;
-      hashes = λ kind correct k lt. own correct m.slot (entry_in k m.value) ((fair.entries m.slot).hashes (place_in w i m.slot) (tags_of (w.keys i)) calls m (fair.whole i) listed kind k lt);
+      hashes = λ kind correct k lt. own correct m.slot (entry_in k m.value) ((fair.sound.world.entries m.slot).hashes (place_in w i m.slot) (tags_of (w.keys i)) calls m (fair.whole i) listed kind k lt);
       column = λ kind echoer entry correct row.
-          let from = (fair.entries m.slot).columns (place_in w i m.slot) (tags_of (w.keys i)) w.mode calls m of_slot good listed kind echoer entry row in
+          let from = (fair.sound.world.entries m.slot).columns (place_in w i m.slot) (tags_of (w.keys i)) w.mode calls m of_slot good listed kind echoer entry row in
           let honest = took_called (IsHonest w hist) r h took m.slot from.item from.taken in
-          let here : from.item.slot ≡ m.slot = slot_of w.numbers w.mode m.slot calls from.item good from.taken in
+          let here = (good_taken w.numbers w.mode m.slot calls from.item good from.taken).0 in
           let gave = honest.hashes from.kind (subst (λ (j : ℕ). w.is_correct j ≡ true) (sym from.from) correct) from.verifier from.within in
           let at_slot = subst (λ (s : Slot). Has (given_in w from.item.from (hist from.item.from) s) (entry_in from.verifier from.item.value)) here gave in
           let at_echoer = subst (λ (j : ℕ). Has (given_in w j (hist j) m.slot) (entry_in from.verifier from.item.value)) from.from at_slot in

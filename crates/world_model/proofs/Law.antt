@@ -6,7 +6,7 @@ use Rattle.ritas_base.specs.declared.slot.Slot.{Slot}
 use Rattle.ritas_base.specs.Numbers.{wait_of}
 use Rattle.ritas_base.specs.History.{started, replicas}
 use Rattle.ritas_base.specs.History.{Call}
-use Rattle.layer_api.specs.Entries.{Print, met}
+use Rattle.layer_api.specs.Entries.{Print}
 use Rattle.layer_api.specs.Runs.{calls_of, Has, IsEnough}
 use Rattle.layer_api.specs.OneValue.{SameDigests, IsClear}
 use Rattle.ritas_base.specs.Slots.{command_slot}
@@ -20,7 +20,8 @@ use Rattle.world_model.specs.Audit.{calls_at, first_broken, has_too_many, prints
 use Rattle.world_model.specs.Agreement.{history_of, delivered, OneValueEach, WorldLaw}
 use Rattle.world_model.proofs.Runs.{group_at, RunAt, calls_after}
 use Rattle.world_model.proofs.Earlier.{RunTo, run_back}
-use Rattle.world_model.proofs.Prints.{met_printed, print_there, none_apart}
+use Rattle.world_model.proofs.Prints.{print_there, none_apart}
+use Rattle.world_model.proofs.Took.{met_printed}
 use Rattle.world_model.proofs.Worlds.{layer_laws, histories_of, world_after, none_collide_after}
 use Rattle.world_model.proofs.Inputs.{input_started}
 use Rattle.world_model.specs.CoreLaws.{CoreLaws}
@@ -38,17 +39,17 @@ enough_of w sound few =
 
 -- ---- a slot
 -- nothing that correct replicas hashed collides
-met_here : (w : Setting) (es : List Event) (s : Slot) (x : RunAt w (calls_after w (histories_of (states_of w es))) s) (i : ℕ) (a : Print) → w.is_correct i ≡ true → i < w.numbers.n →
-    Has (met (place_at (rules_at w i).casts s) (tags_of (w.keys i)) (calls_of i x.steps)) a → Has (prints_at w (states_of w es)) a
-met_here w es s x i a correct below here =
+met_here : (w : Setting) (sound : IsSoundOver w) (es : List Event) → first_broken w es ≡ audits.Holds → (s : Slot) (x : RunAt w (calls_after w (histories_of (states_of w es))) s) (i : ℕ) (a : Print) → w.is_correct i ≡ true → i < w.numbers.n →
+    Has ((w.at_slot s).met (place_at (rules_at w i).casts s) (tags_of (w.keys i)) (calls_of i x.steps)) a → Has (prints_at w (states_of w es)) a
+met_here w sound es holds s x i a correct below here =
     print_there w (states_of w es) i a correct below
-    (met_printed (rules_at w i) (history_of w es i) s a
-    (subst (λ (cs : List Call). Has (met (place_at (rules_at w i).casts s) (tags_of (w.keys i)) cs) a) (x.same i correct) here))
+    (met_printed (rules_at w i) (layer_laws w sound i correct) (history_of w es i) ((world_after w sound es holds).met i correct) s (sound.world.entries s) a
+    (subst (λ (cs : List Call). Has ((w.at_slot s).met (place_at (rules_at w i).casts s) (tags_of (w.keys i)) cs) a) (x.same i correct) here))
 
-clear_at : (w : Setting) → IsSoundOver w → (es : List Event) → is_colliding w es ≡ false → (s : Slot) (x : RunAt w (calls_after w (histories_of (states_of w es))) s) → IsClear (group_at w s) x.steps
-clear_at w sound es none s x i j a c left right here there =
+clear_at : (w : Setting) → IsSoundOver w → (es : List Event) → first_broken w es ≡ audits.Holds → is_colliding w es ≡ false → (s : Slot) (x : RunAt w (calls_after w (histories_of (states_of w es))) s) → IsClear (group_at w s) x.steps
+clear_at w sound es holds none s x i j a c left right here there =
     none_apart (prints_at w (states_of w es)) none a c
-    (met_here w es s x i a left (sound.world.within i left) here) (met_here w es s x j c right (sound.world.within j right) there)
+    (met_here w sound es holds s x i a left (sound.world.within i left) here) (met_here w sound es holds s x j c right (sound.world.within j right) there)
 
 -- what was delivered is what the run's calls deliver
 run_delivers : (w : Setting) (es : List Event) (s : Slot) (x : RunAt w (calls_after w (histories_of (states_of w es))) s) (i : ℕ) (v : List ℕ) →
@@ -81,18 +82,18 @@ agree_at w sound few es holds =
     record {
       agree = λ s i j v u left right out_i out_j.
           let x = world.run s in
-          (sound.world.one_value s).agree w.numbers s w.is_correct (λ i. tags_of (w.keys i)) x.steps enough digests x.run (clear_at w sound es clear s x)
+          (sound.world.one_value s).agree w.numbers s w.is_correct (λ i. tags_of (w.keys i)) x.steps enough digests x.run (clear_at w sound es holds clear s x)
           i j v u left right (run_delivers w es s x i v left out_i) (run_delivers w es s x j u right out_j);
       genuine = λ s i v correct good out.
           let x = world.run s in
           let start = (sound.world.one_value s).genuine w.numbers s w.is_correct (λ i. tags_of (w.keys i)) x.steps enough digests x.run
-          (clear_at w sound es clear s x) i v correct good (run_delivers w es s x i v correct out) in
+          (clear_at w sound es holds clear s x) i v correct good (run_delivers w es s x i v correct out) in
           ap started (sym (x.same s.origin good)) ∙ start;
       own = λ s i later calls v correct is whole out.
           let x = world.run s in
           let all : RunTo (group_at w s) i (later ++ calls) =
-          record { steps = x.steps; run = x.run; clear = clear_at w sound es clear s x; mine = x.same i correct ∙ whole } in
-          run_own w sound enough s i calls v correct is (run_back (group_at w s) i later calls all) out;
+          record { steps = x.steps; run = x.run; clear = clear_at w sound es holds clear s x; mine = x.same i correct ∙ whole } in
+          run_own w sound enough s i calls v correct is (run_back (group_at w s) (sound.world.entries s) i later calls all) out;
     }
 
 -- of one world

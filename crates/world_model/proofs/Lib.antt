@@ -6,6 +6,8 @@ pub mod Sent
 pub mod Runs
 pub mod Inputs
 pub mod Prints
+pub mod Took
+pub mod MessageKeys
 pub mod HashedSteps
 pub mod Meeting
 pub mod Pairs

@@ -33,6 +33,10 @@ pub stand_within : (h : Hashed) (xs ys : List Print) → Within xs ys → Within
 stand_within h xs ys to back stand = record {
   messages = λ m d here. stand.messages m d (back (OfMessage m d) here);
   no_other_message = λ m d is. to (OfMessage m d) (stand.no_other_message m d is);
+  right = stand.right;
+  digests = stand.digests;
+  no_other_digest = stand.no_other_digest;
+  one_message = stand.one_message;
   entries = λ x e here. stand.entries x e (back (OfEntry x e) here);
   no_other_entry = λ x e is. to (OfEntry x e) (stand.no_other_entry x e is);
 }
@@ -150,14 +154,11 @@ with_within k s m p (inr there) =
 -- ---- as the code has it
 
 -- the message clashes
-pub message_clashes : (n : Hashed) (k : KeyRow) (s : Slot) (m d : List ℕ) (clash : Bool) (prints : List Print) → d ≡ (tags_of k).digest m → clash ≡ true → Adds n (OfMessage m d) prints clash →
-    Meets n (prints_with k s m) prints true
-message_clashes n k s m d clash prints is clashed adds =
-    let P : Bool → Type 0 = λ b. Adds n (OfMessage m d) prints b in
-    let clashing : Clash (OfMessage m ((tags_of k).digest m)) prints = subst (λ (x : List ℕ). Clash (OfMessage m x) prints) is (subst P clashed adds) in
-    clash_collides (OfMessage m ((tags_of k).digest m)) prints (prints_with k s m ++ prints) (inl refl) (λ x there. has_right (prints_with k s m) prints x there) clashing
+pub message_clashes : (k : KeyRow) (s : Slot) (m : List ℕ) (prints : List Print) → Clash (OfMessage m ((tags_of k).digest m)) prints → collide (prints_with k s m ++ prints) ≡ true
+message_clashes k s m prints clash =
+    clash_collides (OfMessage m ((tags_of k).digest m)) prints (prints_with k s m ++ prints) (inl refl) (λ x there. has_right (prints_with k s m) prints x there) clash
 
--- so do entries with one of the replicas
+-- entries with one of the replicas clash
 pub both_clash : (mid h : Hashed) (k : KeyRow) (s : Slot) (m d : List ℕ) (n : ℕ) (clash : Bool) (prints : List Print) → n < k.n → d ≡ (tags_of k).digest m → clash ≡ true →
     HashedStand mid (met_below k s m n ++ prints) → ((ps : List Print) → HashedStand mid ps → Meets h (both_of k s d n) ps clash) → Meets h (prints_with k s m) prints true
 both_clash mid h k s m d n clash prints below is clashed stand adds =

@@ -1,11 +1,12 @@
 -- Of a call that needs no memory nothing is kept: the history stays, no frame is made, and it isn't answered that it was taken. So
 -- each event that was without memory needed it.
-use Rattle.std.proofs.Common.{◌≡◌, ◌≢◌, ℕ, Bool, true, false, List, [], ◌∷◌, Option, Some, None, Result, Ok, Err, ◌⊎◌, inl, inr, refl, sym, ◌∙◌, ap, subst, if◌then◌else◌}
+use Rattle.std.proofs.Common.{◌≡◌, ◌≢◌, ℕ, Bool, true, false, List, [], ◌∷◌, Option, Some, None, Result, Ok, Err, ◌⊎◌, inl, inr, refl, sym, ◌∙◌, ap, if◌then◌else◌}
 use Rattle.std.specs.Option.{is_some}
 use Rattle.std.specs.Result.{OnErr}
 use Rattle.ritas_base.specs.declared.event.Event.{Event}
 use Rattle.ritas_base.specs.declared.event.Event.TheVariants as events
 use Rattle.ritas_base.specs.declared.item.Item.{Item}
+use Rattle.ritas_base.specs.declared.mode.Mode.{Mode}
 use Rattle.frame_codec.specs.declared.fault.BodyFault.{BodyFault}
 use Rattle.frame_codec.specs.Body.{body_answer}
 use Rattle.keyed_channel.specs.KeyRow.{KeyRow}
@@ -16,12 +17,11 @@ use Rattle.ritas_core.specs.declared.answer.Answer.TheVariants as answers
 use Rattle.ritas_core.specs.declared.fault.CoreFault.{CoreFault}
 use Rattle.ritas_core.specs.declared.fault.CoreFault.TheVariants as faults
 use Rattle.ritas_core.specs.Rules.{Rules}
-use Rattle.ritas_core.specs.Parts.{Entry, parts}
+use Rattle.ritas_core.specs.Parts.{parts}
 use Rattle.ritas_core.specs.Checks.{input_check}
 use Rattle.ritas_core.specs.Machine as core
 use Rattle.ritas_core.specs.Machine.{CoreState, What, given_input, turned, stays, moved}
 use Rattle.ritas_core.specs.Calls.{IsStep, IsHolding, HoldsFront, TakesFront}
-use Rattle.replica.specs.declared.frame.OutFrame.{OutFrame}
 use Rattle.replica.specs.declared.refusal.Refusal.{Refusal}
 use Rattle.replica.specs.Handling.{Call, Frame, Input, Turn, Handled, framed, given_body, given_frame, handled}
 use Rattle.replica.specs.Stands.{body_given, frame_given, core_call}
@@ -96,17 +96,17 @@ frames_need w states (Some c) made = elim (either_at w states c) [
   | inr idle ↦ absurd (made idle.out)
 ]
 
-watched_some : (x : Option Item) → is_some (watched x) ≡ true → is_some x ≡ true
-watched_some None e = e
-watched_some (Some item) e = refl
+watched_some : (mode : Mode) (x : Option Item) → is_some (watched mode x) ≡ true → is_some x ≡ true
+watched_some mode None e = e
+watched_some mode (Some item) e = refl
 
-pub watching_needs : (w : Setting) (states : ℕ → CoreState) (c : Option CallAt) → is_some (watched (item_taken w states c)) ≡ true → CallNeeds w states c
+pub watching_needs : (w : Setting) (states : ℕ → CoreState) (c : Option CallAt) → is_some (watched w.mode (item_taken w states c)) ≡ true → CallNeeds w states c
 watching_needs w states None e = absurd cc
 watching_needs w states (Some c) e = elim (either_at w states c) [
   | inl needs ↦ needs
   | inr idle ↦
       let none : taken_by w states c ≡ None = ap (newest_item (states c.at).history) idle.history ∙ newest_none (states c.at).history in
-      let some : is_some (taken_by w states c) ≡ true = watched_some (taken_by w states c) e in
+      let some : is_some (taken_by w states c) ≡ true = watched_some w.mode (taken_by w states c) e in
       absurd (let wrong : false ≡ true = sym (ap is_some none) ∙ some in cc)
 ]
 

@@ -24,7 +24,8 @@ use Rattle.world_model.proofs.Sent.{new_due}
 use Rattle.world_model.proofs.Worlds.{input_good}
 use Rattle.world_model.proofs.Below.{IsFounded}
 use Rattle.world_model.proofs.Fair.{IsFair}
-use Rattle.world_model.proofs.Honest.{given_in, IsHonest, Grows, honest_later, given_grows, AllTook, took_map, IsOwn, due_honest}
+use Rattle.world_model.proofs.Honest.{given_in, IsHonest, Grows, honest_later, given_grows, IsOwn, due_honest}
+use Rattle.world_model.proofs.Took.{AllTook, took_map}
 
 -- a player of number i in this state, where the correct replicas have these histories
 pub record IsPlaying (w : Setting) (hist : ℕ → List Entry) (i : ℕ) (st : CoreState) : Type 0 where

@@ -1,5 +1,5 @@
--- What correct replicas met at the messages that were sent to them, and when two such things don't collide.
-use Rattle.std.proofs.Common.{◌≡◌, ℕ, ◌<◌, Bool, true, false, not, ◌==◌, ◌&&◌, cond, Option, Some, None, List, [], ◌∷◌, refl, sym, ◌∙◌, ap₂, subst, inl, inr, arith, if◌then◌else◌}
+-- What was sent to a replica, what correct replicas hashed, and when two such things don't collide.
+use Rattle.std.proofs.Common.{◌≡◌, ℕ, ◌<◌, Bool, true, false, not, ◌==◌, ◌&&◌, cond, Option, Some, None, List, [], ◌∷◌, refl, sym, ◌∙◌, ap₂, subst, arith, if◌then◌else◌}
 use Rattle.std.specs.List.{list_any}
 use Rattle.std.specs.Str.{bytes_eq}
 use Rattle.std.proofs.lemmas.Bool.{and_parts, eqb-true}
@@ -7,16 +7,14 @@ use Rattle.std.proofs.lemmas.Slice.Eq.{bytes_eq-Decides}
 use Rattle.ritas_base.specs.declared.slot.Slot.{Slot}
 use Rattle.ritas_base.specs.declared.item.Item.{Item}
 use Rattle.ritas_base.specs.declared.item.Say.{Say}
-use Rattle.ritas_base.specs.declared.item.Kind.TheVariants.{Send}
 use Rattle.ritas_base.specs.SlotOrder.{is_slot, same_slot}
-use Rattle.ritas_base.specs.Shortest.{option_or_none, option_or_some}
-use Rattle.ritas_base.specs.Messages.{Place, kind_eq}
-use Rattle.ritas_base.specs.History.{Call, Start, Take, told, replicas}
+use Rattle.ritas_base.specs.Shortest.{option_or_none}
+use Rattle.ritas_base.specs.Messages.{Place}
+use Rattle.ritas_base.specs.History.{Call, Start, Take, replicas}
 use Rattle.layer_api.specs.Runs.{Has}
-use Rattle.layer_api.specs.HasLaws.{has_left, has_right}
-use Rattle.layer_api.specs.Entries.{sent, EntryInput, Print, OfMessage, OfEntry, prints_of, prints_for, met, IsApart}
+use Rattle.layer_api.specs.Entries.{sent, EntryInput, Print, OfMessage, OfEntry, IsApart}
 use Rattle.layer_api.specs.Words.{Ask, Hear}
-use Rattle.ritas_core.specs.Rules.{Rules, seat_of, place_at}
+use Rattle.ritas_core.specs.Rules.{Rules, seat_of}
 use Rattle.ritas_core.specs.Casts.{called, started_all}
 use Rattle.ritas_core.specs.Parts.{Entry, Took, Given, Parts, parts, heard_at, taken_at, item_delivers}
 use Rattle.ritas_core.specs.Machine.{CoreState}
@@ -47,54 +45,7 @@ sent_taken r at h item s = let p = parts r h in sent_heard r at item.slot (item_
 pub sent_given : (r : Rules) (at : Place) (h : List Entry) (v : List ℕ) (s : Slot) → sent at ((parts r (Given v ∷ h)).calls s) ≡ sent at ((parts r h).calls s)
 sent_given r at h v s = sent_started at (r.service.says (seat_of r) (parts r h).words (Ask v)) (parts r h).calls s
 
--- ---- what was met
-told_send : (origin : ℕ) (item : Item) (m : List ℕ) (b c : Bool) → cond (b && c) (Some item.value) None ≡ Some m → (c ≡ true) × (item.value ≡ m)
-told_send origin item m true true e = (refl, cc)
-told_send origin item m true false e = absurd (cc)
-told_send origin item m false c e = absurd (cc)
-
--- the message that an item brings was met there
-brought : (r : Rules) (h : List Entry) (item : Item) (s : Slot) (m : List ℕ) (a : Print) → item.slot ≡ s → told s.origin Send (Take item) ≡ Some m →
-    Has (prints_of (place_at r.casts s) r.casts.tags m) a → Has (prints_in r (Took item ∷ h)) a
-brought r h item s m a here says inside =
-    let parts = told_send s.origin item m (item.from == s.origin) (kind_eq item.kind Send) says in
-    let there : Has (prints_of (place_at r.casts item.slot) r.casts.tags item.value) a =
-    subst (λ (v : List ℕ). Has (prints_of (place_at r.casts item.slot) r.casts.tags v) a) (sym parts.1)
-    (subst (λ (q : Slot). Has (prints_of (place_at r.casts q) r.casts.tags m) a) (sym here) inside) in
-    has_left (if kind_eq item.kind Send then prints_of (place_at r.casts item.slot) r.casts.tags item.value else []) (prints_in r h) a
-    (subst (λ b. Has (if b then prints_of (place_at r.casts item.slot) r.casts.tags item.value else []) a) (sym parts.0) there)
-
-later : (r : Rules) (h : List Entry) (item : Item) (a : Print) → Has (prints_in r h) a → Has (prints_in r (Took item ∷ h)) a
-later r h item a there = has_right (if kind_eq item.kind Send then prints_of (place_at r.casts item.slot) r.casts.tags item.value else []) (prints_in r h) a there
-
-sent_printed_at : (r : Rules) (h : List Entry) (item : Item) (s : Slot) (m : List ℕ) (a : Print) (b : Bool) → is_slot item.slot s ≡ b →
-    (sent (place_at r.casts s) ((parts r h).calls s) ≡ Some m → Has (prints_in r h) a) →
-    sent (place_at r.casts s) (cond b (Take item ∷ (parts r h).calls s) ((parts r h).calls s)) ≡ Some m →
-    Has (prints_of (place_at r.casts s) r.casts.tags m) a → Has (prints_in r (Took item ∷ h)) a
-sent_printed_at r h item s m a true here before e inside =
-    elim (option_or_some (sent (place_at r.casts s) ((parts r h).calls s)) (told s.origin Send (Take item)) m e) [
-      | inl older ↦ later r h item a (before older)
-      | inr now ↦ brought r h item s m a (same_slot item.slot s here) now.1 inside
-    ]
-sent_printed_at r h item s m a false here before e inside = later r h item a (before e)
-
-sent_printed : (r : Rules) (h : List Entry) (s : Slot) (m : List ℕ) (a : Print) → sent (place_at r.casts s) ((parts r h).calls s) ≡ Some m →
-    Has (prints_of (place_at r.casts s) r.casts.tags m) a → Has (prints_in r h) a
-sent_printed r [] s m a e inside = absurd (cc)
-sent_printed r (Given v ∷ h) s m a e inside = sent_printed r h s m a (sym (sent_given r (place_at r.casts s) h v s) ∙ e) inside
-sent_printed r (Took item ∷ h) s m a e inside =
-    sent_printed_at r h item s m a (is_slot item.slot s) refl (λ older. sent_printed r h s m a older inside)
-    (sym (sent_taken r (place_at r.casts s) h item s) ∙ e) inside
-
-printed_for : (r : Rules) (h : List Entry) (s : Slot) (a : Print) (o : Option (List ℕ)) → sent (place_at r.casts s) ((parts r h).calls s) ≡ o →
-    Has (prints_for (place_at r.casts s) r.casts.tags o) a → Has (prints_in r h) a
-printed_for r h s a None e here = elim here [ ]
-printed_for r h s a (Some m) e here = sent_printed r h s m a e here
-
--- what a replica met at a slot is among what it met at its SENDs
-pub met_printed : (r : Rules) (h : List Entry) (s : Slot) (a : Print) → Has (met (place_at r.casts s) r.casts.tags ((parts r h).calls s)) a → Has (prints_in r h) a
-met_printed r h s a here = printed_for r h s a (sent (place_at r.casts s) ((parts r h).calls s)) refl here
-
+-- ---- what was hashed
 pub print_there : (w : Setting) (states : ℕ → CoreState) (i : ℕ) (a : Print) → w.is_correct i ≡ true → i < w.numbers.n →
     Has (prints_in (rules_at w i) (states i).history) a → Has (prints_at w states) a
 print_there w states i a correct below here =

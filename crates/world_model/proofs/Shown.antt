@@ -15,8 +15,7 @@ use Rattle.layer_api.specs.Broadcast.{BroadcastRules}
 use Rattle.layer_api.specs.OneValue.{ValueLaws}
 use Rattle.layer_api.specs.Runs.{Has}
 use Rattle.layer_api.specs.Service.{ServiceRules, WordLaws}
-use Rattle.ritas_core.specs.Rules.{Rules}
-use Rattle.ritas_core.specs.RulesLaws.{laws_at, kinds_fit}
+use Rattle.ritas_core.specs.Rules.{Rules, route_of}
 use Rattle.ritas_core.specs.Parts.{Entry}
 use Rattle.ritas_core.specs.Order.{new_messages, sent_to}
 use Rattle.ritas_core.specs.Checks.{IsHistory}
@@ -33,6 +32,7 @@ use Rattle.world_model.proofs.Below.{IsFounded}
 use Rattle.world_model.proofs.Members.{has_passing}
 use Rattle.world_model.proofs.Numbered.{get_before, get_last}
 use Rattle.world_model.proofs.Conditions.{IsLaid, well_after}
+use Rattle.world_model.proofs.EveryWorld.{values_at, forms_at}
 use Rattle.world_model.proofs.FaceStates.{replica_there, face_law}
 
 -- ---- the frames of a face, and those of its replica, are made of one history
@@ -129,12 +129,12 @@ laid : (service : ServiceRules) (other : BroadcastRules) (w : Setting) → IsWor
 laid service other w is values words opened codec core = record {
   founded = λ i below. record {
     layers = record {
-      casts = λ s. subst (λ (x : BroadcastRules). ValueLaws x) (sym (is.casts s)) (laws_at w.mode other values s);
+      casts = λ s. subst (λ (x : BroadcastRules). ValueLaws x) (sym (is.casts s)) (values_at (route_of w.mode s) other values);
       words = subst (λ (x : ServiceRules). WordLaws x) (sym is.words) words;
       session = is.session;
       me = below;
       serves = subst (λ (x : ServiceRules). x.serves w.mode.root ≡ true) (sym is.words) is.serves;
-      kinds = λ s kind free. ap (λ (x : BroadcastRules). x.has_kind kind) (is.casts s) ∙ kinds_fit w.numbers w.mode other is.form s kind free;
+      kinds = forms_at service other w is i;
     };
     core = core;
   };

@@ -25,7 +25,7 @@ use Rattle.world_model.specs.declared.seen.Seen.{Seen}
 use Rattle.world_model.specs.World.{Setting, rules_at, CallAt, call_at, seen_answer, seen_call}
 use Rattle.world_model.specs.Audit.{newest_item}
 use Rattle.world_model.specs.Stands.{SeatsStand}
-use Rattle.world_model.specs.Watch.{item_taken, is_watched, watched, IsGoodIf}
+use Rattle.world_model.specs.Watch.{item_taken, watched, IsGoodIf}
 use Rattle.world_model.specs.Steps.{is_took, IsFront, IsFrameItem}
 use Rattle.world_model.proofs.Forging.{IsOpened, what_opened}
 use Rattle.world_model.proofs.Histories.{newest_taken, newest_none}
@@ -92,18 +92,14 @@ frame_takes r k st (Err fault) = newest_none st.history
 -- ---- what the watch is told of
 
 pub record IsItemOf (w : Setting) (states : ℕ → CoreState) (c : Option CallAt) (taken : Option Item) : Type 0 where
-  pub is : taken ≡ watched (item_taken w states c)
-  pub good : IsGoodIf w taken
+  pub is : taken ≡ watched w.mode (item_taken w states c)
+  pub good : IsGoodIf w (item_taken w states c)
 
 pub good_none : (w : Setting) (taken : Option Item) → taken ≡ None → IsGoodIf w taken
 good_none w taken none = subst (λ (o : Option Item). IsGoodIf w o) (sym none) tt
 
 no_item : (w : Setting) (states : ℕ → CoreState) (c : Option CallAt) (taken : Option Item) → taken ≡ None → item_taken w states c ≡ None → IsItemOf w states c taken
-no_item w states c taken none is = record { is = none ∙ ap watched (sym is); good = good_none w taken none }
-
-good_if : (w : Setting) (item : Item) (b : Bool) → IsInGrammar w.numbers w.mode item → IsGoodIf w (if b then Some item else None)
-good_if w item true good = good
-good_if w item false good = tt
+no_item w states c taken none is = record { is = none ∙ ap (watched w.mode) (sym is); good = good_none w (item_taken w states c) is }
 
 none_either : (b : Bool) (o : Option Item) → b ≡ false → (if b then o else None) ≡ None
 none_either b o missed = ap (λ x. if x then o else None) missed
@@ -112,25 +108,28 @@ none_either b o missed = ap (λ x. if x then o else None) missed
 
 -- what the code found of a frame that opened and was read
 read_item : (w : Setting) (states : ℕ → CoreState) (c : Option CallAt) (seen : Seen) (item : Item) (found : Option Item) (b : Bool) → is_took seen ≡ b → IsInGrammar w.numbers w.mode item →
-    item_taken w states c ≡ (if is_took seen then Some item else None) → (is_took seen ≡ false → found ≡ None) → (is_took seen ≡ true → found ≡ watched (Some item)) → IsItemOf w states c found
+    item_taken w states c ≡ (if is_took seen then Some item else None) → (is_took seen ≡ false → found ≡ None) → (is_took seen ≡ true → found ≡ watched w.mode (Some item)) → IsItemOf w states c found
 read_item w states c seen item found true took good takes missed is =
+    let there = takes ∙ ap (λ x. if x then Some item else None) took in
     record {
-      is = is took ∙ sym (ap watched (takes ∙ ap (λ x. if x then Some item else None) took));
-      good = subst (λ (o : Option Item). IsGoodIf w o) (sym (is took)) (good_if w item (is_watched item.kind) good);
+      is = is took ∙ sym (ap (watched w.mode) there);
+      good = subst (λ (o : Option Item). IsGoodIf w o) (sym there) good;
     }
 read_item w states c seen item found false took good takes missed is = no_item w states c found (missed took) (takes ∙ none_either (is_took seen) (Some item) took)
 
 record IsReadAt (w : Setting) (seats : Seats) (bytes : List ℕ) (seen : Seen) (found : Option Item) (o : Opening) : Type 0 where
   missed : is_took seen ≡ false → found ≡ None
-  took : (item : Item) → is_took seen ≡ true → body_answer w.numbers w.mode o.from o.body ≡ Ok item → found ≡ watched (Some item)
+  took : (item : Item) → is_took seen ≡ true → body_answer w.numbers w.mode o.from o.body ≡ Ok item → found ≡ watched w.mode (Some item)
 
 read_at : (w : Setting) (seats : Seats) (at : ℕ) (bytes : List ℕ) (seen : Seen) (found : Option Item) (o : Opening) → SeatsStand w seats → IsFrameItem seats.params seats.mode seen bytes found →
     IsOpened (w.keys at) bytes o → IsReadAt w seats bytes seen found o
 read_at w seats at bytes seen found o stand item opened = record {
   missed = item.missed;
-  took = λ x took reads. item.took x took (subst (λ (p : Numbers). IsSession p) (sym stand.numbers) stand.session) opened.whole
+  took = λ x took reads.
+      item.took x took (subst (λ (p : Numbers). IsSession p) (sym stand.numbers) stand.session) opened.whole
       (ap (λ (p : Opening). body_answer seats.params seats.mode p.from p.body) opened.parts
-      ∙ ap₂ (λ (p : Numbers) (mode : Mode). body_answer p mode o.from o.body) stand.numbers stand.mode ∙ reads);
+      ∙ ap₂ (λ (p : Numbers) (mode : Mode). body_answer p mode o.from o.body) stand.numbers stand.mode ∙ reads)
+      ∙ ap (λ (mode : Mode). watched mode (Some x)) stand.mode;
 }
 
 body_item_is : AnswersGood → (w : Setting) (seats : Seats) (states : ℕ → CoreState) (at : ℕ) (c : Option CallAt) (bytes : List ℕ) (seen : Seen) (found : Option Item) (o : Opening) (read : Result Item BodyFault) → IsSession w.numbers →
@@ -185,9 +184,10 @@ front_either : (w : Setting) (states : ℕ → CoreState) (c : Option CallAt) (a
     taken ≡ (if is_took seen then front else None) → item_taken w states c ≡ (if is_took seen then front_of (states at).inbox else None) → IsItemOf w states c taken
 front_either w states c at taken front seen true took first is takes =
     let here : taken ≡ front = is ∙ ap (λ x. if x then front else None) took in
+    let there = takes ∙ ap (λ x. if x then front_of (states at).inbox else None) took in
     record {
-      is = here ∙ first.is ∙ sym (ap watched (takes ∙ ap (λ x. if x then front_of (states at).inbox else None) took));
-      good = subst (λ (o : Option Item). IsGoodIf w o) (sym here) first.good;
+      is = here ∙ first.is ∙ sym (ap (watched w.mode) there);
+      good = subst (λ (o : Option Item). IsGoodIf w o) (sym there) first.good;
     }
 front_either w states c at taken front seen false took first is takes =
     no_item w states c taken (is ∙ none_either (is_took seen) front took) (takes ∙ none_either (is_took seen) (front_of (states at).inbox) took)

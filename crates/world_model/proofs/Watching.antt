@@ -1,9 +1,9 @@
 -- A call, as the watch of a world is told of it.
 use Rattle.std.proofs.Common.{◌≡◌, ◌≢◌, ℕ, ◌<◌, Bool, true, false, not, ◌==◌, ◌&&◌, ◌||◌, cond, Option, Some, None, List, [], ◌∷◌, ◌++◌, map, refl, sym, ◌∙◌, ap, ap₂, subst, inl, inr, arith, if◌then◌else◌}
 use Rattle.std.specs.List.{list_any, range_with_len, slice_get}
-use Rattle.std.specs.Option.{option_or}
+use Rattle.std.specs.Option.{option_or, is_none, is_some}
 use Rattle.std.proofs.lemmas.Option.{same_Some}
-use Rattle.std.proofs.lemmas.Bool.{and_parts, or_parts, eq-eqb, eqb-true, false≢true}
+use Rattle.std.proofs.lemmas.Bool.{and_parts, or_parts, or_cases, eq-eqb, eqb-true, false≢true}
 use Rattle.ritas_base.specs.declared.slot.Slot.{Slot}
 use Rattle.ritas_base.specs.declared.item.Item.{Item}
 use Rattle.ritas_base.specs.declared.item.Kind.{Kind}
@@ -11,13 +11,16 @@ use Rattle.ritas_base.specs.declared.item.Kind.TheVariants.{Send, Column}
 use Rattle.ritas_base.specs.declared.item.Kind.TheVariants as kinds
 use Rattle.ritas_base.specs.SlotOrder.{is_slot, same_slot, slot_itself}
 use Rattle.ritas_base.specs.Shortest.{option_or_none}
+use Rattle.ritas_base.specs.HistoryLaws.{kind_eq_is}
+use Rattle.ritas_base.specs.declared.mode.Mode.{Mode}
+use Rattle.ritas_base.specs.Slots.{form_of}
 use Rattle.ritas_base.specs.Messages.{Place, kind_eq}
 use Rattle.ritas_base.specs.History.{Call, Take, told, is_value, replicas}
 use Rattle.ritas_base.specs.Tags.{Tags}
-use Rattle.frame_codec.specs.Body.{IsInGrammar}
+use Rattle.frame_codec.specs.Body.{IsInGrammar, is_of_form}
 use Rattle.layer_api.specs.Runs.{Has}
 use Rattle.layer_api.specs.HasLaws.{has_either, has_left, has_right}
-use Rattle.layer_api.specs.Entries.{sent, is_claim, is_valid_for, Print, OfMessage, prints_of}
+use Rattle.layer_api.specs.Entries.{sent, is_claim, is_valid_for, Print, OfMessage, prints_of, is_hashed, prints_at_kind}
 use Rattle.frame_codec.specs.Values.{row_of}
 use Rattle.keyed_channel.specs.KeyRow.{KeyRow}
 use Rattle.keyed_channel.specs.Keyed.{tags_of}
@@ -28,24 +31,29 @@ use Rattle.world_model.specs.declared.audit.Audit.{Audit}
 use Rattle.world_model.specs.declared.audit.Audit.TheVariants as audits
 use Rattle.world_model.specs.declared.seats.Seats.{Seats}
 use Rattle.world_model.specs.declared.watch.Watch.{Watch}
+use Rattle.world_model.specs.declared.hashed.Hashed.{Hashed}
 use Rattle.world_model.specs.World.{Setting, rules_at, CallAt, handled_at, after_call}
 use Rattle.world_model.specs.Audit.{newest_item, taken_by, calls_at, place_in, given_by, is_among, is_made_up, is_forged_item, is_forged_at, prints_in, prints_by, prints_at, collide, broken_by}
 use Rattle.std.specs.BTreeMap.{BTreeMap}
 use Rattle.world_model.specs.declared.met.SlotAt.{SlotAt}
 use Rattle.world_model.specs.Met.{MetEntries, pair_of, met_with, met_for, given_in, is_expected, is_unknown}
-use Rattle.world_model.specs.Hashed.{met_at, is_same_at, HashedStand, prints_with, print_of, AreMet, Meets}
+use Rattle.world_model.specs.Hashed.{met_at, is_same_at, HashedStand, IsDigestOf, prints_with, prints_by_kind, print_of, AreMet, Meets}
 use Rattle.world_model.specs.Stands.{SeatsStand}
-use Rattle.world_model.specs.Watch.{IsAt, item_taken, is_watched, watched, is_forged_frame, IsTold, TablesStand, WatchStands, verdict_after, met_said, MeetsSend}
+use Rattle.world_model.specs.Watch.{IsAt, item_taken, is_watched, watched, IsGoodIf, is_forged_frame, IsTold, TablesStand, WatchStands, verdict_after, met_said, MeetsItem}
 use Rattle.world_model.proofs.Anywhere.{all_fail, any_of, has_among, among_from, has_number}
 use Rattle.world_model.proofs.Prints.{sent_taken, sent_given}
-use Rattle.world_model.proofs.HashedSteps.{none_collide, same_at, at_itself}
-use Rattle.world_model.proofs.Meeting.{Within, collide_within, stand_within}
+use Rattle.world_model.proofs.HashedSteps.{none_collide, clash_collides, same_at, at_itself}
+use Rattle.world_model.proofs.Meeting.{Within, collide_within, stand_within, message_clashes}
 use Rattle.world_model.proofs.Pairs.{pair_at, given_same, met_as_made}
 use Rattle.world_model.proofs.Histories.{Grew, grew, newest_taken, history_taken}
 
--- ---- a replica that takes no SEND
+-- ---- a replica of which nothing is hashed
 
--- nothing more was sent to the replica, nor met by it
+-- an item is no SEND, and of no kind that its slot's broadcast hashes
+abbrev pub IsUnhashed : Setting → Item → Type 0
+IsUnhashed w x = (kind_eq x.kind Send ≡ false) × (is_hashed (form_of w.mode x.slot) x.kind ≡ false)
+
+-- nothing more was sent to the replica, nor hashed by it
 pub record IsQuiet (w : Setting) (before after : ℕ → CoreState) (i : ℕ) : Type 0 where
   pub sends : (s : Slot) → sent (place_in w i s) (calls_at w after i s) ≡ sent (place_in w i s) (calls_at w before i s)
   pub prints : prints_in (rules_at w i) (after i).history ≡ prints_in (rules_at w i) (before i).history
@@ -67,8 +75,12 @@ quiet_taken : (w : Setting) (i : ℕ) (h : List Entry) (item : Item) (s : Slot) 
 quiet_taken w i h item s other =
     sent_taken (rules_at w i) (place_in w i s) h item s ∙ brings_none (place_in w i s) item ((parts (rules_at w i) h).calls s) (is_slot item.slot s) other
 
-print_none : (r : Rules) (h : List Entry) (item : Item) → kind_eq item.kind Send ≡ false → prints_in r (Took item ∷ h) ≡ prints_in r h
-print_none r h item other = ap (λ b. (if b then prints_of (place_at r.casts item.slot) r.casts.tags item.value else []) ++ prints_in r h) other
+-- what is hashed of an item, where it is
+abbrev prints_if : Rules → Item → Bool → List Print
+prints_if r x b = if b then prints_at_kind (place_at r.casts x.slot) r.casts.tags x.kind x.value else []
+
+print_none : (r : Rules) (h : List Entry) (item : Item) → is_hashed (form_of r.mode item.slot) item.kind ≡ false → prints_in r (Took item ∷ h) ≡ prints_in r h
+print_none r h item other = ap (λ b. prints_if r item b ++ prints_in r h) other
 
 -- the histories of a replica
 quiet_from : (w : Setting) (before after : ℕ → CoreState) (i : ℕ) (h : List Entry) → (after i).history ≡ h →
@@ -79,12 +91,12 @@ quiet_from w before after i h is sends prints = record {
 }
 
 quiet_entry : (w : Setting) (before after : ℕ → CoreState) (i : ℕ) (e : Entry) → (after i).history ≡ e ∷ (before i).history →
-    ((item : Item) → e ≡ Took item → kind_eq item.kind Send ≡ false) → IsQuiet w before after i
+    ((item : Item) → e ≡ Took item → IsUnhashed w item) → IsQuiet w before after i
 quiet_entry w before after i (Given v) is other =
     quiet_from w before after i (Given v ∷ (before i).history) is (λ s. sent_given (rules_at w i) (place_in w i s) (before i).history v s) refl
 quiet_entry w before after i (Took item) is other =
     quiet_from w before after i (Took item ∷ (before i).history) is
-    (λ s. quiet_taken w i (before i).history item s (other item refl)) (print_none (rules_at w i) (before i).history item (other item refl))
+    (λ s. quiet_taken w i (before i).history item s (other item refl).0) (print_none (rules_at w i) (before i).history item (other item refl).1)
 
 -- ---- the states after a call
 
@@ -104,7 +116,7 @@ entry_taken : (w : Setting) (states : ℕ → CoreState) (c : CallAt) (e : Entry
 entry_taken w states c e is item same =
     ap (newest_item (states c.at).history) (is ∙ ap (λ (x : Entry). x ∷ (states c.at).history) same) ∙ newest_taken (states c.at).history item
 
-quiet_called : (w : Setting) (states : ℕ → CoreState) (c : CallAt) → ((item : Item) → taken_by w states c ≡ Some item → kind_eq item.kind Send ≡ false) →
+quiet_called : (w : Setting) (states : ℕ → CoreState) (c : CallAt) → ((item : Item) → taken_by w states c ≡ Some item → IsUnhashed w item) →
     Grew (states c.at).history (handled_at w states c).state.history → IsQuiet w states (after_call w states (Some c)) c.at
 quiet_called w states c other (inl same) =
     quiet_from w states (after_call w states (Some c)) c.at (states c.at).history (ap (λ st. st.history) (called_state w states c) ∙ same) (λ s. refl) refl
@@ -112,14 +124,14 @@ quiet_called w states c other (inr more) =
     quiet_entry w states (after_call w states (Some c)) c.at more.0 (ap (λ st. st.history) (called_state w states c) ∙ more.1)
     (λ item same. other item (entry_taken w states c more.0 more.1 item same))
 
-quiet_at : (w : Setting) (states : ℕ → CoreState) (c : CallAt) → ((item : Item) → taken_by w states c ≡ Some item → kind_eq item.kind Send ≡ false) → (i : ℕ) (b : Bool) →
+quiet_at : (w : Setting) (states : ℕ → CoreState) (c : CallAt) → ((item : Item) → taken_by w states c ≡ Some item → IsUnhashed w item) → (i : ℕ) (b : Bool) →
     (c.at == i) ≡ b → IsQuiet w states (after_call w states (Some c)) i
 quiet_at w states c other i true here =
     subst (λ (k : ℕ). IsQuiet w states (after_call w states (Some c)) k) (eqb-true c.at i here)
     (quiet_called w states c other (grew (rules_at w c.at) (w.keys c.at) (states c.at) c.call))
 quiet_at w states c other i false apart = quiet_other w states c i apart
 
-quiet_all : (w : Setting) (states : ℕ → CoreState) (c : Option CallAt) → ((item : Item) → item_taken w states c ≡ Some item → kind_eq item.kind Send ≡ false) → (i : ℕ) →
+quiet_all : (w : Setting) (states : ℕ → CoreState) (c : Option CallAt) → ((item : Item) → item_taken w states c ≡ Some item → IsUnhashed w item) → (i : ℕ) →
     IsQuiet w states (after_call w states c) i
 quiet_all w states None other i = record { sends = λ s. refl; prints = refl }
 quiet_all w states (Some c) other i = quiet_at w states c other i (c.at == i) refl
@@ -133,7 +145,7 @@ prints_same w one other same p here =
     has_among (prints_by w other) (replicas w.numbers.n) from.element p from.listed
     (subst (λ ps. Has (if w.is_correct from.element then ps else []) p) (same from.element) from.inside)
 
-pub tables_stay : (w : Setting) (states : ℕ → CoreState) (c : Option CallAt) (watch : Watch) → ((item : Item) → item_taken w states c ≡ Some item → kind_eq item.kind Send ≡ false) →
+pub tables_stay : (w : Setting) (states : ℕ → CoreState) (c : Option CallAt) (watch : Watch) → ((item : Item) → item_taken w states c ≡ Some item → IsUnhashed w item) →
     TablesStand w states watch → TablesStand w (after_call w states c) watch
 tables_stay w states c watch other stand = record {
   sent = λ i s right. stand.sent i s right ∙ ap (met_for (w.keys i) s) (sym ((quiet_all w states c other i).sends s));
@@ -215,32 +227,54 @@ other_fair w states at x other =
 
 -- ---- what the audit looks at
 
-watched_some : (x : Item) (y : Item) (b : Bool) → is_watched x.kind ≡ b → (if b then Some x else None) ≡ Some y → (is_watched y.kind ≡ true) × (x ≡ y)
-watched_some x y true is e = let same : x ≡ y = cc in (subst (λ (z : Item). is_watched z.kind ≡ true) same is, same)
-watched_some x y false is e = absurd (cc)
+-- the audit looks at this item
+abbrev pub is_looked : Mode → Item → Bool
+is_looked mode x = is_watched (form_of mode x.slot) x.kind
 
-pub watched_is : (o : Option Item) (y : Item) → watched o ≡ Some y → (is_watched y.kind ≡ true) × (o ≡ Some y)
-watched_is None y e = absurd (cc)
-watched_is (Some x) y e = let is = watched_some x y (is_watched x.kind) refl e in (is.0, ap (λ (z : Item). Some z) is.1)
+watched_some : (mode : Mode) (x : Item) (y : Item) (b : Bool) → is_looked mode x ≡ b → (if b then Some x else None) ≡ Some y → (is_looked mode y ≡ true) × (x ≡ y)
+watched_some mode x y true is e = let same : x ≡ y = cc in (subst (λ (z : Item). is_looked mode z ≡ true) same is, same)
+watched_some mode x y false is e = absurd (cc)
 
-unwatched_some : (x : Item) (b : Bool) → is_watched x.kind ≡ b → (if b then Some x else None) ≡ None → is_watched x.kind ≡ false
-unwatched_some x true is e = absurd (cc)
-unwatched_some x false is e = is
+pub watched_is : (mode : Mode) (o : Option Item) (y : Item) → watched mode o ≡ Some y → (is_looked mode y ≡ true) × (o ≡ Some y)
+watched_is mode None y e = absurd (cc)
+watched_is mode (Some x) y e = let is = watched_some mode x y (is_looked mode x) refl e in (is.0, ap (λ (z : Item). Some z) is.1)
 
-pub unwatched : (o : Option Item) (x : Item) → watched o ≡ None → o ≡ Some x → is_watched x.kind ≡ false
-unwatched None x e is = absurd (cc)
-unwatched (Some y) x e is = let same : y ≡ x = cc in subst (λ (z : Item). is_watched z.kind ≡ false) same (unwatched_some y (is_watched y.kind) refl e)
+unwatched_some : (mode : Mode) (x : Item) (b : Bool) → is_looked mode x ≡ b → (if b then Some x else None) ≡ None → is_looked mode x ≡ false
+unwatched_some mode x true is e = absurd (cc)
+unwatched_some mode x false is e = is
 
-neither : (kind : Kind) → is_watched kind ≡ false → (kind_eq kind Send ≡ false) × (kind_eq kind Column ≡ false)
-neither kind e = or_parts (kind_eq kind Send) (kind_eq kind Column) e
+pub unwatched : (mode : Mode) (o : Option Item) (x : Item) → watched mode o ≡ None → o ≡ Some x → is_looked mode x ≡ false
+unwatched mode None x e is = absurd (cc)
+unwatched mode (Some y) x e is = let same : y ≡ x = cc in subst (λ (z : Item). is_looked mode z ≡ false) same (unwatched_some mode y (is_looked mode y) refl e)
+
+neither : (form : ℕ) (kind : Kind) → is_watched form kind ≡ false → (is_hashed form kind ≡ false) × (kind_eq kind Column ≡ false)
+neither form kind e = or_parts (is_hashed form kind) (kind_eq kind Column) e
+
+-- a SEND of the grammar is hashed
+no_send : (form : ℕ) (kind : Kind) → is_of_form form kind ≡ true → is_hashed form kind ≡ false → kind_eq kind Send ≡ false
+no_send form kinds.Init of_form other = refl
+no_send form kinds.Echo of_form other = refl
+no_send form kinds.Ready of_form other = refl
+no_send form kinds.Send of_form other = absurd (false≢true (sym other ∙ of_form))
+no_send form kinds.Hashes of_form other = refl
+no_send form kinds.Column of_form other = refl
+no_send form kinds.Want of_form other = refl
+no_send form kinds.Value of_form other = refl
+
+-- what the audit doesn't look at isn't hashed
+pub unlooked : (w : Setting) (o : Option Item) (x : Item) → IsGoodIf w o → watched w.mode o ≡ None → o ≡ Some x → IsUnhashed w x
+unlooked w o x good none is =
+    let in_grammar : IsInGrammar w.numbers w.mode x = subst (λ (p : Option Item). IsGoodIf w p) is good in
+    let parts = neither (form_of w.mode x.slot) x.kind (unwatched w.mode o x none is) in
+    (no_send (form_of w.mode x.slot) x.kind in_grammar.kind parts.0, parts.0)
 
 -- ---- whether a call forges
 
-fair_item : (w : Setting) (states : ℕ → CoreState) (at : ℕ) (o : Option Item) → watched o ≡ None → is_forged_item w states at o ≡ false
+fair_item : (w : Setting) (states : ℕ → CoreState) (at : ℕ) (o : Option Item) → watched w.mode o ≡ None → is_forged_item w states at o ≡ false
 fair_item w states at None none = refl
-fair_item w states at (Some x) none = other_fair w states at x (neither x.kind (unwatched (Some x) x none refl)).1
+fair_item w states at (Some x) none = other_fair w states at x (neither (form_of w.mode x.slot) x.kind (unwatched w.mode (Some x) x none refl)).1
 
-pub fair_call : (w : Setting) (states : ℕ → CoreState) (c : Option CallAt) → is_forged_frame w states c ≡ false → watched (item_taken w states c) ≡ None → is_forged_at w states c ≡ false
+pub fair_call : (w : Setting) (states : ℕ → CoreState) (c : Option CallAt) → is_forged_frame w states c ≡ false → watched w.mode (item_taken w states c) ≡ None → is_forged_at w states c ≡ false
 fair_call w states None fair none = refl
 fair_call w states (Some c) fair none = ap₂ (λ a b. a || b) fair (fair_item w states c.at (taken_by w states c) none)
 
@@ -304,11 +338,11 @@ still_holds w states c watch number fair stand found =
     record { found = found ∙ sym holds; tables = λ e. stand }
 
 -- nothing that the audit looks at was taken
-pub nothing_watched : (w : Setting) (states : ℕ → CoreState) (c : Option CallAt) (watch : Watch) (number : ℕ) → is_forged_frame w states c ≡ false → watched (item_taken w states c) ≡ None →
-    WatchStands w states audits.Holds watch → WatchStands w (after_call w states c) (verdict_after w states c audits.Holds number) watch
-nothing_watched w states c watch number fair none stand =
+pub nothing_watched : (w : Setting) (states : ℕ → CoreState) (c : Option CallAt) (watch : Watch) (number : ℕ) → is_forged_frame w states c ≡ false → watched w.mode (item_taken w states c) ≡ None →
+    IsGoodIf w (item_taken w states c) → WatchStands w states audits.Holds watch → WatchStands w (after_call w states c) (verdict_after w states c audits.Holds number) watch
+nothing_watched w states c watch number fair none good stand =
     still_holds w states c watch number (fair_call w states c fair none)
-    (tables_stay w states c watch (λ item is. (neither item.kind (unwatched (item_taken w states c) item none is)).0) (stand.tables refl)) stand.found
+    (tables_stay w states c watch (λ item is. unlooked w (item_taken w states c) item good none is) (stand.tables refl)) stand.found
 
 -- ---- columns, as the code has it
 
@@ -345,9 +379,9 @@ pub none_made_up : (w : Setting) (states : ℕ → CoreState) (at : ℕ) (x : It
     false ≡ is_forged_item w states at (Some x)
 none_made_up w states at x n all none = sym (subst (λ (k : ℕ). list_any (is_made_up w states at x) (range_with_len 0 k) ≡ false) all none)
 
--- ---- SENDs
+-- ---- an item that is hashed
 
--- what the replica with its keys meets
+-- what the replica with its keys hashes
 met_here : (w : Setting) (at : ℕ) (s : Slot) (m : List ℕ) → (w.keys at).me ≡ at → (w.keys at).n ≡ w.numbers.n →
     prints_with (w.keys at) s m ≡ prints_of (place_in w at s) (tags_of (w.keys at)) m
 met_here w at s m me n =
@@ -355,23 +389,34 @@ met_here w at s m me n =
     let d = (tags_of k).digest m in
     ap₂ (λ (i : ℕ) (count : ℕ). OfMessage m d ∷ map (λ v. print_of k s d i v) (replicas count) ++ map (λ e. print_of k s d e i) (replicas count)) me n
 
--- the replica took a SEND
-pub record TakesSend (w : Setting) (states : ℕ → CoreState) (c : CallAt) (x : Item) : Type 0 where
+hashed_here : (w : Setting) (at : ℕ) (s : Slot) (kind : Kind) (m : List ℕ) → (w.keys at).me ≡ at → (w.keys at).n ≡ w.numbers.n →
+    prints_by_kind (w.keys at) s kind m ≡ prints_at_kind (place_in w at s) (tags_of (w.keys at)) kind m
+hashed_here w at s kinds.Init m me n = refl
+hashed_here w at s kinds.Echo m me n = refl
+hashed_here w at s kinds.Ready m me n = refl
+hashed_here w at s kinds.Send m me n = met_here w at s m me n
+hashed_here w at s kinds.Hashes m me n = refl
+hashed_here w at s kinds.Column m me n = refl
+hashed_here w at s kinds.Want m me n = refl
+hashed_here w at s kinds.Value m me n = refl
+
+-- the replica took an item of a kind that its slot's broadcast hashes
+pub record TakesItem (w : Setting) (states : ℕ → CoreState) (c : CallAt) (x : Item) : Type 0 where
   pub right : w.is_correct c.at ≡ true
   pub below : c.at < w.numbers.n
   pub history : (handled_at w states c).state.history ≡ Took x ∷ (states c.at).history
-  pub kind : kind_eq x.kind Send ≡ true
+  pub kind : is_hashed (form_of w.mode x.slot) x.kind ≡ true
 
-history_after : (w : Setting) (states : ℕ → CoreState) (c : CallAt) (x : Item) → TakesSend w states c x → (after_call w states (Some c) c.at).history ≡ Took x ∷ (states c.at).history
+history_after : (w : Setting) (states : ℕ → CoreState) (c : CallAt) (x : Item) → TakesItem w states c x → (after_call w states (Some c) c.at).history ≡ Took x ∷ (states c.at).history
 history_after w states c x takes = ap (λ st. st.history) (called_state w states c) ∙ takes.history
 
--- what it met
-prints_after : (w : Setting) (states : ℕ → CoreState) (c : CallAt) (x : Item) → TakesSend w states c x →
-    prints_by w (after_call w states (Some c)) c.at ≡ prints_of (place_in w c.at x.slot) (tags_of (w.keys c.at)) x.value ++ prints_in (rules_at w c.at) (states c.at).history
+-- what it hashed
+prints_after : (w : Setting) (states : ℕ → CoreState) (c : CallAt) (x : Item) → TakesItem w states c x →
+    prints_by w (after_call w states (Some c)) c.at ≡ prints_at_kind (place_in w c.at x.slot) (tags_of (w.keys c.at)) x.kind x.value ++ prints_in (rules_at w c.at) (states c.at).history
 prints_after w states c x takes =
     let r = rules_at w c.at in
     ap₂ (λ b h. if b then prints_in r h else []) takes.right (history_after w states c x takes)
-    ∙ ap (λ b. (if b then prints_of (place_in w c.at x.slot) (tags_of (w.keys c.at)) x.value else []) ++ prints_in r (states c.at).history) takes.kind
+    ∙ ap (λ b. prints_if r x b ++ prints_in r (states c.at).history) takes.kind
 
 prints_before : (w : Setting) (states : ℕ → CoreState) (i : ℕ) → w.is_correct i ≡ true → prints_by w states i ≡ prints_in (rules_at w i) (states i).history
 prints_before w states i right = ap (λ b. if b then prints_in (rules_at w i) (states i).history else []) right
@@ -379,13 +424,10 @@ prints_before w states i right = ap (λ b. if b then prints_in (rules_at w i) (s
 prints_other : (w : Setting) (states : ℕ → CoreState) (c : CallAt) (i : ℕ) → (c.at == i) ≡ false → prints_by w (after_call w states (Some c)) i ≡ prints_by w states i
 prints_other w states c i other = ap (λ ps. if w.is_correct i then ps else []) (quiet_other w states c i other).prints
 
-new_prints : Setting → CallAt → Item → List Print
-new_prints w c x = prints_of (place_in w c.at x.slot) (tags_of (w.keys c.at)) x.value
-
-after_from : (w : Setting) (states : ℕ → CoreState) (c : CallAt) (x : Item) → TakesSend w states c x → (i : ℕ) (p : Print) → Has (replicas w.numbers.n) i → (b : Bool) → (c.at == i) ≡ b →
-    Has (prints_by w (after_call w states (Some c)) i) p → Has (prints_of (place_in w c.at x.slot) (tags_of (w.keys c.at)) x.value ++ prints_at w states) p
+after_from : (w : Setting) (states : ℕ → CoreState) (c : CallAt) (x : Item) → TakesItem w states c x → (i : ℕ) (p : Print) → Has (replicas w.numbers.n) i → (b : Bool) → (c.at == i) ≡ b →
+    Has (prints_by w (after_call w states (Some c)) i) p → Has (prints_at_kind (place_in w c.at x.slot) (tags_of (w.keys c.at)) x.kind x.value ++ prints_at w states) p
 after_from w states c x takes i p listed true here inside =
-    let new = prints_of (place_in w c.at x.slot) (tags_of (w.keys c.at)) x.value in
+    let new = prints_at_kind (place_in w c.at x.slot) (tags_of (w.keys c.at)) x.kind x.value in
     let same = eqb-true c.at i here in
     let now : Has (prints_by w (after_call w states (Some c)) c.at) p = subst (λ (k : ℕ). Has (prints_by w (after_call w states (Some c)) k) p) (sym same) inside in
     elim (has_either new (prints_in (rules_at w c.at) (states c.at).history) p (subst (λ ps. Has ps p) (prints_after w states c x takes) now)) [
@@ -395,36 +437,36 @@ after_from w states c x takes i p listed true here inside =
           (subst (λ ps. Has ps p) (sym (prints_before w states c.at takes.right)) older))
     ]
 after_from w states c x takes i p listed false other inside =
-    has_right (prints_of (place_in w c.at x.slot) (tags_of (w.keys c.at)) x.value) (prints_at w states) p
+    has_right (prints_at_kind (place_in w c.at x.slot) (tags_of (w.keys c.at)) x.kind x.value) (prints_at w states) p
     (has_among (prints_by w states) (replicas w.numbers.n) i p listed (subst (λ ps. Has ps p) (prints_other w states c i other) inside))
 
-after_within : (w : Setting) (states : ℕ → CoreState) (c : CallAt) (x : Item) → TakesSend w states c x →
-    Within (prints_at w (after_call w states (Some c))) (prints_of (place_in w c.at x.slot) (tags_of (w.keys c.at)) x.value ++ prints_at w states)
+after_within : (w : Setting) (states : ℕ → CoreState) (c : CallAt) (x : Item) → TakesItem w states c x →
+    Within (prints_at w (after_call w states (Some c))) (prints_at_kind (place_in w c.at x.slot) (tags_of (w.keys c.at)) x.kind x.value ++ prints_at w states)
 after_within w states c x takes p here =
     let from = among_from (prints_by w (after_call w states (Some c))) (replicas w.numbers.n) p here in
     after_from w states c x takes from.element p from.listed (c.at == from.element) refl from.inside
 
-at_taker : (w : Setting) (states : ℕ → CoreState) (c : CallAt) (x : Item) → TakesSend w states c x → (p : Print) →
-    Has (prints_of (place_in w c.at x.slot) (tags_of (w.keys c.at)) x.value ++ prints_in (rules_at w c.at) (states c.at).history) p → Has (prints_at w (after_call w states (Some c))) p
+at_taker : (w : Setting) (states : ℕ → CoreState) (c : CallAt) (x : Item) → TakesItem w states c x → (p : Print) →
+    Has (prints_at_kind (place_in w c.at x.slot) (tags_of (w.keys c.at)) x.kind x.value ++ prints_in (rules_at w c.at) (states c.at).history) p → Has (prints_at w (after_call w states (Some c))) p
 at_taker w states c x takes p inside =
     has_among (prints_by w (after_call w states (Some c))) (replicas w.numbers.n) c.at p (has_number 0 w.numbers.n c.at (omega arith) (let below = takes.below in omega arith))
     (subst (λ ps. Has ps p) (sym (prints_after w states c x takes)) inside)
 
-older_there : (w : Setting) (states : ℕ → CoreState) (c : CallAt) (x : Item) → TakesSend w states c x → (i : ℕ) (p : Print) → Has (replicas w.numbers.n) i → (b : Bool) → (c.at == i) ≡ b →
+older_there : (w : Setting) (states : ℕ → CoreState) (c : CallAt) (x : Item) → TakesItem w states c x → (i : ℕ) (p : Print) → Has (replicas w.numbers.n) i → (b : Bool) → (c.at == i) ≡ b →
     Has (prints_by w states i) p → Has (prints_at w (after_call w states (Some c))) p
 older_there w states c x takes i p listed true here inside =
     let same = eqb-true c.at i here in
     let there : Has (prints_by w states c.at) p = subst (λ (k : ℕ). Has (prints_by w states k) p) (sym same) inside in
     at_taker w states c x takes p
-    (has_right (prints_of (place_in w c.at x.slot) (tags_of (w.keys c.at)) x.value) (prints_in (rules_at w c.at) (states c.at).history) p
+    (has_right (prints_at_kind (place_in w c.at x.slot) (tags_of (w.keys c.at)) x.kind x.value) (prints_in (rules_at w c.at) (states c.at).history) p
     (subst (λ ps. Has ps p) (prints_before w states c.at takes.right) there))
 older_there w states c x takes i p listed false other inside =
     has_among (prints_by w (after_call w states (Some c))) (replicas w.numbers.n) i p listed (subst (λ ps. Has ps p) (sym (prints_other w states c i other)) inside)
 
-within_after : (w : Setting) (states : ℕ → CoreState) (c : CallAt) (x : Item) → TakesSend w states c x →
-    Within (prints_of (place_in w c.at x.slot) (tags_of (w.keys c.at)) x.value ++ prints_at w states) (prints_at w (after_call w states (Some c)))
+within_after : (w : Setting) (states : ℕ → CoreState) (c : CallAt) (x : Item) → TakesItem w states c x →
+    Within (prints_at_kind (place_in w c.at x.slot) (tags_of (w.keys c.at)) x.kind x.value ++ prints_at w states) (prints_at w (after_call w states (Some c)))
 within_after w states c x takes p here =
-    let new = prints_of (place_in w c.at x.slot) (tags_of (w.keys c.at)) x.value in
+    let new = prints_at_kind (place_in w c.at x.slot) (tags_of (w.keys c.at)) x.kind x.value in
     elim (has_either new (prints_at w states) p here) [
       | inl first ↦ at_taker w states c x takes p (has_left new (prints_in (rules_at w c.at) (states c.at).history) p first)
       | inr older ↦
@@ -440,28 +482,22 @@ met_either k s None m false = refl
 met_either k s (Some v) m true = refl
 met_either k s (Some v) m false = refl
 
-said_here : (w : Setting) (states : ℕ → CoreState) (c : CallAt) (x : Item) → TakesSend w states c x → (s : Slot) (b : Bool) → is_slot x.slot s ≡ b →
+said_here : (w : Setting) (states : ℕ → CoreState) (c : CallAt) (x : Item) (s : Slot) (b : Bool) → is_slot x.slot s ≡ b →
     met_for (w.keys c.at) s (sends_in w c.at s (Took x ∷ (states c.at).history))
     ≡ (if b then option_or (met_for (w.keys c.at) s (sends_in w c.at s (states c.at).history)) (met_said (w.keys c.at) x)
     else met_for (w.keys c.at) s (sends_in w c.at s (states c.at).history))
-said_here w states c x takes s true here =
+said_here w states c x s true here =
     let k = w.keys c.at in
     let h = (states c.at).history in
     let same = same_slot x.slot s here in
     ap (met_for k s) (sent_taken (rules_at w c.at) (place_in w c.at s) h x s ∙ ap (λ b. sent (place_in w c.at s) (cond b (Take x ∷ (parts (rules_at w c.at) h).calls s) ((parts (rules_at w c.at) h).calls s))) here)
-    ∙ ap (λ b. met_for k s (option_or (sends_in w c.at s h) (if x.from == s.origin && b then Some x.value else None))) takes.kind
-    ∙ ap (λ b. met_for k s (option_or (sends_in w c.at s h) (if b then Some x.value else None))) (and_true (x.from == s.origin))
-    ∙ met_either k s (sends_in w c.at s h) x.value (x.from == s.origin)
-    ∙ ap (λ (q : Slot). option_or (met_for k s (sends_in w c.at s h)) (if x.from == q.origin then Some (met_with k q ((tags_of k).digest x.value)) else None)) (sym same)
-  where
-    and_true : (b : Bool) → (b && true) ≡ b
-    and_true true = refl
-    and_true false = refl
-said_here w states c x takes s false other =
+    ∙ met_either k s (sends_in w c.at s h) x.value (x.from == s.origin && kind_eq x.kind Send)
+    ∙ ap (λ (q : Slot). option_or (met_for k s (sends_in w c.at s h)) (if x.from == q.origin && kind_eq x.kind Send then Some (met_with k q ((tags_of k).digest x.value)) else None)) (sym same)
+said_here w states c x s false other =
     ap (met_for (w.keys c.at) s) (sent_taken (rules_at w c.at) (place_in w c.at s) (states c.at).history x s
     ∙ ap (λ b. sent (place_in w c.at s) (cond b (Take x ∷ (parts (rules_at w c.at) (states c.at).history).calls s) ((parts (rules_at w c.at) (states c.at).history).calls s))) other)
 
-said_there : (w : Setting) (states : ℕ → CoreState) (c : CallAt) (x : Item) → TakesSend w states c x → (i : ℕ) (s : Slot) (b : Bool) → (c.at == i) ≡ b →
+said_there : (w : Setting) (states : ℕ → CoreState) (c : CallAt) (x : Item) → TakesItem w states c x → (i : ℕ) (s : Slot) (b : Bool) → (c.at == i) ≡ b →
     met_for (w.keys i) s (sent (place_in w i s) (calls_at w (after_call w states (Some c)) i s))
     ≡ (if b && is_slot x.slot s then option_or (met_for (w.keys i) s (sent (place_in w i s) (calls_at w states i s))) (met_said (w.keys c.at) x)
     else met_for (w.keys i) s (sent (place_in w i s) (calls_at w states i s)))
@@ -469,7 +505,7 @@ said_there w states c x takes i s true here =
     subst (λ (k : ℕ). met_for (w.keys k) s (sent (place_in w k s) (calls_at w (after_call w states (Some c)) k s))
     ≡ (if is_slot x.slot s then option_or (met_for (w.keys k) s (sent (place_in w k s) (calls_at w states k s))) (met_said (w.keys c.at) x)
     else met_for (w.keys k) s (sent (place_in w k s) (calls_at w states k s)))) (eqb-true c.at i here)
-    (ap (λ h. met_for (w.keys c.at) s (sends_in w c.at s h)) (history_after w states c x takes) ∙ said_here w states c x takes s (is_slot x.slot s) refl)
+    (ap (λ h. met_for (w.keys c.at) s (sends_in w c.at s h)) (history_after w states c x takes) ∙ said_here w states c x s (is_slot x.slot s) refl)
 said_there w states c x takes i s false other = ap (met_for (w.keys i) s) ((quiet_other w states c i other).sends s)
 
 -- one slot at one replica
@@ -487,7 +523,7 @@ at_parts s q i j false apart = differ (i == j && is_slot s q) refl
         subst (λ (k : ℕ). is_same_at s i q k ≡ true) (eqb-true i j both.0) (subst (λ (x : Slot). is_same_at s i x i ≡ true) (same_slot s q both.1) (at_itself s i)) in
         absurd (false≢true (sym apart ∙ same))
 
-pub sent_after : (w : Setting) (states : ℕ → CoreState) (c : CallAt) (x : Item) (old new : Watch) (k : KeyRow) → TakesSend w states c x → TablesStand w states old → k ≡ w.keys c.at →
+pub sent_after : (w : Setting) (states : ℕ → CoreState) (c : CallAt) (x : Item) (old new : Watch) (k : KeyRow) → TakesItem w states c x → TablesStand w states old → k ≡ w.keys c.at →
     ((s : Slot) (i : ℕ) → met_at new.sent.table s i ≡ (if is_same_at x.slot c.at s i then option_or (met_at old.sent.table s i) (met_said k x) else met_at old.sent.table s i)) →
     (i : ℕ) (s : Slot) → w.is_correct i ≡ true → met_at new.sent.table s i ≡ met_for (w.keys i) s (sent (place_in w i s) (calls_at w (after_call w states (Some c)) i s))
 sent_after w states c x old new k takes stand keys put i s right =
@@ -499,45 +535,101 @@ sent_after w states c x old new k takes stand keys put i s right =
 
 -- ---- a SEND, as the code has it
 
-met_said_is : (k : KeyRow) (x : Item) (met : MetEntries) → x.from ≡ x.slot.origin → met ≡ met_with k x.slot ((tags_of k).digest x.value) → Some met ≡ met_said k x
-met_said_is k x met origin is =
-    ap (λ (y : MetEntries). Some y) is ∙ sym (ap (λ b. if b then Some (met_with k x.slot ((tags_of k).digest x.value)) else None) (eq-eqb x.from x.slot.origin origin))
-
-unsaid_at : (k : KeyRow) (x : Item) (b : Bool) → (x.from == x.slot.origin) ≡ b → (x.from ≡ x.slot.origin → ⊥) → met_said k x ≡ None
-unsaid_at k x true same apart = absurd (apart (eqb-true x.from x.slot.origin same))
-unsaid_at k x false other apart = ap (λ b. if b then Some (met_with k x.slot ((tags_of k).digest x.value)) else None) other
+met_said_is : (k : KeyRow) (x : Item) (met : MetEntries) → x.from ≡ x.slot.origin → x.kind ≡ Send → met ≡ met_with k x.slot ((tags_of k).digest x.value) → Some met ≡ met_said k x
+met_said_is k x met origin kind is =
+    ap (λ (y : MetEntries). Some y) is
+    ∙ sym (ap₂ (λ a b. if a && kind_eq b Send then Some (met_with k x.slot ((tags_of k).digest x.value)) else None) (eq-eqb x.from x.slot.origin origin) kind)
 
 -- what is added is what the item brings
-pub said_added : (old new : BTreeMap SlotAt MetEntries) (k : KeyRow) (at : ℕ) (x : Item) (met : MetEntries) → x.from ≡ x.slot.origin → met ≡ met_with k x.slot ((tags_of k).digest x.value) →
+pub said_added : (old new : BTreeMap SlotAt MetEntries) (k : KeyRow) (at : ℕ) (x : Item) (met : MetEntries) → x.from ≡ x.slot.origin → x.kind ≡ Send → met ≡ met_with k x.slot ((tags_of k).digest x.value) →
     ((s : Slot) (i : ℕ) → met_at new s i ≡ (if is_same_at x.slot at s i then option_or (met_at old s i) (Some met) else met_at old s i)) →
     (s : Slot) (i : ℕ) → met_at new s i ≡ (if is_same_at x.slot at s i then option_or (met_at old s i) (met_said k x) else met_at old s i)
-said_added old new k at x met origin is put s i =
-    put s i ∙ ap (λ o. if is_same_at x.slot at s i then option_or (met_at old s i) o else met_at old s i) (met_said_is k x met origin is)
+said_added old new k at x met origin kind is put s i =
+    put s i ∙ ap (λ o. if is_same_at x.slot at s i then option_or (met_at old s i) o else met_at old s i) (met_said_is k x met origin kind is)
 
 -- nothing is added where it brings nothing
-pub nothing_said : (table : BTreeMap SlotAt MetEntries) (k : KeyRow) (at : ℕ) (x : Item) → (x.from ≡ x.slot.origin → ⊥) → (s : Slot) (i : ℕ) →
+pub nothing_said : (table : BTreeMap SlotAt MetEntries) (k : KeyRow) (at : ℕ) (x : Item) → (x.from == x.slot.origin && kind_eq x.kind Send) ≡ false → (s : Slot) (i : ℕ) →
     met_at table s i ≡ (if is_same_at x.slot at s i then option_or (met_at table s i) (met_said k x) else met_at table s i)
-nothing_said table k at x apart s i =
+nothing_said table k at x none s i =
     stays (is_same_at x.slot at s i) (met_at table s i)
-    ∙ ap (λ o. if is_same_at x.slot at s i then option_or (met_at table s i) o else met_at table s i) (sym (unsaid_at k x (x.from == x.slot.origin) refl apart))
+    ∙ ap (λ b. if is_same_at x.slot at s i then option_or (met_at table s i) (if b then Some (met_with k x.slot ((tags_of k).digest x.value)) else None) else met_at table s i) (sym none)
   where
     stays : (b : Bool) (o : Option MetEntries) → o ≡ (if b then option_or o None else o)
     stays true o = sym (option_or_none o)
     stays false o = refl
 
-pub meets_send : (old new : Watch) (k same : KeyRow) (at : ℕ) (x : Item) (v : List ℕ) (met : MetEntries) (found clash : Bool) → found ≡ clash → same ≡ k → v ≡ x.value →
-    met ≡ met_with k x.slot ((tags_of k).digest x.value) → new.verdict ≡ old.verdict →
-    (met ≡ met_with same x.slot ((tags_of same).digest v) → (prints : List Print) → HashedStand old.hashed prints → Meets new.hashed (prints_with same x.slot v) prints found) →
-    (clash ≡ false → (s : Slot) (i : ℕ) → met_at new.sent.table s i ≡ (if is_same_at x.slot at s i then option_or (met_at old.sent.table s i) (met_said k x) else met_at old.sent.table s i)) →
-    MeetsSend old new k at x clash
-meets_send old new k same at x v met found clash clashes keys value is verdict adds put = record {
-  verdict = verdict;
-  hashed = λ prints stand.
-      let there = is ∙ ap₂ (λ (y : KeyRow) (u : List ℕ). met_with y x.slot ((tags_of y).digest u)) (sym keys) (sym value) in
-      subst (λ b. Meets new.hashed (prints_with k x.slot x.value) prints b) clashes
-      (subst (λ (ps : List Print). Meets new.hashed ps prints found) (ap₂ (λ (y : KeyRow) (u : List ℕ). prints_with y x.slot u) keys value) (adds there prints stand));
-  sent = put;
-}
+-- it isn't from the origin
+pub from_another : (x : Item) → (x.from ≡ x.slot.origin → ⊥) → (x.from == x.slot.origin && kind_eq x.kind Send) ≡ false
+from_another x apart = by (x.from == x.slot.origin) refl
+  where
+    by : (b : Bool) → (x.from == x.slot.origin) ≡ b → (b && kind_eq x.kind Send) ≡ false
+    by true same = absurd (apart (eqb-true x.from x.slot.origin same))
+    by false other = refl
+
+-- or it is no SEND
+pub of_another_kind : (x : Item) → kind_eq x.kind Send ≡ false → (x.from == x.slot.origin && kind_eq x.kind Send) ≡ false
+of_another_kind x other = ap (λ b. x.from == x.slot.origin && b) other ∙ and_false (x.from == x.slot.origin)
+  where
+    and_false : (b : Bool) → (b && false) ≡ false
+    and_false true = refl
+    and_false false = refl
+
+-- the digest of its message, as it was answered
+pub digest_is : (w : Setting) (states : ℕ → CoreState) (old : Watch) (new : Hashed) (k : KeyRow) (x : Item) (v d : List ℕ) → TablesStand w states old → v ≡ x.value →
+    ((prints : List Print) → HashedStand old.hashed prints → IsDigestOf new k v prints (Some d)) → d ≡ (tags_of k).digest x.value
+digest_is w states old new k x v d stand value found = (found (prints_at w states) stand.hashed).0 ∙ ap (tags_of k).digest value
+
+-- a SEND has what is hashed of one
+as_send : (new : Hashed) (k : KeyRow) (x : Item) (v : List ℕ) (prints : List Print) (clash : Bool) → v ≡ x.value → x.kind ≡ Send →
+    Meets new (prints_with k x.slot v) prints clash → Meets new (prints_by_kind k x.slot x.kind x.value) prints clash
+as_send new k x v prints clash value kind meets =
+    subst (λ (y : Kind). Meets new (prints_by_kind k x.slot y x.value) prints clash) (sym kind)
+    (subst (λ (u : List ℕ). Meets new (prints_with k x.slot u) prints clash) value meets)
+
+pub send_clashes : (new : Hashed) (k : KeyRow) (x : Item) (v : List ℕ) (prints : List Print) → v ≡ x.value → x.kind ≡ Send → IsDigestOf new k v prints None →
+    Meets new (prints_by_kind k x.slot x.kind x.value) prints true
+send_clashes new k x v prints value kind clash = as_send new k x v prints true value kind (message_clashes k x.slot v prints clash)
+
+pub send_meets : (mid new : Hashed) (k same : KeyRow) (x : Item) (v d : List ℕ) (met : MetEntries) (clash : Bool) (prints : List Print) → same ≡ k → v ≡ x.value → x.kind ≡ Send → met ≡ met_with k x.slot d →
+    IsDigestOf mid k v prints (Some d) →
+    ((m : List ℕ) → met ≡ met_with same x.slot ((tags_of same).digest m) → (ps : List Print) → HashedStand mid (OfMessage m ((tags_of same).digest m) ∷ ps) → Meets new (prints_with same x.slot m) ps clash) →
+    Meets new (prints_by_kind k x.slot x.kind x.value) prints clash
+send_meets mid new k same x v d met clash prints keys value kind is found adds =
+    let there : HashedStand mid (OfMessage v ((tags_of k).digest v) ∷ prints) = subst (λ (y : List ℕ). HashedStand mid (OfMessage v y ∷ prints)) found.0 found.1 in
+    let own : met ≡ met_with same x.slot ((tags_of same).digest v) =
+    is ∙ ap (met_with k x.slot) found.0 ∙ ap (λ (y : KeyRow). met_with y x.slot ((tags_of y).digest v)) (sym keys) in
+    as_send new k x v prints clash value kind (subst (λ (y : KeyRow). Meets new (prints_with y x.slot v) prints clash) keys (adds v own prints there))
+
+-- ---- another item that is hashed, as the code has it
+
+message_alone : (k : KeyRow) (s : Slot) (kind : Kind) (m : List ℕ) → kind_eq kind Send ≡ false → OfMessage m ((tags_of k).digest m) ∷ [] ≡ prints_by_kind k s kind m
+message_alone k s kinds.Init m other = refl
+message_alone k s kinds.Echo m other = refl
+message_alone k s kinds.Ready m other = refl
+message_alone k s kinds.Send m other = absurd (cc)
+message_alone k s kinds.Hashes m other = refl
+message_alone k s kinds.Column m other = refl
+message_alone k s kinds.Want m other = refl
+message_alone k s kinds.Value m other = refl
+
+message_meets : (new : Hashed) (k : KeyRow) (m : List ℕ) (prints : List Print) (found : Option (List ℕ)) → IsDigestOf new k m prints found → Meets new (OfMessage m ((tags_of k).digest m) ∷ []) prints (is_none found)
+message_meets new k m prints None clash =
+    let p = OfMessage m ((tags_of k).digest m) in
+    clash_collides p prints (p ∷ prints) (inl refl) (λ x there. inr there) clash
+message_meets new k m prints (Some d) found = subst (λ (y : List ℕ). HashedStand new (OfMessage m y ∷ prints)) found.0 found.1
+
+none_so : (found : Option (List ℕ)) (clash : Bool) → is_some found ≡ not clash → is_none found ≡ clash
+none_so None true e = refl
+none_so None false e = absurd (cc)
+none_so (Some d) true e = absurd (cc)
+none_so (Some d) false e = refl
+
+pub hash_meets : (new : Hashed) (k : KeyRow) (x : Item) (v : List ℕ) (prints : List Print) (found : Option (List ℕ)) (clash : Bool) → v ≡ x.value → kind_eq x.kind Send ≡ false → is_some found ≡ not clash →
+    IsDigestOf new k v prints found → Meets new (prints_by_kind k x.slot x.kind x.value) prints clash
+hash_meets new k x v prints found clash value other none is =
+    subst (λ (ps : List Print). Meets new ps prints clash) (message_alone k x.slot x.kind x.value other)
+    (subst (λ (u : List ℕ). Meets new (OfMessage u ((tags_of k).digest u) ∷ []) prints clash) value
+    (subst (λ b. Meets new (OfMessage v ((tags_of k).digest v) ∷ []) prints b) (none_so found clash none) (message_meets new k v prints found is)))
 
 -- ---- an item that the audit looks at
 
@@ -547,20 +639,20 @@ pub record IsItem (w : Setting) (states : ℕ → CoreState) (c : Option CallAt)
   pub below : at < w.numbers.n
   pub fair : is_forged_frame w states c ≡ false
   pub good : IsInGrammar w.numbers w.mode x
-  pub watched : is_watched x.kind ≡ true
+  pub watched : is_looked w.mode x ≡ true
   pub holds : watch.verdict ≡ audits.Holds
   pub tables : TablesStand w states watch
 
 pub item_is : (w : Setting) (states : ℕ → CoreState) (c : Option CallAt) (at : ℕ) (x : Item) (watch : Watch) → ((i : ℕ) → w.is_correct i ≡ true → i < w.numbers.n) → IsTold w states c at false (Some x) →
     WatchStands w states audits.Holds watch → IsItem w states c at x watch
 item_is w states c at x watch within told stand =
-    let is = watched_is (item_taken w states c) x (sym told.item) in
+    let is = watched_is w.mode (item_taken w states c) x (sym told.item) in
     let taking = is_taking w states c at x told.place is.1 in
     record {
       taking = taking;
       below = within at taking.right;
       fair = sym told.frame;
-      good = told.good;
+      good = subst (λ (o : Option Item). IsGoodIf w o) is.1 told.good;
       watched = is.0;
       holds = stand.found;
       tables = stand.tables refl;
@@ -570,85 +662,100 @@ item_is w states c at x watch within told stand =
 item_forges : (w : Setting) (states : ℕ → CoreState) (c : Option CallAt) (at : ℕ) (x : Item) (watch : Watch) → IsItem w states c at x watch → is_forged_at w states c ≡ is_forged_item w states at (Some x)
 item_forges w states c at x watch is = taking_forges w states c at x is.taking is.fair
 
-takes_send : (w : Setting) (states : ℕ → CoreState) (c : Option CallAt) (at : ℕ) (x : Item) (watch : Watch) → (is : IsItem w states c at x watch) → kind_eq x.kind Send ≡ true → TakesSend w states is.taking.call x
-takes_send w states c at x watch is kind =
+-- an item that isn't a column is hashed
+hashed_kind : (form : ℕ) (kind : Kind) → is_watched form kind ≡ true → kind_eq kind Column ≡ false → is_hashed form kind ≡ true
+hashed_kind form kind looked other = elim (or_cases (is_hashed form kind) (kind_eq kind Column) looked) [
+  | inl hashed ↦ hashed
+  | inr column ↦ absurd (false≢true (sym other ∙ column))
+]
+
+takes_item : (w : Setting) (states : ℕ → CoreState) (c : Option CallAt) (at : ℕ) (x : Item) (watch : Watch) → (is : IsItem w states c at x watch) → kind_eq x.kind Column ≡ false → TakesItem w states is.taking.call x
+takes_item w states c at x watch is other =
     let call = is.taking.call in
     record {
       right = ap w.is_correct is.taking.place ∙ is.taking.right;
       below = subst (λ (k : ℕ). k < w.numbers.n) (sym is.taking.place) is.below;
       history = history_taken (states call.at).history (handled_at w states call).state.history x (grew (rules_at w call.at) (w.keys call.at) (states call.at) call.call) is.taking.taken;
-      kind = kind;
+      kind = hashed_kind (form_of w.mode x.slot) x.kind is.watched other;
     }
 
-send_no_column : (kind : Kind) → kind_eq kind Send ≡ true → kind_eq kind Column ≡ false
-send_no_column kinds.Init e = absurd (cc)
-send_no_column kinds.Echo e = absurd (cc)
-send_no_column kinds.Ready e = absurd (cc)
-send_no_column kinds.Send e = refl
-send_no_column kinds.Hashes e = absurd (cc)
-send_no_column kinds.Column e = absurd (cc)
+-- a column isn't hashed
+column_unhashed : (form : ℕ) (kind : Kind) → kind_eq kind Column ≡ true → (kind_eq kind Send ≡ false) × (is_hashed form kind ≡ false)
+column_unhashed form kinds.Init e = absurd (cc)
+column_unhashed form kinds.Echo e = absurd (cc)
+column_unhashed form kinds.Ready e = absurd (cc)
+column_unhashed form kinds.Send e = absurd (cc)
+column_unhashed form kinds.Hashes e = absurd (cc)
+column_unhashed form kinds.Column e = (refl, refl)
+column_unhashed form kinds.Want e = absurd (cc)
+column_unhashed form kinds.Value e = absurd (cc)
 
-column_no_send : (kind : Kind) → kind_eq kind Column ≡ true → kind_eq kind Send ≡ false
-column_no_send kinds.Init e = absurd (cc)
-column_no_send kinds.Echo e = absurd (cc)
-column_no_send kinds.Ready e = absurd (cc)
-column_no_send kinds.Send e = absurd (cc)
-column_no_send kinds.Hashes e = absurd (cc)
-column_no_send kinds.Column e = refl
-
-send_fair : (w : Setting) (states : ℕ → CoreState) (c : Option CallAt) (at : ℕ) (x : Item) (watch : Watch) → IsItem w states c at x watch → kind_eq x.kind Send ≡ true → is_forged_at w states c ≡ false
-send_fair w states c at x watch is kind = item_forges w states c at x watch is ∙ other_fair w states at x (send_no_column x.kind kind)
+item_fair : (w : Setting) (states : ℕ → CoreState) (c : Option CallAt) (at : ℕ) (x : Item) (watch : Watch) → IsItem w states c at x watch → kind_eq x.kind Column ≡ false → is_forged_at w states c ≡ false
+item_fair w states c at x watch is other = item_forges w states c at x watch is ∙ other_fair w states at x other
 
 -- what the maps met, by the place
-meets_here : (w : Setting) (states : ℕ → CoreState) (seats : Seats) (at : ℕ) (x : Item) (old new : Watch) (k : KeyRow) (clash : Bool) → SeatsStand w seats → at < w.numbers.n → k ≡ w.keys at → TablesStand w states old →
-    MeetsSend old new k at x clash → Meets new.hashed (prints_of (place_in w at x.slot) (tags_of (w.keys at)) x.value) (prints_at w states) clash
-meets_here w states seats at x old new k clash seats_stand below keys stand meets =
+meets_here : (w : Setting) (states : ℕ → CoreState) (seats : Seats) (at : ℕ) (x : Item) (old new : Watch) (clash : Bool) → SeatsStand w seats → at < w.numbers.n → TablesStand w states old →
+    MeetsItem old new (w.keys at) at x clash → Meets new.hashed (prints_at_kind (place_in w at x.slot) (tags_of (w.keys at)) x.kind x.value) (prints_at w states) clash
+meets_here w states seats at x old new clash seats_stand below stand meets =
     let own = seats_stand.own at below in
-    subst (λ (ps : List Print). Meets new.hashed ps (prints_at w states) clash)
-    (ap (λ (y : KeyRow). prints_with y x.slot x.value) keys ∙ met_here w at x.slot x.value own.0 own.1)
+    subst (λ (ps : List Print). Meets new.hashed ps (prints_at w states) clash) (hashed_here w at x.slot x.kind x.value own.0 own.1)
     (meets.hashed (prints_at w states) stand.hashed)
 
-pub send_collides : (w : Setting) (states : ℕ → CoreState) (c : Option CallAt) (at : ℕ) (x : Item) (old mid new : Watch) (seats : Seats) (k : KeyRow) (clash : Bool) (number : ℕ) →
-    SeatsStand w seats → IsItem w states c at x old → kind_eq x.kind Send ≡ true → k ≡ w.keys at → MeetsSend old mid k at x clash → clash ≡ true → new.verdict ≡ audits.Collision number →
+pub no_column : (kind : Kind) → (kind ≡ Column → ⊥) → kind_eq kind Column ≡ false
+no_column kind other = by (kind_eq kind Column) refl
+  where
+    by : (b : Bool) → kind_eq kind Column ≡ b → kind_eq kind Column ≡ false
+    by true same = absurd (other (kind_eq_is kind Column same))
+    by false e = e
+
+pub no_send_there : (kind : Kind) → (kind ≡ Send → ⊥) → kind_eq kind Send ≡ false
+no_send_there kind other = by (kind_eq kind Send) refl
+  where
+    by : (b : Bool) → kind_eq kind Send ≡ b → kind_eq kind Send ≡ false
+    by true same = absurd (other (kind_eq_is kind Send same))
+    by false e = e
+
+pub item_collides : (w : Setting) (states : ℕ → CoreState) (c : Option CallAt) (at : ℕ) (x : Item) (old mid new : Watch) (seats : Seats) (clash : Bool) (number : ℕ) →
+    SeatsStand w seats → IsItem w states c at x old → kind_eq x.kind Column ≡ false → MeetsItem old mid (w.keys at) at x clash → clash ≡ true → new.verdict ≡ audits.Collision number →
     WatchStands w (after_call w states c) (verdict_after w states c audits.Holds number) new
-send_collides w states c at x old mid new seats k clash number seats_stand is kind keys meets clashed found =
-    let P : Bool → Type 0 = λ b. Meets mid.hashed (prints_of (place_in w at x.slot) (tags_of (w.keys at)) x.value) (prints_at w states) b in
-    let colliding : collide (prints_of (place_in w at x.slot) (tags_of (w.keys at)) x.value ++ prints_at w states) ≡ true =
-    subst P clashed (meets_here w states seats at x old mid k clash seats_stand is.below keys is.tables meets) in
+item_collides w states c at x old mid new seats clash number seats_stand is other meets clashed found =
+    let P : Bool → Type 0 = λ b. Meets mid.hashed (prints_at_kind (place_in w at x.slot) (tags_of (w.keys at)) x.kind x.value) (prints_at w states) b in
+    let colliding : collide (prints_at_kind (place_in w at x.slot) (tags_of (w.keys at)) x.kind x.value ++ prints_at w states) ≡ true =
+    subst P clashed (meets_here w states seats at x old mid clash seats_stand is.below is.tables meets) in
     let call = is.taking.call in
-    let there : collide (prints_of (place_in w call.at x.slot) (tags_of (w.keys call.at)) x.value ++ prints_at w states) ≡ true =
-    subst (λ (i : ℕ). collide (prints_of (place_in w i x.slot) (tags_of (w.keys i)) x.value ++ prints_at w states) ≡ true) (sym is.taking.place) colliding in
+    let there : collide (prints_at_kind (place_in w call.at x.slot) (tags_of (w.keys call.at)) x.kind x.value ++ prints_at w states) ≡ true =
+    subst (λ (i : ℕ). collide (prints_at_kind (place_in w i x.slot) (tags_of (w.keys i)) x.kind x.value ++ prints_at w states) ≡ true) (sym is.taking.place) colliding in
     let after : collide (prints_at w (after_call w states (Some call))) ≡ true =
-    collide_within (prints_of (place_in w call.at x.slot) (tags_of (w.keys call.at)) x.value ++ prints_at w states) (prints_at w (after_call w states (Some call)))
-    (within_after w states call x (takes_send w states c at x old is kind)) there in
-    now_collides w states c new number (send_fair w states c at x old is kind)
+    collide_within (prints_at_kind (place_in w call.at x.slot) (tags_of (w.keys call.at)) x.kind x.value ++ prints_at w states) (prints_at w (after_call w states (Some call)))
+    (within_after w states call x (takes_item w states c at x old is other)) there in
+    now_collides w states c new number (item_fair w states c at x old is other)
     (ap (λ (d : Option CallAt). collide (prints_at w (after_call w states d))) is.taking.called ∙ after) found
 
-send_tables : (w : Setting) (states : ℕ → CoreState) (c : Option CallAt) (at : ℕ) (x : Item) (old new : Watch) (seats : Seats) (k : KeyRow) (clash : Bool) →
-    SeatsStand w seats → (is : IsItem w states c at x old) → kind_eq x.kind Send ≡ true → k ≡ w.keys at → MeetsSend old new k at x clash → clash ≡ false →
+item_tables : (w : Setting) (states : ℕ → CoreState) (c : Option CallAt) (at : ℕ) (x : Item) (old new : Watch) (seats : Seats) (clash : Bool) →
+    SeatsStand w seats → (is : IsItem w states c at x old) → kind_eq x.kind Column ≡ false → MeetsItem old new (w.keys at) at x clash → clash ≡ false →
     TablesStand w (after_call w states (Some is.taking.call)) new
-send_tables w states c at x old new seats k clash seats_stand is kind keys meets apart =
+item_tables w states c at x old new seats clash seats_stand is other meets apart =
     let call = is.taking.call in
-    let takes = takes_send w states c at x old is kind in
-    let P : Bool → Type 0 = λ b. Meets new.hashed (prints_of (place_in w at x.slot) (tags_of (w.keys at)) x.value) (prints_at w states) b in
-    let here : HashedStand new.hashed (prints_of (place_in w at x.slot) (tags_of (w.keys at)) x.value ++ prints_at w states) =
-    subst P apart (meets_here w states seats at x old new k clash seats_stand is.below keys is.tables meets) in
-    let there : HashedStand new.hashed (prints_of (place_in w call.at x.slot) (tags_of (w.keys call.at)) x.value ++ prints_at w states) =
-    subst (λ (i : ℕ). HashedStand new.hashed (prints_of (place_in w i x.slot) (tags_of (w.keys i)) x.value ++ prints_at w states)) (sym is.taking.place) here in
+    let takes = takes_item w states c at x old is other in
+    let P : Bool → Type 0 = λ b. Meets new.hashed (prints_at_kind (place_in w at x.slot) (tags_of (w.keys at)) x.kind x.value) (prints_at w states) b in
+    let here : HashedStand new.hashed (prints_at_kind (place_in w at x.slot) (tags_of (w.keys at)) x.kind x.value ++ prints_at w states) =
+    subst P apart (meets_here w states seats at x old new clash seats_stand is.below is.tables meets) in
+    let there : HashedStand new.hashed (prints_at_kind (place_in w call.at x.slot) (tags_of (w.keys call.at)) x.kind x.value ++ prints_at w states) =
+    subst (λ (i : ℕ). HashedStand new.hashed (prints_at_kind (place_in w i x.slot) (tags_of (w.keys i)) x.kind x.value ++ prints_at w states)) (sym is.taking.place) here in
     record {
-      sent = sent_after w states call x old new k takes is.tables (keys ∙ ap w.keys (sym is.taking.place))
-          (subst (λ (j : ℕ). (s : Slot) (i : ℕ) → met_at new.sent.table s i ≡ (if is_same_at x.slot j s i then option_or (met_at old.sent.table s i) (met_said k x) else met_at old.sent.table s i))
+      sent = sent_after w states call x old new (w.keys at) takes is.tables (ap w.keys (sym is.taking.place))
+          (subst (λ (j : ℕ). (s : Slot) (i : ℕ) → met_at new.sent.table s i ≡ (if is_same_at x.slot j s i then option_or (met_at old.sent.table s i) (met_said (w.keys at) x) else met_at old.sent.table s i))
           (sym is.taking.place) (meets.sent apart));
-      hashed = stand_within new.hashed (prints_of (place_in w call.at x.slot) (tags_of (w.keys call.at)) x.value ++ prints_at w states) (prints_at w (after_call w states (Some call)))
+      hashed = stand_within new.hashed (prints_at_kind (place_in w call.at x.slot) (tags_of (w.keys call.at)) x.kind x.value ++ prints_at w states) (prints_at w (after_call w states (Some call)))
           (within_after w states call x takes) (after_within w states call x takes) there;
     }
 
-pub send_holds : (w : Setting) (states : ℕ → CoreState) (c : Option CallAt) (at : ℕ) (x : Item) (old new : Watch) (seats : Seats) (k : KeyRow) (clash : Bool) (number : ℕ) →
-    SeatsStand w seats → IsItem w states c at x old → kind_eq x.kind Send ≡ true → k ≡ w.keys at → MeetsSend old new k at x clash → clash ≡ false →
+pub item_holds : (w : Setting) (states : ℕ → CoreState) (c : Option CallAt) (at : ℕ) (x : Item) (old new : Watch) (seats : Seats) (clash : Bool) (number : ℕ) →
+    SeatsStand w seats → IsItem w states c at x old → kind_eq x.kind Column ≡ false → MeetsItem old new (w.keys at) at x clash → clash ≡ false →
     WatchStands w (after_call w states c) (verdict_after w states c audits.Holds number) new
-send_holds w states c at x old new seats k clash number seats_stand is kind keys meets apart =
-    still_holds w states c new number (send_fair w states c at x old is kind)
-    (subst (λ (d : Option CallAt). TablesStand w (after_call w states d) new) (sym is.taking.called) (send_tables w states c at x old new seats k clash seats_stand is kind keys meets apart))
+item_holds w states c at x old new seats clash number seats_stand is other meets apart =
+    still_holds w states c new number (item_fair w states c at x old is other)
+    (subst (λ (d : Option CallAt). TablesStand w (after_call w states d) new) (sym is.taking.called) (item_tables w states c at x old new seats clash seats_stand is other meets apart))
     (meets.verdict ∙ is.holds)
 
 -- a column
@@ -663,12 +770,10 @@ pub column_holds : (w : Setting) (states : ℕ → CoreState) (c : Option CallAt
     WatchStands w (after_call w states c) (verdict_after w states c audits.Holds number) watch
 column_holds w states c at x watch forges number is kind says fair =
     still_holds w states c watch number (item_forges w states c at x watch is ∙ sym says ∙ fair)
-    (tables_stay w states c watch (λ item taken. same_kind item (item_taken_is item taken)) is.tables) is.holds
+    (tables_stay w states c watch
+    (λ item taken. subst (λ (y : Item). IsUnhashed w y) (item_taken_is item taken) (column_unhashed (form_of w.mode x.slot) x.kind kind)) is.tables) is.holds
   where
     item_taken_is : (item : Item) → item_taken w states c ≡ Some item → x ≡ item
     item_taken_is item taken =
         let same : Some x ≡ Some item = sym (ap (item_taken w states) is.taking.called ∙ is.taking.taken) ∙ taken in
         cc
-
-    same_kind : (item : Item) → x ≡ item → kind_eq item.kind Send ≡ false
-    same_kind item same = subst (λ (y : Item). kind_eq y.kind Send ≡ false) same (column_no_send x.kind kind)

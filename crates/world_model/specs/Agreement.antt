@@ -5,13 +5,14 @@ use Rattle.ritas_base.specs.declared.slot.Slot.{Slot}
 use Rattle.ritas_base.specs.declared.item.Item.{Item}
 use Rattle.ritas_base.specs.Numbers.{IsSession}
 use Rattle.ritas_base.specs.History.{started}
+use Rattle.layer_api.specs.EntryLaws.{EntryLaws}
 use Rattle.layer_api.specs.OneValue.{OneValue, ValueLaws}
 use Rattle.layer_api.specs.Service.{WordLaws, said}
 use Rattle.layer_api.specs.Words.{said_value}
 use Rattle.ritas_base.specs.Slots.{command_slot}
 use Rattle.frame_codec.specs.Body.{IsInGrammar, spelling, body_answer}
 use Rattle.keyed_channel.specs.Frames.{Opening, opening, sealed}
-use Rattle.ritas_core.specs.Rules.{KindsFit, seat_of, out_at}
+use Rattle.ritas_core.specs.Rules.{FormsFit, seat_of, out_at}
 use Rattle.ritas_core.specs.Parts.{Entry, Took, Given, parts}
 use Rattle.world_model.specs.declared.audit.Audit.TheVariants.{Holds}
 use Rattle.world_model.specs.World.{Setting, rules_at, states_of}
@@ -64,9 +65,10 @@ pub record IsSound (w : Setting) : Type 0 where
   pub within : (i : ℕ) → w.is_correct i ≡ true → i < w.numbers.n
   pub casts : (s : Slot) → ValueLaws (w.at_slot s)
   pub one_value : (s : Slot) → OneValue (w.at_slot s)
+  pub entries : (s : Slot) → EntryLaws (w.at_slot s)
   pub words : WordLaws w.service
   pub serves : w.service.serves w.mode.root ≡ true
-  pub kinds : KindsFit w.numbers w.mode w.at_slot
+  pub kinds : (i : ℕ) → FormsFit w.mode (rules_at w i).casts
   pub channel : Channel w
   pub codec : Codec w
 

@@ -5,12 +5,12 @@ use Rattle.std.specs.Str.{bytes_eq}
 use Rattle.ritas_base.specs.declared.event.Event.{Event}
 use Rattle.ritas_base.specs.declared.slot.Slot.{Slot}
 use Rattle.ritas_base.specs.declared.item.Item.{Item}
-use Rattle.ritas_base.specs.declared.item.Kind.TheVariants.{Send}
 use Rattle.ritas_base.specs.Numbers.{wait_of}
 use Rattle.ritas_base.specs.History.{replicas, Call as BroadcastCall}
-use Rattle.ritas_base.specs.Messages.{Place, kind_eq}
+use Rattle.ritas_base.specs.Messages.{Place}
+use Rattle.ritas_base.specs.Slots.{form_of}
 use Rattle.ritas_base.specs.SlotOrder.{is_slot}
-use Rattle.layer_api.specs.Entries.{given, is_claim, EntryInput, Print, OfMessage, OfEntry, prints_of}
+use Rattle.layer_api.specs.Entries.{given, is_claim, EntryInput, Print, OfMessage, OfEntry, is_hashed, prints_at_kind}
 use Rattle.frame_codec.specs.Values.{row_of}
 use Rattle.keyed_channel.specs.Keyed.{tags_of}
 use Rattle.keyed_channel.specs.Frames.{Opening, opening}
@@ -82,14 +82,14 @@ is_forged_at w states (Some c) = is_forged_call w states c.at c.call || is_forge
 abbrev pub is_forged : Setting → List Event → Event → Bool
 is_forged w es e = is_forged_at w (states_before w es) (call_of w (states_before w es) e)
 
--- what a replica met at the SENDs that it took
+-- what a replica hashed of what it took: of each item of a kind that its slot's broadcast hashes
 abbrev pub prints_in : Rules → List Entry → List Print
 prints_in r [] = []
 prints_in r (Given v ∷ h) = prints_in r h
 prints_in r (Took x ∷ h) =
-    (if kind_eq x.kind Send then prints_of (place_at r.casts x.slot) r.casts.tags x.value else []) ++ prints_in r h
+    (if is_hashed (form_of r.mode x.slot) x.kind then prints_at_kind (place_at r.casts x.slot) r.casts.tags x.kind x.value else []) ++ prints_in r h
 
--- what correct replicas met
+-- what correct replicas hashed
 abbrev pub prints_by : Setting → (ℕ → CoreState) → ℕ → List Print
 prints_by w states i = if w.is_correct i then prints_in (rules_at w i) (states i).history else []
 
@@ -109,7 +109,7 @@ clashes (OfEntry x d) (OfMessage v e) = false
 abbrev pub collide : List Print → Bool
 collide prints = list_any (λ a. list_any (clashes a) prints) prints
 
--- the SENDs that correct replicas took in these events collide
+-- what correct replicas hashed of what they took in these events collides
 abbrev pub is_colliding : Setting → List Event → Bool
 is_colliding w es = collide (prints_at w (states_of w es))
 

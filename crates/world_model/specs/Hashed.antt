@@ -1,10 +1,14 @@
--- What a world keeps of the messages that were sent, and what its tables stand for.
+-- What a world keeps of the messages that were sent and hashed, and what its tables stand for.
 use Rattle.std.specs.Prelude.{◌≡◌, ℕ, Bool, true, false, List, [], ◌∷◌, ◌++◌, map, Option, Some, None}
 use Rattle.std.specs.declared.cmp.Ordering.{Ordering}
 use Rattle.std.specs.Ordering.{nat_cmp, then_cmp, on}
 use Rattle.std.specs.Cmp.Lexicographic.{slice_cmp}
-use Rattle.std.specs.BTreeMap.{BTreeMap, get, is_at}
+use Rattle.std.specs.BTreeMap.{BTreeMap, get, get_by, is_at}
+use Rattle.std.specs.BTreeSet.{contains}
+use Rattle.sha2.specs.Sha256.{sha256}
 use Rattle.ritas_base.specs.declared.slot.Slot.{Slot}
+use Rattle.ritas_base.specs.declared.item.Kind.{Kind}
+use Rattle.ritas_base.specs.declared.item.Kind.TheVariants.{Send}
 use Rattle.ritas_base.specs.SlotOrder.{slot_cmp}
 use Rattle.ritas_base.specs.History.{replicas}
 use Rattle.layer_api.specs.Runs.{Has}
@@ -50,16 +54,24 @@ abbrev pub input_in : Option HashedEntry → Option EntryInput
 input_in None = None
 input_in (Some x) = Some (input_of x)
 
-abbrev pub message_at : Hashed → List ℕ → Option (List ℕ)
-message_at hashed digest = get image_cmp hashed.messages digest
+-- the digest of a message
+abbrev pub digest_at : Hashed → List ℕ → Option (List ℕ)
+digest_at hashed message = get_by (λ k. image_cmp message k.items) hashed.messages
+
+abbrev pub has_digest : Hashed → List ℕ → Bool
+has_digest hashed digest = contains image_cmp hashed.digests digest
 
 abbrev pub input_at : Hashed → List ℕ → Option EntryInput
 input_at hashed entry = input_in (get image_cmp hashed.entries entry)
 
--- the maps have these prints, and no others
+-- the maps have these prints, and no others; the set has just the digests of the messages, and each is of one message
 pub record HashedStand (hashed : Hashed) (prints : List Print) : Type 0 where
-  pub messages : (m d : List ℕ) → Has prints (OfMessage m d) → message_at hashed d ≡ Some m
-  pub no_other_message : (m d : List ℕ) → message_at hashed d ≡ Some m → Has prints (OfMessage m d)
+  pub messages : (m d : List ℕ) → Has prints (OfMessage m d) → digest_at hashed m ≡ Some d
+  pub no_other_message : (m d : List ℕ) → digest_at hashed m ≡ Some d → Has prints (OfMessage m d)
+  pub right : (m d : List ℕ) → digest_at hashed m ≡ Some d → d ≡ sha256 m
+  pub digests : (m d : List ℕ) → digest_at hashed m ≡ Some d → has_digest hashed d ≡ true
+  pub no_other_digest : (d : List ℕ) → has_digest hashed d ≡ true → (m : List ℕ) × (digest_at hashed m ≡ Some d)
+  pub one_message : (m v d : List ℕ) → digest_at hashed m ≡ Some d → digest_at hashed v ≡ Some d → m ≡ v
   pub entries : (x : EntryInput) (e : List ℕ) → Has prints (OfEntry x e) → input_at hashed e ≡ Some x
   pub no_other_entry : (x : EntryInput) (e : List ℕ) → input_at hashed e ≡ Some x → Has prints (OfEntry x e)
 
@@ -73,6 +85,11 @@ pub record Clash (p : Print) (prints : List Print) : Type 0 where
 abbrev pub Adds : Hashed → Print → List Print → Bool → Type 0
 Adds new p prints true = Clash p prints
 Adds new p prints false = HashedStand new (p ∷ prints)
+
+-- what came of a message: none where it clashes with another, or else its digest, and it is kept
+abbrev pub IsDigestOf : Hashed → KeyRow → List ℕ → List Print → Option (List ℕ) → Type 0
+IsDigestOf new k m prints None = Clash (OfMessage m ((tags_of k).digest m)) prints
+IsDigestOf new k m prints (Some d) = (d ≡ (tags_of k).digest m) × HashedStand new (OfMessage m d ∷ prints)
 
 -- these prints more
 abbrev pub Meets : Hashed → List Print → List Print → Bool → Type 0
@@ -94,3 +111,8 @@ prints_with k s m =
     OfMessage m ((tags_of k).digest m)
     ∷ map (λ verifier. print_of k s ((tags_of k).digest m) k.me verifier) (replicas k.n)
     ++ map (λ echoer. print_of k s ((tags_of k).digest m) echoer k.me) (replicas k.n)
+
+-- what it hashes of a message of this kind: of a SEND the entries too
+abbrev pub prints_by_kind : KeyRow → Slot → Kind → List ℕ → List Print
+prints_by_kind k s Send m = prints_with k s m
+prints_by_kind k s _ m = OfMessage m ((tags_of k).digest m) ∷ []

@@ -1,6 +1,6 @@
 -- What an event needs memory for: only where a replica reads, takes or holds something of it, or the world keeps something, can it be
 -- without.
-use Rattle.std.specs.Prelude.{◌≡◌, ◌≢◌, ℕ, true, List, [], Option, Some, None, ⊤}
+use Rattle.std.specs.Prelude.{◌≡◌, ◌≢◌, ℕ, true, [], Option, Some, None, ⊤}
 use Rattle.ritas_base.specs.declared.event.Event.{Event}
 use Rattle.ritas_base.specs.declared.event.Event.TheVariants as events
 use Rattle.ritas_core.specs.Rules.{Rules}

@@ -1,14 +1,19 @@
--- Worked rows: what an event is to a replica, which fault an audit names, what two things hashed are alike in, which logs of
--- commands agree, and counts.
-use Rattle.std.specs.Prelude.{◌≡◌, ℕ, true, false, nat_lt, ◌==◌, ◌&&◌, List, [], ◌∷◌, Option, Some, None, refl}
+-- Worked rows: what an event is to a replica, which fault an audit names, what is hashed, what two things hashed are alike in,
+-- which logs of commands agree, and counts.
+use Rattle.std.specs.Prelude.{◌≡◌, ℕ, true, false, nat_lt, ◌==◌, ◌&&◌, List, [], ◌∷◌, length, Option, Some, None, refl}
+use Rattle.sha2.specs.Sha256.{sha256}
 use Rattle.std.proofs.Common.{lit≤, ap, inl, arith}
-use Rattle.ritas_base.specs.Slots.{command_slot}
+use Rattle.ritas_base.specs.Slots.{command_slot, by_echo, form_of}
 use Rattle.ritas_base.specs.declared.event.Event.{Event}
 use Rattle.ritas_base.specs.declared.event.Event.TheVariants as events
 use Rattle.ritas_base.specs.declared.id.Id.{Id}
 use Rattle.ritas_base.specs.declared.item.Item.{Item}
-use Rattle.ritas_base.specs.declared.item.Kind.TheVariants.{Init}
+use Rattle.ritas_base.specs.declared.item.Kind.{Kind}
+use Rattle.ritas_base.specs.declared.item.Kind.TheVariants.{Init, Echo, Ready, Send, Value}
+use Rattle.ritas_base.specs.declared.mode.Mode.{Mode}
+use Rattle.ritas_base.specs.declared.mode.FrameVersion.{FrameVersion}
 use Rattle.ritas_base.specs.declared.mode.Vect.TheVariants.{Reliable}
+use Rattle.ritas_base.specs.declared.mode.FrameVersion.TheVariants.{One, Two}
 use Rattle.layer_api.specs.Entries.{EntryInput, OfMessage, OfEntry}
 use Rattle.layer_api.specs.Service.{ServiceRules, Undecided, IsPart}
 use Rattle.command_log.specs.Rows.{Row, command_rows}
@@ -19,13 +24,14 @@ use Rattle.ritas_core.specs.declared.answer.Answer.TheVariants as answers
 use Rattle.ritas_core.specs.declared.fault.CoreFault.TheVariants as faults
 use Rattle.ritas_core.specs.Machine.{CoreState}
 use Rattle.ritas_core.specs.Parts.{Took, Given}
+use Rattle.ritas_core.specs.Rules.{Rules}
 use Rattle.replica.specs.declared.frame.OutFrame.{OutFrame}
 use Rattle.replica.specs.declared.refusal.Refusal.TheVariants as refusals
 use Rattle.replica.specs.Handling.{Frame, Turn}
 use Rattle.world_model.specs.declared.audit.Audit.TheVariants as audits
 use Rattle.world_model.specs.declared.seen.Seen.TheVariants as seen_as
-use Rattle.world_model.specs.World.{Setting, call_of, states_of, seen_of}
-use Rattle.world_model.specs.Audit.{newest_item, clashes, broken_by, judged, has_too_many, audit_of}
+use Rattle.world_model.specs.World.{Setting, rules_at, call_of, states_of, seen_of}
+use Rattle.world_model.specs.Audit.{newest_item, prints_in, clashes, broken_by, judged, has_too_many, audit_of}
 use Rattle.world_model.specs.Agreement.{input_at}
 use Rattle.world_model.specs.Agree.{OneIsPart}
 use Rattle.world_model.specs.Counts.{no_counts, counted}
@@ -51,12 +57,12 @@ silent = record {
 abbrev pub world_of : ℕ → Setting
 world_of right = record {
   numbers = record { n = 4; f = 1 };
-  mode = record { root = 1; vect = Reliable; low = lit≤ tt; high = lit≤ tt };
+  mode = record { root = 1; vect = Reliable; version = One; low = lit≤ tt; high = lit≤ tt };
   is_correct = λ i. nat_lt i right;
   at_slot = λ s. bracha;
   service = silent;
   coin = λ i s. false;
-  keys = λ i. record { session = 5; n = 4; me = i; row = [] };
+  keys = λ i. record { session = 5; n = 4; me = i; row = []; version = One };
   stops = λ k i. k == 0 && i == 1;
 }
 
@@ -71,7 +77,7 @@ correct_turn states = refl
 
 -- a body is sealed with the sender's keys, for the receiver, and with the number 0
 sealed_frame : (states : ℕ → CoreState) → call_of (world_of 3) states (events.Sealed 3 0 (7 ∷ []))
-    ≡ Some (record { at = 0; call = Frame (sealed (record { session = 5; n = 4; me = 3; row = [] }) 0 0 (7 ∷ [])) })
+    ≡ Some (record { at = 0; call = Frame (sealed (record { session = 5; n = 4; me = 3; row = []; version = One }) 0 0 (7 ∷ [])) })
 sealed_frame states = refl
 
 -- a faulty replica made no frames, and a correct one none yet
@@ -158,7 +164,47 @@ not_newly = refl
 no_item : newest_item [] (Given (5 ∷ []) ∷ []) ≡ None
 no_item = refl
 
--- inputs are numbered from the oldest
+-- ---- what is hashed
+
+-- replica 0 in root service 1, where commands go by reliable broadcast, and in root service 2, where they go by echo broadcast
+abbrev in_mode : Mode → Rules
+in_mode mode = rules_at (record (world_of 3) { mode = mode }) 0
+
+abbrev by_reliable : FrameVersion → Rules
+by_reliable version = in_mode (record { root = 1; vect = Reliable; version = version; low = lit≤ tt; high = lit≤ tt })
+
+abbrev in_echoes : FrameVersion → Rules
+in_echoes version = in_mode (record { root = 2; vect = Reliable; version = version; low = lit≤ tt; high = lit≤ tt })
+
+abbrev of_kind : Kind → Item
+of_kind kind = record init { kind = kind }
+
+-- in version 2 an INIT that was taken is hashed, and in version 1 it isn't
+init_hashed : prints_in (by_reliable Two) (Took init ∷ []) ≡ OfMessage (7 ∷ []) (sha256 (7 ∷ [])) ∷ []
+unfolding form_of by_echo
+init_hashed = refl
+
+init_not_hashed : prints_in (by_reliable One) (Took init ∷ []) ≡ []
+unfolding form_of by_echo
+init_not_hashed = refl
+
+-- so is a VALUE, and an ECHO and a READY carry a digest
+value_hashed : prints_in (by_reliable Two) (Took (of_kind Value) ∷ []) ≡ OfMessage (7 ∷ []) (sha256 (7 ∷ [])) ∷ []
+unfolding form_of by_echo
+value_hashed = refl
+
+votes_not_hashed : prints_in (by_reliable Two) (Took (of_kind Ready) ∷ Took (of_kind Echo) ∷ []) ≡ []
+unfolding form_of by_echo
+votes_not_hashed = refl
+
+-- of a SEND each entry is hashed too, in either version: replica 0's for each of four, and each one's for replica 0
+sends_hashed : (length (prints_in (in_echoes One) (Took (of_kind Send) ∷ [])) ≡ 9) × (length (prints_in (in_echoes Two) (Took (of_kind Send) ∷ [])) ≡ 9)
+unfolding form_of by_echo
+sends_hashed = (refl, refl)
+
+-- ---- inputs
+
+-- they are numbered from the oldest
 first_input : input_at (Given (6 ∷ []) ∷ Took init ∷ Given (5 ∷ []) ∷ []) 0 ≡ Some (5 ∷ [])
 first_input = refl
 

@@ -4,6 +4,7 @@ use Rattle.std.specs.List.{slice_get}
 use Rattle.ritas_base.specs.declared.bytes.Mem.{Mem}
 use Rattle.ritas_base.specs.declared.event.Event.{Event}
 use Rattle.ritas_base.specs.declared.mode.Mode.{Mode}
+use Rattle.ritas_base.specs.declared.mode.FrameVersion.{FrameVersion}
 use Rattle.ritas_base.specs.History.{replicas as numbers_below}
 use Rattle.ritas_base.specs.Members.{has_member}
 use Rattle.ritas_base.specs.Numbers.{Numbers, IsSession}
@@ -33,6 +34,10 @@ use Rattle.world_model.specs.Watch.{WatchStands}
 -- the keys of each of n replicas, in order
 abbrev pub AreKeys : ℕ → List KeyRow → Type 0
 AreKeys n keys = (i : ℕ) (k : KeyRow) → slice_get keys i ≡ Some k → (k.me ≡ i) × (k.n ≡ n)
+
+-- the keys tag frames of this version
+abbrev pub AreOfVersion : FrameVersion → List KeyRow → Type 0
+AreOfVersion version keys = (i : ℕ) (k : KeyRow) → slice_get keys i ≡ Some k → k.version ≡ version
 
 -- no replica is stopped between events
 abbrev pub NoneStops : Setting → Type 0

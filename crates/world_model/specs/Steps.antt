@@ -111,16 +111,16 @@ abbrev pub is_took : Seen → Bool
 is_took (seen_as.Answered answers.Took) = true
 is_took seen = false
 
--- the item at the front of a replica's inbox, where the audit looks at it
+-- the item at the front of a replica's inbox, where the audit looks at it; what stands there is in the grammar
 pub record IsFront (w : Setting) (states : ℕ → CoreState) (at : ℕ) (front : Option Item) : Type 0 where
-  pub is : front ≡ watched (front_of (states at).inbox)
-  pub good : IsGoodIf w front
+  pub is : front ≡ watched w.mode (front_of (states at).inbox)
+  pub good : IsGoodIf w (front_of (states at).inbox)
 
 -- the item of a frame's body, where the frame was taken and the audit looks at the item
 pub record IsFrameItem (p : Numbers) (mode : Mode) (seen : Seen) (bytes : List ℕ) (found : Option Item) : Type 0 where
   pub missed : is_took seen ≡ false → found ≡ None
   pub took : (item : Item) → is_took seen ≡ true → IsSession p → 43 ≤ length bytes
-      → body_answer p mode (sender_of bytes) (body_of bytes) ≡ Ok item → found ≡ watched (Some item)
+      → body_answer p mode (sender_of bytes) (body_of bytes) ≡ Ok item → found ≡ watched mode (Some item)
 
 -- ---- an event
 

@@ -1,5 +1,5 @@
 -- Worked rows: what a replica of a world shows of vector consensus, and which worlds don't agree in it.
-use Rattle.std.specs.Prelude.{◌≡◌, ℕ, zero, suc, List, [], ◌∷◌, length, sum_by, Option, Some, None, refl}
+use Rattle.std.specs.Prelude.{◌≡◌, zero, suc, List, [], ◌∷◌, length, sum_by, Some, None, refl}
 use Rattle.std.proofs.Common.{ap, arith}
 use Rattle.ritas_base.specs.declared.event.Event.{Event}
 use Rattle.ritas_base.specs.declared.event.Event.TheVariants as events
@@ -8,7 +8,7 @@ use Rattle.frame_codec.specs.Grammar as grammar
 use Rattle.layer_api.specs.Service.{ServiceRules, LastVector, Undecided, Decided, Spent}
 use Rattle.ritas_core.specs.Checks.{input_check}
 use Rattle.world_model.specs.World.{Setting, states_of}
-use Rattle.world_model.specs.Agree.{outcome_of, last_of, Agree}
+use Rattle.world_model.specs.Agree.{last_of, Agree}
 use Rattle.world_model.specs.Rows.{silent, world_of}
 
 -- ---- what a replica shows

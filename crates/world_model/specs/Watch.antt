@@ -1,13 +1,17 @@
 -- What a world keeps for its audit: the verdict so far and, while nothing broke, tables of what was sent and hashed.
-use Rattle.std.specs.Prelude.{◌≡◌, ℕ, Bool, true, false, ◌||◌, ◌==◌, List, Option, Some, None, if◌then◌else◌}
+use Rattle.std.specs.Prelude.{◌≡◌, ℕ, Bool, true, false, ◌||◌, ◌&&◌, ◌==◌, List, Option, Some, None, if◌then◌else◌}
 use Rattle.std.specs.Option.{option_or}
 use Rattle.ritas_base.specs.declared.slot.Slot.{Slot}
 use Rattle.ritas_base.specs.declared.item.Item.{Item}
 use Rattle.ritas_base.specs.declared.item.Kind.{Kind}
 use Rattle.ritas_base.specs.declared.item.Kind.TheVariants.{Send, Column}
+use Rattle.ritas_base.specs.declared.mode.Mode.{Mode}
+use Rattle.ritas_base.specs.declared.mode.FrameVersion.{FrameVersion}
+use Rattle.ritas_base.specs.declared.mode.FrameVersion.TheVariants.{One, Two}
+use Rattle.ritas_base.specs.Slots.{form_of}
 use Rattle.ritas_base.specs.Messages.{kind_eq}
 use Rattle.frame_codec.specs.Body.{IsInGrammar}
-use Rattle.layer_api.specs.Entries.{sent, Print}
+use Rattle.layer_api.specs.Entries.{sent, Print, is_hashed}
 use Rattle.keyed_channel.specs.KeyRow.{KeyRow}
 use Rattle.keyed_channel.specs.Keyed.{tags_of}
 use Rattle.ritas_core.specs.Machine.{CoreState}
@@ -17,7 +21,7 @@ use Rattle.world_model.specs.declared.watch.Watch.{Watch}
 use Rattle.world_model.specs.World.{Setting, CallAt, after_call}
 use Rattle.world_model.specs.Audit.{is_forged_call, taken_by, calls_at, place_in, is_forged_at, prints_at, collide, broken_by, judged}
 use Rattle.world_model.specs.Met.{MetEntries, met_with, met_for}
-use Rattle.world_model.specs.Hashed.{met_at, is_same_at, HashedStand, prints_with, Meets}
+use Rattle.world_model.specs.Hashed.{met_at, is_same_at, HashedStand, prints_by_kind, Meets}
 
 -- ---- what a call made a replica take
 
@@ -25,13 +29,18 @@ abbrev pub item_taken : Setting → (ℕ → CoreState) → Option CallAt → Op
 item_taken w states None = None
 item_taken w states (Some c) = taken_by w states c
 
--- the audit looks at SENDs and columns
-abbrev pub is_watched : Kind → Bool
-is_watched kind = kind_eq kind Send || kind_eq kind Column
+-- the audit looks at items of the kinds that a broadcast of this form hashes, and at columns
+abbrev pub is_watched : ℕ → Kind → Bool
+is_watched form kind = is_hashed form kind || kind_eq kind Column
 
-abbrev pub watched : Option Item → Option Item
-watched None = None
-watched (Some x) = if is_watched x.kind then Some x else None
+abbrev pub watched : Mode → Option Item → Option Item
+watched mode None = None
+watched mode (Some x) = if is_watched (form_of mode x.slot) x.kind then Some x else None
+
+-- whether it looks at items whose bodies begin so: with SEND or COLUMN, and in version 2 with INIT or VALUE
+abbrev pub is_watched_byte : FrameVersion → ℕ → Bool
+is_watched_byte One byte = byte == 4 || byte == 6
+is_watched_byte Two byte = (byte == 4 || byte == 6) || (byte == 1 || byte == 8)
 
 abbrev pub IsGoodIf : Setting → Option Item → Type 0
 IsGoodIf w None = Unit {0}
@@ -48,16 +57,16 @@ IsAt w None at = Unit {0}
 IsAt w (Some c) at = (c.at ≡ at) × (w.is_correct at ≡ true)
 
 -- what is told of a call: at which replica it was, whether its frame forges, and the item that it made the replica take,
--- where the audit looks at it
+-- where the audit looks at it; what was taken is in the grammar
 pub record IsTold (w : Setting) (states : ℕ → CoreState) (c : Option CallAt) (at : ℕ) (forged : Bool) (taken : Option Item) : Type 0 where
   pub place : IsAt w c at
   pub frame : forged ≡ is_forged_frame w states c
-  pub item : taken ≡ watched (item_taken w states c)
-  pub good : IsGoodIf w taken
+  pub item : taken ≡ watched w.mode (item_taken w states c)
+  pub good : IsGoodIf w (item_taken w states c)
 
 -- ---- the tables
 
--- the tables have what each correct replica met at the message that was sent to it at each slot, and all that they met
+-- the tables have what each correct replica met at the message that was sent to it at each slot, and all that they hashed
 pub record TablesStand (w : Setting) (states : ℕ → CoreState) (watch : Watch) : Type 0 where
   pub sent : (i : ℕ) (s : Slot) → w.is_correct i ≡ true
       → met_at watch.sent.table s i ≡ met_for (w.keys i) s (sent (place_in w i s) (calls_at w states i s))
@@ -73,15 +82,16 @@ abbrev pub verdict_after : Setting → (ℕ → CoreState) → Option CallAt →
 verdict_after w states c verdict number =
     judged verdict (broken_by (is_forged_at w states c) (collide (prints_at w (after_call w states c))) number)
 
--- ---- a SEND
+-- ---- an item of a kind that its slot's broadcast hashes
 
--- what the replica with these keys meets at the message that an item brings, where it is from the origin
+-- what the replica with these keys meets at the message that an item brings, where it is the origin's SEND
 abbrev pub met_said : KeyRow → Item → Option MetEntries
-met_said k x = if x.from == x.slot.origin then Some (met_with k x.slot ((tags_of k).digest x.value)) else None
+met_said k x =
+    if x.from == x.slot.origin && kind_eq x.kind Send then Some (met_with k x.slot ((tags_of k).digest x.value)) else None
 
--- the replica with these keys took a SEND
-pub record MeetsSend (old new : Watch) (k : KeyRow) (at : ℕ) (x : Item) (clash : Bool) : Type 0 where
+-- the replica with these keys took it
+pub record MeetsItem (old new : Watch) (k : KeyRow) (at : ℕ) (x : Item) (clash : Bool) : Type 0 where
   pub verdict : new.verdict ≡ old.verdict
-  pub hashed : (prints : List Print) → HashedStand old.hashed prints → Meets new.hashed (prints_with k x.slot x.value) prints clash
+  pub hashed : (prints : List Print) → HashedStand old.hashed prints → Meets new.hashed (prints_by_kind k x.slot x.kind x.value) prints clash
   pub sent : clash ≡ false → (s : Slot) (i : ℕ) → met_at new.sent.table s i
       ≡ (if is_same_at x.slot at s i then option_or (met_at old.sent.table s i) (met_said k x) else met_at old.sent.table s i)

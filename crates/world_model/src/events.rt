@@ -92,15 +92,16 @@ fn input_comes<S: Service, E: Broadcast, C: Coin + Drop>(
 // A replica takes a turn.
 fn turn_comes<S: Service, E: Broadcast, C: Coin + Drop>(
     alloc: Global,
+    seats: &Seats,
     replicas: &mut [Option<Replica<S, E, C>>],
     at: u8,
 ) -> Result<Happened, Mem>
-    ensures { (w : Setting) (states : ℕ → CoreState)
+    ensures { (w : Setting) (states : ℕ → CoreState) → SeatsStand w seats.now
         → ReplicasStand (meaning S.stands S.rules S.shown E.stands E.rules E.shown C.bits (λ k. k.me) tags_of) w states replicas.old
         → CallHappens (meaning S.stands S.rules S.shown E.stands E.rules E.shown C.bits (λ k. k.me) tags_of) w states
         (call_at w at Turn) replicas.new result }
 {
-    let front = front_item(alloc, replicas, at)?;
+    let front = front_item(alloc, &seats.mode, replicas, at)?;
     let mut out = Vec::new(alloc);
     let seen = give_turn(alloc, replicas, at, &mut out)?;
     let taken = if_took(&seen, front);
@@ -238,7 +239,7 @@ pub(crate) fn happen<S: Service, E: Broadcast, C: Coin + Drop>(
             frame_comes(alloc, seats, made, replicas, *to, bytes.as_slice())
         }
         Event::Input { at, bytes } => input_comes(alloc, replicas, *at, bytes.as_slice()),
-        Event::Turn { at } => turn_comes(alloc, replicas, *at),
+        Event::Turn { at } => turn_comes(alloc, seats, replicas, *at),
         Event::Pass { from, to, m } => {
             frame_passes(alloc, seats, made, replicas, *from, *to, *m)
         }

@@ -4,7 +4,7 @@ ghost use Rattle.std.specs.Prelude.{◌≡◌, ◌≤◌, true, length, IfOk};
 ghost use Rattle.keyed_channel.specs.Keyed.{tags_of};
 ghost use Rattle.ritas_core.specs.Rules.{other_form};
 ghost use Rattle.ritas_core.specs.Stands.{meaning};
-ghost use Rattle.world_model.specs.Stands.{AreKeys};
+ghost use Rattle.world_model.specs.Stands.{AreKeys, AreOfVersion};
 ghost use Rattle.world_model.specs.Steps.{IsFirst, AreFirst};
 
 use keyed_channel::Keys;
@@ -23,6 +23,7 @@ fn first_replica<S: Service, E: Broadcast, C: Coin + Drop>(
     coin: C,
 ) -> Result<Option<Replica<S, E, C>>, Mem>
     requires made_for { keys.n ≡ p.n }
+    requires version { keys.version ≡ mode.version }
     requires form { E.FORM ≡ other_form mode }
     requires served { S.rules.serves mode.root ≡ true }
     ensures { IfOk result (λ place.
@@ -47,6 +48,7 @@ pub(crate) fn first_replicas<S: Service, E: Broadcast, C: Coin + Drop>(
     requires few { length keys.now ≤ 31 }
     requires rows { length keys.now ≡ length coins.items }
     requires own { AreKeys p.n keys.now }
+    requires version { AreOfVersion mode.version keys.now }
     requires form { E.FORM ≡ other_form mode }
     requires served { S.rules.serves mode.root ≡ true }
     ensures { IfOk result (λ places.

@@ -3,8 +3,8 @@ use replica::OutFrame;
 use ritas_base::Item;
 use std::alloc::Global;
 
-/// What an event did: at which replica, what became of it, whether its frame forged, the SEND or the column that the
-/// replica took, and the frames that it made.
+/// What an event did: at which replica, what became of it, whether its frame forged, the item that the replica took, where
+/// the audit looks at it, and the frames that it made.
 #[derive(Drop)]
 pub(crate) struct Happened {
     pub(crate) at: u8,

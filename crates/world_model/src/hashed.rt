@@ -1,10 +1,10 @@
 ghost use Rattle.std.specs.Prelude.{◌≡◌, true, false};
 
 use crate::met::{EntryPair, Met};
-use keyed_channel::Keys;
-use ritas_base::{Bytes, Mem, Slot};
+use keyed_channel::{Channel, Keys};
+use ritas_base::{Mem, Slot, Tagger};
 use std::alloc::Global;
-use std::collections::BTreeMap;
+use std::collections::{BTreeMap, BTreeSet};
 
 /// What is hashed for an entry.
 #[derive(Clone, Copy, Debug, PartialEq, Eq)]
@@ -15,10 +15,11 @@ pub(crate) struct HashedEntry {
     pub(crate) digest: [u8; 32],
 }
 
-/// What was hashed, by what came out: messages by their digests, and what entries are of by the entries.
+/// What was hashed: each message once, with its digest, the set of the digests, and what entries are of by the entries.
 #[derive(Drop)]
 pub(crate) struct Hashed {
-    messages: BTreeMap<[u8; 32], Bytes>,
+    messages: BTreeMap<Vec<u8>, [u8; 32]>,
+    digests: BTreeSet<[u8; 32]>,
     entries: BTreeMap<[u8; 32], HashedEntry>,
 }
 
@@ -31,12 +32,12 @@ fn differ(a: &HashedEntry, b: &HashedEntry) -> bool
 }
 
 impl Hashed {
-    ghost use Rattle.std.specs.Prelude.{◌≡◌, List, [], IfOk};
+    ghost use Rattle.std.specs.Prelude.{◌≡◌, ℕ, List, [], ◌∷◌, None, IfOk};
     ghost use Rattle.keyed_channel.specs.KeyRow.{KeyRow};
     ghost use Rattle.keyed_channel.specs.Keyed.{tags_of};
     ghost use Rattle.layer_api.specs.Entries.{Print, OfMessage, OfEntry};
     ghost use Rattle.world_model.specs.Met.{pair_of, met_with};
-    ghost use Rattle.world_model.specs.Hashed.{HashedStand, Adds, Meets, input_of, both_of, prints_with};
+    ghost use Rattle.world_model.specs.Hashed.{digest_at, HashedStand, IsDigestOf, Adds, Meets, input_of, both_of, prints_with};
 
     /// Nothing.
     pub(crate) fn new(alloc: Global) -> Hashed
@@ -44,21 +45,44 @@ impl Hashed {
     {
         Hashed {
             messages: BTreeMap::new(alloc),
+            digests: BTreeSet::new(alloc),
             entries: BTreeMap::new(alloc),
         }
     }
 
-    // A message and its digest. Whether another message has this digest.
-    fn add_message(&mut self, alloc: Global, message: &[u8], digest: [u8; 32]) -> Result<bool, Mem>
-        ensures { IfOk result (λ clash. (prints : List Print) → HashedStand self.old prints
-            → Adds self.new (OfMessage message.now digest) prints clash) }
+    // Keeps a message that isn't there with its digest, unless another message has that.
+    fn add_message(
+        &mut self,
+        alloc: Global,
+        message: &[u8],
+        digest: [u8; 32],
+    ) -> Result<Option<[u8; 32]>, Mem>
+        ensures { IfOk result (λ found. (k : KeyRow) (prints : List Print) → digest ≡ (tags_of k).digest message.now
+            → digest_at self.old message.now ≡ None → HashedStand self.old prints
+            → IsDigestOf self.new k message.now prints found) }
     {
-        if let Some(other) = self.messages.get(&digest) {
-            return Ok(other.as_slice() != message);
+        if !self.digests.insert(digest)? {
+            return Ok(None);
         }
-        let message = Bytes::from_slice(alloc, message)?;
-        self.messages.insert(digest, message)?;
-        Ok(false)
+        let message = Vec::from_slice(alloc, message)?;
+        self.messages.insert(message, digest)?;
+        Ok(Some(digest))
+    }
+
+    /// The digest of a message, which is hashed where it isn't there yet. `None` where another message has its digest.
+    pub(crate) fn digest_of(
+        &mut self,
+        alloc: Global,
+        keys: &Channel,
+        message: &[u8],
+    ) -> Result<Option<[u8; 32]>, Mem>
+        ensures { IfOk result (λ found. (prints : List Print) → HashedStand self.old prints
+            → IsDigestOf self.new keys.now message.now prints found) }
+    {
+        match self.messages.get(message) {
+            Some(digest) => Ok(Some(*digest)),
+            None => self.add_message(alloc, message, keys.digest(message)),
+        }
     }
 
     // An entry and what it is of. Whether it is of something else too.
@@ -103,24 +127,14 @@ impl Hashed {
         self.add_entry(expected, pair.expected)
     }
 
-    /// What the replica with these keys meets at a message. Whether two things hashed, of all so far, have one image; after
-    /// that the maps aren't kept up.
-    pub(crate) fn add(
-        &mut self,
-        alloc: Global,
-        keys: &Keys,
-        slot: Slot,
-        message: &[u8],
-        met: &Met,
-    ) -> Result<bool, Mem>
-        ensures { IfOk result (λ clash. met.now ≡ met_with keys.now slot ((tags_of keys.now).digest message.now)
-            → (prints : List Print) → HashedStand self.old prints
-            → Meets self.new (prints_with keys.now slot message.now) prints clash) }
+    /// The entries that the replica with these keys met at a message, whose digest is there. Whether two things hashed, of
+    /// all so far, have one image; after that the maps aren't kept up.
+    pub(crate) fn add_entries(&mut self, keys: &Keys, slot: Slot, met: &Met) -> Result<bool, Mem>
+        ensures { IfOk result (λ clash. (m : List ℕ) → met.now ≡ met_with keys.now slot ((tags_of keys.now).digest m)
+            → (prints : List Print) → HashedStand self.old (OfMessage m ((tags_of keys.now).digest m) ∷ prints)
+            → Meets self.new (prints_with keys.now slot m) prints clash) }
     {
         let digest = *met.digest();
-        if self.add_message(alloc, message, digest)? {
-            return Ok(true);
-        }
         for other in 0..keys.n() {
             let Some(pair) = met.pair(other) else {
                 return Ok(false);

@@ -14,7 +14,8 @@
 //! answer, each frame made and each state, after every schedule. What may be rested on is said by the audit: it holds
 //! where at least n - f replicas are correct, and no event forges or collides. An event forges that gives a correct replica
 //! a frame which opens as from a correct one that hadn't made it, or makes it take a column with a valid entry of a correct
-//! replica that hadn't given it; it collides where then two different things that correct replicas hashed have one image.
+//! replica that hadn't given it; it collides where then two different things that correct replicas hashed have one image: SENDs
+//! with their entries, and in version 2 of frames INITs and VALUEs.
 //! Where the audit holds, correct replicas agree: on the value of each broadcast (`one_value_each`), and on logs, outcomes
 //! and decisions (`agreement_each`); `agreement` says so for a service and a broadcast beside the reliable one, whatever
 //! the keys and the coins are, and so does `World::audit` of each world. The laws speak also of worlds in which replicas
@@ -25,8 +26,9 @@
 //! audit finds a forged frame by its number, in the time of one comparison. A frame that passes was made by its sender: where
 //! the receiver shares its key, it is known to open and to forge nothing, and no tag is computed. At each SEND that is taken
 //! the audit makes the entries that the replica gives and expects, where no other has made them, and keeps them: the rows of a
-//! column are compared with these. It looks in tables of what was sent and hashed, so its work at an event doesn't grow with
-//! the schedule, but for the depth of these tables.
+//! column are compared with these. Each different value is hashed once, and found by its bytes where it is taken again. The audit
+//! looks in tables of what was sent and hashed, so its work at an event doesn't grow with the schedule, but for the depth of
+//! these tables.
 #![tactic(auto)]
 
 mod audit;

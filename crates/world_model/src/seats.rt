@@ -1,4 +1,4 @@
-ghost use Rattle.std.specs.Prelude.{◌≡◌, ℕ, ◌<◌, ◌≤◌, ◌^◌, List, true, length, Ok, Some, IfOk, IsErr, MatchOption};
+ghost use Rattle.std.specs.Prelude.{◌≡◌, ℕ, ◌<◌, ◌≤◌, ◌^◌, List, true, false, length, Ok, Some, None, IfOk, IsErr, MatchOption};
 ghost use Rattle.std.specs.List.{slice_get};
 ghost use Rattle.keyed_channel.specs.KeyRow.{KeyRow, shares_key};
 ghost use Rattle.keyed_channel.specs.Frames.{sealed, sender_of, seq_of, opening};
@@ -71,13 +71,16 @@ impl Seats {
     }
 
     /// What a frame opens to that one replica made for another, where the two share their key: then no tag is computed.
-    /// `None` where they don't share it, or the frame doesn't open.
+    /// `None` where they don't share it, or the frame doesn't open. Of bytes that the one didn't make for the other nothing
+    /// else is said.
     pub(crate) fn open_made<'a>(&self, from: u8, to: u8, bytes: &'a [u8]) -> Option<Opened<'a>>
-        ensures { (a b : KeyRow) (j seq : ℕ) (body : List ℕ)
+        ensures opens { (a b : KeyRow) (j seq : ℕ) (body : List ℕ)
             → slice_get self.now.keys.items from ≡ Some a → slice_get self.now.keys.items to ≡ Some b
             → bytes.now ≡ sealed a j seq body → MatchOption result
             (shares_key b a ≡ true → IsErr (opening b bytes.now))
             (λ o. opening b bytes.now ≡ Ok (record { from = o.from; seq = o.seq; body = o.body.now })) }
+        ensures apart { (a b : KeyRow) → slice_get self.now.keys.items from ≡ Some a → slice_get self.now.keys.items to ≡ Some b
+            → shares_key b a ≡ false → result ≡ None }
     {
         let sender = self.keys.get(usize::from(from))?;
         let receiver = self.keys.get(usize::from(to))?;

@@ -1,16 +1,18 @@
-//! Which SEND or column a call made a replica take: the audit looks at no other item.
+//! Which item a call made a replica take, where the audit looks at it: at columns, and at items of the kinds that their slot's
+//! broadcast hashes.
 
 ghost use Rattle.std.specs.Prelude.{◌≡◌, ℕ, ◌==◌, ◌||◌, ◌≢◌, true, [], Some, None, Ok, IfOk, OnErr, is_some, if◌then◌else◌};
 ghost use Rattle.std.specs.Option.{option_copied};
 ghost use Rattle.ritas_base.specs.declared.item.Item.{Item as an_item};
 ghost use Rattle.ritas_base.specs.declared.mode.Mode.{Mode};
 ghost use Rattle.ritas_base.specs.Numbers.{Numbers, IsSession};
+ghost use Rattle.ritas_base.specs.Slots.{form_of};
 ghost use Rattle.frame_codec.specs.Body.{body_answer};
 ghost use Rattle.keyed_channel.specs.Keyed.{tags_of};
 ghost use Rattle.ritas_core.specs.Machine.{CoreState};
 ghost use Rattle.ritas_core.specs.Stands.{meaning};
 ghost use Rattle.world_model.specs.World.{Setting};
-ghost use Rattle.world_model.specs.Watch.{is_watched, watched};
+ghost use Rattle.world_model.specs.Watch.{is_watched, watched, is_watched_byte};
 ghost use Rattle.world_model.specs.Stands.{ReplicasStand};
 ghost use Rattle.world_model.specs.Steps.{is_took, IsFront, IsFrameItem};
 
@@ -18,16 +20,18 @@ use crate::seen::Seen;
 use frame_codec::{BodyFault, read_body, spelled};
 use layer_api::{Broadcast, Service};
 use replica::Replica;
-use ritas_base::{Coin, Item, Kind, Mem, Mode, Params};
+use ritas_base::{Coin, FrameVersion, Item, Kind, Mem, Mode, Params};
 use ritas_core::Answer;
 use std::alloc::Global;
 
-// Whether the audit looks at items of this kind.
-fn is_watched(kind: Kind) -> bool
-    ensures { result ≡ is_watched kind }
+// Whether the audit looks at items of this kind, where the slot's broadcast has this form.
+fn is_watched(form: u8, kind: Kind) -> bool
+    ensures { result ≡ is_watched form kind }
 {
     match kind {
-        Kind::Send | Kind::Column => true,
+        Kind::Init | Kind::Value => form == 3,
+        Kind::Send => form == 2,
+        Kind::Column => true,
         _ => false,
     }
 }
@@ -56,13 +60,13 @@ fn copied(alloc: Global, item: &Item) -> Result<Item, Mem>
 }
 
 // A copy of an item, if there is one and the audit looks at it.
-fn watched(alloc: Global, item: Option<&Item>) -> Result<Option<Item>, Mem>
-    ensures is { IfOk result (λ found. found ≡ watched (option_copied item.entry)) }
+fn watched(alloc: Global, mode: &Mode, item: Option<&Item>) -> Result<Option<Item>, Mem>
+    ensures is { IfOk result (λ found. found ≡ watched mode.now (option_copied item.entry)) }
     ensures only { OnErr result (is_some (option_copied item.entry) ≡ true) }
 {
     match item {
         Some(item) => {
-            if !is_watched(item.kind) {
+            if !is_watched(item.slot.form(mode), item.kind) {
                 return Ok(None);
             }
             Ok(Some(copied(alloc, item)?))
@@ -75,10 +79,11 @@ fn watched(alloc: Global, item: Option<&Item>) -> Result<Option<Item>, Mem>
 /// waits.
 pub(crate) fn front_item<S: Service, E: Broadcast, C: Coin + Drop>(
     alloc: Global,
+    mode: &Mode,
     replicas: &[Option<Replica<S, E, C>>],
     at: u8,
 ) -> Result<Option<Item>, Mem>
-    ensures is { IfOk result (λ front. (w : Setting) (states : ℕ → CoreState)
+    ensures is { IfOk result (λ front. (w : Setting) (states : ℕ → CoreState) → mode.now ≡ w.mode
         → ReplicasStand (meaning S.stands S.rules S.shown E.stands E.rules E.shown C.bits (λ k. k.me) tags_of) w states replicas.now
         → w.is_correct at ≡ true → IsFront w states at front) }
     ensures only { OnErr result ((w : Setting) (states : ℕ → CoreState)
@@ -90,28 +95,31 @@ pub(crate) fn front_item<S: Service, E: Broadcast, C: Coin + Drop>(
         return Ok(None);
     }
     match &replicas[place] {
-        Some(replica) => watched(alloc, replica.core().inbox_front()),
+        Some(replica) => watched(alloc, mode, replica.core().inbox_front()),
         None => Ok(None),
     }
 }
 
 // Whether the audit looks at items whose bodies begin so.
-fn is_watched_byte(byte: u8) -> bool
-    ensures { result ≡ (byte == 4 || byte == 6) }
+fn is_watched_byte(version: FrameVersion, byte: u8) -> bool
+    ensures { result ≡ is_watched_byte version byte }
 {
-    byte == 4 || byte == 6
+    match version {
+        FrameVersion::One => byte == 4 || byte == 6,
+        FrameVersion::Two => (byte == 4 || byte == 6) || (byte == 1 || byte == 8),
+    }
 }
 
 // Whether the audit looks at the item that a body spells.
-fn is_watched_body(body: &[u8]) -> bool
-    ensures { (p : Numbers) (mode : Mode) (from : ℕ) (item : an_item) → IsSession p
-        → body_answer p mode from body.now ≡ Ok item → result ≡ is_watched item.kind }
+fn is_watched_body(mode: &Mode, body: &[u8]) -> bool
+    ensures { (p : Numbers) (from : ℕ) (item : an_item) → IsSession p
+        → body_answer p mode.now from body.now ≡ Ok item → result ≡ is_watched (form_of mode.now item.slot) item.kind }
 {
     spelled();
     if body.is_empty() {
         return false;
     }
-    is_watched_byte(body[0])
+    is_watched_byte(mode.version, body[0])
 }
 
 // The item that a body spells, if it does and the audit looks at it. The one error is want of memory.
@@ -123,9 +131,9 @@ fn body_item(
     body: &[u8],
 ) -> Result<Option<Item>, Mem>
     ensures { IfOk result (λ found. (item : an_item) → IsSession p.now
-        → body_answer p.now mode.now from body.now ≡ Ok item → found ≡ watched (Some item)) }
+        → body_answer p.now mode.now from body.now ≡ Ok item → found ≡ watched mode.now (Some item)) }
 {
-    if !is_watched_body(body) {
+    if !is_watched_body(mode, body) {
         return Ok(None);
     }
     match read_body(alloc, p, mode, from, body) {

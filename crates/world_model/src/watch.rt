@@ -6,7 +6,7 @@ use crate::met::{Met, MetSends, meet};
 use crate::rows::is_unknown;
 use crate::seats::Seats;
 use keyed_channel::Channel;
-use ritas_base::{Item, Kind, Mem, Tagger};
+use ritas_base::{Item, Kind, Mem};
 use std::alloc::Global;
 
 /// What the audit found so far and, while the premises hold, what it needs to go on.
@@ -30,7 +30,7 @@ impl Watch {
     ghost use Rattle.world_model.specs.Met.{met_with};
     ghost use Rattle.world_model.specs.Hashed.{met_at, HashedStand};
     ghost use Rattle.world_model.specs.Stands.{SeatsStand};
-    ghost use Rattle.world_model.specs.Watch.{TablesStand, MeetsSend, IsTold, WatchStands, verdict_after};
+    ghost use Rattle.world_model.specs.Watch.{TablesStand, MeetsItem, IsTold, WatchStands, verdict_after};
 
     /// Before any event.
     pub(crate) fn new(alloc: Global) -> Watch
@@ -94,19 +94,15 @@ impl Watch {
         item: &Item,
     ) -> Result<bool, Mem>
         ensures met { IfOk result (λ clash. (w : Setting) (states : ℕ → CoreState) → SeatsStand w seats.now
-            → TablesStand w states self.old → keys.now.n ≡ w.numbers.n → MeetsSend self.old self.new keys.now at item.now clash) }
+            → TablesStand w states self.old → keys.now.n ≡ w.numbers.n → item.now.kind ≡ Kind.Send
+            → MeetsItem self.old self.new keys.now at item.now clash) }
         ensures same { self.new.verdict ≡ self.old.verdict }
     {
-        let value = item.value.as_slice();
-        let met = meet(
-            alloc,
-            seats,
-            &self.sent,
-            keys,
-            item.slot,
-            keys.digest(value),
-        )?;
-        if self.hashed.add(alloc, keys.keys(), item.slot, value, &met)? {
+        let Some(digest) = self.hashed.digest_of(alloc, keys, item.value.as_slice())? else {
+            return Ok(true);
+        };
+        let met = meet(alloc, seats, &self.sent, keys, item.slot, digest)?;
+        if self.hashed.add_entries(keys.keys(), item.slot, &met)? {
             return Ok(true);
         }
         if item.from == item.slot.origin {
@@ -115,7 +111,33 @@ impl Watch {
         Ok(false)
     }
 
-    // The verdict after a replica takes a SEND or a column, where nothing broke before.
+    // A replica takes an INIT or a VALUE. Whether another value has its digest.
+    fn hashes(&mut self, alloc: Global, keys: &Channel, item: &Item) -> Result<bool, Mem>
+        ensures met { IfOk result (λ clash. (at : ℕ) → kind_eq item.now.kind Kind.Send ≡ false
+            → MeetsItem self.old self.new keys.now at item.now clash) }
+        ensures same { self.new.verdict ≡ self.old.verdict }
+    {
+        let digest = self.hashed.digest_of(alloc, keys, item.value.as_slice())?;
+        Ok(digest.is_none())
+    }
+
+    // A replica takes an item of a kind that its slot's broadcast hashes. Whether two things hashed, of all so far, have one
+    // image.
+    fn takes(&mut self, alloc: Global, seats: &Seats, at: u8, item: &Item) -> Result<bool, Mem>
+        ensures met { IfOk result (λ clash. (w : Setting) (states : ℕ → CoreState) → SeatsStand w seats.now
+            → TablesStand w states self.old → at < w.numbers.n → MeetsItem self.old self.new (w.keys at) at item.now clash) }
+        ensures same { self.new.verdict ≡ self.old.verdict }
+    {
+        let Some(keys) = seats.keys.get(usize::from(at)) else {
+            return Ok(false);
+        };
+        match item.kind {
+            Kind::Send => self.meets(alloc, seats, keys, at, item),
+            _ => self.hashes(alloc, keys, item),
+        }
+    }
+
+    // The verdict after a replica takes an item that the audit looks at, where nothing broke before.
     fn judge_item(
         &mut self,
         alloc: Global,
@@ -131,27 +153,23 @@ impl Watch {
         ensures same { self.new.verdict ≡ self.old.verdict }
     {
         match item.kind {
-            Kind::Send => {
-                let Some(keys) = seats.keys.get(usize::from(at)) else {
-                    return Ok(self.verdict);
-                };
-                if self.meets(alloc, seats, keys, at, item)? {
-                    return Ok(Audit::Collision(number));
-                }
-                Ok(self.verdict)
-            }
             Kind::Column => {
                 if self.forges(seats, at, item) {
                     return Ok(Audit::Forged(number));
                 }
                 Ok(self.verdict)
             }
-            _ => Ok(self.verdict),
+            _ => {
+                if self.takes(alloc, seats, at, item)? {
+                    return Ok(Audit::Collision(number));
+                }
+                Ok(self.verdict)
+            }
         }
     }
 
-    /// The verdict after a call on a replica: whether its frame forged, and the SEND or the column that it made the replica
-    /// take, if it did. The verdict so far stays until `settle`. The one error is want of memory, where it took one.
+    /// The verdict after a call on a replica: whether its frame forged, and the item that it made the replica take, if it did
+    /// and the audit looks at it. The verdict so far stays until `settle`. The one error is want of memory, where it took one.
     pub(crate) fn judge(
         &mut self,
         alloc: Global,

@@ -40,12 +40,12 @@ impl<S: Service, E: Broadcast, C: Coin + Drop> World<S, E, C> {
     ghost use Rattle.world_model.specs.Audit.{audit_of};
     ghost use Rattle.world_model.specs.Agree.{Agree};
     ghost use Rattle.world_model.specs.Needs.{EventNeeds};
-    ghost use Rattle.world_model.specs.Stands.{AreKeys, IsWorldOf, IsReplica, AreMembers, AreMembersLeft, frames_from, WorldStands, IsLeft, WorldStopped, is_live, EventDoes};
+    ghost use Rattle.world_model.specs.Stands.{AreKeys, AreOfVersion, IsWorldOf, IsReplica, AreMembers, AreMembersLeft, frames_from, WorldStands, IsLeft, WorldStopped, is_live, EventDoes};
     ghost use Rattle.ritas_base.specs.Events.{MayHappen};
 
     /// The world of these numbers, mode, correct replicas, and keys and coins of each replica, before any event. The keys
-    /// of a faulty replica serve for frames that events seal with them; its coin isn't used. The one error is want of
-    /// memory.
+    /// are of the mode's version of frames. Those of a faulty replica serve for frames that events seal with them; its coin
+    /// isn't used. The one error is want of memory.
     pub fn new(
         alloc: Global,
         p: Params,
@@ -57,6 +57,7 @@ impl<S: Service, E: Broadcast, C: Coin + Drop> World<S, E, C> {
         requires rows { length keys.items ≡ p.n }
         requires tosses { length coins.items ≡ p.n }
         requires own { AreKeys p.n keys.items }
+        requires version { AreOfVersion mode.version keys.items }
         requires within { (i : ℕ) → has_member correct i ≡ true → i < p.n }
         requires form { E.FORM ≡ other_form mode }
         requires served { S.rules.serves mode.root ≡ true }

@@ -14,7 +14,7 @@ returns-in-Input g c = λ w states seats stand replicas.
 
 pub returns-in-Turn : goal.returns-in-Turn
 returns-in-Turn g c = λ w states seats stand replicas.
-    by_event _ w states c.args.ev.now (events.Turn c.in-Turn.at) _ c.turn_comes.result c.in-Turn.is (λ may. c.turn_comes.ensures w states replicas)
+    by_event _ w states c.args.ev.now (events.Turn c.in-Turn.at) _ c.turn_comes.result c.in-Turn.is (λ may. c.turn_comes.ensures w states seats replicas)
 
 pub returns-in-Pass : goal.returns-in-Pass
 returns-in-Pass g c = λ w states seats stand replicas.

@@ -16,19 +16,19 @@ use Rattle.world_model.proofs.taken.front_item.Goals as goal
 pub returns-in-Some-clause-is : goal.returns-in-Some-clause-is
 returns-in-Some-clause-is g c =
     if_ok
-    (λ found. found ≡ watched (option_copied c.inbox_front.result))
-    (λ front. (w : Setting) (states : ℕ → CoreState)
+    (λ found. found ≡ watched c.args.mode.now (option_copied c.inbox_front.result))
+    (λ front. (w : Setting) (states : ℕ → CoreState) → c.args.mode.now ≡ w.mode
     → ReplicasStand (meaning g.S.Service.stands g.S.Service.rules g.S.Service.shown g.E.Broadcast.stands g.E.Broadcast.rules g.E.Broadcast.shown g.C.Coin.bits (λ k. k.me) tags_of) w states c.args.replicas.now
     → w.is_correct c.args.at ≡ true → IsFront w states c.args.at front)
-    (λ front found. λ w states stand right.
+    (λ front found. λ w states mode stand right.
     let there = replica_there _ w states c.args.at c.from-place.result c.args.replicas.now c.index-replicas-place.result c.in-Some.replica stand c.from-place.ensures
     (omega (arith, c.if-place-replicas.false)) (sym c.index-replicas-place.is ∙ c.in-Some.is) in
     let core = c.core.ensures.live (rules_at w c.args.at) (w.keys c.args.at) (states c.args.at) there.stands there.live in
-    front_is w states c.args.at front (option_copied c.inbox_front.result) core.good_inbox (c.inbox_front.ensures (rules_at w c.args.at) (states c.args.at) core) found)
+    front_is w states c.args.at c.args.mode.now front (option_copied c.inbox_front.result) mode core.good_inbox (c.inbox_front.ensures (rules_at w c.args.at) (states c.args.at) core) found)
     c.watched.result c.watched.ensures.is
 
 pub returns-in-None-clause-is : goal.returns-in-None-clause-is
-returns-in-None-clause-is g c = λ w states stand right.
+returns-in-None-clause-is g c = λ w states mode stand right.
     absurd (false≢true (sym (none_there _ w states c.args.at c.from-place.result c.args.replicas.now c.index-replicas-place.result stand c.from-place.ensures
     (omega (arith, c.if-place-replicas.false)) (sym c.index-replicas-place.is ∙ c.in-None.is)) ∙ right))
 

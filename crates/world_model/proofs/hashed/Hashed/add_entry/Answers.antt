@@ -10,4 +10,4 @@ returns-in-Some c =
 
 pub returns : goal.returns
 returns c =
-    input_put c.args.self.now _ c.args.input c.args.entry (sym c.get.ensures.value ∙ ap option_copied c.in_default.is) refl c.in_ok-insert.ensures.updates.0
+    input_put c.args.self.now _ c.args.input c.args.entry (sym c.get.ensures.value ∙ ap option_copied c.in_default.is) (λ v. refl) (λ e. refl) c.in_ok-insert.ensures.updates.0

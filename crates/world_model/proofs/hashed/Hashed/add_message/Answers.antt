@@ -1,17 +1,17 @@
-use Rattle.std.proofs.Common.{List, ℕ, not, sym, ◌∙◌, refl, ap, Some, cond}
-use Rattle.std.specs.BTreeMap.{is_at}
-use Rattle.world_model.specs.Hashed.{image_cmp, message_at}
+use Rattle.std.proofs.Common.{refl, ◌∙◌, ap, cond, Some}
 use Rattle.std.specs.Str.{bytes_eq}
-use Rattle.std.specs.Option.{option_copied}
-use Rattle.world_model.proofs.HashedSteps.{message_found, message_put}
+use Rattle.world_model.specs.Hashed.{digest_at}
+use Rattle.world_model.proofs.HashedSteps.{digest_taken, was_new, message_put}
+use Rattle.world_model.proofs.MessageKeys.{put_at_bytes}
 use Rattle.world_model.proofs.hashed.Hashed.add_message.Goals as goal
 
-pub returns-in-Some : goal.returns-in-Some
-returns-in-Some c =
-    message_found c.args.self.now c.args.message.now c.args.digest c.in-Some.other.now c.ne.result (sym c.get.ensures.value ∙ ap option_copied c.in-Some.is)
-    (c.ne.ensures ∙ ap (λ (x : List ℕ). not (bytes_eq x c.args.message.now)) c.as_slice.ensures)
+pub returns-then-not-branch : goal.returns-then-not-branch
+returns-then-not-branch c = λ k prints digest none stand.
+    digest_taken c.args.self.now k c.args.message.now c.args.digest c.in_ok-insert.field-0 c.in_ok-insert.ensures.added c.if-not-branch.true digest none prints stand
 
 pub returns : goal.returns
-returns c =
-    message_put c.args.self.now _ c.args.message.now c.args.digest (sym c.get.ensures.value ∙ ap option_copied c.in_default.is) refl
-    (λ e. c.in_ok-insert.ensures.updates.0 e ∙ ap (λ (x : List ℕ). cond (is_at (image_cmp c.args.digest) e) (Some x) (message_at c.args.self.now e)) c.in_ok-message.ensures)
+returns c = λ k prints digest none stand.
+    message_put c.args.self.now _ k c.args.message.now c.args.digest none (was_new _ c.in_ok-insert.field-0 c.in_ok-insert.ensures.added c.if-not-branch.false) digest refl
+    (λ v. put_at_bytes (λ x. x.items) c.args.self.now.messages c.insert-2.new.self c.in_ok-message.message c.args.digest c.in_ok-insert-2.ensures.updates v
+    ∙ ap (λ bs. cond (bytes_eq bs v) (Some c.args.digest) (digest_at c.args.self.now v)) c.in_ok-message.ensures.items)
+    c.in_ok-insert.ensures.updates.0 prints stand

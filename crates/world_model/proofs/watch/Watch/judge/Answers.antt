@@ -12,4 +12,4 @@ returns-in-None-clause-finds c = λ w states call verdict seats within told stan
     let holds : verdict ≡ audits.Holds = sym stand.found ∙ c.in-Holds.is in
     let P : Audit → Type 0 = λ v. WatchStands w states v c.args.self.now → WatchStands w (after_call w states call) (verdict_after w states call v c.args.number) c.args.self.now in
     subst P (sym holds)
-    (nothing_watched w states call c.args.self.now c.args.number (sym told.frame ∙ c.if-forged.false) (sym told.item ∙ ap option_copied c.in-None.is)) stand
+    (nothing_watched w states call c.args.self.now c.args.number (sym told.frame ∙ c.if-forged.false) (sym told.item ∙ ap option_copied c.in-None.is) told.good) stand

@@ -41,7 +41,7 @@ returns-in_err-verdict-clause-does g c = λ w es stand may few.
     let found = c.in_ok-happened.ensures w (states_before w es) stand.seats (frames_before w es c.args.self.now.made stand.going stand.made)
     (same_places _ w (states_before w es) c.args.self.now.replicas.items c.as_mut_slice.result.now (sym c.as_mut_slice.ensures.value) (replicas_before _ w es c.args.self.now.replicas.items stand.going stand.replicas)) may in
     let call = call_of w (states_before w es) c.args.ev.now in
-    let some : is_some (watched (item_taken w (states_before w es) call)) ≡ true =
+    let some : is_some (watched w.mode (item_taken w (states_before w es) call)) ≡ true =
     ap is_some (sym found.told.item ∙ sym c.as_ref.ensures.value) ∙ c.in_err-verdict.ensures.only in
     event_stops _ _ w es c.args.ev.now c.from_residual-in_err-verdict.result c.from_residual-in_err-verdict.ensures.0
     (halts _ c.args.self.now _ w es c.args.ev.now c.happen.new.replicas stand (left_after _ w (states_before w es) _ call _ found.replicas)
