@@ -12,10 +12,10 @@ use Rattle.schedule_file.specs.declared.scope.Scope.{Scope}
 use Rattle.schedule_file.specs.Scopes.{has_replica}
 use Rattle.schedule_file.specs.Reading.{◌>>=◌, Spot, test, IsBytes}
 use Rattle.schedule_file.specs.FileBytes.{limit, byte_from, byte_at, bytes_at, u16_at, u32_at, u64_at, text_at}
-use Rattle.schedule_file.specs.ReadHeader.{is_root, start_at, numbers_at, root_at, vect_of, vect_at, mask_at, filled_row, master_at, me_at, each_key_at, row_at, alone_at, keys_at, header_at}
+use Rattle.schedule_file.specs.ReadHeader.{is_root, is_version, version_of, start_at, numbers_at, root_at, vect_of, vect_at, mask_at, filled_row, master_at, me_at, each_key_at, row_at, alone_at, keys_at, header_at}
 use Rattle.schedule_file.specs.ReadEvents.{replica_at, pair_at, frame_at, input_at, turn_at, pass_at, sealed_at, kind_at}
 use Rattle.schedule_file.proofs.Spells.{back_fits, Took, Spells}
-use Rattle.schedule_file.proofs.FileSpells.{byte_spells, bytes_spells, u16_spells, u32_spells, text_spells}
+use Rattle.schedule_file.proofs.FileSpells.{byte_spells, bytes_spells, u16_spells, u32_spells, u64_spells, text_spells}
 use Rattle.schedule_file.proofs.HeaderSpells.{start_spells, numbers_spells, root_spells, vect_spells, mask_spells, each_spells, row_spells, me_spells, keys_of, keys_spells}
 use Rattle.schedule_file.proofs.EventSpells.{replica_spells, pair_spells}
 
@@ -130,7 +130,7 @@ IsOfHeader faults.Mem = ⊥
 
 start_names : Names IsOfHeader start_at
 unfolding start_at
-start_names = then_names _ u32_spells u32_names (λ m. guard_names (m == 0x52495453) faults.Magic _ (λ s. tt) (then_names _ byte_spells byte_names (λ v. guard_names (v == 1) faults.Version u64_at (λ s. tt) u64_names)))
+start_names = then_names _ u32_spells u32_names (λ m. guard_names (m == 0x52495453) faults.Magic _ (λ s. tt) (then_names _ byte_spells byte_names (λ v. guard_names (is_version v) faults.Version _ (λ s. tt) (then_names (λ session. Ok ((version_of v, session.0), session.1)) u64_spells u64_names (λ session. done_names (version_of v, session))))))
 
 numbers_names : Names IsOfHeader numbers_at
 unfolding numbers_at
@@ -178,7 +178,7 @@ keys_names n mask = then_names _ byte_spells byte_names (λ form. guard_names (f
 
 pub header_names : Names IsOfHeader header_at
 unfolding header_at
-header_names = then_names _ start_spells start_names (λ session. then_names _ numbers_spells numbers_names (λ p. then_names _ root_spells root_names (λ root. then_names _ vect_spells vect_names (λ vect. then_names _ (mask_spells p.n) (mask_names p.n) (λ mask. then_names (λ keys. Ok (record { session = session; p = p; root = root; vect = vect; correct = mask; keys = keys.0 }, keys.1)) (keys_spells p.n mask) (keys_names p.n mask) (λ keys. done_names (record { session = session; p = p; root = root; vect = vect; correct = mask; keys = keys })))))))
+header_names = then_names _ start_spells start_names (λ start. then_names _ numbers_spells numbers_names (λ p. then_names _ root_spells root_names (λ root. then_names _ vect_spells vect_names (λ vect. then_names _ (mask_spells p.n) (mask_names p.n) (λ mask. then_names (λ keys. Ok (record { session = start.1; version = start.0; p = p; root = root; vect = vect; correct = mask; keys = keys.0 }, keys.1)) (keys_spells p.n mask) (keys_names p.n mask) (λ keys. done_names (record { session = start.1; version = start.0; p = p; root = root; vect = vect; correct = mask; keys = keys })))))))
 
 -- ---- events
 

@@ -9,10 +9,11 @@ use Rattle.schedule_file.specs.declared.fault.FileFault.{FileFault}
 use Rattle.schedule_file.specs.declared.fault.FileFault.TheVariants as faults
 use Rattle.schedule_file.specs.declared.header.HeaderKeys.{HeaderKeys}
 use Rattle.ritas_base.specs.Numbers.{Numbers}
+use Rattle.ritas_base.specs.declared.mode.FrameVersion.{FrameVersion}
 use Rattle.ritas_base.specs.declared.mode.Vect.{Vect}
 use Rattle.schedule_file.specs.Reading.{◌>>=◌, Spot, test, IsBytes}
 use Rattle.schedule_file.specs.FileBytes.{limit, byte_at, bytes_at, u32_at, u64_at}
-use Rattle.schedule_file.specs.ReadHeader.{is_root, start_at, numbers_at, root_at, vect_of, vect_at, mask_at, master_at, me_at, alone_at, keys_at}
+use Rattle.schedule_file.specs.ReadHeader.{is_root, is_version, version_of, start_at, numbers_at, root_at, vect_of, vect_at, mask_at, master_at, me_at, alone_at, keys_at}
 use Rattle.schedule_file.specs.Faults.{Field, number_in, magic, version, count, most_faulty, root_service, vect, correct, key_form, me, me_alone, IsFirstWrong}
 use Rattle.schedule_file.proofs.Spells.{back_fits, Spells}
 use Rattle.schedule_file.proofs.HeaderSpells.{master_spells, keys_of, keys_of_spells}
@@ -209,17 +210,17 @@ passes false f h g agrees e = absurd cc
 abbrev byte : List ℕ → ℕ → ℕ
 byte bytes k = get_or bytes k 0
 
-pub start_agrees : {X : Type 0} (bytes : List ℕ) (fields : List Field) (g : ℕ × Spot → Result X FileFault) → all_reach 13 fields ≡ true
-    → (13 ≤ length bytes → Agrees bytes fields (g (from_be_bytes w64 (take 8 (drop 5 bytes)), spot_in bytes 13))) → Agrees bytes (magic ∷ version ∷ fields) (start_at (spot_in bytes 0) >>= g)
+pub start_agrees : {X : Type 0} (bytes : List ℕ) (fields : List Field) (g : (FrameVersion × ℕ) × Spot → Result X FileFault) → all_reach 13 fields ≡ true
+    → (13 ≤ length bytes → Agrees bytes fields (g ((version_of (byte bytes 4), from_be_bytes w64 (take 8 (drop 5 bytes))), spot_in bytes 13))) → Agrees bytes (magic ∷ version ∷ fields) (start_at (spot_in bytes 0) >>= g)
 unfolding start_at
 start_agrees bytes fields g all more =
     one_by_one (u32_at (spot_in bytes 0)) _ g (field bytes magic (version ∷ fields) 0 4 u32_at (number_in bytes 0) _ (number_in bytes 0 == 0x52495453) (u32_takes bytes 0 (omega arith)) refl refl refl refl
     (reach_less 13 4 fields (omega arith) all) (omega arith)
     (λ e. stops (number_in bytes 0 == 0x52495453) faults.Magic _ g e)
-    (λ e le4. passes (number_in bytes 0 == 0x52495453) faults.Magic _ g (one_by_one (byte_at (spot_in bytes 4)) _ g (field bytes version fields 4 1 byte_at (byte bytes 4) _ (byte bytes 4 == 1) (byte_takes bytes 4 (omega arith)) refl refl refl refl
+    (λ e le4. passes (number_in bytes 0 == 0x52495453) faults.Magic _ g (one_by_one (byte_at (spot_in bytes 4)) _ g (field bytes version fields 4 1 byte_at (byte bytes 4) _ (is_version (byte bytes 4)) (byte_takes bytes 4 (omega arith)) refl refl refl refl
     (reach_less 13 5 fields (omega arith) all) le4
-    (λ e. stops (byte bytes 4 == 1) faults.Version _ g e)
-    (λ e le5. passes (byte bytes 4 == 1) faults.Version _ g (skip bytes fields 5 8 u64_at (from_be_bytes w64 (take 8 (drop 5 bytes))) g (u64_takes bytes 5 (omega arith)) all le5 more) e))) e))
+    (λ e. stops (is_version (byte bytes 4)) faults.Version _ g e)
+    (λ e le5. passes (is_version (byte bytes 4)) faults.Version _ g (one_by_one (u64_at (spot_in bytes 5)) _ g (skip bytes fields 5 8 u64_at (from_be_bytes w64 (take 8 (drop 5 bytes))) _ (u64_takes bytes 5 (omega arith)) all le5 more)) e))) e))
 
 pub numbers_agrees : {X : Type 0} (bytes : List ℕ) (fields : List Field) (g : Numbers × Spot → Result X FileFault) → 13 ≤ length bytes → all_reach 15 fields ≡ true
     → (15 ≤ length bytes → Agrees bytes fields (g (record { n = byte bytes 13; f = byte bytes 14 }, spot_in bytes 15))) → Agrees bytes (count ∷ most_faulty ∷ fields) (numbers_at (spot_in bytes 13) >>= g)

@@ -7,6 +7,8 @@ use Rattle.std.proofs.lemmas.Bool.{eqb-true, eq-eqb, ltb-true, lt-ltb, leb-true,
 use Rattle.std.proofs.lemmas.List.{append-nil, nil_from_length, take_at, length-take-le}
 use Rattle.std.proofs.Math.Pow.{pow-lt}
 use Rattle.ritas_base.specs.Numbers.{Numbers, IsSession}
+use Rattle.ritas_base.specs.declared.mode.FrameVersion.{FrameVersion}
+use Rattle.ritas_base.specs.declared.mode.FrameVersion.TheVariants.{One, Two}
 use Rattle.ritas_base.specs.declared.mode.Vect.{Vect}
 use Rattle.ritas_base.specs.declared.mode.Vect.TheVariants.{Echo, Reliable}
 use Rattle.schedule_file.specs.declared.fault.FileFault.{FileFault}
@@ -16,22 +18,60 @@ use Rattle.schedule_file.specs.declared.header.HeaderKeys.{HeaderKeys}
 use Rattle.schedule_file.specs.declared.header.HeaderKeys.TheVariants.{Master, Row}
 use Rattle.schedule_file.specs.Reading.{◌>>=◌, Spot}
 use Rattle.schedule_file.specs.FileBytes.{limit, byte_at, bytes_at, u32_at, u64_at}
-use Rattle.schedule_file.specs.ReadHeader.{Heading, is_root, start_at, numbers_at, root_at, vect_of, vect_at, mask_at, filled_row, master_at, me_at, each_key_at, row_at, alone_at, keys_at, header_at}
-use Rattle.schedule_file.specs.Spelling.{vect_byte, keys_text, start_text, header_text, IsKey, IsRow, AreKeys, IsHeading}
+use Rattle.schedule_file.specs.ReadHeader.{Heading, is_root, is_version, version_of, start_at, numbers_at, root_at, vect_of, vect_at, mask_at, filled_row, master_at, me_at, each_key_at, row_at, alone_at, keys_at, header_at}
+use Rattle.schedule_file.specs.Spelling.{vect_byte, version_byte, keys_text, start_text, header_text, IsKey, IsRow, AreKeys, IsHeading}
 use Rattle.schedule_file.specs.SpellingLaws.{all_taken}
 use Rattle.schedule_file.proofs.Spells.{Spells, Both, Nothing, as_spells, then_spells, guard_spells, either_spells, done_spells}
 use Rattle.schedule_file.proofs.FileSpells.{IsByte, AreBytes, byte_spells, bytes_spells, u32_spells, u64_spells}
 use Rattle.schedule_file.proofs.KeyRows.{row_is, filled_is}
 
-abbrev pub IsStart : ℕ → List ℕ → Type 0
-IsStart session text = (text ≡ start_text session) × (session < 2 ^ 64)
+version_is : (b : ℕ) (one two : Bool) → (b == 1) ≡ one → (b == 2) ≡ two → (one || two) ≡ true → version_byte (version_of b) ≡ b
+version_is b one true is-one is-two e = rw is-two (sym (eqb-true _ _ is-two))
+version_is b true false is-one is-other e = rw is-other (sym (eqb-true _ _ is-one))
+version_is b false false is-other is-none e = absurd cc
+
+version_fits : (v : FrameVersion) → is_version (version_byte v) ≡ true
+version_fits One = refl
+version_fits Two = refl
+
+version_again : (v : FrameVersion) → version_of (version_byte v) ≡ v
+version_again One = refl
+version_again Two = refl
+
+abbrev pub IsStart : FrameVersion × ℕ → List ℕ → Type 0
+IsStart start text = (text ≡ start_text start.0 start.1) × (start.1 < 2 ^ 64)
 
 pub start_spells : Spells limit start_at IsStart
 unfolding start_at
 start_spells = as_spells IsStart
-    (then_spells u32_at _ u32_spells (λ m. guard_spells (m == 0x52495453) Magic _ (then_spells byte_at _ byte_spells (λ v. guard_spells (v == 1) Version u64_at u64_spells))))
-    (λ session text fits r. (rw (r.parts, r.first.0, eqb-true _ _ r.second.0, r.second.1.parts, r.second.1.first, eqb-true _ _ r.second.1.second.0, r.second.1.second.1.0) refl, r.second.1.second.1.1))
-    (λ session text r. record { value = 0x52495453; front = to_be_bytes w32 0x52495453; back = 1 ∷ [] ++ to_be_bytes w64 session; first = (refl, omega arith); second = (refl, record { value = 1; front = 1 ∷ []; back = to_be_bytes w64 session; first = refl; second = (refl, (refl, r.1)); parts = refl }); parts = r.0 })
+    (then_spells u32_at _ u32_spells (λ m. guard_spells (m == 0x52495453) Magic _ (then_spells byte_at _ byte_spells (λ v. guard_spells (is_version v) Version _ (then_spells u64_at (λ session. Ok ((version_of v, session.0), session.1)) u64_spells (λ session. done_spells (version_of v, session)))))))
+    (λ start text fits r.
+    let v = r.second.1 in let s = v.second.1 in
+    let same = version_is v.value (v.value == 1) (v.value == 2) refl refl v.second.0 in
+    let made : IsStart (version_of v.value, s.value) text = (rw (r.parts, r.first.0, eqb-true _ _ r.second.0, v.parts, v.first, same, s.parts, s.first.0, s.second.1, append-nil (to_be_bytes w64 s.value)) refl, s.first.1) in
+    subst (λ (y : FrameVersion × ℕ). IsStart y text) s.second.0 made)
+    (λ start text r.
+    let b = version_byte start.0 in
+    let last = to_be_bytes w64 start.1 in
+    let made = ap (λ (v : FrameVersion). (v, start.1)) (version_again start.0) in
+    record {
+      value = 0x52495453;
+      front = to_be_bytes w32 0x52495453;
+      back = b ∷ [] ++ last;
+      first = (refl, omega arith);
+      second = (
+        refl,
+        record {
+          value = b;
+          front = b ∷ [];
+          back = last;
+          first = refl;
+          second = (version_fits start.0, record { value = start.1; front = last; back = []; first = (refl, r.1); second = (made, refl); parts = sym (append-nil last) });
+          parts = refl;
+        },
+      );
+      parts = r.0;
+    })
 
 both_true : (a b : Bool) → (a && b) ≡ true → (a ≡ true) × (b ≡ true)
 both_true true b e = (refl, e)
@@ -311,13 +351,13 @@ keys_back n mask (Row me row coin) most are = (
 abbrev pub IsHeaderText : Heading → List ℕ → Type 0
 IsHeaderText h text = (text ≡ header_text h) × IsHeading h
 
-abbrev header_from : ℕ → Numbers → ℕ → Vect → ℕ → HeaderKeys → Heading
-header_from session p root vect mask keys = record { session = session; p = p; root = root; vect = vect; correct = mask; keys = keys }
+abbrev header_from : FrameVersion × ℕ → Numbers → ℕ → Vect → ℕ → HeaderKeys → Heading
+header_from start p root vect mask keys = record { session = start.1; version = start.0; p = p; root = root; vect = vect; correct = mask; keys = keys }
 
 pub header_spells : Spells limit header_at IsHeaderText
 unfolding header_at
 header_spells = as_spells IsHeaderText
-    (then_spells start_at _ start_spells (λ session. then_spells numbers_at _ numbers_spells (λ p. then_spells root_at _ root_spells (λ root. then_spells vect_at _ vect_spells (λ vect. then_spells (mask_at p.n) _ (mask_spells p.n) (λ mask. then_spells (keys_at p.n mask) (λ keys. Ok (header_from session p root vect mask keys.0, keys.1)) (keys_spells p.n mask) (λ keys. done_spells (header_from session p root vect mask keys))))))))
+    (then_spells start_at _ start_spells (λ start. then_spells numbers_at _ numbers_spells (λ p. then_spells root_at _ root_spells (λ root. then_spells vect_at _ vect_spells (λ vect. then_spells (mask_at p.n) _ (mask_spells p.n) (λ mask. then_spells (keys_at p.n mask) (λ keys. Ok (header_from start p root vect mask keys.0, keys.1)) (keys_spells p.n mask) (λ keys. done_spells (header_from start p root vect mask keys))))))))
     (λ h text fits a.
     let b = a.second in let c = b.second in let d = c.second in let e = d.second in let k = e.second in
     let keys = keys_right b.value.n e.value k.value k.front b.first.session.most k.first in
@@ -334,8 +374,8 @@ header_spells = as_spells IsHeaderText
     let third = vect_byte h.vect ∷ [] ++ fourth in
     let second = h.root ∷ [] ++ third in
     record {
-      value = h.session;
-      front = start_text h.session;
+      value = (h.version, h.session);
+      front = start_text h.version h.session;
       back = h.p.n ∷ h.p.f ∷ [] ++ second;
       first = (refl, is.session);
       parts = r.0;

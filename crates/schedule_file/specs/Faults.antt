@@ -4,7 +4,7 @@ use Rattle.std.specs.Option.{is_none}
 use Rattle.std.specs.Int.{w32, from_be_bytes}
 use Rattle.ritas_base.specs.declared.event.Event.{Event}
 use Rattle.schedule_file.specs.FileBytes.{limit}
-use Rattle.schedule_file.specs.ReadHeader.{Heading, is_root}
+use Rattle.schedule_file.specs.ReadHeader.{Heading, is_root, is_version}
 use Rattle.schedule_file.specs.Spelling.{IsFile, IsFront}
 use Rattle.schedule_file.specs.declared.scope.Scope.{Scope}
 use Rattle.schedule_file.specs.Scopes.{scope_of, IsOut}
@@ -26,8 +26,9 @@ pub record Field : Type 0 where
 abbrev pub magic : Field
 magic = record { offset = 0; width = 4; is_right = λ bytes. number_in bytes 0 == 0x52495453 }
 
+-- the version of the frames
 abbrev pub version : Field
-version = record { offset = 4; width = 1; is_right = λ bytes. slice_index bytes 4 == 1 }
+version = record { offset = 4; width = 1; is_right = λ bytes. is_version (slice_index bytes 4) }
 
 -- how many replicas there are
 abbrev pub count : Field

@@ -2,6 +2,8 @@
 use Rattle.std.specs.Prelude.{ℕ, zero, suc, ◌-◌, ◌*◌, ◌^◌, Bool, ◌&&◌, ◌||◌, List, [], ◌∷◌, ◌++◌, length, replicate, Result, Ok, nat_lt, nat_le, ◌==◌, if◌then◌else◌}
 use Rattle.ritas_base.specs.Numbers.{Numbers}
 use Rattle.ritas_base.specs.Slots.{within}
+use Rattle.ritas_base.specs.declared.mode.FrameVersion.{FrameVersion}
+use Rattle.ritas_base.specs.declared.mode.FrameVersion.TheVariants.{One, Two}
 use Rattle.ritas_base.specs.declared.mode.Vect.{Vect}
 use Rattle.ritas_base.specs.declared.mode.Vect.TheVariants.{Echo, Reliable}
 use Rattle.schedule_file.specs.declared.fault.FileFault.{FileFault}
@@ -13,10 +15,11 @@ use Rattle.schedule_file.specs.declared.header.HeaderKeys.TheVariants.{Master, R
 use Rattle.schedule_file.specs.Reading.{Spot, ◌>>=◌, test}
 use Rattle.schedule_file.specs.FileBytes.{byte_at, bytes_at, u32_at, u64_at}
 
--- What a header says: the session, n and f, the root service, the broadcast of VECT, the mask of the correct
--- replicas, and the keys.
+-- What a header says: the session, the version of its frames, n and f, the root service, the broadcast of VECT, the mask of
+-- the correct replicas, and the keys.
 pub record Heading : Type 0 where
   pub session : ℕ
+  pub version : FrameVersion
   pub p : Numbers
   pub root : ℕ
   pub vect : Vect
@@ -24,20 +27,28 @@ pub record Heading : Type 0 where
   pub keys : HeaderKeys
 
 abbrev pub heading : Header → Heading
-heading h = record { session = h.session; p = h.p; root = h.mode.root; vect = h.mode.vect; correct = h.correct; keys = h.keys }
+heading h = record { session = h.session; version = h.mode.version; p = h.p; root = h.mode.root; vect = h.mode.vect; correct = h.correct; keys = h.keys }
 
 -- the root services
 abbrev pub is_root : ℕ → Bool
 is_root root = within 1 6 root
 
+-- the versions of frames, which are the bytes 1 and 2
+abbrev pub is_version : ℕ → Bool
+is_version b = b == 1 || b == 2
+
+abbrev pub version_of : ℕ → FrameVersion
+version_of b = if b == 2 then Two else One
+
 -- the magic word, the version, and the session
-unfoldable pub start_at : Spot → Result (ℕ × Spot) FileFault
+unfoldable pub start_at : Spot → Result ((FrameVersion × ℕ) × Spot) FileFault
 start_at s = do
   magic ← u32_at s
   _ ← test (magic.0 == 0x52495453) Magic
   version ← byte_at magic.1
-  _ ← test (version.0 == 1) Version
-  u64_at version.1
+  _ ← test (is_version version.0) Version
+  session ← u64_at version.1
+  Ok ((version_of version.0, session.0), session.1)
 
 -- n and f
 unfoldable pub numbers_at : Spot → Result (Numbers × Spot) FileFault
@@ -126,10 +137,10 @@ keys_at n mask s = do
 
 unfoldable pub header_at : Spot → Result (Heading × Spot) FileFault
 header_at s = do
-  session ← start_at s
-  p ← numbers_at session.1
+  start ← start_at s
+  p ← numbers_at start.1
   root ← root_at p.1
   vect ← vect_at root.1
   mask ← mask_at p.0.n vect.1
   keys ← keys_at p.0.n mask.0 mask.1
-  Ok (record { session = session.0; p = p.0; root = root.0; vect = vect.0; correct = mask.0; keys = keys.0 }, keys.1)
+  Ok (record { session = start.0.1; version = start.0.0; p = p.0; root = root.0; vect = vect.0; correct = mask.0; keys = keys.0 }, keys.1)

@@ -1,20 +1,26 @@
 -- Worked rows.
 use Rattle.std.specs.Prelude.{◌≡◌, ℕ, ◌*◌, List, [], ◌∷◌, ◌++◌, length, codes, replicate, take, Ok, Err, refl}
+use Rattle.ritas_base.specs.declared.mode.FrameVersion.TheVariants.{One, Two}
 use Rattle.ritas_base.specs.declared.mode.Vect.TheVariants.{Echo}
 use Rattle.ritas_base.specs.declared.event.Event.TheVariants.{Frame, Input, Turn, Pass, Sealed}
 use Rattle.schedule_file.specs.declared.fault.FileFault.TheVariants as faults
 use Rattle.schedule_file.specs.declared.header.HeaderKeys.TheVariants.{Master, Row}
+use Rattle.schedule_file.specs.Reading.{start_of}
 use Rattle.schedule_file.specs.FileBytes.{byte_at, end_at, bytes_at, u16_at, u32_at, u64_at, text_at}
 use Rattle.schedule_file.specs.ReadHeader.{Heading, start_at, numbers_at, root_at, vect_at, mask_at, filled_row, master_at, me_at, each_key_at, row_at, alone_at, keys_at, header_at}
 use Rattle.schedule_file.specs.ReadEvents.{replica_at, pair_at, frame_at, input_at, turn_at, pass_at, sealed_at, kind_at, event_at, events_at}
 use Rattle.schedule_file.specs.Schedule.{file_of}
+use Rattle.schedule_file.specs.Spelling.{start_text}
 
--- a header of n replicas, of which none is faulty and which the mask names
+-- what follows the session in a header of n replicas, of which none is faulty and which the mask names
+abbrev behind_start : ℕ → ℕ → List ℕ
+behind_start n mask = n ∷ 0 ∷ 1 ∷ 1 ∷ 0 ∷ 0 ∷ 0 ∷ mask ∷ 0 ∷ replicate 32 0
+
 abbrev header_of : ℕ → ℕ → List ℕ
-header_of n mask = codes "RITS" ++ (1 ∷ replicate 8 0 ++ (n ∷ 0 ∷ 1 ∷ 1 ∷ 0 ∷ 0 ∷ 0 ∷ mask ∷ 0 ∷ replicate 32 0))
+header_of n mask = codes "RITS" ++ (1 ∷ replicate 8 0 ++ behind_start n mask)
 
 abbrev heading_of : ℕ → ℕ → Heading
-heading_of n mask = record { session = 0; p = record { n = n; f = 0 }; root = 1; vect = Echo; correct = mask; keys = Master (replicate 32 0) }
+heading_of n mask = record { session = 0; version = One; p = record { n = n; f = 0 }; root = 1; vect = Echo; correct = mask; keys = Master (replicate 32 0) }
 
 -- one replica, and no event
 no_event : file_of (header_of 1 1 ++ 0 ∷ []) ≡ Ok (heading_of 1 1, [])
@@ -41,10 +47,34 @@ other_magic : file_of (82 ∷ 73 ∷ 84 ∷ 88 ∷ []) ≡ Err faults.Magic
 unfolding file_of header_at start_at numbers_at root_at vect_at mask_at keys_at master_at event_at events_at kind_at replica_at pair_at frame_at input_at turn_at pass_at sealed_at text_at u16_at u32_at u64_at bytes_at byte_at end_at
 other_magic = refl
 
--- another version
-other_version : file_of (82 ∷ 73 ∷ 84 ∷ 83 ∷ 3 ∷ []) ≡ Err faults.Version
+-- there is no version 0, and none past 2
+version_zero : file_of (82 ∷ 73 ∷ 84 ∷ 83 ∷ 0 ∷ []) ≡ Err faults.Version
 unfolding file_of header_at start_at numbers_at root_at vect_at mask_at keys_at master_at event_at events_at kind_at replica_at pair_at frame_at input_at turn_at pass_at sealed_at text_at u16_at u32_at u64_at bytes_at byte_at end_at
-other_version = refl
+version_zero = refl
+
+version_three : file_of (82 ∷ 73 ∷ 84 ∷ 83 ∷ 3 ∷ []) ≡ Err faults.Version
+unfolding file_of header_at start_at numbers_at root_at vect_at mask_at keys_at master_at event_at events_at kind_at replica_at pair_at frame_at input_at turn_at pass_at sealed_at text_at u16_at u32_at u64_at bytes_at byte_at end_at
+version_three = refl
+
+-- the two versions, each with session 7, read and written
+version_one : start_at (start_of (82 ∷ 73 ∷ 84 ∷ 83 ∷ 1 ∷ 0 ∷ 0 ∷ 0 ∷ 0 ∷ 0 ∷ 0 ∷ 0 ∷ 7 ∷ [])) ≡ Ok ((One, 7), record { at = 13; rest = [] })
+unfolding start_at u32_at u64_at bytes_at byte_at
+version_one = refl
+
+version_two : start_at (start_of (82 ∷ 73 ∷ 84 ∷ 83 ∷ 2 ∷ 0 ∷ 0 ∷ 0 ∷ 0 ∷ 0 ∷ 0 ∷ 0 ∷ 7 ∷ [])) ≡ Ok ((Two, 7), record { at = 13; rest = [] })
+unfolding start_at u32_at u64_at bytes_at byte_at
+version_two = refl
+
+text_one : start_text One 7 ≡ 82 ∷ 73 ∷ 84 ∷ 83 ∷ 1 ∷ 0 ∷ 0 ∷ 0 ∷ 0 ∷ 0 ∷ 0 ∷ 0 ∷ 7 ∷ []
+text_one = refl
+
+text_two : start_text Two 7 ≡ 82 ∷ 73 ∷ 84 ∷ 83 ∷ 2 ∷ 0 ∷ 0 ∷ 0 ∷ 0 ∷ 0 ∷ 0 ∷ 0 ∷ 7 ∷ []
+text_two = refl
+
+-- one replica of a session of version 2, and no event
+no_event_of_two : file_of (codes "RITS" ++ (2 ∷ replicate 8 0 ++ behind_start 1 1) ++ 0 ∷ []) ≡ Ok (record (heading_of 1 1) { version = Two }, [])
+unfolding file_of header_at start_at numbers_at root_at vect_at mask_at keys_at master_at event_at events_at kind_at replica_at pair_at frame_at input_at turn_at pass_at sealed_at text_at u16_at u32_at u64_at bytes_at byte_at end_at
+no_event_of_two = refl
 
 -- no replica
 none : file_of (header_of 0 0) ≡ Err (faults.Header 13)
@@ -95,7 +125,7 @@ abbrev nine : List ℕ
 nine = replicate 32 9
 
 abbrev heading_alone : ℕ → ℕ → ℕ → List (List ℕ) → Heading
-heading_alone n mask me keys = record { session = 0; p = record { n = n; f = 0 }; root = 1; vect = Echo; correct = mask; keys = Row me (filled_row keys) nine }
+heading_alone n mask me keys = record { session = 0; version = One; p = record { n = n; f = 0 }; root = 1; vect = Echo; correct = mask; keys = Row me (filled_row keys) nine }
 
 -- replica 0 of one, whose header has 87 bytes, and no event
 alone : file_of (alone_of 1 1 0 ++ 0 ∷ []) ≡ Ok (heading_alone 1 1 0 (seven ∷ []), [])

@@ -4,6 +4,8 @@ use Rattle.std.specs.List.{concat, flat_map, AllByRecursion}
 use Rattle.std.specs.Int.{w16, w32, w64, to_be_bytes}
 use Rattle.ritas_base.specs.Events.{MayHappen}
 use Rattle.ritas_base.specs.Numbers.{IsSession}
+use Rattle.ritas_base.specs.declared.mode.FrameVersion.{FrameVersion}
+use Rattle.ritas_base.specs.declared.mode.FrameVersion.TheVariants.{One, Two}
 use Rattle.ritas_base.specs.declared.mode.Vect.{Vect}
 use Rattle.ritas_base.specs.declared.mode.Vect.TheVariants.{Echo, Reliable}
 use Rattle.ritas_base.specs.declared.event.Event.{Event}
@@ -33,13 +35,17 @@ abbrev pub keys_text : ℕ → HeaderKeys → List ℕ
 keys_text n (Master master) = 0 ∷ master
 keys_text n (Row me row coin) = 1 ∷ me ∷ [] ++ (concat (take n row) ++ coin)
 
+abbrev pub version_byte : FrameVersion → ℕ
+version_byte One = 1
+version_byte Two = 2
+
 -- RITS, the version, and the session
-abbrev pub start_text : ℕ → List ℕ
-start_text session = to_be_bytes w32 0x52495453 ++ (1 ∷ [] ++ to_be_bytes w64 session)
+abbrev pub start_text : FrameVersion → ℕ → List ℕ
+start_text version session = to_be_bytes w32 0x52495453 ++ (version_byte version ∷ [] ++ to_be_bytes w64 session)
 
 abbrev pub header_text : Heading → List ℕ
 header_text h =
-    start_text h.session ++ (h.p.n ∷ h.p.f ∷ [] ++ (h.root ∷ [] ++ (vect_byte h.vect ∷ [] ++ (to_be_bytes w32 h.correct ++ keys_text h.p.n h.keys))))
+    start_text h.version h.session ++ (h.p.n ∷ h.p.f ∷ [] ++ (h.root ∷ [] ++ (vect_byte h.vect ∷ [] ++ (to_be_bytes w32 h.correct ++ keys_text h.p.n h.keys))))
 
 -- how many bytes a header has
 abbrev pub size_with : HeaderKeys → ℕ → ℕ

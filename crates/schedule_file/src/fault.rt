@@ -10,7 +10,7 @@ use std::alloc::AllocError;
 pub enum FileFault {
     /// The first four bytes aren't `RITS`.
     Magic,
-    /// The version isn't 1.
+    /// The version is neither 1 nor 2.
     Version,
     /// The header's field at this offset breaks its rule.
     Header(u32),

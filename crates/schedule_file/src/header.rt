@@ -7,7 +7,7 @@ pub struct Header {
     pub session: u64,
     /// How many replicas there are, and how many of them may be faulty.
     pub p: Params,
-    /// The root service, and the broadcast of VECT.
+    /// The root service, the broadcast of VECT, and the version of the frames.
     pub mode: Mode,
     /// The correct replicas, all below n.
     pub correct: SenderSet,

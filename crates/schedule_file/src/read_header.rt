@@ -12,7 +12,7 @@ use crate::fault::FileFault;
 use crate::header::{Header, HeaderKeys};
 use crate::pieces::{Pieces, test};
 use outside::Source;
-use ritas_base::{Mode, Params, SenderSet, Vect};
+use ritas_base::{FrameVersion, Mode, Params, SenderSet, Vect};
 
 /// Whether this is one of the root services.
 fn is_root(root: u8) -> bool
@@ -23,7 +23,10 @@ fn is_root(root: u8) -> bool
 }
 
 #[tactic(auto, using(outside::specs::FaultsLaws::rose_after), unfolding(crate::specs::ReadHeader::start_at))]
-fn read_start<S: Source>(pieces: &mut Pieces, source: &mut S) -> Result<u64, FileFault>
+fn read_start<S: Source>(
+    pieces: &mut Pieces,
+    source: &mut S,
+) -> Result<(FrameVersion, u64), FileFault>
     ensures exact { S.tells ≡ true → Gives (λ x. x) result (spot pieces.new (S.left source.new)) (start_at (spot pieces.old (S.left source.old))) }
     ensures memory { result ≢ Err FileFault.Mem }
     ensures cause { HasCause (S.faults source.old) (S.faults source.new) (result ≡ Err Read) }
@@ -31,9 +34,13 @@ fn read_start<S: Source>(pieces: &mut Pieces, source: &mut S) -> Result<u64, Fil
 {
     let magic = pieces.number32(source)?;
     test(magic == 0x5249_5453, FileFault::Magic)?;
-    let version = pieces.byte(source)?;
-    test(version == 1, FileFault::Version)?;
-    pieces.number64(source)
+    let version = match pieces.byte(source)? {
+        1 => FrameVersion::One,
+        2 => FrameVersion::Two,
+        _ => return Err(FileFault::Version),
+    };
+    let session = pieces.number64(source)?;
+    Ok((version, session))
 }
 
 #[tactic(auto, using(outside::specs::FaultsLaws::rose_after), unfolding(crate::specs::ReadHeader::numbers_at))]
@@ -198,7 +205,7 @@ pub fn read_header<S: Source>(pieces: &mut Pieces, source: &mut S) -> Result<Hea
     ensures cause { HasCause (S.faults source.old) (S.faults source.new) (result ≡ Err Read) }
     ensures counts { S.faults source.new ≡ faults_after (S.faults source.old) result }
 {
-    let session = read_start(pieces, source)?;
+    let (version, session) = read_start(pieces, source)?;
     let p = read_numbers(pieces, source)?;
     let root = read_root(pieces, source)?;
     let vect = read_vect(pieces, source)?;
@@ -207,7 +214,11 @@ pub fn read_header<S: Source>(pieces: &mut Pieces, source: &mut S) -> Result<Hea
     Ok(Header {
         session,
         p,
-        mode: Mode { root, vect },
+        mode: Mode {
+            root,
+            vect,
+            version,
+        },
         correct,
         keys,
     })

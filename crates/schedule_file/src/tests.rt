@@ -2,7 +2,7 @@
 
 use crate::{FileFault, Header, HeaderKeys, Reader, Writer, event_size};
 use outside::{Buffer, Failed, MemSink, MemSource, Source};
-use ritas_base::{Bytes, Event, Mode, Params, SenderSet, Vect};
+use ritas_base::{Bytes, Event, FrameVersion, Mode, Params, SenderSet, Vect};
 use std::alloc::Global;
 use std::test::*;
 
@@ -48,6 +48,34 @@ fn outcome<S: Source>(alloc: Global, source: &mut S) -> (u32, Option<FileFault>)
         }
     }
     (9_999, None)
+}
+
+// The version of a file, whose header is written to the sink.
+fn header_again(alloc: Global, file: &[u8], sink: &mut Buffer) -> Result<FrameVersion, FileFault> {
+    let mut source = MemSource::new(alloc, file, &[])?;
+    let (header, _) = Reader::start(alloc, &mut source)?;
+    Writer::start(sink, &header)?;
+    Ok(header.mode.version)
+}
+
+// The version of a file is its byte 4, which is read, and written again.
+#[test]
+fn versions(rt: HostRuntime) -> Result<(), Fail> {
+    let cases = [
+        (0, Err(FileFault::Version)),
+        (1, Ok(FrameVersion::One)),
+        (2, Ok(FrameVersion::Two)),
+        (3, Err(FileFault::Version)),
+    ];
+    for (byte, want) in cases {
+        let mut file = EMPTY;
+        file[4] = byte;
+        let mut sink = Buffer::new(rt.alloc());
+        assert_eq!(rt; header_again(rt.alloc(), &file, &mut sink), want);
+        let same = sink.taken() == &file[..54];
+        assert_eq!(rt; same, want.is_ok());
+    }
+    Ok(())
 }
 
 // A file that comes in five pieces, since 65,536 bytes are held at most, and a source that fails before one of them.

@@ -3,11 +3,11 @@ ghost use Rattle.std.specs.List.{concat};
 ghost use Rattle.std.specs.Int.{w32, to_be_bytes};
 ghost use Rattle.outside.specs.Writing.{Writes};
 ghost use Rattle.schedule_file.specs.ReadHeader.{heading};
-ghost use Rattle.schedule_file.specs.Spelling.{event_text, header_text, keys_text, sized, start_text, vect_byte, IsSized};
+ghost use Rattle.schedule_file.specs.Spelling.{event_text, header_text, keys_text, sized, start_text, vect_byte, version_byte, IsSized};
 
 use crate::header::{Header, HeaderKeys};
 use outside::{Failed, Sink, write_all};
-use ritas_base::{Event, Vect};
+use ritas_base::{Event, FrameVersion, Vect};
 
 // Two texts of together at most so many bytes are written in one piece.
 const PIECE: usize = 512;
@@ -44,12 +44,24 @@ fn write_both<K: Sink>(sink: &mut K, first: &[u8], second: &[u8]) -> Result<(), 
     write_all(sink, second)
 }
 
+fn version_byte(version: FrameVersion) -> u8
+    ensures { result ≡ version_byte version }
+{
+    match version {
+        FrameVersion::One => 1,
+        FrameVersion::Two => 2,
+    }
+}
+
 // The magic word, the version and the session.
-fn start_bytes(session: u64) -> [u8; 13]
-    ensures { result ≡ start_text session }
+fn start_bytes(version: FrameVersion, session: u64) -> [u8; 13]
+    ensures { result ≡ start_text version session }
 {
     let [s7, s6, s5, s4, s3, s2, s1, s0] = session.to_be_bytes();
-    [b'R', b'I', b'T', b'S', 1, s7, s6, s5, s4, s3, s2, s1, s0]
+    let version = version_byte(version);
+    [
+        b'R', b'I', b'T', b'S', version, s7, s6, s5, s4, s3, s2, s1, s0,
+    ]
 }
 
 fn vect_byte(vect: Vect) -> u8
@@ -61,7 +73,7 @@ fn vect_byte(vect: Vect) -> u8
     }
 }
 
-// n and f, the mode, and the mask of the correct replicas.
+// n and f, the root service, the broadcast of VECT, and the mask of the correct replicas.
 fn setting_bytes(header: &Header) -> [u8; 8]
     ensures { result ≡ header.now.p.n ∷ header.now.p.f ∷ header.now.mode.root ∷ vect_byte header.now.mode.vect ∷ to_be_bytes w32 header.now.correct }
 {
@@ -158,7 +170,8 @@ impl Writer {
         ensures { Writes (header_text (heading header.now)) K.tells (K.taken sink.old) (K.taken sink.new) (K.faults sink.old) (K.faults sink.new)
             result (IsErr result) }
     {
-        write_both(sink, &start_bytes(header.session), &setting_bytes(header))?;
+        let start = start_bytes(header.mode.version, header.session);
+        write_both(sink, &start, &setting_bytes(header))?;
         write_keys(sink, header.p.n(), &header.keys)
     }
 
