@@ -9,12 +9,15 @@ use Rattle.hex.specs.declared.error.FromHexError.TheVariants.{OddLength, Invalid
 use Rattle.hex.specs.Hex.{decode_of, decode_sized, decode_pairs}
 use Rattle.hex.proofs.HexLemmas.{decode_of-ok, decode_sized-twice}
 use Rattle.ritas_base.specs.Numbers.{Numbers}
+use Rattle.ritas_base.specs.declared.mode.FrameVersion.{FrameVersion}
+use Rattle.ritas_base.specs.declared.mode.FrameVersion.TheVariants.{One}
 use Rattle.cluster_config.specs.declared.requests.Request.{Request}
 use Rattle.cluster_config.specs.declared.submit.SubmitConfig.{SubmitConfig}
 use Rattle.cluster_config.specs.Values.{numeral, if_within, number_in, numbers_of, numbers_in, if_ok, key_in, keys_in, row_in, number_before, payload_in, request_in}
 use Rattle.cluster_config.specs.Cuts.{cut_at}
 use Rattle.cluster_config.specs.Columns.{Column, is_one_line, lines_of, lines_up_to, read_text, IsText}
 use Rattle.cluster_config.specs.Front.{session_lines, numbers_lines}
+use Rattle.cluster_config.specs.Drive.{Planned, drive_column}
 use Rattle.cluster_config.specs.Node.{NodeText, node_column}
 use Rattle.cluster_config.specs.Cluster.{ClusterText, cluster_column}
 use Rattle.cluster_config.specs.Submit.{submit_column}
@@ -268,6 +271,34 @@ submit_fits text x is =
       short = (request_fits p.0.n request.2.value request.0 request.2.reads).short;
     })
 
+-- ---- versions
+drive_first : (text : List ℕ) (x : Planned) → IsText drive_column x text → x.version ≡ One
+unfolding drive_column session_lines numbers_lines
+drive_first text x is =
+    let root = is.3.3.3.3 in
+    let order = root.3.3.3 in
+    let end = order.3.3.3.3 in
+    sym (ap (λ (y : Planned). y.version) end.1)
+
+node_first : (text : List ℕ) (x : NodeText) → IsText node_column x text → x.version ≡ One
+unfolding node_column session_lines numbers_lines
+node_first text x is =
+    let root = is.3.3.3.3 in
+    let coin = root.3.3.3.3 in
+    let peers = lines_say _ _ _ _ _ x coin.1 coin.3 in
+    let end = peers.more.3.3.3 in
+    sym (ap (λ (y : NodeText). y.version) end.1)
+
+cluster_first : (text : List ℕ) (x : ClusterText) → IsText cluster_column x text → x.version ≡ One
+unfolding cluster_column session_lines numbers_lines
+cluster_first text x is =
+    let root = is.3.3.3.3 in
+    let master = root.3.3 in
+    let peers = lines_say _ _ _ _ _ x master.1 master.3 in
+    let until = peers.more.3 in
+    let requests = lines_say_some _ _ _ _ _ x until.1 until.3 in
+    sym (ap (λ (y : ClusterText). y.version) requests.is)
+
 -- ---- what is read
 pub node_read : (text : List ℕ) (x : NodeText) → read_text node_column text ≡ Ok x → FitsNode x
 node_read text x e = node_fits text x ((read_right node_column).found text x e)
@@ -277,3 +308,12 @@ cluster_read text x e = cluster_fits text x ((read_right cluster_column).found t
 
 pub submit_read : (text : List ℕ) (x : SubmitConfig) → read_text submit_column text ≡ Ok x → FitsSubmit x
 submit_read text x e = submit_fits text x ((read_right submit_column).found text x e)
+
+pub drive_version : (text : List ℕ) (x : Planned) → read_text drive_column text ≡ Ok x → x.version ≡ One
+drive_version text x e = drive_first text x ((read_right drive_column).found text x e)
+
+pub node_version : (text : List ℕ) (x : NodeText) → read_text node_column text ≡ Ok x → x.version ≡ One
+node_version text x e = node_first text x ((read_right node_column).found text x e)
+
+pub cluster_version : (text : List ℕ) (x : ClusterText) → read_text cluster_column text ≡ Ok x → x.version ≡ One
+cluster_version text x e = cluster_first text x ((read_right cluster_column).found text x e)

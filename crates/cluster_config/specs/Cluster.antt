@@ -1,6 +1,8 @@
 -- The configuration of all replicas of a session: its lines, in their order.
 use Rattle.std.specs.Prelude.{ℕ, List, codes, refl}
 use Rattle.ritas_base.specs.Numbers.{Numbers}
+use Rattle.ritas_base.specs.declared.mode.FrameVersion.{FrameVersion}
+use Rattle.ritas_base.specs.declared.mode.FrameVersion.TheVariants.{One}
 use Rattle.ritas_base.specs.declared.mode.Vect.{Vect}
 use Rattle.cluster_config.specs.declared.cluster.ClusterConfig.{ClusterConfig}
 use Rattle.cluster_config.specs.declared.requests.Request.{Request}
@@ -14,6 +16,7 @@ pub record ClusterText : Type 0 where
   pub p : Numbers
   pub root : ℕ
   pub vect : Vect
+  pub version : FrameVersion
   pub master : List ℕ
   pub peers : List (List ℕ)
   pub limit : ℕ
@@ -26,6 +29,7 @@ cluster_text config = record {
   p = config.p;
   root = config.mode.root;
   vect = config.mode.vect;
+  version = config.mode.version;
   master = config.master;
   peers = config.peers;
   limit = config.limit;
@@ -33,6 +37,7 @@ cluster_text config = record {
   requests = config.requests;
 }
 
+-- its lines; none names a version of frames, which is the first
 unfoldable pub cluster_column : Column ClusterText
 cluster_column =
     session_lines (λ session.
@@ -44,4 +49,4 @@ cluster_column =
     Line (codes "limit") refl (number_in 1 most) (λ limit.
     Line (codes "until") refl (number_in 0 4294967295) (λ until.
     lines_up_to (codes "request") refl (request_in p.n) 64 (λ requests.
-    record { session = session; p = p; root = root; vect = vect; master = master; peers = peers; limit = limit; until = until; requests = requests })))))))))
+    record { session = session; p = p; root = root; vect = vect; version = One; master = master; peers = peers; limit = limit; until = until; requests = requests })))))))))

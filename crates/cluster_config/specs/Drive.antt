@@ -1,6 +1,8 @@
 -- The configuration of a schedule that is to be made: its lines, in their order.
 use Rattle.std.specs.Prelude.{ℕ, List, codes, refl}
 use Rattle.ritas_base.specs.Numbers.{Numbers}
+use Rattle.ritas_base.specs.declared.mode.FrameVersion.{FrameVersion}
+use Rattle.ritas_base.specs.declared.mode.FrameVersion.TheVariants.{One}
 use Rattle.ritas_base.specs.declared.mode.Vect.{Vect}
 use Rattle.ritas_base.specs.declared.plan.Order.{Order}
 use Rattle.ritas_base.specs.declared.plan.Attack.{Attack}
@@ -15,6 +17,7 @@ pub record Planned : Type 0 where
   pub p : Numbers
   pub root : ℕ
   pub vect : Vect
+  pub version : FrameVersion
   pub master : List ℕ
   pub order : Order
   pub attack : Attack
@@ -27,6 +30,7 @@ planned plan = record {
   p = plan.p;
   root = plan.mode.root;
   vect = plan.mode.vect;
+  version = plan.mode.version;
   master = plan.master;
   order = plan.order;
   attack = plan.attack;
@@ -34,7 +38,7 @@ planned plan = record {
   commands = plan.commands;
 }
 
--- the lines of a plan
+-- the lines of a plan; none names a version of frames, which is the first
 unfoldable pub drive_column : Column Planned
 drive_column =
     session_lines (λ session.
@@ -46,4 +50,4 @@ drive_column =
     Line (codes "attack") refl attack_in (λ attack.
     Line (codes "start") refl (number_in 0 most) (λ start.
     Line (codes "commands") refl (number_in 0 10000) (λ commands.
-    Done (record { session = session; p = p; root = root; vect = vect; master = master; order = order; attack = attack; start = start; commands = commands }))))))))))
+    Done (record { session = session; p = p; root = root; vect = vect; version = One; master = master; order = order; attack = attack; start = start; commands = commands }))))))))))

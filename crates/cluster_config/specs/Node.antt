@@ -1,6 +1,8 @@
 -- The configuration of a replica: its lines, in their order.
 use Rattle.std.specs.Prelude.{ℕ, ◌-◌, List, codes, refl}
 use Rattle.ritas_base.specs.Numbers.{Numbers}
+use Rattle.ritas_base.specs.declared.mode.FrameVersion.{FrameVersion}
+use Rattle.ritas_base.specs.declared.mode.FrameVersion.TheVariants.{One}
 use Rattle.ritas_base.specs.declared.mode.Vect.{Vect}
 use Rattle.cluster_config.specs.declared.node.NodeConfig.{NodeConfig}
 use Rattle.cluster_config.specs.Values.{most, number_in, vect_in, key_in, row_in, address_in}
@@ -13,6 +15,7 @@ pub record NodeText : Type 0 where
   pub p : Numbers
   pub root : ℕ
   pub vect : Vect
+  pub version : FrameVersion
   pub me : ℕ
   pub key_row : List (List ℕ)
   pub coin_key : List ℕ
@@ -27,6 +30,7 @@ node_text config = record {
   p = config.p;
   root = config.mode.root;
   vect = config.mode.vect;
+  version = config.mode.version;
   me = config.me;
   key_row = config.key_row;
   coin_key = config.coin_key;
@@ -36,6 +40,7 @@ node_text config = record {
   until = config.until;
 }
 
+-- its lines; none names a version of frames, which is the first
 unfoldable pub node_column : Column NodeText
 node_column =
     session_lines (λ session.
@@ -49,4 +54,4 @@ node_column =
     Line (codes "client") refl address_in (λ client.
     Line (codes "limit") refl (number_in 1 most) (λ limit.
     Line (codes "until") refl (number_in 0 4294967295) (λ until.
-    Done (record { session = session; p = p; root = root; vect = vect; me = me; key_row = row; coin_key = coin; peers = peers; client = client; limit = limit; until = until }))))))))))))
+    Done (record { session = session; p = p; root = root; vect = vect; version = One; me = me; key_row = row; coin_key = coin; peers = peers; client = client; limit = limit; until = until }))))))))))))

@@ -2,6 +2,7 @@
 use Rattle.std.specs.Prelude.{◌≡◌, ℕ, List, [], ◌∷◌, ◌++◌, codes, replicate, Some, None, Ok, Err, refl}
 use Rattle.clap.proofs.OnLiterals.{clap_on_literals}
 use Rattle.hex.specs.Hex.{decode_pairs}
+use Rattle.ritas_base.specs.declared.mode.FrameVersion.TheVariants.{One}
 use Rattle.ritas_base.specs.declared.mode.Vect.TheVariants.{Echo}
 use Rattle.ritas_base.specs.declared.what.What.TheVariants.{Frames, Vectors}
 use Rattle.ritas_base.specs.declared.what.DriveWhat.TheVariants.{Schedule}
@@ -138,6 +139,7 @@ plan = record {
   p = record { n = 4; f = 1 };
   root = 6;
   vect = Echo;
+  version = One;
   master = replicate 32 0;
   order = Random;
   attack = Absent;

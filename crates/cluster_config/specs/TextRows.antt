@@ -1,6 +1,7 @@
 -- Worked rows of the texts of keys, of a replica, of all replicas and of a request, where there is one replica.
 use Rattle.std.specs.Prelude.{◌≡◌, ℕ, List, [], ◌∷◌, ◌++◌, codes, replicate, flat_map, Ok, Err, refl}
 use Rattle.hex.specs.Hex.{decode_pairs}
+use Rattle.ritas_base.specs.declared.mode.FrameVersion.TheVariants.{One}
 use Rattle.ritas_base.specs.declared.mode.Vect.TheVariants.{Echo, Reliable}
 use Rattle.cluster_config.specs.Lines.{line_at, end_at, value_at, field_at}
 use Rattle.cluster_config.specs.Columns.{lines_of, lines_up_to, read_by, read_text}
@@ -45,6 +46,7 @@ node : read_text node_column (node_front ++ codes "peer 10.0.0.1:4000\nclient 10
   p = record { n = 1; f = 0 };
   root = 6;
   vect = Echo;
+  version = One;
   me = 0;
   key_row = replicate 31 (replicate 32 0);
   coin_key = replicate 32 0;
@@ -84,6 +86,7 @@ cluster : read_text cluster_column (cluster_front ++ codes "request 0 1 2 -\nreq
   p = record { n = 1; f = 0 };
   root = 6;
   vect = Reliable;
+  version = One;
   master = replicate 32 0;
   peers = codes "10.0.0.1:4000" ∷ [];
   limit = 1;

@@ -10,7 +10,7 @@ use crate::config::ConfigFault;
 use crate::lines::{Lines, WrongLine};
 use crate::requests::Requests;
 use crate::views::{Addresses, RequestViews};
-use ritas_base::{Mem, Mode, Params, Texts};
+use ritas_base::{FrameVersion, Mem, Mode, Params, Texts};
 use std::alloc::Global;
 
 /// All replicas of a session, which are to be run.
@@ -65,7 +65,11 @@ fn cluster_lines<'a>(lines: &mut Lines<'a>) -> Result<ClusterView<'a>, WrongLine
     Ok(ClusterView {
         session,
         p,
-        mode: Mode { root, vect },
+        mode: Mode {
+            root,
+            vect,
+            version: FrameVersion::One,
+        },
         master,
         peers,
         limit,

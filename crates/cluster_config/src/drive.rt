@@ -5,7 +5,7 @@ ghost use Rattle.cluster_config.specs.Columns.{read_by, read_text};
 ghost use Rattle.cluster_config.specs.Drive.{drive_column, planned};
 
 use crate::lines::{Lines, WrongLine};
-use ritas_base::{Mode, Plan};
+use ritas_base::{FrameVersion, Mode, Plan};
 
 // The lines of a plan, to the end of the text.
 #[tactic(auto, using(crate::proofs::Parts::read_session, crate::proofs::Parts::read_numbers), unfolding(crate::specs::Columns::read_by, crate::specs::Drive::drive_column))]
@@ -26,7 +26,11 @@ fn read_plan(lines: &mut Lines<'_>) -> Result<Plan, WrongLine>
     Ok(Plan {
         session,
         p,
-        mode: Mode { root, vect },
+        mode: Mode {
+            root,
+            vect,
+            version: FrameVersion::One,
+        },
         master,
         order,
         attack,

@@ -1,9 +1,10 @@
 //! What a configuration says, for every text.
 ghost use Rattle.std.specs.Prelude.{◌≡◌, ◌↔◌, ◌<◌, ◌^◌, ℕ, List, Some, Ok};
 ghost use Rattle.std.specs.Fmt.{decimal};
+ghost use Rattle.ritas_base.specs.declared.mode.FrameVersion.TheVariants.{One};
 ghost use Rattle.cluster_config.specs.Values.{numeral};
 ghost use Rattle.cluster_config.specs.Columns.{IsReadRight, read_text};
-ghost use Rattle.cluster_config.specs.Drive.{drive_column};
+ghost use Rattle.cluster_config.specs.Drive.{Planned, drive_column};
 ghost use Rattle.cluster_config.specs.Keys.{keys_column};
 ghost use Rattle.cluster_config.specs.Node.{NodeText, node_column};
 ghost use Rattle.cluster_config.specs.Cluster.{ClusterText, cluster_column};
@@ -36,4 +37,13 @@ pub fn config_ranges()
     ensures node { (text : List ℕ) (x : NodeText) → read_text node_column text ≡ Ok x → FitsNode x }
     ensures cluster { (text : List ℕ) (x : ClusterText) → read_text cluster_column text ≡ Ok x → FitsCluster x }
     ensures submit { (text : List ℕ) (x : SubmitConfig) → read_text submit_column text ≡ Ok x → FitsSubmit x }
+{}
+
+/// A configuration names no version of frames: a schedule that is to be made, a node and a cluster are of the first.
+///
+/// It does nothing: its contract is the law.
+pub fn config_versions()
+    ensures drive { (text : List ℕ) (x : Planned) → read_text drive_column text ≡ Ok x → x.version ≡ One }
+    ensures node { (text : List ℕ) (x : NodeText) → read_text node_column text ≡ Ok x → x.version ≡ One }
+    ensures cluster { (text : List ℕ) (x : ClusterText) → read_text cluster_column text ≡ Ok x → x.version ≡ One }
 {}

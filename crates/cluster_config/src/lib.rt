@@ -46,7 +46,8 @@
 //! column's lines is, and which of its lines is the first that is wrong or missing. `read_config` answers the one or the other, for
 //! every text, and `config_laws` says that it is so. A text is looked at to its end before memory is taken, so where memory is
 //! wanting the text is right. `config_ranges` says what a configuration that is read keeps to: the places below n, as many peers as
-//! replicas, the zeros behind a row's keys, and how many requests there are, of how many bytes.
+//! replicas, the zeros behind a row's keys, and how many requests there are, of how many bytes. No line names a version of frames,
+//! which is the first (`config_versions`).
 #![tactic(auto)]
 
 mod cluster;
@@ -71,7 +72,7 @@ pub use cluster::ClusterConfig;
 pub use config::{Config, ConfigFault, read_config};
 pub use job::Job;
 pub use keys::KeysConfig;
-pub use laws::{config_laws, config_ranges, number_law};
+pub use laws::{config_laws, config_ranges, config_versions, number_law};
 pub use node::NodeConfig;
 pub use requests::{Request, Requests};
 pub use submit::SubmitConfig;

@@ -9,7 +9,7 @@ ghost use Rattle.cluster_config.specs.Seen.{node_seen};
 use crate::config::ConfigFault;
 use crate::lines::{Lines, WrongLine};
 use crate::views::Addresses;
-use ritas_base::{Bytes, Mem, Mode, Params, Texts};
+use ritas_base::{Bytes, FrameVersion, Mem, Mode, Params, Texts};
 use std::alloc::Global;
 
 /// A replica that is to be run.
@@ -73,7 +73,11 @@ fn node_lines<'a>(lines: &mut Lines<'a>) -> Result<NodeView<'a>, WrongLine>
     Ok(NodeView {
         session,
         p,
-        mode: Mode { root, vect },
+        mode: Mode {
+            root,
+            vect,
+            version: FrameVersion::One,
+        },
         me,
         key_row,
         coin_key,

@@ -6,7 +6,7 @@ mod requests;
 mod submit;
 mod words;
 
-use crate::{config_laws, config_ranges, number_law, words_law};
+use crate::{config_laws, config_ranges, config_versions, number_law, words_law};
 use std::test::*;
 
 // The laws are functions that do nothing.
@@ -14,6 +14,7 @@ use std::test::*;
 fn laws_can_be_called(_rt: HostRuntime) {
     config_laws();
     config_ranges();
+    config_versions();
     number_law();
     words_law();
 }

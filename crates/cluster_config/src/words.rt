@@ -91,8 +91,10 @@ fn job_met(matches: &ArgMatches<'_>) -> Option<Job>
     job_named(name, value_of(inner))
 }
 
+// Want of memory is answered `Mem`, and any other error `Usage`.
 fn fault_of(kind: ErrorKind) -> WordsFault
-    ensures { result ≡ WordsFault.Usage → kind ≢ OutOfMemory }
+    ensures usage { result ≡ WordsFault.Usage → kind ≢ OutOfMemory }
+    ensures memory { result ≡ WordsFault.Mem → kind ≡ OutOfMemory }
 {
     if kind == ErrorKind::OutOfMemory {
         WordsFault::Mem
