@@ -8,7 +8,7 @@ use keyed_channel::{Keys, SeedCoin};
 use outside::{LinkItem, MemLink, MemSink};
 use reliable_bcast::Rb;
 use replica::Replica;
-use ritas_base::{Bytes, Mem, Mode, Params, Vect};
+use ritas_base::{Bytes, FrameVersion, Mem, Mode, Params, Vect};
 use std::alloc::Global;
 use std::net::Net;
 use std::process::Abort;
@@ -21,6 +21,7 @@ fn alone(rt: &impl Abort, alloc: Global) -> Result<Vec<Replica<CmdRoot, Rb, Seed
     let mode = Mode {
         root: 1,
         vect: Vect::Reliable,
+        version: FrameVersion::One,
     };
     let keys = Keys::deal(&[0; 32], 0, &p, 0);
     let mut replicas = Vec::new(alloc);

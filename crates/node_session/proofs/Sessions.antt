@@ -22,6 +22,7 @@ use Rattle.outside.specs.declared.link.LinkItem.{LinkItem}
 use Rattle.schedule_file.specs.ReadHeader.{heading}
 use Rattle.schedule_file.specs.Spelling.{IsHeading, IsEvent, IsSized, MayStand, AreKeys}
 use Rattle.schedule_file.specs.declared.header.Header.{Header}
+use Rattle.ritas_base.specs.declared.mode.FrameVersion.{FrameVersion}
 use Rattle.schedule_file.specs.declared.header.HeaderKeys.{HeaderKeys}
 use Rattle.schedule_file.specs.declared.header.HeaderKeys.TheVariants.{Master, Row}
 use Rattle.schedule_replay.specs.Layers.{setting_by, keys_with}
@@ -47,9 +48,9 @@ use Rattle.node_session.proofs.Composing.{all_taken, part_taken, mark_lost, last
 
 -- ---- the world of a header
 
-own_row : (keys : HeaderKeys) (session n i : ℕ) → ((keys_with keys session n i).me ≡ i) × ((keys_with keys session n i).n ≡ n)
-own_row (Master master) session n i = (refl, refl)
-own_row (Row me row coin) session n i = (refl, refl)
+own_row : (keys : HeaderKeys) (version : FrameVersion) (session n i : ℕ) → ((keys_with keys version session n i).me ≡ i) × ((keys_with keys version session n i).n ≡ n)
+own_row (Master master) version session n i = (refl, refl)
+own_row (Row me row coin) version session n i = (refl, refl)
 
 pub is_world : (service : ServiceRules) (other : BroadcastRules) (h : Header) → IsHeading (heading h) → service.serves h.mode.root ≡ true → HasForm h.mode other
     → IsWorld service other (setting_by service other h)
@@ -60,7 +61,7 @@ is_world service other h is serves form = record {
   casts = λ s. refl;
   serves = serves;
   form = form;
-  own = λ i below. own_row h.keys h.session h.p.n i;
+  own = λ i below. own_row h.keys h.mode.version h.session h.p.n i;
 }
 
 -- ---- the events

@@ -22,11 +22,11 @@ use node_loop::{
     resends_are_open, serve,
 };
 use outside::{Link, LinkItem, LinkPlan, Sink};
-use reliable_bcast::Rb;
+use reliable_bcast::{DigestRb, Rb};
 use replica::Replica;
 use ritas_base::Mem;
 use schedule_file::Header;
-use schedule_replay::{first_world, has_echo};
+use schedule_replay::{first_world, other_form};
 use std::alloc::Global;
 use std::net::Net;
 use std::sync::Wait;
@@ -128,8 +128,11 @@ pub fn serve_session<R: Net + Wait, L: Link, K: Sink>(
         (outs_of K.taken K.faults L.told L.faults output.old link.old) (outs_of K.taken K.faults L.told L.faults output.new link.new) end) }
     ensures unserved { OnErr result ((output.new ≡ output.old) × (link.new ≡ link.old)) }
 {
-    if has_echo(&session.header.mode) {
+    let form = other_form(&session.header.mode);
+    if form == 2 {
         serve_as::<R, Abc<Vc<Mvc<Bin>>>, Eb, L, K>(rt, alloc, session, first, link, output)
+    } else if form == 3 {
+        serve_as::<R, Abc<Vc<Mvc<Bin>>>, DigestRb, L, K>(rt, alloc, session, first, link, output)
     } else {
         serve_as::<R, Abc<Vc<Mvc<Bin>>>, Rb, L, K>(rt, alloc, session, first, link, output)
     }

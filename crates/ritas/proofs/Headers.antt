@@ -17,7 +17,7 @@ header_of k is =
     let h : Header = record {
       session = k.session;
       p = k.p;
-      mode = record { root = k.root; vect = k.vect; low = bounds.0; high = bounds.1 };
+      mode = record { root = k.root; vect = k.vect; version = k.version; low = bounds.0; high = bounds.1 };
       correct = k.correct;
       keys = k.keys;
     } in

@@ -14,7 +14,7 @@ abbrev plan_by : (x : Planned) → 1 ≤ x.root → x.root ≤ 6 → Plan
 plan_by x low high = record {
   session = x.session;
   p = x.p;
-  mode = record { root = x.root; vect = x.vect; low = low; high = high };
+  mode = record { root = x.root; vect = x.vect; version = x.version; low = low; high = high };
   master = x.master;
   order = x.order;
   attack = x.attack;
@@ -36,7 +36,7 @@ abbrev node_by : (x : NodeText) → 1 ≤ x.root → x.root ≤ 6 → NodeConfig
 node_by x low high = record {
   session = x.session;
   p = x.p;
-  mode = record { root = x.root; vect = x.vect; low = low; high = high };
+  mode = record { root = x.root; vect = x.vect; version = x.version; low = low; high = high };
   me = x.me;
   key_row = x.key_row;
   coin_key = x.coin_key;
@@ -60,7 +60,7 @@ abbrev cluster_by : (x : ClusterText) → 1 ≤ x.root → x.root ≤ 6 → Clus
 cluster_by x low high = record {
   session = x.session;
   p = x.p;
-  mode = record { root = x.root; vect = x.vect; low = low; high = high };
+  mode = record { root = x.root; vect = x.vect; version = x.version; low = low; high = high };
   master = x.master;
   peers = x.peers;
   limit = x.limit;

@@ -18,11 +18,11 @@ use echo_bcast::Eb;
 use layer_api::{Broadcast, Service};
 use multivalued::{Mvc, MvcRoot};
 use outside::{Buffer, Failed, Sink, write_all};
-use reliable_bcast::Rb;
+use reliable_bcast::{DigestRb, Rb};
 use ritas_base::{DriveWhat, Plan, What};
 use schedule_file::Writer;
 use schedule_plan::drive_forges_nothing;
-use schedule_replay::{ReplayEnd, has_echo, show};
+use schedule_replay::{ReplayEnd, other_form, show};
 use schedule_stage::{Finished, Halt};
 use std::alloc::Global;
 use vector_consensus::{Vc, VcRoot};
@@ -116,8 +116,11 @@ fn drive_with<S: Service, K: Sink>(
     ensures ended { Ended K.faults sink.old sink.new result }
     ensures shows { ShowsIn K.tells K.taken sink.old sink.new what result (world_by S.rules (other_of plan.now.mode) plan.now) plan.now }
 {
-    if has_echo(&plan.mode) {
+    let form = other_form(&plan.mode);
+    if form == 2 {
         drive_as::<S, Eb, K>(alloc, plan, sink, what)
+    } else if form == 3 {
+        drive_as::<S, DigestRb, K>(alloc, plan, sink, what)
     } else {
         drive_as::<S, Rb, K>(alloc, plan, sink, what)
     }

@@ -5,13 +5,15 @@ use Rattle.std.proofs.lemmas.Bool.{eqb-true}
 use Rattle.ritas_base.specs.declared.item.Kind.{Kind}
 use Rattle.ritas_base.specs.declared.item.Kind.TheVariants.{Init}
 use Rattle.ritas_base.specs.declared.item.Msg.{Msg}
+use Rattle.ritas_base.specs.declared.mode.Mode.{Mode}
 use Rattle.ritas_base.specs.declared.slot.Slot.{Slot}
+use Rattle.ritas_base.specs.Slots.{form_of}
 use Rattle.ritas_base.specs.HistoryLaws.{kind_eq_is}
 use Rattle.ritas_base.specs.Messages.{kind_eq, item_of}
 use Rattle.ritas_base.specs.Numbers.{Numbers}
 use Rattle.frame_codec.specs.Body.{IsInGrammar}
 use Rattle.frame_codec.specs.Format.{Is}
-use Rattle.frame_codec.specs.Grammar.{bit, value, payload}
+use Rattle.frame_codec.specs.Grammar.{bit, digest, value, payload}
 use Rattle.world_model.specs.World.{Setting}
 use Rattle.ritas_base.specs.declared.plan.Attack.{Attack}
 use Rattle.ritas_base.specs.declared.plan.Attack.TheVariants.{Absent, Silent, TwoFace, Flip, Garbage}
@@ -37,10 +39,21 @@ of_step : (p : Numbers) (root : ℕ) (s : Slot) (v : List ℕ) → s.class ≡ 5
 unfolding value
 of_step p root s v five is = rw five (other_is s.step v (rw five at is))
 
-of_init : (p : Numbers) (root : ℕ) (kind : Kind) (s : Slot) (v : List ℕ) → kind ≡ Init → s.class ≡ 5 → Is (payload p root kind s) v → Is (payload p root kind s) (other_bit v)
+-- an INIT carries the slot's value, in both versions
+value_of_init : (b : Bool) (p : Numbers) (root : ℕ) (s : Slot) (v : List ℕ) → Is (if b && false then digest else value p root s) v → Is (value p root s) v
+value_of_init true p root s v is = is
+value_of_init false p root s v is = is
+
+init_of_value : (b : Bool) (p : Numbers) (root : ℕ) (s : Slot) (v : List ℕ) → Is (value p root s) v → Is (if b && false then digest else value p root s) v
+init_of_value true p root s v is = is
+init_of_value false p root s v is = is
+
+of_init : (p : Numbers) (mode : Mode) (kind : Kind) (s : Slot) (v : List ℕ) → kind ≡ Init → s.class ≡ 5 → Is (payload p mode kind s) v → Is (payload p mode kind s) (other_bit v)
 unfolding payload
-of_init p root kind s v init five is =
-    subst (λ (k : Kind). Is (payload p root k s) (other_bit v)) (sym init) (of_step p root s v five (subst (λ (k : Kind). Is (payload p root k s) v) init is))
+of_init p mode kind s v init five is =
+    let b : Bool = form_of mode s == 3 in
+    let said = value_of_init b p mode.root s v (subst (λ (k : Kind). Is (payload p mode k s) v) init is) in
+    subst (λ (k : Kind). Is (payload p mode k s) (other_bit v)) (sym init) (init_of_value b p mode.root s (other_bit v) (of_step p mode.root s v five said))
 
 both : (a b : Bool) → (a && b) ≡ true → (a ≡ true) × (b ≡ true)
 both true b e = (refl, e)
@@ -74,7 +87,7 @@ flips_show w = record {
           session = good.session;
           slot = good.slot;
           kind = good.kind;
-          payload_is = of_init w.numbers w.mode.root m.kind m.slot m.value (kind_eq_is m.kind Init parts.0) (eqb-true m.slot.class 5 parts.1) good.payload_is;
+          payload_is = of_init w.numbers w.mode m.kind m.slot m.value (kind_eq_is m.kind Init parts.0) (eqb-true m.slot.class 5 parts.1) good.payload_is;
         }
     good_if i m good false e = good
 

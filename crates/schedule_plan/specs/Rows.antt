@@ -12,6 +12,7 @@ use Rattle.ritas_base.specs.declared.item.Msg.{Msg}
 use Rattle.ritas_base.specs.declared.item.To.TheVariants.{All}
 use Rattle.ritas_base.specs.declared.mode.Mode.{Mode}
 use Rattle.ritas_base.specs.declared.mode.Vect.TheVariants.{Echo}
+use Rattle.ritas_base.specs.declared.mode.FrameVersion.TheVariants.{One}
 use Rattle.ritas_base.specs.declared.plan.Plan.{Plan}
 use Rattle.ritas_base.specs.declared.plan.Order.{Order}
 use Rattle.ritas_base.specs.declared.plan.Order.TheVariants.{Sweep, Random}
@@ -50,22 +51,22 @@ plan_with n f mode order attack many = record {
 }
 
 abbrev mode_1 : Mode
-mode_1 = record { root = 1; vect = Echo; low = lit≤ tt; high = lit≤ tt }
+mode_1 = record { root = 1; vect = Echo; version = One; low = lit≤ tt; high = lit≤ tt }
 
 abbrev mode_2 : Mode
-mode_2 = record { root = 2; vect = Echo; low = lit≤ tt; high = lit≤ tt }
+mode_2 = record { root = 2; vect = Echo; version = One; low = lit≤ tt; high = lit≤ tt }
 
 abbrev mode_3 : Mode
-mode_3 = record { root = 3; vect = Echo; low = lit≤ tt; high = lit≤ tt }
+mode_3 = record { root = 3; vect = Echo; version = One; low = lit≤ tt; high = lit≤ tt }
 
 abbrev mode_4 : Mode
-mode_4 = record { root = 4; vect = Echo; low = lit≤ tt; high = lit≤ tt }
+mode_4 = record { root = 4; vect = Echo; version = One; low = lit≤ tt; high = lit≤ tt }
 
 abbrev mode_5 : Mode
-mode_5 = record { root = 5; vect = Echo; low = lit≤ tt; high = lit≤ tt }
+mode_5 = record { root = 5; vect = Echo; version = One; low = lit≤ tt; high = lit≤ tt }
 
 abbrev mode_6 : Mode
-mode_6 = record { root = 6; vect = Echo; low = lit≤ tt; high = lit≤ tt }
+mode_6 = record { root = 6; vect = Echo; version = One; low = lit≤ tt; high = lit≤ tt }
 
 -- in four replicas, of which one may be faulty
 abbrev of_four : Mode → Attack → ℕ → Plan

@@ -8,8 +8,9 @@ use Rattle.keyed_channel.specs.Keyed.{coin_bit}
 use Rattle.schedule_file.specs.declared.header.Header.{Header}
 use Rattle.schedule_file.specs.declared.header.HeaderKeys.{HeaderKeys}
 use Rattle.schedule_file.specs.declared.header.HeaderKeys.TheVariants.{Master, Row}
-use Rattle.world_model.specs.Stands.{IsWorldOf, AreKeys}
+use Rattle.world_model.specs.Stands.{IsWorldOf, AreKeys, AreOfVersion}
 use Rattle.ritas_base.specs.History.{Call}
+use Rattle.ritas_base.specs.declared.mode.FrameVersion.{FrameVersion}
 use Rattle.ritas_base.specs.Members.{has_member}
 use Rattle.ritas_base.specs.Messages.{Place}
 use Rattle.ritas_base.specs.Tags.{Tags}
@@ -29,15 +30,21 @@ at_number {X = X} f n i x e =
     sym (same_Some (get_or xs i x) x (sym there ∙ e)) ∙ get_or-map-range_with_len f 0 n i i x below (omega arith)
 
 -- whatever a header's keys, those of each replica are its own
-keys_own : (keys : HeaderKeys) (session n i : ℕ) → ((keys_with keys session n i).me ≡ i) × ((keys_with keys session n i).n ≡ n)
-keys_own (Master master) session n i = (refl, refl)
-keys_own (Row me row coin) session n i = (refl, refl)
+keys_own : (keys : HeaderKeys) (version : FrameVersion) (session n i : ℕ)
+    → ((keys_with keys version session n i).me ≡ i) × ((keys_with keys version session n i).n ≡ n) × ((keys_with keys version session n i).version ≡ version)
+keys_own (Master master) version session n i = (refl, refl, refl)
+keys_own (Row me row coin) version session n i = (refl, refl, refl)
 
 pub own_keys : (h : Header) → AreKeys h.p.n (map (dealt_to h) (range_with_len 0 h.p.n))
 own_keys h i k e =
     let same = at_number (dealt_to h) h.p.n i k e in
-    let own = keys_own h.keys h.session h.p.n i in
+    let own = keys_own h.keys h.mode.version h.session h.p.n i in
     (ap (λ (r : KeyRow). r.me) same ∙ own.0, ap (λ (r : KeyRow). r.n) same ∙ own.1)
+
+pub version_keys : (h : Header) → AreOfVersion h.mode.version (map (dealt_to h) (range_with_len 0 h.p.n))
+version_keys h i k e =
+    let same = at_number (dealt_to h) h.p.n i k e in
+    ap (λ (r : KeyRow). r.version) same ∙ (keys_own h.keys h.mode.version h.session h.p.n i).2
 
 pub world_dealt : {S E : Type 0} (service_stands : S → Seat → List Word → Type 0) (service : ServiceRules) (service_shown : S → ServiceShown)
     (other_stands : E → Place → Tags → List Call → Type 0) (other : BroadcastRules) (other_shown : E → CastShown) (h : Header) (is_correct : ℕ → Bool) (members : ℕ)

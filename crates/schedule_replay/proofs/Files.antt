@@ -4,20 +4,21 @@ use Rattle.std.proofs.Math.Bridge.{le_prop}
 use Rattle.ritas_base.specs.declared.event.Event.{Event}
 use Rattle.ritas_base.specs.declared.mode.Mode.{Mode}
 use Rattle.ritas_base.specs.declared.mode.Vect.{Vect}
+use Rattle.ritas_base.specs.declared.mode.FrameVersion.{FrameVersion}
 use Rattle.schedule_file.specs.declared.fault.FileFault.{FileFault}
 use Rattle.schedule_file.specs.declared.header.Header.{Header}
 use Rattle.schedule_file.specs.ReadHeader.{Heading, heading}
 
 -- a mode of these fields, by the proofs of its bounds
-abbrev mode_by : (root : ℕ) (vect : Vect) → 1 ≤ root → root ≤ 6 → Mode
-mode_by root vect low high = record { root = root; vect = vect; low = low; high = high }
+abbrev mode_by : (root : ℕ) (vect : Vect) (version : FrameVersion) → 1 ≤ root → root ≤ 6 → Mode
+mode_by root vect version low high = record { root = root; vect = vect; version = version; low = low; high = high }
 
 abbrev with_mode : Heading → Mode → Header
 with_mode h mode = record { session = h.session; p = h.p; mode = mode; correct = h.correct; keys = h.keys }
 
 -- the header of a heading, by the proofs of its bounds
 abbrev header_by : (h : Heading) → 1 ≤ h.root → h.root ≤ 6 → Header
-header_by h low high = with_mode h (mode_by h.root h.vect low high)
+header_by h low high = with_mode h (mode_by h.root h.vect h.version low high)
 
 same_bounds : (h : Heading) (l m : 1 ≤ h.root) (a b : h.root ≤ 6) → header_by h l a ≡ header_by h m b
 same_bounds h l m a b = ap₂ (header_by h) (le_prop l m) (le_prop a b)

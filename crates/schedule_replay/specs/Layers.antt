@@ -1,13 +1,15 @@
 -- The layers of the program, and the world that a schedule file's header describes: its layers, and its keys and coins.
 use Rattle.std.specs.Prelude.{◌≡◌, ℕ, ◌==◌, Bool, List, take, true, false, if◌then◌else◌}
 use Rattle.ritas_base.specs.declared.mode.Mode.{Mode}
+use Rattle.ritas_base.specs.declared.mode.FrameVersion.{FrameVersion}
 use Rattle.ritas_base.specs.History.{Call}
 use Rattle.ritas_base.specs.Messages.{Place}
 use Rattle.ritas_base.specs.Tags.{Tags}
 use Rattle.ritas_base.specs.Members.{has_member}
-use Rattle.keyed_channel.specs.Keyed.{CoinSeed, dealt, coin_key_of, coin_bit, tags_of}
+use Rattle.keyed_channel.specs.Keyed.{CoinSeed, dealt_for, coin_key_of, coin_bit, tags_of}
 use Rattle.keyed_channel.specs.KeyRow.{KeyRow, filled_row}
 use Rattle.reliable_bcast.specs.Bracha.{bracha}
+use Rattle.reliable_bcast.specs.Digests.{by_digest}
 use Rattle.echo_bcast.specs.Matrix.{echo}
 use Rattle.atomic_bcast.specs.Commands.{commands}
 use Rattle.atomic_bcast.specs.Rounds.{atomic}
@@ -36,17 +38,21 @@ abbrev pub layers_by : {S E : Type 0} → (S → Seat → List Word → Type 0) 
 layers_by service_stands service service_shown other_stands other other_shown =
     meaning service_stands service service_shown other_stands other other_shown coin_bit (λ k. k.me) tags_of
 
--- the broadcast that a mode has beside the reliable one
+-- the broadcast of a form: 1 reliable with values, 2 echo, 3 reliable with digests
+abbrev pub broadcast_of : ℕ → BroadcastRules
+broadcast_of form = if form == 2 then echo else if form == 3 then by_digest else bracha
+
+-- the broadcast that a mode has beside its reliable one
 abbrev pub other_of : Mode → BroadcastRules
-other_of mode = if other_form mode == 2 then echo else bracha
+other_of mode = broadcast_of (other_form mode)
 
 -- ---- keys and coins
 
--- The keys of replica i of n. A file with the keys of one replica has them for that one, which alone is correct: the others have no
+-- The keys of replica i of n, for frames of a version. A file with the keys of one replica has them for that one, which alone is correct: the others have no
 -- state, so what stands here for them isn't used.
-abbrev pub keys_with : HeaderKeys → ℕ → ℕ → ℕ → KeyRow
-keys_with (Master master) session n i = dealt master session n i
-keys_with (Row me row coin) session n i = record { session = session; n = n; me = i; row = filled_row (take n row) }
+abbrev pub keys_with : HeaderKeys → FrameVersion → ℕ → ℕ → ℕ → KeyRow
+keys_with (Master master) version session n i = dealt_for version master session n i
+keys_with (Row me row coin) version session n i = record { session = session; n = n; me = i; row = filled_row (take n row); version = version }
 
 -- the coin of replica i
 abbrev pub coin_with : HeaderKeys → ℕ → ℕ → CoinSeed
@@ -55,7 +61,7 @@ coin_with (Row me row coin) session i = record { session = session; key = coin }
 
 -- the keys and the coin of replica i by a header
 abbrev pub dealt_to : Header → ℕ → KeyRow
-dealt_to h i = keys_with h.keys h.session h.p.n i
+dealt_to h i = keys_with h.keys h.mode.version h.session h.p.n i
 
 abbrev pub coin_to : Header → ℕ → CoinSeed
 coin_to h i = coin_with h.keys h.session i

@@ -4,6 +4,7 @@ use Rattle.std.proofs.Common.{lit≤}
 use Rattle.std.specs.Fmt.{digits}
 use Rattle.hex.specs.Hex.{encode_with}
 use Rattle.ritas_base.specs.declared.mode.Vect.TheVariants.{Reliable}
+use Rattle.ritas_base.specs.declared.mode.FrameVersion.TheVariants.{One}
 use Rattle.layer_api.specs.Service.{ServiceRules, LastVector, Undecided, Decided, Value, Spent}
 use Rattle.reliable_bcast.specs.Bracha.{bracha}
 use Rattle.world_model.specs.Audit.{first_broken}
@@ -62,12 +63,12 @@ here = record {
 abbrev world : Setting
 world = record {
   numbers = record { n = 4; f = 1 };
-  mode = record { root = 6; vect = Reliable; low = lit≤ tt; high = lit≤ tt };
+  mode = record { root = 6; vect = Reliable; version = One; low = lit≤ tt; high = lit≤ tt };
   is_correct = λ i. not (i == 0);
   at_slot = λ s. bracha;
   service = here;
   coin = λ i s. false;
-  keys = λ i. record { session = 5; n = 4; me = i; row = [] };
+  keys = λ i. record { session = 5; n = 4; me = i; row = []; version = One };
   stops = λ k i. false;
 }
 

@@ -8,16 +8,17 @@ use ritas_base::Mem;
 use schedule_file::{Header, HeaderKeys};
 use std::alloc::Global;
 
-// The keys of replica i.
+// The keys of replica i, for frames of the header's version.
 fn keys_of(header: &Header, i: u8) -> Keys
     requires { i < header.now.p.n }
     ensures { result ≡ dealt_to header.now i }
 {
     let n = header.p.n() as usize;
-    match &header.keys {
+    let keys = match &header.keys {
         HeaderKeys::Master(master) => Keys::deal(master, header.session, &header.p, i),
         HeaderKeys::Row { row, .. } => Keys::from_row(header.session, &header.p, i, &row[..n]),
-    }
+    };
+    keys.with_version(header.mode.version)
 }
 
 // Its coin.

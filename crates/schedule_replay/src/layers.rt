@@ -20,8 +20,8 @@ use echo_bcast::Eb;
 use layer_api::{Broadcast, Service};
 use multivalued::{Mvc, MvcRoot};
 use outside::{Sink, Source};
-use reliable_bcast::Rb;
-use ritas_base::{Mode, Vect, What};
+use reliable_bcast::{DigestRb, Rb};
+use ritas_base::{FrameVersion, Mode, Vect, What};
 use schedule_file::{FileFault, Header, Reader};
 use std::alloc::Global;
 use vector_consensus::{Vc, VcRoot};
@@ -64,14 +64,18 @@ fn replay_as<S: Service, E: Broadcast, I: Source, K: Sink>(
     }
 }
 
-/// Whether the broadcast that a mode has beside the reliable one is the echo broadcast.
+/// The form of the broadcast that a mode has beside its reliable one: 1 reliable with values, 2 echo, 3 reliable with digests.
 #[tactic(auto, unfolding(ritas_core::specs::Rules::other_form))]
-pub fn has_echo(mode: &Mode) -> bool
-    ensures { result ≡ (other_form mode.now == 2) }
+pub fn other_form(mode: &Mode) -> u8
+    ensures { result ≡ other_form mode.now }
 {
-    match mode.vect {
-        Vect::Echo => true,
-        Vect::Reliable => mode.root == 2,
+    if mode.root == 2 {
+        return 2;
+    }
+    match (mode.vect, mode.version) {
+        (Vect::Echo, _) => 2,
+        (Vect::Reliable, FrameVersion::One) => 1,
+        (Vect::Reliable, FrameVersion::Two) => 3,
     }
 }
 
@@ -93,8 +97,11 @@ fn replay_with<S: Service, I: Source, K: Sink>(
     ensures shows { I.tells ≡ true → ShowsEvents K.tells K.taken sink.old sink.new what result header
         (setting_by S.rules (other_of header.mode) header) (asked_behind what header.mode.root (more_events [] reader.old (I.left src.old))) }
 {
-    if has_echo(&header.mode) {
+    let form = other_form(&header.mode);
+    if form == 2 {
         replay_as::<S, Eb, I, K>(alloc, header, reader, src, sink, what)
+    } else if form == 3 {
+        replay_as::<S, DigestRb, I, K>(alloc, header, reader, src, sink, what)
     } else {
         replay_as::<S, Rb, I, K>(alloc, header, reader, src, sink, what)
     }

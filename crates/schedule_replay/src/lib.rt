@@ -24,6 +24,6 @@ mod write;
 pub use deal::deal_keys;
 pub use end::ReplayEnd;
 pub use first::{first_faces, first_world};
-pub use layers::{has_echo, replay};
+pub use layers::{other_form, replay};
 pub use played::Played;
 pub use write::show;

@@ -34,6 +34,8 @@ flip_text kinds.Ready s v = refl
 flip_text kinds.Send s v = refl
 flip_text kinds.Hashes s v = refl
 flip_text kinds.Column s v = refl
+flip_text kinds.Want s v = refl
+flip_text kinds.Value s v = refl
 
 value_if : (b : Bool) (m : Msg) → (if b then with_other m else m).value ≡ (if b then other_bit m.value else m.value)
 value_if true m = refl
@@ -50,7 +52,7 @@ flipped_spelling i m =
 
 pub sealed_body : SealedLength → (k : KeyRow) (to seq : ℕ) (body : List ℕ) → slice_range (sealed k to seq body) 11 (length (sealed k to seq body) - 32) ≡ body
 sealed_body long k to seq body =
-    let tag = hmac_of (key_with k to) (frame_front k.me to seq body) in
+    let tag = hmac_of (key_with k to) (frame_front k.version k.me to seq body) in
     let at : length (sealed k to seq body) - 32 - 11 ≡ length body = omega (arith, long k to seq body) in
     ap (λ n. take n (body ++ tag)) at ∙ take-append_seam body tag
 

@@ -1,4 +1,5 @@
 ghost use Rattle.std.specs.Prelude.{◌≡◌};
+ghost use Rattle.ritas_base.specs.declared.mode.FrameVersion.TheVariants.{One};
 
 use crate::{Halt, Stage};
 use atomic_bcast::CmdRoot;
@@ -12,6 +13,7 @@ use world_model::Player;
 fn plan(rt: &impl Abort) -> Plan
     ensures root { result.mode.root ≡ 1 }
     ensures vect { result.mode.vect ≡ Vect.Reliable }
+    ensures version { result.mode.version ≡ One }
 {
     Plan {
         session: 0,

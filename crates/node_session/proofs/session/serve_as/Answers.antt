@@ -1,5 +1,4 @@
-use Rattle.std.proofs.Common.{[], refl, ap}
-use Rattle.ritas_core.specs.RulesLaws.{form_of}
+use Rattle.std.proofs.Common.{[], refl, ap, ◌∙◌}
 use Rattle.schedule_replay.specs.Layers.{setting_by}
 use Rattle.world_model.specs.Stands.{members}
 use Rattle.node_session.proofs.Sessions.{is_world, is_session, fails, serves}
@@ -12,7 +11,7 @@ returns-in-Err-clause-served g c =
     let service = g.S.Service.rules in
     let other = g.E.Broadcast.rules in
     let w = setting_by service other h in
-    let kind = is_world service other h c.requires.servable.heading c.requires.serves (form_of h.mode other g.E.Broadcast.FORM g.met.E.Broadcast.kinds c.requires.form) in
+    let kind = is_world service other h c.requires.servable.heading c.requires.serves (g.met.E.Broadcast.form ∙ c.requires.form) in
     fails session c.args.first.now.items w _
     (λ rounds wanted. is_session h w c.requires.servable.heading service other kind refl (λ i right. right) c.acts_are_deeds.ensures c.frames_are_made.ensures c.resends_are_open.ensures c.acks_are_earned.ensures c.events_fit.ensures c.replies_are_true.ensures c.agreement.ensures
     session.until session.limit c.args.first.now.items rounds c.requires.servable.firsts wanted)

@@ -1,5 +1,4 @@
-use Rattle.std.proofs.Common.{refl}
-use Rattle.ritas_core.specs.RulesLaws.{form_of}
+use Rattle.std.proofs.Common.{refl, ◌∙◌}
 use Rattle.schedule_plan.specs.Schedule.{world_by}
 use Rattle.schedule_drive.proofs.Ends.{halt_shows, halt_ended}
 use Rattle.schedule_drive.proofs.Unforged.{unforged_is}
@@ -13,7 +12,7 @@ returns-in-Err-clause-shows g c =
     let p = c.args.plan.now in
     let service = g.S.Service.rules in
     let other = g.E.Broadcast.rules in
-    let form = form_of p.mode other g.E.Broadcast.FORM g.met.E.Broadcast.kinds c.requires.form in
+    let form = g.met.E.Broadcast.form ∙ c.requires.form in
     rw c.end_at.ensures (halt_shows g.K.Sink.tells g.K.Sink.taken c.args.sink.now c.args.sink.now (world_by service other p) p
     (unforged_is service other c.drive_forges_nothing.ensures p c.has_session.ensures c.requires.serves form) c.args.what c.in-Err.halt refl c.in-Err.ensures)
 

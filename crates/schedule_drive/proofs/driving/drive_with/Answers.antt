@@ -1,19 +1,33 @@
-use Rattle.std.proofs.Common.{◌≡◌, true, false, sym, ◌∙◌}
-use Rattle.std.specs.Prelude.{◌==◌}
-use Rattle.ritas_core.specs.Rules.{other_form}
+use Rattle.std.proofs.Common.{◌≡◌, sym, ◌∙◌}
+use Rattle.reliable_bcast.specs.Bracha.{bracha}
+use Rattle.reliable_bcast.specs.Digests.{by_digest}
+use Rattle.echo_bcast.specs.Matrix.{echo}
+use Rattle.schedule_file.specs.declared.header.Header.{Header}
 use Rattle.schedule_plan.specs.Plans.{header_of}
-use Rattle.schedule_replay.proofs.Deals.{form_one, with_echo, with_bracha}
+use Rattle.schedule_replay.specs.Layers.{other_of, setting_by}
+use Rattle.schedule_replay.proofs.Deals.{form_one, with_form}
 use Rattle.schedule_drive.proofs.driving.drive_with.Goals as goal
 
-pub drive_as-requires-else-has_echo-clause-form : goal.drive_as-requires-else-has_echo-clause-form
-drive_as-requires-else-has_echo-clause-form g c = form_one c.args.plan.now.mode (sym c.has_echo.ensures ∙ c.if-has_echo.false)
+pub drive_as-requires-else-form-eq3-clause-form : goal.drive_as-requires-else-form-eq3-clause-form
+drive_as-requires-else-form-eq3-clause-form g c = form_one c.args.plan.now.mode _ c.other_form-form.ensures c.if-form-eq2.false c.if-form-eq3.false
 
-pub returns-then-has_echo-clause-shows : goal.returns-then-has_echo-clause-shows
-returns-then-has_echo-clause-shows g c =
-    let two : (other_form c.args.plan.now.mode == 2) ≡ true = sym c.has_echo.ensures ∙ c.if-has_echo.true in
-    rw (with_echo g.S.Service.rules (header_of c.args.plan.now) two) at c.drive_as.ensures.shows
+pub returns-then-form-eq2-clause-shows : goal.returns-then-form-eq2-clause-shows
+returns-then-form-eq2-clause-shows g c =
+    let h : Header = header_of c.args.plan.now in
+    let same : setting_by g.S.Service.rules echo h ≡ setting_by g.S.Service.rules (other_of h.mode) h =
+    with_form g.S.Service.rules h 2 (sym c.if-form-eq2.true ∙ c.other_form-form.ensures) in
+    rw same at c.drive_as.ensures.shows
 
-pub returns-else-has_echo-clause-shows : goal.returns-else-has_echo-clause-shows
-returns-else-has_echo-clause-shows g c =
-    let one : (other_form c.args.plan.now.mode == 2) ≡ false = sym c.has_echo.ensures ∙ c.if-has_echo.false in
-    rw (with_bracha g.S.Service.rules (header_of c.args.plan.now) one) at c.drive_as-else-has_echo.ensures.shows
+pub returns-then-form-eq3-clause-shows : goal.returns-then-form-eq3-clause-shows
+returns-then-form-eq3-clause-shows g c =
+    let h : Header = header_of c.args.plan.now in
+    let same : setting_by g.S.Service.rules by_digest h ≡ setting_by g.S.Service.rules (other_of h.mode) h =
+    with_form g.S.Service.rules h 3 (sym c.if-form-eq3.true ∙ c.other_form-form.ensures) in
+    rw same at c.drive_as-then-form-eq3.ensures.shows
+
+pub returns-else-form-eq3-clause-shows : goal.returns-else-form-eq3-clause-shows
+returns-else-form-eq3-clause-shows g c =
+    let h : Header = header_of c.args.plan.now in
+    let same : setting_by g.S.Service.rules bracha h ≡ setting_by g.S.Service.rules (other_of h.mode) h =
+    with_form g.S.Service.rules h 1 (form_one c.args.plan.now.mode _ c.other_form-form.ensures c.if-form-eq2.false c.if-form-eq3.false) in
+    rw same at c.drive_as-else-form-eq3.ensures.shows

@@ -4,9 +4,9 @@ use Rattle.std.proofs.lemmas.List.FromFn.{length-map-range_with_len}
 use Rattle.std.proofs.lemmas.Result.{IfOk-weaker}
 use Rattle.keyed_channel.specs.KeyRow.{KeyRow}
 use Rattle.keyed_channel.specs.Keyed.{CoinSeed}
-use Rattle.world_model.specs.Stands.{IsWorldOf, AreKeys}
+use Rattle.world_model.specs.Stands.{IsWorldOf, AreKeys, AreOfVersion}
 use Rattle.schedule_replay.specs.Layers.{dealt_to, coin_to, setting_with, layers_by}
-use Rattle.schedule_replay.proofs.Dealt.{own_keys, world_dealt}
+use Rattle.schedule_replay.proofs.Dealt.{own_keys, version_keys, world_dealt}
 use Rattle.schedule_replay.proofs.first.world_with.Goals as goal
 
 pub new-requires-clause-rows : goal.new-requires-clause-rows
@@ -17,6 +17,9 @@ new-requires-clause-tosses g c = ap length c.in_ok-coins.ensures ∙ length-map-
 
 pub new-requires-clause-own : goal.new-requires-clause-own
 new-requires-clause-own g c = subst (AreKeys c.args.header.now.p.n) (sym c.in_ok-keys.ensures) (own_keys c.args.header.now)
+
+pub new-requires-clause-version : goal.new-requires-clause-version
+new-requires-clause-version g c = subst (AreOfVersion c.args.header.now.mode.version) (sym c.in_ok-keys.ensures) (version_keys c.args.header.now)
 
 pub returns : goal.returns
 returns g c = λ is_correct same.

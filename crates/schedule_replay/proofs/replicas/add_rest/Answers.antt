@@ -2,7 +2,6 @@ use Rattle.std.proofs.Common.{◌≡◌, List, ℕ, ◌++◌, ◌∙◌, ap, app
 use Rattle.std.specs.List.{flat_map, range_with_len}
 use Rattle.std.specs.Prelude.{filter}
 use Rattle.world_model.specs.Audit.{audit_of}
-use Rattle.ritas_core.specs.RulesLaws.{form_of}
 use Rattle.schedule_replay.specs.Layers.{setting_by}
 use Rattle.schedule_replay.specs.Replicas.{lines_at}
 use Rattle.schedule_replay.specs.Report.{audit_line}
@@ -15,7 +14,7 @@ returns g c = λ es stands audit.
     let service = g.S.Service.rules in
     let other = g.E.Broadcast.rules in
     let w = setting_by service other h in
-    let form = form_of h.mode other g.E.Broadcast.FORM g.met.E.Broadcast.kinds c.requires.form in
+    let form = g.met.E.Broadcast.form ∙ c.requires.form in
     let replicas = c.in_ok-add_replicas.ensures w es stands.world c.n.ensures.value (cores_of service other h stands.header c.requires.serves form) in
     let last : string_bytes c.in_ok-last.last ≡ audit_line (audit_of w es) = c.in_ok-last.ensures ∙ ap audit_line audit in
     let lines = flat_map (lines_at c.args.lines w es) (filter w.is_correct (range_with_len 0 w.numbers.n)) in
