@@ -6,6 +6,7 @@ import resource
 import struct
 import subprocess
 import sys
+import tempfile
 
 N, SESSION = 31, 0
 MASTER = bytes(32)
@@ -91,22 +92,43 @@ def children_time() -> float:
 
 
 def program() -> str:
-    return os.path.join(HERE, "..", "crates", "ritas", "out", "ritas")
+    """The program of the environment's RITAS, or else the one that `./ritas` builds."""
+    return os.environ.get("RITAS") or os.path.join(HERE, "..", "crates", "ritas", "out", "ritas")
 
 
 def build() -> None:
     """Builds the program where it isn't built, which it tells as it goes: with no words it writes how it is used."""
-    built = subprocess.run([os.path.join(HERE, "..", "ritas")], stdin=subprocess.DEVNULL, stdout=subprocess.DEVNULL)
+    command = os.environ.get("RITAS") or os.path.join(HERE, "..", "ritas")
+    built = subprocess.run([command], stdin=subprocess.DEVNULL, stdout=subprocess.DEVNULL)
     if built.returncode != 2:
         sys.exit("bench: the program isn't built")
 
 
+MEMORY_SOURCE = r"""
+#include <stdio.h>
+#include <sys/resource.h>
+#include <sys/wait.h>
+#include <unistd.h>
+
+int main(int count, char **words) {
+    struct rusage used;
+    if (count < 2 || !freopen("/dev/null", "w", stdout)) return 1;
+    if (fork() == 0) { execv(words[1], words + 1); _exit(1); }
+    wait(NULL);
+    getrusage(RUSAGE_CHILDREN, &used);
+    fprintf(stderr, "%ld", used.ru_maxrss);
+    return 0;
+}
+"""
+
+
 def most_memory(file: str, *words: str) -> int:
-    """The most KiB that the program held, with these words and this file as its input."""
-    script = (
-        "import resource, subprocess, sys\n"
-        "subprocess.run(sys.argv[2:], stdin=open(sys.argv[1], 'rb'), stdout=subprocess.DEVNULL)\n"
-        "print(resource.getrusage(resource.RUSAGE_CHILDREN).ru_maxrss)\n"
-    )
-    done = subprocess.run([sys.executable, "-c", script, file, program(), *words], capture_output=True, check=True)
-    return int(done.stdout)
+    """The most KiB that the program held, with these words and this file as its input. Python would count its own memory, so a program in C starts it."""
+    with tempfile.TemporaryDirectory() as folder:
+        source, starter = os.path.join(folder, "memory.c"), os.path.join(folder, "memory")
+        with open(source, "w") as text:
+            text.write(MEMORY_SOURCE)
+        subprocess.run(["gcc", "-O2", "-w", source, "-o", starter], check=True)
+        with open(file, "rb") as stream:
+            done = subprocess.run([starter, program(), *words], stdin=stream, stderr=subprocess.PIPE, check=True)
+    return int(done.stderr)
