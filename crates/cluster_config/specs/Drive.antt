@@ -23,6 +23,7 @@ pub record Planned : Type 0 where
   pub attack : Attack
   pub start : ℕ
   pub commands : ℕ
+  pub copies : ℕ
 
 abbrev pub planned : Plan → Planned
 planned plan = record {
@@ -36,6 +37,7 @@ planned plan = record {
   attack = plan.attack;
   start = plan.start_number;
   commands = plan.commands;
+  copies = plan.copies;
 }
 
 -- the lines of a plan; none names a version of frames, which is the first
@@ -50,4 +52,4 @@ drive_column =
     Line (codes "attack") refl attack_in (λ attack.
     Line (codes "start") refl (number_in 0 most) (λ start.
     Line (codes "commands") refl (number_in 0 10000) (λ commands.
-    Done (record { session = session; p = p; root = root; vect = vect; version = One; master = master; order = order; attack = attack; start = start; commands = commands }))))))))))
+    Done (record { session = session; p = p; root = root; vect = vect; version = One; master = master; order = order; attack = attack; start = start; commands = commands; copies = 1 }))))))))))

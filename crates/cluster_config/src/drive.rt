@@ -36,6 +36,7 @@ fn read_plan(lines: &mut Lines<'_>) -> Result<Plan, WrongLine>
         attack,
         start_number,
         commands,
+        copies: 1,
     })
 }
 

@@ -20,6 +20,7 @@ plan_by x low high = record {
   attack = x.attack;
   start_number = x.start;
   commands = x.commands;
+  copies = x.copies;
 }
 
 same_plan : (p : Plan) (x : Planned) → planned p ≡ x → (low : 1 ≤ x.root) (high : x.root ≤ 6) → p ≡ plan_by x low high

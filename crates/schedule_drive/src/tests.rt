@@ -28,6 +28,7 @@ fn plan(rt: &impl Abort, order: Order) -> Plan {
         attack: Attack::Absent,
         start_number: 1,
         commands: 1,
+        copies: 1,
     }
 }
 

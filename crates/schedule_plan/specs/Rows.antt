@@ -48,6 +48,7 @@ plan_with n f mode order attack many = record {
   attack = attack;
   start_number = 1;
   commands = many;
+  copies = 1;
 }
 
 abbrev mode_1 : Mode

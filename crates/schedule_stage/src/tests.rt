@@ -24,6 +24,7 @@ fn plan(rt: &impl Abort) -> Plan
         attack: Attack::TwoFace,
         start_number: 0,
         commands: 0,
+        copies: 1,
     }
 }
 
