@@ -11,7 +11,7 @@ use Rattle.std.specs.Cmp.{nat_cmp_total}
 use Rattle.std.proofs.lemmas.Cmp.{tied_itself}
 use Rattle.ritas_base.specs.SlotOrder.{equal_from}
 use Rattle.ritas_base.specs.declared.id.Id.{Id}
-use Rattle.command_log.specs.Rows.{Entry, Row, client_of, request_of, row_of, has_row, row_at, position_of, with_entry, entered, AreOnce, HasPlace}
+use Rattle.command_log.specs.Rows.{Entry, Row, client_of, request_of, row_of, has_row, row_at, position_of, AreOnce, HasPlace}
 use Rattle.command_log.specs.Index.{key_of, IsIndexed}
 
 -- ---- the last of a list
@@ -125,26 +125,11 @@ has_position (r ∷ rs) client request = go (has_position rs client request) (is
     go below true = refl
     go below false = below
 
--- an entry whose client and request have a row
-pub old_entered : (e : Entry) (rs : List Row) → has_row rs (client_of e.command) (request_of e.command) ≡ true → (None ≡ entered e rs) × (rs ≡ with_entry e rs)
-old_entered e rs has =
-    (ap (λ (b : Bool). if b then None else Some (length rs)) (sym has), ap (λ (b : Bool). if b then rs else row_of e ∷ rs) (sym has))
-
--- and one whose have none
-pub new_entered : (e : Entry) (rs : List Row) → has_row rs (client_of e.command) (request_of e.command) ≡ false
-    → (Some (length rs) ≡ entered e rs) × (row_of e ∷ rs ≡ with_entry e rs)
-new_entered e rs none =
-    (ap (λ (b : Bool). if b then None else Some (length rs)) (sym none), ap (λ (b : Bool). if b then rs else row_of e ∷ rs) (sym none))
-
--- a row of these parts
-abbrev made : Id → ℕ → ℕ → List ℕ → Row
-made id client request payload = record { id = id; client = client; request = request; payload = payload }
-
 -- a row from an entry's parts
 pub row_from : (e : Entry) (client request : ℕ) (payload : List ℕ) → client ≡ client_of e.command → request ≡ request_of e.command → payload ≡ drop 8 e.command
-    → made e.id client request payload ≡ row_of e
+    → record { id = e.id; client = client; request = request; payload = payload } ≡ row_of e
 row_from e client request payload a b p =
-    ap (λ (n : ℕ). made e.id n request payload) a ∙ (ap (λ (n : ℕ). made e.id (client_of e.command) n payload) b ∙ ap (λ (l : List ℕ). made e.id (client_of e.command) (request_of e.command) l) p)
+    ap₂ (λ m n. record { id = e.id; client = m; request = n; payload = payload }) a b ∙ ap (λ l. record { id = e.id; client = client_of e.command; request = request_of e.command; payload = l }) p
 
 -- what was found tells whether there is a row
 pub found_has : (rs : List Row) (o : Option ℕ) (a b client request : ℕ) (t : Bool) → a ≡ client → b ≡ request → o ≡ position_of rs a b → is_some o ≡ t → has_row rs client request ≡ t
@@ -170,6 +155,16 @@ same_test false true to from = from refl
 same_test false false to from = refl
 
 -- keys are equal exactly where both numbers are
+pub key_eq : (a b c q : ℕ) → b < 4294967296 → q < 4294967296 → (key_of a b == key_of c q) ≡ (a == c && b == q)
+key_eq a b c q small other =
+    same_test _ _
+    (λ alike.
+    let same = keys_are a b c q small other (eqb-true (key_of a b) (key_of c q) alike) in
+    and_from (a == c) (b == q) (eq-eqb a c same.0) (eq-eqb b q same.1))
+    (λ both.
+    let parts = and_parts (a == c) (b == q) both in
+    eq-eqb (key_of a b) (key_of c q) (ap₂ key_of (eqb-true a c parts.0) (eqb-true b q parts.1)))
+
 pub key_test : (a b c q : ℕ) → b < 4294967296 → q < 4294967296 → is_at (nat_cmp (key_of a b)) (key_of c q) ≡ (a == c && b == q)
 key_test a b c q small other =
     same_test _ _

@@ -8,7 +8,7 @@ use Rattle.frame_codec.specs.Grammar.{class1}
 use Rattle.layer_api.specs.Words.{Word}
 use Rattle.layer_api.specs.Service.{ServiceRules, Seat, AreProper, WordLaws}
 use Rattle.layer_api.specs.LogFits.{ids_fit}
-use Rattle.command_log.specs.Rows.{Entry, Row, client_of, request_of, row_of, has_row, with_entry, entry_of, command_rows, rows_after}
+use Rattle.command_log.specs.Rows.{Entry, Row, row_of, is_entered, with_entry, entry_of, entries_of, command_rows}
 
 -- so many does an identifier log have at most
 pub log_fits : (r : ServiceRules) → WordLaws r → (seat : Seat) (w : List Word) → AreProper r seat w → length (r.done seat w) ≤ 31000000
@@ -16,25 +16,18 @@ log_fits r laws seat w proper = ids_fit r seat w (r.done seat w) proper (laws.do
 
 -- ---- and no more rows
 
-with_most : (e : Entry) (rs : List Row) (n : ℕ) → length rs ≤ n → length (with_entry e rs) ≤ n + 1
-with_most e rs n few = go (has_row rs (client_of e.command) (request_of e.command))
+with_most : (f : ℕ) (e : Entry) (es : List Entry) (rs : List Row) (n : ℕ) → length rs ≤ n → length (with_entry f e es rs) ≤ n + 1
+with_most f e es rs n few = go (is_entered f e es rs)
   where
-    go : (b : Bool) → length (if b then rs else row_of e ∷ rs) ≤ n + 1
+    go : (b : Bool) → length (if b then row_of e ∷ rs else rs) ≤ n + 1
     go true = omega (arith, few)
     go false = omega (arith, few)
 
 -- there are no more rows than identifiers
-pub rows_fit : (a : Id → Option (List ℕ)) (xs : List Id) → length (command_rows a xs) ≤ length xs
-rows_fit a [] = omega arith
-rows_fit a (x ∷ xs) =
-    let one = with_most (entry_of a x) (command_rows a xs) (length xs) (rows_fit a xs) in
-    omega (arith, one)
-
--- and no more new ones than identifiers that were entered
-pub after_fit : (a : Id → Option (List ℕ)) (xs : List Id) (rows : List Row) → length (rows_after a xs rows) ≤ length rows + length xs
-after_fit a [] rows = omega arith
-after_fit a (x ∷ xs) rows =
-    let one = with_most (entry_of a x) (rows_after a xs rows) (length rows + length xs) (after_fit a xs rows) in
+pub rows_fit : (f : ℕ) (a : Id → Option (List ℕ)) (xs : List Id) → length (command_rows f a xs) ≤ length xs
+rows_fit f a [] = omega arith
+rows_fit f a (x ∷ xs) =
+    let one = with_most f (entry_of a x) (entries_of a xs) (command_rows f a xs) (length xs) (rows_fit f a xs) in
     omega (arith, one)
 
 -- ---- a command of the grammar has a client's number and a request's

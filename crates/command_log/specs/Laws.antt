@@ -1,42 +1,61 @@
--- Rows of a part of a log are a part of its rows; each client and request has one row; each row is that of an entry, and each
--- entry's client and request have a row.
-use Rattle.std.specs.Prelude.{◌≡◌, ℕ, Bool, true, false, if◌then◌else◌, List, [], ◌∷◌, ◌++◌, Option, unwrap_or, refl, ◌⊎◌, ◌==◌, ◌&&◌}
-use Rattle.std.proofs.Common.{sym, ◌∙◌, ap, ap₂, subst, inl, inr}
-use Rattle.std.proofs.lemmas.Bool.{and_from, eq-eqb, or_left, or_right}
+-- Each client and request has one row; the rows of a part of a log are a part of its rows; each row is that of an entry, and its
+-- command has f + 1 origins; and a command that has so many has a row of its client and request.
+use Rattle.std.specs.Prelude.{◌≡◌, ℕ, ◌+◌, ◌<◌, ◌≤◌, Bool, true, false, not, nat_le, ◌==◌, ◌&&◌, ◌||◌, if◌then◌else◌, List, [], ◌∷◌, ◌++◌, Option, unwrap_or, refl, ◌⊎◌}
+use Rattle.std.specs.Str.{bytes_eq}
+use Rattle.std.proofs.Common.{sym, ◌∙◌, ap, ap₂, subst, inl, inr, arith}
+use Rattle.std.proofs.lemmas.Bool.{cases_Bool, cases_lt, and_parts, and_from, or_cases, both_ways, eq-eqb, eqb-true, leb-true, le-leb, or_left, or_right}
+use Rattle.std.proofs.lemmas.Slice.Eq.{bytes_eq-Decides}
 use Rattle.ritas_base.specs.declared.id.Id.{Id}
+use Rattle.ritas_base.specs.History.{replicas}
+use Rattle.ritas_base.specs.Quorums.{count_more, count_none, count_same}
 use Rattle.layer_api.specs.Service.{IsPart}
-use Rattle.command_log.specs.Rows.{Entry, Row, client_of, request_of, row_of, has_row, with_entry, rows_of, entry_of, entries_of, command_rows, rows_after, AreOnce, IsIn, HasRow}
+use Rattle.command_log.specs.Rows.{Entry, Row, client_of, request_of, row_of, has_row, is_same, is_origin, origins, is_confirmed, is_entered, with_entry, rows_of, entry_of, entries_of, command_rows, AreOnce, IsIn, HasRow}
+
+-- ---- what becomes of an entry
+
+-- whether the client and request of an entry have a row
+abbrev pub has_its : Entry → List Row → Bool
+has_its e rs = has_row rs (client_of e.command) (request_of e.command)
+
+-- it is entered, where they have none and its command is confirmed
+pub record Enters (f : ℕ) (e : Entry) (es : List Entry) (rs : List Row) : Type 0 where
+  pub is : is_entered f e es rs ≡ true
+  pub none : has_its e rs ≡ false
+  pub confirmed : is_confirmed f (e ∷ es) (row_of e) ≡ true
+
+pub enters : (f : ℕ) (e : Entry) (es : List Entry) (rs : List Row) → is_entered f e es rs ≡ true → Enters f e es rs
+enters f e es rs is = go (has_its e rs) refl (and_parts (not (has_its e rs)) (is_confirmed f (e ∷ es) (row_of e)) is)
+  where
+    go : (b : Bool) → has_its e rs ≡ b → (not b ≡ true) × (is_confirmed f (e ∷ es) (row_of e) ≡ true) → Enters f e es rs
+    go true has parts = absurd (both_ways false refl parts.0)
+    go false none parts = record { is = is; none = none; confirmed = parts.1 }
+
+-- a property of the rows after an entry: of those of before, and of these with its row
+by_entry : (P : List Row → Type 0) (f : ℕ) (e : Entry) (es : List Entry) (rs : List Row) → P rs → (Enters f e es rs → P (row_of e ∷ rs)) → P (with_entry f e es rs)
+by_entry P f e es rs stays more = go (is_entered f e es rs) refl
+  where
+    go : (b : Bool) → is_entered f e es rs ≡ b → P (if b then row_of e ∷ rs else rs)
+    go true is = more (enters f e es rs is)
+    go false is = stays
 
 -- ---- each client and request has one row
 
-with_once : (e : Entry) (rs : List Row) → AreOnce rs → AreOnce (with_entry e rs)
-with_once e rs all = go (has_row rs (client_of e.command) (request_of e.command)) refl
-  where
-    go : (b : Bool) → has_row rs (client_of e.command) (request_of e.command) ≡ b → AreOnce (if b then rs else row_of e ∷ rs)
-    go true q = all
-    go false q = (q, all)
-
 -- so it is in the rows of any entries
-pub rows_once : (es : List Entry) → AreOnce (rows_of es)
-rows_once [] = tt
-rows_once (e ∷ es) = with_once e (rows_of es) (rows_once es)
+pub rows_once : (f : ℕ) (es : List Entry) → AreOnce (rows_of f es)
+rows_once f [] = tt
+rows_once f (e ∷ es) = by_entry AreOnce f e es (rows_of f es) (rows_once f es) (λ it. (it.none, rows_once f es))
 
 -- ---- a part's rows are a part
 
-part_with : (e : Entry) (rs qs : List Row) → IsPart rs qs → IsPart rs (with_entry e qs)
-part_with e rs qs h = go (has_row qs (client_of e.command) (request_of e.command))
-  where
-    go : (b : Bool) → IsPart rs (if b then qs else row_of e ∷ qs)
-    go true = h
-    go false = (row_of e ∷ h.0, ap (λ t. row_of e ∷ t) h.1)
-
-rows_more : (ms es : List Entry) → IsPart (rows_of es) (rows_of (ms ++ es))
-rows_more [] es = ([], refl)
-rows_more (m ∷ ms) es = part_with m (rows_of es) (rows_of (ms ++ es)) (rows_more ms es)
+rows_more : (f : ℕ) (ms es : List Entry) → IsPart (rows_of f es) (rows_of f (ms ++ es))
+rows_more f [] es = ([], refl)
+rows_more f (m ∷ ms) es =
+    let h = rows_more f ms es in
+    by_entry (λ rs. IsPart (rows_of f es) rs) f m (ms ++ es) (rows_of f (ms ++ es)) h (λ it. (row_of m ∷ h.0, ap (λ t. row_of m ∷ t) h.1))
 
 -- entries of which some are a part have rows of which theirs are a part
-pub rows_part : (es fs : List Entry) → IsPart es fs → IsPart (rows_of es) (rows_of fs)
-rows_part es fs h = subst (λ (t : List Entry). IsPart (rows_of es) (rows_of t)) h.1 (rows_more h.0 es)
+pub rows_part : (f : ℕ) (es fs : List Entry) → IsPart es fs → IsPart (rows_of f es) (rows_of f fs)
+rows_part f es fs h = subst (λ (t : List Entry). IsPart (rows_of f es) (rows_of f t)) h.1 (rows_more f h.0 es)
 
 -- entries of one identifier log by what two replicas delivered, where that is equal
 pub same_entries : (a b : Id → Option (List ℕ)) (xs : List Id) → ((x : Id) → IsIn x xs → a x ≡ b x) → entries_of a xs ≡ entries_of b xs
@@ -51,10 +70,10 @@ entries_more a (m ∷ ms) xs = ap (λ es. entry_of a m ∷ es) (entries_more a m
 
 -- of two logs of which one is a part of the other, the rows of the one are a part of the other's, where the replicas delivered the
 -- same commands
-pub command_part : (a b : Id → Option (List ℕ)) (xs ys : List Id) → IsPart xs ys → ((x : Id) → IsIn x xs → a x ≡ b x)
-    → IsPart (command_rows a xs) (command_rows b ys)
-command_part a b xs ys h same =
-    rows_part (entries_of a xs) (entries_of b ys)
+pub command_part : (f : ℕ) (a b : Id → Option (List ℕ)) (xs ys : List Id) → IsPart xs ys → ((x : Id) → IsIn x xs → a x ≡ b x)
+    → IsPart (command_rows f a xs) (command_rows f b ys)
+command_part f a b xs ys h same =
+    rows_part f (entries_of a xs) (entries_of b ys)
     (entries_of b h.0, ap (λ es. entries_of b h.0 ++ es) (same_entries a b xs same) ∙ (sym (entries_more b h.0 xs) ∙ ap (entries_of b) h.1))
 
 -- ---- a row is that of an entry
@@ -65,76 +84,118 @@ pub record IsRowOf (a : Id → Option (List ℕ)) (xs : List Id) (r : Row) : Typ
   pub listed : IsIn id xs
   pub row : row_of (entry_of a id) ≡ r
 
-row_now : (e : Entry) (rs : List Row) (r : Row) → HasRow (with_entry e rs) r → HasRow rs r ⊎ (row_of e ≡ r)
-row_now e rs r h = go (has_row rs (client_of e.command) (request_of e.command)) h
-  where
-    go : (b : Bool) → HasRow (if b then rs else row_of e ∷ rs) r → HasRow rs r ⊎ (row_of e ≡ r)
-    go true h = inl h
-    go false (inl e) = inr e
-    go false (inr h) = inl h
+-- it was there, or it is that of the newest entry
+row_now : (f : ℕ) (e : Entry) (es : List Entry) (rs : List Row) (r : Row) → HasRow (with_entry f e es rs) r → HasRow rs r ⊎ (Enters f e es rs × (row_of e ≡ r))
+row_now f e es rs r h =
+    by_entry (λ qs. HasRow qs r → HasRow rs r ⊎ (Enters f e es rs × (row_of e ≡ r))) f e es rs (λ there. inl there)
+    (λ it now. elim now [ inl e ↦ inr (it, e) | inr there ↦ inl there ]) h
 
 -- each row is that of an identifier
-pub row_is : (a : Id → Option (List ℕ)) (xs : List Id) (r : Row) → HasRow (command_rows a xs) r → IsRowOf a xs r
-row_is a [] r h = absurd h
-row_is a (x ∷ xs) r h =
-    elim (row_now (entry_of a x) (command_rows a xs) r h) [
-      | inl there ↦ let i = row_is a xs r there in record { id = i.id; listed = inr i.listed; row = i.row }
-      | inr here ↦ record { id = x; listed = inl refl; row = here }
+pub row_is : (f : ℕ) (a : Id → Option (List ℕ)) (xs : List Id) (r : Row) → HasRow (command_rows f a xs) r → IsRowOf a xs r
+row_is f a [] r h = absurd h
+row_is f a (x ∷ xs) r h =
+    elim (row_now f (entry_of a x) (entries_of a xs) (command_rows f a xs) r h) [
+      | inl there ↦ let i = row_is f a xs r there in record { id = i.id; listed = inr i.listed; row = i.row }
+      | inr here ↦ record { id = x; listed = inl refl; row = here.1 }
     ]
 
--- ---- and for each entry there is a row
+-- ---- its command is confirmed
 
--- a row is of this command's client and request
-abbrev pub HasRowFor : List Row → List ℕ → Type 0
-HasRowFor rs command = has_row rs (client_of command) (request_of command) ≡ true
+-- more entries have no fewer origins
+origins_more : (e : Entry) (es : List Entry) (r : Row) → origins es r ≤ origins (e ∷ es) r
+origins_more e es r =
+    count_more (is_origin es r) (is_origin (e ∷ es) r) (λ k there. or_right (is_same (row_of e) r && e.id.origin == k) (is_origin es r k) there) (replicas 32)
 
-row_of_it : (e : Entry) (rs : List Row) → HasRowFor (row_of e ∷ rs) e.command
-row_of_it e rs =
-    or_left (client_of e.command == client_of e.command && request_of e.command == request_of e.command) (has_row rs (client_of e.command) (request_of e.command))
-    (and_from (client_of e.command == client_of e.command) (request_of e.command == request_of e.command) (eq-eqb _ _ refl) (eq-eqb _ _ refl))
+-- each row's command has f + 1 origins
+pub row_confirmed : (f : ℕ) (es : List Entry) (r : Row) → HasRow (rows_of f es) r → f < origins es r
+row_confirmed f [] r h = absurd h
+row_confirmed f (e ∷ es) r h =
+    elim (row_now f e es (rows_of f es) r h) [
+      | inl there ↦ let before = row_confirmed f es r there in let more = origins_more e es r in omega (arith, before, more)
+      | inr here ↦
+          let enough = leb-true (f + 1) (origins (e ∷ es) (row_of e)) here.0.confirmed in
+          subst (λ (q : Row). f < origins (e ∷ es) q) here.1 (omega (arith, enough))
+    ]
 
-row_here : (e : Entry) (rs : List Row) → HasRowFor (with_entry e rs) e.command
-row_here e rs = go (has_row rs (client_of e.command) (request_of e.command)) refl
+-- ---- a command that is confirmed has a row
+
+-- two commands that are one
+pub record AreOne (q r : Row) : Type 0 where
+  pub client : q.client ≡ r.client
+  pub request : q.request ≡ r.request
+  pub payload : q.payload ≡ r.payload
+
+pub one_from : (q r : Row) → is_same q r ≡ true → AreOne q r
+one_from q r is =
+    let client = and_parts (q.client == r.client) (q.request == r.request && bytes_eq q.payload r.payload) is in
+    let rest = and_parts (q.request == r.request) (bytes_eq q.payload r.payload) client.1 in
+    record {
+      client = eqb-true q.client r.client client.0;
+      request = eqb-true q.request r.request rest.0;
+      payload = (bytes_eq-Decides q.payload r.payload).0 rest.1;
+    }
+
+-- have the same origins
+pub same_origin : (es : List Entry) (q r : Row) → AreOne q r → (k : ℕ) → is_origin es q k ≡ is_origin es r k
+same_origin [] q r one k = refl
+same_origin (e ∷ es) q r one k =
+    let same : is_same (row_of e) q ≡ is_same (row_of e) r =
+    ap₂ (λ c n. (row_of e).client == c && ((row_of e).request == n && bytes_eq (row_of e).payload q.payload)) one.client one.request
+    ∙ ap (λ p. (row_of e).client == r.client && ((row_of e).request == r.request && bytes_eq (row_of e).payload p)) one.payload in
+    ap₂ (λ a b. (a && e.id.origin == k) || b) same (same_origin es q r one k)
+
+-- the row of its client and request stays
+row_stays : (f : ℕ) (e : Entry) (es : List Entry) (rs : List Row) (client request : ℕ) → has_row rs client request ≡ true → has_row (with_entry f e es rs) client request ≡ true
+row_stays f e es rs client request has =
+    by_entry (λ qs. has_row qs client request ≡ true) f e es rs has
+    (λ it. or_right (client_of e.command == client && request_of e.command == request) (has_row rs client request) has)
+
+-- and one that is confirmed has one
+row_here : (f : ℕ) (e : Entry) (es : List Entry) (rs : List Row) → is_confirmed f (e ∷ es) (row_of e) ≡ true → has_its e (with_entry f e es rs) ≡ true
+row_here f e es rs confirmed = go (has_its e rs) refl
   where
-    go : (b : Bool) → has_row rs (client_of e.command) (request_of e.command) ≡ b → HasRowFor (if b then rs else row_of e ∷ rs) e.command
-    go true q = q
-    go false q = row_of_it e rs
+    go : (b : Bool) → has_its e rs ≡ b → has_its e (with_entry f e es rs) ≡ true
+    go true has = row_stays f e es rs (client_of e.command) (request_of e.command) has
+    go false none =
+        let is : is_entered f e es rs ≡ true = ap₂ (λ a b. not a && b) none confirmed in
+        ap (λ (b : Bool). has_its e (if b then row_of e ∷ rs else rs)) is
+        ∙ or_left (client_of e.command == client_of e.command && request_of e.command == request_of e.command) (has_its e rs)
+        (and_from (client_of e.command == client_of e.command) (request_of e.command == request_of e.command) (eq-eqb _ _ refl) (eq-eqb _ _ refl))
 
-row_stays : (e : Entry) (rs : List Row) (command : List ℕ) → HasRowFor rs command → HasRowFor (with_entry e rs) command
-row_stays e rs command h = go (has_row rs (client_of e.command) (request_of e.command))
-  where
-    go : (b : Bool) → HasRowFor (if b then rs else row_of e ∷ rs) command
-    go true = h
-    go false = or_right (client_of e.command == client_of command && request_of e.command == request_of command) (has_row rs (client_of command) (request_of command)) h
+-- each command with f + 1 origins has a row of its client and request
+pub row_covers : (f : ℕ) (es : List Entry) (r : Row) → f < origins es r → has_row (rows_of f es) r.client r.request ≡ true
+row_covers f [] r many = let none = count_none (is_origin [] r) (replicas 32) (λ k is. both_ways false refl is) in absurd (omega (arith, many, none))
+row_covers f (e ∷ es) r many =
+    elim (cases_lt f (origins es r)) [
+      | inl before ↦ row_stays f e es (rows_of f es) r.client r.request (row_covers f es r before)
+      | inr few ↦
+          elim (cases_Bool (is_same (row_of e) r)) [
+            | inl same ↦
+                let one = one_from (row_of e) r same in
+                let alike = count_same (is_origin (e ∷ es) (row_of e)) (is_origin (e ∷ es) r) (same_origin (e ∷ es) (row_of e) r one) (replicas 32) in
+                let here = row_here f e es (rows_of f es) (le-leb (f + 1) (origins (e ∷ es) (row_of e)) (omega (arith, alike, many))) in
+                sym (ap₂ (λ c n. has_row (rows_of f (e ∷ es)) c n) one.client one.request) ∙ here
+            | inr other ↦
+                let alike = count_same (is_origin (e ∷ es) r) (is_origin es r) (λ k. ap (λ (b : Bool). (b && e.id.origin == k) || is_origin es r k) other) (replicas 32) in
+                absurd (omega (arith, alike, many, few))
+          ]
+    ]
 
--- each identifier of a log has a row of its command's client and request
-pub has_row_for : (a : Id → Option (List ℕ)) (xs : List Id) (x : Id) → IsIn x xs → HasRowFor (command_rows a xs) (unwrap_or (a x) [])
-has_row_for a [] x h = absurd h
-has_row_for a (y ∷ ys) x (inl is) =
-    subst (λ (z : Id). HasRowFor (command_rows a (y ∷ ys)) (unwrap_or (a z) [])) is
-    (row_here (entry_of a y) (command_rows a ys))
-has_row_for a (y ∷ ys) x (inr h) =
-    row_stays (entry_of a y) (command_rows a ys) (unwrap_or (a x) []) (has_row_for a ys x h)
+-- ---- an origin is that of an identifier
 
--- ---- a log that follows an identifier log
+-- an identifier of the list is of this replica and of the command of r
+pub record IsOriginOf (a : Id → Option (List ℕ)) (xs : List Id) (r : Row) (k : ℕ) : Type 0 where
+  pub id : Id
+  pub listed : IsIn id xs
+  pub origin : id.origin ≡ k
+  pub same : is_same (row_of (entry_of a id)) r ≡ true
 
-more_rows : (a : Id → Option (List ℕ)) (more xs : List Id) → rows_after a more (command_rows a xs) ≡ command_rows a (more ++ xs)
-more_rows a [] xs = refl
-more_rows a (x ∷ more) xs = ap (with_entry (entry_of a x)) (more_rows a more xs)
-
--- rows that are entered as an identifier log grows are its rows
-pub rows_follow : (before now : Id → Option (List ℕ)) (more xs : List Id) → ((x : Id) → IsIn x xs → before x ≡ now x)
-    → rows_after now more (command_rows before xs) ≡ command_rows now (more ++ xs)
-rows_follow before now more xs same = ap (λ es. rows_after now more (rows_of es)) (same_entries before now xs same) ∙ more_rows now more xs
-
--- rows that are entered come in front of those of before
-pub after_kept : (a : Id → Option (List ℕ)) (more : List Id) (rows : List Row) → IsPart rows (rows_after a more rows)
-after_kept a [] rows = ([], refl)
-after_kept a (x ∷ more) rows = part_with (entry_of a x) rows (rows_after a more rows) (after_kept a more rows)
-
--- and with more identifiers entered the rows go on from there
-pub after_part : (a : Id → Option (List ℕ)) (more later : List Id) (rows : List Row)
-    → IsPart (rows_after a later rows) (rows_after a (more ++ later) rows)
-after_part a [] later rows = ([], refl)
-after_part a (x ∷ more) later rows =
-    part_with (entry_of a x) (rows_after a later rows) (rows_after a (more ++ later) rows) (after_part a more later rows)
+pub origin_is : (a : Id → Option (List ℕ)) (xs : List Id) (r : Row) (k : ℕ) → is_origin (entries_of a xs) r k ≡ true → IsOriginOf a xs r k
+origin_is a [] r k is = absurd (both_ways false refl is)
+origin_is a (x ∷ xs) r k is =
+    elim (or_cases (is_same (row_of (entry_of a x)) r && x.origin == k) (is_origin (entries_of a xs) r k) is) [
+      | inl here ↦
+          let parts = and_parts (is_same (row_of (entry_of a x)) r) (x.origin == k) here in
+          record { id = x; listed = inl refl; origin = eqb-true x.origin k parts.1; same = parts.0 }
+      | inr there ↦ let i = origin_is a xs r k there in record { id = i.id; listed = inr i.listed; origin = i.origin; same = i.same }
+    ]

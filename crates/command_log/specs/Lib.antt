@@ -1,5 +1,7 @@
 pub mod Rows
 pub mod Index
+pub mod ByteKeys
+pub mod Standing
 pub mod Worked
 pub mod Fits
 pub mod Laws

@@ -1,8 +1,10 @@
--- The log of commands: of the commands that the identifier log appends, one row for the first place of each client and request.
+-- The log of commands: one row for each client and request, where a command of theirs first has f + 1 origins in the identifier log.
 -- Lists have the newest first.
-use Rattle.std.specs.Prelude.{◌≡◌, ℕ, Bool, false, ◌==◌, ◌&&◌, ◌||◌, if◌then◌else◌, List, [], ◌∷◌, ◌⊎◌, take, drop, length, reverse, slice_get, Option, None, Some, unwrap_or}
+use Rattle.std.specs.Prelude.{◌≡◌, ℕ, ◌+◌, Bool, false, not, ◌==◌, ◌&&◌, ◌||◌, if◌then◌else◌, nat_le, List, [], ◌∷◌, ◌⊎◌, take, drop, length, reverse, count_by, slice_get, Option, None, Some, unwrap_or}
 use Rattle.std.specs.Int.{w32, from_be_bytes}
+use Rattle.std.specs.Str.{bytes_eq}
 use Rattle.ritas_base.specs.declared.id.Id.{Id}
+use Rattle.ritas_base.specs.History.{replicas}
 use Rattle.command_log.specs.declared.row.LogRow.{LogRow}
 
 -- a command and its identifier
@@ -31,14 +33,38 @@ abbrev pub has_row : List Row → ℕ → ℕ → Bool
 has_row [] client request = false
 has_row (r ∷ rs) client request = (r.client == client && r.request == request) || has_row rs client request
 
--- a row is entered where its client and request have none
-abbrev pub with_entry : Entry → List Row → List Row
-with_entry e rs = if has_row rs (client_of e.command) (request_of e.command) then rs else row_of e ∷ rs
+-- two commands are one: the same client, request and payload
+abbrev pub is_same : Row → Row → Bool
+is_same q r = q.client == r.client && (q.request == r.request && bytes_eq q.payload r.payload)
 
--- the rows of these entries, the oldest entered first
-abbrev pub rows_of : List Entry → List Row
-rows_of [] = []
-rows_of (e ∷ es) = with_entry e (rows_of es)
+-- a replica is an origin of the command of r: one of these entries has that command, and is of it
+abbrev pub is_origin : List Entry → Row → ℕ → Bool
+is_origin [] r k = false
+is_origin (e ∷ es) r k = (is_same (row_of e) r && e.id.origin == k) || is_origin es r k
+
+-- how many replicas are; their numbers are below 32
+abbrev pub origins : List Entry → Row → ℕ
+origins es r = count_by (is_origin es r) (replicas 32)
+
+-- f + 1 origins confirm a command: one of them is correct
+abbrev pub is_confirmed : ℕ → List Entry → Row → Bool
+is_confirmed f es r = nat_le (f + 1) (origins es r)
+
+-- the row of the newest entry is entered where its command is confirmed, and its client and request have none
+abbrev pub is_entered : ℕ → Entry → List Entry → List Row → Bool
+is_entered f e es rs = not (has_row rs (client_of e.command) (request_of e.command)) && is_confirmed f (e ∷ es) (row_of e)
+
+abbrev pub with_entry : ℕ → Entry → List Entry → List Row → List Row
+with_entry f e es rs = if is_entered f e es rs then row_of e ∷ rs else rs
+
+-- the rows of these entries
+abbrev pub rows_of : ℕ → List Entry → List Row
+rows_of f [] = []
+rows_of f (e ∷ es) = with_entry f e es (rows_of f es)
+
+-- where the row of the newest entry comes to stand, if it is entered
+abbrev pub entered : ℕ → Entry → List Entry → Option ℕ
+entered f e es = if is_entered f e es (rows_of f es) then Some (length (rows_of f es)) else None
 
 -- positions count from the oldest row, from 0
 abbrev pub row_at : List Row → ℕ → Option Row
@@ -48,10 +74,6 @@ row_at rs position = slice_get (reverse rs) position
 abbrev pub position_of : List Row → ℕ → ℕ → Option ℕ
 position_of [] client request = None
 position_of (r ∷ rs) client request = if r.client == client && r.request == request then Some (length rs) else position_of rs client request
-
--- where an entry's row comes to stand: nowhere where its client and request have one
-abbrev pub entered : Entry → List Row → Option ℕ
-entered e rs = if has_row rs (client_of e.command) (request_of e.command) then None else Some (length rs)
 
 -- the entry of an identifier, by what was delivered of it
 abbrev pub entry_of : (Id → Option (List ℕ)) → Id → Entry
@@ -63,13 +85,8 @@ entries_of delivered [] = []
 entries_of delivered (x ∷ xs) = entry_of delivered x ∷ entries_of delivered xs
 
 -- the log of commands
-abbrev pub command_rows : (Id → Option (List ℕ)) → List Id → List Row
-command_rows delivered log = rows_of (entries_of delivered log)
-
--- rows with those of these identifiers more entered, one after the other
-abbrev pub rows_after : (Id → Option (List ℕ)) → List Id → List Row → List Row
-rows_after delivered [] rows = rows
-rows_after delivered (x ∷ xs) rows = with_entry (entry_of delivered x) (rows_after delivered xs rows)
+abbrev pub command_rows : ℕ → (Id → Option (List ℕ)) → List Id → List Row
+command_rows f delivered log = rows_of f (entries_of delivered log)
 
 -- each client and request stands there once
 abbrev pub AreOnce : List Row → Type 0

@@ -1,66 +1,128 @@
 -- Worked rows.
 use Rattle.std.specs.Prelude.{◌≡◌, ℕ, List, [], ◌∷◌, Option, None, Some, refl}
 use Rattle.ritas_base.specs.declared.id.Id.{Id}
-use Rattle.command_log.specs.Rows.{Entry, Row, rows_of, command_rows, rows_after, row_at, position_of, entered}
+use Rattle.command_log.specs.Rows.{Entry, Row, origins, rows_of, command_rows, row_at, position_of, entered}
 
 abbrev id : ℕ → ℕ → Id
 id origin num = record { origin = origin; num = num }
 
--- a command of client 7
+-- commands of client 7, which differ in their payloads
 abbrev hi : ℕ → List ℕ
 hi request = 0 ∷ 0 ∷ 0 ∷ 7 ∷ 0 ∷ 0 ∷ 0 ∷ request ∷ 0x68 ∷ 0x69 ∷ []
+
+abbrev ho : ℕ → List ℕ
+ho request = 0 ∷ 0 ∷ 0 ∷ 7 ∷ 0 ∷ 0 ∷ 0 ∷ request ∷ 0x68 ∷ 0x6f ∷ []
 
 abbrev entry : ℕ → ℕ → Entry
 entry origin request = record { id = id origin 0; command = hi request }
 
+abbrev other : ℕ → ℕ → Entry
+other origin request = record { id = id origin 0; command = ho request }
+
 abbrev row : ℕ → ℕ → Row
 row origin request = record { id = id origin 0; client = 7; request = request; payload = 0x68 ∷ 0x69 ∷ [] }
 
-one : rows_of (entry 0 1 ∷ []) ≡ row 0 1 ∷ []
+-- ---- with f = 1
+
+-- one origin enters nothing
+one : rows_of 1 (entry 0 1 ∷ []) ≡ []
 one = refl
 
--- the same request of two origins has the first one's row alone
-once : rows_of (entry 1 1 ∷ entry 0 1 ∷ []) ≡ row 0 1 ∷ []
-once = refl
-
-two : rows_of (entry 2 2 ∷ entry 1 1 ∷ entry 0 1 ∷ []) ≡ row 2 2 ∷ row 0 1 ∷ []
-two = refl
-
--- positions count from 0, in the order of entry; the same request again has no new one
-abbrev three : List Row
-three = rows_of (entry 2 2 ∷ entry 1 1 ∷ entry 0 1 ∷ [])
-
-first_row : row_at three 0 ≡ Some (row 0 1)
-first_row = refl
-
-second_row : row_at three 1 ≡ Some (row 2 2)
-second_row = refl
-
-no_row : row_at three 2 ≡ None
-no_row = refl
-
-found : position_of three 7 2 ≡ Some 1
-found = refl
-
-not_found : position_of three 8 2 ≡ None
-not_found = refl
-
-again : entered (entry 3 2) three ≡ None
+-- nor does it by coming again
+again : rows_of 1 (record { id = id 0 1; command = hi 1 } ∷ entry 0 1 ∷ []) ≡ []
 again = refl
 
-next : entered (entry 3 9) three ≡ Some 2
+-- a second origin enters the row, with its own identifier
+second : rows_of 1 (entry 2 1 ∷ entry 0 1 ∷ []) ≡ row 2 1 ∷ []
+second = refl
+
+-- two payloads of one request don't count together
+payloads : rows_of 1 (other 2 1 ∷ entry 0 1 ∷ []) ≡ []
+payloads = refl
+
+-- nor do two requests, or two clients
+requests : rows_of 1 (entry 2 2 ∷ entry 0 1 ∷ []) ≡ []
+requests = refl
+
+clients : rows_of 1 (record { id = id 2 0; command = 0 ∷ 0 ∷ 0 ∷ 8 ∷ 0 ∷ 0 ∷ 0 ∷ 1 ∷ 0x68 ∷ 0x69 ∷ [] } ∷ entry 0 1 ∷ []) ≡ []
+clients = refl
+
+-- what came between doesn't count, and doesn't take away
+between : rows_of 1 (entry 3 1 ∷ other 2 1 ∷ entry 0 1 ∷ []) ≡ row 3 1 ∷ []
+between = refl
+
+-- a request that has its row gets no second one
+third : rows_of 1 (entry 1 1 ∷ entry 2 1 ∷ entry 0 1 ∷ []) ≡ row 2 1 ∷ []
+third = refl
+
+-- also not where another payload is confirmed later
+late : rows_of 1 (other 3 1 ∷ other 1 1 ∷ entry 2 1 ∷ entry 0 1 ∷ []) ≡ row 2 1 ∷ []
+late = refl
+
+-- numbers from 32 on are no replica's
+no_replica : origins (entry 32 1 ∷ entry 31 1 ∷ []) (row 0 1) ≡ 1
+no_replica = refl
+
+-- ---- with f = 0 each client and request has the row of its first place
+
+first : rows_of 0 (entry 0 1 ∷ []) ≡ row 0 1 ∷ []
+first = refl
+
+once : rows_of 0 (entry 1 1 ∷ entry 0 1 ∷ []) ≡ row 0 1 ∷ []
+once = refl
+
+two : rows_of 0 (entry 2 2 ∷ entry 1 1 ∷ entry 0 1 ∷ []) ≡ row 2 2 ∷ row 0 1 ∷ []
+two = refl
+
+-- ---- positions count from 0, in the order of entry
+
+abbrev three : List Entry
+three = entry 2 2 ∷ entry 1 1 ∷ entry 0 1 ∷ []
+
+first_row : row_at (rows_of 0 three) 0 ≡ Some (row 0 1)
+first_row = refl
+
+second_row : row_at (rows_of 0 three) 1 ≡ Some (row 2 2)
+second_row = refl
+
+no_row : row_at (rows_of 0 three) 2 ≡ None
+no_row = refl
+
+found : position_of (rows_of 0 three) 7 2 ≡ Some 1
+found = refl
+
+not_found : position_of (rows_of 0 three) 8 2 ≡ None
+not_found = refl
+
+has_one : entered 0 (entry 3 2) three ≡ None
+has_one = refl
+
+next : entered 0 (entry 3 9) three ≡ Some 2
 next = refl
 
--- a request that each origin broadcast under the request's number
+-- ---- a command without a payload, of four identifiers, with f = 1
+
+abbrev short : ℕ → ℕ → Entry
+short origin num = record { id = id origin num; command = 0 ∷ 0 ∷ 0 ∷ 7 ∷ 0 ∷ 0 ∷ 0 ∷ 1 ∷ [] }
+
+at_first : entered 1 (short 0 0) [] ≡ None
+at_first = refl
+
+at_second : entered 1 (short 0 1) (short 0 0 ∷ []) ≡ None
+at_second = refl
+
+at_third : entered 1 (short 2 0) (short 0 1 ∷ short 0 0 ∷ []) ≡ Some 0
+at_third = refl
+
+at_fourth : entered 1 (short 1 0) (short 2 0 ∷ short 0 1 ∷ short 0 0 ∷ []) ≡ None
+at_fourth = refl
+
+-- ---- a request that each origin broadcast under the request's number
+
 abbrev delivered : Id → Option (List ℕ)
 delivered x = Some (hi x.num)
 
-abbrev row_of_origin : ℕ → ℕ → Row
-row_of_origin origin request = record { id = id origin request; client = 7; request = request; payload = 0x68 ∷ 0x69 ∷ [] }
-
--- the rows of an identifier log, at once and as it grows
-at_once : command_rows delivered (id 2 2 ∷ id 1 1 ∷ id 0 1 ∷ []) ≡ row_of_origin 2 2 ∷ row_of_origin 0 1 ∷ []
-at_once = refl
-
-as_it_grows : rows_after delivered (id 2 2 ∷ id 1 1 ∷ []) (command_rows delivered (id 0 1 ∷ [])) ≡ row_of_origin 2 2 ∷ row_of_origin 0 1 ∷ []
-as_it_grows = refl
+-- the rows of an identifier log
+of_identifiers : command_rows 1 delivered (id 3 2 ∷ id 2 2 ∷ id 1 1 ∷ id 0 1 ∷ [])
+    ≡ record { id = id 3 2; client = 7; request = 2; payload = 0x68 ∷ 0x69 ∷ [] } ∷ record { id = id 1 1; client = 7; request = 1; payload = 0x68 ∷ 0x69 ∷ [] } ∷ []
+of_identifiers = refl

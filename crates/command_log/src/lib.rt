@@ -1,20 +1,24 @@
-//! The log of commands: one row for each request of a client that atomic broadcast has ordered.
+//! The log of commands: one row for each request of a client that atomic broadcast has ordered and that is confirmed.
 //!
 //! Atomic broadcast is that of Correia, Neves and Veríssimo, "From Consensus to Atomic Broadcast: Time-Free
 //! Byzantine-Resistant Protocols without Signatures" (The Computer Journal, 2006). It orders identifiers, and each stands
-//! for a command that was delivered. A client may hand one request to several replicas, and each broadcasts it, so a
-//! request can stand at several places of that order. The log has a row for the first of them. That a command begins
-//! with its client's number and its request's, and that a request counts once, is this project's own.
+//! for a command that was delivered. A client hands one request to several replicas, and each broadcasts it, so a
+//! command can stand at several places of that order. It gets its row at the first place up to which f + 1 different
+//! replicas have broadcast it, and one of them is correct: so a faulty replica can't invent a command. That a command
+//! begins with its client's number and its request's, that f + 1 origins confirm it, and that a request counts once, is
+//! this project's own.
 //!
-//! Contracts see `Log` as the list of its rows, the newest first (`specs/Rows.antt`). Each call says exactly what it
-//! answers, and `append` what it leaves. The laws that replicas use stand on `command_rows` and `log_follows`: the rows
-//! of a part of an identifier log are a part of the rows, and rows that are entered as an identifier log grows are its
-//! rows.
+//! Contracts see `Log` as a `Ledger`, whose rows have the newest first, and say for which list of entries it stands
+//! (`specs/Rows.antt`, `specs/Standing.antt`). Each call says exactly what it answers, and `append` what it leaves. The
+//! laws that replicas use stand on `command_rows` and `log_follows`: the rows of a part of an identifier log are a part of
+//! the rows, and each row's command has f + 1 origins.
 //!
-//! Beside the rows stands an index of their positions, a map in order of one key of 64 bits for client and request. So
-//! `append` and `find` cost a search in that map, whose steps grow with the logarithm of the rows, whatever numbers
+//! Beside the rows stands an index of their positions, a map in order of one key of 64 bits for client and request. A map
+//! with the same keys has the commands that wait, by their payloads, with the origins of each. So `append` and `find` cost a
+//! search in these maps, whose steps grow with the logarithm of the rows and of the commands that wait, whatever numbers
 //! clients choose. `row` and `len` cost the same at each length. Each row takes memory for itself, for its payload
-//! and for one entry of the map, and stays for good.
+//! and for one entry of the map, and stays for good. A command that waits takes memory for its payload and for an entry,
+//! and stays until its client and request get a row; where they never do, it stays for good.
 #![tactic(auto)]
 
 mod laws;
@@ -22,6 +26,7 @@ mod log;
 mod row;
 #[cfg(test)]
 mod tests;
+mod waiting;
 
 pub use laws::{command_rows, log_follows};
 pub use log::Log;

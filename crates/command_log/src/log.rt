@@ -1,11 +1,14 @@
-ghost use Rattle.std.specs.Prelude.{◌≡◌, ℕ, ◌+◌, ◌<◌, ◌≤◌, ◌↔◌, false, [], length, take, drop, reverse, Some, IfOk, OnOk, OnErr};
+ghost use Rattle.std.specs.Prelude.{◌≡◌, ℕ, ◌+◌, ◌<◌, ◌≤◌, ◌==◌, ◌↔◌, false, List, [], ◌∷◌, length, take, drop, Some, None, IfOk, OnOk, OnErr, if◌then◌else◌};
 ghost use Rattle.std.specs.Option.{option_copied};
 ghost use Rattle.std.specs.Int.{w32, from_be_bytes};
-ghost use Rattle.command_log.specs.Rows.{Entry, Row, client_of, request_of, has_row, row_at, position_of, with_entry, entered, HasPlace};
+ghost use Rattle.ritas_base.specs.Members.{member_count};
+ghost use Rattle.command_log.specs.Rows.{Entry, client_of, request_of, row_of, has_row, is_origin, row_at, position_of, entered, HasPlace};
 ghost use Rattle.command_log.specs.Index.{key_of};
+ghost use Rattle.command_log.specs.Standing.{StandsFor, HasEntered, Waits, IsLeft};
 
 use crate::row::LogRow;
-use ritas_base::{Bytes, Id, Mem};
+use crate::waiting::Waiting;
+use ritas_base::{Bytes, Id, Mem, SenderSet};
 use std::alloc::Global;
 use std::collections::BTreeMap;
 use std::marker::Model;
@@ -31,96 +34,165 @@ fn key_of(client: u32, request: u32) -> u64
 }
 
 // The payload of a command.
-fn payload_of(alloc: Global, command: &[u8]) -> Result<Bytes, Mem>
+fn payload_of(command: &[u8]) -> &[u8]
     requires { 8 ≤ length command.now }
-    ensures { IfOk result (λ bytes. bytes ≡ drop 8 command.now) }
+    ensures { result.now ≡ drop 8 command.now }
 {
-    Bytes::from_slice(alloc, &command[8..])
+    &command[8..]
 }
 
-/// The log of commands. Contracts see it as the list of its rows, the newest first.
+/// The log of commands. Contracts see it as a `Ledger`, whose rows have the newest first.
 #[derive(Debug, Drop)]
 pub struct Log {
+    // A command has its row from its (f + 1)st origin on.
+    f: u8,
     // The oldest first.
     rows: Vec<LogRow>,
     // The position of each row, by the key of its client and request.
     index: BTreeMap<u64, u32>,
+    // The origins of the commands whose client and request have no row.
+    waiting: Waiting,
 }
 
 impl Model for Log {
     ghost use Rattle.std.specs.Prelude.{List, reverse};
-    ghost use Rattle.command_log.specs.Rows.{Row};
     ghost use Rattle.command_log.specs.Index.{IsIndexed};
+    ghost use Rattle.command_log.specs.Standing.{Ledger};
+    ghost use Rattle.command_log.specs.contracts.waiting.Waiting as e;
+    ghost use Rattle.std.specs.Coded.{codes};
 
-    ghost Value = { List Row };
+    ghost Value = { Ledger };
 
-    ghost view = { λ l. reverse l.rows.items };
+    ghost coded = { Prim.hlevel (codes, e.the_row.coded) };
+
+    ghost view = { λ l. record { f = l.f; rows = reverse l.rows.items; waiting = l.waiting } };
 
     ghost invariant = { λ l. IsIndexed l.index (reverse l.rows.items) };
 }
 
 impl Log {
-    /// A log without rows, which takes no memory.
-    pub fn new(alloc: Global) -> Log
-        ensures { result ≡ [] }
+    /// A log without rows, which takes no memory. A command gets its row at its (f + 1)st origin.
+    pub fn new(alloc: Global, f: u8) -> Log
+        ensures origins { result.f ≡ f }
+        ensures stands { StandsFor result [] }
     {
         Log {
+            f,
             rows: Vec::new(alloc),
             index: BTreeMap::new(alloc),
+            waiting: Waiting::new(alloc),
         }
     }
 
-    /// Enters a command's row, where its client and request have none, and answers the row's position.
-    ///
-    /// `None` is answered exactly where they have a row; then the log stays as it was. The command has its client's
-    /// number and its request's, of four bytes each, the most significant first, and then its payload. The log has at
-    /// most 4,294,967,295 rows. The one error is want of memory, after which the log is as it was; it comes only where
-    /// there is a row to enter.
-    pub fn append(&mut self, alloc: Global, id: Id, command: &[u8]) -> Result<Option<u32>, Mem>
-        requires long { 8 ≤ length command.now }
-        requires room { length self.old < 4294967295 }
-        ensures position { IfOk result (λ position. position ≡ entered (record { id = id; command = command.now }) self.old) }
-        ensures ok { OnOk result (self.new ≡ with_entry (record { id = id; command = command.now }) self.old) }
+    // Enters a row, whose client and request have none, and answers its position. What waited for it is let go of.
+    fn enter(
+        &mut self,
+        alloc: Global,
+        id: Id,
+        client: u32,
+        request: u32,
+        payload: &[u8],
+    ) -> Result<u32, Mem>
+        requires none { has_row self.old.rows client request ≡ false }
+        requires room { length self.old.rows < 4294967295 }
+        ensures position { IfOk result (λ position. position ≡ length self.old.rows) }
+        ensures ok { OnOk result (HasEntered self.old self.new (record { id = id; client = client; request = request; payload = payload.now })) }
         ensures err { OnErr result (self.new ≡ self.old) }
-        ensures only { OnErr result (has_row self.old (client_of command.now) (request_of command.now) ≡ false) }
     {
-        let client = number(command, 0);
-        let request = number(command, 4);
-        if self.find(client, request).is_some() {
-            return Ok(None);
-        }
-        let payload = payload_of(alloc, command)?;
+        let key = key_of(client, request);
+        let payload = Bytes::from_slice(alloc, payload)?;
         self.rows.reserve(1)?;
         let position = self.rows.len() as u32;
-        self.index.insert(key_of(client, request), position)?;
+        self.index.insert(key, position)?;
         self.rows.push_reserved(LogRow {
             id,
             client,
             request,
             payload,
         });
-        Ok(Some(position))
+        self.waiting.remove(key);
+        Ok(position)
+    }
+
+    // A command has these origins now, whose client and request have no row. Where they are enough, its row is entered with
+    // this identifier, and the row's position is answered; and else it waits with them.
+    fn settle(
+        &mut self,
+        alloc: Global,
+        id: Id,
+        client: u32,
+        request: u32,
+        payload: &[u8],
+        origins: SenderSet,
+    ) -> Result<Option<u32>, Mem>
+        requires none { has_row self.old.rows client request ≡ false }
+        requires room { length self.old.rows < 4294967295 }
+        ensures many { self.old.f < member_count 32 origins → IfOk result (λ position. position ≡ Some (length self.old.rows))
+            × OnOk result (HasEntered self.old self.new (record { id = id; client = client; request = request; payload = payload.now })) }
+        ensures few { member_count 32 origins ≤ self.old.f → IfOk result (λ position. position ≡ None)
+            × OnOk result (Waits self.old self.new (record { id = id; client = client; request = request; payload = payload.now }) origins) }
+        ensures err { OnErr result (IsLeft self.old self.new (record { id = id; client = client; request = request; payload = payload.now })) }
+        ensures f { self.new.f ≡ self.old.f }
+    {
+        if origins.len() > self.f {
+            return Ok(Some(self.enter(alloc, id, client, request, payload)?));
+        }
+        self.waiting
+            .keep(alloc, key_of(client, request), payload, origins)?;
+        Ok(None)
+    }
+
+    /// Takes the next command of the identifier log. Where it is confirmed by this origin, its row is entered, and the row's
+    /// position is answered.
+    ///
+    /// The command has its client's number and its request's, of four bytes each, the most significant first, and then its
+    /// payload. It is confirmed as soon as it came from f + 1 different origins; 32 and greater numbers are no replica's,
+    /// and don't count. `None` is answered where it isn't confirmed yet, and where its client and request have a row. The log
+    /// has at most 4,294,967,295 rows. The one error is want of memory, after which the log is as it was; it comes only
+    /// where the client and request have no row, and where the command hasn't come from this origin before.
+    pub fn append(&mut self, alloc: Global, id: Id, command: &[u8]) -> Result<Option<u32>, Mem>
+        requires long { 8 ≤ length command.now }
+        requires room { length self.old.rows < 4294967295 }
+        ensures position { (es : List Entry) → StandsFor self.old es → IfOk result (λ position. position ≡ entered self.old.f (record { id = id; command = command.now }) es) }
+        ensures ok { (es : List Entry) → StandsFor self.old es → OnOk result (StandsFor self.new (record { id = id; command = command.now } ∷ es)) }
+        ensures err { (es : List Entry) → StandsFor self.old es → OnErr result (StandsFor self.new es) }
+        ensures kept { OnErr result (self.new.rows ≡ self.old.rows) }
+        ensures f { self.new.f ≡ self.old.f }
+        ensures only { OnErr result (has_row self.old.rows (client_of command.now) (request_of command.now) ≡ false) }
+        ensures first { (es : List Entry) → StandsFor self.old es → OnErr result (is_origin es (row_of (record { id = id; command = command.now })) id.origin ≡ false) }
+    {
+        let client = number(command, 0);
+        let request = number(command, 4);
+        if self.find(client, request).is_some() {
+            return Ok(None);
+        }
+        let payload = payload_of(command);
+        let origins = self.waiting.origins(key_of(client, request), payload);
+        if id.origin >= 32 || origins.has(id.origin) {
+            return Ok(None);
+        }
+        self.settle(alloc, id, client, request, payload, origins.with(id.origin))
     }
 
     /// The row at a position, and `None` from `len` on. Positions count from 0, in the order in which the rows were
     /// entered.
     pub fn row(&self, position: u32) -> Option<&LogRow>
-        ensures { option_copied result ≡ row_at self.now position }
+        ensures { option_copied result ≡ row_at self.now.rows position }
     {
         self.rows.as_slice().get(position as usize)
     }
 
     /// The position of the row of this client and request, where they have one.
     pub fn find(&self, client: u32, request: u32) -> Option<u32>
-        ensures value { result ≡ position_of self.now client request }
-        ensures exact { (position : ℕ) → (result ≡ Some position) ↔ HasPlace self.now position client request }
+        ensures value { result ≡ position_of self.now.rows client request }
+        ensures exact { (position : ℕ) → (result ≡ Some position) ↔ HasPlace self.now.rows position client request }
     {
         self.index.get(&key_of(client, request)).copied()
     }
 
     /// How many rows there are, which is the position of the next.
     pub fn len(&self) -> u32
-        ensures { result ≡ length self.now }
+        ensures { result ≡ length self.now.rows }
     {
         self.rows.len() as u32
     }

@@ -1,74 +1,91 @@
-use Rattle.std.proofs.Common.{rules, ◌≡◌, ◌<◌, ◌∙◌, sym, ap, ap₂, subst, arith, ℕ, true, false, Some, List, [], ◌∷◌, ◌++◌, reverse, length, if◌then◌else◌}
+use Rattle.std.proofs.Common.{rules, ◌≡◌, ◌<◌, ◌≤◌, ◌∙◌, sym, ap, subst, ℕ, true, false, List, ◌∷◌, length, drop, inl, inr, refl, ◌⊎◌}
 use Rattle.std.specs.Option.{is_some}
-use Rattle.std.specs.Ordering.{nat_cmp}
-use Rattle.std.specs.BTreeMap.{get, is_at}
-use Rattle.command_log.specs.Rows.{Row, row_of, client_of, request_of, has_row}
-use Rattle.command_log.specs.Index.{key_of, IsIndexed}
-use Rattle.command_log.proofs.Places.{found_has, on_err, old_entered, new_entered, index_more, pushed, row_from, row_length}
+use Rattle.ritas_base.specs.Members.{has_member, member_count}
+use Rattle.command_log.specs.Rows.{Entry, Row, row_of, client_of, request_of}
+use Rattle.command_log.specs.Standing.{Ledger, StandsFor}
+use Rattle.command_log.proofs.Places.{found_has, row_from, on_err}
+use Rattle.command_log.proofs.Confirming.{Found, Joined, Settles, found_from, knows, is_first, answer_none, nothing_again, stays_again, settled_position, settled_ok, settled_err}
 use Rattle.command_log.proofs.log.Log.append.Goals as goal
+use Rattle.command_log.proofs.log.Log.append.Goals.{then-id-ge32-via-then-id-ge32, then-id-ge32-via-else-id-ge32+then-has}
+
+-- ---- they have a row
 
 pub returns-then-is_some-clause-position : goal.returns-then-is_some-clause-position
-returns-then-is_some-clause-position c =
+returns-then-is_some-clause-position c = λ es stands.
     let some : is_some c.find.result ≡ true = search rules in
-    (old_entered (record { id = c.args.id; command = c.args.command.now }) c.args.self.now
-    (found_has _ _ _ _ _ _ true c.number-client.ensures c.number-request.ensures c.find.ensures.value some)).0
+    let has = found_has _ _ _ _ _ _ true c.number-client.ensures c.number-request.ensures c.find.ensures.value some in
+    let e : Entry = record { id = c.args.id; command = c.args.command.now } in
+    answer_none c.args.self.now e es stands (nothing_again c.args.self.now.f e es c.args.self.now.rows has)
 
 pub returns-then-is_some-clause-ok : goal.returns-then-is_some-clause-ok
-returns-then-is_some-clause-ok c =
+returns-then-is_some-clause-ok c = λ es stands.
     let some : is_some c.find.result ≡ true = search rules in
-    (old_entered (record { id = c.args.id; command = c.args.command.now }) c.args.self.now
-    (found_has _ _ _ _ _ _ true c.number-client.ensures c.number-request.ensures c.find.ensures.value some)).1
+    let has = found_has _ _ _ _ _ _ true c.number-client.ensures c.number-request.ensures c.find.ensures.value some in
+    stays_again c.args.self.now (record { id = c.args.id; command = c.args.command.now }) es has stands
 
-abbrev row_in : goal.After-push_reserved → Row
-row_in c = row_of (record { id = c.args.id; command = c.args.command.now })
+-- ---- its origin was one already, or is no replica's
 
-none_in : (c : goal.After-push_reserved) → has_row c.args.self.now (client_of c.args.command.now) (request_of c.args.command.now) ≡ false
-none_in c =
+known_in : (c : goal.Joined-then-id-ge32) → Found c.args.self.now (record { id = c.args.id; command = c.args.command.now }) c.origins-origins.result
+known_in c =
     let none : is_some c.find.result ≡ false = search rules in
-    found_has _ _ _ _ _ _ false c.number-client.ensures c.number-request.ensures c.find.ensures.value none
+    found_from c.args.self.now (record { id = c.args.id; command = c.args.command.now }) c.number-client.result c.number-request.result c.key_of.result
+    c.origins-origins.result _ c.self.inside.waiting c.number-client.ensures c.number-request.ensures c.number-client.type_inv c.number-request.type_inv
+    c.key_of.ensures c.payload_of-payload.ensures c.origins-origins.ensures (ap (λ (l : Ledger). l.waiting) c.self.view_is)
+    (found_has _ _ _ _ _ _ false c.number-client.ensures c.number-request.ensures c.find.ensures.value none)
 
-rows_in : (c : goal.After-push_reserved) → reverse c.push_reserved.new.self.items ≡ row_in c ∷ c.args.self.now
-rows_in c =
-    let row = row_from (record { id = c.args.id; command = c.args.command.now }) c.number-client.result c.number-request.result c.in_ok-payload.payload
-    c.number-client.ensures c.number-request.ensures c.in_ok-payload.ensures in
-    let is : c.push_reserved.new.self.items ≡ c.self.inside.rows.items ++ row_in c ∷ [] =
-    c.push_reserved.ensures.items ∙ ap₂ (λ (l : List Row) (r : Row). l ++ r ∷ []) c.reserve.ensures.items row in
-    pushed c.self.inside.rows.items c.push_reserved.new.self.items c.args.self.now (row_in c) is c.self.view_is
+known_by : (c : goal.Joined-then-id-ge32) → (32 ≤ c.args.id.origin) ⊎ ((c.args.id.origin < 32) × (has_member c.origins-origins.result c.args.id.origin ≡ true))
+known_by c =
+    elim c.then-id-ge32.branch [
+      | then-id-ge32-via-then-id-ge32 w ↦ inl w.if-id-ge32.true
+      | then-id-ge32-via-else-id-ge32+then-has w ↦ inr (w.if-id-ge32.false, sym w.has.ensures ∙ w.if-has.true)
+    ]
 
-pub invariant_of-self-2 : goal.invariant_of-self-2
-invariant_of-self-2 c =
-    let rs = c.args.self.now in
-    let client : c.number-client.result ≡ client_of c.args.command.now = c.number-client.ensures in
-    let request : c.number-request.result ≡ request_of c.args.command.now = c.number-request.ensures in
-    let small : request_of c.args.command.now < 4294967296 = subst (λ (n : ℕ). n < 4294967296) request c.number-request.type_inv in
-    let key : c.key_of.result ≡ key_of (client_of c.args.command.now) (request_of c.args.command.now) = c.key_of.ensures ∙ ap₂ key_of client request in
-    let len : c.len-position.result ≡ length c.self.inside.rows.items = search rules in
-    let position : c.len-position.result ≡ length rs = len ∙ row_length c.self.inside.rows.items rs c.self.view_is in
-    let before : IsIndexed c.self.inside.index rs = subst (λ (l : List Row). IsIndexed c.self.inside.index l) c.self.view_is c.self.invariant in
-    subst (λ (l : List Row). IsIndexed c.insert.new.self l) (sym (rows_in c))
-    (index_more c.self.inside.index c.insert.new.self (row_in c) rs small (omega (arith, c.requires.room)) (none_in c) before
-    (λ k. c.in_ok-insert.ensures.updates.0 k ∙ ap₂ (λ (a : ℕ) (b : ℕ). if is_at (nat_cmp a) k then Some b else get nat_cmp c.self.inside.index k) key position))
+pub returns-then-id-ge32-clause-position : goal.returns-then-id-ge32-clause-position
+returns-then-id-ge32-clause-position c = λ es stands.
+    (knows c.args.self.now (record { id = c.args.id; command = c.args.command.now }) es c.origins-origins.result (known_in c) (known_by c) stands).0
+
+pub returns-then-id-ge32-clause-ok : goal.returns-then-id-ge32-clause-ok
+returns-then-id-ge32-clause-ok c = λ es stands.
+    (knows c.args.self.now (record { id = c.args.id; command = c.args.command.now }) es c.origins-origins.result (known_in c) (known_by c) stands).1
+
+-- ---- it is a new one
+
+pub settle-requires-clause-none : goal.settle-requires-clause-none
+settle-requires-clause-none c =
+    let none : is_some c.find.result ≡ false = search rules in
+    found_has c.args.self.now.rows _ c.number-client.result c.number-request.result _ _ false refl refl c.find.ensures.value none
+
+found_in : (c : goal.After-settle) → Found c.args.self.now (record { id = c.args.id; command = c.args.command.now }) c.origins-origins.result
+found_in c =
+    let none : is_some c.find.result ≡ false = search rules in
+    found_from c.args.self.now (record { id = c.args.id; command = c.args.command.now }) c.number-client.result c.number-request.result c.key_of.result
+    c.origins-origins.result _ c.self.inside.waiting c.number-client.ensures c.number-request.ensures c.number-client.type_inv c.number-request.type_inv
+    c.key_of.ensures c.payload_of-payload.ensures c.origins-origins.ensures (ap (λ (l : Ledger). l.waiting) c.self.view_is)
+    (found_has _ _ _ _ _ _ false c.number-client.ensures c.number-request.ensures c.find.ensures.value none)
+
+settles_in : (c : goal.After-settle) → Settles c.args.self.now c.settle.new.self (row_of (record { id = c.args.id; command = c.args.command.now })) c.with.result c.settle.result
+settles_in c =
+    subst (λ (r : Row). Settles c.args.self.now c.settle.new.self r c.with.result c.settle.result)
+    (row_from (record { id = c.args.id; command = c.args.command.now }) c.number-client.result c.number-request.result _ c.number-client.ensures c.number-request.ensures
+    c.payload_of-payload.ensures)
+    (record { many = c.settle.ensures.many; few = c.settle.ensures.few; err = c.settle.ensures.err })
 
 pub returns-clause-position : goal.returns-clause-position
-returns-clause-position c =
-    let len : c.len-position.result ≡ length c.self.inside.rows.items = search rules in
-    ap Some (len ∙ row_length c.self.inside.rows.items c.args.self.now c.self.view_is)
-    ∙ (new_entered (record { id = c.args.id; command = c.args.command.now }) c.args.self.now (none_in c)).0
+returns-clause-position c = λ es stands.
+    settled_position c.args.self.now c.settle.new.self _ es c.origins-origins.result c.with.result c.settle.result (found_in c) (record { is = c.with.ensures }) (settles_in c) stands
 
 pub returns-clause-ok : goal.returns-clause-ok
-returns-clause-ok c = rows_in c ∙ (new_entered (record { id = c.args.id; command = c.args.command.now }) c.args.self.now (none_in c)).1
+returns-clause-ok c = λ es stands.
+    settled_ok c.args.self.now c.settle.new.self _ es c.origins-origins.result c.with.result c.settle.result (found_in c) (record { is = c.with.ensures }) (settles_in c) stands
 
-pub returns-in_err-payload-clause-only : goal.returns-in_err-payload-clause-only
-returns-in_err-payload-clause-only c =
-    let none : is_some c.find.result ≡ false = search rules in
-    on_err c.from_residual.result (found_has _ _ _ _ _ _ false c.number-client.ensures c.number-request.ensures c.find.ensures.value none)
+pub returns-clause-err : goal.returns-clause-err
+returns-clause-err c = λ es stands.
+    settled_err c.args.self.now c.settle.new.self _ es c.origins-origins.result c.with.result c.settle.result (found_in c) (settles_in c) stands
 
-pub returns-in_err-reserve-clause-only : goal.returns-in_err-reserve-clause-only
-returns-in_err-reserve-clause-only c =
-    let none : is_some c.find.result ≡ false = search rules in
-    on_err c.from_residual-in_err-reserve.result (found_has _ _ _ _ _ _ false c.number-client.ensures c.number-request.ensures c.find.ensures.value none)
+pub returns-clause-only : goal.returns-clause-only
+returns-clause-only c = on_err c.settle.result (found_in c).none
 
-pub returns-in_err-insert-clause-only : goal.returns-in_err-insert-clause-only
-returns-in_err-insert-clause-only c =
-    let none : is_some c.find.result ≡ false = search rules in
-    on_err c.from_residual-in_err-insert.result (found_has _ _ _ _ _ _ false c.number-client.ensures c.number-request.ensures c.find.ensures.value none)
+pub returns-clause-first : goal.returns-clause-first
+returns-clause-first c = λ es stands.
+    on_err c.settle.result
+    (is_first c.args.self.now _ es c.origins-origins.result (found_in c) c.if-id-ge32.false (sym c.has.ensures ∙ c.if-has.false) stands)

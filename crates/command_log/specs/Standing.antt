@@ -1,0 +1,69 @@
+-- What a log stands for: the entries that it was given.
+use Rattle.std.specs.Prelude.{◌≡◌, ℕ, ◌<◌, true, false, ◌==◌, ◌&&◌, if◌then◌else◌, List, ◌∷◌, Option, None, Some, unwrap_or}
+use Rattle.std.specs.Ordering.{nat_cmp}
+use Rattle.std.specs.Cmp.Lexicographic.{slice_cmp}
+use Rattle.std.specs.BTreeMap.{BTreeMap, get, get_by}
+use Rattle.std.specs.declared.vec.Vec.{Vec}
+use Rattle.std.specs.Str.{bytes_eq}
+use Rattle.std.proofs.Common.{Global}
+use Rattle.ritas_base.specs.Members.{has_member}
+use Rattle.command_log.specs.declared.waiting.Waiting.{Waiting}
+use Rattle.command_log.specs.Rows.{Entry, Row, has_row, is_origin, rows_of}
+use Rattle.command_log.specs.Index.{key_of}
+
+-- what a log keeps: its rows, and the origins of the commands that wait
+pub record Ledger : Type 0 where
+  pub f : ℕ
+  pub rows : List Row
+  pub waiting : Waiting
+
+-- by their payloads, the origins of commands of one client and request
+abbrev pub Payloads : Type 0
+Payloads = BTreeMap (Vec ℕ Global) ℕ
+
+-- those that are kept under a key
+abbrev pub payloads_at : Waiting → ℕ → Option Payloads
+payloads_at w key = get nat_cmp w.by_key key
+
+-- the origins of the command with this payload
+abbrev pub origins_in : Payloads → List ℕ → ℕ
+origins_in payloads payload = unwrap_or (get_by (λ k. slice_cmp nat_cmp payload k.items) payloads) 0
+
+abbrev pub origins_of : Option Payloads → List ℕ → ℕ
+origins_of None payload = 0
+origins_of (Some payloads) payload = origins_in payloads payload
+
+abbrev pub origins_at : Waiting → ℕ → List ℕ → ℕ
+origins_at w key payload = origins_of (payloads_at w key) payload
+
+-- the log stands for these entries
+pub record StandsFor (l : Ledger) (es : List Entry) : Type 0 where
+  pub rows : l.rows ≡ rows_of l.f es
+  -- of a command whose client and request have no row its origins are kept
+  pub waiting : (r : Row) → r.client < 4294967296 → r.request < 4294967296 → has_row l.rows r.client r.request ≡ false
+      → (k : ℕ) → k < 32 → has_member (origins_at l.waiting (key_of r.client r.request) r.payload) k ≡ is_origin es r k
+  -- and where they have one, nothing is
+  pub gone : (client request : ℕ) → client < 4294967296 → request < 4294967296 → has_row l.rows client request ≡ true
+      → payloads_at l.waiting (key_of client request) ≡ None
+
+-- ---- what comes of a command whose client and request have no row
+
+-- its row is entered, and nothing of them waits
+pub record HasEntered (old new : Ledger) (r : Row) : Type 0 where
+  pub f : new.f ≡ old.f
+  pub rows : new.rows ≡ r ∷ old.rows
+  pub waiting : (k : ℕ) → payloads_at new.waiting k ≡ (if key_of r.client r.request == k then None else payloads_at old.waiting k)
+
+-- it waits with these origins
+pub record Waits (old new : Ledger) (r : Row) (origins : ℕ) : Type 0 where
+  pub f : new.f ≡ old.f
+  pub rows : new.rows ≡ old.rows
+  pub waiting : (k : ℕ) (v : List ℕ) → origins_at new.waiting k v ≡ (if key_of r.client r.request == k && bytes_eq r.payload v then origins else origins_at old.waiting k v)
+  pub others : (k : ℕ) → (key_of r.client r.request == k) ≡ false → payloads_at new.waiting k ≡ payloads_at old.waiting k
+
+-- for want of memory nothing comes of it
+pub record IsLeft (old new : Ledger) (r : Row) : Type 0 where
+  pub f : new.f ≡ old.f
+  pub rows : new.rows ≡ old.rows
+  pub waiting : (k : ℕ) (v : List ℕ) → origins_at new.waiting k v ≡ origins_at old.waiting k v
+  pub others : (k : ℕ) → (key_of r.client r.request == k) ≡ false → payloads_at new.waiting k ≡ payloads_at old.waiting k
