@@ -1,5 +1,5 @@
 -- The log of a replica after an entry of its core.
-use Rattle.std.proofs.Common.{◌≡◌, ℕ, ◌+◌, ◌<◌, ◌≤◌, List, [], ◌∷◌, ◌++◌, length, reverse, drop, sym, ◌∙◌, ap, subst, arith}
+use Rattle.std.proofs.Common.{◌≡◌, ℕ, ◌+◌, ◌<◌, ◌≤◌, List, [], ◌∷◌, ◌++◌, length, reverse, drop, sym, ◌∙◌, ap, ap₂, subst, arith}
 use Rattle.std.specs.List.{AllByRecursion, slice_range}
 use Rattle.std.proofs.lemmas.List.Folds.{drop_split}
 use Rattle.std.proofs.Math.Seq.{drop-append_seam, drop-length}
@@ -9,7 +9,9 @@ use Rattle.ritas_base.specs.declared.id.Id.{Id}
 use Rattle.layer_api.specs.OneValue.{ValueLaws}
 use Rattle.layer_api.specs.Service.{WordLaws, IsPart}
 use Rattle.keyed_channel.specs.KeyRow.{KeyRow}
-use Rattle.command_log.specs.Rows.{Row, rows_after}
+use Rattle.command_log.specs.Rows.{Row, entries_of, rows_of, command_rows}
+use Rattle.command_log.specs.Rows.{Entry as Command}
+use Rattle.command_log.specs.Standing.{Ledger, StandsFor}
 use Rattle.ritas_core.specs.declared.kernel.Core.{Core}
 use Rattle.ritas_core.specs.Rules.{Rules, seat_of}
 use Rattle.ritas_core.specs.Parts.{Entry, parts}
@@ -20,7 +22,7 @@ use Rattle.ritas_core.specs.Stands.{Meaning, CoreStands}
 use Rattle.ritas_core.specs.StandsLaws.{layer_laws}
 use Rattle.replica.specs.declared.frame.OutFrame.{OutFrame}
 use Rattle.replica.specs.declared.replica.Replica.{Replica}
-use Rattle.replica.specs.CommandRows.{command_of, ids_at, rows_at, Follows, LiesBetween, HasCommand}
+use Rattle.replica.specs.CommandRows.{command_of, ids_at, entries_at, rows_at, Follows, LiesBetween, HasCommand}
 use Rattle.replica.specs.Steps.{PutsOut, SameRest, FeedsOnly, FeedsSome, Feeds}
 use Rattle.replica.proofs.Growing.{Grows, grows, rows_grow, rows_lost, part_itself}
 
@@ -46,6 +48,10 @@ pub done_by : {S E C : Type 0} (m : Meaning S E C KeyRow) (core : Core S E C Key
 done_by m core r st stands done is =
     is ∙ ap (λ (q : Rules). reverse (q.service.done (seat_of r) (parts r st.history).words)) stands.rules
 
+-- a log that follows has the rows of the history
+pub rows_are : {r : Rules} {h : List Entry} {log : Ledger} {fed : ℕ} → Follows r h log fed → log.rows ≡ rows_at r h
+rows_are {r} {h} {log} follows = follows.stands.rows ∙ ap (λ (f : ℕ). rows_of f (entries_at r h)) follows.f
+
 module _ {S E C : Type 0} (m : Meaning S E C KeyRow) (values : ValueLaws m.cast) (words : WordLaws m.service) (proper : WordsAreProper)
     (core : Core S E C KeyRow) (r : Rules) (st : CoreState) (stands : CoreStands m core r st) where
   laws : LayerLaws r
@@ -56,7 +62,7 @@ module _ {S E C : Type 0} (m : Meaning S E C KeyRow) (values : ValueLaws m.cast)
   lost_rows = rows_lost r laws st.lost st.history (proper r laws st.history stands.history) (proper r laws (with_lost st) stands.whole)
 
   module _ (e : Entry) (h : List Entry) (is : st.history ≡ e ∷ h) (done : List Id) (shows : done ≡ reverse (ids_at r st.history))
-      (log : List Row) (fed : ℕ) (before : Follows r h log fed) where
+      (log : Ledger) (fed : ℕ) (before : Follows r h log fed) where
     met : IsHistory r (e ∷ h)
     met = subst (λ (x : List Entry). IsHistory r x) is stands.history
 
@@ -77,6 +83,12 @@ module _ {S E C : Type 0} (m : Meaning S E C KeyRow) (values : ValueLaws m.cast)
     pub all_fed : length done ≡ length (ids_at r (e ∷ h))
     all_fed = ap length (shows ∙ ap (λ (x : List Entry). reverse (ids_at r x)) is) ∙ length-reverse (ids_at r (e ∷ h))
 
+    -- the log stood for the commands of before, as they are delivered now
+    pub stood : StandsFor log (entries_of (command_of r st.history) (ids_at r h))
+    stood =
+        subst (λ (x : List Entry). StandsFor log (entries_of (command_of r x) (ids_at r h))) (sym is)
+        (subst (λ (es : List Command). StandsFor log es) grown.same before.stands)
+
     -- the others are those of the entry
     module _ (ids : List Id) (rest : ids ≡ drop fed done) where
       ids_are : ids ≡ reverse grown.more
@@ -89,30 +101,30 @@ module _ {S E C : Type 0} (m : Meaning S E C KeyRow) (values : ValueLaws m.cast)
           subst (λ (x : List Entry). AllByRecursion (HasCommand r x) ids) (sym is)
           (subst (λ (xs : List Id). AllByRecursion (HasCommand r (e ∷ h)) xs) (sym ids_are) (all_reverse (HasCommand r (e ∷ h)) grown.more grown.have))
 
-      pub has_room : length log + length ids < 4294967295
-      has_room = let room = grown.room in let len = length-reverse grown.more in omega (arith, room, len, ap length before.rows, ap length ids_are)
+      pub has_room : length (ids_at r h) + length ids < 4294967295
+      has_room = let room = grown.room in let len = length-reverse grown.more in omega (arith, room, len, ap length ids_are)
 
-      -- their rows over those of before are the rows of all
-      pub rows_are : rows_after (command_of r st.history) (reverse ids) log ≡ rows_at r (e ∷ h)
-      rows_are =
-          ap (λ (x : List Entry). rows_after (command_of r x) (reverse ids) log) is
-          ∙ ap (λ (xs : List Id). rows_after (command_of r (e ∷ h)) xs log) (ap reverse ids_are ∙ reverse-reverse grown.more)
-          ∙ ap (rows_after (command_of r (e ∷ h)) grown.more) before.rows
-          ∙ grown.follows
+      -- they and those of before are all
+      all_ids : reverse ids ++ ids_at r h ≡ ids_at r (e ∷ h)
+      all_ids = ap (λ (l : List Id). l ++ ids_at r h) (ap reverse ids_are ∙ reverse-reverse grown.more) ∙ grown.whole
 
-      pub follows_now : (now : List Row) → now ≡ rows_after (command_of r st.history) (reverse ids) log → Follows r (e ∷ h) now (length done)
-      follows_now now is_now = record { rows = is_now ∙ rows_are; count = all_fed }
+      all_entries : entries_of (command_of r st.history) (reverse ids ++ ids_at r h) ≡ entries_at r (e ∷ h)
+      all_entries = ap (λ (x : List Entry). entries_of (command_of r x) (reverse ids ++ ids_at r h)) is ∙ ap (entries_of (command_of r (e ∷ h))) all_ids
 
-      pub lies_between : (now : List Row) → IsPart log now × IsPart now (rows_after (command_of r st.history) (reverse ids) log) → LiesBetween r h (e ∷ h) now
+      pub follows_now : (now : Ledger) → now.f ≡ log.f → StandsFor now (entries_of (command_of r st.history) (reverse ids ++ ids_at r h)) → Follows r (e ∷ h) now (length done)
+      follows_now now same is_now = record { f = same ∙ before.f; stands = subst (λ (es : List Command). StandsFor now es) all_entries is_now; count = all_fed }
+
+      pub lies_between : (now : List Row) → IsPart (command_rows log.f (command_of r st.history) (ids_at r h)) now
+          × IsPart now (command_rows log.f (command_of r st.history) (reverse ids ++ ids_at r h)) → LiesBetween r h (e ∷ h) now
       lies_between now part = (
-        subst (λ (rows : List Row). IsPart rows now) before.rows part.0,
-        subst (λ (rows : List Row). IsPart now rows) rows_are part.1,
+        subst (λ (rows : List Row). IsPart rows now) (ap₂ rows_of before.f (ap (λ (x : List Entry). entries_of (command_of r x) (ids_at r h)) is ∙ sym grown.same)) part.0,
+        subst (λ (rows : List Row). IsPart now rows) (ap₂ rows_of before.f all_entries) part.1,
       )
 
     -- a log that follows lies between
-    pub follows_between : (now : List Row) (count : ℕ) → Follows r (e ∷ h) now count → LiesBetween r h (e ∷ h) now
+    pub follows_between : (now : Ledger) (count : ℕ) → Follows r (e ∷ h) now count → LiesBetween r h (e ∷ h) now.rows
     follows_between now count follows =
-        subst (λ (rows : List Row). LiesBetween r h (e ∷ h) rows) (sym follows.rows)
+        subst (λ (rows : List Row). LiesBetween r h (e ∷ h) rows) (sym (rows_are follows))
         (rows_grow r laws e h (proper r laws h met.1) (proper r laws (e ∷ h) met), part_itself (rows_at r (e ∷ h)))
 
 -- ---- the log is fed, and then frames are sealed
@@ -133,12 +145,12 @@ module _ {S E C : Type 0} (m : Meaning S E C KeyRow) (old mid new : Replica S E 
 
   pub some_kept : FeedsSome m old mid → FeedsSome m old new
   some_kept some r st e h stands live is before =
-      subst (λ (rows : List Row). LiesBetween r h (e ∷ h) rows) (sym same.log) (some r st e h stands live is before)
+      subst (λ (log : Ledger). LiesBetween r h (e ∷ h) log.rows) (sym same.log) (some r st e h stands live is before)
 
   pub feeds_kept : Feeds m old mid → Feeds m old new
   feeds_kept feeds = record {
     follows = λ r st e h stands live is before.
         let now = feeds.follows r st e h stands live is before in
-        record { rows = same.log ∙ now.rows; count = same.fed ∙ now.count };
+        subst (λ (log : Ledger). Follows r (e ∷ h) log new.fed) (sym same.log) (record { f = now.f; stands = now.stands; count = same.fed ∙ now.count });
     some = some_kept feeds.some;
   }

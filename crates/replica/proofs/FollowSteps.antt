@@ -1,46 +1,54 @@
 -- Identifiers of a list, one after another.
-use Rattle.std.specs.Prelude.{◌≡◌, ℕ, zero, suc, ◌+◌, ◌<◌, List, [], ◌∷◌, ◌++◌, length, take, drop, reverse, get_or, Option}
+use Rattle.std.specs.Prelude.{◌≡◌, ℕ, zero, suc, ◌+◌, ◌<◌, List, [], ◌∷◌, ◌++◌, length, take, drop, reverse, get_or, Option, refl}
 use Rattle.std.specs.List.{AllByRecursion}
-use Rattle.std.proofs.Common.{sym, ◌∙◌, ap, subst, arith}
-use Rattle.std.proofs.lemmas.List.{take_more, take-append-drop, reverse-append, length-reverse, length-take-le}
+use Rattle.std.proofs.Common.{sym, ◌∙◌, ap, subst, arith, append_assoc}
+use Rattle.std.proofs.lemmas.List.{take_more, take-append-drop, reverse-append, length-reverse, length-append, length-take-le}
 use Rattle.ritas_base.specs.declared.id.Id.{Id}
 use Rattle.layer_api.specs.Service.{IsPart}
-use Rattle.command_log.specs.Rows.{Row, with_entry, entry_of, rows_after}
-use Rattle.command_log.specs.Laws.{after_kept, after_part}
-use Rattle.command_log.specs.Fits.{after_fit}
+use Rattle.command_log.specs.Rows.{Row, entry_of, entries_of, command_rows, rows_of}
+use Rattle.command_log.specs.Standing.{Ledger, StandsFor}
+use Rattle.command_log.specs.Laws.{command_part}
+use Rattle.command_log.specs.Fits.{rows_fit}
 
 abbrev pub item_at : List Id → ℕ → Id
-item_at xs i = get_or xs i (record { origin = 0; num = 0 })
+item_at ids i = get_or ids i (record { origin = 0; num = 0 })
 
-pub all_at : (P : Id → Type 0) (xs : List Id) (i : ℕ) → i < length xs → AllByRecursion P xs → P (item_at xs i)
+pub all_at : (P : Id → Type 0) (ids : List Id) (i : ℕ) → i < length ids → AllByRecursion P ids → P (item_at ids i)
 all_at P [] i within all = absurd (omega (arith, within))
-all_at P (x ∷ xs) zero within all = all.0
-all_at P (x ∷ xs) (suc i) within all = all_at P xs i (omega (arith, within)) all.1
+all_at P (x ∷ ids) zero within all = all.0
+all_at P (x ∷ ids) (suc i) within all = all_at P ids i (omega (arith, within)) all.1
 
-module _ (a : Id → Option (List ℕ)) (xs : List Id) (i : ℕ) (rows now : List Row) (is : now ≡ rows_after a (reverse (take i xs)) rows) where
+-- the first of them are in front of the others
+abbrev pub first_ids : List Id → ℕ → List Id → List Id
+first_ids ids i xs = reverse (take i ids) ++ xs
+
+module _ (a : Id → Option (List ℕ)) (ids xs : List Id) (i : ℕ) (now : Ledger) (is : StandsFor now (entries_of a (first_ids ids i xs))) where
   -- there is room for one more
-  pub fits_at : i < length xs → length rows + length xs < 4294967295 → length now < 4294967295
+  pub fits_at : i < length ids → length xs + length ids < 4294967295 → length now.rows < 4294967295
   fits_at within room =
-      let most = after_fit a (reverse (take i xs)) rows in
-      let len = length-reverse (take i xs) in
-      let few = length-take-le i xs (omega (arith, within)) in
-      omega (arith, most, len, few, room, within, ap length is)
+      let most = rows_fit now.f a (first_ids ids i xs) in
+      let whole = length-append (reverse (take i ids)) xs in
+      let len = length-reverse (take i ids) in
+      let few = length-take-le i ids (omega (arith, within)) in
+      omega (arith, most, whole, len, few, room, within, ap length is.rows)
 
   -- and it is entered
-  pub rows_next : (next : List Row) → i < length xs → next ≡ with_entry (entry_of a (item_at xs i)) now → next ≡ rows_after a (reverse (take (i + 1) xs)) rows
-  rows_next next within step =
-      step ∙ (ap (with_entry (entry_of a (item_at xs i))) is
-      ∙ sym (ap (λ (l : List Id). rows_after a l rows)
-      (ap reverse (take_more xs i (record { origin = 0; num = 0 }) within) ∙ reverse-append (take i xs) (item_at xs i ∷ []))))
+  pub stands_next : (next : Ledger) → i < length ids → StandsFor next (entry_of a (item_at ids i) ∷ entries_of a (first_ids ids i xs))
+      → StandsFor next (entries_of a (first_ids ids (i + 1) xs))
+  stands_next next within step =
+      subst (λ (l : List Id). StandsFor next (entries_of a (l ++ xs)))
+      (sym (ap reverse (take_more ids i (record { origin = 0; num = 0 }) within) ∙ reverse-append (take i ids) (item_at ids i ∷ []))) step
 
-  -- the first of them lie between none and all
-  whole : reverse xs ≡ reverse (drop i xs) ++ reverse (take i xs)
-  whole = ap reverse (sym (take-append-drop i xs)) ∙ reverse-append (take i xs) (drop i xs)
+  -- the rows of the first of them lie between those of none and of all
+  whole_is : reverse (drop i ids) ++ first_ids ids i xs ≡ reverse ids ++ xs
+  whole_is =
+      sym (append_assoc (reverse (drop i ids)) (reverse (take i ids)) xs)
+      ∙ ap (λ l. l ++ xs) (sym (reverse-append (take i ids) (drop i ids)) ∙ ap reverse (take-append-drop i ids))
 
-  pub first_between : (next : List Row) → next ≡ now → IsPart rows next × IsPart next (rows_after a (reverse xs) rows)
-  first_between next same =
-      let part = after_part a (reverse (drop i xs)) (reverse (take i xs)) rows in
-      subst (λ (q : List Row). IsPart rows q × IsPart q (rows_after a (reverse xs) rows)) (sym (same ∙ is)) (
-        after_kept a (reverse (take i xs)) rows,
-        subst (λ (l : List Id). IsPart (rows_after a (reverse (take i xs)) rows) (rows_after a l rows)) (sym whole) part,
+  pub first_between : (f : ℕ) (next : List Row) → next ≡ now.rows → now.f ≡ f → IsPart (command_rows f a xs) next × IsPart next (command_rows f a (reverse ids ++ xs))
+  first_between f next same faults =
+      subst (λ (q : List Row). IsPart (command_rows f a xs) q × IsPart q (command_rows f a (reverse ids ++ xs)))
+      (sym (same ∙ is.rows ∙ ap (λ n. rows_of n (entries_of a (first_ids ids i xs))) faults)) (
+        command_part f a a xs (first_ids ids i xs) (reverse (take i ids), refl) (λ x here. refl),
+        command_part f a a (first_ids ids i xs) (reverse ids ++ xs) (reverse (drop i ids), whole_is) (λ x here. refl),
       )

@@ -1,4 +1,4 @@
--- The identifier log after an entry: what it appends has commands that the core shows, and the rows grow by theirs.
+-- The identifier log after an entry: what it appends has commands that the core shows, and the rows of before are a part of its rows.
 use Rattle.std.proofs.Common.{◌≡◌, ℕ, ◌+◌, ◌<◌, ◌≤◌, Bool, true, false, ◌==◌, ◌&&◌, List, [], ◌∷◌, ◌++◌, length, Option, Some, None, inl, inr, refl, sym, ◌∙◌, ap, subst, arith, length-append}
 use Rattle.std.specs.List.{AllByRecursion}
 use Rattle.std.specs.Option.{is_some}
@@ -15,15 +15,15 @@ use Rattle.layer_api.specs.Words.{Word, Ask, Hear, is_heard, value_at}
 use Rattle.layer_api.specs.Service.{AreProper, AreHeard, AreRecent, MayHear, MayWord, IsPart, is_past}
 use Rattle.layer_api.specs.FedLaws.{heard_met}
 use Rattle.layer_api.specs.PartLaws.{heard_is}
-use Rattle.command_log.specs.Rows.{IsIn, rows_after, command_rows}
-use Rattle.command_log.specs.Laws.{command_part, rows_follow}
-use Rattle.command_log.specs.Fits.{command_long, rows_fit}
+use Rattle.command_log.specs.Rows.{IsIn, entries_of}
+use Rattle.command_log.specs.Laws.{command_part, same_entries}
+use Rattle.command_log.specs.Fits.{command_long}
 use Rattle.ritas_core.specs.Rules.{Rules, seat_of}
 use Rattle.ritas_core.specs.Parts.{Entry, Took, Given, Parts, parts, heard_at, taken_at, item_delivers}
 use Rattle.ritas_core.specs.Machine.{with_entry}
 use Rattle.ritas_core.specs.Laws.{LayerLaws}
 use Rattle.ritas_core.specs.Heard.{heard_delivered, delivered_stays}
-use Rattle.replica.specs.CommandRows.{command_of, ids_at, rows_at, HasCommand}
+use Rattle.replica.specs.CommandRows.{command_of, ids_at, entries_at, rows_at, HasCommand}
 
 abbrev pub WordsAt : Rules → List Entry → List Word
 WordsAt r h = (parts r h).words
@@ -115,8 +115,8 @@ pub record Grows (r : Rules) (e : Entry) (h : List Entry) : Type 0 where
   pub more : List Id
   pub whole : more ++ ids_at r h ≡ ids_at r (e ∷ h)
   pub have : AllByRecursion (HasCommand r (e ∷ h)) more
-  pub follows : rows_after (command_of r (e ∷ h)) more (rows_at r h) ≡ rows_at r (e ∷ h)
-  pub room : length (rows_at r h) + length more < 4294967295
+  pub same : entries_at r h ≡ entries_of (command_of r (e ∷ h)) (ids_at r h)
+  pub room : length (ids_at r h) + length more < 4294967295
 
 no_front : (more xs : List Id) → more ++ xs ≡ [] → more ≡ []
 no_front [] xs e = refl
@@ -139,7 +139,6 @@ module _ (r : Rules) (laws : LayerLaws r) (e : Entry) (h : List Entry) (proper :
       let w = WordsAt r (e ∷ h) in
       let means = laws.words.meanings seat w laws.session laws.serves now in
       let few = means.done_few in
-      let rows = rows_fit (command_of r h) (ids_at r h) in
       record {
         more = a.more;
         whole = a.whole;
@@ -147,8 +146,8 @@ module _ (r : Rules) (laws : LayerLaws r) (e : Entry) (h : List Entry) (proper :
             (λ low. no_front a.more (ids_at r h) (a.whole ∙ means.done low))
             (λ high. have_commands r laws (e ∷ h) now a.more high
             (heard_front w a.more (ids_at r h) (subst (λ (xs : List Id). AreHeard w xs) (sym a.whole) (laws.words.done_heard seat w now))) a.recent);
-        follows = rows_follow (command_of r h) (command_of r (e ∷ h)) a.more (ids_at r h) same_command ∙ ap (command_rows (command_of r (e ∷ h))) a.whole;
-        room = omega (arith, few, rows, ap length (sym a.whole), length-append a.more (ids_at r h));
+        same = same_entries (command_of r h) (command_of r (e ∷ h)) (ids_at r h) same_command;
+        room = omega (arith, few, ap length (sym a.whole), length-append a.more (ids_at r h));
       }
     where
       by_root : (more : List Id) (b : Bool) → leb r.mode.root 5 ≡ b → (leb r.mode.root 5 ≡ true → more ≡ [])
@@ -160,7 +159,7 @@ module _ (r : Rules) (laws : LayerLaws r) (e : Entry) (h : List Entry) (proper :
   pub rows_grow : IsPart (rows_at r h) (rows_at r (e ∷ h))
   rows_grow =
       let a = adds_entry r laws e h now in
-      command_part (command_of r h) (command_of r (e ∷ h)) (ids_at r h) (ids_at r (e ∷ h)) (a.more, a.whole) same_command
+      command_part r.casts.numbers.f (command_of r h) (command_of r (e ∷ h)) (ids_at r h) (ids_at r (e ∷ h)) (a.more, a.whole) same_command
 
 pub part_itself : {X : Type 0} (xs : List X) → IsPart xs xs
 part_itself xs = ([], refl)

@@ -180,7 +180,7 @@ stops_runs_out {S = S} {E = E} {C = C} m old new core what call ms before after 
               };
               sent = stops.sent ∙ on.counted.all;
               log =
-                  let L : Option Entry → Type 0 = λ o. LiesBetween r st.history (with_entry o st.history) new.log in
+                  let L : Option Entry → Type 0 = λ o. LiesBetween r st.history (with_entry o st.history) new.log.rows in
                   subst L (sym enters.entered) (stops.some r (moved r st what).state enters.entry st.history did.state enters.going enters.history on.log);
             });
           },

@@ -3,7 +3,9 @@ use Rattle.std.specs.Prelude.{◌≡◌, ℕ, ◌≤◌, false, List, length, Op
 use Rattle.ritas_base.specs.declared.id.Id.{Id}
 use Rattle.ritas_base.specs.Slots.{command_slot}
 use Rattle.layer_api.specs.Service.{IsPart}
-use Rattle.command_log.specs.Rows.{Row, command_rows}
+use Rattle.command_log.specs.Rows.{Row, entries_of, command_rows}
+use Rattle.command_log.specs.Rows.{Entry as Command}
+use Rattle.command_log.specs.Standing.{Ledger, StandsFor}
 use Rattle.ritas_core.specs.Rules.{Rules, seat_of}
 use Rattle.ritas_core.specs.Parts.{Entry, parts}
 use Rattle.ritas_core.specs.Shown.{delivered_at, is_hidden}
@@ -16,18 +18,23 @@ command_of r h x = delivered_at r h (command_slot x.origin x.num)
 abbrev pub ids_at : Rules → List Entry → List Id
 ids_at r h = r.service.done (seat_of r) (parts r h).words
 
--- and the rows of its commands
-abbrev pub rows_at : Rules → List Entry → List Row
-rows_at r h = command_rows (command_of r h) (ids_at r h)
+-- with its commands
+abbrev pub entries_at : Rules → List Entry → List Command
+entries_at r h = entries_of (command_of r h) (ids_at r h)
 
--- the log has the rows of a history, and so many of its identifiers were entered
-pub record Follows (r : Rules) (h : List Entry) (log : List Row) (fed : ℕ) : Type 0 where
-  pub rows : log ≡ rows_at r h
+-- and the rows of these
+abbrev pub rows_at : Rules → List Entry → List Row
+rows_at r h = command_rows r.casts.numbers.f (command_of r h) (ids_at r h)
+
+-- the log stands for the commands of a history, and so many of its identifiers were entered
+pub record Follows (r : Rules) (h : List Entry) (log : Ledger) (fed : ℕ) : Type 0 where
+  pub f : log.f ≡ r.casts.numbers.f
+  pub stands : StandsFor log (entries_at r h)
   pub count : fed ≡ length (ids_at r h)
 
--- the log lies between the rows of a history and those of a later one
+-- rows lie between those of a history and those of a later one
 abbrev pub LiesBetween : Rules → List Entry → List Entry → List Row → Type 0
-LiesBetween r h later log = IsPart (rows_at r h) log × IsPart log (rows_at r later)
+LiesBetween r h later rows = IsPart (rows_at r h) rows × IsPart rows (rows_at r later)
 
 -- a core with this history shows the command of an identifier, which has a client's number and a request's
 pub record HasCommand (r : Rules) (h : List Entry) (x : Id) : Type 0 where

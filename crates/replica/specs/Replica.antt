@@ -60,7 +60,7 @@ pub record StandsStopped {S E C : Type 0} (m : Meaning S E C KeyRow) (rep : Repl
   pub dead : st.live ≡ false
   pub ahead : StandsAhead m rep.core r st
   pub sent : rep.sent ≡ frames_made r k st.history % 2 ^ 64
-  pub log : LiesBetween r st.history (with_lost st) rep.log
+  pub log : LiesBetween r st.history (with_lost st) rep.log.rows
 
 -- the replica stands for this state, by these rules and keys
 pub record ReplicaStands {S E C : Type 0} (m : Meaning S E C KeyRow) (rep : Replica S E C) (r : Rules) (k : KeyRow) (st : CoreState) : Type 0 where

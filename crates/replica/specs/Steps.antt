@@ -72,10 +72,10 @@ pub record PutsOut {S E C : Type 0} (old new : Replica S E C) (ms : List Msg) (b
 abbrev pub FeedsOnly : {S E C : Type 0} → Replica S E C → Replica S E C → Type 0
 FeedsOnly old new = new ≡ record old { log = new.log; fed = new.fed }
 
--- after an entry of the core the log lies between what it was and the rows with that entry
+-- after an entry of the core the log's rows lie between what they were and those with that entry
 abbrev pub FeedsSome : {S E C : Type 0} → Meaning S E C KeyRow → Replica S E C → Replica S E C → Type 0
 FeedsSome m old new = (r : Rules) (st : CoreState) (e : Entry) (h : List Entry) → CoreStands m old.core r st → st.live ≡ true → st.history ≡ e ∷ h
-    → Follows r h old.log old.fed → LiesBetween r h (e ∷ h) new.log
+    → Follows r h old.log old.fed → LiesBetween r h (e ∷ h) new.log.rows
 
 -- and it follows
 pub record Feeds {S E C : Type 0} (m : Meaning S E C KeyRow) (old new : Replica S E C) : Type 0 where

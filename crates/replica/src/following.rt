@@ -1,12 +1,14 @@
 //! How the log of commands follows the identifier log.
 
-ghost use Rattle.std.specs.Prelude.{◌≡◌, ◌+◌, ◌<◌, true, length, reverse, OnOk, OnErr};
+ghost use Rattle.std.specs.Prelude.{◌≡◌, ◌+◌, ◌<◌, true, List, ◌∷◌, ◌++◌, length, reverse, OnOk, OnErr};
 ghost use Rattle.std.specs.List.{AllByRecursion};
 ghost use Rattle.layer_api.specs.Service.{IsPart};
 ghost use Rattle.ritas_core.specs.Rules.{Rules};
 ghost use Rattle.ritas_core.specs.Machine.{CoreState};
 ghost use Rattle.ritas_core.specs.Stands.{CoreStands};
-ghost use Rattle.command_log.specs.Rows.{with_entry, entry_of, rows_after};
+ghost use Rattle.ritas_base.specs.declared.id.Id.{Id};
+ghost use Rattle.command_log.specs.Rows.{Entry, entry_of, entries_of, command_rows};
+ghost use Rattle.command_log.specs.Standing.{StandsFor};
 ghost use Rattle.replica.specs.Replica.{with_keys};
 ghost use Rattle.replica.specs.CommandRows.{command_of, HasCommand};
 
@@ -17,7 +19,7 @@ use ritas_base::{Coin, Id, Mem, Slot};
 use ritas_core::Core;
 use std::alloc::Global;
 
-// Enters the row of a command that was delivered.
+// Gives the log a command that was delivered.
 fn follow_one<S: Service, E: Broadcast, C: Coin + Drop>(
     alloc: Global,
     core: &Core<S, E, C, Channel>,
@@ -26,9 +28,10 @@ fn follow_one<S: Service, E: Broadcast, C: Coin + Drop>(
 ) -> Result<(), Mem>
     ensures ok { let m = with_keys S.stands S.rules S.shown E.stands E.rules E.shown C.bits in
         OnOk result ((r : Rules) (st : CoreState) → CoreStands m core.now r st → st.live ≡ true
-        → HasCommand r st.history id → length log.old < 4294967295
-        → log.new ≡ with_entry (entry_of (command_of r st.history) id) log.old) }
-    ensures err { OnErr result (log.new ≡ log.old) }
+        → HasCommand r st.history id → length log.old.rows < 4294967295
+        → (es : List Entry) → StandsFor log.old es → StandsFor log.new (entry_of (command_of r st.history) id ∷ es)) }
+    ensures err { OnErr result (log.new.rows ≡ log.old.rows) }
+    ensures f { log.new.f ≡ log.old.f }
 {
     let slot = Slot {
         class: 1,
@@ -48,8 +51,8 @@ fn follow_one<S: Service, E: Broadcast, C: Coin + Drop>(
     Ok(())
 }
 
-/// Enters the rows of these identifiers, which were appended to the service's log in this order. For want of memory some
-/// of them are there, the first of all.
+/// Gives the log the commands of these identifiers, which were appended to the service's log in this order. For want of
+/// memory it has the rows of some of them, the first of all.
 pub(crate) fn follow<S: Service, E: Broadcast, C: Coin + Drop>(
     alloc: Global,
     core: &Core<S, E, C, Channel>,
@@ -58,12 +61,16 @@ pub(crate) fn follow<S: Service, E: Broadcast, C: Coin + Drop>(
 ) -> Result<(), Mem>
     ensures ok { let m = with_keys S.stands S.rules S.shown E.stands E.rules E.shown C.bits in
         OnOk result ((r : Rules) (st : CoreState) → CoreStands m core.now r st → st.live ≡ true
-        → AllByRecursion (HasCommand r st.history) ids.now → length log.old + length ids.now < 4294967295
-        → log.new ≡ rows_after (command_of r st.history) (reverse ids.now) log.old) }
+        → AllByRecursion (HasCommand r st.history) ids.now → (xs : List Id) → length xs + length ids.now < 4294967295
+        → StandsFor log.old (entries_of (command_of r st.history) xs)
+        → StandsFor log.new (entries_of (command_of r st.history) (reverse ids.now ++ xs))) }
     ensures err { let m = with_keys S.stands S.rules S.shown E.stands E.rules E.shown C.bits in
         OnErr result ((r : Rules) (st : CoreState) → CoreStands m core.now r st → st.live ≡ true
-        → AllByRecursion (HasCommand r st.history) ids.now → length log.old + length ids.now < 4294967295
-        → IsPart log.old log.new × IsPart log.new (rows_after (command_of r st.history) (reverse ids.now) log.old)) }
+        → AllByRecursion (HasCommand r st.history) ids.now → (xs : List Id) → length xs + length ids.now < 4294967295
+        → StandsFor log.old (entries_of (command_of r st.history) xs)
+        → IsPart (command_rows log.old.f (command_of r st.history) xs) log.new.rows
+        × IsPart log.new.rows (command_rows log.old.f (command_of r st.history) (reverse ids.now ++ xs))) }
+    ensures f { log.new.f ≡ log.old.f }
 {
     for id in ids {
         follow_one(alloc, core, log, *id)?;

@@ -58,7 +58,7 @@ impl<S: Service, E: Broadcast, C: Coin + Drop> Replica<S, E, C> {
         let core = Core::new(alloc, p, mode, keys.me(), channel, coin)?;
         Ok(Replica {
             core,
-            log: Log::new(alloc),
+            log: Log::new(alloc, p.f()),
             fed: 0,
             counts: [0; 31],
             sent: 0,
@@ -80,7 +80,7 @@ impl<S: Service, E: Broadcast, C: Coin + Drop> Replica<S, E, C> {
         Ok(())
     }
 
-    // Enters into the log what the service appended to its identifiers.
+    // Gives the log what the service appended to its identifiers.
     fn feed(&mut self, alloc: Global) -> Result<(), Mem>
         ensures ok { OnOk result (Feeds (with_keys S.stands S.rules S.shown E.stands E.rules E.shown C.bits) self.old self.new) }
         ensures err { OnErr result (FeedsSome (with_keys S.stands S.rules S.shown E.stands E.rules E.shown C.bits) self.old self.new) }
@@ -289,10 +289,10 @@ impl<S: Service, E: Broadcast, C: Coin + Drop> Replica<S, E, C> {
     pub fn log(&self) -> &Log
         ensures live { (r : Rules) (k : KeyRow) (st : CoreState)
             → ReplicaStands (with_keys S.stands S.rules S.shown E.stands E.rules E.shown C.bits) self.now r k st
-            → st.live ≡ true → result.now ≡ rows_at r st.history }
+            → st.live ≡ true → result.now.rows ≡ rows_at r st.history }
         ensures near { (r : Rules) (k : KeyRow) (st : CoreState)
             → ReplicaStands (with_keys S.stands S.rules S.shown E.stands E.rules E.shown C.bits) self.now r k st
-            → IsPart (rows_at r st.history) result.now × IsPart result.now (rows_at r (with_lost st)) }
+            → IsPart (rows_at r st.history) result.now.rows × IsPart result.now.rows (rows_at r (with_lost st)) }
     {
         history_laws();
         &self.log

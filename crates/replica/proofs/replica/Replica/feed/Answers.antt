@@ -1,11 +1,13 @@
-use Rattle.std.proofs.Common.{◌<◌, length, inl, inr, arith}
+use Rattle.std.proofs.Common.{◌≡◌, ◌<◌, true, List, ◌∷◌, length, reverse, inl, inr, arith}
 use Rattle.std.proofs.lemmas.Result.{err_from_is_err_and}
 use Rattle.keyed_channel.specs.KeyRow.{KeyRow}
-use Rattle.ritas_core.specs.Rules.{seat_of}
-use Rattle.ritas_core.specs.Parts.{parts}
-use Rattle.ritas_core.specs.Stands.{Meaning}
+use Rattle.ritas_core.specs.Rules.{Rules, seat_of}
+use Rattle.ritas_core.specs.Parts.{Entry, parts}
+use Rattle.ritas_core.specs.Machine.{CoreState}
+use Rattle.ritas_core.specs.Stands.{Meaning, CoreStands}
+use Rattle.replica.specs.CommandRows.{ids_at, Follows}
 use Rattle.replica.specs.Replica.{with_keys}
-use Rattle.replica.proofs.Feeding.{rest_of, done_by, not_short, have_all, has_room, follows_now, lies_between, follows_between}
+use Rattle.replica.proofs.Feeding.{rest_of, done_by, not_short, have_all, has_room, stood, follows_now, lies_between, follows_between}
 use Rattle.replica.proofs.replica.Replica.feed.Goals as goal
 
 pub returns-clause-ok : goal.returns-clause-ok
@@ -19,20 +21,21 @@ returns-clause-ok g c =
     let done = c.done-done.result.now in
     let found = c.in-Some.ensures.lookup.0 in
     let rest = rest_of done c.in-Some.ids.now c.args.self.now.fed found.0 found.2 in
+    let followed = λ (r : Rules) (st : CoreState) (e : Entry) (h : List Entry) (stands : CoreStands m core r st) (live : st.live ≡ true) (is : st.history ≡ e ∷ h)
+    (before : Follows r h c.args.self.now.log c.args.self.now.fed) (shows : done ≡ reverse (ids_at r st.history)).
+    follows_now m values words proper core r st stands e h is done shows c.args.self.now.log c.args.self.now.fed before c.in-Some.ids.now rest c.follow.new.log c.follow.ensures.f
+    (c.in_ok-follow.ensures.ok r st stands live
+    (have_all m values words proper core r st stands e h is done shows c.args.self.now.log c.args.self.now.fed before c.in-Some.ids.now rest) (ids_at r h)
+    (has_room m values words proper core r st stands e h is done shows c.args.self.now.log c.args.self.now.fed before c.in-Some.ids.now rest)
+    (stood m values words proper core r st stands e h is done shows c.args.self.now.log c.args.self.now.fed before)) in
     record {
       follows = λ r st e h stands live is before.
           let shows = done_by m core r st stands done (c.done-done.ensures.rules (seat_of r) (parts r st.history).words (c.service.ensures.live r st stands live)) in
-          follows_now m values words proper core r st stands e h is done shows c.args.self.now.log c.args.self.now.fed before c.in-Some.ids.now rest c.follow.new.log
-          (c.in_ok-follow.ensures.ok r st stands live
-          (have_all m values words proper core r st stands e h is done shows c.args.self.now.log c.args.self.now.fed before c.in-Some.ids.now rest)
-          (has_room m values words proper core r st stands e h is done shows c.args.self.now.log c.args.self.now.fed before c.in-Some.ids.now rest));
+          followed r st e h stands live is before shows;
       some = λ r st e h stands live is before.
           let shows = done_by m core r st stands done (c.done-done.ensures.rules (seat_of r) (parts r st.history).words (c.service.ensures.live r st stands live)) in
           follows_between m values words proper core r st stands e h is done shows c.args.self.now.log c.args.self.now.fed before c.follow.new.log _
-          (follows_now m values words proper core r st stands e h is done shows c.args.self.now.log c.args.self.now.fed before c.in-Some.ids.now rest c.follow.new.log
-          (c.in_ok-follow.ensures.ok r st stands live
-          (have_all m values words proper core r st stands e h is done shows c.args.self.now.log c.args.self.now.fed before c.in-Some.ids.now rest)
-          (has_room m values words proper core r st stands e h is done shows c.args.self.now.log c.args.self.now.fed before c.in-Some.ids.now rest)));
+          (followed r st e h stands live is before shows);
     }
 
 pub returns-in_default-clause-ok : goal.returns-in_default-clause-ok
@@ -68,7 +71,8 @@ returns-in_err-follow-clause-err g c =
     let p = err_from_is_err_and c.from_residual.result c.from_residual.ensures.1 in
     rw p.1 (λ r st e h stands live is before.
     let shows = done_by m core r st stands done (c.done-done.ensures.rules (seat_of r) (parts r st.history).words (c.service.ensures.live r st stands live)) in
-    lies_between m values words proper core r st stands e h is done shows c.args.self.now.log c.args.self.now.fed before c.in-Some.ids.now rest c.follow.new.log
+    lies_between m values words proper core r st stands e h is done shows c.args.self.now.log c.args.self.now.fed before c.in-Some.ids.now rest c.follow.new.log.rows
     (c.in_err-follow.ensures.err r st stands live
-    (have_all m values words proper core r st stands e h is done shows c.args.self.now.log c.args.self.now.fed before c.in-Some.ids.now rest)
-    (has_room m values words proper core r st stands e h is done shows c.args.self.now.log c.args.self.now.fed before c.in-Some.ids.now rest)))
+    (have_all m values words proper core r st stands e h is done shows c.args.self.now.log c.args.self.now.fed before c.in-Some.ids.now rest) (ids_at r h)
+    (has_room m values words proper core r st stands e h is done shows c.args.self.now.log c.args.self.now.fed before c.in-Some.ids.now rest)
+    (stood m values words proper core r st stands e h is done shows c.args.self.now.log c.args.self.now.fed before)))
