@@ -1,21 +1,49 @@
 -- What is read of lines that several columns have, and of what follows them.
-use Rattle.std.proofs.Common.{◌≡◌, ℕ, zero, suc, ◌+◌, ◌==◌, Bool, true, false, List, [], ◌∷◌, length, Option, Result, Ok, Err, refl, sym, ◌∙◌, ap, if◌then◌else◌}
+use Rattle.std.proofs.Common.{◌≡◌, ℕ, zero, suc, ◌+◌, ◌==◌, Bool, true, false, List, [], ◌∷◌, length, Option, Result, Ok, Err, codes, refl, sym, ◌∙◌, ap, if◌then◌else◌}
 use Rattle.ritas_base.specs.Numbers.{Numbers}
+use Rattle.ritas_base.specs.declared.mode.FrameVersion.{FrameVersion}
+use Rattle.cluster_config.specs.Values.{most, number_in}
 use Rattle.cluster_config.specs.Lines.{Place, Reading, ◌>>=◌, end_at, field_at, fields_at, fields_up_to}
 use Rattle.cluster_config.specs.Columns.{Column, is_one_line, lines_of, lines_up_to, read_by}
-use Rattle.cluster_config.specs.Front.{session_lines, numbers_lines, session_at, numbers_at}
+use Rattle.cluster_config.specs.Front.{session_lines, numbers_lines, copies_line, session_at, numbers_at, copies_at}
 
 then_read : {A B C : Type 0} (r : Result A ℕ) (f : A → Result B ℕ) (g : B → Result C ℕ) → (r >>= λ x. f x >>= g) ≡ ((r >>= f) >>= g)
 then_read (Ok x) f g = refl
 then_read (Err line) f g = refl
 
-pub read_session : {X : Type 0} (next : ℕ → Column X) (s : Place) → read_by (session_lines next) s ≡ (session_at s >>= λ x. read_by (next x.0) x.1)
+-- the session behind a version
+abbrev and_session : FrameVersion → Place → Reading (FrameVersion × ℕ)
+and_session version s = field_at (codes "session") (number_in 0 most) s >>= λ session. Ok ((version, session.0), session.1)
+
+pub read_session : {X : Type 0} (next : FrameVersion → ℕ → Column X) (s : Place) → read_by (session_lines next) s ≡ (session_at s >>= λ x. read_by (next x.0.0 x.0.1) x.1)
 unfolding read_by session_lines session_at
-read_session next s = then_read (field_at _ _ s) _ _
+read_session {X} next s = go (field_at _ _ s)
+  where
+    go : (r : Reading FrameVersion) → (r >>= λ x. field_at (codes "session") (number_in 0 most) x.1 >>= λ y. read_by (next x.0 y.0) y.1)
+        ≡ ((r >>= λ x. and_session x.0 x.1) >>= λ x. read_by (next x.0.0 x.0.1) x.1)
+    go (Err line) = refl
+    go (Ok x) = then_read (field_at (codes "session") (number_in 0 most) x.1) (λ y. Ok ((x.0, y.0), y.1)) (λ y. read_by (next y.0.0 y.0.1) y.1)
 
 pub read_numbers : {X : Type 0} (next : Numbers → Column X) (s : Place) → read_by (numbers_lines next) s ≡ (numbers_at s >>= λ x. read_by (next x.0) x.1)
 unfolding read_by numbers_lines numbers_at
 read_numbers next s = then_read (field_at _ _ s) _ _
+
+-- this was said, and nothing follows
+abbrev and_over : {X : Type 0} → X → Place → Reading X
+and_over x s = end_at s >>= λ over. Ok (x, over.1)
+
+abbrev unless_over : {X : Type 0} → Bool → X → Place → Reading X → Reading X
+unless_over b x s more = if b then Ok (x, s) else more
+
+-- perhaps the copies, and nothing more
+pub read_copies : {X : Type 0} (n : ℕ) (said : ℕ → X) (s : Place) → read_by (copies_line n said) s ≡ (copies_at n s >>= λ x. Ok (said x.0, x.1))
+unfolding read_by copies_line copies_at
+read_copies {X} n said s = go (length s.rest == 0) (field_at _ _ s)
+  where
+    go : (b : Bool) (r : Reading ℕ) → unless_over b (said 1) s (r >>= λ x. and_over (said x.0) x.1) ≡ (unless_over b 1 s (r >>= λ x. and_over x.0 x.1) >>= λ x. Ok (said x.0, x.1))
+    go true r = refl
+    go false (Err line) = refl
+    go false (Ok x) = then_read (end_at x.1) (λ over. Ok (x.0, over.1)) (λ y. Ok (said y.0, y.1))
 
 abbrev with_first : {A : Type 0} → A → Reading (List A) → Reading (List A)
 with_first x r = r >>= λ more. Ok (x ∷ more.0, more.1)

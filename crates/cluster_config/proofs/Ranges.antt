@@ -1,27 +1,28 @@
 -- What the values of right lines keep to, and what columns of such lines say.
-use Rattle.std.proofs.Common.{◌≡◌, ℕ, zero, suc, ◌+◌, ◌-◌, ◌*◌, ◌/◌, ◌%◌, ◌<◌, ◌≤◌, ◌==◌, ◌&&◌, Bool, true, false, nat_le, List, [], ◌∷◌, ◌++◌, length, take, drop, replicate, Option, Some, None, option_map, Result, Ok, Err, refl, sym, ◌∙◌, ap, subst, arith, codes, inl, inr, if◌then◌else◌}
+use Rattle.std.proofs.Common.{◌≡◌, ◌⊎◌, ℕ, zero, suc, ◌+◌, ◌-◌, ◌*◌, ◌/◌, ◌%◌, ◌<◌, ◌≤◌, ◌==◌, ◌&&◌, Bool, true, false, nat_le, List, [], ◌∷◌, ◌++◌, length, take, drop, replicate, Option, Some, None, option_map, Result, Ok, Err, refl, sym, ◌∙◌, ap, subst, arith, codes, inl, inr, if◌then◌else◌}
 use Rattle.std.specs.List.{AllByRecursion}
 use Rattle.std.specs.Str.{bytes_eq}
 use Rattle.std.proofs.lemmas.Bool.{and_parts, leb-true, eqb-true, eq-eqb, both_ways}
 use Rattle.std.proofs.lemmas.Option.{option_and_then_some}
 use Rattle.std.proofs.Math.Seq.{drop-append_seam}
+use Rattle.std.proofs.lemmas.Slice.Eq.{bytes_eq-Decides}
 use Rattle.hex.specs.declared.error.FromHexError.TheVariants.{OddLength, InvalidStringLength}
 use Rattle.hex.specs.Hex.{decode_of, decode_sized, decode_pairs}
 use Rattle.hex.proofs.HexLemmas.{decode_of-ok, decode_sized-twice}
 use Rattle.ritas_base.specs.Numbers.{Numbers}
 use Rattle.ritas_base.specs.declared.mode.FrameVersion.{FrameVersion}
-use Rattle.ritas_base.specs.declared.mode.FrameVersion.TheVariants.{One}
+use Rattle.ritas_base.specs.declared.mode.FrameVersion.TheVariants.{One, Two}
 use Rattle.cluster_config.specs.declared.requests.Request.{Request}
 use Rattle.cluster_config.specs.declared.submit.SubmitConfig.{SubmitConfig}
-use Rattle.cluster_config.specs.Values.{numeral, if_within, number_in, numbers_of, numbers_in, if_ok, key_in, keys_in, row_in, number_before, payload_in, request_in}
+use Rattle.cluster_config.specs.Values.{numeral, if_within, number_in, numbers_of, numbers_in, version_in, if_ok, key_in, keys_in, row_in, number_before, payload_in, request_in}
 use Rattle.cluster_config.specs.Cuts.{cut_at}
-use Rattle.cluster_config.specs.Columns.{Column, is_one_line, lines_of, lines_up_to, read_text, IsText}
-use Rattle.cluster_config.specs.Front.{session_lines, numbers_lines}
+use Rattle.cluster_config.specs.Columns.{BeginsWith, Column, is_one_line, lines_of, lines_up_to, read_text, IsText}
+use Rattle.cluster_config.specs.Front.{session_lines, numbers_lines, copies_line}
 use Rattle.cluster_config.specs.Drive.{Planned, drive_column}
 use Rattle.cluster_config.specs.Node.{NodeText, node_column}
 use Rattle.cluster_config.specs.Cluster.{ClusterText, cluster_column}
 use Rattle.cluster_config.specs.Submit.{submit_column}
-use Rattle.cluster_config.specs.Ranges.{FitsNode, FitsCluster, FitsSubmit}
+use Rattle.cluster_config.specs.Ranges.{StartsWith, IsVersionOf, FitsPlan, FitsNode, FitsCluster, FitsSubmit}
 use Rattle.cluster_config.proofs.Columns.{read_right}
 
 -- ---- values
@@ -208,6 +209,20 @@ lines_say_some name one read (suc k) all x text (inr is) =
       is = others.is;
     }
 
+-- the line of copies says what is said of a number from 1 to n
+record SaysCopies {X : Type 0} (n : ℕ) (said : ℕ → X) (x : X) : Type 0 where
+  copies : ℕ
+  least : 1 ≤ copies
+  most : 1 ≤ n → copies ≤ n
+  is : said copies ≡ x
+
+copies_say : {X : Type 0} (n : ℕ) (said : ℕ → X) (x : X) (text : List ℕ) → IsText (copies_line n said) x text → SaysCopies n said x
+unfolding copies_line
+copies_say n said x text (inl is) = record { copies = 1; least = omega arith; most = λ some. some; is = is.1 }
+copies_say n said x text (inr is) =
+    let range = number_range 1 n is.2.value is.0 is.2.reads in
+    record { copies = is.0; least = range.0; most = λ some. range.1; is = is.3.1 }
+
 -- ---- columns
 sixth : (text : List ℕ) (root : ℕ) → number_in 6 6 text ≡ Some root → root ≡ 6
 sixth text root e = let range = number_range 6 6 text root e in omega (arith, range.0, range.1)
@@ -271,25 +286,73 @@ submit_fits text x is =
       short = (request_fits p.0.n request.2.value request.0 request.2.reads).short;
     })
 
+plan_fits : (text : List ℕ) (x : Planned) → IsText drive_column x text → FitsPlan x
+unfolding drive_column session_lines numbers_lines
+plan_fits text x is =
+    let p = is.3.3.3 in
+    let order = p.3.3.3.3 in
+    let commands = order.3.3.3 in
+    let end = copies_say p.0.n _ x commands.1 commands.3 in
+    subst (λ (y : Planned). FitsPlan y) end.is (record {
+      least = end.least;
+      most = end.most (some_replica _ p.2.value p.0 p.2.reads);
+    })
+
 -- ---- versions
-drive_first : (text : List ℕ) (x : Planned) → IsText drive_column x text → x.version ≡ One
+-- what is read of a line of versions
+version_of : (value : List ℕ) (version : FrameVersion) → version_in value ≡ Some version → ((value ≡ codes "1") × (version ≡ One)) ⊎ ((value ≡ codes "2") × (version ≡ Two))
+version_of value version e = go (bytes_eq value (codes "1")) refl (bytes_eq value (codes "2")) refl e
+  where
+    go : (a : Bool) → bytes_eq value (codes "1") ≡ a → (b : Bool) → bytes_eq value (codes "2") ≡ b → (if a then Some One else (if b then Some Two else None)) ≡ Some version
+        → ((value ≡ codes "1") × (version ≡ One)) ⊎ ((value ≡ codes "2") × (version ≡ Two))
+    go true one b two f = inl ((bytes_eq-Decides value (codes "1")).0 one, sym (the_one One version f))
+    go false one true two f = inr ((bytes_eq-Decides value (codes "2")).0 two, sym (the_one Two version f))
+    go false one false two f = absurd cc
+
+-- no text begins with both
+abbrev seventh : List ℕ → ℕ
+seventh (a ∷ b ∷ c ∷ d ∷ e ∷ f ∷ g ∷ text) = g
+seventh _ = 0
+
+not_both : (text : List ℕ) → StartsWith (codes "ritas 1\n") text → StartsWith (codes "ritas 2\n") text → ⊥
+not_both text one two = let same : 49 ≡ 50 = ap seventh (sym one.1 ∙ two.1) in absurd (omega (arith, same))
+
+-- a text whose first line is of a version
+first_says : (text rest : List ℕ) (version : FrameVersion) → BeginsWith (codes "ritas") version_in version rest text → IsVersionOf text version
+first_says text rest version begins = elim (version_of begins.value version begins.reads) [
+  | inl is ↦
+      let starts : StartsWith (codes "ritas 1\n") text = (rest, begins.whole ∙ ap (λ (l : List ℕ). codes "ritas" ++ 32 ∷ l ++ 10 ∷ rest) is.0) in
+      record {
+        first = (λ one. starts, λ here. is.1);
+        second = (λ two. let same : One ≡ Two = sym is.1 ∙ two in absurd cc, λ other. absurd (not_both text starts other));
+      }
+  | inr is ↦
+      let starts : StartsWith (codes "ritas 2\n") text = (rest, begins.whole ∙ ap (λ (l : List ℕ). codes "ritas" ++ 32 ∷ l ++ 10 ∷ rest) is.0) in
+      record {
+        first = (λ one. let same : Two ≡ One = sym is.1 ∙ one in absurd cc, λ other. absurd (not_both text other starts));
+        second = (λ two. starts, λ here. is.1);
+      }
+]
+
+drive_first : (text : List ℕ) (x : Planned) → IsText drive_column x text → IsVersionOf text x.version
 unfolding drive_column session_lines numbers_lines
 drive_first text x is =
-    let root = is.3.3.3.3 in
-    let order = root.3.3.3 in
-    let end = order.3.3.3.3 in
-    sym (ap (λ (y : Planned). y.version) end.1)
+    let p = is.3.3.3 in
+    let order = p.3.3.3.3 in
+    let commands = order.3.3.3 in
+    let end = copies_say p.0.n _ x commands.1 commands.3 in
+    subst (IsVersionOf text) (ap (λ (y : Planned). y.version) end.is) (first_says text is.1 is.0 is.2)
 
-node_first : (text : List ℕ) (x : NodeText) → IsText node_column x text → x.version ≡ One
+node_first : (text : List ℕ) (x : NodeText) → IsText node_column x text → IsVersionOf text x.version
 unfolding node_column session_lines numbers_lines
 node_first text x is =
     let root = is.3.3.3.3 in
     let coin = root.3.3.3.3 in
     let peers = lines_say _ _ _ _ _ x coin.1 coin.3 in
     let end = peers.more.3.3.3 in
-    sym (ap (λ (y : NodeText). y.version) end.1)
+    subst (IsVersionOf text) (ap (λ (y : NodeText). y.version) end.1) (first_says text is.1 is.0 is.2)
 
-cluster_first : (text : List ℕ) (x : ClusterText) → IsText cluster_column x text → x.version ≡ One
+cluster_first : (text : List ℕ) (x : ClusterText) → IsText cluster_column x text → IsVersionOf text x.version
 unfolding cluster_column session_lines numbers_lines
 cluster_first text x is =
     let root = is.3.3.3.3 in
@@ -297,9 +360,12 @@ cluster_first text x is =
     let peers = lines_say _ _ _ _ _ x master.1 master.3 in
     let until = peers.more.3 in
     let requests = lines_say_some _ _ _ _ _ x until.1 until.3 in
-    sym (ap (λ (y : ClusterText). y.version) requests.is)
+    subst (IsVersionOf text) (ap (λ (y : ClusterText). y.version) requests.is) (first_says text is.1 is.0 is.2)
 
 -- ---- what is read
+pub drive_read : (text : List ℕ) (x : Planned) → read_text drive_column text ≡ Ok x → FitsPlan x
+drive_read text x e = plan_fits text x ((read_right drive_column).found text x e)
+
 pub node_read : (text : List ℕ) (x : NodeText) → read_text node_column text ≡ Ok x → FitsNode x
 node_read text x e = node_fits text x ((read_right node_column).found text x e)
 
@@ -309,11 +375,11 @@ cluster_read text x e = cluster_fits text x ((read_right cluster_column).found t
 pub submit_read : (text : List ℕ) (x : SubmitConfig) → read_text submit_column text ≡ Ok x → FitsSubmit x
 submit_read text x e = submit_fits text x ((read_right submit_column).found text x e)
 
-pub drive_version : (text : List ℕ) (x : Planned) → read_text drive_column text ≡ Ok x → x.version ≡ One
+pub drive_version : (text : List ℕ) (x : Planned) → read_text drive_column text ≡ Ok x → IsVersionOf text x.version
 drive_version text x e = drive_first text x ((read_right drive_column).found text x e)
 
-pub node_version : (text : List ℕ) (x : NodeText) → read_text node_column text ≡ Ok x → x.version ≡ One
+pub node_version : (text : List ℕ) (x : NodeText) → read_text node_column text ≡ Ok x → IsVersionOf text x.version
 node_version text x e = node_first text x ((read_right node_column).found text x e)
 
-pub cluster_version : (text : List ℕ) (x : ClusterText) → read_text cluster_column text ≡ Ok x → x.version ≡ One
+pub cluster_version : (text : List ℕ) (x : ClusterText) → read_text cluster_column text ≡ Ok x → IsVersionOf text x.version
 cluster_version text x e = cluster_first text x ((read_right cluster_column).found text x e)

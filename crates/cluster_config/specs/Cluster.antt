@@ -2,7 +2,6 @@
 use Rattle.std.specs.Prelude.{ℕ, List, codes, refl}
 use Rattle.ritas_base.specs.Numbers.{Numbers}
 use Rattle.ritas_base.specs.declared.mode.FrameVersion.{FrameVersion}
-use Rattle.ritas_base.specs.declared.mode.FrameVersion.TheVariants.{One}
 use Rattle.ritas_base.specs.declared.mode.Vect.{Vect}
 use Rattle.cluster_config.specs.declared.cluster.ClusterConfig.{ClusterConfig}
 use Rattle.cluster_config.specs.declared.requests.Request.{Request}
@@ -37,10 +36,10 @@ cluster_text config = record {
   requests = config.requests;
 }
 
--- its lines; none names a version of frames, which is the first
+-- its lines
 unfoldable pub cluster_column : Column ClusterText
 cluster_column =
-    session_lines (λ session.
+    session_lines (λ version session.
     numbers_lines (λ p.
     Line (codes "root") refl (number_in 6 6) (λ root.
     Line (codes "vect") refl vect_in (λ vect.
@@ -49,4 +48,4 @@ cluster_column =
     Line (codes "limit") refl (number_in 1 most) (λ limit.
     Line (codes "until") refl (number_in 0 4294967295) (λ until.
     lines_up_to (codes "request") refl (request_in p.n) 64 (λ requests.
-    record { session = session; p = p; root = root; vect = vect; version = One; master = master; peers = peers; limit = limit; until = until; requests = requests })))))))))
+    record { session = session; p = p; root = root; vect = vect; version = version; master = master; peers = peers; limit = limit; until = until; requests = requests })))))))))

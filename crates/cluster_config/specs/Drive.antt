@@ -2,14 +2,13 @@
 use Rattle.std.specs.Prelude.{ℕ, List, codes, refl}
 use Rattle.ritas_base.specs.Numbers.{Numbers}
 use Rattle.ritas_base.specs.declared.mode.FrameVersion.{FrameVersion}
-use Rattle.ritas_base.specs.declared.mode.FrameVersion.TheVariants.{One}
 use Rattle.ritas_base.specs.declared.mode.Vect.{Vect}
 use Rattle.ritas_base.specs.declared.plan.Order.{Order}
 use Rattle.ritas_base.specs.declared.plan.Attack.{Attack}
 use Rattle.ritas_base.specs.declared.plan.Plan.{Plan}
 use Rattle.cluster_config.specs.Values.{most, number_in, vect_in, key_in, order_in, attack_in}
-use Rattle.cluster_config.specs.Columns.{Column, Done, Line}
-use Rattle.cluster_config.specs.Front.{session_lines, numbers_lines}
+use Rattle.cluster_config.specs.Columns.{Column, Line}
+use Rattle.cluster_config.specs.Front.{session_lines, numbers_lines, copies_line}
 
 -- what a plan says
 pub record Planned : Type 0 where
@@ -40,10 +39,10 @@ planned plan = record {
   copies = plan.copies;
 }
 
--- the lines of a plan; none names a version of frames, which is the first
+-- the lines of a plan
 unfoldable pub drive_column : Column Planned
 drive_column =
-    session_lines (λ session.
+    session_lines (λ version session.
     numbers_lines (λ p.
     Line (codes "root") refl (number_in 1 6) (λ root.
     Line (codes "vect") refl vect_in (λ vect.
@@ -52,4 +51,5 @@ drive_column =
     Line (codes "attack") refl attack_in (λ attack.
     Line (codes "start") refl (number_in 0 most) (λ start.
     Line (codes "commands") refl (number_in 0 10000) (λ commands.
-    Done (record { session = session; p = p; root = root; vect = vect; version = One; master = master; order = order; attack = attack; start = start; commands = commands; copies = 1 }))))))))))
+    copies_line p.n (λ copies.
+    record { session = session; p = p; root = root; vect = vect; version = version; master = master; order = order; attack = attack; start = start; commands = commands; copies = copies }))))))))))

@@ -1,15 +1,16 @@
 -- The lines that several configurations have.
-use Rattle.std.specs.Prelude.{ℕ, List, Ok, codes, refl}
+use Rattle.std.specs.Prelude.{ℕ, ◌==◌, List, length, Ok, codes, refl, if◌then◌else◌}
 use Rattle.ritas_base.specs.Numbers.{Numbers}
-use Rattle.cluster_config.specs.Values.{most, number_in, numbers_in}
-use Rattle.cluster_config.specs.Lines.{Place, Reading, ◌>>=◌, field_at}
-use Rattle.cluster_config.specs.Columns.{Column, Line}
+use Rattle.ritas_base.specs.declared.mode.FrameVersion.{FrameVersion}
+use Rattle.cluster_config.specs.Values.{most, number_in, numbers_in, version_in}
+use Rattle.cluster_config.specs.Lines.{Place, Reading, ◌>>=◌, end_at, field_at}
+use Rattle.cluster_config.specs.Columns.{Column, Done, Line, Perhaps}
 
--- the format, the session, and what follows them
-unfoldable pub session_lines : {X : Type 0} → (ℕ → Column X) → Column X
+-- the format, which is the version of frames, the session, and what follows them
+unfoldable pub session_lines : {X : Type 0} → (FrameVersion → ℕ → Column X) → Column X
 session_lines next =
-    Line (codes "ritas") refl (number_in 1 1) (λ format.
-    Line (codes "session") refl (number_in 0 most) next)
+    Line (codes "ritas") refl version_in (λ version.
+    Line (codes "session") refl (number_in 0 most) (next version))
 
 -- how many replicas there are, how many of them may be faulty, and what follows that
 unfoldable pub numbers_lines : {X : Type 0} → (Numbers → Column X) → Column X
@@ -17,14 +18,23 @@ numbers_lines next =
     Line (codes "n") refl (number_in 1 31) (λ n.
     Line (codes "f") refl (numbers_in n) next)
 
+-- to how many of n replicas a command is given, and nothing more: to one, where it isn't said
+unfoldable pub copies_line : {X : Type 0} → ℕ → (ℕ → X) → Column X
+copies_line n said = Perhaps (said 1) (codes "copies") refl (number_in 1 n) (λ copies. Done (said copies))
+
 -- ---- read from above
 
-unfoldable pub session_at : Place → Reading ℕ
+unfoldable pub session_at : Place → Reading (FrameVersion × ℕ)
 session_at s = do
-  format ← field_at (codes "ritas") (number_in 1 1) s
-  field_at (codes "session") (number_in 0 most) format.1
+  version ← field_at (codes "ritas") version_in s
+  session ← field_at (codes "session") (number_in 0 most) version.1
+  Ok ((version.0, session.0), session.1)
 
 unfoldable pub numbers_at : Place → Reading Numbers
 numbers_at s = do
   n ← field_at (codes "n") (number_in 1 31) s
   field_at (codes "f") (numbers_in n.0) n.1
+
+unfoldable pub copies_at : ℕ → Place → Reading ℕ
+copies_at n s = if length s.rest == 0 then Ok (1, s)
+    else (field_at (codes "copies") (number_in 1 n) s >>= λ copies. end_at copies.1 >>= λ over. Ok (copies.0, over.1))

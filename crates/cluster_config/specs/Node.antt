@@ -2,7 +2,6 @@
 use Rattle.std.specs.Prelude.{ℕ, ◌-◌, List, codes, refl}
 use Rattle.ritas_base.specs.Numbers.{Numbers}
 use Rattle.ritas_base.specs.declared.mode.FrameVersion.{FrameVersion}
-use Rattle.ritas_base.specs.declared.mode.FrameVersion.TheVariants.{One}
 use Rattle.ritas_base.specs.declared.mode.Vect.{Vect}
 use Rattle.cluster_config.specs.declared.node.NodeConfig.{NodeConfig}
 use Rattle.cluster_config.specs.Values.{most, number_in, vect_in, key_in, row_in, address_in}
@@ -40,10 +39,10 @@ node_text config = record {
   until = config.until;
 }
 
--- its lines; none names a version of frames, which is the first
+-- its lines
 unfoldable pub node_column : Column NodeText
 node_column =
-    session_lines (λ session.
+    session_lines (λ version session.
     numbers_lines (λ p.
     Line (codes "root") refl (number_in 6 6) (λ root.
     Line (codes "vect") refl vect_in (λ vect.
@@ -54,4 +53,4 @@ node_column =
     Line (codes "client") refl address_in (λ client.
     Line (codes "limit") refl (number_in 1 most) (λ limit.
     Line (codes "until") refl (number_in 0 4294967295) (λ until.
-    Done (record { session = session; p = p; root = root; vect = vect; version = One; me = me; key_row = row; coin_key = coin; peers = peers; client = client; limit = limit; until = until }))))))))))))
+    Done (record { session = session; p = p; root = root; vect = vect; version = version; me = me; key_row = row; coin_key = coin; peers = peers; client = client; limit = limit; until = until }))))))))))))

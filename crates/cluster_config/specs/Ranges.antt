@@ -1,9 +1,26 @@
 -- What the configurations that are read keep to, beside their lines.
-use Rattle.std.specs.Prelude.{◌≡◌, ◌<◌, ◌≤◌, ◌-◌, length, drop, replicate}
+use Rattle.std.specs.Prelude.{◌≡◌, ◌↔◌, ℕ, List, ◌++◌, codes, ◌<◌, ◌≤◌, ◌-◌, length, drop, replicate}
 use Rattle.std.specs.List.{AllByRecursion}
+use Rattle.ritas_base.specs.declared.mode.FrameVersion.{FrameVersion}
+use Rattle.ritas_base.specs.declared.mode.FrameVersion.TheVariants.{One, Two}
 use Rattle.cluster_config.specs.declared.submit.SubmitConfig.{SubmitConfig}
+use Rattle.cluster_config.specs.Drive.{Planned}
 use Rattle.cluster_config.specs.Node.{NodeText}
 use Rattle.cluster_config.specs.Cluster.{ClusterText}
+
+-- the text begins so
+abbrev pub StartsWith : List ℕ → List ℕ → Type 0
+StartsWith front text = (rest : List ℕ) × (text ≡ front ++ rest)
+
+-- the version of frames is that of the text's first line
+pub record IsVersionOf (text : List ℕ) (version : FrameVersion) : Type 0 where
+  pub first : (version ≡ One) ↔ StartsWith (codes "ritas 1\n") text
+  pub second : (version ≡ Two) ↔ StartsWith (codes "ritas 2\n") text
+
+-- a plan: each command is given to at least one replica, and to no more than there are
+pub record FitsPlan (x : Planned) : Type 0 where
+  pub least : 1 ≤ x.copies
+  pub most : x.copies ≤ x.p.n
 
 -- the configuration of a replica: its root service is the sixth, its number is below n, there is a peer for each of n replicas,
 -- and the places of its keys from n on are zero

@@ -2,7 +2,7 @@
 use Rattle.std.specs.Prelude.{◌≡◌, ℕ, List, [], ◌∷◌, ◌++◌, codes, replicate, Some, None, Ok, Err, refl}
 use Rattle.clap.proofs.OnLiterals.{clap_on_literals}
 use Rattle.hex.specs.Hex.{decode_pairs}
-use Rattle.ritas_base.specs.declared.mode.FrameVersion.TheVariants.{One}
+use Rattle.ritas_base.specs.declared.mode.FrameVersion.TheVariants.{One, Two}
 use Rattle.ritas_base.specs.declared.mode.Vect.TheVariants.{Echo}
 use Rattle.ritas_base.specs.declared.what.What.TheVariants.{Frames, Vectors}
 use Rattle.ritas_base.specs.declared.what.DriveWhat.TheVariants.{Schedule}
@@ -13,7 +13,7 @@ use Rattle.cluster_config.specs.Words.{job_of}
 use Rattle.cluster_config.specs.Values.{numeral, number_in, numbers_in}
 use Rattle.cluster_config.specs.Lines.{line_at, end_at, value_at, field_at}
 use Rattle.cluster_config.specs.Columns.{read_by, read_text}
-use Rattle.cluster_config.specs.Front.{session_lines, numbers_lines}
+use Rattle.cluster_config.specs.Front.{session_lines, numbers_lines, copies_line}
 use Rattle.cluster_config.specs.Drive.{Planned, drive_column}
 
 -- ---- words, the program's own name first
@@ -119,9 +119,13 @@ two_of_four = refl
 
 -- ---- texts
 
+-- the session's line
+abbrev session : List ℕ
+session = codes "session 7\n"
+
 -- the lines up to n
 abbrev front : List ℕ
-front = codes "ritas 1\nsession 7\n"
+front = codes "ritas 1\n" ++ session
 
 -- four replicas and root service 6, a master key of 64 zeros, and the lines from the order on
 abbrev numbers : List ℕ
@@ -130,8 +134,12 @@ numbers = codes "n 4\nf 1\nroot 6\nvect echo\nmaster "
 abbrev back : List ℕ
 back = codes "\norder random\nattack none\nstart 0\ncommands 1\n"
 
+-- what follows the first line
+abbrev lines : List ℕ
+lines = session ++ (numbers ++ (replicate 64 48 ++ back))
+
 abbrev whole : List ℕ
-whole = front ++ (numbers ++ (replicate 64 48 ++ back))
+whole = codes "ritas 1\n" ++ lines
 
 abbrev plan : Planned
 plan = record {
@@ -145,49 +153,81 @@ plan = record {
   attack = Absent;
   start = 0;
   commands = 1;
+  copies = 1;
 }
 
 -- a plan
 is_read : read_text drive_column whole ≡ Ok plan
-unfolding read_text read_by drive_column session_lines numbers_lines field_at value_at line_at end_at decode_pairs
+unfolding read_text read_by drive_column session_lines numbers_lines copies_line field_at value_at line_at end_at decode_pairs
 is_read = refl
+
+-- the first line is the version of frames
+of_version_two : read_text drive_column (codes "ritas 2\n" ++ lines) ≡ Ok (record plan { version = Two })
+unfolding read_text read_by drive_column session_lines numbers_lines copies_line field_at value_at line_at end_at decode_pairs
+of_version_two = refl
+
+of_version_three : read_text drive_column (codes "ritas 3\n" ++ lines) ≡ Err 1
+unfolding read_text read_by drive_column session_lines numbers_lines copies_line field_at value_at line_at end_at decode_pairs
+of_version_three = refl
+
+-- what is said of copies: from one to all four
+one_copy : read_text drive_column (whole ++ codes "copies 1\n") ≡ Ok plan
+unfolding read_text read_by drive_column session_lines numbers_lines copies_line field_at value_at line_at end_at decode_pairs
+one_copy = refl
+
+all_copies : read_text drive_column (whole ++ codes "copies 4\n") ≡ Ok (record plan { copies = 4 })
+unfolding read_text read_by drive_column session_lines numbers_lines copies_line field_at value_at line_at end_at decode_pairs
+all_copies = refl
+
+no_copy : read_text drive_column (whole ++ codes "copies 0\n") ≡ Err 12
+unfolding read_text read_by drive_column session_lines numbers_lines copies_line field_at value_at line_at end_at decode_pairs
+no_copy = refl
+
+too_many_copies : read_text drive_column (whole ++ codes "copies 5\n") ≡ Err 12
+unfolding read_text read_by drive_column session_lines numbers_lines copies_line field_at value_at line_at end_at decode_pairs
+too_many_copies = refl
+
+-- and a line behind that
+behind_copies : read_text drive_column (whole ++ codes "copies 2\ncopies 2\n") ≡ Err 13
+unfolding read_text read_by drive_column session_lines numbers_lines copies_line field_at value_at line_at end_at decode_pairs
+behind_copies = refl
 
 -- a line more
 more : read_text drive_column (whole ++ 10 ∷ []) ≡ Err 12
-unfolding read_text read_by drive_column session_lines numbers_lines field_at value_at line_at end_at decode_pairs
+unfolding read_text read_by drive_column session_lines numbers_lines copies_line field_at value_at line_at end_at decode_pairs
 more = refl
 
 -- no line at all
 none : read_text drive_column [] ≡ Err 1
-unfolding read_text read_by drive_column session_lines numbers_lines field_at value_at line_at end_at
+unfolding read_text read_by drive_column session_lines numbers_lines copies_line field_at value_at line_at end_at
 none = refl
 
 -- the third line is missing
 missing : read_text drive_column front ≡ Err 3
-unfolding read_text read_by drive_column session_lines numbers_lines field_at value_at line_at end_at
+unfolding read_text read_by drive_column session_lines numbers_lines copies_line field_at value_at line_at end_at
 missing = refl
 
 -- its name stands there alone
 no_value : read_text drive_column (front ++ codes "n\n") ≡ Err 3
-unfolding read_text read_by drive_column session_lines numbers_lines field_at value_at line_at end_at
+unfolding read_text read_by drive_column session_lines numbers_lines copies_line field_at value_at line_at end_at
 no_value = refl
 
 -- two spaces
 two_spaces : read_text drive_column (front ++ codes "n  4\n") ≡ Err 3
-unfolding read_text read_by drive_column session_lines numbers_lines field_at value_at line_at end_at
+unfolding read_text read_by drive_column session_lines numbers_lines copies_line field_at value_at line_at end_at
 two_spaces = refl
 
 -- a line without an end
 no_end : read_text drive_column (front ++ codes "n 4") ≡ Err 3
-unfolding read_text read_by drive_column session_lines numbers_lines field_at value_at line_at end_at
+unfolding read_text read_by drive_column session_lines numbers_lines copies_line field_at value_at line_at end_at
 no_end = refl
 
 -- a line in the place of another
 other_line : read_text drive_column (front ++ codes "f 1\n") ≡ Err 3
-unfolding read_text read_by drive_column session_lines numbers_lines field_at value_at line_at end_at
+unfolding read_text read_by drive_column session_lines numbers_lines copies_line field_at value_at line_at end_at
 other_line = refl
 
 -- too many faulty replicas
 too_many : read_text drive_column (front ++ codes "n 4\nf 2\n") ≡ Err 4
-unfolding read_text read_by drive_column session_lines numbers_lines field_at value_at line_at end_at
+unfolding read_text read_by drive_column session_lines numbers_lines copies_line field_at value_at line_at end_at
 too_many = refl

@@ -1,18 +1,22 @@
 -- Worked rows of the texts of keys, of a replica, of all replicas and of a request, where there is one replica.
 use Rattle.std.specs.Prelude.{◌≡◌, ℕ, List, [], ◌∷◌, ◌++◌, codes, replicate, flat_map, Ok, Err, refl}
 use Rattle.hex.specs.Hex.{decode_pairs}
-use Rattle.ritas_base.specs.declared.mode.FrameVersion.TheVariants.{One}
+use Rattle.ritas_base.specs.declared.mode.FrameVersion.TheVariants.{One, Two}
 use Rattle.ritas_base.specs.declared.mode.Vect.TheVariants.{Echo, Reliable}
 use Rattle.cluster_config.specs.Lines.{line_at, end_at, value_at, field_at}
 use Rattle.cluster_config.specs.Columns.{lines_of, lines_up_to, read_by, read_text}
 use Rattle.cluster_config.specs.Front.{session_lines, numbers_lines}
 use Rattle.cluster_config.specs.Keys.{keys_column}
-use Rattle.cluster_config.specs.Node.{node_column}
-use Rattle.cluster_config.specs.Cluster.{cluster_column}
+use Rattle.cluster_config.specs.Node.{NodeText, node_column}
+use Rattle.cluster_config.specs.Cluster.{ClusterText, cluster_column}
 use Rattle.cluster_config.specs.Submit.{submit_column}
 
+-- the lines behind the first, up to the root service
+abbrev session_7 : List ℕ
+session_7 = codes "session 7\nn 1\nf 0\n"
+
 abbrev front : List ℕ
-front = codes "ritas 1\nsession 7\nn 1\nf 0\n"
+front = codes "ritas 1\n" ++ session_7
 
 -- a key of 64 zeros
 abbrev key : List ℕ
@@ -23,6 +27,15 @@ key = replicate 64 48
 keys : read_text keys_column (front ++ codes "master " ++ key ++ codes "\n") ≡ Ok (record { session = 7; p = record { n = 1; f = 0 }; master = replicate 32 0 })
 unfolding read_text read_by keys_column session_lines numbers_lines field_at value_at line_at end_at decode_pairs
 keys = refl
+
+-- the same keys in a session of version 2, and no other versions
+keys_of_two : read_text keys_column (codes "ritas 2\n" ++ session_7 ++ codes "master " ++ key ++ codes "\n") ≡ Ok (record { session = 7; p = record { n = 1; f = 0 }; master = replicate 32 0 })
+unfolding read_text read_by keys_column session_lines numbers_lines field_at value_at line_at end_at decode_pairs
+keys_of_two = refl
+
+keys_of_three : read_text keys_column (codes "ritas 3\nsession 7\n") ≡ Err 1
+unfolding read_text read_by keys_column session_lines numbers_lines field_at value_at line_at end_at
+keys_of_three = refl
 
 keys_alone : read_text keys_column front ≡ Err 5
 unfolding read_text read_by keys_column session_lines numbers_lines field_at value_at line_at end_at
@@ -38,10 +51,15 @@ more_than_keys = refl
 
 -- ---- a replica
 
-abbrev node_front : List ℕ
-node_front = front ++ codes "root 6\nvect echo\nme 0\nrow " ++ key ++ codes "\ncoin " ++ key ++ codes "\n"
+-- the lines of a replica behind the first, up to the peers
+abbrev node_keys : List ℕ
+node_keys = session_7 ++ codes "root 6\nvect echo\nme 0\nrow " ++ key ++ codes "\ncoin " ++ key ++ codes "\n"
 
-node : read_text node_column (node_front ++ codes "peer 10.0.0.1:4000\nclient 10.0.0.1:80\nlimit 1\nuntil 0\n") ≡ Ok (record {
+abbrev node_front : List ℕ
+node_front = codes "ritas 1\n" ++ node_keys
+
+abbrev one_node : NodeText
+one_node = record {
   session = 7;
   p = record { n = 1; f = 0 };
   root = 6;
@@ -54,9 +72,16 @@ node : read_text node_column (node_front ++ codes "peer 10.0.0.1:4000\nclient 10
   client = codes "10.0.0.1:80";
   limit = 1;
   until = 0;
-})
+}
+
+node : read_text node_column (node_front ++ codes "peer 10.0.0.1:4000\nclient 10.0.0.1:80\nlimit 1\nuntil 0\n") ≡ Ok one_node
 unfolding read_text read_by node_column session_lines numbers_lines lines_of field_at value_at line_at end_at decode_pairs
 node = refl
+
+-- in a session of version 2
+node_of_two : read_text node_column (codes "ritas 2\n" ++ node_keys ++ codes "peer 10.0.0.1:4000\nclient 10.0.0.1:80\nlimit 1\nuntil 0\n") ≡ Ok (record one_node { version = Two })
+unfolding read_text read_by node_column session_lines numbers_lines lines_of field_at value_at line_at end_at decode_pairs
+node_of_two = refl
 
 other_root : read_text node_column (front ++ codes "root 5\n") ≡ Err 5
 unfolding read_text read_by node_column session_lines numbers_lines field_at value_at line_at end_at
@@ -78,10 +103,15 @@ no_peer = refl
 
 -- ---- all replicas
 
-abbrev cluster_front : List ℕ
-cluster_front = front ++ codes "root 6\nvect reliable\nmaster " ++ key ++ codes "\npeer 10.0.0.1:4000\nlimit 1\nuntil 2\n"
+-- the lines of all replicas behind the first, up to the requests
+abbrev cluster_back : List ℕ
+cluster_back = session_7 ++ codes "root 6\nvect reliable\nmaster " ++ key ++ codes "\npeer 10.0.0.1:4000\nlimit 1\nuntil 2\n"
 
-cluster : read_text cluster_column (cluster_front ++ codes "request 0 1 2 -\nrequest 0 1 3 0a\n") ≡ Ok (record {
+abbrev cluster_front : List ℕ
+cluster_front = codes "ritas 1\n" ++ cluster_back
+
+abbrev one_cluster : ClusterText
+one_cluster = record {
   session = 7;
   p = record { n = 1; f = 0 };
   root = 6;
@@ -92,9 +122,16 @@ cluster : read_text cluster_column (cluster_front ++ codes "request 0 1 2 -\nreq
   limit = 1;
   until = 2;
   requests = record { at = 0; client = 1; request = 2; payload = [] } ∷ record { at = 0; client = 1; request = 3; payload = 10 ∷ [] } ∷ [];
-})
+}
+
+cluster : read_text cluster_column (cluster_front ++ codes "request 0 1 2 -\nrequest 0 1 3 0a\n") ≡ Ok one_cluster
 unfolding read_text read_by cluster_column session_lines numbers_lines lines_of lines_up_to field_at value_at line_at end_at decode_pairs
 cluster = refl
+
+-- in a session of version 2
+cluster_of_two : read_text cluster_column (codes "ritas 2\n" ++ cluster_back ++ codes "request 0 1 2 -\nrequest 0 1 3 0a\n") ≡ Ok (record one_cluster { version = Two })
+unfolding read_text read_by cluster_column session_lines numbers_lines lines_of lines_up_to field_at value_at line_at end_at decode_pairs
+cluster_of_two = refl
 
 limit_zero : read_text cluster_column (front ++ codes "root 6\nvect echo\nmaster " ++ key ++ codes "\npeer 10.0.0.1:4000\nlimit 0\n") ≡ Err 9
 unfolding read_text read_by cluster_column session_lines numbers_lines lines_of field_at value_at line_at end_at decode_pairs
@@ -116,6 +153,16 @@ submit : read_text submit_column (codes "ritas 1\nn 1\nf 0\npeer 10.0.0.1:4000\n
     ≡ Ok (record { p = record { n = 1; f = 0 }; peers = codes "10.0.0.1:4000" ∷ []; request = record { at = 0; client = 1; request = 2; payload = [] } })
 unfolding read_text read_by submit_column numbers_lines lines_of field_at value_at line_at end_at
 submit = refl
+
+-- a request of a session of version 2, and of no other version
+submit_of_two : read_text submit_column (codes "ritas 2\nn 1\nf 0\npeer 10.0.0.1:4000\nrequest 0 1 2 -\n")
+    ≡ Ok (record { p = record { n = 1; f = 0 }; peers = codes "10.0.0.1:4000" ∷ []; request = record { at = 0; client = 1; request = 2; payload = [] } })
+unfolding read_text read_by submit_column numbers_lines lines_of field_at value_at line_at end_at
+submit_of_two = refl
+
+submit_of_three : read_text submit_column (codes "ritas 3\nn 1\n") ≡ Err 1
+unfolding read_text read_by submit_column numbers_lines field_at value_at line_at end_at
+submit_of_three = refl
 
 no_request : read_text submit_column (codes "ritas 1\nn 1\nf 0\npeer 10.0.0.1:4000\n") ≡ Err 5
 unfolding read_text read_by submit_column numbers_lines lines_of field_at value_at line_at end_at

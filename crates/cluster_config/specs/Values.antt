@@ -4,6 +4,8 @@ use Rattle.std.specs.Char.{is_ascii_digit}
 use Rattle.std.specs.Str.{bytes_eq}
 use Rattle.hex.specs.Hex.{decode_of, decode_sized}
 use Rattle.ritas_base.specs.Numbers.{Numbers}
+use Rattle.ritas_base.specs.declared.mode.FrameVersion.{FrameVersion}
+use Rattle.ritas_base.specs.declared.mode.FrameVersion.TheVariants.{One, Two}
 use Rattle.ritas_base.specs.declared.mode.Vect.{Vect}
 use Rattle.ritas_base.specs.declared.mode.Vect.TheVariants.{Echo, Reliable}
 use Rattle.ritas_base.specs.declared.plan.Order.{Order}
@@ -98,6 +100,10 @@ request_in n text = do
   request ← number_before 32 4294967295 client.1
   payload ← payload_in request.1
   Some (record { at = at.0; client = client.0; request = request.0; payload = payload })
+
+-- a version of frames
+abbrev pub version_in : List ℕ → Option FrameVersion
+version_in text = if bytes_eq text (codes "1") then Some One else (if bytes_eq text (codes "2") then Some Two else None)
 
 abbrev pub vect_in : List ℕ → Option Vect
 vect_in text = if bytes_eq text (codes "echo") then Some Echo else (if bytes_eq text (codes "reliable") then Some Reliable else None)

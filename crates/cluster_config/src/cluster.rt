@@ -10,7 +10,7 @@ use crate::config::ConfigFault;
 use crate::lines::{Lines, WrongLine};
 use crate::requests::Requests;
 use crate::views::{Addresses, RequestViews};
-use ritas_base::{FrameVersion, Mem, Mode, Params, Texts};
+use ritas_base::{Mem, Mode, Params, Texts};
 use std::alloc::Global;
 
 /// All replicas of a session, which are to be run.
@@ -53,7 +53,7 @@ fn cluster_lines<'a>(lines: &mut Lines<'a>) -> Result<ClusterView<'a>, WrongLine
     requires { lines.old.number < 4294967000 }
     ensures { Gives cluster_seen result lines.new (read_by cluster_column lines.old) }
 {
-    let session = lines.session()?;
+    let (version, session) = lines.session()?;
     let p = lines.numbers()?;
     let root = lines.number("root", 6, 6)? as u8;
     let vect = lines.vect("vect")?;
@@ -68,7 +68,7 @@ fn cluster_lines<'a>(lines: &mut Lines<'a>) -> Result<ClusterView<'a>, WrongLine
         mode: Mode {
             root,
             vect,
-            version: FrameVersion::One,
+            version,
         },
         master,
         peers,

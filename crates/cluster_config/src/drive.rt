@@ -5,15 +5,15 @@ ghost use Rattle.cluster_config.specs.Columns.{read_by, read_text};
 ghost use Rattle.cluster_config.specs.Drive.{drive_column, planned};
 
 use crate::lines::{Lines, WrongLine};
-use ritas_base::{FrameVersion, Mode, Plan};
+use ritas_base::{Mode, Plan};
 
 // The lines of a plan, to the end of the text.
-#[tactic(auto, using(crate::proofs::Parts::read_session, crate::proofs::Parts::read_numbers), unfolding(crate::specs::Columns::read_by, crate::specs::Drive::drive_column))]
+#[tactic(auto, using(crate::proofs::Parts::read_session, crate::proofs::Parts::read_numbers, crate::proofs::Parts::read_copies), unfolding(crate::specs::Columns::read_by, crate::specs::Drive::drive_column))]
 fn read_plan(lines: &mut Lines<'_>) -> Result<Plan, WrongLine>
     requires { lines.old.number < 4294967000 }
     ensures { Gives planned result lines.new (read_by drive_column lines.old) }
 {
-    let session = lines.session()?;
+    let (version, session) = lines.session()?;
     let p = lines.numbers()?;
     let root = lines.number("root", 1, 6)? as u8;
     let vect = lines.vect("vect")?;
@@ -22,21 +22,21 @@ fn read_plan(lines: &mut Lines<'_>) -> Result<Plan, WrongLine>
     let attack = lines.attack("attack")?;
     let start_number = lines.number("start", 0, u64::MAX)?;
     let commands = lines.number("commands", 0, 10000)? as u32;
-    lines.end()?;
+    let copies = lines.copies(p.n())?;
     Ok(Plan {
         session,
         p,
         mode: Mode {
             root,
             vect,
-            version: FrameVersion::One,
+            version,
         },
         master,
         order,
         attack,
         start_number,
         commands,
-        copies: 1,
+        copies,
     })
 }
 

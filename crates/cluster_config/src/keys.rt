@@ -24,7 +24,7 @@ fn keys_lines(lines: &mut Lines<'_>) -> Result<KeysConfig, WrongLine>
     requires { lines.old.number < 4294967000 }
     ensures { Gives (λ keys. keys) result lines.new (read_by keys_column lines.old) }
 {
-    let session = lines.session()?;
+    let (_, session) = lines.session()?;
     let p = lines.numbers()?;
     let master = lines.key("master")?;
     lines.end()?;

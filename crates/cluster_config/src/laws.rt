@@ -1,7 +1,6 @@
 //! What a configuration says, for every text.
 ghost use Rattle.std.specs.Prelude.{◌≡◌, ◌↔◌, ◌<◌, ◌^◌, ℕ, List, Some, Ok};
 ghost use Rattle.std.specs.Fmt.{decimal};
-ghost use Rattle.ritas_base.specs.declared.mode.FrameVersion.TheVariants.{One};
 ghost use Rattle.cluster_config.specs.Values.{numeral};
 ghost use Rattle.cluster_config.specs.Columns.{IsReadRight, read_text};
 ghost use Rattle.cluster_config.specs.Drive.{Planned, drive_column};
@@ -10,7 +9,7 @@ ghost use Rattle.cluster_config.specs.Node.{NodeText, node_column};
 ghost use Rattle.cluster_config.specs.Cluster.{ClusterText, cluster_column};
 ghost use Rattle.cluster_config.specs.declared.submit.SubmitConfig.{SubmitConfig};
 ghost use Rattle.cluster_config.specs.Submit.{submit_column};
-ghost use Rattle.cluster_config.specs.Ranges.{FitsNode, FitsCluster, FitsSubmit};
+ghost use Rattle.cluster_config.specs.Ranges.{IsVersionOf, FitsPlan, FitsNode, FitsCluster, FitsSubmit};
 
 /// What is read of a text is its configuration, line by line, and what is its configuration is read of it. Any other text is
 /// refused at its first line that is wrong or missing.
@@ -28,22 +27,24 @@ pub fn number_law()
     ensures { (text : List ℕ) (n : ℕ) → (numeral text ≡ Some n) ↔ ((n < 2 ^ 64) × (text ≡ decimal n)) }
 {}
 
-/// What the configurations of nodes, of clusters and of requests keep to: the root service of a node and of a cluster is the sixth,
+/// What the configurations of plans, nodes, clusters and requests keep to: a plan gives each command to at least one replica, and to no
+/// more than there are. The root service of a node and of a cluster is the sixth,
 /// a node's number is below n, and behind its n keys there are zeros. Each of the three has a peer for each of n replicas. A cluster
 /// has at most 64 requests, each for a replica below n, and no request has more than 4,088 bytes.
 ///
 /// It does nothing: its contract is the law.
 pub fn config_ranges()
+    ensures drive { (text : List ℕ) (x : Planned) → read_text drive_column text ≡ Ok x → FitsPlan x }
     ensures node { (text : List ℕ) (x : NodeText) → read_text node_column text ≡ Ok x → FitsNode x }
     ensures cluster { (text : List ℕ) (x : ClusterText) → read_text cluster_column text ≡ Ok x → FitsCluster x }
     ensures submit { (text : List ℕ) (x : SubmitConfig) → read_text submit_column text ≡ Ok x → FitsSubmit x }
 {}
 
-/// A configuration names no version of frames: a schedule that is to be made, a node and a cluster are of the first.
+/// The version of frames of a schedule that is to be made, of a node and of a cluster is that of the first line, both ways.
 ///
 /// It does nothing: its contract is the law.
 pub fn config_versions()
-    ensures drive { (text : List ℕ) (x : Planned) → read_text drive_column text ≡ Ok x → x.version ≡ One }
-    ensures node { (text : List ℕ) (x : NodeText) → read_text node_column text ≡ Ok x → x.version ≡ One }
-    ensures cluster { (text : List ℕ) (x : ClusterText) → read_text cluster_column text ≡ Ok x → x.version ≡ One }
+    ensures drive { (text : List ℕ) (x : Planned) → read_text drive_column text ≡ Ok x → IsVersionOf text x.version }
+    ensures node { (text : List ℕ) (x : NodeText) → read_text node_column text ≡ Ok x → IsVersionOf text x.version }
+    ensures cluster { (text : List ℕ) (x : ClusterText) → read_text cluster_column text ≡ Ok x → IsVersionOf text x.version }
 {}

@@ -18,7 +18,7 @@
 //!
 //! | Line | Value | drive | keys | node | cluster | submit |
 //! |---|---|---|---|---|---|---|
-//! | `ritas` | 1 | x | x | x | x | x |
+//! | `ritas` | the version of frames, 1 or 2 | x | x | x | x | x |
 //! | `session` | 0 to 2^64 - 1 | x | x | x | x | |
 //! | `n` | 1 to 31 | x | x | x | x | x |
 //! | `f` | n is at least 3f + 1 | x | x | x | x | x |
@@ -32,6 +32,7 @@
 //! | `attack` | `none`, `silent`, `twoface`, `flip` or `garbage` | x | | | | |
 //! | `start` | 0 to 2^64 - 1 | x | | | | |
 //! | `commands` | 0 to 10,000 | x | | | | |
+//! | `copies` | 1 to n; where the line is missing it is 1 | x | | | | |
 //! | `peer` | an address; n lines, replica 0 first | | | x | x | x |
 //! | `client` | an address | | | x | | |
 //! | `limit` | 1 to 2^64 - 1 | | | x | x | |
@@ -45,9 +46,9 @@
 //! The columns are the values `drive_column` to `submit_column` of `specs/`; `specs/Columns.antt` says what a text of such a
 //! column's lines is, and which of its lines is the first that is wrong or missing. `read_config` answers the one or the other, for
 //! every text, and `config_laws` says that it is so. A text is looked at to its end before memory is taken, so where memory is
-//! wanting the text is right. `config_ranges` says what a configuration that is read keeps to: the places below n, as many peers as
-//! replicas, the zeros behind a row's keys, and how many requests there are, of how many bytes. No line names a version of frames,
-//! which is the first (`config_versions`).
+//! wanting the text is right. `config_ranges` says what a configuration that is read keeps to: the copies, the places below n, as
+//! many peers as replicas, the zeros behind a row's keys, and how many requests there are, of how many bytes. `config_versions` says
+//! that the version of frames is that of the first line. Keys and requests are alike in both versions.
 #![tactic(auto)]
 
 mod cluster;

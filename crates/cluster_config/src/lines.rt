@@ -1,16 +1,17 @@
 //! Lines, each of which is a name, a space and a value.
 ghost use Rattle.std.specs.Prelude.{◌≡◌, ◌+◌, ◌<◌, ◌≤◌, ◌==◌, Ok, Err, MatchOption, OnOk, IfOk, length, option_map};
 ghost use Rattle.cluster_config.specs.Lines.{Gives, end_at, field_at, fields_at, fields_up_to, first_line, line_at, value_at, value_in};
-ghost use Rattle.cluster_config.specs.Front.{numbers_at, session_at};
-ghost use Rattle.cluster_config.specs.Values.{address_in, attack_in, key_in, number_in, numbers_in, order_in, request_in, row_in, vect_in};
+ghost use Rattle.cluster_config.specs.Front.{copies_at, numbers_at, session_at};
+ghost use Rattle.cluster_config.specs.Values.{address_in, attack_in, key_in, number_in, numbers_in, order_in, request_in, row_in, vect_in, version_in};
 ghost use Rattle.cluster_config.specs.Views.{request_of};
 
 use crate::cuts::cut_at;
 use crate::values::{
     address_in, attack_in, key_in, number_in, order_in, params_in, request_in, row_in, vect_in,
+    version_in,
 };
 use crate::views::{Addresses, RequestView, RequestViews};
-use ritas_base::{Attack, Order, Params, Vect};
+use ritas_base::{Attack, FrameVersion, Order, Params, Vect};
 use std::marker::Model;
 
 /// The number of the first line, from 1, that is wrong or missing.
@@ -145,6 +146,17 @@ impl<'a> Lines<'a> {
         or_line(line, key_in(self.value(name)?))
     }
 
+    /// A version of frames.
+    #[tactic(auto, unfolding(crate::specs::Lines::field_at))]
+    pub(crate) fn version(&mut self, name: &str) -> Result<FrameVersion, WrongLine>
+        requires { self.old.number < 4294967295 }
+        ensures exact { Gives (λ x. x) result self.new (field_at name.now version_in self.old) }
+        ensures next { OnOk result (self.new.number ≡ self.old.number + 1) }
+    {
+        let line = self.number;
+        or_line(line, version_in(self.value(name)?))
+    }
+
     /// The broadcast of VECTs.
     #[tactic(auto, unfolding(crate::specs::Lines::field_at))]
     pub(crate) fn vect(&mut self, name: &str) -> Result<Vect, WrongLine>
@@ -178,15 +190,16 @@ impl<'a> Lines<'a> {
         or_line(line, attack_in(self.value(name)?))
     }
 
-    /// The format and the session.
+    /// The format, which is the version of frames, and the session.
     #[tactic(auto, unfolding(crate::specs::Front::session_at))]
-    pub(crate) fn session(&mut self) -> Result<u64, WrongLine>
+    pub(crate) fn session(&mut self) -> Result<(FrameVersion, u64), WrongLine>
         requires { self.old.number < 4294967200 }
         ensures exact { Gives (λ x. x) result self.new (session_at self.old) }
         ensures next { OnOk result (self.new.number ≡ self.old.number + 2) }
     {
-        self.number("ritas", 1, 1)?;
-        self.number("session", 0, u64::MAX)
+        let version = self.version("ritas")?;
+        let session = self.number("session", 0, u64::MAX)?;
+        Ok((version, session))
     }
 
     /// How many replicas there are, and how many of them may be faulty.
@@ -198,6 +211,20 @@ impl<'a> Lines<'a> {
     {
         let n = self.number("n", 1, 31)? as u8;
         self.params("f", n)
+    }
+
+    /// To how many of `n` replicas a command is given, to the end of the text: to one, where it isn't said.
+    #[tactic(auto, unfolding(crate::specs::Front::copies_at))]
+    pub(crate) fn copies(&mut self, n: u8) -> Result<u8, WrongLine>
+        requires { self.old.number < 4294967295 }
+        ensures { Gives (λ x. x) result self.new (copies_at n self.old) }
+    {
+        if self.is_over() {
+            return Ok(1);
+        }
+        let copies = self.number("copies", 1, u64::from(n))? as u8;
+        self.end()?;
+        Ok(copies)
     }
 
     /// The keys that one of `n` replicas shares with each.

@@ -9,7 +9,7 @@ ghost use Rattle.cluster_config.specs.Seen.{node_seen};
 use crate::config::ConfigFault;
 use crate::lines::{Lines, WrongLine};
 use crate::views::Addresses;
-use ritas_base::{Bytes, FrameVersion, Mem, Mode, Params, Texts};
+use ritas_base::{Bytes, Mem, Mode, Params, Texts};
 use std::alloc::Global;
 
 /// A replica that is to be run.
@@ -58,7 +58,7 @@ fn node_lines<'a>(lines: &mut Lines<'a>) -> Result<NodeView<'a>, WrongLine>
     requires { lines.old.number < 4294967000 }
     ensures { Gives node_seen result lines.new (read_by node_column lines.old) }
 {
-    let session = lines.session()?;
+    let (version, session) = lines.session()?;
     let p = lines.numbers()?;
     let root = lines.number("root", 6, 6)? as u8;
     let vect = lines.vect("vect")?;
@@ -76,7 +76,7 @@ fn node_lines<'a>(lines: &mut Lines<'a>) -> Result<NodeView<'a>, WrongLine>
         mode: Mode {
             root,
             vect,
-            version: FrameVersion::One,
+            version,
         },
         me,
         key_row,

@@ -38,7 +38,7 @@ fn submit_lines<'a>(lines: &mut Lines<'a>) -> Result<SubmitView<'a>, WrongLine>
     requires { lines.old.number < 4294967000 }
     ensures { Gives submit_seen result lines.new (read_by submit_column lines.old) }
 {
-    lines.number("ritas", 1, 1)?;
+    lines.version("ritas")?;
     let p = lines.numbers()?;
     let peers = lines.addresses("peer", p.n())?;
     let request = lines.request("request", p.n())?;

@@ -1,12 +1,12 @@
 //! The values of lines.
 ghost use Rattle.std.specs.Prelude.{◌≡◌, ◌≤◌, IfSome, Some, None, drop, option_map, take, if◌then◌else◌};
-ghost use Rattle.cluster_config.specs.Values.{number_from, numeral, number_in, numbers_in, key_in, row_in, vect_in, order_in, attack_in};
+ghost use Rattle.cluster_config.specs.Values.{number_from, numeral, number_in, numbers_in, key_in, row_in, version_in, vect_in, order_in, attack_in};
 ghost use Rattle.cluster_config.specs.Values.{number_before, address_in, payload_in, request_in};
 ghost use Rattle.cluster_config.specs.Views.{payload_of, request_of};
 
 use crate::cuts::cut_at;
 use crate::views::RequestView;
-use ritas_base::{Attack, Order, Params, Vect};
+use ritas_base::{Attack, FrameVersion, Order, Params, Vect};
 
 // The number that these digits write behind those of `first`.
 fn number_from(first: u64, digits: &[u8]) -> Option<u64>
@@ -90,6 +90,19 @@ pub(crate) fn row_in(text: &[u8], n: u8) -> Option<[[u8; 32]; 31]>
         rest = more;
     }
     if rest.is_empty() { Some(row) } else { None }
+}
+
+/// A version of frames.
+pub(crate) fn version_in(text: &[u8]) -> Option<FrameVersion>
+    ensures { result ≡ version_in text.now }
+{
+    if text == b"1".as_slice() {
+        Some(FrameVersion::One)
+    } else if text == b"2".as_slice() {
+        Some(FrameVersion::Two)
+    } else {
+        None
+    }
 }
 
 /// The broadcast of VECTs.

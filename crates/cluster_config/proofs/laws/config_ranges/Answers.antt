@@ -1,5 +1,8 @@
-use Rattle.cluster_config.proofs.Ranges.{node_read, cluster_read, submit_read}
+use Rattle.cluster_config.proofs.Ranges.{drive_read, node_read, cluster_read, submit_read}
 use Rattle.cluster_config.proofs.laws.config_ranges.Goals as goal
+
+pub returns-clause-drive : goal.returns-clause-drive
+returns-clause-drive c = drive_read
 
 pub returns-clause-node : goal.returns-clause-node
 returns-clause-node c = node_read
