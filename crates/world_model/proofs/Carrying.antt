@@ -8,6 +8,7 @@ use Rattle.ritas_base.specs.declared.item.Msg.{Msg}
 use Rattle.ritas_base.specs.HistoryLaws.{kind_eq_is}
 use Rattle.ritas_base.specs.Messages.{reaches, item_of, kind_eq}
 use Rattle.ritas_base.specs.Numbers.{Numbers}
+use Rattle.ritas_base.specs.declared.mode.FrameVersion.{FrameVersion}
 use Rattle.ritas_base.specs.declared.mode.Mode.{Mode}
 use Rattle.frame_codec.specs.declared.fault.BodyFault.{BodyFault}
 use Rattle.frame_codec.specs.declared.fault.BodyFault.TheVariants as faults
@@ -151,13 +152,13 @@ unread : (p : Numbers) (mode : Mode) (from n : ℕ) (rest : List ℕ) (x : Item)
 unread p mode from zero rest x e = unread_head p mode from [] x (no_kind_at_all p mode) e
 unread p mode from (suc n) rest x e = unread_head p mode from (255 ∷ take n rest) x (no_kind p mode (take n rest)) e
 
-pub thrown_comes : (w : Setting) (hist : ℕ → List Entry) (from j : ℕ) (rest : List ℕ) → ComesFrom w hist from j (thrown from j rest)
-thrown_comes w hist from j rest = record {
+pub thrown_comes : (w : Setting) (hist : ℕ → List Entry) (version : FrameVersion) (from j : ℕ) (rest : List ℕ) → ComesFrom w hist from j (thrown version from j rest)
+thrown_comes w hist version from j rest = record {
   honest = λ o x e reads.
-      let parts = (what_opened (w.keys j) (thrown from j rest) o e).parts in
-      absurd (unread w.numbers w.mode from (length (thrown from j rest) - 32 - 11) rest x
+      let parts = (what_opened (w.keys j) (thrown version from j rest) o e).parts in
+      absurd (unread w.numbers w.mode from (length (thrown version from j rest) - 32 - 11) rest x
       (ap (λ (p : Opening). body_answer w.numbers w.mode p.from p.body) parts ∙ reads));
-  sender = λ o e. ap (λ (p : Opening). p.from) (sym (what_opened (w.keys j) (thrown from j rest) o e).parts);
+  sender = λ o e. ap (λ (p : Opening). p.from) (sym (what_opened (w.keys j) (thrown version from j rest) o e).parts);
 }
 
 -- ---- whether a frame is forged

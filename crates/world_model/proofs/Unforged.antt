@@ -165,7 +165,7 @@ step_safe w c fair shows s safe (Carry (Face a) (Face b) m) is =
     faced_got w c s fair safe b is.1 (slice_get (frames_of w c s (Face a) (c.number b)) m)
     (λ bytes got. (comes_to w c s fair shows safe (Face a) (c.number b) m bytes is.0 is.1.1 is.2 got).honest)
 step_safe w c fair shows s safe (Throw from j rest) is =
-    framed w c s fair safe from j (thrown from j rest) is (λ good. thrown_comes w (hist_of w s) from j rest)
+    framed w c s fair safe from j (thrown w.mode.version from j rest) is (λ good. thrown_comes w (hist_of w s) w.mode.version from j rest)
 
 first_plays : (w : Setting) (hist : ℕ → List Entry) (i : ℕ) → IsPlaying w hist i (first_state (replicate w.numbers.n []))
 first_plays w hist i = record { met = tt; waiting = tt; held = none_held (IsHonest w hist) w.numbers.n; took = tt }

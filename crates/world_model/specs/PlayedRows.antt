@@ -1,6 +1,7 @@
 -- Worked rows of players: what steps make of a scene, and a frame that nobody made.
 use Rattle.std.specs.Prelude.{◌≡◌, ℕ, List, [], ◌∷◌, ◌++◌, length, replicate, None, true, refl}
 use Rattle.ritas_base.specs.declared.event.Event.TheVariants as events
+use Rattle.ritas_base.specs.declared.mode.FrameVersion.TheVariants.{One, Two}
 use Rattle.frame_codec.specs.Inputs.{input_format}
 use Rattle.frame_codec.specs.Grammar.{class1}
 use Rattle.ritas_core.specs.Checks.{input_check}
@@ -8,6 +9,7 @@ use Rattle.ritas_core.specs.Machine.{first_state}
 use Rattle.ritas_core.specs.Order.{ordered}
 use Rattle.ritas_core.specs.Parts.{Given}
 use Rattle.world_model.specs.Players.{Cast, Correct, Face, number_of, Give, Go, Carry, Throw, thrown, first_scene, scene_of, events_of}
+use Rattle.world_model.specs.World.{Setting}
 use Rattle.world_model.specs.Rows.{world_of}
 
 -- ---- a world of four replicas, of which replica 3 is faulty: two faces play it, which show each message as it is
@@ -51,15 +53,26 @@ two_steps = refl
 
 -- ---- a frame that nobody made
 
+-- the same world in a session of version 2
+abbrev world_of_two : Setting
+world_of_two = record (world_of 3) { mode = record (world_of 3).mode { version = Two } }
+
 -- eight bytes and a tag of zeros behind the byte that is no kind
 abbrev filled : List ℕ → List ℕ
 filled bytes = bytes ++ replicate 32 0
 
-thrown_bytes : thrown 3 0 (1 ∷ 2 ∷ []) ≡ 1 ∷ 3 ∷ 0 ∷ 0 ∷ 0 ∷ 0 ∷ 0 ∷ 0 ∷ 0 ∷ 0 ∷ 0 ∷ 255 ∷ 1 ∷ 2 ∷ []
+thrown_bytes : thrown One 3 0 (1 ∷ 2 ∷ []) ≡ 1 ∷ 3 ∷ 0 ∷ 0 ∷ 0 ∷ 0 ∷ 0 ∷ 0 ∷ 0 ∷ 0 ∷ 0 ∷ 255 ∷ 1 ∷ 2 ∷ []
 thrown_bytes = refl
 
-thrown_long : length (thrown 3 0 (filled (1 ∷ 2 ∷ 3 ∷ 4 ∷ 5 ∷ 6 ∷ 7 ∷ 8 ∷ []))) ≡ 52
+-- and in a session of version 2
+thrown_of_two : thrown Two 3 0 (1 ∷ 2 ∷ []) ≡ 2 ∷ 3 ∷ 0 ∷ 0 ∷ 0 ∷ 0 ∷ 0 ∷ 0 ∷ 0 ∷ 0 ∷ 0 ∷ 255 ∷ 1 ∷ 2 ∷ []
+thrown_of_two = refl
+
+thrown_long : length (thrown One 3 0 (filled (1 ∷ 2 ∷ 3 ∷ 4 ∷ 5 ∷ 6 ∷ 7 ∷ 8 ∷ []))) ≡ 52
 thrown_long = refl
 
-thrown_event : (rest : List ℕ) → events_of (world_of 3) two_faces (Throw 3 0 rest ∷ []) ≡ events.Frame 0 (thrown 3 0 rest) ∷ []
+thrown_event : (rest : List ℕ) → events_of (world_of 3) two_faces (Throw 3 0 rest ∷ []) ≡ events.Frame 0 (thrown One 3 0 rest) ∷ []
 thrown_event rest = refl
+
+thrown_event_of_two : (rest : List ℕ) → events_of world_of_two two_faces (Throw 3 0 rest ∷ []) ≡ events.Frame 0 (thrown Two 3 0 rest) ∷ []
+thrown_event_of_two rest = refl
