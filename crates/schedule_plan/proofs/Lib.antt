@@ -3,3 +3,4 @@ pub mod Limits
 pub mod Planned
 pub mod Showing
 pub mod Whole
+pub mod Copies

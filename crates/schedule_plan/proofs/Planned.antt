@@ -29,7 +29,7 @@ use Rattle.world_model.specs.Players.{Cast, Scene, Step, Give, Go, Carry, IsPlay
 use Rattle.world_model.proofs.Anywhere.{among_from, number_below, mapped_from}
 use Rattle.world_model.proofs.Members.{has_passing, got_listed}
 use Rattle.schedule_plan.specs.Plans.{is_absent, correct_of, is_correct_in, faces_of, face_a, face_b, cast_of, players_at, players_of, are_linked, is_two_faced, same_letter, linked_to, linked_from}
-use Rattle.schedule_plan.specs.Inputs.{value_text, takes_commands, command_at, value_at, correct_inputs, flip_inputs, two_inputs, given_to, face_inputs, inputs_of}
+use Rattle.schedule_plan.specs.Inputs.{value_text, takes_commands, copies_of, copy_at, command_at, value_at, correct_inputs, flip_inputs, two_inputs, given_to, face_inputs, inputs_of}
 use Rattle.schedule_plan.specs.Garbage.{start_of, after_filler, throws_to, throws_by, faulty_of, throws_of}
 use Rattle.schedule_plan.specs.Sweeps.{Counts, none_yet, counts_of, carries, turns_at, swept_at, sweep_of, sweeps}
 use Rattle.schedule_plan.specs.Picks.{Choice, Turning, Passing, has_some, passings_of, is_open_choice, all_choices, choices_of, Picking, carried, taken, garbled, pick, picks}
@@ -130,10 +130,11 @@ correct_steps : (w : Setting) (p : Plan) → IsPlanned w p → AreSteps w (cast_
 correct_steps w p planned = go (takes_commands p.mode.root) (p.commands == 0)
   where
     go : (a b : Bool) → AreSteps w (cast_of p.attack)
-        (if a then map (command_at p) (range_with_len 0 p.commands) else (if b then [] else map (value_at p) (range_with_len 0 (correct_of p))))
+        (if a then flat_map (command_at p) (range_with_len 0 p.commands) else (if b then [] else map (value_at p) (range_with_len 0 (correct_of p))))
     go true b =
-        are_map w (cast_of p.attack) (command_at p) (range_with_len 0 p.commands)
-        (λ k _. correct_below w p planned (k % correct_of p) (mod_below k (correct_of p) (some_correct p planned.session).0))
+        are_among w (cast_of p.attack) (command_at p) (range_with_len 0 p.commands)
+        (λ k _. are_map w (cast_of p.attack) (copy_at p k) (range_with_len 0 (copies_of p))
+        (λ t _. correct_below w p planned ((k + t) % correct_of p) (mod_below (k + t) (correct_of p) (some_correct p planned.session).0)))
     go false true = tt
     go false false =
         are_map w (cast_of p.attack) (value_at p) (range_with_len 0 (correct_of p))

@@ -1,5 +1,5 @@
 -- The inputs of a plan, which come first.
-use Rattle.std.specs.Prelude.{ℕ, ◌/◌, ◌%◌, ◌==◌, ◌||◌, Bool, List, [], ◌∷◌, ◌++◌, map, if◌then◌else◌}
+use Rattle.std.specs.Prelude.{ℕ, ◌+◌, ◌/◌, ◌%◌, ◌==◌, ◌||◌, Bool, List, [], ◌∷◌, ◌++◌, map, min, if◌then◌else◌}
 use Rattle.std.specs.List.{flat_map, range_with_len}
 use Rattle.std.specs.Int.{w32, to_be_bytes}
 use Rattle.ritas_base.specs.declared.plan.Plan.{Plan}
@@ -24,9 +24,16 @@ command_text root client request k = if root == 6 then number_text client ++ num
 abbrev pub takes_commands : ℕ → Bool
 takes_commands root = root == 1 || (root == 2 || root == 6)
 
--- the commands go to the correct replicas in turn
-abbrev pub command_at : Plan → ℕ → Step
-command_at p k = let i = k % correct_of p in Give (Correct i) (command_text p.mode.root i k k)
+-- to how many correct replicas each command goes: to one, and in root service 6 to as many as the plan says, at most to all
+abbrev pub copies_of : Plan → ℕ
+copies_of p = if p.mode.root == 6 then min p.copies (correct_of p) else 1
+
+-- the commands go to the correct replicas in turn: command k to the one at k, and its next copies to those behind
+abbrev pub copy_at : Plan → ℕ → ℕ → Step
+copy_at p k t = Give (Correct ((k + t) % correct_of p)) (command_text p.mode.root (k % correct_of p) k k)
+
+abbrev pub command_at : Plan → ℕ → List Step
+command_at p k = map (copy_at p k) (range_with_len 0 (copies_of p))
 
 -- each correct replica gets one value, of so many different ones
 abbrev pub value_at : Plan → ℕ → Step
@@ -34,7 +41,7 @@ value_at p i = Give (Correct i) (value_text p.mode.root (i % p.commands))
 
 abbrev pub correct_inputs : Plan → List Step
 correct_inputs p =
-    if takes_commands p.mode.root then map (command_at p) (range_with_len 0 p.commands)
+    if takes_commands p.mode.root then flat_map (command_at p) (range_with_len 0 p.commands)
     else (if p.commands == 0 then [] else map (value_at p) (range_with_len 0 (correct_of p)))
 
 -- a face that exchanges bits gets the value of its replica, and each of two faces one of its own

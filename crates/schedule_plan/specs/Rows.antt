@@ -51,6 +51,10 @@ plan_with n f mode order attack many = record {
   copies = 1;
 }
 
+-- the same with more copies of each command
+abbrev copied : ℕ → Plan → Plan
+copied copies p = record p { copies = copies }
+
 abbrev mode_1 : Mode
 mode_1 = record { root = 1; vect = Echo; version = One; low = lit≤ tt; high = lit≤ tt }
 
@@ -148,6 +152,37 @@ four_commands = refl
 of_clients : inputs_of (of_four mode_6 Absent 2)
     ≡ Give (Correct 0) (0 ∷ 0 ∷ 0 ∷ 0 ∷ 0 ∷ 0 ∷ 0 ∷ 0 ∷ 0 ∷ 0 ∷ 0 ∷ 0 ∷ []) ∷ Give (Correct 1) (0 ∷ 0 ∷ 0 ∷ 1 ∷ 0 ∷ 0 ∷ 0 ∷ 1 ∷ 0 ∷ 0 ∷ 0 ∷ 1 ∷ []) ∷ []
 of_clients = refl
+
+-- each command goes to two of three correct replicas in turn, one after the other: its client is the first of them
+abbrev command : ℕ → ℕ → List ℕ
+command client k = 0 ∷ 0 ∷ 0 ∷ client ∷ 0 ∷ 0 ∷ 0 ∷ k ∷ 0 ∷ 0 ∷ 0 ∷ k ∷ []
+
+two_copies : inputs_of (copied 2 (of_four mode_6 Silent 3))
+    ≡ Give (Correct 0) (command 0 0) ∷ Give (Correct 1) (command 0 0) ∷ Give (Correct 1) (command 1 1) ∷ Give (Correct 2) (command 1 1)
+    ∷ Give (Correct 2) (command 2 2) ∷ Give (Correct 0) (command 2 2) ∷ []
+two_copies = refl
+
+-- to each correct replica once, where there are no more of them than copies
+four_copies : inputs_of (copied 4 (of_four mode_6 Silent 2))
+    ≡ Give (Correct 0) (command 0 0) ∷ Give (Correct 1) (command 0 0) ∷ Give (Correct 2) (command 0 0)
+    ∷ Give (Correct 1) (command 1 1) ∷ Give (Correct 2) (command 1 1) ∷ Give (Correct 0) (command 1 1) ∷ []
+four_copies = refl
+
+-- the fourth command is again of the first client
+fourth_command : inputs_of (of_four mode_6 Silent 4)
+    ≡ Give (Correct 0) (command 0 0) ∷ Give (Correct 1) (command 1 1) ∷ Give (Correct 2) (command 2 2) ∷ Give (Correct 0) (command 0 3) ∷ []
+fourth_command = refl
+
+-- in another root service each command goes to one replica
+copies_of_one : inputs_of (copied 2 (of_four mode_1 Silent 2)) ≡ inputs_of (of_four mode_1 Silent 2)
+copies_of_one = refl
+
+copies_of_two : inputs_of (copied 2 (of_four mode_2 Silent 2)) ≡ inputs_of (of_four mode_2 Silent 2)
+copies_of_two = refl
+
+-- and values go to each
+copied_values : inputs_of (copied 3 (of_four mode_4 Silent 2)) ≡ inputs_of (of_four mode_4 Silent 2)
+copied_values = refl
 
 -- a face that exchanges bits gets no command
 flips_commands : inputs_of (of_four mode_2 Flip 1) ≡ Give (Correct 0) (0 ∷ 0 ∷ 0 ∷ 0 ∷ []) ∷ []

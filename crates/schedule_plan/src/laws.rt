@@ -1,4 +1,4 @@
-ghost use Rattle.schedule_plan.specs.Laws.{StepsLaw, DriveLaw, WholeLaw};
+ghost use Rattle.schedule_plan.specs.Laws.{StepsLaw, DriveLaw, CopiesLaw, WholeLaw};
 
 use layer_api::{Broadcast, Service};
 use world_model::forges_nothing;
@@ -20,6 +20,13 @@ pub fn drive_forges_nothing<S: Service, E: Broadcast>()
     planned_steps::<S, E>();
     forges_nothing::<S, E>();
 }
+
+/// Each command comes to different replicas: no correct one is given two copies of it.
+///
+/// It does nothing: its contract is the law.
+pub fn copies_go_apart()
+    ensures { CopiesLaw }
+{}
 
 /// A schedule is whole: where no limit is met, more sweeps or picks would change nothing, since each has a step. Where one is met,
 /// the same one is met with more of them.

@@ -7,11 +7,12 @@
 //! `header_of` makes.
 //!
 //! `drive_forges_nothing` says that no event of such a schedule forges, whatever the plan: so its audit holds, or two hashes
-//! collide. `schedule_is_whole` says that more sweeps or picks than a schedule may have steps would change nothing.
+//! collide. `copies_go_apart` says that no correct replica is given a command twice, and `schedule_is_whole` that more sweeps or
+//! picks than a schedule may have steps would change nothing.
 #![tactic(auto)]
 
 mod header;
 mod laws;
 
 pub use header::{correct_of, header_of};
-pub use laws::{drive_forges_nothing, schedule_is_whole};
+pub use laws::{copies_go_apart, drive_forges_nothing, schedule_is_whole};
