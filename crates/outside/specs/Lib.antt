@@ -10,3 +10,9 @@ pub mod Courses
 pub mod Writing
 pub mod WritingLaws
 pub mod Adapters
+pub mod Disks
+pub mod DisksLaws
+pub mod MemoryDisk
+pub mod Stops
+pub mod StopsLaws
+pub mod DiskRows

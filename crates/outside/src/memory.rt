@@ -45,10 +45,17 @@ impl CallList {
     }
 
     /// Whether the next call is one that fails.
-    fn is_fault(&self) -> bool
+    pub(crate) fn is_fault(&self) -> bool
         ensures { IsTrue result ↔ Contains self.now.fails self.now.number }
     {
         self.fails.contains(&self.number)
+    }
+
+    /// The number of the next call.
+    pub(crate) fn number(&self) -> u64
+        ensures { result ≡ self.now.number }
+    {
+        self.number
     }
 
     /// A call, which fails where it is listed.
@@ -66,14 +73,14 @@ impl CallList {
     }
 
     /// A call that didn't fail.
-    fn pass(&mut self)
+    pub(crate) fn pass(&mut self)
         ensures { self.new ≡ record self.old { number = count_after self.old.number } }
     {
         self.number = raised(self.number);
     }
 
     /// A call that failed.
-    fn fail(&mut self)
+    pub(crate) fn fail(&mut self)
         ensures calls { self.new ≡ record self.old {
           number = count_after self.old.number;
           faults = count_after self.old.faults;

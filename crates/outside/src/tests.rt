@@ -1,11 +1,11 @@
 use crate::{
-    Buffer, Failed, FromRead, Link, LinkFault, LinkItem, LinkPlan, MemLink, MemSink, MemSource,
-    Sink, Source, ToWrite, read_whole, write_all,
+    Buffer, Disk, Failed, FileDisk, FromRead, Link, LinkFault, LinkItem, LinkPlan, MemDisk,
+    MemLink, MemSink, MemSource, Sink, Source, ToWrite, put, read_whole, write_all,
 };
 use ritas_base::Texts;
-use std::io;
 use std::io::{ErrorKind, Read, Write};
 use std::test::*;
+use std::{fs, io};
 
 // A text through each form in memory, where the second call of the source fails.
 #[test]
@@ -93,5 +93,47 @@ fn a_link_tells(rt: HostRuntime) -> Result<(), Fail> {
         link.replies().len(),
     );
     assert_eq!(rt; told, (1, 1, 1));
+    Ok(())
+}
+
+// What a disk in memory holds, and what a stop leaves of it by each pick; call 4 is listed to fail.
+#[test]
+fn stops_a_disk(rt: HostRuntime) -> Result<(), Fail> {
+    let mut disk = MemDisk::new(rt.alloc(), b"abc", 8, 6, &[4])?;
+    let mut buf = [b'.'; 8];
+    assert_eq!(rt; disk.write_at(2, b"xy"), Ok(()));
+    assert_eq!(rt; disk.write_at(8, b"z"), Err(Failed));
+    assert_eq!(rt; disk.read(1, &mut buf), Ok(3));
+    assert_eq!(rt; buf.as_slice(), b"bxy.....".as_slice());
+    for (pick, left) in [
+        (0, b"abc".as_slice()),
+        (1, b"abxy".as_slice()),
+        (2, b"ab\x02\x02".as_slice()),
+        (3, b"ab\x03".as_slice()),
+        (4, b"ab\x04".as_slice()),
+    ] {
+        let mut stopped = disk.after_stop(rt.alloc(), pick)?;
+        let mut buf = [0; 8];
+        assert_eq!(rt; stopped.read(0, &mut buf), Ok(left.len()));
+        assert_eq!(rt; &buf[..left.len()], left);
+    }
+    assert_eq!(rt; disk.sync(), Ok(()));
+    assert_eq!(rt; disk.sync(), Err(Failed));
+    assert_eq!(rt; disk.sync(), Ok(()));
+    assert_eq!(rt; disk.read(0, &mut buf), Err(Failed));
+    Ok(())
+}
+
+// The file of the system: what was put is read, and no second disk opens it meanwhile.
+#[test]
+fn keeps_a_file(rt: HostRuntime) -> Result<(), Fail> {
+    let mut disk = FileDisk::new(rt);
+    let mut other = FileDisk::new(rt);
+    let mut buf = [0; 4];
+    assert_eq!(rt; put(&mut disk, 1, b"abc"), Ok(()));
+    assert_eq!(rt; other.read(0, &mut buf), Err(Failed));
+    assert_eq!(rt; disk.read(0, &mut buf), Ok(4));
+    assert_eq!(rt; &buf, b"\0abc");
+    assert!(rt; fs::remove_file(&rt, "ritas.journal").is_ok());
     Ok(())
 }
