@@ -9,4 +9,6 @@ pub mod ReadEvents
 pub mod Schedule
 pub mod SpellingLaws
 pub mod Faults
+pub mod OwnEvents
+pub mod OwnEventsLaws
 pub mod Rows

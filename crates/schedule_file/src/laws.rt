@@ -1,8 +1,9 @@
 //! What a file says and which fault it has, for every list of bytes.
-ghost use Rattle.std.specs.Prelude.{◌≡◌, ◌≤◌, ◌+◌, ◌++◌, ◌∷◌, [], ◌↔◌, length, false, Ok, Err};
+ghost use Rattle.std.specs.Prelude.{◌≡◌, ◌≤◌, ◌+◌, ◌++◌, ◌∷◌, [], ◌↔◌, length, false, Ok, Err, Some};
 ghost use Rattle.std.specs.List.{AllByRecursion};
 ghost use Rattle.schedule_file.specs.Reading.{IsBytes};
 ghost use Rattle.schedule_file.specs.FileBytes.{is_outside, limit};
+ghost use Rattle.schedule_file.specs.OwnEvents.{own_event, IsOwn, IsRead};
 ghost use Rattle.schedule_file.specs.Schedule.{file_of};
 ghost use Rattle.schedule_file.specs.Spelling.{event_text, header_size, header_text, FileOf, FrontOf, IsEvent, IsFile, IsHeading};
 ghost use Rattle.schedule_file.specs.Faults.{IsMagicFault, IsVersionFault, IsHeaderFault, IsEventFault, IsTrailingFault, IsTruncated, IsTooLong};
@@ -52,4 +53,11 @@ pub fn writer_laws()
 
     ensures read_back { (h : _) (es : _) → IsHeading h → AllByRecursion (IsEvent h) es → length (FileOf h es) ≤ limit
         → file_of (FileOf h es) ≡ Ok (h, es) }
+{}
+
+/// What `read_event` reads is what the bytes begin with, and it reads whatever event they begin with. So it answers `None`
+/// exactly where they begin with no event of that replica.
+pub fn own_event_laws()
+    ensures found { (me : _) (bytes : _) (e : _) (k : _) → IsBytes bytes → own_event me bytes ≡ Some (e, k) → IsRead me bytes e k }
+    ensures only { (me : _) (e : _) (rest : _) → IsOwn me e → own_event me (event_text e ++ rest) ≡ Some (e, length (event_text e)) }
 {}

@@ -38,7 +38,7 @@
 //!
 //! `Reader` reads a file from a source, and answers its first fault from the left, in whatever pieces the source gives
 //! it. `file_laws` says that what is read as a file is spelled so, and that what is spelled so is read; `file_faults`
-//! says when each fault comes.
+//! says when each fault comes. `read_event` reads the event of one replica with which some bytes begin.
 //!
 //! `Writer` writes a file to a sink, part by part, and `event_size` says how many bytes an event takes. `writer_laws` says
 //! that the parts are a file, how long it is, and that it is read back.
@@ -47,8 +47,9 @@
 mod fault;
 mod header;
 mod laws;
+mod own_event;
 mod pieces;
-mod read_event;
+mod read_events;
 mod read_header;
 mod reader;
 mod scope;
@@ -59,6 +60,7 @@ mod writer;
 
 pub use fault::FileFault;
 pub use header::{Header, HeaderKeys};
-pub use laws::{file_faults, file_laws, writer_laws};
+pub use laws::{file_faults, file_laws, own_event_laws, writer_laws};
+pub use own_event::read_event;
 pub use reader::Reader;
 pub use writer::{Writer, event_size};

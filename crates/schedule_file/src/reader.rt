@@ -14,7 +14,7 @@ ghost use Rattle.schedule_file.specs.Spelling.{IsHeading};
 use crate::fault::FileFault;
 use crate::header::Header;
 use crate::pieces::Pieces;
-use crate::read_event::read_event;
+use crate::read_events::read_event;
 use crate::read_header::read_header;
 use crate::scope::Scope;
 use crate::stage::Stage;

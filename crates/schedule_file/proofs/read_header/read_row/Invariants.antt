@@ -1,4 +1,4 @@
-use Rattle.std.proofs.Common.{◌≡◌, ◌≤◌, true}
+use Rattle.std.proofs.Common.{◌≡◌, true}
 use Rattle.schedule_file.specs.Place.{spot}
 use Rattle.schedule_file.specs.ReadHeader.{each_key_at}
 use Rattle.schedule_file.specs.Spelling.{IsRow}

@@ -1,4 +1,4 @@
-use Rattle.std.proofs.Common.{◌≡◌, ◌≤◌, ◌-◌, ◌++◌, length, true}
+use Rattle.std.proofs.Common.{◌≡◌, ◌-◌, ◌++◌, length, true}
 use Rattle.schedule_file.proofs.pieces.Pieces.gather.Given as goal
 
 abbrev pub invariant-loop-self : goal.invariant-loop-self
