@@ -1,8 +1,9 @@
 """A cluster of correct replicas of root service 6, whose inputs, turns and passed frames make a schedule in sweeps.
 
 It follows the rules of docs/PROTOCOL.md on plain sets and lists, without tags: what a schedule says of a frame is its sender, its
-receiver and its number. `Cluster.sweep` makes the events of sweeps until nothing is left. `Cluster.lengths` are those of the texts that
-are tagged on the way: each frame where it is made and where it is opened, and the entries of HASHES and of columns.
+receiver and its number. `Cluster.sweep` makes the events of sweeps until nothing is left, and `Replica.rows` are those of a replica's command log
+then. `Cluster.lengths` are those of the texts that are tagged on the way: each frame where it is made and where it is opened, and the entries of
+HASHES and of columns.
 """
 import hashlib
 import hmac
@@ -307,6 +308,16 @@ class Replica:
 
     def turn(self):
         self.take(self.inbox.pop(0))
+
+    def rows(self):
+        """The command log: a command gets its row at its (f + 1)st different origin, where no row has its client and request."""
+        origins, rows = {}, {}
+        for x in self.service.log:
+            command = self.service.commands[x]
+            origins.setdefault(command, set()).add(x[0])
+            if len(origins[command]) > self.f:
+                rows.setdefault(command[:8], (x, command))
+        return list(rows.values())
 
     def ready(self, item):
         kind, slot, _, sender = item
