@@ -24,10 +24,10 @@ class Desk:
 
     def __init__(self, port: int):
         self.link = peers.Pieces(port)
-        self.ahead, self.waiting = collections.deque(), {}
+        self.ahead, self.waiting, self.most = collections.deque(), {}, OUTSTANDING
 
     def hand_in(self) -> None:
-        while self.ahead and len(self.waiting) < OUTSTANDING:
+        while self.ahead and len(self.waiting) < self.most:
             one = self.ahead.popleft()
             self.waiting[one[:2]] = one
             self.link.send(one.client.to_bytes(4, "big") + one.request.to_bytes(4, "big") + one.payload)
@@ -39,39 +39,49 @@ class Desk:
         return [(text[0], *(int.from_bytes(text[at : at + 4], "big") for at in (1, 5, 9))) for text in texts]
 
     def listen(self, positions: dict) -> bool:
-        """Notes the positions that came, and says whether more may come."""
+        """Notes the positions that came, which are those that other nodes gave, and says whether more may come."""
         goes_on = self.link.read()
         for form, client, request, position in self.replies():
             check(form == 1 and (client, request) in self.waiting, f"reply {form} to {client} {request}")
-            positions[self.waiting.pop((client, request))] = position
+            one = self.waiting.pop((client, request))
+            check(positions.setdefault(one, position) == position, f"two positions of {client} {request}")
         return goes_on
 
 
 class Office:
-    """Clients that hand in commands, some at each node. What a node that ended left goes to the others."""
+    """Clients that hand in each command at so many nodes, f + 1 of them, since fewer give it no row. What a node that ended left goes to another one."""
 
-    def __init__(self, ports: list, commands: list):
+    def __init__(self, ports: list, commands: list, copies: int):
         self.desks = [Desk(port) for port in ports]
-        self.positions = {}
+        self.positions, self.places = {}, {}
         self.wanted = len(commands)
-        self.spread(commands)
-
-    def spread(self, commands: list) -> None:
         for place, one in enumerate(commands):
-            self.desks[place % len(self.desks)].ahead.append(one)
+            self.places[one] = {(place + turn) % len(ports) for turn in range(copies)}
+            for number in self.places[one]:
+                self.desks[number].ahead.append(one)
+        self.numbers = dict(zip(self.desks, range(len(ports))))
 
     def close(self, desk: Desk) -> None:
+        """What goes to another node goes there at once: a command that is handed in elsewhere may wait for it."""
         desk.link.socket.close()
         self.desks.remove(desk)
-        check(bool(self.desks), "no node is left")
-        self.spread([*desk.waiting.values(), *desk.ahead])
+        for one in (*desk.waiting.values(), *desk.ahead):
+            others = [other for other in self.desks if self.numbers[other] not in self.places[one]]
+            check(bool(others), "no node is left")
+            others[0].ahead.appendleft(one)
+            others[0].most += 1
+            self.places[one].add(self.numbers[others[0]])
 
-    def step(self) -> None:
+    def hand_in(self) -> None:
         for desk in list(self.desks):
             try:
                 desk.hand_in()
             except ConnectionError:
                 self.close(desk)
+                return self.hand_in()
+
+    def step(self) -> None:
+        self.hand_in()
         links = {desk.link.socket: desk for desk in self.desks}
         ready = select.select(list(links), [], [], serving.PATIENCE)[0]
         check(bool(ready), f"no reply in {serving.PATIENCE} s, after {len(self.positions)} of {self.wanted}")

@@ -3,9 +3,9 @@ import select
 import struct
 import threading
 
-from peers import ECHO, INIT, KIND_AT, ORIGIN_AT, PAYLOAD_AT, READY, Pieces, body_of, command_body, seal
+from peers import ECHO, INIT, KIND_AT, ORIGIN_AT, PAYLOAD_AT, READY, Pieces, body_of, command_body, seal, vote
 
-FRAME, SEND = 1, 4
+SEND = 4
 COMMAND, VECT, VOTE = 1, 4, 5
 CLASS_AT, NUMBER_AT = 1, 2
 # Its numbers of frames begin here, and its commands are those of a client that nobody else is.
@@ -30,7 +30,7 @@ class Deceiver(threading.Thread):
 
     def __init__(self, session, ports: dict):
         super().__init__(daemon=True)
-        self.me = session.n - 1
+        self.me, self.version = session.n - 1, session.version
         self.row = bytes.fromhex(session.rows[self.me])
         self.links = {to: Pieces(port, bytes([self.me])) for to, port in ports.items()}
         self.first, self.number, self.said = min(ports), FIRST_NUMBER, set()
@@ -41,7 +41,7 @@ class Deceiver(threading.Thread):
         if (to, body[:PAYLOAD_AT]) in self.said:
             return
         self.said.add((to, body[:PAYLOAD_AT]))
-        self.links[to].send(seal(self.row[32 * to : 32 * to + 32], self.me, to, self.number, body))
+        self.links[to].send(seal(self.row[32 * to : 32 * to + 32], self.me, to, self.number, body, self.version))
         self.number += 1
 
     def own(self, body: bytes) -> bytes:
@@ -58,7 +58,7 @@ class Deceiver(threading.Thread):
                 self.say(to, own if to == self.first else other_face(own))
         if body[KIND_AT] == INIT:
             for kind in (ECHO, READY):
-                self.say(self.first, bytes([kind]) + body[1:])
+                self.say(self.first, vote(kind, body, self.version))
 
     def work(self) -> None:
         sockets = {link.socket: link for link in self.links.values()}
@@ -68,7 +68,7 @@ class Deceiver(threading.Thread):
                 if not link.read():
                     raise RuntimeError("a node closed its connection")
                 for frame in link.take():
-                    if frame[:1] == bytes([FRAME]):
+                    if frame[:1] == bytes([self.version]):
                         self.answer(body_of(frame))
 
     def run(self) -> None:

@@ -1,4 +1,4 @@
-"""Commands that are handed in at all nodes, and what each node replied."""
+"""Commands that are handed in at all nodes, so that f + 1 correct ones have each, and what each node replied."""
 import select
 import time
 

@@ -1,4 +1,5 @@
 """A replica played by a script: keys, frames and links as docs/FORMATS.md has them."""
+import hashlib
 import hmac
 import socket
 import struct
@@ -6,6 +7,7 @@ import struct
 import serving
 
 INIT, ECHO, READY = 1, 2, 3
+DIGESTS = 2
 MOST_FRAME = 16384
 TAG_BYTES, HEAD_BYTES = 32, 11
 NOTE, ACK = 0x4E, 1
@@ -21,8 +23,8 @@ def pair_key(master: bytes, session: int, i: int, j: int) -> bytes:
     return tag(master, b"\x4b" + struct.pack(">QBB", session, min(i, j), max(i, j)))
 
 
-def seal(key: bytes, sender: int, receiver: int, number: int, body: bytes) -> bytes:
-    text = struct.pack(">BBBQ", 1, sender, receiver, number) + body
+def seal(key: bytes, sender: int, receiver: int, number: int, body: bytes, version: int = 1) -> bytes:
+    text = struct.pack(">BBBQ", version, sender, receiver, number) + body
     return text + tag(key, text)
 
 
@@ -43,6 +45,12 @@ def acknowledgement(key: bytes, sender: int, receiver: int, number: int) -> byte
     """The note that the frame of this number was taken."""
     text = struct.pack(">BBBBQ", NOTE, sender, receiver, ACK, number)
     return text + tag(key, text)
+
+
+def vote(kind: int, init: bytes, version: int = 1) -> bytes:
+    """The body of an ECHO or READY of an INIT, with its value, or in version 2 with the digest of that."""
+    value = init[PAYLOAD_AT:]
+    return bytes([kind]) + init[1:PAYLOAD_AT] + (hashlib.sha256(value).digest() if version == DIGESTS else value)
 
 
 def command_body(origin: int, number: int, client: int, request: int, payload: bytes) -> bytes:
@@ -93,13 +101,13 @@ class Mirror:
     """A replica of two, number 1, that acknowledges each frame, proposes what the other one proposes and votes for all that it hears of."""
 
     def __init__(self, session: serving.Session):
-        self.key = bytes.fromhex(session.rows[1])[:32]
+        self.key, self.version = bytes.fromhex(session.rows[1])[:32], session.version
         self.link = Pieces(session.peers[0], b"\x01")
         self.heard, self.number = [], 0
 
     def say(self, *bodies: bytes) -> None:
         for body in bodies:
-            self.link.send(seal(self.key, 1, 0, self.number, body))
+            self.link.send(seal(self.key, 1, 0, self.number, body, self.version))
             self.number += 1
 
     def acknowledge(self, frame: bytes) -> None:
@@ -109,7 +117,7 @@ class Mirror:
         if body[KIND_AT] != INIT:
             return
         own = body[:ORIGIN_AT] + b"\x01" + body[PAYLOAD_AT:]
-        self.say(own, *(bytes([kind]) + each[1:] for each in (body, own) for kind in (ECHO, READY)))
+        self.say(own, *(vote(kind, each, self.version) for each in (body, own) for kind in (ECHO, READY)))
 
     def listen(self) -> bool:
         """Answers the frames that came, and says whether more may come."""

@@ -7,7 +7,7 @@ from sights import Sights, seq_of
 
 
 def of_logs(logs: dict, load, is_whole: bool) -> list:
-    """The logs are fronts of one list, which has each command once, and where all was confirmed each has all of them."""
+    """The logs are fronts of one list, which has each command once and nothing that no client handed in, and where all was confirmed each has all."""
     wrong = []
     if not serving.are_prefixes(list(logs.values())):
         wrong.append(f"two logs are apart: {first_apart(logs)}")
@@ -15,6 +15,8 @@ def of_logs(logs: dict, load, is_whole: bool) -> list:
         commands = [command_of(row) for row in log]
         if len({one[:2] for one in commands}) != len(commands):
             wrong.append(f"a command stands twice in the log of node {me}")
+        if strange := sorted(set(commands) - set(load.commands)):
+            wrong.append(f"the log of node {me} has {len(strange)} commands that nobody handed in at a correct one: {listed(strange)}")
         if is_whole and (missing := sorted(set(load.commands) - set(commands))):
             wrong.append(f"the log of node {me} lacks {len(missing)} commands: {listed(missing)}")
     return wrong

@@ -58,10 +58,13 @@ def address(port: int) -> str:
 
 
 class Session:
-    """The numbers, the ports and the keys of a session. Each replica has a row of keys and the key of its coin, as hexadecimal digits."""
+    """The numbers, the ports and the keys of a session. Each replica has a row of keys and the key of its coin, as hexadecimal digits.
 
-    def __init__(self, n: int, f: int, vect: str = "echo"):
-        self.n, self.f, self.vect = n, f, vect
+    A command gets a row once f + 1 different replicas have submitted it, so a client hands it to f + 1 correct nodes at least.
+    """
+
+    def __init__(self, n: int, f: int, vect: str = "echo", version: int = 1):
+        self.n, self.f, self.vect, self.version = n, f, vect, version
         self.number = random.getrandbits(64)
         self.master = os.urandom(KEY_DIGITS // 2).hex()
         ports = free_ports(2 * n)
@@ -69,7 +72,7 @@ class Session:
         self.rows, self.coins = self.deal()
 
     def head(self) -> tuple:
-        return "ritas 1", f"session {self.number}", f"n {self.n}", f"f {self.f}"
+        return f"ritas {self.version}", f"session {self.number}", f"n {self.n}", f"f {self.f}"
 
     def deal(self) -> tuple:
         status, text = run(config(*self.head(), f"master {self.master}"), "keys")
@@ -88,7 +91,7 @@ class Session:
 
     def submit_config(self, client: int, request: int, payload: bytes) -> bytes:
         places = [f"peer {address(port)}" for port in self.clients]
-        return config("ritas 1", *self.head()[2:], *places, f"request 0 {client} {request} {payload.hex() or '-'}")
+        return config(self.head()[0], *self.head()[2:], *places, f"request 0 {client} {request} {payload.hex() or '-'}")
 
 
 def open_private(path: str, flags: int = os.O_WRONLY):
