@@ -18,6 +18,7 @@ pub mod Fitting
 pub mod Reopening
 pub mod Earning
 pub mod Keeping
+pub mod KeptEvents
 pub mod Keepers
 pub mod Wishing
 pub mod Hearing

@@ -11,5 +11,7 @@ pub mod PeersStanding
 pub mod Standing
 pub mod Running
 pub mod Laws
+pub mod Keeping
+pub mod KeepingRows
 pub mod Rows
 pub mod PeerRows

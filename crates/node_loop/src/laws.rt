@@ -1,5 +1,6 @@
 //! What serving keeps to, whatever the link gives.
 ghost use Rattle.node_loop.specs.Laws.{OneRun, OnlyGrows, ActsAreDeeds, FramesAreMade, ResendsAreOpen, AcksAreEarned, EventsFit, RepliesAreTrue};
+ghost use Rattle.node_loop.specs.Keeping.{KeptStands, KeptIsShort};
 
 use layer_api::{Broadcast, Service};
 
@@ -62,3 +63,18 @@ pub fn replies_are_true<S: Service, E: Broadcast>()
 {
     world_model::logs_grow::<S, E>();
 }
+
+/// The replicas stand after the events that a journal keeps, which are the turns and what was taken or is held, where they stand after all
+/// frames, inputs and turns: other events change nothing.
+///
+/// It does nothing: its contract is the law.
+pub fn kept_stands()
+    ensures { KeptStands }
+{}
+
+/// A frame or an input that a journal keeps has at most 16,384 bytes.
+///
+/// It does nothing: its contract is the law.
+pub fn kept_is_short()
+    ensures { KeptIsShort }
+{}

@@ -25,7 +25,7 @@ mod waiting;
 
 pub use end::ServeEnd;
 pub use laws::{
-    acks_are_earned, acts_are_deeds, events_fit, frames_are_made, one_run, only_grows,
-    replies_are_true, resends_are_open,
+    acks_are_earned, acts_are_deeds, events_fit, frames_are_made, kept_is_short, kept_stands,
+    one_run, only_grows, replies_are_true, resends_are_open,
 };
 pub use rounds::serve;
