@@ -27,6 +27,7 @@ use Rattle.node_loop.specs.Peers.{Peers, keep_all}
 use Rattle.node_loop.specs.Resending.{Brought, nothing_more}
 use Rattle.node_loop.specs.Serving.{made_by, sent_by}
 use Rattle.node_loop.specs.Served.{AreHere}
+use Rattle.node_loop.specs.Keeping.{is_kept}
 use Rattle.node_loop.specs.Standing.{IsWaiting, HouseStands, IsClear, Comes, IsMore, frame_by, reply_by}
 use Rattle.node_loop.proofs.Heres.{nowhere}
 
@@ -79,11 +80,12 @@ pub came : {S E C : Type 0} (m : Meaning S E C KeyRow) (w : Setting) (es : List 
     → w.is_correct at ≡ true → IsMore w at output.more more → keep_all (made_by w es (Some e)) before ≡ more.peers
     → HouseStands m w (e ∷ es) numbers now (left_by at count (rows_at w (e ∷ es) at) ws) before
     → map (reply_by at) output.replies.items ≡ map (reply_by at) quiet ++ replies_by at count (rows_at w (e ∷ es) at) ws
-    → output.at ≡ at → output.event ≡ Some e → output.frames.items ≡ frames → Comes m w es numbers now output (called w es at e ws) more
-came m w es numbers now output at count e clear frames quiet ws before more many none made silence right besides keeps stands replied at_is event_is frames_is =
+    → output.at ≡ at → output.event ≡ Some e → output.kept ≡ is_kept w es e → output.frames.items ≡ frames → Comes m w es numbers now output (called w es at e ws) more
+came m w es numbers now output at count e clear frames quiet ws before more many none made silence right besides keeps stands replied at_is event_is kept_is frames_is =
     let rows = rows_at w (e ∷ es) at in
     record {
       event = event_is;
+      keeps = kept_is;
       frames = ap (λ k. map (frame_by k) output.frames.items) at_is ∙ ap (map (frame_by at)) frames_is ∙ made ∙ ap (λ xs. map (frame_by at) xs ++ sent_by w es (Some e)) none;
       besides = same_more w at output.at output.more output.more more at_is refl besides;
       nowhere = λ faulty. absurd (both_ways (w.is_correct at) (ap w.is_correct (sym at_is) ∙ faulty) right);
@@ -100,19 +102,20 @@ pub came_quietly : {S E C : Type 0} (m : Meaning S E C KeyRow) (w : Setting) (es
     → w.is_correct at ≡ true → output.more ≡ mores.Nothing
     → HouseStands m w (e ∷ es) numbers now (left_by at count (rows_at w (e ∷ es) at) ws) p
     → map (reply_by at) output.replies.items ≡ map (reply_by at) quiet ++ replies_by at count (rows_at w (e ∷ es) at) ws
-    → output.at ≡ at → output.event ≡ Some e → output.frames.items ≡ frames → Comes m w es numbers now output (called w es at e ws) (quietly w es p (called w es at e ws))
-came_quietly m w es numbers now output at count e clear frames quiet ws p many none made silence right no_more stands replied at_is event_is frames_is =
+    → output.at ≡ at → output.event ≡ Some e → output.kept ≡ is_kept w es e → output.frames.items ≡ frames → Comes m w es numbers now output (called w es at e ws) (quietly w es p (called w es at e ws))
+came_quietly m w es numbers now output at count e clear frames quiet ws p many none made silence right no_more stands replied at_is event_is kept_is frames_is =
     let more = quietly w es p (called w es at e ws) in
     came m w es numbers now output at count e clear frames quiet ws p more many none made silence right (is_none w at output.more more no_more refl) refl
-    stands replied at_is event_is frames_is
+    stands replied at_is event_is kept_is frames_is
 
 -- and these replies more
 pub replied_too : {S E C : Type 0} (m : Meaning S E C KeyRow) (w : Setting) (es : List Event) (numbers : List ℕ) (now : House S E C) (before output : Output) (at : ℕ) (did : Outcome) (replies : List Sent) (more : Brought)
-    → Comes m w es numbers now before did more → before.at ≡ at → output.at ≡ before.at → output.event ≡ before.event → output.frames ≡ before.frames → output.more ≡ before.more
+    → Comes m w es numbers now before did more → before.at ≡ at → output.at ≡ before.at → output.event ≡ before.event → output.kept ≡ before.kept → output.frames ≡ before.frames → output.more ≡ before.more
     → map (reply_by at) output.replies.items ≡ map (reply_by at) before.replies.items ++ replies
     → Comes m w es numbers now output (record did { replies = did.replies ++ replies }) more
-replied_too m w es numbers now before output at did replies more comes before_is at_is event_is frames_is more_is replied = record {
+replied_too m w es numbers now before output at did replies more comes before_is at_is event_is kept_is frames_is more_is replied = record {
   event = event_is ∙ comes.event;
+  keeps = kept_is ∙ comes.keeps;
   frames = ap₂ (λ k fs. map (frame_by k) fs.items) at_is frames_is ∙ comes.frames;
   besides = same_more w before.at output.at output.more before.more more at_is more_is comes.besides;
   nowhere = λ faulty. comes.nowhere (ap w.is_correct (sym at_is) ∙ faulty);
@@ -125,11 +128,12 @@ replied_too m w es numbers now before output at did replies more comes before_is
 -- nothing but what goes to peers besides, and replies
 pub no_call : {S E C : Type 0} (m : Meaning S E C KeyRow) (w : Setting) (es : List Event) (numbers : List ℕ) (now : House S E C) (before output : Output) (replies : List Sent) (ws : Waiting) (more : Brought)
     → HouseStands m w es numbers now ws more.peers → IsClear before → IsMore w before.at output.more more → (w.is_correct before.at ≡ false → more.deeds ≡ [])
-    → output.at ≡ before.at → output.event ≡ before.event → output.frames ≡ before.frames
+    → output.at ≡ before.at → output.event ≡ before.event → output.kept ≡ before.kept → output.frames ≡ before.frames
     → map (reply_by before.at) output.replies.items ≡ map (reply_by before.at) before.replies.items ++ replies
     → Comes m w es numbers now output (silent replies ws) more
-no_call m w es numbers now before output replies ws more stands clear besides none at_is event_is frames_is replied = record {
+no_call m w es numbers now before output replies ws more stands clear besides none at_is event_is kept_is frames_is replied = record {
   event = event_is ∙ clear.event;
+  keeps = kept_is ∙ clear.kept;
   frames = ap₂ (λ k fs. map (frame_by k) fs.items) at_is frames_is ∙ ap (map (frame_by before.at)) clear.frames;
   besides = same_more w before.at output.at output.more output.more more at_is refl besides;
   nowhere = λ faulty. (refl, none (ap w.is_correct (sym at_is) ∙ faulty));
@@ -141,27 +145,27 @@ no_call m w es numbers now before output replies ws more stands clear besides no
 
 -- nothing but replies
 pub only_replies : {S E C : Type 0} (m : Meaning S E C KeyRow) (w : Setting) (es : List Event) (numbers : List ℕ) (now : House S E C) (before output : Output) (replies : List Sent) (ws : Waiting) (p : Peers)
-    → HouseStands m w es numbers now ws p → IsClear before → output.at ≡ before.at → output.event ≡ before.event → output.frames ≡ before.frames → output.more ≡ before.more
+    → HouseStands m w es numbers now ws p → IsClear before → output.at ≡ before.at → output.event ≡ before.event → output.kept ≡ before.kept → output.frames ≡ before.frames → output.more ≡ before.more
     → map (reply_by before.at) output.replies.items ≡ map (reply_by before.at) before.replies.items ++ replies
     → Comes m w es numbers now output (silent replies ws) (nothing_more p)
-only_replies m w es numbers now before output replies ws p stands clear at_is event_is frames_is more_is replied =
+only_replies m w es numbers now before output replies ws p stands clear at_is event_is kept_is frames_is more_is replied =
     no_call m w es numbers now before output replies ws (nothing_more p) stands clear (is_none w before.at output.more (nothing_more p) (more_is ∙ clear.more) refl) (λ faulty. refl)
-    at_is event_is frames_is replied
+    at_is event_is kept_is frames_is replied
 
 -- nothing but what goes to peers besides
 pub only_more : {S E C : Type 0} (m : Meaning S E C KeyRow) (w : Setting) (es : List Event) (numbers : List ℕ) (now : House S E C) (before output : Output) (ws : Waiting) (more : Brought)
     → HouseStands m w es numbers now ws more.peers → IsClear before → IsMore w before.at output.more more → (w.is_correct before.at ≡ false → more.deeds ≡ [])
-    → output.at ≡ before.at → output.event ≡ before.event → output.frames ≡ before.frames → output.replies ≡ before.replies
+    → output.at ≡ before.at → output.event ≡ before.event → output.kept ≡ before.kept → output.frames ≡ before.frames → output.replies ≡ before.replies
     → Comes m w es numbers now output (silent [] ws) more
-only_more m w es numbers now before output ws more stands clear besides none at_is event_is frames_is replies_is =
-    no_call m w es numbers now before output [] ws more stands clear besides none at_is event_is frames_is
+only_more m w es numbers now before output ws more stands clear besides none at_is event_is kept_is frames_is replies_is =
+    no_call m w es numbers now before output [] ws more stands clear besides none at_is event_is kept_is frames_is
     (ap (λ v. map (reply_by before.at) v.items) replies_is ∙ sym (append-nil (map (reply_by before.at) before.replies.items)))
 
 -- nothing at all
 pub nothing_comes : {S E C : Type 0} (m : Meaning S E C KeyRow) (w : Setting) (es : List Event) (numbers : List ℕ) (now : House S E C) (output : Output) (ws : Waiting) (p : Peers)
     → HouseStands m w es numbers now ws p → IsClear output → Comes m w es numbers now output (silent [] ws) (nothing_more p)
 nothing_comes m w es numbers now output ws p stands clear =
-    only_replies m w es numbers now output output [] ws p stands clear refl refl refl refl (sym (append-nil (map (reply_by output.at) output.replies.items)))
+    only_replies m w es numbers now output output [] ws p stands clear refl refl refl refl refl (sym (append-nil (map (reply_by output.at) output.replies.items)))
 
 pub does_here : {S E C : Type 0} (m : Meaning S E C KeyRow) (w : Setting) (es : List Event) (numbers : List ℕ) (now : House S E C) (output : Output) (at : ℕ) (did : Outcome) (ws : Waiting) (more : Outcome → Brought)
     → w.is_correct at ≡ true → Comes m w es numbers now output did (more did) → Comes m w es numbers now output (if_here w at did ws) (more (if_here w at did ws))
@@ -196,8 +200,8 @@ pub asks_none : (w : Setting) (es : List Event) (at : ℕ) (conn : Option ℕ) (
     → asks w es at conn bytes ws ≡ submitted w es at conn bytes ws
 asks_none w es at conn bytes ws none = ap (asks_so w es at conn bytes ws) none
 
-pub cleared : (o : Output) → (o.event ≡ None) × (o.frames.items ≡ []) × (o.more ≡ mores.Nothing) × (o.replies.items ≡ []) → IsClear o
-cleared o none = record { event = none.0; frames = none.1; more = none.2; replies = none.3 }
+pub cleared : (o : Output) → (o.event ≡ None) × (o.frames.items ≡ []) × (o.more ≡ mores.Nothing) × (o.replies.items ≡ []) × (o.kept ≡ false) → IsClear o
+cleared o none = record { event = none.0; frames = none.1; more = none.2; replies = none.3; kept = none.4 }
 
 -- the same number
 pub comes_at : {S E C : Type 0} (m : Meaning S E C KeyRow) (w : Setting) (es : List Event) (numbers : List ℕ) (now : House S E C) (output : Output) (did : ℕ → Outcome) (more : ℕ → Brought) (k j : ℕ) → k ≡ j

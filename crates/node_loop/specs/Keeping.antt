@@ -1,5 +1,5 @@
 -- Which of the events that are served a journal keeps. Lists of events have the newest first.
-use Rattle.std.specs.Prelude.{◌≡◌, ℕ, ◌≤◌, Bool, true, false, List, [], ◌∷◌, ◌++◌, length}
+use Rattle.std.specs.Prelude.{◌≡◌, ℕ, ◌≤◌, Bool, true, false, List, [], ◌∷◌, ◌++◌, length, Option, Some, None}
 use Rattle.std.specs.List.{AllByRecursion}
 use Rattle.ritas_base.specs.declared.event.Event.{Event}
 use Rattle.ritas_base.specs.declared.event.Event.TheVariants as events
@@ -18,13 +18,22 @@ is_kept_answer (seen.Answered answers.Idle) = false
 is_kept_answer (seen.Refused refusal) = false
 is_kept_answer seen.Missed = false
 
--- an event after these is kept: each turn, and a frame or an input that was taken or is held
+-- an event that was answered so is kept: each turn, and a frame or an input that was taken or is held
+abbrev pub is_kept_so : Event → Seen → Bool
+is_kept_so (events.Turn at) answer = true
+is_kept_so (events.Frame to bytes) answer = is_kept_answer answer
+is_kept_so (events.Input at bytes) answer = is_kept_answer answer
+is_kept_so (events.Pass from to m) answer = false
+is_kept_so (events.Sealed from to body) answer = false
+
+-- an event after these is kept
 abbrev pub is_kept : Setting → List Event → Event → Bool
-is_kept w es (events.Turn at) = true
-is_kept w es (events.Frame to bytes) = is_kept_answer (seen_of w es (events.Frame to bytes))
-is_kept w es (events.Input at bytes) = is_kept_answer (seen_of w es (events.Input at bytes))
-is_kept w es (events.Pass from to m) = false
-is_kept w es (events.Sealed from to body) = false
+is_kept w es e = is_kept_so e (seen_of w es e)
+
+-- there is an event, and it is kept
+abbrev pub has_kept : Setting → List Event → Option Event → Bool
+has_kept w es None = false
+has_kept w es (Some e) = is_kept w es e
 
 abbrev pub kept_onto : Bool → Event → List Event → List Event
 kept_onto true e es = e ∷ es

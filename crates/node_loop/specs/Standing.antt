@@ -31,6 +31,7 @@ use Rattle.node_loop.specs.Calls.{Outcome}
 use Rattle.node_loop.specs.Peers.{Peers, keep_all}
 use Rattle.node_loop.specs.Deeds.{Resent, act_of, sends}
 use Rattle.node_loop.specs.Resending.{Brought}
+use Rattle.node_loop.specs.Keeping.{has_kept}
 use Rattle.node_loop.specs.Serving.{made_by, sent_by, onto}
 use Rattle.node_loop.specs.PeersStanding.{IsKeeper}
 use Rattle.node_loop.specs.Served.{AreHere}
@@ -72,6 +73,7 @@ pub record IsClear (o : Output) : Type 0 where
   pub frames : o.frames.items ≡ []
   pub more : o.more ≡ mores.Nothing
   pub replies : o.replies.items ≡ []
+  pub kept : o.kept ≡ false
 
 -- what goes to a peer besides: nothing, a note, or all that is kept for it
 abbrev pub IsMore : Setting → ℕ → More → Brought → Type 0
@@ -79,11 +81,12 @@ IsMore w at mores.Nothing more = more.deeds ≡ []
 IsMore w at (mores.Note peer bytes) more = map (act_of w.keys) more.deeds ≡ sends at peer bytes ∷ []
 IsMore w at (mores.Kept peer) more = (peer < w.numbers.n) × (more.deeds ≡ map (λ k. Resent at peer k.frame) (more.peers.keeping at peer))
 
--- It is put out, and the replicas and those who wait stand for it; the peers stand for it once the frames of its call are kept, as they
+-- It is put out, with whether a journal keeps it, and the replicas and those who wait stand for it; the peers stand for it once the frames of its call are kept, as they
 -- are when they go out. What is for a replica that isn't here brings nothing.
 pub record Comes {S E C : Type 0} (m : Meaning S E C KeyRow) (w : Setting) (es : List Event) (numbers : List ℕ) (now : House S E C)
     (output : Output) (did : Outcome) (more : Brought) : Type 0 where
   pub event : output.event ≡ did.event
+  pub keeps : output.kept ≡ has_kept w es did.event
   pub frames : map (frame_by output.at) output.frames.items ≡ sent_by w es did.event
   pub besides : IsMore w output.at output.more more
   pub nowhere : w.is_correct output.at ≡ false → (did.event ≡ None) × (more.deeds ≡ [])

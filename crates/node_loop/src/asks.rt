@@ -8,7 +8,7 @@ ghost use Rattle.node_loop.specs.Standing.{reply_by};
 use crate::house::House;
 use crate::output::{More, Output, Reply};
 use crate::peers::mark_of;
-use crate::refusals::{is_deferred, is_opened, refusal_in};
+use crate::refusals::{is_deferred, is_kept, is_opened, refusal_in};
 use crate::waiting::Asked;
 use client_port::{read_request, write_refusal, write_reply};
 use keyed_channel::{Note, noted_from_peer, opened_from_peer, opened_parts};
@@ -70,7 +70,7 @@ fn sender_and_number(bytes: &[u8]) -> Option<Carried>
 // Replies so to a connection, if there is one.
 fn reply(output: &mut Output, conn: Option<u32>, bytes: [u8; 13]) -> Result<(), Mem>
     ensures replies { (at : _) → OnOk result (map (reply_by at) output.new.replies.items ≡ map (reply_by at) output.old.replies.items ++ reply at bytes conn) }
-    ensures same { (output.new.at ≡ output.old.at) × (output.new.event ≡ output.old.event) × (output.new.frames ≡ output.old.frames) × (output.new.more ≡ output.old.more) }
+    ensures same { (output.new.at ≡ output.old.at) × (output.new.event ≡ output.old.event) × (output.new.frames ≡ output.old.frames) × (output.new.more ≡ output.old.more) × (output.new.kept ≡ output.old.kept) }
 {
     if let Some(conn) = conn {
         output.replies.push(Reply { conn, bytes })?;
@@ -124,6 +124,7 @@ impl<S: Service, E: Broadcast, C: Coin + Drop> House<S, E, C> {
             bytes,
         };
         let answer = self.give(alloc, place, &event, &mut output.frames)?;
+        output.kept = is_kept(&event, answer);
         output.event = Some(event);
         match refusal_in(answer) {
             Some(code) => {
@@ -247,7 +248,7 @@ impl<S: Service, E: Broadcast, C: Coin + Drop> House<S, E, C> {
         ensures note { let m = with_keys S.stands S.rules S.shown E.stands E.rules E.shown C.bits in
             (w : Setting) (es : List Event) (numbers : List ℕ) (at : ℕ) → AreHere m w es numbers self.now.replicas.items → slice_get numbers place ≡ Some at
             → frame.from < w.numbers.n → output.new.more ≡ mores.Note frame.from (ack_note (w.keys at) frame.from frame.seq) }
-        ensures same { (output.new.at ≡ output.old.at) × (output.new.event ≡ output.old.event) × (output.new.frames ≡ output.old.frames) × (output.new.replies ≡ output.old.replies) }
+        ensures same { (output.new.at ≡ output.old.at) × (output.new.event ≡ output.old.event) × (output.new.frames ≡ output.old.frames) × (output.new.replies ≡ output.old.replies) × (output.new.kept ≡ output.old.kept) }
     {
         if let Some(replica) = self.replicas.get(place) {
             let channel = replica.channel();
@@ -279,7 +280,7 @@ impl<S: Service, E: Broadcast, C: Coin + Drop> House<S, E, C> {
             → slice_get numbers place ≡ Some at → is_opened answer ≡ true → is_deferred (seen_answer answer) ≡ false
             → IfSome carried (λ frame. frame.from < w.numbers.n
             → (self.new ≡ self.old) × (output.new.more ≡ mores.Note frame.from (ack_note (w.keys at) frame.from frame.seq))) }
-        ensures same { (output.new.at ≡ output.old.at) × (output.new.event ≡ output.old.event) × (output.new.frames ≡ output.old.frames) × (output.new.replies ≡ output.old.replies) }
+        ensures same { (output.new.at ≡ output.old.at) × (output.new.event ≡ output.old.event) × (output.new.frames ≡ output.old.frames) × (output.new.replies ≡ output.old.replies) × (output.new.kept ≡ output.old.kept) }
     {
         match carried {
             Some(frame) if is_opened(answer) => {
@@ -318,6 +319,7 @@ impl<S: Service, E: Broadcast, C: Coin + Drop> House<S, E, C> {
             bytes,
         };
         let answer = self.give(alloc, place, &event, &mut output.frames)?;
+        output.kept = is_kept(&event, answer);
         output.event = Some(event);
         self.respond(place, carried, answer, output);
         self.enter(alloc, place, count, output)

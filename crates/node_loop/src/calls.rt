@@ -2,7 +2,7 @@
 use crate::enter::enter_rows;
 use crate::house::House;
 use crate::output::Output;
-use crate::refusals::told;
+use crate::refusals::{is_kept, told};
 use layer_api::{Broadcast, Service};
 use replica::{OutFrame, Refusal};
 use ritas_base::{Coin, Event, Mem};
@@ -82,7 +82,7 @@ impl<S: Service, E: Broadcast, C: Coin + Drop> House<S, E, C> {
             → OnOk result (HouseStands m w es numbers self.new (left_by output.old.at count (rows_at w es output.old.at) ws) p
             × (map (reply_by output.old.at) output.new.replies.items
             ≡ map (reply_by output.old.at) output.old.replies.items ++ replies_by output.old.at count (rows_at w es output.old.at) ws)) }
-        ensures same { (output.new.at ≡ output.old.at) × (output.new.event ≡ output.old.event) × (output.new.frames ≡ output.old.frames) × (output.new.more ≡ output.old.more) }
+        ensures same { (output.new.at ≡ output.old.at) × (output.new.event ≡ output.old.event) × (output.new.frames ≡ output.old.frames) × (output.new.more ≡ output.old.more) × (output.new.kept ≡ output.old.kept) }
     {
         match self.replicas.get(place) {
             Some(replica) => enter_rows(
@@ -112,7 +112,8 @@ impl<S: Service, E: Broadcast, C: Coin + Drop> House<S, E, C> {
         ensures sized { IsSized event → OnOk result (IfSome output.new.event IsSized) }
     {
         let count = self.rows_at(place);
-        let _ = self.give(alloc, place, &event, &mut output.frames)?;
+        let answer = self.give(alloc, place, &event, &mut output.frames)?;
+        output.kept = is_kept(&event, answer);
         output.event = Some(event);
         self.enter(alloc, place, count, output)
     }

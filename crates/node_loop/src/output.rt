@@ -1,5 +1,5 @@
 //! What comes of an item or a turn.
-ghost use Rattle.std.specs.Prelude.{◌≡◌, [], None};
+ghost use Rattle.std.specs.Prelude.{◌≡◌, [], None, false};
 ghost use Rattle.node_loop.specs.declared.output.More.TheVariants as mores;
 
 use replica::OutFrame;
@@ -34,6 +34,8 @@ pub(crate) struct Output {
     pub at: u8,
     /// The event.
     pub event: Option<Event>,
+    /// Whether there is one that a journal keeps.
+    pub kept: bool,
     /// The frames, in the order in which they were made.
     pub frames: Vec<OutFrame>,
     /// What goes to a peer besides.
@@ -45,11 +47,12 @@ pub(crate) struct Output {
 impl Output {
     /// Nothing comes. It takes no memory.
     pub(crate) fn new(alloc: Global) -> Output
-        ensures { (result.event ≡ None) × (result.frames.items ≡ []) × (result.more ≡ mores.Nothing) × (result.replies.items ≡ []) }
+        ensures { (result.event ≡ None) × (result.frames.items ≡ []) × (result.more ≡ mores.Nothing) × (result.replies.items ≡ []) × (result.kept ≡ false) }
     {
         Output {
             at: 0,
             event: None,
+            kept: false,
             frames: Vec::new(alloc),
             more: More::Nothing,
             replies: Vec::new(alloc),
@@ -59,10 +62,11 @@ impl Output {
     /// Nothing comes yet of what is next, at this replica. What it took of memory is kept.
     pub(crate) fn clear(&mut self, at: u8)
         ensures at { self.new.at ≡ at }
-        ensures none { (self.new.event ≡ None) × (self.new.frames.items ≡ []) × (self.new.more ≡ mores.Nothing) × (self.new.replies.items ≡ []) }
+        ensures none { (self.new.event ≡ None) × (self.new.frames.items ≡ []) × (self.new.more ≡ mores.Nothing) × (self.new.replies.items ≡ []) × (self.new.kept ≡ false) }
     {
         self.at = at;
         self.event = None;
+        self.kept = false;
         self.frames.clear();
         self.more = More::Nothing;
         self.replies.clear();

@@ -1,14 +1,15 @@
-//! What a call answered: whether it was without memory, why it is refused as a client is told it, and whether a frame is to come
-//! again.
+//! What a call answered: whether it was without memory, why it is refused as a client is told it, whether a journal keeps it, and whether
+//! a frame is to come again.
 ghost use Rattle.std.specs.Prelude.{◌≡◌};
 ghost use Rattle.world_model.specs.World.{seen_answer};
 ghost use Rattle.node_loop.specs.Calls.{fault_number, refusal_in};
+ghost use Rattle.node_loop.specs.Keeping.{is_kept_so};
 ghost use Rattle.node_loop.specs.Resending.{is_deferred};
 ghost use Rattle.node_loop.specs.Standing.{is_opened, TellsWant};
 
 use frame_codec::BodyFault;
 use replica::Refusal;
-use ritas_base::Mem;
+use ritas_base::{Event, Mem};
 use ritas_core::{Answer, CoreFault};
 
 /// The number of a fault.
@@ -54,6 +55,19 @@ pub(crate) fn is_opened(answer: Result<Answer, Refusal>) -> bool
     ensures { result ≡ is_opened answer }
 {
     !matches!(answer, Err(Refusal::Open(_)))
+}
+
+/// Whether a journal keeps an event that was answered so: each turn, and what was taken or is held.
+pub(crate) fn is_kept(event: &Event, answer: Result<Answer, Refusal>) -> bool
+    ensures { result ≡ is_kept_so event.now (seen_answer answer) }
+{
+    match event {
+        Event::Turn { .. } => true,
+        Event::Frame { .. } | Event::Input { .. } => {
+            matches!(answer, Ok(Answer::Took) | Ok(Answer::Held))
+        }
+        _ => false,
+    }
 }
 
 /// Whether a frame that was answered so is to come again.

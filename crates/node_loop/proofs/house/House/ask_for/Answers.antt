@@ -22,7 +22,7 @@ returns-in-Some-clause-comes g c = λ w es numbers ws p stand number clear.
     (λ replied. comes_as _ w es numbers c.args.self.now c.reply.new.output (silent more ws)
     (asked_so w es at c.args.conn bytes ws (position_of (rows_at w es at) (asked_in at bytes).client (asked_in at bytes).request)) (quietly w es p)
     (sym (ap (asked_so w es at c.args.conn bytes ws) found))
-    (only_replies _ w es numbers c.args.self.now c.args.output.now c.reply.new.output more ws p stand clear c.reply.ensures.same.0 c.reply.ensures.same.1 c.reply.ensures.same.2 c.reply.ensures.same.3
+    (only_replies _ w es numbers c.args.self.now c.args.output.now c.reply.new.output more ws p stand clear c.reply.ensures.same.0 c.reply.ensures.same.1 c.reply.ensures.same.4 c.reply.ensures.same.2 c.reply.ensures.same.3
     (replied ∙ ap (λ b. map (reply_by at) c.args.output.now.replies.items ++ reply at b c.args.conn) said)))
     (c.reply.ensures.replies at)
 

@@ -8,6 +8,7 @@ use Rattle.node_loop.specs.Calls.{called}
 use Rattle.node_loop.specs.Peers.{keep_all}
 use Rattle.node_loop.specs.Resending.{opened_so}
 use Rattle.node_loop.specs.Serving.{made_by}
+use Rattle.node_loop.specs.Keeping.{is_kept_so}
 use Rattle.node_loop.proofs.Comings.{right_at, given_stands, came, same_more, comes_at}
 use Rattle.node_loop.proofs.Hearing.{heard, reads_of, entered_at}
 use Rattle.node_loop.proofs.house.House.frame.Goals as goal
@@ -34,5 +35,5 @@ returns-clause-comes g c = λ w es numbers ws p i stand one at_number clear.
     (opened_so w es at bytes (keep_all (made_by w es (Some e)) p) (opening (w.keys at) bytes))
     (c.rows_at-count.ensures w es numbers at stand.here number) clear.frames did.1 (ap (λ v. v.items) c.respond.ensures.same.3 ∙ clear.replies) right
     (same_more w at at c.enter.new.output.more c.respond.new.output.more _ refl c.enter.ensures.same.3 h.besides) h.kept y.0 y.1
-    (c.enter.ensures.same.0 ∙ at_is) (c.enter.ensures.same.1 ∙ c.respond.ensures.same.1) (ap (λ v. v.items) (c.enter.ensures.same.2 ∙ c.respond.ensures.same.2))))
+    (c.enter.ensures.same.0 ∙ at_is) (c.enter.ensures.same.1 ∙ c.respond.ensures.same.1) (c.enter.ensures.same.4 ∙ c.respond.ensures.same.4 ∙ c.is_kept-output.ensures ∙ ap (is_kept_so e) seen) (ap (λ v. v.items) (c.enter.ensures.same.2 ∙ c.respond.ensures.same.2))))
     (c.enter.ensures.enters w (e ∷ es) numbers ws h.before h.stands (number ∙ ap (λ k. Some k) (sym at_is)))

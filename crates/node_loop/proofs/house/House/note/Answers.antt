@@ -40,7 +40,7 @@ returns-in-Some-Again-clause-comes g c = λ w es numbers ws p stand number clear
     let peer = ((c.noted_from_peer.ensures (w.keys at) c.args.bytes.now).1 from said).0 in
     let below : from < w.numbers.n = omega (arith, peer, is.stands.many) in
     comes_with _ w es numbers _ _ _ (resends at from p) (noted_so at p (noted (w.keys at) c.args.bytes.now)) (sym (ap (noted_so at p) said))
-    (only_more _ w es numbers _ c.args.output.now _ ws (resends at from p) stand clear (below, refl) (λ faulty. absurd (both_ways (w.is_correct at) faulty is.correct)) refl refl refl refl)
+    (only_more _ w es numbers _ c.args.output.now _ ws (resends at from p) stand clear (below, refl) (λ faulty. absurd (both_ways (w.is_correct at) faulty is.correct)) refl refl refl refl refl)
 
 pub returns-in-None-clause-comes : goal.returns-in-None-clause-comes
 returns-in-None-clause-comes g c = λ w es numbers ws p stand number clear.

@@ -23,6 +23,7 @@ returns-clause-comes g c = λ w es numbers ws p stands right below.
     let asks = c.again_to-output.ensures w es numbers p at now.here placed below in
     record {
       event = none.0;
+      keeps = none.4;
       frames = ap (λ (fs : List OutFrame). map (frame_by o.at) fs) none.1;
       besides = subst (λ x. IsMore w x c.again_to-output.result (asks_for_more at peer p)) (sym same) asks;
       nowhere = λ wrong. absurd (both_ways (w.is_correct at) (ap w.is_correct (sym same) ∙ wrong) right);

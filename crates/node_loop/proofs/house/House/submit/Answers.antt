@@ -8,6 +8,7 @@ use Rattle.node_loop.specs.declared.waiting.Asked.{Asked}
 use Rattle.node_loop.specs.Waiting.{with_waiter}
 use Rattle.node_loop.specs.Calls.{called, asked_in, refusal_in, reply, refused, taken, submitted, submitted_so}
 use Rattle.node_loop.specs.Standing.{IsWaiting, reply_by}
+use Rattle.node_loop.specs.Keeping.{is_kept_so}
 use Rattle.node_loop.proofs.Comings.{right_at, given_stands, wait_else, quietly, came_quietly, replied_too, comes_as}
 use Rattle.node_loop.proofs.house.House.submit.Goals as goal
 
@@ -20,10 +21,10 @@ returns-in_ok-enter-in-Some-clause-comes g c = λ w es numbers ws p stand number
     let given = given_stands _ w es (e ∷ es) numbers c.args.self.now c.give.new.self ws p stand did.0 c.give.ensures.same.0 c.give.ensures.same.1 in
     let entered = c.in_ok-enter-in-Some.ensures.enters w (e ∷ es) numbers ws p given number in
     let right = right_at _ w es numbers c.args.self.now.replicas.items c.args.place at stand.here number in
+    let seen = c.in_ok-answer.ensures.answered w es numbers at stand.here number refl in
     let comes = came_quietly _ w es numbers c.enter.new.self c.enter.new.output at c.rows_at-count.result e c.args.output.now.frames.items c.give.new.frames.items c.args.output.now.replies.items ws p
     (c.rows_at-count.ensures w es numbers at stand.here number) clear.frames did.1 clear.replies right (c.enter.ensures.same.3 ∙ clear.more)
-    entered.0 entered.1 c.enter.ensures.same.0 c.enter.ensures.same.1 (ap (λ v. v.items) c.enter.ensures.same.2) in
-    let seen = c.in_ok-answer.ensures.answered w es numbers at stand.here number refl in
+    entered.0 entered.1 c.enter.ensures.same.0 c.enter.ensures.same.1 (c.enter.ensures.same.4 ∙ c.is_kept-output.ensures ∙ ap (is_kept_so e) seen) (ap (λ v. v.items) c.enter.ensures.same.2) in
     let code : refusal_in (seen_of w es e) ≡ Some c.in-Some.code = ap refusal_in (sym seen) ∙ sym c.refusal_in.ensures ∙ c.in-Some.is in
     let asked : c.asked_in-asked.result ≡ asked_in at bytes = c.asked_in-asked.ensures ∙ ap (asked_in at) c.as_slice.ensures in
     let said = c.write_refusal-refusal.ensures ∙ ap (λ (a : Asked). refusal_reply a.client a.request c.in-Some.code) asked in
@@ -32,7 +33,7 @@ returns-in_ok-enter-in-Some-clause-comes g c = λ w es numbers ws p stand number
     (λ replied. comes_as _ w es numbers c.enter.new.self c.reply.new.output (refused w es at c.args.conn bytes c.in-Some.code ws) (submitted w es at c.args.conn bytes ws) (quietly w es p)
     (sym (ap (submitted_so w es at c.args.conn bytes ws) code))
     (replied_too _ w es numbers c.enter.new.self c.enter.new.output c.reply.new.output at (called w es at e ws) more (quietly w es p (called w es at e ws)) comes c.enter.ensures.same.0
-    c.reply.ensures.same.0 c.reply.ensures.same.1 c.reply.ensures.same.2 c.reply.ensures.same.3
+    c.reply.ensures.same.0 c.reply.ensures.same.1 c.reply.ensures.same.4 c.reply.ensures.same.2 c.reply.ensures.same.3
     (replied ∙ ap (λ b. map (reply_by at) c.enter.new.output.replies.items ++ reply at b c.args.conn) said)))
     (c.reply.ensures.replies at)
 
@@ -55,5 +56,5 @@ returns-in_ok-push-in-None-clause-comes g c = λ w es numbers ws p stand number 
     (sym (ap (submitted_so w es at c.args.conn bytes ws) code))
     (came_quietly _ w es numbers c.enter-in-None.new.self c.enter-in-None.new.output at c.rows_at-count.result e c.args.output.now.frames.items c.give.new.frames.items c.args.output.now.replies.items us p
     (c.rows_at-count.ensures w es numbers at stand.here number) clear.frames did.1 clear.replies right (c.enter-in-None.ensures.same.3 ∙ clear.more)
-    x.0 x.1 c.enter-in-None.ensures.same.0 c.enter-in-None.ensures.same.1 (ap (λ v. v.items) c.enter-in-None.ensures.same.2)))
+    x.0 x.1 c.enter-in-None.ensures.same.0 c.enter-in-None.ensures.same.1 (c.enter-in-None.ensures.same.4 ∙ c.is_kept-output.ensures ∙ ap (is_kept_so e) seen) (ap (λ v. v.items) c.enter-in-None.ensures.same.2)))
     (c.enter-in-None.ensures.enters w (e ∷ es) numbers us p (wait_else _ w (e ∷ es) numbers c.give.new.self (record { replicas = c.give.new.self.replicas; waiting = c.push.new.self; keepers = c.give.new.self.keepers }) ws us p given refl refl waits) number)

@@ -25,7 +25,7 @@ returns-then-peer-n-clause-comes g c = λ w es numbers ws p stand.
     (ap (λ k. resends k c.args.peer p) at_is
     ∙ sym (ap₂ (λ (a b : Bool). if a && b then resends c.args.at c.args.peer p else nothing_more p) placed.0 (lt-ltb c.args.peer w.numbers.n below)))
     (only_more _ w es numbers _ c.clear.new.self _ ws (resends c.clear.new.self.at c.args.peer p) stand (cleared c.clear.new.self c.clear.ensures.none) (below, refl)
-    (λ faulty. absurd (both_ways (w.is_correct c.args.at) (ap w.is_correct (sym at_is) ∙ faulty) placed.0)) refl refl refl refl)
+    (λ faulty. absurd (both_ways (w.is_correct c.args.at) (ap w.is_correct (sym at_is) ∙ faulty) placed.0)) refl refl refl refl refl)
 
 pub returns-else-peer-n-clause-comes : goal.returns-else-peer-n-clause-comes
 returns-else-peer-n-clause-comes g c = λ w es numbers ws p stand.
