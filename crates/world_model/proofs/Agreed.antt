@@ -15,7 +15,7 @@ use Rattle.world_model.specs.Agreement.{history_of}
 use Rattle.world_model.specs.Agree.{log_of, command_of, OneIsPart, Agree, AgreeLaw}
 use Rattle.world_model.proofs.Law.{audit_parts, enough_of, law_of}
 use Rattle.world_model.proofs.Said.{asked_given}
-use Rattle.world_model.proofs.Logged.{ids_distinct, rows_one, row_submitted}
+use Rattle.world_model.proofs.Logged.{ids_distinct, rows_one, row_submitted, row_confirmed_at}
 use Rattle.world_model.proofs.Words.{WordsAt, session_of, words_after}
 use Rattle.world_model.specs.CoreLaws.{CoreLaws}
 use Rattle.world_model.proofs.Below.{IsSoundOver}
@@ -39,8 +39,9 @@ agree_of w es sound one holds =
     let ids = ids_one w es one x run in
     record {
       logs = λ i j left right. rows_one w es sound holds values i j left right (ids i j left right);
-      once = λ i. rows_once (entries_of (command_of w es i) (log_of w es i));
+      once = λ i. rows_once w.numbers.f (entries_of (command_of w es i) (log_of w es i));
       submitted = λ i r correct good here. row_submitted w es sound holds values i r correct good here;
+      confirmed = row_confirmed_at w es sound holds values;
       identifiers = ids;
       distinct = ids_distinct w es sound holds values;
       values = values;

@@ -7,7 +7,6 @@ pub mod Runs
 pub mod Inputs
 pub mod Prints
 pub mod Took
-pub mod MessageKeys
 pub mod HashedSteps
 pub mod Meeting
 pub mod Pairs

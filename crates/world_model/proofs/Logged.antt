@@ -1,23 +1,33 @@
 -- The logs of commands of correct replicas, from their identifier logs and one value at each slot.
-use Rattle.std.specs.Prelude.{◌≡◌, ℕ, true, List, [], ◌∷◌, ◌++◌, Option, Some, None, is_some, unwrap_or, refl}
-use Rattle.std.proofs.Common.{sym, ◌∙◌, ap, subst, inl, inr}
+use Rattle.std.specs.Prelude.{◌≡◌, ℕ, zero, suc, ◌+◌, ◌-◌, ◌<◌, ◌≤◌, ◌==◌, Bool, true, false, cond, if◌then◌else◌, count_by, List, [], ◌∷◌, ◌++◌, length, Option, Some, None, is_some, unwrap_or, refl}
+use Rattle.std.specs.List.{range_with_len}
+use Rattle.std.proofs.Common.{sym, ◌∙◌, ap, ap₂, subst, inl, inr, arith}
+use Rattle.std.proofs.lemmas.Bool.{ltb-true, false_from_ne_true}
+use Rattle.std.proofs.lemmas.List.Sums.{sum_by_push}
+use Rattle.std.proofs.lemmas.List.FromFn.{length-range_with_len}
 use Rattle.ritas_base.specs.declared.event.Event.{Event}
 use Rattle.ritas_base.specs.declared.id.Id.{Id}
 use Rattle.ritas_base.specs.Slots.{command_slot}
-use Rattle.layer_api.specs.Service.{AreHeard, AreProper, AreDistinct, IsPart}
+use Rattle.ritas_base.specs.SlotLaws.{right_is}
+use Rattle.ritas_base.specs.History.{replicas}
+use Rattle.ritas_base.specs.RangeLaws.{range_more}
+use Rattle.ritas_base.specs.Quorums.{meet_two}
+use Rattle.layer_api.specs.Service.{AreHeard, AreProper, AreDistinct, MayHear, MayWord, IsPart}
 use Rattle.layer_api.specs.Words.{Word, is_heard, value_at}
+use Rattle.layer_api.specs.FedLaws.{heard_met}
 use Rattle.layer_api.specs.PartLaws.{heard_is}
-use Rattle.command_log.specs.Rows.{Row, row_of, IsIn, HasRow}
-use Rattle.command_log.specs.Laws.{command_part, row_is}
+use Rattle.command_log.specs.Rows.{Row, row_of, is_same, is_origin, origins, entry_of, entries_of, IsIn, HasRow}
+use Rattle.command_log.specs.Laws.{command_part, row_is, row_confirmed, AreOne, one_from, IsOriginOf, origin_is}
 use Rattle.ritas_core.specs.Rules.{seat_of}
 use Rattle.ritas_core.specs.Heard.{heard_delivered}
 use Rattle.world_model.specs.declared.audit.Audit.TheVariants.{Holds}
 use Rattle.world_model.specs.World.{Setting, rules_at}
 use Rattle.world_model.specs.Audit.{has_too_many, first_broken, audit_of}
-use Rattle.world_model.specs.Agreement.{history_of, OneValueEach}
-use Rattle.world_model.specs.Agree.{words_of, log_of, command_of, rows_at, OneIsPart, IsSubmitted}
+use Rattle.ritas_core.specs.Parts.{Entry, Took, Given}
+use Rattle.world_model.specs.Agreement.{inputs_of, input_at, history_of, OneValueEach}
+use Rattle.world_model.specs.Agree.{words_of, log_of, command_of, rows_at, OneIsPart, HasInput, IsSubmitted, IsConfirmed}
 use Rattle.world_model.proofs.Worlds.{layer_laws, world_after}
-use Rattle.world_model.proofs.Law.{audit_parts}
+use Rattle.world_model.proofs.Law.{audit_parts, enough_of}
 use Rattle.world_model.proofs.Below.{IsSoundOver}
 
 in_more : (x : Id) (more xs : List Id) → IsIn x xs → IsIn x (more ++ xs)
@@ -35,6 +45,32 @@ heard_in words x (y ∷ ys) all (inr there) = heard_in words x ys all.1 there
 some_is : (o : Option (List ℕ)) → is_some o ≡ true → (v : List ℕ) × (o ≡ Some v)
 some_is None is = absurd (cc)
 some_is (Some v) is = (v, refl)
+
+-- an input of a number is an input
+input_has : (h : List Entry) (k : ℕ) (v : List ℕ) → input_at h k ≡ Some v → HasInput h v
+input_has [] k v is = absurd (cc)
+input_has (Given u ∷ h) k v is = go (λ e. input_has h k v e) (inputs_of h == k) is
+  where
+    some : Some u ≡ Some v → u ≡ v
+    some e = cc
+
+    go : (input_at h k ≡ Some v → HasInput h v) → (b : Bool) → (if b then Some u else input_at h k) ≡ Some v → HasInput (Given u ∷ h) v
+    go older true e = inl (some e)
+    go older false e = inr (older e)
+input_has (Took x ∷ h) k v is = input_has h k v is
+
+-- of a test that no number from n on passes as many pass below a greater number
+count_from : (p : ℕ → Bool) (n more : ℕ) → ((k : ℕ) → n ≤ k → p k ≡ false) → (m : ℕ) → more + n ≡ m → count_by p (replicas m) ≡ count_by p (replicas n)
+count_from p n zero none m is = let same : m ≡ n = omega (arith, is) in ap (λ (k : ℕ). count_by p (replicas k)) same
+count_from p n (suc more) none zero is = absurd (omega (arith, is))
+count_from p n (suc more) none (suc m) is =
+    let rest = count_from p n more none m (omega (arith, is)) in
+    ap (count_by p) (range_more 0 m m (omega arith))
+    ∙ (sum_by_push (λ k. cond {A = ℕ} (p k) 1 0) (range_with_len 0 m) m
+    ∙ (ap (λ (b : Bool). count_by p (replicas m) + cond {A = ℕ} b 1 0) (none m (omega (arith, is))) ∙ omega (arith, rest)))
+
+count_all : (p : ℕ → Bool) (n : ℕ) → n ≤ 31 → ((k : ℕ) → n ≤ k → p k ≡ false) → count_by p (replicas 32) ≡ count_by p (replicas n)
+count_all p n few none = count_from p n (32 - n) none 32 (omega (arith, few))
 
 module _ (w : Setting) (es : List Event) (sound : IsSoundOver w) (holds : audit_of w es ≡ Holds) (values : OneValueEach w es) where
   proper : (i : ℕ) → w.is_correct i ≡ true → AreProper w.service (seat_of (rules_at w i)) (words_of w es i)
@@ -65,7 +101,7 @@ module _ (w : Setting) (es : List Event) (sound : IsSoundOver w) (holds : audit_
   rows_part : (i j : ℕ) → w.is_correct i ≡ true → w.is_correct j ≡ true → IsPart (log_of w es i) (log_of w es j)
       → IsPart (rows_at w es i) (rows_at w es j)
   rows_part i j left right part =
-      command_part (command_of w es i) (command_of w es j) (log_of w es i) (log_of w es j) part
+      command_part w.numbers.f (command_of w es i) (command_of w es j) (log_of w es i) (log_of w es j) part
       (λ x here. same_command i j left right x here (in_part x (log_of w es i) (log_of w es j) part here))
 
   -- of two replicas' rows one is a part of the other, as of their identifier logs
@@ -78,7 +114,7 @@ module _ (w : Setting) (es : List Event) (sound : IsSoundOver w) (holds : audit_
   pub row_submitted : (i : ℕ) (r : Row) → w.is_correct i ≡ true → w.is_correct r.id.origin ≡ true → HasRow (rows_at w es i) r
       → IsSubmitted w es r
   row_submitted i r correct good here =
-      let x = row_is (command_of w es i) (log_of w es i) r here in
+      let x = row_is w.numbers.f (command_of w es i) (log_of w es i) r here in
       let same : x.id ≡ r.id = ap (λ (q : Row). q.id) x.row in
       let v = has_command i correct x.id x.listed in
       let of : command_of w es i r.id ≡ Some v.0 = ap (command_of w es i) (sym same) ∙ v.1 in
@@ -89,3 +125,46 @@ module _ (w : Setting) (es : List Event) (sound : IsSoundOver w) (holds : audit_
         given = values.inputs r.id.origin r.id.num i v.0 correct good of;
         row = subst (λ (y : Id). row_of (record { id = y; command = v.0 }) ≡ r) same row;
       }
+
+  -- an identifier in the log is of a replica
+  of_replica : (i : ℕ) → w.is_correct i ≡ true → (x : Id) → IsIn x (log_of w es i) → x.origin < w.numbers.n
+  of_replica i correct x here =
+      let s = command_slot x.origin x.num in
+      let all = sound.world.words.done_heard (seat_of (rules_at w i)) (words_of w es i) (proper i correct) in
+      let heard = heard_in (words_of w es i) x (log_of w es i) all here in
+      let v = some_is (value_at (words_of w es i) s) (sym (heard_is (words_of w es i) s) ∙ heard) in
+      let met : MayHear w.service (seat_of (rules_at w i)) _ s v.0 = (heard_met (MayWord w.service (seat_of (rules_at w i))) (words_of w es i) s v.0 (proper i correct) v.1).1 in
+      ltb-true x.origin w.numbers.n (right_is w.numbers w.mode s met.right).origin
+
+  -- an origin of a command that is correct had it as an input
+  origin_given : (i : ℕ) (r : Row) → w.is_correct i ≡ true → (k : ℕ) → w.is_correct k ≡ true → IsOriginOf (command_of w es i) (log_of w es i) r k → IsConfirmed w es r
+  origin_given i r correct k good origin =
+      let v = has_command i correct origin.id origin.listed in
+      let there : w.is_correct origin.id.origin ≡ true = ap w.is_correct origin.origin ∙ good in
+      let same : is_same (row_of (record { id = origin.id; command = v.0 })) r ≡ true =
+      ap (λ o. is_same (row_of (record { id = origin.id; command = unwrap_or o [] })) r) (sym v.1) ∙ origin.same in
+      let one = one_from (row_of (record { id = origin.id; command = v.0 })) r same in
+      record {
+        at = origin.id.origin;
+        correct = there;
+        command = v.0;
+        given = input_has (history_of w es origin.id.origin) origin.id.num v.0 (values.inputs origin.id.origin origin.id.num i v.0 correct there v.1);
+        client = one.client;
+        request = one.request;
+        payload = one.payload;
+      }
+
+  -- of the origins of a row's command one is correct, and had it as an input
+  pub row_confirmed_at : (i : ℕ) (r : Row) → w.is_correct i ≡ true → HasRow (rows_at w es i) r → IsConfirmed w es r
+  row_confirmed_at i r correct here =
+      let n = w.numbers.n in
+      let entries = entries_of (command_of w es i) (log_of w es i) in
+      let enough = enough_of w sound (audit_parts (has_too_many w) (first_broken w es) holds).0 in
+      let many = row_confirmed w.numbers.f entries r here in
+      let from : (k : ℕ) → is_origin entries r k ≡ true → IsOriginOf (command_of w es i) (log_of w es i) r k = origin_is (command_of w es i) (log_of w es i) r in
+      let below : (k : ℕ) → n ≤ k → is_origin entries r k ≡ false =
+      λ k far. false_from_ne_true (is_origin entries r k) (λ is.
+      let o = from k is in let small = of_replica i correct o.id o.listed in absurd (omega (arith, far, small, o.origin))) in
+      let all = count_all (is_origin entries r) n enough.session.most below in
+      let both = meet_two (is_origin entries r) w.is_correct (replicas n) (omega (arith, many, all, enough.many, length-range_with_len 0 n)) in
+      origin_given i r correct both.member both.second (from both.member both.first)

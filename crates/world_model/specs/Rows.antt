@@ -223,11 +223,11 @@ command = 0 ∷ 0 ∷ 0 ∷ 7 ∷ 0 ∷ 0 ∷ 0 ∷ 1 ∷ 9 ∷ []
 abbrev row_from : ℕ → Row
 row_from origin = record { id = record { origin = origin; num = 0 }; client = 7; request = 1; payload = 9 ∷ [] }
 
--- with the identifiers 3.0 and 2.0, oldest first, a log has one row, that of replica 3
-abbrev by_both : Id → Option (List ℕ)
-by_both x = Some command
+-- with f = 1 and the identifiers 3.0, 2.0 and 1.0, oldest first, a log has one row, that of replica 2, which confirmed the command
+abbrev by_all : Id → Option (List ℕ)
+by_all x = Some command
 
-one_row : command_rows by_both (record { origin = 2; num = 0 } ∷ record { origin = 3; num = 0 } ∷ []) ≡ row_from 3 ∷ []
+one_row : command_rows 1 by_all (record { origin = 1; num = 0 } ∷ record { origin = 2; num = 0 } ∷ record { origin = 3; num = 0 } ∷ []) ≡ row_from 2 ∷ []
 one_row = refl
 
 -- one log is a prefix of another that has a row more

@@ -46,9 +46,8 @@ pub fn prefix_holds()
     ensures { (w : Setting) (later es : List Event) → audit_of w (later ++ es) ≡ Audit.Holds → audit_of w es ≡ Audit.Holds }
 {}
 
-/// In every world whose audit holds, correct replicas' logs of commands are prefixes of one list, with each command once; a
-/// correct replica's command stands there only if it was submitted there; and no two correct replicas decide differently in
-/// any instance.
+/// In every world whose audit holds, correct replicas' logs of commands are prefixes of one list, with each command once;
+/// each command there was submitted at a correct replica; and no two correct replicas decide differently in any instance.
 ///
 /// - *Every world*: whatever its keys, its coins and its schedule. A frame that is never handed over is lost. Frames come
 ///   in any order and as often as the schedule says. Faulty replicas are whatever bytes it hands in under their numbers.
@@ -58,8 +57,9 @@ pub fn prefix_holds()
 /// - *Prefixes of one list*: of the logs of any two correct replicas one is a prefix of the other, so all are prefixes of
 ///   the longest. It is so of the identifier logs too, where each identifier stands once.
 /// - *Each command once*: a log has one row for each client and request.
-/// - *Submitted there*: a row whose identifier's origin is correct has the client, the request and the payload of that
-///   replica's input of the identifier's number, from 0. A row of a faulty origin may hold a command that no client sent.
+/// - *Submitted at a correct replica*: a row has the client, the request and the payload of an input of some correct
+///   replica, since f + 1 replicas broadcast that command. Where its identifier's origin is correct, they are those of that
+///   replica's input of the identifier's number, from 0.
 /// - *Any instance*: at each slot of a broadcast they deliver one value, as `one_value_each` says; what became of their one
 ///   instance is equal where both are decided; and so is what they decided in each instance inside, of one bit, of one value
 ///   or of a vector, where no value and no vector are decisions too. Besides, a bit that is decided was an input of some
@@ -109,9 +109,9 @@ pub fn stopped_between()
 
 /// What `agreement_each` says, of every world with this service and this broadcast beside the reliable one, whatever keys
 /// and coins its replicas have, for every n of at least 3f + 1, where the audit holds: correct replicas' logs of commands
-/// are prefixes of one list, with each command once; a correct replica's command stands there only if it was submitted
-/// there; and no two correct replicas decide differently in any instance. The layers, channel and codec of such a world
-/// keep to what `agreement_each` rests on.
+/// are prefixes of one list, with each command once; each command there was submitted at a correct replica; and no two
+/// correct replicas decide differently in any instance. The layers, channel and codec of such a world keep to what
+/// `agreement_each` rests on.
 ///
 /// It does nothing: its contract is the law.
 pub fn agreement<S: Service, E: Broadcast>()

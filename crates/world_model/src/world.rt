@@ -143,10 +143,10 @@ impl<S: Service, E: Broadcast, C: Coin + Drop> World<S, E, C> {
 
     /// Whether the world's premises held: at least n - f replicas are correct, and no event forged or collided. If not, the
     /// first event that breaks one; one that does both forged. Where they held, the correct replicas agree: their logs of
-    /// commands are prefixes of one list, with each command once; a correct replica's command stands there only if it was
-    /// submitted there; no two of them decide differently in any instance; and no vector consensus of theirs is spent, as
-    /// `agreement_each` says. A stopped world's
-    /// is the audit of the events before the one that stopped it; `stopped_between` says what its replicas' rows are.
+    /// commands are prefixes of one list, with each command once; each command there was submitted at a correct replica; no
+    /// two of them decide differently in any instance; and no vector consensus of theirs is spent, as `agreement_each` says.
+    /// A stopped world's is the audit of the events before the one that stopped it; `stopped_between` says what its replicas'
+    /// rows are.
     pub fn audit(&self) -> Audit
         ensures is { (w : Setting) (es : List Event)
             → WorldStands (meaning S.stands S.rules S.shown E.stands E.rules E.shown C.bits (λ k. k.me) tags_of) self.now w es

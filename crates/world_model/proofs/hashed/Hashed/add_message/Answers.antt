@@ -2,7 +2,7 @@ use Rattle.std.proofs.Common.{refl, ◌∙◌, ap, cond, Some}
 use Rattle.std.specs.Str.{bytes_eq}
 use Rattle.world_model.specs.Hashed.{digest_at}
 use Rattle.world_model.proofs.HashedSteps.{digest_taken, was_new, message_put}
-use Rattle.world_model.proofs.MessageKeys.{put_at_bytes}
+use Rattle.command_log.specs.ByteKeys.{put_at_bytes}
 use Rattle.world_model.proofs.hashed.Hashed.add_message.Goals as goal
 
 pub returns-then-not-branch : goal.returns-then-not-branch
