@@ -40,7 +40,7 @@ pass_happens w p steps within i j m from to apart = record {
 }
 
 pub throw_happens : (w : Setting) (p : Plan) (steps : List Step) → AreWithin w → (i j : ℕ) (rest bytes : List ℕ) → w.is_correct i ≡ false → w.is_correct j ≡ true
-    → bytes ≡ thrown i j rest → Happens w p steps (Throw i j rest) (events.Frame j bytes)
+    → bytes ≡ thrown w.mode.version i j rest → Happens w p steps (Throw i j rest) (events.Frame j bytes)
 throw_happens w p steps within i j rest bytes from to is = record {
   is = from;
   events = ap (λ (b : List ℕ). events.Frame j b ∷ events_by w p steps) (sym is);

@@ -2,10 +2,11 @@
 ghost use Rattle.std.specs.Prelude.{◌≡◌, ◌≤◌, ◌<◌, ◌^◌, length, IfOk};
 ghost use Rattle.std.specs.List.{slice_get};
 ghost use Rattle.ritas_base.specs.declared.event.Event.TheVariants as events;
+ghost use Rattle.keyed_channel.specs.Frames.{version_byte};
 ghost use Rattle.schedule_file.specs.Spelling.{IsSized};
 ghost use Rattle.world_model.specs.Players.{thrown};
 
-use ritas_base::{Bytes, Event, Mem};
+use ritas_base::{Bytes, Event, FrameVersion, Mem};
 use std::alloc::Global;
 
 /// A copy of the frame of this number, from 0. The one error is want of memory.
@@ -38,13 +39,30 @@ pub(crate) fn frame_event(to: u8, bytes: Bytes) -> Result<Event, Mem>
     Ok(Event::Frame { to, bytes })
 }
 
-/// A frame that nobody can open. The one error is want of memory.
-pub(crate) fn thrown(alloc: Global, from: u8, to: u8, rest: &[u8]) -> Result<Bytes, Mem>
+// The first byte of a version's frames.
+fn version_byte(version: FrameVersion) -> u8
+    ensures { result ≡ version_byte version }
+{
+    match version {
+        FrameVersion::One => 1,
+        FrameVersion::Two => 2,
+    }
+}
+
+/// A frame of a version that nobody can open. The one error is want of memory.
+pub(crate) fn thrown(
+    alloc: Global,
+    version: FrameVersion,
+    from: u8,
+    to: u8,
+    rest: &[u8],
+) -> Result<Bytes, Mem>
     requires { length rest.now ≤ 1000 }
-    ensures is { IfOk result (λ bytes. bytes ≡ thrown from to rest.now) }
+    ensures is { IfOk result (λ bytes. bytes ≡ thrown version from to rest.now) }
     ensures short { IfOk result (λ bytes. length bytes < 2 ^ 16) }
 {
-    let mut bytes = Vec::from_slice(alloc, &[1, from, to, 0, 0, 0, 0, 0, 0, 0, 0, 255])?;
+    let first = version_byte(version);
+    let mut bytes = Vec::from_slice(alloc, &[first, from, to, 0, 0, 0, 0, 0, 0, 0, 0, 255])?;
     bytes.extend_from_slice(rest)?;
     Ok(Bytes::from_vec(bytes))
 }

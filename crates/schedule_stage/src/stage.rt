@@ -204,14 +204,21 @@ impl<S: Service, E: Broadcast> Stage<S, E> {
     }
 
     /// A frame that nobody made comes to a correct replica under the number of a faulty one.
-    pub fn throw(&mut self, alloc: Global, from: u8, to: u8, rest: &[u8]) -> Result<(), Halt>
+    pub fn throw(
+        &mut self,
+        alloc: Global,
+        plan: &Plan,
+        from: u8,
+        to: u8,
+        rest: &[u8],
+    ) -> Result<(), Halt>
         requires { length rest.now ≤ 1000 }
         ensures { let m = layers_by S.stands S.rules S.shown E.stands E.rules E.shown in
-            (p : Plan) (what : DriveWhat) (steps : List Step) → IsStage m p what self.old steps
-            → (world_in m p).is_correct from ≡ false → (world_in m p).is_correct to ≡ true
-            → Reaches m p what self.new (Throw from to rest.now ∷ steps) result }
+            (what : DriveWhat) (steps : List Step) → IsStage m plan.now what self.old steps
+            → (world_in m plan.now).is_correct from ≡ false → (world_in m plan.now).is_correct to ≡ true
+            → Reaches m plan.now what self.new (Throw from to rest.now ∷ steps) result }
     {
-        let bytes = thrown(alloc, from, to, rest)?;
+        let bytes = thrown(alloc, plan.mode.version, from, to, rest)?;
         self.happen(alloc, &Event::Frame { to, bytes })
     }
 
