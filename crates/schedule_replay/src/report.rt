@@ -135,7 +135,7 @@ fn add_ending<S: Service, E: Broadcast, C: Coin + Drop>(
 
 // Appends the line of a row, where the log has one at this position.
 fn add_row(alloc: Global, text: &mut String, log: &Log, position: u32) -> Result<(), AllocError>
-    ensures { OnOk result (string_bytes text.new ≡ string_bytes text.old ++ row_line position (row_at log.now position)) }
+    ensures { OnOk result (string_bytes text.new ≡ string_bytes text.old ++ row_line position (row_at log.now.rows position)) }
 {
     match log.row(position) {
         Some(row) => {
@@ -149,7 +149,7 @@ fn add_row(alloc: Global, text: &mut String, log: &Log, position: u32) -> Result
 
 // Appends the lines of a command log.
 fn add_rows(alloc: Global, text: &mut String, log: &Log) -> Result<(), AllocError>
-    ensures { OnOk result (string_bytes text.new ≡ string_bytes text.old ++ row_lines log.now) }
+    ensures { OnOk result (string_bytes text.new ≡ string_bytes text.old ++ row_lines log.now.rows) }
 {
     for position in 0..log.len() {
         add_row(alloc, text, log, position)?;

@@ -8,11 +8,11 @@ use Rattle.schedule_replay.proofs.report.add_rows.Goals as goal
 pub loop-position-preserved : goal.loop-position-preserved
 loop-position-preserved c =
     written_next (string_bytes c.args.text.now) (string_bytes c.loop-position.text) (string_bytes c.add_row.new.text)
-    (λ position. row_line position (row_at c.args.log.now position)) c.loop-position.position c.loop-position.invariant c.in_ok-add_row.ensures
+    (λ position. row_line position (row_at c.args.log.now.rows position)) c.loop-position.position c.loop-position.invariant c.in_ok-add_row.ensures
 
 pub returns : goal.returns
 returns c =
-    let all : c.loop-position.position ≡ length c.args.log.now =
+    let all : c.loop-position.position ≡ length c.args.log.now.rows =
     omega (arith, c.loop-position-test.false, c.loop-position.auto.position-end, c.len-position-end.ensures) in
-    let line : ℕ → List ℕ = λ position. row_line position (row_at c.args.log.now position) in
+    let line : ℕ → List ℕ = λ position. row_line position (row_at c.args.log.now.rows position) in
     c.loop-position.invariant ∙ ap (λ (n : ℕ). string_bytes c.args.text.now ++ flat_map line (range_with_len 0 n)) all
