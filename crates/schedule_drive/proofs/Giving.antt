@@ -3,6 +3,7 @@ use Rattle.std.proofs.Common.{◌≡◌, ℕ, ◌+◌, ◌%◌, ◌/◌, ◌<◌
 use Rattle.std.specs.List.{flat_map, range_with_len}
 use Rattle.std.proofs.lemmas.Bool.{lt-ltb}
 use Rattle.std.proofs.lemmas.List.{append-nil, at_drop_more}
+use Rattle.std.proofs.lemmas.List.Concat.{flat_map-cons}
 use Rattle.std.proofs.lemmas.Nat.{mod_below}
 use Rattle.ritas_base.specs.declared.plan.Plan.{Plan}
 use Rattle.ritas_base.specs.declared.what.DriveWhat.{DriveWhat}
@@ -15,7 +16,7 @@ use Rattle.world_model.specs.declared.player.Player.{Player}
 use Rattle.world_model.specs.declared.player.Player.TheVariants.{Correct, Face}
 use Rattle.world_model.specs.Players.{Step, Give, IsPlayer}
 use Rattle.schedule_plan.specs.Plans.{correct_of, cast_of, players_of}
-use Rattle.schedule_plan.specs.Inputs.{takes_commands, command_text, value_text, command_at, value_at, correct_inputs, flip_inputs, given_to, face_inputs, inputs_of}
+use Rattle.schedule_plan.specs.Inputs.{takes_commands, command_text, value_text, copies_of, copy_at, command_at, value_at, correct_inputs, flip_inputs, given_to, face_inputs, inputs_of}
 use Rattle.schedule_plan.proofs.Planned.{IsPlanned, player_is, some_correct}
 use Rattle.schedule_stage.specs.declared.halt.Halt.{Halt}
 use Rattle.schedule_stage.specs.declared.stage.Stage.{Stage}
@@ -28,8 +29,11 @@ use Rattle.schedule_drive.proofs.Toward.{IsToward, Nears, in_parts, nears, up_to
 pub first_is : (w : Setting) (p : Plan) → IsPlanned w p → (i : ℕ) → i < correct_of p → IsPlayer w (cast_of p.attack) (Correct i)
 first_is w p planned i below = planned.correct i ∙ lt-ltb i (correct_of p) below
 
-pub command_is : (p : Plan) (k at : ℕ) (text : List ℕ) → at ≡ k % correct_of p → text ≡ command_text p.mode.root at k k → Give (Correct at) text ≡ command_at p k
-command_is p k at text is says = ap (λ (t : List ℕ). Give (Correct at) t) says ∙ ap (λ (i : ℕ). Give (Correct i) (command_text p.mode.root i k k)) is
+pub copy_is : (p : Plan) (k behind client at : ℕ) (text : List ℕ) → client ≡ k % correct_of p → at ≡ (k + behind) % correct_of p → text ≡ command_text p.mode.root client k k
+    → Give (Correct at) text ≡ copy_at p k behind
+copy_is p k behind client at text first is says =
+    ap (λ (t : List ℕ). Give (Correct at) t) (says ∙ ap (λ (i : ℕ). command_text p.mode.root i k k) first)
+    ∙ ap (λ (i : ℕ). Give (Correct i) (command_text p.mode.root (k % correct_of p) k k)) is
 
 pub value_is : (p : Plan) (i : ℕ) (text : List ℕ) → text ≡ value_text p.mode.root (i % p.commands) → Give (Correct i) text ≡ value_at p i
 value_is p i text says = ap (λ (t : List ℕ). Give (Correct i) t) says
@@ -37,9 +41,9 @@ value_is p i text says = ap (λ (t : List ℕ). Give (Correct i) t) says
 -- ---- the correct replicas
 
 abbrev inputs_by : Plan → Bool → Bool → List Step
-inputs_by p a b = if a then map (command_at p) (range_with_len 0 p.commands) else (if b then [] else map (value_at p) (range_with_len 0 (correct_of p)))
+inputs_by p a b = if a then flat_map (command_at p) (range_with_len 0 p.commands) else (if b then [] else map (value_at p) (range_with_len 0 (correct_of p)))
 
-pub commands_in : (p : Plan) → takes_commands p.mode.root ≡ true → correct_inputs p ≡ map (command_at p) (range_with_len 0 p.commands)
+pub commands_in : (p : Plan) → takes_commands p.mode.root ≡ true → correct_inputs p ≡ flat_map (command_at p) (range_with_len 0 p.commands)
 commands_in p takes = ap (λ (a : Bool). inputs_by p a (p.commands == 0)) takes
 
 pub nothing_in : (p : Plan) → takes_commands p.mode.root ≡ false → (p.commands == 0) ≡ true → correct_inputs p ≡ []
@@ -59,16 +63,22 @@ flipped_in p a text takes some says =
 -- ---- one input more
 
 module _ {S E : Type 0} (m : Meaning S E CoinSeed KeyRow) (p : Plan) (what : DriveWhat) (planned : IsPlanned (world_in m p) p) (old new : Stage S E) (target : List Step) (r : Result (Unit {0}) Halt) where
-  pub command_given : (k at : ℕ) (text : List ℕ) → k < p.commands → at ≡ k % correct_of p → text ≡ command_text p.mode.root at k k
-      → IsToward m p what old (map (command_at p) (up_to k p.commands)) target
-      → ((steps : List Step) → IsStage m p what old steps → IsPlayer (world_in m p) (cast_of p.attack) (Correct at) → Reaches m p what new (Give (Correct at) text ∷ steps) r)
-      → Nears m p what new (map (command_at p) (up_to (k + 1) p.commands)) target r
-  command_given k at text below is says toward gives =
-      let first = mod_below k (correct_of p) (some_correct p planned.session).0 in
-      let player = first_is (world_in m p) p planned at (subst (λ (i : ℕ). i < correct_of p) (sym is) first) in
-      let next = ap (map (command_at p)) (next_up k p.commands below) in
-      nears m p what old new (command_at p k ∷ []) (map (command_at p) (up_to (k + 1) p.commands)) _ target next toward r
-      (subst (λ (s : Step). Reaches m p what new (s ∷ toward.steps) r) (command_is p k at text is says) (gives toward.steps toward.stands player))
+  -- one copy of a command
+  pub copy_given : (k behind : ℕ) → behind < copies_of p → IsToward m p what old (map (copy_at p k) (up_to behind (copies_of p))) target
+      → ((steps : List Step) → IsStage m p what old steps → Reaches m p what new (copy_at p k behind ∷ steps) r)
+      → Nears m p what new (map (copy_at p k) (up_to (behind + 1) (copies_of p))) target r
+  copy_given k behind below toward gives =
+      let next = ap (map (copy_at p k)) (next_up behind (copies_of p) below) in
+      nears m p what old new (copy_at p k behind ∷ []) (map (copy_at p k) (up_to (behind + 1) (copies_of p))) _ target next toward r (gives toward.steps toward.stands)
+
+  -- all copies of a command
+  pub command_given : (k : ℕ) → k < p.commands → IsToward m p what old (flat_map (command_at p) (up_to k p.commands)) target
+      → ((steps : List Step) → IsStage m p what old steps → Reaches m p what new (reverse (command_at p k) ++ steps) r)
+      → Nears m p what new (flat_map (command_at p) (up_to (k + 1) p.commands)) target r
+  command_given k below toward gives =
+      let f = command_at p in
+      let next = ap (flat_map f) (next_up k p.commands below) ∙ flat_map-cons f k (up_to (k + 1) p.commands) in
+      nears m p what old new (f k) (flat_map f (up_to (k + 1) p.commands)) _ target next toward r (gives toward.steps toward.stands)
 
   pub value_given : (i : ℕ) (text : List ℕ) → i < correct_of p → text ≡ value_text p.mode.root (i % p.commands)
       → IsToward m p what old (map (value_at p) (up_to i (correct_of p))) target

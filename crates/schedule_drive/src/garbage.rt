@@ -34,6 +34,7 @@ fn filler(words: &mut Lcg64Xsh32) -> [u8; 40]
 // A faulty replica throws a frame to each of the first replicas, which are correct.
 fn throw_to<S: Service, E: Broadcast>(
     alloc: Global,
+    plan: &Plan,
     from: u8,
     correct: u8,
     words: &mut Lcg64Xsh32,
@@ -41,13 +42,13 @@ fn throw_to<S: Service, E: Broadcast>(
 ) -> Result<(), Halt>
     ensures words { OnOk result (words.new ≡ (throws_to from (replicas correct) words.old).1) }
     ensures stage { let m = layers_by S.stands S.rules S.shown E.stands E.rules E.shown in
-        (p : Plan) (what : DriveWhat) (steps : List Step) → IsStage m p what stage.old steps
-        → (world_in m p).is_correct from ≡ false → ((to : ℕ) → to < correct → (world_in m p).is_correct to ≡ true)
-        → Reaches m p what stage.new (reverse (throws_to from (replicas correct) words.old).0 ++ steps) result }
+        (what : DriveWhat) (steps : List Step) → IsStage m plan.now what stage.old steps
+        → (world_in m plan.now).is_correct from ≡ false → ((to : ℕ) → to < correct → (world_in m plan.now).is_correct to ≡ true)
+        → Reaches m plan.now what stage.new (reverse (throws_to from (replicas correct) words.old).0 ++ steps) result }
 {
     for to in 0..correct {
         let rest = filler(words);
-        stage.throw(alloc, from, to, &rest)?;
+        stage.throw(alloc, plan, from, to, &rest)?;
     }
     Ok(())
 }
@@ -55,6 +56,7 @@ fn throw_to<S: Service, E: Broadcast>(
 // Each of the replicas from the first faulty one throws to those before it.
 fn throw_by<S: Service, E: Broadcast>(
     alloc: Global,
+    plan: &Plan,
     correct: u8,
     n: u8,
     words: &mut Lcg64Xsh32,
@@ -62,12 +64,12 @@ fn throw_by<S: Service, E: Broadcast>(
 ) -> Result<(), Halt>
     ensures words { OnOk result (words.new ≡ (throws_by (range_with_len correct (n - correct)) (replicas correct) words.old).1) }
     ensures stage { let m = layers_by S.stands S.rules S.shown E.stands E.rules E.shown in
-        (p : Plan) (what : DriveWhat) (steps : List Step) → IsStage m p what stage.old steps
-        → ((i : ℕ) → (world_in m p).is_correct i ≡ nat_lt i correct)
-        → Reaches m p what stage.new (reverse (throws_by (range_with_len correct (n - correct)) (replicas correct) words.old).0 ++ steps) result }
+        (what : DriveWhat) (steps : List Step) → IsStage m plan.now what stage.old steps
+        → ((i : ℕ) → (world_in m plan.now).is_correct i ≡ nat_lt i correct)
+        → Reaches m plan.now what stage.new (reverse (throws_by (range_with_len correct (n - correct)) (replicas correct) words.old).0 ++ steps) result }
 {
     for from in correct..n {
-        throw_to(alloc, from, correct, words, stage)?;
+        throw_to(alloc, plan, from, correct, words, stage)?;
     }
     Ok(())
 }
@@ -86,7 +88,7 @@ pub(crate) fn throw_all<S: Service, E: Broadcast>(
         → Reaches m plan.now what stage.new (reverse (throws_of plan.now plan.now.attack words.old).0 ++ steps) result }
 {
     match plan.attack {
-        Attack::Garbage => throw_by(alloc, correct_of(plan), plan.p.n(), words, stage),
+        Attack::Garbage => throw_by(alloc, plan, correct_of(plan), plan.p.n(), words, stage),
         _ => Ok(()),
     }
 }

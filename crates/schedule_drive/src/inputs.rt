@@ -1,12 +1,12 @@
 //! The inputs of a plan.
-ghost use Rattle.std.specs.Prelude.{◌≡◌, ◌≢◌, ◌<◌, ◌^◌, List, [], ◌++◌, map, length, reverse, IfOk, OnOk};
-ghost use Rattle.std.specs.List.{range_with_len};
+ghost use Rattle.std.specs.Prelude.{◌≡◌, ◌≢◌, ◌<◌, ◌+◌, ◌%◌, ◌^◌, List, [], ◌∷◌, ◌++◌, map, length, reverse, IfOk, OnOk};
+ghost use Rattle.std.specs.List.{flat_map, range_with_len};
 ghost use Rattle.ritas_base.specs.Numbers.{IsSession};
 ghost use Rattle.ritas_base.specs.declared.what.DriveWhat.{DriveWhat};
 ghost use Rattle.schedule_replay.specs.Layers.{layers_by};
 ghost use Rattle.world_model.specs.declared.player.Player.TheVariants.{Face};
 ghost use Rattle.world_model.specs.Players.{Step, IsPlayer};
-ghost use Rattle.schedule_plan.specs.Inputs.{number_text, value_text, command_text, takes_commands, command_at, value_at, correct_inputs, flip_inputs, own_text, given_to, face_inputs, inputs_of};
+ghost use Rattle.schedule_plan.specs.Inputs.{number_text, value_text, command_text, takes_commands, copies_of, copy_at, command_at, value_at, correct_inputs, flip_inputs, own_text, given_to, face_inputs, inputs_of};
 ghost use Rattle.schedule_plan.specs.Plans.{cast_of, correct_of};
 ghost use Rattle.schedule_stage.specs.Stage.{IsStage, Reaches};
 ghost use Rattle.schedule_stage.specs.Worlds.{world_in};
@@ -59,6 +59,63 @@ fn command_text(alloc: Global, root: u8, client: u8, request: u32, k: u32) -> Re
     Ok(Bytes::from_vec(out))
 }
 
+// To how many correct replicas each command goes.
+fn copies_of(plan: &Plan) -> u8
+    ensures { result ≡ copies_of plan.now }
+{
+    if plan.mode.root == 6 {
+        plan.copies.min(correct_of(plan))
+    } else {
+        1
+    }
+}
+
+// The correct replica whose turn it is at command k, or that many behind it.
+fn turn_of(plan: &Plan, k: u32, behind: u8) -> u8
+    requires { IsSession plan.now.p }
+    ensures { result ≡ (k + behind) % correct_of plan.now }
+{
+    let turn = u64::from(k) + u64::from(behind);
+    (turn % u64::from(correct_of(plan))) as u8
+}
+
+// A command, to one correct replica: the first that it goes to, or one that many behind it.
+fn give_copy<S: Service, E: Broadcast>(
+    alloc: Global,
+    plan: &Plan,
+    stage: &mut Stage<S, E>,
+    k: u32,
+    behind: u8,
+) -> Result<(), Halt>
+    requires { IsSession plan.now.p }
+    ensures { let m = layers_by S.stands S.rules S.shown E.stands E.rules E.shown in
+        (what : DriveWhat) (steps : List Step) → IsStage m plan.now what stage.old steps
+        → Reaches m plan.now what stage.new (copy_at plan.now k behind ∷ steps) result }
+{
+    let client = turn_of(plan, k, 0);
+    let at = turn_of(plan, k, behind);
+    let text = command_text(alloc, plan.mode.root, client, k, k)?;
+    stage.give(alloc, Player::Correct(at), text)
+}
+
+// A command, to each correct replica that it goes to.
+fn give_command<S: Service, E: Broadcast>(
+    alloc: Global,
+    plan: &Plan,
+    stage: &mut Stage<S, E>,
+    k: u32,
+) -> Result<(), Halt>
+    requires { IsSession plan.now.p }
+    ensures { let m = layers_by S.stands S.rules S.shown E.stands E.rules E.shown in
+        (what : DriveWhat) (steps : List Step) → IsStage m plan.now what stage.old steps
+        → Reaches m plan.now what stage.new (reverse (command_at plan.now k) ++ steps) result }
+{
+    for behind in 0..copies_of(plan) {
+        give_copy(alloc, plan, stage, k, behind)?;
+    }
+    Ok(())
+}
+
 // The commands, to the correct replicas in turn.
 fn give_commands<S: Service, E: Broadcast>(
     alloc: Global,
@@ -68,13 +125,10 @@ fn give_commands<S: Service, E: Broadcast>(
     requires { IsSession plan.now.p }
     ensures { let m = layers_by S.stands S.rules S.shown E.stands E.rules E.shown in
         (what : DriveWhat) (steps : List Step) → IsStage m plan.now what stage.old steps
-        → Reaches m plan.now what stage.new (reverse (map (command_at plan.now) (range_with_len 0 plan.now.commands)) ++ steps) result }
+        → Reaches m plan.now what stage.new (reverse (flat_map (command_at plan.now) (range_with_len 0 plan.now.commands)) ++ steps) result }
 {
-    let root = plan.mode.root;
     for k in 0..plan.commands {
-        let at = (k % u32::from(correct_of(plan))) as u8;
-        let text = command_text(alloc, root, at, k, k)?;
-        stage.give(alloc, Player::Correct(at), text)?;
+        give_command(alloc, plan, stage, k)?;
     }
     Ok(())
 }

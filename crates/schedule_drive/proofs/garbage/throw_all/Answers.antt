@@ -20,4 +20,4 @@ returns-in-Garbage-clause-stage g c = λ what steps stands.
     let p = c.args.plan.now in
     let same = thrown_all p p.attack c.args.words.now c.correct_of.result c.n.result c.in-Garbage.is (some_correct p c.n.ensures.session).1 c.correct_of.ensures.count c.n.ensures.value in
     subst (λ (t : List Step × Lcg). Reaches m p what c.throw_by.new.stage (reverse t.0 ++ steps) c.throw_by.result) same
-    (c.throw_by.ensures.stage p what steps stands (λ i. has_first (correct_of p) i ∙ ap (nat_lt i) (sym c.correct_of.ensures.count)))
+    (c.throw_by.ensures.stage what steps stands (λ i. has_first (correct_of p) i ∙ ap (nat_lt i) (sym c.correct_of.ensures.count)))

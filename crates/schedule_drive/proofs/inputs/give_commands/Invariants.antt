@@ -1,5 +1,5 @@
-use Rattle.std.proofs.Common.{◌++◌, List, map, reverse}
-use Rattle.std.specs.List.{range_with_len}
+use Rattle.std.proofs.Common.{◌++◌, List, reverse}
+use Rattle.std.specs.List.{flat_map, range_with_len}
 use Rattle.ritas_base.specs.declared.what.DriveWhat.{DriveWhat}
 use Rattle.schedule_replay.specs.Layers.{layers_by}
 use Rattle.world_model.specs.Players.{Step}
@@ -12,4 +12,4 @@ abbrev pub invariant-loop-k : goal.invariant-loop-k
 invariant-loop-k g l =
     let m = layers_by g.S.Service.stands g.S.Service.rules g.S.Service.shown g.E.Broadcast.stands g.E.Broadcast.rules g.E.Broadcast.shown in
     (what : DriveWhat) (steps : List Step) → IsStage m l.plan what l.fn.stage steps
-    → IsToward m l.plan what l.stage (map (command_at l.plan) (up_to l.k l.plan.commands)) (reverse (map (command_at l.plan) (range_with_len 0 l.plan.commands)) ++ steps)
+    → IsToward m l.plan what l.stage (flat_map (command_at l.plan) (up_to l.k l.plan.commands)) (reverse (flat_map (command_at l.plan) (range_with_len 0 l.plan.commands)) ++ steps)
