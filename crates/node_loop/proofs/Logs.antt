@@ -10,7 +10,7 @@ use Rattle.world_model.specs.Agree.{log_of, command_of, rows_at}
 use Rattle.world_model.proofs.Positions.{row_in_part}
 
 pub rows_are_once : (w : Setting) (es : List Event) (i : ℕ) → AreOnce (rows_at w es i)
-rows_are_once w es i = rows_once (entries_of (command_of w es i) (log_of w es i))
+rows_are_once w es i = rows_once w.numbers.f (entries_of (command_of w es i) (log_of w es i))
 
 pub position_in_part : (rs qs : List Row) → IsPart rs qs → AreOnce qs → (client request position : ℕ)
     → position_of rs client request ≡ Some position → position_of qs client request ≡ Some position

@@ -63,8 +63,8 @@ pub(crate) fn enter_rows(
     replies: &mut Vec<Reply>,
 ) -> Result<(), Mem>
     ensures { (ws : Waiting) → IsWaiting waiting.old ws → OnOk result
-        (IsWaiting waiting.new (left_by at count log.now ws)
-        × (map (reply_by at) replies.new.items ≡ map (reply_by at) replies.old.items ++ replies_by at count log.now ws)) }
+        (IsWaiting waiting.new (left_by at count log.now.rows ws)
+        × (map (reply_by at) replies.new.items ≡ map (reply_by at) replies.old.items ++ replies_by at count log.now.rows ws)) }
 {
     for position in count..log.len() {
         if let Some(row) = log.row(position) {
