@@ -29,3 +29,4 @@ pub mod Vectors
 pub mod VectorCalls
 pub mod LogFits
 pub mod VectorSlots
+pub mod OneDue

@@ -3,6 +3,7 @@ ghost use Rattle.ritas_base.specs.Messages.{Place};
 ghost use Rattle.reliable_bcast.specs.Bracha.{bracha, is_backed, is_carried, ready_value, out_of};
 ghost use Rattle.reliable_bcast.specs.Digests.{by_digest};
 ghost use Rattle.reliable_bcast.specs.Reading.{IsTheValue};
+ghost use Rattle.layer_api.specs.OneDue.{OneDue};
 ghost use Rattle.layer_api.specs.OneValue.{OneValue};
 
 /// In every run with values where at least n - f replicas are correct, what correct replicas deliver is one value, and a
@@ -35,4 +36,19 @@ pub fn one_backed()
 /// It does nothing: its contract is the law.
 pub fn one_carried()
     ensures { (at : Place) → IsTheValue (is_carried at.numbers) (out_of at) }
+{}
+
+/// Of all INITs that are due at a slot after whatever calls, each has one value; so have all ECHOs, and all READYs. So no later
+/// message of a replica contradicts an earlier one.
+///
+/// It does nothing: its contract is the law.
+pub fn one_due()
+    ensures { OneDue bracha }
+{}
+
+/// The same with digests: all WANTs have one value, and all VALUEs to one receiver.
+///
+/// It does nothing: its contract is the law.
+pub fn one_due_by_digest()
+    ensures { OneDue by_digest }
 {}

@@ -30,5 +30,7 @@ mod tests;
 mod votes;
 
 pub use digest_rb::DigestRb;
-pub use laws::{one_backed, one_carried, one_value, one_value_by_digest};
+pub use laws::{
+    one_backed, one_carried, one_due, one_due_by_digest, one_value, one_value_by_digest,
+};
 pub use rb::Rb;
