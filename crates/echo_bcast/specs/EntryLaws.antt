@@ -68,13 +68,13 @@ hashes_given at tags h m whole s k lt =
 
 -- ---- rows by place
 
-abbrev is_there : List (Option (List ℕ)) → ℕ → Bool
+abbrev pub is_there : List (Option (List ℕ)) → ℕ → Bool
 is_there hs i = is_some (get_or hs i None)
 
-count_from : (p : ℕ → Bool) (from n : ℕ) → count_by p (range_with_len from (suc n)) ≡ cond (p from) 1 0 + count_by p (range_with_len (from + 1) n)
+pub count_from : (p : ℕ → Bool) (from n : ℕ) → count_by p (range_with_len from (suc n)) ≡ cond (p from) 1 0 + count_by p (range_with_len (from + 1) n)
 count_from p from n = sum_by-cons (λ k. cond (p k) 1 0) from (range_with_len (from + 1) n)
 
-count_behind : (x : Option (List ℕ)) (hs : List (Option (List ℕ))) (from n : ℕ)
+pub count_behind : (x : Option (List ℕ)) (hs : List (Option (List ℕ))) (from n : ℕ)
     → count_by (is_there (x ∷ hs)) (range_with_len (suc from) n) ≡ count_by (is_there hs) (range_with_len from n)
 count_behind x hs from zero = refl
 count_behind x hs from (suc n) =
@@ -84,10 +84,10 @@ count_behind x hs from (suc n) =
     count_from (is_there (x ∷ hs)) (suc from) n ∙ ap (λ (c : ℕ). cond (is_there hs from) 1 0 + c) rest ∙ sym (count_from (is_there hs) from n)
 
 -- a row is an entry of HASHES that are there
-record IsRowOf (k : ℕ) (o : Option (List ℕ)) (entry : List ℕ) : Type 0 where
-  value : List ℕ
-  is : o ≡ Some value
-  entry_is : entry ≡ entry_in k value
+pub record IsRowOf (k : ℕ) (o : Option (List ℕ)) (entry : List ℕ) : Type 0 where
+  pub value : List ℕ
+  pub is : o ≡ Some value
+  pub entry_is : entry ≡ entry_in k value
 
 some_is : (x y : List ℕ) → Some x ≡ Some y → x ≡ y
 some_is x y e = cc
@@ -111,7 +111,7 @@ if_there true o entry e = (refl, e)
 if_there false o entry e = absurd (cc)
 
 -- the row that the senders' mask has for a replica
-placed_row : (k : ℕ) (hs : List (Option (List ℕ))) (e : ℕ) (entry : List ℕ) → at_place (senders_of hs) (rows_for k hs) e ≡ Some entry → IsRowOf k (get_or hs e None) entry
+pub placed_row : (k : ℕ) (hs : List (Option (List ℕ))) (e : ℕ) (entry : List ℕ) → at_place (senders_of hs) (rows_for k hs) e ≡ Some entry → IsRowOf k (get_or hs e None) entry
 unfolding at_place member_count
 placed_row k hs e entry is =
     let there = if_there (has_member (senders_of hs) e) _ entry is in
@@ -139,7 +139,7 @@ rows_back (row ∷ rows) all =
     ap (rows_in (suc (length rows))) (flat_map-cons (λ (r : List ℕ). r) row rows)
     ∙ rw (take_at row others 32 all.0, drop_at row others 32 all.0, rows_back rows all.1) refl
 
-row_written : (n k e : ℕ) (hs : List (Option (List ℕ))) → length hs ≡ n → n ≤ 31 → k < n → AreLong n hs
+pub row_written : (n k e : ℕ) (hs : List (Option (List ℕ))) → length hs ≡ n → n ≤ 31 → k < n → AreLong n hs
     → row_of (column_bytes (senders_of hs) (rows_for k hs)) e ≡ at_place (senders_of hs) (rows_for k hs) e
 row_written n k e hs len most lt long =
     let mask = senders_of hs in
@@ -197,12 +197,12 @@ column_hashed at mode h m of_slot good s echoer entry row =
 
 -- ---- a message of each kind
 
-hashes_alone : (at : Place) (tags : Tags) (h : List Call) (m : Msg) → m.kind ≡ Hashes → IsDue at tags h m → IsHashes at tags h m
+pub hashes_alone : (at : Place) (tags : Tags) (h : List Call) (m : Msg) → m.kind ≡ Hashes → IsDue at tags h m → IsHashes at tags h m
 hashes_alone at tags h m kind (OfSend s) = absurd (let other : m.kind ≡ Send = ap (λ (x : Msg). x.kind) s.whole in cc)
 hashes_alone at tags h m kind (OfHashes s) = s
 hashes_alone at tags h m kind (OfColumn s) = absurd (let other : m.kind ≡ Column = ap (λ (x : Msg). x.kind) s.whole in cc)
 
-column_alone : (at : Place) (tags : Tags) (h : List Call) (m : Msg) → m.kind ≡ Column → IsDue at tags h m → IsColumnOf at h m
+pub column_alone : (at : Place) (tags : Tags) (h : List Call) (m : Msg) → m.kind ≡ Column → IsDue at tags h m → IsColumnOf at h m
 column_alone at tags h m kind (OfSend s) = absurd (let other : m.kind ≡ Send = ap (λ (x : Msg). x.kind) s.whole in cc)
 column_alone at tags h m kind (OfHashes s) = absurd (let other : m.kind ≡ Hashes = ap (λ (x : Msg). x.kind) s.whole in cc)
 column_alone at tags h m kind (OfColumn s) = s

@@ -10,4 +10,5 @@ pub mod Reading
 pub mod Once
 pub mod ValueLaws
 pub mod EntryLaws
+pub mod OneDue
 pub mod Rows

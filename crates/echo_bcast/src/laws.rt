@@ -1,5 +1,7 @@
 ghost use Rattle.echo_bcast.specs.Matrix.{echo};
 ghost use Rattle.echo_bcast.specs.Reading.{HashesCarry, GoodIs, SendersAre};
+ghost use Rattle.echo_bcast.specs.OneDue.{ColumnsGrow};
+ghost use Rattle.layer_api.specs.OneDue.{OneDue};
 ghost use Rattle.layer_api.specs.OneValue.{OneValue};
 
 /// In every run where at least n - f replicas are correct and nothing that they hashed collides, what correct replicas
@@ -31,4 +33,14 @@ pub fn good_is()
 /// It does nothing: its contract is the law.
 pub fn senders_are()
     ensures { SendersAre }
+{}
+
+/// Of all SENDs that are due at a slot after whatever calls, each has one value, and so have all HASHES. Of two columns to one
+/// receiver one has the entries of the other, and perhaps more: each is of the HASHES that were there after a part of the calls.
+/// So no later message of a replica contradicts an earlier one.
+///
+/// It does nothing: its contract is the law.
+pub fn one_due()
+    ensures one { OneDue echo }
+    ensures grow { ColumnsGrow }
 {}

@@ -22,4 +22,4 @@ mod laws;
 mod tests;
 
 pub use eb::Eb;
-pub use laws::{good_is, hashes_carry, one_value, senders_are};
+pub use laws::{good_is, hashes_carry, one_due, one_value, senders_are};
