@@ -1,0 +1,39 @@
+-- What a journal stands for, and what comes of appending events to it. Lists of events have the newest first.
+use Rattle.std.specs.Prelude.{◌≡◌, ◌⊎◌, ℕ, ◌+◌, Bool, List, ◌++◌, length, Result, OnOk}
+use Rattle.outside.specs.Disks.{DiskState, MayLeave, LeavesOnly, state_of}
+use Rattle.ritas_base.specs.declared.event.Event.{Event}
+use Rattle.event_journal.specs.Journal.{Opens, front_of, records}
+use Rattle.event_journal.specs.declared.fault.JournalFault.{JournalFault}
+
+-- what contracts see of a journal: the offset of its closed gate, its replica, and whether it's live
+pub record JournalState : Type 0 where
+  pub end : ℕ
+  pub me : ℕ
+  pub live : Bool
+
+-- the journal stands for these events
+abbrev pub StandsFor : JournalState → List ℕ → List Event → Type 0
+StandsFor journal head es = journal.end ≡ length (front_of head es)
+
+-- every image that a stop may leave in a state is a made file that opens as these events
+abbrev pub AllOpen : ℕ → List ℕ → List Event → DiskState → Type 0
+AllOpen me head es s = (image : List ℕ) → MayLeave s image → Opens me head image es
+
+-- it is made, and opens as these events, with all of the new ones or with none
+abbrev pub OpensWithout : ℕ → List ℕ → List Event → List Event → List ℕ → Type 0
+OpensWithout me head es more image = Opens me head image (more ++ es) ⊎ Opens me head image es
+
+-- how long a file is once these events are appended behind its closed gate
+abbrev pub length_with : JournalState → List Event → ℕ
+length_with journal more = journal.end + 1 + length (records more)
+
+-- What comes of writing behind the closed gate, and then the gate: at Ok every image opens with the new events; at each
+-- moment, with all of them or with none.
+pub record Keeps (me : ℕ) (head : List ℕ) (es more : List Event) (old new : List DiskState) {E : Type 0} (result : Result (Unit {0}) E) : Type 0 where
+  pub images : OnOk result (AllOpen me head (more ++ es) (state_of new))
+  pub since : LeavesOnly (OpensWithout me head es more) old new
+
+-- And at Ok the journal stands for the new events too.
+pub record Appends (me : ℕ) (head : List ℕ) (es more : List Event) (old new : List DiskState) (journal : JournalState) (result : Result (Unit {0}) JournalFault) : Type 0 where
+  pub stands : OnOk result (StandsFor journal head (more ++ es))
+  pub kept : Keeps me head es more old new result

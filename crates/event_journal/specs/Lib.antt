@@ -1,0 +1,4 @@
+pub mod Journal
+pub mod Appending
+pub mod Reading
+pub mod Rows

@@ -1,0 +1,174 @@
+ghost use Rattle.std.specs.Prelude.{◌≡◌, ◌<◌, ◌≤◌, ◌+◌, ◌-◌, ◌++◌, ◌∷◌, ◌^◌, ◌↔◌, ◌⊎◌, [], ℕ, List, true, false, length, min, reverse, Err, IfOk, OnOk, IsOk, IsErr};
+ghost use Rattle.std.specs.List.{flat_map, AllByRecursion};
+ghost use Rattle.outside.specs.Faults.{HasCause};
+ghost use Rattle.outside.specs.Disks.{state_of};
+ghost use Rattle.ritas_base.specs.declared.event.Event.{Event};
+ghost use Rattle.schedule_file.specs.FileBytes.{limit};
+ghost use Rattle.event_journal.specs.Journal.{IsRecord, behind_text, front_of, record_text};
+ghost use Rattle.event_journal.specs.Appending.{AllOpen, Appends, Keeps, StandsFor, length_with};
+
+use crate::fault::JournalFault;
+use outside::{Buffer, Disk, Failed, put, write_all};
+use ritas_base::{Event, Mem};
+use schedule_file::{Writer, event_size};
+use std::alloc::Global;
+use std::marker::Model;
+use std::slice;
+
+// A file has at most so many bytes.
+const LIMIT: u64 = 67_108_864;
+
+/// A journal that was opened. Contracts see the offset of its closed gate, its replica, and whether it's live.
+#[derive(Drop)]
+pub struct Journal {
+    end: u64,
+    me: u8,
+    live: bool,
+}
+
+impl Model for Journal {
+    ghost use Rattle.std.specs.Prelude.{◌<◌};
+    ghost use Rattle.event_journal.specs.Appending.{JournalState};
+
+    ghost Value = { JournalState };
+
+    ghost view = { λ j. record { end = j.end; me = j.me; live = j.live } };
+
+    ghost invariant = { λ j. j.end < 67108864 };
+}
+
+// Adds an event's record, with an open gate.
+fn add_record(text: &mut Buffer, me: u8, ev: &Event) -> Result<(), Failed>
+    requires { IsRecord me ev.now }
+    ensures { OnOk result (text.new.taken ≡ text.old.taken ++ record_text ev.now) }
+{
+    write_all(text, &[1])?;
+    write_all(text, &(event_size(ev) as u16).to_be_bytes())?;
+    Writer::event(text, ev)
+}
+
+// The records of events, and a closed gate.
+fn with_records(alloc: Global, me: u8, events: &[Event]) -> Result<Buffer, Mem>
+    requires { AllByRecursion (IsRecord me) events.now }
+    ensures { IfOk result (λ b. b.taken ≡ flat_map record_text events.now ++ 0 ∷ []) }
+{
+    let mut text = Buffer::new(alloc);
+    for ev in events {
+        if add_record(&mut text, me, ev).is_err() {
+            return Err(Mem);
+        }
+    }
+    if write_all(&mut text, &[0]).is_err() {
+        return Err(Mem);
+    }
+    Ok(text)
+}
+
+// How long a file is with these records behind so many bytes, up to 2^64 - 1.
+fn size_with(front: u64, me: u8, events: &[Event]) -> u64
+    requires own { AllByRecursion (IsRecord me) events.now }
+    requires low { front ≤ 67108864 }
+    ensures { result ≡ min (front + length (flat_map record_text events.now)) (2 ^ 64 - 1) }
+{
+    let mut size = front;
+    for ev in events {
+        size = size.saturating_add(3 + event_size(ev) as u64);
+    }
+    size
+}
+
+// Writes bytes behind the closed gate and syncs, and then opens the gate and syncs.
+fn keep<D: Disk>(disk: &mut D, gate: u64, text: &[u8]) -> Result<(), Failed>
+    requires { gate < 67108864 }
+    ensures kept { D.tells ≡ true → (me : ℕ) (head : List ℕ) (es more : List Event) → 0 < length more → AllByRecursion (IsRecord me) more
+        → gate ≡ length (front_of head es) → text.now ≡ behind_text more → gate + 1 + length text.now ≤ limit
+        → AllOpen me head es (state_of (D.told disk.old)) → Keeps me head es more (D.told disk.old) (D.told disk.new) result }
+    ensures cause { HasCause (D.faults disk.old) (D.faults disk.new) (IsErr result) }
+{
+    put(disk, gate + 1, text)?;
+    put(disk, gate, &[1])
+}
+
+impl Journal {
+    // A journal whose closed gate stands at this offset.
+    pub(crate) fn at(end: u64, me: u8) -> Journal
+        requires { end < 67108864 }
+        ensures { result ≡ record { end = end; me = me; live = true } }
+    {
+        Journal {
+            end,
+            me,
+            live: true,
+        }
+    }
+
+    /// Whether the journal is live: no call on it answered `Disk` or `Mem`.
+    pub fn live(&self) -> bool
+        ensures { result ≡ self.now.live }
+    {
+        self.live
+    }
+
+    /// Appends events at the journal's replica, each a frame, an input or a turn, the oldest first: whenever a stop comes, all of
+    /// them or none. Behind the closed gate their records are written, with all gates but the first open, and a closed gate, and
+    /// synced; then the first gate is opened and synced. From Ok on, every image that a stop may leave opens with the events. These
+    /// are two syncs, however many events there are; where there is none, nothing is done.
+    ///
+    /// `Full` comes exactly where the file would become longer than 67,108,864 bytes, with its length then, up to 2^64 - 1, and
+    /// leaves all as before. `Disk` comes only where the disk failed. After `Disk` and `Mem` the journal isn't live.
+    pub fn append_all<D: Disk>(
+        &mut self,
+        alloc: Global,
+        disk: &mut D,
+        events: &[Event],
+    ) -> Result<(), JournalFault>
+        requires live { self.old.live ≡ true }
+        requires own { AllByRecursion (IsRecord self.old.me) events.now }
+        ensures kept { D.tells ≡ true → (head : List ℕ) (es : List Event) → StandsFor self.old head es → AllOpen self.old.me head es (state_of (D.told disk.old))
+            → Appends self.old.me head es (reverse events.now) (D.told disk.old) (D.told disk.new) self.new result }
+        ensures full { (x : ℕ) → (result ≡ Err (JournalFault.Full x)) ↔ ((x ≡ min (length_with self.old (reverse events.now)) (2 ^ 64 - 1)) × (limit < x)) }
+        ensures same { (x : ℕ) → result ≡ Err (JournalFault.Full x) → (self.new ≡ self.old) × (disk.new ≡ disk.old) }
+        ensures none { events.now ≡ [] → IsOk result × (self.new ≡ self.old) × (disk.new ≡ disk.old) }
+        ensures live { OnOk result (self.new.live ≡ true) }
+        ensures over { (result ≡ Err JournalFault.Disk) ⊎ (result ≡ Err JournalFault.Mem) → self.new.live ≡ false }
+        ensures me { self.new.me ≡ self.old.me }
+        ensures cause { HasCause (D.faults disk.old) (D.faults disk.new) (result ≡ Err JournalFault.Disk) }
+    {
+        let size = size_with(self.end + 1, self.me, events);
+        if size > LIMIT {
+            return Err(JournalFault::Full(size));
+        }
+        if events.is_empty() {
+            return Ok(());
+        }
+        self.live = false;
+        let text = with_records(alloc, self.me, events)?;
+        keep(disk, self.end, &text.taken()[1..])?;
+        self.end = size - 1;
+        self.live = true;
+        Ok(())
+    }
+
+    /// Appends an event at the journal's replica, as `append_all` does one.
+    pub fn append<D: Disk>(
+        &mut self,
+        alloc: Global,
+        disk: &mut D,
+        ev: &Event,
+    ) -> Result<(), JournalFault>
+        requires live { self.old.live ≡ true }
+        requires own { IsRecord self.old.me ev.now }
+        ensures kept { D.tells ≡ true → (head : List ℕ) (es : List Event) → StandsFor self.old head es → AllOpen self.old.me head es (state_of (D.told disk.old))
+            → Appends self.old.me head es (ev.now ∷ []) (D.told disk.old) (D.told disk.new) self.new result }
+        ensures full { (x : ℕ) → (result ≡ Err (JournalFault.Full x)) ↔ ((x ≡ length_with self.old (ev.now ∷ [])) × (limit < x)) }
+        ensures same { (x : ℕ) → result ≡ Err (JournalFault.Full x) → (self.new ≡ self.old) × (disk.new ≡ disk.old) }
+        ensures live { OnOk result (self.new.live ≡ true) }
+        ensures over { (result ≡ Err JournalFault.Disk) ⊎ (result ≡ Err JournalFault.Mem) → self.new.live ≡ false }
+        ensures me { self.new.me ≡ self.old.me }
+        ensures cause { HasCause (D.faults disk.old) (D.faults disk.new) (result ≡ Err JournalFault.Disk) }
+    {
+        // Its end is below the limit.
+        let _ = &self.end;
+        self.append_all(alloc, disk, slice::from_ref(ev))
+    }
+}

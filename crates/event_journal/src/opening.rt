@@ -1,0 +1,159 @@
+//! Opening a journal.
+ghost use Rattle.std.specs.Prelude.{◌≡◌, ◌<◌, ◌≤◌, ◌++◌, ◌∷◌, ◌⊎◌, [], ℕ, List, true, length, reverse, slice_index, Err, IfOk, IsErr, ◌≢◌};
+ghost use Rattle.outside.specs.Faults.{HasCause};
+ghost use Rattle.outside.specs.Disks.{LeavesOnly, at_rest, state_of};
+ghost use Rattle.schedule_file.specs.FileBytes.{limit};
+ghost use Rattle.event_journal.specs.Journal.{IsUnmade, Opens, OpensAs, front_of};
+ghost use Rattle.event_journal.specs.Appending.{AllOpen, StandsFor};
+ghost use Rattle.event_journal.specs.Reading.{Clears, IsBroken, IsClear, IsForeign, IsKept, Makes, OpensLike, RestsClear};
+
+use crate::fault::JournalFault;
+use crate::journal::Journal;
+use crate::reading::{check_head, is_unmade, read_file, read_records};
+use outside::{Disk, Failed, put};
+use ritas_base::Event;
+use std::alloc::Global;
+
+// Clears the first byte where it is missing or 1.
+fn clear<D: Disk>(disk: &mut D, file: &[u8]) -> Result<(), Failed>
+    requires unmade { IsUnmade file.now }
+    requires short { length file.now ≤ limit }
+    ensures cleared { D.tells ≡ true → (me : ℕ) (head : List ℕ) → state_of (D.told disk.old) ≡ at_rest file.now
+        → Clears me head (D.told disk.old) (D.told disk.new) result }
+    ensures cause { HasCause (D.faults disk.old) (D.faults disk.new) (IsErr result) }
+{
+    if file.is_empty() || file[0] == 1 {
+        return put(disk, 0, &[0]);
+    }
+    Ok(())
+}
+
+// Writes the head and a closed gate, and then that the file is made.
+fn write_head<D: Disk>(disk: &mut D, text: &[u8; 52]) -> Result<(), Failed>
+    ensures made { D.tells ≡ true → (me : ℕ) (head : List ℕ) → text.now ≡ head ++ 0 ∷ [] → RestsClear (state_of (D.told disk.old))
+        → Makes me head (D.told disk.old) (D.told disk.new) result }
+    ensures cause { HasCause (D.faults disk.old) (D.faults disk.new) (IsErr result) }
+{
+    put(disk, 1, text)?;
+    put(disk, 0, &[1])
+}
+
+// A head and a closed gate.
+fn with_gate(head: &[u8; 51]) -> [u8; 52]
+    ensures { result ≡ head.now ++ 0 ∷ [] }
+{
+    let mut text = [0; 52];
+    text[..51].copy_from_slice(head);
+    text
+}
+
+// Makes a file that isn't made.
+fn make<D: Disk>(disk: &mut D, file: &[u8], head: &[u8; 51]) -> Result<(), Failed>
+    requires unmade { IsUnmade file.now }
+    requires short { length file.now ≤ limit }
+    ensures made { D.tells ≡ true → (me : ℕ) → state_of (D.told disk.old) ≡ at_rest file.now
+        → Makes me head.now (D.told disk.old) (D.told disk.new) result }
+    ensures cause { HasCause (D.faults disk.old) (D.faults disk.new) (IsErr result) }
+{
+    clear(disk, file)?;
+    write_head(disk, &with_gate(head))
+}
+
+// What a made file says: the events of its records, and the offset of its closed gate.
+fn decode(
+    alloc: Global,
+    me: u8,
+    file: &[u8],
+    head: &[u8; 51],
+) -> Result<(Vec<Event>, usize), JournalFault>
+    requires me_below { me < slice_index head.now 13 }
+    requires long { 53 ≤ length file.now }
+    requires made { slice_index file.now 0 ≡ 1 }
+    requires short { length file.now ≤ limit }
+    ensures opens { IfOk result (λ x. Opens me head.now file.now (reverse x.0.items) × (x.1 ≡ length (front_of head.now (reverse x.0.items))) × (x.1 < 67108864)) }
+    ensures foreign { (p : ℕ) → result ≡ Err (JournalFault.Foreign p) → IsForeign head.now file.now p }
+    ensures broken { (p : ℕ) → result ≡ Err (JournalFault.Broken p) → IsBroken me head.now file.now p }
+    ensures others { (p : ℕ) → (result ≢ Err (JournalFault.Full p)) × (result ≢ Err JournalFault.Disk) }
+{
+    match check_head(file, head) {
+        Ok(()) => {}
+        Err(fault) => return Err(fault),
+    }
+    match read_records(alloc, head[13], me, file) {
+        Ok(found) => Ok(found),
+        Err(fault) => Err(fault),
+    }
+}
+
+// Opens a file that is all on the disk.
+fn open_file<D: Disk>(
+    alloc: Global,
+    disk: &mut D,
+    me: u8,
+    head: &[u8; 51],
+    file: &[u8],
+) -> Result<(Journal, Vec<Event>), JournalFault>
+    requires me_below { me < slice_index head.now 13 }
+    requires short { length file.now ≤ limit }
+    ensures opened { D.tells ≡ true → state_of (D.told disk.old) ≡ at_rest file.now → IfOk result (λ x. StandsFor x.0 head.now (reverse x.1.items)
+        × AllOpen me head.now (reverse x.1.items) (state_of (D.told disk.new))) }
+    ensures gives { IfOk result (λ x. OpensAs me head.now file.now (reverse x.1.items)) }
+    ensures live { IfOk result (λ x. (x.0.me ≡ me) × (x.0.live ≡ true)) }
+    ensures since { D.tells ≡ true → state_of (D.told disk.old) ≡ at_rest file.now
+        → LeavesOnly (OpensLike me head.now file.now) (D.told disk.old) (D.told disk.new) }
+    ensures foreign { (p : ℕ) → result ≡ Err (JournalFault.Foreign p) → IsForeign head.now file.now p }
+    ensures broken { (p : ℕ) → result ≡ Err (JournalFault.Broken p) → IsBroken me head.now file.now p }
+    ensures full { (p : ℕ) → result ≢ Err (JournalFault.Full p) }
+    ensures cause { HasCause (D.faults disk.old) (D.faults disk.new) (result ≡ Err JournalFault.Disk) }
+{
+    if is_unmade(file) {
+        return match make(disk, file, head) {
+            Ok(()) => Ok((Journal::at(52, me), Vec::new(alloc))),
+            Err(Failed) => Err(JournalFault::Disk),
+        };
+    }
+    match decode(alloc, me, file, head) {
+        Ok((events, end)) => Ok((Journal::at(end as u64, me), events)),
+        Err(fault) => Err(fault),
+    }
+}
+
+/// Opens the journal of replica `me` with this head, whose byte 13 is the number of replicas, and gives its events, the oldest
+/// first. A file that isn't made is made.
+///
+/// `Full` comes where the file has more than 67,108,864 bytes, and else `Foreign` where it is made and has another head, and else
+/// `Broken` where an open gate isn't followed by a record and a gate. By `journal_laws` no file is two of these, or one and opens,
+/// so each comes exactly there where the disk and the memory don't fail. `Disk` comes only where the disk failed.
+pub fn open_journal<D: Disk>(
+    alloc: Global,
+    disk: &mut D,
+    me: u8,
+    head: &[u8; 51],
+) -> Result<(Journal, Vec<Event>), JournalFault>
+    requires me_below { me < slice_index head.now 13 }
+
+    // From Ok on, every image is a made file and opens as the events that were given.
+    ensures opened { D.tells ≡ true → IfOk result (λ x. StandsFor x.0 head.now (reverse x.1.items)
+        × AllOpen me head.now (reverse x.1.items) (state_of (D.told disk.new))) }
+    ensures live { IfOk result (λ x. (x.0.me ≡ me) × (x.0.live ≡ true)) }
+
+    // The file that was there opened as these events.
+    ensures gives { D.tells ≡ true → IfOk result (λ x. OpensAs me head.now (state_of (D.told disk.old)).seen (reverse x.1.items)) }
+
+    // At each moment every image is one from before, or opens as one does.
+    ensures since { D.tells ≡ true → LeavesOnly (IsKept me head.now (state_of (D.told disk.old))) (D.told disk.old) (D.told disk.new) }
+
+    ensures foreign { D.tells ≡ true → (p : ℕ) → result ≡ Err (JournalFault.Foreign p) → IsForeign head.now (state_of (D.told disk.old)).seen p }
+    ensures broken { D.tells ≡ true → (p : ℕ) → result ≡ Err (JournalFault.Broken p) → IsBroken me head.now (state_of (D.told disk.old)).seen p }
+    ensures full { (x : ℕ) → result ≡ Err (JournalFault.Full x) → (x ≡ 67108865) × (D.tells ≡ true → limit < length (state_of (D.told disk.old)).seen) }
+    ensures cause { HasCause (D.faults disk.old) (D.faults disk.new) (result ≡ Err JournalFault.Disk) }
+{
+    match disk.sync() {
+        Ok(()) => {}
+        Err(Failed) => return Err(JournalFault::Disk),
+    }
+    match read_file(alloc, disk) {
+        Ok(file) => open_file(alloc, disk, me, head, &file),
+        Err(fault) => Err(fault),
+    }
+}

@@ -1,0 +1,76 @@
+use crate::open_journal;
+use outside::{Disk, MemDisk};
+use ritas_base::{Bytes, Event, Mem};
+use std::alloc::Global;
+use std::test::*;
+
+// RITJ, version 1, session 7, n 4, f 1, root service 6, echo, frame version 1, me 0, and no keys.
+const HEAD: [u8; 51] = [
+    b'R', b'I', b'T', b'J', 1, 0, 0, 0, 0, 0, 0, 0, 7, 4, 1, 6, 1, 1, 0, 0, 0, 0, 0, 0, 0, 0, 0, 0,
+    0, 0, 0, 0, 0, 0, 0, 0, 0, 0, 0, 0, 0, 0, 0, 0, 0, 0, 0, 0, 0, 0, 0,
+];
+
+fn input(alloc: Global, text: &[u8]) -> Result<Event, Mem> {
+    let bytes = Bytes::from_slice(alloc, text)?;
+    Ok(Event::Input { at: 0, bytes })
+}
+
+// What is appended stands in the file, and is given when it is opened again: 52 + 17 + 5 + 1 bytes.
+#[test]
+fn keeps_events(rt: HostRuntime) -> Result<(), Fail> {
+    let alloc = rt.alloc();
+    let mut disk = MemDisk::new(alloc, &[], 4_096, 100, &[])?;
+    let (mut journal, events) = open_journal(alloc, &mut disk, 0, &HEAD).expect(&rt, "opens");
+    assert_eq!(rt; events.len(), 0);
+    let first = input(alloc, b"\0\0\0\x07\0\0\0\x01hi")?;
+    assert_eq!(rt; journal.append(alloc, &mut disk, &first), Ok(()));
+    assert_eq!(rt;
+        journal.append(alloc, &mut disk, &Event::Turn { at: 0 }),
+        Ok(())
+    );
+    let mut buf = [9; 100];
+    assert_eq!(rt; disk.read(0, &mut buf), Ok(75));
+    assert_eq!(rt; buf[0], 1);
+    assert_eq!(rt; &buf[1..52], HEAD.as_slice());
+    let records = b"\x01\0\x0e\x02\0\0\x0a\0\0\0\x07\0\0\0\x01hi\x01\0\x02\x03\0\0";
+    assert_eq!(rt; &buf[52..75], records.as_slice());
+    let (_, again) = open_journal(alloc, &mut disk, 0, &HEAD).expect(&rt, "opens again");
+    assert_eq!(rt; again.len(), 2);
+    Ok(())
+}
+
+// Appends a turn, and then an input and a turn together, and says how many events were kept.
+fn run(alloc: Global, disk: &mut MemDisk) -> Result<usize, Mem> {
+    let group = [input(alloc, b"hi")?, Event::Turn { at: 0 }];
+    let Ok((mut journal, _)) = open_journal(alloc, disk, 0, &HEAD) else {
+        return Ok(0);
+    };
+    if journal.append(alloc, disk, &Event::Turn { at: 0 }).is_err() {
+        return Ok(0);
+    }
+    if journal.append_all(alloc, disk, &group).is_err() {
+        return Ok(1);
+    }
+    Ok(3)
+}
+
+// Whatever call of the disk is the last one, what is left opens as the events that were kept, or those and the next ones.
+#[test]
+fn stops_anywhere(rt: HostRuntime) -> Result<(), Fail> {
+    let alloc = rt.alloc();
+    for stop in 0..17 {
+        let mut disk = MemDisk::new(alloc, &[], 4_096, 100, &[stop])?;
+        let kept = run(alloc, &mut disk)?;
+        for pick in 0..5 {
+            let mut left = disk.after_stop(alloc, pick)?;
+            let (_, events) = open_journal(alloc, &mut left, 0, &HEAD).expect(&rt, "opens");
+            let next = if kept == 0 { 1 } else { 3 };
+            assert!(rt; events.len() == kept || events.len() == next);
+            if events.len() > 1 {
+                assert!(rt; matches!(events[0], Event::Turn { .. }));
+                assert!(rt; matches!(events[1], Event::Input { .. }));
+            }
+        }
+    }
+    Ok(())
+}
