@@ -111,8 +111,8 @@ fn serve_as<R: Net + Wait, S: Service, E: Broadcast, L: Link, K: Sink>(
 /// mark: a schedule file, which can be replayed where it has at most 67,108,864 bytes. It ends as `serve` does; at a fault the output
 /// took a front of a file. The one error is want of memory for the replicas: then nothing is written, and the link isn't started.
 ///
-/// Where the audit of the events holds, the replicas agree: their logs of commands are prefixes of one list, with each command once, a
-/// command of one of them stands there only if it was submitted there, and no two decide differently in any instance.
+/// Where the audit of the events holds, the replicas agree: their logs of commands are prefixes of one list, with each command once, each
+/// command there was submitted at a correct replica, and no two decide differently in any instance.
 ///
 /// It waits nowhere but in the link's calls. The header has root service 6.
 pub fn serve_session<R: Net + Wait, L: Link, K: Sink>(

@@ -186,9 +186,9 @@ fn work<R: Net + Wait, S: Source, K: Sink, L: Link>(
 /// Of a schedule all is read before 0 or 1, and of a configuration one byte more than 1 MiB at most.
 ///
 /// Where a schedule was replayed or made with 0, or what a cluster served has an audit that holds, correct replicas' logs of commands are
-/// prefixes of one list, with each command once: one row for each client
-/// and request. A correct replica's command stands there only if it was submitted there: the row has the client, the request
-/// and the payload of its input of that number. And no two correct replicas decided differently in any instance: at each slot
+/// prefixes of one list, with each command once: one row for each client and request. Each command there was submitted at a correct
+/// replica: the row has the client, the request and the payload of an input of one, and where its own origin is correct, of that
+/// replica's input of the row's number. And no two correct replicas decided differently in any instance: at each slot
 /// all that delivered a value delivered the same one, of a correct replica what it started there, and so it is of what their
 /// one instance and each instance inside decided. A bit that one of them decided in root service 3 was an input of a correct replica,
 /// and so was a value in root service 4. No vector consensus of one of them is spent: `replay vectors` then has no line that says so.

@@ -131,8 +131,8 @@ fn drive_with<S: Service, K: Sink>(
 ///
 /// At `Done` the whole text was written, of a schedule that passes no limit, and in any case a front of it. Nothing in it is
 /// forged, and so its audit holds, or names two hashes that collide. Where it holds, the correct replicas agree: their logs of
-/// commands are prefixes of one list, with each command once; a correct replica's command stands there only if it was
-/// submitted there; and no two of them decide differently in any instance. At `Limit` the schedule would pass this limit: it
+/// commands are prefixes of one list, with each command once; each command there was submitted at a correct replica; and no
+/// two of them decide differently in any instance. At `Limit` the schedule would pass this limit: it
 /// would have more than 4,000,000 steps, or, where it hasn't, its file more than 67,108,864 bytes. Then nothing was written, nor
 /// at `Mem`. `Write` is answered just where a call of the sink failed.
 pub fn drive<K: Sink>(alloc: Global, plan: &Plan, sink: &mut K, what: DriveWhat) -> DriveEnd

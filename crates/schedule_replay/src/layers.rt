@@ -137,8 +137,8 @@ fn replay_events<I: Source, K: Sink>(
 /// is asked for of that world.
 ///
 /// At `Done` the whole text was written, and in any case a front of it. Where the audit then holds, the correct replicas
-/// agree: their logs of commands are prefixes of one list, with each command once; a correct replica's command stands
-/// there only if it was submitted there; and no two of them decide differently in any instance. Then no line of the text of
+/// agree: their logs of commands are prefixes of one list, with each command once; each command there was submitted at a
+/// correct replica; and no two of them decide differently in any instance. Then no line of the text of
 /// their vectors says that attempts are spent, and lines of one round are equal but for the replica's number. At `File`
 /// nothing was written, nor at `Mem` unless frames are asked for. `File(Header(15))` is answered also where vectors are asked
 /// for of a file without a fault whose root service isn't 5 or 6. `File(Read)` is answered just where a call of the source failed,
