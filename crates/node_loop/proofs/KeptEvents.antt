@@ -1,5 +1,5 @@
 -- What isn't kept changes nothing, and what is kept is short.
-use Rattle.std.proofs.Common.{◌≡◌, ◌≢◌, ℕ, zero, suc, ◌≤◌, ◌<◌, ◌-◌, nat_le, nat_lt, Bool, true, false, not, ◌&&◌, ◌==◌, List, [], ◌∷◌, ◌++◌, length, take, drop, Option, Some, None, Result, Ok, Err, if◌then◌else◌, refl, sym, ap, ◌∙◌, inl, inr, eq-eqb, arith, lit≤}
+use Rattle.std.proofs.Common.{◌≡◌, ◌≢◌, ℕ, ◌≤◌, ◌-◌, nat_le, nat_lt, Bool, true, false, not, ◌&&◌, ◌==◌, List, [], ◌∷◌, ◌++◌, length, take, drop, Option, Some, None, Result, Ok, Err, if◌then◌else◌, refl, sym, ap, ◌∙◌, inl, inr, eq-eqb, arith, lit≤}
 use Rattle.std.proofs.lemmas.Bool.{cases_eq, ne_eqb, leb-true, ltb-false, eqb-true}
 use Rattle.std.proofs.lemmas.List.{length-drop}
 use Rattle.std.specs.List.{AllByRecursion}
@@ -28,7 +28,7 @@ use Rattle.ritas_core.specs.Machine.{CoreState, What, Moved, stays, gives, given
 use Rattle.ritas_core.specs.Checks.{verdict_on, input_check, input_fault_or, window_fault}
 use Rattle.ritas_core.specs.Parts.{Parts, parts}
 use Rattle.replica.specs.Handling.{Call, Frame, Input, Turn, handled, given_body, given_frame, core_answer}
-use Rattle.world_model.specs.World.{Setting, CallAt, rules_at, handled_at, after_call, call_at, call_of, halted_at, seen_answer, seen_call, seen_of, states_of, states_before}
+use Rattle.world_model.specs.World.{Setting, CallAt, rules_at, handled_at, after_call, call_at, call_of, halted_at, seen_answer, seen_call, states_of, states_before}
 use Rattle.world_model.specs.Stands.{NoneStops}
 use Rattle.node_loop.specs.Keeping.{is_kept_answer, is_kept, kept_onto, kept_of, IsCallEvent, KeptStands, KeptIsShort}
 

@@ -1,5 +1,5 @@
 -- Rounds of serving.
-use Rattle.std.proofs.Common.{◌≡◌, ℕ, ◌+◌, ◌<◌, Bool, true, false, List, [], ◌∷◌, ◌++◌, Option, Some, None, Ok, Err, refl, sym, ap, ap₂, subst, ◌∙◌, append_assoc, arith, ◌≢◌, ◌≤◌, nat_le, ◌⊎◌, inl, inr, if◌then◌else◌}
+use Rattle.std.proofs.Common.{◌≡◌, ℕ, ◌+◌, ◌<◌, Bool, true, false, List, [], ◌∷◌, ◌++◌, Option, Some, None, Ok, Err, refl, sym, ap, ap₂, subst, ◌∙◌, append_assoc, arith, ◌≤◌, nat_le, ◌⊎◌, inl, inr, if◌then◌else◌}
 use Rattle.ritas_base.specs.declared.event.Event.{Event}
 use Rattle.keyed_channel.specs.KeyRow.{KeyRow}
 use Rattle.ritas_core.specs.Stands.{Meaning}
@@ -27,11 +27,15 @@ use Rattle.node_loop.specs.Calls.{Outcome}
 use Rattle.node_loop.specs.Peers.{Peers, no_peers}
 use Rattle.node_loop.specs.Resending.{Brought, due}
 use Rattle.node_loop.specs.Serving.{Serving, so_far, onto, Want, Begins, Finishes, Turns, Halts, Reminds, Asks, wants_of, turn_or, remind_or, first_or, here, busy, is_done, wants, Round, Began, Turned, Reminded, Took, behind_first, began, at_call, outcome, brought, sent_of, round_does, after, newest, sooner, IsGiven, IsWanted}
-use Rattle.node_loop.specs.Outs.{text_of, Outs, Tells, Agrees, HasCauses, AllWritten, InOrder, Stops, IfFailed, Fails}
+use Rattle.node_loop.specs.Outs.{text_of, Outs, Tells, Agrees, HasCauses, AllWritten, NoneSent, InOrder, Stops, IfFailed, Fails}
 use Rattle.node_loop.specs.ServingLaws.{acts_of}
 use Rattle.node_loop.specs.Standing.{HouseStands}
 use Rattle.node_loop.specs.Served.{AreHere, EndsSo, Serves}
-use Rattle.node_loop.specs.Running.{IsEndOf, Running, Goes, TookItem, GaveNone, IsNext}
+use Rattle.node_loop.specs.ServedKept.{EndsKept, ServesKept, earlier}
+use Rattle.node_loop.specs.declared.archive.ArchiveFault.{ArchiveFault}
+use Rattle.node_loop.specs.Archives.{Moment, LeftAt, KeptAt}
+use Rattle.node_loop.specs.Keeping.{kept_of}
+use Rattle.node_loop.specs.Running.{IsEndOf, IsOfLink, Running, Goes, TookItem, GaveNone, IsNext}
 use Rattle.outside.specs.LinkCallsLaws.{back_none, back_all}
 use Rattle.node_loop.proofs.Stepping.{with_link, text_next, has_cause, same_failed}
 use Rattle.node_loop.proofs.Delivering.{if_failed}
@@ -46,11 +50,11 @@ front_onto old new (Some e) events is =
 
 -- a replica was without memory
 pub goes_no_further : {S E C : Type 0} (m : Meaning S E C KeyRow) (w : Setting) (past : List Event) (numbers : List ℕ) (tells : Tells) (base : Outs) {A : Type 0}
-    (house : House S E C) (o : Outs) (did : Outcome) (more : Brought) (s : Serving) → Agrees tells base o s.events s.acts
+    (house : House S E C) (o : Moment) (did : Outcome) (more : Brought) (s : Serving) → Agrees tells base o.outs s.events s.acts → o.stands (kept_of w past s.events)
     → Goes {A = A} m w past numbers house tells base o (Err faults.Mem) did more s
-goes_no_further m w past numbers tells base house o did more s agrees = record {
+goes_no_further m w past numbers tells base house o did more s agrees stood = record {
   steps = record {
-    taken = λ t. front_onto base.taken o.taken did.event s.events (agrees.taken t);
+    taken = λ t. front_onto base.taken o.outs.taken did.event s.events (agrees.taken t);
     told = λ t. rw (agrees.told t) (back_none (s.acts ++ base.told) (sent_of w (so_far past s) did more));
     order = inr agrees.told;
     tape_later = omega (arith, agrees.tape_stands);
@@ -58,18 +62,19 @@ goes_no_further m w past numbers tells base house o did more s agrees = record {
     cause = (agrees.tape_stands, inl agrees.link_stands);
   };
   stands = tt;
+  kept = inr (agrees.told, inl stood);
 }
 
 -- what a call answers besides doesn't matter
 pub goes_as : {S E C : Type 0} (m : Meaning S E C KeyRow) (w : Setting) (past : List Event) (numbers : List ℕ) (tells : Tells) (base : Outs) {A B : Type 0}
-    (house : House S E C) (o : Outs) (a : A) (b : B) (did : Outcome) (more : Brought) (s : Serving) → Goes m w past numbers house tells base o (Ok a) did more s
+    (house : House S E C) (o : Moment) (a : A) (b : B) (did : Outcome) (more : Brought) (s : Serving) → Goes m w past numbers house tells base o (Ok a) did more s
     → Goes m w past numbers house tells base o (Ok b) did more s
-goes_as m w past numbers tells base house o a b did more s goes = record { steps = goes.steps; stands = goes.stands }
+goes_as m w past numbers tells base house o a b did more s goes = record { steps = goes.steps; stands = goes.stands; kept = goes.kept }
 
 pub goes_fail : {S E C : Type 0} (m : Meaning S E C KeyRow) (w : Setting) (past : List Event) (numbers : List ℕ) (tells : Tells) (base : Outs) {A B : Type 0}
-    (house : House S E C) (o : Outs) (fault : Fault) (did : Outcome) (more : Brought) (s : Serving) → Goes {A = A} m w past numbers house tells base o (Err fault) did more s
+    (house : House S E C) (o : Moment) (fault : Fault) (did : Outcome) (more : Brought) (s : Serving) → Goes {A = A} m w past numbers house tells base o (Err fault) did more s
     → Goes {A = B} m w past numbers house tells base o (Err fault) did more s
-goes_fail m w past numbers tells base house o fault did more s goes = record { steps = goes.steps; stands = goes.stands }
+goes_fail m w past numbers tells base house o fault did more s goes = record { steps = goes.steps; stands = goes.stands; kept = goes.kept }
 
 -- ---- the link's next item
 
@@ -85,9 +90,9 @@ next_given tells base o events acts told count item agrees is same = record {
 }
 
 -- it failed
-link_alone : (x : LinkFault) (fault : Fault) → Fails x fault → fault ≢ faults.Tape
-link_alone link_faults.Failed fault is = rw is (λ e. cc)
-link_alone link_faults.Mem fault is = rw is (λ e. cc)
+link_alone : (x : LinkFault) (fault : Fault) → Fails x fault → IsOfLink fault
+link_alone link_faults.Failed fault is = rw is tt
+link_alone link_faults.Mem fault is = rw is tt
 
 pub next_failed : (tells : Tells) (base o : Outs) (s : Serving) (told : List LinkAct) (count : FaultCounts) (x : LinkFault) (fault : Fault)
     → Fails x fault → Agrees tells base o s.events s.acts → (tells.link ≡ true → told ≡ o.told)
@@ -100,14 +105,18 @@ next_failed tells base o s told count x fault is agrees same le counts = record 
   cause = has_cause LinkItem base o s.events s.acts told tells count x fault is agrees counts;
 }
 
-tape_on : (base o : Outs) (fault : Fault) → fault ≢ faults.Tape → HasCauses base o fault → base.tape_faults ≤ o.tape_faults
-tape_on base o faults.Tape own cause = absurd (own refl)
+tape_on : (base o : Outs) (fault : Fault) → IsOfLink fault → HasCauses base o fault → base.tape_faults ≤ o.tape_faults
+tape_on base o faults.Tape own cause = absurd own
 tape_on base o faults.Link own cause = omega (arith, cause.0)
 tape_on base o faults.Mem own cause = omega (arith, cause.0)
+tape_on base o faults.Disk own cause = absurd own
+tape_on base o (faults.Full x) own cause = absurd own
 
-whole_order : (tells : Tells) (base o : Outs) (fault : Fault) (events : List Event) (sooner : List LinkAct) → fault ≢ faults.Tape → AllWritten tells base o events
+whole_order : (tells : Tells) (base o : Outs) (fault : Fault) (events : List Event) (sooner : List LinkAct) → IsOfLink fault → AllWritten tells base o events
     → InOrder tells base o fault events sooner
-whole_order tells base o faults.Tape events sooner own written = absurd (own refl)
+whole_order tells base o faults.Tape events sooner own written = absurd own
+whole_order tells base o faults.Disk events sooner own written = absurd own
+whole_order tells base o (faults.Full x) events sooner own written = absurd own
 whole_order tells base o faults.Link events sooner own written = written
 whole_order tells base o faults.Mem events sooner own written = inl written
 
@@ -199,21 +208,39 @@ module _ (w : Setting) (until limit : ℕ) (es : List Event) (taken : ℕ) (p : 
 
 pub ends_so : {S E C : Type 0} (m : Meaning S E C KeyRow) (w : Setting) (past : List Event) (numbers : List ℕ) (here : List _) (tells : Tells) (base now : Outs)
     (fault : Fault) (end : ServeEnd) (s : Serving) (sooner news : List LinkAct) (rule : Want)
-    → IsEndOf fault end → Stops tells base now fault s.events sooner news → IfFailed fault (AreHere m w (so_far past s) numbers here) → EndsSo {S = S} {E = E} {C = C} m w past numbers here tells base now end s sooner news rule
+    → IsEndOf fault end → Stops tells base now fault s.events sooner news → IfFailed fault (AreHere m w (so_far past s) numbers here) → EndsKept {S = S} {E = E} {C = C} m w past numbers here tells base now end s sooner news rule
 ends_so m w past numbers here tells base now faults.Link end s sooner news rule is stops stand = rw is (stops, stand)
 ends_so m w past numbers here tells base now faults.Tape end s sooner news rule is stops stand = rw is (stops, stand)
 ends_so m w past numbers here tells base now faults.Mem end s sooner news rule is stops stand = rw is stops
+ends_so m w past numbers here tells base now faults.Disk end s sooner news rule is stops stand = rw is (stops, stand)
+ends_so m w past numbers here tells base now (faults.Full x) end s sooner news rule is stops stand = rw is (stops, stand)
+
+-- what was kept at a fault was at the end that it is
+left_end : (now : Moment) (none : Type 0) (kept older : List Event) (fault : Fault) (end : ServeEnd) → IsEndOf fault end → LeftAt now none kept older fault → KeptAt now none kept older end
+left_end now none kept older faults.Link end is left = rw is left
+left_end now none kept older faults.Tape end is left = rw is left
+left_end now none kept older faults.Mem end is left = rw is left
+left_end now none kept older faults.Disk end is left = rw is left
+left_end now none kept older (faults.Full x) end is left = rw is left
+
+-- all was where the link gave none
+left_none : (now : Moment) (none : Type 0) (kept older : List Event) (fault : Fault) → IsOfLink fault → now.stands kept → LeftAt now none kept older fault
+left_none now none kept older faults.Link own stands = stands
+left_none now none kept older faults.Mem own stands = inl stands
+left_none now none kept older faults.Tape own stands = absurd own
+left_none now none kept older faults.Disk own stands = absurd own
+left_none now none kept older (faults.Full x) own stands = absurd own
 
 module _ {S E C : Type 0} (m : Meaning S E C KeyRow) (w : Setting) (past : List Event) (numbers : List ℕ) (tells : Tells) (base : Outs) (until limit : ℕ) (first : List LinkItem) where
   -- where none of the first items is left
-  pub wants_now : (house : House S E C) (o : Outs) (taken : ℕ) (run : Running m w past numbers house tells base o taken until limit first [])
+  pub wants_now : (house : House S E C) (o : Moment) (taken : ℕ) (run : Running m w past numbers house tells base o taken until limit first [])
       → wants w past until limit (after w past first run.rounds) ≡ wants_of w until limit (so_far past (after w past first run.rounds)) taken (after w past first run.rounds).peers
   wants_now house o taken run =
       let s = after w past first run.rounds in
       ap₂ (λ (left : List LinkItem) (n : ℕ). first_or left (wants_of w until limit (so_far past s) n s.peers)) run.rest (sym run.count)
 
   -- a round more
-  pub runs_on : (old new : House S E C) (o now : Outs) (taken more : ℕ) (left rest : List LinkItem) (x : Round) (run : Running m w past numbers old tells base o taken until limit first left)
+  pub runs_on : (old new : House S E C) (o now : Moment) (taken more : ℕ) (left rest : List LinkItem) (x : Round) (run : Running m w past numbers old tells base o taken until limit first left)
       → IsWanted (wants w past until limit (after w past first run.rounds)) x
       → (round_does w past x (after w past first run.rounds)).left ≡ rest → more ≡ (round_does w past x (after w past first run.rounds)).taken
       → {A : Type 0} (done : A) → Goes m w past numbers new tells base now (Ok done) (outcome w past x (after w past first run.rounds)) (brought w past x (after w past first run.rounds)) (at_call x (after w past first run.rounds))
@@ -225,28 +252,30 @@ module _ {S E C : Type 0} (m : Meaning S E C KeyRow) (w : Setting) (past : List 
     count = is_taken;
     stands = goes.stands;
     agrees = goes.steps;
+    kept = goes.kept;
   }
 
   -- or it ended in it
-  pub round_stops : (old new : House S E C) (o now : Outs) (taken : ℕ) (left : List LinkItem) (x : Round) (fault : Fault) (end : ServeEnd) (run : Running m w past numbers old tells base o taken until limit first left)
+  pub round_stops : (old new : House S E C) (o now : Moment) (taken : ℕ) (left : List LinkItem) (x : Round) (fault : Fault) (end : ServeEnd) (run : Running m w past numbers old tells base o taken until limit first left)
       → IsWanted (wants w past until limit (after w past first run.rounds)) x → {A : Type 0}
       → Goes {A = A} m w past numbers new tells base now (Err fault) (outcome w past x (after w past first run.rounds)) (brought w past x (after w past first run.rounds)) (at_call x (after w past first run.rounds))
-      → IsEndOf fault end → Serves m w past numbers new.replicas.items tells base now end until limit first
+      → IsEndOf fault end → ServesKept m w past numbers new.replicas.items tells base now end until limit first
   round_stops old new o now taken left x fault end run want goes is =
       let s = round_does w past x (after w past first run.rounds) in
       record {
         rounds = x ∷ run.rounds;
         wanted = (want, run.wanted);
-        so = ends_so m w past numbers new.replicas.items tells base now fault end s (sooner w past first (x ∷ run.rounds)) (newest w past first (x ∷ run.rounds)) (wants w past until limit s) is goes.steps goes.stands;
+        so = ends_so m w past numbers new.replicas.items tells base now.outs fault end s (sooner w past first (x ∷ run.rounds)) (newest w past first (x ∷ run.rounds)) (wants w past until limit s) is goes.steps goes.stands;
+        kept = left_end now (NoneSent tells base now.outs (sooner w past first (x ∷ run.rounds))) (kept_of w past s.events) (kept_of w past (earlier w past first (x ∷ run.rounds))) fault end is goes.kept;
       }
 
   -- ---- the first items
 
-  pub runs_first : (house : House S E C) (o : Outs) → HouseStands m w past numbers house nobody no_peers → Agrees tells base o [] []
+  pub runs_first : (house : House S E C) (o : Moment) → HouseStands m w past numbers house nobody no_peers → Agrees tells base o.outs [] [] → o.stands []
       → Running m w past numbers house tells base o 0 until limit first first
-  runs_first house o stands agrees = record { rounds = []; wanted = tt; rest = refl; count = refl; stands = stands; agrees = agrees }
+  runs_first house o stands agrees stood = record { rounds = []; wanted = tt; rest = refl; count = refl; stands = stands; agrees = agrees; kept = stood }
 
-  module _ (old : House S E C) (o : Outs) (item : LinkItem) (left rest : List LinkItem) (run : Running m w past numbers old tells base o 0 until limit first left) (is : left ≡ item ∷ rest) where
+  module _ (old : House S E C) (o : Moment) (item : LinkItem) (left rest : List LinkItem) (run : Running m w past numbers old tells base o 0 until limit first left) (is : left ≡ item ∷ rest) where
     abbrev began_at : Serving
     began_at = after w past first run.rounds
 
@@ -254,16 +283,16 @@ module _ {S E C : Type 0} (m : Meaning S E C KeyRow) (w : Setting) (past : List 
     first_wanted =
         subst (λ (l : List LinkItem). IsWanted (first_or l (wants_of w until limit (so_far past began_at) began_at.taken began_at.peers)) (Began item)) (sym (run.rest ∙ is)) refl
 
-    pub began_on : (new : House S E C) (now : Outs) {A : Type 0} (done : A) → Goes m w past numbers new tells base now (Ok done) (outcome w past (Began item) began_at) (brought w past (Began item) began_at) (began began_at)
+    pub began_on : (new : House S E C) (now : Moment) {A : Type 0} (done : A) → Goes m w past numbers new tells base now (Ok done) (outcome w past (Began item) began_at) (brought w past (Began item) began_at) (began began_at)
         → Running m w past numbers new tells base now 0 until limit first rest
     began_on new now done goes = runs_on old new o now 0 0 left rest (Began item) run first_wanted (ap behind_first (run.rest ∙ is)) run.count done goes
 
-    pub began_stops : (new : House S E C) (now : Outs) (fault : Fault) (end : ServeEnd)
+    pub began_stops : (new : House S E C) (now : Moment) (fault : Fault) (end : ServeEnd)
         → Goes {A = Unit {0}} m w past numbers new tells base now (Err fault) (outcome w past (Began item) began_at) (brought w past (Began item) began_at) (began began_at) → IsEndOf fault end
-        → Serves m w past numbers new.replicas.items tells base now end until limit first
+        → ServesKept m w past numbers new.replicas.items tells base now end until limit first
     began_stops new now fault end goes is_end = round_stops old new o now 0 left (Began item) fault end run first_wanted goes is_end
 
-  module _ (house : House S E C) (o : Outs) (taken : ℕ) (run : Running m w past numbers house tells base o taken until limit first []) where
+  module _ (house : House S E C) (o : Moment) (taken : ℕ) (run : Running m w past numbers house tells base o taken until limit first []) where
     abbrev now_at : Serving
     now_at = after w past first run.rounds
 
@@ -288,28 +317,30 @@ module _ {S E C : Type 0} (m : Meaning S E C KeyRow) (w : Setting) (past : List 
     pub remind_of_peer : (pair : Pair) → IsNext next_want (next.Remind pair) → (w.is_correct pair.at ≡ true) × (pair.peer < w.numbers.n)
     remind_of_peer pair is = reminds_peer w until limit (so_far past now_at) taken now_at.peers pair.at pair.peer (next_remind next_want pair is)
 
-    pub finishes : IsNext next_want next.Finish → Serves m w past numbers house.replicas.items tells base o ends.Done until limit first
+    pub finishes : IsNext next_want next.Finish → ServesKept m w past numbers house.replicas.items tells base o ends.Done until limit first
     finishes is = record {
       rounds = run.rounds;
       wanted = run.wanted;
       so = record { why = wants_now house o taken run ∙ next_finish next_want is; agrees = run.agrees; stand = run.stands.here };
+      kept = run.kept;
     }
 
-    pub halts : IsNext next_want next.Halt → Serves m w past numbers house.replicas.items tells base o ends.Limit until limit first
+    pub halts : IsNext next_want next.Halt → ServesKept m w past numbers house.replicas.items tells base o ends.Limit until limit first
     halts is = record {
       rounds = run.rounds;
       wanted = run.wanted;
       so = record { why = wants_now house o taken run ∙ next_halt next_want is; agrees = run.agrees; stand = run.stands.here };
+      kept = run.kept;
     }
 
-    module _ (new : House S E C) (now : Outs) where
+    module _ (new : House S E C) (now : Moment) where
       pub turned_on : (at : ℕ) → IsNext next_want (next.Turn at) → {A : Type 0} (done : A)
           → Goes m w past numbers new tells base now (Ok done) (outcome w past (Turned at) now_at) (brought w past (Turned at) now_at) now_at → Running m w past numbers new tells base now taken until limit first []
       turned_on at is done goes = runs_on house new o now taken taken [] [] (Turned at) run (turn_wanted at is) run.rest run.count done goes
 
       pub turn_stops : (at : ℕ) (fault : Fault) (end : ServeEnd) → IsNext next_want (next.Turn at)
           → Goes {A = Unit {0}} m w past numbers new tells base now (Err fault) (outcome w past (Turned at) now_at) (brought w past (Turned at) now_at) now_at → IsEndOf fault end
-          → Serves m w past numbers new.replicas.items tells base now end until limit first
+          → ServesKept m w past numbers new.replicas.items tells base now end until limit first
       turn_stops at fault end is goes is_end = round_stops house new o now taken [] (Turned at) fault end run (turn_wanted at is) goes is_end
 
       pub reminded_on : (pair : Pair) → IsNext next_want (next.Remind pair) → {A : Type 0} (done : A)
@@ -319,7 +350,7 @@ module _ {S E C : Type 0} (m : Meaning S E C KeyRow) (w : Setting) (past : List 
 
       pub remind_stops : (pair : Pair) (fault : Fault) (end : ServeEnd) → IsNext next_want (next.Remind pair)
           → Goes {A = Unit {0}} m w past numbers new tells base now (Err fault) (outcome w past (Reminded pair.at pair.peer) now_at) (brought w past (Reminded pair.at pair.peer) now_at) now_at
-          → IsEndOf fault end → Serves m w past numbers new.replicas.items tells base now end until limit first
+          → IsEndOf fault end → ServesKept m w past numbers new.replicas.items tells base now end until limit first
       remind_stops pair fault end is goes is_end = round_stops house new o now taken [] (Reminded pair.at pair.peer) fault end run (remind_wanted pair is) goes is_end
 
       pub item_on : IsNext next_want next.Ask → TookItem m w past numbers new tells base now (Ok true) now_at
@@ -327,23 +358,26 @@ module _ {S E C : Type 0} (m : Meaning S E C KeyRow) (w : Setting) (past : List 
       item_on is took =
           runs_on house new o now taken (taken + 1) [] [] (Took took.item) run (item_wanted took.item is took.is_item) run.rest (ap (λ (n : ℕ). n + 1) run.count) true took.goes
 
-      pub link_ends : IsNext next_want next.Ask → Agrees tells base now now_at.events (Gives items.End ∷ now_at.acts)
-          → HouseStands m w (so_far past now_at) numbers new now_at.waiting now_at.peers → Serves m w past numbers new.replicas.items tells base now ends.End until limit first
-      link_ends is agrees stands = record {
+      pub link_ends : IsNext next_want next.Ask → Agrees tells base now.outs now_at.events (Gives items.End ∷ now_at.acts)
+          → HouseStands m w (so_far past now_at) numbers new now_at.waiting now_at.peers → now.stands (kept_of w past now_at.events) → ServesKept m w past numbers new.replicas.items tells base now ends.End until limit first
+      link_ends is agrees stands stood = record {
         rounds = run.rounds;
         wanted = run.wanted;
         so = record { why = wants_now house o taken run ∙ next_ask next_want is; agrees = agrees; stand = stands.here };
+        kept = stood;
       }
 
       pub asking_stops : (fault : Fault) (end : ServeEnd) → IsNext next_want next.Ask
-          → (GaveNone tells base now fault now_at × HouseStands m w (so_far past now_at) numbers new now_at.waiting now_at.peers) ⊎ TookItem m w past numbers new tells base now (Err fault) now_at → IsEndOf fault end
-          → Serves m w past numbers new.replicas.items tells base now end until limit first
+          → (GaveNone tells base now.outs fault now_at × HouseStands m w (so_far past now_at) numbers new now_at.waiting now_at.peers × now.stands (kept_of w past now_at.events)) ⊎ TookItem m w past numbers new tells base now (Err fault) now_at → IsEndOf fault end
+          → ServesKept m w past numbers new.replicas.items tells base now end until limit first
       asking_stops fault end is (inl gave) is_end = record {
         rounds = run.rounds;
         wanted = run.wanted;
-        so = ends_so m w past numbers new.replicas.items tells base now fault end now_at (sooner w past first run.rounds) (newest w past first run.rounds) (wants w past until limit now_at) is_end
-            (none_stops w past first run.rounds tells base now fault gave.0)
+        so = ends_so m w past numbers new.replicas.items tells base now.outs fault end now_at (sooner w past first run.rounds) (newest w past first run.rounds) (wants w past until limit now_at) is_end
+            (none_stops w past first run.rounds tells base now.outs fault gave.0)
             (if_failed fault _ gave.1.here);
+        kept = left_end now (NoneSent tells base now.outs (sooner w past first run.rounds)) (kept_of w past now_at.events) (kept_of w past (earlier w past first run.rounds)) fault end is_end
+            (left_none now (NoneSent tells base now.outs (sooner w past first run.rounds)) (kept_of w past now_at.events) (kept_of w past (earlier w past first run.rounds)) fault gave.0.own gave.2);
       }
       asking_stops fault end is (inr took) is_end =
           round_stops house new o now taken [] (Took took.item) fault end run (item_wanted took.item is took.is_item) took.goes is_end
@@ -363,3 +397,37 @@ none_served m w past numbers here tells base until limit first = record {
     cause = (refl, inl refl);
   };
 }
+
+-- where nothing is kept, it ended as serving without an archive does
+pub serves_plain : {S E C : Type 0} (m : Meaning S E C KeyRow) (w : Setting) (past : List Event) (numbers : List ℕ) (here : List (Replica S E C)) (tells : Tells) (base : Outs) (now : Moment) (end : ServeEnd) (until limit : ℕ) (first : List LinkItem)
+    → ((x : ArchiveFault) (es : List Event) → now.fails x es → ⊥) → ServesKept m w past numbers here tells base now end until limit first
+    → Serves m w past numbers here tells base now.outs end until limit first
+serves_plain m w past numbers here tells base now end until limit first never served = record {
+  rounds = served.rounds;
+  wanted = served.wanted;
+  so = by_end end served.so served.kept;
+}
+  where
+    s : Serving
+    s = after w past first served.rounds
+
+    older : List LinkAct
+    older = sooner w past first served.rounds
+
+    news : List LinkAct
+    news = newest w past first served.rounds
+
+    rule : Want
+    rule = wants w past until limit s
+
+    by_end : (end : ServeEnd) → EndsKept m w past numbers here tells base now.outs end s older news rule
+        → KeptAt now (NoneSent tells base now.outs older) (kept_of w past s.events) (kept_of w past (earlier w past first served.rounds)) end
+        → EndsSo m w past numbers here tells base now.outs end s older news rule
+    by_end ends.Done so kept = so
+    by_end ends.Limit so kept = so
+    by_end ends.End so kept = so
+    by_end ends.LinkFault so kept = so
+    by_end ends.TapeFault so kept = so
+    by_end ends.Mem so kept = so
+    by_end ends.DiskFault so kept = never _ _ kept
+    by_end (ends.JournalFull x) so kept = never _ _ kept

@@ -10,6 +10,8 @@ pub mod Served
 pub mod PeersStanding
 pub mod Standing
 pub mod Running
+pub mod Archives
+pub mod ServedKept
 pub mod Laws
 pub mod Keeping
 pub mod KeepingRows

@@ -67,12 +67,17 @@ abbrev pub IfFailed : Fault → Type 0 → Type 0
 IfFailed faults.Tape P = P
 IfFailed faults.Link P = P
 IfFailed faults.Mem P = Unit {0}
+IfFailed faults.Disk P = P
+IfFailed (faults.Full x) P = P
 
--- what ended it is the one call that failed, or, where memory ran out, at most one call of the link was without it
+-- what ended it is the one call that failed, or, where memory ran out, at most one call of the link was without it; where it was what keeps
+-- events, no call of the tape or the link failed
 abbrev pub HasCauses : Outs → Outs → Fault → Type 0
 HasCauses base now faults.Tape = TapeFailed base now
 HasCauses base now faults.Link = LinkFailed base now
 HasCauses base now faults.Mem = FellShort base now
+HasCauses base now faults.Disk = NoneFailed base now
+HasCauses base now (faults.Full x) = NoneFailed base now
 
 -- the tape took all events
 abbrev pub AllWritten : Tells → Outs → Outs → List Event → Type 0
@@ -82,12 +87,14 @@ AllWritten tells base now events = tells.tape ≡ true → now.taken ≡ base.ta
 abbrev pub NoneSent : Tells → Outs → Outs → List LinkAct → Type 0
 NoneSent tells base now sooner = tells.link ≡ true → now.told ≡ sooner ++ base.told
 
--- An event is written before its frames and its replies go out: where the tape fails none of them did, and where the link fails all events were
--- written.
+-- An event is written, and then kept, before its frames and its replies go out: where the tape fails none of them did, where the link fails all
+-- events were written, and where the newest can't be kept both.
 abbrev pub InOrder : Tells → Outs → Outs → Fault → List Event → List LinkAct → Type 0
 InOrder tells base now faults.Tape events sooner = NoneSent tells base now sooner
 InOrder tells base now faults.Link events sooner = AllWritten tells base now events
 InOrder tells base now faults.Mem events sooner = AllWritten tells base now events ⊎ NoneSent tells base now sooner
+InOrder tells base now faults.Disk events sooner = AllWritten tells base now events × NoneSent tells base now sooner
+InOrder tells base now (faults.Full x) events sooner = AllWritten tells base now events × NoneSent tells base now sooner
 
 -- the tape took a front of the events' text, and the link told the calls that are sooner, and of the news a part
 pub record Stops (tells : Tells) (base now : Outs) (fault : Fault) (events : List Event) (sooner news : List LinkAct) : Type 0 where

@@ -47,8 +47,8 @@ Breaks tells base now ends.TapeFault events sooner news = Stops tells base now f
 Breaks tells base now ends.Mem events sooner news = Stops tells base now faults.Mem events sooner news
 Breaks tells base now end events sooner news = ⊥
 
--- Each end, where the newest event's calls are `news`, and those before are `sooner`. Unless memory ran out, the replicas stand where all events
--- leave them, also those that weren't written.
+-- Each end of serving that keeps no events, where the newest event's calls are `news`, and those before are `sooner`. Unless memory ran out,
+-- the replicas stand where all events leave them, also those that weren't written.
 abbrev pub EndsSo : {S E C : Type 0} → Meaning S E C KeyRow → Setting → List Event → List ℕ → List (Replica S E C) → Tells → Outs → Outs → ServeEnd → Serving
     → List LinkAct → List LinkAct → Want → Type 0
 EndsSo m w past numbers here tells base now ends.Done s sooner news rule = Whole m w past numbers here tells base now s s.acts rule Finishes
@@ -57,6 +57,8 @@ EndsSo m w past numbers here tells base now ends.End s sooner news rule = Whole 
 EndsSo m w past numbers here tells base now ends.LinkFault s sooner news rule = Breaks tells base now ends.LinkFault s.events sooner news × AreHere m w (so_far past s) numbers here
 EndsSo m w past numbers here tells base now ends.TapeFault s sooner news rule = Breaks tells base now ends.TapeFault s.events sooner news × AreHere m w (so_far past s) numbers here
 EndsSo m w past numbers here tells base now ends.Mem s sooner news rule = Breaks tells base now ends.Mem s.events sooner news
+EndsSo m w past numbers here tells base now ends.DiskFault s sooner news rule = ⊥
+EndsSo m w past numbers here tells base now (ends.JournalFull x) s sooner news rule = ⊥
 
 -- There are rounds, each what the rules said, after which serving ended so. The items that these took are those that the link gave, before
 -- its end: where it tells, each call but those of the newest event is told.

@@ -1,5 +1,5 @@
 //! What a tape and a link are given.
-ghost use Rattle.std.specs.Prelude.{◌≡◌, ℕ, ◌<◌, ◌≤◌, [], ◌++◌, List, length, map, reverse, None, false, All, IfSome, OnOk};
+ghost use Rattle.std.specs.Prelude.{◌≡◌, ℕ, ◌<◌, ◌≤◌, [], ◌++◌, List, length, map, reverse, None, false, All, IfSome, IfErr, OnOk, MatchResult};
 ghost use Rattle.ritas_base.specs.declared.event.Event.{Event};
 ghost use Rattle.outside.specs.LinkCalls.{LinkDid, each_act};
 ghost use Rattle.outside.specs.Links.{LinkAct, Replies};
@@ -16,7 +16,10 @@ ghost use Rattle.node_loop.specs.Deeds.{act_of};
 ghost use Rattle.node_loop.specs.Serving.{Serving, so_far, sent_by, onto};
 ghost use Rattle.node_loop.specs.Standing.{HouseStands, Comes, IsMore, frame_by, reply_by};
 ghost use Rattle.node_loop.specs.Running.{Goes};
+ghost use Rattle.node_loop.specs.Archives.{IsSame, moment_of, kept_with};
+ghost use Rattle.node_loop.specs.Keeping.{kept_of};
 
+use crate::archive::{Archive, ArchiveFault, Outlets, fault_in};
 use crate::end::Fault;
 use crate::house::House;
 use crate::output::{More, Output, Reply};
@@ -191,7 +194,8 @@ pub(crate) fn fault_of(fault: LinkFault) -> Fault
 // Writes the event to the tape.
 fn write<K: Sink>(tape: &mut K, output: &Output) -> Result<(), Fault>
     requires { IfSome output.now.event IsSized }
-    ensures { (tells : Tells) (base : Outs) (told : List LinkAct) (link_faults : _) (events : List Event) (acts news : List LinkAct) → tells.tape ≡ K.tells
+    ensures own { IfErr result (λ fault. fault ≡ Fault.Tape) }
+    ensures steps { (tells : Tells) (base : Outs) (told : List LinkAct) (link_faults : _) (events : List Event) (acts news : List LinkAct) → tells.tape ≡ K.tells
         → Agrees tells base (record { taken = K.taken tape.old; tape_faults = K.faults tape.old; told = told; link_faults = link_faults }) events acts
         → Steps tells base (record { taken = K.taken tape.new; tape_faults = K.faults tape.new; told = told; link_faults = link_faults }) result
         (onto output.now.event events) acts acts news }
@@ -204,38 +208,69 @@ fn write<K: Sink>(tape: &mut K, output: &Output) -> Result<(), Fault>
     Ok(())
 }
 
-/// Writes the event that came to the tape, keeps its frames for their peers, and then gives the link the frames, what goes to a peer
-/// besides, and the replies.
-pub(crate) fn deliver<R: Net + Wait, S: Service, E: Broadcast, C: Coin + Drop, L: Link, K: Sink>(
+// Hands the event to the archive, if it is one that is kept.
+fn keep_event<A: Archive<D>, D>(
+    alloc: Global,
+    archive: &mut A,
+    disk: &mut D,
+    output: &Output,
+) -> Result<(), ArchiveFault>
+    ensures { (head : List ℕ) (before : D) (past given : List Event) → A.stands head before past archive.old disk.old given
+        → MatchResult result (λ _. A.stands head before past archive.new disk.new (kept_with output.now.kept output.now.event given))
+        (λ fault. A.fails head before past disk.new fault (kept_with output.now.kept output.now.event given)) }
+{
+    match &output.event {
+        Some(event) if output.kept => archive.keep(alloc, disk, event),
+        _ => Ok(()),
+    }
+}
+
+/// Writes the event that came to the tape, hands it to the archive where it is kept, keeps its frames for their peers, and then gives the
+/// link the frames, what goes to a peer besides, and the replies.
+pub(crate) fn deliver<
+    R: Net + Wait,
+    S: Service,
+    E: Broadcast,
+    C: Coin + Drop,
+    L: Link,
+    K: Sink,
+    A: Archive<D>,
+    D,
+>(
     rt: &R,
     alloc: Global,
     house: &mut House<S, E, C>,
-    link: &mut L,
-    tape: &mut K,
+    out: &mut Outlets<L, K, A, D>,
     output: &Output,
 ) -> Result<(), Fault>
     requires { IfSome output.now.event IsSized }
-    ensures { let m = with_keys S.stands S.rules S.shown E.stands E.rules E.shown C.bits in
-        (w : Setting) (past : List Event) (numbers : List ℕ) (base : Outs) (s : Serving) (did : Outcome) (more : Brought)
+    ensures same { IsSame out.old out.new }
+    ensures goes { let m = with_keys S.stands S.rules S.shown E.stands E.rules E.shown C.bits in
+        (head : List ℕ) (before : D) (w : Setting) (past : List Event) (numbers : List ℕ) (base : Outs) (s : Serving) (did : Outcome) (more : Brought)
         → Comes m w (so_far past s) numbers house.old output.now did more
         → Agrees (record { tape = K.tells; link = L.tells }) base
-        (outs_of K.taken K.faults L.told L.faults tape.old link.old) s.events s.acts
+        (outs_of K.taken K.faults L.told L.faults out.old.tape.now out.old.link.now) s.events s.acts
+        → A.stands head before past out.old.archive.now out.old.disk.now (kept_of w past s.events)
         → Goes m w past numbers house.new (record { tape = K.tells; link = L.tells }) base
-        (outs_of K.taken K.faults L.told L.faults tape.new link.new) result did more s }
+        (moment_of K.taken K.faults L.told L.faults (A.stands head before past) (A.fails head before past) out.new) result did more s }
 {
-    match write(tape, output) {
+    match write(out.tape, output) {
         Ok(()) => {}
         Err(fault) => return Err(fault),
+    }
+    match keep_event(alloc, out.archive, out.disk, output) {
+        Ok(()) => {}
+        Err(fault) => return Err(fault_in(fault)),
     }
     match keep_frames(house, alloc, output) {
         Ok(()) => {}
         Err(Mem) => return Err(Fault::Mem),
     }
-    match send_out(rt, alloc, house, link, output) {
+    match send_out(rt, alloc, house, out.link, output) {
         Ok(()) => {}
         Err(fault) => return Err(fault_of(fault)),
     }
-    match reply_all(rt, alloc, link, output.at, output.replies.as_slice()) {
+    match reply_all(rt, alloc, out.link, output.at, output.replies.as_slice()) {
         Ok(()) => Ok(()),
         Err(fault) => Err(fault_of(fault)),
     }

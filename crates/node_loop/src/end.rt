@@ -13,6 +13,10 @@ pub enum ServeEnd {
     TapeFault,
     /// There was not enough memory.
     Mem,
+    /// The journal's disk failed.
+    DiskFault,
+    /// With the newest event the journal would be so long, which is too long.
+    JournalFull(u64),
 }
 
 /// Why serving can't go on.
@@ -24,4 +28,8 @@ pub(crate) enum Fault {
     Tape,
     /// There was not enough memory.
     Mem,
+    /// The journal's disk failed.
+    Disk,
+    /// With the newest event the journal would be so long, which is too long.
+    Full(u64),
 }

@@ -8,6 +8,7 @@
 //! items determine all that it does (`one_run`), and what a fault leaves is a front of it (`only_grows`).
 #![tactic(auto)]
 
+mod archive;
 mod asks;
 mod calls;
 mod deliver;

@@ -10,8 +10,12 @@ ghost use Rattle.node_loop.specs.Serving.{Serving, so_far, wants_of, Turned, Rem
 ghost use Rattle.node_loop.specs.Outs.{Outs, outs_of, Agrees};
 ghost use Rattle.node_loop.specs.Standing.{HouseStands};
 ghost use Rattle.node_loop.specs.Served.{AreHere, IsFirst, Serves};
+ghost use Rattle.node_loop.specs.ServedKept.{ServesKept};
+ghost use Rattle.node_loop.specs.Archives.{IsSame, moment, moment_of};
+ghost use Rattle.node_loop.specs.Keeping.{kept_of};
 ghost use Rattle.node_loop.specs.Running.{Running, RanRound, Goes, AskedLink, BeganAll, IsNext, IsEndOf};
 
+use crate::archive::{Archive, NoArchive, NoDisk, Outlets};
 use crate::deliver::{deliver, fault_of};
 use crate::end::{Fault, ServeEnd};
 use crate::house::House;
@@ -74,75 +78,107 @@ fn end_of(fault: Fault) -> ServeEnd
         Fault::Link => ServeEnd::LinkFault,
         Fault::Tape => ServeEnd::TapeFault,
         Fault::Mem => ServeEnd::Mem,
+        Fault::Disk => ServeEnd::DiskFault,
+        Fault::Full(size) => ServeEnd::JournalFull(size),
     }
 }
 
 // A peer of a replica is asked to send again.
-fn remind<R: Net + Wait, S: Service, E: Broadcast, C: Coin + Drop, L: Link, K: Sink>(
+fn remind<
+    R: Net + Wait,
+    S: Service,
+    E: Broadcast,
+    C: Coin + Drop,
+    L: Link,
+    K: Sink,
+    A: Archive<D>,
+    D,
+>(
     rt: &R,
     alloc: Global,
     house: &mut House<S, E, C>,
-    link: &mut L,
-    tape: &mut K,
+    out: &mut Outlets<L, K, A, D>,
     pair: Pair,
     output: &mut Output,
 ) -> Result<(), Fault>
-    ensures { let m = with_keys S.stands S.rules S.shown E.stands E.rules E.shown C.bits in
-        (w : Setting) (past : List Event) (numbers : List ℕ) (base : Outs) (s : Serving) → HouseStands m w (so_far past s) numbers house.old s.waiting s.peers
+    ensures same { IsSame out.old out.new }
+    ensures goes { let m = with_keys S.stands S.rules S.shown E.stands E.rules E.shown C.bits in
+        (head : List ℕ) (before : D) (w : Setting) (past : List Event) (numbers : List ℕ) (base : Outs) (s : Serving) → HouseStands m w (so_far past s) numbers house.old s.waiting s.peers
         → Agrees (record { tape = K.tells; link = L.tells }) base
-        (outs_of K.taken K.faults L.told L.faults tape.old link.old) s.events s.acts
+        (outs_of K.taken K.faults L.told L.faults out.old.tape.now out.old.link.now) s.events s.acts
+        → A.stands head before past out.old.archive.now out.old.disk.now (kept_of w past s.events)
         → w.is_correct pair.at ≡ true → pair.peer < w.numbers.n
         → Goes m w past numbers house.new (record { tape = K.tells; link = L.tells }) base
-        (outs_of K.taken K.faults L.told L.faults tape.new link.new)
+        (moment_of K.taken K.faults L.told L.faults (A.stands head before past) (A.fails head before past) out.new)
         result (outcome w past (Reminded pair.at pair.peer) s) (brought w past (Reminded pair.at pair.peer) s) s }
 {
     house.remind(pair, output);
-    deliver(rt, alloc, house, link, tape, output)
+    deliver(rt, alloc, house, out, output)
 }
 
 // Takes a turn at a replica.
-fn turn<R: Net + Wait, S: Service, E: Broadcast, C: Coin + Drop, L: Link, K: Sink>(
+fn turn<
+    R: Net + Wait,
+    S: Service,
+    E: Broadcast,
+    C: Coin + Drop,
+    L: Link,
+    K: Sink,
+    A: Archive<D>,
+    D,
+>(
     rt: &R,
     alloc: Global,
     house: &mut House<S, E, C>,
-    link: &mut L,
-    tape: &mut K,
+    out: &mut Outlets<L, K, A, D>,
     at: u8,
     output: &mut Output,
 ) -> Result<(), Fault>
-    ensures { let m = with_keys S.stands S.rules S.shown E.stands E.rules E.shown C.bits in
-        (w : Setting) (past : List Event) (numbers : List ℕ) (base : Outs) (s : Serving) → HouseStands m w (so_far past s) numbers house.old s.waiting s.peers
+    ensures same { IsSame out.old out.new }
+    ensures goes { let m = with_keys S.stands S.rules S.shown E.stands E.rules E.shown C.bits in
+        (head : List ℕ) (before : D) (w : Setting) (past : List Event) (numbers : List ℕ) (base : Outs) (s : Serving) → HouseStands m w (so_far past s) numbers house.old s.waiting s.peers
         → Agrees (record { tape = K.tells; link = L.tells }) base
-        (outs_of K.taken K.faults L.told L.faults tape.old link.old) s.events s.acts
+        (outs_of K.taken K.faults L.told L.faults out.old.tape.now out.old.link.now) s.events s.acts
+        → A.stands head before past out.old.archive.now out.old.disk.now (kept_of w past s.events)
         → w.is_correct at ≡ true
         → Goes m w past numbers house.new (record { tape = K.tells; link = L.tells }) base
-        (outs_of K.taken K.faults L.told L.faults tape.new link.new)
+        (moment_of K.taken K.faults L.told L.faults (A.stands head before past) (A.fails head before past) out.new)
         result (outcome w past (Turned at) s) (brought w past (Turned at) s) s }
 {
     match house.turn(alloc, at, output) {
-        Ok(()) => deliver(rt, alloc, house, link, tape, output),
+        Ok(()) => deliver(rt, alloc, house, out, output),
         Err(Mem) => Err(Fault::Mem),
     }
 }
 
 // Takes the link's next item, and answers whether there is one.
-fn ask_link<R: Net + Wait, S: Service, E: Broadcast, C: Coin + Drop, L: Link, K: Sink>(
+fn ask_link<
+    R: Net + Wait,
+    S: Service,
+    E: Broadcast,
+    C: Coin + Drop,
+    L: Link,
+    K: Sink,
+    A: Archive<D>,
+    D,
+>(
     rt: &R,
     alloc: Global,
     house: &mut House<S, E, C>,
-    link: &mut L,
-    tape: &mut K,
+    out: &mut Outlets<L, K, A, D>,
     output: &mut Output,
 ) -> Result<bool, Fault>
-    ensures { let m = with_keys S.stands S.rules S.shown E.stands E.rules E.shown C.bits in
-        (w : Setting) (past : List Event) (numbers : List ℕ) (base : Outs) (s : Serving) → HouseStands m w (so_far past s) numbers house.old s.waiting s.peers
+    ensures same { IsSame out.old out.new }
+    ensures goes { let m = with_keys S.stands S.rules S.shown E.stands E.rules E.shown C.bits in
+        (head : List ℕ) (before : D) (w : Setting) (past : List Event) (numbers : List ℕ) (base : Outs) (s : Serving) → HouseStands m w (so_far past s) numbers house.old s.waiting s.peers
         → Agrees (record { tape = K.tells; link = L.tells }) base
-        (outs_of K.taken K.faults L.told L.faults tape.old link.old) s.events s.acts
+        (outs_of K.taken K.faults L.told L.faults out.old.tape.now out.old.link.now) s.events s.acts
+        → A.stands head before past out.old.archive.now out.old.disk.now (kept_of w past s.events)
         → AskedLink m w past numbers house.new (record { tape = K.tells; link = L.tells }) base
-        (outs_of K.taken K.faults L.told L.faults tape.new link.new)
+        (moment_of K.taken K.faults L.told L.faults (A.stands head before past) (A.fails head before past) out.new)
         result s }
 {
-    let item = match link.next(rt, alloc) {
+    let item = match out.link.next(rt, alloc) {
         Ok(item) => item,
         Err(fault) => return Err(fault_of(fault)),
     };
@@ -153,44 +189,53 @@ fn ask_link<R: Net + Wait, S: Service, E: Broadcast, C: Coin + Drop, L: Link, K:
         Ok(()) => {}
         Err(Mem) => return Err(Fault::Mem),
     }
-    match deliver(rt, alloc, house, link, tape, output) {
+    match deliver(rt, alloc, house, out, output) {
         Ok(()) => Ok(true),
         Err(fault) => Err(fault),
     }
 }
 
 // One round, unless serving ends.
-fn run_round<R: Net + Wait, S: Service, E: Broadcast, C: Coin + Drop, L: Link, K: Sink>(
+fn run_round<
+    R: Net + Wait,
+    S: Service,
+    E: Broadcast,
+    C: Coin + Drop,
+    L: Link,
+    K: Sink,
+    A: Archive<D>,
+    D,
+>(
     rt: &R,
     alloc: Global,
     house: &mut House<S, E, C>,
-    link: &mut L,
-    tape: &mut K,
+    out: &mut Outlets<L, K, A, D>,
     bounds: Bounds,
     taken: &mut u64,
     output: &mut Output,
 ) -> Result<(), ServeEnd>
-    ensures { let m = with_keys S.stands S.rules S.shown E.stands E.rules E.shown C.bits in
-        (w : Setting) (past : List Event) (numbers : List ℕ) (base : Outs) (first : List LinkItem)
+    ensures same { IsSame out.old out.new }
+    ensures goes { let m = with_keys S.stands S.rules S.shown E.stands E.rules E.shown C.bits in
+        (head : List ℕ) (before : D) (w : Setting) (past : List Event) (numbers : List ℕ) (base : Outs) (first : List LinkItem)
         → Running m w past numbers house.old (record { tape = K.tells; link = L.tells }) base
-        (outs_of K.taken K.faults L.told L.faults tape.old link.old)
+        (moment_of K.taken K.faults L.told L.faults (A.stands head before past) (A.fails head before past) out.old)
         taken.old bounds.until bounds.limit first []
         → RanRound m w past numbers house.new (record { tape = K.tells; link = L.tells }) base
-        (outs_of K.taken K.faults L.told L.faults tape.new link.new)
+        (moment_of K.taken K.faults L.told L.faults (A.stands head before past) (A.fails head before past) out.new)
         taken.new bounds.until bounds.limit first result }
 {
     match next_of(house, bounds, *taken) {
         Next::Finish => Err(ServeEnd::Done),
-        Next::Turn(at) => match turn(rt, alloc, house, link, tape, at, output) {
+        Next::Turn(at) => match turn(rt, alloc, house, out, at, output) {
             Ok(()) => Ok(()),
             Err(fault) => Err(end_of(fault)),
         },
         Next::Halt => Err(ServeEnd::Limit),
-        Next::Remind(pair) => match remind(rt, alloc, house, link, tape, pair, output) {
+        Next::Remind(pair) => match remind(rt, alloc, house, out, pair, output) {
             Ok(()) => Ok(()),
             Err(fault) => Err(end_of(fault)),
         },
-        Next::Ask => match ask_link(rt, alloc, house, link, tape, output) {
+        Next::Ask => match ask_link(rt, alloc, house, out, output) {
             Ok(true) => {
                 *taken += 1;
                 Ok(())
@@ -202,27 +247,36 @@ fn run_round<R: Net + Wait, S: Service, E: Broadcast, C: Coin + Drop, L: Link, K
 }
 
 // Rounds, until serving ends. It waits in the calls of the link alone; but nothing says that turns ever end.
-fn go_on<R: Net + Wait, S: Service, E: Broadcast, C: Coin + Drop, L: Link, K: Sink>(
+fn go_on<
+    R: Net + Wait,
+    S: Service,
+    E: Broadcast,
+    C: Coin + Drop,
+    L: Link,
+    K: Sink,
+    A: Archive<D>,
+    D,
+>(
     rt: &R,
     alloc: Global,
     house: &mut House<S, E, C>,
-    link: &mut L,
-    tape: &mut K,
+    out: &mut Outlets<L, K, A, D>,
     bounds: Bounds,
     output: &mut Output,
 ) -> ServeEnd
-    ensures { let m = with_keys S.stands S.rules S.shown E.stands E.rules E.shown C.bits in
-        (w : Setting) (past : List Event) (numbers : List ℕ) (base : Outs) (first : List LinkItem)
+    ensures same { IsSame out.old out.new }
+    ensures goes { let m = with_keys S.stands S.rules S.shown E.stands E.rules E.shown C.bits in
+        (head : List ℕ) (before : D) (w : Setting) (past : List Event) (numbers : List ℕ) (base : Outs) (first : List LinkItem)
         → Running m w past numbers house.old (record { tape = K.tells; link = L.tells }) base
-        (outs_of K.taken K.faults L.told L.faults tape.old link.old)
+        (moment_of K.taken K.faults L.told L.faults (A.stands head before past) (A.fails head before past) out.old)
         0 bounds.until bounds.limit first []
-        → Serves m w past numbers house.new.replicas.items (record { tape = K.tells; link = L.tells }) base
-        (outs_of K.taken K.faults L.told L.faults tape.new link.new)
+        → ServesKept m w past numbers house.new.replicas.items (record { tape = K.tells; link = L.tells }) base
+        (moment_of K.taken K.faults L.told L.faults (A.stands head before past) (A.fails head before past) out.new)
         result bounds.until bounds.limit first }
 {
     let mut taken = 0;
     for _ in rt.forever() {
-        match run_round(rt, alloc, house, link, tape, bounds, &mut taken, output) {
+        match run_round(rt, alloc, house, out, bounds, &mut taken, output) {
             Ok(()) => {}
             Err(end) => return end,
         }
@@ -231,27 +285,38 @@ fn go_on<R: Net + Wait, S: Service, E: Broadcast, C: Coin + Drop, L: Link, K: Si
 }
 
 // The items with which serving begins, in their order.
-fn begin<R: Net + Wait, S: Service, E: Broadcast, C: Coin + Drop, L: Link, K: Sink>(
+fn begin<
+    R: Net + Wait,
+    S: Service,
+    E: Broadcast,
+    C: Coin + Drop,
+    L: Link,
+    K: Sink,
+    A: Archive<D>,
+    D,
+>(
     rt: &R,
     alloc: Global,
     house: &mut House<S, E, C>,
-    link: &mut L,
-    tape: &mut K,
+    out: &mut Outlets<L, K, A, D>,
     first: &[LinkItem],
     output: &mut Output,
 ) -> Result<(), Fault>
     requires { All IsFirst first.now }
-    ensures { let m = with_keys S.stands S.rules S.shown E.stands E.rules E.shown C.bits in
-        (w : Setting) (past : List Event) (numbers : List ℕ) (base : Outs) (until limit : ℕ)
-        → HouseStands m w past numbers house.old nobody no_peers → Agrees (record { tape = K.tells; link = L.tells }) base (outs_of K.taken K.faults L.told L.faults tape.old link.old) [] []
-        → BeganAll m w past numbers house.new (record { tape = K.tells; link = L.tells }) base (outs_of K.taken K.faults L.told L.faults tape.new link.new) until limit first.now result }
+    ensures same { IsSame out.old out.new }
+    ensures goes { let m = with_keys S.stands S.rules S.shown E.stands E.rules E.shown C.bits in
+        (head : List ℕ) (before : D) (w : Setting) (past : List Event) (numbers : List ℕ) (base : Outs) (until limit : ℕ)
+        → HouseStands m w past numbers house.old nobody no_peers
+        → Agrees (record { tape = K.tells; link = L.tells }) base (outs_of K.taken K.faults L.told L.faults out.old.tape.now out.old.link.now) [] []
+        → A.stands head before past out.old.archive.now out.old.disk.now []
+        → BeganAll m w past numbers house.new (record { tape = K.tells; link = L.tells }) base (moment_of K.taken K.faults L.told L.faults (A.stands head before past) (A.fails head before past) out.new) until limit first.now result }
 {
     for item in first {
         match house.begin(alloc, item, output) {
             Ok(()) => {}
             Err(Mem) => return Err(Fault::Mem),
         }
-        match deliver(rt, alloc, house, link, tape, output) {
+        match deliver(rt, alloc, house, out, output) {
             Ok(()) => {}
             Err(fault) => return Err(fault),
         }
@@ -260,25 +325,77 @@ fn begin<R: Net + Wait, S: Service, E: Broadcast, C: Coin + Drop, L: Link, K: Si
 }
 
 // Serves the replicas of a house.
-fn serve_house<R: Net + Wait, S: Service, E: Broadcast, C: Coin + Drop, L: Link, K: Sink>(
+fn serve_house<
+    R: Net + Wait,
+    S: Service,
+    E: Broadcast,
+    C: Coin + Drop,
+    L: Link,
+    K: Sink,
+    A: Archive<D>,
+    D,
+>(
+    rt: &R,
+    alloc: Global,
+    house: &mut House<S, E, C>,
+    out: &mut Outlets<L, K, A, D>,
+    bounds: Bounds,
+    first: &[LinkItem],
+) -> ServeEnd
+    requires { All IsFirst first.now }
+    ensures same { IsSame out.old out.new }
+    ensures goes { let m = with_keys S.stands S.rules S.shown E.stands E.rules E.shown C.bits in
+        (head : List ℕ) (before : D) (w : Setting) (past : List Event) (numbers : List ℕ) → HouseStands m w past numbers house.old nobody no_peers
+        → A.stands head before past out.old.archive.now out.old.disk.now []
+        → ServesKept m w past numbers house.new.replicas.items (record { tape = K.tells; link = L.tells })
+        (outs_of K.taken K.faults L.told L.faults out.old.tape.now out.old.link.now)
+        (moment_of K.taken K.faults L.told L.faults (A.stands head before past) (A.fails head before past) out.new)
+        result bounds.until bounds.limit first.now }
+{
+    let mut output = Output::new(alloc);
+    match begin(rt, alloc, house, out, first, &mut output) {
+        Ok(()) => go_on(rt, alloc, house, out, bounds, &mut output),
+        Err(fault) => end_of(fault),
+    }
+}
+
+// Serves the replicas of a house with a link, a tape, and what keeps events.
+fn serve_with<
+    R: Net + Wait,
+    S: Service,
+    E: Broadcast,
+    C: Coin + Drop,
+    L: Link,
+    K: Sink,
+    A: Archive<D>,
+    D,
+>(
     rt: &R,
     alloc: Global,
     house: &mut House<S, E, C>,
     link: &mut L,
     tape: &mut K,
+    archive: &mut A,
+    disk: &mut D,
     bounds: Bounds,
     first: &[LinkItem],
 ) -> ServeEnd
     requires { All IsFirst first.now }
     ensures { let m = with_keys S.stands S.rules S.shown E.stands E.rules E.shown C.bits in
-        (w : Setting) (past : List Event) (numbers : List ℕ) → HouseStands m w past numbers house.old nobody no_peers
-        → Serves m w past numbers house.new.replicas.items (record { tape = K.tells; link = L.tells }) (outs_of K.taken K.faults L.told L.faults tape.old link.old) (outs_of K.taken K.faults L.told L.faults tape.new link.new) result bounds.until bounds.limit first.now }
+        (head : List ℕ) (before : D) (w : Setting) (past : List Event) (numbers : List ℕ) → HouseStands m w past numbers house.old nobody no_peers
+        → A.stands head before past archive.old disk.old []
+        → ServesKept m w past numbers house.new.replicas.items (record { tape = K.tells; link = L.tells })
+        (outs_of K.taken K.faults L.told L.faults tape.old link.old)
+        (moment (outs_of K.taken K.faults L.told L.faults tape.new link.new) (A.stands head before past archive.new disk.new) (A.fails head before past disk.new))
+        result bounds.until bounds.limit first.now }
 {
-    let mut output = Output::new(alloc);
-    match begin(rt, alloc, house, link, tape, first, &mut output) {
-        Ok(()) => go_on(rt, alloc, house, link, tape, bounds, &mut output),
-        Err(fault) => end_of(fault),
-    }
+    let mut out = Outlets {
+        link,
+        tape,
+        archive,
+        disk,
+    };
+    serve_house(rt, alloc, house, &mut out, bounds, first)
 }
 
 /// Serves these replicas: first the items of `first`, in order, which get no reply and don't count, and then those that the link
@@ -331,7 +448,19 @@ pub fn serve<R: Net + Wait, S: Service, E: Broadcast, C: Coin + Drop, L: Link, K
         Err(Mem) => return ServeEnd::Mem,
     };
     let bounds = Bounds { until, limit };
-    let end = serve_house(rt, alloc, &mut house, link, tape, bounds, first.as_slice());
+    let mut none = NoArchive;
+    let mut disk = NoDisk;
+    let end = serve_with(
+        rt,
+        alloc,
+        &mut house,
+        link,
+        tape,
+        &mut none,
+        &mut disk,
+        bounds,
+        first.as_slice(),
+    );
     *replicas = house.replicas;
     end
 }

@@ -127,3 +127,5 @@ module _ (h : Header) (plan : LinkPlan) (tells : Tells) where
       by_end ends.Done why = absurd why.cause
       by_end ends.Limit why = absurd why.cause
       by_end ends.End why = absurd why.cause
+      by_end ends.DiskFault why = absurd why.cause
+      by_end (ends.JournalFull x) why = absurd why.cause

@@ -54,6 +54,8 @@ is_reason ends.End = true
 is_reason ends.LinkFault = false
 is_reason ends.TapeFault = false
 is_reason ends.Mem = false
+is_reason ends.DiskFault = false
+is_reason (ends.JournalFull x) = false
 
 -- the end mark was written, or the output failed, which took it or not
 pub data Closes (tells : Bool) (old new : List ℕ) (before now : ℕ) (end result : ServeEnd) : Type 0 where

@@ -75,6 +75,8 @@ SessionEnds h plan tells base now ends.TapeFault s sooner news rule =
     TapeFailed base now × TookPart h plan tells base now s.events (last_acts rule s.acts) × CameTo h plan tells base now ends.TapeFault s sooner news rule
 SessionEnds h plan tells base now ends.Mem s sooner news rule =
     FellShort base now × TookPart h plan tells base now s.events s.acts × CameTo h plan tells base now ends.Mem s sooner news rule
+SessionEnds h plan tells base now ends.DiskFault s sooner news rule = ⊥
+SessionEnds h plan tells base now (ends.JournalFull x) s sooner news rule = ⊥
 
 -- What is true of the events and the calls of a session, in its world w, where the link's calls are these deeds: a file of these events is one;
 -- the frames that went out for the first time are those that its replicas made, in their order; each that went out again did so after its

@@ -12,7 +12,11 @@ fn is_reason(end: ServeEnd) -> bool
 {
     match end {
         ServeEnd::Done | ServeEnd::Limit | ServeEnd::End => true,
-        ServeEnd::LinkFault | ServeEnd::TapeFault | ServeEnd::Mem => false,
+        ServeEnd::LinkFault
+        | ServeEnd::TapeFault
+        | ServeEnd::Mem
+        | ServeEnd::DiskFault
+        | ServeEnd::JournalFull(_) => false,
     }
 }
 

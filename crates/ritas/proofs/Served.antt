@@ -27,6 +27,8 @@ no_four ends.End e = omega (arith, e)
 no_four ends.LinkFault e = omega (arith, e)
 no_four ends.TapeFault e = omega (arith, e)
 no_four ends.Mem e = omega (arith, e)
+no_four ends.DiskFault e = omega (arith, e)
+no_four (ends.JournalFull x) e = omega (arith, e)
 
 no_two : (end : ServeEnd) → end_status end ≢ 2
 no_two ends.Done e = omega (arith, e)
@@ -35,6 +37,8 @@ no_two ends.End e = omega (arith, e)
 no_two ends.LinkFault e = omega (arith, e)
 no_two ends.TapeFault e = omega (arith, e)
 no_two ends.Mem e = omega (arith, e)
+no_two ends.DiskFault e = omega (arith, e)
+no_two (ends.JournalFull x) e = omega (arith, e)
 
 low : (end : ServeEnd) → end_status end ≤ 8
 low ends.Done = omega arith
@@ -43,6 +47,8 @@ low ends.End = omega arith
 low ends.LinkFault = omega arith
 low ends.TapeFault = omega arith
 low ends.Mem = omega arith
+low ends.DiskFault = omega arith
+low (ends.JournalFull x) = omega arith
 
 tape_counts : (h : Header) (plan : LinkPlan) (tells : Tells) (base now : Outs) (end : ServeEnd) (s : Serving) (sooner news : List LinkAct) (rule : Want) → SessionEnds h plan tells base now end s sooner news rule
     → CountsIf base.tape_faults now.tape_faults (end_status end ≡ 5)
@@ -52,6 +58,8 @@ tape_counts h plan tells base now ends.End s sooner news rule so = none_failed _
 tape_counts h plan tells base now ends.LinkFault s sooner news rule so = none_failed _ _ (λ e. omega (arith, e)) so.0.0
 tape_counts h plan tells base now ends.TapeFault s sooner news rule so = one_failed _ _ refl so.0.0
 tape_counts h plan tells base now ends.Mem s sooner news rule so = none_failed _ _ (λ e. omega (arith, e)) so.0.0
+tape_counts h plan tells base now ends.DiskFault s sooner news rule so = absurd so
+tape_counts h plan tells base now (ends.JournalFull x) s sooner news rule so = absurd so
 
 link_counts : (h : Header) (plan : LinkPlan) (tells : Tells) (base now : Outs) (end : ServeEnd) (s : Serving) (sooner news : List LinkAct) (rule : Want) → SessionEnds h plan tells base now end s sooner news rule
     → LinkCounts base.link_faults now.link_faults (end_status end)
@@ -61,6 +69,8 @@ link_counts h plan tells base now ends.End s sooner news rule so = link_stood _ 
 link_counts h plan tells base now ends.LinkFault s sooner news rule so = link_failed _ _ 6 refl so.0.1
 link_counts h plan tells base now ends.TapeFault s sooner news rule so = link_stood _ _ 5 (λ e. omega (arith, e)) so.0.1
 link_counts h plan tells base now ends.Mem s sooner news rule so = link_short _ _ 8 refl so.0.1
+link_counts h plan tells base now ends.DiskFault s sooner news rule so = absurd so
+link_counts h plan tells base now (ends.JournalFull x) s sooner news rule so = absurd so
 
 -- a session that was served gives these counts
 pub session_runs : {K : Type 0} (faults : K → ℕ) (old new : K) (session : Session) (first : List LinkItem) (w : Setting) (tells : Tells) (base now : Outs) (end : ServeEnd)
@@ -112,3 +122,5 @@ has_served session first tells base now untouched status (Served end is serves) 
     by_end ends.LinkFault e run = absurd (omega (arith, e))
     by_end ends.TapeFault e run = absurd (omega (arith, e))
     by_end ends.Mem e run = absurd (omega (arith, e))
+    by_end ends.DiskFault e run = absurd (omega (arith, e))
+    by_end (ends.JournalFull x) e run = absurd (omega (arith, e))

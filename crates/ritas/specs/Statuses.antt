@@ -79,6 +79,8 @@ end_status serve_ends.End = 0
 end_status serve_ends.LinkFault = 6
 end_status serve_ends.TapeFault = 5
 end_status serve_ends.Mem = 8
+end_status serve_ends.DiskFault = 8
+end_status (serve_ends.JournalFull x) = 8
 
 -- the status and the line of a request that was handed in
 abbrev pub submit_status : SubmitEnd → ℕ

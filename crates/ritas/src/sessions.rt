@@ -27,6 +27,8 @@ fn end_status(end: ServeEnd) -> u8
         ServeEnd::LinkFault => 6,
         ServeEnd::TapeFault => 5,
         ServeEnd::Mem => 8,
+        // These don't come, since sessions keep no journal.
+        ServeEnd::DiskFault | ServeEnd::JournalFull(_) => 8,
     }
 }
 

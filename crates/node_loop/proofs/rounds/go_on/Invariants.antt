@@ -3,6 +3,7 @@ use Rattle.ritas_base.specs.declared.event.Event.{Event}
 use Rattle.outside.specs.declared.link.LinkItem.{LinkItem}
 use Rattle.replica.specs.Replica.{with_keys}
 use Rattle.world_model.specs.World.{Setting}
+use Rattle.node_loop.specs.Archives.{IsSame, moment_of}
 use Rattle.node_loop.specs.Outs.{Outs}
 use Rattle.node_loop.specs.Running.{Running}
 use Rattle.node_loop.proofs.rounds.go_on.Given as goal
@@ -11,13 +12,14 @@ abbrev pub invariant-loop : goal.invariant-loop
 invariant-loop g l = record {
   next : (goal.iterator-loop g).can_next l.iterator';
   finite : (goal.iterator-loop g).is_finite l.iterator';
-  runs : (w : Setting) (past : List Event) (numbers : List ℕ) (base : Outs) (first : List LinkItem)
+  same : IsSame l.initial.out l.out;
+  runs : (head : List ℕ) (before : _) (w : Setting) (past : List Event) (numbers : List ℕ) (base : Outs) (first : List LinkItem)
       → Running (with_keys g.S.Service.stands g.S.Service.rules g.S.Service.shown g.E.Broadcast.stands g.E.Broadcast.rules g.E.Broadcast.shown g.C.Coin.bits) w past numbers l.initial.house
       (record { tape = g.K.Sink.tells; link = g.L.Link.tells }) base
-      (record { taken = g.K.Sink.taken l.initial.tape; tape_faults = g.K.Sink.faults l.initial.tape; told = g.L.Link.told l.initial.link; link_faults = g.L.Link.faults l.initial.link })
+      (moment_of g.K.Sink.taken g.K.Sink.faults g.L.Link.told g.L.Link.faults (g.A.Archive.stands head before past) (g.A.Archive.fails head before past) l.initial.out)
       0 l.bounds.until l.bounds.limit first []
       → Running (with_keys g.S.Service.stands g.S.Service.rules g.S.Service.shown g.E.Broadcast.stands g.E.Broadcast.rules g.E.Broadcast.shown g.C.Coin.bits) w past numbers l.house
       (record { tape = g.K.Sink.tells; link = g.L.Link.tells }) base
-      (record { taken = g.K.Sink.taken l.tape; tape_faults = g.K.Sink.faults l.tape; told = g.L.Link.told l.link; link_faults = g.L.Link.faults l.link })
+      (moment_of g.K.Sink.taken g.K.Sink.faults g.L.Link.told g.L.Link.faults (g.A.Archive.stands head before past) (g.A.Archive.fails head before past) l.out)
       l.taken l.bounds.until l.bounds.limit first [];
 }

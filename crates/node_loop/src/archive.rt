@@ -1,0 +1,75 @@
+//! What keeps events on a disk, and what else serving has beside its replicas.
+ghost use Rattle.std.specs.Prelude.{◌≡◌, ℕ, ◌∷◌, List, MatchResult};
+ghost use Rattle.ritas_base.specs.declared.event.Event.{Event};
+ghost use Rattle.node_loop.specs.declared.archive.ArchiveFault.{ArchiveFault};
+ghost use Rattle.node_loop.specs.Archives.{fault_in};
+
+use crate::end::Fault;
+use outside::{Link, Sink};
+use ritas_base::Event;
+use std::alloc::Global;
+
+/// Why an archive can't keep an event.
+#[derive(Clone, Copy, Debug)]
+pub(crate) enum ArchiveFault {
+    /// The disk failed.
+    Disk,
+    /// With the event it would be so long, which is too long. All is as before.
+    Full(u64),
+    /// There was not enough memory.
+    Mem,
+}
+
+/// An archive keeps events on a disk, one after the other.
+pub(crate) trait Archive<D> {
+    /// It stands for given events behind past ones, the newest first. Its file has this head, and the disk was so before the first of the
+    /// given ones.
+    ghost stands: { List ℕ → D → List Event → Self → D → List Event → Type 0 };
+
+    /// It failed so over the newest of the given events.
+    ghost fails: { List ℕ → D → List Event → D → ArchiveFault → List Event → Type 0 };
+
+    /// Keeps an event.
+    fn keep(&mut self, alloc: Global, disk: &mut D, event: &Event) -> Result<(), ArchiveFault>
+        ensures { (head : List ℕ) (before : D) (past given : List Event) → stands head before past self.old disk.old given
+            → MatchResult result (λ _. stands head before past self.new disk.new (event.now ∷ given))
+            (λ fault. fails head before past disk.new fault (event.now ∷ given)) };
+}
+
+/// What serving has that keeps nothing.
+#[derive(Drop)]
+pub(crate) struct NoArchive;
+
+/// The disk of that.
+#[derive(Drop)]
+pub(crate) struct NoDisk;
+
+impl Archive<NoDisk> for NoArchive {
+    ghost stands = { λ head before past archive disk given. Unit {0} };
+
+    ghost fails = { λ head before past disk fault given. ⊥ };
+
+    fn keep(&mut self, _: Global, _: &mut NoDisk, _: &Event) -> Result<(), ArchiveFault> {
+        Ok(())
+    }
+}
+
+/// What serving has beside its replicas: the link, the tape, and what keeps events on which disk.
+#[derive(Drop)]
+pub(crate) struct Outlets<'l, 't, 'a, 'd, L: Link, K: Sink, A: Archive<D>, D> {
+    pub link: &'l mut L,
+    pub tape: &'t mut K,
+    pub archive: &'a mut A,
+    pub disk: &'d mut D,
+}
+
+/// A fault of an archive as one of serving.
+pub(crate) fn fault_in(fault: ArchiveFault) -> Fault
+    ensures { result ≡ fault_in fault }
+{
+    match fault {
+        ArchiveFault::Disk => Fault::Disk,
+        ArchiveFault::Full(size) => Fault::Full(size),
+        ArchiveFault::Mem => Fault::Mem,
+    }
+}
