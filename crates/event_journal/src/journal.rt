@@ -1,4 +1,4 @@
-ghost use Rattle.std.specs.Prelude.{◌≡◌, ◌<◌, ◌≤◌, ◌+◌, ◌-◌, ◌++◌, ◌∷◌, ◌^◌, ◌↔◌, ◌⊎◌, [], ℕ, List, true, false, length, min, reverse, Err, IfOk, OnOk, IsOk, IsErr};
+ghost use Rattle.std.specs.Prelude.{◌≡◌, ◌<◌, ◌≤◌, ◌+◌, ◌-◌, ◌++◌, ◌∷◌, ◌^◌, ◌↔◌, ◌⊎◌, [], ℕ, List, true, false, length, min, reverse, Err, IfOk, OnOk, IsOk, IsErr, IsTrue};
 ghost use Rattle.std.specs.List.{flat_map, AllByRecursion};
 ghost use Rattle.outside.specs.Faults.{HasCause};
 ghost use Rattle.outside.specs.Disks.{state_of};
@@ -107,6 +107,21 @@ impl Journal {
         ensures { result ≡ self.now.live }
     {
         self.live
+    }
+
+    /// Whether the journal is live, and an event may be appended: a frame, an input or a turn at its replica that isn't too long.
+    pub fn takes(&self, ev: &Event) -> bool
+        ensures { IsTrue result ↔ ((self.now.live ≡ true) × IsRecord self.now.me ev.now) }
+    {
+        let (at, size) = match ev {
+            Event::Frame { to, bytes } => (*to, bytes.as_slice().len()),
+            Event::Input { at, bytes } => (*at, bytes.as_slice().len()),
+            Event::Turn { at } => (*at, 0),
+            // A frame that another made isn't one.
+            _ => return false,
+        };
+        // Its text is longer by 4.
+        self.live && at == self.me && size < 65_532
     }
 
     /// Appends events at the journal's replica, each a frame, an input or a turn, the oldest first: whenever a stop comes, all of

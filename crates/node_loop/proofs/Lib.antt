@@ -25,3 +25,4 @@ pub mod Hearing
 pub mod KeptFrames
 pub mod SentOut
 pub mod Delivering
+pub mod Journaling

@@ -23,9 +23,9 @@ abbrev pub moment : Outs → (List Event → Type 0) → (ArchiveFault → List 
 moment outs stands fails = record { outs = outs; stands = stands; fails = fails }
 
 abbrev pub moment_of : {L K A D : Type 0} → (K → List ℕ) → (K → ℕ) → (L → List LinkAct) → (L → FaultCounts)
-    → (A → D → List Event → Type 0) → (D → ArchiveFault → List Event → Type 0) → Outlets L K A D → Moment
+    → (A → D → List Event → Type 0) → (A → D → ArchiveFault → List Event → Type 0) → Outlets L K A D → Moment
 moment_of taken tape_faults told link_faults stands fails out =
-    moment (outs_of taken tape_faults told link_faults out.tape.now out.link.now) (stands out.archive.now out.disk.now) (fails out.disk.now)
+    moment (outs_of taken tape_faults told link_faults out.tape.now out.link.now) (stands out.archive.now out.disk.now) (fails out.archive.now out.disk.now)
 
 -- they are of the same link, tape, archive and disk
 abbrev pub IsSame : {L K A D : Type 0} → Outlets L K A D → Outlets L K A D → Type 0

@@ -12,6 +12,7 @@ pub mod Standing
 pub mod Running
 pub mod Archives
 pub mod ServedKept
+pub mod Journals
 pub mod Laws
 pub mod Keeping
 pub mod KeepingRows

@@ -5,7 +5,8 @@ ghost use Rattle.node_loop.specs.declared.archive.ArchiveFault.{ArchiveFault};
 ghost use Rattle.node_loop.specs.Archives.{fault_in};
 
 use crate::end::Fault;
-use outside::{Link, Sink};
+use event_journal::{Journal, JournalFault};
+use outside::{Disk, Link, Sink};
 use ritas_base::Event;
 use std::alloc::Global;
 
@@ -27,13 +28,13 @@ pub(crate) trait Archive<D> {
     ghost stands: { List ℕ → D → List Event → Self → D → List Event → Type 0 };
 
     /// It failed so over the newest of the given events.
-    ghost fails: { List ℕ → D → List Event → D → ArchiveFault → List Event → Type 0 };
+    ghost fails: { List ℕ → D → List Event → Self → D → ArchiveFault → List Event → Type 0 };
 
     /// Keeps an event.
     fn keep(&mut self, alloc: Global, disk: &mut D, event: &Event) -> Result<(), ArchiveFault>
         ensures { (head : List ℕ) (before : D) (past given : List Event) → stands head before past self.old disk.old given
             → MatchResult result (λ _. stands head before past self.new disk.new (event.now ∷ given))
-            (λ fault. fails head before past disk.new fault (event.now ∷ given)) };
+            (λ fault. fails head before past self.new disk.new fault (event.now ∷ given)) };
 }
 
 /// What serving has that keeps nothing.
@@ -47,10 +48,34 @@ pub(crate) struct NoDisk;
 impl Archive<NoDisk> for NoArchive {
     ghost stands = { λ head before past archive disk given. Unit {0} };
 
-    ghost fails = { λ head before past disk fault given. ⊥ };
+    ghost fails = { λ head before past archive disk fault given. ⊥ };
 
     fn keep(&mut self, _: Global, _: &mut NoDisk, _: &Event) -> Result<(), ArchiveFault> {
         Ok(())
+    }
+}
+
+impl<D: Disk> Archive<D> for Journal {
+    ghost use Rattle.node_loop.specs.Journals.{JournalStands, JournalFails};
+
+    ghost stands = { λ head before past journal disk given.
+        JournalStands head past given journal D.tells (D.told before) (D.told disk) (D.faults before) (D.faults disk) };
+
+    ghost fails = { λ head before past journal disk fault given.
+        JournalFails head past given journal D.tells (D.told before) (D.told disk) (D.faults before) (D.faults disk) fault };
+
+    fn keep(&mut self, alloc: Global, disk: &mut D, event: &Event) -> Result<(), ArchiveFault> {
+        if !self.takes(event) {
+            // Each event of serving is one that it takes.
+            return Err(ArchiveFault::Mem);
+        }
+        match self.append(alloc, disk, event) {
+            Ok(()) => Ok(()),
+            Err(JournalFault::Disk) => Err(ArchiveFault::Disk),
+            Err(JournalFault::Full(size)) => Err(ArchiveFault::Full(size)),
+            // It answers no other but want of memory.
+            Err(_) => Err(ArchiveFault::Mem),
+        }
     }
 }
 

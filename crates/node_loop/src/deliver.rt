@@ -217,7 +217,7 @@ fn keep_event<A: Archive<D>, D>(
 ) -> Result<(), ArchiveFault>
     ensures { (head : List ℕ) (before : D) (past given : List Event) → A.stands head before past archive.old disk.old given
         → MatchResult result (λ _. A.stands head before past archive.new disk.new (kept_with output.now.kept output.now.event given))
-        (λ fault. A.fails head before past disk.new fault (kept_with output.now.kept output.now.event given)) }
+        (λ fault. A.fails head before past archive.new disk.new fault (kept_with output.now.kept output.now.event given)) }
 {
     match &output.event {
         Some(event) if output.kept => archive.keep(alloc, disk, event),

@@ -386,7 +386,7 @@ fn serve_with<
         → A.stands head before past archive.old disk.old []
         → ServesKept m w past numbers house.new.replicas.items (record { tape = K.tells; link = L.tells })
         (outs_of K.taken K.faults L.told L.faults tape.old link.old)
-        (moment (outs_of K.taken K.faults L.told L.faults tape.new link.new) (A.stands head before past archive.new disk.new) (A.fails head before past disk.new))
+        (moment (outs_of K.taken K.faults L.told L.faults tape.new link.new) (A.stands head before past archive.new disk.new) (A.fails head before past archive.new disk.new))
         result bounds.until bounds.limit first.now }
 {
     let mut out = Outlets {

@@ -21,7 +21,7 @@ returns-in-Err-keep_event-clause-goes g c = λ head before w past numbers base s
     let same = kept_next w past s.events c.args.output.now.kept c.args.output.now.event did.event comes.event comes.keeps in
     goes_unkept _ w past numbers tells base did more s c.args.house.now _ c.in-Err-keep_event.fault _ comes.before c.fault_in.ensures comes.stands
     (written_as tells base _ _ did.event s.events s.acts comes.event wrote)
-    (subst (λ (es : List Event). g.A.Archive.fails head before past c.keep_event.new.disk c.in-Err-keep_event.fault es) same (c.in-Err-keep_event.ensures head before past (kept_of w past s.events) stood))
+    (subst (λ (es : List Event). g.A.Archive.fails head before past c.keep_event.new.archive c.keep_event.new.disk c.in-Err-keep_event.fault es) same (c.in-Err-keep_event.ensures head before past (kept_of w past s.events) stood))
 
 pub returns-in-Err-keep_frames-clause-goes : goal.returns-in-Err-keep_frames-clause-goes
 returns-in-Err-keep_frames-clause-goes g c = λ head before w past numbers base s did more comes agrees stood.

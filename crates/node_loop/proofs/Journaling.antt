@@ -1,0 +1,99 @@
+-- What a journal kept goes on.
+use Rattle.std.proofs.Common.{◌≡◌, ℕ, ◌≤◌, ◌<◌, Bool, true, List, [], ◌∷◌, ◌++◌, Result, Ok, Err, ◌⊎◌, inl, inr, refl, sym, ap, ◌∙◌, subst, arith}
+use Rattle.ritas_base.specs.declared.event.Event.{Event}
+use Rattle.outside.specs.Disks.{DiskState, LeavesOnly, state_of}
+use Rattle.outside.specs.DisksLaws.{leaves_then, leaves_weaker}
+use Rattle.outside.specs.Faults.{Rose}
+use Rattle.schedule_file.specs.FileBytes.{limit}
+use Rattle.event_journal.specs.Appending.{JournalState, AllOpen, StandsFor, OpensWithout, Appends, length_with}
+use Rattle.event_journal.specs.declared.fault.JournalFault.{JournalFault}
+use Rattle.node_loop.specs.declared.archive.ArchiveFault.{ArchiveFault}
+use Rattle.node_loop.specs.declared.archive.ArchiveFault.TheVariants as archive
+use Rattle.node_loop.specs.Journals.{OpensSome, JournalStands, JournalFails}
+
+-- one more was given
+some_more : (me : ℕ) (head : List ℕ) (past given : List Event) (e : Event) (image : List ℕ) → OpensSome me head past given image → OpensSome me head past (e ∷ given) image
+some_more me head past given e image opens = record {
+  later = e ∷ opens.later;
+  first = opens.first;
+  parts = ap (λ (l : List Event). e ∷ l) opens.parts;
+  opens = opens.opens;
+}
+
+-- with the newest or without it
+one_more : (me : ℕ) (head : List ℕ) (past given : List Event) (e : Event) (image : List ℕ) → OpensWithout me head (given ++ past) (e ∷ []) image → OpensSome me head past (e ∷ given) image
+one_more me head past given e image (inl with_it) = record { later = []; first = e ∷ given; parts = refl; opens = with_it }
+one_more me head past given e image (inr without) = record { later = e ∷ []; first = given; parts = refl; opens = without }
+
+pub since_more : (me : ℕ) (head : List ℕ) (past given : List Event) (e : Event) (before now : List DiskState)
+    → LeavesOnly (OpensSome me head past given) before now → LeavesOnly (OpensSome me head past (e ∷ given)) before now
+since_more me head past given e before now leaves = leaves_weaker (OpensSome me head past given) (OpensSome me head past (e ∷ given)) before now (some_more me head past given e) leaves
+
+-- an event was appended, or a part of the way
+pub since_then : (me : ℕ) (head : List ℕ) (past given : List Event) (e : Event) (before now new : List DiskState)
+    → LeavesOnly (OpensSome me head past given) before now → LeavesOnly (OpensWithout me head (given ++ past) (e ∷ [])) now new
+    → LeavesOnly (OpensSome me head past (e ∷ given)) before new
+since_then me head past given e before now new first second =
+    leaves_then (OpensSome me head past (e ∷ given)) before now new (since_more me head past given e before now first)
+    (leaves_weaker (OpensWithout me head (given ++ past) (e ∷ [])) (OpensSome me head past (e ∷ given)) now new (one_more me head past given e) second)
+
+-- the count rose
+pub rose_then : (few some many : ℕ) → few ≤ some → Rose some many → Rose few many
+rose_then few some many le (inl less) = inl (omega (arith, le, less))
+rose_then few some many le (inr last) = inr last
+
+module _ (head : List ℕ) (past given : List Event) (e : Event) (tells : Bool) (before now : List DiskState) (few some : ℕ) (old : JournalState)
+    (stands : JournalStands head past given old tells before now few some) where
+  -- what an append of the event does to a disk
+  abbrev pub AppendsOne : JournalState → List DiskState → Result (Unit {0}) JournalFault → Type 0
+  AppendsOne new then result = tells ≡ true → (front : List ℕ) (es : List Event) → StandsFor old front es → AllOpen old.me front es (state_of now)
+      → Appends old.me front es (e ∷ []) now then new result
+
+  went_on : (new : JournalState) (then : List DiskState) (result : Result (Unit {0}) JournalFault) → new.me ≡ old.me → AppendsOne new then result
+      → tells ≡ true → LeavesOnly (OpensSome new.me head past (e ∷ given)) before then
+  went_on new then result me appends t =
+      let k = stands.kept t in
+      let did = appends t head (given ++ past) k.stands k.images in
+      subst (λ (i : ℕ). LeavesOnly (OpensSome i head past (e ∷ given)) before then) (sym me) (since_then old.me head past given e before now then k.since did.kept.since)
+
+  -- it was appended
+  pub stands_on : (new : JournalState) (then : List DiskState) (many : ℕ) → new.me ≡ old.me → some ≤ many → AppendsOne new then (Ok tt)
+      → JournalStands head past (e ∷ given) new tells before then few many
+  stands_on new then many me le appends = record {
+    kept = λ t. let k = stands.kept t in
+        let did = appends t head (given ++ past) k.stands k.images in
+        record {
+          stands = did.stands;
+          images = subst (λ (i : ℕ). AllOpen i head (e ∷ (given ++ past)) (state_of then)) (sym me) did.kept.images;
+          since = went_on new then (Ok tt) me appends t;
+        };
+    later = omega (arith, stands.later, le);
+  }
+
+  -- or not
+  pub fails_so : (new : JournalState) (then : List DiskState) (many : ℕ) (fault : JournalFault) (kind : ArchiveFault) → new.me ≡ old.me → some ≤ many → AppendsOne new then (Err fault)
+      → (kind ≡ archive.Disk → Rose some many) → ((x : ℕ) → kind ≡ archive.Full x → ⊥) → JournalFails head past (e ∷ given) new tells before then few many kind
+  fails_so new then many fault kind me le appends rises whole = record {
+    since = went_on new then (Err fault) me appends;
+    later = omega (arith, stands.later, le);
+    disk = λ is. rose_then few some many stands.later (rises is);
+    full = λ x is. absurd (whole x is);
+  }
+
+  -- it is full
+  pub fails_full : (x : ℕ) → x ≡ length_with old (e ∷ []) → limit < x → JournalFails head past (e ∷ given) old tells before now few some (archive.Full x)
+  fails_full x is long = record {
+    since = λ t. since_more old.me head past given e before now (stands.kept t).since;
+    later = stands.later;
+    disk = λ same. absurd (cc same);
+    full = λ y same. let one : x ≡ y = cc in (sym one ∙ is, subst (λ (n : ℕ). limit < n) one long, λ t. stands.kept t);
+  }
+
+  -- it isn't one that the journal takes
+  pub fails_untaken : JournalFails head past (e ∷ given) old tells before now few some archive.Mem
+  fails_untaken = record {
+    since = λ t. since_more old.me head past given e before now (stands.kept t).since;
+    later = stands.later;
+    disk = λ same. absurd (cc same);
+    full = λ y same. absurd (cc same);
+  }
