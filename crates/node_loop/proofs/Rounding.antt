@@ -26,12 +26,12 @@ use Rattle.node_loop.specs.Waiting.{nobody}
 use Rattle.node_loop.specs.Calls.{Outcome}
 use Rattle.node_loop.specs.Peers.{Peers, no_peers}
 use Rattle.node_loop.specs.Resending.{Brought, due}
-use Rattle.node_loop.specs.Serving.{Serving, so_far, onto, Want, Begins, Finishes, Turns, Halts, Reminds, Asks, wants_of, turn_or, remind_or, first_or, here, busy, is_done, wants, Round, Began, Turned, Reminded, Took, behind_first, began, at_call, outcome, brought, sent_of, round_does, after, newest, sooner, IsGiven, IsWanted}
+use Rattle.node_loop.specs.Serving.{Serving, begin, so_far, onto, Want, Begins, Finishes, Turns, Halts, Reminds, Asks, wants_of, turn_or, remind_or, first_or, here, busy, is_done, wants, Round, Began, Turned, Reminded, Took, behind_first, began, at_call, outcome, brought, sent_of, round_does, after, newest, sooner, after_from, newest_from, sooner_from, IsGiven, IsWanted}
 use Rattle.node_loop.specs.Outs.{text_of, Outs, Tells, Agrees, HasCauses, AllWritten, NoneSent, InOrder, Stops, IfFailed, Fails}
-use Rattle.node_loop.specs.ServingLaws.{acts_of}
+use Rattle.node_loop.specs.ServingLaws.{acts_from}
 use Rattle.node_loop.specs.Standing.{HouseStands}
 use Rattle.node_loop.specs.Served.{AreHere, EndsSo, Serves}
-use Rattle.node_loop.specs.ServedKept.{EndsKept, ServesKept, earlier}
+use Rattle.node_loop.specs.ServedKept.{EndsKept, ServesKept, earlier_from}
 use Rattle.node_loop.specs.declared.archive.ArchiveFault.{ArchiveFault}
 use Rattle.node_loop.specs.Archives.{Moment, LeftAt, KeptAt}
 use Rattle.node_loop.specs.Keeping.{kept_of}
@@ -121,17 +121,17 @@ whole_order tells base o faults.Link events sooner own written = written
 whole_order tells base o faults.Mem events sooner own written = inl written
 
 -- then all that came of the rounds was told
-pub none_stops : (w : Setting) (past : List Event) (first : List LinkItem) (rounds : List Round) (tells : Tells) (base o : Outs) (fault : Fault)
-    → GaveNone tells base o fault (after w past first rounds)
-    → Stops tells base o fault (after w past first rounds).events (sooner w past first rounds) (newest w past first rounds)
-none_stops w past first rounds tells base o fault gave =
-    let s = after w past first rounds in
-    let new = newest w past first rounds in
-    let old = sooner w past first rounds in
+pub none_stops : (w : Setting) (past : List Event) (start : Serving) (rounds : List Round) (tells : Tells) (base o : Outs) (fault : Fault)
+    → GaveNone tells base o fault (after_from w past start rounds)
+    → Stops tells base o fault (after_from w past start rounds).events (sooner_from w past start rounds) (newest_from w past start rounds)
+none_stops w past start rounds tells base o fault gave =
+    let s = after_from w past start rounds in
+    let new = newest_from w past start rounds in
+    let old = sooner_from w past start rounds in
     record {
       taken = λ t. all_written base.taken o.taken (text_of s.events) (gave.written t);
       told = λ t. back_all (old ++ base.told) o.told new
-          (gave.told t ∙ ap (λ (l : List LinkAct). l ++ base.told) (acts_of w past first rounds) ∙ append_assoc new old base.told);
+          (gave.told t ∙ ap (λ (l : List LinkAct). l ++ base.told) (acts_from w past start rounds) ∙ append_assoc new old base.told);
       order = whole_order tells base o fault s.events old gave.own gave.written;
       tape_later = tape_on base o fault gave.own gave.cause;
       link_later = gave.link_later;
@@ -231,20 +231,20 @@ left_none now none kept older faults.Tape own stands = absurd own
 left_none now none kept older faults.Disk own stands = absurd own
 left_none now none kept older (faults.Full x) own stands = absurd own
 
-module _ {S E C : Type 0} (m : Meaning S E C KeyRow) (w : Setting) (past : List Event) (numbers : List ℕ) (tells : Tells) (base : Outs) (until limit : ℕ) (first : List LinkItem) where
+module _ {S E C : Type 0} (m : Meaning S E C KeyRow) (w : Setting) (past : List Event) (numbers : List ℕ) (tells : Tells) (base : Outs) (until limit : ℕ) (start : Serving) where
   -- where none of the first items is left
-  pub wants_now : (house : House S E C) (o : Moment) (taken : ℕ) (run : Running m w past numbers house tells base o taken until limit first [])
-      → wants w past until limit (after w past first run.rounds) ≡ wants_of w until limit (so_far past (after w past first run.rounds)) taken (after w past first run.rounds).peers
+  pub wants_now : (house : House S E C) (o : Moment) (taken : ℕ) (run : Running m w past numbers house tells base o taken until limit start [])
+      → wants w past until limit (after_from w past start run.rounds) ≡ wants_of w until limit (so_far past (after_from w past start run.rounds)) taken (after_from w past start run.rounds).peers
   wants_now house o taken run =
-      let s = after w past first run.rounds in
+      let s = after_from w past start run.rounds in
       ap₂ (λ (left : List LinkItem) (n : ℕ). first_or left (wants_of w until limit (so_far past s) n s.peers)) run.rest (sym run.count)
 
   -- a round more
-  pub runs_on : (old new : House S E C) (o now : Moment) (taken more : ℕ) (left rest : List LinkItem) (x : Round) (run : Running m w past numbers old tells base o taken until limit first left)
-      → IsWanted (wants w past until limit (after w past first run.rounds)) x
-      → (round_does w past x (after w past first run.rounds)).left ≡ rest → more ≡ (round_does w past x (after w past first run.rounds)).taken
-      → {A : Type 0} (done : A) → Goes m w past numbers new tells base now (Ok done) (outcome w past x (after w past first run.rounds)) (brought w past x (after w past first run.rounds)) (at_call x (after w past first run.rounds))
-      → Running m w past numbers new tells base now more until limit first rest
+  pub runs_on : (old new : House S E C) (o now : Moment) (taken more : ℕ) (left rest : List LinkItem) (x : Round) (run : Running m w past numbers old tells base o taken until limit start left)
+      → IsWanted (wants w past until limit (after_from w past start run.rounds)) x
+      → (round_does w past x (after_from w past start run.rounds)).left ≡ rest → more ≡ (round_does w past x (after_from w past start run.rounds)).taken
+      → {A : Type 0} (done : A) → Goes m w past numbers new tells base now (Ok done) (outcome w past x (after_from w past start run.rounds)) (brought w past x (after_from w past start run.rounds)) (at_call x (after_from w past start run.rounds))
+      → Running m w past numbers new tells base now more until limit start rest
   runs_on old new o now taken more left rest x run want is_left is_taken done goes = record {
     rounds = x ∷ run.rounds;
     wanted = (want, run.wanted);
@@ -256,45 +256,45 @@ module _ {S E C : Type 0} (m : Meaning S E C KeyRow) (w : Setting) (past : List 
   }
 
   -- or it ended in it
-  pub round_stops : (old new : House S E C) (o now : Moment) (taken : ℕ) (left : List LinkItem) (x : Round) (fault : Fault) (end : ServeEnd) (run : Running m w past numbers old tells base o taken until limit first left)
-      → IsWanted (wants w past until limit (after w past first run.rounds)) x → {A : Type 0}
-      → Goes {A = A} m w past numbers new tells base now (Err fault) (outcome w past x (after w past first run.rounds)) (brought w past x (after w past first run.rounds)) (at_call x (after w past first run.rounds))
-      → IsEndOf fault end → ServesKept m w past numbers new.replicas.items tells base now end until limit first
+  pub round_stops : (old new : House S E C) (o now : Moment) (taken : ℕ) (left : List LinkItem) (x : Round) (fault : Fault) (end : ServeEnd) (run : Running m w past numbers old tells base o taken until limit start left)
+      → IsWanted (wants w past until limit (after_from w past start run.rounds)) x → {A : Type 0}
+      → Goes {A = A} m w past numbers new tells base now (Err fault) (outcome w past x (after_from w past start run.rounds)) (brought w past x (after_from w past start run.rounds)) (at_call x (after_from w past start run.rounds))
+      → IsEndOf fault end → ServesKept m w past numbers new.replicas.items tells base now end until limit start
   round_stops old new o now taken left x fault end run want goes is =
-      let s = round_does w past x (after w past first run.rounds) in
+      let s = round_does w past x (after_from w past start run.rounds) in
       record {
         rounds = x ∷ run.rounds;
         wanted = (want, run.wanted);
-        so = ends_so m w past numbers new.replicas.items tells base now.outs fault end s (sooner w past first (x ∷ run.rounds)) (newest w past first (x ∷ run.rounds)) (wants w past until limit s) is goes.steps goes.stands;
-        kept = left_end now (NoneSent tells base now.outs (sooner w past first (x ∷ run.rounds))) (kept_of w past s.events) (kept_of w past (earlier w past first (x ∷ run.rounds))) fault end is goes.kept;
+        so = ends_so m w past numbers new.replicas.items tells base now.outs fault end s (sooner_from w past start (x ∷ run.rounds)) (newest_from w past start (x ∷ run.rounds)) (wants w past until limit s) is goes.steps goes.stands;
+        kept = left_end now (NoneSent tells base now.outs (sooner_from w past start (x ∷ run.rounds))) (kept_of w past s.events) (kept_of w past (earlier_from w past start (x ∷ run.rounds))) fault end is goes.kept;
       }
 
   -- ---- the first items
 
-  pub runs_first : (house : House S E C) (o : Moment) → HouseStands m w past numbers house nobody no_peers → Agrees tells base o.outs [] [] → o.stands []
-      → Running m w past numbers house tells base o 0 until limit first first
-  runs_first house o stands agrees stood = record { rounds = []; wanted = tt; rest = refl; count = refl; stands = stands; agrees = agrees; kept = stood }
+  pub runs_first : (house : House S E C) (o : Moment) → start.taken ≡ 0 → HouseStands m w (so_far past start) numbers house start.waiting start.peers
+      → Agrees tells base o.outs start.events start.acts → o.stands (kept_of w past start.events) → Running m w past numbers house tells base o 0 until limit start start.left
+  runs_first house o none stands agrees stood = record { rounds = []; wanted = tt; rest = refl; count = sym none; stands = stands; agrees = agrees; kept = stood }
 
-  module _ (old : House S E C) (o : Moment) (item : LinkItem) (left rest : List LinkItem) (run : Running m w past numbers old tells base o 0 until limit first left) (is : left ≡ item ∷ rest) where
+  module _ (old : House S E C) (o : Moment) (item : LinkItem) (left rest : List LinkItem) (run : Running m w past numbers old tells base o 0 until limit start left) (is : left ≡ item ∷ rest) where
     abbrev began_at : Serving
-    began_at = after w past first run.rounds
+    began_at = after_from w past start run.rounds
 
     first_wanted : IsWanted (wants w past until limit began_at) (Began item)
     first_wanted =
         subst (λ (l : List LinkItem). IsWanted (first_or l (wants_of w until limit (so_far past began_at) began_at.taken began_at.peers)) (Began item)) (sym (run.rest ∙ is)) refl
 
     pub began_on : (new : House S E C) (now : Moment) {A : Type 0} (done : A) → Goes m w past numbers new tells base now (Ok done) (outcome w past (Began item) began_at) (brought w past (Began item) began_at) (began began_at)
-        → Running m w past numbers new tells base now 0 until limit first rest
+        → Running m w past numbers new tells base now 0 until limit start rest
     began_on new now done goes = runs_on old new o now 0 0 left rest (Began item) run first_wanted (ap behind_first (run.rest ∙ is)) run.count done goes
 
     pub began_stops : (new : House S E C) (now : Moment) (fault : Fault) (end : ServeEnd)
         → Goes {A = Unit {0}} m w past numbers new tells base now (Err fault) (outcome w past (Began item) began_at) (brought w past (Began item) began_at) (began began_at) → IsEndOf fault end
-        → ServesKept m w past numbers new.replicas.items tells base now end until limit first
+        → ServesKept m w past numbers new.replicas.items tells base now end until limit start
     began_stops new now fault end goes is_end = round_stops old new o now 0 left (Began item) fault end run first_wanted goes is_end
 
-  module _ (house : House S E C) (o : Moment) (taken : ℕ) (run : Running m w past numbers house tells base o taken until limit first []) where
+  module _ (house : House S E C) (o : Moment) (taken : ℕ) (run : Running m w past numbers house tells base o taken until limit start []) where
     abbrev now_at : Serving
-    now_at = after w past first run.rounds
+    now_at = after_from w past start run.rounds
 
     abbrev next_want : Want
     next_want = wants_of w until limit (so_far past now_at) taken now_at.peers
@@ -317,7 +317,7 @@ module _ {S E C : Type 0} (m : Meaning S E C KeyRow) (w : Setting) (past : List 
     pub remind_of_peer : (pair : Pair) → IsNext next_want (next.Remind pair) → (w.is_correct pair.at ≡ true) × (pair.peer < w.numbers.n)
     remind_of_peer pair is = reminds_peer w until limit (so_far past now_at) taken now_at.peers pair.at pair.peer (next_remind next_want pair is)
 
-    pub finishes : IsNext next_want next.Finish → ServesKept m w past numbers house.replicas.items tells base o ends.Done until limit first
+    pub finishes : IsNext next_want next.Finish → ServesKept m w past numbers house.replicas.items tells base o ends.Done until limit start
     finishes is = record {
       rounds = run.rounds;
       wanted = run.wanted;
@@ -325,7 +325,7 @@ module _ {S E C : Type 0} (m : Meaning S E C KeyRow) (w : Setting) (past : List 
       kept = run.kept;
     }
 
-    pub halts : IsNext next_want next.Halt → ServesKept m w past numbers house.replicas.items tells base o ends.Limit until limit first
+    pub halts : IsNext next_want next.Halt → ServesKept m w past numbers house.replicas.items tells base o ends.Limit until limit start
     halts is = record {
       rounds = run.rounds;
       wanted = run.wanted;
@@ -335,31 +335,31 @@ module _ {S E C : Type 0} (m : Meaning S E C KeyRow) (w : Setting) (past : List 
 
     module _ (new : House S E C) (now : Moment) where
       pub turned_on : (at : ℕ) → IsNext next_want (next.Turn at) → {A : Type 0} (done : A)
-          → Goes m w past numbers new tells base now (Ok done) (outcome w past (Turned at) now_at) (brought w past (Turned at) now_at) now_at → Running m w past numbers new tells base now taken until limit first []
+          → Goes m w past numbers new tells base now (Ok done) (outcome w past (Turned at) now_at) (brought w past (Turned at) now_at) now_at → Running m w past numbers new tells base now taken until limit start []
       turned_on at is done goes = runs_on house new o now taken taken [] [] (Turned at) run (turn_wanted at is) run.rest run.count done goes
 
       pub turn_stops : (at : ℕ) (fault : Fault) (end : ServeEnd) → IsNext next_want (next.Turn at)
           → Goes {A = Unit {0}} m w past numbers new tells base now (Err fault) (outcome w past (Turned at) now_at) (brought w past (Turned at) now_at) now_at → IsEndOf fault end
-          → ServesKept m w past numbers new.replicas.items tells base now end until limit first
+          → ServesKept m w past numbers new.replicas.items tells base now end until limit start
       turn_stops at fault end is goes is_end = round_stops house new o now taken [] (Turned at) fault end run (turn_wanted at is) goes is_end
 
       pub reminded_on : (pair : Pair) → IsNext next_want (next.Remind pair) → {A : Type 0} (done : A)
           → Goes m w past numbers new tells base now (Ok done) (outcome w past (Reminded pair.at pair.peer) now_at) (brought w past (Reminded pair.at pair.peer) now_at) now_at
-          → Running m w past numbers new tells base now taken until limit first []
+          → Running m w past numbers new tells base now taken until limit start []
       reminded_on pair is done goes = runs_on house new o now taken taken [] [] (Reminded pair.at pair.peer) run (remind_wanted pair is) run.rest run.count done goes
 
       pub remind_stops : (pair : Pair) (fault : Fault) (end : ServeEnd) → IsNext next_want (next.Remind pair)
           → Goes {A = Unit {0}} m w past numbers new tells base now (Err fault) (outcome w past (Reminded pair.at pair.peer) now_at) (brought w past (Reminded pair.at pair.peer) now_at) now_at
-          → IsEndOf fault end → ServesKept m w past numbers new.replicas.items tells base now end until limit first
+          → IsEndOf fault end → ServesKept m w past numbers new.replicas.items tells base now end until limit start
       remind_stops pair fault end is goes is_end = round_stops house new o now taken [] (Reminded pair.at pair.peer) fault end run (remind_wanted pair is) goes is_end
 
       pub item_on : IsNext next_want next.Ask → TookItem m w past numbers new tells base now (Ok true) now_at
-          → Running m w past numbers new tells base now (taken + 1) until limit first []
+          → Running m w past numbers new tells base now (taken + 1) until limit start []
       item_on is took =
           runs_on house new o now taken (taken + 1) [] [] (Took took.item) run (item_wanted took.item is took.is_item) run.rest (ap (λ (n : ℕ). n + 1) run.count) true took.goes
 
       pub link_ends : IsNext next_want next.Ask → Agrees tells base now.outs now_at.events (Gives items.End ∷ now_at.acts)
-          → HouseStands m w (so_far past now_at) numbers new now_at.waiting now_at.peers → now.stands (kept_of w past now_at.events) → ServesKept m w past numbers new.replicas.items tells base now ends.End until limit first
+          → HouseStands m w (so_far past now_at) numbers new now_at.waiting now_at.peers → now.stands (kept_of w past now_at.events) → ServesKept m w past numbers new.replicas.items tells base now ends.End until limit start
       link_ends is agrees stands stood = record {
         rounds = run.rounds;
         wanted = run.wanted;
@@ -369,15 +369,15 @@ module _ {S E C : Type 0} (m : Meaning S E C KeyRow) (w : Setting) (past : List 
 
       pub asking_stops : (fault : Fault) (end : ServeEnd) → IsNext next_want next.Ask
           → (GaveNone tells base now.outs fault now_at × HouseStands m w (so_far past now_at) numbers new now_at.waiting now_at.peers × now.stands (kept_of w past now_at.events)) ⊎ TookItem m w past numbers new tells base now (Err fault) now_at → IsEndOf fault end
-          → ServesKept m w past numbers new.replicas.items tells base now end until limit first
+          → ServesKept m w past numbers new.replicas.items tells base now end until limit start
       asking_stops fault end is (inl gave) is_end = record {
         rounds = run.rounds;
         wanted = run.wanted;
-        so = ends_so m w past numbers new.replicas.items tells base now.outs fault end now_at (sooner w past first run.rounds) (newest w past first run.rounds) (wants w past until limit now_at) is_end
-            (none_stops w past first run.rounds tells base now.outs fault gave.0)
+        so = ends_so m w past numbers new.replicas.items tells base now.outs fault end now_at (sooner_from w past start run.rounds) (newest_from w past start run.rounds) (wants w past until limit now_at) is_end
+            (none_stops w past start run.rounds tells base now.outs fault gave.0)
             (if_failed fault _ gave.1.here);
-        kept = left_end now (NoneSent tells base now.outs (sooner w past first run.rounds)) (kept_of w past now_at.events) (kept_of w past (earlier w past first run.rounds)) fault end is_end
-            (left_none now (NoneSent tells base now.outs (sooner w past first run.rounds)) (kept_of w past now_at.events) (kept_of w past (earlier w past first run.rounds)) fault gave.0.own gave.2);
+        kept = left_end now (NoneSent tells base now.outs (sooner_from w past start run.rounds)) (kept_of w past now_at.events) (kept_of w past (earlier_from w past start run.rounds)) fault end is_end
+            (left_none now (NoneSent tells base now.outs (sooner_from w past start run.rounds)) (kept_of w past now_at.events) (kept_of w past (earlier_from w past start run.rounds)) fault gave.0.own gave.2);
       }
       asking_stops fault end is (inr took) is_end =
           round_stops house new o now taken [] (Took took.item) fault end run (item_wanted took.item is took.is_item) took.goes is_end
@@ -400,7 +400,7 @@ none_served m w past numbers here tells base until limit first = record {
 
 -- where nothing is kept, it ended as serving without an archive does
 pub serves_plain : {S E C : Type 0} (m : Meaning S E C KeyRow) (w : Setting) (past : List Event) (numbers : List ℕ) (here : List (Replica S E C)) (tells : Tells) (base : Outs) (now : Moment) (end : ServeEnd) (until limit : ℕ) (first : List LinkItem)
-    → ((x : ArchiveFault) (es : List Event) → now.fails x es → ⊥) → ServesKept m w past numbers here tells base now end until limit first
+    → ((x : ArchiveFault) (es : List Event) → now.fails x es → ⊥) → ServesKept m w past numbers here tells base now end until limit (begin first)
     → Serves m w past numbers here tells base now.outs end until limit first
 serves_plain m w past numbers here tells base now end until limit first never served = record {
   rounds = served.rounds;
@@ -421,7 +421,7 @@ serves_plain m w past numbers here tells base now end until limit first never se
     rule = wants w past until limit s
 
     by_end : (end : ServeEnd) → EndsKept m w past numbers here tells base now.outs end s older news rule
-        → KeptAt now (NoneSent tells base now.outs older) (kept_of w past s.events) (kept_of w past (earlier w past first served.rounds)) end
+        → KeptAt now (NoneSent tells base now.outs older) (kept_of w past s.events) (kept_of w past (earlier_from w past (begin first) served.rounds)) end
         → EndsSo m w past numbers here tells base now.outs end s older news rule
     by_end ends.Done so kept = so
     by_end ends.Limit so kept = so

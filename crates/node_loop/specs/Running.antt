@@ -15,7 +15,7 @@ use Rattle.node_loop.specs.declared.house.House.{House}
 use Rattle.node_loop.specs.declared.rounds.Next.{Next}
 use Rattle.node_loop.specs.declared.rounds.Next.TheVariants as next
 use Rattle.node_loop.specs.Resending.{Brought}
-use Rattle.node_loop.specs.Serving.{Serving, so_far, Want, Finishes, Turns, Halts, Reminds, Asks, Round, Took, outcome, brought, gave, sent_of, with_outcome, after, AreWanted, IsGiven}
+use Rattle.node_loop.specs.Serving.{Serving, begin, so_far, Want, Finishes, Turns, Halts, Reminds, Asks, Round, Took, outcome, brought, gave, sent_of, with_outcome, after_from, AreWantedFrom, IsGiven}
 use Rattle.node_loop.specs.Calls.{Outcome}
 use Rattle.node_loop.specs.Outs.{Outs, Tells, Agrees, IfFailed, HasCauses, AllWritten, NoneSent, Steps}
 use Rattle.node_loop.specs.Served.{AreHere}
@@ -34,14 +34,14 @@ IsEndOf (faults.Full x) end = end ≡ ends.JournalFull x
 
 -- it serves: these are the rounds so far, of its first items these are left, and the archive stands for what is kept
 pub record Running {S E C : Type 0} (m : Meaning S E C KeyRow) (w : Setting) (past : List Event) (numbers : List ℕ) (house : House S E C)
-    (tells : Tells) (base : Outs) (now : Moment) (taken : ℕ) (until limit : ℕ) (first left : List LinkItem) : Type 0 where
+    (tells : Tells) (base : Outs) (now : Moment) (taken : ℕ) (until limit : ℕ) (start : Serving) (left : List LinkItem) : Type 0 where
   pub rounds : List Round
-  pub wanted : AreWanted w past until limit first rounds
-  pub rest : (after w past first rounds).left ≡ left
-  pub count : taken ≡ (after w past first rounds).taken
-  pub stands : HouseStands m w (so_far past (after w past first rounds)) numbers house (after w past first rounds).waiting (after w past first rounds).peers
-  pub agrees : Agrees tells base now.outs (after w past first rounds).events (after w past first rounds).acts
-  pub kept : now.stands (kept_of w past (after w past first rounds).events)
+  pub wanted : AreWantedFrom w past until limit start rounds
+  pub rest : (after_from w past start rounds).left ≡ left
+  pub count : taken ≡ (after_from w past start rounds).taken
+  pub stands : HouseStands m w (so_far past (after_from w past start rounds)) numbers house (after_from w past start rounds).waiting (after_from w past start rounds).peers
+  pub agrees : Agrees tells base now.outs (after_from w past start rounds).events (after_from w past start rounds).acts
+  pub kept : now.stands (kept_of w past (after_from w past start rounds).events)
 
 -- What came of an item or a turn was delivered, or a part of it. At a fault the replicas stand where it leaves them, unless memory ran out.
 pub record Goes {S E C A : Type 0} (m : Meaning S E C KeyRow) (w : Setting) (past : List Event) (numbers : List ℕ) (house : House S E C)
@@ -89,17 +89,17 @@ AskedLink m w past numbers house tells base now (Err fault) s =
 abbrev pub BeganAll : {S E C : Type 0} → Meaning S E C KeyRow → Setting → List Event → List ℕ → House S E C → Tells → Outs → Moment → ℕ → ℕ
     → List LinkItem → Result (Unit {0}) Fault → Type 0
 BeganAll m w past numbers house tells base now until limit first (Ok done) =
-    Running m w past numbers house tells base now 0 until limit first []
+    Running m w past numbers house tells base now 0 until limit (begin first) []
 BeganAll m w past numbers house tells base now until limit first (Err fault) = (end : ServeEnd) → IsEndOf fault end
-    → ServesKept m w past numbers house.replicas.items tells base now end until limit first
+    → ServesKept m w past numbers house.replicas.items tells base now end until limit (begin first)
 
 -- a round more, or it ended
 abbrev pub RanRound : {S E C : Type 0} → Meaning S E C KeyRow → Setting → List Event → List ℕ → House S E C → Tells → Outs → Moment → ℕ → ℕ → ℕ
-    → List LinkItem → Result (Unit {0}) ServeEnd → Type 0
-RanRound m w past numbers house tells base now taken until limit first (Ok done) =
-    Running m w past numbers house tells base now taken until limit first []
-RanRound m w past numbers house tells base now taken until limit first (Err end) =
-    ServesKept m w past numbers house.replicas.items tells base now end until limit first
+    → Serving → Result (Unit {0}) ServeEnd → Type 0
+RanRound m w past numbers house tells base now taken until limit start (Ok done) =
+    Running m w past numbers house tells base now taken until limit start []
+RanRound m w past numbers house tells base now taken until limit start (Err end) =
+    ServesKept m w past numbers house.replicas.items tells base now end until limit start
 
 -- what is done next is what is wanted, where none of the first items is left
 abbrev pub IsNext : Want → Next → Type 0

@@ -4,7 +4,6 @@ use Rattle.ritas_base.specs.declared.event.Event.{Event}
 use Rattle.keyed_channel.specs.KeyRow.{KeyRow}
 use Rattle.ritas_core.specs.Stands.{Meaning}
 use Rattle.replica.specs.declared.replica.Replica.{Replica}
-use Rattle.outside.specs.declared.link.LinkItem.{LinkItem}
 use Rattle.outside.specs.Links.{LinkAct}
 use Rattle.world_model.specs.World.{Setting}
 use Rattle.node_loop.specs.declared.end.Fault.TheVariants as faults
@@ -14,7 +13,7 @@ use Rattle.node_loop.specs.Archives.{Moment, KeptAt}
 use Rattle.node_loop.specs.Keeping.{kept_of}
 use Rattle.node_loop.specs.Outs.{Outs, Tells, NoneSent, Stops}
 use Rattle.node_loop.specs.Served.{AreHere, EndsSo}
-use Rattle.node_loop.specs.Serving.{Serving, so_far, Want, wants, Round, at_call, after, AreWanted, newest, sooner}
+use Rattle.node_loop.specs.Serving.{Serving, so_far, Want, wants, Round, at_call, after_from, AreWantedFrom, newest_from, sooner_from}
 
 -- each end: where the archive fails, the newest event was written, and nothing of it went out
 abbrev pub EndsKept : {S E C : Type 0} → Meaning S E C KeyRow → Setting → List Event → List ℕ → List (Replica S E C) → Tells → Outs → Outs → ServeEnd → Serving
@@ -24,16 +23,16 @@ EndsKept m w past numbers here tells base now (ends.JournalFull x) s sooner news
 EndsKept m w past numbers here tells base now end s sooner news rule = EndsSo m w past numbers here tells base now end s sooner news rule
 
 -- the events before the newest round's
-abbrev pub earlier : Setting → List Event → List LinkItem → List Round → List Event
-earlier w past first [] = []
-earlier w past first (x ∷ xs) = (at_call x (after w past first xs)).events
+abbrev pub earlier_from : Setting → List Event → Serving → List Round → List Event
+earlier_from w past start [] = start.events
+earlier_from w past start (x ∷ xs) = (at_call x (after_from w past start xs)).events
 
--- there are rounds, each what the rules said, after which serving ended so, and the archive stands for what is kept of their events
+-- of serving that begins so there are rounds, each what the rules said, after which it ended so, and the archive stands for what is kept of their events
 pub record ServesKept {S E C : Type 0} (m : Meaning S E C KeyRow) (w : Setting) (past : List Event) (numbers : List ℕ) (here : List (Replica S E C))
-    (tells : Tells) (base : Outs) (now : Moment) (end : ServeEnd) (until limit : ℕ) (first : List LinkItem) : Type 0 where
+    (tells : Tells) (base : Outs) (now : Moment) (end : ServeEnd) (until limit : ℕ) (start : Serving) : Type 0 where
   pub rounds : List Round
-  pub wanted : AreWanted w past until limit first rounds
-  pub so : EndsKept m w past numbers here tells base now.outs end (after w past first rounds) (sooner w past first rounds) (newest w past first rounds)
-      (wants w past until limit (after w past first rounds))
-  pub kept : KeptAt now (NoneSent tells base now.outs (sooner w past first rounds)) (kept_of w past (after w past first rounds).events)
-      (kept_of w past (earlier w past first rounds)) end
+  pub wanted : AreWantedFrom w past until limit start rounds
+  pub so : EndsKept m w past numbers here tells base now.outs end (after_from w past start rounds) (sooner_from w past start rounds) (newest_from w past start rounds)
+      (wants w past until limit (after_from w past start rounds))
+  pub kept : KeptAt now (NoneSent tells base now.outs (sooner_from w past start rounds)) (kept_of w past (after_from w past start rounds).events)
+      (kept_of w past (earlier_from w past start rounds)) end

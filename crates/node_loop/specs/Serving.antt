@@ -167,19 +167,29 @@ brought w past x s = brings w (so_far past s) x (keep_all (made_by w (so_far pas
 abbrev pub round_does : Setting → List Event → Round → Serving → Serving
 round_does w past x s = with_outcome w past (outcome w past x s) (brought w past x s) (at_call x s)
 
--- what stands after these rounds, of serving that begins with these items
-abbrev pub after : Setting → List Event → List LinkItem → List Round → Serving
-after w past first [] = begin first
-after w past first (x ∷ xs) = round_does w past x (after w past first xs)
+-- what stands after these rounds, of serving that begins so
+abbrev pub after_from : Setting → List Event → Serving → List Round → Serving
+after_from w past start [] = start
+after_from w past start (x ∷ xs) = round_does w past x (after_from w past start xs)
 
 -- of these rounds, the link's calls that came of the newest one's event, and those before
+abbrev pub newest_from : Setting → List Event → Serving → List Round → List LinkAct
+newest_from w past start [] = []
+newest_from w past start (x ∷ xs) = let s = after_from w past start xs in sent_of w (so_far past (at_call x s)) (outcome w past x s) (brought w past x s)
+
+abbrev pub sooner_from : Setting → List Event → Serving → List Round → List LinkAct
+sooner_from w past start [] = start.acts
+sooner_from w past start (x ∷ xs) = (at_call x (after_from w past start xs)).acts
+
+-- of serving that begins with these items
+abbrev pub after : Setting → List Event → List LinkItem → List Round → Serving
+after w past first rounds = after_from w past (begin first) rounds
+
 abbrev pub newest : Setting → List Event → List LinkItem → List Round → List LinkAct
-newest w past first [] = []
-newest w past first (x ∷ xs) = let s = after w past first xs in sent_of w (so_far past (at_call x s)) (outcome w past x s) (brought w past x s)
+newest w past first rounds = newest_from w past (begin first) rounds
 
 abbrev pub sooner : Setting → List Event → List LinkItem → List Round → List LinkAct
-sooner w past first [] = []
-sooner w past first (x ∷ xs) = (at_call x (after w past first xs)).acts
+sooner w past first rounds = sooner_from w past (begin first) rounds
 
 -- an item of a link that isn't its end has at most 65,535 bytes
 pub record IsGiven (item : LinkItem) : Type 0 where
@@ -195,10 +205,13 @@ IsWanted Asks (Took item) = IsGiven item
 IsWanted want round = ⊥
 
 -- each round was
+abbrev pub AreWantedFrom : Setting → List Event → ℕ → ℕ → Serving → List Round → Type 0
+AreWantedFrom w past until limit start [] = Unit {0}
+AreWantedFrom w past until limit start (x ∷ xs) =
+    IsWanted (wants w past until limit (after_from w past start xs)) x × AreWantedFrom w past until limit start xs
+
 abbrev pub AreWanted : Setting → List Event → ℕ → ℕ → List LinkItem → List Round → Type 0
-AreWanted w past until limit first [] = Unit {0}
-AreWanted w past until limit first (x ∷ xs) =
-    IsWanted (wants w past until limit (after w past first xs)) x × AreWanted w past until limit first xs
+AreWanted w past until limit first rounds = AreWantedFrom w past until limit (begin first) rounds
 
 -- ---- the deeds
 

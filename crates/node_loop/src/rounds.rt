@@ -6,7 +6,7 @@ ghost use Rattle.replica.specs.Replica.{with_keys};
 ghost use Rattle.world_model.specs.World.{Setting};
 ghost use Rattle.node_loop.specs.Waiting.{Waiting, nobody};
 ghost use Rattle.node_loop.specs.Peers.{Peers, no_peers};
-ghost use Rattle.node_loop.specs.Serving.{Serving, so_far, wants_of, Turned, Reminded, outcome, brought};
+ghost use Rattle.node_loop.specs.Serving.{Serving, begin, so_far, wants_of, Turned, Reminded, outcome, brought};
 ghost use Rattle.node_loop.specs.Outs.{Outs, outs_of, Agrees};
 ghost use Rattle.node_loop.specs.Standing.{HouseStands};
 ghost use Rattle.node_loop.specs.Served.{AreHere, IsFirst, Serves};
@@ -216,13 +216,13 @@ fn run_round<
 ) -> Result<(), ServeEnd>
     ensures same { IsSame out.old out.new }
     ensures goes { let m = with_keys S.stands S.rules S.shown E.stands E.rules E.shown C.bits in
-        (head : List ℕ) (before : D) (w : Setting) (past : List Event) (numbers : List ℕ) (base : Outs) (first : List LinkItem)
+        (head : List ℕ) (before : D) (w : Setting) (past : List Event) (numbers : List ℕ) (base : Outs) (start : Serving)
         → Running m w past numbers house.old (record { tape = K.tells; link = L.tells }) base
         (moment_of K.taken K.faults L.told L.faults (A.stands head before past) (A.fails head before past) out.old)
-        taken.old bounds.until bounds.limit first []
+        taken.old bounds.until bounds.limit start []
         → RanRound m w past numbers house.new (record { tape = K.tells; link = L.tells }) base
         (moment_of K.taken K.faults L.told L.faults (A.stands head before past) (A.fails head before past) out.new)
-        taken.new bounds.until bounds.limit first result }
+        taken.new bounds.until bounds.limit start result }
 {
     match next_of(house, bounds, *taken) {
         Next::Finish => Err(ServeEnd::Done),
@@ -266,13 +266,13 @@ fn go_on<
 ) -> ServeEnd
     ensures same { IsSame out.old out.new }
     ensures goes { let m = with_keys S.stands S.rules S.shown E.stands E.rules E.shown C.bits in
-        (head : List ℕ) (before : D) (w : Setting) (past : List Event) (numbers : List ℕ) (base : Outs) (first : List LinkItem)
+        (head : List ℕ) (before : D) (w : Setting) (past : List Event) (numbers : List ℕ) (base : Outs) (start : Serving)
         → Running m w past numbers house.old (record { tape = K.tells; link = L.tells }) base
         (moment_of K.taken K.faults L.told L.faults (A.stands head before past) (A.fails head before past) out.old)
-        0 bounds.until bounds.limit first []
+        0 bounds.until bounds.limit start []
         → ServesKept m w past numbers house.new.replicas.items (record { tape = K.tells; link = L.tells }) base
         (moment_of K.taken K.faults L.told L.faults (A.stands head before past) (A.fails head before past) out.new)
-        result bounds.until bounds.limit first }
+        result bounds.until bounds.limit start }
 {
     let mut taken = 0;
     for _ in rt.forever() {
@@ -350,7 +350,7 @@ fn serve_house<
         → ServesKept m w past numbers house.new.replicas.items (record { tape = K.tells; link = L.tells })
         (outs_of K.taken K.faults L.told L.faults out.old.tape.now out.old.link.now)
         (moment_of K.taken K.faults L.told L.faults (A.stands head before past) (A.fails head before past) out.new)
-        result bounds.until bounds.limit first.now }
+        result bounds.until bounds.limit (begin first.now) }
 {
     let mut output = Output::new(alloc);
     match begin(rt, alloc, house, out, first, &mut output) {
@@ -387,7 +387,7 @@ fn serve_with<
         → ServesKept m w past numbers house.new.replicas.items (record { tape = K.tells; link = L.tells })
         (outs_of K.taken K.faults L.told L.faults tape.old link.old)
         (moment (outs_of K.taken K.faults L.told L.faults tape.new link.new) (A.stands head before past archive.new disk.new) (A.fails head before past archive.new disk.new))
-        result bounds.until bounds.limit first.now }
+        result bounds.until bounds.limit (begin first.now) }
 {
     let mut out = Outlets {
         link,

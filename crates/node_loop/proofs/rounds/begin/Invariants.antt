@@ -7,6 +7,7 @@ use Rattle.node_loop.specs.Waiting.{nobody}
 use Rattle.node_loop.specs.Peers.{no_peers}
 use Rattle.node_loop.specs.Outs.{Outs, outs_of, Agrees}
 use Rattle.node_loop.specs.Running.{Running}
+use Rattle.node_loop.specs.Serving.{begin}
 use Rattle.node_loop.specs.Standing.{HouseStands}
 use Rattle.node_loop.proofs.rounds.begin.Given as goal
 
@@ -21,5 +22,5 @@ invariant-loop-item g l = record {
       → g.A.Archive.stands head before past l.initial.out.archive.now l.initial.out.disk.now []
       → Running m w past numbers l.house (record { tape = g.K.Sink.tells; link = g.L.Link.tells }) base
       (moment_of g.K.Sink.taken g.K.Sink.faults g.L.Link.told g.L.Link.faults (g.A.Archive.stands head before past) (g.A.Archive.fails head before past) l.out)
-      0 until limit l.first (drop l.item-index l.first));
+      0 until limit (begin l.first) (drop l.item-index l.first));
 }

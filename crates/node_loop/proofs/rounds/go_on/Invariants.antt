@@ -1,6 +1,6 @@
 use Rattle.std.proofs.Common.{ℕ, List, []}
 use Rattle.ritas_base.specs.declared.event.Event.{Event}
-use Rattle.outside.specs.declared.link.LinkItem.{LinkItem}
+use Rattle.node_loop.specs.Serving.{Serving}
 use Rattle.replica.specs.Replica.{with_keys}
 use Rattle.world_model.specs.World.{Setting}
 use Rattle.node_loop.specs.Archives.{IsSame, moment_of}
@@ -13,13 +13,13 @@ invariant-loop g l = record {
   next : (goal.iterator-loop g).can_next l.iterator';
   finite : (goal.iterator-loop g).is_finite l.iterator';
   same : IsSame l.initial.out l.out;
-  runs : (head : List ℕ) (before : _) (w : Setting) (past : List Event) (numbers : List ℕ) (base : Outs) (first : List LinkItem)
+  runs : (head : List ℕ) (before : _) (w : Setting) (past : List Event) (numbers : List ℕ) (base : Outs) (start : Serving)
       → Running (with_keys g.S.Service.stands g.S.Service.rules g.S.Service.shown g.E.Broadcast.stands g.E.Broadcast.rules g.E.Broadcast.shown g.C.Coin.bits) w past numbers l.initial.house
       (record { tape = g.K.Sink.tells; link = g.L.Link.tells }) base
       (moment_of g.K.Sink.taken g.K.Sink.faults g.L.Link.told g.L.Link.faults (g.A.Archive.stands head before past) (g.A.Archive.fails head before past) l.initial.out)
-      0 l.bounds.until l.bounds.limit first []
+      0 l.bounds.until l.bounds.limit start []
       → Running (with_keys g.S.Service.stands g.S.Service.rules g.S.Service.shown g.E.Broadcast.stands g.E.Broadcast.rules g.E.Broadcast.shown g.C.Coin.bits) w past numbers l.house
       (record { tape = g.K.Sink.tells; link = g.L.Link.tells }) base
       (moment_of g.K.Sink.taken g.K.Sink.faults g.L.Link.told g.L.Link.faults (g.A.Archive.stands head before past) (g.A.Archive.fails head before past) l.out)
-      l.taken l.bounds.until l.bounds.limit first [];
+      l.taken l.bounds.until l.bounds.limit start [];
 }
