@@ -13,6 +13,8 @@ pub mod Running
 pub mod Archives
 pub mod ServedKept
 pub mod Journals
+pub mod Recovering
+pub mod RecoveringRows
 pub mod Laws
 pub mod Keeping
 pub mod KeepingRows
