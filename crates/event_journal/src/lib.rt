@@ -3,7 +3,7 @@
 //! | Offset | Field | Rule |
 //! |---|---|---|
 //! | 0 | made | 1 where the file is made |
-//! | 1 | head | 51 bytes, which name the session and the replica |
+//! | 1 | head | 51 bytes, which name the session and the replica (`journal_head`) |
 //! | 52 | records | a gate, which is 1; a length (2); an event of a schedule file at the replica |
 //!
 //! A gate other than 1, a closed one, follows the last record and ends what is read; what stands behind it counts for nothing. A file
@@ -18,6 +18,7 @@
 #![tactic(auto)]
 
 mod fault;
+mod head;
 mod journal;
 mod laws;
 mod opening;
@@ -26,6 +27,7 @@ mod reading;
 mod tests;
 
 pub use fault::JournalFault;
+pub use head::journal_head;
 pub use journal::Journal;
 pub use laws::journal_laws;
 pub use opening::open_journal;

@@ -1,9 +1,9 @@
 ghost use Rattle.std.specs.Prelude.{◌<◌, length, IfOk};
 ghost use Rattle.event_journal.specs.Journal.{IsRecord};
 
-use crate::open_journal;
+use crate::{journal_head, open_journal};
 use outside::{Disk, MemDisk};
-use ritas_base::{Bytes, Event, Mem};
+use ritas_base::{Bytes, Event, Mem, Mode, Params, Vect};
 use std::alloc::Global;
 use std::test::*;
 
@@ -78,4 +78,19 @@ fn stops_anywhere(rt: HostRuntime) -> Result<(), Fail> {
         }
     }
     Ok(())
+}
+
+// The head of one replica of one, all whose keys are zeros, in session 2^56 + 7: of the row the first key alone counts.
+#[test]
+fn head_of_one(rt: HostRuntime) {
+    let p = Params::new(1, 0).expect(&rt, "numbers");
+    let mode = Mode::new(6, Vect::Reliable).expect(&rt, "mode");
+    let mut row = [[0; 32]; 31];
+    row[1] = [1; 32];
+    let head = journal_head(0x0100_0000_0000_0007, p, mode, 0, &row, &[0; 32]);
+    let front = b"RITJ\x01\x01\0\0\0\0\0\0\x07\x01\0\x06\x02\x01\0";
+    let digest =
+        b"\xf5\xa5\xfd\x42\xd1\x6a\x20\x30\x27\x98\xef\x6e\xd3\x09\x97\x9b\x43\x00\x3d\x23\x20\xd9\xf0\xe8\xea\x98\x31\xa9\x27\x59\xfb\x4b";
+    assert_eq!(rt; &head[..19], front.as_slice());
+    assert_eq!(rt; &head[19..], digest.as_slice());
 }
