@@ -1,5 +1,5 @@
 //! The head of a journal's file.
-ghost use Rattle.std.specs.Prelude.{◌≡◌, ◌≤◌, length};
+ghost use Rattle.std.specs.Prelude.{◌≡◌, slice_index};
 ghost use Rattle.schedule_file.specs.Spelling.{vect_byte, version_byte};
 ghost use Rattle.event_journal.specs.Head.{head_of, keys_digest, place_text, session_text};
 
@@ -56,7 +56,7 @@ fn keys_digest(keys: &[[u8; 32]], coin: &[u8; 32]) -> [u8; 32]
 }
 
 /// The head of the journal of replica `me`: RITJ and 1, the session's number, its numbers and mode, the replica, and SHA-256 of
-/// the n keys that it shares with each replica, in the first places of its row, and of the key of its coins. Byte 13 is n.
+/// the n keys that it shares with each replica, in the first places of its row, and of the key of its coins. Byte 13 is n, as `open_journal` wants it.
 pub fn journal_head(
     session: u64,
     p: Params,
@@ -65,7 +65,8 @@ pub fn journal_head(
     row: &[[u8; 32]; 31],
     coin: &[u8; 32],
 ) -> [u8; 51]
-    ensures { result ≡ head_of session p mode me row.now coin.now }
+    ensures exact { result ≡ head_of session p mode me row.now coin.now }
+    ensures count { slice_index result 13 ≡ p.n }
 {
     let mut head = [0; 51];
     head[..13].copy_from_slice(&session_bytes(session));
