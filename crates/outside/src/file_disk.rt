@@ -97,7 +97,9 @@ fn sync_in<R: Files<File = File>>(rt: &R, file: &mut Option<File>) -> io::Result
 
 impl<R: Files<File = File> + Drop> FileDisk<R> {
     /// A disk of which no call failed yet. Nothing is opened.
-    pub fn new(rt: R) -> FileDisk<R> {
+    pub fn new(rt: R) -> FileDisk<R>
+        ensures { result.faults ≡ 0 }
+    {
         FileDisk {
             rt,
             file: None,
