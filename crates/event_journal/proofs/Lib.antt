@@ -4,3 +4,4 @@ pub mod Groups
 pub mod Records
 pub mod Making
 pub mod Readings
+mod Owning

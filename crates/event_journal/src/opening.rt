@@ -3,7 +3,8 @@ ghost use Rattle.std.specs.Prelude.{◌≡◌, ◌<◌, ◌≤◌, ◌++◌, ◌
 ghost use Rattle.outside.specs.Faults.{HasCause};
 ghost use Rattle.outside.specs.Disks.{LeavesOnly, at_rest, state_of};
 ghost use Rattle.schedule_file.specs.FileBytes.{limit};
-ghost use Rattle.event_journal.specs.Journal.{IsUnmade, Opens, OpensAs, front_of};
+ghost use Rattle.std.specs.List.{AllByRecursion};
+ghost use Rattle.event_journal.specs.Journal.{IsRecord, IsUnmade, Opens, OpensAs, front_of};
 ghost use Rattle.event_journal.specs.Appending.{AllOpen, StandsFor};
 ghost use Rattle.event_journal.specs.Reading.{Clears, IsBroken, IsClear, IsForeign, IsKept, Makes, OpensLike, RestsClear};
 
@@ -136,6 +137,7 @@ pub fn open_journal<D: Disk>(
     ensures opened { D.tells ≡ true → IfOk result (λ x. StandsFor x.0 head.now (reverse x.1.items)
         × AllOpen me head.now (reverse x.1.items) (state_of (D.told disk.new))) }
     ensures live { IfOk result (λ x. (x.0.me ≡ me) × (x.0.live ≡ true)) }
+    ensures own { IfOk result (λ x. AllByRecursion (IsRecord me) x.1.items) }
 
     // The file that was there opened as these events.
     ensures gives { D.tells ≡ true → IfOk result (λ x. OpensAs me head.now (state_of (D.told disk.old)).seen (reverse x.1.items)) }

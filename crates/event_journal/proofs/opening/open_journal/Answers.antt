@@ -2,11 +2,14 @@ use Rattle.std.proofs.Common.{◌≡◌, ◌≤◌, length, reverse, IfOk, Err, 
 use Rattle.outside.specs.Disks.{DiskState, at_rest, state_of}
 use Rattle.outside.specs.DisksLaws.{leaves_then, leaves_weaker, seen_image}
 use Rattle.schedule_file.specs.FileBytes.{limit}
+use Rattle.ritas_base.specs.declared.event.Event.{Event}
+use Rattle.std.proofs.lemmas.Result.{IfOk-weaker}
 use Rattle.event_journal.specs.Journal.{IsUnmade, OpensAs}
 use Rattle.event_journal.specs.Reading.{IsForeign, IsKept, OpensLike}
 use Rattle.event_journal.specs.declared.fault.JournalFault.{JournalFault}
 use Rattle.event_journal.specs.declared.fault.JournalFault.TheVariants as faults
 use Rattle.event_journal.proofs.Making.{synced_kept}
+use Rattle.event_journal.proofs.Owning.{own_events}
 use Rattle.event_journal.proofs.opening.open_journal.Goals as goal
 
 pub returns-in-Ok-read_file-clause-since : goal.returns-in-Ok-read_file-clause-since
@@ -55,3 +58,7 @@ returns-in-Ok-read_file-clause-gives g c = λ tells.
     let synced = c.in-Ok.ensures.synced tells in
     let file_is = c.deref.ensures.value ∙ c.in-Ok-read_file.ensures.whole tells ∙ ap (λ (x : List DiskState). (state_of x).seen) synced in
     subst (λ (file : List ℕ). IfOk c.open_file.result (λ x. OpensAs c.args.me c.args.head.now file (reverse x.1.items))) file_is c.open_file.ensures.gives
+
+pub returns-in-Ok-read_file-clause-own : goal.returns-in-Ok-read_file-clause-own
+returns-in-Ok-read_file-clause-own g c =
+    IfOk-weaker c.open_file.result _ _ (λ x opens. own_events c.args.me c.args.head.now c.deref.result.now x.1.items opens) c.open_file.ensures.gives
