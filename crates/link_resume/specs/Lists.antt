@@ -1,5 +1,5 @@
 -- Frames that are kept: one list for each peer, each in the order in which its frames were kept.
-use Rattle.std.specs.Prelude.{ℕ, ◌==◌, ◌<◌, ◌≤◌, Bool, not, List, [], ◌∷◌, ◌++◌, filter, slice_index_or, slice_set, length, sum_by}
+use Rattle.std.specs.Prelude.{ℕ, ◌+◌, ◌==◌, ◌<◌, ◌≤◌, nat_le, not, List, [], ◌∷◌, ◌++◌, filter, slice_index_or, slice_set, length, sum_by, if◌then◌else◌}
 use Rattle.std.specs.List.{AllPairs, AllWithin}
 use Rattle.link_resume.specs.declared.kept.Kept.{Kept}
 
@@ -26,6 +26,15 @@ all_but seq kept = filter (λ k. not (k.seq == seq)) kept
 -- the frames of this number aren't kept any more
 abbrev pub without : List (List Kept) → ℕ → ℕ → List (List Kept)
 without lists peer seq = slice_set lists peer (all_but seq (kept_for lists peer))
+
+-- the oldest are dropped until so many bytes fit behind the others
+abbrev pub room_for : ℕ → List Kept → List Kept
+room_for size [] = []
+room_for size (k ∷ ks) = if nat_le (bytes_in (k ∷ ks) + size) most_bytes then k ∷ ks else room_for size ks
+
+-- so it is of what is kept for a peer
+abbrev pub with_room : List (List Kept) → ℕ → ℕ → List (List Kept)
+with_room lists peer size = slice_set lists peer (room_for size (kept_for lists peer))
 
 -- each has a greater number than those before it
 abbrev pub Ascend : List Kept → Type 0

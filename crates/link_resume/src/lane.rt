@@ -1,7 +1,7 @@
 ghost use Rattle.std.specs.Prelude.{◌≡◌, ℕ, ◌+◌, ◌-◌, ◌^◌, ◌<◌, ◌≤◌, ◌↔◌, [], ◌∷◌, ◌++◌, length, slice_index_or, Err, Some, OnOk, OnErr, MatchOption, true};
 ghost use Rattle.std.specs.List.{slice_get};
 ghost use Rattle.link_resume.specs.declared.kept.Kept.{Kept};
-ghost use Rattle.link_resume.specs.Lists.{bytes_in, most_bytes, all_but, Ascend, IsPlace};
+ghost use Rattle.link_resume.specs.Lists.{bytes_in, most_bytes, all_but, room_for, Ascend, IsPlace};
 
 use crate::kept::{KeepFault, Kept};
 use ritas_base::Bytes;
@@ -149,6 +149,18 @@ impl Lane {
         } else {
             retain_others(&mut self.kept, seq);
             self.bytes = bytes_in(&self.kept);
+        }
+    }
+
+    /// The oldest frames go until so many bytes fit behind the others.
+    pub(crate) fn make_room(&mut self, size: u64)
+        ensures { self.new ≡ room_for size self.old }
+    {
+        while size > MOST_BYTES - self.bytes {
+            let Some(oldest) = self.kept.pop_front() else {
+                return;
+            };
+            self.bytes -= oldest.frame.as_slice().len() as u64;
         }
     }
 }

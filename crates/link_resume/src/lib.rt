@@ -2,7 +2,8 @@
 //!
 //! A connection may break with frames on the way. So a replica keeps what it sends to a peer until the peer acknowledges it
 //! by its number, and gives it to the link again when the peer has a connection again, or asks for it. At most 8,388,608
-//! bytes are kept for one peer, so no peer that doesn't answer takes the room of others.
+//! bytes are kept for one peer, so no peer that doesn't answer takes the room of others. Where more is sent, it isn't kept, or
+//! the peer's oldest frames are dropped first (`make_room`).
 //!
 //! Contracts see `Resume` as one list for each peer, in the order in which its frames were kept (`specs/Lists.antt`). Numbers
 //! may come in any order; where they ascend, as those of a replica's frames do, an acknowledgement is found by halving, and

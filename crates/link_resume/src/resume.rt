@@ -1,6 +1,6 @@
 ghost use Rattle.std.specs.Prelude.{◌≡◌, ℕ, ◌+◌, ◌<◌, ◌≤◌, ◌↔◌, [], length, replicate, Err, IfOk, OnOk, OnErr, MatchOption, Some};
 ghost use Rattle.std.specs.List.{slice_get};
-ghost use Rattle.link_resume.specs.Lists.{kept_for, bytes_in, most_bytes, with_kept, without};
+ghost use Rattle.link_resume.specs.Lists.{kept_for, bytes_in, most_bytes, with_kept, with_room, without};
 
 use crate::kept::{KeepFault, Kept};
 use crate::lane::Lane;
@@ -61,6 +61,15 @@ impl Resume {
         ensures { self.new ≡ without self.old peer seq }
     {
         self.lanes[peer as usize].acked(seq);
+    }
+
+    /// Drops a peer's oldest frames until so many bytes fit behind the others; all of them, where they don't fit behind any. It
+    /// takes no memory.
+    pub fn make_room(&mut self, peer: u8, size: u64)
+        requires { peer < length self.old }
+        ensures { self.new ≡ with_room self.old peer size }
+    {
+        self.lanes[peer as usize].make_room(size);
     }
 
     /// How many frames are kept for a peer. It takes no memory.

@@ -46,3 +46,20 @@ fn numbers_come_in_any_order(rt: HostRuntime) {
     assert!(rt; resume.waiting(0, 0).is_some_and(|kept| kept.seq == 3));
     assert!(rt; resume.waiting(0, 1).is_some_and(|kept| kept.seq == 9));
 }
+
+// Where a frame fits behind two of three the oldest goes, and what is kept for another peer stays.
+#[test]
+fn the_oldest_makes_room(rt: HostRuntime) {
+    let mut resume = Resume::new(rt.alloc(), 2).expect(&rt, "memory");
+    assert!(rt; resume.peers() == 2);
+    assert!(rt; resume.keep(rt.alloc(), 0, 0, &[6; 43]).is_ok());
+    for seq in 0..3 {
+        assert!(rt; resume.peers() == 2);
+        assert!(rt; resume.keep(rt.alloc(), 1, seq, &[7; 50]).is_ok());
+    }
+    assert!(rt; resume.peers() == 2);
+    resume.make_room(1, 8_388_508);
+    assert!(rt; resume.count(0) == 1);
+    assert!(rt; resume.bytes(1) == 100);
+    assert!(rt; resume.waiting(1, 0).is_some_and(|kept| kept.seq == 1));
+}
