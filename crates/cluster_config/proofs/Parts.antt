@@ -1,11 +1,11 @@
 -- What is read of lines that several columns have, and of what follows them.
-use Rattle.std.proofs.Common.{◌≡◌, ℕ, zero, suc, ◌+◌, ◌==◌, Bool, true, false, List, [], ◌∷◌, length, Option, Result, Ok, Err, codes, refl, sym, ◌∙◌, ap, if◌then◌else◌}
+use Rattle.std.proofs.Common.{◌≡◌, ℕ, zero, suc, ◌==◌, Bool, true, false, List, [], ◌∷◌, length, Option, Result, Ok, Err, codes, refl, ◌∙◌, if◌then◌else◌}
 use Rattle.ritas_base.specs.Numbers.{Numbers}
 use Rattle.ritas_base.specs.declared.mode.FrameVersion.{FrameVersion}
 use Rattle.cluster_config.specs.Values.{most, number_in}
 use Rattle.cluster_config.specs.Lines.{Place, Reading, ◌>>=◌, end_at, field_at, fields_at, fields_up_to}
 use Rattle.cluster_config.specs.Columns.{Column, is_one_line, lines_of, lines_up_to, read_by}
-use Rattle.cluster_config.specs.Front.{session_lines, numbers_lines, copies_line, session_at, numbers_at, copies_at}
+use Rattle.cluster_config.specs.Front.{session_lines, numbers_lines, copies_line, journal_line, session_at, numbers_at, copies_at, journal_at}
 
 then_read : {A B C : Type 0} (r : Result A ℕ) (f : A → Result B ℕ) (g : B → Result C ℕ) → (r >>= λ x. f x >>= g) ≡ ((r >>= f) >>= g)
 then_read (Ok x) f g = refl
@@ -35,15 +35,22 @@ and_over x s = end_at s >>= λ over. Ok (x, over.1)
 abbrev unless_over : {X : Type 0} → Bool → X → Place → Reading X → Reading X
 unless_over b x s more = if b then Ok (x, s) else more
 
+-- what is said of a last line, or of none
+last_read : {A X : Type 0} (none : A) (said : A → X) (s : Place) (b : Bool) (r : Reading A)
+    → unless_over b (said none) s (r >>= λ x. and_over (said x.0) x.1) ≡ (unless_over b none s (r >>= λ x. and_over x.0 x.1) >>= λ x. Ok (said x.0, x.1))
+last_read none said s true r = refl
+last_read none said s false (Err line) = refl
+last_read none said s false (Ok x) = then_read (end_at x.1) (λ over. Ok (x.0, over.1)) (λ y. Ok (said y.0, y.1))
+
 -- perhaps the copies, and nothing more
 pub read_copies : {X : Type 0} (n : ℕ) (said : ℕ → X) (s : Place) → read_by (copies_line n said) s ≡ (copies_at n s >>= λ x. Ok (said x.0, x.1))
 unfolding read_by copies_line copies_at
-read_copies {X} n said s = go (length s.rest == 0) (field_at _ _ s)
-  where
-    go : (b : Bool) (r : Reading ℕ) → unless_over b (said 1) s (r >>= λ x. and_over (said x.0) x.1) ≡ (unless_over b 1 s (r >>= λ x. and_over x.0 x.1) >>= λ x. Ok (said x.0, x.1))
-    go true r = refl
-    go false (Err line) = refl
-    go false (Ok x) = then_read (end_at x.1) (λ over. Ok (x.0, over.1)) (λ y. Ok (said y.0, y.1))
+read_copies n said s = last_read 1 said s (length s.rest == 0) (field_at _ _ s)
+
+-- perhaps whether a journal is kept, and nothing more
+pub read_journal : {X : Type 0} (said : Bool → X) (s : Place) → read_by (journal_line said) s ≡ (journal_at s >>= λ x. Ok (said x.0, x.1))
+unfolding read_by journal_line journal_at
+read_journal said s = last_read false said s (length s.rest == 0) (field_at _ _ s)
 
 abbrev with_first : {A : Type 0} → A → Reading (List A) → Reading (List A)
 with_first x r = r >>= λ more. Ok (x ∷ more.0, more.1)

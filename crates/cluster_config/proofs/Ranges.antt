@@ -17,7 +17,7 @@ use Rattle.cluster_config.specs.declared.submit.SubmitConfig.{SubmitConfig}
 use Rattle.cluster_config.specs.Values.{numeral, if_within, number_in, numbers_of, numbers_in, version_in, if_ok, key_in, keys_in, row_in, number_before, payload_in, request_in}
 use Rattle.cluster_config.specs.Cuts.{cut_at}
 use Rattle.cluster_config.specs.Columns.{BeginsWith, Column, is_one_line, lines_of, lines_up_to, read_text, IsText}
-use Rattle.cluster_config.specs.Front.{session_lines, numbers_lines, copies_line}
+use Rattle.cluster_config.specs.Front.{session_lines, numbers_lines, copies_line, journal_line}
 use Rattle.cluster_config.specs.Drive.{Planned, drive_column}
 use Rattle.cluster_config.specs.Node.{NodeText, node_column}
 use Rattle.cluster_config.specs.Cluster.{ClusterText, cluster_column}
@@ -223,6 +223,12 @@ copies_say n said x text (inr is) =
     let range = number_range 1 n is.2.value is.0 is.2.reads in
     record { copies = is.0; least = range.0; most = λ some. range.1; is = is.3.1 }
 
+-- the line of a journal says what is said of yes or no
+journal_says : {X : Type 0} (said : Bool → X) (x : X) (text : List ℕ) → IsText (journal_line said) x text → (journal : Bool) × (said journal ≡ x)
+unfolding journal_line
+journal_says said x text (inl is) = (false, is.1)
+journal_says said x text (inr is) = (is.0, is.3.1)
+
 -- ---- columns
 sixth : (text : List ℕ) (root : ℕ) → number_in 6 6 text ≡ Some root → root ≡ 6
 sixth text root e = let range = number_range 6 6 text root e in omega (arith, range.0, range.1)
@@ -236,7 +242,8 @@ node_fits text x is =
     let row = me.3 in
     let coin = row.3 in
     let peers = lines_say _ _ _ _ _ x coin.1 coin.3 in
-    let end = peers.more.3.3.3 in
+    let until = peers.more.3.3 in
+    let end = journal_says _ x until.1 until.3 in
     let some = some_replica _ p.2.value p.0 p.2.reads in
     let at = (number_range 0 (p.0.n - 1) me.2.value me.0 me.2.reads).1 in
     subst (λ (y : NodeText). FitsNode y) end.1 (record {
@@ -349,7 +356,8 @@ node_first text x is =
     let root = is.3.3.3.3 in
     let coin = root.3.3.3.3 in
     let peers = lines_say _ _ _ _ _ x coin.1 coin.3 in
-    let end = peers.more.3.3.3 in
+    let until = peers.more.3.3 in
+    let end = journal_says _ x until.1 until.3 in
     subst (IsVersionOf text) (ap (λ (y : NodeText). y.version) end.1) (first_says text is.1 is.0 is.2)
 
 cluster_first : (text : List ℕ) (x : ClusterText) → IsText cluster_column x text → IsVersionOf text x.version

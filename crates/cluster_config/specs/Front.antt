@@ -1,8 +1,8 @@
 -- The lines that several configurations have.
-use Rattle.std.specs.Prelude.{ℕ, ◌==◌, List, length, Ok, codes, refl, if◌then◌else◌}
+use Rattle.std.specs.Prelude.{ℕ, ◌==◌, Bool, false, length, Ok, codes, refl, if◌then◌else◌}
 use Rattle.ritas_base.specs.Numbers.{Numbers}
 use Rattle.ritas_base.specs.declared.mode.FrameVersion.{FrameVersion}
-use Rattle.cluster_config.specs.Values.{most, number_in, numbers_in, version_in}
+use Rattle.cluster_config.specs.Values.{most, number_in, numbers_in, version_in, yes_or_no_in}
 use Rattle.cluster_config.specs.Lines.{Place, Reading, ◌>>=◌, end_at, field_at}
 use Rattle.cluster_config.specs.Columns.{Column, Done, Line, Perhaps}
 
@@ -22,6 +22,10 @@ numbers_lines next =
 unfoldable pub copies_line : {X : Type 0} → ℕ → (ℕ → X) → Column X
 copies_line n said = Perhaps (said 1) (codes "copies") refl (number_in 1 n) (λ copies. Done (said copies))
 
+-- whether a journal is kept, and nothing more: none is, where it isn't said
+unfoldable pub journal_line : {X : Type 0} → (Bool → X) → Column X
+journal_line said = Perhaps (said false) (codes "journal") refl yes_or_no_in (λ journal. Done (said journal))
+
 -- ---- read from above
 
 unfoldable pub session_at : Place → Reading (FrameVersion × ℕ)
@@ -38,3 +42,7 @@ numbers_at s = do
 unfoldable pub copies_at : ℕ → Place → Reading ℕ
 copies_at n s = if length s.rest == 0 then Ok (1, s)
     else (field_at (codes "copies") (number_in 1 n) s >>= λ copies. end_at copies.1 >>= λ over. Ok (copies.0, over.1))
+
+unfoldable pub journal_at : Place → Reading Bool
+journal_at s = if length s.rest == 0 then Ok (false, s)
+    else (field_at (codes "journal") yes_or_no_in s >>= λ journal. end_at journal.1 >>= λ over. Ok (journal.0, over.1))

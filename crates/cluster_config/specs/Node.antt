@@ -1,12 +1,12 @@
 -- The configuration of a replica: its lines, in their order.
-use Rattle.std.specs.Prelude.{ℕ, ◌-◌, List, codes, refl}
+use Rattle.std.specs.Prelude.{ℕ, ◌-◌, Bool, List, codes, refl}
 use Rattle.ritas_base.specs.Numbers.{Numbers}
 use Rattle.ritas_base.specs.declared.mode.FrameVersion.{FrameVersion}
 use Rattle.ritas_base.specs.declared.mode.Vect.{Vect}
 use Rattle.cluster_config.specs.declared.node.NodeConfig.{NodeConfig}
 use Rattle.cluster_config.specs.Values.{most, number_in, vect_in, key_in, row_in, address_in}
-use Rattle.cluster_config.specs.Columns.{Column, Done, Line, lines_of}
-use Rattle.cluster_config.specs.Front.{session_lines, numbers_lines}
+use Rattle.cluster_config.specs.Columns.{Column, Line, lines_of}
+use Rattle.cluster_config.specs.Front.{session_lines, numbers_lines, journal_line}
 
 -- what the configuration of a replica says
 pub record NodeText : Type 0 where
@@ -22,6 +22,7 @@ pub record NodeText : Type 0 where
   pub client : List ℕ
   pub limit : ℕ
   pub until : ℕ
+  pub journal : Bool
 
 abbrev pub node_text : NodeConfig → NodeText
 node_text config = record {
@@ -37,6 +38,7 @@ node_text config = record {
   client = config.client;
   limit = config.limit;
   until = config.until;
+  journal = config.journal;
 }
 
 -- its lines
@@ -53,4 +55,5 @@ node_column =
     Line (codes "client") refl address_in (λ client.
     Line (codes "limit") refl (number_in 1 most) (λ limit.
     Line (codes "until") refl (number_in 0 4294967295) (λ until.
-    Done (record { session = session; p = p; root = root; vect = vect; version = version; me = me; key_row = row; coin_key = coin; peers = peers; client = client; limit = limit; until = until }))))))))))))
+    journal_line (λ journal.
+    record { session = session; p = p; root = root; vect = vect; version = version; me = me; key_row = row; coin_key = coin; peers = peers; client = client; limit = limit; until = until; journal = journal }))))))))))))

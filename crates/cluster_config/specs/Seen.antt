@@ -21,6 +21,7 @@ node_seen view = record {
   client = view.client.now;
   limit = view.limit;
   until = view.until;
+  journal = view.journal;
 }
 
 abbrev pub cluster_seen : ClusterView → ClusterText

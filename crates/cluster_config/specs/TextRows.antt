@@ -1,11 +1,11 @@
 -- Worked rows of the texts of keys, of a replica, of all replicas and of a request, where there is one replica.
-use Rattle.std.specs.Prelude.{◌≡◌, ℕ, List, [], ◌∷◌, ◌++◌, codes, replicate, flat_map, Ok, Err, refl}
+use Rattle.std.specs.Prelude.{◌≡◌, ℕ, true, false, List, [], ◌∷◌, ◌++◌, codes, replicate, flat_map, Ok, Err, refl}
 use Rattle.hex.specs.Hex.{decode_pairs}
 use Rattle.ritas_base.specs.declared.mode.FrameVersion.TheVariants.{One, Two}
 use Rattle.ritas_base.specs.declared.mode.Vect.TheVariants.{Echo, Reliable}
 use Rattle.cluster_config.specs.Lines.{line_at, end_at, value_at, field_at}
 use Rattle.cluster_config.specs.Columns.{lines_of, lines_up_to, read_by, read_text}
-use Rattle.cluster_config.specs.Front.{session_lines, numbers_lines}
+use Rattle.cluster_config.specs.Front.{session_lines, numbers_lines, journal_line}
 use Rattle.cluster_config.specs.Keys.{keys_column}
 use Rattle.cluster_config.specs.Node.{NodeText, node_column}
 use Rattle.cluster_config.specs.Cluster.{ClusterText, cluster_column}
@@ -72,16 +72,43 @@ one_node = record {
   client = codes "10.0.0.1:80";
   limit = 1;
   until = 0;
+  journal = false;
 }
 
-node : read_text node_column (node_front ++ codes "peer 10.0.0.1:4000\nclient 10.0.0.1:80\nlimit 1\nuntil 0\n") ≡ Ok one_node
-unfolding read_text read_by node_column session_lines numbers_lines lines_of field_at value_at line_at end_at decode_pairs
+-- the lines from the peers on
+abbrev node_back : List ℕ
+node_back = codes "peer 10.0.0.1:4000\nclient 10.0.0.1:80\nlimit 1\nuntil 0\n"
+
+node : read_text node_column (node_front ++ node_back) ≡ Ok one_node
+unfolding read_text read_by node_column session_lines numbers_lines lines_of journal_line field_at value_at line_at end_at decode_pairs
 node = refl
 
 -- in a session of version 2
-node_of_two : read_text node_column (codes "ritas 2\n" ++ node_keys ++ codes "peer 10.0.0.1:4000\nclient 10.0.0.1:80\nlimit 1\nuntil 0\n") ≡ Ok (record one_node { version = Two })
-unfolding read_text read_by node_column session_lines numbers_lines lines_of field_at value_at line_at end_at decode_pairs
+node_of_two : read_text node_column (codes "ritas 2\n" ++ node_keys ++ node_back) ≡ Ok (record one_node { version = Two })
+unfolding read_text read_by node_column session_lines numbers_lines lines_of journal_line field_at value_at line_at end_at decode_pairs
 node_of_two = refl
+
+-- what is said of a journal
+with_journal : read_text node_column (node_front ++ node_back ++ codes "journal yes\n") ≡ Ok (record one_node { journal = true })
+unfolding read_text read_by node_column session_lines numbers_lines lines_of journal_line field_at value_at line_at end_at decode_pairs
+with_journal = refl
+
+without_journal : read_text node_column (node_front ++ node_back ++ codes "journal no\n") ≡ Ok one_node
+unfolding read_text read_by node_column session_lines numbers_lines lines_of journal_line field_at value_at line_at end_at decode_pairs
+without_journal = refl
+
+no_word : read_text node_column (node_front ++ node_back ++ codes "journal\n") ≡ Err 14
+unfolding read_text read_by node_column session_lines numbers_lines lines_of journal_line field_at value_at line_at end_at decode_pairs
+no_word = refl
+
+other_word : read_text node_column (node_front ++ node_back ++ codes "journal maybe\n") ≡ Err 14
+unfolding read_text read_by node_column session_lines numbers_lines lines_of journal_line field_at value_at line_at end_at decode_pairs
+other_word = refl
+
+-- and a line behind that
+behind_journal : read_text node_column (node_front ++ node_back ++ codes "journal yes\njournal yes\n") ≡ Err 15
+unfolding read_text read_by node_column session_lines numbers_lines lines_of journal_line field_at value_at line_at end_at decode_pairs
+behind_journal = refl
 
 other_root : read_text node_column (front ++ codes "root 5\n") ≡ Err 5
 unfolding read_text read_by node_column session_lines numbers_lines field_at value_at line_at end_at

@@ -1,5 +1,5 @@
 -- The values of lines: what each kind of value reads as.
-use Rattle.std.specs.Prelude.{ℕ, zero, suc, ◌+◌, ◌-◌, ◌*◌, ◌^◌, ◌==◌, ◌&&◌, List, [], ◌∷◌, ◌++◌, length, take, drop, replicate, Option, Some, None, Result, Ok, Err, nat_le, nat_lt, codes, option_and_then, option_map, unwrap_or, if◌then◌else◌}
+use Rattle.std.specs.Prelude.{ℕ, zero, suc, ◌+◌, ◌-◌, ◌*◌, ◌^◌, ◌==◌, ◌&&◌, Bool, true, false, List, [], ◌∷◌, ◌++◌, length, take, drop, replicate, Option, Some, None, Result, Ok, Err, nat_le, nat_lt, codes, option_and_then, option_map, if◌then◌else◌}
 use Rattle.std.specs.Char.{is_ascii_digit}
 use Rattle.std.specs.Str.{bytes_eq}
 use Rattle.hex.specs.Hex.{decode_of, decode_sized}
@@ -107,6 +107,9 @@ version_in text = if bytes_eq text (codes "1") then Some One else (if bytes_eq t
 
 abbrev pub vect_in : List ℕ → Option Vect
 vect_in text = if bytes_eq text (codes "echo") then Some Echo else (if bytes_eq text (codes "reliable") then Some Reliable else None)
+
+abbrev pub yes_or_no_in : List ℕ → Option Bool
+yes_or_no_in text = if bytes_eq text (codes "yes") then Some true else (if bytes_eq text (codes "no") then Some false else None)
 
 abbrev pub order_in : List ℕ → Option Order
 order_in text = if bytes_eq text (codes "sweep") then Some Sweep else (if bytes_eq text (codes "random") then Some Random else None)

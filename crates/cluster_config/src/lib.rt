@@ -37,6 +37,7 @@
 //! | `client` | an address | | | x | | |
 //! | `limit` | 1 to 2^64 - 1 | | | x | x | |
 //! | `until` | 0 to 2^32 - 1 | | | x | x | |
+//! | `journal` | `yes` or `no`; where the line is missing it is `no` | | | x | | |
 //! | `request` | a request; 0 to 64 lines for cluster, and one for submit | | | | x | x |
 //!
 //! Numbers are decimal, without a sign or a leading zero (`number_law`). A key is 64 hexadecimal digits, in either case. An

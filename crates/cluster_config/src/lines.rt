@@ -1,14 +1,14 @@
 //! Lines, each of which is a name, a space and a value.
 ghost use Rattle.std.specs.Prelude.{◌≡◌, ◌+◌, ◌<◌, ◌≤◌, ◌==◌, Ok, Err, MatchOption, OnOk, IfOk, length, option_map};
 ghost use Rattle.cluster_config.specs.Lines.{Gives, end_at, field_at, fields_at, fields_up_to, first_line, line_at, value_at, value_in};
-ghost use Rattle.cluster_config.specs.Front.{copies_at, numbers_at, session_at};
-ghost use Rattle.cluster_config.specs.Values.{address_in, attack_in, key_in, number_in, numbers_in, order_in, request_in, row_in, vect_in, version_in};
+ghost use Rattle.cluster_config.specs.Front.{copies_at, journal_at, numbers_at, session_at};
+ghost use Rattle.cluster_config.specs.Values.{address_in, attack_in, key_in, number_in, numbers_in, order_in, request_in, row_in, vect_in, version_in, yes_or_no_in};
 ghost use Rattle.cluster_config.specs.Views.{request_of};
 
 use crate::cuts::cut_at;
 use crate::values::{
     address_in, attack_in, key_in, number_in, order_in, params_in, request_in, row_in, vect_in,
-    version_in,
+    version_in, yes_or_no_in,
 };
 use crate::views::{Addresses, RequestView, RequestViews};
 use ritas_base::{Attack, FrameVersion, Order, Params, Vect};
@@ -168,6 +168,17 @@ impl<'a> Lines<'a> {
         or_line(line, vect_in(self.value(name)?))
     }
 
+    /// Yes or no.
+    #[tactic(auto, unfolding(crate::specs::Lines::field_at))]
+    pub(crate) fn yes_or_no(&mut self, name: &str) -> Result<bool, WrongLine>
+        requires { self.old.number < 4294967295 }
+        ensures exact { Gives (λ x. x) result self.new (field_at name.now yes_or_no_in self.old) }
+        ensures next { OnOk result (self.new.number ≡ self.old.number + 1) }
+    {
+        let line = self.number;
+        or_line(line, yes_or_no_in(self.value(name)?))
+    }
+
     /// The order of steps.
     #[tactic(auto, unfolding(crate::specs::Lines::field_at))]
     pub(crate) fn order(&mut self, name: &str) -> Result<Order, WrongLine>
@@ -225,6 +236,20 @@ impl<'a> Lines<'a> {
         let copies = self.number("copies", 1, u64::from(n))? as u8;
         self.end()?;
         Ok(copies)
+    }
+
+    /// Whether a journal is kept, to the end of the text: none is, where it isn't said.
+    #[tactic(auto, unfolding(crate::specs::Front::journal_at))]
+    pub(crate) fn journal(&mut self) -> Result<bool, WrongLine>
+        requires { self.old.number < 4294967295 }
+        ensures { Gives (λ x. x) result self.new (journal_at self.old) }
+    {
+        if self.is_over() {
+            return Ok(false);
+        }
+        let journal = self.yes_or_no("journal")?;
+        self.end()?;
+        Ok(journal)
     }
 
     /// The keys that one of `n` replicas shares with each.

@@ -35,6 +35,8 @@ pub struct NodeConfig {
     pub limit: u64,
     /// What `until` says.
     pub until: u32,
+    /// Whether it keeps a journal.
+    pub journal: bool,
 }
 
 // What a text says of a replica, before memory is taken for it.
@@ -50,10 +52,11 @@ struct NodeView<'a> {
     client: &'a [u8],
     limit: u64,
     until: u32,
+    journal: bool,
 }
 
 // The lines of a replica, to the end of the text.
-#[tactic(auto, using(crate::proofs::Parts::read_session, crate::proofs::Parts::read_numbers, crate::proofs::Parts::read_lines), unfolding(crate::specs::Columns::read_by, crate::specs::Node::node_column))]
+#[tactic(auto, using(crate::proofs::Parts::read_session, crate::proofs::Parts::read_numbers, crate::proofs::Parts::read_lines, crate::proofs::Parts::read_journal), unfolding(crate::specs::Columns::read_by, crate::specs::Node::node_column))]
 fn node_lines<'a>(lines: &mut Lines<'a>) -> Result<NodeView<'a>, WrongLine>
     requires { lines.old.number < 4294967000 }
     ensures { Gives node_seen result lines.new (read_by node_column lines.old) }
@@ -69,7 +72,7 @@ fn node_lines<'a>(lines: &mut Lines<'a>) -> Result<NodeView<'a>, WrongLine>
     let client = lines.address("client")?;
     let limit = lines.number("limit", 1, u64::MAX)?;
     let until = lines.number("until", 0, u64::from(u32::MAX))? as u32;
-    lines.end()?;
+    let journal = lines.journal()?;
     Ok(NodeView {
         session,
         p,
@@ -85,6 +88,7 @@ fn node_lines<'a>(lines: &mut Lines<'a>) -> Result<NodeView<'a>, WrongLine>
         client,
         limit,
         until,
+        journal,
     })
 }
 
@@ -103,6 +107,7 @@ fn node_of(alloc: Global, view: &NodeView<'_>) -> Result<NodeConfig, Mem>
         client: Bytes::from_slice(alloc, view.client)?,
         limit: view.limit,
         until: view.until,
+        journal: view.journal,
     })
 }
 

@@ -1,6 +1,6 @@
 //! The values of lines.
 ghost use Rattle.std.specs.Prelude.{◌≡◌, ◌≤◌, IfSome, Some, None, drop, option_map, take, if◌then◌else◌};
-ghost use Rattle.cluster_config.specs.Values.{number_from, numeral, number_in, numbers_in, key_in, row_in, version_in, vect_in, order_in, attack_in};
+ghost use Rattle.cluster_config.specs.Values.{number_from, numeral, number_in, numbers_in, key_in, row_in, version_in, vect_in, yes_or_no_in, order_in, attack_in};
 ghost use Rattle.cluster_config.specs.Values.{number_before, address_in, payload_in, request_in};
 ghost use Rattle.cluster_config.specs.Views.{payload_of, request_of};
 
@@ -113,6 +113,19 @@ pub(crate) fn vect_in(text: &[u8]) -> Option<Vect>
         Some(Vect::Echo)
     } else if text == b"reliable".as_slice() {
         Some(Vect::Reliable)
+    } else {
+        None
+    }
+}
+
+/// Yes or no.
+pub(crate) fn yes_or_no_in(text: &[u8]) -> Option<bool>
+    ensures { result ≡ yes_or_no_in text.now }
+{
+    if text == b"yes".as_slice() {
+        Some(true)
+    } else if text == b"no".as_slice() {
+        Some(false)
     } else {
         None
     }
