@@ -1,7 +1,8 @@
 -- What a journal kept goes on.
-use Rattle.std.proofs.Common.{◌≡◌, ℕ, ◌≤◌, ◌<◌, Bool, true, List, [], ◌∷◌, ◌++◌, Result, Ok, Err, ◌⊎◌, inl, inr, refl, sym, ap, ◌∙◌, subst, arith}
+use Rattle.std.proofs.Common.{◌≡◌, ℕ, ◌≤◌, ◌<◌, Bool, true, List, [], ◌∷◌, ◌++◌, Result, Ok, Err, inl, inr, refl, sym, ap, ◌∙◌, subst, arith}
 use Rattle.ritas_base.specs.declared.event.Event.{Event}
-use Rattle.outside.specs.Disks.{DiskState, LeavesOnly, state_of}
+use Rattle.std.specs.List.{AllByRecursion}
+use Rattle.outside.specs.Disks.{DiskState, MayLeave, LeavesOnly, state_of}
 use Rattle.outside.specs.DisksLaws.{leaves_then, leaves_weaker}
 use Rattle.outside.specs.Faults.{Rose}
 use Rattle.schedule_file.specs.FileBytes.{limit}
@@ -9,7 +10,7 @@ use Rattle.event_journal.specs.Appending.{JournalState, AllOpen, StandsFor, Open
 use Rattle.event_journal.specs.declared.fault.JournalFault.{JournalFault}
 use Rattle.node_loop.specs.declared.archive.ArchiveFault.{ArchiveFault}
 use Rattle.node_loop.specs.declared.archive.ArchiveFault.TheVariants as archive
-use Rattle.node_loop.specs.Journals.{OpensSome, JournalStands, JournalFails}
+use Rattle.node_loop.specs.Journals.{OpensSome, OpensNewest, JournalStands, JournalFails}
 
 -- one more was given
 some_more : (me : ℕ) (head : List ℕ) (past given : List Event) (e : Event) (image : List ℕ) → OpensSome me head past given image → OpensSome me head past (e ∷ given) image
@@ -37,6 +38,16 @@ since_then me head past given e before now new first second =
     leaves_then (OpensSome me head past (e ∷ given)) before now new (since_more me head past given e before now first)
     (leaves_weaker (OpensWithout me head (given ++ past) (e ∷ [])) (OpensSome me head past (e ∷ given)) now new (one_more me head past given e) second)
 
+-- what every image had before and at each moment since, it has now
+last_image : (P : List ℕ → Type 0) (more old new : List DiskState) → new ≡ more ++ old → AllByRecursion (λ s. (image : List ℕ) → MayLeave s image → P image) more
+    → ((image : List ℕ) → MayLeave (state_of old) image → P image) → (image : List ℕ) → MayLeave (state_of new) image → P image
+last_image P [] old new states each before image may = before image (subst (λ (x : List DiskState). MayLeave (state_of x) image) states may)
+last_image P (s ∷ more) old new states each before image may = each.0 image (subst (λ (x : List DiskState). MayLeave (state_of x) image) states may)
+
+pub left_now : (P : List ℕ → Type 0) (old new : List DiskState) → LeavesOnly P old new → ((image : List ℕ) → MayLeave (state_of old) image → P image)
+    → (image : List ℕ) → MayLeave (state_of new) image → P image
+left_now P old new leaves before = last_image P leaves.more old new leaves.states leaves.each before
+
 -- the count rose
 pub rose_then : (few some many : ℕ) → few ≤ some → Rose some many → Rose few many
 rose_then few some many le (inl less) = inl (omega (arith, le, less))
@@ -56,6 +67,18 @@ module _ (head : List ℕ) (past given : List Event) (e : Event) (tells : Bool) 
       let did = appends t head (given ++ past) k.stands k.images in
       subst (λ (i : ℕ). LeavesOnly (OpensSome i head past (e ∷ given)) before then) (sym me) (since_then old.me head past given e before now then k.since did.kept.since)
 
+  -- what it leaves
+  stays : tells ≡ true → OpensNewest old.me head past (e ∷ given) (state_of now)
+  stays t = λ image may. inr ((stands.kept t).images image may)
+
+  leaves : (new : JournalState) (then : List DiskState) (result : Result (Unit {0}) JournalFault) → new.me ≡ old.me → AppendsOne new then result
+      → tells ≡ true → OpensNewest new.me head past (e ∷ given) (state_of then)
+  leaves new then result me appends t =
+      let k = stands.kept t in
+      let did = appends t head (given ++ past) k.stands k.images in
+      subst (λ (i : ℕ). OpensNewest i head past (e ∷ given) (state_of then)) (sym me)
+      (left_now (OpensWithout old.me head (given ++ past) (e ∷ [])) now then did.kept.since (λ image may. inr (k.images image may)))
+
   -- it was appended
   pub stands_on : (new : JournalState) (then : List DiskState) (many : ℕ) → new.me ≡ old.me → some ≤ many → AppendsOne new then (Ok tt)
       → JournalStands head past (e ∷ given) new tells before then few many
@@ -74,6 +97,7 @@ module _ (head : List ℕ) (past given : List Event) (e : Event) (tells : Bool) 
   pub fails_so : (new : JournalState) (then : List DiskState) (many : ℕ) (fault : JournalFault) (kind : ArchiveFault) → new.me ≡ old.me → some ≤ many → AppendsOne new then (Err fault)
       → (kind ≡ archive.Disk → Rose some many) → ((x : ℕ) → kind ≡ archive.Full x → ⊥) → JournalFails head past (e ∷ given) new tells before then few many kind
   fails_so new then many fault kind me le appends rises whole = record {
+    left = leaves new then (Err fault) me appends;
     since = went_on new then (Err fault) me appends;
     later = omega (arith, stands.later, le);
     disk = λ is. rose_then few some many stands.later (rises is);
@@ -83,6 +107,7 @@ module _ (head : List ℕ) (past given : List Event) (e : Event) (tells : Bool) 
   -- it is full
   pub fails_full : (x : ℕ) → x ≡ length_with old (e ∷ []) → limit < x → JournalFails head past (e ∷ given) old tells before now few some (archive.Full x)
   fails_full x is long = record {
+    left = stays;
     since = λ t. since_more old.me head past given e before now (stands.kept t).since;
     later = stands.later;
     disk = λ same. absurd (cc same);
@@ -92,6 +117,7 @@ module _ (head : List ℕ) (past given : List Event) (e : Event) (tells : Bool) 
   -- it isn't one that the journal takes
   pub fails_untaken : JournalFails head past (e ∷ given) old tells before now few some archive.Mem
   fails_untaken = record {
+    left = stays;
     since = λ t. since_more old.me head past given e before now (stands.kept t).since;
     later = stands.later;
     disk = λ same. absurd (cc same);

@@ -14,7 +14,7 @@ use Rattle.link_resume.specs.Lists.{kept_for, bytes_in, most_bytes, with_kept}
 use Rattle.node_loop.specs.Peers.{Peers, is_pair, with_list, keeps, keep_one, keep_all}
 use Rattle.node_loop.specs.PeersStanding.{AreKept, made_as}
 
-pair_same : (i j : ℕ) → is_pair i j i j ≡ true
+pub pair_same : (i j : ℕ) → is_pair i j i j ≡ true
 pair_same i j = ap₂ (λ (a b : Bool). a && b) (eq-eqb i i refl) (eq-eqb j j refl)
 
 pair_other : (i peer j : ℕ) → (j ≡ peer → ⊥) → is_pair i peer i j ≡ false
@@ -32,7 +32,7 @@ keeps_none frame ks full =
     ap (λ (b : Bool). if b then ks ++ record { seq = seq_of frame; frame = frame } ∷ [] else ks) (lt-leb (bytes_in ks + length frame) most_bytes full)
 
 -- what is kept for one peer is this list, and the others' lists stay
-one_list : (n i peer : ℕ) (list : List Kept) (lists : List (List Kept)) (p : Peers) → AreKept n i lists p.keeping → peer < n
+pub one_list : (n i peer : ℕ) (list : List Kept) (lists : List (List Kept)) (p : Peers) → AreKept n i lists p.keeping → peer < n
     → AreKept n i (slice_set lists peer list) (with_list i peer list p).keeping
 one_list n i peer list lists p kept here = record {
   many = length-set lists peer list ∙ kept.many;

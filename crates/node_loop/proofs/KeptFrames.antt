@@ -30,8 +30,9 @@ use Rattle.world_model.proofs.Left.{get_set_same, get_set_other}
 use Rattle.node_loop.specs.declared.house.House.{House}
 use Rattle.node_loop.specs.declared.peers.Keeper.{Keeper}
 use Rattle.node_loop.specs.Waiting.{Waiting}
+use Rattle.link_resume.specs.declared.kept.Kept.{Kept}
 use Rattle.node_loop.specs.Peers.{Peers, with_list, keeps, keep_one, keep_all}
-use Rattle.node_loop.specs.PeersStanding.{AreKept, IsKeeper, made_as}
+use Rattle.node_loop.specs.PeersStanding.{AreKept, AreMarked, IsKeeper, made_as}
 use Rattle.node_loop.specs.Serving.{as_sent, made_by, sent_by, onto}
 use Rattle.node_loop.specs.Standing.{HouseStands, frame_by}
 
@@ -94,31 +95,48 @@ pub have_numbers : SealedLength → (w : Setting) (es : List Event) (e : Option 
 have_numbers law w es e at frames is =
     All-from_recursion (λ f. 11 ≤ length f.bytes) frames (long_again at frames (subst (λ (acts : List LinkAct). AllByRecursion IsLong acts) (sym is) (made_long law w es e)))
 
--- ---- what is kept doesn't depend on the event
+-- ---- frames that are kept one after the other: with each, so much is kept for its peer in place of what was
 
-abbrev keep_act : LinkAct → Peers → Peers
-keep_act (Sends s) p = with_list s.at s.to (keeps s.bytes (p.keeping s.at s.to)) p
-keep_act other p = p
+abbrev pub Put : Type 0
+Put = List ℕ → List Kept → List Kept
 
-abbrev keep_acts : List LinkAct → Peers → Peers
-keep_acts [] p = p
-keep_acts (a ∷ acts) p = keep_acts acts (keep_act a p)
+abbrev pub put_all : Put → List MadeFrame → Peers → Peers
+put_all put [] p = p
+put_all put (f ∷ fs) p = put_all put fs (with_list f.from f.to (put f.bytes (p.keeping f.from f.to)) p)
 
-as_acts : (fs : List MadeFrame) (p : Peers) → keep_all fs p ≡ keep_acts (map as_sent fs) p
-as_acts [] p = refl
-as_acts (f ∷ fs) p = as_acts fs (keep_one f p)
+pub all_put : (fs : List MadeFrame) (p : Peers) → put_all keeps fs p ≡ keep_all fs p
+all_put [] p = refl
+all_put (f ∷ fs) p = all_put fs (keep_one f p)
+
+-- what is kept doesn't depend on the event
+abbrev put_act : Put → LinkAct → Peers → Peers
+put_act put (Sends s) p = with_list s.at s.to (put s.bytes (p.keeping s.at s.to)) p
+put_act put other p = p
+
+abbrev put_acts : Put → List LinkAct → Peers → Peers
+put_acts put [] p = p
+put_acts put (a ∷ acts) p = put_acts put acts (put_act put a p)
+
+as_acts : (put : Put) (fs : List MadeFrame) (p : Peers) → put_all put fs p ≡ put_acts put (map as_sent fs) p
+as_acts put [] p = refl
+as_acts put (f ∷ fs) p = as_acts put fs (with_list f.from f.to (put f.bytes (p.keeping f.from f.to)) p)
 
 sent_so : (k at : ℕ) (frames : List OutFrame) → map as_sent (map (made_as k at) frames) ≡ map (frame_by at) frames
 sent_so k at [] = refl
 sent_so k at (f ∷ fs) = ap (λ (acts : List LinkAct). frame_by at f ∷ acts) (sent_so k at fs)
 
-pub same_kept : (w : Setting) (es : List Event) (e : Option Event) (k at : ℕ) (frames : List OutFrame) (p : Peers) → map (frame_by at) frames ≡ sent_by w es e
-    → keep_all (map (made_as k at) frames) p ≡ keep_all (made_by w es e) p
-same_kept w es e k at frames p is =
-    as_acts (map (made_as k at) frames) p
-    ∙ (ap (λ (acts : List LinkAct). keep_acts acts p) (sent_so k at frames ∙ is) ∙ sym (as_acts (made_by w es e) p))
+pub same_put : (put : Put) (w : Setting) (es : List Event) (e : Option Event) (k at : ℕ) (frames : List OutFrame) (p : Peers) → map (frame_by at) frames ≡ sent_by w es e
+    → put_all put (map (made_as k at) frames) p ≡ put_all put (made_by w es e) p
+same_put put w es e k at frames p is =
+    as_acts put (map (made_as k at) frames) p
+    ∙ (ap (λ (acts : List LinkAct). put_acts put acts p) (sent_so k at frames ∙ is) ∙ sym (as_acts put (made_by w es e) p))
 
 -- ---- the keepers
+
+-- what one replica keeps may be another, and nothing else
+pub record OnlyKeeps (at : ℕ) (p q : Peers) : Type 0 where
+  pub others : (i j : ℕ) → (i ≡ at → ⊥) → q.keeping i j ≡ p.keeping i j
+  pub marks : q.marks ≡ p.marks
 
 other_pair : (at to i j : ℕ) (p : Peers) (list : List _) → (i ≡ at → ⊥) → (with_list at to list p).keeping i j ≡ p.keeping i j
 other_pair at to i j p list other = elim (cases_Bool (i == at)) [
@@ -126,59 +144,65 @@ other_pair at to i j p list other = elim (cases_Bool (i == at)) [
   | inr not_same ↦ ap (λ (b : Bool). if b && (j == to) then list else p.keeping i j) not_same
 ]
 
--- what other replicas keep stays
-others_stay : (k at i j : ℕ) (frames : List OutFrame) (p : Peers) → (i ≡ at → ⊥) → (keep_all (map (made_as k at) frames) p).keeping i j ≡ p.keeping i j
-others_stay k at i j [] p other = refl
-others_stay k at i j (f ∷ fs) p other =
-    others_stay k at i j fs (keep_one (made_as k at f) p) other ∙ other_pair at f.to i j p (keeps f.bytes (p.keeping at f.to)) other
+pub only_put : (put : Put) (k at : ℕ) (frames : List OutFrame) (p : Peers) → OnlyKeeps at p (put_all put (map (made_as k at) frames) p)
+only_put put k at [] p = record { others = λ i j other. refl; marks = refl }
+only_put put k at (f ∷ fs) p =
+    let list = put f.bytes (p.keeping at f.to) in
+    let rest = only_put put k at fs (with_list at f.to list p) in
+    record { others = λ i j other. rest.others i j other ∙ other_pair at f.to i j p list other; marks = rest.marks }
 
--- and all marks do
-marks_stay : (fs : List MadeFrame) (p : Peers) → (keep_all fs p).marks ≡ p.marks
-marks_stay [] p = refl
-marks_stay (f ∷ fs) p = marks_stay fs (keep_one f p)
-
-other_keeper : (n k at i : ℕ) (frames : List OutFrame) (p : Peers) (keeper : Keeper) → (i ≡ at → ⊥) → IsKeeper n i keeper p → IsKeeper n i keeper (keep_all (map (made_as k at) frames) p)
-other_keeper n k at i frames p keeper other is = record {
-  kept = record { many = is.kept.many; each = λ j within. is.kept.each j within ∙ sym (others_stay k at i j frames p other) };
-  marked = record {
-    many = is.marked.many;
-    each = λ j within. is.marked.each j within ∙ ap (λ (marks : ℕ → ℕ → _). marks i j) (sym (marks_stay (map (made_as k at) frames) p));
-  };
+still_marked : (n at i : ℕ) (p q : Peers) (keeper : Keeper) → OnlyKeeps at p q → IsKeeper n i keeper p → AreMarked n i keeper.marks.items q.marks
+still_marked n at i p q keeper only is = record {
+  many = is.marked.many;
+  each = λ j within. is.marked.each j within ∙ ap (λ (marks : ℕ → ℕ → _). marks i j) (sym only.marks);
 }
 
-own_keeper : (n k at : ℕ) (frames : List OutFrame) (p : Peers) (old : Keeper) (lists : _) → IsKeeper n at old p → AreKept n at lists (keep_all (map (made_as k at) frames) p).keeping
-    → IsKeeper n at (record { resume = lists; marks = old.marks }) (keep_all (map (made_as k at) frames) p)
-own_keeper n k at frames p old lists is kept = record {
-  kept = kept;
-  marked = record {
-    many = is.marked.many;
-    each = λ j within. is.marked.each j within ∙ ap (λ (marks : ℕ → ℕ → _). marks at j) (sym (marks_stay (map (made_as k at) frames) p));
-  };
+other_keeper : (n at i : ℕ) (p q : Peers) (keeper : Keeper) → (i ≡ at → ⊥) → OnlyKeeps at p q → IsKeeper n i keeper p → IsKeeper n i keeper q
+other_keeper n at i p q keeper other only is = record {
+  kept = record { many = is.kept.many; each = λ j within. is.kept.each j within ∙ sym (only.others i j other) };
+  marked = still_marked n at i p q keeper only is;
 }
 
-house_with : {S E C : Type 0} (m : Meaning S E C KeyRow) (w : Setting) (es : List Event) (numbers : List ℕ) (house : House S E C) (ws : Waiting) (p : Peers)
-    (k at place : ℕ) (frames : List OutFrame) (old : Keeper) (lists : _)
+-- the house stands, where one keeper keeps so much in place of what it did
+pub house_with : {S E C : Type 0} (m : Meaning S E C KeyRow) (w : Setting) (es : List Event) (numbers : List ℕ) (house : House S E C) (ws : Waiting) (p q : Peers)
+    (at place : ℕ) (old : Keeper) (lists : _)
     → HouseStands m w es numbers house ws p → slice_get numbers place ≡ Some at → slice_get house.keepers.items place ≡ Some old
-    → AreKept w.numbers.n at lists (keep_all (map (made_as k at) frames) p).keeping
-    → HouseStands m w es numbers (record house { keepers = with_item house.keepers place (record { resume = lists; marks = old.marks }) }) ws (keep_all (map (made_as k at) frames) p)
-house_with m w es numbers house ws p k at place frames old lists stands number there kept =
+    → OnlyKeeps at p q → AreKept w.numbers.n at lists q.keeping
+    → HouseStands m w es numbers (record house { keepers = with_item house.keepers place (record { resume = lists; marks = old.marks }) }) ws q
+house_with m w es numbers house ws p q at place old lists stands number there only kept =
     let new : Keeper = record { resume = lists; marks = old.marks } in
-    let now : Peers = keep_all (map (made_as k at) frames) p in
-    let is : IsKeeper w.numbers.n at new now = own_keeper w.numbers.n k at frames p old lists (stands.keepers place at old number there) kept in
+    let is : IsKeeper w.numbers.n at new q = record { kept = kept; marked = still_marked w.numbers.n at at p q old only (stands.keepers place at old number there) } in
     record {
       here = stands.here;
       waiting = stands.waiting;
       many = length-set house.keepers.items place new ∙ stands.many;
-      keepers = λ q i keeper numbered seen. elim (eqb_tells place q) [
+      keepers = λ o i keeper numbered seen. elim (eqb_tells place o) [
         | inl same ↦
             let one : at ≡ i = same_Some at i (sym number ∙ ap (slice_get numbers) same.1 ∙ numbered) in
             let is_new : new ≡ keeper = same_Some new keeper (sym (get_set_same house.keepers.items place old new there) ∙ ap (slice_get (slice_set house.keepers.items place new)) same.1 ∙ seen) in
-            subst (λ (x : Keeper). IsKeeper w.numbers.n i x now) is_new (subst (λ (x : ℕ). IsKeeper w.numbers.n x new now) one is)
+            subst (λ (x : Keeper). IsKeeper w.numbers.n i x q) is_new (subst (λ (x : ℕ). IsKeeper w.numbers.n x new q) one is)
         | inr other ↦
-            other_keeper w.numbers.n k at i frames p keeper (λ one. other.1 (stands.here.apart place q i (number ∙ ap (λ x. Some x) (sym one)) numbered))
-            (stands.keepers q i keeper numbered (sym (get_set_other house.keepers.items place q new (λ h. other.1 (sym h))) ∙ seen))
+            other_keeper w.numbers.n at i p q keeper (λ one. other.1 (stands.here.apart place o i (number ∙ ap (λ x. Some x) (sym one)) numbered)) only
+            (stands.keepers o i keeper numbered (sym (get_set_other house.keepers.items place o new (λ h. other.1 (sym h))) ∙ seen))
       ];
     }
+
+-- and so it is where its lists are known as those of other frames
+pub house_put : {S E C : Type 0} (put : Put) (m : Meaning S E C KeyRow) (w : Setting) (es : List Event) (numbers : List ℕ) (house : House S E C) (ws : Waiting) (p q r : Peers)
+    (k at place : ℕ) (frames : List OutFrame) (old : Keeper) (lists : _)
+    → HouseStands m w es numbers house ws p → slice_get numbers place ≡ Some at → slice_get house.keepers.items place ≡ Some old
+    → put_all put (map (made_as k at) frames) p ≡ r → r ≡ q → AreKept w.numbers.n at lists r.keeping
+    → HouseStands m w es numbers (record house { keepers = with_item house.keepers place (record { resume = lists; marks = old.marks }) }) ws q
+house_put put m w es numbers house ws p q r k at place frames old lists stands number there is same kept =
+    house_with m w es numbers house ws p q at place old lists stands number there
+    (subst (λ (x : Peers). OnlyKeeps at p x) (is ∙ same) (only_put put k at frames p))
+    (subst (λ (x : Peers). AreKept w.numbers.n at lists x.keeping) same kept)
+
+-- ---- with each, what doesn't make it too many
+
+pub same_kept : (w : Setting) (es : List Event) (e : Option Event) (k at : ℕ) (frames : List OutFrame) (p : Peers) → map (frame_by at) frames ≡ sent_by w es e
+    → keep_all (map (made_as k at) frames) p ≡ keep_all (made_by w es e) p
+same_kept w es e k at frames p is = sym (all_put (map (made_as k at) frames) p) ∙ (same_put keeps w es e k at frames p is ∙ all_put (made_by w es e) p)
 
 -- the house stands, where one keeper kept the frames of its replica
 pub house_kept : {S E C : Type 0} (m : Meaning S E C KeyRow) (w : Setting) (es : List Event) (numbers : List ℕ) (house : House S E C) (ws : Waiting) (p q : Peers)
@@ -187,8 +211,7 @@ pub house_kept : {S E C : Type 0} (m : Meaning S E C KeyRow) (w : Setting) (es :
     → keep_all (map (made_as k at) frames) p ≡ q → AreKept w.numbers.n at lists (keep_all (map (made_as k at) frames) p).keeping
     → HouseStands m w es numbers (record house { keepers = with_item house.keepers place (record { resume = lists; marks = old.marks }) }) ws q
 house_kept m w es numbers house ws p q k at place frames old lists stands number there same kept =
-    subst (λ (r : Peers). HouseStands m w es numbers (record house { keepers = with_item house.keepers place (record { resume = lists; marks = old.marks }) }) ws r) same
-    (house_with m w es numbers house ws p k at place frames old lists stands number there kept)
+    house_put keeps m w es numbers house ws p q (keep_all (map (made_as k at) frames) p) k at place frames old lists stands number there (all_put (map (made_as k at) frames) p) same kept
 
 -- where there was no call, all stands
 pub none_kept : {S E C : Type 0} (m : Meaning S E C KeyRow) (w : Setting) (es : List Event) (numbers : List ℕ) (house : House S E C) (ws : Waiting) (e : Option Event) (p q : Peers)

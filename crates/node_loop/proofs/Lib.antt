@@ -26,3 +26,5 @@ pub mod KeptFrames
 pub mod SentOut
 pub mod Delivering
 pub mod Journaling
+pub mod Recalling
+pub mod AfterPast

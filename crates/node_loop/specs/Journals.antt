@@ -1,11 +1,11 @@
 -- What a journal keeps of the events that it is given. Lists of events have the newest first.
 use Rattle.std.specs.Prelude.{◌≡◌, ℕ, ◌≤◌, ◌<◌, Bool, true, List, [], ◌∷◌, ◌++◌}
 use Rattle.ritas_base.specs.declared.event.Event.{Event}
-use Rattle.outside.specs.Disks.{DiskState, LeavesOnly, state_of}
+use Rattle.outside.specs.Disks.{DiskState, MayLeave, LeavesOnly, state_of}
 use Rattle.outside.specs.Faults.{Rose}
 use Rattle.schedule_file.specs.FileBytes.{limit}
 use Rattle.event_journal.specs.Journal.{Opens}
-use Rattle.event_journal.specs.Appending.{AllOpen, JournalState, StandsFor, length_with}
+use Rattle.event_journal.specs.Appending.{AllOpen, JournalState, OpensWithout, StandsFor, length_with}
 use Rattle.node_loop.specs.declared.archive.ArchiveFault.{ArchiveFault}
 use Rattle.node_loop.specs.declared.archive.ArchiveFault.TheVariants as archive
 
@@ -34,10 +34,16 @@ IsFull head past [] journal tells before now x = ⊥
 IsFull head past (e ∷ older) journal tells before now x =
     (x ≡ length_with journal (e ∷ [])) × (limit < x) × (tells ≡ true → HasKept head past older journal before now)
 
--- it failed over the newest of the given events: the disk's count rose, where that was the cause, and at each moment every image opened as
--- the past events and the first of the given
+-- every image opens as the past and the given events, with the newest of them or without it
+abbrev pub OpensNewest : ℕ → List ℕ → List Event → List Event → DiskState → Type 0
+OpensNewest me head past [] s = ⊥
+OpensNewest me head past (e ∷ older) s = (image : List ℕ) → MayLeave s image → OpensWithout me head (older ++ past) (e ∷ []) image
+
+-- it failed over the newest of the given events: the disk's count rose, where that was the cause; every image opens now as all events, with the
+-- newest or without it; and at each moment every image opened as the past events and the first of the given
 pub record JournalFails (head : List ℕ) (past given : List Event) (journal : JournalState) (tells : Bool) (before now : List DiskState) (few many : ℕ)
     (fault : ArchiveFault) : Type 0 where
+  pub left : tells ≡ true → OpensNewest journal.me head past given (state_of now)
   pub since : tells ≡ true → LeavesOnly (OpensSome journal.me head past given) before now
   pub later : few ≤ many
   pub disk : fault ≡ archive.Disk → Rose few many

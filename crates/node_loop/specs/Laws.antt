@@ -15,10 +15,15 @@ use Rattle.world_model.specs.EveryWorld.{IsWorld}
 use Rattle.world_model.specs.MadeOrder.{MadeFrame, all_made}
 use Rattle.world_model.specs.Agree.{OneIsPart, rows_at}
 use Rattle.node_loop.specs.Served.{IsFirst}
-use Rattle.node_loop.specs.Serving.{so_far, Round, Began, Turned, Reminded, Took, after, AreWanted, deeds_of}
+use Rattle.node_loop.specs.Serving.{Serving, so_far, Round, Began, Turned, Reminded, Took, after_from, AreWantedFrom, deeds_from}
+use Rattle.node_loop.specs.Keeping.{IsCallEvent, kept_of}
+use Rattle.node_loop.specs.Peers.{Peers}
+use Rattle.node_loop.specs.Recovering.{recovered, recalled_deeds}
+use Rattle.link_resume.specs.declared.kept.Kept.{Kept}
+use Rattle.world_model.specs.Stands.{NoneStops}
 use Rattle.node_loop.specs.Deeds.{Deed, Came, Made, Resent, Acked, Wished, Replied, act_of, firsts_in, is_open}
 use Rattle.node_loop.specs.Resending.{is_deferred}
-use Rattle.keyed_channel.specs.Frames.{opening}
+use Rattle.keyed_channel.specs.Frames.{opening, seq_of}
 use Rattle.outside.specs.declared.link.LinkItem.TheVariants as items
 
 -- ---- one run
@@ -31,16 +36,18 @@ items_of (Turned i ∷ rounds) = items_of rounds
 items_of (Reminded i j ∷ rounds) = items_of rounds
 items_of (Took item ∷ rounds) = item ∷ items_of rounds
 
--- the items decide: of the rounds of two runs over one list of items, each as far as it came, the ones are the first of the others
+-- the items decide: of the rounds of two runs that begin alike and go over one list of items, each as far as it came, the ones are the first of
+-- the others
 abbrev pub OneRun : Type 0
-OneRun = (w : Setting) (past : List Event) (until limit : ℕ) (first : List LinkItem) (xs ys : List Round)
-    → AreWanted w past until limit first xs → AreWanted w past until limit first ys
+OneRun = (w : Setting) (past : List Event) (until limit : ℕ) (start : Serving) (xs ys : List Round)
+    → AreWantedFrom w past until limit start xs → AreWantedFrom w past until limit start ys
     → OneIsPart (items_of xs) (items_of ys) → OneIsPart xs ys
 
 -- more rounds only add to the events and to the link's calls
 abbrev pub OnlyGrows : Type 0
-OnlyGrows = (w : Setting) (past : List Event) (first : List LinkItem) (xs ys : List Round) → IsPart xs ys
-    → IsPart (after w past first xs).events (after w past first ys).events × IsPart (after w past first xs).acts (after w past first ys).acts
+OnlyGrows = (w : Setting) (past : List Event) (start : Serving) (xs ys : List Round) → IsPart xs ys
+    → IsPart (after_from w past start xs).events (after_from w past start ys).events
+    × IsPart (after_from w past start xs).acts (after_from w past start ys).acts
 
 -- ---- the frames
 
@@ -51,15 +58,24 @@ sent_as f = record { at = f.from; to = f.to; bytes = f.bytes }
 abbrev pub frames_of : Setting → List Event → List Sent
 frames_of w es = map sent_as (all_made w es)
 
--- the link's calls are the deeds
+-- the link's calls are the deeds, where those before are
 abbrev pub ActsAreDeeds : Type 0
-ActsAreDeeds = (w : Setting) (past : List Event) (first : List LinkItem) (rounds : List Round)
-    → (after w past first rounds).acts ≡ map (act_of w.keys) (deeds_of w past first rounds)
+ActsAreDeeds = (w : Setting) (past : List Event) (start : Serving) (ds : List Deed) (rounds : List Round) → start.acts ≡ map (act_of w.keys) ds
+    → (after_from w past start rounds).acts ≡ map (act_of w.keys) (deeds_from w past start ds rounds)
 
--- what went out for the first time are the frames that the calls made, in their order
+-- what went out for the first time are the frames that the calls made, in their order, behind those that were made before
 abbrev pub FramesAreMade : Type 0
-FramesAreMade = (w : Setting) (past : List Event) (first : List LinkItem) (rounds : List Round)
-    → all_made w (so_far past (after w past first rounds)) ≡ all_made w past ++ reverse (firsts_in (deeds_of w past first rounds))
+FramesAreMade = (w : Setting) (past : List Event) (start : Serving) (before : List MadeFrame) (ds : List Deed) (rounds : List Round)
+    → all_made w (so_far past start) ≡ before ++ reverse (firsts_in ds)
+    → all_made w (so_far past (after_from w past start rounds)) ≡ before ++ reverse (firsts_in (deeds_from w past start ds rounds))
+
+-- a kept frame went out for the first time, and no acknowledgement of its number came since
+abbrev pub IsSent : Setting → ℕ → ℕ → List Deed → Kept → Type 0
+IsSent w i j ds k = (k.seq ≡ seq_of k.frame) × (is_open w i j k.frame ds ≡ true)
+
+-- so it is of all that is kept
+pub record AllSent (w : Setting) (p : Peers) (ds : List Deed) : Type 0 where
+  pub each : (i j : ℕ) → AllByRecursion (IsSent w i j ds) (p.keeping i j)
 
 -- each frame that went out again went out for the first time before it, and no acknowledgement of it came between the two
 abbrev pub AreOpen : Setting → List Deed → Type 0
@@ -72,7 +88,16 @@ AreOpen w (Wished i j ∷ ds) = AreOpen w ds
 AreOpen w (Replied sent ∷ ds) = AreOpen w ds
 
 abbrev pub ResendsAreOpen : Type 0
-ResendsAreOpen = (w : Setting) (past : List Event) (first : List LinkItem) (rounds : List Round) → AreOpen w (deeds_of w past first rounds)
+ResendsAreOpen = (w : Setting) (past : List Event) (start : Serving) (ds : List Deed) (rounds : List Round) → AllSent w start.peers ds → AreOpen w ds
+    → AreOpen w (deeds_from w past start ds rounds)
+
+-- what is kept as serving begins after events that a journal kept are frames of these, as if they had gone out before
+abbrev pub RecalledAreSent : Type 0
+RecalledAreSent = (w : Setting) (past : List Event) → AllSent w (recovered w past).peers (recalled_deeds w past)
+
+-- and none of these went out again
+abbrev pub RecalledAreOpen : Type 0
+RecalledAreOpen = (w : Setting) (past : List Event) → AreOpen w (recalled_deeds w past) × (firsts_in (recalled_deeds w past) ≡ reverse (all_made w past))
 
 -- a frame of j with this number came to i and opened there, and its call was answered otherwise than that it is to come again
 pub record IsEarned (w : Setting) (es : List Event) (i j seq : ℕ) (ds : List Deed) : Type 0 where
@@ -97,8 +122,8 @@ AreEarned w es (Wished i j ∷ ds) = AreEarned w es ds
 AreEarned w es (Replied sent ∷ ds) = AreEarned w es ds
 
 abbrev pub AcksAreEarned : Type 0
-AcksAreEarned = (w : Setting) (past : List Event) (first : List LinkItem) (rounds : List Round)
-    → AreEarned w (so_far past (after w past first rounds)) (deeds_of w past first rounds)
+AcksAreEarned = (w : Setting) (past : List Event) (start : Serving) (ds : List Deed) (rounds : List Round) → AreEarned w (so_far past start) ds
+    → AreEarned w (so_far past (after_from w past start rounds)) (deeds_from w past start ds rounds)
 
 -- ---- the replies
 
@@ -113,10 +138,11 @@ pub record NamesPosition (w : Setting) (es : List Event) (x : Sent) : Type 0 whe
 abbrev pub IsTrueReply : Setting → List Event → Sent → Type 0
 IsTrueReply w es x = form_in x.bytes ≡ 1 → NamesPosition w es x
 
--- each reply of form 1 does, when it goes out and ever after
+-- each reply of form 1 does, when it goes out and ever after, where those before do
 abbrev pub RepliesAreTrue : ServiceRules → BroadcastRules → Type 0
-RepliesAreTrue service other = (w : Setting) (past : List Event) (first : List LinkItem) (rounds : List Round) → IsWorld service other w
-    → AllByRecursion (IsTrueReply w (so_far past (after w past first rounds))) (replies_in (after w past first rounds).acts)
+RepliesAreTrue service other = (w : Setting) (past : List Event) (start : Serving) (rounds : List Round) → IsWorld service other w
+    → AllByRecursion (IsTrueReply w (so_far past start)) (replies_in start.acts)
+    → AllByRecursion (IsTrueReply w (so_far past (after_from w past start rounds))) (replies_in (after_from w past start rounds).acts)
 
 -- ---- the events
 
@@ -128,7 +154,15 @@ IsServed w (events.Turn at) = w.is_correct at ≡ true
 IsServed w (events.Pass from to m) = ⊥
 IsServed w (events.Sealed from to body) = ⊥
 
--- each event of serving is one
+-- each event of serving is one, where those before are
 abbrev pub EventsFit : Type 0
-EventsFit = (w : Setting) (past : List Event) (until limit : ℕ) (first : List LinkItem) (rounds : List Round) → All IsFirst first
-    → AreWanted w past until limit first rounds → AllByRecursion (IsServed w) (after w past first rounds).events
+EventsFit = (w : Setting) (past : List Event) (until limit : ℕ) (start : Serving) (rounds : List Round) → All IsFirst start.left
+    → AllByRecursion (IsServed w) start.events → AreWantedFrom w past until limit start rounds
+    → AllByRecursion (IsServed w) (after_from w past start rounds).events
+
+-- ---- what a journal keeps
+
+-- the events that a journal keeps make the frames that all events make
+abbrev pub KeptMakes : Type 0
+KeptMakes = (w : Setting) (past es : List Event) → NoneStops w → AllByRecursion IsCallEvent es
+    → frames_of w (kept_of w past es ++ past) ≡ frames_of w (es ++ past)

@@ -14,9 +14,10 @@ pub mod Archives
 pub mod ServedKept
 pub mod Journals
 pub mod Recovering
-pub mod RecoveringRows
 pub mod Laws
 pub mod Keeping
 pub mod KeepingRows
 pub mod Rows
 pub mod PeerRows
+pub mod Recalling
+pub mod Again

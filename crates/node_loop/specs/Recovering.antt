@@ -1,20 +1,15 @@
 -- What serving begins with after events that a journal kept. Lists of events have the newest first, and what is kept for a peer the oldest.
-use Rattle.std.specs.Prelude.{◌≡◌, ℕ, ◌+◌, nat_le, List, [], ◌∷◌, length, Some, None, if◌then◌else◌}
+use Rattle.std.specs.Prelude.{List, [], ◌∷◌, length, map, Some, None}
 use Rattle.ritas_base.specs.declared.event.Event.{Event}
 use Rattle.ritas_base.specs.declared.event.Event.TheVariants as events
-use Rattle.link_resume.specs.declared.kept.Kept.{Kept}
-use Rattle.link_resume.specs.Lists.{bytes_in, most_bytes}
+use Rattle.link_resume.specs.Lists.{room_for}
 use Rattle.world_model.specs.World.{Setting}
-use Rattle.world_model.specs.MadeOrder.{MadeFrame}
+use Rattle.world_model.specs.MadeOrder.{MadeFrame, all_made}
 use Rattle.node_loop.specs.Calls.{Outcome, called, silent, submitted}
-use Rattle.node_loop.specs.Peers.{Peers, keeps, with_list}
-use Rattle.node_loop.specs.Serving.{Serving, begin, made_by}
-use Rattle.node_loop.specs.Waiting.{Waiting}
-
--- the oldest are dropped until so many bytes fit behind the others
-abbrev pub room_for : ℕ → List Kept → List Kept
-room_for size [] = []
-room_for size (k ∷ ks) = if nat_le (bytes_in (k ∷ ks) + size) most_bytes then k ∷ ks else room_for size ks
+use Rattle.node_loop.specs.Peers.{Peers, no_peers, keeps, with_list}
+use Rattle.node_loop.specs.Serving.{Serving, made_by, so_far}
+use Rattle.node_loop.specs.Deeds.{Deed, Made, pushed}
+use Rattle.node_loop.specs.Waiting.{Waiting, nobody}
 
 -- a frame is kept; where it doesn't fit, the oldest are dropped first
 abbrev pub keep_newest : MadeFrame → Peers → Peers
@@ -32,10 +27,24 @@ recalled w es (events.Turn at) ws = called w es at (events.Turn at) ws
 recalled w es (events.Pass from to m) ws = silent [] ws
 recalled w es (events.Sealed from to body) ws = silent [] ws
 
--- who waits and what is kept as serving begins after these events; none of their frames goes out by it
+-- who waits after these events
+abbrev pub recalled_waiting : Setting → List Event → Waiting
+recalled_waiting w [] = nobody
+recalled_waiting w (e ∷ es) = (recalled w es e (recalled_waiting w es)).waiting
+
+-- what is kept for peers after them; nobody is marked
+abbrev pub recalled_peers : Setting → List Event → Peers
+recalled_peers w [] = no_peers
+recalled_peers w (e ∷ es) = all_newest (made_by w es (Some e)) (recalled_peers w es)
+
+-- with what serving begins after these events; none of their frames goes out by it
 abbrev pub recovered : Setting → List Event → Serving
-recovered w [] = begin []
-recovered w (e ∷ es) = let s = recovered w es in record s {
-  waiting = (recalled w es e s.waiting).waiting;
-  peers = all_newest (made_by w es (Some e)) s.peers;
-}
+recovered w past = record { left = []; waiting = recalled_waiting w past; peers = recalled_peers w past; taken = 0; events = []; acts = [] }
+
+-- the frames that these events made, as if they had gone out before the call: those that stopped lives gave to a link are among them
+abbrev pub recalled_deeds : Setting → List Event → List Deed
+recalled_deeds w past = pushed (map Made (all_made w past)) []
+
+-- serving with all events that the tape takes, of which the past ones come first
+abbrev pub with_past : List Event → Serving → Serving
+with_past past s = record s { events = so_far past s }

@@ -226,9 +226,13 @@ came (Took item) ds = Came item ∷ ds
 abbrev pub with_deeds : List MadeFrame → List Deed → List Sent → List Deed → List Deed
 with_deeds frames more replies ds = pushed (map Replied replies) (pushed more (pushed (map Made frames) ds))
 
--- what the link gave and was given in these rounds, with why
-abbrev pub deeds_of : Setting → List Event → List LinkItem → List Round → List Deed
-deeds_of w past first [] = []
-deeds_of w past first (x ∷ xs) = let s = after w past first xs in
+-- what the link gave and was given in these rounds, with why, behind these deeds
+abbrev pub deeds_from : Setting → List Event → Serving → List Deed → List Round → List Deed
+deeds_from w past start ds [] = ds
+deeds_from w past start ds (x ∷ xs) = let s = after_from w past start xs in
     with_deeds (made_by w (so_far past s) (outcome w past x s).event) (brought w past x s).deeds (outcome w past x s).replies
-    (came x (deeds_of w past first xs))
+    (came x (deeds_from w past start ds xs))
+
+-- of serving that begins with these items
+abbrev pub deeds_of : Setting → List Event → List LinkItem → List Round → List Deed
+deeds_of w past first rounds = deeds_from w past (begin first) [] rounds

@@ -19,9 +19,9 @@ use ritas_base::{Bytes, Coin, Event, Mem};
 use ritas_core::Answer;
 use std::alloc::Global;
 
-// The request that a message is at a replica; of one with under 8 bytes the numbers are 0.
+/// The request that a message is at a replica; of one with under 8 bytes the numbers are 0.
 #[tactic(auto, unfolding(client_port::specs::Messages::number_at))]
-fn asked_in(at: u8, bytes: &[u8]) -> Asked
+pub(crate) fn asked_in(at: u8, bytes: &[u8]) -> Asked
     ensures { result ≡ asked_in at bytes.now }
 {
     if bytes.len() < 8 {

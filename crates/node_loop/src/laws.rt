@@ -1,10 +1,10 @@
 //! What serving keeps to, whatever the link gives.
-ghost use Rattle.node_loop.specs.Laws.{OneRun, OnlyGrows, ActsAreDeeds, FramesAreMade, ResendsAreOpen, AcksAreEarned, EventsFit, RepliesAreTrue};
+ghost use Rattle.node_loop.specs.Laws.{OneRun, OnlyGrows, ActsAreDeeds, FramesAreMade, ResendsAreOpen, RecalledAreSent, RecalledAreOpen, AcksAreEarned, EventsFit, RepliesAreTrue, KeptMakes};
 ghost use Rattle.node_loop.specs.Keeping.{KeptStands, KeptIsShort};
 
 use layer_api::{Broadcast, Service};
 
-/// Serving is a function of its first items and of those that the link gives: of two runs over one list of items, each as far as it
+/// Serving is a function of what it begins with and of the items that the link gives: of two runs over one list of items, each as far as it
 /// came, the rounds of the one are the first of the other's.
 ///
 /// It does nothing: its contract is the law.
@@ -40,6 +40,15 @@ pub fn resends_are_open()
     ensures { ResendsAreOpen }
 {}
 
+/// What is kept for peers as serving begins after events that a journal kept are frames of these events, which count as sent before, and of
+/// which none went out again.
+///
+/// It does nothing: its contract is the law.
+pub fn recalled_are_sent()
+    ensures sent { RecalledAreSent }
+    ensures open { RecalledAreOpen }
+{}
+
 /// An acknowledgement goes out only after a frame of that peer with that number opened, and was answered otherwise than that it is to come
 /// again.
 ///
@@ -70,6 +79,14 @@ pub fn replies_are_true<S: Service, E: Broadcast>()
 /// It does nothing: its contract is the law.
 pub fn kept_stands()
     ensures { KeptStands }
+{}
+
+/// The frames that the kept events make are those that all events make, in their order. So of a node that is started again with its journal
+/// `replay frames` prints each frame that left in any life.
+///
+/// It does nothing: its contract is the law.
+pub fn kept_makes()
+    ensures { KeptMakes }
 {}
 
 /// A frame or an input that a journal keeps has at most 16,384 bytes.

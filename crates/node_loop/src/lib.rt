@@ -8,6 +8,7 @@
 //! items determine all that it does (`one_run`), and what a fault leaves is a front of it (`only_grows`).
 #![tactic(auto)]
 
+mod again;
 mod archive;
 mod asks;
 mod calls;
@@ -18,15 +19,17 @@ mod house;
 mod laws;
 mod output;
 mod peers;
+mod recall;
 mod refusals;
 mod rounds;
 #[cfg(test)]
 mod tests;
 mod waiting;
 
+pub use again::serve_kept;
 pub use end::ServeEnd;
 pub use laws::{
-    acks_are_earned, acts_are_deeds, events_fit, frames_are_made, kept_is_short, kept_stands,
-    one_run, only_grows, replies_are_true, resends_are_open,
+    acks_are_earned, acts_are_deeds, events_fit, frames_are_made, kept_is_short, kept_makes,
+    kept_stands, one_run, only_grows, recalled_are_sent, replies_are_true, resends_are_open,
 };
 pub use rounds::serve;

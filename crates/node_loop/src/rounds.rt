@@ -246,8 +246,8 @@ fn run_round<
     }
 }
 
-// Rounds, until serving ends. It waits in the calls of the link alone; but nothing says that turns ever end.
-fn go_on<
+/// Rounds, until serving ends. It waits in the calls of the link alone; but nothing says that turns ever end.
+pub(crate) fn go_on<
     R: Net + Wait,
     S: Service,
     E: Broadcast,

@@ -130,14 +130,14 @@ module _ (h : Header) (w : Setting) (is : IsHeading (heading h)) (service : Serv
         file = λ size. record {
           text = refl;
           header = is;
-          each = all_back (IsEvent (heading h)) s.events (all_stand h w is within correct s.events (fit w [] until limit first rounds firsts wanted));
+          each = all_back (IsEvent (heading h)) s.events (all_stand h w is within correct s.events (fit w [] until limit (begin first) rounds firsts tt wanted));
           size = size;
         };
-        calls = done w [] first rounds;
-        frames = ap (map sent_as) (subst (λ (es : List Event). all_made w es ≡ reverse (firsts_in deeds)) same (made w [] first rounds));
-        resends = kept w [] first rounds;
-        acknowledged = subst (λ (es : List Event). AreEarned w es deeds) same (earned w [] first rounds);
-        replies = subst (λ (es : List Event). AllByRecursion (IsTrueReply w es) (replies_in s.acts)) same (replied w [] first rounds kind);
+        calls = done w [] (begin first) [] rounds refl;
+        frames = ap (map sent_as) (subst (λ (es : List Event). all_made w es ≡ reverse (firsts_in deeds)) same (made w [] (begin first) [] [] rounds refl));
+        resends = kept w [] (begin first) [] rounds (record { each = λ i j. tt }) tt;
+        acknowledged = subst (λ (es : List Event). AreEarned w es deeds) same (earned w [] (begin first) [] rounds tt);
+        replies = subst (λ (es : List Event). AllByRecursion (IsTrueReply w es) (replies_in s.acts)) same (replied w [] (begin first) rounds kind tt);
         agree = λ holds. agreed w s.events kind holds;
       }
 

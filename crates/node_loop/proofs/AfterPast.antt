@@ -1,0 +1,210 @@
+-- Serving that begins after events that a journal kept.
+use Rattle.std.proofs.Common.{◌≡◌, ℕ, ◌+◌, ◌<◌, ◌≤◌, Bool, true, length, take, drop, get_or, List, [], ◌∷◌, ◌++◌, reverse, refl, sym, ap, ◌∙◌, subst, append_assoc, arith, inl, inr}
+use Rattle.std.specs.List.{AllByRecursion, flat_map}
+use Rattle.std.proofs.lemmas.List.{append-nil, reverse-append, reverse-reverse, take_more, drop_more, take-append-drop}
+use Rattle.std.proofs.lemmas.Grind.{flat_map-append}
+use Rattle.ritas_base.specs.declared.event.Event.{Event}
+use Rattle.ritas_base.specs.declared.event.Event.TheVariants as events
+use Rattle.keyed_channel.specs.KeyRow.{KeyRow}
+use Rattle.ritas_core.specs.Stands.{Meaning}
+use Rattle.outside.specs.Disks.{DiskState, state_of}
+use Rattle.outside.specs.DisksLaws.{leaves_none}
+use Rattle.outside.specs.Faults.{count_after}
+use Rattle.outside.specs.LinkCallsLaws.{back_none}
+use Rattle.outside.specs.Links.{LinkAct}
+use Rattle.outside.specs.Writing.{TookFront}
+use Rattle.outside.specs.WritingLaws.{front_then, none_written}
+use Rattle.replica.specs.declared.replica.Replica.{Replica}
+use Rattle.schedule_file.specs.Spelling.{event_text, IsSized}
+use Rattle.event_journal.specs.Appending.{AllOpen, JournalState, StandsFor}
+use Rattle.event_journal.specs.Journal.{IsRecord}
+use Rattle.world_model.specs.World.{Setting}
+use Rattle.node_loop.specs.declared.end.Fault.{Fault}
+use Rattle.node_loop.specs.declared.end.Fault.TheVariants as faults
+use Rattle.node_loop.specs.declared.end.ServeEnd.{ServeEnd}
+use Rattle.node_loop.specs.declared.end.ServeEnd.TheVariants as ends
+use Rattle.node_loop.specs.declared.house.House.{House}
+use Rattle.node_loop.specs.Again.{ServesAgain}
+use Rattle.node_loop.specs.Archives.{Moment}
+use Rattle.node_loop.specs.Journals.{OpensSome, JournalStands}
+use Rattle.node_loop.specs.Laws.{IsServed}
+use Rattle.node_loop.specs.Outs.{text_of, Outs, Tells, Agrees, HasCauses, AllWritten, InOrder, Stops}
+use Rattle.node_loop.specs.Recovering.{recalled_waiting, recalled_peers, recovered, with_past}
+use Rattle.node_loop.specs.Running.{Running}
+use Rattle.node_loop.specs.Served.{AreHere, Whole}
+use Rattle.node_loop.specs.ServedKept.{EndsKept, ServesKept}
+use Rattle.node_loop.specs.Serving.{Serving, so_far, Want}
+use Rattle.node_loop.specs.Standing.{HouseStands}
+use Rattle.node_loop.proofs.Rounding.{runs_first}
+
+-- ---- the events of a journal
+
+pub record_sized : (me : ℕ) (es : List Event) → AllByRecursion (IsRecord me) es → AllByRecursion IsSized es
+record_sized me [] all = tt
+record_sized me (e ∷ es) all = (all.0.fits, record_sized me es all.1)
+
+one_served : (w : Setting) (me : ℕ) (e : Event) → w.is_correct me ≡ true → IsRecord me e → IsServed w e
+one_served w me (events.Frame to bytes) right is = (ap w.is_correct is.alone ∙ right, is.fits)
+one_served w me (events.Input at bytes) right is = (ap w.is_correct is.alone ∙ right, is.fits)
+one_served w me (events.Turn at) right is = ap w.is_correct is.alone ∙ right
+one_served w me (events.Pass from to m) right is = is.alone
+one_served w me (events.Sealed from to body) right is = is.alone
+
+pub record_served : (w : Setting) (me : ℕ) (es : List Event) → w.is_correct me ≡ true → AllByRecursion (IsRecord me) es → AllByRecursion (IsServed w) es
+record_served w me [] right all = tt
+record_served w me (e ∷ es) right all = (one_served w me e right all.0, record_served w me es right all.1)
+
+-- before any is given
+pub kept_past : (head : List ℕ) (past : List Event) (journal : JournalState) (tells : Bool) (now : List DiskState) (count : ℕ)
+    → (tells ≡ true → StandsFor journal head past × AllOpen journal.me head past (state_of now)) → JournalStands head past [] journal tells now now count count
+kept_past head past journal tells now count stands = record {
+  kept = λ t. record { stands = (stands t).0; images = (stands t).1; since = leaves_none (OpensSome journal.me head past []) now };
+  later = omega arith;
+}
+
+-- ---- what the tape took
+
+text_both : (es past : List Event) → text_of (es ++ past) ≡ text_of past ++ text_of es
+text_both es past = ap (flat_map event_text) (reverse-append es past) ∙ flat_map-append event_text (reverse past) (reverse es)
+
+-- of these it took so many, and the next
+pub text_step : (es : List Event) (i : ℕ) (e : Event) → i < length es → e ≡ get_or es i e
+    → flat_map event_text (take (i + 1) es) ≡ flat_map event_text (take i es) ++ event_text e
+text_step es i e lt is =
+    ap (flat_map event_text) (take_more es i e lt ∙ ap (λ (y : Event). take i es ++ y ∷ []) (sym is))
+    ∙ (flat_map-append event_text (take i es) (e ∷ []) ∙ ap (λ (l : List ℕ). flat_map event_text (take i es) ++ l) (append-nil (event_text e)))
+
+pub text_turned : (es : List Event) → text_of (reverse es) ≡ flat_map event_text es
+text_turned es = ap (flat_map event_text) (reverse-reverse es)
+
+text_parts : (es : List Event) (i : ℕ) (e : Event) → i < length es → e ≡ get_or es i e
+    → flat_map event_text es ≡ flat_map event_text (take i es) ++ (event_text e ++ flat_map event_text (drop (i + 1) es))
+text_parts es i e lt is =
+    ap (flat_map event_text) (sym (take-append-drop i es) ∙ ap (λ (l : List Event). take i es ++ l) (drop_more es i e lt ∙ ap (λ (y : Event). y ∷ drop (i + 1) es) (sym is)))
+    ∙ flat_map-append event_text (take i es) (e ∷ drop (i + 1) es)
+
+-- or a front of it
+pub text_front : (es : List Event) (i : ℕ) (e : Event) (old mid new : List ℕ) → i < length es → e ≡ get_or es i e → mid ≡ old ++ flat_map event_text (take i es)
+    → TookFront mid new (event_text e) → TookFront old new (text_of (reverse es))
+text_front es i e old mid new lt is before took =
+    front_then old mid new (flat_map event_text (take i es)) (event_text e) (flat_map event_text (drop (i + 1) es)) (text_of (reverse es))
+    (text_turned es ∙ text_parts es i e lt is) before took
+
+-- it took the past events first
+module _ (tells : Tells) (base : Outs) (taken : List ℕ) (count : ℕ) (past : List Event) (wrote : tells.tape ≡ true → taken ≡ base.taken ++ text_of past)
+    (still : count ≡ base.tape_faults) where
+  abbrev pub mid : Outs
+  mid = record base { taken = taken; tape_faults = count }
+
+  all_with : (now : Outs) (es : List Event) → AllWritten tells mid now es → AllWritten tells base now (es ++ past)
+  all_with now es written t =
+      written t ∙ (ap (λ (l : List ℕ). l ++ text_of es) (wrote t) ∙ (append_assoc base.taken (text_of past) (text_of es) ∙ ap (λ (l : List ℕ). base.taken ++ l) (sym (text_both es past))))
+
+  agrees_with : (now : Outs) (es : List Event) (acts : List LinkAct) → Agrees tells mid now es acts → Agrees tells base now (es ++ past) acts
+  agrees_with now es acts agrees = record {
+    taken = all_with now es agrees.taken;
+    told = agrees.told;
+    tape_stands = agrees.tape_stands ∙ still;
+    link_stands = agrees.link_stands;
+  }
+
+  order_with : (now : Outs) (fault : Fault) (es : List Event) (sooner : List LinkAct) → InOrder tells mid now fault es sooner → InOrder tells base now fault (es ++ past) sooner
+  order_with now faults.Tape es sooner order = order
+  order_with now faults.Link es sooner order = all_with now es order
+  order_with now faults.Mem es sooner (inl written) = inl (all_with now es written)
+  order_with now faults.Mem es sooner (inr none) = inr none
+  order_with now faults.Disk es sooner order = (all_with now es order.0, order.1)
+  order_with now (faults.Full x) es sooner order = (all_with now es order.0, order.1)
+
+  cause_with : (now : Outs) (fault : Fault) → HasCauses mid now fault → HasCauses base now fault
+  cause_with now faults.Tape cause = (cause.0 ∙ ap count_after still, cause.1)
+  cause_with now faults.Link cause = (cause.0 ∙ still, cause.1)
+  cause_with now faults.Mem cause = (cause.0 ∙ still, cause.1)
+  cause_with now faults.Disk cause = (cause.0 ∙ still, cause.1)
+  cause_with now (faults.Full x) cause = (cause.0 ∙ still, cause.1)
+
+  stops_with : (now : Outs) (fault : Fault) (es : List Event) (sooner news : List LinkAct) → Stops tells mid now fault es sooner news → Stops tells base now fault (es ++ past) sooner news
+  stops_with now fault es sooner news stops = record {
+    taken = λ t. front_then base.taken taken now.taken (text_of past) (text_of es) [] (text_of (es ++ past))
+        (text_both es past ∙ ap (λ (l : List ℕ). text_of past ++ l) (sym (append-nil (text_of es)))) (wrote t) (stops.taken t);
+    told = stops.told;
+    order = order_with now fault es sooner stops.order;
+    tape_later = let later = stops.tape_later in omega (arith, still, later);
+    link_later = stops.link_later;
+    cause = cause_with now fault stops.cause;
+  }
+
+  module _ {S E C : Type 0} (m : Meaning S E C KeyRow) (w : Setting) (numbers : List ℕ) (here : List (Replica S E C)) where
+    stand_with : (s : Serving) → AreHere m w (so_far past s) numbers here → AreHere m w (so_far [] (with_past past s)) numbers here
+    stand_with s stand = subst (λ (es : List Event). AreHere m w es numbers here) (sym (append-nil (so_far past s))) stand
+
+    whole_with : (now : Outs) (s : Serving) (acts : List LinkAct) (rule reason : Want) → Whole m w past numbers here tells mid now s acts rule reason
+        → Whole m w [] numbers here tells base now (with_past past s) acts rule reason
+    whole_with now s acts rule reason whole = record { why = whole.why; agrees = agrees_with now s.events acts whole.agrees; stand = stand_with s whole.stand }
+
+    ends_with : (now : Outs) (end : ServeEnd) (s : Serving) (sooner news : List LinkAct) (rule : Want) → EndsKept m w past numbers here tells mid now end s sooner news rule
+        → EndsKept m w [] numbers here tells base now end (with_past past s) sooner news rule
+    ends_with now ends.Done s sooner news rule so = whole_with now s _ rule _ so
+    ends_with now ends.Limit s sooner news rule so = whole_with now s _ rule _ so
+    ends_with now ends.End s sooner news rule so = whole_with now s _ rule _ so
+    ends_with now ends.LinkFault s sooner news rule so = (stops_with now faults.Link s.events sooner news so.0, stand_with s so.1)
+    ends_with now ends.TapeFault s sooner news rule so = (stops_with now faults.Tape s.events sooner news so.0, stand_with s so.1)
+    ends_with now ends.Mem s sooner news rule so = stops_with now faults.Mem s.events sooner news so
+    ends_with now ends.DiskFault s sooner news rule so = (stops_with now faults.Disk s.events sooner news so.0, stand_with s so.1)
+    ends_with now (ends.JournalFull x) s sooner news rule so = (stops_with now (faults.Full x) s.events sooner news so.0, stand_with s so.1)
+
+    -- and then it was served
+    pub serves_with : (now : Moment) (end : ServeEnd) (until limit : ℕ) → ServesKept m w past numbers here tells mid now end until limit (recovered w past)
+        → ServesAgain m w past numbers here tells base now end until limit
+    serves_with now end until limit served = record {
+      rounds = served.rounds;
+      wanted = served.wanted;
+      so = ends_with now.outs end _ _ _ _ served.so;
+      kept = served.kept;
+    }
+
+-- ---- it begins
+
+module _ {S E C : Type 0} (m : Meaning S E C KeyRow) (w : Setting) (past : List Event) (numbers : List ℕ) (tells : Tells) where
+  pub runs_again : (house : House S E C) (now : Moment) (until limit : ℕ) → HouseStands m w past numbers house (recalled_waiting w past) (recalled_peers w past) → now.stands []
+      → Running m w past numbers house tells now.outs now 0 until limit (recovered w past) []
+  runs_again house now until limit stands stood =
+      runs_first m w past numbers tells now.outs until limit (recovered w past) house now refl stands
+      (record { taken = λ t. sym (append-nil now.outs.taken); told = λ t. refl; tape_stands = refl; link_stands = refl }) stood
+
+  -- memory ran out before
+  pub again_short : (here : List (Replica S E C)) (now : Moment) (until limit : ℕ) → now.stands [] → ServesAgain m w past numbers here tells now.outs now ends.Mem until limit
+  again_short here now until limit stood = record {
+    rounds = [];
+    wanted = tt;
+    so = record {
+      taken = λ t. none_written now.outs.taken (text_of past);
+      told = λ t. back_none now.outs.told [];
+      order = inr (λ t. refl);
+      tape_later = omega arith;
+      link_later = omega arith;
+      cause = (refl, inl refl);
+    };
+    kept = inl stood;
+  }
+
+  -- the tape failed over the past events
+  pub again_unwritten : (here : List (Replica S E C)) (base : Outs) (now : Moment) (until limit : ℕ) → AreHere m w past numbers here → now.stands []
+      → (tells.tape ≡ true → TookFront base.taken now.outs.taken (text_of past)) → now.outs.tape_faults ≡ count_after base.tape_faults → base.tape_faults ≤ now.outs.tape_faults
+      → now.outs.told ≡ base.told → now.outs.link_faults ≡ base.link_faults → ServesAgain m w past numbers here tells base now ends.TapeFault until limit
+  again_unwritten here base now until limit stand stood front rises later told faults_are = record {
+    rounds = [];
+    wanted = tt;
+    so = (
+      record {
+        taken = front;
+        told = λ t. rw told (back_none base.told []);
+        order = λ t. told;
+        tape_later = later;
+        link_later = omega (arith, ap (λ (n : _). n.failed) faults_are);
+        cause = (rises, faults_are);
+      },
+      subst (λ (es : List Event). AreHere m w es numbers here) (sym (append-nil past)) stand,
+    );
+    kept = stood;
+  }

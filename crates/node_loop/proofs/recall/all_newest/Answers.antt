@@ -1,0 +1,25 @@
+use Rattle.std.proofs.Common.{◌≤◌, List, length, sym, subst, map, take}
+use Rattle.std.proofs.lemmas.List.{take_all}
+use Rattle.replica.specs.declared.frame.OutFrame.{OutFrame}
+use Rattle.node_loop.specs.Peers.{Peers}
+use Rattle.node_loop.specs.PeersStanding.{AreKept, made_as}
+use Rattle.node_loop.specs.Recovering.{all_newest}
+use Rattle.node_loop.proofs.Recalling.{newest_next}
+use Rattle.node_loop.proofs.recall.all_newest.Goals as goal
+
+pub loop-frame-init : goal.loop-frame-init
+loop-frame-init c = λ n i k p long kept. kept
+
+pub loop-frame-preserved : goal.loop-frame-preserved
+loop-frame-preserved c = λ n i k p long kept.
+    let xs = c.args.frames.now in
+    let x : OutFrame = c.frame-item.result in
+    let q : Peers = all_newest (map (made_as k i) (take c.loop-frame.frame-index xs)) p in
+    let size : 11 ≤ length x.bytes = subst (λ (f : OutFrame). 11 ≤ length f.bytes) (sym c.frame-item.is) (long c.loop-frame.frame-index x c.loop-frame-test.true) in
+    subst (λ (r : Peers). AreKept n i c.keep_newest.new.resume r.keeping) (sym (newest_next k i xs c.loop-frame.frame-index x p c.loop-frame-test.true c.frame-item.is))
+    (c.in_ok-keep_newest.ensures n i k q size (c.loop-frame.invariant n i k p long kept))
+
+pub returns : goal.returns
+returns c = λ n i k p long kept.
+    subst (λ (l : List OutFrame). AreKept n i c.loop-frame.resume (all_newest (map (made_as k i) l) p).keeping)
+    (take_all c.loop-frame.frame-index c.args.frames.now c.loop-frame-test.false) (c.loop-frame.invariant n i k p long kept)

@@ -1,0 +1,200 @@
+//! Serving again, after events that a journal kept.
+ghost use Rattle.std.specs.Prelude.{◌≡◌, ℕ, ◌≤◌, [], ◌++◌, List, true, reverse, OnOk, OnErr};
+ghost use Rattle.std.specs.List.{AllByRecursion};
+ghost use Rattle.ritas_base.specs.declared.event.Event.{Event};
+ghost use Rattle.outside.specs.Disks.{state_of};
+ghost use Rattle.replica.specs.Replica.{with_keys};
+ghost use Rattle.schedule_file.specs.Spelling.{IsSized};
+ghost use Rattle.world_model.specs.World.{Setting};
+ghost use Rattle.event_journal.specs.Appending.{AllOpen, StandsFor};
+ghost use Rattle.event_journal.specs.Journal.{IsRecord};
+ghost use Rattle.node_loop.specs.Again.{ServesAgain};
+ghost use Rattle.node_loop.specs.Archives.{IsSame, moment, moment_of};
+ghost use Rattle.node_loop.specs.Journals.{JournalStands, JournalFails};
+ghost use Rattle.node_loop.specs.Laws.{IsServed};
+ghost use Rattle.node_loop.specs.Outs.{outs_of, text_of};
+ghost use Rattle.node_loop.specs.Peers.{no_peers};
+ghost use Rattle.node_loop.specs.Served.{AreHere};
+ghost use Rattle.node_loop.specs.Standing.{HouseStands};
+ghost use Rattle.node_loop.specs.Waiting.{nobody};
+ghost use Rattle.outside.specs.Faults.{count_after};
+ghost use Rattle.outside.specs.Writing.{TookFront};
+
+use crate::archive::{Archive, Outlets};
+use crate::end::ServeEnd;
+use crate::house::House;
+use crate::output::Output;
+use crate::rounds::{Bounds, go_on};
+use event_journal::Journal;
+use layer_api::{Broadcast, Service};
+use outside::{Disk, Failed, Link, Sink};
+use replica::Replica;
+use ritas_base::{Coin, Event, Mem};
+use schedule_file::Writer;
+use std::alloc::Global;
+use std::net::Net;
+use std::sync::Wait;
+
+// Writes these events to the tape, the oldest first.
+fn write_events<K: Sink>(tape: &mut K, events: &[Event]) -> Result<(), Failed>
+    requires { AllByRecursion IsSized events.now }
+    ensures whole { OnOk result ((K.faults tape.new ≡ K.faults tape.old) × (K.tells ≡ true → K.taken tape.new ≡ K.taken tape.old ++ text_of (reverse events.now))) }
+    ensures front { OnErr result ((K.faults tape.new ≡ count_after (K.faults tape.old)) × (K.faults tape.old ≤ K.faults tape.new)
+        × (K.tells ≡ true → TookFront (K.taken tape.old) (K.taken tape.new) (text_of (reverse events.now)))) }
+{
+    for event in events {
+        match Writer::event(tape, event) {
+            Ok(()) => {}
+            Err(fault) => return Err(fault),
+        }
+    }
+    Ok(())
+}
+
+// Serves the replicas of a house after these events.
+fn serve_again<
+    R: Net + Wait,
+    S: Service,
+    E: Broadcast,
+    C: Coin + Drop,
+    L: Link,
+    K: Sink,
+    A: Archive<D>,
+    D,
+>(
+    rt: &R,
+    alloc: Global,
+    house: &mut House<S, E, C>,
+    out: &mut Outlets<L, K, A, D>,
+    bounds: Bounds,
+    recovered: &[Event],
+) -> ServeEnd
+    requires { AllByRecursion IsSized recovered.now }
+    ensures same { IsSame out.old out.new }
+    ensures goes { let m = with_keys S.stands S.rules S.shown E.stands E.rules E.shown C.bits in
+        (head : List ℕ) (before : D) (w : Setting) (numbers : List ℕ) → HouseStands m w [] numbers house.old nobody no_peers
+        → AllByRecursion (IsServed w) recovered.now
+        → A.stands head before (reverse recovered.now) out.old.archive.now out.old.disk.now []
+        → ServesAgain m w (reverse recovered.now) numbers house.new.replicas.items (record { tape = K.tells; link = L.tells })
+        (outs_of K.taken K.faults L.told L.faults out.old.tape.now out.old.link.now)
+        (moment_of K.taken K.faults L.told L.faults (A.stands head before (reverse recovered.now)) (A.fails head before (reverse recovered.now)) out.new)
+        result bounds.until bounds.limit }
+{
+    let mut output = Output::new(alloc);
+    match house.recall_all(alloc, recovered, &mut output) {
+        Ok(()) => {}
+        Err(Mem) => return ServeEnd::Mem,
+    }
+    match write_events(out.tape, recovered) {
+        Ok(()) => {}
+        Err(_) => return ServeEnd::TapeFault,
+    }
+    go_on(rt, alloc, house, out, bounds, &mut output)
+}
+
+// Serves the replicas of a house after these events, with a link, a tape, and what keeps events.
+fn serve_again_with<
+    R: Net + Wait,
+    S: Service,
+    E: Broadcast,
+    C: Coin + Drop,
+    L: Link,
+    K: Sink,
+    A: Archive<D>,
+    D,
+>(
+    rt: &R,
+    alloc: Global,
+    house: &mut House<S, E, C>,
+    link: &mut L,
+    tape: &mut K,
+    archive: &mut A,
+    disk: &mut D,
+    bounds: Bounds,
+    recovered: &[Event],
+) -> ServeEnd
+    requires { AllByRecursion IsSized recovered.now }
+    ensures { let m = with_keys S.stands S.rules S.shown E.stands E.rules E.shown C.bits in
+        (head : List ℕ) (before : D) (w : Setting) (numbers : List ℕ) → HouseStands m w [] numbers house.old nobody no_peers
+        → AllByRecursion (IsServed w) recovered.now
+        → A.stands head before (reverse recovered.now) archive.old disk.old []
+        → ServesAgain m w (reverse recovered.now) numbers house.new.replicas.items (record { tape = K.tells; link = L.tells })
+        (outs_of K.taken K.faults L.told L.faults tape.old link.old)
+        (moment (outs_of K.taken K.faults L.told L.faults tape.new link.new) (A.stands head before (reverse recovered.now) archive.new disk.new) (A.fails head before (reverse recovered.now) archive.new disk.new))
+        result bounds.until bounds.limit }
+{
+    let mut out = Outlets {
+        link,
+        tape,
+        archive,
+        disk,
+    };
+    serve_again(rt, alloc, house, &mut out, bounds, recovered)
+}
+
+/// Serves one replica again, after the events that its journal kept, or for the first time, where there are none (`event_journal::open_journal`
+/// gives both). These events happen to it first, with no reply, and the tape takes them; the frames of their calls are kept for their peers, where
+/// the oldest make room for the newest, and none goes to the link by that. A request that was taken and isn't in the log waits, with no connection.
+/// Then it serves as `serve` does, with no items to begin with.
+///
+/// Each call that was answered `Took` or `Held`, and each turn, is appended to the journal, after its event went to the tape and before its frames,
+/// its acknowledgement and its replies go out. Other calls change nothing, and aren't appended. So whenever a stop comes, what it leaves on
+/// the disk opens as the recovered events and the first of those that were appended: with each of which a frame, an acknowledgement or a reply went
+/// out.
+///
+/// It ends as `serve` does, and with `DiskFault` where the disk failed, or with `JournalFull` where the journal would become too long, with its
+/// length then: of the event that wasn't appended nothing goes out. At these ends, as at a fault of the tape or the link, the replica stands
+/// where all events leave it.
+///
+/// The vector has one replica, as it was made, with the journal's number.
+pub fn serve_kept<
+    R: Net + Wait,
+    S: Service,
+    E: Broadcast,
+    C: Coin + Drop,
+    L: Link,
+    K: Sink,
+    D: Disk,
+>(
+    rt: &R,
+    alloc: Global,
+    replicas: &mut Vec<Replica<S, E, C>>,
+    recovered: &Vec<Event>,
+    journal: &mut Journal,
+    disk: &mut D,
+    link: &mut L,
+    tape: &mut K,
+    limit: u64,
+    until: u32,
+) -> ServeEnd
+    requires live { journal.old.live ≡ true }
+    requires own { AllByRecursion (IsRecord journal.old.me) recovered.now.items }
+    ensures { let m = with_keys S.stands S.rules S.shown E.stands E.rules E.shown C.bits in
+        (head : List ℕ) (w : Setting) (numbers : List ℕ) → AreHere m w [] numbers replicas.old.items → w.is_correct journal.old.me ≡ true
+        → (D.tells ≡ true → StandsFor journal.old head (reverse recovered.now.items) × AllOpen journal.old.me head (reverse recovered.now.items) (state_of (D.told disk.old)))
+        → ServesAgain m w (reverse recovered.now.items) numbers replicas.new.items (record { tape = K.tells; link = L.tells })
+        (outs_of K.taken K.faults L.told L.faults tape.old link.old)
+        (moment (outs_of K.taken K.faults L.told L.faults tape.new link.new)
+        (λ given. JournalStands head (reverse recovered.now.items) given journal.new D.tells (D.told disk.old) (D.told disk.new) (D.faults disk.old) (D.faults disk.new))
+        (λ fault given. JournalFails head (reverse recovered.now.items) given journal.new D.tells (D.told disk.old) (D.told disk.new) (D.faults disk.old) (D.faults disk.new) fault))
+        result until limit }
+{
+    let mut house = match House::new(alloc, replicas) {
+        Ok(house) => house,
+        Err(Mem) => return ServeEnd::Mem,
+    };
+    let bounds = Bounds { until, limit };
+    let end = serve_again_with(
+        rt,
+        alloc,
+        &mut house,
+        link,
+        tape,
+        journal,
+        disk,
+        bounds,
+        recovered.as_slice(),
+    );
+    *replicas = house.replicas;
+    end
+}
