@@ -1,8 +1,7 @@
 -- Serving that begins after events that a journal kept.
-use Rattle.std.proofs.Common.{◌≡◌, ℕ, ◌+◌, ◌<◌, ◌≤◌, Bool, true, length, take, drop, get_or, List, [], ◌∷◌, ◌++◌, reverse, refl, sym, ap, ◌∙◌, subst, append_assoc, arith, inl, inr}
-use Rattle.std.specs.List.{AllByRecursion, flat_map}
-use Rattle.std.proofs.lemmas.List.{append-nil, reverse-append, reverse-reverse, take_more, drop_more, take-append-drop}
-use Rattle.std.proofs.lemmas.Grind.{flat_map-append}
+use Rattle.std.proofs.Common.{◌≡◌, ℕ, ◌≤◌, Bool, true, List, [], ◌∷◌, ◌++◌, refl, sym, ap, ◌∙◌, subst, append_assoc, arith, inl, inr}
+use Rattle.std.specs.List.{AllByRecursion}
+use Rattle.std.proofs.lemmas.List.{append-nil}
 use Rattle.ritas_base.specs.declared.event.Event.{Event}
 use Rattle.ritas_base.specs.declared.event.Event.TheVariants as events
 use Rattle.keyed_channel.specs.KeyRow.{KeyRow}
@@ -15,7 +14,7 @@ use Rattle.outside.specs.Links.{LinkAct}
 use Rattle.outside.specs.Writing.{TookFront}
 use Rattle.outside.specs.WritingLaws.{front_then, none_written}
 use Rattle.replica.specs.declared.replica.Replica.{Replica}
-use Rattle.schedule_file.specs.Spelling.{event_text, IsSized}
+use Rattle.schedule_file.specs.Spelling.{IsSized}
 use Rattle.event_journal.specs.Appending.{AllOpen, JournalState, StandsFor}
 use Rattle.event_journal.specs.Journal.{IsRecord}
 use Rattle.world_model.specs.World.{Setting}
@@ -35,7 +34,8 @@ use Rattle.node_loop.specs.Served.{AreHere, Whole}
 use Rattle.node_loop.specs.ServedKept.{EndsKept, ServesKept}
 use Rattle.node_loop.specs.Serving.{Serving, so_far, Want}
 use Rattle.node_loop.specs.Standing.{HouseStands}
-use Rattle.node_loop.proofs.Rounding.{runs_first}
+use Rattle.node_loop.proofs.Grouping.{text_parts}
+use Rattle.node_loop.proofs.Rounding.{runs_first, no_group}
 
 -- ---- the events of a journal
 
@@ -64,32 +64,6 @@ kept_past head past journal tells now count stands = record {
 
 -- ---- what the tape took
 
-text_both : (es past : List Event) → text_of (es ++ past) ≡ text_of past ++ text_of es
-text_both es past = ap (flat_map event_text) (reverse-append es past) ∙ flat_map-append event_text (reverse past) (reverse es)
-
--- of these it took so many, and the next
-pub text_step : (es : List Event) (i : ℕ) (e : Event) → i < length es → e ≡ get_or es i e
-    → flat_map event_text (take (i + 1) es) ≡ flat_map event_text (take i es) ++ event_text e
-text_step es i e lt is =
-    ap (flat_map event_text) (take_more es i e lt ∙ ap (λ (y : Event). take i es ++ y ∷ []) (sym is))
-    ∙ (flat_map-append event_text (take i es) (e ∷ []) ∙ ap (λ (l : List ℕ). flat_map event_text (take i es) ++ l) (append-nil (event_text e)))
-
-pub text_turned : (es : List Event) → text_of (reverse es) ≡ flat_map event_text es
-text_turned es = ap (flat_map event_text) (reverse-reverse es)
-
-text_parts : (es : List Event) (i : ℕ) (e : Event) → i < length es → e ≡ get_or es i e
-    → flat_map event_text es ≡ flat_map event_text (take i es) ++ (event_text e ++ flat_map event_text (drop (i + 1) es))
-text_parts es i e lt is =
-    ap (flat_map event_text) (sym (take-append-drop i es) ∙ ap (λ (l : List Event). take i es ++ l) (drop_more es i e lt ∙ ap (λ (y : Event). y ∷ drop (i + 1) es) (sym is)))
-    ∙ flat_map-append event_text (take i es) (e ∷ drop (i + 1) es)
-
--- or a front of it
-pub text_front : (es : List Event) (i : ℕ) (e : Event) (old mid new : List ℕ) → i < length es → e ≡ get_or es i e → mid ≡ old ++ flat_map event_text (take i es)
-    → TookFront mid new (event_text e) → TookFront old new (text_of (reverse es))
-text_front es i e old mid new lt is before took =
-    front_then old mid new (flat_map event_text (take i es)) (event_text e) (flat_map event_text (drop (i + 1) es)) (text_of (reverse es))
-    (text_turned es ∙ text_parts es i e lt is) before took
-
 -- it took the past events first
 module _ (tells : Tells) (base : Outs) (taken : List ℕ) (count : ℕ) (past : List Event) (wrote : tells.tape ≡ true → taken ≡ base.taken ++ text_of past)
     (still : count ≡ base.tape_faults) where
@@ -98,7 +72,7 @@ module _ (tells : Tells) (base : Outs) (taken : List ℕ) (count : ℕ) (past : 
 
   all_with : (now : Outs) (es : List Event) → AllWritten tells mid now es → AllWritten tells base now (es ++ past)
   all_with now es written t =
-      written t ∙ (ap (λ (l : List ℕ). l ++ text_of es) (wrote t) ∙ (append_assoc base.taken (text_of past) (text_of es) ∙ ap (λ (l : List ℕ). base.taken ++ l) (sym (text_both es past))))
+      written t ∙ (ap (λ (l : List ℕ). l ++ text_of es) (wrote t) ∙ (append_assoc base.taken (text_of past) (text_of es) ∙ ap (λ (l : List ℕ). base.taken ++ l) (sym (text_parts es past))))
 
   agrees_with : (now : Outs) (es : List Event) (acts : List LinkAct) → Agrees tells mid now es acts → Agrees tells base now (es ++ past) acts
   agrees_with now es acts agrees = record {
@@ -126,7 +100,7 @@ module _ (tells : Tells) (base : Outs) (taken : List ℕ) (count : ℕ) (past : 
   stops_with : (now : Outs) (fault : Fault) (es : List Event) (sooner news : List LinkAct) → Stops tells mid now fault es sooner news → Stops tells base now fault (es ++ past) sooner news
   stops_with now fault es sooner news stops = record {
     taken = λ t. front_then base.taken taken now.taken (text_of past) (text_of es) [] (text_of (es ++ past))
-        (text_both es past ∙ ap (λ (l : List ℕ). text_of past ++ l) (sym (append-nil (text_of es)))) (wrote t) (stops.taken t);
+        (text_parts es past ∙ ap (λ (l : List ℕ). text_of past ++ l) (sym (append-nil (text_of es)))) (wrote t) (stops.taken t);
     told = stops.told;
     order = order_with now fault es sooner stops.order;
     tape_later = let later = stops.tape_later in omega (arith, still, later);
@@ -157,7 +131,9 @@ module _ (tells : Tells) (base : Outs) (taken : List ℕ) (count : ℕ) (past : 
     pub serves_with : (now : Moment) (end : ServeEnd) (until limit : ℕ) → ServesKept m w past numbers here tells mid now end until limit (recovered w past)
         → ServesAgain m w past numbers here tells base now end until limit
     serves_with now end until limit served = record {
-      rounds = served.rounds;
+      group = served.group;
+      older = served.older;
+      one = served.one;
       wanted = served.wanted;
       so = ends_with now.outs end _ _ _ _ served.so;
       kept = served.kept;
@@ -175,7 +151,9 @@ module _ {S E C : Type 0} (m : Meaning S E C KeyRow) (w : Setting) (past : List 
   -- memory ran out before
   pub again_short : (here : List (Replica S E C)) (now : Moment) (until limit : ℕ) → now.stands [] → ServesAgain m w past numbers here tells now.outs now ends.Mem until limit
   again_short here now until limit stood = record {
-    rounds = [];
+    group = [];
+    older = [];
+    one = no_group;
     wanted = tt;
     so = record {
       taken = λ t. none_written now.outs.taken (text_of past);
@@ -193,7 +171,9 @@ module _ {S E C : Type 0} (m : Meaning S E C KeyRow) (w : Setting) (past : List 
       → (tells.tape ≡ true → TookFront base.taken now.outs.taken (text_of past)) → now.outs.tape_faults ≡ count_after base.tape_faults → base.tape_faults ≤ now.outs.tape_faults
       → now.outs.told ≡ base.told → now.outs.link_faults ≡ base.link_faults → ServesAgain m w past numbers here tells base now ends.TapeFault until limit
   again_unwritten here base now until limit stand stood front rises later told faults_are = record {
-    rounds = [];
+    group = [];
+    older = [];
+    one = no_group;
     wanted = tt;
     so = (
       record {

@@ -1,5 +1,5 @@
 -- Who waits, where the first one comes.
-use Rattle.std.proofs.Common.{◌≡◌, ℕ, Bool, true, false, not, ◌&&◌, ◌==◌, List, length, filter, [], ◌∷◌, ◌++◌, Option, Some, None, Global, refl, sym, ◌∙◌, ap, ap₂, subst, arith, nat_lt, ◌<◌, cond, if◌then◌else◌}
+use Rattle.std.proofs.Common.{◌≡◌, ℕ, Bool, true, false, not, ◌&&◌, ◌==◌, List, length, filter, [], ◌∷◌, Option, Some, None, Global, refl, sym, ◌∙◌, ap, ap₂, subst, arith, nat_lt, ◌<◌, cond, if◌then◌else◌}
 use Rattle.std.specs.declared.vec.Vec.{Vec}
 use Rattle.std.specs.declared.cmp.Ordering.{Ordering}
 use Rattle.std.specs.declared.cmp.Ordering.TheVariants.{Less, Equal, Greater}
@@ -10,7 +10,7 @@ use Rattle.std.specs.Map.Calls.{RetainsPairs}
 use Rattle.std.proofs.lemmas.Bool.{eqb-true, ne_eqb, ltb-true, and_parts}
 use Rattle.node_loop.specs.declared.waiting.Asked.{Asked}
 use Rattle.node_loop.specs.declared.waiting.Waiters.{Waiters}
-use Rattle.node_loop.specs.Waiting.{Waiting, is_same, is_conn, joined, with_waiter, without_conn, left_off}
+use Rattle.node_loop.specs.Waiting.{Waiting, is_same, is_conn, joined, with_waiter, without_conn}
 use Rattle.node_loop.specs.Standing.{asked_cmp, conns_in, IsWaiting}
 
 -- requests that agree in all fields are one

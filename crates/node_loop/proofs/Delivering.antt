@@ -1,81 +1,103 @@
--- What came of an item or a turn is delivered, or a part of it.
-use Rattle.std.proofs.Common.{◌≡◌, ℕ, List, [], ◌++◌, map, reverse, Option, Some, None, Ok, Err, refl, sym, ◌∙◌, ap, subst, append_assoc, arith, inl, inr, Bool}
-use Rattle.std.proofs.lemmas.List.{append-nil}
+-- A group is delivered, or a part of it.
+use Rattle.std.proofs.Common.{◌≡◌, ℕ, true, List, [], ◌++◌, reverse, Ok, Err, sym, ◌∙◌, ap, subst, append_assoc, arith, inl, inr, ◌≤◌}
+use Rattle.std.proofs.lemmas.List.{append-nil, reverse-reverse}
+use Rattle.std.specs.List.{AllByRecursion}
 use Rattle.ritas_base.specs.declared.event.Event.{Event}
 use Rattle.keyed_channel.specs.KeyRow.{KeyRow}
 use Rattle.ritas_core.specs.Stands.{Meaning}
-use Rattle.outside.specs.Links.{LinkAct, Replies}
-use Rattle.outside.specs.LinkCalls.{LinkDid, each_act}
+use Rattle.outside.specs.Faults.{count_after}
+use Rattle.outside.specs.Links.{LinkAct}
+use Rattle.outside.specs.LinkCalls.{LinkDid}
 use Rattle.outside.specs.LinkCallsLaws.{back_none}
-use Rattle.outside.specs.WritingLaws.{all_written}
+use Rattle.outside.specs.Writing.{TookFront}
+use Rattle.outside.specs.WritingLaws.{all_written, front_then, front_more}
 use Rattle.outside.specs.declared.link.FaultCounts.{FaultCounts}
 use Rattle.outside.specs.declared.link.LinkFault.{LinkFault}
 use Rattle.outside.specs.declared.link.LinkFault.TheVariants as link_faults
-use Rattle.outside.specs.declared.link.Sent.{Sent}
+use Rattle.outside.specs.declared.link.LinkItem.{LinkItem}
 use Rattle.world_model.specs.World.{Setting}
-use Rattle.node_loop.specs.declared.end.Fault.{Fault}
-use Rattle.node_loop.specs.declared.end.Fault.TheVariants as faults
-use Rattle.node_loop.specs.declared.house.House.{House}
-use Rattle.node_loop.specs.declared.output.Reply.{Reply}
-use Rattle.node_loop.specs.Calls.{Outcome}
-use Rattle.node_loop.specs.Deeds.{act_of}
-use Rattle.node_loop.specs.Peers.{Peers}
-use Rattle.node_loop.specs.Resending.{Brought}
-use Rattle.node_loop.specs.Serving.{Serving, so_far, sent_by, sent_of, onto}
-use Rattle.node_loop.specs.Outs.{text_of, Outs, Tells, Agrees, Stops, HasCauses, InOrder, NoneSent, IfFailed, Fails}
-use Rattle.node_loop.specs.Standing.{HouseStands, reply_by}
-use Rattle.node_loop.specs.Served.{AreHere}
-use Rattle.node_loop.specs.Running.{Goes}
 use Rattle.node_loop.specs.declared.archive.ArchiveFault.{ArchiveFault}
 use Rattle.node_loop.specs.declared.archive.ArchiveFault.TheVariants as archive
-use Rattle.node_loop.specs.Archives.{Moment, LeftAt, kept_with, fault_in}
-use Rattle.node_loop.specs.Keeping.{has_kept, kept_onto, kept_of}
-use Rattle.node_loop.proofs.SentOut.{gone}
-use Rattle.node_loop.proofs.Stepping.{with_link, same_failed, link_goes, link_stops, stops_more}
+use Rattle.node_loop.specs.declared.end.Fault.{Fault}
+use Rattle.node_loop.specs.declared.end.Fault.TheVariants as faults
+use Rattle.node_loop.specs.declared.end.ServeEnd.{ServeEnd}
+use Rattle.node_loop.specs.declared.group.Group.{Group}
+use Rattle.node_loop.specs.declared.house.House.{House}
+use Rattle.node_loop.specs.declared.output.Output.{Output}
+use Rattle.node_loop.specs.Archives.{Moment, LeftAt, fault_in}
+use Rattle.node_loop.specs.Groups.{Fits, acts_by, acts_each, if_kept}
+use Rattle.node_loop.specs.Keeping.{kept_of}
+use Rattle.node_loop.specs.Outs.{text_of, Outs, Tells, Agrees, Stops, HasCauses, InOrder, NoneSent, Fails}
+use Rattle.node_loop.specs.Running.{Running, Gathered, NotYet, IsEndOf, IsOfTape}
+use Rattle.node_loop.specs.ServedKept.{ServesKept, group_kept}
+use Rattle.node_loop.specs.Serving.{Serving, Round, IsGroup, after_from, events_from, newest_from, sooner_from}
+use Rattle.node_loop.specs.ServingLaws.{acts_from}
+use Rattle.node_loop.proofs.Grouping.{events_parts, text_parts, kept_parts}
+use Rattle.node_loop.proofs.Rounding.{if_failed, at_fault, is_group}
+use Rattle.node_loop.proofs.Stepping.{with_link, same_failed, link_goes, link_stops}
 
-pub if_failed : (fault : Fault) (P : Type 0) → P → IfFailed fault P
-if_failed faults.Tape P p = p
-if_failed faults.Link P p = p
-if_failed faults.Mem P p = tt
-if_failed faults.Disk P p = p
-if_failed (faults.Full x) P p = p
+-- ---- the tape
 
-pub onto_past : (o : Option Event) (es past : List Event) → onto o (es ++ past) ≡ onto o es ++ past
-onto_past None es past = refl
-onto_past (Some e) es past = refl
+-- these events were written
+pub wrote_all : (tells : Tells) (base : Outs) (old new : List ℕ) (x y : ℕ) (told : List LinkAct) (link_faults : FaultCounts) (es older : List Event) (acts : List LinkAct)
+    → Agrees tells base (record { taken = old; tape_faults = x; told = told; link_faults = link_faults }) older acts
+    → (tells.tape ≡ true → new ≡ old ++ text_of es) → y ≡ x
+    → Agrees tells base (record { taken = new; tape_faults = y; told = told; link_faults = link_faults }) (es ++ older) acts
+wrote_all tells base old new x y told link_faults es older acts agrees whole stands = record {
+  taken = λ t. whole t ∙ rw (agrees.taken t, text_parts es older) (append_assoc base.taken (text_of older) (text_of es));
+  told = agrees.told;
+  tape_stands = stands ∙ agrees.tape_stands;
+  link_stands = agrees.link_stands;
+}
 
--- the two ways to say what is replied
-pub replied_as : (at : ℕ) (items replies : List Reply) (sent : List Sent) → items ≡ replies → map (reply_by at) replies ≡ sent → each_act Replies (map (reply_by at) items) ≡ reverse (map Replies sent)
-replied_as at items replies sent same is = ap (λ (l : List Reply). each_act Replies (map (reply_by at) l)) same ∙ ap (each_act Replies) is
+-- a front of their text was
+pub wrote_front : (tells : Tells) (base : Outs) (old new : List ℕ) (x y : ℕ) (told : List LinkAct) (link_faults : FaultCounts) (es older : List Event) (acts news : List LinkAct)
+    → Agrees tells base (record { taken = old; tape_faults = x; told = told; link_faults = link_faults }) older acts
+    → (tells.tape ≡ true → TookFront old new (text_of es)) → x ≤ y → y ≡ count_after x
+    → Stops tells base (record { taken = new; tape_faults = y; told = told; link_faults = link_faults }) faults.Tape (es ++ older) acts news
+wrote_front tells base old new x y told link_faults es older acts news agrees front le rises = record {
+  taken = λ t. front_then base.taken old new (text_of older) (text_of es) [] (text_of (es ++ older))
+      (text_parts es older ∙ ap (λ (l : List ℕ). text_of older ++ l) (sym (append-nil (text_of es)))) (agrees.taken t) (front t);
+  told = λ t. rw (agrees.told t) (back_none (acts ++ base.told) news);
+  order = agrees.told;
+  tape_later = omega (arith, agrees.tape_stands, le);
+  link_later = omega (arith, same_failed agrees.link_stands);
+  cause = (rises ∙ ap count_after agrees.tape_stands, agrees.link_stands);
+}
 
--- the event that was put out is the one that came
-pub written_as : (tells : Tells) (base now : Outs) (e f : Option Event) (events : List Event) (acts : List LinkAct) → e ≡ f
-    → Agrees tells base now (onto e events) acts → Agrees tells base now (onto f events) acts
-written_as tells base now e f events acts same agrees = subst (λ (o : Option Event). Agrees tells base now (onto o events) acts) same agrees
+-- nothing was, for want of memory
+pub wrote_none : (tells : Tells) (base o : Outs) (es older : List Event) (acts news : List LinkAct) → Agrees tells base o older acts
+    → Stops tells base o faults.Mem (es ++ older) acts news
+wrote_none tells base o es older acts news agrees = record {
+  taken = λ t. subst (λ (l : List ℕ). TookFront base.taken o.taken l) (sym (text_parts es older))
+      (front_more base.taken o.taken (text_of older) (text_of es) (all_written base.taken o.taken (text_of older) (agrees.taken t)));
+  told = λ t. rw (agrees.told t) (back_none (acts ++ base.told) news);
+  order = inr agrees.told;
+  tape_later = omega (arith, agrees.tape_stands);
+  link_later = omega (arith, same_failed agrees.link_stands);
+  cause = (agrees.tape_stands, inl agrees.link_stands);
+}
 
-pub stops_as : (tells : Tells) (base now : Outs) (fault : Fault) (e f : Option Event) (events : List Event) (acts news : List LinkAct) → e ≡ f
-    → Stops tells base now fault (onto e events) acts news → Stops tells base now fault (onto f events) acts news
-stops_as tells base now fault e f events acts news same stops = subst (λ (o : Option Event). Stops tells base now fault (onto o events) acts news) same stops
+-- ---- the archive
 
--- ---- what is kept
-
--- an event that came, onto those that were kept before it
-pub kept_next : (w : Setting) (past events : List Event) (kept : Bool) (o f : Option Event) → o ≡ f → kept ≡ has_kept w (events ++ past) f
-    → kept_with kept o (kept_of w past events) ≡ kept_of w past (onto f events)
-kept_next w past events kept o None same is = ap (λ (e : Option Event). kept_with kept e (kept_of w past events)) same
-kept_next w past events kept o (Some e) same is =
-    ap (λ (x : Option Event). kept_with kept x (kept_of w past events)) same ∙ ap (λ (b : Bool). kept_onto b e (kept_of w past events)) is
+-- where the tape failed, only the older ones were kept
+left_tape : (now : Moment) (none : Type 0) (kept group older : List Event) (fault : Fault) → IsOfTape fault → none → now.stands older → LeftAt now none kept group older fault
+left_tape now none kept group older faults.Tape own sent stands = stands
+left_tape now none kept group older faults.Mem own sent stands = inr (sent, inl stands)
+left_tape now none kept group older faults.Link own sent stands = absurd own
+left_tape now none kept group older faults.Disk own sent stands = absurd own
+left_tape now none kept group older (faults.Full x) own sent stands = absurd own
 
 -- all was kept where the link failed
-pub left_link : (now : Moment) (none : Type 0) (kept older : List Event) (x : LinkFault) (fault : Fault) → Fails x fault → now.stands kept → LeftAt now none kept older fault
-left_link now none kept older link_faults.Failed fault is stands = rw is stands
-left_link now none kept older link_faults.Mem fault is stands = rw is (inl stands)
+left_link : (now : Moment) (none : Type 0) (kept group older : List Event) (x : LinkFault) (fault : Fault) → Fails x fault → now.stands kept → LeftAt now none kept group older fault
+left_link now none kept group older link_faults.Failed fault is stands = rw is stands
+left_link now none kept group older link_faults.Mem fault is stands = rw is (inl stands)
 
--- the archive failed over the newest event
-left_archive : (now : Moment) (none : Type 0) (kept older : List Event) (x : ArchiveFault) → none → now.fails x kept → LeftAt now none kept older (fault_in x)
-left_archive now none kept older archive.Disk sent fails = fails
-left_archive now none kept older (archive.Full x) sent fails = fails
-left_archive now none kept older archive.Mem sent fails = inr (sent, inr fails)
+-- the archive failed over the newest group
+left_archive : (now : Moment) (none : Type 0) (kept group older : List Event) (x : ArchiveFault) → none → now.fails x group older → LeftAt now none kept group older (fault_in x)
+left_archive now none kept group older archive.Disk sent fails = fails
+left_archive now none kept group older (archive.Full x) sent fails = fails
+left_archive now none kept group older archive.Mem sent fails = inr (sent, inr fails)
 
 archive_causes : (tells : Tells) (base now : Outs) (events : List Event) (acts : List LinkAct) (x : ArchiveFault) → Agrees tells base now events acts → HasCauses base now (fault_in x)
 archive_causes tells base now events acts archive.Disk agrees = (agrees.tape_stands, agrees.link_stands)
@@ -87,107 +109,113 @@ archive_order tells base now events acts archive.Disk agrees = (agrees.taken, ag
 archive_order tells base now events acts (archive.Full x) agrees = (agrees.taken, agrees.told)
 archive_order tells base now events acts archive.Mem agrees = inl agrees.taken
 
--- ---- an item or a turn
+-- ---- a group
 
-module _ {S E C : Type 0} (m : Meaning S E C KeyRow) (w : Setting) (past : List Event) (numbers : List ℕ) (tells : Tells) (base : Outs)
-    (did : Outcome) (more : Brought) (s : Serving) (house : House S E C) where
-  abbrev out : List LinkAct
-  out = gone w (so_far past s) did.event more
+module _ {S E C : Type 0} (m : Meaning S E C KeyRow) (w : Setting) (past : List Event) (numbers : List ℕ) (tells : Tells) (base : Outs) (taken until limit : ℕ) (start : Serving)
+    (left : List LinkItem) (older : List Round) (given : List LinkAct) (house : House S E C) (group : Group)
+    (run : Gathered m w past numbers house group taken until limit start left older given 64) where
+  abbrev s₀ : Serving
+  s₀ = after_from w past start older
 
-  abbrev all_kept : List Event
-  all_kept = kept_of w past (onto did.event s.events)
+  abbrev s₁ : Serving
+  s₁ = after_from w past start (run.newest ++ older)
 
-  abbrev older_kept : List Event
-  older_kept = kept_of w past s.events
+  abbrev new_events : List Event
+  new_events = events_from w past start run.newest older
 
-  -- it broke at a fault
-  pub goes_stops : {A : Type 0} (now : Moment) (fault : Fault) (p : Peers) → HouseStands m w (onto did.event (so_far past s)) numbers house did.waiting p
-      → Stops tells base now.outs fault (onto did.event s.events) s.acts (sent_of w (so_far past s) did more)
-      → LeftAt now (NoneSent tells base now.outs s.acts) all_kept older_kept fault → Goes {A = A} m w past numbers house tells base now (Err fault) did more s
-  goes_stops now fault p stands stops left = record {
-    steps = stops;
-    stands = if_failed fault _ (subst (λ (es : List Event). AreHere m w es numbers house.replicas.items) (onto_past did.event s.events past) stands.here);
-    kept = left;
-  }
+  abbrev old : List LinkAct
+  old = sooner_from w past start run.newest older
+
+  abbrev new : List LinkAct
+  new = newest_from w past start run.newest older
+
+  one : IsGroup run.newest older
+  one = is_group run.newest older run.some run.turns run.short
+
+  all_events : (items : List Event) → items ≡ group.events.items → reverse items ++ s₀.events ≡ s₁.events
+  all_events items is =
+      ap (λ (l : List Event). reverse l ++ s₀.events) (is ∙ run.under.holds.events)
+      ∙ ap (λ (l : List Event). l ++ s₀.events) (reverse-reverse new_events) ∙ sym (events_parts w past start run.newest older)
+
+  -- what it kept
+  kept_as : if_kept group.kept (reverse group.events.items) ≡ group_kept w past start run.newest older
+  kept_as =
+      ap (λ (l : List Event). if_kept group.kept (reverse l)) run.under.holds.events
+      ∙ ap (if_kept group.kept) (reverse-reverse new_events) ∙ sym run.under.holds.keeps
+
+  same_sooner : given ++ s₀.acts ≡ old
+  same_sooner = ap (λ (l : List LinkAct). l ++ s₀.acts) (sym run.begins)
+
+  pub begun : (o : Moment) → NotYet w past tells base o start older given → Agrees tells base o.outs s₀.events old
+  begun o not_yet = subst (λ (l : List LinkAct). Agrees tells base o.outs s₀.events l) same_sooner not_yet.agrees
 
   -- the tape failed
-  pub wrote_none : {A : Type 0} (now : Moment) (fault : Fault) (p : Peers) → fault ≡ faults.Tape → HouseStands m w (onto did.event (so_far past s)) numbers house did.waiting p
-      → Stops tells base now.outs fault (onto did.event s.events) s.acts (sent_of w (so_far past s) did more) → now.stands older_kept
-      → Goes {A = A} m w past numbers house tells base now (Err fault) did more s
-  wrote_none now fault p is stands stops kept =
-      goes_stops now fault p stands stops (subst (λ (f : Fault). LeftAt now (NoneSent tells base now.outs s.acts) all_kept older_kept f) (sym is) kept)
+  pub tape_fails : (now : Moment) (items : List Event) (fault : Fault) (end : ServeEnd) → items ≡ group.events.items → IsOfTape fault → NoneSent tells base now.outs old
+      → Stops tells base now.outs fault (reverse items ++ s₀.events) old new → now.stands (kept_of w past s₀.events) → IsEndOf fault end
+      → ServesKept m w past numbers house.replicas.items tells base now end until limit start
+  tape_fails now items fault end same own sent stops stands is =
+      at_fault m w past numbers tells base until limit start run.newest older now house.replicas.items fault end one run.wanted is
+      (subst (λ (es : List Event). Stops tells base now.outs fault es old new) (all_events items same) stops) (if_failed fault _ run.under.stands.here)
+      (left_tape now (NoneSent tells base now.outs old) (kept_of w past s₁.events) (group_kept w past start run.newest older) (kept_of w past s₀.events) fault own sent stands)
 
-  -- the event was written, and then memory ran out
-  pub goes_short : {A : Type 0} (now : Moment) → Agrees tells base now.outs (onto did.event s.events) s.acts → now.stands all_kept
-      → Goes {A = A} m w past numbers house tells base now (Err faults.Mem) did more s
-  goes_short now agrees kept = record {
-    steps = record {
-      taken = λ t. all_written base.taken now.outs.taken (text_of (onto did.event s.events)) (agrees.taken t);
-      told = λ t. rw (agrees.told t) (back_none (s.acts ++ base.told) (sent_of w (so_far past s) did more));
-      order = inl agrees.taken;
-      tape_later = omega (arith, agrees.tape_stands);
-      link_later = omega (arith, same_failed agrees.link_stands);
-      cause = (agrees.tape_stands, inl agrees.link_stands);
-    };
-    stands = tt;
-    kept = inl kept;
-  }
+  -- all events were written
+  pub all_wrote : (o : Outs) (items : List Event) → items ≡ group.events.items → Agrees tells base o (reverse items ++ s₀.events) old → Agrees tells base o s₁.events old
+  all_wrote o items same agrees = subst (λ (es : List Event). Agrees tells base o es old) (all_events items same) agrees
 
-  -- it was written, and not kept
-  pub goes_unkept : {A : Type 0} (now : Moment) (x : ArchiveFault) (fault : Fault) (p : Peers) → fault ≡ fault_in x → HouseStands m w (onto did.event (so_far past s)) numbers house did.waiting p
-      → Agrees tells base now.outs (onto did.event s.events) s.acts → now.fails x all_kept → Goes {A = A} m w past numbers house tells base now (Err fault) did more s
-  goes_unkept now x fault p is stands agrees fails = rw is (goes_stops now (fault_in x) p stands
+  -- the archive failed
+  pub archive_fails : (now : Moment) (x : ArchiveFault) (fault : Fault) (end : ServeEnd) → fault ≡ fault_in x → Agrees tells base now.outs s₁.events old
+      → now.fails x (if_kept group.kept (reverse group.events.items)) (kept_of w past s₀.events) → IsEndOf fault end
+      → ServesKept m w past numbers house.replicas.items tells base now end until limit start
+  archive_fails now x fault end same agrees fails is =
+      at_fault m w past numbers tells base until limit start run.newest older now house.replicas.items (fault_in x) end one run.wanted (subst (λ (f : Fault). IsEndOf f end) same is)
       (record {
-        taken = λ t. all_written base.taken now.outs.taken (text_of (onto did.event s.events)) (agrees.taken t);
-        told = λ t. rw (agrees.told t) (back_none (s.acts ++ base.told) (sent_of w (so_far past s) did more));
-        order = archive_order tells base now.outs (onto did.event s.events) s.acts x agrees;
+        taken = λ t. all_written base.taken now.outs.taken (text_of s₁.events) (agrees.taken t);
+        told = λ t. rw (agrees.told t) (back_none (old ++ base.told) new);
+        order = archive_order tells base now.outs s₁.events old x agrees;
         tape_later = omega (arith, agrees.tape_stands);
         link_later = omega (arith, same_failed agrees.link_stands);
-        cause = archive_causes tells base now.outs (onto did.event s.events) s.acts x agrees;
+        cause = archive_causes tells base now.outs s₁.events old x agrees;
       })
-      (left_archive now (NoneSent tells base now.outs s.acts) all_kept older_kept x agrees.told fails))
+      (if_failed (fault_in x) _ run.under.stands.here)
+      (left_archive now (NoneSent tells base now.outs old) (kept_of w past s₁.events) (group_kept w past start run.newest older) (kept_of w past s₀.events) x agrees.told
+      (subst (λ (l : List Event). now.fails x l (kept_of w past s₀.events)) kept_as fails))
 
-  -- all of it was delivered
-  pub goes_all : {A : Type 0} (now : Moment) (done : A) → HouseStands m w (onto did.event (so_far past s)) numbers house did.waiting more.peers
-      → Agrees tells base now.outs (onto did.event s.events) (reverse (map Replies did.replies) ++ (out ++ s.acts)) → now.stands all_kept
-      → Goes m w past numbers house tells base now (Ok done) did more s
-  goes_all now done stands agrees kept = record {
-    steps = subst (λ (acts : List LinkAct). Agrees tells base now.outs (onto did.event s.events) (reverse (map Replies did.replies) ++ acts))
-        (append_assoc (reverse (map (act_of w.keys) more.deeds)) (reverse (sent_by w (so_far past s) did.event)) s.acts) agrees;
-    stands = subst (λ (es : List Event). HouseStands m w es numbers house did.waiting more.peers) (onto_past did.event s.events past) stands;
-    kept = kept;
-  }
+  -- what goes out goes to peers, or is for none
+  pub all_fit : (outputs : List Output) → outputs ≡ group.outputs.items → AllByRecursion (λ o. Fits w s₁.peers.keeping o.at o.more) outputs
+  all_fit outputs same = subst (λ (l : List Output). AllByRecursion (λ o. Fits w s₁.peers.keeping o.at o.more) l) (sym same) run.under.holds.fit
 
-  module _ (o : Outs) (told : List LinkAct) (count : FaultCounts) (stands_for : List Event → Type 0) (failed : ArchiveFault → List Event → Type 0)
-      (stands : HouseStands m w (onto did.event (so_far past s)) numbers house did.waiting more.peers)
-      (written : Agrees tells base o (onto did.event s.events) s.acts) (kept : stands_for all_kept) where
-    abbrev at : List LinkAct → FaultCounts → Moment
-    at last end = record { outs = with_link o last end; stands = stands_for; fails = failed }
+  -- all events were kept
+  pub all_kept : (stands : List Event → Type 0) → stands (if_kept group.kept (reverse group.events.items) ++ kept_of w past s₀.events) → stands (kept_of w past s₁.events)
+  all_kept stands kept =
+      subst stands (ap (λ (l : List Event). l ++ kept_of w past s₀.events) kept_as ∙ sym (kept_parts w past start run.newest older)) kept
 
-    -- the link took a part of what goes out
-    pub out_stops : {A : Type 0} (x : LinkFault) (fault : Fault) → Fails x fault → LinkDid tells.link out o.told told o.link_faults count (Err x)
-        → Goes {A = A} m w past numbers house tells base (at told count) (Err fault) did more s
-    out_stops x fault is sent = goes_stops (at told count) fault more.peers stands
-        (stops_more tells base (with_link o told count) fault (onto did.event s.events) s.acts out (reverse (map Replies did.replies))
-        (link_stops tells base o (onto did.event s.events) s.acts [] out out told count x fault is (sym (append-nil out)) written sent))
-        (left_link (at told count) _ all_kept older_kept x fault is kept)
+  module _ (o : Outs) (told : List LinkAct) (count : FaultCounts) (stands : List Event → Type 0) (fails : ArchiveFault → List Event → List Event → Type 0)
+      (agrees : Agrees tells base o s₁.events old) (kept : stands (kept_of w past s₁.events)) where
+    abbrev then : Moment
+    then = record { outs = with_link o told count; stands = stands; fails = fails }
 
-    module _ (sent : LinkDid tells.link out o.told told o.link_faults count (Ok tt)) (last : List LinkAct) (end : FaultCounts) (acts : List LinkAct)
-        (as_replies : acts ≡ reverse (map Replies did.replies)) where
-      out_goes : Agrees tells base (with_link o told count) (onto did.event s.events) (out ++ s.acts)
-      out_goes = link_goes tells base o (onto did.event s.events) s.acts out told count written sent
+    -- all went out
+    pub group_goes : (outputs : List Output) → outputs ≡ group.outputs.items → LinkDid tells.link (acts_each (acts_by s₁.peers.keeping) outputs) o.told told o.link_faults count (Ok tt)
+        → Running m w past numbers house tells base then taken until limit start left
+    group_goes outputs same did = record {
+      rounds = run.newest ++ older;
+      wanted = run.wanted;
+      rest = run.rest;
+      count = run.count;
+      stands = run.under.stands;
+      agrees = subst (λ (acts : List LinkAct). Agrees tells base (with_link o told count) s₁.events acts) (sym (acts_from w past start run.newest older))
+          (link_goes tells base o s₁.events old new told count agrees
+          (subst (λ (acts : List LinkAct). LinkDid tells.link acts o.told told o.link_faults count (Ok tt)) (ap (acts_each (acts_by s₁.peers.keeping)) same ∙ run.under.holds.acts) did));
+      kept = kept;
+    }
 
-      -- and all replies
-      pub replies_go : {A : Type 0} (done : A) → LinkDid tells.link acts told last count end (Ok tt) → Goes m w past numbers house tells base (at last end) (Ok done) did more s
-      replies_go done replied = goes_all (at last end) done stands
-          (link_goes tells base (with_link o told count) (onto did.event s.events) (out ++ s.acts) (reverse (map Replies did.replies)) last end out_goes
-          (subst (λ (l : List LinkAct). LinkDid tells.link l told last count end (Ok tt)) as_replies replied))
-          kept
-
-      -- or a part of them
-      pub replies_stop : {A : Type 0} (x : LinkFault) (fault : Fault) → Fails x fault → LinkDid tells.link acts told last count end (Err x)
-          → Goes {A = A} m w past numbers house tells base (at last end) (Err fault) did more s
-      replies_stop x fault is replied = goes_stops (at last end) fault more.peers stands
-          (link_stops tells base (with_link o told count) (onto did.event s.events) s.acts out (reverse (map Replies did.replies)) (sent_of w (so_far past s) did more) last end x fault is
-          refl out_goes (subst (λ (l : List LinkAct). LinkDid tells.link l told last count end (Err x)) as_replies replied))
-          (left_link (at last end) _ all_kept older_kept x fault is kept)
+    -- or a part of it
+    pub group_stops : (outputs : List Output) (x : LinkFault) (fault : Fault) (end : ServeEnd) → outputs ≡ group.outputs.items → Fails x fault
+        → LinkDid tells.link (acts_each (acts_by s₁.peers.keeping) outputs) o.told told o.link_faults count (Err x) → IsEndOf fault end
+        → ServesKept m w past numbers house.replicas.items tells base then end until limit start
+    group_stops outputs x fault end same why did is =
+        at_fault m w past numbers tells base until limit start run.newest older then house.replicas.items fault end one run.wanted is
+        (link_stops tells base o s₁.events old [] new new told count x fault why (sym (append-nil new)) agrees
+        (subst (λ (acts : List LinkAct). LinkDid tells.link acts o.told told o.link_faults count (Err x)) (ap (acts_each (acts_by s₁.peers.keeping)) same ∙ run.under.holds.acts) did))
+        (if_failed fault _ run.under.stands.here)
+        (left_link then (NoneSent tells base (with_link o told count) old) (kept_of w past s₁.events) (group_kept w past start run.newest older) (kept_of w past s₀.events) x fault why kept)

@@ -3,7 +3,6 @@ use Rattle.std.proofs.Common.{◌≡◌, ℕ, ◌&&◌, Bool, true, false, nat_l
 use Rattle.std.proofs.lemmas.List.{reverse-append}
 use Rattle.ritas_base.specs.declared.event.Event.{Event}
 use Rattle.ritas_base.specs.declared.event.Event.TheVariants as events
-use Rattle.outside.specs.declared.link.LinkItem.{LinkItem}
 use Rattle.outside.specs.declared.link.LinkItem.TheVariants as items
 use Rattle.outside.specs.declared.link.Sent.{Sent}
 use Rattle.keyed_channel.specs.Frames.{Opening, opening}
@@ -17,11 +16,11 @@ use Rattle.world_model.specs.World.{Setting, seen_of}
 use Rattle.node_loop.specs.Resending.{mark_at}
 use Rattle.world_model.specs.MadeOrder.{MadeFrame}
 use Rattle.node_loop.specs.Waiting.{Waiting}
-use Rattle.node_loop.specs.Calls.{Outcome, called, silent, item_does, first_does}
+use Rattle.node_loop.specs.Calls.{Outcome, called, item_does, first_does}
 use Rattle.node_loop.specs.Peers.{Peers, keep_all, with_mark}
 use Rattle.node_loop.specs.Deeds.{Deed, Came, Made, Resent, Acked, Wished, Replied, pushed}
 use Rattle.node_loop.specs.Resending.{Brought, nothing_more, is_deferred, opened_so, resends, noted_so}
-use Rattle.node_loop.specs.Serving.{Serving, so_far, onto, Round, Began, Turned, Reminded, Took, made_by, outcome, brought, round_does, after, came, with_deeds, deeds_of}
+use Rattle.node_loop.specs.Serving.{Serving, so_far, onto, Round, Began, Turned, Reminded, Took, made_by, outcome, brought, round_does, after_from, came, with_deeds, deeds_from}
 use Rattle.node_loop.specs.Laws.{IsEarned, AreEarned, AcksAreEarned}
 use Rattle.node_loop.proofs.Reopening.{did_so, brings_so}
 
@@ -173,5 +172,6 @@ round_earned w past (Took (items.Left at conn)) s ds all = all
 round_earned w past (Took items.End) s ds all = all
 
 pub are_earned : AcksAreEarned
-are_earned w past first [] = tt
-are_earned w past first (x ∷ rounds) = round_earned w past x (after w past first rounds) (deeds_of w past first rounds) (are_earned w past first rounds)
+are_earned w past start ds [] all = all
+are_earned w past start ds (x ∷ rounds) all =
+    round_earned w past x (after_from w past start rounds) (deeds_from w past start ds rounds) (are_earned w past start ds rounds all)

@@ -1,6 +1,6 @@
 -- The events of serving may stand in a file.
 use Rattle.std.proofs.Common.{◌≡◌, ℕ, ◌<◌, ◌^◌, Bool, true, false, List, [], ◌∷◌, length, nat_le, Option, Some, None, refl, subst, if◌then◌else◌}
-use Rattle.std.specs.List.{All, AllByRecursion}
+use Rattle.std.specs.List.{AllByRecursion}
 use Rattle.std.proofs.lemmas.List.Elements.{recursion_from_All}
 use Rattle.ritas_base.specs.declared.event.Event.{Event}
 use Rattle.ritas_base.specs.declared.event.Event.TheVariants as events
@@ -13,9 +13,9 @@ use Rattle.world_model.specs.World.{Setting, seen_of}
 use Rattle.world_model.specs.Agree.{rows_at}
 use Rattle.node_loop.specs.Waiting.{Waiting, with_waiter}
 use Rattle.node_loop.specs.Calls.{Outcome, called, asked_in, refusal_in, submitted, submitted_so, silent, is_waited_for, asked_so, asks_so, asks, if_here, item_does, first_does}
-use Rattle.node_loop.specs.Serving.{so_far, onto, Want, Begins, Finishes, Turns, Halts, Reminds, Asks, here, is_done, busy, turn_or, remind_or, wants_of, first_or, Round, Began, Turned, Reminded, Took, behind_first, after, IsWanted, AreWanted}
+use Rattle.node_loop.specs.Serving.{so_far, onto, Want, Begins, Finishes, Turns, Halts, Reminds, Asks, here, is_done, busy, turn_or, remind_or, wants_of, first_or, Serving, Round, Began, Turned, Reminded, Took, behind_first, after_from, IsWanted}
 use Rattle.node_loop.specs.Served.{IsFirst}
-use Rattle.node_loop.specs.Laws.{IsServed}
+use Rattle.node_loop.specs.Laws.{IsServed, EventsFit}
 use Rattle.node_loop.proofs.Turning.{turns_correct}
 use Rattle.keyed_channel.specs.Notes.{is_note}
 use Rattle.node_loop.specs.Peers.{Peers}
@@ -28,13 +28,13 @@ behind_fits : (left : List LinkItem) → AllByRecursion IsFirst left → AllByRe
 behind_fits [] all = tt
 behind_fits (item ∷ left) all = all.1
 
-left_fits : (w : Setting) (past : List Event) (first : List LinkItem) (rounds : List Round) → AllByRecursion IsFirst first
-    → AllByRecursion IsFirst (after w past first rounds).left
-left_fits w past first [] all = all
-left_fits w past first (Began item ∷ rounds) all = behind_fits (after w past first rounds).left (left_fits w past first rounds all)
-left_fits w past first (Turned i ∷ rounds) all = left_fits w past first rounds all
-left_fits w past first (Reminded i j ∷ rounds) all = left_fits w past first rounds all
-left_fits w past first (Took item ∷ rounds) all = left_fits w past first rounds all
+left_fits : (w : Setting) (past : List Event) (start : Serving) (rounds : List Round) → AllByRecursion IsFirst start.left
+    → AllByRecursion IsFirst (after_from w past start rounds).left
+left_fits w past start [] all = all
+left_fits w past start (Began item ∷ rounds) all = behind_fits (after_from w past start rounds).left (left_fits w past start rounds all)
+left_fits w past start (Turned i ∷ rounds) all = left_fits w past start rounds all
+left_fits w past start (Reminded i j ∷ rounds) all = left_fits w past start rounds all
+left_fits w past start (Took item ∷ rounds) all = left_fits w past start rounds all
 
 -- one that is taken up is a first one
 begun_fits : (left : List LinkItem) (other : Want) (item : LinkItem) → AllByRecursion IsFirst left → ((x : LinkItem) → other ≡ Begins x → ⊥)
@@ -160,21 +160,20 @@ took_fits w until limit es taken item p [] want = by_rule (wants_of w until limi
     by_rule (Reminds k l) none = absurd none
 took_fits w until limit es taken item p (x ∷ left) none = absurd none
 
-pub all_fit : (w : Setting) (past : List Event) (until limit : ℕ) (first : List LinkItem) (rounds : List Round) → All IsFirst first
-    → AreWanted w past until limit first rounds → AllByRecursion (IsServed w) (after w past first rounds).events
-all_fit w past until limit first [] all wanted = tt
-all_fit w past until limit first (Began item ∷ rounds) all wanted =
-    let s = after w past first rounds in
-    let is_first = begun_fits s.left (wants_of w until limit (so_far past s) s.taken s.peers) item (left_fits w past first rounds (recursion_from_All IsFirst first all))
+pub all_fit : EventsFit
+all_fit w past until limit start [] firsts all wanted = all
+all_fit w past until limit start (Began item ∷ rounds) firsts all wanted =
+    let s = after_from w past start rounds in
+    let is_first = begun_fits s.left (wants_of w until limit (so_far past s) s.taken s.peers) item (left_fits w past start rounds (recursion_from_All IsFirst start.left firsts))
     (no_first w until limit (so_far past s) s.taken s.peers) wanted.0 in
     onto_fits w s.events (first_does w (so_far past s) item s.waiting).event (first_fits w (so_far past s) item s.waiting is_first)
-    (all_fit w past until limit first rounds all wanted.1)
-all_fit w past until limit first (Turned i ∷ rounds) all wanted =
-    let s = after w past first rounds in
-    (turned_fits w until limit (so_far past s) s.taken i s.peers s.left wanted.0, all_fit w past until limit first rounds all wanted.1)
-all_fit w past until limit first (Reminded i j ∷ rounds) all wanted = all_fit w past until limit first rounds all wanted.1
-all_fit w past until limit first (Took item ∷ rounds) all wanted =
-    let s = after w past first rounds in
+    (all_fit w past until limit start rounds firsts all wanted.1)
+all_fit w past until limit start (Turned i ∷ rounds) firsts all wanted =
+    let s = after_from w past start rounds in
+    (turned_fits w until limit (so_far past s) s.taken i s.peers s.left wanted.0, all_fit w past until limit start rounds firsts all wanted.1)
+all_fit w past until limit start (Reminded i j ∷ rounds) firsts all wanted = all_fit w past until limit start rounds firsts all wanted.1
+all_fit w past until limit start (Took item ∷ rounds) firsts all wanted =
+    let s = after_from w past start rounds in
     onto_fits w s.events (item_does w (so_far past s) item s.waiting).event
     (item_fits w (so_far past s) item s.waiting (took_fits w until limit (so_far past s) s.taken item s.peers s.left wanted.0))
-    (all_fit w past until limit first rounds all wanted.1)
+    (all_fit w past until limit start rounds firsts all wanted.1)

@@ -1,5 +1,5 @@
 -- The link's calls are the deeds, and what went out for the first time are the frames that the calls made.
-use Rattle.std.proofs.Common.{◌≡◌, ℕ, ◌&&◌, Bool, true, false, nat_lt, List, [], ◌∷◌, ◌++◌, length, map, reverse, Option, Some, None, Result, Ok, Err, refl, sym, ◌∙◌, ap, ap₂, append_assoc, if◌then◌else◌}
+use Rattle.std.proofs.Common.{◌≡◌, ℕ, ◌&&◌, Bool, true, false, nat_lt, List, [], ◌∷◌, ◌++◌, map, reverse, Option, Some, None, Result, Ok, Err, refl, sym, ◌∙◌, ap, ap₂, append_assoc, if◌then◌else◌}
 use Rattle.std.specs.List.{AllByRecursion}
 use Rattle.std.proofs.lemmas.List.{append-nil, reverse-append, reverse-reverse}
 use Rattle.ritas_base.specs.declared.event.Event.{Event}
@@ -7,7 +7,7 @@ use Rattle.ritas_base.specs.declared.event.Event.TheVariants as events
 use Rattle.outside.specs.declared.link.LinkItem.{LinkItem}
 use Rattle.outside.specs.declared.link.LinkItem.TheVariants as items
 use Rattle.outside.specs.declared.link.Sent.{Sent}
-use Rattle.outside.specs.Links.{LinkAct, Gives, Sends, Replies}
+use Rattle.outside.specs.Links.{LinkAct, Gives, Replies}
 use Rattle.keyed_channel.specs.KeyRow.{KeyRow}
 use Rattle.keyed_channel.specs.Frames.{Opening, opening}
 use Rattle.keyed_channel.specs.Notes.{is_note, noted}
@@ -17,11 +17,11 @@ use Rattle.keyed_channel.specs.declared.note.Note.TheVariants as notes
 use Rattle.link_resume.specs.declared.kept.Kept.{Kept}
 use Rattle.world_model.specs.World.{Setting, seen_of}
 use Rattle.world_model.specs.MadeOrder.{MadeFrame, all_made}
-use Rattle.node_loop.specs.Calls.{Outcome, called, item_does, first_does}
+use Rattle.node_loop.specs.Calls.{Outcome}
 use Rattle.node_loop.specs.Peers.{Peers, keep_all}
 use Rattle.node_loop.specs.Deeds.{Deed, Came, Made, Resent, Acked, Wished, Replied, pushed, act_of, firsts_in}
 use Rattle.node_loop.specs.Resending.{Brought, is_deferred, opened_so, noted_so, item_brings}
-use Rattle.node_loop.specs.Serving.{Serving, so_far, as_sent, made_by, sent_by, onto, Round, Began, Turned, Reminded, Took, outcome, brought, round_does, after, came, with_deeds, deeds_of}
+use Rattle.node_loop.specs.Serving.{Serving, so_far, as_sent, made_by, sent_by, onto, Round, Began, Turned, Reminded, Took, outcome, brought, round_does, after_from, came, with_deeds, deeds_from}
 use Rattle.node_loop.specs.Laws.{ActsAreDeeds, FramesAreMade}
 
 reverse_cons : {A : Type 0} (x : A) (xs : List A) → reverse (x ∷ xs) ≡ reverse xs ++ x ∷ []
@@ -72,12 +72,13 @@ acts_more w past (Took item) s ds is =
     (ap (λ (l : List LinkAct). Gives item ∷ l) is)
 
 pub acts_are : ActsAreDeeds
-acts_are w past first [] = refl
-acts_are w past first (x ∷ rounds) = acts_more w past x (after w past first rounds) (deeds_of w past first rounds) (acts_are w past first rounds)
+acts_are w past start ds [] is = is
+acts_are w past start ds (x ∷ rounds) is =
+    acts_more w past x (after_from w past start rounds) (deeds_from w past start ds rounds) (acts_are w past start ds rounds is)
 
 -- ---- the frames
 
-firsts_made : (fs : List MadeFrame) (ds : List Deed) → firsts_in (pushed (map Made fs) ds) ≡ reverse fs ++ firsts_in ds
+pub firsts_made : (fs : List MadeFrame) (ds : List Deed) → firsts_in (pushed (map Made fs) ds) ≡ reverse fs ++ firsts_in ds
 firsts_made [] ds = refl
 firsts_made (f ∷ fs) ds =
     firsts_made fs (Made f ∷ ds)
@@ -138,10 +139,10 @@ unfolding all_made
 made_next w es past None = sym (append-nil (all_made w (es ++ past)))
 made_next w es past (Some e) = refl
 
-made_round : (w : Setting) (es past : List Event) (o : Option Event) (more : List Deed) (rs : List Sent) (ds : List Deed) → AllByRecursion IsBesides more
-    → all_made w (es ++ past) ≡ all_made w past ++ reverse (firsts_in ds)
-    → all_made w (onto o es ++ past) ≡ all_made w past ++ reverse (firsts_in (with_deeds (made_by w (es ++ past) o) more rs ds))
-made_round w es past o more rs ds besides so =
+made_round : (w : Setting) (es past : List Event) (before : List MadeFrame) (o : Option Event) (more : List Deed) (rs : List Sent) (ds : List Deed) → AllByRecursion IsBesides more
+    → all_made w (es ++ past) ≡ before ++ reverse (firsts_in ds)
+    → all_made w (onto o es ++ past) ≡ before ++ reverse (firsts_in (with_deeds (made_by w (es ++ past) o) more rs ds))
+made_round w es past before o more rs ds besides so =
     let fs = made_by w (es ++ past) o in
     let firsts : firsts_in (with_deeds fs more rs ds) ≡ reverse fs ++ firsts_in ds =
     firsts_replied rs (pushed more (pushed (map Made fs) ds)) ∙ (firsts_besides more (pushed (map Made fs) ds) besides ∙ firsts_made fs ds) in
@@ -149,20 +150,21 @@ made_round w es past o more rs ds besides so =
     ap reverse firsts ∙ (reverse-append (reverse fs) (firsts_in ds) ∙ ap (λ (l : List MadeFrame). reverse (firsts_in ds) ++ l) (reverse-reverse fs)) in
     made_next w es past o
     ∙ (ap (λ (l : List MadeFrame). l ++ fs) so
-    ∙ (append_assoc (all_made w past) (reverse (firsts_in ds)) fs
-    ∙ ap (λ (l : List MadeFrame). all_made w past ++ l) (sym back)))
+    ∙ (append_assoc before (reverse (firsts_in ds)) fs
+    ∙ ap (λ (l : List MadeFrame). before ++ l) (sym back)))
 
-frames_more : (w : Setting) (past : List Event) (x : Round) (s : Serving) (ds : List Deed)
-    → all_made w (so_far past s) ≡ all_made w past ++ reverse (firsts_in ds)
-    → all_made w (so_far past (round_does w past x s)) ≡ all_made w past
+frames_more : (w : Setting) (past : List Event) (before : List MadeFrame) (x : Round) (s : Serving) (ds : List Deed)
+    → all_made w (so_far past s) ≡ before ++ reverse (firsts_in ds)
+    → all_made w (so_far past (round_does w past x s)) ≡ before
     ++ reverse (firsts_in (with_deeds (made_by w (so_far past s) (outcome w past x s).event) (brought w past x s).deeds (outcome w past x s).replies (came x ds)))
-frames_more w past (Began item) s ds so = made_round w s.events past (outcome w past (Began item) s).event (brought w past (Began item) s).deeds (outcome w past (Began item) s).replies ds tt so
-frames_more w past (Turned i) s ds so = made_round w s.events past (outcome w past (Turned i) s).event (brought w past (Turned i) s).deeds (outcome w past (Turned i) s).replies ds tt so
-frames_more w past (Reminded i j) s ds so = made_round w s.events past (outcome w past (Reminded i j) s).event (brought w past (Reminded i j) s).deeds (outcome w past (Reminded i j) s).replies ds (tt, tt) so
-frames_more w past (Took item) s ds so =
-    made_round w s.events past (outcome w past (Took item) s).event (brought w past (Took item) s).deeds (outcome w past (Took item) s).replies (Came item ∷ ds)
+frames_more w past before (Began item) s ds so = made_round w s.events past before (outcome w past (Began item) s).event (brought w past (Began item) s).deeds (outcome w past (Began item) s).replies ds tt so
+frames_more w past before (Turned i) s ds so = made_round w s.events past before (outcome w past (Turned i) s).event (brought w past (Turned i) s).deeds (outcome w past (Turned i) s).replies ds tt so
+frames_more w past before (Reminded i j) s ds so = made_round w s.events past before (outcome w past (Reminded i j) s).event (brought w past (Reminded i j) s).deeds (outcome w past (Reminded i j) s).replies ds (tt, tt) so
+frames_more w past before (Took item) s ds so =
+    made_round w s.events past before (outcome w past (Took item) s).event (brought w past (Took item) s).deeds (outcome w past (Took item) s).replies (Came item ∷ ds)
     (item_besides w (so_far past s) item (keep_all (made_by w (so_far past s) (outcome w past (Took item) s).event) s.peers)) so
 
 pub are_made : FramesAreMade
-are_made w past first [] = sym (append-nil (all_made w past))
-are_made w past first (x ∷ rounds) = frames_more w past x (after w past first rounds) (deeds_of w past first rounds) (are_made w past first rounds)
+are_made w past start before ds [] so = so
+are_made w past start before ds (x ∷ rounds) so =
+    frames_more w past before x (after_from w past start rounds) (deeds_from w past start ds rounds) (are_made w past start before ds rounds so)

@@ -2,14 +2,13 @@
 use Rattle.std.proofs.Common.{List, [], ◌∷◌, ◌++◌, map, reverse, Option, Some, None, refl, ◌∙◌, ap, subst, append_assoc}
 use Rattle.ritas_base.specs.declared.event.Event.{Event}
 use Rattle.ritas_base.specs.declared.event.Event.TheVariants as events
-use Rattle.outside.specs.declared.link.LinkItem.{LinkItem}
 use Rattle.outside.specs.Links.{Gives, Replies}
 use Rattle.layer_api.specs.Service.{IsPart}
 use Rattle.world_model.specs.World.{Setting}
 use Rattle.node_loop.specs.Calls.{Outcome, called, silent, item_does, first_does}
 use Rattle.node_loop.specs.Deeds.{act_of}
 use Rattle.node_loop.specs.Resending.{Brought}
-use Rattle.node_loop.specs.Serving.{Serving, so_far, sent_by, onto, with_outcome, Round, Began, Turned, Reminded, Took, began, gave, brought, round_does, after}
+use Rattle.node_loop.specs.Serving.{Serving, so_far, sent_by, onto, with_outcome, Round, Began, Turned, Reminded, Took, began, gave, brought, round_does, after_from}
 use Rattle.node_loop.specs.Laws.{OnlyGrows}
 
 abbrev Grown : Serving → Serving → Type 0
@@ -37,11 +36,11 @@ grown_round w past (Reminded i j) s t grown = grown_outcome w past (silent [] t.
 grown_round w past (Took item) s t grown =
     grown_outcome w past (item_does w (so_far past t) item t.waiting) (brought w past (Took item) t) s (gave item t) (grown.0, part_front (Gives item ∷ []) s.acts t.acts grown.1)
 
-grown_more : (w : Setting) (past : List Event) (first : List LinkItem) (more xs : List Round) → Grown (after w past first xs) (after w past first (more ++ xs))
-grown_more w past first [] xs = (([], refl), ([], refl))
-grown_more w past first (x ∷ more) xs =
-    grown_round w past x (after w past first xs) (after w past first (more ++ xs)) (grown_more w past first more xs)
+grown_more : (w : Setting) (past : List Event) (start : Serving) (more xs : List Round) → Grown (after_from w past start xs) (after_from w past start (more ++ xs))
+grown_more w past start [] xs = (([], refl), ([], refl))
+grown_more w past start (x ∷ more) xs =
+    grown_round w past x (after_from w past start xs) (after_from w past start (more ++ xs)) (grown_more w past start more xs)
 
 pub grows : OnlyGrows
-grows w past first xs ys part =
-    subst (λ (zs : List Round). Grown (after w past first xs) (after w past first zs)) part.1 (grown_more w past first part.0 xs)
+grows w past start xs ys part =
+    subst (λ (zs : List Round). Grown (after_from w past start xs) (after_from w past start zs)) part.1 (grown_more w past start part.0 xs)

@@ -1,7 +1,7 @@
--- What isn't kept changes nothing, and what is kept is short.
-use Rattle.std.proofs.Common.{◌≡◌, ◌≢◌, ℕ, ◌≤◌, ◌-◌, nat_le, nat_lt, Bool, true, false, not, ◌&&◌, ◌==◌, List, [], ◌∷◌, ◌++◌, length, take, drop, Option, Some, None, Result, Ok, Err, if◌then◌else◌, refl, sym, ap, ◌∙◌, inl, inr, eq-eqb, arith, lit≤}
+-- What isn't kept changes nothing and makes no frame, and what is kept is short.
+use Rattle.std.proofs.Common.{◌≡◌, ◌≢◌, ℕ, ◌≤◌, ◌-◌, nat_le, nat_lt, Bool, true, false, not, ◌&&◌, ◌==◌, List, [], ◌∷◌, ◌++◌, length, map, take, drop, Option, Some, None, Result, Ok, Err, if◌then◌else◌, refl, sym, ap, ap₂, ◌∙◌, inl, inr, eq-eqb, arith, lit≤}
 use Rattle.std.proofs.lemmas.Bool.{cases_eq, ne_eqb, leb-true, ltb-false, eqb-true}
-use Rattle.std.proofs.lemmas.List.{length-drop}
+use Rattle.std.proofs.lemmas.List.{length-drop, map-append, append-nil}
 use Rattle.std.specs.List.{AllByRecursion}
 use Rattle.std.specs.Int.{from_be_bytes, w8}
 use Rattle.ritas_base.specs.declared.event.Event.{Event}
@@ -27,10 +27,16 @@ use Rattle.ritas_core.specs.Machine as core
 use Rattle.ritas_core.specs.Machine.{CoreState, What, Moved, stays, gives, given_item, given_input, moved_live}
 use Rattle.ritas_core.specs.Checks.{verdict_on, input_check, input_fault_or, window_fault}
 use Rattle.ritas_core.specs.Parts.{Parts, parts}
-use Rattle.replica.specs.Handling.{Call, Frame, Input, Turn, handled, given_body, given_frame, core_answer}
+use Rattle.replica.specs.Handling.{Call, Frame, Input, Turn, Handled, handled, given_body, given_frame, core_answer, framed}
+use Rattle.replica.specs.Frames.{frames_of as frames_for, count_for}
+use Rattle.replica.specs.declared.frame.OutFrame.{OutFrame}
 use Rattle.world_model.specs.World.{Setting, CallAt, rules_at, handled_at, after_call, call_at, call_of, halted_at, seen_answer, seen_call, states_of, states_before}
+use Rattle.world_model.specs.MadeOrder.{MadeFrame, frames_in, all_made}
 use Rattle.world_model.specs.Stands.{NoneStops}
+use Rattle.outside.specs.declared.link.Sent.{Sent}
 use Rattle.node_loop.specs.Keeping.{is_kept_answer, is_kept, kept_onto, kept_of, IsCallEvent, KeptStands, KeptIsShort}
+use Rattle.node_loop.specs.Serving.{made_by}
+use Rattle.node_loop.specs.Laws.{sent_as, frames_of, KeptMakes}
 
 -- ---- what isn't kept changes nothing
 
@@ -38,14 +44,18 @@ use Rattle.node_loop.specs.Keeping.{is_kept_answer, is_kept, kept_onto, kept_of,
 abbrev keeps : Result Answer CoreFault → Bool
 keeps answer = is_kept_answer (seen_answer (core_answer answer))
 
-gives_same : (r : Rules) (st : CoreState) (item : Item) (v : Verdict) → keeps (gives r st item st.inbox v).answer ≡ false → (gives r st item st.inbox v).state ≡ st
-gives_same r st item (verdicts.Refuse fault) e = refl
-gives_same r st item verdicts.Again e = refl
+-- a call left the core as it was, and put nothing out
+abbrev IsIdle : CoreState → Moved → Type 0
+IsIdle st did = (did.state ≡ st) × (did.out ≡ [])
+
+gives_same : (r : Rules) (st : CoreState) (item : Item) (v : Verdict) → keeps (gives r st item st.inbox v).answer ≡ false → IsIdle st (gives r st item st.inbox v)
+gives_same r st item (verdicts.Refuse fault) e = (refl, refl)
+gives_same r st item verdicts.Again e = (refl, refl)
 gives_same r st item verdicts.Hold e = absurd (cc e)
 gives_same r st item verdicts.Take e = absurd (cc e)
 
-input_same : (r : Rules) (st : CoreState) (value : List ℕ) (o : Option CoreFault) → keeps (given_input r st value o).answer ≡ false → (given_input r st value o).state ≡ st
-input_same r st value (Some fault) e = refl
+input_same : (r : Rules) (st : CoreState) (value : List ℕ) (o : Option CoreFault) → keeps (given_input r st value o).answer ≡ false → IsIdle st (given_input r st value o)
+input_same r st value (Some fault) e = (refl, refl)
 input_same r st value None e = absurd (cc e)
 
 abbrev if_live : Rules → CoreState → What → Bool → Moved
@@ -56,36 +66,45 @@ live_is : (r : Rules) (st : CoreState) (what : What) (b : Bool) → (if b then m
 live_is r st what true = refl
 live_is r st what false = refl
 
-item_same : (r : Rules) (st : CoreState) (item : Item) (b : Bool) → keeps (if_live r st (core.Frame item) b).answer ≡ false → (if_live r st (core.Frame item) b).state ≡ st
+item_same : (r : Rules) (st : CoreState) (item : Item) (b : Bool) → keeps (if_live r st (core.Frame item) b).answer ≡ false → IsIdle st (if_live r st (core.Frame item) b)
 item_same r st item true e = gives_same r st item (verdict_on r (parts r st.history) st.held item) e
-item_same r st item false e = refl
+item_same r st item false e = (refl, refl)
 
-value_same : (r : Rules) (st : CoreState) (value : List ℕ) (b : Bool) → keeps (if_live r st (core.Input value) b).answer ≡ false → (if_live r st (core.Input value) b).state ≡ st
+value_same : (r : Rules) (st : CoreState) (value : List ℕ) (b : Bool) → keeps (if_live r st (core.Input value) b).answer ≡ false → IsIdle st (if_live r st (core.Input value) b)
 value_same r st value true e = input_same r st value (input_check r (parts r st.history) value) e
-value_same r st value false e = refl
+value_same r st value false e = (refl, refl)
 
-frame_moved : (r : Rules) (st : CoreState) (item : Item) → keeps (core.moved r st (core.Frame item)).answer ≡ false → (core.moved r st (core.Frame item)).state ≡ st
+frame_moved : (r : Rules) (st : CoreState) (item : Item) → keeps (core.moved r st (core.Frame item)).answer ≡ false → IsIdle st (core.moved r st (core.Frame item))
 frame_moved r st item e =
     let is = live_is r st (core.Frame item) st.live in
-    ap (λ (x : Moved). x.state) is ∙ item_same r st item st.live (sym (ap (λ (x : Moved). keeps x.answer) is) ∙ e)
+    let idle = item_same r st item st.live (sym (ap (λ (x : Moved). keeps x.answer) is) ∙ e) in
+    (ap (λ (x : Moved). x.state) is ∙ idle.0, ap (λ (x : Moved). x.out) is ∙ idle.1)
 
-input_moved : (r : Rules) (st : CoreState) (value : List ℕ) → keeps (core.moved r st (core.Input value)).answer ≡ false → (core.moved r st (core.Input value)).state ≡ st
+input_moved : (r : Rules) (st : CoreState) (value : List ℕ) → keeps (core.moved r st (core.Input value)).answer ≡ false → IsIdle st (core.moved r st (core.Input value))
 input_moved r st value e =
     let is = live_is r st (core.Input value) st.live in
-    ap (λ (x : Moved). x.state) is ∙ value_same r st value st.live (sym (ap (λ (x : Moved). keeps x.answer) is) ∙ e)
+    let idle = value_same r st value st.live (sym (ap (λ (x : Moved). keeps x.answer) is) ∙ e) in
+    (ap (λ (x : Moved). x.state) is ∙ idle.0, ap (λ (x : Moved). x.out) is ∙ idle.1)
 
-body_same : (r : Rules) (k : KeyRow) (st : CoreState) (o : Result Item BodyFault) → is_kept_answer (seen_answer (given_body r k st o).answer) ≡ false → (given_body r k st o).state ≡ st
-body_same r k st (Ok item) e = frame_moved r st item e
-body_same r k st (Err fault) e = refl
+-- a call left the replica as it was, and made no frame
+abbrev IsUnmoved : CoreState → Handled → Type 0
+IsUnmoved st did = (did.state ≡ st) × (did.out ≡ [])
 
-frame_same : (r : Rules) (k : KeyRow) (st : CoreState) (o : Result Opening OpenFault) → is_kept_answer (seen_answer (given_frame r k st o).answer) ≡ false → (given_frame r k st o).state ≡ st
+idle_framed : (r : Rules) (k : KeyRow) (st : CoreState) (did : Moved) → IsIdle st did → IsUnmoved st (framed r k st did)
+idle_framed r k st did idle = (idle.0, ap (frames_for k (count_for r st.history)) idle.1)
+
+body_same : (r : Rules) (k : KeyRow) (st : CoreState) (o : Result Item BodyFault) → is_kept_answer (seen_answer (given_body r k st o).answer) ≡ false → IsUnmoved st (given_body r k st o)
+body_same r k st (Ok item) e = idle_framed r k st (core.moved r st (core.Frame item)) (frame_moved r st item e)
+body_same r k st (Err fault) e = (refl, refl)
+
+frame_same : (r : Rules) (k : KeyRow) (st : CoreState) (o : Result Opening OpenFault) → is_kept_answer (seen_answer (given_frame r k st o).answer) ≡ false → IsUnmoved st (given_frame r k st o)
 frame_same r k st (Ok o) e = body_same r k st (body_answer r.casts.numbers r.mode o.from o.body) e
-frame_same r k st (Err fault) e = refl
+frame_same r k st (Err fault) e = (refl, refl)
 
 -- a call that isn't a turn and isn't kept leaves the replica as it was
-handled_same : (r : Rules) (k : KeyRow) (st : CoreState) (call : Call) → call ≢ Turn → is_kept_answer (seen_answer (handled r k st call).answer) ≡ false → (handled r k st call).state ≡ st
+handled_same : (r : Rules) (k : KeyRow) (st : CoreState) (call : Call) → call ≢ Turn → is_kept_answer (seen_answer (handled r k st call).answer) ≡ false → IsUnmoved st (handled r k st call)
 handled_same r k st (Frame bytes) not e = frame_same r k st (opening k bytes) e
-handled_same r k st (Input bytes) not e = input_moved r st bytes e
+handled_same r k st (Input bytes) not e = idle_framed r k st (core.moved r st (core.Input bytes)) (input_moved r st bytes e)
 handled_same r k st Turn not e = absurd (not refl)
 
 -- ---- a replica that was given the kept events stands where it stood
@@ -106,9 +125,29 @@ called_same w states None other e i = refl
 called_same w states (Some c) other e i = elim (cases_eq c.at i) [
   | inl same ↦
       ap (λ (b : Bool). if b then (handled_at w states c).state else states i) (eq-eqb c.at i same)
-      ∙ handled_same (rules_at w c.at) (w.keys c.at) (states c.at) c.call other e ∙ ap states same
+      ∙ (handled_same (rules_at w c.at) (w.keys c.at) (states c.at) c.call other e).0 ∙ ap states same
   | inr apart ↦ ap (λ (b : Bool). if b then (handled_at w states c).state else states i) (ne_eqb c.at i apart)
 ]
+
+called_none : (k : ℕ) (w : Setting) (states : ℕ → CoreState) (o : Option CallAt) → IsOther o → is_kept_answer (seen_call w states o) ≡ false → frames_in k w states o ≡ []
+called_none k w states None other e = refl
+called_none k w states (Some c) other e =
+    ap (λ (out : List OutFrame). map (λ o. record { event = k; from = c.at; to = o.to; bytes = o.bytes }) out)
+    (handled_same (rules_at w c.at) (w.keys c.at) (states c.at) c.call other e).1
+
+-- the numbers of events aside
+sent_numbered : (j k at : ℕ) (out : List OutFrame)
+    → map sent_as (map (λ o. record { event = j; from = at; to = o.to; bytes = o.bytes }) out) ≡ map sent_as (map (λ o. record { event = k; from = at; to = o.to; bytes = o.bytes }) out)
+sent_numbered j k at [] = refl
+sent_numbered j k at (f ∷ out) = ap (λ (l : List Sent). record { at = at; to = f.to; bytes = f.bytes } ∷ l) (sent_numbered j k at out)
+
+sent_called : (j k : ℕ) (w : Setting) (states : ℕ → CoreState) (o : Option CallAt) → map sent_as (frames_in j w states o) ≡ map sent_as (frames_in k w states o)
+sent_called j k w states None = refl
+sent_called j k w states (Some c) = sent_numbered j k c.at (handled_at w states c).out
+
+frames_next : (w : Setting) (e : Event) (es : List Event) → frames_of w (e ∷ es) ≡ frames_of w es ++ map sent_as (made_by w es (Some e))
+unfolding all_made
+frames_next w e es = map-append sent_as (all_made w es) (made_by w es (Some e))
 
 and_true : (b : Bool) → (b && true) ≡ b
 and_true true = refl
@@ -156,8 +195,41 @@ module _ (w : Setting) (none : NoneStops w) where
           next_is e (kept_of w past es ++ past) ∙ ap (λ (s : ℕ → CoreState). stepped s e) older ∙ sym (next_is e (es ++ past))
       here false is older = older ∙ sym (unkept_same e (es ++ past) all.0 is)
 
+  -- and makes no frame
+  unkept_none : (e : Event) (es : List Event) → IsCallEvent e → is_kept w es e ≡ false → made_by w es (Some e) ≡ []
+  unkept_none (events.Frame to bytes) es is no_keep =
+      called_none (length es) w (states_before w es) (call_at w to (Frame bytes)) (is_other w to (Frame bytes) (λ t. cc t)) no_keep
+  unkept_none (events.Input at bytes) es is no_keep =
+      called_none (length es) w (states_before w es) (call_at w at (Input bytes)) (is_other w at (Input bytes) (λ t. cc t)) no_keep
+  unkept_none (events.Turn at) es is no_keep = absurd (cc no_keep)
+  unkept_none (events.Pass from to m) es is no_keep = absurd is
+  unkept_none (events.Sealed from to body) es is no_keep = absurd is
+
+  -- an event makes the same frames wherever the replicas stand alike
+  sent_alike : (e : Event) (xs ys : List Event) → states_of w xs ≡ states_of w ys → map sent_as (made_by w xs (Some e)) ≡ map sent_as (made_by w ys (Some e))
+  sent_alike e xs ys alike =
+      sent_called (length xs) (length ys) w (states_before w xs) (call_of w (states_before w xs) e)
+      ∙ ap (λ (s : ℕ → CoreState). map sent_as (frames_in (length ys) w s (call_of w s e))) (before_same xs ∙ alike ∙ sym (before_same ys))
+
+  all_make : (past es : List Event) → AllByRecursion IsCallEvent es → frames_of w (kept_of w past es ++ past) ≡ frames_of w (es ++ past)
+  all_make past [] all = refl
+  all_make past (e ∷ es) all = here (is_kept w (es ++ past) e) refl (all_make past es all.1)
+    where
+      here : (b : Bool) → is_kept w (es ++ past) e ≡ b → frames_of w (kept_of w past es ++ past) ≡ frames_of w (es ++ past) → frames_of w (kept_onto b e (kept_of w past es) ++ past) ≡ frames_of w (e ∷ (es ++ past))
+      here true is older =
+          frames_next w e (kept_of w past es ++ past)
+          ∙ ap₂ (λ (a b : List Sent). a ++ b) older (sent_alike e (kept_of w past es ++ past) (es ++ past) (all_stand past es all.1))
+          ∙ sym (frames_next w e (es ++ past))
+      here false is older =
+          let same : frames_of w (e ∷ (es ++ past)) ≡ frames_of w (es ++ past) ++ [] =
+          frames_next w e (es ++ past) ∙ ap (λ (l : List MadeFrame). frames_of w (es ++ past) ++ map sent_as l) (unkept_none e (es ++ past) all.0 is) in
+          older ∙ sym (same ∙ append-nil (frames_of w (es ++ past)))
+
 pub stands_kept : KeptStands
 stands_kept w past es none all = all_stand w none past es all
+
+pub makes_kept : KeptMakes
+makes_kept w past es none all = all_make w none past es all
 
 -- ---- what is kept is short
 

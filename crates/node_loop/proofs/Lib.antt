@@ -23,7 +23,7 @@ pub mod Keepers
 pub mod Wishing
 pub mod Hearing
 pub mod KeptFrames
-pub mod SentOut
+pub mod Grouping
 pub mod Delivering
 pub mod Journaling
 pub mod Recalling

@@ -8,7 +8,7 @@ use Rattle.outside.specs.declared.link.LinkItem.{LinkItem}
 use Rattle.layer_api.specs.Service.{IsPart}
 use Rattle.world_model.specs.World.{Setting}
 use Rattle.world_model.specs.Agree.{OneIsPart}
-use Rattle.node_loop.specs.Serving.{Want, Begins, Finishes, Turns, Halts, Reminds, Asks, wants, Round, Began, Turned, Reminded, Took, after, IsWanted, AreWanted}
+use Rattle.node_loop.specs.Serving.{Want, Begins, Finishes, Turns, Halts, Reminds, Asks, wants, Serving, Round, Began, Turned, Reminded, Took, after_from, IsWanted, AreWantedFrom}
 use Rattle.node_loop.specs.Laws.{items_of, OneRun}
 
 -- ---- parts
@@ -52,10 +52,10 @@ items_more (Turned i ∷ more) xs = items_more more xs
 items_more (Reminded i j ∷ more) xs = items_more more xs
 items_more (Took item ∷ more) xs = let part = items_more more xs in (item ∷ part.0, ap (λ (l : List LinkItem). item ∷ l) part.1)
 
-wanted_before : (w : Setting) (past : List Event) (until limit : ℕ) (first : List LinkItem) (more xs : List Round)
-    → AreWanted w past until limit first (more ++ xs) → AreWanted w past until limit first xs
-wanted_before w past until limit first [] xs wanted = wanted
-wanted_before w past until limit first (x ∷ more) xs wanted = wanted_before w past until limit first more xs wanted.1
+wanted_before : (w : Setting) (past : List Event) (until limit : ℕ) (start : Serving) (more xs : List Round)
+    → AreWantedFrom w past until limit start (more ++ xs) → AreWantedFrom w past until limit start xs
+wanted_before w past until limit start [] xs wanted = wanted
+wanted_before w past until limit start (x ∷ more) xs wanted = wanted_before w past until limit start more xs wanted.1
 
 -- ---- one round
 
@@ -97,43 +97,43 @@ same_round Halts x y xs left right one = absurd left
 
 -- ---- all rounds
 
-same_rounds : (w : Setting) (past : List Event) (until limit : ℕ) (first : List LinkItem) (xs ys : List Round)
-    → AreWanted w past until limit first xs → AreWanted w past until limit first ys
+same_rounds : (w : Setting) (past : List Event) (until limit : ℕ) (start : Serving) (xs ys : List Round)
+    → AreWantedFrom w past until limit start xs → AreWantedFrom w past until limit start ys
     → OneIsPart (items_of xs) (items_of ys) → length xs ≡ length ys → xs ≡ ys
-same_rounds w past until limit first [] [] left right one long = refl
-same_rounds w past until limit first [] (y ∷ ys) left right one long = absurd (cc)
-same_rounds w past until limit first (x ∷ xs) [] left right one long = absurd (cc)
-same_rounds w past until limit first (x ∷ xs) (y ∷ ys) left right one long =
+same_rounds w past until limit start [] [] left right one long = refl
+same_rounds w past until limit start [] (y ∷ ys) left right one long = absurd (cc)
+same_rounds w past until limit start (x ∷ xs) [] left right one long = absurd (cc)
+same_rounds w past until limit start (x ∷ xs) (y ∷ ys) left right one long =
     let below = parts_of_two (items_of xs) (items_of ys) (items_of (x ∷ xs)) (items_of (y ∷ ys)) (items_more (x ∷ []) xs) (items_more (y ∷ []) ys) one in
-    let rest : xs ≡ ys = same_rounds w past until limit first xs ys left.1 right.1 below (cc) in
-    let want : IsWanted (wants w past until limit (after w past first xs)) y = subst (λ (zs : List Round). IsWanted (wants w past until limit (after w past first zs)) y) (sym rest) right.0 in
+    let rest : xs ≡ ys = same_rounds w past until limit start xs ys left.1 right.1 below (cc) in
+    let want : IsWanted (wants w past until limit (after_from w past start xs)) y = subst (λ (zs : List Round). IsWanted (wants w past until limit (after_from w past start zs)) y) (sym rest) right.0 in
     let items : OneIsPart (items_of (x ∷ xs)) (items_of (y ∷ xs)) = subst (λ (zs : List Round). OneIsPart (items_of (x ∷ xs)) (items_of (y ∷ zs))) (sym rest) one in
-    ap₂ (λ (z : Round) (zs : List Round). z ∷ zs) (same_round (wants w past until limit (after w past first xs)) x y xs left.0 want items) rest
+    ap₂ (λ (z : Round) (zs : List Round). z ∷ zs) (same_round (wants w past until limit (after_from w past start xs)) x y xs left.0 want items) rest
 
 -- the ones are no longer than the others
-first_rounds : (w : Setting) (past : List Event) (until limit : ℕ) (first : List LinkItem) (xs ys : List Round)
-    → AreWanted w past until limit first xs → AreWanted w past until limit first ys
+first_rounds : (w : Setting) (past : List Event) (until limit : ℕ) (start : Serving) (xs ys : List Round)
+    → AreWantedFrom w past until limit start xs → AreWantedFrom w past until limit start ys
     → OneIsPart (items_of xs) (items_of ys) → length xs ≤ length ys → IsPart xs ys
-first_rounds w past until limit first xs ys left right one short =
+first_rounds w past until limit start xs ys left right one short =
     let k = length ys - length xs in
     let more = take k ys in
     let rest = drop k ys in
     let whole : more ++ rest ≡ ys = take-append-drop k ys in
-    let wanted = wanted_before w past until limit first more rest (subst (λ (zs : List Round). AreWanted w past until limit first zs) (sym whole) right) in
+    let wanted = wanted_before w past until limit start more rest (subst (λ (zs : List Round). AreWantedFrom w past until limit start zs) (sym whole) right) in
     let part : IsPart (items_of rest) (items_of ys) = subst (λ (zs : List Round). IsPart (items_of rest) (items_of zs)) whole (items_more more rest) in
     let items = parts_of_two (items_of xs) (items_of rest) (items_of xs) (items_of ys) (part_itself (items_of xs)) part one in
     let long : length xs ≡ length rest = omega (arith, short, length-drop k ys) in
-    (more, ap (λ (zs : List Round). more ++ zs) (same_rounds w past until limit first xs rest left wanted items long) ∙ whole)
+    (more, ap (λ (zs : List Round). more ++ zs) (same_rounds w past until limit start xs rest left wanted items long) ∙ whole)
 
 turned : {X : Type 0} (xs ys : List X) → OneIsPart xs ys → OneIsPart ys xs
 turned xs ys (inl part) = inr part
 turned xs ys (inr part) = inl part
 
 pub runs_one : OneRun
-runs_one w past until limit first xs ys left right one = by_length (leb (length xs) (length ys)) refl
+runs_one w past until limit start xs ys left right one = by_length (leb (length xs) (length ys)) refl
   where
     by_length : (b : Bool) → leb (length xs) (length ys) ≡ b → OneIsPart xs ys
-    by_length true short = inl (first_rounds w past until limit first xs ys left right one (leb-true (length xs) (length ys) short))
+    by_length true short = inl (first_rounds w past until limit start xs ys left right one (leb-true (length xs) (length ys) short))
     by_length false long =
         let more = leb-false (length xs) (length ys) long in
-        inr (first_rounds w past until limit first ys xs right left (turned (items_of xs) (items_of ys) one) (omega (arith, more)))
+        inr (first_rounds w past until limit start ys xs right left (turned (items_of xs) (items_of ys) one) (omega (arith, more)))

@@ -1,9 +1,9 @@
 -- What is kept for a peer went out, and no acknowledgement of it came since.
-use Rattle.std.specs.Prelude.{◌≡◌, ℕ, ◌+◌, ◌==◌, ◌&&◌, ◌||◌, not, Bool, true, false, cond, nat_le, nat_lt, List, [], ◌∷◌, ◌++◌, length, map, filter, Option, Some, None, Result, Ok, Err, refl, if◌then◌else◌}
+use Rattle.std.specs.Prelude.{◌≡◌, ℕ, ◌+◌, ◌==◌, ◌&&◌, ◌||◌, not, Bool, true, false, nat_le, nat_lt, List, [], ◌∷◌, ◌++◌, length, map, reverse, Option, Some, None, Result, Ok, Err, refl, if◌then◌else◌}
 use Rattle.std.specs.List.{AllByRecursion}
-use Rattle.std.specs.Str.{bytes_eq}
 use Rattle.std.proofs.Common.{sym, ◌∙◌, ap, ap₂, subst, inl, inr}
 use Rattle.std.proofs.lemmas.Bool.{cases_Bool, eqb-true, eq-eqb}
+use Rattle.std.proofs.lemmas.List.{append-nil}
 use Rattle.std.proofs.lemmas.Slice.Eq.{bytes_eq-Decides}
 use Rattle.ritas_base.specs.declared.event.Event.{Event}
 use Rattle.ritas_base.specs.declared.event.Event.TheVariants as events
@@ -16,17 +16,19 @@ use Rattle.keyed_channel.specs.declared.frame.OpenFault.{OpenFault}
 use Rattle.keyed_channel.specs.declared.note.Note.{Note}
 use Rattle.keyed_channel.specs.declared.note.Note.TheVariants as notes
 use Rattle.link_resume.specs.declared.kept.Kept.{Kept}
-use Rattle.link_resume.specs.Lists.{bytes_in, most_bytes, all_but}
+use Rattle.link_resume.specs.Lists.{bytes_in, most_bytes, all_but, room_for}
 use Rattle.world_model.specs.World.{Setting, seen_of}
-use Rattle.world_model.specs.MadeOrder.{MadeFrame}
+use Rattle.world_model.specs.MadeOrder.{MadeFrame, all_made}
 use Rattle.node_loop.specs.Waiting.{Waiting}
-use Rattle.node_loop.specs.Calls.{Outcome, called, asks, silent, if_here, item_does, first_does}
+use Rattle.node_loop.specs.Calls.{Outcome, called, silent, item_does, first_does}
 use Rattle.node_loop.specs.declared.peers.Mark.{Mark}
 use Rattle.node_loop.specs.Peers.{Peers, is_pair, with_list, with_mark, keeps, keep_one, keep_all, acknowledged}
 use Rattle.node_loop.specs.Deeds.{Deed, Came, Made, Resent, Acked, Wished, Replied, pushed, says_so, acks, is_first, is_open}
-use Rattle.node_loop.specs.Resending.{Brought, nothing_more, mark_at, is_deferred, opened_so, resends, noted_so, item_brings}
-use Rattle.node_loop.specs.Serving.{Serving, so_far, Round, Began, Turned, Reminded, Took, made_by, brought, outcome, after, came, with_deeds, deeds_of}
-use Rattle.node_loop.specs.Laws.{AreOpen, ResendsAreOpen}
+use Rattle.node_loop.specs.Resending.{Brought, nothing_more, mark_at, is_deferred, opened_so, resends, noted_so}
+use Rattle.node_loop.specs.Serving.{Serving, so_far, Round, Began, Turned, Reminded, Took, made_by, brought, outcome, after_from, came, with_deeds, deeds_from}
+use Rattle.node_loop.specs.Recovering.{keep_newest, all_newest, recalled_peers, recalled_deeds}
+use Rattle.node_loop.specs.Laws.{IsSent, AllSent, AreOpen, ResendsAreOpen, RecalledAreSent, RecalledAreOpen}
+use Rattle.node_loop.proofs.FramesSent.{firsts_made}
 
 -- ---- tests
 
@@ -47,13 +49,7 @@ both false b h = absurd (cc)
 
 -- ---- what is kept
 
-abbrev pub IsSent : Setting → ℕ → ℕ → List Deed → Kept → Type 0
-IsSent w i j ds k = (k.seq ≡ seq_of k.frame) × (is_open w i j k.frame ds ≡ true)
-
-pub record AllSent (w : Setting) (p : Peers) (ds : List Deed) : Type 0 where
-  pub each : (i j : ℕ) → AllByRecursion (IsSent w i j ds) (p.keeping i j)
-
--- so it is of all that is kept, and of all that went out again
+-- all that is kept went out, and all that went out again did
 pub record Good (w : Setting) (p : Peers) (ds : List Deed) : Type 0 where
   pub sent : AllSent w p ds
   pub again : AreOpen w ds
@@ -313,9 +309,53 @@ round_good w past (Took (items.Down at peer)) s ds good = came_good w (items.Dow
 round_good w past (Took (items.Left at conn)) s ds good = came_good w (items.Left at conn) s.peers ds (λ i j seq. refl) good
 round_good w past (Took items.End) s ds good = came_good w items.End s.peers ds (λ i j seq. refl) good
 
-pub all_good : (w : Setting) (past : List Event) (first : List LinkItem) (rounds : List Round) → Good w (after w past first rounds).peers (deeds_of w past first rounds)
-all_good w past first [] = record { sent = record { each = λ i j. tt }; again = tt }
-all_good w past first (x ∷ rounds) = round_good w past x (after w past first rounds) (deeds_of w past first rounds) (all_good w past first rounds)
+all_good : (w : Setting) (past : List Event) (start : Serving) (ds : List Deed) (rounds : List Round) → Good w start.peers ds
+    → Good w (after_from w past start rounds).peers (deeds_from w past start ds rounds)
+all_good w past start ds [] good = good
+all_good w past start ds (x ∷ rounds) good =
+    round_good w past x (after_from w past start rounds) (deeds_from w past start ds rounds) (all_good w past start ds rounds good)
 
 pub resends_open : ResendsAreOpen
-resends_open w past first rounds = (all_good w past first rounds).again
+resends_open w past start ds rounds sent again = (all_good w past start ds rounds (record { sent = sent; again = again })).again
+
+-- ---- events that a journal kept
+
+-- where the oldest are dropped, all others stay
+room_all : (P : Kept → Type 0) (size : ℕ) (ks : List Kept) → AllByRecursion P ks → AllByRecursion P (room_for size ks)
+room_all P size [] all = tt
+room_all P size (k ∷ ks) all = by_room (nat_le (bytes_in (k ∷ ks) + size) most_bytes) (room_all P size ks all.1)
+  where
+    by_room : (b : Bool) → AllByRecursion P (room_for size ks) → AllByRecursion P (if b then k ∷ ks else room_for size ks)
+    by_room true fewer = all
+    by_room false fewer = fewer
+
+one_newest : (w : Setting) (f : MadeFrame) (p : Peers) (ds : List Deed) → Good w p ds → Good w (keep_newest f p) (Made f ∷ ds)
+one_newest w f p ds good =
+    let own = p.keeping f.from f.to in
+    record {
+      sent = one_list w f.from f.to (keeps f.bytes (room_for (length f.bytes) own)) p (Made f ∷ ds)
+          (keeps_sent w f ds (room_for (length f.bytes) own) (room_all (IsSent w f.from f.to ds) (length f.bytes) own (good.sent.each f.from f.to)))
+          (λ a b _. made_stays w f a b ds (p.keeping a b) (good.sent.each a b));
+      again = good.again;
+    }
+
+newest_good : (w : Setting) (fs : List MadeFrame) (p : Peers) (ds : List Deed) → Good w p ds → Good w (all_newest fs p) (pushed (map Made fs) ds)
+newest_good w [] p ds good = good
+newest_good w (f ∷ fs) p ds good = newest_good w fs (keep_newest f p) (Made f ∷ ds) (one_newest w f p ds good)
+
+pushed_made : (fs gs : List MadeFrame) (ds : List Deed) → pushed (map Made (fs ++ gs)) ds ≡ pushed (map Made gs) (pushed (map Made fs) ds)
+pushed_made [] gs ds = refl
+pushed_made (f ∷ fs) gs ds = pushed_made fs gs (Made f ∷ ds)
+
+recalled_good : (w : Setting) (past : List Event) → Good w (recalled_peers w past) (recalled_deeds w past)
+unfolding all_made
+recalled_good w [] = record { sent = record { each = λ i j. tt }; again = tt }
+recalled_good w (e ∷ es) =
+    subst (λ (ds : List Deed). Good w (recalled_peers w (e ∷ es)) ds) (sym (pushed_made (all_made w es) (made_by w es (Some e)) []))
+    (newest_good w (made_by w es (Some e)) (recalled_peers w es) (recalled_deeds w es) (recalled_good w es))
+
+pub recalled_sent : RecalledAreSent
+recalled_sent w past = (recalled_good w past).sent
+
+pub recalled_open : RecalledAreOpen
+recalled_open w past = ((recalled_good w past).again, firsts_made (all_made w past) [] ∙ append-nil (reverse (all_made w past)))

@@ -1,5 +1,6 @@
 -- Rounds of serving.
-use Rattle.std.proofs.Common.{◌≡◌, ℕ, ◌+◌, ◌<◌, Bool, true, false, List, [], ◌∷◌, ◌++◌, Option, Some, None, Ok, Err, refl, sym, ap, ap₂, subst, ◌∙◌, append_assoc, arith, ◌≤◌, nat_le, ◌⊎◌, inl, inr, if◌then◌else◌}
+use Rattle.std.proofs.Common.{◌≡◌, ℕ, ◌<◌, Bool, true, false, List, [], ◌∷◌, ◌++◌, Err, refl, sym, ap, ap₂, subst, ◌∙◌, arith, ◌≤◌, nat_le, inl, inr, if◌then◌else◌, ◌+◌, length, append_assoc}
+use Rattle.std.specs.Prelude.{◌&&◌, not}
 use Rattle.ritas_base.specs.declared.event.Event.{Event}
 use Rattle.keyed_channel.specs.KeyRow.{KeyRow}
 use Rattle.ritas_core.specs.Stands.{Meaning}
@@ -13,7 +14,6 @@ use Rattle.outside.specs.declared.link.FaultCounts.{FaultCounts}
 use Rattle.outside.specs.declared.link.LinkFault.{LinkFault}
 use Rattle.outside.specs.declared.link.LinkFault.TheVariants as link_faults
 use Rattle.outside.specs.Writing.{TookFront}
-use Rattle.schedule_file.specs.Spelling.{event_text}
 use Rattle.world_model.specs.World.{Setting}
 use Rattle.node_loop.specs.declared.end.Fault.{Fault}
 use Rattle.node_loop.specs.declared.end.Fault.TheVariants as faults
@@ -22,59 +22,24 @@ use Rattle.node_loop.specs.declared.end.ServeEnd.TheVariants as ends
 use Rattle.node_loop.specs.declared.house.House.{House}
 use Rattle.node_loop.specs.declared.peers.Pair.{Pair}
 use Rattle.node_loop.specs.declared.rounds.Next.TheVariants as next
-use Rattle.node_loop.specs.Waiting.{nobody}
-use Rattle.node_loop.specs.Calls.{Outcome}
-use Rattle.node_loop.specs.Peers.{Peers, no_peers}
-use Rattle.node_loop.specs.Resending.{Brought, due}
-use Rattle.node_loop.specs.Serving.{Serving, begin, so_far, onto, Want, Begins, Finishes, Turns, Halts, Reminds, Asks, wants_of, turn_or, remind_or, first_or, here, busy, is_done, wants, Round, Began, Turned, Reminded, Took, behind_first, began, at_call, outcome, brought, sent_of, round_does, after, newest, sooner, after_from, newest_from, sooner_from, IsGiven, IsWanted}
+use Rattle.node_loop.specs.Peers.{Peers}
+use Rattle.node_loop.specs.Resending.{due}
+use Rattle.node_loop.specs.Serving.{Serving, begin, so_far, Want, Begins, Finishes, Turns, Halts, Reminds, Asks, wants_of, turn_or, remind_or, first_or, here, busy, is_done, wants, Round, Began, Turned, Reminded, Took, AreTurns, IsGroup, behind_first, round_does, after, newest, sooner, after_from, events_from, newest_from, sooner_from, given_in, given_first, IsGiven, IsWanted, AreWantedFrom}
 use Rattle.node_loop.specs.Outs.{text_of, Outs, Tells, Agrees, HasCauses, AllWritten, NoneSent, InOrder, Stops, IfFailed, Fails}
 use Rattle.node_loop.specs.ServingLaws.{acts_from}
 use Rattle.node_loop.specs.Standing.{HouseStands}
 use Rattle.node_loop.specs.Served.{AreHere, EndsSo, Serves}
-use Rattle.node_loop.specs.ServedKept.{EndsKept, ServesKept, earlier_from}
+use Rattle.node_loop.specs.ServedKept.{EndsKept, ServesKept, earlier_from, group_kept}
 use Rattle.node_loop.specs.declared.archive.ArchiveFault.{ArchiveFault}
 use Rattle.node_loop.specs.Archives.{Moment, LeftAt, KeptAt}
 use Rattle.node_loop.specs.Keeping.{kept_of}
-use Rattle.node_loop.specs.Running.{IsEndOf, IsOfLink, Running, Goes, TookItem, GaveNone, IsNext}
+use Rattle.node_loop.specs.Running.{IsEndOf, Running, Gathered, FellShortOf, NotYet, IsNext}
+use Rattle.node_loop.specs.declared.group.Group.{Group}
+use Rattle.node_loop.specs.Groups.{IsEmpty, Joins, Under}
 use Rattle.outside.specs.LinkCallsLaws.{back_none, back_all}
-use Rattle.node_loop.proofs.Stepping.{with_link, text_next, has_cause, same_failed}
-use Rattle.node_loop.proofs.Delivering.{if_failed}
+use Rattle.node_loop.proofs.Stepping.{with_link, has_cause, same_failed}
+use Rattle.node_loop.proofs.Grouping.{events_parts, text_parts, holds_none}
 use Rattle.node_loop.proofs.Turning.{turns_correct, reminds_peer}
-
--- ---- one step
-
-front_onto : (old new : List ℕ) (did : Option Event) (events : List Event) → new ≡ old ++ text_of events → TookFront old new (text_of (onto did events))
-front_onto old new None events is = all_written old new (text_of events) is
-front_onto old new (Some e) events is =
-    subst (λ (l : List ℕ). TookFront old new l) (sym (text_next e events)) (front_more old new (text_of events) (event_text e) (all_written old new (text_of events) is))
-
--- a replica was without memory
-pub goes_no_further : {S E C : Type 0} (m : Meaning S E C KeyRow) (w : Setting) (past : List Event) (numbers : List ℕ) (tells : Tells) (base : Outs) {A : Type 0}
-    (house : House S E C) (o : Moment) (did : Outcome) (more : Brought) (s : Serving) → Agrees tells base o.outs s.events s.acts → o.stands (kept_of w past s.events)
-    → Goes {A = A} m w past numbers house tells base o (Err faults.Mem) did more s
-goes_no_further m w past numbers tells base house o did more s agrees stood = record {
-  steps = record {
-    taken = λ t. front_onto base.taken o.outs.taken did.event s.events (agrees.taken t);
-    told = λ t. rw (agrees.told t) (back_none (s.acts ++ base.told) (sent_of w (so_far past s) did more));
-    order = inr agrees.told;
-    tape_later = omega (arith, agrees.tape_stands);
-    link_later = omega (arith, same_failed agrees.link_stands);
-    cause = (agrees.tape_stands, inl agrees.link_stands);
-  };
-  stands = tt;
-  kept = inr (agrees.told, inl stood);
-}
-
--- what a call answers besides doesn't matter
-pub goes_as : {S E C : Type 0} (m : Meaning S E C KeyRow) (w : Setting) (past : List Event) (numbers : List ℕ) (tells : Tells) (base : Outs) {A B : Type 0}
-    (house : House S E C) (o : Moment) (a : A) (b : B) (did : Outcome) (more : Brought) (s : Serving) → Goes m w past numbers house tells base o (Ok a) did more s
-    → Goes m w past numbers house tells base o (Ok b) did more s
-goes_as m w past numbers tells base house o a b did more s goes = record { steps = goes.steps; stands = goes.stands; kept = goes.kept }
-
-pub goes_fail : {S E C : Type 0} (m : Meaning S E C KeyRow) (w : Setting) (past : List Event) (numbers : List ℕ) (tells : Tells) (base : Outs) {A B : Type 0}
-    (house : House S E C) (o : Moment) (fault : Fault) (did : Outcome) (more : Brought) (s : Serving) → Goes {A = A} m w past numbers house tells base o (Err fault) did more s
-    → Goes {A = B} m w past numbers house tells base o (Err fault) did more s
-goes_fail m w past numbers tells base house o fault did more s goes = record { steps = goes.steps; stands = goes.stands; kept = goes.kept }
 
 -- ---- the link's next item
 
@@ -89,7 +54,22 @@ next_given tells base o events acts told count item agrees is same = record {
   link_stands = same ∙ agrees.link_stands;
 }
 
--- it failed
+-- a fault of the link, or want of memory
+abbrev pub IsOfLink : Fault → Type 0
+IsOfLink faults.Link = Unit {0}
+IsOfLink faults.Mem = Unit {0}
+IsOfLink faults.Tape = ⊥
+IsOfLink faults.Disk = ⊥
+IsOfLink (faults.Full x) = ⊥
+
+-- it gave none, for a fault of its own or for want of memory
+pub record GaveNone (tells : Tells) (base now : Outs) (fault : Fault) (s : Serving) : Type 0 where
+  pub written : AllWritten tells base now s.events
+  pub told : NoneSent tells base now s.acts
+  pub link_later : base.link_faults.failed ≤ now.link_faults.failed
+  pub own : IsOfLink fault
+  pub cause : HasCauses base now fault
+
 link_alone : (x : LinkFault) (fault : Fault) → Fails x fault → IsOfLink fault
 link_alone link_faults.Failed fault is = rw is tt
 link_alone link_faults.Mem fault is = rw is tt
@@ -121,17 +101,17 @@ whole_order tells base o faults.Link events sooner own written = written
 whole_order tells base o faults.Mem events sooner own written = inl written
 
 -- then all that came of the rounds was told
-pub none_stops : (w : Setting) (past : List Event) (start : Serving) (rounds : List Round) (tells : Tells) (base o : Outs) (fault : Fault)
-    → GaveNone tells base o fault (after_from w past start rounds)
-    → Stops tells base o fault (after_from w past start rounds).events (sooner_from w past start rounds) (newest_from w past start rounds)
-none_stops w past start rounds tells base o fault gave =
-    let s = after_from w past start rounds in
-    let new = newest_from w past start rounds in
-    let old = sooner_from w past start rounds in
+none_stops : (w : Setting) (past : List Event) (start : Serving) (newest older : List Round) (tells : Tells) (base o : Outs) (fault : Fault)
+    → GaveNone tells base o fault (after_from w past start (newest ++ older))
+    → Stops tells base o fault (after_from w past start (newest ++ older)).events (sooner_from w past start newest older) (newest_from w past start newest older)
+none_stops w past start newest older tells base o fault gave =
+    let s = after_from w past start (newest ++ older) in
+    let new = newest_from w past start newest older in
+    let old = sooner_from w past start newest older in
     record {
       taken = λ t. all_written base.taken o.taken (text_of s.events) (gave.written t);
       told = λ t. back_all (old ++ base.told) o.told new
-          (gave.told t ∙ ap (λ (l : List LinkAct). l ++ base.told) (acts_from w past start rounds) ∙ append_assoc new old base.told);
+          (gave.told t ∙ ap (λ (l : List LinkAct). l ++ base.told) (acts_from w past start newest older) ∙ append_assoc new old base.told);
       order = whole_order tells base o fault s.events old gave.own gave.written;
       tape_later = tape_on base o fault gave.own gave.cause;
       link_later = gave.link_later;
@@ -206,6 +186,13 @@ module _ (w : Setting) (until limit : ℕ) (es : List Event) (taken : ℕ) (p : 
 
 -- ---- rounds
 
+pub if_failed : (fault : Fault) (P : Type 0) → P → IfFailed fault P
+if_failed faults.Tape P p = p
+if_failed faults.Link P p = p
+if_failed faults.Mem P p = tt
+if_failed faults.Disk P p = p
+if_failed (faults.Full x) P p = p
+
 pub ends_so : {S E C : Type 0} (m : Meaning S E C KeyRow) (w : Setting) (past : List Event) (numbers : List ℕ) (here : List _) (tells : Tells) (base now : Outs)
     (fault : Fault) (end : ServeEnd) (s : Serving) (sooner news : List LinkAct) (rule : Want)
     → IsEndOf fault end → Stops tells base now fault s.events sooner news → IfFailed fault (AreHere m w (so_far past s) numbers here) → EndsKept {S = S} {E = E} {C = C} m w past numbers here tells base now end s sooner news rule
@@ -216,100 +203,49 @@ ends_so m w past numbers here tells base now faults.Disk end s sooner news rule 
 ends_so m w past numbers here tells base now (faults.Full x) end s sooner news rule is stops stand = rw is (stops, stand)
 
 -- what was kept at a fault was at the end that it is
-left_end : (now : Moment) (none : Type 0) (kept older : List Event) (fault : Fault) (end : ServeEnd) → IsEndOf fault end → LeftAt now none kept older fault → KeptAt now none kept older end
-left_end now none kept older faults.Link end is left = rw is left
-left_end now none kept older faults.Tape end is left = rw is left
-left_end now none kept older faults.Mem end is left = rw is left
-left_end now none kept older faults.Disk end is left = rw is left
-left_end now none kept older (faults.Full x) end is left = rw is left
+left_end : (now : Moment) (none : Type 0) (kept group older : List Event) (fault : Fault) (end : ServeEnd) → IsEndOf fault end → LeftAt now none kept group older fault
+    → KeptAt now none kept group older end
+left_end now none kept group older faults.Link end is left = rw is left
+left_end now none kept group older faults.Tape end is left = rw is left
+left_end now none kept group older faults.Mem end is left = rw is left
+left_end now none kept group older faults.Disk end is left = rw is left
+left_end now none kept group older (faults.Full x) end is left = rw is left
 
 -- all was where the link gave none
-left_none : (now : Moment) (none : Type 0) (kept older : List Event) (fault : Fault) → IsOfLink fault → now.stands kept → LeftAt now none kept older fault
-left_none now none kept older faults.Link own stands = stands
-left_none now none kept older faults.Mem own stands = inl stands
-left_none now none kept older faults.Tape own stands = absurd own
-left_none now none kept older faults.Disk own stands = absurd own
-left_none now none kept older (faults.Full x) own stands = absurd own
+left_none : (now : Moment) (none : Type 0) (kept group older : List Event) (fault : Fault) → IsOfLink fault → now.stands kept → LeftAt now none kept group older fault
+left_none now none kept group older faults.Link own stands = stands
+left_none now none kept group older faults.Mem own stands = inl stands
+left_none now none kept group older faults.Tape own stands = absurd own
+left_none now none kept group older faults.Disk own stands = absurd own
+left_none now none kept group older (faults.Full x) own stands = absurd own
 
-module _ {S E C : Type 0} (m : Meaning S E C KeyRow) (w : Setting) (past : List Event) (numbers : List ℕ) (tells : Tells) (base : Outs) (until limit : ℕ) (start : Serving) where
-  -- where none of the first items is left
-  pub wants_now : (house : House S E C) (o : Moment) (taken : ℕ) (run : Running m w past numbers house tells base o taken until limit start [])
-      → wants w past until limit (after_from w past start run.rounds) ≡ wants_of w until limit (so_far past (after_from w past start run.rounds)) taken (after_from w past start run.rounds).peers
-  wants_now house o taken run =
-      let s = after_from w past start run.rounds in
-      ap₂ (λ (left : List LinkItem) (n : ℕ). first_or left (wants_of w until limit (so_far past s) n s.peers)) run.rest (sym run.count)
+-- ---- where none of the first items is left
 
-  -- a round more
-  pub runs_on : (old new : House S E C) (o now : Moment) (taken more : ℕ) (left rest : List LinkItem) (x : Round) (run : Running m w past numbers old tells base o taken until limit start left)
-      → IsWanted (wants w past until limit (after_from w past start run.rounds)) x
-      → (round_does w past x (after_from w past start run.rounds)).left ≡ rest → more ≡ (round_does w past x (after_from w past start run.rounds)).taken
-      → {A : Type 0} (done : A) → Goes m w past numbers new tells base now (Ok done) (outcome w past x (after_from w past start run.rounds)) (brought w past x (after_from w past start run.rounds)) (at_call x (after_from w past start run.rounds))
-      → Running m w past numbers new tells base now more until limit start rest
-  runs_on old new o now taken more left rest x run want is_left is_taken done goes = record {
-    rounds = x ∷ run.rounds;
-    wanted = (want, run.wanted);
-    rest = is_left;
-    count = is_taken;
-    stands = goes.stands;
-    agrees = goes.steps;
-    kept = goes.kept;
-  }
+module _ (w : Setting) (past : List Event) (until limit : ℕ) (start : Serving) where
+  pub wants_now : (rounds : List Round) (taken : ℕ) → (after_from w past start rounds).left ≡ [] → taken ≡ (after_from w past start rounds).taken
+      → wants w past until limit (after_from w past start rounds) ≡ wants_of w until limit (so_far past (after_from w past start rounds)) taken (after_from w past start rounds).peers
+  wants_now rounds taken rest count =
+      let s = after_from w past start rounds in
+      ap₂ (λ (left : List LinkItem) (n : ℕ). first_or left (wants_of w until limit (so_far past s) n s.peers)) rest (sym count)
 
-  -- or it ended in it
-  pub round_stops : (old new : House S E C) (o now : Moment) (taken : ℕ) (left : List LinkItem) (x : Round) (fault : Fault) (end : ServeEnd) (run : Running m w past numbers old tells base o taken until limit start left)
-      → IsWanted (wants w past until limit (after_from w past start run.rounds)) x → {A : Type 0}
-      → Goes {A = A} m w past numbers new tells base now (Err fault) (outcome w past x (after_from w past start run.rounds)) (brought w past x (after_from w past start run.rounds)) (at_call x (after_from w past start run.rounds))
-      → IsEndOf fault end → ServesKept m w past numbers new.replicas.items tells base now end until limit start
-  round_stops old new o now taken left x fault end run want goes is =
-      let s = round_does w past x (after_from w past start run.rounds) in
-      record {
-        rounds = x ∷ run.rounds;
-        wanted = (want, run.wanted);
-        so = ends_so m w past numbers new.replicas.items tells base now.outs fault end s (sooner_from w past start (x ∷ run.rounds)) (newest_from w past start (x ∷ run.rounds)) (wants w past until limit s) is goes.steps goes.stands;
-        kept = left_end now (NoneSent tells base now.outs (sooner_from w past start (x ∷ run.rounds))) (kept_of w past s.events) (kept_of w past (earlier_from w past start (x ∷ run.rounds))) fault end is goes.kept;
-      }
-
-  -- ---- the first items
-
-  pub runs_first : (house : House S E C) (o : Moment) → start.taken ≡ 0 → HouseStands m w (so_far past start) numbers house start.waiting start.peers
-      → Agrees tells base o.outs start.events start.acts → o.stands (kept_of w past start.events) → Running m w past numbers house tells base o 0 until limit start start.left
-  runs_first house o none stands agrees stood = record { rounds = []; wanted = tt; rest = refl; count = sym none; stands = stands; agrees = agrees; kept = stood }
-
-  module _ (old : House S E C) (o : Moment) (item : LinkItem) (left rest : List LinkItem) (run : Running m w past numbers old tells base o 0 until limit start left) (is : left ≡ item ∷ rest) where
-    abbrev began_at : Serving
-    began_at = after_from w past start run.rounds
-
-    first_wanted : IsWanted (wants w past until limit began_at) (Began item)
-    first_wanted =
-        subst (λ (l : List LinkItem). IsWanted (first_or l (wants_of w until limit (so_far past began_at) began_at.taken began_at.peers)) (Began item)) (sym (run.rest ∙ is)) refl
-
-    pub began_on : (new : House S E C) (now : Moment) {A : Type 0} (done : A) → Goes m w past numbers new tells base now (Ok done) (outcome w past (Began item) began_at) (brought w past (Began item) began_at) (began began_at)
-        → Running m w past numbers new tells base now 0 until limit start rest
-    began_on new now done goes = runs_on old new o now 0 0 left rest (Began item) run first_wanted (ap behind_first (run.rest ∙ is)) run.count done goes
-
-    pub began_stops : (new : House S E C) (now : Moment) (fault : Fault) (end : ServeEnd)
-        → Goes {A = Unit {0}} m w past numbers new tells base now (Err fault) (outcome w past (Began item) began_at) (brought w past (Began item) began_at) (began began_at) → IsEndOf fault end
-        → ServesKept m w past numbers new.replicas.items tells base now end until limit start
-    began_stops new now fault end goes is_end = round_stops old new o now 0 left (Began item) fault end run first_wanted goes is_end
-
-  module _ (house : House S E C) (o : Moment) (taken : ℕ) (run : Running m w past numbers house tells base o taken until limit start []) where
+  module _ (rounds : List Round) (taken : ℕ) (rest : (after_from w past start rounds).left ≡ []) (count : taken ≡ (after_from w past start rounds).taken) where
     abbrev now_at : Serving
-    now_at = after_from w past start run.rounds
+    now_at = after_from w past start rounds
 
     abbrev next_want : Want
     next_want = wants_of w until limit (so_far past now_at) taken now_at.peers
 
-    turn_wanted : (at : ℕ) → IsNext next_want (next.Turn at) → IsWanted (wants w past until limit now_at) (Turned at)
+    pub turn_wanted : (at : ℕ) → IsNext next_want (next.Turn at) → IsWanted (wants w past until limit now_at) (Turned at)
     turn_wanted at is =
-        subst (λ (want : Want). IsWanted want (Turned at)) (sym (wants_now house o taken run ∙ next_turn next_want at is)) refl
+        subst (λ (want : Want). IsWanted want (Turned at)) (sym (wants_now rounds taken rest count ∙ next_turn next_want at is)) refl
 
-    remind_wanted : (pair : Pair) → IsNext next_want (next.Remind pair) → IsWanted (wants w past until limit now_at) (Reminded pair.at pair.peer)
+    pub remind_wanted : (pair : Pair) → IsNext next_want (next.Remind pair) → IsWanted (wants w past until limit now_at) (Reminded pair.at pair.peer)
     remind_wanted pair is =
-        subst (λ (want : Want). IsWanted want (Reminded pair.at pair.peer)) (sym (wants_now house o taken run ∙ next_remind next_want pair is)) (refl, refl)
+        subst (λ (want : Want). IsWanted want (Reminded pair.at pair.peer)) (sym (wants_now rounds taken rest count ∙ next_remind next_want pair is)) (refl, refl)
 
-    item_wanted : (item : LinkItem) → IsNext next_want next.Ask → IsGiven item → IsWanted (wants w past until limit now_at) (Took item)
+    pub item_wanted : (item : LinkItem) → IsNext next_want next.Ask → IsGiven item → IsWanted (wants w past until limit now_at) (Took item)
     item_wanted item is is_item =
-        subst (λ (want : Want). IsWanted want (Took item)) (sym (wants_now house o taken run ∙ next_ask next_want is)) is_item
+        subst (λ (want : Want). IsWanted want (Took item)) (sym (wants_now rounds taken rest count ∙ next_ask next_want is)) is_item
 
     pub turn_at_correct : (at : ℕ) → IsNext next_want (next.Turn at) → w.is_correct at ≡ true
     turn_at_correct at is = turns_correct w until limit (so_far past now_at) taken now_at.peers at (next_turn next_want at is)
@@ -317,76 +253,272 @@ module _ {S E C : Type 0} (m : Meaning S E C KeyRow) (w : Setting) (past : List 
     pub remind_of_peer : (pair : Pair) → IsNext next_want (next.Remind pair) → (w.is_correct pair.at ≡ true) × (pair.peer < w.numbers.n)
     remind_of_peer pair is = reminds_peer w until limit (so_far past now_at) taken now_at.peers pair.at pair.peer (next_remind next_want pair is)
 
-    pub finishes : IsNext next_want next.Finish → ServesKept m w past numbers house.replicas.items tells base o ends.Done until limit start
-    finishes is = record {
-      rounds = run.rounds;
-      wanted = run.wanted;
-      so = record { why = wants_now house o taken run ∙ next_finish next_want is; agrees = run.agrees; stand = run.stands.here };
-      kept = run.kept;
+-- ---- a turn may join
+
+pub may_turn : (newest : List Round) (at : ℕ) (group : Group) → (true ≡ group.kept && not group.resends) → Joins newest (Turned at) group
+may_turn [] at group goes = tt
+may_turn (y ∷ newest) at group goes = (and_left group.kept (not group.resends) (sym goes), not_true group.resends (and_right group.kept (not group.resends) (sym goes)))
+  where
+    and_left : (a b : Bool) → a && b ≡ true → a ≡ true
+    and_left true b is = refl
+    and_left false b is = is
+
+    and_right : (a b : Bool) → a && b ≡ true → b ≡ true
+    and_right true b is = is
+    and_right false b is = absurd (cc)
+
+    not_true : (b : Bool) → not b ≡ true → b ≡ false
+    not_true false is = refl
+    not_true true is = absurd (cc)
+
+pub is_group : (newest older : List Round) → (newest ≡ [] → ⊥) → AreTurns newest → length newest ≤ 64 → IsGroup newest older
+is_group newest older some turns le = record { some = λ none. absurd (some none); turns = turns; most = le }
+
+one_alone : (x : Round) (older : List Round) → IsGroup (x ∷ []) older
+one_alone x older = is_group (x ∷ []) older (λ no. absurd (cc)) tt (omega arith)
+
+pub no_group : IsGroup [] []
+no_group = record { some = λ is. refl; turns = tt; most = omega arith }
+
+module _ {S E C : Type 0} (m : Meaning S E C KeyRow) (w : Setting) (past : List Event) (numbers : List ℕ) (until limit : ℕ) (start : Serving) where
+  -- a turn more
+  pub gathers_turn : (house new : House S E C) (group more : Group) (taken : ℕ) (older : List Round) (given : List LinkAct) (most at : ℕ)
+      (run : Gathered m w past numbers house group taken until limit start [] older given most)
+      → IsNext (wants_of w until limit (so_far past (after_from w past start (run.newest ++ older))) taken (after_from w past start (run.newest ++ older)).peers) (next.Turn at)
+      → Under m w past numbers start (Turned at ∷ run.newest) older new more
+      → Gathered m w past numbers new more taken until limit start [] older given (most + 1)
+  gathers_turn house new group more taken older given most at run is under = record {
+    newest = Turned at ∷ run.newest;
+    some = λ no. absurd (cc);
+    turns = more_turns run.newest run.turns;
+    short = omega (arith, run.short);
+    begins = same_first run.newest ∙ run.begins;
+    wanted = (turn_wanted w past until limit start (run.newest ++ older) taken run.rest run.count at is, run.wanted);
+    rest = run.rest;
+    count = run.count;
+    under = under;
+  }
+    where
+      more_turns : (newest : List Round) → AreTurns newest → AreTurns (Turned at ∷ newest)
+      more_turns [] turns = tt
+      more_turns (y ∷ newest) turns = (tt, turns)
+
+      same_first : (newest : List Round) → given_first (Turned at ∷ newest) ≡ given_first newest
+      same_first [] = refl
+      same_first (y ∷ newest) = refl
+
+  -- it has room for more
+  pub gathers_within : (house : House S E C) (group : Group) (taken : ℕ) (left : List LinkItem) (older : List Round) (given : List LinkAct) (few most : ℕ) → few ≤ most
+      → Gathered m w past numbers house group taken until limit start left older given few → Gathered m w past numbers house group taken until limit start left older given most
+  gathers_within house group taken left older given few most le run = record {
+    newest = run.newest;
+    some = run.some;
+    turns = run.turns;
+    short = omega (arith, run.short, le);
+    begins = run.begins;
+    wanted = run.wanted;
+    rest = run.rest;
+    count = run.count;
+    under = run.under;
+  }
+
+  -- where memory ran out
+  pub gathers_fell : (house : House S E C) (group : Group) (taken : ℕ) (left : List LinkItem) (older : List Round) (given : List LinkAct) (most : ℕ) → most ≤ 64
+      → Gathered m w past numbers house group taken until limit start left older given most → FellShortOf w past until limit start older given
+  gathers_fell house group taken left older given most le run = record {
+    newest = run.newest;
+    one = is_group run.newest older run.some run.turns (omega (arith, run.short, le));
+    begins = run.begins;
+    wanted = run.wanted;
+  }
+
+-- ---- groups
+
+module _ {S E C : Type 0} (m : Meaning S E C KeyRow) (w : Setting) (past : List Event) (numbers : List ℕ) (tells : Tells) (base : Outs) (until limit : ℕ) (start : Serving) where
+  module _ (newest older : List Round) where
+    abbrev s₀ : Serving
+    s₀ = after_from w past start older
+
+    abbrev s₁ : Serving
+    s₁ = after_from w past start (newest ++ older)
+
+    abbrev before : List LinkAct
+    before = sooner_from w past start newest older
+
+    abbrev news : List LinkAct
+    news = newest_from w past start newest older
+
+    -- it broke in it
+    pub at_fault : (now : Moment) (here : List (Replica S E C)) (fault : Fault) (end : ServeEnd) → IsGroup newest older → AreWantedFrom w past until limit start (newest ++ older)
+        → IsEndOf fault end
+        → Stops tells base now.outs fault s₁.events before news → IfFailed fault (AreHere m w (so_far past s₁) numbers here)
+        → LeftAt now (NoneSent tells base now.outs before) (kept_of w past s₁.events) (group_kept w past start newest older) (kept_of w past s₀.events) fault
+        → ServesKept m w past numbers here tells base now end until limit start
+    at_fault now here fault end one wanted is stops stand left = record {
+      group = newest;
+      older = older;
+      one = one;
+      wanted = wanted;
+      so = ends_so m w past numbers here tells base now.outs fault end s₁ before news (wants w past until limit s₁) is stops stand;
+      kept = left_end now (NoneSent tells base now.outs before) (kept_of w past s₁.events) (group_kept w past start newest older) (kept_of w past s₀.events) fault end is left;
     }
 
-    pub halts : IsNext next_want next.Halt → ServesKept m w past numbers house.replicas.items tells base o ends.Limit until limit start
-    halts is = record {
-      rounds = run.rounds;
-      wanted = run.wanted;
-      so = record { why = wants_now house o taken run ∙ next_halt next_want is; agrees = run.agrees; stand = run.stands.here };
-      kept = run.kept;
-    }
+    -- memory ran out before anything of it was delivered
+    pub falls_short : (now : Moment) (here : List (Replica S E C)) → IsGroup newest older → AreWantedFrom w past until limit start (newest ++ older) → Agrees tells base now.outs s₀.events before
+        → now.stands (kept_of w past s₀.events) → ServesKept m w past numbers here tells base now ends.Mem until limit start
+    falls_short now here one wanted agrees stood =
+        let es = events_from w past start newest older in
+        at_fault now here faults.Mem ends.Mem one wanted refl
+        (record {
+          taken = λ t. subst (λ (l : List ℕ). TookFront base.taken now.outs.taken l) (sym (ap text_of (events_parts w past start newest older) ∙ text_parts es s₀.events))
+              (front_more base.taken now.outs.taken (text_of s₀.events) (text_of es) (all_written base.taken now.outs.taken (text_of s₀.events) (agrees.taken t)));
+          told = λ t. rw (agrees.told t) (back_none (before ++ base.told) news);
+          order = inr agrees.told;
+          tape_later = omega (arith, agrees.tape_stands);
+          link_later = omega (arith, same_failed agrees.link_stands);
+          cause = (agrees.tape_stands, inl agrees.link_stands);
+        })
+        tt (inr (agrees.told, inl stood))
 
-    module _ (new : House S E C) (now : Moment) where
-      pub turned_on : (at : ℕ) → IsNext next_want (next.Turn at) → {A : Type 0} (done : A)
-          → Goes m w past numbers new tells base now (Ok done) (outcome w past (Turned at) now_at) (brought w past (Turned at) now_at) now_at → Running m w past numbers new tells base now taken until limit start []
-      turned_on at is done goes = runs_on house new o now taken taken [] [] (Turned at) run (turn_wanted at is) run.rest run.count done goes
+  -- so it was in a group that was under way
+  pub gathers_short : (now : Moment) (here : List (Replica S E C)) (older : List Round) (given : List LinkAct) → NotYet w past tells base now start older given
+      → FellShortOf w past until limit start older given → ServesKept m w past numbers here tells base now ends.Mem until limit start
+  gathers_short now here older given not_yet fell =
+      falls_short fell.newest older now here fell.one fell.wanted
+      (subst (λ (l : List LinkAct). Agrees tells base now.outs (after_from w past start older).events (l ++ (after_from w past start older).acts)) (sym fell.begins) not_yet.agrees)
+      not_yet.kept
 
-      pub turn_stops : (at : ℕ) (fault : Fault) (end : ServeEnd) → IsNext next_want (next.Turn at)
-          → Goes {A = Unit {0}} m w past numbers new tells base now (Err fault) (outcome w past (Turned at) now_at) (brought w past (Turned at) now_at) now_at → IsEndOf fault end
-          → ServesKept m w past numbers new.replicas.items tells base now end until limit start
-      turn_stops at fault end is goes is_end = round_stops house new o now taken [] (Turned at) fault end run (turn_wanted at is) goes is_end
+  -- ---- where a group begins
 
-      pub reminded_on : (pair : Pair) → IsNext next_want (next.Remind pair) → {A : Type 0} (done : A)
-          → Goes m w past numbers new tells base now (Ok done) (outcome w past (Reminded pair.at pair.peer) now_at) (brought w past (Reminded pair.at pair.peer) now_at) now_at
-          → Running m w past numbers new tells base now taken until limit start []
-      reminded_on pair is done goes = runs_on house new o now taken taken [] [] (Reminded pair.at pair.peer) run (remind_wanted pair is) run.rest run.count done goes
+  -- of no round yet
+  pub under_none : (house : House S E C) (group : Group) (o : Moment) (taken : ℕ) (left : List LinkItem) (run : Running m w past numbers house tells base o taken until limit start left)
+      → IsEmpty group → Under m w past numbers start [] run.rounds house group
+  under_none house group o taken left run empty = record { stands = run.stands; holds = holds_none w past start run.rounds group empty }
 
-      pub remind_stops : (pair : Pair) (fault : Fault) (end : ServeEnd) → IsNext next_want (next.Remind pair)
-          → Goes {A = Unit {0}} m w past numbers new tells base now (Err fault) (outcome w past (Reminded pair.at pair.peer) now_at) (brought w past (Reminded pair.at pair.peer) now_at) now_at
-          → IsEndOf fault end → ServesKept m w past numbers new.replicas.items tells base now end until limit start
-      remind_stops pair fault end is goes is_end = round_stops house new o now taken [] (Reminded pair.at pair.peer) fault end run (remind_wanted pair is) goes is_end
+  -- its first round
+  pub gathers_first : (old new : House S E C) (group : Group) (o : Moment) (taken more most : ℕ) (left rest : List LinkItem) (x : Round) (run : Running m w past numbers old tells base o taken until limit start left)
+      → IsWanted (wants w past until limit (after_from w past start run.rounds)) x
+      → (round_does w past x (after_from w past start run.rounds)).left ≡ rest → more ≡ (round_does w past x (after_from w past start run.rounds)).taken
+      → 1 ≤ most → Under m w past numbers start (x ∷ []) run.rounds new group → Gathered m w past numbers new group more until limit start rest run.rounds (given_in x) most
+  gathers_first old new group o taken more most left rest x run want is_left is_taken le under = record {
+    newest = x ∷ [];
+    some = λ no. absurd (cc);
+    turns = tt;
+    short = le;
+    begins = refl;
+    wanted = (want, run.wanted);
+    rest = is_left;
+    count = is_taken;
+    under = under;
+  }
 
-      pub item_on : IsNext next_want next.Ask → TookItem m w past numbers new tells base now (Ok true) now_at
-          → Running m w past numbers new tells base now (taken + 1) until limit start []
-      item_on is took =
-          runs_on house new o now taken (taken + 1) [] [] (Took took.item) run (item_wanted took.item is took.is_item) run.rest (ap (λ (n : ℕ). n + 1) run.count) true took.goes
+  -- where the link gave nothing for it
+  pub not_yet : (house : House S E C) (o : Moment) (taken : ℕ) (left : List LinkItem) (run : Running m w past numbers house tells base o taken until limit start left)
+      → NotYet w past tells base o start run.rounds []
+  not_yet house o taken left run = record { agrees = run.agrees; kept = run.kept }
 
-      pub link_ends : IsNext next_want next.Ask → Agrees tells base now.outs now_at.events (Gives items.End ∷ now_at.acts)
-          → HouseStands m w (so_far past now_at) numbers new now_at.waiting now_at.peers → now.stands (kept_of w past now_at.events) → ServesKept m w past numbers new.replicas.items tells base now ends.End until limit start
-      link_ends is agrees stands stood = record {
-        rounds = run.rounds;
-        wanted = run.wanted;
-        so = record { why = wants_now house o taken run ∙ next_ask next_want is; agrees = agrees; stand = stands.here };
-        kept = stood;
-      }
+  -- where it gave an item
+  pub item_given : (house : House S E C) (o : Moment) (told : List LinkAct) (count : FaultCounts) (taken : ℕ) (item : LinkItem) (run : Running m w past numbers house tells base o taken until limit start [])
+      → (tells.link ≡ true → told ≡ Gives item ∷ o.outs.told) → count ≡ o.outs.link_faults
+      → NotYet w past tells base (record o { outs = with_link o.outs told count }) start run.rounds (Gives item ∷ [])
+  item_given house o told count taken item run is same = record {
+    agrees = next_given tells base o.outs (after_from w past start run.rounds).events (after_from w past start run.rounds).acts told count item run.agrees is same;
+    kept = run.kept;
+  }
 
-      pub asking_stops : (fault : Fault) (end : ServeEnd) → IsNext next_want next.Ask
-          → (GaveNone tells base now.outs fault now_at × HouseStands m w (so_far past now_at) numbers new now_at.waiting now_at.peers × now.stands (kept_of w past now_at.events)) ⊎ TookItem m w past numbers new tells base now (Err fault) now_at → IsEndOf fault end
-          → ServesKept m w past numbers new.replicas.items tells base now end until limit start
-      asking_stops fault end is (inl gave) is_end = record {
-        rounds = run.rounds;
-        wanted = run.wanted;
-        so = ends_so m w past numbers new.replicas.items tells base now.outs fault end now_at (sooner_from w past start run.rounds) (newest_from w past start run.rounds) (wants w past until limit now_at) is_end
-            (none_stops w past start run.rounds tells base now.outs fault gave.0)
-            (if_failed fault _ gave.1.here);
-        kept = left_end now (NoneSent tells base now.outs (sooner_from w past start run.rounds)) (kept_of w past now_at.events) (kept_of w past (earlier_from w past start run.rounds)) fault end is_end
-            (left_none now (NoneSent tells base now.outs (sooner_from w past start run.rounds)) (kept_of w past now_at.events) (kept_of w past (earlier_from w past start run.rounds)) fault gave.0.own gave.2);
-      }
-      asking_stops fault end is (inr took) is_end =
-          round_stops house new o now taken [] (Took took.item) fault end run (item_wanted took.item is took.is_item) took.goes is_end
+  -- memory ran out at its first round
+  pub first_short : (house : House S E C) (o : Moment) (taken : ℕ) (left : List LinkItem) (here : List (Replica S E C)) (x : Round)
+      (run : Running m w past numbers house tells base o taken until limit start left) → given_in x ≡ [] → IsWanted (wants w past until limit (after_from w past start run.rounds)) x
+      → ServesKept m w past numbers here tells base o ends.Mem until limit start
+  first_short house o taken left here x run none want =
+      falls_short (x ∷ []) run.rounds o here (one_alone x run.rounds) (want, run.wanted)
+      (subst (λ (l : List LinkAct). Agrees tells base o.outs (after_from w past start run.rounds).events (l ++ (after_from w past start run.rounds).acts)) (sym none) run.agrees) run.kept
+
+  pub item_short : (house : House S E C) (o now : Moment) (taken : ℕ) (here : List (Replica S E C)) (item : LinkItem) (run : Running m w past numbers house tells base o taken until limit start [])
+      → NotYet w past tells base now start run.rounds (Gives item ∷ []) → IsWanted (wants w past until limit (after_from w past start run.rounds)) (Took item)
+      → ServesKept m w past numbers here tells base now ends.Mem until limit start
+  item_short house o now taken here item run given want = falls_short (Took item ∷ []) run.rounds now here (one_alone (Took item) run.rounds) (want, run.wanted) given.agrees given.kept
+
+  -- ---- the first items
+
+  pub runs_first : (house : House S E C) (o : Moment) → start.taken ≡ 0 → HouseStands m w (so_far past start) numbers house start.waiting start.peers
+      → Agrees tells base o.outs start.events start.acts → o.stands (kept_of w past start.events) → Running m w past numbers house tells base o 0 until limit start start.left
+  runs_first house o none stands agrees stood = record { rounds = []; wanted = tt; rest = refl; count = sym none; stands = stands; agrees = agrees; kept = stood }
+
+  pub first_wanted : (old : House S E C) (o : Moment) (item : LinkItem) (left rest : List LinkItem) (run : Running m w past numbers old tells base o 0 until limit start left)
+      → left ≡ item ∷ rest → IsWanted (wants w past until limit (after_from w past start run.rounds)) (Began item)
+  first_wanted old o item left rest run is =
+      let s = after_from w past start run.rounds in
+      subst (λ (l : List LinkItem). IsWanted (first_or l (wants_of w until limit (so_far past s) s.taken s.peers)) (Began item)) (sym (run.rest ∙ is)) refl
+
+  pub gathers_item : (old new : House S E C) (group : Group) (o : Moment) (item : LinkItem) (left rest : List LinkItem) (run : Running m w past numbers old tells base o 0 until limit start left)
+      → left ≡ item ∷ rest → Under m w past numbers start (Began item ∷ []) run.rounds new group → Gathered m w past numbers new group 0 until limit start rest run.rounds [] 64
+  gathers_item old new group o item left rest run is under =
+      gathers_first old new group o 0 0 64 left rest (Began item) run (first_wanted old o item left rest run is) (ap behind_first (run.rest ∙ is)) run.count (omega arith) under
+
+  -- ---- the ends
+
+  -- all of the rounds was delivered, and the newest of them is a group
+  serves_whole : (rounds : List Round) (here : List (Replica S E C)) (now : Moment) (end : ServeEnd) → AreWantedFrom w past until limit start rounds
+      → ((sooner news : List LinkAct)
+      → EndsKept m w past numbers here tells base now.outs end (after_from w past start rounds) sooner news (wants w past until limit (after_from w past start rounds)))
+      → ((none : Type 0) (group older : List Event) → KeptAt now none (kept_of w past (after_from w past start rounds).events) group older end)
+      → ServesKept m w past numbers here tells base now end until limit start
+  serves_whole [] here now end wanted so kept = record { group = []; older = []; one = no_group; wanted = wanted; so = so _ _; kept = kept _ _ _ }
+  serves_whole (x ∷ older) here now end wanted so kept = record { group = x ∷ []; older = older; one = one_alone x older; wanted = wanted; so = so _ _; kept = kept _ _ _ }
+
+  gave_none : (rounds : List Round) (here : List (Replica S E C)) (now : Moment) (fault : Fault) (end : ServeEnd) → AreWantedFrom w past until limit start rounds
+      → GaveNone tells base now.outs fault (after_from w past start rounds) → now.stands (kept_of w past (after_from w past start rounds).events) → IsEndOf fault end
+      → AreHere m w (so_far past (after_from w past start rounds)) numbers here → ServesKept m w past numbers here tells base now end until limit start
+  gave_none [] here now fault end wanted gave stood is stand =
+      at_fault [] [] now here fault end no_group wanted is (none_stops w past start [] [] tells base now.outs fault gave) (if_failed fault _ stand)
+      (left_none now _ _ _ _ fault gave.own stood)
+  gave_none (x ∷ older) here now fault end wanted gave stood is stand =
+      at_fault (x ∷ []) older now here fault end (one_alone x older) wanted is (none_stops w past start (x ∷ []) older tells base now.outs fault gave) (if_failed fault _ stand)
+      (left_none now _ _ _ _ fault gave.own stood)
+
+  module _ (house : House S E C) (o : Moment) (taken : ℕ) (run : Running m w past numbers house tells base o taken until limit start []) where
+    abbrev last_at : Serving
+    last_at = after_from w past start run.rounds
+
+    abbrev last_want : Want
+    last_want = wants_of w until limit (so_far past last_at) taken last_at.peers
+
+    last_now : wants w past until limit last_at ≡ last_want
+    last_now = wants_now w past until limit start run.rounds taken run.rest run.count
+
+    pub finishes : IsNext last_want next.Finish → ServesKept m w past numbers house.replicas.items tells base o ends.Done until limit start
+    finishes is =
+        serves_whole run.rounds house.replicas.items o ends.Done run.wanted
+        (λ sooner news. record { why = last_now ∙ next_finish last_want is; agrees = run.agrees; stand = run.stands.here }) (λ none group older. run.kept)
+
+    pub halts : IsNext last_want next.Halt → ServesKept m w past numbers house.replicas.items tells base o ends.Limit until limit start
+    halts is =
+        serves_whole run.rounds house.replicas.items o ends.Limit run.wanted
+        (λ sooner news. record { why = last_now ∙ next_halt last_want is; agrees = run.agrees; stand = run.stands.here }) (λ none group older. run.kept)
+
+    pub link_ends : (now : Moment) (item : LinkItem) → IsNext last_want next.Ask → item ≡ items.End → Agrees tells base now.outs last_at.events (Gives item ∷ last_at.acts)
+        → now.stands (kept_of w past last_at.events) → ServesKept m w past numbers house.replicas.items tells base now ends.End until limit start
+    link_ends now item is is_end agrees stood =
+        serves_whole run.rounds house.replicas.items now ends.End run.wanted
+        (λ sooner news. record {
+          why = last_now ∙ next_ask last_want is;
+          agrees = subst (λ (x : LinkItem). Agrees tells base now.outs last_at.events (Gives x ∷ last_at.acts)) is_end agrees;
+          stand = run.stands.here;
+        })
+        (λ none group older. stood)
+
+    pub link_fails : (now : Moment) (fault : Fault) (end : ServeEnd) → GaveNone tells base now.outs fault last_at → now.stands (kept_of w past last_at.events) → IsEndOf fault end
+        → ServesKept m w past numbers house.replicas.items tells base now end until limit start
+    link_fails now fault end gave stood is = gave_none run.rounds house.replicas.items now fault end run.wanted gave stood is run.stands.here
 
 -- it ended for want of memory before the first round
 pub none_served : {S E C : Type 0} (m : Meaning S E C KeyRow) (w : Setting) (past : List Event) (numbers : List ℕ) (here : List (Replica S E C)) (tells : Tells) (base : Outs) (until limit : ℕ) (first : List LinkItem)
     → Serves m w past numbers here tells base base ends.Mem until limit first
 none_served m w past numbers here tells base until limit first = record {
-  rounds = [];
+  group = [];
+  older = [];
+  one = no_group;
   wanted = tt;
   so = record {
     taken = λ t. none_written base.taken [];
@@ -400,28 +532,31 @@ none_served m w past numbers here tells base until limit first = record {
 
 -- where nothing is kept, it ended as serving without an archive does
 pub serves_plain : {S E C : Type 0} (m : Meaning S E C KeyRow) (w : Setting) (past : List Event) (numbers : List ℕ) (here : List (Replica S E C)) (tells : Tells) (base : Outs) (now : Moment) (end : ServeEnd) (until limit : ℕ) (first : List LinkItem)
-    → ((x : ArchiveFault) (es : List Event) → now.fails x es → ⊥) → ServesKept m w past numbers here tells base now end until limit (begin first)
+    → ((x : ArchiveFault) (group older : List Event) → now.fails x group older → ⊥) → ServesKept m w past numbers here tells base now end until limit (begin first)
     → Serves m w past numbers here tells base now.outs end until limit first
 serves_plain m w past numbers here tells base now end until limit first never served = record {
-  rounds = served.rounds;
+  group = served.group;
+  older = served.older;
+  one = served.one;
   wanted = served.wanted;
   so = by_end end served.so served.kept;
 }
   where
     s : Serving
-    s = after w past first served.rounds
+    s = after w past first (served.group ++ served.older)
 
     older : List LinkAct
-    older = sooner w past first served.rounds
+    older = sooner w past first served.group served.older
 
     news : List LinkAct
-    news = newest w past first served.rounds
+    news = newest w past first served.group served.older
 
     rule : Want
     rule = wants w past until limit s
 
     by_end : (end : ServeEnd) → EndsKept m w past numbers here tells base now.outs end s older news rule
-        → KeptAt now (NoneSent tells base now.outs older) (kept_of w past s.events) (kept_of w past (earlier_from w past (begin first) served.rounds)) end
+        → KeptAt now (NoneSent tells base now.outs older) (kept_of w past s.events) (group_kept w past (begin first) served.group served.older)
+        (kept_of w past (earlier_from w past (begin first) served.older)) end
         → EndsSo m w past numbers here tells base now.outs end s older news rule
     by_end ends.Done so kept = so
     by_end ends.Limit so kept = so
@@ -429,5 +564,5 @@ serves_plain m w past numbers here tells base now end until limit first never se
     by_end ends.LinkFault so kept = so
     by_end ends.TapeFault so kept = so
     by_end ends.Mem so kept = so
-    by_end ends.DiskFault so kept = never _ _ kept
-    by_end (ends.JournalFull x) so kept = never _ _ kept
+    by_end ends.DiskFault so kept = never _ _ _ kept
+    by_end (ends.JournalFull x) so kept = never _ _ _ kept

@@ -1,12 +1,11 @@
 -- The tape and the link go on together.
-use Rattle.std.proofs.Common.{◌≡◌, ℕ, ◌≤◌, true, List, [], ◌∷◌, ◌++◌, reverse, Ok, Err, sym, ap, ◌∙◌, append_assoc, arith, inl, inr}
+use Rattle.std.proofs.Common.{◌≡◌, ℕ, ◌+◌, ◌<◌, List, [], ◌∷◌, ◌++◌, length, take, drop, get_or, reverse, Ok, Err, sym, ap, ap₂, ◌∙◌, append_assoc, arith, inl, inr}
 use Rattle.std.specs.List.{flat_map}
-use Rattle.std.proofs.lemmas.List.{append-nil, reverse-append}
+use Rattle.std.proofs.lemmas.List.{append-nil, reverse-reverse, take_more, drop_more, take-append-drop}
 use Rattle.std.proofs.lemmas.Grind.{flat_map-append}
 use Rattle.ritas_base.specs.declared.event.Event.{Event}
-use Rattle.outside.specs.Faults.{count_after}
 use Rattle.outside.specs.LinkCalls.{LinkDid}
-use Rattle.outside.specs.LinkCallsLaws.{back_none, back_then, back_more}
+use Rattle.outside.specs.LinkCallsLaws.{back_then}
 use Rattle.outside.specs.Links.{LinkAct, failed_once, short_once, faults_after}
 use Rattle.outside.specs.Writing.{TookFront}
 use Rattle.outside.specs.WritingLaws.{all_written, front_then}
@@ -15,7 +14,6 @@ use Rattle.outside.specs.declared.link.FaultCounts.{FaultCounts}
 use Rattle.outside.specs.declared.link.LinkFault.{LinkFault}
 use Rattle.outside.specs.declared.link.LinkFault.TheVariants as link_faults
 use Rattle.node_loop.specs.declared.end.Fault.{Fault}
-use Rattle.node_loop.specs.declared.end.Fault.TheVariants as faults
 use Rattle.node_loop.specs.Outs.{text_of, Outs, Tells, Agrees, HasCauses, AllWritten, InOrder, Stops, Fails}
 
 pub same_failed : {a b : FaultCounts} → a ≡ b → a.failed ≡ b.failed
@@ -24,37 +22,36 @@ same_failed e = ap (λ (n : FaultCounts). n.failed) e
 abbrev pub with_link : Outs → List LinkAct → FaultCounts → Outs
 with_link o told faults = record o { told = told; link_faults = faults }
 
-pub text_next : (e : Event) (es : List Event) → text_of (e ∷ es) ≡ text_of es ++ event_text e
-text_next e es =
-    ap (flat_map event_text) (reverse-append (e ∷ []) es)
-    ∙ (flat_map-append event_text (reverse es) (e ∷ []) ∙ ap (λ (l : List ℕ). text_of es ++ l) (append-nil (event_text e)))
+-- ---- events, one after the other, the oldest first
 
--- an event wasn't written, and nothing of it went out
-pub write_fails : (tells : Tells) (base : Outs) (old new : List ℕ) (x y : ℕ) (told : List LinkAct) (link_faults : FaultCounts) (e : Event) (events : List Event) (acts news : List LinkAct)
-    → Agrees tells base (record { taken = old; tape_faults = x; told = told; link_faults = link_faults }) events acts
-    → (tells.tape ≡ true → TookFront old new (event_text e)) → x ≤ y → y ≡ count_after x
-    → Stops tells base (record { taken = new; tape_faults = y; told = told; link_faults = link_faults }) faults.Tape (e ∷ events) acts news
-write_fails tells base old new x y told link_faults e events acts news agrees front le rises = record {
-  taken = λ t. front_then base.taken old new (text_of events) (event_text e) [] (text_of (e ∷ events))
-      (text_next e events ∙ ap (λ (l : List ℕ). text_of events ++ l) (sym (append-nil (event_text e)))) (agrees.taken t) (front t);
-  told = λ t. rw (agrees.told t) (back_none (acts ++ base.told) news);
-  order = agrees.told;
-  tape_later = omega (arith, agrees.tape_stands, le);
-  link_later = omega (arith, same_failed agrees.link_stands);
-  cause = (rises ∙ ap count_after agrees.tape_stands, agrees.link_stands);
-}
+text_turned : (es : List Event) → text_of (reverse es) ≡ flat_map event_text es
+text_turned es = ap (flat_map event_text) (reverse-reverse es)
 
--- it stopped before others would have followed
-pub stops_more : (tells : Tells) (base o : Outs) (fault : Fault) (events : List Event) (sooner news more : List LinkAct)
-    → Stops tells base o fault events sooner news → Stops tells base o fault events sooner (more ++ news)
-stops_more tells base o fault events sooner news more stops = record {
-  taken = stops.taken;
-  told = λ t. back_more (sooner ++ base.told) o.told news more (stops.told t);
-  order = stops.order;
-  tape_later = stops.tape_later;
-  link_later = stops.link_later;
-  cause = stops.cause;
-}
+text_from : (es : List Event) (i : ℕ) (e : Event) → i < length es → e ≡ get_or es i e
+    → text_of (reverse es) ≡ text_of (reverse (take i es)) ++ (event_text e ++ flat_map event_text (drop (i + 1) es))
+text_from es i e lt is =
+    text_turned es ∙ (ap (flat_map event_text) (sym (take-append-drop i es)) ∙ flat_map-append event_text (take i es) (drop i es))
+    ∙ ap₂ (λ (a b : List ℕ). a ++ b) (sym (text_turned (take i es)))
+    (ap (flat_map event_text) (drop_more es i e lt) ∙ ap (λ (x : Event). event_text x ++ flat_map event_text (drop (i + 1) es)) (sym is))
+
+-- an event more was written
+pub text_more : (es : List Event) (i : ℕ) (e : Event) (old mid new : List ℕ) → i < length es → e ≡ get_or es i e → mid ≡ old ++ text_of (reverse (take i es)) → new ≡ mid ++ event_text e
+    → new ≡ old ++ text_of (reverse (take (i + 1) es))
+text_more es i e old mid new lt is before wrote =
+    let a = text_of (reverse (take i es)) in
+    let more : a ++ event_text e ≡ text_of (reverse (take (i + 1) es)) =
+    sym (text_turned (take (i + 1) es)
+    ∙ (ap (flat_map event_text) (take_more es i e lt) ∙ flat_map-append event_text (take i es) (get_or es i e ∷ []))
+    ∙ ap₂ (λ (x y : List ℕ). x ++ y) (sym (text_turned (take i es))) (append-nil (event_text (get_or es i e)) ∙ ap event_text (sym is))) in
+    wrote ∙ (ap (λ (l : List ℕ). l ++ event_text e) before ∙ (append_assoc old a (event_text e) ∙ ap (λ (l : List ℕ). old ++ l) more))
+
+-- or a front of it
+pub text_front : (es : List Event) (i : ℕ) (e : Event) (old mid new : List ℕ) → i < length es → e ≡ get_or es i e → mid ≡ old ++ text_of (reverse (take i es)) → TookFront mid new (event_text e)
+    → TookFront old new (text_of (reverse es))
+text_front es i e old mid new lt is before front =
+    front_then old mid new (text_of (reverse (take i es))) (event_text e) (flat_map event_text (drop (i + 1) es)) (text_of (reverse es)) (text_from es i e lt is) before front
+
+-- ---- the link
 
 -- the link was given these
 pub link_goes : (tells : Tells) (base o : Outs) (events : List Event) (acts news told : List LinkAct) (count : FaultCounts)

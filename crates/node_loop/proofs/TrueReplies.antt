@@ -12,9 +12,8 @@ use Rattle.outside.specs.Links.{LinkAct, Starts, Gives, Sends, Replies, replies_
 use Rattle.client_port.specs.Messages.{Request, parts_of, request_in, position_reply, refusal_reply}
 use Rattle.command_log.specs.Rows.{Row, position_of}
 use Rattle.layer_api.specs.Service.{IsPart}
-use Rattle.world_model.specs.World.{Setting, states_before, call_of, seen_of}
+use Rattle.world_model.specs.World.{Setting, seen_of}
 use Rattle.world_model.specs.Agree.{rows_at}
-use Rattle.world_model.specs.MadeOrder as made
 use Rattle.world_model.specs.MadeOrder.{MadeFrame}
 use Rattle.node_loop.specs.declared.waiting.Asked.{Asked}
 use Rattle.keyed_channel.specs.KeyRow.{KeyRow}
@@ -25,7 +24,7 @@ use Rattle.node_loop.specs.Resending.{Brought}
 use Rattle.node_loop.proofs.FramesSent.{IsBesides, item_besides}
 use Rattle.node_loop.specs.Waiting.{Waiting, with_waiter}
 use Rattle.node_loop.specs.Calls.{Outcome, reply, reply_each, asked_by, left_by, replies_by, called, asked_in, refusal_in, submitted, submitted_so, silent, is_waited_for, asked_so, asks_so, asks, if_here, item_does, first_does}
-use Rattle.node_loop.specs.Serving.{Serving, so_far, as_sent, made_by, sent_by, onto, with_outcome, Round, Began, Turned, Reminded, Took, began, gave, brought, after}
+use Rattle.node_loop.specs.Serving.{Serving, so_far, as_sent, made_by, sent_by, onto, with_outcome, Round, Began, Turned, Reminded, Took, began, gave, brought, after_from}
 use Rattle.node_loop.specs.Laws.{IsTrueReply}
 use Rattle.node_loop.proofs.Logs.{rows_are_once, position_in_part}
 
@@ -248,19 +247,19 @@ module _ (w : Setting) (grow : (more es : List Event) (i : ℕ) → IsPart (rows
       (all_append (IsTrueReply w es) (reverse did.replies) (replies_in s.acts)
       (all_reverse (IsTrueReply w es) did.replies (now_true did.event past s did.replies holds)) (all_stay did.event past s all))
 
-  pub replies_true : (past : List Event) (first : List LinkItem) (rounds : List Round)
-      → AllByRecursion (IsTrueReply w (so_far past (after w past first rounds))) (replies_in (after w past first rounds).acts)
-  replies_true past first [] = tt
-  replies_true past first (Began item ∷ rounds) =
-      let s = after w past first rounds in
-      outcome_true past (first_does w (so_far past s) item s.waiting) (brought w past (Began item) s) (began s) tt (replies_true past first rounds) (first_true w (so_far past s) item s.waiting)
-  replies_true past first (Turned i ∷ rounds) =
-      let s = after w past first rounds in
-      outcome_true past (called w (so_far past s) i (events.Turn i) s.waiting) (brought w past (Turned i) s) s tt (replies_true past first rounds) (called_true w (so_far past s) i (events.Turn i) s.waiting)
-  replies_true past first (Reminded i j ∷ rounds) =
-      let s = after w past first rounds in
-      outcome_true past (silent [] s.waiting) (brought w past (Reminded i j) s) s (tt, tt) (replies_true past first rounds) tt
-  replies_true past first (Took item ∷ rounds) =
-      let s = after w past first rounds in
+  pub replies_true : (past : List Event) (start : Serving) (rounds : List Round) → AreTrue w (so_far past start) (replies_in start.acts)
+      → AllByRecursion (IsTrueReply w (so_far past (after_from w past start rounds))) (replies_in (after_from w past start rounds).acts)
+  replies_true past start [] all = all
+  replies_true past start (Began item ∷ rounds) all =
+      let s = after_from w past start rounds in
+      outcome_true past (first_does w (so_far past s) item s.waiting) (brought w past (Began item) s) (began s) tt (replies_true past start rounds all) (first_true w (so_far past s) item s.waiting)
+  replies_true past start (Turned i ∷ rounds) all =
+      let s = after_from w past start rounds in
+      outcome_true past (called w (so_far past s) i (events.Turn i) s.waiting) (brought w past (Turned i) s) s tt (replies_true past start rounds all) (called_true w (so_far past s) i (events.Turn i) s.waiting)
+  replies_true past start (Reminded i j ∷ rounds) all =
+      let s = after_from w past start rounds in
+      outcome_true past (silent [] s.waiting) (brought w past (Reminded i j) s) s (tt, tt) (replies_true past start rounds all) tt
+  replies_true past start (Took item ∷ rounds) all =
+      let s = after_from w past start rounds in
       outcome_true past (item_does w (so_far past s) item s.waiting) (brought w past (Took item) s) (gave item s)
-      (item_besides w (so_far past s) item (keep_all (made_by w (so_far past s) (item_does w (so_far past s) item s.waiting).event) s.peers)) (replies_true past first rounds) (item_true w (so_far past s) item s.waiting)
+      (item_besides w (so_far past s) item (keep_all (made_by w (so_far past s) (item_does w (so_far past s) item s.waiting).event) s.peers)) (replies_true past start rounds all) (item_true w (so_far past s) item s.waiting)

@@ -1,5 +1,5 @@
 -- What serving has beside its replicas: a link, a tape, and an archive that keeps events on a disk. Lists of events have the newest first.
-use Rattle.std.specs.Prelude.{◌≡◌, ℕ, Bool, List, Option, Some, None, ◌⊎◌}
+use Rattle.std.specs.Prelude.{◌≡◌, ℕ, List, ◌⊎◌}
 use Rattle.ritas_base.specs.declared.event.Event.{Event}
 use Rattle.outside.specs.Links.{LinkAct}
 use Rattle.outside.specs.declared.link.FaultCounts.{FaultCounts}
@@ -10,20 +10,19 @@ use Rattle.node_loop.specs.declared.end.Fault.{Fault}
 use Rattle.node_loop.specs.declared.end.Fault.TheVariants as faults
 use Rattle.node_loop.specs.declared.end.ServeEnd.{ServeEnd}
 use Rattle.node_loop.specs.declared.end.ServeEnd.TheVariants as ends
-use Rattle.node_loop.specs.Keeping.{kept_onto}
 use Rattle.node_loop.specs.Outs.{Outs, outs_of}
 
--- a moment: what the tape and the link have, for which events the archive stands, and over which it failed how
+-- a moment: what the tape and the link have, for which events the archive stands, and over which group of them, behind which, it failed how
 pub record Moment : Type 1 where
   pub outs : Outs
   pub stands : List Event → Type 0
-  pub fails : ArchiveFault → List Event → Type 0
+  pub fails : ArchiveFault → List Event → List Event → Type 0
 
-abbrev pub moment : Outs → (List Event → Type 0) → (ArchiveFault → List Event → Type 0) → Moment
+abbrev pub moment : Outs → (List Event → Type 0) → (ArchiveFault → List Event → List Event → Type 0) → Moment
 moment outs stands fails = record { outs = outs; stands = stands; fails = fails }
 
 abbrev pub moment_of : {L K A D : Type 0} → (K → List ℕ) → (K → ℕ) → (L → List LinkAct) → (L → FaultCounts)
-    → (A → D → List Event → Type 0) → (A → D → ArchiveFault → List Event → Type 0) → Outlets L K A D → Moment
+    → (A → D → List Event → Type 0) → (A → D → ArchiveFault → List Event → List Event → Type 0) → Outlets L K A D → Moment
 moment_of taken tape_faults told link_faults stands fails out =
     moment (outs_of taken tape_faults told link_faults out.tape.now out.link.now) (stands out.archive.now out.disk.now) (fails out.archive.now out.disk.now)
 
@@ -33,33 +32,28 @@ IsSame old new =
     (new.link.ghost_name ≡ old.link.ghost_name) × (new.tape.ghost_name ≡ old.tape.ghost_name) × (new.archive.ghost_name ≡ old.archive.ghost_name)
     × (new.disk.ghost_name ≡ old.disk.ghost_name)
 
--- an event, if there is one, onto these, if it is kept
-abbrev pub kept_with : Bool → Option Event → List Event → List Event
-kept_with kept None es = es
-kept_with kept (Some e) es = kept_onto kept e es
-
 -- a fault of the archive as one of serving
 abbrev pub fault_in : ArchiveFault → Fault
 fault_in archive.Disk = faults.Disk
 fault_in (archive.Full x) = faults.Full x
 fault_in archive.Mem = faults.Mem
 
--- What it stands for at a fault, of these kept events, of which the older ones are those before the newest event: all were kept before
--- the link told anything of the newest, which is nothing (`none`) unless all were.
-abbrev pub LeftAt : Moment → Type 0 → List Event → List Event → Fault → Type 0
-LeftAt now none kept older faults.Link = now.stands kept
-LeftAt now none kept older faults.Tape = now.stands older
-LeftAt now none kept older faults.Disk = now.fails archive.Disk kept
-LeftAt now none kept older (faults.Full x) = now.fails (archive.Full x) kept
-LeftAt now none kept older faults.Mem = now.stands kept ⊎ (none × (now.stands older ⊎ now.fails archive.Mem kept))
+-- What it stands for at a fault, of these kept events, which are those of the newest group and the older ones: all were kept before the link told
+-- anything of the group, which is nothing (`none`) unless all were.
+abbrev pub LeftAt : Moment → Type 0 → List Event → List Event → List Event → Fault → Type 0
+LeftAt now none kept group older faults.Link = now.stands kept
+LeftAt now none kept group older faults.Tape = now.stands older
+LeftAt now none kept group older faults.Disk = now.fails archive.Disk group older
+LeftAt now none kept group older (faults.Full x) = now.fails (archive.Full x) group older
+LeftAt now none kept group older faults.Mem = now.stands kept ⊎ (none × (now.stands older ⊎ now.fails archive.Mem group older))
 
 -- the same at an end
-abbrev pub KeptAt : Moment → Type 0 → List Event → List Event → ServeEnd → Type 0
-KeptAt now none kept older ends.Done = now.stands kept
-KeptAt now none kept older ends.Limit = now.stands kept
-KeptAt now none kept older ends.End = now.stands kept
-KeptAt now none kept older ends.LinkFault = LeftAt now none kept older faults.Link
-KeptAt now none kept older ends.TapeFault = LeftAt now none kept older faults.Tape
-KeptAt now none kept older ends.Mem = LeftAt now none kept older faults.Mem
-KeptAt now none kept older ends.DiskFault = LeftAt now none kept older faults.Disk
-KeptAt now none kept older (ends.JournalFull x) = LeftAt now none kept older (faults.Full x)
+abbrev pub KeptAt : Moment → Type 0 → List Event → List Event → List Event → ServeEnd → Type 0
+KeptAt now none kept group older ends.Done = now.stands kept
+KeptAt now none kept group older ends.Limit = now.stands kept
+KeptAt now none kept group older ends.End = now.stands kept
+KeptAt now none kept group older ends.LinkFault = LeftAt now none kept group older faults.Link
+KeptAt now none kept group older ends.TapeFault = LeftAt now none kept group older faults.Tape
+KeptAt now none kept group older ends.Mem = LeftAt now none kept group older faults.Mem
+KeptAt now none kept group older ends.DiskFault = LeftAt now none kept group older faults.Disk
+KeptAt now none kept group older (ends.JournalFull x) = LeftAt now none kept group older (faults.Full x)

@@ -1,5 +1,5 @@
 -- What a journal keeps of the events that it is given. Lists of events have the newest first.
-use Rattle.std.specs.Prelude.{◌≡◌, ℕ, ◌≤◌, ◌<◌, Bool, true, List, [], ◌∷◌, ◌++◌}
+use Rattle.std.specs.Prelude.{◌≡◌, ℕ, ◌≤◌, ◌<◌, ◌-◌, ◌^◌, min, Bool, true, List, [], ◌∷◌, ◌++◌}
 use Rattle.ritas_base.specs.declared.event.Event.{Event}
 use Rattle.outside.specs.Disks.{DiskState, MayLeave, LeavesOnly, state_of}
 use Rattle.outside.specs.Faults.{Rose}
@@ -28,23 +28,39 @@ pub record JournalStands (head : List ℕ) (past given : List Event) (journal : 
   pub kept : tells ≡ true → HasKept head past given journal before now
   pub later : few ≤ many
 
--- with the newest of the given events the file would be so long, which is too long; all is as it was before that event
-abbrev pub IsFull : List ℕ → List Event → List Event → JournalState → Bool → List DiskState → List DiskState → ℕ → Type 0
-IsFull head past [] journal tells before now x = ⊥
-IsFull head past (e ∷ older) journal tells before now x =
-    (x ≡ length_with journal (e ∷ [])) × (limit < x) × (tells ≡ true → HasKept head past older journal before now)
+-- with the newest group the file would be so long, up to 2^64 - 1, which is too long; all is as it was before it
+abbrev pub IsFull : List ℕ → List Event → List Event → List Event → JournalState → Bool → List DiskState → List DiskState → ℕ → Type 0
+IsFull head past group older journal tells before now x =
+    (x ≡ min (length_with journal group) (2 ^ 64 - 1)) × (limit < x) × (tells ≡ true → HasKept head past older journal before now)
 
--- every image opens as the past and the given events, with the newest of them or without it
-abbrev pub OpensNewest : ℕ → List ℕ → List Event → List Event → DiskState → Type 0
-OpensNewest me head past [] s = ⊥
-OpensNewest me head past (e ∷ older) s = (image : List ℕ) → MayLeave s image → OpensWithout me head (older ++ past) (e ∷ []) image
+-- every image opens as the past and the older events, with all of the newest group or with none of it
+abbrev pub OpensNewest : ℕ → List ℕ → List Event → List Event → List Event → DiskState → Type 0
+OpensNewest me head past group older s = (image : List ℕ) → MayLeave s image → OpensWithout me head (older ++ past) group image
 
--- it failed over the newest of the given events: the disk's count rose, where that was the cause; every image opens now as all events, with the
--- newest or without it; and at each moment every image opened as the past events and the first of the given
-pub record JournalFails (head : List ℕ) (past given : List Event) (journal : JournalState) (tells : Bool) (before now : List DiskState) (few many : ℕ)
+-- it failed over the newest group of the given events: the disk's count rose, where that was the cause; every image opens now as the others, with
+-- all of the group or with none of it; and at each moment every image opened as the past events and the first of the given
+pub record JournalFails (head : List ℕ) (past group older : List Event) (journal : JournalState) (tells : Bool) (before now : List DiskState) (few many : ℕ)
     (fault : ArchiveFault) : Type 0 where
-  pub left : tells ≡ true → OpensNewest journal.me head past given (state_of now)
-  pub since : tells ≡ true → LeavesOnly (OpensSome journal.me head past given) before now
+  pub left : tells ≡ true → OpensNewest journal.me head past group older (state_of now)
+  pub since : tells ≡ true → LeavesOnly (OpensSome journal.me head past (group ++ older)) before now
   pub later : few ≤ many
   pub disk : fault ≡ archive.Disk → Rose few many
-  pub full : (x : ℕ) → fault ≡ archive.Full x → IsFull head past given journal tells before now x
+  pub full : (x : ℕ) → fault ≡ archive.Full x → IsFull head past group older journal tells before now x
+
+-- ---- a journal by its name, which is its replica's number and the head of its file
+
+abbrev pub me_named : List ℕ → ℕ
+me_named [] = 0
+me_named (me ∷ head) = me
+
+abbrev pub head_named : List ℕ → List ℕ
+head_named [] = []
+head_named (me ∷ head) = head
+
+abbrev pub NamedStands : List ℕ → List Event → List Event → JournalState → Bool → List DiskState → List DiskState → ℕ → ℕ → Type 0
+NamedStands name past given journal tells before now few many =
+    (journal.me ≡ me_named name) × JournalStands (head_named name) past given journal tells before now few many
+
+abbrev pub NamedFails : List ℕ → List Event → List Event → List Event → JournalState → Bool → List DiskState → List DiskState → ℕ → ℕ → ArchiveFault → Type 0
+NamedFails name past group older journal tells before now few many fault =
+    (journal.me ≡ me_named name) × JournalFails (head_named name) past group older journal tells before now few many fault

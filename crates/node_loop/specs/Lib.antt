@@ -9,9 +9,10 @@ pub mod Outs
 pub mod Served
 pub mod PeersStanding
 pub mod Standing
-pub mod Running
 pub mod Archives
 pub mod ServedKept
+pub mod Groups
+pub mod Running
 pub mod Journals
 pub mod Recovering
 pub mod Laws

@@ -60,7 +60,7 @@ pub record Agrees (tells : Tells) (base now : Outs) (events : List Event) (acts 
   pub tape_stands : now.tape_faults ≡ base.tape_faults
   pub link_stands : now.link_faults ≡ base.link_faults
 
--- ---- at a fault, where the calls of the newest event are `news`, and those before are `sooner`
+-- ---- at a fault, where the calls of the newest group are `news`, and those before are `sooner`
 
 -- it holds where the tape or the link failed
 abbrev pub IfFailed : Fault → Type 0 → Type 0
@@ -83,12 +83,12 @@ HasCauses base now (faults.Full x) = NoneFailed base now
 abbrev pub AllWritten : Tells → Outs → Outs → List Event → Type 0
 AllWritten tells base now events = tells.tape ≡ true → now.taken ≡ base.taken ++ text_of events
 
--- the link told nothing of the newest event
+-- the link told nothing of the newest group
 abbrev pub NoneSent : Tells → Outs → Outs → List LinkAct → Type 0
 NoneSent tells base now sooner = tells.link ≡ true → now.told ≡ sooner ++ base.told
 
--- An event is written, and then kept, before its frames and its replies go out: where the tape fails none of them did, where the link fails all
--- events were written, and where the newest can't be kept both.
+-- The events of a group are written, and then kept, before its frames and its replies go out: where the tape fails none of these did, where the
+-- link fails all events were written, and where the newest can't be kept both.
 abbrev pub InOrder : Tells → Outs → Outs → Fault → List Event → List LinkAct → Type 0
 InOrder tells base now faults.Tape events sooner = NoneSent tells base now sooner
 InOrder tells base now faults.Link events sooner = AllWritten tells base now events

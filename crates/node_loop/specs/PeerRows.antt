@@ -1,6 +1,5 @@
 -- Worked rows of what is kept for a peer and sent again, on frames of a few bytes.
 use Rattle.std.specs.Prelude.{◌≡◌, [], ◌∷◌, Some, None, true, false, refl}
-use Rattle.link_resume.specs.declared.kept.Kept.{Kept}
 use Rattle.world_model.specs.MadeOrder.{MadeFrame}
 use Rattle.keyed_channel.specs.declared.note.Note.TheVariants.{Ack, Again}
 use Rattle.node_loop.specs.Peers.{Peers, no_peers, keep_all, is_due}

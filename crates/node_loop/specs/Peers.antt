@@ -1,5 +1,5 @@
 -- What is kept for peers until they acknowledge it, and who is to be asked to send again. All lists here have the oldest first.
-use Rattle.std.specs.Prelude.{ℕ, ◌+◌, ◌==◌, ◌&&◌, ◌||◌, Bool, true, false, nat_le, nat_lt, List, [], ◌∷◌, ◌++◌, length, map, Option, Some, None, if◌then◌else◌}
+use Rattle.std.specs.Prelude.{ℕ, ◌+◌, ◌==◌, ◌&&◌, ◌||◌, Bool, false, nat_le, nat_lt, List, [], ◌∷◌, ◌++◌, length, Option, Some, None, if◌then◌else◌}
 use Rattle.link_resume.specs.declared.kept.Kept.{Kept}
 use Rattle.link_resume.specs.Lists.{bytes_in, most_bytes, all_but}
 use Rattle.keyed_channel.specs.Frames.{seq_of}

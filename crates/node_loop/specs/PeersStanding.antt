@@ -1,13 +1,10 @@
 -- What the values that keep frames stand for.
-use Rattle.std.specs.Prelude.{◌≡◌, ℕ, ◌<◌, List, [], ◌∷◌, length, slice_index_or, Option, None}
+use Rattle.std.specs.Prelude.{◌≡◌, ℕ, ◌<◌, List, length, slice_index_or, Option, None}
 use Rattle.outside.specs.Links.{LinkAct}
-use Rattle.outside.specs.LinkCalls.{each_act}
 use Rattle.link_resume.specs.declared.kept.Kept.{Kept}
 use Rattle.link_resume.specs.Lists.{kept_for}
 use Rattle.replica.specs.declared.frame.OutFrame.{OutFrame}
 use Rattle.world_model.specs.MadeOrder.{MadeFrame}
-use Rattle.node_loop.specs.declared.output.More.{More}
-use Rattle.node_loop.specs.declared.output.More.TheVariants as mores
 use Rattle.node_loop.specs.declared.peers.Keeper.{Keeper}
 use Rattle.node_loop.specs.declared.peers.Mark.{Mark}
 use Rattle.node_loop.specs.Peers.{Keeping, Marks, Peers}
@@ -31,12 +28,6 @@ pub record IsKeeper (n i : ℕ) (keeper : Keeper) (p : Peers) : Type 0 where
 -- a kept frame as it goes out again
 abbrev pub kept_by : ℕ → ℕ → Kept → LinkAct
 kept_by at peer k = sends at peer k.frame
-
--- what goes to a peer besides, of these that are kept for each peer: the newest first
-abbrev pub more_acts : ℕ → List (List Kept) → More → List LinkAct
-more_acts at lists mores.Nothing = []
-more_acts at lists (mores.Note peer bytes) = sends at peer bytes ∷ []
-more_acts at lists (mores.Kept peer) = each_act (kept_by at peer) (kept_for lists peer)
 
 -- a frame that a replica made, in the event of a number
 abbrev pub made_as : ℕ → ℕ → OutFrame → MadeFrame

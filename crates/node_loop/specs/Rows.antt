@@ -3,7 +3,6 @@ use Rattle.std.specs.Prelude.{◌≡◌, ℕ, ◌^◌, false, List, length, refl
 use Rattle.std.proofs.Common.{arith}
 use Rattle.ritas_base.specs.declared.event.Event.{Event}
 use Rattle.ritas_base.specs.declared.event.Event.TheVariants as events
-use Rattle.outside.specs.declared.link.Sent.{Sent}
 use Rattle.client_port.specs.Messages.{position_reply, refusal_reply}
 use Rattle.world_model.specs.World.{Setting}
 use Rattle.node_loop.specs.Laws.{IsServed, IsTrueReply, NamesPosition}

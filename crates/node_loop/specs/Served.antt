@@ -1,5 +1,5 @@
 -- What serving leaves, and how it ends.
-use Rattle.std.specs.Prelude.{◌≡◌, ℕ, ◌==◌, ◌<◌, ◌^◌, List, ◌∷◌, length, Some}
+use Rattle.std.specs.Prelude.{◌≡◌, ℕ, ◌==◌, ◌<◌, ◌^◌, List, ◌∷◌, ◌++◌, length, Some}
 use Rattle.std.specs.List.{slice_get, list_any}
 use Rattle.ritas_base.specs.declared.event.Event.{Event}
 use Rattle.keyed_channel.specs.KeyRow.{KeyRow}
@@ -14,7 +14,7 @@ use Rattle.world_model.specs.Stands.{NoneStops, IsReplica}
 use Rattle.node_loop.specs.declared.end.Fault.TheVariants as faults
 use Rattle.node_loop.specs.declared.end.ServeEnd.{ServeEnd}
 use Rattle.node_loop.specs.declared.end.ServeEnd.TheVariants as ends
-use Rattle.node_loop.specs.Serving.{Serving, so_far, Want, Finishes, Halts, Asks, wants, Round, after, AreWanted, newest, sooner}
+use Rattle.node_loop.specs.Serving.{Serving, so_far, Want, Finishes, Halts, Asks, wants, Round, IsGroup, after, AreWanted, newest, sooner}
 use Rattle.node_loop.specs.Outs.{Outs, Tells, Agrees, Stops}
 
 -- The replicas of a world that are here are its correct ones: replica k of the list is that of the k-th number, as it stands after these
@@ -47,7 +47,7 @@ Breaks tells base now ends.TapeFault events sooner news = Stops tells base now f
 Breaks tells base now ends.Mem events sooner news = Stops tells base now faults.Mem events sooner news
 Breaks tells base now end events sooner news = ⊥
 
--- Each end of serving that keeps no events, where the newest event's calls are `news`, and those before are `sooner`. Unless memory ran out,
+-- Each end of serving that keeps no events, where the newest group's calls are `news`, and those before are `sooner`. Unless memory ran out,
 -- the replicas stand where all events leave them, also those that weren't written.
 abbrev pub EndsSo : {S E C : Type 0} → Meaning S E C KeyRow → Setting → List Event → List ℕ → List (Replica S E C) → Tells → Outs → Outs → ServeEnd → Serving
     → List LinkAct → List LinkAct → Want → Type 0
@@ -60,11 +60,13 @@ EndsSo m w past numbers here tells base now ends.Mem s sooner news rule = Breaks
 EndsSo m w past numbers here tells base now ends.DiskFault s sooner news rule = ⊥
 EndsSo m w past numbers here tells base now (ends.JournalFull x) s sooner news rule = ⊥
 
--- There are rounds, each what the rules said, after which serving ended so. The items that these took are those that the link gave, before
--- its end: where it tells, each call but those of the newest event is told.
+-- There are rounds, each what the rules said, after which serving ended so; the newest of them are a group. The items that these took are those
+-- that the link gave, before its end: where it tells, each call but those of the newest group is told.
 pub record Serves {S E C : Type 0} (m : Meaning S E C KeyRow) (w : Setting) (past : List Event) (numbers : List ℕ) (here : List (Replica S E C))
     (tells : Tells) (base now : Outs) (end : ServeEnd) (until limit : ℕ) (first : List LinkItem) : Type 0 where
-  pub rounds : List Round
-  pub wanted : AreWanted w past until limit first rounds
-  pub so : EndsSo m w past numbers here tells base now end (after w past first rounds) (sooner w past first rounds) (newest w past first rounds)
-      (wants w past until limit (after w past first rounds))
+  pub group : List Round
+  pub older : List Round
+  pub one : IsGroup group older
+  pub wanted : AreWanted w past until limit first (group ++ older)
+  pub so : EndsSo m w past numbers here tells base now end (after w past first (group ++ older)) (sooner w past first group older) (newest w past first group older)
+      (wants w past until limit (after w past first (group ++ older)))

@@ -1,6 +1,6 @@
 -- What serving does: which calls it makes on the replicas of a world that are here, its correct ones, and which frames and replies the
 -- link is given. Lists of events, of the link's calls and of rounds have the newest first.
-use Rattle.std.specs.Prelude.{◌≡◌, ℕ, ◌+◌, ◌<◌, ◌^◌, Bool, true, false, not, ◌&&◌, ◌==◌, List, [], ◌∷◌, ◌++◌, length, map, filter, reverse, Option, Some, None, nat_le, if◌then◌else◌}
+use Rattle.std.specs.Prelude.{◌≡◌, ℕ, ◌+◌, ◌<◌, ◌≤◌, ◌^◌, Bool, true, false, not, ◌&&◌, ◌==◌, List, [], ◌∷◌, ◌++◌, length, map, filter, reverse, Option, Some, None, nat_le, if◌then◌else◌}
 use Rattle.std.specs.List.{list_all}
 use Rattle.ritas_base.specs.declared.event.Event.{Event}
 use Rattle.ritas_base.specs.declared.event.Event.TheVariants as events
@@ -172,24 +172,71 @@ abbrev pub after_from : Setting → List Event → Serving → List Round → Se
 after_from w past start [] = start
 after_from w past start (x ∷ xs) = round_does w past x (after_from w past start xs)
 
--- of these rounds, the link's calls that came of the newest one's event, and those before
-abbrev pub newest_from : Setting → List Event → Serving → List Round → List LinkAct
-newest_from w past start [] = []
-newest_from w past start (x ∷ xs) = let s = after_from w past start xs in sent_of w (so_far past (at_call x s)) (outcome w past x s) (brought w past x s)
+-- the item that the link gave for it, as a call of the link
+abbrev pub given_in : Round → List LinkAct
+given_in (Began item) = []
+given_in (Turned i) = []
+given_in (Reminded i j) = []
+given_in (Took item) = Gives item ∷ []
 
-abbrev pub sooner_from : Setting → List Event → Serving → List Round → List LinkAct
-sooner_from w past start [] = start.acts
-sooner_from w past start (x ∷ xs) = (at_call x (after_from w past start xs)).acts
+-- for a round that others of its group are before
+abbrev pub given_behind : List Round → Round → List LinkAct
+given_behind [] x = []
+given_behind (y ∷ group) x = given_in x
+
+-- for the oldest round of a group, of which this is the newest
+abbrev pub given_oldest : Round → List Round → List LinkAct
+given_oldest x [] = given_in x
+given_oldest x (y ∷ group) = given_oldest y group
+
+abbrev pub given_first : List Round → List LinkAct
+given_first [] = []
+given_first (x ∷ group) = given_oldest x group
+
+-- Of the newest group of rounds, and the older ones: the events that came of the group; the link's calls that came of it, behind the item with
+-- which it began; and those before, with that item.
+abbrev pub events_from : Setting → List Event → Serving → List Round → List Round → List Event
+events_from w past start [] older = []
+events_from w past start (x ∷ group) older = onto (outcome w past x (after_from w past start (group ++ older))).event (events_from w past start group older)
+
+abbrev pub newest_from : Setting → List Event → Serving → List Round → List Round → List LinkAct
+newest_from w past start [] older = []
+newest_from w past start (x ∷ group) older = let s = after_from w past start (group ++ older) in
+    sent_of w (so_far past (at_call x s)) (outcome w past x s) (brought w past x s) ++ (given_behind group x ++ newest_from w past start group older)
+
+abbrev pub sooner_from : Setting → List Event → Serving → List Round → List Round → List LinkAct
+sooner_from w past start group older = given_first group ++ (after_from w past start older).acts
 
 -- of serving that begins with these items
 abbrev pub after : Setting → List Event → List LinkItem → List Round → Serving
 after w past first rounds = after_from w past (begin first) rounds
 
-abbrev pub newest : Setting → List Event → List LinkItem → List Round → List LinkAct
-newest w past first rounds = newest_from w past (begin first) rounds
+abbrev pub newest : Setting → List Event → List LinkItem → List Round → List Round → List LinkAct
+newest w past first group older = newest_from w past (begin first) group older
 
-abbrev pub sooner : Setting → List Event → List LinkItem → List Round → List LinkAct
-sooner w past first rounds = sooner_from w past (begin first) rounds
+abbrev pub sooner : Setting → List Event → List LinkItem → List Round → List Round → List LinkAct
+sooner w past first group older = sooner_from w past (begin first) group older
+
+-- behind the oldest of these rounds all are turns
+abbrev pub IsTurn : Round → Type 0
+IsTurn (Began item) = ⊥
+IsTurn (Turned i) = Unit {0}
+IsTurn (Reminded i j) = ⊥
+IsTurn (Took item) = ⊥
+
+abbrev pub AreOver : Round → List Round → Type 0
+AreOver x [] = Unit {0}
+AreOver x (y ∷ group) = IsTurn x × AreOver y group
+
+abbrev pub AreTurns : List Round → Type 0
+AreTurns [] = Unit {0}
+AreTurns (x ∷ group) = AreOver x group
+
+-- the newest rounds are a group, with these older ones: one of any kind and turns behind it, at most 64 in all, where there is any
+pub record IsGroup (group older : List Round) : Type 0 where
+  pub some : group ≡ [] → older ≡ []
+  pub turns : AreTurns group
+  pub most : length group ≤ 64
 
 -- an item of a link that isn't its end has at most 65,535 bytes
 pub record IsGiven (item : LinkItem) : Type 0 where

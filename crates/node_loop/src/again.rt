@@ -1,5 +1,5 @@
 //! Serving again, after events that a journal kept.
-ghost use Rattle.std.specs.Prelude.{◌≡◌, ℕ, ◌≤◌, [], ◌++◌, List, true, reverse, OnOk, OnErr};
+ghost use Rattle.std.specs.Prelude.{◌≡◌, ℕ, [], List, true, reverse};
 ghost use Rattle.std.specs.List.{AllByRecursion};
 ghost use Rattle.ritas_base.specs.declared.event.Event.{Event};
 ghost use Rattle.outside.specs.Disks.{state_of};
@@ -12,44 +12,27 @@ ghost use Rattle.node_loop.specs.Again.{ServesAgain};
 ghost use Rattle.node_loop.specs.Archives.{IsSame, moment, moment_of};
 ghost use Rattle.node_loop.specs.Journals.{JournalStands, JournalFails};
 ghost use Rattle.node_loop.specs.Laws.{IsServed};
-ghost use Rattle.node_loop.specs.Outs.{outs_of, text_of};
+ghost use Rattle.node_loop.specs.Outs.{outs_of};
 ghost use Rattle.node_loop.specs.Peers.{no_peers};
 ghost use Rattle.node_loop.specs.Served.{AreHere};
 ghost use Rattle.node_loop.specs.Standing.{HouseStands};
 ghost use Rattle.node_loop.specs.Waiting.{nobody};
-ghost use Rattle.outside.specs.Faults.{count_after};
-ghost use Rattle.outside.specs.Writing.{TookFront};
 
 use crate::archive::{Archive, Outlets};
+use crate::deliver::write_events;
 use crate::end::ServeEnd;
+use crate::group::Group;
 use crate::house::House;
 use crate::output::Output;
 use crate::rounds::{Bounds, go_on};
 use event_journal::Journal;
 use layer_api::{Broadcast, Service};
-use outside::{Disk, Failed, Link, Sink};
+use outside::{Disk, Link, Sink};
 use replica::Replica;
 use ritas_base::{Coin, Event, Mem};
-use schedule_file::Writer;
 use std::alloc::Global;
 use std::net::Net;
 use std::sync::Wait;
-
-// Writes these events to the tape, the oldest first.
-fn write_events<K: Sink>(tape: &mut K, events: &[Event]) -> Result<(), Failed>
-    requires { AllByRecursion IsSized events.now }
-    ensures whole { OnOk result ((K.faults tape.new ≡ K.faults tape.old) × (K.tells ≡ true → K.taken tape.new ≡ K.taken tape.old ++ text_of (reverse events.now))) }
-    ensures front { OnErr result ((K.faults tape.new ≡ count_after (K.faults tape.old)) × (K.faults tape.old ≤ K.faults tape.new)
-        × (K.tells ≡ true → TookFront (K.taken tape.old) (K.taken tape.new) (text_of (reverse events.now)))) }
-{
-    for event in events {
-        match Writer::event(tape, event) {
-            Ok(()) => {}
-            Err(fault) => return Err(fault),
-        }
-    }
-    Ok(())
-}
 
 // Serves the replicas of a house after these events.
 fn serve_again<
@@ -89,7 +72,8 @@ fn serve_again<
         Ok(()) => {}
         Err(_) => return ServeEnd::TapeFault,
     }
-    go_on(rt, alloc, house, out, bounds, &mut output)
+    let mut group = Group::new(alloc);
+    go_on(rt, alloc, house, out, bounds, &mut group)
 }
 
 // Serves the replicas of a house after these events, with a link, a tape, and what keeps events.
@@ -138,13 +122,13 @@ fn serve_again_with<
 /// Then it serves as `serve` does, with no items to begin with.
 ///
 /// Each call that was answered `Took` or `Held`, and each turn, is appended to the journal, after its event went to the tape and before its frames,
-/// its acknowledgement and its replies go out. Other calls change nothing, and aren't appended. So whenever a stop comes, what it leaves on
-/// the disk opens as the recovered events and the first of those that were appended: with each of which a frame, an acknowledgement or a reply went
-/// out.
+/// its acknowledgement and its replies go out: those of one item and of the turns behind it all at once, with two syncs. Other calls change nothing,
+/// and aren't appended. So whenever a stop comes, what it leaves on the disk opens as the recovered events and the first of those that were
+/// appended: with each of which a frame, an acknowledgement or a reply went out.
 ///
 /// It ends as `serve` does, and with `DiskFault` where the disk failed, or with `JournalFull` where the journal would become too long, with its
-/// length then: of the event that wasn't appended nothing goes out. At these ends, as at a fault of the tape or the link, the replica stands
-/// where all events leave it.
+/// length then, up to 2^64 - 1: of the events that weren't appended nothing goes out. At these ends, as at a fault of the tape or the link, the
+/// replica stands where all events leave it.
 ///
 /// The vector has one replica, as it was made, with the journal's number.
 pub fn serve_kept<
@@ -175,8 +159,8 @@ pub fn serve_kept<
         → ServesAgain m w (reverse recovered.now.items) numbers replicas.new.items (record { tape = K.tells; link = L.tells })
         (outs_of K.taken K.faults L.told L.faults tape.old link.old)
         (moment (outs_of K.taken K.faults L.told L.faults tape.new link.new)
-        (λ given. JournalStands head (reverse recovered.now.items) given journal.new D.tells (D.told disk.old) (D.told disk.new) (D.faults disk.old) (D.faults disk.new))
-        (λ fault given. JournalFails head (reverse recovered.now.items) given journal.new D.tells (D.told disk.old) (D.told disk.new) (D.faults disk.old) (D.faults disk.new) fault))
+        (λ given. (journal.new.me ≡ journal.old.me) × JournalStands head (reverse recovered.now.items) given journal.new D.tells (D.told disk.old) (D.told disk.new) (D.faults disk.old) (D.faults disk.new))
+        (λ fault group older. (journal.new.me ≡ journal.old.me) × JournalFails head (reverse recovered.now.items) group older journal.new D.tells (D.told disk.old) (D.told disk.new) (D.faults disk.old) (D.faults disk.new) fault))
         result until limit }
 {
     let mut house = match House::new(alloc, replicas) {

@@ -1,5 +1,7 @@
 //! What keeps events on a disk, and what else serving has beside its replicas.
-ghost use Rattle.std.specs.Prelude.{◌≡◌, ℕ, ◌∷◌, List, MatchResult};
+ghost use Rattle.std.specs.Prelude.{◌≡◌, ℕ, ◌++◌, List, MatchResult, reverse, true, IsTrue};
+ghost use Rattle.std.specs.List.{AllByRecursion};
+ghost use Rattle.event_journal.specs.Journal.{IsRecord};
 ghost use Rattle.ritas_base.specs.declared.event.Event.{Event};
 ghost use Rattle.node_loop.specs.declared.archive.ArchiveFault.{ArchiveFault};
 ghost use Rattle.node_loop.specs.Archives.{fault_in};
@@ -10,31 +12,31 @@ use outside::{Disk, Link, Sink};
 use ritas_base::Event;
 use std::alloc::Global;
 
-/// Why an archive can't keep an event.
+/// Why an archive can't keep events.
 #[derive(Clone, Copy, Debug)]
-pub(crate) enum ArchiveFault {
+pub enum ArchiveFault {
     /// The disk failed.
     Disk,
-    /// With the event it would be so long, which is too long. All is as before.
+    /// With the events it would be so long, up to 2^64 - 1, which is too long. All is as before.
     Full(u64),
     /// There was not enough memory.
     Mem,
 }
 
-/// An archive keeps events on a disk, one after the other.
+/// An archive keeps events on a disk, group after group.
 pub(crate) trait Archive<D> {
-    /// It stands for given events behind past ones, the newest first. Its file has this head, and the disk was so before the first of the
+    /// It stands for given events behind past ones, the newest first. It is of this name, and the disk was so before the first of the
     /// given ones.
     ghost stands: { List ℕ → D → List Event → Self → D → List Event → Type 0 };
 
-    /// It failed so over the newest of the given events.
-    ghost fails: { List ℕ → D → List Event → Self → D → ArchiveFault → List Event → Type 0 };
+    /// It failed so over the newest group of the given events, behind older ones.
+    ghost fails: { List ℕ → D → List Event → Self → D → ArchiveFault → List Event → List Event → Type 0 };
 
-    /// Keeps an event.
-    fn keep(&mut self, alloc: Global, disk: &mut D, event: &Event) -> Result<(), ArchiveFault>
+    /// Keeps a group of events, the oldest first.
+    fn keep(&mut self, alloc: Global, disk: &mut D, events: &[Event]) -> Result<(), ArchiveFault>
         ensures { (head : List ℕ) (before : D) (past given : List Event) → stands head before past self.old disk.old given
-            → MatchResult result (λ _. stands head before past self.new disk.new (event.now ∷ given))
-            (λ fault. fails head before past self.new disk.new fault (event.now ∷ given)) };
+            → MatchResult result (λ _. stands head before past self.new disk.new (reverse events.now ++ given))
+            (λ fault. fails head before past self.new disk.new fault (reverse events.now) given) };
 }
 
 /// What serving has that keeps nothing.
@@ -48,28 +50,40 @@ pub(crate) struct NoDisk;
 impl Archive<NoDisk> for NoArchive {
     ghost stands = { λ head before past archive disk given. Unit {0} };
 
-    ghost fails = { λ head before past archive disk fault given. ⊥ };
+    ghost fails = { λ head before past archive disk fault group older. ⊥ };
 
-    fn keep(&mut self, _: Global, _: &mut NoDisk, _: &Event) -> Result<(), ArchiveFault> {
+    fn keep(&mut self, _: Global, _: &mut NoDisk, _: &[Event]) -> Result<(), ArchiveFault> {
         Ok(())
     }
 }
 
+// Whether a journal is live, and takes each of these events.
+fn takes_all(journal: &Journal, events: &[Event]) -> bool
+    ensures { IsTrue result → (journal.now.live ≡ true) × AllByRecursion (IsRecord journal.now.me) events.now }
+{
+    for event in events {
+        if !journal.takes(event) {
+            return false;
+        }
+    }
+    journal.live()
+}
+
 impl<D: Disk> Archive<D> for Journal {
-    ghost use Rattle.node_loop.specs.Journals.{JournalStands, JournalFails};
+    ghost use Rattle.node_loop.specs.Journals.{NamedStands, NamedFails};
 
-    ghost stands = { λ head before past journal disk given.
-        JournalStands head past given journal D.tells (D.told before) (D.told disk) (D.faults before) (D.faults disk) };
+    ghost stands = { λ name before past journal disk given.
+        NamedStands name past given journal D.tells (D.told before) (D.told disk) (D.faults before) (D.faults disk) };
 
-    ghost fails = { λ head before past journal disk fault given.
-        JournalFails head past given journal D.tells (D.told before) (D.told disk) (D.faults before) (D.faults disk) fault };
+    ghost fails = { λ name before past journal disk fault group older.
+        NamedFails name past group older journal D.tells (D.told before) (D.told disk) (D.faults before) (D.faults disk) fault };
 
-    fn keep(&mut self, alloc: Global, disk: &mut D, event: &Event) -> Result<(), ArchiveFault> {
-        if !self.takes(event) {
+    fn keep(&mut self, alloc: Global, disk: &mut D, events: &[Event]) -> Result<(), ArchiveFault> {
+        if !takes_all(self, events) {
             // Each event of serving is one that it takes.
             return Err(ArchiveFault::Mem);
         }
-        match self.append(alloc, disk, event) {
+        match self.append_all(alloc, disk, events) {
             Ok(()) => Ok(()),
             Err(JournalFault::Disk) => Err(ArchiveFault::Disk),
             Err(JournalFault::Full(size)) => Err(ArchiveFault::Full(size)),

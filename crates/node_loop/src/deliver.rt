@@ -1,34 +1,39 @@
 //! What a tape and a link are given.
-ghost use Rattle.std.specs.Prelude.{◌≡◌, ℕ, ◌<◌, ◌≤◌, [], ◌++◌, List, length, map, reverse, None, false, All, IfSome, IfErr, OnOk, MatchResult};
+ghost use Rattle.std.specs.Prelude.{◌≡◌, ℕ, ◌<◌, ◌≤◌, ◌++◌, ◌∷◌, List, length, map, reverse, true, All, IfSome, IfErr, OnOk, OnErr, MatchResult};
+ghost use Rattle.std.specs.List.{AllByRecursion};
 ghost use Rattle.ritas_base.specs.declared.event.Event.{Event};
+ghost use Rattle.outside.specs.Faults.{count_after};
 ghost use Rattle.outside.specs.LinkCalls.{LinkDid, each_act};
 ghost use Rattle.outside.specs.Links.{LinkAct, Replies};
+ghost use Rattle.outside.specs.Writing.{TookFront};
+ghost use Rattle.outside.specs.declared.link.LinkItem.{LinkItem};
 ghost use Rattle.link_resume.specs.Lists.{kept_for};
 ghost use Rattle.schedule_file.specs.Spelling.{IsSized};
 ghost use Rattle.replica.specs.Replica.{with_keys};
 ghost use Rattle.world_model.specs.World.{Setting};
 ghost use Rattle.node_loop.specs.Calls.{Outcome};
+ghost use Rattle.node_loop.specs.Waiting.{Waiting};
 ghost use Rattle.node_loop.specs.Peers.{Peers, keep_all};
-ghost use Rattle.node_loop.specs.PeersStanding.{AreKept, kept_by, more_acts, made_as};
+ghost use Rattle.node_loop.specs.PeersStanding.{AreKept, kept_by, made_as};
 ghost use Rattle.node_loop.specs.Resending.{Brought};
-ghost use Rattle.node_loop.specs.Outs.{Outs, outs_of, Tells, Agrees, Steps, Fails};
-ghost use Rattle.node_loop.specs.Deeds.{act_of};
-ghost use Rattle.node_loop.specs.Serving.{Serving, so_far, sent_by, onto};
-ghost use Rattle.node_loop.specs.Standing.{HouseStands, Comes, IsMore, frame_by, reply_by};
-ghost use Rattle.node_loop.specs.Running.{Goes};
-ghost use Rattle.node_loop.specs.Archives.{IsSame, moment_of, kept_with};
-ghost use Rattle.node_loop.specs.Keeping.{kept_of};
+ghost use Rattle.node_loop.specs.Outs.{Outs, Tells, Agrees, Steps, Fails, text_of};
+ghost use Rattle.node_loop.specs.Serving.{Serving, Round, so_far, onto, at_call, outcome, brought, after_from};
+ghost use Rattle.node_loop.specs.Standing.{HouseStands, Comes, frame_by, reply_by};
+ghost use Rattle.node_loop.specs.Groups.{Fits, Holds, Joins, Under, IsEmpty, more_by, acts_by, acts_each, if_kept};
+ghost use Rattle.node_loop.specs.Running.{Gathered, NotYet, Delivered, IsOfTape};
+ghost use Rattle.node_loop.specs.Archives.{IsSame, moment_of};
 
 use crate::archive::{Archive, ArchiveFault, Outlets, fault_in};
 use crate::end::Fault;
+use crate::group::Group;
 use crate::house::House;
 use crate::output::{More, Output, Reply};
 use crate::peers::keep;
 use layer_api::{Broadcast, Service};
 use link_resume::Resume;
-use outside::{Link, LinkFault, Sink};
+use outside::{Buffer, Failed, Link, LinkFault, Sink, write_all};
 use replica::OutFrame;
-use ritas_base::{Coin, Mem};
+use ritas_base::{Coin, Event, Mem};
 use schedule_file::Writer;
 use std::alloc::Global;
 use std::net::Net;
@@ -111,29 +116,57 @@ fn send_kept<R: Net + Wait, L: Link>(
     Ok(())
 }
 
-// Sends what goes to a peer besides.
-fn send_more<R: Net + Wait, L: Link>(
+// Sends all that is kept for a peer of a replica again.
+fn send_again<R: Net + Wait, S: Service, E: Broadcast, C: Coin + Drop, L: Link>(
     rt: &R,
     alloc: Global,
+    house: &House<S, E, C>,
     link: &mut L,
     at: u8,
-    resume: &Resume,
+    peer: u8,
+) -> Result<(), LinkFault>
+    ensures { let m = with_keys S.stands S.rules S.shown E.stands E.rules E.shown C.bits in
+        (w : Setting) (es : List Event) (numbers : List ℕ) (ws : Waiting) (p : Peers) → HouseStands m w es numbers house.now ws p
+        → Fits w p.keeping at (More.Kept peer)
+        → LinkDid L.tells (each_act (kept_by at peer) (p.keeping at peer)) (L.told link.old) (L.told link.new) (L.faults link.old) (L.faults link.new) result }
+{
+    let Some(place) = house.place_of(at) else {
+        // Nothing is kept at what isn't here.
+        return Ok(());
+    };
+    let Some(keeper) = house.keepers.get(place) else {
+        // There is no such place.
+        return Ok(());
+    };
+    if usize::from(peer) >= keeper.resume.peers() {
+        // There is no such peer.
+        return Ok(());
+    }
+    send_kept(rt, alloc, link, at, &keeper.resume, peer)
+}
+
+// Sends what goes to a peer besides.
+fn send_more<R: Net + Wait, S: Service, E: Broadcast, C: Coin + Drop, L: Link>(
+    rt: &R,
+    alloc: Global,
+    house: &House<S, E, C>,
+    link: &mut L,
+    at: u8,
     more: More,
 ) -> Result<(), LinkFault>
-    ensures { LinkDid L.tells (more_acts at resume.now more) (L.told link.old) (L.told link.new) (L.faults link.old) (L.faults link.new) result }
+    ensures { let m = with_keys S.stands S.rules S.shown E.stands E.rules E.shown C.bits in
+        (w : Setting) (es : List Event) (numbers : List ℕ) (ws : Waiting) (p : Peers) → HouseStands m w es numbers house.now ws p
+        → Fits w p.keeping at more
+        → LinkDid L.tells (more_by p.keeping at more) (L.told link.old) (L.told link.new) (L.faults link.old) (L.faults link.new) result }
 {
     match more {
         More::Nothing => Ok(()),
         More::Note { peer, bytes } => link.send(rt, alloc, at, peer, &bytes),
-        More::Kept { peer } if usize::from(peer) < resume.peers() => {
-            send_kept(rt, alloc, link, at, resume, peer)
-        }
-        // Nothing is kept for what is no peer.
-        More::Kept { .. } => Ok(()),
+        More::Kept { peer } => send_again(rt, alloc, house, link, at, peer),
     }
 }
 
-// Sends what goes to peers: the frames, and what goes to a peer besides.
+// Sends what came of a round: the frames, what goes to a peer besides, and the replies.
 fn send_out<R: Net + Wait, S: Service, E: Broadcast, C: Coin + Drop, L: Link>(
     rt: &R,
     alloc: Global,
@@ -142,24 +175,42 @@ fn send_out<R: Net + Wait, S: Service, E: Broadcast, C: Coin + Drop, L: Link>(
     output: &Output,
 ) -> Result<(), LinkFault>
     ensures { let m = with_keys S.stands S.rules S.shown E.stands E.rules E.shown C.bits in
-        (w : Setting) (es : List Event) (numbers : List ℕ) (did : Outcome) (more : Brought)
-        → HouseStands m w (onto did.event es) numbers house.now did.waiting more.peers
-        → map (frame_by output.now.at) output.now.frames.items ≡ sent_by w es did.event → IsMore w output.now.at output.now.more more
-        → (w.is_correct output.now.at ≡ false → (did.event ≡ None) × (more.deeds ≡ []))
-        → LinkDid L.tells (reverse (map (act_of w.keys) more.deeds) ++ reverse (sent_by w es did.event)) (L.told link.old) (L.told link.new) (L.faults link.old) (L.faults link.new) result }
+        (w : Setting) (es : List Event) (numbers : List ℕ) (ws : Waiting) (p : Peers) → HouseStands m w es numbers house.now ws p
+        → Fits w p.keeping output.now.at output.now.more
+        → LinkDid L.tells (acts_by p.keeping output.now) (L.told link.old) (L.told link.new) (L.faults link.old) (L.faults link.new) result }
 {
-    let Some(place) = house.place_of(output.at) else {
-        return Ok(());
-    };
-    let Some(keeper) = house.keepers.get(place) else {
-        // There is no such place.
-        return Ok(());
-    };
-    match send_all(rt, alloc, link, output.at, output.frames.as_slice()) {
+    let at = output.at;
+    match send_all(rt, alloc, link, at, output.frames.as_slice()) {
         Ok(()) => {}
         Err(fault) => return Err(fault),
     }
-    send_more(rt, alloc, link, output.at, &keeper.resume, output.more)
+    match send_more(rt, alloc, house, link, at, output.more) {
+        Ok(()) => {}
+        Err(fault) => return Err(fault),
+    }
+    reply_all(rt, alloc, link, at, output.replies.as_slice())
+}
+
+// Sends what came of each round, the oldest first.
+fn send_each<R: Net + Wait, S: Service, E: Broadcast, C: Coin + Drop, L: Link>(
+    rt: &R,
+    alloc: Global,
+    house: &House<S, E, C>,
+    link: &mut L,
+    outputs: &[Output],
+) -> Result<(), LinkFault>
+    ensures { let m = with_keys S.stands S.rules S.shown E.stands E.rules E.shown C.bits in
+        (w : Setting) (es : List Event) (numbers : List ℕ) (ws : Waiting) (p : Peers) → HouseStands m w es numbers house.now ws p
+        → AllByRecursion (λ o. Fits w p.keeping o.at o.more) outputs.now
+        → LinkDid L.tells (acts_each (acts_by p.keeping) outputs.now) (L.told link.old) (L.told link.new) (L.faults link.old) (L.faults link.new) result }
+{
+    for output in outputs {
+        match send_out(rt, alloc, house, link, output) {
+            Ok(()) => {}
+            Err(fault) => return Err(fault),
+        }
+    }
+    Ok(())
 }
 
 // Sends its replies, in order.
@@ -191,42 +242,82 @@ pub(crate) fn fault_of(fault: LinkFault) -> Fault
     }
 }
 
-// Writes the event to the tape.
-fn write<K: Sink>(tape: &mut K, output: &Output) -> Result<(), Fault>
-    requires { IfSome output.now.event IsSized }
-    ensures own { IfErr result (λ fault. fault ≡ Fault.Tape) }
-    ensures steps { (tells : Tells) (base : Outs) (told : List LinkAct) (link_faults : _) (events : List Event) (acts news : List LinkAct) → tells.tape ≡ K.tells
-        → Agrees tells base (record { taken = K.taken tape.old; tape_faults = K.faults tape.old; told = told; link_faults = link_faults }) events acts
-        → Steps tells base (record { taken = K.taken tape.new; tape_faults = K.faults tape.new; told = told; link_faults = link_faults }) result
-        (onto output.now.event events) acts acts news }
+/// Writes these events to the tape, the oldest first.
+pub(crate) fn write_events<K: Sink>(tape: &mut K, events: &[Event]) -> Result<(), Failed>
+    requires { AllByRecursion IsSized events.now }
+    ensures whole { OnOk result ((K.faults tape.new ≡ K.faults tape.old) × (K.tells ≡ true → K.taken tape.new ≡ K.taken tape.old ++ text_of (reverse events.now))) }
+    ensures front { OnErr result ((K.faults tape.new ≡ count_after (K.faults tape.old)) × (K.faults tape.old ≤ K.faults tape.new)
+        × (K.tells ≡ true → TookFront (K.taken tape.old) (K.taken tape.new) (text_of (reverse events.now)))) }
 {
-    if let Some(event) = &output.event {
-        if Writer::event(tape, event).is_err() {
-            return Err(Fault::Tape);
+    for event in events {
+        match Writer::event(tape, event) {
+            Ok(()) => {}
+            Err(fault) => return Err(fault),
         }
     }
     Ok(())
 }
 
-// Hands the event to the archive, if it is one that is kept.
-fn keep_event<A: Archive<D>, D>(
-    alloc: Global,
-    archive: &mut A,
-    disk: &mut D,
-    output: &Output,
-) -> Result<(), ArchiveFault>
-    ensures { (head : List ℕ) (before : D) (past given : List Event) → A.stands head before past archive.old disk.old given
-        → MatchResult result (λ _. A.stands head before past archive.new disk.new (kept_with output.now.kept output.now.event given))
-        (λ fault. A.fails head before past archive.new disk.new fault (kept_with output.now.kept output.now.event given)) }
+// Writes the events of a group to the tape, the oldest first, in one piece.
+fn write<K: Sink>(alloc: Global, tape: &mut K, events: &[Event]) -> Result<(), Fault>
+    requires { AllByRecursion IsSized events.now }
+    ensures own { IfErr result IsOfTape }
+    ensures steps { (tells : Tells) (base : Outs) (told : List LinkAct) (link_faults : _) (older : List Event) (acts news : List LinkAct) → tells.tape ≡ K.tells
+        → Agrees tells base (record { taken = K.taken tape.old; tape_faults = K.faults tape.old; told = told; link_faults = link_faults }) older acts
+        → Steps tells base (record { taken = K.taken tape.new; tape_faults = K.faults tape.new; told = told; link_faults = link_faults }) result
+        (reverse events.now ++ older) acts acts news }
 {
-    match &output.event {
-        Some(event) if output.kept => archive.keep(alloc, disk, event),
-        _ => Ok(()),
+    let mut text = Buffer::new(alloc);
+    match write_events(&mut text, events) {
+        Ok(()) => {}
+        Err(_) => return Err(Fault::Mem),
+    }
+    match write_all(tape, text.taken()) {
+        Ok(()) => Ok(()),
+        Err(_) => Err(Fault::Tape),
     }
 }
 
-/// Writes the event that came to the tape, hands it to the archive where it is kept, keeps its frames for their peers, and then gives the
-/// link the frames, what goes to a peer besides, and the replies.
+// Hands the events of a group to the archive, if they are kept.
+fn keep_events<A: Archive<D>, D>(
+    alloc: Global,
+    archive: &mut A,
+    disk: &mut D,
+    group: &Group,
+) -> Result<(), ArchiveFault>
+    ensures { (head : List ℕ) (before : D) (past given : List Event) → A.stands head before past archive.old disk.old given
+        → MatchResult result (λ _. A.stands head before past archive.new disk.new (if_kept group.now.kept (reverse group.now.events.items) ++ given))
+        (λ fault. A.fails head before past archive.new disk.new fault (if_kept group.now.kept (reverse group.now.events.items)) given) }
+{
+    if !group.kept {
+        return Ok(());
+    }
+    archive.keep(alloc, disk, group.events.as_slice())
+}
+
+/// What came of a round joins the group, and its frames are kept for their peers. The one error is want of memory.
+pub(crate) fn gather<S: Service, E: Broadcast, C: Coin + Drop>(
+    alloc: Global,
+    house: &mut House<S, E, C>,
+    group: &mut Group,
+    output: Output,
+) -> Result<(), Mem>
+    requires sized { AllByRecursion IsSized group.old.events.items }
+    requires event { IfSome output.event IsSized }
+    ensures sized { OnOk result (AllByRecursion IsSized group.new.events.items) }
+    ensures joins { let m = with_keys S.stands S.rules S.shown E.stands E.rules E.shown C.bits in
+        (w : Setting) (past : List Event) (numbers : List ℕ) (start : Serving) (x : Round) (newest older : List Round)
+        → let s = after_from w past start (newest ++ older) in
+        Comes m w (so_far past (at_call x s)) numbers house.old output (outcome w past x s) (brought w past x s)
+        → Holds w past start newest older group.old → Joins newest x group.old
+        → OnOk result (Under m w past numbers start (x ∷ newest) older house.new group.new) }
+{
+    keep_frames(house, alloc, &output)?;
+    group.add(output)
+}
+
+/// Writes the events of a group to the tape, hands them to the archive where they are kept, and then gives the link, round after round, the
+/// frames, what goes to a peer besides, and the replies.
 pub(crate) fn deliver<
     R: Net + Wait,
     S: Service,
@@ -239,39 +330,34 @@ pub(crate) fn deliver<
 >(
     rt: &R,
     alloc: Global,
-    house: &mut House<S, E, C>,
+    house: &House<S, E, C>,
     out: &mut Outlets<L, K, A, D>,
-    output: &Output,
+    group: &mut Group,
 ) -> Result<(), Fault>
-    requires { IfSome output.now.event IsSized }
+    requires { AllByRecursion IsSized group.old.events.items }
     ensures same { IsSame out.old out.new }
+    ensures empty { OnOk result (IsEmpty group.new) }
     ensures goes { let m = with_keys S.stands S.rules S.shown E.stands E.rules E.shown C.bits in
-        (head : List ℕ) (before : D) (w : Setting) (past : List Event) (numbers : List ℕ) (base : Outs) (s : Serving) (did : Outcome) (more : Brought)
-        → Comes m w (so_far past s) numbers house.old output.now did more
-        → Agrees (record { tape = K.tells; link = L.tells }) base
-        (outs_of K.taken K.faults L.told L.faults out.old.tape.now out.old.link.now) s.events s.acts
-        → A.stands head before past out.old.archive.now out.old.disk.now (kept_of w past s.events)
-        → Goes m w past numbers house.new (record { tape = K.tells; link = L.tells }) base
-        (moment_of K.taken K.faults L.told L.faults (A.stands head before past) (A.fails head before past) out.new) result did more s }
+        (head : List ℕ) (before : D) (w : Setting) (past : List Event) (numbers : List ℕ) (base : Outs) (taken until limit : ℕ) (start : Serving)
+        (left : List LinkItem) (older : List Round) (given : List LinkAct)
+        → Gathered m w past numbers house.now group.old taken until limit start left older given 64
+        → NotYet w past (record { tape = K.tells; link = L.tells }) base
+        (moment_of K.taken K.faults L.told L.faults (A.stands head before past) (A.fails head before past) out.old) start older given
+        → Delivered m w past numbers house.now (record { tape = K.tells; link = L.tells }) base
+        (moment_of K.taken K.faults L.told L.faults (A.stands head before past) (A.fails head before past) out.new) taken until limit start left result }
 {
-    match write(out.tape, output) {
+    match write(alloc, out.tape, group.events.as_slice()) {
         Ok(()) => {}
         Err(fault) => return Err(fault),
     }
-    match keep_event(alloc, out.archive, out.disk, output) {
+    match keep_events(alloc, out.archive, out.disk, group) {
         Ok(()) => {}
         Err(fault) => return Err(fault_in(fault)),
     }
-    match keep_frames(house, alloc, output) {
-        Ok(()) => {}
-        Err(Mem) => return Err(Fault::Mem),
-    }
-    match send_out(rt, alloc, house, out.link, output) {
+    match send_each(rt, alloc, house, out.link, group.outputs.as_slice()) {
         Ok(()) => {}
         Err(fault) => return Err(fault_of(fault)),
     }
-    match reply_all(rt, alloc, out.link, output.at, output.replies.as_slice()) {
-        Ok(()) => Ok(()),
-        Err(fault) => Err(fault_of(fault)),
-    }
+    group.clear();
+    Ok(())
 }

@@ -15,7 +15,7 @@ pub enum ServeEnd {
     Mem,
     /// The journal's disk failed.
     DiskFault,
-    /// With the newest event the journal would be so long, which is too long.
+    /// With the newest events the journal would be so long, which is too long.
     JournalFull(u64),
 }
 
@@ -30,6 +30,6 @@ pub(crate) enum Fault {
     Mem,
     /// The journal's disk failed.
     Disk,
-    /// With the newest event the journal would be so long, which is too long.
+    /// With the newest events the journal would be so long, which is too long.
     Full(u64),
 }

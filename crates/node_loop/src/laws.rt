@@ -46,7 +46,7 @@ pub fn resends_are_open()
 /// It does nothing: its contract is the law.
 pub fn recalled_are_sent()
     ensures sent { RecalledAreSent }
-    ensures open { RecalledAreOpen }
+    ensures again { RecalledAreOpen }
 {}
 
 /// An acknowledgement goes out only after a frame of that peer with that number opened, and was answered otherwise than that it is to come

@@ -15,6 +15,7 @@ mod calls;
 mod deliver;
 mod end;
 mod enter;
+mod group;
 mod house;
 mod laws;
 mod output;
@@ -27,6 +28,7 @@ mod tests;
 mod waiting;
 
 pub use again::serve_kept;
+pub use archive::ArchiveFault;
 pub use end::ServeEnd;
 pub use laws::{
     acks_are_earned, acts_are_deeds, events_fit, frames_are_made, kept_is_short, kept_makes,

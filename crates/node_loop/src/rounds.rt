@@ -1,23 +1,27 @@
 //! Serving, round by round.
-ghost use Rattle.std.specs.Prelude.{◌≡◌, ℕ, ◌<◌, List, [], true, All};
+ghost use Rattle.std.specs.Prelude.{◌≡◌, ℕ, ◌<◌, ◌^◌, List, [], ◌∷◌, length, true, All, OnOk, MatchResult};
+ghost use Rattle.std.specs.List.{AllByRecursion};
 ghost use Rattle.ritas_base.specs.declared.event.Event.{Event};
+ghost use Rattle.outside.specs.Links.{LinkAct, bytes_of};
 ghost use Rattle.outside.specs.declared.link.LinkItem.{LinkItem};
 ghost use Rattle.replica.specs.Replica.{with_keys};
+ghost use Rattle.schedule_file.specs.Spelling.{IsSized};
 ghost use Rattle.world_model.specs.World.{Setting};
 ghost use Rattle.node_loop.specs.Waiting.{Waiting, nobody};
 ghost use Rattle.node_loop.specs.Peers.{Peers, no_peers};
-ghost use Rattle.node_loop.specs.Serving.{Serving, begin, so_far, wants_of, Turned, Reminded, outcome, brought};
+ghost use Rattle.node_loop.specs.Serving.{Serving, begin, so_far, wants_of, Round, Began, Turned, Reminded, Took, after_from};
 ghost use Rattle.node_loop.specs.Outs.{Outs, outs_of, Agrees};
 ghost use Rattle.node_loop.specs.Standing.{HouseStands};
 ghost use Rattle.node_loop.specs.Served.{AreHere, IsFirst, Serves};
 ghost use Rattle.node_loop.specs.ServedKept.{ServesKept};
 ghost use Rattle.node_loop.specs.Archives.{IsSame, moment, moment_of};
-ghost use Rattle.node_loop.specs.Keeping.{kept_of};
-ghost use Rattle.node_loop.specs.Running.{Running, RanRound, Goes, AskedLink, BeganAll, IsNext, IsEndOf};
+ghost use Rattle.node_loop.specs.Groups.{IsEmpty, Joins, Under};
+ghost use Rattle.node_loop.specs.Running.{Running, RanRound, Gathered, NotYet, FellShortOf, Delivered, IsNext, IsEndOf};
 
 use crate::archive::{Archive, NoArchive, NoDisk, Outlets};
-use crate::deliver::{deliver, fault_of};
+use crate::deliver::{deliver, fault_of, gather};
 use crate::end::{Fault, ServeEnd};
+use crate::group::Group;
 use crate::house::House;
 use crate::output::Output;
 use crate::peers::Pair;
@@ -28,6 +32,9 @@ use ritas_base::{Coin, Mem};
 use std::alloc::Global;
 use std::net::Net;
 use std::sync::Wait;
+
+// So many rounds at most make a group.
+const MOST: u32 = 64;
 
 /// What is done next.
 #[derive(Clone, Copy, Debug)]
@@ -83,76 +90,119 @@ fn end_of(fault: Fault) -> ServeEnd
     }
 }
 
-// A peer of a replica is asked to send again.
-fn remind<
-    R: Net + Wait,
-    S: Service,
-    E: Broadcast,
-    C: Coin + Drop,
-    L: Link,
-    K: Sink,
-    A: Archive<D>,
-    D,
->(
-    rt: &R,
+// A peer of a replica is asked to send again. The one error is want of memory.
+fn remind<S: Service, E: Broadcast, C: Coin + Drop>(
     alloc: Global,
     house: &mut House<S, E, C>,
-    out: &mut Outlets<L, K, A, D>,
     pair: Pair,
-    output: &mut Output,
-) -> Result<(), Fault>
-    ensures same { IsSame out.old out.new }
-    ensures goes { let m = with_keys S.stands S.rules S.shown E.stands E.rules E.shown C.bits in
-        (head : List ℕ) (before : D) (w : Setting) (past : List Event) (numbers : List ℕ) (base : Outs) (s : Serving) → HouseStands m w (so_far past s) numbers house.old s.waiting s.peers
-        → Agrees (record { tape = K.tells; link = L.tells }) base
-        (outs_of K.taken K.faults L.told L.faults out.old.tape.now out.old.link.now) s.events s.acts
-        → A.stands head before past out.old.archive.now out.old.disk.now (kept_of w past s.events)
+    group: &mut Group,
+) -> Result<(), Mem>
+    requires sized { AllByRecursion IsSized group.old.events.items }
+    ensures sized { OnOk result (AllByRecursion IsSized group.new.events.items) }
+    ensures joins { let m = with_keys S.stands S.rules S.shown E.stands E.rules E.shown C.bits in
+        (w : Setting) (past : List Event) (numbers : List ℕ) (start : Serving) (newest older : List Round)
+        → Under m w past numbers start newest older house.old group.old → Joins newest (Reminded pair.at pair.peer) group.old
         → w.is_correct pair.at ≡ true → pair.peer < w.numbers.n
-        → Goes m w past numbers house.new (record { tape = K.tells; link = L.tells }) base
-        (moment_of K.taken K.faults L.told L.faults (A.stands head before past) (A.fails head before past) out.new)
-        result (outcome w past (Reminded pair.at pair.peer) s) (brought w past (Reminded pair.at pair.peer) s) s }
+        → OnOk result (Under m w past numbers start (Reminded pair.at pair.peer ∷ newest) older house.new group.new) }
 {
-    house.remind(pair, output);
-    deliver(rt, alloc, house, out, output)
+    let mut output = Output::new(alloc);
+    house.remind(pair, &mut output);
+    gather(alloc, house, group, output)
 }
 
-// Takes a turn at a replica.
-fn turn<
-    R: Net + Wait,
-    S: Service,
-    E: Broadcast,
-    C: Coin + Drop,
-    L: Link,
-    K: Sink,
-    A: Archive<D>,
-    D,
->(
-    rt: &R,
+// Takes a turn at a replica. The one error is want of memory.
+fn turn<S: Service, E: Broadcast, C: Coin + Drop>(
     alloc: Global,
     house: &mut House<S, E, C>,
-    out: &mut Outlets<L, K, A, D>,
     at: u8,
-    output: &mut Output,
-) -> Result<(), Fault>
-    ensures same { IsSame out.old out.new }
-    ensures goes { let m = with_keys S.stands S.rules S.shown E.stands E.rules E.shown C.bits in
-        (head : List ℕ) (before : D) (w : Setting) (past : List Event) (numbers : List ℕ) (base : Outs) (s : Serving) → HouseStands m w (so_far past s) numbers house.old s.waiting s.peers
-        → Agrees (record { tape = K.tells; link = L.tells }) base
-        (outs_of K.taken K.faults L.told L.faults out.old.tape.now out.old.link.now) s.events s.acts
-        → A.stands head before past out.old.archive.now out.old.disk.now (kept_of w past s.events)
+    group: &mut Group,
+) -> Result<(), Mem>
+    requires sized { AllByRecursion IsSized group.old.events.items }
+    ensures sized { OnOk result (AllByRecursion IsSized group.new.events.items) }
+    ensures joins { let m = with_keys S.stands S.rules S.shown E.stands E.rules E.shown C.bits in
+        (w : Setting) (past : List Event) (numbers : List ℕ) (start : Serving) (newest older : List Round)
+        → Under m w past numbers start newest older house.old group.old → Joins newest (Turned at) group.old
         → w.is_correct at ≡ true
-        → Goes m w past numbers house.new (record { tape = K.tells; link = L.tells }) base
-        (moment_of K.taken K.faults L.told L.faults (A.stands head before past) (A.fails head before past) out.new)
-        result (outcome w past (Turned at) s) (brought w past (Turned at) s) s }
+        → OnOk result (Under m w past numbers start (Turned at ∷ newest) older house.new group.new) }
 {
-    match house.turn(alloc, at, output) {
-        Ok(()) => deliver(rt, alloc, house, out, output),
-        Err(Mem) => Err(Fault::Mem),
-    }
+    let mut output = Output::new(alloc);
+    house.turn(alloc, at, &mut output)?;
+    gather(alloc, house, group, output)
 }
 
-// Takes the link's next item, and answers whether there is one.
-fn ask_link<
+// Takes an item of the link. The one error is want of memory.
+fn take<S: Service, E: Broadcast, C: Coin + Drop>(
+    alloc: Global,
+    house: &mut House<S, E, C>,
+    item: LinkItem,
+    group: &mut Group,
+) -> Result<(), Mem>
+    requires sized { AllByRecursion IsSized group.old.events.items }
+    requires short { length (bytes_of item) < 2 ^ 16 }
+    ensures sized { OnOk result (AllByRecursion IsSized group.new.events.items) }
+    ensures joins { let m = with_keys S.stands S.rules S.shown E.stands E.rules E.shown C.bits in
+        (w : Setting) (past : List Event) (numbers : List ℕ) (start : Serving) (newest older : List Round)
+        → Under m w past numbers start newest older house.old group.old → Joins newest (Took item) group.old
+        → OnOk result (Under m w past numbers start (Took item ∷ newest) older house.new group.new) }
+{
+    let mut output = Output::new(alloc);
+    house.take(alloc, item, &mut output)?;
+    gather(alloc, house, group, output)
+}
+
+// Takes up one of the first items. The one error is want of memory.
+fn take_first<S: Service, E: Broadcast, C: Coin + Drop>(
+    alloc: Global,
+    house: &mut House<S, E, C>,
+    item: &LinkItem,
+    group: &mut Group,
+) -> Result<(), Mem>
+    requires sized { AllByRecursion IsSized group.old.events.items }
+    requires first { IsFirst item.now }
+    ensures sized { OnOk result (AllByRecursion IsSized group.new.events.items) }
+    ensures joins { let m = with_keys S.stands S.rules S.shown E.stands E.rules E.shown C.bits in
+        (w : Setting) (past : List Event) (numbers : List ℕ) (start : Serving) (newest older : List Round)
+        → Under m w past numbers start newest older house.old group.old → Joins newest (Began item.now) group.old
+        → OnOk result (Under m w past numbers start (Began item.now ∷ newest) older house.new group.new) }
+{
+    let mut output = Output::new(alloc);
+    house.begin(alloc, item, &mut output)?;
+    gather(alloc, house, group, output)
+}
+
+// Takes the turns that the rules say next, while they may join the group. The one error is want of memory.
+fn take_turns<S: Service, E: Broadcast, C: Coin + Drop>(
+    alloc: Global,
+    house: &mut House<S, E, C>,
+    bounds: Bounds,
+    taken: u64,
+    group: &mut Group,
+) -> Result<(), Mem>
+    requires sized { AllByRecursion IsSized group.old.events.items }
+    ensures sized { OnOk result (AllByRecursion IsSized group.new.events.items) }
+    ensures goes { let m = with_keys S.stands S.rules S.shown E.stands E.rules E.shown C.bits in
+        (w : Setting) (past : List Event) (numbers : List ℕ) (start : Serving) (older : List Round) (given : List LinkAct)
+        → Gathered m w past numbers house.old group.old taken bounds.until bounds.limit start [] older given 1
+        → MatchResult result (λ _. Gathered m w past numbers house.new group.new taken bounds.until bounds.limit start [] older given 64)
+        (λ _. FellShortOf w past bounds.until bounds.limit start older given) }
+{
+    for _ in 1..MOST {
+        if !group.goes_on() {
+            return Ok(());
+        }
+        match next_of(house, bounds, taken) {
+            Next::Turn(at) => match turn(alloc, house, at, group) {
+                Ok(()) => {}
+                Err(Mem) => return Err(Mem),
+            },
+            _ => return Ok(()),
+        }
+    }
+    Ok(())
+}
+
+// Takes the turns that join a group, and delivers it.
+fn finish<
     R: Net + Wait,
     S: Service,
     E: Broadcast,
@@ -166,37 +216,116 @@ fn ask_link<
     alloc: Global,
     house: &mut House<S, E, C>,
     out: &mut Outlets<L, K, A, D>,
-    output: &mut Output,
-) -> Result<bool, Fault>
+    bounds: Bounds,
+    taken: u64,
+    group: &mut Group,
+) -> Result<(), ServeEnd>
+    requires { AllByRecursion IsSized group.old.events.items }
     ensures same { IsSame out.old out.new }
+    ensures empty { OnOk result (IsEmpty group.new) }
     ensures goes { let m = with_keys S.stands S.rules S.shown E.stands E.rules E.shown C.bits in
-        (head : List ℕ) (before : D) (w : Setting) (past : List Event) (numbers : List ℕ) (base : Outs) (s : Serving) → HouseStands m w (so_far past s) numbers house.old s.waiting s.peers
-        → Agrees (record { tape = K.tells; link = L.tells }) base
-        (outs_of K.taken K.faults L.told L.faults out.old.tape.now out.old.link.now) s.events s.acts
-        → A.stands head before past out.old.archive.now out.old.disk.now (kept_of w past s.events)
-        → AskedLink m w past numbers house.new (record { tape = K.tells; link = L.tells }) base
+        (head : List ℕ) (before : D) (w : Setting) (past : List Event) (numbers : List ℕ) (base : Outs) (start : Serving) (older : List Round) (given : List LinkAct)
+        → Gathered m w past numbers house.old group.old taken bounds.until bounds.limit start [] older given 1
+        → NotYet w past (record { tape = K.tells; link = L.tells }) base
+        (moment_of K.taken K.faults L.told L.faults (A.stands head before past) (A.fails head before past) out.old) start older given
+        → RanRound m w past numbers house.new (record { tape = K.tells; link = L.tells }) base
         (moment_of K.taken K.faults L.told L.faults (A.stands head before past) (A.fails head before past) out.new)
-        result s }
+        taken bounds.until bounds.limit start result }
 {
-    let item = match out.link.next(rt, alloc) {
-        Ok(item) => item,
-        Err(fault) => return Err(fault_of(fault)),
-    };
-    if item.is_end() {
-        return Ok(false);
-    }
-    match house.take(alloc, item, output) {
+    match take_turns(alloc, house, bounds, taken, group) {
         Ok(()) => {}
-        Err(Mem) => return Err(Fault::Mem),
+        Err(Mem) => return Err(ServeEnd::Mem),
     }
-    match deliver(rt, alloc, house, out, output) {
-        Ok(()) => Ok(true),
-        Err(fault) => Err(fault),
+    match deliver(rt, alloc, house, out, group) {
+        Ok(()) => Ok(()),
+        Err(fault) => Err(end_of(fault)),
     }
 }
 
-// One round, unless serving ends.
-fn run_round<
+// A group of turns, of which this is the first.
+fn run_turns<
+    R: Net + Wait,
+    S: Service,
+    E: Broadcast,
+    C: Coin + Drop,
+    L: Link,
+    K: Sink,
+    A: Archive<D>,
+    D,
+>(
+    rt: &R,
+    alloc: Global,
+    house: &mut House<S, E, C>,
+    out: &mut Outlets<L, K, A, D>,
+    bounds: Bounds,
+    taken: u64,
+    at: u8,
+    group: &mut Group,
+) -> Result<(), ServeEnd>
+    requires empty { IsEmpty group.old }
+    ensures same { IsSame out.old out.new }
+    ensures empty { OnOk result (IsEmpty group.new) }
+    ensures goes { let m = with_keys S.stands S.rules S.shown E.stands E.rules E.shown C.bits in
+        (head : List ℕ) (before : D) (w : Setting) (past : List Event) (numbers : List ℕ) (base : Outs) (start : Serving)
+        → (run : Running m w past numbers house.old (record { tape = K.tells; link = L.tells }) base
+        (moment_of K.taken K.faults L.told L.faults (A.stands head before past) (A.fails head before past) out.old)
+        taken bounds.until bounds.limit start [])
+        → IsNext (wants_of w bounds.until bounds.limit (so_far past (after_from w past start run.rounds)) taken (after_from w past start run.rounds).peers) (Next.Turn at)
+        → RanRound m w past numbers house.new (record { tape = K.tells; link = L.tells }) base
+        (moment_of K.taken K.faults L.told L.faults (A.stands head before past) (A.fails head before past) out.new)
+        taken bounds.until bounds.limit start result }
+{
+    match turn(alloc, house, at, group) {
+        Ok(()) => finish(rt, alloc, house, out, bounds, taken, group),
+        Err(Mem) => Err(ServeEnd::Mem),
+    }
+}
+
+// A peer of a replica is asked to send again, which is a group by itself.
+fn run_remind<
+    R: Net + Wait,
+    S: Service,
+    E: Broadcast,
+    C: Coin + Drop,
+    L: Link,
+    K: Sink,
+    A: Archive<D>,
+    D,
+>(
+    rt: &R,
+    alloc: Global,
+    house: &mut House<S, E, C>,
+    out: &mut Outlets<L, K, A, D>,
+    bounds: Bounds,
+    taken: u64,
+    pair: Pair,
+    group: &mut Group,
+) -> Result<(), ServeEnd>
+    requires empty { IsEmpty group.old }
+    ensures same { IsSame out.old out.new }
+    ensures empty { OnOk result (IsEmpty group.new) }
+    ensures goes { let m = with_keys S.stands S.rules S.shown E.stands E.rules E.shown C.bits in
+        (head : List ℕ) (before : D) (w : Setting) (past : List Event) (numbers : List ℕ) (base : Outs) (start : Serving)
+        → (run : Running m w past numbers house.old (record { tape = K.tells; link = L.tells }) base
+        (moment_of K.taken K.faults L.told L.faults (A.stands head before past) (A.fails head before past) out.old)
+        taken bounds.until bounds.limit start [])
+        → IsNext (wants_of w bounds.until bounds.limit (so_far past (after_from w past start run.rounds)) taken (after_from w past start run.rounds).peers) (Next.Remind pair)
+        → RanRound m w past numbers house.new (record { tape = K.tells; link = L.tells }) base
+        (moment_of K.taken K.faults L.told L.faults (A.stands head before past) (A.fails head before past) out.new)
+        taken bounds.until bounds.limit start result }
+{
+    match remind(alloc, house, pair, group) {
+        Ok(()) => {}
+        Err(Mem) => return Err(ServeEnd::Mem),
+    }
+    match deliver(rt, alloc, house, out, group) {
+        Ok(()) => Ok(()),
+        Err(fault) => Err(end_of(fault)),
+    }
+}
+
+// The link's next item, unless it gives its end, and the turns behind it.
+fn run_item<
     R: Net + Wait,
     S: Service,
     E: Broadcast,
@@ -212,41 +341,77 @@ fn run_round<
     out: &mut Outlets<L, K, A, D>,
     bounds: Bounds,
     taken: &mut u64,
-    output: &mut Output,
+    group: &mut Group,
 ) -> Result<(), ServeEnd>
+    requires room { taken.old < bounds.limit }
+    requires empty { IsEmpty group.old }
     ensures same { IsSame out.old out.new }
+    ensures empty { OnOk result (IsEmpty group.new) }
     ensures goes { let m = with_keys S.stands S.rules S.shown E.stands E.rules E.shown C.bits in
         (head : List ℕ) (before : D) (w : Setting) (past : List Event) (numbers : List ℕ) (base : Outs) (start : Serving)
-        → Running m w past numbers house.old (record { tape = K.tells; link = L.tells }) base
+        → (run : Running m w past numbers house.old (record { tape = K.tells; link = L.tells }) base
         (moment_of K.taken K.faults L.told L.faults (A.stands head before past) (A.fails head before past) out.old)
-        taken.old bounds.until bounds.limit start []
+        taken.old bounds.until bounds.limit start [])
+        → IsNext (wants_of w bounds.until bounds.limit (so_far past (after_from w past start run.rounds)) taken.old (after_from w past start run.rounds).peers) (Next.Ask)
+        → RanRound m w past numbers house.new (record { tape = K.tells; link = L.tells }) base
+        (moment_of K.taken K.faults L.told L.faults (A.stands head before past) (A.fails head before past) out.new)
+        taken.new bounds.until bounds.limit start result }
+{
+    let item = match out.link.next(rt, alloc) {
+        Ok(item) => item,
+        Err(fault) => return Err(end_of(fault_of(fault))),
+    };
+    if item.is_end() {
+        return Err(ServeEnd::End);
+    }
+    *taken += 1;
+    match take(alloc, house, item, group) {
+        Ok(()) => finish(rt, alloc, house, out, bounds, *taken, group),
+        Err(Mem) => Err(ServeEnd::Mem),
+    }
+}
+
+// One group of rounds, unless serving ends.
+fn run_group<
+    R: Net + Wait,
+    S: Service,
+    E: Broadcast,
+    C: Coin + Drop,
+    L: Link,
+    K: Sink,
+    A: Archive<D>,
+    D,
+>(
+    rt: &R,
+    alloc: Global,
+    house: &mut House<S, E, C>,
+    out: &mut Outlets<L, K, A, D>,
+    bounds: Bounds,
+    taken: &mut u64,
+    group: &mut Group,
+) -> Result<(), ServeEnd>
+    requires empty { IsEmpty group.old }
+    ensures same { IsSame out.old out.new }
+    ensures empty { OnOk result (IsEmpty group.new) }
+    ensures goes { let m = with_keys S.stands S.rules S.shown E.stands E.rules E.shown C.bits in
+        (head : List ℕ) (before : D) (w : Setting) (past : List Event) (numbers : List ℕ) (base : Outs) (start : Serving)
+        → (run : Running m w past numbers house.old (record { tape = K.tells; link = L.tells }) base
+        (moment_of K.taken K.faults L.told L.faults (A.stands head before past) (A.fails head before past) out.old)
+        taken.old bounds.until bounds.limit start [])
         → RanRound m w past numbers house.new (record { tape = K.tells; link = L.tells }) base
         (moment_of K.taken K.faults L.told L.faults (A.stands head before past) (A.fails head before past) out.new)
         taken.new bounds.until bounds.limit start result }
 {
     match next_of(house, bounds, *taken) {
         Next::Finish => Err(ServeEnd::Done),
-        Next::Turn(at) => match turn(rt, alloc, house, out, at, output) {
-            Ok(()) => Ok(()),
-            Err(fault) => Err(end_of(fault)),
-        },
+        Next::Turn(at) => run_turns(rt, alloc, house, out, bounds, *taken, at, group),
         Next::Halt => Err(ServeEnd::Limit),
-        Next::Remind(pair) => match remind(rt, alloc, house, out, pair, output) {
-            Ok(()) => Ok(()),
-            Err(fault) => Err(end_of(fault)),
-        },
-        Next::Ask => match ask_link(rt, alloc, house, out, output) {
-            Ok(true) => {
-                *taken += 1;
-                Ok(())
-            }
-            Ok(false) => Err(ServeEnd::End),
-            Err(fault) => Err(end_of(fault)),
-        },
+        Next::Remind(pair) => run_remind(rt, alloc, house, out, bounds, *taken, pair, group),
+        Next::Ask => run_item(rt, alloc, house, out, bounds, taken, group),
     }
 }
 
-/// Rounds, until serving ends. It waits in the calls of the link alone; but nothing says that turns ever end.
+/// Groups of rounds, until serving ends. It waits in the calls of the link alone; but nothing says that turns ever end.
 pub(crate) fn go_on<
     R: Net + Wait,
     S: Service,
@@ -262,8 +427,9 @@ pub(crate) fn go_on<
     house: &mut House<S, E, C>,
     out: &mut Outlets<L, K, A, D>,
     bounds: Bounds,
-    output: &mut Output,
+    group: &mut Group,
 ) -> ServeEnd
+    requires { IsEmpty group.old }
     ensures same { IsSame out.old out.new }
     ensures goes { let m = with_keys S.stands S.rules S.shown E.stands E.rules E.shown C.bits in
         (head : List ℕ) (before : D) (w : Setting) (past : List Event) (numbers : List ℕ) (base : Outs) (start : Serving)
@@ -276,7 +442,7 @@ pub(crate) fn go_on<
 {
     let mut taken = 0;
     for _ in rt.forever() {
-        match run_round(rt, alloc, house, out, bounds, &mut taken, output) {
+        match run_group(rt, alloc, house, out, bounds, &mut taken, group) {
             Ok(()) => {}
             Err(end) => return end,
         }
@@ -284,7 +450,7 @@ pub(crate) fn go_on<
     unreachable!()
 }
 
-// The items with which serving begins, in their order.
+// The items with which serving begins, in their order, each a group by itself.
 fn begin<
     R: Net + Wait,
     S: Service,
@@ -300,23 +466,26 @@ fn begin<
     house: &mut House<S, E, C>,
     out: &mut Outlets<L, K, A, D>,
     first: &[LinkItem],
-    output: &mut Output,
+    group: &mut Group,
 ) -> Result<(), Fault>
-    requires { All IsFirst first.now }
+    requires first { All IsFirst first.now }
+    requires empty { IsEmpty group.old }
     ensures same { IsSame out.old out.new }
+    ensures empty { OnOk result (IsEmpty group.new) }
     ensures goes { let m = with_keys S.stands S.rules S.shown E.stands E.rules E.shown C.bits in
         (head : List ℕ) (before : D) (w : Setting) (past : List Event) (numbers : List ℕ) (base : Outs) (until limit : ℕ)
         → HouseStands m w past numbers house.old nobody no_peers
         → Agrees (record { tape = K.tells; link = L.tells }) base (outs_of K.taken K.faults L.told L.faults out.old.tape.now out.old.link.now) [] []
         → A.stands head before past out.old.archive.now out.old.disk.now []
-        → BeganAll m w past numbers house.new (record { tape = K.tells; link = L.tells }) base (moment_of K.taken K.faults L.told L.faults (A.stands head before past) (A.fails head before past) out.new) until limit first.now result }
+        → Delivered m w past numbers house.new (record { tape = K.tells; link = L.tells }) base (moment_of K.taken K.faults L.told L.faults (A.stands head before past) (A.fails head before past) out.new)
+        0 until limit (begin first.now) [] result }
 {
     for item in first {
-        match house.begin(alloc, item, output) {
+        match take_first(alloc, house, item, group) {
             Ok(()) => {}
             Err(Mem) => return Err(Fault::Mem),
         }
-        match deliver(rt, alloc, house, out, output) {
+        match deliver(rt, alloc, house, out, group) {
             Ok(()) => {}
             Err(fault) => return Err(fault),
         }
@@ -352,9 +521,9 @@ fn serve_house<
         (moment_of K.taken K.faults L.told L.faults (A.stands head before past) (A.fails head before past) out.new)
         result bounds.until bounds.limit (begin first.now) }
 {
-    let mut output = Output::new(alloc);
-    match begin(rt, alloc, house, out, first, &mut output) {
-        Ok(()) => go_on(rt, alloc, house, out, bounds, &mut output),
+    let mut group = Group::new(alloc);
+    match begin(rt, alloc, house, out, first, &mut group) {
+        Ok(()) => go_on(rt, alloc, house, out, bounds, &mut group),
         Err(fault) => end_of(fault),
     }
 }
@@ -408,7 +577,9 @@ fn serve_with<
 /// 5. The link's next item is taken; it ends with `End` where that is the link's end.
 ///
 /// A frame for a replica that is here is a call of its `on_frame`; a client's message is answered or submitted (`specs/Calls.antt`).
-/// Each call is an event, which goes to the tape before the call's frames go to the link, and these go before its replies.
+/// Each call is an event, which goes to the tape before the call's frames go to the link, and these go before its replies. What comes of an
+/// item and of the turns behind it is delivered as one group, of at most 64 rounds: all events of it go to the tape, and then, round after
+/// round, its frames and replies to the link. An event that changed nothing is alone in its group, and so is what goes out again.
 ///
 /// Each frame of a call is kept for its peer, at most 8,388,608 bytes for one, and then goes out for the first time; where it would be
 /// more, it goes out and isn't kept. What is kept for a peer goes out again, the oldest first, where the peer has a connection again or
@@ -418,7 +589,7 @@ fn serve_with<
 ///
 /// It ends with `LinkFault` or `TapeFault` at the first call that fails, and with `Mem` where memory runs out, be it at a call of the link or
 /// of a replica, or for what is kept: no further call of the link or the tape is made then. Unless memory ran out, the replicas then
-/// stand where all events leave them, also one that the tape didn't take. It waits nowhere but in the link's calls; nothing says that
+/// stand where all events leave them, also those that the tape didn't take. It waits nowhere but in the link's calls; nothing says that
 /// turns ever end.
 ///
 /// What the contract says holds where the replicas are of one world (`AreHere`): they are its correct ones, all of them, each once and

@@ -1,4 +1,4 @@
-use Rattle.std.proofs.Common.{◌≡◌, true, [], List, reverse, sym, subst}
+use Rattle.std.proofs.Common.{◌≡◌, true, [], ◌∷◌, List, reverse, refl, sym, subst}
 use Rattle.std.specs.List.{AllByRecursion}
 use Rattle.ritas_base.specs.declared.event.Event.{Event}
 use Rattle.outside.specs.Disks.{state_of}
@@ -16,7 +16,7 @@ serve_again_with-end-requires g c =
 pub returns-in-Err : goal.returns-in-Err
 returns-in-Err g c = λ head w numbers are_here right stands.
     again_short _ w (reverse c.args.recovered.now.items) numbers _ _ _ _ _
-    (kept_past head (reverse c.args.recovered.now.items) c.args.journal.now g.D.Disk.tells (g.D.Disk.told c.args.disk.now) (g.D.Disk.faults c.args.disk.now) stands)
+    (refl, kept_past head (reverse c.args.recovered.now.items) c.args.journal.now g.D.Disk.tells (g.D.Disk.told c.args.disk.now) (g.D.Disk.faults c.args.disk.now) stands)
 
 pub returns : goal.returns
 returns g c = λ head w numbers are_here right stands.
@@ -27,4 +27,4 @@ returns g c = λ head w numbers are_here right stands.
     let begins : JournalStands head (reverse es) [] c.args.journal.now g.D.Disk.tells (g.D.Disk.told c.args.disk.now) (g.D.Disk.told c.args.disk.now) (g.D.Disk.faults c.args.disk.now) (g.D.Disk.faults c.args.disk.now) =
     kept_past head (reverse es) c.args.journal.now g.D.Disk.tells (g.D.Disk.told c.args.disk.now) (g.D.Disk.faults c.args.disk.now)
     (subst (λ (l : List Event). g.D.Disk.tells ≡ true → StandsFor c.args.journal.now head (reverse l) × AllOpen me head (reverse l) (state_of (g.D.Disk.told c.args.disk.now))) (sym same) stands) in
-    rw (← same) (c.serve_again_with-end.ensures head c.args.disk.now w numbers (c.in-Ok.ensures.stands w [] numbers are_here) (record_served w me es right own) begins)
+    rw (← same) (c.serve_again_with-end.ensures (me ∷ head) c.args.disk.now w numbers (c.in-Ok.ensures.stands w [] numbers are_here) (record_served w me es right own) (refl, begins))

@@ -1,68 +1,56 @@
-use Rattle.std.proofs.Common.{List, [], refl, subst}
-use Rattle.ritas_base.specs.declared.event.Event.{Event}
+use Rattle.std.proofs.Common.{[], ◌++◌, refl}
 use Rattle.node_loop.specs.Keeping.{kept_of}
-use Rattle.node_loop.specs.Serving.{so_far, sent_of}
 use Rattle.node_loop.specs.Outs.{Tells}
-use Rattle.node_loop.proofs.Delivering.{replied_as, written_as, stops_as, kept_next, wrote_none, goes_short, goes_unkept, out_stops, replies_go, replies_stop}
+use Rattle.node_loop.specs.Serving.{so_far, after_from, newest_from, sooner_from}
+use Rattle.node_loop.proofs.Delivering.{begun, tape_fails, all_wrote, archive_fails, all_kept, all_fit, group_goes, group_stops}
 use Rattle.node_loop.proofs.deliver.deliver.Goals as goal
 
 pub returns-in-Err-clause-goes : goal.returns-in-Err-clause-goes
-returns-in-Err-clause-goes g c = λ head before w past numbers base s did more comes agrees stood.
+returns-in-Err-clause-goes g c = λ head before w past numbers base taken until limit start left older given run not_yet end is.
     let tells : Tells = record { tape = g.K.Sink.tells; link = g.L.Link.tells } in
-    let news = sent_of w (so_far past s) did more in
-    let stops = c.in-Err.ensures.steps tells base _ _ s.events s.acts news refl agrees in
-    wrote_none _ w past numbers tells base did more s c.args.house.now _ c.in-Err.fault comes.before c.in-Err.ensures.own comes.stands
-    (stops_as tells base _ c.in-Err.fault _ did.event s.events s.acts news comes.event stops) stood
+    let s = after_from w past start older in
+    let old = sooner_from w past start run.newest older in
+    let agrees = begun _ w past numbers tells base taken until limit start left older given c.args.house.now c.args.group.now run _ not_yet in
+    tape_fails _ w past numbers tells base taken until limit start left older given c.args.house.now c.args.group.now run _ c.as_slice.result.now c.in-Err.fault end c.as_slice.ensures.value
+    c.in-Err.ensures.own agrees.told (c.in-Err.ensures.steps tells base _ _ s.events old (newest_from w past start run.newest older) refl agrees) not_yet.kept is
 
-pub returns-in-Err-keep_event-clause-goes : goal.returns-in-Err-keep_event-clause-goes
-returns-in-Err-keep_event-clause-goes g c = λ head before w past numbers base s did more comes agrees stood.
+pub returns-in-Err-keep_events-clause-goes : goal.returns-in-Err-keep_events-clause-goes
+returns-in-Err-keep_events-clause-goes g c = λ head before w past numbers base taken until limit start left older given run not_yet end is.
     let tells : Tells = record { tape = g.K.Sink.tells; link = g.L.Link.tells } in
-    let wrote = c.in-Ok.ensures.steps tells base _ _ s.events s.acts [] refl agrees in
-    let same = kept_next w past s.events c.args.output.now.kept c.args.output.now.event did.event comes.event comes.keeps in
-    goes_unkept _ w past numbers tells base did more s c.args.house.now _ c.in-Err-keep_event.fault _ comes.before c.fault_in.ensures comes.stands
-    (written_as tells base _ _ did.event s.events s.acts comes.event wrote)
-    (subst (λ (es : List Event). g.A.Archive.fails head before past c.keep_event.new.archive c.keep_event.new.disk c.in-Err-keep_event.fault es) same (c.in-Err-keep_event.ensures head before past (kept_of w past s.events) stood))
+    let s = after_from w past start older in
+    let old = sooner_from w past start run.newest older in
+    let agrees = begun _ w past numbers tells base taken until limit start left older given c.args.house.now c.args.group.now run _ not_yet in
+    let wrote = all_wrote _ w past numbers tells base taken until limit start left older given c.args.house.now c.args.group.now run _ c.as_slice.result.now c.as_slice.ensures.value
+    (c.in-Ok.ensures.steps tells base _ _ s.events old [] refl agrees) in
+    archive_fails _ w past numbers tells base taken until limit start left older given c.args.house.now c.args.group.now run _ c.in-Err-keep_events.fault _ end c.fault_in.ensures wrote
+    (c.in-Err-keep_events.ensures head before past (kept_of w past s.events) not_yet.kept) is
 
-pub returns-in-Err-keep_frames-clause-goes : goal.returns-in-Err-keep_frames-clause-goes
-returns-in-Err-keep_frames-clause-goes g c = λ head before w past numbers base s did more comes agrees stood.
+pub returns-in-Err-send_each-clause-goes : goal.returns-in-Err-send_each-clause-goes
+returns-in-Err-send_each-clause-goes g c = λ head before w past numbers base taken until limit start left older given run not_yet end is.
     let tells : Tells = record { tape = g.K.Sink.tells; link = g.L.Link.tells } in
-    let wrote = c.in-Ok.ensures.steps tells base _ _ s.events s.acts [] refl agrees in
-    let same = kept_next w past s.events c.args.output.now.kept c.args.output.now.event did.event comes.event comes.keeps in
-    goes_short _ w past numbers tells base did more s c.keep_frames.new.house _
-    (written_as tells base _ _ did.event s.events s.acts comes.event wrote)
-    (subst (λ (es : List Event). g.A.Archive.stands head before past c.keep_event.new.archive c.keep_event.new.disk es) same (c.in-Ok-keep_event.ensures head before past (kept_of w past s.events) stood))
+    let s = after_from w past start older in
+    let now = after_from w past start (run.newest ++ older) in
+    let old = sooner_from w past start run.newest older in
+    let agrees = begun _ w past numbers tells base taken until limit start left older given c.args.house.now c.args.group.now run _ not_yet in
+    let wrote = all_wrote _ w past numbers tells base taken until limit start left older given c.args.house.now c.args.group.now run _ c.as_slice.result.now c.as_slice.ensures.value
+    (c.in-Ok.ensures.steps tells base _ _ s.events old [] refl agrees) in
+    let kept = all_kept _ w past numbers tells base taken until limit start left older given c.args.house.now c.args.group.now run
+    (g.A.Archive.stands head before past c.keep_events.new.archive c.keep_events.new.disk) (c.in-Ok-keep_events.ensures head before past (kept_of w past s.events) not_yet.kept) in
+    let fit = all_fit _ w past numbers tells base taken until limit start left older given c.args.house.now c.args.group.now run c.as_slice-2.result.now c.as_slice-2.ensures.value in
+    group_stops _ w past numbers tells base taken until limit start left older given c.args.house.now c.args.group.now run _ _ _ _ _ wrote kept c.as_slice-2.result.now _ _ end
+    c.as_slice-2.ensures.value c.fault_of.ensures (c.in-Err-send_each.ensures w (so_far past now) numbers now.waiting now.peers run.under.stands fit) is
 
-pub returns-in-Err-send_out-clause-goes : goal.returns-in-Err-send_out-clause-goes
-returns-in-Err-send_out-clause-goes g c = λ head before w past numbers base s did more comes agrees stood.
+pub returns-clause-goes : goal.returns-clause-goes
+returns-clause-goes g c = λ head before w past numbers base taken until limit start left older given run not_yet.
     let tells : Tells = record { tape = g.K.Sink.tells; link = g.L.Link.tells } in
-    let wrote = c.in-Ok.ensures.steps tells base _ _ s.events s.acts [] refl agrees in
-    let stands = c.in-Ok-keep_frames.ensures w (so_far past s) numbers did more comes in
-    let same = kept_next w past s.events c.args.output.now.kept c.args.output.now.event did.event comes.event comes.keeps in
-    out_stops _ w past numbers tells base did more s c.keep_frames.new.house _ _ _ _ _ stands
-    (written_as tells base _ _ did.event s.events s.acts comes.event wrote)
-    (subst (λ (es : List Event). g.A.Archive.stands head before past c.keep_event.new.archive c.keep_event.new.disk es) same (c.in-Ok-keep_event.ensures head before past (kept_of w past s.events) stood))
-    _ _ c.fault_of.ensures (c.in-Err-send_out.ensures w (so_far past s) numbers did more stands comes.frames comes.besides comes.nowhere)
-
-pub returns-in-Ok-reply_all-clause-goes : goal.returns-in-Ok-reply_all-clause-goes
-returns-in-Ok-reply_all-clause-goes g c = λ head before w past numbers base s did more comes agrees stood.
-    let tells : Tells = record { tape = g.K.Sink.tells; link = g.L.Link.tells } in
-    let wrote = c.in-Ok.ensures.steps tells base _ _ s.events s.acts [] refl agrees in
-    let stands = c.in-Ok-keep_frames.ensures w (so_far past s) numbers did more comes in
-    let same = kept_next w past s.events c.args.output.now.kept c.args.output.now.event did.event comes.event comes.keeps in
-    replies_go _ w past numbers tells base did more s c.keep_frames.new.house _ _ _ _ _ stands
-    (written_as tells base _ _ did.event s.events s.acts comes.event wrote)
-    (subst (λ (es : List Event). g.A.Archive.stands head before past c.keep_event.new.archive c.keep_event.new.disk es) same (c.in-Ok-keep_event.ensures head before past (kept_of w past s.events) stood))
-    (c.in-Ok-send_out.ensures w (so_far past s) numbers did more stands comes.frames comes.besides comes.nowhere) _ _ _
-    (replied_as c.args.output.now.at _ _ did.replies c.as_slice.ensures.value comes.replies) tt c.in-Ok-reply_all.ensures
-
-pub returns-in-Err-reply_all-clause-goes : goal.returns-in-Err-reply_all-clause-goes
-returns-in-Err-reply_all-clause-goes g c = λ head before w past numbers base s did more comes agrees stood.
-    let tells : Tells = record { tape = g.K.Sink.tells; link = g.L.Link.tells } in
-    let wrote = c.in-Ok.ensures.steps tells base _ _ s.events s.acts [] refl agrees in
-    let stands = c.in-Ok-keep_frames.ensures w (so_far past s) numbers did more comes in
-    let same = kept_next w past s.events c.args.output.now.kept c.args.output.now.event did.event comes.event comes.keeps in
-    replies_stop _ w past numbers tells base did more s c.keep_frames.new.house _ _ _ _ _ stands
-    (written_as tells base _ _ did.event s.events s.acts comes.event wrote)
-    (subst (λ (es : List Event). g.A.Archive.stands head before past c.keep_event.new.archive c.keep_event.new.disk es) same (c.in-Ok-keep_event.ensures head before past (kept_of w past s.events) stood))
-    (c.in-Ok-send_out.ensures w (so_far past s) numbers did more stands comes.frames comes.besides comes.nowhere) _ _ _
-    (replied_as c.args.output.now.at _ _ did.replies c.as_slice.ensures.value comes.replies) _ _ c.fault_of-in-Err-reply_all.ensures c.in-Err-reply_all.ensures
+    let s = after_from w past start older in
+    let now = after_from w past start (run.newest ++ older) in
+    let old = sooner_from w past start run.newest older in
+    let agrees = begun _ w past numbers tells base taken until limit start left older given c.args.house.now c.args.group.now run _ not_yet in
+    let wrote = all_wrote _ w past numbers tells base taken until limit start left older given c.args.house.now c.args.group.now run _ c.as_slice.result.now c.as_slice.ensures.value
+    (c.in-Ok.ensures.steps tells base _ _ s.events old [] refl agrees) in
+    let kept = all_kept _ w past numbers tells base taken until limit start left older given c.args.house.now c.args.group.now run
+    (g.A.Archive.stands head before past c.keep_events.new.archive c.keep_events.new.disk) (c.in-Ok-keep_events.ensures head before past (kept_of w past s.events) not_yet.kept) in
+    let fit = all_fit _ w past numbers tells base taken until limit start left older given c.args.house.now c.args.group.now run c.as_slice-2.result.now c.as_slice-2.ensures.value in
+    group_goes _ w past numbers tells base taken until limit start left older given c.args.house.now c.args.group.now run _ _ _ _ _ wrote kept c.as_slice-2.result.now
+    c.as_slice-2.ensures.value (c.in-Ok-send_each.ensures w (so_far past now) numbers now.waiting now.peers run.under.stands fit)

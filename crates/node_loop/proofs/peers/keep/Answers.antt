@@ -1,4 +1,4 @@
-use Rattle.std.proofs.Common.{◌≡◌, ap, Err, ℕ, ◌+◌, ◌<◌, ◌≤◌, inl, inr, length, refl, sym, subst, arith, List}
+use Rattle.std.proofs.Common.{ap, Err, ◌+◌, ◌<◌, ◌≤◌, inl, inr, length, refl, arith}
 use Rattle.std.proofs.lemmas.Bool.{cases_lt}
 use Rattle.link_resume.specs.Lists.{kept_for, bytes_in, most_bytes}
 use Rattle.node_loop.proofs.Keeping.{kept_more, kept_full}

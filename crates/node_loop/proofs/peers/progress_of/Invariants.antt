@@ -1,9 +1,5 @@
 use Rattle.std.proofs.Common.{◌≡◌, ℕ, ◌+◌, ◌*◌, ◌≤◌, List}
-use Rattle.std.specs.List.{sum_by}
 use Rattle.ritas_base.specs.declared.event.Event.{Event}
-use Rattle.ritas_base.specs.History.{replicas}
-use Rattle.ritas_core.specs.Rules.{seat_of}
-use Rattle.ritas_core.specs.Parts.{parts}
 use Rattle.replica.specs.Replica.{with_keys}
 use Rattle.world_model.specs.World.{Setting, rules_at, states_of}
 use Rattle.world_model.specs.EveryWorld.{IsWorld}

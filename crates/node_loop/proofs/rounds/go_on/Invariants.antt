@@ -4,6 +4,7 @@ use Rattle.node_loop.specs.Serving.{Serving}
 use Rattle.replica.specs.Replica.{with_keys}
 use Rattle.world_model.specs.World.{Setting}
 use Rattle.node_loop.specs.Archives.{IsSame, moment_of}
+use Rattle.node_loop.specs.Groups.{IsEmpty}
 use Rattle.node_loop.specs.Outs.{Outs}
 use Rattle.node_loop.specs.Running.{Running}
 use Rattle.node_loop.proofs.rounds.go_on.Given as goal
@@ -13,6 +14,7 @@ invariant-loop g l = record {
   next : (goal.iterator-loop g).can_next l.iterator';
   finite : (goal.iterator-loop g).is_finite l.iterator';
   same : IsSame l.initial.out l.out;
+  empty : IsEmpty l.group;
   runs : (head : List ℕ) (before : _) (w : Setting) (past : List Event) (numbers : List ℕ) (base : Outs) (start : Serving)
       → Running (with_keys g.S.Service.stands g.S.Service.rules g.S.Service.shown g.E.Broadcast.stands g.E.Broadcast.rules g.E.Broadcast.shown g.C.Coin.bits) w past numbers l.initial.house
       (record { tape = g.K.Sink.tells; link = g.L.Link.tells }) base

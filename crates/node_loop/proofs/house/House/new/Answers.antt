@@ -1,4 +1,4 @@
-use Rattle.std.proofs.Common.{◌≡◌, ℕ, Vec, Global, ap, length, sym, ◌∙◌, arith}
+use Rattle.std.proofs.Common.{◌≡◌, ap, length, sym, ◌∙◌, arith}
 use Rattle.keyed_channel.specs.KeyRow.{KeyRow}
 use Rattle.node_loop.proofs.Heres.{as_here}
 use Rattle.node_loop.proofs.Wishing.{fresh_first, fresh_next, new_house}

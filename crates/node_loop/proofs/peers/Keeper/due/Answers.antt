@@ -1,4 +1,4 @@
-use Rattle.std.proofs.Common.{◌≡◌, ◌<◌, ℕ, false, ap, sym, ◌∙◌, arith}
+use Rattle.std.proofs.Common.{◌≡◌, ◌<◌, false, ap, sym, ◌∙◌, arith}
 use Rattle.keyed_channel.specs.KeyRow.{KeyRow}
 use Rattle.world_model.specs.World.{rules_at, states_of}
 use Rattle.node_loop.proofs.Busy.{below_next}
