@@ -18,7 +18,8 @@ use Rattle.cluster_config.specs.Cluster.{cluster_text}
 use Rattle.cluster_config.specs.Node.{node_text}
 use Rattle.cluster_config.specs.Ranges.{FitsNode, FitsCluster}
 use Rattle.node_loop.specs.Served.{IsFirst}
-use Rattle.node_session.specs.Configs.{node_header, cluster_header, first_item}
+use Rattle.node_session.specs.Configs.{node_header, node_session, cluster_header, first_item}
+use Rattle.node_session.specs.Session.{IsServable}
 
 sixth : (root : ℕ) → root ≡ 6 → is_root root ≡ true
 sixth root is = ap is_root is
@@ -31,6 +32,15 @@ node_heading config session numbers places keys coin fits = record {
   root = sixth config.mode.root fits.root;
   correct = pow_below config.me config.p.n fits.me;
   keys = (fits.me, refl, record { places = places; each = keys; rest = fits.rest }, coin);
+}
+
+-- the session of a node may be served
+pub node_servable : (config : NodeConfig) (first : List LinkItem) → config.session < 2 ^ 64 → IsSession config.p → length config.key_row ≡ 31 → AllByRecursion IsKey config.key_row
+    → length config.coin_key ≡ 32 → FitsNode (node_text config) → All IsFirst first → IsServable (node_session config) first
+node_servable config first session numbers places keys coin fits firsts = record {
+  heading = node_heading config session numbers places keys coin fits;
+  atomic = fits.root;
+  firsts = firsts;
 }
 
 pub cluster_heading : (config : ClusterConfig) → config.session < 2 ^ 64 → IsSession config.p → length config.master ≡ 32 → FitsCluster (cluster_text config)

@@ -12,12 +12,7 @@ use Rattle.std.proofs.lemmas.Bool.{eqb-true, eq-eqb, both_ways}
 use Rattle.layer_api.specs.Broadcast.{BroadcastRules}
 use Rattle.layer_api.specs.Service.{ServiceRules}
 use Rattle.ritas_core.specs.Rules.{HasForm}
-use Rattle.outside.specs.Faults.{count_after}
-use Rattle.outside.specs.LinkCalls.{TookBack}
-use Rattle.outside.specs.LinkCallsLaws.{back_then}
-use Rattle.outside.specs.Links.{LinkAct, Gives, failed_once, short_once, replies_in}
-use Rattle.outside.specs.declared.link.FaultCounts.{FaultCounts}
-use Rattle.outside.specs.declared.link.LinkItem.TheVariants as items
+use Rattle.outside.specs.Links.{LinkAct, replies_in}
 use Rattle.outside.specs.declared.link.LinkItem.{LinkItem}
 use Rattle.schedule_file.specs.ReadHeader.{heading}
 use Rattle.schedule_file.specs.Spelling.{IsHeading, IsEvent, IsSized, MayStand, AreKeys}
@@ -34,17 +29,18 @@ use Rattle.world_model.specs.World.{Setting}
 use Rattle.world_model.specs.MadeOrder.{all_made}
 use Rattle.world_model.specs.EveryWorld.{IsWorld, AgreementLaw}
 use Rattle.node_loop.specs.declared.end.ServeEnd.{ServeEnd}
-use Rattle.node_loop.specs.declared.end.ServeEnd.TheVariants as ends
-use Rattle.node_loop.specs.Deeds.{firsts_in}
-use Rattle.node_loop.specs.Laws.{sent_as, ActsAreDeeds, FramesAreMade, ResendsAreOpen, AreEarned, AcksAreEarned, RepliesAreTrue, EventsFit, IsServed, IsTrueReply}
-use Rattle.node_loop.specs.Outs.{Outs, TapeFailed, LinkFailed, FellShort, Tells, Agrees, Stops}
-use Rattle.node_loop.specs.Served.{IsFirst, Serves, Breaks, EndsSo, Whole}
+use Rattle.node_loop.specs.Deeds.{Deed, firsts_in}
+use Rattle.node_loop.specs.Laws.{sent_as, ActsAreDeeds, FramesAreMade, AllSent, AreOpen, ResendsAreOpen, AcksAreEarned, RepliesAreTrue, EventsFit, IsServed, IsTrueReply}
+use Rattle.node_loop.specs.Outs.{Outs, Tells}
+use Rattle.node_loop.specs.Served.{IsFirst, Serves}
 use Rattle.node_loop.specs.ServingLaws.{acts_of}
-use Rattle.node_loop.specs.Serving.{Serving, begin, so_far, Want, Finishes, Halts, Asks, Round, after, deeds_of, sooner, newest, wants, AreWanted}
+use Rattle.node_loop.specs.Serving.{Serving, begin, so_far, Round, after, after_from, deeds_of, deeds_from, sooner, newest, wants, AreWanted, AreWantedFrom}
 use Rattle.node_session.specs.declared.session.Session.{Session}
-use Rattle.node_session.specs.Session.{TookAll, TookPart, IsTrueSession, ServesSession, last_acts, CameTo, Broke, NotClosed, SessionEnds}
-use Rattle.node_session.specs.Opening.{HasBegun, HasFailed, Closes, Closed, Failed, is_reason}
-use Rattle.node_session.proofs.Composing.{all_taken, part_taken, mark_lost, last_taken, not_begun}
+use Rattle.node_session.specs.Session.{IsTrueSession, ServesSession}
+use Rattle.node_session.specs.Opening.{HasBegun, HasFailed, Closes, is_reason}
+use Rattle.node_session.proofs.Behind.{deeds_behind}
+use Rattle.node_session.proofs.Composing.{not_begun}
+use Rattle.node_session.proofs.Ending.{same_failed, ended, tape_on, link_on, end_on}
 
 -- ---- the world of a header
 
@@ -108,7 +104,11 @@ push_all : {X : Type 0} (P : X → Type 0) (xs : List X) (x : X) → AllByRecurs
 push_all P [] x all one = (one, tt)
 push_all P (y ∷ xs) x all one = (all.0, push_all P xs x all.1 one)
 
-all_back : {X : Type 0} (P : X → Type 0) (xs : List X) → AllByRecursion P xs → AllByRecursion P (reverse xs)
+append_all : {X : Type 0} (P : X → Type 0) (xs ys : List X) → AllByRecursion P xs → AllByRecursion P ys → AllByRecursion P (xs ++ ys)
+append_all P [] ys first second = second
+append_all P (x ∷ xs) ys first second = (first.0, append_all P xs ys first.1 second)
+
+pub all_back : {X : Type 0} (P : X → Type 0) (xs : List X) → AllByRecursion P xs → AllByRecursion P (reverse xs)
 all_back P [] all = tt
 all_back {X = X} P (x ∷ xs) all =
     subst (λ (l : List X). AllByRecursion P l) (sym (reverse-append (x ∷ []) xs)) (push_all P (reverse xs) x (all_back P xs all.1) all.0)
@@ -118,41 +118,54 @@ all_back {X = X} P (x ∷ xs) all =
 module _ (h : Header) (w : Setting) (is : IsHeading (heading h)) (service : ServiceRules) (other : BroadcastRules) (kind : IsWorld service other w)
     (numbers : w.numbers ≡ h.p) (correct : (i : ℕ) → w.is_correct i ≡ true → has_member h.correct i ≡ true)
     (done : ActsAreDeeds) (made : FramesAreMade) (kept : ResendsAreOpen) (earned : AcksAreEarned) (fit : EventsFit) (replied : RepliesAreTrue service other) (agreed : AgreementLaw service other) where
-  pub is_session : (until limit : ℕ) (first : List LinkItem) (rounds : List Round) → All IsFirst first → AreWanted w [] until limit first rounds
-      → IsTrueSession h w (after w [] first rounds).events (deeds_of w [] first rounds) (after w [] first rounds).acts
-  unfolding all_made
-  is_session until limit first rounds firsts wanted =
-      let s = after w [] first rounds in
-      let deeds = deeds_of w [] first rounds in
-      let same : so_far [] s ≡ s.events = append-nil s.events in
+  -- of serving that began after the past events, whose frames went out earlier
+  pub is_true : (past : List Event) (until limit : ℕ) (start : Serving) (earlier : List Deed) (rounds : List Round) → start.acts ≡ [] → start.events ≡ []
+      → All IsFirst start.left → all_made w past ≡ reverse (firsts_in earlier) → AllSent w start.peers earlier → AreOpen w earlier
+      → AllByRecursion (IsServed w) past → AreWantedFrom w past until limit start rounds
+      → IsTrueSession h w (so_far past (after_from w past start rounds)) earlier (deeds_from w past start [] rounds) (after_from w past start rounds).acts
+  is_true past until limit start earlier rounds no_acts no_events firsts first_made sent again served wanted =
+      let s = after_from w past start rounds in
+      let deeds = deeds_from w past start [] rounds in
+      let behind : deeds_from w past start earlier rounds ≡ deeds ++ earlier = deeds_behind w past start earlier rounds in
       let within : (i : ℕ) → w.is_correct i ≡ true → i < h.p.n = λ i right. subst (λ (p : Numbers). i < p.n) numbers (kind.within i right) in
+      let fits : AllByRecursion (IsServed w) s.events =
+      fit w past until limit start rounds firsts (subst (λ (es : List Event). AllByRecursion (IsServed w) es) (sym no_events) tt) wanted in
+      let all : AllByRecursion (IsServed w) (so_far past s) = append_all (IsServed w) s.events past fits served in
+      let frames : all_made w (so_far past start) ≡ [] ++ reverse (firsts_in earlier) = ap (λ (es : List Event). all_made w (es ++ past)) no_events ∙ first_made in
       record {
         file = λ size. record {
           text = refl;
           header = is;
-          each = all_back (IsEvent (heading h)) s.events (all_stand h w is within correct s.events (fit w [] until limit (begin first) rounds firsts tt wanted));
+          each = all_back (IsEvent (heading h)) (so_far past s) (all_stand h w is within correct (so_far past s) all);
           size = size;
         };
-        calls = done w [] (begin first) [] rounds refl;
-        frames = ap (map sent_as) (subst (λ (es : List Event). all_made w es ≡ reverse (firsts_in deeds)) same (made w [] (begin first) [] [] rounds refl));
-        resends = kept w [] (begin first) [] rounds (record { each = λ i j. tt }) tt;
-        acknowledged = subst (λ (es : List Event). AreEarned w es deeds) same (earned w [] (begin first) [] rounds tt);
-        replies = subst (λ (es : List Event). AllByRecursion (IsTrueReply w es) (replies_in s.acts)) same (replied w [] (begin first) rounds kind tt);
-        agree = λ holds. agreed w s.events kind holds;
+        calls = done w past start [] rounds no_acts;
+        frames = ap (map sent_as) (made w past start [] earlier rounds frames ∙ ap (λ (ds : List Deed). reverse (firsts_in ds)) behind);
+        resends = subst (AreOpen w) behind (kept w past start earlier rounds sent again);
+        acknowledged = earned w past start [] rounds tt;
+        replies = replied w past start rounds kind (subst (λ (acts : List LinkAct). AllByRecursion (IsTrueReply w (so_far past start)) (replies_in acts)) (sym no_acts) tt);
+        agree = λ holds. agreed w (so_far past s) kind holds;
       }
+
+  pub is_session : (until limit : ℕ) (first : List LinkItem) (rounds : List Round) → All IsFirst first → AreWanted w [] until limit first rounds
+      → IsTrueSession h w (after w [] first rounds).events [] (deeds_of w [] first rounds) (after w [] first rounds).acts
+  unfolding all_made
+  is_session until limit first rounds firsts wanted =
+      let s = after w [] first rounds in
+      subst (λ (es : List Event). IsTrueSession h w es [] (deeds_of w [] first rounds) s.acts) (append-nil s.events)
+      (is_true [] until limit (begin first) [] rounds refl refl firsts refl (record { each = λ i j. tt }) tt tt wanted)
 
 -- ---- the session as a whole
 
-same_failed : {a b : FaultCounts} → a ≡ b → a.failed ≡ b.failed
-same_failed e = ap (λ (n : FaultCounts). n.failed) e
-
 module _ (x : Session) (first : List LinkItem) (w : Setting) (tells : Tells)
     (session : (rounds : List Round) → AreWanted w [] x.until x.limit first rounds
-    → IsTrueSession x.header w (after w [] first rounds).events (deeds_of w [] first rounds) (after w [] first rounds).acts) where
+    → IsTrueSession x.header w (after w [] first rounds).events [] (deeds_of w [] first rounds) (after w [] first rounds).acts) where
   -- it ended before it was served
   pub fails : (base now : Outs) (end : ServeEnd) → HasFailed (heading x.header) x.plan tells base now end → ServesSession x first w tells base now end
   fails base now end failed = record {
-    rounds = [];
+    group = [];
+    older = [];
+    one = record { some = λ is. refl; turns = tt; most = omega arith };
     wanted = tt;
     so = not_begun x.header x.plan tells base now (begin first) [] [] (wants w [] x.until x.limit (begin first)) end failed;
     true_of = session [] tt;
@@ -161,119 +174,21 @@ module _ (x : Session) (first : List LinkItem) (w : Setting) (tells : Tells)
   }
 
   module _ {S E C : Type 0} (m : Meaning S E C KeyRow) (numbers : List ℕ) (here : List (Replica S E C)) (base mid now last : Outs) (begun : HasBegun (heading x.header) x.plan tells base mid) where
-    module _ (s : Serving) (sooner news : List LinkAct) (rule : Want) where
-      abbrev EndedAt : ServeEnd → Type 0
-      EndedAt end = SessionEnds x.header x.plan tells base last end s sooner news rule
-
-      -- it ended by its rules, and the end mark was written, or not
-      closes : (reason : Want) (acts : List LinkAct) (end result : ServeEnd) → Whole m w [] numbers here tells mid now s acts rule reason
-          → last.told ≡ now.told → last.link_faults ≡ now.link_faults → Closes tells.tape now.taken last.taken now.tape_faults last.tape_faults end result
-          → ((rule ≡ reason) × TookAll x.header x.plan tells base last s.events acts → EndedAt end)
-          → acts ≡ last_acts reason s.acts → EndedAt result
-      closes reason acts end result done same link (Closed is stands closed) so with_end =
-          subst EndedAt (sym is) (so (done.why, all_taken x.header x.plan tells base mid now last s.events acts begun done.agrees closed same stands link))
-      closes reason acts end result done same link (Failed is rises later lost) so with_end =
-          let at_last : acts ≡ last_acts rule s.acts = with_end ∙ ap (λ (r : Want). last_acts r s.acts) (sym done.why) in
-          let served : Agrees tells mid now s.events (last_acts rule s.acts) = subst (Agrees tells mid now s.events) at_last done.agrees in
-          subst EndedAt (sym is) (
-            (rises ∙ ap count_after (done.agrees.tape_stands ∙ begun.tape_stands), link ∙ (done.agrees.link_stands ∙ begun.link_stands)),
-            mark_lost x.header x.plan tells base mid now last s.events (last_acts rule s.acts) begun served lost same,
-            NotClosed mid now begun served refl lost same,
-          )
-
-      -- a fault came
-      breaks : (fault : _) (more : List LinkAct) → Stops tells mid now fault s.events sooner news → s.acts ≡ news ++ sooner → last ≡ now
-          → TookPart x.header x.plan tells base last s.events (more ++ s.acts)
-      breaks fault more stops both same =
-          subst (λ (o : Outs). TookPart x.header x.plan tells base o s.events (more ++ s.acts)) (sym same)
-          (part_taken x.header x.plan tells base mid now s.events s.acts more begun stops.taken
-          (λ t. subst (TookBack mid.told now.told) (sym both) (back_then mid.told (sooner ++ mid.told) now.told sooner news refl (stops.told t))))
-
-      broke : (end : ServeEnd) → Breaks tells mid now end s.events sooner news → last ≡ now → CameTo x.header x.plan tells base last end s sooner news rule
-      broke end stops same = Broke mid begun (subst (λ (o : Outs). Breaks tells mid o end s.events sooner news) (sym same) stops)
-
-      -- since it began
-      tape_failed : TapeFailed mid now → last ≡ now → TapeFailed base last
-      tape_failed cause same = rw same (cause.0 ∙ ap count_after begun.tape_stands, cause.1 ∙ begun.link_stands)
-
-      link_failed : LinkFailed mid now → last ≡ now → LinkFailed base last
-      link_failed cause same = rw same (cause.0 ∙ begun.tape_stands, cause.1 ∙ ap failed_once begun.link_stands)
-
-      fell_short : FellShort mid now → last ≡ now → FellShort base last
-      fell_short cause same = rw same (
-        cause.0 ∙ begun.tape_stands,
-        elim cause.1 [ inl none ↦ inl (none ∙ begun.link_stands) | inr one ↦ inr (one ∙ ap short_once begun.link_stands) ],
-      )
-
-      ended : (end result : ServeEnd) → EndsSo m w [] numbers here tells mid now end s sooner news rule → s.acts ≡ news ++ sooner → last.told ≡ now.told → last.link_faults ≡ now.link_faults
-          → (is_reason end ≡ true → Closes tells.tape now.taken last.taken now.tape_faults last.tape_faults end result)
-          → (is_reason end ≡ false → (result ≡ end) × (last ≡ now)) → EndedAt result
-      ended ends.Done result so both same link closed kept = closes Finishes s.acts ends.Done result so same link (closed refl) (λ took. took) refl
-      ended ends.Limit result so both same link closed kept = closes Halts s.acts ends.Limit result so same link (closed refl) (λ took. took) refl
-      ended ends.End result so both same link closed kept = closes Asks (Gives items.End ∷ s.acts) ends.End result so same link (closed refl) (λ took. took) refl
-      ended ends.LinkFault result so both same link closed kept =
-          let k = kept refl in
-          subst EndedAt (sym k.0) (
-            link_failed so.0.cause k.1,
-            breaks _ [] so.0 both k.1,
-            broke ends.LinkFault so.0 k.1,
-          )
-      ended ends.TapeFault result so both same link closed kept =
-          let k = kept refl in
-          subst EndedAt (sym k.0) (
-            tape_failed so.0.cause k.1,
-            last_taken x.header x.plan tells base last s.events s.acts rule (λ more. breaks _ more so.0 both k.1),
-            broke ends.TapeFault so.0 k.1,
-          )
-      ended ends.Mem result so both same link closed kept =
-          let k = kept refl in
-          subst EndedAt (sym k.0) (fell_short so.cause k.1, breaks _ [] so both k.1, broke ends.Mem so k.1)
-      ended ends.DiskFault result so both same link closed kept = absurd so
-      ended (ends.JournalFull x) result so both same link closed kept = absurd so
-
-    -- counts of faults don't fall
-    tape_on : (s : Serving) (sooner news : List LinkAct) (rule : Want) (end : ServeEnd) → EndsSo m w [] numbers here tells mid now end s sooner news rule → mid.tape_faults ≤ now.tape_faults
-    tape_on s sooner news rule ends.Done so = omega (arith, so.agrees.tape_stands)
-    tape_on s sooner news rule ends.Limit so = omega (arith, so.agrees.tape_stands)
-    tape_on s sooner news rule ends.End so = omega (arith, so.agrees.tape_stands)
-    tape_on s sooner news rule ends.LinkFault so = so.0.tape_later
-    tape_on s sooner news rule ends.TapeFault so = so.0.tape_later
-    tape_on s sooner news rule ends.Mem so = so.tape_later
-    tape_on s sooner news rule ends.DiskFault so = absurd so
-    tape_on s sooner news rule (ends.JournalFull x) so = absurd so
-
-    link_on : (s : Serving) (sooner news : List LinkAct) (rule : Want) (end : ServeEnd) → EndsSo m w [] numbers here tells mid now end s sooner news rule → mid.link_faults.failed ≤ now.link_faults.failed
-    link_on s sooner news rule ends.Done so = omega (arith, same_failed so.agrees.link_stands)
-    link_on s sooner news rule ends.Limit so = omega (arith, same_failed so.agrees.link_stands)
-    link_on s sooner news rule ends.End so = omega (arith, same_failed so.agrees.link_stands)
-    link_on s sooner news rule ends.LinkFault so = so.0.link_later
-    link_on s sooner news rule ends.TapeFault so = so.0.link_later
-    link_on s sooner news rule ends.Mem so = so.link_later
-    link_on s sooner news rule ends.DiskFault so = absurd so
-    link_on s sooner news rule (ends.JournalFull x) so = absurd so
-
-    close_on : (end result : ServeEnd) → Closes tells.tape now.taken last.taken now.tape_faults last.tape_faults end result → now.tape_faults ≤ last.tape_faults
-    close_on end result (Closed is stands closed) = omega (arith, stands)
-    close_on end result (Failed is rises later lost) = later
-
-    end_on : (end result : ServeEnd) (b : Bool) → is_reason end ≡ b → (is_reason end ≡ true → Closes tells.tape now.taken last.taken now.tape_faults last.tape_faults end result)
-        → (is_reason end ≡ false → (result ≡ end) × (last ≡ now)) → now.tape_faults ≤ last.tape_faults
-    end_on end result true reason closed kept = close_on end result (closed reason)
-    end_on end result false reason closed kept = omega (arith, ap (λ (o : Outs). o.tape_faults) (kept reason).1)
-
     pub serves : (end result : ServeEnd) → Serves m w [] numbers here tells mid now end x.until x.limit first → last.told ≡ now.told → last.link_faults ≡ now.link_faults
         → (is_reason end ≡ true → Closes tells.tape now.taken last.taken now.tape_faults last.tape_faults end result)
         → (is_reason end ≡ false → (result ≡ end) × (last ≡ now)) → ServesSession x first w tells base last result
     serves end result run same same_count closed kept =
-        let s = after w [] first run.rounds in
-        let old = sooner w [] first run.rounds in
-        let new = newest w [] first run.rounds in
+        let s = after w [] first (run.group ++ run.older) in
+        let old = sooner w [] first run.group run.older in
+        let new = newest w [] first run.group run.older in
         let rule = wants w [] x.until x.limit s in
         record {
-          rounds = run.rounds;
+          group = run.group;
+          older = run.older;
+          one = run.one;
           wanted = run.wanted;
-          so = ended s old new rule end result run.so (acts_of w [] first run.rounds) same same_count closed kept;
-          true_of = session run.rounds run.wanted;
-          tape_later = omega (arith, begun.tape_stands, tape_on s old new rule end run.so, end_on end result (is_reason end) refl closed kept);
-          link_later = omega (arith, same_failed begun.link_stands, link_on s old new rule end run.so, same_failed same_count);
+          so = ended x w tells m numbers here base mid now last begun s old new rule end result run.so (acts_of w [] first run.group run.older) same same_count closed kept;
+          true_of = session (run.group ++ run.older) run.wanted;
+          tape_later = omega (arith, begun.tape_stands, tape_on x w tells m numbers here base mid now last begun s old new rule end run.so, end_on x w tells m numbers here base mid now last begun end result (is_reason end) refl closed kept);
+          link_later = omega (arith, same_failed begun.link_stands, link_on x w tells m numbers here base mid now last begun s old new rule end run.so, same_failed same_count);
         }

@@ -1,3 +1,4 @@
 pub mod Opening
 pub mod Session
 pub mod Configs
+pub mod Lives

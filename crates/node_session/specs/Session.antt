@@ -22,7 +22,7 @@ use Rattle.node_loop.specs.Deeds.{Deed, act_of, firsts_in}
 use Rattle.node_loop.specs.Laws.{sent_as, frames_of, AreOpen, AreEarned, IsTrueReply}
 use Rattle.node_loop.specs.Outs.{Outs, NoneFailed, TapeFailed, LinkFailed, FellShort, Tells, Agrees}
 use Rattle.node_loop.specs.Served.{IsFirst, Breaks}
-use Rattle.node_loop.specs.Serving.{Serving, Want, Begins, Finishes, Turns, Halts, Reminds, Asks, Round, after, deeds_of, sooner, newest, wants, AreWanted}
+use Rattle.node_loop.specs.Serving.{Serving, Want, Begins, Finishes, Turns, Halts, Reminds, Asks, Round, IsGroup, after, deeds_of, sooner, newest, wants, AreWanted}
 use Rattle.node_session.specs.declared.session.Session.{Session}
 use Rattle.node_session.specs.Opening.{HasBegun, HasFailed}
 
@@ -56,7 +56,7 @@ last_acts Halts acts = acts
 last_acts (Reminds i j) acts = acts
 last_acts Asks acts = Gives items.End ∷ acts
 
--- How far it came at a fault, where the calls of the newest event are `news`, and those before are `sooner`: the link wasn't started, or
+-- How far it came at a fault, where the calls of the newest group are `news`, and those before are `sooner`: the link wasn't started, or
 -- serving broke, or all was served and the end mark wasn't written.
 pub data CameTo (h : Header) (plan : LinkPlan) (tells : Tells) (base now : Outs) (end : ServeEnd) (s : Serving) (sooner news : List LinkAct) (rule : Want) : Type 0 where
   NotStarted : HasFailed (heading h) plan tells base now end → CameTo h plan tells base now end s sooner news rule
@@ -78,25 +78,28 @@ SessionEnds h plan tells base now ends.Mem s sooner news rule =
 SessionEnds h plan tells base now ends.DiskFault s sooner news rule = ⊥
 SessionEnds h plan tells base now (ends.JournalFull x) s sooner news rule = ⊥
 
--- What is true of the events and the calls of a session, in its world w, where the link's calls are these deeds: a file of these events is one;
--- the frames that went out for the first time are those that its replicas made, in their order; each that went out again did so after its
--- first time, with no acknowledgement of it between the two; each acknowledgement is of a frame that came, opened, and was answered otherwise
--- than that it is to come again; each reply of a position is true; and where the audit holds the replicas agree.
-pub record IsTrueSession (h : Header) (w : Setting) (events : List Event) (deeds : List Deed) (acts : List LinkAct) : Type 0 where
+-- What is true of the events and the calls of a session, in its world w, where the link's calls are these deeds, and the earlier ones are those
+-- of lives before, of which a journal kept the events: a file of these events is one; the frames that went out for the first time, with the
+-- earlier ones, are those that its replicas made, in their order; each that went out again did so after its first time, with no acknowledgement
+-- of it between the two; each acknowledgement is of a frame that came, opened, and was answered otherwise than that it is to come again; each
+-- reply of a position is true; and where the audit holds the replicas agree.
+pub record IsTrueSession (h : Header) (w : Setting) (events : List Event) (earlier deeds : List Deed) (acts : List LinkAct) : Type 0 where
   pub file : length (FileOf (heading h) events) ≤ file.limit → IsFile (FileOf (heading h) events) (heading h) events
   pub calls : acts ≡ map (act_of w.keys) deeds
-  pub frames : frames_of w events ≡ map sent_as (reverse (firsts_in deeds))
-  pub resends : AreOpen w deeds
+  pub frames : frames_of w events ≡ map sent_as (reverse (firsts_in (deeds ++ earlier)))
+  pub resends : AreOpen w (deeds ++ earlier)
   pub acknowledged : AreEarned w events deeds
   pub replies : AllByRecursion (IsTrueReply w events) (replies_in acts)
   pub agree : audit_of w events ≡ Holds → Agree w events
 
--- There are rounds, each what the rules of serving say, after which the session ended so.
+-- There are rounds, each what the rules of serving say, after which the session ended so; the newest of them are a group.
 pub record ServesSession (s : Session) (first : List LinkItem) (w : Setting) (tells : Tells) (base now : Outs) (end : ServeEnd) : Type 0 where
-  pub rounds : List Round
-  pub wanted : AreWanted w [] s.until s.limit first rounds
-  pub so : SessionEnds s.header s.plan tells base now end (after w [] first rounds) (sooner w [] first rounds) (newest w [] first rounds)
-      (wants w [] s.until s.limit (after w [] first rounds))
-  pub true_of : IsTrueSession s.header w (after w [] first rounds).events (deeds_of w [] first rounds) (after w [] first rounds).acts
+  pub group : List Round
+  pub older : List Round
+  pub one : IsGroup group older
+  pub wanted : AreWanted w [] s.until s.limit first (group ++ older)
+  pub so : SessionEnds s.header s.plan tells base now end (after w [] first (group ++ older)) (sooner w [] first group older) (newest w [] first group older)
+      (wants w [] s.until s.limit (after w [] first (group ++ older)))
+  pub true_of : IsTrueSession s.header w (after w [] first (group ++ older)).events [] (deeds_of w [] first (group ++ older)) (after w [] first (group ++ older)).acts
   pub tape_later : base.tape_faults ≤ now.tape_faults
   pub link_later : base.link_faults.failed ≤ now.link_faults.failed

@@ -1,18 +1,21 @@
 //! Sessions that configurations describe.
-ghost use Rattle.std.specs.Prelude.{◌≡◌, ◌<◌, [], map, IfOk, OnErr};
+ghost use Rattle.std.specs.Prelude.{◌≡◌, ◌<◌, [], true, false, map, IfOk, IfErr, OnErr};
 ghost use Rattle.schedule_replay.specs.Layers.{setting_of};
 ghost use Rattle.cluster_config.specs.Cluster.{cluster_text};
 ghost use Rattle.cluster_config.specs.Node.{node_text};
 ghost use Rattle.cluster_config.specs.Ranges.{FitsNode, FitsCluster};
 ghost use Rattle.node_loop.specs.Outs.{outs_of};
 ghost use Rattle.node_session.specs.Configs.{node_header, node_session, cluster_header, cluster_session, first_item};
+ghost use Rattle.node_session.specs.Lives.{ServesNode, Unopened, disk_seen};
 ghost use Rattle.node_session.specs.Session.{ServesSession};
 
+use crate::life::serve_life;
 use crate::session::{Session, serve_session};
 use client_port::write_request;
 use cluster_config::{ClusterConfig, NodeConfig, Request, Requests};
+use event_journal::{JournalFault, journal_head, open_journal};
 use node_loop::ServeEnd;
-use outside::{Link, LinkItem, LinkPlan, Sink};
+use outside::{Disk, Link, LinkItem, LinkPlan, Sink};
 use ritas_base::{Mem, SenderSet};
 use schedule_file::{Header, HeaderKeys};
 use std::alloc::Global;
@@ -81,20 +84,12 @@ fn first_items(alloc: Global, requests: &Requests) -> Result<Vec<LinkItem>, Mem>
     Ok(items)
 }
 
-/// Serves the replica of a configuration, as `serve_session` does: its file names that one alone as correct, and has its keys.
-pub fn serve_node<R: Net + Wait, L: Link, K: Sink>(
-    rt: &R,
-    alloc: Global,
-    config: NodeConfig,
-    link: &mut L,
-    output: &mut K,
-) -> Result<ServeEnd, Mem>
-    requires { FitsNode (node_text config) }
-    ensures served { IfOk result (λ end. ServesSession (node_session config) [] (setting_of (node_header config)) (record { tape = K.tells; link = L.tells })
-        (outs_of K.taken K.faults L.told L.faults output.old link.old) (outs_of K.taken K.faults L.told L.faults output.new link.new) end) }
-    ensures unserved { OnErr result ((output.new ≡ output.old) × (link.new ≡ link.old)) }
+// The session of a configuration's replica.
+fn session_of(config: NodeConfig) -> Session
+    requires { config.me < 32 }
+    ensures { result ≡ node_session config }
 {
-    let session = Session {
+    Session {
         header: node_header(&config),
         plan: LinkPlan::Node {
             me: config.me,
@@ -103,8 +98,84 @@ pub fn serve_node<R: Net + Wait, L: Link, K: Sink>(
         },
         limit: config.limit,
         until: config.until,
+    }
+}
+
+// Serves the replica of a configuration with its journal.
+fn serve_journal<R: Net + Wait, L: Link, K: Sink, D: Disk>(
+    rt: &R,
+    alloc: Global,
+    config: NodeConfig,
+    link: &mut L,
+    output: &mut K,
+    disk: &mut D,
+) -> Result<ServeEnd, JournalFault>
+    requires { FitsNode (node_text config) }
+    ensures served { IfOk result (λ end. ServesNode config (record { tape = K.tells; link = L.tells })
+        (outs_of K.taken K.faults L.told L.faults output.old link.old) (outs_of K.taken K.faults L.told L.faults output.new link.new)
+        (disk_seen D.tells D.told D.faults disk.old disk.new) end) }
+    ensures unserved { IfErr result (λ fault. Unopened config (disk_seen D.tells D.told D.faults disk.old disk.new) fault
+        × (output.new ≡ output.old) × (link.new ≡ link.old)) }
+{
+    let head = journal_head(
+        config.session,
+        config.p,
+        config.mode,
+        config.me,
+        &config.key_row,
+        &config.coin_key,
+    );
+    let (mut journal, recovered) = match open_journal(alloc, disk, config.me, &head) {
+        Ok(opened) => opened,
+        Err(fault) => return Err(fault),
     };
-    serve_session(rt, alloc, &session, &Vec::new(alloc), link, output)
+    let session = session_of(config);
+    match serve_life(
+        rt,
+        alloc,
+        &session,
+        &recovered,
+        &mut journal,
+        link,
+        output,
+        disk,
+    ) {
+        Ok(end) => Ok(end),
+        Err(Mem) => Err(JournalFault::Mem),
+    }
+}
+
+/// Serves the replica of a configuration, as `serve_session` does: its file names that one alone as correct, and has its keys.
+///
+/// Where the configuration says so, the replica has a journal on the disk: it is opened before anything is written, or made where there is none,
+/// and what it kept happens again before the link's items are taken (`node_loop::serve_kept`). Where it can't be opened, its fault is the error.
+/// Otherwise the disk isn't touched, and the one error is want of memory. At an error nothing is written, and the link isn't started.
+pub fn serve_node<R: Net + Wait, L: Link, K: Sink, D: Disk>(
+    rt: &R,
+    alloc: Global,
+    config: NodeConfig,
+    link: &mut L,
+    output: &mut K,
+    disk: &mut D,
+) -> Result<ServeEnd, JournalFault>
+    requires { FitsNode (node_text config) }
+    ensures served { config.journal ≡ false → IfOk result (λ end. ServesSession (node_session config) [] (setting_of (node_header config)) (record { tape = K.tells; link = L.tells })
+        (outs_of K.taken K.faults L.told L.faults output.old link.old) (outs_of K.taken K.faults L.told L.faults output.new link.new) end) }
+    ensures undisked { config.journal ≡ false → (disk.new ≡ disk.old) × IfErr result (λ fault. fault ≡ JournalFault.Mem) }
+    ensures kept { config.journal ≡ true → IfOk result (λ end. ServesNode config (record { tape = K.tells; link = L.tells })
+        (outs_of K.taken K.faults L.told L.faults output.old link.old) (outs_of K.taken K.faults L.told L.faults output.new link.new)
+        (disk_seen D.tells D.told D.faults disk.old disk.new) end) }
+    ensures unopened { config.journal ≡ true → IfErr result (λ fault. Unopened config (disk_seen D.tells D.told D.faults disk.old disk.new) fault) }
+    ensures unserved { OnErr result ((output.new ≡ output.old) × (link.new ≡ link.old)) }
+{
+    if config.journal {
+        return serve_journal(rt, alloc, config, link, output, disk);
+    }
+    let session = session_of(config);
+    match serve_session(rt, alloc, &session, &Vec::new(alloc), link, output) {
+        Ok(end) => Ok(end),
+        Err(Mem) => Err(JournalFault::Mem),
+    }
 }
 
 /// Serves all replicas of a configuration, as `serve_session` does, and begins with its requests: each is handed to the replica that it

@@ -5,10 +5,14 @@
 //! that header, and whoever has it can replay it, if it has at most 67,108,864 bytes; at a fault it took a front of one. The frames that
 //! the link was given for the first time are those that the replicas of the file's world make, and what is proved of worlds holds of what
 //! was served (`specs/Session.antt`).
+//!
+//! A node whose configuration says so keeps a journal (`specs/Lives.antt`): a life of it begins with the events that the journal kept of those
+//! before, and goes on as if it had never stopped.
 #![tactic(auto)]
 
 mod closing;
 mod configs;
+mod life;
 mod opening;
 mod session;
 

@@ -46,8 +46,8 @@ pub struct Session {
     pub until: u32,
 }
 
-// The correct replicas of a header, in order, before any event. The one error is want of memory.
-fn first_replicas<S: Service, E: Broadcast>(
+/// The correct replicas of a header, in order, before any event. The one error is want of memory.
+pub(crate) fn first_replicas<S: Service, E: Broadcast>(
     alloc: Global,
     header: &Header,
 ) -> Result<Vec<Replica<S, E, SeedCoin>>, Mem>

@@ -1,5 +1,5 @@
 -- What is answered to the configuration of each job.
-use Rattle.std.proofs.Common.{◌≡◌, ◌≢◌, ℕ, ◌<◌, ◌≤◌, List, false, length, Result, Ok, Err, refl, sym, inl, inr, subst, arith}
+use Rattle.std.proofs.Common.{◌≡◌, ◌≢◌, ℕ, ◌<◌, ◌≤◌, Bool, List, true, false, length, Result, Ok, Err, refl, sym, inl, inr, subst, arith}
 use Rattle.outside.specs.declared.whole.ReadFault.{ReadFault}
 use Rattle.outside.specs.declared.whole.ReadFault.TheVariants as read_faults
 use Rattle.ritas_base.specs.declared.plan.Plan.{Plan}
@@ -11,6 +11,7 @@ use Rattle.cluster_config.specs.declared.config.ConfigFault.{ConfigFault}
 use Rattle.cluster_config.specs.declared.config.ConfigFault.TheVariants as config_faults
 use Rattle.cluster_config.specs.declared.job.Job.{Job}
 use Rattle.cluster_config.specs.declared.job.Job.TheVariants as jobs
+use Rattle.cluster_config.specs.declared.node.NodeConfig.{NodeConfig}
 use Rattle.cluster_config.specs.declared.submit.SubmitConfig.{SubmitConfig}
 use Rattle.cluster_config.specs.Cluster.{ClusterText, cluster_column, cluster_text}
 use Rattle.cluster_config.specs.Columns.{read_text}
@@ -22,7 +23,8 @@ use Rattle.cluster_config.specs.Ranges.{FitsNode, FitsCluster}
 use Rattle.cluster_config.specs.Submit.{submit_column}
 use Rattle.key_rows.specs.KeyRows.{key_rows}
 use Rattle.node_loop.specs.Outs.{Outs, Tells}
-use Rattle.ritas.specs.Configs.{Unserved, AnswersSubmit, Unasked, Asked, AnswersConfig, AnswersJob, FitsConfig, IsIdle, RefusesConfig, RefusesText}
+use Rattle.node_session.specs.Lives.{DiskSeen}
+use Rattle.ritas.specs.Configs.{AnswersBoth, Idle, Unserved, AnswersSubmit, Unasked, Asked, AnswersConfig, AnswersJob, FitsConfig, IsIdle, RefusesConfig, RefusesText}
 use Rattle.ritas.specs.Drives.{AnswersPlan}
 use Rattle.ritas.specs.Run.{Replies, is_linked}
 use Rattle.request_submit.specs.declared.end.SubmitEnd.{SubmitEnd}
@@ -66,7 +68,7 @@ fits_config jobs.Keys text (configs.Drive c) none node cluster = absurd none
 fits_config jobs.Keys text (configs.Node c) none node cluster = absurd none
 fits_config jobs.Keys text (configs.Cluster c) none node cluster = absurd none
 fits_config jobs.Keys text (configs.Submit c) none node cluster = absurd none
-fits_config jobs.Node text (configs.Node c) reads node cluster = node (node_text c) reads
+fits_config jobs.Node text (configs.Node c) reads node cluster = (refl, node (node_text c) reads)
 fits_config jobs.Node text (configs.Drive c) none node cluster = absurd none
 fits_config jobs.Node text (configs.Keys c) none node cluster = absurd none
 fits_config jobs.Node text (configs.Cluster c) none node cluster = absurd none
@@ -84,12 +86,12 @@ fits_config jobs.Submit text (configs.Cluster c) none node cluster = absurd none
 
 -- ---- answers
 
-module _ {K : Type 0} (tells : Tells) (taken : K → List ℕ) (old new : K) (base now : Outs) (still : Type 0) (status : ℕ) (text : List ℕ) where
+module _ {K : Type 0} (tells : Tells) (taken : K → List ℕ) (old new : K) (base now : Outs) (d : DiskSeen) (still undisked : Type 0) (status : ℕ) (text : List ℕ) where
   abbrev IsJobAnswered : Job → Type 0
-  IsJobAnswered = AnswersJob tells taken old new base now still status text
+  IsJobAnswered = AnswersJob tells taken old new base now d still undisked status text
 
   abbrev IsConfigAnswered : Job → Config → Type 0
-  IsConfigAnswered = AnswersConfig tells taken old new base now still status
+  IsConfigAnswered = AnswersConfig tells taken old new base now d still undisked status
 
   -- nothing was done
   idle_plan : IsIdle status → new ≡ old → (what : DriveWhat) (plan : Plan) → AnswersPlan tells.tape taken old new what status plan
@@ -104,63 +106,67 @@ module _ {K : Type 0} (tells : Tells) (taken : K → List ℕ) (old new : K) (ba
       no_zero (inl four) zero = omega (arith, four, zero)
       no_zero (inr eight) zero = omega (arith, eight, zero)
 
-  pub idle_job : (job : Job) → IsIdle status → new ≡ old → still → IsJobAnswered job
-  idle_job (jobs.Replay what) idle same link = tt
-  idle_job (jobs.Drive what) idle same link = idle_text drive_column planned tells.tape taken old new status text still _ idle same link (λ plan. (idle_plan idle same what plan, link))
-  idle_job jobs.Keys idle same link = idle_text keys_column (λ keys. keys) tells.tape taken old new status text still _ idle same link
+  idle_node : (node : NodeConfig) (b : Bool) → IsIdle status → new ≡ old → still → undisked → AnswersBoth node tells taken old new base now d still undisked status b
+  idle_node node true idle same link disk = Idle idle same link disk
+  idle_node node false idle same link disk = (Unserved idle (same, link), disk)
+
+  pub idle_job : (job : Job) → IsIdle status → new ≡ old → still → undisked → IsJobAnswered job
+  idle_job (jobs.Replay what) idle same link disk = tt
+  idle_job (jobs.Drive what) idle same link disk = idle_text drive_column planned tells.tape taken old new status text (still × undisked) _ idle same (link, disk) (λ plan. (idle_plan idle same what plan, link))
+  idle_job jobs.Keys idle same link disk = idle_text keys_column (λ keys. keys) tells.tape taken old new status text (still × undisked) _ idle same (link, disk)
       (λ keys. (idle_replies tells.tape taken old new status 0 (key_rows keys.master keys.session keys.p.n) idle same, link))
-  idle_job jobs.Node idle same link = idle_text node_column node_text tells.tape taken old new status text still _ idle same link (λ node. Unserved idle (same, link))
-  idle_job jobs.Cluster idle same link = idle_text cluster_column cluster_text tells.tape taken old new status text still _ idle same link (λ cluster. Unserved idle (same, link))
-  idle_job jobs.Submit idle same link = idle_text submit_column (λ submit. submit) tells.tape taken old new status text still _ idle same link (λ submit. Unasked idle (same, link))
+  idle_job jobs.Node idle same link disk = idle_text node_column node_text tells.tape taken old new status text (still × undisked) _ idle same (link, disk) (λ node. idle_node node node.journal idle same link disk)
+  idle_job jobs.Cluster idle same link disk = idle_text cluster_column cluster_text tells.tape taken old new status text (still × undisked) _ idle same (link, disk) (λ cluster. Unserved idle (same, link))
+  idle_job jobs.Submit idle same link disk = idle_text submit_column (λ submit. submit) tells.tape taken old new status text (still × undisked) _ idle same (link, disk) (λ submit. Unasked idle (same, link))
 
   -- the text is too long
-  pub long_job : (job : Job) → text_limit < length text → Replies tells.tape taken old new status 7 (limit_text text_limit) → still → IsJobAnswered job
+  pub long_job : (job : Job) → text_limit < length text → Replies tells.tape taken old new status 7 (limit_text text_limit) → still × undisked → IsJobAnswered job
   long_job (jobs.Replay what) over replies link = tt
-  long_job (jobs.Drive what) over replies link = long_text drive_column planned tells.tape taken old new status text still _ over replies link
-  long_job jobs.Keys over replies link = long_text keys_column (λ keys. keys) tells.tape taken old new status text still _ over replies link
-  long_job jobs.Node over replies link = long_text node_column node_text tells.tape taken old new status text still _ over replies link
-  long_job jobs.Cluster over replies link = long_text cluster_column cluster_text tells.tape taken old new status text still _ over replies link
-  long_job jobs.Submit over replies link = long_text submit_column (λ submit. submit) tells.tape taken old new status text still _ over replies link
+  long_job (jobs.Drive what) over replies link = long_text drive_column planned tells.tape taken old new status text (still × undisked) _ over replies link
+  long_job jobs.Keys over replies link = long_text keys_column (λ keys. keys) tells.tape taken old new status text (still × undisked) _ over replies link
+  long_job jobs.Node over replies link = long_text node_column node_text tells.tape taken old new status text (still × undisked) _ over replies link
+  long_job jobs.Cluster over replies link = long_text cluster_column cluster_text tells.tape taken old new status text (still × undisked) _ over replies link
+  long_job jobs.Submit over replies link = long_text submit_column (λ submit. submit) tells.tape taken old new status text (still × undisked) _ over replies link
 
   -- a line is wrong, or memory ran out
-  pub fault_job : (job : Job) (fault : ConfigFault) → ReadsJob job text (Err fault) → length text ≤ text_limit → RefusesConfig tells.tape taken old new status fault → still → IsJobAnswered job
-  fault_job job config_faults.Mem reads within refuses link = idle_job job (inr refuses.0) refuses.1 link
+  pub fault_job : (job : Job) (fault : ConfigFault) → ReadsJob job text (Err fault) → length text ≤ text_limit → RefusesConfig tells.tape taken old new status fault → still × undisked → IsJobAnswered job
+  fault_job job config_faults.Mem reads within refuses link = idle_job job (inr refuses.0) refuses.1 link.0 link.1
   fault_job (jobs.Replay what) (config_faults.Line k) reads within refuses link = tt
-  fault_job (jobs.Drive what) (config_faults.Line k) reads within refuses link = wrong_text drive_column planned tells.tape taken old new status text still _ within k reads refuses link
-  fault_job jobs.Keys (config_faults.Line k) reads within refuses link = wrong_text keys_column (λ keys. keys) tells.tape taken old new status text still _ within k reads refuses link
-  fault_job jobs.Node (config_faults.Line k) reads within refuses link = wrong_text node_column node_text tells.tape taken old new status text still _ within k reads refuses link
-  fault_job jobs.Cluster (config_faults.Line k) reads within refuses link = wrong_text cluster_column cluster_text tells.tape taken old new status text still _ within k reads refuses link
-  fault_job jobs.Submit (config_faults.Line k) reads within refuses link = wrong_text submit_column (λ submit. submit) tells.tape taken old new status text still _ within k reads refuses link
+  fault_job (jobs.Drive what) (config_faults.Line k) reads within refuses link = wrong_text drive_column planned tells.tape taken old new status text (still × undisked) _ within k reads refuses link
+  fault_job jobs.Keys (config_faults.Line k) reads within refuses link = wrong_text keys_column (λ keys. keys) tells.tape taken old new status text (still × undisked) _ within k reads refuses link
+  fault_job jobs.Node (config_faults.Line k) reads within refuses link = wrong_text node_column node_text tells.tape taken old new status text (still × undisked) _ within k reads refuses link
+  fault_job jobs.Cluster (config_faults.Line k) reads within refuses link = wrong_text cluster_column cluster_text tells.tape taken old new status text (still × undisked) _ within k reads refuses link
+  fault_job jobs.Submit (config_faults.Line k) reads within refuses link = wrong_text submit_column (λ submit. submit) tells.tape taken old new status text (still × undisked) _ within k reads refuses link
 
   -- the job was done
   pub done_job : (job : Job) (config : Config) → ReadsJob job text (Ok config) → length text ≤ text_limit → IsConfigAnswered job config → IsJobAnswered job
   done_job (jobs.Replay what) config none within answers = absurd none
   done_job (jobs.Drive what) (configs.Drive plan) reads within answers =
-      right_text drive_column planned tells.tape taken old new status text still _ one_plan within plan reads answers
+      right_text drive_column planned tells.tape taken old new status text (still × undisked) _ one_plan within plan reads answers
   done_job (jobs.Drive what) (configs.Keys c) none within answers = absurd none
   done_job (jobs.Drive what) (configs.Node c) none within answers = absurd none
   done_job (jobs.Drive what) (configs.Cluster c) none within answers = absurd none
   done_job (jobs.Drive what) (configs.Submit c) none within answers = absurd none
   done_job jobs.Keys (configs.Keys keys) reads within answers =
-      right_text keys_column (λ keys. keys) tells.tape taken old new status text still _ (λ c d e. e) within keys reads answers
+      right_text keys_column (λ keys. keys) tells.tape taken old new status text (still × undisked) _ (λ c d e. e) within keys reads answers
   done_job jobs.Keys (configs.Drive c) none within answers = absurd none
   done_job jobs.Keys (configs.Node c) none within answers = absurd none
   done_job jobs.Keys (configs.Cluster c) none within answers = absurd none
   done_job jobs.Keys (configs.Submit c) none within answers = absurd none
   done_job jobs.Node (configs.Node node) reads within answers =
-      right_text node_column node_text tells.tape taken old new status text still _ one_node within node reads answers
+      right_text node_column node_text tells.tape taken old new status text (still × undisked) _ one_node within node reads answers
   done_job jobs.Node (configs.Drive c) none within answers = absurd none
   done_job jobs.Node (configs.Keys c) none within answers = absurd none
   done_job jobs.Node (configs.Cluster c) none within answers = absurd none
   done_job jobs.Node (configs.Submit c) none within answers = absurd none
   done_job jobs.Cluster (configs.Cluster cluster) reads within answers =
-      right_text cluster_column cluster_text tells.tape taken old new status text still _ one_cluster within cluster reads answers
+      right_text cluster_column cluster_text tells.tape taken old new status text (still × undisked) _ one_cluster within cluster reads answers
   done_job jobs.Cluster (configs.Drive c) none within answers = absurd none
   done_job jobs.Cluster (configs.Keys c) none within answers = absurd none
   done_job jobs.Cluster (configs.Node c) none within answers = absurd none
   done_job jobs.Cluster (configs.Submit c) none within answers = absurd none
   done_job jobs.Submit (configs.Submit submit) reads within answers =
-      right_text submit_column (λ submit. submit) tells.tape taken old new status text still _ (λ c d e. e) within submit reads answers
+      right_text submit_column (λ submit. submit) tells.tape taken old new status text (still × undisked) _ (λ c d e. e) within submit reads answers
   done_job jobs.Submit (configs.Drive c) none within answers = absurd none
   done_job jobs.Submit (configs.Keys c) none within answers = absurd none
   done_job jobs.Submit (configs.Node c) none within answers = absurd none
@@ -193,25 +199,25 @@ module _ {K : Type 0} (tells : Tells) (taken : K → List ℕ) (old new : K) (ba
 
   -- the text wasn't read whole
   pub text_job : (job : Job) (fault : ReadFault) → (fault ≢ read_faults.Failed → fault ≢ read_faults.Mem → fault ≡ read_faults.TooLong → 1048576 < length text)
-      → RefusesText tells.tape taken old new status fault → still → IsJobAnswered job
+      → RefusesText tells.tape taken old new status fault → still × undisked → IsJobAnswered job
   unfolding text_limit
   text_job job read_faults.TooLong over refuses link = long_job job (over (λ e. cc) (λ e. cc) refl) refuses link
-  text_job job read_faults.Failed over refuses link = idle_job job (inl refuses.0) refuses.1 link
-  text_job job read_faults.Mem over refuses link = idle_job job (inr refuses.0) refuses.1 link
+  text_job job read_faults.Failed over refuses link = idle_job job (inl refuses.0) refuses.1 link.0 link.1
+  text_job job read_faults.Mem over refuses link = idle_job job (inr refuses.0) refuses.1 link.0 link.1
 
 -- of the same job, and of the same text
-module _ {K : Type 0} (tells : Tells) (taken : K → List ℕ) (old new : K) (base now : Outs) (still : Type 0) (status : ℕ) where
-  pub of_job : (text : List ℕ) (a b : Job) → a ≡ b → AnswersJob tells taken old new base now still status text a → AnswersJob tells taken old new base now still status text b
-  of_job text a b same answers = subst (AnswersJob tells taken old new base now still status text) same answers
+module _ {K : Type 0} (tells : Tells) (taken : K → List ℕ) (old new : K) (base now : Outs) (d : DiskSeen) (still undisked : Type 0) (status : ℕ) where
+  pub of_job : (text : List ℕ) (a b : Job) → a ≡ b → AnswersJob tells taken old new base now d still undisked status text a → AnswersJob tells taken old new base now d still undisked status text b
+  of_job text a b same answers = subst (AnswersJob tells taken old new base now d still undisked status text) same answers
 
-  pub of_text : (job : Job) (text other : List ℕ) → text ≡ other → AnswersJob tells taken old new base now still status text job
-      → AnswersJob tells taken old new base now still status other job
-  of_text job text other same answers = subst (λ (t : List ℕ). AnswersJob tells taken old new base now still status t job) same answers
+  pub of_text : (job : Job) (text other : List ℕ) → text ≡ other → AnswersJob tells taken old new base now d still undisked status text job
+      → AnswersJob tells taken old new base now d still undisked status other job
+  of_text job text other same answers = subst (λ (t : List ℕ). AnswersJob tells taken old new base now d still undisked status t job) same answers
 
   -- of a configuration of this kind
-  pub of_config : (job : Job) (config kind : Config) → config ≡ kind → AnswersConfig tells taken old new base now still status job kind
-      → AnswersConfig tells taken old new base now still status job config
-  of_config job config kind same answers = subst (AnswersConfig tells taken old new base now still status job) (sym same) answers
+  pub of_config : (job : Job) (config kind : Config) → config ≡ kind → AnswersConfig tells taken old new base now d still undisked status job kind
+      → AnswersConfig tells taken old new base now d still undisked status job config
+  of_config job config kind same answers = subst (AnswersConfig tells taken old new base now d still undisked status job) (sym same) answers
 
   -- of a request with this payload
   pub of_payload : (config : SubmitConfig) (end : SubmitEnd) (payload : List ℕ) (untouched : Type 0) → payload ≡ config.request.payload

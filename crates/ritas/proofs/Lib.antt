@@ -6,4 +6,5 @@ pub mod Texts
 pub mod Ones
 pub mod Answering
 pub mod Served
+pub mod Lived
 pub mod Jobs

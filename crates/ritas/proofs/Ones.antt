@@ -45,6 +45,7 @@ node_by x low high = record {
   client = x.client;
   limit = x.limit;
   until = x.until;
+  journal = x.journal;
 }
 
 same_node : (c : NodeConfig) (x : NodeText) → node_text c ≡ x → (low : 1 ≤ x.root) (high : x.root ≤ 6) → c ≡ node_by x low high

@@ -1,5 +1,5 @@
 -- What the status of serving says.
-use Rattle.std.proofs.Common.{◌≡◌, ◌≢◌, ℕ, ◌≤◌, List, [], ◌∷◌, refl, sym, ◌∙◌, ap, inl, inr, subst, arith}
+use Rattle.std.proofs.Common.{◌≡◌, ◌≢◌, ℕ, ◌≤◌, List, [], ◌∷◌, ◌++◌, refl, sym, ◌∙◌, ap, inl, inr, subst, arith}
 use Rattle.outside.specs.Links.{LinkAct, Gives}
 use Rattle.outside.specs.declared.link.LinkItem.{LinkItem}
 use Rattle.outside.specs.declared.link.LinkItem.TheVariants as items
@@ -20,7 +20,7 @@ use Rattle.ritas.specs.Run.{LinkCounts, Runs}
 use Rattle.ritas.specs.Statuses.{end_status}
 use Rattle.ritas.proofs.Counts.{none_failed, one_failed, link_stood, link_failed, link_short}
 
-no_four : (end : ServeEnd) → end_status end ≢ 4
+pub no_four : (end : ServeEnd) → end_status end ≢ 4
 no_four ends.Done e = omega (arith, e)
 no_four ends.Limit e = omega (arith, e)
 no_four ends.End e = omega (arith, e)
@@ -30,7 +30,7 @@ no_four ends.Mem e = omega (arith, e)
 no_four ends.DiskFault e = omega (arith, e)
 no_four (ends.JournalFull x) e = omega (arith, e)
 
-no_two : (end : ServeEnd) → end_status end ≢ 2
+pub no_two : (end : ServeEnd) → end_status end ≢ 2
 no_two ends.Done e = omega (arith, e)
 no_two ends.Limit e = omega (arith, e)
 no_two ends.End e = omega (arith, e)
@@ -40,7 +40,7 @@ no_two ends.Mem e = omega (arith, e)
 no_two ends.DiskFault e = omega (arith, e)
 no_two (ends.JournalFull x) e = omega (arith, e)
 
-low : (end : ServeEnd) → end_status end ≤ 8
+pub low : (end : ServeEnd) → end_status end ≤ 9
 low ends.Done = omega arith
 low ends.Limit = omega arith
 low ends.End = omega arith
@@ -50,7 +50,7 @@ low ends.Mem = omega arith
 low ends.DiskFault = omega arith
 low (ends.JournalFull x) = omega arith
 
-tape_counts : (h : Header) (plan : LinkPlan) (tells : Tells) (base now : Outs) (end : ServeEnd) (s : Serving) (sooner news : List LinkAct) (rule : Want) → SessionEnds h plan tells base now end s sooner news rule
+pub tape_counts : (h : Header) (plan : LinkPlan) (tells : Tells) (base now : Outs) (end : ServeEnd) (s : Serving) (sooner news : List LinkAct) (rule : Want) → SessionEnds h plan tells base now end s sooner news rule
     → CountsIf base.tape_faults now.tape_faults (end_status end ≡ 5)
 tape_counts h plan tells base now ends.Done s sooner news rule so = none_failed _ _ (λ e. omega (arith, e)) so.1.none_failed.0
 tape_counts h plan tells base now ends.Limit s sooner news rule so = none_failed _ _ (λ e. omega (arith, e)) so.1.none_failed.0
@@ -61,7 +61,7 @@ tape_counts h plan tells base now ends.Mem s sooner news rule so = none_failed _
 tape_counts h plan tells base now ends.DiskFault s sooner news rule so = absurd so
 tape_counts h plan tells base now (ends.JournalFull x) s sooner news rule so = absurd so
 
-link_counts : (h : Header) (plan : LinkPlan) (tells : Tells) (base now : Outs) (end : ServeEnd) (s : Serving) (sooner news : List LinkAct) (rule : Want) → SessionEnds h plan tells base now end s sooner news rule
+pub link_counts : (h : Header) (plan : LinkPlan) (tells : Tells) (base now : Outs) (end : ServeEnd) (s : Serving) (sooner news : List LinkAct) (rule : Want) → SessionEnds h plan tells base now end s sooner news rule
     → LinkCounts base.link_faults now.link_faults (end_status end)
 link_counts h plan tells base now ends.Done s sooner news rule so = link_stood _ _ 0 (λ e. omega (arith, e)) so.1.none_failed.1
 link_counts h plan tells base now ends.Limit s sooner news rule so = link_stood _ _ 0 (λ e. omega (arith, e)) so.1.none_failed.1
@@ -93,7 +93,7 @@ session_unread end = no_four end
 
 -- at 0 events were served to their end
 pub has_served : (session : Session) (first : List LinkItem) (tells : Tells) (base now : Outs) (untouched : Type 0) (status : ℕ)
-    → AnswersSession session first tells base now untouched status → status ≡ 0 → HasServed session tells base now
+    → AnswersSession session first tells base now untouched status → status ≡ 0 → HasServed session [] tells base now
 has_served session first tells base now untouched status (Unserved idle same) zero = absurd (no_zero idle)
   where
     no_zero : IsIdle status → ⊥
@@ -101,13 +101,13 @@ has_served session first tells base now untouched status (Unserved idle same) ze
     no_zero (inr eight) = omega (arith, eight, zero)
 has_served session first tells base now untouched status (Served end is serves) zero = by_end end (sym is ∙ zero) serves
   where
-    by_end : (x : ServeEnd) → end_status x ≡ 0 → ServesSession session first (setting_of session.header) tells base now x → HasServed session tells base now
+    by_end : (x : ServeEnd) → end_status x ≡ 0 → ServesSession session first (setting_of session.header) tells base now x → HasServed session [] tells base now
     by_end ends.Done e run = record { events = _; deeds = _; acts = _; took = run.so.1; true_of = run.true_of }
     by_end ends.Limit e run = record { events = _; deeds = _; acts = _; took = run.so.1; true_of = run.true_of }
     by_end ends.End e run = record {
       events = _;
-      deeds = Came items.End ∷ deeds_of (setting_of session.header) [] first run.rounds;
-      acts = Gives items.End ∷ (after (setting_of session.header) [] first run.rounds).acts;
+      deeds = Came items.End ∷ deeds_of (setting_of session.header) [] first (run.group ++ run.older);
+      acts = Gives items.End ∷ (after (setting_of session.header) [] first (run.group ++ run.older)).acts;
       took = run.so.1;
       true_of = record {
         file = run.true_of.file;

@@ -36,9 +36,9 @@ is_linked Submit = true
 
 -- ---- statuses
 
--- one of 0 to 8
+-- one of 0 to 9
 abbrev pub IsStatus : ℕ → Type 0
-IsStatus status = status ≤ 8
+IsStatus status = status ≤ 9
 
 -- the input didn't fail, nor the output, and memory didn't run out
 abbrev pub IsOwn : ℕ → Type 0

@@ -9,6 +9,8 @@ use Rattle.world_model.specs.declared.audit.Audit.TheVariants as audits
 use Rattle.world_model.specs.Audit.{audit_of}
 use Rattle.schedule_replay.specs.Layers.{setting_of}
 use Rattle.schedule_replay.specs.Report.{end_of_line}
+use Rattle.event_journal.specs.declared.fault.JournalFault.{JournalFault}
+use Rattle.event_journal.specs.declared.fault.JournalFault.TheVariants as journal_faults
 use Rattle.node_loop.specs.declared.end.ServeEnd.{ServeEnd}
 use Rattle.node_loop.specs.declared.end.ServeEnd.TheVariants as serve_ends
 use Rattle.request_submit.specs.declared.end.SubmitEnd.{SubmitEnd}
@@ -79,8 +81,23 @@ end_status serve_ends.End = 0
 end_status serve_ends.LinkFault = 6
 end_status serve_ends.TapeFault = 5
 end_status serve_ends.Mem = 8
-end_status serve_ends.DiskFault = 8
-end_status (serve_ends.JournalFull x) = 8
+end_status serve_ends.DiskFault = 9
+end_status (serve_ends.JournalFull x) = 7
+
+-- the status of a journal that couldn't be opened, and its line; a fault of the disk or of memory has none
+abbrev pub journal_status : JournalFault → ℕ
+journal_status (journal_faults.Foreign p) = 3
+journal_status (journal_faults.Broken p) = 3
+journal_status (journal_faults.Full x) = 7
+journal_status journal_faults.Disk = 9
+journal_status journal_faults.Mem = 8
+
+abbrev pub journal_text : JournalFault → List ℕ
+journal_text (journal_faults.Foreign p) = placed (codes "journal") p
+journal_text (journal_faults.Broken p) = placed (codes "journal") p
+journal_text (journal_faults.Full x) = limit_text 67108864
+journal_text journal_faults.Disk = []
+journal_text journal_faults.Mem = []
 
 -- the status and the line of a request that was handed in
 abbrev pub submit_status : SubmitEnd → ℕ

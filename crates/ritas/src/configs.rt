@@ -2,7 +2,9 @@
 ghost use Rattle.std.specs.Prelude.{◌≡◌, ◌≢◌, ◌≤◌, length, true, false};
 ghost use Rattle.ritas_base.specs.declared.what.What.{What};
 ghost use Rattle.ritas_base.specs.declared.what.DriveWhat.{DriveWhat};
+ghost use Rattle.outside.specs.Faults.{HasCause};
 ghost use Rattle.node_loop.specs.Outs.{outs_of};
+ghost use Rattle.node_session.specs.Lives.{disk_seen};
 ghost use Rattle.ritas.specs.Configs.{AnswersConfig, AnswersJob, DrivesPlan, FitsConfig, IsDrive, TakesText};
 ghost use Rattle.schedule_replay.specs.Replay.{CountsIf};
 ghost use Rattle.ritas.specs.Run.{Ends, LeavesLink, Runs, is_linked};
@@ -14,7 +16,7 @@ use crate::refusals::{refuse_config, refuse_text};
 use crate::requests::run_submit;
 use crate::sessions::{run_cluster, run_node};
 use cluster_config::{Config, Job, config_ranges, read_config};
-use outside::{Link, Sink, Source, read_whole};
+use outside::{Disk, Link, Sink, Source, read_whole};
 use ritas_base::Plan;
 use std::alloc::Global;
 use std::net::Net;
@@ -27,6 +29,7 @@ fn drive_plan<K: Sink>(alloc: Global, job: Job, plan: &Plan, output: &mut K) -> 
     requires { IsDrive job }
     ensures ends { Ends K.faults output.old output.new result }
     ensures others { (result ≢ 2) × (result ≢ 4) × (result ≢ 6) }
+    ensures nine { result ≢ 9 }
     ensures answers { DrivesPlan K.tells K.taken output.old output.new result job plan.now }
 {
     match job {
@@ -36,80 +39,89 @@ fn drive_plan<K: Sink>(alloc: Global, job: Job, plan: &Plan, output: &mut K) -> 
 }
 
 // Does the job of a configuration.
-fn do_config<R: Net + Wait, K: Sink, L: Link>(
+fn do_config<R: Net + Wait, K: Sink, L: Link, D: Disk>(
     rt: &R,
     alloc: Global,
     job: Job,
     config: Config,
     output: &mut K,
     link: &mut L,
+    disk: &mut D,
 ) -> u8
     requires { FitsConfig job config }
     ensures runs { Runs K.faults output.old output.new (L.faults link.old) (L.faults link.new) result }
     ensures others { result ≢ 4 }
+    ensures disk_counts { HasCause (D.faults disk.old) (D.faults disk.new) (result ≡ 9) }
+    ensures undisked { job ≢ Job.Node → disk.new ≡ disk.old }
     ensures answers { AnswersConfig (record { tape = K.tells; link = L.tells }) K.taken output.old output.new
         (outs_of K.taken K.faults L.told L.faults output.old link.old)
         (outs_of K.taken K.faults L.told L.faults output.new link.new)
-        (LeavesLink link.old link.new result) result job config }
+        (disk_seen D.tells D.told D.faults disk.old disk.new) (LeavesLink link.old link.new result) (disk.new ≡ disk.old) result job config }
 {
     match config {
         Config::Drive(plan) => drive_plan(alloc, job, &plan, output),
         Config::Keys(keys) => run_keys(alloc, &keys, output),
-        Config::Node(node) => run_node(rt, alloc, node, output, link),
+        Config::Node(node) => run_node(rt, alloc, node, output, link, disk),
         Config::Cluster(cluster) => run_cluster(rt, alloc, cluster, output, link),
         Config::Submit(submit) => run_submit(rt, alloc, &submit, output, link),
     }
 }
 
 // Does the job of the configuration that a text says, or writes the line of its first fault.
-fn do_text<R: Net + Wait, K: Sink, L: Link>(
+fn do_text<R: Net + Wait, K: Sink, L: Link, D: Disk>(
     rt: &R,
     alloc: Global,
     job: Job,
     text: &[u8],
     output: &mut K,
     link: &mut L,
+    disk: &mut D,
 ) -> u8
     requires job { (what : What) → job ≢ Job.Replay what }
     requires within { length text.now ≤ text_limit }
     ensures runs { Runs K.faults output.old output.new (L.faults link.old) (L.faults link.new) result }
     ensures others { result ≢ 4 }
+    ensures disk_counts { HasCause (D.faults disk.old) (D.faults disk.new) (result ≡ 9) }
+    ensures undisked { job ≢ Job.Node → disk.new ≡ disk.old }
     ensures answers { AnswersJob (record { tape = K.tells; link = L.tells }) K.taken output.old output.new
         (outs_of K.taken K.faults L.told L.faults output.old link.old)
         (outs_of K.taken K.faults L.told L.faults output.new link.new)
-        (LeavesLink link.old link.new result) result text.now job }
+        (disk_seen D.tells D.told D.faults disk.old disk.new) (LeavesLink link.old link.new result) (disk.new ≡ disk.old) result text.now job }
     ensures unlinked { is_linked job ≡ false → LeavesLink link.old link.new result }
     ensures undriven { (what : DriveWhat) → job ≡ Job.Drive what → result ≡ 8 → output.new ≡ output.old }
 {
     config_ranges();
     match read_config(alloc, job, text) {
-        Ok(config) => do_config(rt, alloc, job, config, output, link),
+        Ok(config) => do_config(rt, alloc, job, config, output, link, disk),
         Err(fault) => refuse_config(alloc, output, fault),
     }
 }
 
 /// Does the job of the configuration that the input says, or writes the line of its first fault.
-pub(crate) fn do_read<R: Net + Wait, S: Source, K: Sink, L: Link>(
+pub(crate) fn do_read<R: Net + Wait, S: Source, K: Sink, L: Link, D: Disk>(
     rt: &R,
     alloc: Global,
     job: Job,
     input: &mut S,
     output: &mut K,
     link: &mut L,
+    disk: &mut D,
 ) -> u8
     requires { (what : What) → job ≢ Job.Replay what }
     ensures runs { Runs K.faults output.old output.new (L.faults link.old) (L.faults link.new) result }
     ensures input_counts { CountsIf (S.faults input.old) (S.faults input.new) (result ≡ 4) }
     ensures taken { S.tells ≡ true → TakesText (S.left input.old) (S.left input.new) result }
+    ensures disk_counts { HasCause (D.faults disk.old) (D.faults disk.new) (result ≡ 9) }
+    ensures undisked { job ≢ Job.Node → disk.new ≡ disk.old }
     ensures answers { S.tells ≡ true → AnswersJob (record { tape = K.tells; link = L.tells }) K.taken output.old output.new
         (outs_of K.taken K.faults L.told L.faults output.old link.old)
         (outs_of K.taken K.faults L.told L.faults output.new link.new)
-        (LeavesLink link.old link.new result) result (S.left input.old) job }
+        (disk_seen D.tells D.told D.faults disk.old disk.new) (LeavesLink link.old link.new result) (disk.new ≡ disk.old) result (S.left input.old) job }
     ensures unlinked { is_linked job ≡ false → LeavesLink link.old link.new result }
     ensures undriven { (what : DriveWhat) → job ≡ Job.Drive what → result ≡ 8 → output.new ≡ output.old }
 {
     match read_whole(alloc, input, TEXT_LIMIT) {
-        Ok(text) => do_text(rt, alloc, job, text.as_slice(), output, link),
+        Ok(text) => do_text(rt, alloc, job, text.as_slice(), output, link, disk),
         Err(fault) => refuse_text(alloc, output, fault),
     }
 }

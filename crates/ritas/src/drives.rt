@@ -14,6 +14,7 @@ use std::alloc::Global;
 pub(crate) fn make<K: Sink>(alloc: Global, plan: &Plan, output: &mut K, what: DriveWhat) -> u8
     ensures ends { Ends K.faults output.old output.new result }
     ensures others { (result ≢ 2) × (result ≢ 4) × (result ≢ 6) }
+    ensures nine { result ≢ 9 }
     ensures answers { AnswersPlan K.tells K.taken output.old output.new what result plan.now }
 {
     match drive(alloc, plan, output, what) {

@@ -1,5 +1,5 @@
 use crate::run::run;
-use outside::{MemLink, MemSink, MemSource};
+use outside::{MemDisk, MemLink, MemSink, MemSource};
 use std::alloc::Global;
 use std::net::Net;
 use std::sync::Wait;
@@ -60,7 +60,16 @@ fn replay<R: Net + Wait>(
     let mut input = MemSource::new(alloc, bytes, reads)?;
     let mut output = MemSink::new(alloc, room, writes)?;
     let mut link = MemLink::new(alloc, &[], &[])?;
-    let status = run(rt, alloc, &words, &mut input, &mut output, &mut link);
+    let mut disk = MemDisk::new(alloc, &[], 0, 0, &[])?;
+    let status = run(
+        rt,
+        alloc,
+        &words,
+        &mut input,
+        &mut output,
+        &mut link,
+        &mut disk,
+    );
     Ok((status, output))
 }
 

@@ -14,6 +14,7 @@ pub(crate) fn run_keys<K: Sink>(alloc: Global, config: &KeysConfig, output: &mut
     ensures ends { Ends K.faults output.old output.new result }
     ensures replies { Replies K.tells K.taken output.old output.new result 0 (key_rows config.now.master config.now.session config.now.p.n) }
     ensures others { (result ≢ 2) × (result ≢ 4) × (result ≢ 6) }
+    ensures nine { result ≢ 9 }
 {
     match write_key_rows(alloc, config.session, &config.p, &config.master) {
         Ok(text) => finish(output, text.as_slice(), 0),

@@ -50,6 +50,13 @@ fn placed(alloc: Global, name: &str, place: u32) -> Result<String, AllocError>
     format!(in alloc; "input {name} at {place}\n")
 }
 
+/// The line that names the place of a journal's fault.
+pub(crate) fn journal_text(alloc: Global, place: u32) -> Result<String, AllocError>
+    ensures { IfOk result (λ s. string_bytes s ≡ placed (codes "journal") place) }
+{
+    placed(alloc, "journal", place)
+}
+
 /// The line that names a limit.
 pub(crate) fn limit_text(alloc: Global, limit: u32) -> Result<String, AllocError>
     ensures { IfOk result (λ s. string_bytes s ≡ limit_text limit) }

@@ -6,6 +6,8 @@ mod configs;
 mod drives;
 #[cfg(test)]
 mod fault_tests;
+#[cfg(test)]
+mod journal_tests;
 mod keys;
 mod lines;
 mod refusals;
@@ -17,7 +19,7 @@ mod sessions;
 #[cfg(test)]
 mod tests;
 
-use outside::{FromRead, ToWrite};
+use outside::{FileDisk, FromRead, ToWrite};
 use ritas_base::Mem;
 use run::run;
 use std::alloc::{AllocGlobal, Global};
@@ -52,7 +54,16 @@ fn main(rt: HostRuntime) -> ExitCode {
     let mut input = FromRead::new(rt.reader());
     let mut output = ToWrite::new(io::writer(&rt));
     let mut link = TcpLink::new(rt.alloc());
-    let status = run(&rt, rt.alloc(), &words, &mut input, &mut output, &mut link);
+    let mut disk = FileDisk::new(rt);
+    let status = run(
+        &rt,
+        rt.alloc(),
+        &words,
+        &mut input,
+        &mut output,
+        &mut link,
+        &mut disk,
+    );
     link.flush();
     ExitCode::from(status)
 }

@@ -25,6 +25,7 @@ fn write_position<K: Sink>(alloc: Global, output: &mut K, position: u32) -> u8
     ensures ends { Ends K.faults output.old output.new result }
     ensures replies { Replies K.tells K.taken output.old output.new result 0 (submit_text (SubmitEnd.Position position)) }
     ensures others { (result ≢ 2) × (result ≢ 4) × (result ≢ 6) }
+    ensures nine { result ≢ 9 }
 {
     match position_text(alloc, position) {
         Ok(text) => finish(output, text.as_bytes(), 0),
@@ -39,6 +40,7 @@ fn write_end<K: Sink>(alloc: Global, output: &mut K, end: SubmitEnd) -> u8
     ensures link { (result ≡ 6) ↔ (end ≡ SubmitEnd.LinkFault) }
     ensures memory { end ≡ SubmitEnd.Mem → result ≡ 8 }
     ensures others { (result ≢ 2) × (result ≢ 4) }
+    ensures nine { result ≢ 9 }
 {
     match end {
         SubmitEnd::Position(position) => write_position(alloc, output, position),
@@ -58,6 +60,7 @@ pub(crate) fn run_submit<R: Net + Wait, K: Sink, L: Link>(
 ) -> u8
     ensures runs { Runs K.faults output.old output.new (L.faults link.old) (L.faults link.new) result }
     ensures others { result ≢ 4 }
+    ensures nine { result ≢ 9 }
     ensures answers { AnswersSubmit config.now (record { tape = K.tells; link = L.tells }) K.taken output.old output.new
         (outs_of K.taken K.faults L.told L.faults output.old link.old)
         (outs_of K.taken K.faults L.told L.faults output.new link.new)

@@ -28,14 +28,16 @@ ghost use Rattle.cluster_config.specs.Node.{node_column, node_text};
 ghost use Rattle.node_loop.specs.Outs.{outs_of};
 ghost use Rattle.node_session.specs.Configs.{node_session, cluster_session};
 ghost use Rattle.ritas.specs.Run.{Asks, IsReplay, is_linked, IsStatus, IsOwn, LinkCounts, LeavesLink, Ends, Replays, Runs, Replies, AnswersFile, WroteVectors};
-ghost use Rattle.ritas.specs.Configs.{AnswersJob, HasServed, TakesText};
+ghost use Rattle.outside.specs.Faults.{HasCause};
+ghost use Rattle.node_session.specs.Lives.{disk_seen};
+ghost use Rattle.ritas.specs.Configs.{AnswersJob, HasLived, HasServed, TakesText};
 ghost use Rattle.ritas.specs.Drives.{AnswersPlan};
 ghost use Rattle.ritas.specs.Statuses.{usage, text_limit, status_of, placed, fault_text, fault_status};
 
 use crate::configs::do_read;
 use crate::lines::{audit_status, fault_status, fault_text};
 use cluster_config::{Job, WordsFault, config_laws, read_words};
-use outside::{Link, Sink, Source, write_all};
+use outside::{Disk, Link, Sink, Source, write_all};
 use ritas_base::What;
 use schedule_file::{FileFault, file_laws};
 use schedule_replay::{ReplayEnd, replay};
@@ -66,6 +68,7 @@ fn refuse<K: Sink>(alloc: Global, output: &mut K, fault: FileFault) -> u8
     ensures ends { Ends K.faults output.old output.new result }
     ensures replies { Replies K.tells K.taken output.old output.new result (fault_status fault) (fault_text fault) }
     ensures others { (result ≢ 0) × (result ≢ 1) × (result ≢ 2) × (result ≢ 4) × (result ≢ 6) }
+    ensures nine { result ≢ 9 }
     ensures wanting { result ≡ 8 → output.new ≡ output.old }
 {
     match fault_text(alloc, fault) {
@@ -80,6 +83,7 @@ fn give_up<K: Sink>(alloc: Global, output: &mut K, fault: FileFault) -> u8
     ensures replies { Replies K.tells K.taken output.old output.new result (fault_status fault) (fault_text fault) }
     ensures read { (result ≡ 4) ↔ (fault ≡ Read) }
     ensures others { (result ≢ 0) × (result ≢ 1) × (result ≢ 2) × (result ≢ 6) }
+    ensures nine { result ≢ 9 }
     ensures wanting { result ≡ 8 → output.new ≡ output.old }
 {
     match fault {
@@ -92,6 +96,7 @@ fn give_up<K: Sink>(alloc: Global, output: &mut K, fault: FileFault) -> u8
 // Replays a schedule, and writes what is asked for.
 fn reply<S: Source, K: Sink>(alloc: Global, input: &mut S, output: &mut K, what: What) -> u8
     ensures ends { Replays S.faults input.old input.new K.faults output.old output.new what result }
+    ensures nine { result ≢ 9 }
     ensures answers { S.tells ≡ true
         → AnswersFile K.tells K.taken output.old output.new what result (file_of (S.left input.old)) }
     ensures agree { S.tells ≡ true → result ≡ 0 → (h : Header) (es : List Event)
@@ -123,17 +128,20 @@ fn refuse_words<K: Sink>(output: &mut K, fault: WordsFault) -> u8
 }
 
 // Does a job.
-fn work<R: Net + Wait, S: Source, K: Sink, L: Link>(
+fn work<R: Net + Wait, S: Source, K: Sink, L: Link, D: Disk>(
     rt: &R,
     alloc: Global,
     job: Job,
     input: &mut S,
     output: &mut K,
     link: &mut L,
+    disk: &mut D,
 ) -> u8
     ensures runs { Runs K.faults output.old output.new (L.faults link.old) (L.faults link.new) result }
     ensures input_counts { CountsIf (S.faults input.old) (S.faults input.new) (result ≡ 4) }
     ensures unlinked { is_linked job ≡ false → LeavesLink link.old link.new result }
+    ensures disk_counts { HasCause (D.faults disk.old) (D.faults disk.new) (result ≡ 9) }
+    ensures undisked { job ≢ Job.Node → disk.new ≡ disk.old }
     ensures wanting { (what : What) → job ≡ Job.Replay what → what ≢ Frames → result ≡ 8 → output.new ≡ output.old }
     ensures answers { (what : What) → job ≡ Job.Replay what → S.tells ≡ true
         → AnswersFile K.tells K.taken output.old output.new what result (file_of (S.left input.old)) }
@@ -148,13 +156,13 @@ fn work<R: Net + Wait, S: Source, K: Sink, L: Link>(
     ensures configured { S.tells ≡ true → AnswersJob (record { tape = K.tells; link = L.tells }) K.taken output.old output.new
         (outs_of K.taken K.faults L.told L.faults output.old link.old)
         (outs_of K.taken K.faults L.told L.faults output.new link.new)
-        (LeavesLink link.old link.new result) result (S.left input.old) job }
+        (disk_seen D.tells D.told D.faults disk.old disk.new) (LeavesLink link.old link.new result) (disk.new ≡ disk.old) result (S.left input.old) job }
     ensures undriven { (what : DriveWhat) → job ≡ Job.Drive what → result ≡ 8 → output.new ≡ output.old }
 {
     match job {
         Job::Replay(what) => reply(alloc, input, output, what),
         Job::Drive(_) | Job::Keys | Job::Node | Job::Cluster | Job::Submit => {
-            do_read(rt, alloc, job, input, output, link)
+            do_read(rt, alloc, job, input, output, link, disk)
         }
     }
 }
@@ -170,17 +178,20 @@ fn work<R: Net + Wait, S: Source, K: Sink, L: Link>(
 ///   the report of that world; `drive schedule` writes the schedule's file. It is 0 or 1 by the audit.
 /// - `keys` deals the keys of all replicas of a session from a master key, and writes a line for each.
 /// - `node` starts the link with a replica's addresses, serves that replica, and writes a schedule file of what it took; `cluster` does so
-///   with all replicas of a session, and begins with the requests of its configuration. It is 0 where serving ended by its rules.
+///   with all replicas of a session, and begins with the requests of its configuration. It is 0 where serving ended by its rules. A node
+///   whose configuration says so keeps a journal on the disk, and begins with what it kept before.
 /// - `submit` starts the link with the addresses of nodes, hands a request to each, and writes the position that f + 1 of them reply, with
 ///   0, or that there was none, with 1.
 ///
 /// A file that isn't a schedule is answered with a line that names its first fault and the place of it, and 3, or 7 for one
 /// that is longer than 64 MiB. A text that isn't the job's configuration is answered with a line that names its first wrong or missing
 /// line, and 3, or 7 for one that is longer than 1 MiB; a plan whose schedule would have more than 4,000,000 steps, or a file of more than
-/// 64 MiB, with a line that names that limit, and 7. Other words are answered with a line on usage, and 2. It is 4 where a call of
+/// 64 MiB, with a line that names that limit, and 7. A journal that is another session's, or broken, is answered with a line that names the place,
+/// and 3, and one that is longer than 64 MiB with the limit, and 7; where it becomes so long while it is kept, it is 7 without a line. Other words are answered with a line on usage, and 2. It is 4 where a call of
 /// the input failed, and then nothing was written; 5 where one of the output failed, which took a front of the text; and 6 where one of the
 /// link failed, which only `node`, `cluster` and `submit` use. By its count of faults just one call failed then, and none at any other
-/// status. It is 8 where memory ran out: then nothing was written of a report, of vectors or of a schedule that was made, and a front of
+/// status. It is 9 where a call of the disk failed: then a front of the file was written, or nothing where the journal couldn't be opened. It is 8
+/// where memory ran out: then nothing was written of a report, of vectors or of a schedule that was made, and a front of
 /// frames or of what was served.
 ///
 /// Of a schedule all is read before 0 or 1, and of a configuration one byte more than 1 MiB at most.
@@ -197,27 +208,32 @@ fn work<R: Net + Wait, S: Source, K: Sink, L: Link>(
 /// consensus are those of Moniz, Neves, Correia and Veríssimo, "RITAS: Services for Randomized Intrusion Tolerance" (2011).
 ///
 /// Only the calls of the link wait. Nothing says that `node` and `cluster` ever end.
-pub fn run<R: Net + Wait, S: Source, K: Sink, L: Link>(
+pub fn run<R: Net + Wait, S: Source, K: Sink, L: Link, D: Disk>(
     rt: &R,
     alloc: Global,
     words: &Vec<String>,
     input: &mut S,
     output: &mut K,
     link: &mut L,
+    disk: &mut D,
 ) -> u8
-    // The status is one of nine. One call of the output failed just at 5, and at 4 nothing was written.
+    // The status is one of ten. One call of the output failed just at 5, and at 4 nothing was written.
     ensures ends { Ends K.faults output.old output.new result }
 
     // One call of the input failed just at 4, and one of the link just at 6. At most one of the link was without memory, and that only at 8.
     ensures input_counts { CountsIf (S.faults input.old) (S.faults input.new) (result ≡ 4) }
     ensures link_counts { LinkCounts (L.faults link.old) (L.faults link.new) result }
 
+    // A call of the disk failed where it is 9. No job but a node with a journal touches the disk.
+    ensures disk_counts { HasCause (D.faults disk.old) (D.faults disk.new) (result ≡ 9) }
+    ensures undisked { (job : Job) → job_of (map string_bytes words.now.items) ≡ Some job → job ≢ Job.Node → disk.new ≡ disk.old }
+
     // At words that name no job the usage line is written, with status 2, unless the output fails or memory runs out, and neither the input
     // nor the link is touched. Only the jobs that serve or submit touch the link, and only they end with 6.
     ensures usage { job_of (map string_bytes words.now.items) ≡ None
         → Replies K.tells K.taken output.old output.new result 2 usage }
     ensures others { job_of (map string_bytes words.now.items) ≡ None → (result ≡ 2) ⊎ (result ≡ 5) ⊎ (result ≡ 8) }
-    ensures unread { job_of (map string_bytes words.now.items) ≡ None → (input.new ≡ input.old) × (link.new ≡ link.old) }
+    ensures unread { job_of (map string_bytes words.now.items) ≡ None → (input.new ≡ input.old) × (link.new ≡ link.old) × (disk.new ≡ disk.old) }
     ensures named { (job : Job) → job_of (map string_bytes words.now.items) ≡ Some job → result ≢ 2 }
     ensures unlinked { (job : Job) → job_of (map string_bytes words.now.items) ≡ Some job → is_linked job ≡ false
         → LeavesLink link.old link.new result }
@@ -260,7 +276,7 @@ pub fn run<R: Net + Wait, S: Source, K: Sink, L: Link>(
         → AnswersJob (record { tape = K.tells; link = L.tells }) K.taken output.old output.new
         (outs_of K.taken K.faults L.told L.faults output.old link.old)
         (outs_of K.taken K.faults L.told L.faults output.new link.new)
-        (LeavesLink link.old link.new result) result (S.left input.old) job }
+        (disk_seen D.tells D.told D.faults disk.old disk.new) (LeavesLink link.old link.new result) (disk.new ≡ disk.old) result (S.left input.old) job }
     ensures undriven { (what : DriveWhat) → job_of (map string_bytes words.now.items) ≡ Some (Job.Drive what) → result ≡ 8
         → output.new ≡ output.old }
 
@@ -280,20 +296,30 @@ pub fn run<R: Net + Wait, S: Source, K: Sink, L: Link>(
     // acknowledgement of it came between the two; and only frames that came, opened and needn't come again were acknowledged. Each position
     // that was replied is that of the request in the log of its replica. And where the audit of the events holds, the replicas agree.
     ensures node { job_of (map string_bytes words.now.items) ≡ Some Job.Node → S.tells ≡ true → (c : NodeConfig)
-        → IsText node_column (node_text c) (S.left input.old) → length (S.left input.old) ≤ text_limit → result ≡ 0
-        → HasServed (node_session c) (record { tape = K.tells; link = L.tells })
+        → IsText node_column (node_text c) (S.left input.old) → length (S.left input.old) ≤ text_limit → c.journal ≡ false → result ≡ 0
+        → HasServed (node_session c) [] (record { tape = K.tells; link = L.tells })
         (outs_of K.taken K.faults L.told L.faults output.old link.old)
-        (outs_of K.taken K.faults L.told L.faults output.new link.new) }
+        (outs_of K.taken K.faults L.told L.faults output.new link.new) × (disk.new ≡ disk.old) }
     ensures cluster { job_of (map string_bytes words.now.items) ≡ Some Job.Cluster → S.tells ≡ true → (c : ClusterConfig)
         → IsText cluster_column (cluster_text c) (S.left input.old) → length (S.left input.old) ≤ text_limit → result ≡ 0
-        → HasServed (cluster_session c) (record { tape = K.tells; link = L.tells })
+        → HasServed (cluster_session c) [] (record { tape = K.tells; link = L.tells })
         (outs_of K.taken K.faults L.told L.faults output.old link.old)
         (outs_of K.taken K.faults L.told L.faults output.new link.new) }
+
+    // Where a node has a journal, the same is so of its file, in front of which stand the events of its lives before, which the journal's file opened
+    // as; their frames count as sent before. From then on every image that a stop may leave on the disk opens as these and the later ones, but
+    // for those that change nothing.
+    ensures journal { job_of (map string_bytes words.now.items) ≡ Some Job.Node → S.tells ≡ true → (c : NodeConfig)
+        → IsText node_column (node_text c) (S.left input.old) → length (S.left input.old) ≤ text_limit → c.journal ≡ true → result ≡ 0
+        → HasLived c (record { tape = K.tells; link = L.tells })
+        (outs_of K.taken K.faults L.told L.faults output.old link.old)
+        (outs_of K.taken K.faults L.told L.faults output.new link.new)
+        (disk_seen D.tells D.told D.faults disk.old disk.new) }
 {
     file_laws();
     config_laws();
     match read_words(alloc, words) {
-        Ok(job) => work(rt, alloc, job, input, output, link),
+        Ok(job) => work(rt, alloc, job, input, output, link, disk),
         Err(fault) => refuse_words(output, fault),
     }
 }

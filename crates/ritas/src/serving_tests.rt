@@ -3,7 +3,7 @@ ghost use Rattle.outside.specs.MemoryLink.{IsShort};
 
 use crate::fault_tests::file;
 use crate::run::run;
-use outside::{LinkItem, MemLink, MemSink, MemSource};
+use outside::{LinkItem, MemDisk, MemLink, MemSink, MemSource};
 use ritas_base::{Bytes, Mem};
 use std::alloc::Global;
 use std::net::Net;
@@ -11,7 +11,7 @@ use std::sync::Wait;
 use std::test::*;
 
 // A session of one replica, all whose keys are zeros.
-const NODE: &str = "ritas 1
+pub(crate) const NODE: &str = "ritas 1
 session 0
 n 1
 f 0
@@ -45,7 +45,7 @@ fn add(items: &mut Vec<LinkItem>, item: LinkItem) -> Result<(), Mem>
 }
 
 // A request that comes by two connections.
-fn twice(alloc: Global) -> Result<Vec<LinkItem>, Mem>
+pub(crate) fn twice(alloc: Global) -> Result<Vec<LinkItem>, Mem>
     ensures { IfOk result (λ v. All IsShort v.items) }
 {
     let mut items = Vec::new(alloc);
@@ -87,7 +87,24 @@ fn too_short(alloc: Global) -> Result<Vec<LinkItem>, Mem>
     Ok(items)
 }
 
-// The status of the program with this word and this input over a link.
+// The status of the program with this word and this input over a link and a disk.
+pub(crate) fn status_with<R: Net + Wait>(
+    rt: &R,
+    alloc: Global,
+    word: &str,
+    text: &str,
+    link: &mut MemLink,
+    output: &mut MemSink,
+    disk: &mut MemDisk,
+) -> Result<u8, Mem> {
+    let mut words = Vec::new(alloc);
+    words.push(String::from_str(alloc, "ritas")?)?;
+    words.push(String::from_str(alloc, word)?)?;
+    let mut input = MemSource::new(alloc, text.as_bytes(), &[])?;
+    Ok(run(rt, alloc, &words, &mut input, output, link, disk))
+}
+
+// The same over a disk that takes no call.
 fn status<R: Net + Wait>(
     rt: &R,
     alloc: Global,
@@ -96,15 +113,12 @@ fn status<R: Net + Wait>(
     link: &mut MemLink,
     output: &mut MemSink,
 ) -> Result<u8, Mem> {
-    let mut words = Vec::new(alloc);
-    words.push(String::from_str(alloc, "ritas")?)?;
-    words.push(String::from_str(alloc, word)?)?;
-    let mut input = MemSource::new(alloc, text.as_bytes(), &[])?;
-    Ok(run(rt, alloc, &words, &mut input, output, link))
+    let mut disk = MemDisk::new(alloc, &[], 0, 0, &[])?;
+    status_with(rt, alloc, word, text, link, output, &mut disk)
 }
 
 // A header, the request, which is submitted once and makes thirty turns, and the end mark.
-fn served(alloc: Global) -> Result<Vec<u8>, Fail> {
+pub(crate) fn served(alloc: Global) -> Result<Vec<u8>, Fail> {
     file(alloc, 6, 1, 87, b"\x02\0\0\x0a\0\0\0\x07\0\0\0\x01hi", 30)
 }
 

@@ -4,15 +4,18 @@ ghost use Rattle.cluster_config.specs.Cluster.{cluster_text};
 ghost use Rattle.cluster_config.specs.Node.{node_text};
 ghost use Rattle.cluster_config.specs.Ranges.{FitsNode, FitsCluster};
 ghost use Rattle.node_loop.specs.Outs.{outs_of};
-ghost use Rattle.node_session.specs.Configs.{node_session, cluster_session, first_item};
-ghost use Rattle.ritas.specs.Configs.{AnswersSession};
+ghost use Rattle.node_session.specs.Configs.{cluster_session, first_item};
+ghost use Rattle.outside.specs.Faults.{HasCause};
+ghost use Rattle.node_session.specs.Lives.{disk_seen};
+ghost use Rattle.ritas.specs.Configs.{AnswersBoth, AnswersSession};
 ghost use Rattle.ritas.specs.Run.{LeavesLink, Runs};
 ghost use Rattle.ritas.specs.Statuses.{end_status};
 
+use crate::refusals::refuse_journal;
 use cluster_config::{ClusterConfig, NodeConfig};
 use node_loop::ServeEnd;
 use node_session::{serve_cluster, serve_node};
-use outside::{Link, Sink};
+use outside::{Disk, Link, Sink};
 use ritas_base::Mem;
 use std::alloc::Global;
 use std::net::Net;
@@ -27,30 +30,33 @@ fn end_status(end: ServeEnd) -> u8
         ServeEnd::LinkFault => 6,
         ServeEnd::TapeFault => 5,
         ServeEnd::Mem => 8,
-        // These don't come, since sessions keep no journal.
-        ServeEnd::DiskFault | ServeEnd::JournalFull(_) => 8,
+        ServeEnd::DiskFault => 9,
+        ServeEnd::JournalFull(_) => 7,
     }
 }
 
-/// Serves the replica of a configuration, and writes its file.
-pub(crate) fn run_node<R: Net + Wait, K: Sink, L: Link>(
+/// Serves the replica of a configuration, with its journal if it says so, and writes its file; or the line of the journal's fault.
+pub(crate) fn run_node<R: Net + Wait, K: Sink, L: Link, D: Disk>(
     rt: &R,
     alloc: Global,
     config: NodeConfig,
     output: &mut K,
     link: &mut L,
+    disk: &mut D,
 ) -> u8
     requires { FitsNode (node_text config) }
     ensures runs { Runs K.faults output.old output.new (L.faults link.old) (L.faults link.new) result }
     ensures others { result ≢ 4 }
-    ensures answers { AnswersSession (node_session config) [] (record { tape = K.tells; link = L.tells })
+    ensures disk_counts { HasCause (D.faults disk.old) (D.faults disk.new) (result ≡ 9) }
+    ensures answers { AnswersBoth config (record { tape = K.tells; link = L.tells }) K.taken output.old output.new
         (outs_of K.taken K.faults L.told L.faults output.old link.old)
         (outs_of K.taken K.faults L.told L.faults output.new link.new)
-        ((output.new ≡ output.old) × LeavesLink link.old link.new result) result }
+        (disk_seen D.tells D.told D.faults disk.old disk.new)
+        (LeavesLink link.old link.new result) (disk.new ≡ disk.old) result config.journal }
 {
-    match serve_node(rt, alloc, config, link, output) {
+    match serve_node(rt, alloc, config, link, output, disk) {
         Ok(end) => end_status(end),
-        Err(Mem) => 8,
+        Err(fault) => refuse_journal(alloc, output, fault),
     }
 }
 
@@ -65,6 +71,7 @@ pub(crate) fn run_cluster<R: Net + Wait, K: Sink, L: Link>(
     requires { FitsCluster (cluster_text config) }
     ensures runs { Runs K.faults output.old output.new (L.faults link.old) (L.faults link.new) result }
     ensures others { result ≢ 4 }
+    ensures nine { result ≢ 9 }
     ensures answers { AnswersSession (cluster_session config) (map first_item config.requests) (record { tape = K.tells; link = L.tells })
         (outs_of K.taken K.faults L.told L.faults output.old link.old)
         (outs_of K.taken K.faults L.told L.faults output.new link.new)

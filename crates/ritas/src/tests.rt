@@ -1,7 +1,7 @@
 ghost use Rattle.std.specs.Prelude.{[], false};
 
 use crate::run::run;
-use outside::{Failed, MemLink, MemSink, MemSource, Source};
+use outside::{Failed, MemDisk, MemLink, MemSink, MemSource, Source};
 use std::alloc::Global;
 use std::net::Net;
 use std::sync::Wait;
@@ -100,7 +100,16 @@ fn status<R: Net + Wait>(
     let mut input = MemSource::new(alloc, file, fails)?;
     let mut output = MemSink::new(alloc, room, &[])?;
     let mut link = MemLink::new(alloc, &[], &[])?;
-    let status = run(rt, alloc, &words, &mut input, &mut output, &mut link);
+    let mut disk = MemDisk::new(alloc, &[], 0, 0, &[])?;
+    let status = run(
+        rt,
+        alloc,
+        &words,
+        &mut input,
+        &mut output,
+        &mut link,
+        &mut disk,
+    );
     if output.taken() == text.as_bytes() {
         Ok(status)
     } else {
@@ -201,7 +210,16 @@ fn one_byte_too_many(rt: HostRuntime) -> Result<(), Fail> {
     let mut input = Endless { at: 0 };
     let mut output = MemSink::new(rt.alloc(), 100, &[])?;
     let mut link = MemLink::new(rt.alloc(), &[], &[])?;
-    let status = run(&rt, rt.alloc(), &words, &mut input, &mut output, &mut link);
+    let mut disk = MemDisk::new(rt.alloc(), &[], 0, 0, &[])?;
+    let status = run(
+        &rt,
+        rt.alloc(),
+        &words,
+        &mut input,
+        &mut output,
+        &mut link,
+        &mut disk,
+    );
     assert_eq!(rt; status, 7);
     assert_eq!(rt; output.taken(), b"limit 67108864\n".as_slice());
     assert_eq!(rt; input.at, 67_108_865);

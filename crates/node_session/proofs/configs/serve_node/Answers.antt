@@ -1,14 +1,15 @@
 use Rattle.std.proofs.Common.{rules, sym, subst}
 use Rattle.schedule_file.specs.ReadHeader.{heading}
 use Rattle.schedule_file.specs.Spelling.{IsHeading}
-use Rattle.schedule_file.specs.declared.header.Header.{Header}
-use Rattle.node_session.proofs.Headings.{node_heading}
+use Rattle.node_session.proofs.Headings.{node_heading, node_servable}
+use Rattle.node_session.specs.Session.{IsServable}
+use Rattle.node_session.specs.declared.session.Session.{Session}
+use Rattle.std.specs.Prelude.{[]}
+use Rattle.std.proofs.lemmas.List.Elements.{All-from_recursion}
+use Rattle.node_loop.specs.Served.{IsFirst}
 use Rattle.node_session.proofs.configs.serve_node.Goals as goal
 
 pub serve_session-requires : goal.serve_session-requires
-serve_session-requires g c = record {
-  heading = subst (λ (h : Header). IsHeading (heading h)) (sym c.node_header.ensures)
-      (node_heading c.args.config (search rules) (search rules) (search rules) c.requires.keys (search rules) c.requires);
-  atomic = rw c.node_header.ensures c.requires.root;
-  firsts = search rules;
-}
+serve_session-requires g c =
+    subst (λ (s : Session). IsServable s c.new.result.items) (sym c.session_of-session.ensures)
+    (node_servable c.args.config c.new.result.items (search rules) (search rules) (search rules) c.requires.keys (search rules) c.requires (search rules))

@@ -14,12 +14,12 @@ do_text-requires-clause-within g c =
 
 pub returns-in-Ok-clause-answers : goal.returns-in-Ok-clause-answers
 returns-in-Ok-clause-answers g c = λ tells.
-    of_text _ g.K.Sink.taken c.args.output.now c.do_text.new.output _ _ _ c.do_text.result c.args.job _ _ (c.as_slice.ensures.value ∙ c.in-Ok.ensures.whole tells) c.do_text.ensures.answers
+    of_text _ g.K.Sink.taken c.args.output.now c.do_text.new.output _ _ _ _ _ c.do_text.result c.args.job _ _ (c.as_slice.ensures.value ∙ c.in-Ok.ensures.whole tells) c.do_text.ensures.answers
 
 pub returns-in-Err-clause-answers : goal.returns-in-Err-clause-answers
 returns-in-Err-clause-answers g c = λ tells.
-    text_job _ g.K.Sink.taken c.args.output.now c.refuse_text.new.output _ _ _ c.refuse_text.result (g.S.Source.left c.args.input.now) c.args.job c.in-Err.fault
-    (λ failed memory long. (c.in-Err.ensures.too_long tells (λ e. failed (same_fault _ _ e)) (λ e. memory (same_fault _ _ e))).0 (ap Err long)) c.refuse_text.ensures.refuses (refl, c.refuse_text.ensures.others.1)
+    text_job _ g.K.Sink.taken c.args.output.now c.refuse_text.new.output _ _ _ _ _ c.refuse_text.result (g.S.Source.left c.args.input.now) c.args.job c.in-Err.fault
+    (λ failed memory long. (c.in-Err.ensures.too_long tells (λ e. failed (same_fault _ _ e)) (λ e. memory (same_fault _ _ e))).0 (ap Err long)) c.refuse_text.ensures.refuses ((refl, c.refuse_text.ensures.others.1), refl)
 
 pub returns-in-Ok-clause-taken : goal.returns-in-Ok-clause-taken
 unfolding text_limit

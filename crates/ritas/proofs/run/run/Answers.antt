@@ -7,6 +7,7 @@ use Rattle.cluster_config.specs.Node.{node_text}
 use Rattle.node_session.specs.Configs.{node_session, cluster_session, first_item}
 use Rattle.ritas.proofs.Answering.{idle_job, of_job}
 use Rattle.ritas.proofs.Served.{has_served}
+use Rattle.ritas.proofs.Lived.{has_lived, without_journal}
 use Rattle.cluster_config.specs.Drive.{planned}
 use Rattle.schedule_file.specs.Schedule.{file_of}
 use Rattle.schedule_file.specs.Spelling.{IsFile}
@@ -89,35 +90,44 @@ pub returns-in-Ok-clause-planned : goal.returns-in-Ok-clause-planned
 returns-in-Ok-clause-planned g c = λ what asks tells p is within.
     let text = g.S.Source.left c.args.input.now in
     let same = one_job (map string_bytes c.args.words.now.items) c.in-Ok.job (Drive what) c.in-Ok.ensures.job asks in
-    ((of_job _ g.K.Sink.taken c.args.output.now c.work.new.output _ _ _ c.work.result text c.in-Ok.job _ same (c.work.ensures.configured tells)).right
+    ((of_job _ g.K.Sink.taken c.args.output.now c.work.new.output _ _ _ _ _ c.work.result text c.in-Ok.job _ same (c.work.ensures.configured tells)).right
     within p (c.config_laws.ensures.drive.only text (planned p) is)).0
 
 pub returns-in-Ok-clause-node : goal.returns-in-Ok-clause-node
-returns-in-Ok-clause-node g c = λ asks tells config is within zero.
+returns-in-Ok-clause-node g c = λ asks tells config is within none zero.
     let text = g.S.Source.left c.args.input.now in
     let same = one_job (map string_bytes c.args.words.now.items) c.in-Ok.job Node c.in-Ok.ensures.job asks in
-    has_served (node_session config) [] _ _ _ _ c.work.result
-    ((of_job _ g.K.Sink.taken c.args.output.now c.work.new.output _ _ _ c.work.result text c.in-Ok.job _ same (c.work.ensures.configured tells)).right
-    within config (c.config_laws.ensures.node.only text (node_text config) is)) zero
+    let plain = without_journal config _ g.K.Sink.taken c.args.output.now c.work.new.output _ _ _ _ _ c.work.result zero none
+    ((of_job _ g.K.Sink.taken c.args.output.now c.work.new.output _ _ _ _ _ c.work.result text c.in-Ok.job _ same (c.work.ensures.configured tells)).right
+    within config (c.config_laws.ensures.node.only text (node_text config) is)) in
+    (has_served (node_session config) [] _ _ _ _ c.work.result plain.0 zero, plain.1)
+
+pub returns-in-Ok-clause-journal : goal.returns-in-Ok-clause-journal
+returns-in-Ok-clause-journal g c = λ asks tells config is within kept zero.
+    let text = g.S.Source.left c.args.input.now in
+    let same = one_job (map string_bytes c.args.words.now.items) c.in-Ok.job Node c.in-Ok.ensures.job asks in
+    has_lived config _ g.K.Sink.taken c.args.output.now c.work.new.output _ _ _ _ _ c.work.result zero kept
+    ((of_job _ g.K.Sink.taken c.args.output.now c.work.new.output _ _ _ _ _ c.work.result text c.in-Ok.job _ same (c.work.ensures.configured tells)).right
+    within config (c.config_laws.ensures.node.only text (node_text config) is))
 
 pub returns-in-Ok-clause-cluster : goal.returns-in-Ok-clause-cluster
 returns-in-Ok-clause-cluster g c = λ asks tells config is within zero.
     let text = g.S.Source.left c.args.input.now in
     let same = one_job (map string_bytes c.args.words.now.items) c.in-Ok.job Cluster c.in-Ok.ensures.job asks in
     has_served (cluster_session config) (map first_item config.requests) _ _ _ _ c.work.result
-    ((of_job _ g.K.Sink.taken c.args.output.now c.work.new.output _ _ _ c.work.result text c.in-Ok.job _ same (c.work.ensures.configured tells)).right
+    ((of_job _ g.K.Sink.taken c.args.output.now c.work.new.output _ _ _ _ _ c.work.result text c.in-Ok.job _ same (c.work.ensures.configured tells)).right
     within config (c.config_laws.ensures.cluster.only text (cluster_text config) is)) zero
 
 pub returns-in-Ok-clause-configured : goal.returns-in-Ok-clause-configured
 returns-in-Ok-clause-configured g c = λ job asks tells.
     let text = g.S.Source.left c.args.input.now in
     let same = one_job (map string_bytes c.args.words.now.items) c.in-Ok.job job c.in-Ok.ensures.job asks in
-    of_job _ g.K.Sink.taken c.args.output.now c.work.new.output _ _ _ c.work.result text c.in-Ok.job job same (c.work.ensures.configured tells)
+    of_job _ g.K.Sink.taken c.args.output.now c.work.new.output _ _ _ _ _ c.work.result text c.in-Ok.job job same (c.work.ensures.configured tells)
 
 pub returns-in-Err-clause-configured : goal.returns-in-Err-clause-configured
 returns-in-Err-clause-configured g c = λ job asks tells.
     let short = c.refuse_words.ensures.memory (only_memory c.in-Err.fault (λ usage. named_none (map string_bytes c.args.words.now.items) job (c.in-Err.ensures.usage (ap Err usage)) asks)) in
-    idle_job _ g.K.Sink.taken c.args.output.now c.refuse_words.new.output _ _ _ c.refuse_words.result (g.S.Source.left c.args.input.now) job (inr short.0) short.1 (refl, λ six. omega (arith, short.0, six))
+    idle_job _ g.K.Sink.taken c.args.output.now c.refuse_words.new.output _ _ _ _ _ c.refuse_words.result (g.S.Source.left c.args.input.now) job (inr short.0) short.1 (refl, λ six. omega (arith, short.0, six)) refl
 
 pub returns-in-Err-clause-every : goal.returns-in-Err-clause-every
 returns-in-Err-clause-every g c = λ what asks tells h es is there.

@@ -1,0 +1,283 @@
+-- What is true of a life of a node with a journal.
+use Rattle.std.proofs.Common.{◌≡◌, ℕ, ◌≤◌, Bool, true, false, List, [], ◌∷◌, ◌++◌, ◌⊎◌, reverse, refl, sym, ◌∙◌, ap, ap₂, subst, arith, inl, inr}
+use Rattle.std.specs.List.{AllByRecursion}
+use Rattle.std.proofs.lemmas.List.{reverse-reverse}
+use Rattle.std.proofs.lemmas.List.Elements.{All-from_recursion}
+use Rattle.layer_api.specs.Broadcast.{BroadcastRules}
+use Rattle.layer_api.specs.Service.{ServiceRules}
+use Rattle.ritas_base.specs.Members.{has_member}
+use Rattle.event_journal.specs.Journal.{IsRecord}
+use Rattle.schedule_file.specs.Spelling.{IsHeading}
+use Rattle.schedule_file.specs.declared.header.Header.{Header}
+use Rattle.ritas_core.specs.Rules.{other_form}
+use Rattle.schedule_replay.specs.Layers.{broadcast_of, service_of, setting_by, setting_of}
+use Rattle.world_model.specs.EveryWorld.{IsWorld, AgreementLaw}
+use Rattle.world_model.specs.MadeOrder.{all_made}
+use Rattle.node_loop.specs.Deeds.{firsts_in}
+use Rattle.node_loop.specs.Laws.{ActsAreDeeds, FramesAreMade, ResendsAreOpen, RecalledAreSent, RecalledAreOpen, AcksAreEarned, EventsFit, RepliesAreTrue, IsServed}
+use Rattle.node_loop.specs.Served.{IsFirst}
+use Rattle.node_loop.proofs.AfterPast.{record_served}
+use Rattle.node_session.proofs.Sessions.{all_back, is_true}
+use Rattle.ritas_base.specs.declared.event.Event.{Event}
+use Rattle.outside.specs.Links.{LinkAct, Starts}
+use Rattle.schedule_file.specs.ReadHeader.{heading}
+use Rattle.replica.specs.declared.replica.Replica.{Replica}
+use Rattle.keyed_channel.specs.KeyRow.{KeyRow}
+use Rattle.ritas_core.specs.Stands.{Meaning}
+use Rattle.world_model.specs.World.{Setting}
+use Rattle.node_loop.specs.declared.archive.ArchiveFault.{ArchiveFault}
+use Rattle.node_loop.specs.declared.archive.ArchiveFault.TheVariants as archive
+use Rattle.node_loop.specs.declared.end.ServeEnd.{ServeEnd}
+use Rattle.node_loop.specs.declared.end.ServeEnd.TheVariants as ends
+use Rattle.node_loop.specs.Again.{ServesAgain}
+use Rattle.node_loop.specs.Archives.{Moment, KeptAt, moment}
+use Rattle.node_loop.specs.Keeping.{kept_of}
+use Rattle.node_loop.specs.Outs.{Outs, Tells, NoneFailed, NoneSent}
+use Rattle.node_loop.specs.Recovering.{recovered, recalled_deeds, with_past}
+use Rattle.node_loop.specs.ServedKept.{BreaksOff, EndsKept, earlier_from, group_kept}
+use Rattle.node_loop.specs.ServingLaws.{acts_from}
+use Rattle.node_loop.specs.Serving.{Serving, so_far, Want, wants, Round, after_from, AreWantedFrom, deeds_from, newest_from, sooner_from}
+use Rattle.node_session.specs.declared.session.Session.{Session}
+use Rattle.node_session.specs.Lives.{BrokeAt, LifeEnds, LifeKept, NothingMore, ServesLife}
+use Rattle.node_session.specs.Opening.{HasBegun, HasFailed, Closes, Closed, Failed, is_reason}
+use Rattle.node_session.specs.Session.{IsTrueSession, SessionEnds, TookPart}
+use Rattle.node_session.proofs.Composing.{not_begun}
+use Rattle.node_session.proofs.Ending.{same_failed, breaks, ended, tape_on, link_on, end_on}
+
+-- each end of any session is one of a life
+to_life : (x : Session) (tells : Tells) (base now : Outs) (end : ServeEnd) (s : Serving) (sooner news : List LinkAct) (rule : Want)
+    → SessionEnds x.header x.plan tells base now end s sooner news rule → LifeEnds x.header x.plan tells base now end s sooner news rule
+to_life x tells base now ends.Done s sooner news rule so = so
+to_life x tells base now ends.Limit s sooner news rule so = so
+to_life x tells base now ends.End s sooner news rule so = so
+to_life x tells base now ends.LinkFault s sooner news rule so = so
+to_life x tells base now ends.TapeFault s sooner news rule so = so
+to_life x tells base now ends.Mem s sooner news rule so = so
+to_life x tells base now ends.DiskFault s sooner news rule so = absurd so
+to_life x tells base now (ends.JournalFull size) s sooner news rule so = absurd so
+
+-- ---- what was kept
+
+-- nothing was given yet
+none_given : (now : Moment) (none : Type 0) (x : Session) (tells : Tells) (base outs : Outs) (end : ServeEnd) → HasFailed (heading x.header) x.plan tells base outs end
+    → now.stands [] → LifeKept now none [] [] [] end
+none_given now none x tells base outs ends.LinkFault failed here = here
+none_given now none x tells base outs ends.TapeFault failed here = inl here
+none_given now none x tells base outs ends.Mem failed here = inl here
+none_given now none x tells base outs ends.Done failed here = here
+none_given now none x tells base outs ends.Limit failed here = here
+none_given now none x tells base outs ends.End failed here = here
+none_given now none x tells base outs ends.DiskFault failed here = absurd failed.cause
+none_given now none x tells base outs (ends.JournalFull size) failed here = absurd failed.cause
+
+-- the end mark was written, or the output failed, and all was kept
+all_kept : (now : Moment) (none : Type 0) (kept group older : List Event) (tells : Bool) (old new : List ℕ) (before after : ℕ) (end result : ServeEnd) → is_reason end ≡ true
+    → now.stands kept → Closes tells old new before after end result → LifeKept now none kept group older result
+all_kept now none kept group older tells old new before after end result reason stands (Closed is counts closed) = subst (LifeKept now none kept group older) (sym is) (here end reason)
+  where
+    here : (e : ServeEnd) → is_reason e ≡ true → LifeKept now none kept group older e
+    here ends.Done is = stands
+    here ends.Limit is = stands
+    here ends.End is = stands
+    here ends.LinkFault is = absurd (cc is)
+    here ends.TapeFault is = absurd (cc is)
+    here ends.Mem is = absurd (cc is)
+    here ends.DiskFault is = absurd (cc is)
+    here (ends.JournalFull size) is = absurd (cc is)
+all_kept now none kept group older tells old new before after end result reason stands (Failed is rises later lost) = subst (LifeKept now none kept group older) (sym is) (inl stands)
+
+module _ (x : Session) (w : Setting) (tells : Tells) {S E C : Type 0} (m : Meaning S E C KeyRow) (numbers : List ℕ) (here : List (Replica S E C))
+    (base mid now last : Outs) (begun : HasBegun (heading x.header) x.plan tells base mid) (s : Serving) (sooner news : List LinkAct) (rule : Want) where
+  -- behind the start of the link
+  nothing_more : last ≡ now → NoneSent tells mid now sooner → NothingMore x.plan tells base last sooner
+  nothing_more same none = λ t. inl (ap (λ (o : Outs). o.told) same ∙ (none t ∙ ap (λ (l : List LinkAct). sooner ++ l) (begun.told t)))
+
+  life_ended : (end result : ServeEnd) → EndsKept m w [] numbers here tells mid now end s sooner news rule → s.acts ≡ news ++ sooner → last.told ≡ now.told
+      → last.link_faults ≡ now.link_faults
+      → (is_reason end ≡ true → Closes tells.tape now.taken last.taken now.tape_faults last.tape_faults end result)
+      → (is_reason end ≡ false → (result ≡ end) × (last ≡ now)) → LifeEnds x.header x.plan tells base last result s sooner news rule
+  life_ended end result so both same link closed kept = by_end end so closed kept
+    where
+      plain : (e : ServeEnd) → SessionEnds x.header x.plan tells base last result s sooner news rule → LifeEnds x.header x.plan tells base last result s sooner news rule
+      plain e so = to_life x tells base last result s sooner news rule so
+
+      none_failed : NoneFailed mid now → last ≡ now → NoneFailed base last
+      none_failed cause same = rw same (cause.0 ∙ begun.tape_stands, cause.1 ∙ begun.link_stands)
+
+      over : (e : ServeEnd) → BreaksOff tells mid now e s.events sooner news → last ≡ now → BrokeAt x.header x.plan tells base last e s.events sooner news
+      over e stops same = record { mid = mid; begun = begun; stops = subst (λ (o : Outs). BreaksOff tells mid o e s.events sooner news) (sym same) stops }
+
+      by_end : (e : ServeEnd) → EndsKept m w [] numbers here tells mid now e s sooner news rule
+          → (is_reason e ≡ true → Closes tells.tape now.taken last.taken now.tape_faults last.tape_faults e result)
+          → (is_reason e ≡ false → (result ≡ e) × (last ≡ now)) → LifeEnds x.header x.plan tells base last result s sooner news rule
+      by_end ends.Done so closed kept = plain ends.Done (ended x w tells m numbers here base mid now last begun s sooner news rule ends.Done result so both same link closed kept)
+      by_end ends.Limit so closed kept = plain ends.Limit (ended x w tells m numbers here base mid now last begun s sooner news rule ends.Limit result so both same link closed kept)
+      by_end ends.End so closed kept = plain ends.End (ended x w tells m numbers here base mid now last begun s sooner news rule ends.End result so both same link closed kept)
+      by_end ends.LinkFault so closed kept = plain ends.LinkFault (ended x w tells m numbers here base mid now last begun s sooner news rule ends.LinkFault result so both same link closed kept)
+      by_end ends.TapeFault so closed kept = plain ends.TapeFault (ended x w tells m numbers here base mid now last begun s sooner news rule ends.TapeFault result so both same link closed kept)
+      by_end ends.Mem so closed kept = plain ends.Mem (ended x w tells m numbers here base mid now last begun s sooner news rule ends.Mem result so both same link closed kept)
+      by_end ends.DiskFault so closed kept =
+          let k = kept refl in
+          subst (λ (e : ServeEnd). LifeEnds x.header x.plan tells base last e s sooner news rule) (sym k.0) (
+            none_failed so.0.cause k.1,
+            breaks x w tells m numbers here base mid now last begun s sooner news rule _ [] so.0 both k.1,
+            over ends.DiskFault so.0 k.1,
+          )
+      by_end (ends.JournalFull size) so closed kept =
+          let k = kept refl in
+          subst (λ (e : ServeEnd). LifeEnds x.header x.plan tells base last e s sooner news rule) (sym k.0) (
+            none_failed so.0.cause k.1,
+            breaks x w tells m numbers here base mid now last begun s sooner news rule _ [] so.0 both k.1,
+            over (ends.JournalFull size) so.0 k.1,
+          )
+
+  -- what the archive stands for at the end of serving is what it stands for at the end of the session
+  life_kept : (stands : List Event → Type 0) (fails : ArchiveFault → List Event → List Event → Type 0) (kept group older : List Event) (end result : ServeEnd)
+      → EndsKept m w [] numbers here tells mid now end s sooner news rule
+      → KeptAt (moment now stands fails) (NoneSent tells mid now sooner) kept group older end
+      → (is_reason end ≡ true → Closes tells.tape now.taken last.taken now.tape_faults last.tape_faults end result)
+      → (is_reason end ≡ false → (result ≡ end) × (last ≡ now))
+      → LifeKept (moment last stands fails) (NothingMore x.plan tells base last sooner) kept group older result
+  life_kept stands fails kept group older end result so held closed same = by_end end so held closed same
+    where
+      at : ServeEnd → Type 0
+      at e = LifeKept (moment last stands fails) (NothingMore x.plan tells base last sooner) kept group older e
+
+      by_end : (e : ServeEnd) → EndsKept m w [] numbers here tells mid now e s sooner news rule → KeptAt (moment now stands fails) (NoneSent tells mid now sooner) kept group older e
+          → (is_reason e ≡ true → Closes tells.tape now.taken last.taken now.tape_faults last.tape_faults e result)
+          → (is_reason e ≡ false → (result ≡ e) × (last ≡ now)) → at result
+      by_end ends.Done so held closed same = all_kept (moment last stands fails) _ kept group older _ _ _ _ _ ends.Done result refl held (closed refl)
+      by_end ends.Limit so held closed same = all_kept (moment last stands fails) _ kept group older _ _ _ _ _ ends.Limit result refl held (closed refl)
+      by_end ends.End so held closed same = all_kept (moment last stands fails) _ kept group older _ _ _ _ _ ends.End result refl held (closed refl)
+      by_end ends.LinkFault so held closed same = subst at (sym (same refl).0) held
+      by_end ends.TapeFault so held closed same = subst at (sym (same refl).0) (inr (nothing_more (same refl).1 so.0.order, held))
+      by_end ends.Mem so held closed same = subst at (sym (same refl).0) (elim held [
+        | inl all ↦ inl all
+        | inr some ↦ inr (nothing_more (same refl).1 some.0, some.1)
+      ])
+      by_end ends.DiskFault so held closed same = subst at (sym (same refl).0) held
+      by_end (ends.JournalFull size) so held closed same = subst at (sym (same refl).0) held
+
+  life_tape_on : (end : ServeEnd) → EndsKept m w [] numbers here tells mid now end s sooner news rule → mid.tape_faults ≤ now.tape_faults
+  life_tape_on ends.Done so = tape_on x w tells m numbers here base mid now last begun s sooner news rule ends.Done so
+  life_tape_on ends.Limit so = tape_on x w tells m numbers here base mid now last begun s sooner news rule ends.Limit so
+  life_tape_on ends.End so = tape_on x w tells m numbers here base mid now last begun s sooner news rule ends.End so
+  life_tape_on ends.LinkFault so = tape_on x w tells m numbers here base mid now last begun s sooner news rule ends.LinkFault so
+  life_tape_on ends.TapeFault so = tape_on x w tells m numbers here base mid now last begun s sooner news rule ends.TapeFault so
+  life_tape_on ends.Mem so = tape_on x w tells m numbers here base mid now last begun s sooner news rule ends.Mem so
+  life_tape_on ends.DiskFault so = so.0.tape_later
+  life_tape_on (ends.JournalFull size) so = so.0.tape_later
+
+  life_link_on : (end : ServeEnd) → EndsKept m w [] numbers here tells mid now end s sooner news rule → mid.link_faults.failed ≤ now.link_faults.failed
+  life_link_on ends.Done so = link_on x w tells m numbers here base mid now last begun s sooner news rule ends.Done so
+  life_link_on ends.Limit so = link_on x w tells m numbers here base mid now last begun s sooner news rule ends.Limit so
+  life_link_on ends.End so = link_on x w tells m numbers here base mid now last begun s sooner news rule ends.End so
+  life_link_on ends.LinkFault so = link_on x w tells m numbers here base mid now last begun s sooner news rule ends.LinkFault so
+  life_link_on ends.TapeFault so = link_on x w tells m numbers here base mid now last begun s sooner news rule ends.TapeFault so
+  life_link_on ends.Mem so = link_on x w tells m numbers here base mid now last begun s sooner news rule ends.Mem so
+  life_link_on ends.DiskFault so = so.0.link_later
+  life_link_on (ends.JournalFull size) so = so.0.link_later
+
+-- ---- a life
+
+-- what is true of a life that began with these events
+pub is_life : (h : Header) (w : Setting) → IsHeading (heading h) → (service : ServiceRules) (other : BroadcastRules) → IsWorld service other w → w.numbers ≡ h.p
+    → ((i : ℕ) → w.is_correct i ≡ true → has_member h.correct i ≡ true) → ActsAreDeeds → FramesAreMade → ResendsAreOpen → AcksAreEarned → EventsFit
+    → RepliesAreTrue service other → AgreementLaw service other → RecalledAreSent → RecalledAreOpen → (until limit me : ℕ) (events : List Event) → w.is_correct me ≡ true
+    → AllByRecursion (IsRecord me) events → (rounds : List Round) → AreWantedFrom w (reverse events) until limit (recovered w (reverse events)) rounds
+    → IsTrueSession h w (so_far (reverse events) (after_from w (reverse events) (recovered w (reverse events)) rounds)) (recalled_deeds w (reverse events))
+    (deeds_from w (reverse events) (recovered w (reverse events)) [] rounds) (after_from w (reverse events) (recovered w (reverse events)) rounds).acts
+is_life h w is service other kind numbers correct done made kept earned fit replied agreed sent again until limit me events right own rounds wanted =
+    let past = reverse events in
+    let made_first : all_made w past ≡ reverse (firsts_in (recalled_deeds w past)) = sym (ap reverse (again w past).1 ∙ reverse-reverse (all_made w past)) in
+    is_true h w is service other kind numbers correct done made kept earned fit replied agreed past until limit (recovered w past) (recalled_deeds w past) rounds refl refl
+    (All-from_recursion IsFirst [] tt) made_first (sent w past) (again w past).0 (all_back (IsServed w) events (record_served w me events right own)) wanted
+
+module _ (x : Session) (past : List Event) (w : Setting) (tells : Tells) (stands : List Event → Type 0) (fails : ArchiveFault → List Event → List Event → Type 0)
+    (session : (rounds : List Round) → AreWantedFrom w past x.until x.limit (recovered w past) rounds
+    → IsTrueSession x.header w (so_far past (after_from w past (recovered w past) rounds)) (recalled_deeds w past)
+    (deeds_from w past (recovered w past) [] rounds) (after_from w past (recovered w past) rounds).acts) where
+  -- it ended before it was served
+  pub life_fails : (base now : Outs) (end : ServeEnd) → HasFailed (heading x.header) x.plan tells base now end → stands []
+      → ServesLife x past w tells base (moment now stands fails) end
+  life_fails base now end failed held = record {
+    group = [];
+    older = [];
+    one = record { some = λ is. refl; turns = tt; most = omega arith };
+    wanted = tt;
+    so = to_life x tells base now end _ [] [] _
+        (not_begun x.header x.plan tells base now (with_past past (recovered w past)) [] [] (wants w past x.until x.limit (recovered w past)) end failed);
+    kept = none_given (moment now stands fails) _ x tells base now end failed held;
+    true_of = session [] tt;
+    tape_later = failed.tape_later;
+    link_later = failed.link_later;
+  }
+
+  pub lives : {S E C : Type 0} (m : Meaning S E C KeyRow) (numbers : List ℕ) (here : List (Replica S E C)) (base mid now last : Outs)
+      → HasBegun (heading x.header) x.plan tells base mid → (end result : ServeEnd)
+      → ServesAgain m w past numbers here tells mid (moment now stands fails) end x.until x.limit → last.told ≡ now.told → last.link_faults ≡ now.link_faults
+      → (is_reason end ≡ true → Closes tells.tape now.taken last.taken now.tape_faults last.tape_faults end result)
+      → (is_reason end ≡ false → (result ≡ end) × (last ≡ now)) → ServesLife x past w tells base (moment last stands fails) result
+  lives m numbers here base mid now last begun end result run same same_count closed kept =
+      let start = recovered w past in
+      let rounds = run.group ++ run.older in
+      let s = with_past past (after_from w past start rounds) in
+      let old = sooner_from w past start run.group run.older in
+      let new = newest_from w past start run.group run.older in
+      let rule = wants w past x.until x.limit (after_from w past start rounds) in
+      record {
+        group = run.group;
+        older = run.older;
+        one = run.one;
+        wanted = run.wanted;
+        so = life_ended x w tells m numbers here base mid now last begun s old new rule end result run.so (acts_from w past start run.group run.older) same same_count closed kept;
+        kept = life_kept x w tells m numbers here base mid now last begun s old new rule stands fails
+            (kept_of w past (after_from w past start rounds).events) (group_kept w past start run.group run.older) (kept_of w past (earlier_from w past start run.older)) end result run.so run.kept closed kept;
+        true_of = session rounds run.wanted;
+        tape_later = omega (
+          arith,
+          begun.tape_stands,
+          life_tape_on x w tells m numbers here base mid now last begun s old new rule end run.so,
+          end_on x w tells m numbers here base mid now last begun end result (is_reason end) refl closed kept,
+        );
+        link_later = omega (arith, same_failed begun.link_stands, life_link_on x w tells m numbers here base mid now last begun s old new rule end run.so, same_failed same_count);
+      }
+
+-- what is told of the archive may be said otherwise
+pub life_weaker : (x : Session) (past : List Event) (w : Setting) (tells : Tells) (base outs : Outs) (stands more_stands : List Event → Type 0)
+    (fails more_fails : ArchiveFault → List Event → List Event → Type 0) (end : ServeEnd) → ((given : List Event) → stands given → more_stands given)
+    → ((fault : ArchiveFault) (group older : List Event) → fails fault group older → more_fails fault group older)
+    → ServesLife x past w tells base (moment outs stands fails) end → ServesLife x past w tells base (moment outs more_stands more_fails) end
+life_weaker x past w tells base outs stands more_stands fails more_fails end one two life = record {
+  group = life.group;
+  older = life.older;
+  one = life.one;
+  wanted = life.wanted;
+  so = life.so;
+  kept = by_end end _ _ _ _ life.kept;
+  true_of = life.true_of;
+  tape_later = life.tape_later;
+  link_later = life.link_later;
+}
+  where
+    by_end : (e : ServeEnd) (none : Type 0) (kept group older : List Event) → LifeKept (moment outs stands fails) none kept group older e → LifeKept (moment outs more_stands more_fails) none kept group older e
+    by_end ends.Done none kept group older held = one kept held
+    by_end ends.Limit none kept group older held = one kept held
+    by_end ends.End none kept group older held = one kept held
+    by_end ends.LinkFault none kept group older held = one kept held
+    by_end ends.TapeFault none kept group older held = elim held [ inl all ↦ inl (one kept all) | inr some ↦ inr (some.0, one older some.1) ]
+    by_end ends.Mem none kept group older held = elim held [
+      | inl all ↦ inl (one kept all)
+      | inr some ↦ inr (some.0, elim some.1 [ inl less ↦ inl (one older less) | inr broke ↦ inr (two archive.Mem group older broke) ])
+    ]
+    by_end ends.DiskFault none kept group older held = two archive.Disk group older held
+    by_end (ends.JournalFull size) none kept group older held = two (archive.Full size) group older held
+
+-- ---- the world of a header
+
+pub its_setting : (h : Header) (form : ℕ) → h.mode.root ≡ 6 → form ≡ other_form h.mode → setting_by (service_of 6) (broadcast_of form) h ≡ setting_of h
+its_setting h form root is = ap₂ (λ (r x : ℕ). setting_by (service_of r) (broadcast_of x) h) (sym root) is
+
+pub life_in : (x : Session) (past : List Event) (w v : Setting) (tells : Tells) (base : Outs) (now : Moment) (end : ServeEnd) → w ≡ v
+    → ServesLife x past w tells base now end → ServesLife x past v tells base now end
+life_in x past w v tells base now end same life = subst (λ (z : Setting). ServesLife x past z tells base now end) same life

@@ -1,0 +1,141 @@
+-- A session whose replica has a journal: a life of it, which begins with the events that the journal kept in those before. Lists of events and of
+-- the link's calls have the newest first.
+use Rattle.std.specs.Prelude.{◌≡◌, ◌⊎◌, ℕ, ◌+◌, ◌-◌, ◌^◌, ◌<◌, ◌≤◌, min, Bool, true, List, [], ◌∷◌, ◌++◌, length}
+use Rattle.ritas_base.specs.declared.event.Event.{Event}
+use Rattle.outside.specs.Disks.{DiskState, LeavesOnly, state_of}
+use Rattle.outside.specs.Faults.{Rose}
+use Rattle.outside.specs.Links.{LinkAct, Starts}
+use Rattle.outside.specs.declared.link.LinkPlan.{LinkPlan}
+use Rattle.schedule_file.specs.FileBytes.{limit}
+use Rattle.schedule_file.specs.ReadHeader.{heading}
+use Rattle.schedule_file.specs.declared.header.Header.{Header}
+use Rattle.world_model.specs.World.{Setting}
+use Rattle.cluster_config.specs.declared.node.NodeConfig.{NodeConfig}
+use Rattle.event_journal.specs.Appending.{AllOpen}
+use Rattle.event_journal.specs.Head.{head_of}
+use Rattle.event_journal.specs.Journal.{OpensAs, front_of, records}
+use Rattle.event_journal.specs.Reading.{IsBroken, IsForeign, IsKept}
+use Rattle.event_journal.specs.declared.fault.JournalFault.{JournalFault}
+use Rattle.event_journal.specs.declared.fault.JournalFault.TheVariants as journal_faults
+use Rattle.node_loop.specs.declared.archive.ArchiveFault.{ArchiveFault}
+use Rattle.node_loop.specs.declared.archive.ArchiveFault.TheVariants as archive
+use Rattle.node_loop.specs.declared.end.ServeEnd.{ServeEnd}
+use Rattle.node_loop.specs.declared.end.ServeEnd.TheVariants as ends
+use Rattle.node_loop.specs.Archives.{Moment, KeptAt, moment}
+use Rattle.node_loop.specs.Journals.{OpensNewest, OpensSome}
+use Rattle.node_loop.specs.Keeping.{kept_of}
+use Rattle.node_loop.specs.Outs.{Outs, Tells, NoneFailed}
+use Rattle.node_loop.specs.Recovering.{recovered, recalled_deeds, with_past}
+use Rattle.node_loop.specs.ServedKept.{BreaksOff, earlier_from, group_kept}
+use Rattle.node_loop.specs.Serving.{Serving, so_far, Want, wants, Round, IsGroup, after_from, AreWantedFrom, deeds_from, newest_from, sooner_from}
+use Rattle.schedule_replay.specs.Layers.{setting_of}
+use Rattle.node_session.specs.Configs.{node_header, node_session}
+use Rattle.node_session.specs.Opening.{HasBegun}
+use Rattle.node_session.specs.Session.{IsTrueSession, SessionEnds, TookPart}
+use Rattle.node_session.specs.declared.session.Session.{Session}
+
+-- ---- the disk
+
+-- a disk before a call and after it: whether it tells, its states, and its counts of faults
+pub record DiskSeen : Type 0 where
+  pub tells : Bool
+  pub before : List DiskState
+  pub now : List DiskState
+  pub few : ℕ
+  pub many : ℕ
+
+abbrev pub disk_seen : {D : Type 0} → Bool → (D → List DiskState) → (D → ℕ) → D → D → DiskSeen
+disk_seen tells told faults old new = record { tells = tells; before = told old; now = told new; few = faults old; many = faults new }
+
+-- an image is one from before or opens as one of these, or it opens as the past events and the first of the given ones
+abbrev pub IsOfLife : ℕ → List ℕ → List Event → List Event → DiskState → List ℕ → Type 0
+IsOfLife me head past given s image = IsKept me head s image ⊎ OpensSome me head past given image
+
+-- every image opens now as the past and the given events, and at each moment as the past ones and the first of the given, or as one from before
+pub record DiskKeeps (me : ℕ) (head : List ℕ) (past : List Event) (d : DiskSeen) (given : List Event) : Type 0 where
+  pub images : d.tells ≡ true → AllOpen me head (given ++ past) (state_of d.now)
+  pub since : d.tells ≡ true → LeavesOnly (IsOfLife me head past given (state_of d.before)) d.before d.now
+  pub later : d.few ≤ d.many
+
+-- with the newest group of events the file would be so long, up to 2^64 - 1, which is too long: every image opens as the others
+abbrev pub IsTooLong : ℕ → List ℕ → List Event → DiskSeen → List Event → List Event → ℕ → Type 0
+IsTooLong me head past d group older x = (limit < x)
+    × (d.tells ≡ true → (x ≡ min (length (front_of head (older ++ past)) + 1 + length (records group)) (2 ^ 64 - 1)) × AllOpen me head (older ++ past) (state_of d.now))
+
+-- The newest group of the given events couldn't be kept: every image opens as the others, with all of it or with none.
+pub record DiskBreaks (me : ℕ) (head : List ℕ) (past : List Event) (d : DiskSeen) (fault : ArchiveFault) (group older : List Event) : Type 0 where
+  pub left : d.tells ≡ true → OpensNewest me head past group older (state_of d.now)
+  pub since : d.tells ≡ true → LeavesOnly (IsOfLife me head past (group ++ older) (state_of d.before)) d.before d.now
+  pub later : d.few ≤ d.many
+  pub disk : fault ≡ archive.Disk → Rose d.few d.many
+  pub full : (x : ℕ) → fault ≡ archive.Full x → IsTooLong me head past d group older x
+
+-- ---- the ends
+
+-- serving broke at a fault of the journal, where no call of the output or the link failed
+pub record BrokeAt (h : Header) (plan : LinkPlan) (tells : Tells) (base now : Outs) (end : ServeEnd) (events : List Event) (sooner news : List LinkAct) : Type 0 where
+  pub mid : Outs
+  pub begun : HasBegun (heading h) plan tells base mid
+  pub stops : BreaksOff tells mid now end events sooner news
+
+-- each end: as of any session, or the newest group couldn't be kept
+abbrev pub LifeEnds : Header → LinkPlan → Tells → Outs → Outs → ServeEnd → Serving → List LinkAct → List LinkAct → Want → Type 0
+LifeEnds h plan tells base now ends.DiskFault s sooner news rule =
+    NoneFailed base now × TookPart h plan tells base now s.events s.acts × BrokeAt h plan tells base now ends.DiskFault s.events sooner news
+LifeEnds h plan tells base now (ends.JournalFull x) s sooner news rule =
+    NoneFailed base now × TookPart h plan tells base now s.events s.acts × BrokeAt h plan tells base now (ends.JournalFull x) s.events sooner news
+LifeEnds h plan tells base now end s sooner news rule = SessionEnds h plan tells base now end s sooner news rule
+
+-- what is kept at each end: where the output failed, all events, or all before the newest group, of which nothing went out
+abbrev pub LifeKept : Moment → Type 0 → List Event → List Event → List Event → ServeEnd → Type 0
+LifeKept now none kept group older ends.TapeFault = now.stands kept ⊎ (none × now.stands older)
+LifeKept now none kept group older end = KeptAt now none kept group older end
+
+-- nothing went to the link behind its start and these calls
+abbrev pub NothingMore : LinkPlan → Tells → Outs → Outs → List LinkAct → Type 0
+NothingMore plan tells base now sooner = tells.link ≡ true → (now.told ≡ sooner ++ Starts plan ∷ base.told) ⊎ (now.told ≡ base.told)
+
+-- There are rounds of serving that began after the past events, each what the rules say, after which the session ended so; the newest of them are a
+-- group. The output took the past events too, in front of the others.
+pub record ServesLife (s : Session) (past : List Event) (w : Setting) (tells : Tells) (base : Outs) (now : Moment) (end : ServeEnd) : Type 0 where
+  pub group : List Round
+  pub older : List Round
+  pub one : IsGroup group older
+  pub wanted : AreWantedFrom w past s.until s.limit (recovered w past) (group ++ older)
+  pub so : LifeEnds s.header s.plan tells base now.outs end (with_past past (after_from w past (recovered w past) (group ++ older)))
+      (sooner_from w past (recovered w past) group older) (newest_from w past (recovered w past) group older)
+      (wants w past s.until s.limit (after_from w past (recovered w past) (group ++ older)))
+  pub kept : LifeKept now (NothingMore s.plan tells base now.outs (sooner_from w past (recovered w past) group older))
+      (kept_of w past (after_from w past (recovered w past) (group ++ older)).events) (group_kept w past (recovered w past) group older)
+      (kept_of w past (earlier_from w past (recovered w past) older)) end
+  pub true_of : IsTrueSession s.header w (so_far past (after_from w past (recovered w past) (group ++ older))) (recalled_deeds w past)
+      (deeds_from w past (recovered w past) [] (group ++ older)) (after_from w past (recovered w past) (group ++ older)).acts
+  pub tape_later : base.tape_faults ≤ now.outs.tape_faults
+  pub link_later : base.link_faults.failed ≤ now.outs.link_faults.failed
+
+-- ---- a node
+
+-- the head of the journal of a configuration's replica
+abbrev pub head_in : NodeConfig → List ℕ
+head_in config = head_of config.session config.p config.mode config.me config.key_row config.coin_key
+
+-- The disk's file opened as past events, and a life began with these.
+pub record ServesNode (config : NodeConfig) (tells : Tells) (base now : Outs) (d : DiskSeen) (end : ServeEnd) : Type 0 where
+  pub past : List Event
+  pub opened : d.tells ≡ true → OpensAs config.me (head_in config) (state_of d.before).seen past
+  pub life : ServesLife (node_session config) past (setting_of (node_header config)) tells base
+      (moment now (DiskKeeps config.me (head_in config) past d) (DiskBreaks config.me (head_in config) past d)) end
+
+-- the journal's fault is that of the disk's file, or its count rose
+abbrev pub IsFaultOf : ℕ → List ℕ → DiskSeen → JournalFault → Type 0
+IsFaultOf me head d (journal_faults.Foreign p) = d.tells ≡ true → IsForeign head (state_of d.before).seen p
+IsFaultOf me head d (journal_faults.Broken p) = d.tells ≡ true → IsBroken me head (state_of d.before).seen p
+IsFaultOf me head d (journal_faults.Full x) = (x ≡ 67108865) × (d.tells ≡ true → limit < length (state_of d.before).seen)
+IsFaultOf me head d journal_faults.Disk = Rose d.few d.many
+IsFaultOf me head d journal_faults.Mem = Unit {0}
+
+-- The journal couldn't be opened, or memory ran out: every image is one from before, or opens as one of these.
+pub record Unopened (config : NodeConfig) (d : DiskSeen) (fault : JournalFault) : Type 0 where
+  pub cause : IsFaultOf config.me (head_in config) d fault
+  pub since : d.tells ≡ true → LeavesOnly (IsKept config.me (head_in config) (state_of d.before)) d.before d.now
+  pub later : d.few ≤ d.many

@@ -1,0 +1,134 @@
+//! Serving the session of a header after the events that a journal kept.
+ghost use Rattle.std.specs.Prelude.{◌≡◌, true, [], List, ℕ, reverse, IfOk, OnErr};
+ghost use Rattle.std.specs.List.{AllByRecursion};
+ghost use Rattle.outside.specs.Disks.{state_of};
+ghost use Rattle.ritas_base.specs.Members.{has_member};
+ghost use Rattle.ritas_core.specs.Rules.{other_form};
+ghost use Rattle.event_journal.specs.Appending.{AllOpen, StandsFor};
+ghost use Rattle.event_journal.specs.Journal.{IsRecord};
+ghost use Rattle.schedule_replay.specs.Layers.{setting_by, setting_of};
+ghost use Rattle.node_loop.specs.Archives.{moment};
+ghost use Rattle.node_loop.specs.Journals.{JournalStands, JournalFails};
+ghost use Rattle.node_loop.specs.Outs.{outs_of};
+ghost use Rattle.node_session.specs.Lives.{ServesLife};
+ghost use Rattle.node_session.specs.Session.{IsServable};
+
+use crate::closing::close;
+use crate::opening::open;
+use crate::session::{Session, first_replicas};
+use atomic_bcast::Abc;
+use binary_consensus::Bin;
+use echo_bcast::Eb;
+use event_journal::Journal;
+use layer_api::{Broadcast, Service};
+use multivalued::Mvc;
+use node_loop::{
+    ServeEnd, acks_are_earned, acts_are_deeds, events_fit, frames_are_made, recalled_are_sent,
+    replies_are_true, resends_are_open, serve_kept,
+};
+use outside::{Disk, Link, Sink};
+use reliable_bcast::{DigestRb, Rb};
+use ritas_base::{Event, Mem};
+use schedule_replay::other_form;
+use std::alloc::Global;
+use std::net::Net;
+use std::sync::Wait;
+use vector_consensus::Vc;
+use world_model::agreement;
+
+// Serves a session in these layers, after the events that the journal kept.
+fn live_as<R: Net + Wait, S: Service, E: Broadcast, L: Link, K: Sink, D: Disk>(
+    rt: &R,
+    alloc: Global,
+    session: &Session,
+    recovered: &Vec<Event>,
+    journal: &mut Journal,
+    link: &mut L,
+    output: &mut K,
+    disk: &mut D,
+) -> Result<ServeEnd, Mem>
+    requires servable { IsServable session.now [] }
+    requires serves { S.rules.serves session.now.header.mode.root ≡ true }
+    requires form { E.FORM ≡ other_form session.now.header.mode }
+    requires live { journal.old.live ≡ true }
+    requires own { AllByRecursion (IsRecord journal.old.me) recovered.now.items }
+    requires member { has_member session.now.header.correct journal.old.me ≡ true }
+    ensures served { (head : List ℕ) → (D.tells ≡ true → StandsFor journal.old head (reverse recovered.now.items)
+        × AllOpen journal.old.me head (reverse recovered.now.items) (state_of (D.told disk.old)))
+        → IfOk result (λ end. ServesLife session.now (reverse recovered.now.items) (setting_by S.rules E.rules session.now.header) (record { tape = K.tells; link = L.tells })
+        (outs_of K.taken K.faults L.told L.faults output.old link.old)
+        (moment (outs_of K.taken K.faults L.told L.faults output.new link.new)
+        (λ given. (journal.new.me ≡ journal.old.me) × JournalStands head (reverse recovered.now.items) given journal.new D.tells (D.told disk.old) (D.told disk.new) (D.faults disk.old) (D.faults disk.new))
+        (λ fault group older. (journal.new.me ≡ journal.old.me) × JournalFails head (reverse recovered.now.items) group older journal.new D.tells (D.told disk.old) (D.told disk.new) (D.faults disk.old) (D.faults disk.new) fault)) end) }
+    ensures unserved { OnErr result ((output.new ≡ output.old) × (link.new ≡ link.old) × (disk.new ≡ disk.old)) }
+{
+    events_fit();
+    acts_are_deeds();
+    frames_are_made();
+    resends_are_open();
+    recalled_are_sent();
+    acks_are_earned();
+    replies_are_true::<S, E>();
+    agreement::<S, E>();
+    let mut replicas = first_replicas::<S, E>(alloc, &session.header)?;
+    match open(rt, alloc, &session.header, &session.plan, link, output) {
+        Ok(()) => {}
+        Err(end) => return Ok(end),
+    }
+    let end = serve_kept(
+        rt,
+        alloc,
+        &mut replicas,
+        recovered,
+        journal,
+        disk,
+        link,
+        output,
+        session.limit,
+        session.until,
+    );
+    Ok(close(output, end))
+}
+
+/// Serves the session of one replica after the events that its journal kept, as `serve_session` does one without.
+///
+/// The output takes the header, these events, and then each event before the frames that it makes are sent (`node_loop::serve_kept`). The one
+/// error is want of memory for the replica: then nothing is written, and neither the link nor the disk is touched.
+pub(crate) fn serve_life<R: Net + Wait, L: Link, K: Sink, D: Disk>(
+    rt: &R,
+    alloc: Global,
+    session: &Session,
+    recovered: &Vec<Event>,
+    journal: &mut Journal,
+    link: &mut L,
+    output: &mut K,
+    disk: &mut D,
+) -> Result<ServeEnd, Mem>
+    requires servable { IsServable session.now [] }
+    requires live { journal.old.live ≡ true }
+    requires own { AllByRecursion (IsRecord journal.old.me) recovered.now.items }
+    requires member { has_member session.now.header.correct journal.old.me ≡ true }
+    ensures served { (head : List ℕ) → (D.tells ≡ true → StandsFor journal.old head (reverse recovered.now.items)
+        × AllOpen journal.old.me head (reverse recovered.now.items) (state_of (D.told disk.old)))
+        → IfOk result (λ end. ServesLife session.now (reverse recovered.now.items) (setting_of session.now.header) (record { tape = K.tells; link = L.tells })
+        (outs_of K.taken K.faults L.told L.faults output.old link.old)
+        (moment (outs_of K.taken K.faults L.told L.faults output.new link.new)
+        (λ given. (journal.new.me ≡ journal.old.me) × JournalStands head (reverse recovered.now.items) given journal.new D.tells (D.told disk.old) (D.told disk.new) (D.faults disk.old) (D.faults disk.new))
+        (λ fault group older. (journal.new.me ≡ journal.old.me) × JournalFails head (reverse recovered.now.items) group older journal.new D.tells (D.told disk.old) (D.told disk.new) (D.faults disk.old) (D.faults disk.new) fault)) end) }
+    ensures unserved { OnErr result ((output.new ≡ output.old) × (link.new ≡ link.old) × (disk.new ≡ disk.old)) }
+{
+    let form = other_form(&session.header.mode);
+    if form == 2 {
+        live_as::<R, Abc<Vc<Mvc<Bin>>>, Eb, L, K, D>(
+            rt, alloc, session, recovered, journal, link, output, disk,
+        )
+    } else if form == 3 {
+        live_as::<R, Abc<Vc<Mvc<Bin>>>, DigestRb, L, K, D>(
+            rt, alloc, session, recovered, journal, link, output, disk,
+        )
+    } else {
+        live_as::<R, Abc<Vc<Mvc<Bin>>>, Rb, L, K, D>(
+            rt, alloc, session, recovered, journal, link, output, disk,
+        )
+    }
+}
