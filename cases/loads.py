@@ -20,6 +20,8 @@ class Counter(Desk):
     def __init__(self, port: int):
         super().__init__(port)
         self.positions, self.rests_until, self.refused = {}, 0, 0
+        # Whether it has no connection, as its node isn't there.
+        self.is_away = False
 
     def hand_in(self) -> None:
         if time.monotonic() < self.rests_until:
@@ -36,7 +38,8 @@ class Counter(Desk):
             one = self.waiting.pop((client, request), None)
             check(one is not None, f"reply {form} to {client} {request}, which doesn't wait")
             if form == POSITION:
-                self.positions[one] = number
+                told = self.positions.setdefault(one, number)
+                check(told == number, f"{client} {request} was told {told}, and then {number}")
             else:
                 check(number == WINDOW_FULL, f"refusal {number} of {client} {request}")
                 self.ahead.append(one)
@@ -47,8 +50,10 @@ class Counter(Desk):
 class Load:
     """A client at each of these nodes, all of which hand in the same commands."""
 
+    DESK = Counter
+
     def __init__(self, ports: dict, is_moving, patience: float, quiet: float):
-        self.desks = {me: Counter(port) for me, port in ports.items()}
+        self.desks = {me: self.DESK(port) for me, port in ports.items()}
         self.commands, self.is_moving, self.patience, self.quiet = [], is_moving, patience, quiet
 
     def add(self, count: int) -> list:
@@ -63,7 +68,7 @@ class Load:
     def step(self) -> None:
         for desk in self.desks.values():
             desk.hand_in()
-        links = {desk.link.socket: me for me, desk in self.desks.items()}
+        links = {desk.link.socket: me for me, desk in self.desks.items() if not desk.is_away}
         for one in select.select(list(links), [], [], 0.02)[0]:
             check(self.desks[links[one]].listen(), f"node {links[one]} closed the connection of a client")
 

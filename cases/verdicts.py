@@ -41,16 +41,26 @@ def of_replies(logs: dict, load) -> list:
     return wrong
 
 
-def frames_of(record: bytes, me: int) -> dict:
-    """The frames that the replica of a record made, for each other one, in order."""
+def lines_of(record: bytes, me: int) -> list:
+    """The frames that the replica of a record made, in order, each with the number of its event and its receiver."""
     status, text = serving.run(record, "replay", "frames")
     lines = [line.split() for line in text.decode().splitlines()]
     if status not in (0, 1) or not lines or lines[-1][0] != "audit" or any(int(line[1]) != me for line in lines[:-1]):
         raise ValueError(f"replay frames of node {me}: status {status}, {text[-100:]}")
+    return [(int(line[0]), int(line[2]), bytes.fromhex(line[3])) for line in lines[:-1]]
+
+
+def by_receiver(lines: list) -> dict:
+    """The frames of such lines for each receiver, in order."""
     made = {}
-    for line in lines[:-1]:
-        made.setdefault(int(line[2]), []).append(bytes.fromhex(line[3]))
+    for _, to, frame in lines:
+        made.setdefault(to, []).append(frame)
     return made
+
+
+def frames_of(record: bytes, me: int) -> dict:
+    """The frames that the replica of a record made, for each other one, in order."""
+    return by_receiver(lines_of(record, me))
 
 
 def of_frames(made: list, sight, is_whole: bool) -> list:
