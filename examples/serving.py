@@ -10,20 +10,24 @@ import subprocess
 import time
 
 TOP = os.path.dirname(os.path.dirname(os.path.abspath(__file__)))
-PROGRAM = os.environ.get("RITAS", os.path.join(TOP, "ritas"))
+PROGRAM = os.path.abspath(os.environ.get("RITAS") or os.path.join(TOP, "ritas"))
 HOST = "127.0.0.1"
 PORTS = range(25000, 28000)
 PATIENCE = 30
 KEY_DIGITS = 64
+JOURNAL = "ritas.journal"
+# Where there is a memory disk, folders are made there: a disk may take some milliseconds for each of the syncs of a journal, of which a command has
+# hundreds. What is there outlives each process, but not the machine.
+MEMORY = "/dev/shm" if os.path.isdir("/dev/shm") else None
 END_MARK = b"\x00"
 FORM_AT, N_AT, MASTER_HEADER = 21, 13, 54
 # The events that have no length of their own.
 SIZES = {3: 2, 4: 7}
 
 
-def run(text: bytes, *words: str, seconds: float = 120):
-    """The status and the standard output of the program, given these words and this standard input."""
-    done = subprocess.run([PROGRAM, *words], input=text, stdout=subprocess.PIPE, timeout=seconds)
+def run(text: bytes, *words: str, seconds: float = 120, folder: str = None):
+    """The status and the standard output of the program, given these words and this standard input, in this working folder."""
+    done = subprocess.run([PROGRAM, *words], input=text, stdout=subprocess.PIPE, timeout=seconds, cwd=folder)
     return done.returncode, done.stdout
 
 
@@ -60,11 +64,12 @@ def address(port: int) -> str:
 class Session:
     """The numbers, the ports and the keys of a session. Each replica has a row of keys and the key of its coin, as hexadecimal digits.
 
-    A command gets a row once f + 1 different replicas have submitted it, so a client hands it to f + 1 correct nodes at least.
+    A command gets a row once f + 1 different replicas have submitted it, so a client hands it to f + 1 correct nodes at least. Where its nodes have
+    journals, each has a working folder of its own, and one that was killed is started again there.
     """
 
-    def __init__(self, n: int, f: int, vect: str = "echo", version: int = 1):
-        self.n, self.f, self.vect, self.version = n, f, vect, version
+    def __init__(self, n: int, f: int, vect: str = "echo", version: int = 1, journal: bool = False):
+        self.n, self.f, self.vect, self.version, self.journal = n, f, vect, version, journal
         self.number = random.getrandbits(64)
         self.master = os.urandom(KEY_DIGITS // 2).hex()
         ports = free_ports(2 * n)
@@ -87,7 +92,8 @@ class Session:
     def node_config(self, me: int, until: int = 0) -> bytes:
         keys = f"me {me}", f"row {self.rows[me]}", f"coin {self.coins[me]}"
         places = *self.peer_lines(), f"client {address(self.clients[me])}"
-        return config(*self.head(), "root 6", f"vect {self.vect}", *keys, *places, f"limit {2**64 - 1}", f"until {until}")
+        last = ("journal yes",) if self.journal else ()
+        return config(*self.head(), "root 6", f"vect {self.vect}", *keys, *places, f"limit {2**64 - 1}", f"until {until}", *last)
 
     def submit_config(self, client: int, request: int, payload: bytes) -> bytes:
         places = [f"peer {address(port)}" for port in self.clients]
@@ -100,20 +106,42 @@ def open_private(path: str, flags: int = os.O_WRONLY):
 
 
 class Node:
-    """A process that serves one replica. Its record is written to a file of the folder."""
+    """A process that serves one replica. Its record is written to a file of the folder, and that of each later life to another one."""
+
+    # With what else the process is started.
+    OPTIONS = {}
 
     def __init__(self, folder: str, session: Session, me: int, until: int = 0):
-        self.me, self.path = me, os.path.join(folder, f"node-{me}.record")
-        conf = os.path.join(folder, f"node-{me}.conf")
-        with open_private(conf) as file:
+        self.me, self.folder, self.paths = me, folder, []
+        self.conf, self.home = os.path.join(folder, f"node-{me}.conf"), folder
+        if session.journal:
+            self.home = os.path.join(folder, f"node-{me}")
+            os.mkdir(self.home, 0o700)
+        with open_private(self.conf) as file:
             file.write(session.node_config(me, until))
-        with open(conf, "rb") as given, open_private(self.path) as record:
-            self.process = subprocess.Popen([PROGRAM, "node"], stdin=given, stdout=record, start_new_session=True)
+        self.start()
+
+    def start(self) -> None:
+        """Starts it: for the first time, or again after it was stopped, where it has a journal. The records of its other lives stay."""
+        life = f"-{len(self.paths)}" if self.paths else ""
+        self.paths.append(os.path.join(self.folder, f"node-{self.me}{life}.record"))
+        with open(self.conf, "rb") as given, open_private(self.path) as record:
+            self.process = subprocess.Popen([PROGRAM, "node"], stdin=given, stdout=record, cwd=self.home, start_new_session=True, **self.OPTIONS)
+
+    @property
+    def path(self) -> str:
+        """Where the record of this life is."""
+        return self.paths[-1]
+
+    @property
+    def journal(self) -> str:
+        return os.path.join(self.home, JOURNAL)
 
     def is_alive(self) -> bool:
         return self.process.poll() is None
 
     def stop(self, at_once: bool = False) -> None:
+        """Stops it by SIGTERM, or by SIGKILL."""
         if self.is_alive():
             self.process.kill() if at_once else self.process.terminate()
         self.process.wait()
@@ -121,10 +149,24 @@ class Node:
     def record_size(self) -> int:
         return os.path.getsize(self.path)
 
+    def has_begun(self) -> bool:
+        """Whether the record of this life has its whole header."""
+        with open(self.path, "rb") as file:
+            text = file.read()
+        return header_end(text) <= len(text)
+
     def record(self) -> bytes:
-        """Its record, which is complete also where the node was stopped."""
+        """The record of this life, which is complete also where the node was stopped."""
         with open(self.path, "rb") as file:
             return completed(file.read())
+
+    def records(self) -> list:
+        """The records of all lives, the oldest first, but for those that ended before the header was whole."""
+        texts = []
+        for path in self.paths:
+            with open(path, "rb") as file:
+                texts.append(file.read())
+        return [completed(text) for text in texts if header_end(text) <= len(text)]
 
 
 def event_end(text: bytes, at: int) -> int:
