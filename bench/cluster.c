@@ -7,7 +7,7 @@
  * numbers FIRST, FIRST + 1 and so on, so that with other numbers all commands are new. Nothing counts in the first WARM seconds. One line is
  * printed: the commands that were answered in the SECONDS behind them, the median and the 99th percentile of their latencies in microseconds, the
  * commands answered in all, how many were refused, as by a full window, and sent again, and how many clients have waited for more than a second at
- * the end, as where a node is left behind.
+ * the end, as where a node is left behind. Where none was answered in these SECONDS, their times are 0.
  *
  * PROTOCOL is `ritas` (docs/FORMATS.md, client messages), `json` (etcd's gateway, POST /v3/kv/put over HTTP/1.1) or `grpc` (etcd's own
  * KV/Put over HTTP/2, with one stream at a time). A command is the client's and the command's number, which are etcd's key, and a value.
@@ -298,11 +298,10 @@ int main(int words, char **word) {
             send_next(p, l->client, copies, at);
         }
     }
-    if (measured == 0) fail("nothing was answered in time", &clients[0]);
     qsort(times, measured, sizeof *times, by_time);
     int waiting = 0;
     for (int k = 0; k < count; k++) waiting += to - clients[k].sent > 1;
-    printf("%llu %.1f %.1f %llu %llu %d\n", (unsigned long long)measured, times[measured / 2], times[measured - 1 - measured / 100],
-           (unsigned long long)all, (unsigned long long)refused, waiting);
+    double median = measured ? times[measured / 2] : 0, high = measured ? times[measured - 1 - measured / 100] : 0;
+    printf("%llu %.1f %.1f %llu %llu %d\n", (unsigned long long)measured, median, high, (unsigned long long)all, (unsigned long long)refused, waiting);
     return 0;
 }
