@@ -1,3 +1,5 @@
+//! Atomic broadcast over any vector consensus: commands are broadcast, and rounds append their identifiers to one log.
+
 use crate::boxes::Boxes;
 use crate::ledger::Ledger;
 use crate::limits::MOST_ROUNDS;

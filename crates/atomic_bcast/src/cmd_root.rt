@@ -1,3 +1,5 @@
+//! The service of commands alone: each input is broadcast under the next number, and nothing is put in order.
+
 ghost use Rattle.std.specs.Prelude.{◌≡◌, ℕ, ◌==◌, ◌&&◌, ◌||◌, not, OnOk, OnErr};
 ghost use Rattle.atomic_bcast.specs.Early.{has_early, Advances, Notes};
 

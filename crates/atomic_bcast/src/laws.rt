@@ -1,3 +1,5 @@
+//! The laws of commands, of the identifier log and of a single service, for the layers above.
+
 ghost use Rattle.std.specs.Prelude.{◌≡◌, ℕ, ◌+◌, ◌<◌, List, [], ◌∷◌, true, false};
 ghost use Rattle.ritas_base.specs.declared.item.Say.{Say};
 ghost use Rattle.layer_api.specs.Service.{Seat, AreProper, AreDistinct, WordLaws};

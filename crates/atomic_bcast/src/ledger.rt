@@ -1,3 +1,5 @@
+//! The identifiers of delivered commands: the log has each once, in the order in which rounds append them.
+
 ghost use Rattle.std.specs.Prelude.{◌≡◌, ℕ, ◌<◌, ◌≤◌, ◌↔◌, true, false, List, [], ◌∷◌, reverse, slice_index, IsTrue, OnOk, OnErr, IfOk};
 ghost use Rattle.std.specs.List.{AllByRecursion};
 ghost use Rattle.ritas_base.specs.declared.id.Id.{Id};

@@ -1,3 +1,5 @@
+//! Whose service it is: the numbers of the session, the replica, and the last attempt of a round.
+
 ghost use Rattle.std.specs.Prelude.{◌≡◌, ◌<◌};
 
 use ritas_base::Params;

@@ -1,3 +1,5 @@
+//! Commands are said at the slot of their replica's next number.
+
 ghost use Rattle.std.specs.Prelude.{◌≡◌, [], ◌∷◌, ◌++◌, OnOk, OnErr};
 ghost use Rattle.ritas_base.specs.Slots.{command_slot};
 

@@ -1,3 +1,5 @@
+//! Tests of a round that completes and of those that leave the window, and of the numbers of commands.
+
 ghost use Rattle.std.specs.Prelude.{◌≡◌};
 ghost use Rattle.ritas_base.specs.SlotOrder.{is_slot};
 ghost use Rattle.atomic_bcast.specs.OnePlace.{slot_of};

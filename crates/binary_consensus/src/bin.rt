@@ -1,3 +1,5 @@
+//! One instance of binary consensus: votes are heard, the steps go on by them, and the first bit that a round decides stays.
+
 ghost use Rattle.std.specs.Prelude.{◌≡◌, OnErr, IfOk};
 ghost use Rattle.binary_consensus.specs.Stands.{Votes, with_place};
 

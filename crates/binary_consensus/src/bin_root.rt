@@ -1,3 +1,5 @@
+//! Binary consensus as root service 3: one instance, whose input is a bit.
+
 use crate::part::line_of;
 use layer_api::{BinaryBox, Outcome, Service, vote_of};
 use ritas_base::{Coin, Id, Mem, Params, Say, Slot};

@@ -1,3 +1,5 @@
+//! How an instance goes on: each step that has n - f accepted votes is left, and what follows is said.
+
 ghost use Rattle.std.specs.Prelude.{◌≡◌, ℕ, ◌≤◌, ◌<◌, IfOk};
 ghost use Rattle.binary_consensus.specs.Going.{GoesOn};
 

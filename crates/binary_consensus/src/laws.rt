@@ -1,3 +1,5 @@
+//! The laws of binary consensus, for the layers above: one bit for all correct replicas, and what a single box keeps to.
+
 ghost use Rattle.layer_api.specs.Binary.{BoxLaws, OneBit};
 ghost use Rattle.binary_consensus.specs.Consensus.{binary};
 

@@ -1,3 +1,5 @@
+//! How a step is left: the vote that its rule gives, the bit that it decides, or a coin.
+
 ghost use Rattle.std.specs.Prelude.{◌≡◌, ℕ, ◌≤◌, ◌<◌, List, None};
 ghost use Rattle.bracha_validation.specs.Votes.{rule};
 ghost use Rattle.bracha_validation.specs.Tallies.{vote_count, IsTally};

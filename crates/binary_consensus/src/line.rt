@@ -1,3 +1,5 @@
+//! The votes of all steps, by counts: how many were heard, and which of these are accepted by the votes of the step before.
+
 ghost use Rattle.std.specs.Prelude.{◌≡◌, ℕ, ◌≤◌, ◌<◌, OnOk, OnErr, [], length};
 ghost use Rattle.ritas_base.specs.Numbers.{IsSession};
 ghost use Rattle.layer_api.specs.Binary.{vote_limit};

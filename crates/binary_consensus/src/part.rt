@@ -1,3 +1,5 @@
+//! Whose part in which instance a box is, and the line of steps: 200 rounds of three.
+
 ghost use Rattle.std.specs.Prelude.{◌≡◌, ◌<◌, [], ◌∷◌, ◌++◌, OnOk, OnErr};
 ghost use Rattle.binary_consensus.specs.Going.{own_slot, line_of};
 

@@ -1,3 +1,5 @@
+//! How far a box has come: what it said last, and what it decided.
+
 ghost use Rattle.std.specs.Prelude.{◌≤◌};
 
 /// How far a box has come.

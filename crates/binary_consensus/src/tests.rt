@@ -1,3 +1,5 @@
+//! Tests of rounds whose votes are split to the end, and of a tie that gives 0.
+
 use super::*;
 use layer_api::{BinaryBox, Outcome, Service};
 use ritas_base::{Coin, Params, Say, Slot};

@@ -1,3 +1,5 @@
+//! Which value may follow: the rule of each step, answered from three counts in place of all sets of n - f votes.
+
 ghost use Rattle.std.specs.Prelude.{◌≡◌, ◌+◌, ◌*◌, ◌/◌, ◌<◌, ◌≤◌, false, min, ◌⊎◌, ◌↔◌, IsTrue};
 ghost use Rattle.bracha_validation.specs.Votes.{may_give, step_before};
 ghost use Rattle.bracha_validation.specs.Tallies.{vote_count, tally_votes};

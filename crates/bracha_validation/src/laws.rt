@@ -1,3 +1,5 @@
+//! The laws of the definitions: sets of votes are choices in order, counts alone matter, and what each rule gives by them.
+
 ghost use Rattle.std.specs.Prelude.{◌≡◌, ℕ, Bool, true, List, ◌↔◌};
 ghost use Rattle.ritas_base.specs.Numbers.{Numbers};
 ghost use Rattle.bracha_validation.specs.declared.tally.Tally.{Tally};

@@ -1,3 +1,5 @@
+//! Tests of the rule against all sets of votes, for one to seven replicas.
+
 ghost use Rattle.std.specs.Prelude.{ℕ, ◌+◌, ◌<◌, ◌≤◌, ◌≡◌};
 ghost use Rattle.bracha_validation.specs.Tallies.{vote_count};
 

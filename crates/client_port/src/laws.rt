@@ -1,3 +1,5 @@
+//! The laws of messages, for clients: a position that f + 1 replicas give is true, and what is written is read.
+
 ghost use Rattle.client_port.specs.Laws.{PositionLaw, RequestIsRead, RequestWasWritten, PositionIsRead, RefusalIsRead};
 
 /// A law: let at least n - f of n replicas give no other position than that at which the request stands in their own

@@ -1,3 +1,5 @@
+//! Numbers of four bytes, the most significant first.
+
 ghost use Rattle.std.specs.Prelude.{◌≡◌, ◌+◌, ◌≤◌, length};
 ghost use Rattle.client_port.specs.Messages.{number_at};
 

@@ -1,3 +1,5 @@
+//! Replies, written: a position in the log, or the number of a fault.
+
 ghost use Rattle.std.specs.Prelude.{◌≡◌};
 ghost use Rattle.client_port.specs.Messages.{position_reply, refusal_reply, reply_bytes};
 

@@ -1,3 +1,5 @@
+//! Requests, read and written: a client's number, its number for the request, and what is asked.
+
 ghost use Rattle.std.specs.Prelude.{◌≡◌, ◌<◌, ◌⊎◌, ◌↔◌, length, Some, None, MatchOption, IfOk};
 ghost use Rattle.client_port.specs.Messages.{request_in, request_bytes};
 

@@ -1,3 +1,5 @@
+//! Tests of the bytes of requests and replies, and of two replies of four that settle a position.
+
 use super::*;
 use ritas_base::Params;
 

@@ -1,3 +1,5 @@
+//! The votes over replies: the first position of each replica counts, and f + 1 equal ones settle it.
+
 ghost use Rattle.std.specs.Prelude.{◌≡◌, ◌<◌, ◌≤◌, List, [], ◌∷◌, length, slice_index_or, Some, None, IfOk, OnOk, OnErr, MatchResult};
 ghost use Rattle.client_port.specs.Messages.{number_in};
 ghost use Rattle.client_port.specs.Votes.{Wanted, Call, is_at, fault_of, answer_of, settled_in, VotesStand};

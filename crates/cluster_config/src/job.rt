@@ -1,3 +1,5 @@
+//! The jobs that a command line may name.
+
 use ritas_base::{DriveWhat, What};
 
 /// What a run is asked to do.

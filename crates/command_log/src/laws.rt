@@ -1,3 +1,5 @@
+//! The laws of the rows, for replicas: one for each client and request, whose command has f + 1 origins.
+
 ghost use Rattle.std.specs.Prelude.{◌≡◌, ℕ, ◌<◌, ◌≤◌, true, List, ◌++◌, length, Option};
 ghost use Rattle.ritas_base.specs.declared.id.Id.{Id};
 ghost use Rattle.layer_api.specs.Words.{Word};

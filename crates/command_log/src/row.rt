@@ -1,3 +1,5 @@
+//! A row of the log, which is a command in its parts.
+
 use ritas_base::{Bytes, Id};
 
 /// A row of the log: the identifier of a command, and the command in its parts.

@@ -1,3 +1,5 @@
+//! Tests of one row for each request, and of an origin that counts once.
+
 use super::*;
 use ritas_base::Id;
 use std::alloc::Global;

@@ -1,3 +1,5 @@
+//! Matrix echo broadcast as a `Broadcast`: it keeps to what that trait says of a broadcast of form 2.
+
 ghost use Rattle.std.specs.Prelude.{◌≡◌, refl};
 ghost use Rattle.echo_bcast.specs.declared.eb.Eb.{Eb};
 ghost use Rattle.echo_bcast.specs.Matrix.{echo};

@@ -1,3 +1,5 @@
+//! One replica's part in an echo broadcast: what it keeps of SEND, HASHES and COLUMN, and what becomes due by each.
+
 ghost use Rattle.std.specs.Prelude.{◌≡◌, ◌<◌, ◌++◌, IfOk, OnErr, OnOk, None, Some, List, ℕ, Option, replicate, is_some, true, false};
 ghost use Rattle.std.specs.Option.{option_copied};
 ghost use Rattle.ritas_base.specs.declared.item.Kind.TheVariants.{Send};

@@ -1,3 +1,5 @@
+//! The laws of echo broadcast: one value for all correct replicas, and what its messages carry.
+
 ghost use Rattle.echo_bcast.specs.Matrix.{echo};
 ghost use Rattle.echo_bcast.specs.Reading.{HashesCarry, GoodIs, SendersAre};
 ghost use Rattle.echo_bcast.specs.OneDue.{ColumnsGrow};

@@ -1,3 +1,5 @@
+//! Tests of columns at a receiver, and of the columns that an origin sends.
+
 ghost use Rattle.std.specs.Prelude.{◌≡◌, refl, replicate, slice_set};
 
 use crate::Eb;

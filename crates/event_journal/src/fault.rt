@@ -1,3 +1,5 @@
+//! Why a call on a journal fails.
+
 ghost use Rattle.std.specs.Prelude.{◌≡◌};
 ghost use Rattle.event_journal.specs.declared.fault.JournalFault.TheVariants as faults;
 

@@ -1,3 +1,5 @@
+//! Appending to a journal: events are written behind a closed gate, and kept once it is open.
+
 ghost use Rattle.std.specs.Prelude.{◌≡◌, ◌<◌, ◌≤◌, ◌+◌, ◌-◌, ◌++◌, ◌∷◌, ◌^◌, ◌↔◌, ◌⊎◌, [], ℕ, List, true, false, length, min, reverse, Err, IfOk, OnOk, IsOk, IsErr, IsTrue};
 ghost use Rattle.std.specs.List.{flat_map, AllByRecursion};
 ghost use Rattle.outside.specs.Faults.{HasCause};

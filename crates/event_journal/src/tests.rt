@@ -1,3 +1,5 @@
+//! Tests of a journal that is opened again, after any call of its disk was the last, and of its head.
+
 ghost use Rattle.std.specs.Prelude.{◌<◌, length, IfOk};
 ghost use Rattle.event_journal.specs.Journal.{IsRecord};
 

@@ -1,3 +1,5 @@
+//! Tests of bodies, inputs and values in both versions: which bytes are read, which are refused and where, and what is written.
+
 use super::*;
 use ritas_base::{
     Bytes, FrameVersion, Id, Item, Kind, Mem, Mode, Params, SenderSet, SlotFault, Vect,

@@ -1,3 +1,5 @@
+//! Tests of the texts of one replica and of four, against those that another program made.
+
 use crate::write_key_rows;
 use ritas_base::Params;
 

@@ -1,3 +1,5 @@
+//! The keys of a session, written: a line for each replica.
+
 ghost use Rattle.std.specs.Prelude.{◌≡◌, ◌<◌, IfOk, string_bytes};
 ghost use Rattle.std.specs.List.{concat};
 ghost use Rattle.hex.specs.Hex.{encode_lower};

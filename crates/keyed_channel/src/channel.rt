@@ -1,3 +1,5 @@
+//! A channel: one replica's keys, made ready once, which seal and open as the keys alone do.
+
 ghost use Rattle.sha2.proofs.Facts256.{length-sha256};
 ghost use Rattle.std.specs.Prelude.{◌≡◌, ℕ, ◌<◌, true, false, List, Option, None, IfOk, IsErr, MatchOption, MatchResult, Ok, Err};
 ghost use Rattle.keyed_channel.specs.Hmac.{hmac_of};

@@ -1,3 +1,5 @@
+//! Coins that a key fixes: the bit of a slot is that of a tag of the session and the slot.
+
 ghost use Rattle.std.specs.Prelude.{◌≡◌};
 ghost use Rattle.keyed_channel.specs.Keyed.{coin_key_of, coin_of, coin_bit};
 

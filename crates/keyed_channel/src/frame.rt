@@ -1,3 +1,5 @@
+//! Frames, sealed and opened: a body between its sender, receiver and number, and the tag of these.
+
 ghost use Rattle.std.specs.Prelude.{◌≡◌, ◌<◌, ◌≤◌, ◌++◌, length, IfOk, OnOk, MatchResult, Ok, Err, Some, None};
 ghost use Rattle.keyed_channel.specs.Frames.{version_byte, sealed, frame_front, opening, plain_fault, parts_of, sender_of};
 

@@ -1,3 +1,5 @@
+//! Keys whose pads are hashed once, for tags that cost less and are the same.
+
 ghost use Rattle.std.specs.Prelude.{◌≡◌, ℕ, List, ◌++◌};
 ghost use Rattle.keyed_channel.specs.Hmac.{hmac_of};
 ghost use Rattle.keyed_channel.specs.Keyed.{entry_of, entry_string};

@@ -1,3 +1,5 @@
+//! The keys of one replica, dealt from a master key or given as a row.
+
 ghost use Rattle.std.specs.Prelude.{◌≡◌, ◌<◌, ◌≤◌, ℕ, List, length, take};
 ghost use Rattle.sha2.proofs.Facts256.{length-sha256};
 ghost use Rattle.ritas_base.specs.declared.mode.FrameVersion.TheVariants.{One};

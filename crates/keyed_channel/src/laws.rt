@@ -1,3 +1,5 @@
+//! The laws of frames, notes and entries, for the layers above: what is sealed opens, and what opens was sealed.
+
 ghost use Rattle.keyed_channel.specs.Laws.{EntriesAgree, EntryByPair, NotedFromPeer, NotesAreNoFrames, NoteHasVersion, NotesOpen, NotesSealed, OpenedFromPeer, OpenedParts, OpensAsSealed, OpensSealed, SealedLength, SealedLong, SealedOpens};
 
 /// A law of both versions: what replica i seals for replica j, both with keys dealt from one master key, opens at j as from

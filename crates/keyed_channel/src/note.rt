@@ -1,3 +1,5 @@
+//! Notes, sealed and opened: that a frame was taken, or that frames are to be sent again.
+
 ghost use Rattle.std.specs.Prelude.{◌≡◌, ◌<◌, ◌≤◌, ◌++◌, true, length};
 ghost use Rattle.keyed_channel.specs.Frames.{sender_of};
 ghost use Rattle.keyed_channel.specs.Notes.{note_front, sealed_note, ack_note, again_note, form_of, number_of, note_of, is_plain_note, noted};

@@ -1,3 +1,5 @@
+//! Tags and digests: HMAC-SHA-256 and SHA-256.
+
 ghost use Rattle.std.specs.Prelude.{◌≡◌, ℕ, ◌≤◌, List, ◌++◌, length};
 ghost use Rattle.keyed_channel.specs.Hmac.{hmac_of, block_key, pad};
 ghost use Rattle.sha2.specs.Hashers.{Holds256};

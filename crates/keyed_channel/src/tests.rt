@@ -1,3 +1,5 @@
+//! Tests of tags, frames, notes and coins in both versions, against public values and those that another program made.
+
 use crate::{
     Channel, Keys, Note, OpenFault, SeedCoin, coin_key, digest, hmac, open_frame, open_note, seal,
     seal_ack, seal_again,

@@ -1,3 +1,5 @@
+//! The trait of a binary consensus: its calls, what they mean, and the laws that each implementation proves.
+
 ghost use Rattle.std.specs.Prelude.{◌≡◌, ℕ, ◌<◌, Bool, true, List, [], IfOk};
 ghost use Rattle.layer_api.specs.Words.{Word};
 ghost use Rattle.layer_api.specs.Binary.{BinaryRules, Bench, BoxLaws, OneBit};

@@ -1,3 +1,5 @@
+//! The trait of a broadcast: its calls, what they mean, and the laws that each implementation proves.
+
 ghost use Rattle.std.specs.Prelude.{◌≡◌, ℕ, ◌<◌, ◌==◌, Bool, true, false, List, [], IfOk};
 ghost use Rattle.std.specs.Option.{option_copied};
 ghost use Rattle.ritas_base.specs.declared.item.Msg.{Msg};

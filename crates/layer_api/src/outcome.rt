@@ -1,3 +1,5 @@
+//! What may become of the one instance of a root service.
+
 /// What became of the one instance of a root service.
 #[derive(Clone, Copy, Debug, PartialEq, Eq)]
 pub enum Outcome<'a> {

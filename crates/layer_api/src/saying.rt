@@ -1,3 +1,5 @@
+//! What a layer says is put out at its end: all of it, or none for want of memory.
+
 ghost use Rattle.std.specs.Prelude.{◌≡◌, ◌++◌, [], Ok, IfOk, OnErr};
 
 use ritas_base::{Mem, Say};

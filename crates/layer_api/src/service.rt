@@ -1,3 +1,5 @@
+//! The trait of a root service: its calls, what they mean, and the laws that each implementation proves.
+
 ghost use Rattle.std.specs.Prelude.{◌≡◌, ℕ, ◌<◌, Bool, true, List, [], IfOk, reverse, option_map};
 ghost use Rattle.ritas_base.specs.declared.id.Id.{Id};
 ghost use Rattle.layer_api.specs.Service.{ServiceRules, Seat, WordLaws};

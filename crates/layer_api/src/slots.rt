@@ -1,3 +1,5 @@
+//! Which slots belong to an instance of vector consensus.
+
 ghost use Rattle.std.specs.Prelude.{◌≡◌, ◌==◌, nat_le, if◌then◌else◌};
 ghost use Rattle.layer_api.specs.Vectors.{is_slot_in};
 

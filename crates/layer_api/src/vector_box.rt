@@ -1,3 +1,5 @@
+//! The trait of a vector consensus: its calls, what they mean, and the laws that each implementation proves.
+
 ghost use Rattle.std.specs.Prelude.{◌≡◌, ℕ, ◌<◌, Bool, true, List, [], IfOk};
 ghost use Rattle.std.specs.Option.{option_copied};
 ghost use Rattle.layer_api.specs.Words.{Word};

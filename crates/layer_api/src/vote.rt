@@ -1,3 +1,5 @@
+//! Values of one byte as votes.
+
 ghost use Rattle.std.specs.Prelude.{◌≡◌, ℕ, [], ◌∷◌};
 
 /// The vote that a value of one byte is; 0 where the value has no byte.

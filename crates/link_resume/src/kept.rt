@@ -1,3 +1,5 @@
+//! Frames that are kept, and why one isn't.
+
 use ritas_base::{Bytes, Mem};
 use std::alloc::AllocError;
 

@@ -1,3 +1,5 @@
+//! The frames that are kept for one peer, the oldest first, within the limit of their bytes.
+
 ghost use Rattle.std.specs.Prelude.{◌≡◌, ℕ, ◌+◌, ◌-◌, ◌^◌, ◌<◌, ◌≤◌, ◌↔◌, [], ◌∷◌, ◌++◌, length, slice_index_or, Err, Some, OnOk, OnErr, MatchOption, true};
 ghost use Rattle.std.specs.List.{slice_get};
 ghost use Rattle.link_resume.specs.declared.kept.Kept.{Kept};

@@ -1,3 +1,5 @@
+//! The frames that are kept for all peers, each with a limit of its own, until they are acknowledged.
+
 ghost use Rattle.std.specs.Prelude.{◌≡◌, ℕ, ◌+◌, ◌<◌, ◌≤◌, ◌↔◌, [], length, replicate, Err, IfOk, OnOk, OnErr, MatchOption, Some};
 ghost use Rattle.std.specs.List.{slice_get};
 ghost use Rattle.link_resume.specs.Lists.{kept_for, bytes_in, most_bytes, with_kept, with_room, without};

@@ -1,3 +1,5 @@
+//! Tests of frames that are acknowledged, refused for want of room, or dropped to make it.
+
 use super::*;
 
 // The frames that were acknowledged go, and the others stay in their order.

@@ -1,3 +1,5 @@
+//! One instance of multi-valued consensus, over any binary consensus.
+
 ghost use Rattle.multivalued.specs.Stands.{Ends};
 
 use crate::opening::is_open;

@@ -1,3 +1,5 @@
+//! Multi-valued consensus as root service 4: one instance, whose input is a value.
+
 use crate::opening::is_slot_of;
 use layer_api::{Decided, MultiBox, Outcome, Service};
 use ritas_base::{Coin, Id, Mem, Params, Say, Slot};

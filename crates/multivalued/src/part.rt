@@ -1,3 +1,5 @@
+//! Whose part in which instance a box is, and at which slots it speaks.
+
 ghost use Rattle.std.specs.Prelude.{◌≡◌};
 ghost use Rattle.multivalued.specs.Parts.{IsPart, own_slot};
 ghost use Rattle.layer_api.specs.Multi.{Desk};

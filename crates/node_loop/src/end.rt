@@ -1,3 +1,5 @@
+//! How serving ends, and why it can't go on.
+
 /// How serving ended.
 #[derive(Clone, Copy, Debug, PartialEq, Eq)]
 pub enum ServeEnd {

@@ -1,3 +1,5 @@
+//! Tests of serving one replica: its events, its replies, and the faults of the tape and the link.
+
 ghost use Rattle.std.specs.Prelude.{◌<◌, ◌^◌, length, All, IfOk, OnOk};
 ghost use Rattle.outside.specs.MemoryLink.{IsShort};
 ghost use Rattle.node_loop.specs.Served.{IsFirst};

@@ -1,3 +1,5 @@
+//! The items that are held for all peers, each with a limit of its own: they are released by peer, in the order in which they came.
+
 ghost use Rattle.std.specs.Prelude.{◌≡◌, ℕ, ◌+◌, ◌<◌, ◌≤◌, ◌↔◌, Bool, [], ◌++◌, length, replicate, Err, OnOk, OnErr, IfOk, false};
 ghost use Rattle.std.specs.VecDeque.{deque_len, deque_capacity};
 ghost use Rattle.ritas_base.specs.declared.item.Item.{Item};

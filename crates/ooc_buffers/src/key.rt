@@ -1,3 +1,5 @@
+//! What held items are found by.
+
 ghost use Rattle.std.specs.Prelude.{◌≡◌, ℕ, ◌+◌, ◌-◌, ◌<◌, ◌^◌, OnOk, OnErr, if◌then◌else◌};
 ghost use Rattle.ritas_base.specs.Messages.{kind_rank};
 ghost use Rattle.ooc_buffers.specs.Keys.{mark_of, key_of, key_eq, count_at};

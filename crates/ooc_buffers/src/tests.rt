@@ -1,3 +1,5 @@
+//! Tests of the limit of a peer's bytes, and of the order in which items leave.
+
 ghost use Rattle.std.specs.Prelude.{◌≡◌, length, IfOk};
 
 use super::*;

@@ -1,3 +1,5 @@
+//! Sources and sinks over the readers and writers of the system: an error is a fault, which is counted.
+
 ghost use Rattle.std.specs.Prelude.{◌≡◌, ◌<◌, ◌≤◌, ℕ, [], length, Bool, false, IfOk, IsErr};
 ghost use Rattle.outside.specs.Adapters.{comes_to, ComesOf};
 ghost use Rattle.outside.specs.Faults.{HasCause, counted};

@@ -1,3 +1,5 @@
+//! Single calls of readers and writers, for contracts to name.
+
 ghost use Rattle.std.specs.Prelude.{ℕ, List, Result};
 ghost use Rattle.std.specs.Io.KnownBytes.{ReadConsumes, WriteAppends};
 ghost use Rattle.std.specs.declared.io.Error.{Error};

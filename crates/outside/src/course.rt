@@ -1,3 +1,5 @@
+//! What a link in memory was told, and the items that it has left.
+
 ghost use Rattle.std.specs.Prelude.{◌≡◌, ◌<◌, ◌∷◌, [], ◌^◌, reverse, drop, length, IfOk, OnOk, OnErr, All, Contains};
 ghost use Rattle.outside.specs.Links.{Starts, Gives, Sends, Replies, bytes_of, plans_in, items_in, frames_in, replies_in};
 ghost use Rattle.outside.specs.MemoryLink.{IsShort, first_of, rest_of};

@@ -1,3 +1,5 @@
+//! The trait of a disk: what a read gives, and what a stop may leave.
+
 ghost use Rattle.std.specs.Prelude.{◌≡◌, ◌<◌, ◌≤◌, List, ℕ, Bool, true, length, take, drop, IfOk, OnOk, OnErr, IsErr};
 ghost use Rattle.outside.specs.Faults.{HasCause, counted};
 ghost use Rattle.outside.specs.Disks.{DiskState, FailsToWrite, Puts, after_sync, after_write, state_of};

@@ -1,3 +1,5 @@
+//! The disk of a node: the file `ritas.journal`, which one program has open at a time.
+
 ghost use Rattle.std.specs.Prelude.{◌≡◌, ◌≤◌, [], ℕ, true, false, length, Ok, IfOk, IsErr};
 ghost use Rattle.outside.specs.Faults.{HasCause, counted};
 

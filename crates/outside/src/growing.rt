@@ -1,3 +1,5 @@
+//! A sink in memory that grows with what it takes.
+
 ghost use Rattle.std.specs.Prelude.{◌≡◌, ◌<◌, ◌≤◌, ◌++◌, [], true, length, take, IfOk, OnErr, IsOk, IsErr};
 ghost use Rattle.outside.specs.Faults.{HasCause, count_after, counted};
 

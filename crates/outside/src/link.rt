@@ -1,3 +1,5 @@
+//! The trait of a link, with the items that it gives, the plans that it starts and its counts of faults.
+
 ghost use Rattle.std.specs.Prelude.{◌≡◌, ◌↔◌, ◌<◌, ◌∷◌, ◌^◌, List, ℕ, Bool, true, IsTrue, IfOk, OnOk, OnErr, Err, Contains, length};
 ghost use Rattle.outside.specs.Faults.{HasCause, count_after};
 ghost use Rattle.outside.specs.declared.link.FaultCounts.{FaultCounts};

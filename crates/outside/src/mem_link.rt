@@ -1,3 +1,5 @@
+//! A link in memory: it gives the items that it was made with, tells what it was told, and fails where it is to.
+
 ghost use Rattle.std.specs.Prelude.{◌≡◌, ◌<◌, ◌∷◌, [], ◌^◌, true, reverse, length, IfOk, OnOk, OnErr, Err, All, Contains};
 ghost use Rattle.outside.specs.Faults.{HasCause, count_after};
 ghost use Rattle.outside.specs.Memory.{no_calls};

@@ -1,3 +1,5 @@
+//! A source and a sink in memory, of which the listed calls fail.
+
 ghost use Rattle.std.specs.Prelude.{◌≡◌, ◌<◌, ◌≤◌, ◌++◌, ◌↔◌, [], true, length, take, min, IsTrue, IfOk, OnErr, IsErr, Contains, ⊤};
 ghost use Rattle.outside.specs.Faults.{HasCause, count_after, counted};
 ghost use Rattle.outside.specs.Memory.{no_calls, calls_after, IsFault, ReadsMemory, WritesMemory};

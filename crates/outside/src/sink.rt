@@ -1,3 +1,5 @@
+//! The trait of a sink, and writing all of some bytes to one.
+
 ghost use Rattle.std.specs.Prelude.{◌≡◌, ◌<◌, ◌≤◌, ◌++◌, List, ℕ, Bool, true, length, take, IfOk, OnErr, IsErr};
 ghost use Rattle.outside.specs.Faults.{HasCause, counted};
 ghost use Rattle.outside.specs.Writing.{Writes};

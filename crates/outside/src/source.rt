@@ -1,3 +1,5 @@
+//! The trait of a source, and the fault of a call.
+
 ghost use Rattle.std.specs.Prelude.{◌≡◌, ◌<◌, ◌≤◌, ◌++◌, List, [], ℕ, Bool, true, length, take, IfOk, OnErr, IsErr};
 ghost use Rattle.outside.specs.Faults.{HasCause, counted};
 

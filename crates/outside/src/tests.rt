@@ -1,3 +1,5 @@
+//! Tests of each form in memory, of readers and writers that fail, and of a disk over a file.
+
 use crate::{
     Buffer, Disk, Failed, FileDisk, FromRead, Link, LinkFault, LinkItem, LinkPlan, MemDisk,
     MemLink, MemSink, MemSource, Sink, Source, ToWrite, put, read_whole, write_all,

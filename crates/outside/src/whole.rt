@@ -1,3 +1,5 @@
+//! Reading a source to its end, where it has at most so many bytes.
+
 ghost use Rattle.std.specs.Prelude.{◌≡◌, ◌≢◌, ◌<◌, ◌≤◌, ◌+◌, ◌^◌, ◌↔◌, [], true, length, Err, IfOk};
 ghost use Rattle.outside.specs.Faults.{HasCause};
 ghost use Rattle.outside.specs.Wholes.{faults_after};

@@ -1,3 +1,5 @@
+//! Reliable broadcast with values as a `Broadcast`: it keeps to what that trait says of a broadcast of form 1.
+
 ghost use Rattle.std.specs.Prelude.{◌≡◌, true, refl};
 ghost use Rattle.std.proofs.Common.{ap};
 ghost use Rattle.reliable_bcast.specs.declared.rb.Rb.{Rb};

@@ -1,3 +1,5 @@
+//! Reliable broadcast with digests as a `Broadcast`: it keeps to what that trait says of a broadcast of form 3.
+
 ghost use Rattle.std.specs.Prelude.{◌≡◌, refl};
 ghost use Rattle.reliable_bcast.specs.Digests.{by_digest};
 ghost use Rattle.reliable_bcast.specs.DigestState.{Keeps, shown_of};

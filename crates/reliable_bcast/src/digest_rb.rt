@@ -1,3 +1,5 @@
+//! One replica's part in a reliable broadcast with digests: votes are for a digest, whose value is asked for where it isn't known.
+
 ghost use Rattle.std.specs.Prelude.{◌≡◌, ◌++◌, IfOk, OnErr, OnOk, None, Some, position, true, false, [], ℕ};
 ghost use Rattle.std.specs.Str.{bytes_eq};
 ghost use Rattle.std.specs.Option.{option_copied};

@@ -1,3 +1,5 @@
+//! Tests of reliable broadcast with digests: its answers and messages, where the value comes first, last, or is asked for.
+
 ghost use Rattle.std.specs.Prelude.{◌≡◌, refl, replicate, slice_index_or};
 
 use crate::DigestRb;

@@ -1,3 +1,5 @@
+//! The laws of reliable broadcast, with values and with digests: one value for all correct replicas, and what is due.
+
 ghost use Rattle.ritas_base.specs.Numbers.{Numbers};
 ghost use Rattle.ritas_base.specs.Messages.{Place};
 ghost use Rattle.reliable_bcast.specs.Bracha.{bracha, is_backed, is_carried, ready_value, out_of};

@@ -1,3 +1,5 @@
+//! One replica's part in a reliable broadcast with values: what it counts, and what becomes due by each item.
+
 ghost use Rattle.std.specs.Prelude.{◌≡◌, ◌++◌, IfOk, OnErr, OnOk, None, Some, replicate, true, false};
 ghost use Rattle.std.specs.Option.{option_copied};
 ghost use Rattle.reliable_bcast.specs.State.{settled, carried, ready_message, Hears};

@@ -1,3 +1,5 @@
+//! The messages of reliable broadcast, said to all or to one.
+
 ghost use Rattle.std.specs.Prelude.{◌≡◌, ◌++◌, OnErr, OnOk, Some};
 ghost use Rattle.ritas_base.specs.Messages.{to_all};
 ghost use Rattle.reliable_bcast.specs.Digests.{to_one};

@@ -1,3 +1,5 @@
+//! Tests of reliable broadcast with values: its answers and messages at an origin and at another replica.
+
 ghost use Rattle.std.specs.Prelude.{◌≡◌, refl, IfOk, replicate};
 
 use crate::Rb;

@@ -1,3 +1,5 @@
+//! Votes for values: the first one of each replica counts.
+
 ghost use Rattle.std.specs.Prelude.{◌≡◌, ℕ, ◌≤◌, Bool, true, List, IfOk, OnErr, OnOk, None, Some, count_by, slice_set, slice_index_or, length, nat_lt, ◌&&◌, replicate, position};
 ghost use Rattle.std.specs.List.{list_any};
 ghost use Rattle.std.specs.Str.{bytes_eq};

@@ -1,3 +1,5 @@
+//! What a replica puts out: a sealed frame for another.
+
 use ritas_base::Bytes;
 
 /// A frame that a replica made, and which replica it is for.

@@ -1,3 +1,5 @@
+//! The laws of what a replica makes: how many frames for whom, and that peers are isolated from each other.
+
 ghost use Rattle.replica.specs.Laws.{MadeByEntry, MadeInAll, MadeLength};
 ghost use Rattle.replica.specs.Isolation.{Isolates, UnopenedIsNothing, Confines};
 

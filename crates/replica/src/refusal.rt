@@ -1,3 +1,5 @@
+//! Why a frame, an input or a turn is refused, by the part that refuses it.
+
 use frame_codec::BodyFault;
 use keyed_channel::OpenFault;
 use ritas_core::CoreFault;

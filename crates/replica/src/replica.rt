@@ -1,3 +1,5 @@
+//! One replica with its channels and its log: frames of bytes come, and frames of bytes go out.
+
 use crate::following::follow;
 use crate::frame::OutFrame;
 use crate::refusal::Refusal;

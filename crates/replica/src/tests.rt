@@ -1,3 +1,5 @@
+//! Tests of the frames that one replica makes, against those that another program made.
+
 use crate::sending::send;
 use keyed_channel::{Channel, Keys};
 use ritas_base::{Bytes, Kind, Msg, Params, Slot, To};

@@ -1,3 +1,5 @@
+//! How handing in a request ends.
+
 ghost use Rattle.request_submit.specs.Waiting.{IsEndOf};
 
 use outside::LinkFault;

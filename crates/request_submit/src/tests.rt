@@ -1,3 +1,5 @@
+//! Tests of replies that settle a position and of those that don't, and of a link that fails.
+
 ghost use Rattle.std.specs.Prelude.{◌<◌, ◌^◌, length, All, IfOk, OnOk};
 ghost use Rattle.outside.specs.Links.{bytes_of};
 ghost use Rattle.outside.specs.MemoryLink.{IsShort};

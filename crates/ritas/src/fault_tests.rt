@@ -1,3 +1,5 @@
+//! Tests of replays whose input or output fails, or has no room.
+
 use crate::run::run;
 use outside::{MemDisk, MemLink, MemSink, MemSource};
 use std::alloc::Global;

@@ -1,3 +1,5 @@
+//! Tests of nodes with journals: they come back, whatever call of the disk failed, and wrong journals are refused.
+
 use crate::serving_tests::{NODE, served, status_with, twice};
 use outside::{Disk, MemDisk, MemLink, MemSink};
 use ritas_base::Mem;

@@ -1,3 +1,5 @@
+//! Tests of nodes that serve: what is recorded of requests, and what of a link or an output that fails.
+
 ghost use Rattle.std.specs.Prelude.{◌<◌, ◌^◌, length, All, IfOk, OnOk};
 ghost use Rattle.outside.specs.MemoryLink.{IsShort};
 

@@ -1,3 +1,5 @@
+//! Tests of the texts of replays and of command lines, and of a file that is too long.
+
 ghost use Rattle.std.specs.Prelude.{[], false};
 
 use crate::run::run;

@@ -1,3 +1,5 @@
+//! Bytes that are owned, and want of memory as an error.
+
 ghost use Rattle.std.specs.Prelude.{◌≡◌, IfOk};
 ghost use Rattle.std.specs.Str.{bytes_eq};
 

@@ -1,3 +1,5 @@
+//! What may happen to a replica: the events of which schedules are lists.
+
 use crate::bytes::Bytes;
 
 /// What happens to a replica of a world.

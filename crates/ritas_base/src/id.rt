@@ -1,3 +1,5 @@
+//! The identifiers of commands.
+
 /// A command: its origin, and its number among the origin's commands. Ordered by origin, then number.
 #[derive(Clone, Copy, Debug, PartialEq, Eq, PartialOrd, Ord)]
 pub struct Id {

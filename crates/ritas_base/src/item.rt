@@ -1,3 +1,5 @@
+//! What replicas hear and say: items, messages, and the broadcasts that layers start.
+
 ghost use Rattle.std.specs.Prelude.{◌≡◌, IfOk};
 ghost use Rattle.ritas_base.specs.Messages.{item_of};
 

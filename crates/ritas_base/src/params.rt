@@ -1,3 +1,5 @@
+//! The numbers of a session, n of at least 3f + 1, and the counts that the protocols take from them.
+
 ghost use Rattle.std.specs.Prelude.{◌≡◌, ℕ, ◌+◌, ◌*◌, ◌<◌, ◌≤◌, ◌↔◌, ◌⊎◌, IfOk, Err};
 ghost use Rattle.ritas_base.specs.Numbers.{IsSession, quorum_of, ready_of, deliver_of, wait_of, support_of};
 

@@ -1,3 +1,5 @@
+//! Plans of schedules: a session, who attacks it and how, and the order of steps.
+
 use crate::mode::Mode;
 use crate::params::Params;
 

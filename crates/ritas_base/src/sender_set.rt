@@ -1,3 +1,5 @@
+//! Sets of replicas, as masks of 32 bits.
+
 ghost use Rattle.std.specs.Prelude.{◌≡◌, ℕ, ◌<◌, ◌==◌, ◌||◌, true, false};
 ghost use Rattle.std.specs.Int.RustNames.{count_ones};
 ghost use Rattle.ritas_base.specs.Members.{has_member, member_count};

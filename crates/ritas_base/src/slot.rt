@@ -1,3 +1,5 @@
+//! Slots, which name broadcasts: their nine bytes, their grammar, and by which broadcast each goes.
+
 ghost use Rattle.std.specs.Prelude.{◌≡◌, Some, None, MatchResult, OnOk, if◌then◌else◌, ◌==◌, ◌&&◌};
 ghost use Rattle.ritas_base.specs.Numbers.{IsSession};
 ghost use Rattle.ritas_base.specs.Slots.{slot_fault, slot_bytes, by_echo, form_of, has_class, has_count, within};

@@ -1,3 +1,5 @@
+//! The traits of what a replica tags with, and of its coin.
+
 ghost use Rattle.std.specs.Prelude.{◌≡◌, ℕ, Bool, ◌<◌, ◌⊎◌};
 ghost use Rattle.ritas_base.specs.Tags.{Tags, HasDigests};
 ghost use Rattle.ritas_base.specs.declared.slot.Slot.{Slot};

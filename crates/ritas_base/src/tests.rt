@@ -1,3 +1,5 @@
+//! Tests of the rounds and steps of slots, and of lists of texts.
+
 use crate::{Bytes, Mem, Slot, Texts};
 
 // The first step and the last of binary consensus, those beside them, and a proposal.

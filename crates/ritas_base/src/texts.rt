@@ -1,3 +1,5 @@
+//! Lists of byte strings.
+
 ghost use Rattle.std.specs.Prelude.{◌≡◌, ◌∷◌, ◌++◌, [], IfOk, OnOk, OnErr, length, option_map};
 ghost use Rattle.std.specs.List.{slice_get};
 

@@ -1,3 +1,5 @@
+//! What is written of a schedule: of one that is replayed, and of one that is made.
+
 /// What is written of a schedule that is replayed.
 #[derive(Clone, Copy, Debug, PartialEq, Eq)]
 pub enum What {

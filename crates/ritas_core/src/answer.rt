@@ -1,3 +1,5 @@
+//! What may become of an item, an input or a turn that isn't refused.
+
 /// What became of an item, an input or a turn.
 #[derive(Clone, Copy, Debug, PartialEq, Eq)]
 pub enum Answer {

@@ -1,3 +1,5 @@
+//! The broadcast of one slot, of the form that its class and the mode give.
+
 ghost use Rattle.std.specs.Prelude.{◌≡◌, ◌<◌, List, [], IfOk};
 ghost use Rattle.std.specs.Option.{option_copied};
 ghost use Rattle.ritas_base.specs.Messages.{Place};

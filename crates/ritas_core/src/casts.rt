@@ -1,3 +1,5 @@
+//! Starting the broadcasts of what the service says, each made where it isn't there yet.
+
 ghost use Rattle.std.specs.Prelude.{◌≡◌, ◌<◌, None, OnOk, OnErr};
 ghost use Rattle.std.specs.BTreeMap.{get};
 ghost use Rattle.ritas_base.specs.SlotOrder.{slot_cmp};

@@ -1,3 +1,5 @@
+//! Why a core refuses an item, an input or a turn, in the order of its checks.
+
 /// Why an item, an input or a turn was refused.
 #[derive(Clone, Copy, Debug, PartialEq, Eq)]
 pub enum CoreFault {

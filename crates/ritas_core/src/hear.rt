@@ -1,3 +1,5 @@
+//! Giving an item to the broadcast of its slot, which is made where it isn't there yet, and what is newly delivered by it.
+
 ghost use Rattle.std.specs.Prelude.{◌≡◌, ◌<◌, List, ℕ, Bool, true, IfOk, None, if◌then◌else◌};
 ghost use Rattle.std.specs.BTreeMap.{get};
 ghost use Rattle.ritas_base.specs.declared.slot.Slot.{Slot};

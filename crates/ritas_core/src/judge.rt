@@ -1,3 +1,5 @@
+//! What is done with an item, by the checks in their order: it is refused, repeats another, is held, or is taken.
+
 ghost use Rattle.std.specs.Prelude.{◌≡◌, ◌<◌, false};
 ghost use Rattle.ritas_base.specs.declared.item.Kind.TheVariants.{Column};
 ghost use Rattle.ritas_base.specs.Messages.{kind_eq};

@@ -1,3 +1,5 @@
+//! One replica without its channels: each item, input and turn is checked, taken or held, and what becomes due goes out in order.
+
 ghost use Rattle.std.specs.Prelude.{◌≡◌, ◌<◌, ◌^◌};
 ghost use Rattle.ritas_core.specs.Checks.{body_length};
 ghost use Rattle.ritas_core.specs.CoreCalls.{is_mem};

@@ -1,3 +1,5 @@
+//! The laws of a core's history and of its checks, for the layers above.
+
 ghost use Rattle.std.specs.Prelude.{◌≡◌, ℕ, ◌+◌, ◌<◌, true, not, ◌&&◌, List, ◌∷◌, Some, None};
 ghost use Rattle.std.specs.Option.{is_some};
 ghost use Rattle.ritas_base.specs.declared.slot.Slot.{Slot};

@@ -1,3 +1,5 @@
+//! The service of a replica over its broadcasts, the windows, and which items are open.
+
 use crate::cast::Cast;
 use crate::casts::start_casts;
 use crate::fault::CoreFault;

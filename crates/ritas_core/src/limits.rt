@@ -1,3 +1,5 @@
+//! The bounds of the windows: what lies behind them, and what beyond.
+
 ghost use Rattle.std.specs.Prelude.{◌≡◌};
 ghost use Rattle.ritas_core.specs.LayerCalls.{is_behind, is_beyond};
 

@@ -1,3 +1,5 @@
+//! Putting messages in order, and keeping those for oneself in the inbox.
+
 ghost use Rattle.std.specs.Prelude.{◌≡◌, ◌++◌, [], ◌∷◌, OnOk, OnErr, IfOk};
 ghost use Rattle.ritas_base.specs.Messages.{reaches};
 ghost use Rattle.ritas_core.specs.Order.{is_before, inserted, ordered, own_items, Extends};

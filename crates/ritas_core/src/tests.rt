@@ -1,3 +1,5 @@
+//! Tests of each check of a core, with its answer.
+
 ghost use Rattle.std.specs.Prelude.{◌≡◌, refl, ◌<◌, replicate};
 
 use super::*;

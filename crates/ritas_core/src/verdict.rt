@@ -1,3 +1,5 @@
+//! What may be done with an item.
+
 use crate::fault::CoreFault;
 
 /// What is done with an item that is given.

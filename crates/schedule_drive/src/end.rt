@@ -1,3 +1,5 @@
+//! How making a schedule ends.
+
 use world_model::Audit;
 
 /// How a call that makes a schedule ended.

@@ -1,3 +1,5 @@
+//! The law of a plan's numbers, for the functions of this crate.
+
 ghost use Rattle.ritas_base.specs.Numbers.{IsSession};
 
 use ritas_base::Plan;

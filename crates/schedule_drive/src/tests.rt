@@ -1,3 +1,5 @@
+//! Tests of the texts of a plan of one replica, in either order of steps, and of a sink that fails.
+
 use crate::{DriveEnd, drive};
 use outside::MemSink;
 use ritas_base::{Attack, DriveWhat, Mode, Order, Params, Plan, Vect};

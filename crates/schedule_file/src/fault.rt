@@ -1,3 +1,5 @@
+//! Which faults a schedule file may have, each with its place.
+
 ghost use Rattle.std.specs.Prelude.{◌≡◌};
 ghost use Rattle.schedule_file.specs.declared.fault.FileFault.TheVariants as faults;
 

@@ -1,3 +1,5 @@
+//! The header of a schedule file: the session, its correct replicas and their keys.
+
 use ritas_base::{Mode, Params, SenderSet};
 
 /// What the header of a file says.

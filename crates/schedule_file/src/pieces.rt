@@ -1,3 +1,6 @@
+//! A schedule file as it comes from its source, in pieces: nothing is looked at behind the limit, and no memory is taken
+//! before a text is there.
+
 ghost use Rattle.std.specs.Prelude.{◌^◌, ◌≡◌, ◌<◌, ◌≤◌, ◌+◌, ◌-◌, ◌++◌, [], true, false, Ok, Err, length, take, drop, IfOk, IfErr, IsOk, IsErr, OnOk, MatchResult, ◌≢◌};
 ghost use Rattle.std.specs.Bool.{OnTrue, OnFalse};
 ghost use Rattle.outside.specs.Faults.{HasCause, counted};

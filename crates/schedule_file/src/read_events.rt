@@ -1,3 +1,5 @@
+//! Reading events, kind by kind: each is whole and at replicas that the file has, or is a fault.
+
 ghost use Rattle.std.specs.Prelude.{◌<◌, IfOk, IfSome, IsOk, ◌≡◌, ◌≢◌, true, Err, None};
 ghost use Rattle.outside.specs.Faults.{HasCause};
 ghost use Rattle.schedule_file.specs.declared.fault.FileFault.TheVariants.{Read};

@@ -1,3 +1,5 @@
+//! Reading a header, field by field: each keeps its rule, or the first that breaks it is a fault.
+
 ghost use Rattle.std.specs.Prelude.{◌^◌, ◌≡◌, ◌≢◌, ◌<◌, ◌≤◌, true, false, Err, IfOk, IsTrue};
 ghost use Rattle.outside.specs.Faults.{HasCause};
 ghost use Rattle.schedule_file.specs.declared.fault.FileFault.TheVariants.{Read};

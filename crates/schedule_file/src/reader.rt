@@ -1,3 +1,5 @@
+//! A reader of schedule files: the header, the events one by one, and the end, or the first fault from the left.
+
 ghost use Rattle.std.specs.Prelude.{◌≡◌, ◌≢◌, true, Ok, Err, None, IfOk, IfSome, IsOk, MatchResult};
 ghost use Rattle.outside.specs.Faults.{HasCause};
 ghost use Rattle.schedule_file.specs.declared.fault.FileFault.TheVariants.{Read};

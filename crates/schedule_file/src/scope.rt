@@ -1,3 +1,5 @@
+//! At which replicas the events of a file may be.
+
 ghost use Rattle.std.specs.Prelude.{◌≡◌};
 ghost use Rattle.schedule_file.specs.ReadHeader.{heading};
 ghost use Rattle.schedule_file.specs.Scopes.{scope_of, has_replica};

@@ -1,3 +1,5 @@
+//! How far a reader is: what it answered last stays so where the file ended or has a fault.
+
 use crate::fault::FileFault;
 
 /// How far a file was read.

@@ -1,3 +1,5 @@
+//! Tests of reading and writing: all fields, both versions, files in pieces, and sources and sinks that fail.
+
 // What is answered of files that are cut or changed is a table of the program, in `cases/hostile-input`.
 
 use crate::{FileFault, Header, HeaderKeys, Reader, Writer, event_size};

@@ -1,3 +1,5 @@
+//! Writing schedule files: the header, the events one by one, and the end mark.
+
 ghost use Rattle.std.specs.Prelude.{◌≡◌, ◌<◌, ◌≤◌, ◌+◌, ◌^◌, ◌++◌, ◌∷◌, [], length, take, IsErr};
 ghost use Rattle.std.specs.List.{concat};
 ghost use Rattle.std.specs.Int.{w32, to_be_bytes};

@@ -1,3 +1,5 @@
+//! The laws of plans: what is made of one forges nothing, its copies go apart, and its schedule is whole.
+
 ghost use Rattle.schedule_plan.specs.Laws.{StepsLaw, DriveLaw, CopiesLaw, WholeLaw};
 
 use layer_api::{Broadcast, Service};

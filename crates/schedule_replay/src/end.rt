@@ -1,3 +1,5 @@
+//! How replaying a schedule ends.
+
 ghost use Rattle.std.specs.Prelude.{◌≡◌};
 ghost use Rattle.schedule_replay.specs.Replay.{end_at};
 

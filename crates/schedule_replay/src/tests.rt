@@ -1,3 +1,5 @@
+//! Tests of the texts of a file, with all keys and with those of one replica, and of a vector that is shown.
+
 use crate::{ReplayEnd, replay};
 use outside::{MemSink, MemSource};
 use ritas_base::What;

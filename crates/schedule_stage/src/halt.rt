@@ -1,3 +1,5 @@
+//! Why a step of a player isn't taken.
+
 ghost use Rattle.std.specs.Prelude.{◌≡◌};
 ghost use Rattle.schedule_stage.specs.declared.halt.Halt.TheVariants as halts;
 

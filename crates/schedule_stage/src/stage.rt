@@ -1,3 +1,5 @@
+//! The players of a plan, which take its steps one by one, and the tape, within the limits.
+
 use crate::faces::Faces;
 use crate::first::first_header;
 use crate::frames::{copy_of, frame_event, frame_number, thrown};

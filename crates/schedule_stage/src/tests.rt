@@ -1,3 +1,5 @@
+//! Tests of a first step: an input at a replica, the frames that it makes, and the tape.
+
 ghost use Rattle.std.specs.Prelude.{◌≡◌};
 ghost use Rattle.ritas_base.specs.declared.mode.FrameVersion.TheVariants.{One};
 

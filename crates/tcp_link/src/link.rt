@@ -1,3 +1,5 @@
+//! The link over TCP: what comes by its connections is given in order, and what is sent goes out.
+
 ghost use Rattle.std.specs.Prelude.{◌≡◌, ◌<◌, ◌^◌, [], false, IfOk, IfSome, length, Err};
 ghost use Rattle.outside.specs.Faults.{HasCause};
 ghost use Rattle.outside.specs.Links.{bytes_of, faults_after};

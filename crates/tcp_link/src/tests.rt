@@ -1,3 +1,5 @@
+//! Tests of links over loopback: a cluster of two, and a node with its client.
+
 use crate::TcpLink;
 use outside::{Link, LinkFault, LinkItem, LinkPlan};
 use ritas_base::{Bytes, Mem, Texts};

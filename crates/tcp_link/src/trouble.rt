@@ -1,3 +1,5 @@
+//! Why a step of a link goes wrong.
+
 use ritas_base::Mem;
 use std::alloc::{AllocError, AllocFailed};
 use std::io;

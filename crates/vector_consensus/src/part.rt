@@ -1,3 +1,5 @@
+//! Whose part in which instance a box is, at which slot it speaks, and what its attempts wait for.
+
 ghost use Rattle.std.specs.Prelude.{◌≡◌, ◌<◌};
 
 use ritas_base::{Params, Slot};

@@ -1,3 +1,5 @@
+//! Tests of attempts that begin one after the other, and of an instance whose attempts are spent.
+
 ghost use Rattle.std.specs.Prelude.{◌≡◌};
 ghost use Rattle.ritas_base.specs.SlotOrder.{is_slot};
 

@@ -1,3 +1,5 @@
+//! One instance of vector consensus, over any multi-valued consensus: its attempts, and the first vector that one decides.
+
 ghost use Rattle.std.specs.Prelude.{◌≡◌, IfOk};
 ghost use Rattle.std.specs.Option.{option_copied};
 ghost use Rattle.vector_consensus.specs.Stands.{HearsSlot, NearSlot, Keeps, Ends, vector_in, as_byte};

@@ -1,3 +1,5 @@
+//! Vector consensus as root service 5: one instance, whose input is a value.
+
 use layer_api::{Outcome, Service, VectorBox, is_slot_in};
 use ritas_base::{Coin, Id, Mem, Params, Say, Slot};
 use std::alloc::Global;

@@ -1,3 +1,5 @@
+//! What an audit finds: the premises of agreement held, or which event broke one first.
+
 /// Whether a world's premises held over its events.
 #[derive(Clone, Copy, Debug, PartialEq, Eq)]
 pub enum Audit {

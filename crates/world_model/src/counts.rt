@@ -1,3 +1,5 @@
+//! How the events of a world were answered, by counts.
+
 use crate::seen::Seen;
 use replica::Refusal;
 use ritas_core::Answer;

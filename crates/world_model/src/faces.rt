@@ -1,3 +1,5 @@
+//! The laws of faces: those of one letter are a world of their own.
+
 ghost use Rattle.world_model.specs.FaceWorlds.{FaceLaw, ShownLaw, PlainLaw};
 ghost use Rattle.world_model.specs.Quiet.{QuietLaw, OthersLaw};
 

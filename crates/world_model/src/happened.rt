@@ -1,3 +1,5 @@
+//! What is known of an event once it happened, for the audit and for whoever asks what became of it.
+
 use crate::seen::Seen;
 use replica::OutFrame;
 use ritas_base::Item;

@@ -1,3 +1,5 @@
+//! All that was hashed in a world, kept so that two things with one image are found.
+
 ghost use Rattle.std.specs.Prelude.{◌≡◌, true, false};
 
 use crate::met::{EntryPair, Met};

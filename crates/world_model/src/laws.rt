@@ -1,3 +1,5 @@
+//! The laws of every world, for whoever runs one: one value at each slot, and agreement, where the audit holds.
+
 ghost use Rattle.std.specs.Prelude.{◌≡◌, List, ◌++◌};
 ghost use Rattle.ritas_base.specs.declared.event.Event.{Event};
 ghost use Rattle.world_model.specs.World.{Setting};

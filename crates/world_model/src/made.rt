@@ -1,3 +1,5 @@
+//! The frames that were made, by sender and receiver and in the order of their making.
+
 ghost use Rattle.std.specs.Prelude.{◌≡◌, ◌≢◌, ◌+◌, ◌-◌, ◌*◌, ◌<◌, ◌≤◌, ℕ, map, length, take, List, [], ◌++◌, OnOk, OnErr, IfOk, replicate};
 ghost use Rattle.std.specs.Option.{option_map};
 ghost use Rattle.replica.specs.declared.frame.OutFrame.{OutFrame};

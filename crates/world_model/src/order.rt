@@ -1,3 +1,5 @@
+//! A frame that was made, and where it stands.
+
 /// A frame that a correct replica made: in which event, by whom, for whom, and its bytes.
 #[derive(Clone, Copy, Debug)]
 pub struct Made<'a> {

@@ -1,3 +1,5 @@
+//! The law of every schedule that players make: no event forges.
+
 ghost use Rattle.world_model.specs.Forging.{ForgingLaw, PlayedAudit, ShortLaw};
 
 use crate::laws::core_laws;

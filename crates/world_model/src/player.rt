@@ -1,3 +1,5 @@
+//! Who takes the steps of a schedule that is made.
+
 /// Who takes the steps of a schedule that is made: a correct replica, or a face of a faulty one.
 #[derive(Clone, Copy, Debug, PartialEq, Eq)]
 pub enum Player {

@@ -1,3 +1,5 @@
+//! The seats of a world: which replicas are correct, and the keys of each, by which frames are told that nobody made.
+
 ghost use Rattle.std.specs.Prelude.{◌≡◌, ℕ, ◌<◌, ◌≤◌, ◌^◌, List, true, false, length, Ok, Some, None, IfOk, IsErr, MatchOption};
 ghost use Rattle.std.specs.List.{slice_get};
 ghost use Rattle.keyed_channel.specs.KeyRow.{KeyRow, shares_key};

@@ -1,3 +1,5 @@
+//! What may become of an event.
+
 use replica::Refusal;
 use ritas_core::Answer;
 

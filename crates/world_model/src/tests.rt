@@ -1,3 +1,5 @@
+//! Tests of what the audit finds: entries that were given or made up, and frames that nobody made.
+
 use crate::audit::Audit;
 use crate::seats::Seats;
 use crate::watch::Watch;

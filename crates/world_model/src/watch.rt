@@ -1,3 +1,5 @@
+//! The audit of a world as its events happen: what broke first, and what is needed to find it.
+
 ghost use Rattle.std.specs.Prelude.{◌≡◌};
 
 use crate::audit::Audit;

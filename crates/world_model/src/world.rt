@@ -1,3 +1,5 @@
+//! A world to which events happen: each is a call on one correct replica, whose frames are kept and audited.
+
 use crate::audit::Audit;
 use crate::events::happen;
 use crate::first::first_replicas;

@@ -1,3 +1,5 @@
+//! Tests of the configuration of keys: each field, and a line that is missing.
+
 use crate::tests::lines::{KEY, MASTER, text_of};
 use crate::{Config, ConfigFault, Job, read_config};
 use std::test::*;

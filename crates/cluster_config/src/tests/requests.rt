@@ -1,3 +1,5 @@
+//! Tests of lists of requests.
+
 use crate::{Request, Requests};
 use ritas_base::Bytes;
 use std::test::*;

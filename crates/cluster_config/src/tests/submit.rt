@@ -1,3 +1,5 @@
+//! Tests of the configuration of a request that is to be handed in: each field.
+
 use crate::tests::lines::text_of;
 use crate::{Config, Job, read_config};
 use std::test::*;

@@ -1,3 +1,5 @@
+//! Tests of the words of command lines: the jobs that they name, and words that name none.
+
 use crate::{Job, WordsFault, read_words};
 use ritas_base::{DriveWhat, What};
 use std::alloc::Global;
