@@ -13,6 +13,8 @@ ghost use Rattle.atomic_bcast.specs.RoundLog.{VectorsAgree};
 ghost use Rattle.atomic_bcast.specs.Appended.{AppendsProposed};
 
 /// The law of what is said: to an input the service says that input, alone, at the command slot of the next number.
+///
+/// It does nothing: its contract is the law.
 pub fn says_commands()
     ensures { (seat : Seat) (w : List Word) (v : List ℕ) → AreProper commands seat (Ask v ∷ w)
         → commands.says seat w (Ask v) ≡ record { slot = command_slot seat.me (asked w); value = v } ∷ [] }
@@ -20,6 +22,8 @@ pub fn says_commands()
 
 /// The law of the base: it is the least number of the origin that was not heard, and what was heard lies less than
 /// 64 above it.
+///
+/// It does nothing: its contract is the law.
 pub fn base_is_least()
     ensures missing { (w : List Word) (o : ℕ) → is_heard w (command_slot o (base_of w o)) ≡ false }
     ensures below { (w : List Word) (o k : ℕ) → k < base_of w o → is_heard w (command_slot o k) ≡ true }

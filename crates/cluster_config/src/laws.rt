@@ -13,6 +13,8 @@ ghost use Rattle.cluster_config.specs.Ranges.{IsVersionOf, FitsPlan, FitsNode, F
 
 /// What is read of a text is its configuration, line by line, and what is its configuration is read of it. Any other text is
 /// refused at its first line that is wrong or missing.
+///
+/// It does nothing: its contract is the law.
 #[tactic(auto, using(crate::proofs::Columns::read_right))]
 pub fn config_laws()
     ensures drive { IsReadRight drive_column }
@@ -23,6 +25,8 @@ pub fn config_laws()
 {}
 
 /// The numbers of lines are those that are printed: decimal digits, without a sign or a leading zero.
+///
+/// It does nothing: its contract is the law.
 pub fn number_law()
     ensures { (text : List ℕ) (n : ℕ) → (numeral text ≡ Some n) ↔ ((n < 2 ^ 64) × (text ≡ decimal n)) }
 {}

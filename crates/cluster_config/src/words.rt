@@ -134,6 +134,8 @@ pub fn read_words(alloc: Global, words: &Vec<String>) -> Result<Job, WordsFault>
 }
 
 /// Where no word after the program's name begins with a hyphen, the words name a job exactly where they are its list.
+///
+/// It does nothing: its contract is the law.
 pub fn words_law()
     ensures { (name : List ℕ) (words : List (List ℕ)) (job : Job) → AllByRecursion (λ w. is_hyphened w ≡ false) words
         → (job_of (name ∷ words) ≡ Some job) ↔ (words ≡ list_of job) }

@@ -17,6 +17,8 @@ ghost use Rattle.frame_codec.specs.Laws.{AnswersGood, AnswersSpelled, InputsFaul
 
 /// An item of the grammar is read again from its one spelling, which has at most 15,952 bytes; bytes spell one item, and
 /// what they are answered as is in the grammar, from the sender, and is what they spell.
+///
+/// It does nothing: its contract is the law.
 pub fn spelled()
     ensures spells { (p : Numbers) (mode : Mode) (item : Item) → IsInGrammar p mode item
         → Spells p mode item.from (spelling item) item }
@@ -29,7 +31,9 @@ pub fn spelled()
     ensures short { (p : Numbers) (mode : Mode) (item : Item) → IsInGrammar p mode item → length (spelling item) ≤ 15952 }
 {}
 
-/// When each fault of a body comes.
+/// Each fault of a body comes exactly where these words about the bytes hold.
+///
+/// It does nothing: its contract is the law.
 pub fn body_faults()
     // There is no kind, or the broadcast of a right slot hasn't it.
     ensures kind { (p : Numbers) (mode : Mode) (from : ℕ) (bytes : List ℕ)
@@ -47,6 +51,8 @@ pub fn body_faults()
 
 /// Whether a value is in the grammar of its slot doesn't depend on the sender, nor on with which of the kinds that carry
 /// values it comes.
+///
+/// It does nothing: its contract is the law.
 pub fn same_value()
     ensures kinds { (p : Numbers) (mode : Mode) (a b : Item) → carries_value (form_of mode a.slot) a.kind ≡ true
         → carries_value (form_of mode b.slot) b.kind ≡ true → is_of_form (form_of mode b.slot) b.kind ≡ true → a.slot ≡ b.slot → a.value ≡ b.value
@@ -62,11 +68,15 @@ pub fn same_value()
 {}
 
 /// Nothing is wrong with bytes exactly where they are an input of the root service.
+///
+/// It does nothing: its contract is the law.
 pub fn right_input()
     ensures { InputsFaultless }
 {}
 
 /// An input is the value of the slots that it is for: in root services 1, 2 and 6 of an origin's command.
+///
+/// It does nothing: its contract is the law.
 pub fn input_is_value()
     ensures value { InputsAreValues }
     ensures slot { CommandSlotsRight }

@@ -17,6 +17,8 @@ ghost use Rattle.frame_codec.specs.Values.{IsColumn, rows_in, row_of, column_byt
 
 /// A value is an identifier list exactly where it spells some identifiers that are one in words: at most 64, ascending,
 /// of replicas, of numbers below 1,000,000, and at most 64 / n of one origin.
+///
+/// It does nothing: its contract is the law.
 pub fn list_law()
     ensures written { (n : ℕ) (xs : List Id) → 0 < length xs → AreIds n xs → Is (ids n) (ids_bytes xs) }
     ensures read { (n : ℕ) (value : List ℕ) → 1 ≤ n → n ≤ 64 → IsBytes value → Is (ids n) value
@@ -26,6 +28,8 @@ pub fn list_law()
 
 /// A value is a vector exactly where it is a mask and one entry of class 2 for each of its places. As many entries pass a
 /// test as replicas have a place with one that does.
+///
+/// It does nothing: its contract is the law.
 pub fn vector_law()
     ensures written { (p : Numbers) (root mask : ℕ) (es : List (List ℕ)) → mask < 2 ^ 32
         → is_places p.n (wait_of p) mask ≡ true → length es ≡ count_ones mask → AllByRecursion (Is (class2 p root)) es
@@ -40,12 +44,16 @@ pub fn vector_law()
 {}
 
 /// A value of class 2 has 1 to 512 bytes.
+///
+/// It does nothing: its contract is the law.
 pub fn class2_is_short()
     ensures { (p : Numbers) (root : ℕ) (value : List ℕ) → Is (class2 p root) value
         → (1 ≤ length value) × (length value ≤ 512) }
 {}
 
 /// A value is a VECT exactly where it is none, which has no bytes, or a mask and a value of class 3.
+///
+/// It does nothing: its contract is the law.
 pub fn vect_law()
     ensures none { (p : Numbers) (root : ℕ) → Is (vect p root) [] }
     ensures written { (p : Numbers) (root mask : ℕ) (inner : List ℕ) → mask < 2 ^ 32
@@ -58,6 +66,8 @@ pub fn vect_law()
 
 /// A value is a column exactly where it is a mask and one row of 32 bytes for each of its places. Each of its rows is
 /// whole.
+///
+/// It does nothing: its contract is the law.
 pub fn column_law()
     ensures written { (n mask : ℕ) (rows : List (List ℕ)) → mask < 2 ^ 32 → is_places n 1 mask ≡ true
         → length rows ≡ count_ones mask → AllByRecursion (λ row. length row ≡ 32) rows
@@ -73,6 +83,8 @@ pub fn column_law()
 
 /// A mask below a power of two has members below its exponent alone, and what stands for a place is found by its number
 /// among them.
+///
+/// It does nothing: its contract is the law.
 pub fn place_law()
     ensures below { (mask n k : ℕ) → mask < 2 ^ n → has_member mask k ≡ true → k < n }
     ensures above { (mask n : ℕ) → ((k : ℕ) → has_member mask k ≡ true → k < n) → mask < 2 ^ n }

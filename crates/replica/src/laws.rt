@@ -4,16 +4,22 @@ ghost use Rattle.replica.specs.Laws.{MadeByEntry, MadeInAll, MadeLength};
 ghost use Rattle.replica.specs.Isolation.{Isolates, UnopenedIsNothing, Confines};
 
 /// A law: the frames that an entry makes for another replica are those for it among the frames that go out by the entry.
+///
+/// It does nothing: its contract is the law.
 pub fn made_by_entry()
     ensures { MadeByEntry }
 {}
 
 /// A law: as many frames were made for a receiver as were counted for it.
+///
+/// It does nothing: its contract is the law.
 pub fn made_length()
     ensures { MadeLength }
 {}
 
 /// A law: an entry makes as many frames as go out by it.
+///
+/// It does nothing: its contract is the law.
 pub fn made_in_all()
     ensures { MadeInAll }
 {}
@@ -21,6 +27,8 @@ pub fn made_in_all()
 /// A law: peers are isolated from each other. What a frame is answered and the frames that it makes are the same in any two
 /// states of one history in which the same items are held for its sender, both stopped or neither. A frame that doesn't open
 /// changes nothing, and one that isn't taken leaves the history, what waits, and what is held for every other peer.
+///
+/// It does nothing: its contract is the law.
 pub fn isolation()
     ensures isolates { Isolates }
     ensures unopened { UnopenedIsNothing }

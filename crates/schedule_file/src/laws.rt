@@ -11,12 +11,16 @@ ghost use Rattle.schedule_file.specs.Faults.{IsMagicFault, IsVersionFault, IsHea
 use crate::fault::FileFault;
 
 /// What is read as a header and events is spelled so, and what is spelled so is read as it.
+///
+/// It does nothing: its contract is the law.
 pub fn file_laws()
     ensures found { (bytes : _) (h : _) (es : _) → IsBytes bytes → file_of bytes ≡ Ok (h, es) → IsFile bytes h es }
     ensures only { (bytes : _) (h : _) (es : _) → IsFile bytes h es → file_of bytes ≡ Ok (h, es) }
 {}
 
-/// When each fault of a file comes.
+/// Each fault of a file comes exactly where these words about the bytes hold.
+///
+/// It does nothing: its contract is the law.
 pub fn file_faults()
     // The first wrong field of the header is the one at this offset.
     ensures magic { (bytes : _) → IsBytes bytes → (file_of bytes ≡ Err FileFault.Magic) ↔ IsMagicFault bytes }
@@ -39,6 +43,8 @@ pub fn file_faults()
 
 /// What the calls of `Writer` write one after the other is a file, which is read back as its header and events. The
 /// newest event is the first of its list.
+///
+/// It does nothing: its contract is the law.
 pub fn writer_laws()
     // First the header, then the text of each event, and at last the end mark.
     ensures first { (h : _) → FrontOf h [] ≡ header_text h }
@@ -57,6 +63,8 @@ pub fn writer_laws()
 
 /// What `read_event` reads is what the bytes begin with, and it reads whatever event they begin with. So it answers `None`
 /// exactly where they begin with no event of that replica.
+///
+/// It does nothing: its contract is the law.
 pub fn own_event_laws()
     ensures found { (me : _) (bytes : _) (e : _) (k : _) → IsBytes bytes → own_event me bytes ≡ Some (e, k) → IsRead me bytes e k }
     ensures only { (me : _) (e : _) (rest : _) → IsOwn me e → own_event me (event_text e ++ rest) ≡ Some (e, length (event_text e)) }

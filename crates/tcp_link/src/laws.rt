@@ -1,4 +1,4 @@
-//! Laws of the definitions. These functions do nothing: their contracts are the laws.
+//! The laws of what a link decides: the order in which it gives, pauses, tokens, and connections that are over.
 
 ghost use Rattle.tcp_link.specs.Queues.{NewsFirst, FramesInOrder, MessagesInOrder};
 ghost use Rattle.tcp_link.specs.Stages.{OverStays, BrokenStays};
@@ -7,6 +7,8 @@ ghost use Rattle.tcp_link.specs.Waits.{PauseEnds};
 
 /// The order in which a link gives what came before its next turn: news, then all frames connection by connection, then one
 /// message of each client. What comes next is the first of all that is given, and the rest follows in the same order.
+///
+/// It does nothing: its contract is the law.
 pub fn gives_in_order()
     ensures news { NewsFirst }
     ensures frames { FramesInOrder }
@@ -14,18 +16,24 @@ pub fn gives_in_order()
 {}
 
 /// What is tried again comes: it is due after 2,000 waits at the latest, however they end.
+///
+/// It does nothing: its contract is the law.
 pub fn pause_ends()
     ensures { PauseEnds }
 {}
 
 /// Two connections have one token only if they stand at one place with one serial number, no connection has the number of a door,
 /// and no two pairs of replicas are noted at one place.
+///
+/// It does nothing: its contract is the law.
 pub fn tokens_are_apart()
     ensures tokens { TokenLaw }
     ensures pairs { PairLaw }
 {}
 
 /// A connection that is over stays over, and one that takes no more bytes never takes any again.
+///
+/// It does nothing: its contract is the law.
 pub fn over_stays()
     ensures over { OverStays }
     ensures broken { BrokenStays }
