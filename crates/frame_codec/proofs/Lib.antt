@@ -3,6 +3,7 @@ pub mod Loops
 pub mod Bodies
 pub mod Spans
 pub mod Places
+pub mod Found
 pub mod Readings
 pub mod Items
 pub mod BodyFaults

@@ -1,11 +1,11 @@
-use Rattle.std.proofs.Common.{◌≡◌, ◌^◌, ◌+◌, ◌-◌, ◌*◌, ◌≤◌, ◌<◌, arith, length, drop, take, ◌∙◌, refl, sym, ap, subst, true, false, ℕ, Bool, List, cond}
+use Rattle.std.proofs.Common.{◌≡◌, ◌+◌, ◌-◌, ◌*◌, ◌≤◌, ◌<◌, arith, length, drop, take, ◌∙◌, refl, sym, ap, true, false, ℕ, Bool, List, cond}
 use Rattle.std.specs.Prelude.{Option, None}
 use Rattle.std.specs.List.{slice_get}
 use Rattle.std.specs.Int.RustNames.{count_ones}
 use Rattle.std.proofs.lemmas.List.{length-drop, length-take-le}
 use Rattle.ritas_base.specs.Members.{has_member, member_count}
 use Rattle.frame_codec.specs.Values.{mask_of, at_place, rows_in, if_whole, row_of}
-use Rattle.frame_codec.proofs.Places.{members_below}
+use Rattle.frame_codec.proofs.Found.{found, found_small}
 use Rattle.frame_codec.specs.RowLaws.{whole_row}
 use Rattle.frame_codec.specs.ColumnLaws.{rows_get, short_row}
 use Rattle.frame_codec.proofs.values.column_entry.Goals as goal
@@ -33,9 +33,8 @@ returns-then-not-has c =
 
 pub rank-requires : goal.rank-requires
 rank-requires c =
-    let has : has_member c.split_mask-places.result.0 c.args.k ≡ true = sym c.has.ensures ∙ c.if-not-has.false in
-    let small = subst (λ (x : ℕ). x < 2 ^ 32) (sym c.split_mask-places.ensures.mask) c.split_mask-places.ensures.small in
-    members_below c.split_mask-places.result.0 32 c.args.k small has
+    let split = c.split_mask-places.ensures in
+    found_small c.split_mask-places.result.0 _ c.args.k split.mask split.small (sym c.has.ensures ∙ c.if-not-has.false)
 
 pub returns-then-rest-start : goal.returns-then-rest-start
 returns-then-rest-start c =
@@ -49,13 +48,11 @@ returns c =
     let v = c.args.value.now in
     let k = c.args.k in
     let mask = mask_of v in
-    let m = c.split_mask-places.ensures.mask in
-    let has : has_member mask k ≡ true = ap (λ (x : ℕ). has_member x k) (sym m) ∙ sym c.has.ensures ∙ c.if-not-has.false in
-    let rank : c.rank.result ≡ member_count k mask = c.rank.ensures.value ∙ ap (member_count k) m in
-    let below : c.rank.result < count_ones mask = subst (λ (x : ℕ). c.rank.result < count_ones x) m (c.rank.ensures.below (sym c.has.ensures ∙ c.if-not-has.false)) in
-    let lt : member_count k mask < count_ones mask = omega (arith, rank, below) in
+    let has = sym c.has.ensures ∙ c.if-not-has.false in
+    let place = found c.split_mask-places.result.0 mask k c.rank.result c.split_mask-places.ensures.mask has c.rank.ensures.value (c.rank.ensures.below has) in
+    let lt : member_count k mask < count_ones mask = omega (arith, place.rank, place.below) in
     let start = 32 * member_count k mask in
-    let long : 32 ≤ length (drop start (drop 4 v)) = omega (arith, rank, ap length c.split_mask-places.ensures.rest, length-drop start (drop 4 v), c.if-rest-start.false) in
+    let long : 32 ≤ length (drop start (drop 4 v)) = omega (arith, place.rank, ap length c.split_mask-places.ensures.rest, length-drop start (drop 4 v), c.if-rest-start.false) in
     let whole = whole_row (take 32 (drop start (drop 4 v))) (length-take-le 32 (drop start (drop 4 v)) long) in
     let width : 32 * c.rank.result + 32 - 32 * c.rank.result ≡ 32 = omega arith in
-    rw (has, rows_get (count_ones mask) (member_count k mask) (drop 4 v) lt, whole, width, c.split_mask-places.ensures.rest, rank) refl
+    rw (place.has, rows_get (count_ones mask) (member_count k mask) (drop 4 v) lt, whole, width, c.split_mask-places.ensures.rest, place.rank) refl
