@@ -1,5 +1,19 @@
 //! What clients and replicas say to each other, and what a client makes of the replies.
 //!
+//! ```rust
+//! use client_port::{Votes, read_request, write_reply, write_request};
+//! use ritas_base::Params;
+//!
+//! // request 1 of client 7, which goes to each of four replicas, one of which may be faulty
+//! let message = write_request(alloc, 7, 1, b"hi")?;
+//! assert!(rt; read_request(message.as_slice()).is_some_and(|request| request.client == 7));
+//! let p = Params::new(4, 1)?;
+//! let mut votes = Votes::new(&p, 7, 1);
+//! assert_eq!(rt; votes.reply(0, &write_reply(7, 1, 5)), Ok(None));
+//! assert_eq!(rt; votes.reply(1, &write_reply(7, 1, 9)), Ok(None));
+//! assert_eq!(rt; votes.reply(2, &write_reply(7, 1, 5)), Ok(Some(5)));
+//! ```
+//!
 //! A client hands its request to several replicas, and each replies the position at which the request stands in its log.
 //! Up to f of them may be faulty and reply anything. So a client takes a position once f + 1 replicas have replied it:
 //! one of these is correct, and has the request there (`position_is_true`). The rule is that of Castro and Liskov,

@@ -1,5 +1,17 @@
 //! The log of commands: one row for each request of a client that atomic broadcast has ordered and that is confirmed.
 //!
+//! ```rust
+//! use command_log::Log;
+//! use ritas_base::Id;
+//!
+//! let mut log = Log::new(alloc, 1);
+//! // request 1 of client 7, which two replicas broadcast
+//! let command = b"\0\0\0\x07\0\0\0\x01hi";
+//! assert_eq!(rt; log.append(alloc, Id { origin: 0, num: 0 }, command)?, None);
+//! assert_eq!(rt; log.append(alloc, Id { origin: 3, num: 0 }, command)?, Some(0));
+//! assert_eq!(rt; log.find(7, 1), Some(0));
+//! ```
+//!
 //! Atomic broadcast is that of Correia, Neves and Veríssimo, "From Consensus to Atomic Broadcast: Time-Free
 //! Byzantine-Resistant Protocols without Signatures" (The Computer Journal, 2006). It orders identifiers, and each stands
 //! for a command that was delivered. A client hands one request to several replicas, and each broadcasts it, so a

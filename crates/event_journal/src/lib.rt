@@ -1,5 +1,21 @@
 //! The journal of a replica: the events that it took, each on a disk before what came of it goes out.
 //!
+//! ```rust
+//! use event_journal::{journal_head, open_journal};
+//! use outside::MemDisk;
+//! use ritas_base::{Event, Mode, Params, Vect};
+//!
+//! let p = Params::new(1, 0)?;
+//! let mode = Mode::new(6, Vect::Echo).ok_or("no mode")?;
+//! let head = journal_head(7, p, mode, 0, &[[0; 32]; 31], &[0; 32]);
+//! let mut disk = MemDisk::new(alloc, b"", 4_096, 100, &[])?;
+//! let (mut journal, _events) = open_journal(alloc, &mut disk, 0, &head)?;
+//! journal.append(alloc, &mut disk, &Event::Turn { at: 0 })?;
+//! // the replica stops here; in its next life the event happens again
+//! let (_journal, events) = open_journal(alloc, &mut disk, 0, &head)?;
+//! assert_eq!(rt; events.len(), 1);
+//! ```
+//!
 //! | Offset | Field | Rule |
 //! |---|---|---|
 //! | 0 | made | 1 where the file is made |

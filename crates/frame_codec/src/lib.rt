@@ -1,5 +1,19 @@
 //! Bodies of messages, the values in them, and inputs, as bytes.
 //!
+//! ```rust
+//! use frame_codec::{read_body, write_body};
+//! use ritas_base::{Kind, Mode, Params, Vect};
+//!
+//! // INIT of "a" at the first command slot of replica 0, in root service 1
+//! let body = b"\x01\x01\0\0\0\0\0\0\0\0a";
+//! let p = Params::new(4, 1)?;
+//! let mode = Mode::new(1, Vect::Echo).ok_or("no mode")?;
+//! let item = read_body(alloc, &p, &mode, 0, body)?;
+//! assert!(rt; item.kind == Kind::Init && item.slot.class == 1);
+//! assert_eq!(rt; item.value.as_slice(), b"a".as_slice());
+//! assert_eq!(rt; write_body(alloc, &item)?.as_slice(), body.as_slice());
+//! ```
+//!
 //! A body is the kind of a message (1 byte), its slot (9 bytes) and a payload. All numbers are big-endian. A mask is 4
 //! bytes, and its bit k stands for replica k.
 //!

@@ -1,6 +1,19 @@
 //! What two replicas prove to each other by a key that they share, and nobody else has: that a frame comes from its
 //! sender, that an entry of the hash matrix is its echoer's, and the coin that a key fixes.
 //!
+//! ```rust
+//! use keyed_channel::{Channel, Keys};
+//! use ritas_base::Params;
+//!
+//! let p = Params::new(4, 1)?;
+//! let sender = Channel::new(alloc, Keys::deal(&[7; 32], 258, &p, 3))?;
+//! let receiver = Channel::new(alloc, Keys::deal(&[7; 32], 258, &p, 1))?;
+//! let frame = sender.seal(alloc, 1, 0, b"a body")?;
+//! let opened = receiver.open(frame.as_slice())?;
+//! assert_eq!(rt; (opened.from, opened.seq), (3, 0));
+//! assert_eq!(rt; opened.body, b"a body".as_slice());
+//! ```
+//!
 //! Every tag is HMAC (RFC 2104) over SHA-256 (FIPS 180-4), with the block of 64 bytes and the pads 0x36 and 0x5c. What
 //! is tagged begins with a byte of its own kind, and all numbers are big-endian:
 //!

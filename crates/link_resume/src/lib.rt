@@ -1,5 +1,17 @@
 //! Frames that were sent and aren't acknowledged yet, kept for each peer so that they can be sent again.
 //!
+//! ```rust
+//! use link_resume::Resume;
+//!
+//! let mut resume = Resume::new(alloc, 4)?;
+//! resume.keep(alloc, 1, 0, b"a frame")?;
+//! resume.keep(alloc, 1, 1, b"the next one")?;
+//! resume.acked(1, 0);
+//! // what goes out again over a new connection to peer 1
+//! assert_eq!(rt; resume.count(1), 1);
+//! assert!(rt; resume.waiting(1, 0).is_some_and(|kept| kept.seq == 1));
+//! ```
+//!
 //! A connection may break with frames on the way. So a replica keeps what it sends to a peer until the peer acknowledges it
 //! by its number, and gives it to the link again when the peer has a connection again, or asks for it. At most 8,388,608
 //! bytes are kept for one peer, so no peer that doesn't answer takes the room of others. Where more is sent, it isn't kept, or

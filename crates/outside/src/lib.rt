@@ -1,6 +1,18 @@
 //! Where bytes come from and where they go, what they are kept on, what a replica has to do with others, and the faults of all of
 //! these.
 //!
+//! ```rust
+//! use outside::{Failed, MemSink, MemSource, Sink, read_whole, write_all};
+//!
+//! let mut source = MemSource::new(alloc, b"abcde", &[])?;
+//! let text = read_whole(alloc, &mut source, 5)?;
+//! // the second call of this sink, of number 1, fails
+//! let mut sink = MemSink::new(alloc, 9, &[1])?;
+//! write_all(&mut sink, &text)?;
+//! assert_eq!(rt; sink.write(b"f"), Err(Failed));
+//! assert_eq!(rt; sink.taken(), b"abcde".as_slice());
+//! ```
+//!
 //! A `Source` gives the bytes that it has left in pieces of its own choice, and a `Sink` takes bytes in pieces. A `Disk` is read and
 //! written at offsets, and synced. A `Link` is started with a plan, gives items, and takes frames and replies. Each counts the calls that failed: a call that fails raises
 //! that count by one, up to its last value, 2^64 - 1, and no other call changes it. A link also counts so the calls that were

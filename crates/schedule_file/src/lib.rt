@@ -1,5 +1,28 @@
 //! The schedule file: what happens to the replicas of a session, event by event.
 //!
+//! ```rust
+//! use outside::{Buffer, MemSource};
+//! use ritas_base::{Event, Mode, Params, SenderSet, Vect};
+//! use schedule_file::{Header, HeaderKeys, Reader, Writer};
+//!
+//! let header = Header {
+//!     session: 7,
+//!     p: Params::new(4, 1)?,
+//!     mode: Mode::new(6, Vect::Echo).ok_or("no mode")?,
+//!     correct: SenderSet::from_mask(0b0111),
+//!     keys: HeaderKeys::Master([7; 32]),
+//! };
+//! let mut file = Buffer::new(alloc);
+//! Writer::start(&mut file, &header)?;
+//! Writer::event(&mut file, &Event::Turn { at: 2 })?;
+//! Writer::end(&mut file)?;
+//! let mut source = MemSource::new(alloc, file.taken(), &[])?;
+//! let (again, mut reader) = Reader::start(alloc, &mut source)?;
+//! assert_eq!(rt; again.session, 7);
+//! assert!(rt; matches!(reader.next(alloc, &mut source), Ok(Some(Event::Turn { at: 2 }))));
+//! assert!(rt; matches!(reader.next(alloc, &mut source), Ok(None)));
+//! ```
+//!
 //! A file has a header, events, and an end mark, at most 67,108,864 bytes. Numbers are big-endian.
 //!
 //! | Offset | Field | Rule |
