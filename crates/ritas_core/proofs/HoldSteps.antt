@@ -17,6 +17,7 @@ use Rattle.ritas_core.specs.Machine.{CoreState, Frame, with_entry, stays, gives}
 use Rattle.ritas_core.specs.Stands.{Meaning, LayersShow, CoreStands}
 use Rattle.ritas_core.specs.CoreCalls.{rules_in, IsLive, Judged, DoesJudged}
 use Rattle.ritas_core.proofs.Goodness.{good_with_kept}
+use Rattle.ritas_core.proofs.Items.{with_items}
 use Rattle.ritas_core.proofs.CallSteps.{nothing_more, frame_moves, moves_by}
 
 -- there is room where no fault says otherwise
@@ -47,25 +48,8 @@ module _ {S E C T : Type 0} (m : Meaning S E C T) where
   -- held items that are as they were
   stays_held : (old : Core S E C T) (h : List (List Kept)) (r : Rules) (st : CoreState) → h ≡ old.held → CoreStands m old r st →
       CoreStands m (record old { held = h }) r st
-  stays_held old h r st same stands = record {
-    rules = stands.rules;
-    own = stands.own;
-    kinds = stands.kinds;
-    session = stands.session;
-    me = stands.me;
-    serves = stands.serves;
-    live = stands.live;
-    history = stands.history;
-    whole = stands.whole;
-    layers = stands.layers;
-    lost = stands.lost;
-    shows = stands.shows;
-    inbox = stands.inbox;
-    held = same ∙ stands.held;
-    peers = stands.peers;
-    good_inbox = stands.good_inbox;
-    good_held = stands.good_held;
-  }
+  stays_held old h r st same stands =
+      with_items m old old.inbox h r st st.inbox st.held stands.inbox (same ∙ stands.held) stands.peers stands.good_inbox stands.good_held stands
 
   module _ (old : Core S E C T) (item : Item) (len : ℕ) (h : List (List Kept)) (sent : List Msg)
       (counted : IsGood (rules_in m old) item → len ≡ body_length item) where

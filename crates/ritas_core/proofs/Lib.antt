@@ -15,9 +15,11 @@ mod ShownCasts
 mod CastSteps
 pub mod Starts
 pub mod ShownLayers
+pub mod Means
 pub mod LayerSteps
 pub mod SendSteps
 pub mod HeldSteps
+pub mod Items
 pub mod CoreSteps
 pub mod JudgeSteps
 pub mod CallSteps

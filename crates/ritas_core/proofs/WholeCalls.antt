@@ -28,6 +28,7 @@ use Rattle.ritas_core.proofs.ShownLayers.{MeansWell}
 use Rattle.ritas_core.proofs.CoreSteps.{laws_of, stops_core}
 use Rattle.ritas_core.proofs.JudgeSteps.{judged_from}
 use Rattle.ritas_core.proofs.Lookup.{found_repeat}
+use Rattle.ritas_core.proofs.Items.{with_items}
 use Rattle.ritas_core.proofs.CallSteps.{not_false, not_true, nothing_more, moved_when_live, moves_by, does_refused}
 
 -- no check of an input fails for want of memory
@@ -87,25 +88,9 @@ module _ {S E C T : Type 0} (m : Meaning S E C T) where
   -- once it has left the inbox, the core stands for the state without it
   front_leaves : (mid : Core S E C T) (q : VecDeque Item Global) (r : Rules) (st : CoreState) (item : Item) → q.items ≡ drop 1 mid.inbox.items →
       CoreStands m mid r (record st { inbox = item ∷ st.inbox }) → CoreStands m (record mid { inbox = q }) r st
-  front_leaves mid q r st item popped stands = record {
-    rules = stands.rules;
-    own = stands.own;
-    kinds = stands.kinds;
-    session = stands.session;
-    me = stands.me;
-    serves = stands.serves;
-    live = stands.live;
-    history = stands.history;
-    whole = stands.whole;
-    layers = stands.layers;
-    lost = stands.lost;
-    shows = stands.shows;
-    inbox = popped ∙ ap (λ (xs : List Item). drop 1 xs) stands.inbox;
-    held = stands.held;
-    peers = stands.peers;
-    good_inbox = stands.good_inbox.1;
-    good_held = stands.good_held;
-  }
+  front_leaves mid q r st item popped stands =
+      with_items m mid q mid.held r (record st { inbox = item ∷ st.inbox }) st.inbox st.held (popped ∙ ap (λ (xs : List Item). drop 1 xs) stands.inbox)
+      stands.held stands.peers stands.good_inbox.1 stands.good_held stands
 
   module _ (old mid : Core S E C T) (item : Item) (rest : List Item) (before after_it : List Msg) (r : Rules) (st : CoreState)
       (live : st.live ≡ true) (whole : st.inbox ≡ item ∷ rest) where

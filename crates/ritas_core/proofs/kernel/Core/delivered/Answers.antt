@@ -1,6 +1,6 @@
 use Rattle.std.proofs.Common.{false, None, Some, inl, inr, sym, ◌∙◌}
 use Rattle.ritas_core.specs.Stands.{Meaning, meaning}
-use Rattle.ritas_core.proofs.ShownLayers.{MeansWell}
+use Rattle.ritas_core.proofs.Means.{means_well}
 use Rattle.ritas_core.proofs.GetterSteps.{delivered_either, delivered_live}
 use Rattle.ritas_core.proofs.kernel.Core.delivered.Goals as goal
 
@@ -9,13 +9,7 @@ returns-in-Some g c =
     let b = g.E.Broadcast in
     let m : Meaning g.row.S.Denot g.row.E.Denot g.row.C.Denot g.row.T.Denot =
     meaning g.S.Service.stands g.S.Service.rules g.S.Service.shown b.stands b.rules b.shown g.C.Coin.bits g.T.Tagger.me g.T.Tagger.tags in
-    let well : MeansWell m = record {
-      values = g.met.E.Broadcast.value_laws;
-      words = g.met.S.Service.word_laws;
-      service_shows = g.met.S.Service.shows;
-      live = b.live;
-      cast_shows = g.met.E.Broadcast.shows;
-    } in
+    let well = means_well m b.live g.met.E.Broadcast.value_laws g.met.S.Service.word_laws g.met.S.Service.shows g.met.E.Broadcast.shows in
     let hides = sym c.if-hides.false ∙ c.hides.ensures in
     let found = sym c.in-Some.ensures.value in
     record {
@@ -32,12 +26,6 @@ returns-in-None-clause-shown g c =
     let b = g.E.Broadcast in
     let m : Meaning g.row.S.Denot g.row.E.Denot g.row.C.Denot g.row.T.Denot =
     meaning g.S.Service.stands g.S.Service.rules g.S.Service.shown b.stands b.rules b.shown g.C.Coin.bits g.T.Tagger.me g.T.Tagger.tags in
-    let well : MeansWell m = record {
-      values = g.met.E.Broadcast.value_laws;
-      words = g.met.S.Service.word_laws;
-      service_shows = g.met.S.Service.shows;
-      live = b.live;
-      cast_shows = g.met.E.Broadcast.shows;
-    } in
+    let well = means_well m b.live g.met.E.Broadcast.value_laws g.met.S.Service.word_laws g.met.S.Service.shows g.met.E.Broadcast.shows in
     let hides = sym c.if-hides.false ∙ c.hides.ensures in
     λ r st stands. delivered_either m well c.args.self.now c.args.slot.now false None hides (sym c.in-None.ensures.value) r st stands

@@ -6,7 +6,7 @@ use Rattle.ritas_core.specs.declared.verdict.Verdict.TheVariants as verdicts
 use Rattle.ritas_core.specs.Stands.{Meaning, meaning}
 use Rattle.ritas_core.specs.LayerCalls.{GivesItem}
 use Rattle.ritas_core.specs.CoreCalls.{DoesJudged}
-use Rattle.ritas_core.proofs.ShownLayers.{MeansWell}
+use Rattle.ritas_core.proofs.Means.{means_well}
 use Rattle.ritas_core.proofs.CallSteps.{refuse_does, again_does}
 use Rattle.ritas_core.proofs.WholeCalls.{front_from}
 use Rattle.ritas_core.proofs.kernel.Core.give_front.Goals as goal
@@ -16,13 +16,7 @@ returns-in-Some-Refuse-clause-does g c =
     let b = g.E.Broadcast in
     let m : Meaning g.row.S.Denot g.row.E.Denot g.row.C.Denot g.row.T.Denot =
     meaning g.S.Service.stands g.S.Service.rules g.S.Service.shown b.stands b.rules b.shown g.C.Coin.bits g.T.Tagger.me g.T.Tagger.tags in
-    let well : MeansWell m = record {
-      values = g.met.E.Broadcast.value_laws;
-      words = g.met.S.Service.word_laws;
-      service_shows = g.met.S.Service.shows;
-      live = b.live;
-      cast_shows = g.met.E.Broadcast.shows;
-    } in
+    let well = means_well m b.live g.met.E.Broadcast.value_laws g.met.S.Service.word_laws g.met.S.Service.shows g.met.E.Broadcast.shows in
     let old = c.args.self.now in
     let sent = c.args.out.now.items in
     front_from m well old old (verdicts.Refuse c.in-Some-Refuse.fault) sent sent (Err c.in-Some-Refuse.fault)
@@ -33,13 +27,7 @@ returns-in-Some-Again-clause-does g c =
     let b = g.E.Broadcast in
     let m : Meaning g.row.S.Denot g.row.E.Denot g.row.C.Denot g.row.T.Denot =
     meaning g.S.Service.stands g.S.Service.rules g.S.Service.shown b.stands b.rules b.shown g.C.Coin.bits g.T.Tagger.me g.T.Tagger.tags in
-    let well : MeansWell m = record {
-      values = g.met.E.Broadcast.value_laws;
-      words = g.met.S.Service.word_laws;
-      service_shows = g.met.S.Service.shows;
-      live = b.live;
-      cast_shows = g.met.E.Broadcast.shows;
-    } in
+    let well = means_well m b.live g.met.E.Broadcast.value_laws g.met.S.Service.word_laws g.met.S.Service.shows g.met.E.Broadcast.shows in
     let old = c.args.self.now in
     let sent = c.args.out.now.items in
     front_from m well old old verdicts.Again sent sent (Ok answers.Repeat)
@@ -50,13 +38,7 @@ returns-in-Ok-clause-does g c =
     let b = g.E.Broadcast in
     let m : Meaning g.row.S.Denot g.row.E.Denot g.row.C.Denot g.row.T.Denot =
     meaning g.S.Service.stands g.S.Service.rules g.S.Service.shown b.stands b.rules b.shown g.C.Coin.bits g.T.Tagger.me g.T.Tagger.tags in
-    let well : MeansWell m = record {
-      values = g.met.E.Broadcast.value_laws;
-      words = g.met.S.Service.word_laws;
-      service_shows = g.met.S.Service.shows;
-      live = b.live;
-      cast_shows = g.met.E.Broadcast.shows;
-    } in
+    let well = means_well m b.live g.met.E.Broadcast.value_laws g.met.S.Service.word_laws g.met.S.Service.shows g.met.E.Broadcast.shows in
     let old = c.args.self.now in
     let sent = c.args.out.now.items in
     front_from m well old c.hold.new.self verdicts.Hold sent sent c.hold.result
@@ -68,13 +50,7 @@ returns-in-Err-clause-does g c =
     let b = g.E.Broadcast in
     let m : Meaning g.row.S.Denot g.row.E.Denot g.row.C.Denot g.row.T.Denot =
     meaning g.S.Service.stands g.S.Service.rules g.S.Service.shown b.stands b.rules b.shown g.C.Coin.bits g.T.Tagger.me g.T.Tagger.tags in
-    let well : MeansWell m = record {
-      values = g.met.E.Broadcast.value_laws;
-      words = g.met.S.Service.word_laws;
-      service_shows = g.met.S.Service.shows;
-      live = b.live;
-      cast_shows = g.met.E.Broadcast.shows;
-    } in
+    let well = means_well m b.live g.met.E.Broadcast.value_laws g.met.S.Service.word_laws g.met.S.Service.shows g.met.E.Broadcast.shows in
     let old = c.args.self.now in
     let sent = c.args.out.now.items in
     front_from m well old old verdicts.Hold sent sent (Err c.in-Err.fault)
@@ -85,13 +61,7 @@ returns-in-Some-Take-clause-does g c =
     let b = g.E.Broadcast in
     let m : Meaning g.row.S.Denot g.row.E.Denot g.row.C.Denot g.row.T.Denot =
     meaning g.S.Service.stands g.S.Service.rules g.S.Service.shown b.stands b.rules b.shown g.C.Coin.bits g.T.Tagger.me g.T.Tagger.tags in
-    let well : MeansWell m = record {
-      values = g.met.E.Broadcast.value_laws;
-      words = g.met.S.Service.word_laws;
-      service_shows = g.met.S.Service.shows;
-      live = b.live;
-      cast_shows = g.met.E.Broadcast.shows;
-    } in
+    let well = means_well m b.live g.met.E.Broadcast.value_laws g.met.S.Service.word_laws g.met.S.Service.shows g.met.E.Broadcast.shows in
     let old = c.args.self.now in
     front_from m well old c.pass_on.new.self verdicts.Take c.args.out.now.items c.pass_on.new.out.items c.pass_on.result
     (rw c.in-Some-Take.field-0-is at c.in-Some-Take.ensures)

@@ -3,7 +3,8 @@ use Rattle.std.proofs.lemmas.List.{length-replicate}
 use Rattle.ritas_core.specs.declared.layers.Layers.{Layers}
 use Rattle.ritas_core.specs.Parts.{nothing}
 use Rattle.ritas_core.specs.Stands.{Meaning, meaning, rules_of, LayersStand}
-use Rattle.ritas_core.proofs.ShownLayers.{MeansWell, layers_show}
+use Rattle.ritas_core.proofs.Means.{means_well}
+use Rattle.ritas_core.proofs.ShownLayers.{layers_show}
 use Rattle.ritas_core.specs.RulesLaws.{kinds_fit}
 use Rattle.ritas_core.proofs.Goodness.{good_none_held}
 use Rattle.ritas_core.proofs.kernel.Core.new.Goals as goal
@@ -13,13 +14,7 @@ returns-clause-stands g c =
     let b = g.E.Broadcast in
     let m : Meaning g.row.S.Denot g.row.E.Denot g.row.C.Denot g.row.T.Denot =
     meaning g.S.Service.stands g.S.Service.rules g.S.Service.shown b.stands b.rules b.shown g.C.Coin.bits g.T.Tagger.me g.T.Tagger.tags in
-    let well : MeansWell m = record {
-      values = g.met.E.Broadcast.value_laws;
-      words = g.met.S.Service.word_laws;
-      service_shows = g.met.S.Service.shows;
-      live = b.live;
-      cast_shows = g.met.E.Broadcast.shows;
-    } in
+    let well = means_well m b.live g.met.E.Broadcast.value_laws g.met.S.Service.word_laws g.met.S.Service.shows g.met.E.Broadcast.shows in
     let layers : Layers g.row.S.Denot g.row.E.Denot g.row.C.Denot g.row.T.Denot = record {
       params = c.args.p;
       mode = c.args.mode;

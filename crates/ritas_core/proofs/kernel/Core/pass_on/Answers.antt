@@ -4,7 +4,7 @@ use Rattle.layer_api.specs.declared.broadcast.Heard.{Heard}
 use Rattle.layer_api.specs.declared.broadcast.Heard.TheVariants as heard
 use Rattle.ritas_core.specs.CoreCalls.{GivesLayers}
 use Rattle.ritas_core.specs.Stands.{Meaning, meaning}
-use Rattle.ritas_core.proofs.ShownLayers.{MeansWell}
+use Rattle.ritas_core.proofs.Means.{means_well}
 use Rattle.ritas_core.proofs.CallSteps.{repeat_does}
 use Rattle.ritas_core.proofs.PassSteps.{finish_does, withdraws_does, fails_does}
 use Rattle.ritas_core.proofs.kernel.Core.pass_on.Goals as goal
@@ -14,13 +14,7 @@ returns-in-Repeat-clause-does g c =
     let b = g.E.Broadcast in
     let m : Meaning g.row.S.Denot g.row.E.Denot g.row.C.Denot g.row.T.Denot =
     meaning g.S.Service.stands g.S.Service.rules g.S.Service.shown b.stands b.rules b.shown g.C.Coin.bits g.T.Tagger.me g.T.Tagger.tags in
-    let well : MeansWell m = record {
-      values = g.met.E.Broadcast.value_laws;
-      words = g.met.S.Service.word_laws;
-      service_shows = g.met.S.Service.shows;
-      live = b.live;
-      cast_shows = g.met.E.Broadcast.shows;
-    } in
+    let well = means_well m b.live g.met.E.Broadcast.value_laws g.met.S.Service.word_laws g.met.S.Service.shows g.met.E.Broadcast.shows in
     let was : c.args.heard ≡ Ok heard.Repeat = c.in-Ok.is ∙ ap (λ (h : Heard). Ok h) c.in-Repeat.is in
     λ old item gives_it. repeat_does m well old c.args.self.now item c.args.made.items c.args.out.now.items (subst (λ (x : Result Heard Mem). GivesLayers m old c.args.self.now item c.args.made.items x) was gives_it)
 
@@ -29,13 +23,7 @@ returns-in-Ok-finish-clause-does g c =
     let b = g.E.Broadcast in
     let m : Meaning g.row.S.Denot g.row.E.Denot g.row.C.Denot g.row.T.Denot =
     meaning g.S.Service.stands g.S.Service.rules g.S.Service.shown b.stands b.rules b.shown g.C.Coin.bits g.T.Tagger.me g.T.Tagger.tags in
-    let well : MeansWell m = record {
-      values = g.met.E.Broadcast.value_laws;
-      words = g.met.S.Service.word_laws;
-      service_shows = g.met.S.Service.shows;
-      live = b.live;
-      cast_shows = g.met.E.Broadcast.shows;
-    } in
+    let well = means_well m b.live g.met.E.Broadcast.value_laws g.met.S.Service.word_laws g.met.S.Service.shows g.met.E.Broadcast.shows in
     let was : c.args.heard ≡ Ok heard.Took = c.in-Ok.is ∙ ap (λ (h : Heard). Ok h) c.in-Took.is in
     λ old item gives_it. finish_does m well old c.args.self.now c.finish.new.self item c.args.made.items
     c.args.out.now.items c.finish.new.out.items (subst (λ (x : Result Heard Mem). GivesLayers m old c.args.self.now item c.args.made.items x) was gives_it) c.in-Ok-finish.ensures.ok
@@ -45,13 +33,7 @@ returns-in-Err-finish-clause-does g c =
     let b = g.E.Broadcast in
     let m : Meaning g.row.S.Denot g.row.E.Denot g.row.C.Denot g.row.T.Denot =
     meaning g.S.Service.stands g.S.Service.rules g.S.Service.shown b.stands b.rules b.shown g.C.Coin.bits g.T.Tagger.me g.T.Tagger.tags in
-    let well : MeansWell m = record {
-      values = g.met.E.Broadcast.value_laws;
-      words = g.met.S.Service.word_laws;
-      service_shows = g.met.S.Service.shows;
-      live = b.live;
-      cast_shows = g.met.E.Broadcast.shows;
-    } in
+    let well = means_well m b.live g.met.E.Broadcast.value_laws g.met.S.Service.word_laws g.met.S.Service.shows g.met.E.Broadcast.shows in
     let was : c.args.heard ≡ Ok heard.Took = c.in-Ok.is ∙ ap (λ (h : Heard). Ok h) c.in-Took.is in
     λ old item gives_it. withdraws_does m well old c.args.self.now c.finish.new.self item c.args.made.items
     c.args.out.now.items c.finish.new.out.items (subst (λ (x : Result Heard Mem). GivesLayers m old c.args.self.now item c.args.made.items x) was gives_it) c.in-Err-finish.ensures.err
@@ -61,11 +43,5 @@ returns-in-Err-clause-does g c =
     let b = g.E.Broadcast in
     let m : Meaning g.row.S.Denot g.row.E.Denot g.row.C.Denot g.row.T.Denot =
     meaning g.S.Service.stands g.S.Service.rules g.S.Service.shown b.stands b.rules b.shown g.C.Coin.bits g.T.Tagger.me g.T.Tagger.tags in
-    let well : MeansWell m = record {
-      values = g.met.E.Broadcast.value_laws;
-      words = g.met.S.Service.word_laws;
-      service_shows = g.met.S.Service.shows;
-      live = b.live;
-      cast_shows = g.met.E.Broadcast.shows;
-    } in
+    let well = means_well m b.live g.met.E.Broadcast.value_laws g.met.S.Service.word_laws g.met.S.Service.shows g.met.E.Broadcast.shows in
     λ old item gives_it. fails_does m well old c.args.self.now item c.args.made.items c.args.out.now.items c.in-Err.field-0 (rw c.in-Err.is at gives_it)

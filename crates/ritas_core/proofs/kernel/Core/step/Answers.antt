@@ -4,7 +4,7 @@ use Rattle.ritas_core.specs.declared.answer.Answer.TheVariants as answers
 use Rattle.ritas_core.specs.declared.verdict.Verdict.TheVariants as verdicts
 use Rattle.ritas_core.specs.LayerCalls.{GivesItem}
 use Rattle.ritas_core.specs.Stands.{Meaning, meaning}
-use Rattle.ritas_core.proofs.ShownLayers.{MeansWell}
+use Rattle.ritas_core.proofs.Means.{means_well}
 use Rattle.ritas_core.proofs.CallSteps.{refuse_does, again_does}
 use Rattle.ritas_core.proofs.WholeCalls.{here_from}
 use Rattle.ritas_core.proofs.kernel.Core.step.Goals as goal
@@ -14,13 +14,7 @@ returns-in-Refuse-clause-does g c =
     let b = g.E.Broadcast in
     let m : Meaning g.row.S.Denot g.row.E.Denot g.row.C.Denot g.row.T.Denot =
     meaning g.S.Service.stands g.S.Service.rules g.S.Service.shown b.stands b.rules b.shown g.C.Coin.bits g.T.Tagger.me g.T.Tagger.tags in
-    let well : MeansWell m = record {
-      values = g.met.E.Broadcast.value_laws;
-      words = g.met.S.Service.word_laws;
-      service_shows = g.met.S.Service.shows;
-      live = b.live;
-      cast_shows = g.met.E.Broadcast.shows;
-    } in
+    let well = means_well m b.live g.met.E.Broadcast.value_laws g.met.S.Service.word_laws g.met.S.Service.shows g.met.E.Broadcast.shows in
     let sent = c.args.out.now.items in
     here_from m well c.args.self.now c.args.self.now (verdicts.Refuse c.in-Refuse.fault) c.args.item
     sent sent (Err c.in-Refuse.fault) c.in-Refuse.ensures
@@ -31,13 +25,7 @@ returns-in-Again-clause-does g c =
     let b = g.E.Broadcast in
     let m : Meaning g.row.S.Denot g.row.E.Denot g.row.C.Denot g.row.T.Denot =
     meaning g.S.Service.stands g.S.Service.rules g.S.Service.shown b.stands b.rules b.shown g.C.Coin.bits g.T.Tagger.me g.T.Tagger.tags in
-    let well : MeansWell m = record {
-      values = g.met.E.Broadcast.value_laws;
-      words = g.met.S.Service.word_laws;
-      service_shows = g.met.S.Service.shows;
-      live = b.live;
-      cast_shows = g.met.E.Broadcast.shows;
-    } in
+    let well = means_well m b.live g.met.E.Broadcast.value_laws g.met.S.Service.word_laws g.met.S.Service.shows g.met.E.Broadcast.shows in
     let sent = c.args.out.now.items in
     here_from m well c.args.self.now c.args.self.now verdicts.Again c.args.item
     sent sent (Ok answers.Repeat) c.in-Again.ensures
@@ -48,13 +36,7 @@ returns-in-Hold-clause-does g c =
     let b = g.E.Broadcast in
     let m : Meaning g.row.S.Denot g.row.E.Denot g.row.C.Denot g.row.T.Denot =
     meaning g.S.Service.stands g.S.Service.rules g.S.Service.shown b.stands b.rules b.shown g.C.Coin.bits g.T.Tagger.me g.T.Tagger.tags in
-    let well : MeansWell m = record {
-      values = g.met.E.Broadcast.value_laws;
-      words = g.met.S.Service.word_laws;
-      service_shows = g.met.S.Service.shows;
-      live = b.live;
-      cast_shows = g.met.E.Broadcast.shows;
-    } in
+    let well = means_well m b.live g.met.E.Broadcast.value_laws g.met.S.Service.word_laws g.met.S.Service.shows g.met.E.Broadcast.shows in
     let sent = c.args.out.now.items in
     here_from m well c.args.self.now c.hold.new.self verdicts.Hold c.args.item
     sent sent c.hold.result c.in-Hold.ensures
@@ -65,13 +47,7 @@ returns-in-Take-clause-does g c =
     let b = g.E.Broadcast in
     let m : Meaning g.row.S.Denot g.row.E.Denot g.row.C.Denot g.row.T.Denot =
     meaning g.S.Service.stands g.S.Service.rules g.S.Service.shown b.stands b.rules b.shown g.C.Coin.bits g.T.Tagger.me g.T.Tagger.tags in
-    let well : MeansWell m = record {
-      values = g.met.E.Broadcast.value_laws;
-      words = g.met.S.Service.word_laws;
-      service_shows = g.met.S.Service.shows;
-      live = b.live;
-      cast_shows = g.met.E.Broadcast.shows;
-    } in
+    let well = means_well m b.live g.met.E.Broadcast.value_laws g.met.S.Service.word_laws g.met.S.Service.shows g.met.E.Broadcast.shows in
     let old = c.args.self.now in
     let given = subst (λ (before : List Msg). GivesItem m old.layers c.take-heard.new.self c.args.item before c.take-heard.new.made.items c.take-heard.result)
     c.new-made.ensures.items c.take-heard.ensures.given in

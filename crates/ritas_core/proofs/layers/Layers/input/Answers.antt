@@ -8,7 +8,8 @@ use Rattle.ritas_core.specs.Casts.{MayStartAll}
 use Rattle.ritas_core.specs.Stands.{Meaning, meaning, rules_of}
 use Rattle.ritas_core.specs.LayerCalls.{CanTell}
 use Rattle.ritas_core.proofs.TestLaws.{on_err_here}
-use Rattle.ritas_core.proofs.ShownLayers.{MeansWell, service_fails, starts_fail}
+use Rattle.ritas_core.proofs.Means.{means_well}
+use Rattle.ritas_core.proofs.ShownLayers.{service_fails, starts_fail}
 use Rattle.ritas_core.proofs.layers.Layers.input.Goals as goal
 
 pub returns-in_err-input-clause-missed : goal.returns-in_err-input-clause-missed
@@ -16,13 +17,7 @@ returns-in_err-input-clause-missed g c =
     let b = g.E.Broadcast in
     let m : Meaning g.row.S.Denot g.row.E.Denot g.row.C.Denot g.row.T.Denot =
     meaning g.S.Service.stands g.S.Service.rules g.S.Service.shown b.stands b.rules b.shown g.C.Coin.bits g.T.Tagger.me g.T.Tagger.tags in
-    let well : MeansWell m = record {
-      values = g.met.E.Broadcast.value_laws;
-      words = g.met.S.Service.word_laws;
-      service_shows = g.met.S.Service.shows;
-      live = b.live;
-      cast_shows = g.met.E.Broadcast.shows;
-    } in
+    let well = means_well m b.live g.met.E.Broadcast.value_laws g.met.S.Service.word_laws g.met.S.Service.shows g.met.E.Broadcast.shows in
     let old = c.args.self.now in
     on_err_here c.from_residual.result (service_fails m well old c.input.new.self (Ask c.args.value.now)
     (λ p can. c.in_err-input.ensures.shows (seat_of (rules_of m old)) p.words can.stood.service can.may.0))
@@ -32,13 +27,7 @@ returns-clause-missed g c =
     let b = g.E.Broadcast in
     let m : Meaning g.row.S.Denot g.row.E.Denot g.row.C.Denot g.row.T.Denot =
     meaning g.S.Service.stands g.S.Service.rules g.S.Service.shown b.stands b.rules b.shown g.C.Coin.bits g.T.Tagger.me g.T.Tagger.tags in
-    let well : MeansWell m = record {
-      values = g.met.E.Broadcast.value_laws;
-      words = g.met.S.Service.word_laws;
-      service_shows = g.met.S.Service.shows;
-      live = b.live;
-      cast_shows = g.met.E.Broadcast.shows;
-    } in
+    let well = means_well m b.live g.met.E.Broadcast.value_laws g.met.S.Service.word_laws g.met.S.Service.shows g.met.E.Broadcast.shows in
     let old = c.args.self.now in
     let r = rules_of m old in
     let said : (p : Parts) → CanTell m old (Ask c.args.value.now) p → c.as_slice.result.now ≡ m.service.says (seat_of r) p.words (Ask c.args.value.now) = λ p can.

@@ -9,7 +9,8 @@ use Rattle.ritas_core.specs.Cast.{CastStandsAt, shown_by}
 use Rattle.ritas_core.specs.CastCalls.{CastsTake, CastsHear}
 use Rattle.ritas_core.specs.Stands.{Meaning, meaning}
 use Rattle.ritas_core.specs.LayerCalls.{GivesItem}
-use Rattle.ritas_core.proofs.ShownLayers.{MeansWell, cast_fails}
+use Rattle.ritas_core.proofs.Means.{means_well}
+use Rattle.ritas_core.proofs.ShownLayers.{cast_fails}
 use Rattle.ritas_core.proofs.LayerSteps.{heard_item, heard_none}
 use Rattle.ritas_core.proofs.layers.Layers.take.Goals as goal
 
@@ -31,13 +32,7 @@ returns-in_err-hear-in-Took-Some-clause-given g c =
     let b = g.E.Broadcast in
     let m : Meaning g.row.S.Denot g.row.E.Denot g.row.C.Denot g.row.T.Denot =
     meaning g.S.Service.stands g.S.Service.rules g.S.Service.shown b.stands b.rules b.shown g.C.Coin.bits g.T.Tagger.me g.T.Tagger.tags in
-    let well : MeansWell m = record {
-      values = g.met.E.Broadcast.value_laws;
-      words = g.met.S.Service.word_laws;
-      service_shows = g.met.S.Service.shows;
-      live = b.live;
-      cast_shows = g.met.E.Broadcast.shows;
-    } in
+    let well = means_well m b.live g.met.E.Broadcast.value_laws g.met.S.Service.word_laws g.met.S.Service.shows g.met.E.Broadcast.shows in
     let old = c.args.self.now in
     let rules = casts_by old.mode old.params old.me (m.tags old.tagger) m.cast in
     let is_taken : c.in_ok-take_cast.field-0 ≡ Took (Some c.in-Took-Some.value) = c.in-Took-Some.is ∙ ap Took c.in-Took-Some.field-0-is in
@@ -54,13 +49,7 @@ returns-in_err-take_cast-clause-given g c =
     let b = g.E.Broadcast in
     let m : Meaning g.row.S.Denot g.row.E.Denot g.row.C.Denot g.row.T.Denot =
     meaning g.S.Service.stands g.S.Service.rules g.S.Service.shown b.stands b.rules b.shown g.C.Coin.bits g.T.Tagger.me g.T.Tagger.tags in
-    let well : MeansWell m = record {
-      values = g.met.E.Broadcast.value_laws;
-      words = g.met.S.Service.word_laws;
-      service_shows = g.met.S.Service.shows;
-      live = b.live;
-      cast_shows = g.met.E.Broadcast.shows;
-    } in
+    let well = means_well m b.live g.met.E.Broadcast.value_laws g.met.S.Service.word_laws g.met.S.Service.shows g.met.E.Broadcast.shows in
     let old = c.args.self.now in
     let p = err_from_is_err_and c.from_residual.result c.from_residual.ensures.1 in
     subst (λ (r : Result Heard Mem). GivesItem m old (record old { casts = c.take_cast.new.casts }) c.args.item.now c.args.made.now.items c.take_cast.new.made.items r) (sym p.1)
