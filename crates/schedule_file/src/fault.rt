@@ -1,4 +1,4 @@
-//! Which faults a schedule file may have, each with its place.
+//! Why a schedule file is refused: its first fault from the left; or why it couldn't be read.
 
 ghost use Rattle.std.specs.Prelude.{◌≡◌};
 ghost use Rattle.schedule_file.specs.declared.fault.FileFault.TheVariants as faults;

@@ -1,4 +1,4 @@
-//! How far a reader is: what it answered last stays so where the file ended or has a fault.
+//! How far a reader is: an end that was read stays, and so does a fault.
 
 use crate::fault::FileFault;
 

@@ -1,4 +1,4 @@
-//! The seats of a world: which replicas are correct, and the keys of each, by which frames are told that nobody made.
+//! The seats of a world: which replicas are correct, and the keys of each, by which a frame that nobody made is told.
 
 ghost use Rattle.std.specs.Prelude.{◌≡◌, ℕ, ◌<◌, ◌≤◌, ◌^◌, List, true, false, length, Ok, Some, None, IfOk, IsErr, MatchOption};
 ghost use Rattle.std.specs.List.{slice_get};
