@@ -1,4 +1,5 @@
 pub mod Numbers
+pub mod Limits
 pub mod Members
 pub mod MemberLaws
 pub mod Slots

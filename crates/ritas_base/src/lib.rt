@@ -6,6 +6,7 @@ mod event;
 mod id;
 mod item;
 mod laws;
+mod limits;
 mod mode;
 mod params;
 mod plan;
@@ -22,6 +23,9 @@ pub use event::Event;
 pub use id::Id;
 pub use item::{Item, Kind, Msg, Say, To};
 pub use laws::order_of_bytes;
+pub use limits::{
+    LEAST_REQUEST, LONGEST_FRAME, LONGEST_INPUT, NUMBER_LIMIT, REQUEST_FRONT, limits_are,
+};
 pub use mode::{FrameVersion, Mode, Vect};
 pub use params::{ParamFault, Params};
 pub use plan::{Attack, Order, Plan};

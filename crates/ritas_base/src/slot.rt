@@ -4,6 +4,7 @@ ghost use Rattle.std.specs.Prelude.{◌≡◌, Some, None, MatchResult, OnOk, if
 ghost use Rattle.ritas_base.specs.Numbers.{IsSession};
 ghost use Rattle.ritas_base.specs.Slots.{slot_fault, slot_bytes, by_echo, form_of, has_class, has_count, within};
 
+use crate::limits::NUMBER_LIMIT;
 use crate::mode::{FrameVersion, Mode, Vect};
 use crate::params::Params;
 
@@ -93,7 +94,7 @@ impl Slot {
         if !has_class(mode.root, self.class) {
             return Err(SlotFault::Closed);
         }
-        if self.a >= 1_000_000 || self.a != 0 && mode.root >= 3 && mode.root <= 5 {
+        if self.a >= NUMBER_LIMIT || self.a != 0 && mode.root >= 3 && mode.root <= 5 {
             return Err(SlotFault::Number);
         }
         let tries = if mode.root >= 5 && self.class >= 3 {
