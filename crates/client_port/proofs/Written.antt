@@ -6,6 +6,7 @@ use Rattle.std.proofs.lemmas.List.{get_or-take, get_or-drop, get_or_past, length
 use Rattle.std.proofs.lemmas.Bool.{cases_Bool, ltb-true, ltb-false, and_from, and_parts, le-leb, leb-true, lt-ltb, eq-eqb, cond-true}
 use Rattle.std.proofs.lemmas.Option.{cond_some}
 use Rattle.std.proofs.lemmas.Nat.{be_bytes_4, from_be_bytes-to_be_bytes_4}
+use Rattle.ritas_base.specs.Limits.{request_front, least_request, longest_input}
 use Rattle.client_port.specs.Messages.{Request, number_at, request_bytes, request_in, parts_of, form_in, client_in, request_number_in, number_in, reply_bytes}
 use Rattle.client_port.specs.Votes.{Wanted, Call, is_wanted, replied, settled, fault_of, answer_but, answer_of}
 use Rattle.client_port.specs.Laws.{RequestIsRead, RequestWasWritten, position_from, refusal_from, PositionIsRead, RefusalIsRead}
@@ -16,14 +17,15 @@ pub request_is_read : RequestIsRead
 unfolding request_in number_at
 request_is_read r room =
     let bytes = request_bytes r in
-    let long : length bytes ≡ length r.payload + 8 = omega arith in
+    let long : length bytes ≡ length r.payload + request_front = omega arith in
+    let least = room.least in
     let short = room.payload in
-    let fits : (nat_le 8 (length bytes) && nat_le (length bytes) 4096) ≡ true =
-    and_from (nat_le 8 (length bytes)) (nat_le (length bytes) 4096) (le-leb 8 (length bytes) (omega arith)) (le-leb (length bytes) 4096 (omega arith)) in
+    let fits : (nat_le least_request (length bytes) && nat_le (length bytes) longest_input) ≡ true =
+    and_from (nat_le least_request (length bytes)) (nat_le (length bytes) longest_input) (le-leb least_request (length bytes) (omega arith)) (le-leb (length bytes) longest_input (omega arith)) in
     let client : number_at 0 bytes ≡ r.client = from_be_bytes-to_be_bytes_4 r.client room.client in
     let request : number_at 4 bytes ≡ r.request = from_be_bytes-to_be_bytes_4 r.request room.request in
     let made : ℕ → ℕ → Request = λ x y. record { client = x; request = y; payload = r.payload } in
-    cond-true (nat_le 8 (length bytes) && nat_le (length bytes) 4096) (Some (parts_of bytes)) None fits
+    cond-true (nat_le least_request (length bytes) && nat_le (length bytes) longest_input) (Some (parts_of bytes)) None fits
     ∙ ap Some (ap₂ made client request)
 
 bytes_small : (bytes : List ℕ) → ((k : ℕ) → slice_index bytes k < 256) → (k : ℕ) → get_or (take 4 bytes) k 0 < 256
@@ -43,13 +45,13 @@ slice_small bytes small k = let fits = small (4 + k) in rw (get_or-drop 4 bytes 
 four : (bytes : List ℕ) → ((k : ℕ) → slice_index bytes k < 256) → 4 ≤ length bytes → to_be_bytes w32 (from_be_bytes w32 (take 4 bytes)) ≡ take 4 bytes
 four bytes small long = be_bytes_4 (take 4 bytes) (from_be_bytes w32 (take 4 bytes)) (length-take-le 4 bytes long) (bytes_small bytes small) refl
 
-rewritten : (bytes : List ℕ) → ((k : ℕ) → slice_index bytes k < 256) → 8 ≤ length bytes → request_bytes (parts_of bytes) ≡ bytes
+rewritten : (bytes : List ℕ) → ((k : ℕ) → slice_index bytes k < 256) → request_front ≤ length bytes → request_bytes (parts_of bytes) ≡ bytes
 unfolding number_at
 rewritten bytes small long =
     let rest = drop 4 bytes in
     let client = four bytes small (omega (arith, long)) in
     let request = four rest (slice_small bytes small) (omega (arith, long, length-drop 4 bytes)) in
-    let join : List ℕ → List ℕ → List ℕ = λ a b. a ++ (b ++ drop 8 bytes) in
+    let join : List ℕ → List ℕ → List ℕ = λ a b. a ++ (b ++ drop request_front bytes) in
     ap₂ join client request
     ∙ (ap (λ l. take 4 bytes ++ (take 4 rest ++ l)) (sym (drop-drop 4 4 bytes))
     ∙ (ap (λ l. take 4 bytes ++ l) (take-append-drop 4 rest) ∙ take-append-drop 4 bytes))
@@ -57,10 +59,10 @@ rewritten bytes small long =
 pub request_was_written : RequestWasWritten
 unfolding request_in
 request_was_written bytes r small e =
-    let fits = nat_le 8 (length bytes) && nat_le (length bytes) 4096 in
+    let fits = nat_le least_request (length bytes) && nat_le (length bytes) longest_input in
     let is = cond_some fits (parts_of bytes) r e in
-    let long = leb-true 8 (length bytes) (and_parts (nat_le 8 (length bytes)) (nat_le (length bytes) 4096) is.0).0 in
-    sym (rewritten bytes small long) ∙ ap request_bytes is.1
+    let long = leb-true least_request (length bytes) (and_parts (nat_le least_request (length bytes)) (nat_le (length bytes) longest_input) is.0).0 in
+    sym (rewritten bytes small (omega (arith, long))) ∙ ap request_bytes is.1
 
 -- ---- replies
 

@@ -1,6 +1,7 @@
 -- What a client may rely on, and that what is written is read.
-use Rattle.std.specs.Prelude.{◌≡◌, ℕ, ◌-◌, ◌^◌, ◌<◌, ◌≤◌, Bool, true, List, [], ◌∷◌, length, slice_index, count_by, Option, Some, None, Ok, Err}
+use Rattle.std.specs.Prelude.{◌≡◌, ℕ, ◌+◌, ◌-◌, ◌^◌, ◌<◌, ◌≤◌, Bool, true, List, [], ◌∷◌, length, slice_index, count_by, Option, Some, None, Ok, Err}
 use Rattle.ritas_base.specs.History.{replicas}
+use Rattle.ritas_base.specs.Limits.{request_front, least_request, longest_payload}
 use Rattle.client_port.specs.Messages.{Request, request_bytes, request_in, position_reply, refusal_reply}
 use Rattle.client_port.specs.Votes.{Wanted, Call, said, replied, settled, answer_of}
 use Rattle.client_port.specs.declared.votes.ReplyFault.TheVariants.{Refused}
@@ -31,11 +32,13 @@ PositionLaw = (w : Wanted) (is_correct : ℕ → Bool) (log : ℕ → Option ℕ
 
 -- ---- requests
 
--- numbers that fit four bytes, and a payload that is short enough
+-- numbers that fit four bytes, and a payload that is short enough, and long enough for the least request: with a least of
+-- `request_front` it may be empty
 pub record HasRoom (r : Request) : Type 0 where
   pub client : r.client < 2 ^ 32
   pub request : r.request < 2 ^ 32
-  pub payload : length r.payload ≤ 4088
+  pub least : least_request ≤ request_front + length r.payload
+  pub payload : length r.payload ≤ longest_payload
 
 -- what is written is read
 abbrev pub RequestIsRead : Type 0

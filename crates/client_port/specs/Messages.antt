@@ -1,6 +1,7 @@
 -- What clients and replicas say to each other: requests and replies, as lists of bytes. Numbers have four bytes, the most significant first.
 use Rattle.std.specs.Prelude.{ℕ, ◌&&◌, nat_le, List, ◌∷◌, ◌++◌, length, take, drop, slice_index, Option, Some, None, if◌then◌else◌}
 use Rattle.std.specs.Int.{w32, to_be_bytes, from_be_bytes}
+use Rattle.ritas_base.specs.Limits.{request_front, least_request, longest_input}
 
 -- the number in the four bytes from a place on
 unfoldable pub number_at : ℕ → List ℕ → ℕ
@@ -19,11 +20,11 @@ abbrev pub request_bytes : Request → List ℕ
 request_bytes r = to_be_bytes w32 r.client ++ (to_be_bytes w32 r.request ++ r.payload)
 
 abbrev pub parts_of : List ℕ → Request
-parts_of bytes = record { client = number_at 0 bytes; request = number_at 4 bytes; payload = drop 8 bytes }
+parts_of bytes = record { client = number_at 0 bytes; request = number_at 4 bytes; payload = drop request_front bytes }
 
--- the request that a message is, which has 8 to 4,096 bytes
+-- the request that a message is, which has `least_request` (8) to `longest_input` (4,096) bytes
 unfoldable pub request_in : List ℕ → Option Request
-request_in bytes = if nat_le 8 (length bytes) && nat_le (length bytes) 4096 then Some (parts_of bytes) else None
+request_in bytes = if nat_le least_request (length bytes) && nat_le (length bytes) longest_input then Some (parts_of bytes) else None
 
 -- ---- replies
 

@@ -1,7 +1,8 @@
 -- Worked rows: four replicas, of which one may be faulty, and request 1 of client 7.
-use Rattle.std.specs.Prelude.{◌≡◌, ℕ, ◌<◌, ◌^◌, Bool, true, nat_lt, List, [], ◌∷◌, codes, length, replicate, Option, Some, None, Ok, Err, refl, if◌then◌else◌}
+use Rattle.std.specs.Prelude.{◌≡◌, ℕ, ◌+◌, ◌^◌, Bool, true, nat_lt, List, [], ◌∷◌, codes, length, replicate, Option, Some, None, Ok, Err, refl, if◌then◌else◌}
 use Rattle.std.proofs.Common.{arith, lit<, lit≤}
 use Rattle.std.proofs.lemmas.Bool.{lt-ltb}
+use Rattle.ritas_base.specs.Limits.{longest_payload}
 use Rattle.client_port.specs.Laws.{HasRoom, IsFromLog, IsLogged, PositionLaw}
 use Rattle.client_port.specs.Messages.{Request, number_at, request_bytes, request_in, position_reply, refusal_reply}
 use Rattle.client_port.specs.Votes.{Wanted, Call, tally, fault_of, answer_of}
@@ -115,10 +116,10 @@ other_request = refl
 abbrev asks : List ℕ → Request
 asks payload = record { client = 4294967295; request = 4294967295; payload = payload }
 
-longest : (payload : List ℕ) → length payload ≡ 4088 → HasRoom (asks payload)
-longest payload long = record { client = lit< tt; request = lit< tt; payload = omega (arith, long) }
+longest : (payload : List ℕ) → length payload ≡ longest_payload → HasRoom (asks payload)
+longest payload long = record { client = lit< tt; request = lit< tt; least = omega (arith, long); payload = omega (arith, long) }
 
-one_byte_more : (payload : List ℕ) → length payload ≡ 4089 → HasRoom (asks payload) → ⊥
+one_byte_more : (payload : List ℕ) → length payload ≡ longest_payload + 1 → HasRoom (asks payload) → ⊥
 one_byte_more payload long room = let within = room.payload in omega (arith, long, within)
 
 five_bytes : (payload : List ℕ) (client : ℕ) → client ≡ 2 ^ 32 → HasRoom (record { client = client; request = 1; payload = payload }) → ⊥

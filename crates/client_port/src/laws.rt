@@ -11,7 +11,7 @@ pub fn position_is_true()
     ensures { PositionLaw }
 {}
 
-/// The laws of requests: one that is written, with a payload of at most 4,088 bytes, is read as it was, and what is read
+/// The laws of requests: one that is written, with a payload of at most `longest_payload` (4,088) bytes, is read as it was, and what is read
 /// was written so.
 ///
 /// It does nothing: its contract is the law.

@@ -1,17 +1,12 @@
 //! Requests, read and written: a client's number, its number for the request, and what is asked.
 
 ghost use Rattle.std.specs.Prelude.{◌≡◌, ◌<◌, ◌⊎◌, ◌↔◌, length, Some, None, MatchOption, IfOk};
+ghost use Rattle.ritas_base.specs.Limits.{least_request, longest_input};
 ghost use Rattle.client_port.specs.Messages.{request_in, request_bytes};
 
 use crate::number::number_at;
-use ritas_base::{Bytes, Mem};
+use ritas_base::{Bytes, LEAST_REQUEST, LONGEST_INPUT, Mem, REQUEST_FRONT};
 use std::alloc::Global;
-
-// The bytes of the client's number and of the request's.
-const LEAST_LEN: usize = 8;
-
-// The bytes of the longest request.
-const MOST_LEN: usize = 4096;
 
 /// A request, as the bytes of a message have it.
 #[derive(Clone, Copy, Debug)]
@@ -26,21 +21,21 @@ pub struct RequestView<'a> {
 
 /// The request that a message is: two numbers of four bytes, the most significant first, and the payload behind them.
 ///
-/// `None` is answered exactly where the message has under 8 bytes or over 4,096.
+/// `None` is answered exactly where the message has under `LEAST_REQUEST` (8) bytes or over `LONGEST_INPUT` (4,096).
 #[tactic(auto, unfolding(crate::specs::Messages::request_in))]
 pub fn read_request(bytes: &[u8]) -> Option<RequestView<'_>>
-    ensures none { (result ≡ None) ↔ ((length bytes.now < 8) ⊎ (4096 < length bytes.now)) }
+    ensures none { (result ≡ None) ↔ ((length bytes.now < least_request) ⊎ (longest_input < length bytes.now)) }
     ensures parts { MatchOption result
         (request_in bytes.now ≡ None)
         (λ r. request_in bytes.now ≡ Some (record { client = r.client; request = r.request; payload = r.payload.now })) }
 {
-    if bytes.len() < LEAST_LEN || bytes.len() > MOST_LEN {
+    if bytes.len() < LEAST_REQUEST || bytes.len() > LONGEST_INPUT {
         return None;
     }
     Some(RequestView {
         client: number_at(bytes, 0),
         request: number_at(bytes, 4),
-        payload: &bytes[LEAST_LEN..],
+        payload: &bytes[REQUEST_FRONT..],
     })
 }
 

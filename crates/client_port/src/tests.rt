@@ -1,7 +1,7 @@
 //! Tests of the bytes of requests and replies, and of two replies of four that settle a position.
 
 use super::*;
-use ritas_base::Params;
+use ritas_base::{LONGEST_INPUT, Params};
 
 const HI: &[u8] = b"\0\0\0\x07\0\0\0\x01hi";
 
@@ -14,7 +14,8 @@ fn requests_of_eight_bytes_or_more(rt: HostRuntime) {
     assert!(rt; request.client == 16_909_060 && request.request == 4_294_901_244);
     assert!(rt; request.payload.is_empty());
     assert!(rt; read_request(b"\0\0\0\x07\0\0\0").is_none() && read_request(b"").is_none());
-    assert!(rt; read_request(&[0; 4096]).is_some() && read_request(&[0; 4097]).is_none());
+    assert!(rt; read_request(&[0; LONGEST_INPUT]).is_some());
+    assert!(rt; read_request(&[0; LONGEST_INPUT + 1]).is_none());
 }
 
 #[test]
