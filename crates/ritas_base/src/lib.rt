@@ -24,7 +24,8 @@ pub use id::Id;
 pub use item::{Item, Kind, Msg, Say, To};
 pub use laws::order_of_bytes;
 pub use limits::{
-    LEAST_REQUEST, LONGEST_FRAME, LONGEST_INPUT, NUMBER_LIMIT, REQUEST_FRONT, limits_are,
+    LEAST_REQUEST, LONGEST_FRAME, LONGEST_INPUT, LONGEST_PAYLOAD, NUMBER_LIMIT, REQUEST_FRONT,
+    limits_are,
 };
 pub use mode::{FrameVersion, Mode, Vect};
 pub use params::{ParamFault, Params};

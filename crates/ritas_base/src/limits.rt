@@ -1,6 +1,6 @@
 //! The limits that several crates speak of, each defined once in `specs/Limits.antt`.
 ghost use Rattle.std.specs.Prelude.{◌≡◌};
-ghost use Rattle.ritas_base.specs.Limits.{number_limit, request_front, least_request, longest_input, longest_frame};
+ghost use Rattle.ritas_base.specs.Limits.{number_limit, request_front, least_request, longest_input, longest_payload, longest_frame};
 
 /// Commands and rounds are numbered below this.
 pub const NUMBER_LIMIT: u32 = 1_000_000;
@@ -14,6 +14,9 @@ pub const LEAST_REQUEST: usize = REQUEST_FRONT;
 /// An input has at most so many bytes: a command, a request or a value that is proposed.
 pub const LONGEST_INPUT: usize = 4_096;
 
+/// And so what a request asks has at most so many.
+pub const LONGEST_PAYLOAD: usize = LONGEST_INPUT - REQUEST_FRONT;
+
 /// A frame has at most so many bytes.
 pub const LONGEST_FRAME: usize = 16_384;
 
@@ -25,5 +28,6 @@ pub fn limits_are()
     ensures front { REQUEST_FRONT ≡ request_front }
     ensures least { LEAST_REQUEST ≡ least_request }
     ensures input { LONGEST_INPUT ≡ longest_input }
+    ensures payload { LONGEST_PAYLOAD ≡ longest_payload }
     ensures frame { LONGEST_FRAME ≡ longest_frame }
 {}
