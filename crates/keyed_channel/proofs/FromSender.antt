@@ -9,6 +9,8 @@ use Rattle.std.proofs.lemmas.Nat.{be_bytes_8}
 use Rattle.std.proofs.lemmas.Bool.{leb-true, ltb-true, eqb-true, eqb-false}
 use Rattle.std.proofs.lemmas.Bool.Decides.{leb_tells}
 use Rattle.std.proofs.lemmas.Slice.Eq.{bytes_eq-Decides}
+use Rattle.ritas_base.specs.Limits.{longest_frame}
+use Rattle.keyed_channel.specs.Lengths.{tag_length, frame_overhead, least_frame}
 use Rattle.keyed_channel.specs.Hmac.{hmac_of}
 use Rattle.keyed_channel.specs.KeyRow.{KeyRow, key_with}
 use Rattle.keyed_channel.specs.Keyed.{dealt_for}
@@ -37,7 +39,7 @@ five_passed true true true true false h = cc
 five_passed true true true true true h = record { long = refl; short = refl; version = refl; mine = refl; peer = refl }
 
 pub passed : (k : KeyRow) (bytes : List ℕ) → plain_fault k bytes ≡ None
-    → AllPassed (nat_le 43 (length bytes)) (nat_le (length bytes) 16384) (version_of bytes == version_byte k.version) (receiver_of bytes == k.me) (is_peer k (sender_of bytes))
+    → AllPassed (nat_le least_frame (length bytes)) (nat_le (length bytes) longest_frame) (version_of bytes == version_byte k.version) (receiver_of bytes == k.me) (is_peer k (sender_of bytes))
 passed k bytes h = five_passed _ _ _ _ _ h
 
 pub both_true : (a b : Bool) → (a && b) ≡ true → (a ≡ true) × (b ≡ true)
@@ -84,10 +86,10 @@ word_is xs from long small =
     let size : length word ≡ 8 = omega (arith, length-take 8 (drop from xs), length-drop from xs) in
     sym (be_bytes_8 word (from_be_bytes w64 word) size (word_small xs from small) refl)
 
-front_is : (version : FrameVersion) (xs : List ℕ) (j : ℕ) → 43 ≤ length xs → ((k : ℕ) → slice_index xs k < 256) → version_of xs ≡ version_byte version → receiver_of xs ≡ j
+front_is : (version : FrameVersion) (xs : List ℕ) (j : ℕ) → frame_overhead ≤ length xs → ((k : ℕ) → slice_index xs k < 256) → version_of xs ≡ version_byte version → receiver_of xs ≡ j
     → front_of xs ≡ frame_front version (sender_of xs) j (seq_of xs) (body_of xs)
 front_is version xs j long small one mine =
-    split_front xs (length xs - 32) (omega arith) (omega arith)
+    split_front xs (length xs - tag_length) (omega arith) (omega arith)
     ∙ ap₂ (λ (v r : ℕ). v ∷ sender_of xs ∷ r ∷ (slice_range xs 3 11 ++ body_of xs)) one mine
     ∙ ap (λ l. version_byte version ∷ sender_of xs ∷ j ∷ (l ++ body_of xs)) (word_is xs 3 (omega arith) small)
 
@@ -105,15 +107,15 @@ from_sender version master session n j bytes j_in small plain tagged =
     let k = dealt_for version master session n j in
     let by = dealt_for version master session n i in
     let tests = passed k bytes plain in
-    let long : 43 ≤ length bytes = leb-true 43 (length bytes) tests.long in
+    let long : least_frame ≤ length bytes = leb-true least_frame (length bytes) tests.long in
     let peer = both_true (nat_lt i n) (not (i == j)) tests.peer in
     let i_in : i < n = ltb-true i n peer.0 in
-    let front = front_is version bytes j long small (eqb-true _ _ tests.version) (eqb-true _ _ tests.mine) in
+    let front = front_is version bytes j (omega (arith, long)) small (eqb-true _ _ tests.version) (eqb-true _ _ tests.mine) in
     let key : key_with k i ≡ key_with by j =
     key_with-dealt master session n j i i_in ∙ pair_key_swapped master session j i ∙ sym (key_with-dealt master session n i j j_in) in
     let tag = sym ((bytes_eq-Decides (hmac_of (key_with k i) (front_of bytes)) (tag_of bytes)).0 tagged) ∙ ap₂ hmac_of key front in
     let other : i ≢ j = eqb-false i j (not_true (i == j) peer.1) in
-    (i_in, other, sym (take-append-drop (length bytes - 32) bytes) ∙ ap₂ (λ (x y : List ℕ). x ++ y) front tag)
+    (i_in, other, sym (take-append-drop (length bytes - tag_length) bytes) ∙ ap₂ (λ (x y : List ℕ). x ++ y) front tag)
 
 pub opens_sealed_holds : OpensSealed
 opens_sealed_holds version master session n j bytes o j_in small opens =
@@ -141,4 +143,4 @@ opened_from_peer_holds k bytes o opens =
 pub opened_parts_hold : OpenedParts
 opened_parts_hold k bytes o opens =
     let t = opening_ok k bytes o opens in
-    (leb-true 43 (length bytes) (passed k bytes t.0).long, sym t.2)
+    (leb-true least_frame (length bytes) (passed k bytes t.0).long, sym t.2)

@@ -5,6 +5,7 @@ use Rattle.std.proofs.lemmas.List.{take-append-drop}
 use Rattle.std.proofs.lemmas.Bool.{ltb-true, eqb-true, eqb-false}
 use Rattle.std.proofs.lemmas.Slice.Eq.{bytes_eq-Decides}
 use Rattle.ritas_base.specs.declared.mode.FrameVersion.{FrameVersion}
+use Rattle.keyed_channel.specs.Lengths.{tag_length, note_front_length, note_length}
 use Rattle.keyed_channel.specs.Hmac.{hmac_of}
 use Rattle.keyed_channel.specs.KeyRow.{KeyRow, key_with}
 use Rattle.keyed_channel.specs.Keyed.{dealt_for}
@@ -26,10 +27,10 @@ four (a ∷ b ∷ []) h = absurd (omega (arith, h))
 four (a ∷ b ∷ c ∷ []) h = absurd (omega (arith, h))
 four (a ∷ b ∷ c ∷ d ∷ xs) h = refl
 
-front_is : (xs : List ℕ) (j : ℕ) → length xs ≡ 44 → ((k : ℕ) → slice_index xs k < 256) → is_note xs ≡ true → receiver_of xs ≡ j
+front_is : (xs : List ℕ) (j : ℕ) → length xs ≡ note_length → ((k : ℕ) → slice_index xs k < 256) → is_note xs ≡ true → receiver_of xs ≡ j
     → front_of xs ≡ note_front (sender_of xs) j (form_of xs) (number_of xs)
 front_is xs j long small note mine =
-    let size : length xs - 32 ≡ 12 = omega (arith, long) in
+    let size : length xs - tag_length ≡ note_front_length = omega (arith, long) in
     ap (λ m. take m xs) size ∙ four xs (omega (arith, long))
     ∙ ap₂ (λ (v r : ℕ). v ∷ sender_of xs ∷ r ∷ form_of xs ∷ slice_range xs 4 12) (eqb-true _ _ note) mine
     ∙ ap (λ l. 0x4e ∷ sender_of xs ∷ j ∷ form_of xs ∷ l) (word_is xs 4 (omega (arith, long)) small)
@@ -47,7 +48,7 @@ from_sender version master session n j bytes j_in small plain tagged =
     let i = sender_of bytes in
     let k = dealt_for version master session n j in
     let by = dealt_for version master session n i in
-    let long = both_true (length bytes == 44) (is_note bytes && (receiver_of bytes == j && is_peer k i)) plain in
+    let long = both_true (length bytes == note_length) (is_note bytes && (receiver_of bytes == j && is_peer k i)) plain in
     let note = both_true (is_note bytes) (receiver_of bytes == j && is_peer k i) long.1 in
     let mine = both_true (receiver_of bytes == j) (is_peer k i) note.1 in
     let peer = both_true (nat_lt i n) (not (i == j)) mine.1 in
@@ -56,7 +57,7 @@ from_sender version master session n j bytes j_in small plain tagged =
     let key : key_with k i ≡ key_with by j =
     key_with-dealt master session n j i i_in ∙ pair_key_swapped master session j i ∙ sym (key_with-dealt master session n i j j_in) in
     let tag = sym ((bytes_eq-Decides (hmac_of (key_with k i) (front_of bytes)) (tag_of bytes)).0 tagged) ∙ ap₂ hmac_of key front in
-    (i_in, eqb-false i j (not_true (i == j) peer.1), sym (take-append-drop (length bytes - 32) bytes) ∙ ap₂ (λ (x y : List ℕ). x ++ y) front tag)
+    (i_in, eqb-false i j (not_true (i == j) peer.1), sym (take-append-drop (length bytes - tag_length) bytes) ∙ ap₂ (λ (x y : List ℕ). x ++ y) front tag)
 
 -- and by what its parts are
 from_parts : (version : FrameVersion) (master : List ℕ) (session n j : ℕ) (bytes : List ℕ) (i form number : ℕ)
@@ -124,7 +125,7 @@ notes_sealed_holds version master session n j bytes j_in small = (acked version 
 plain_peer : (k : KeyRow) (bytes : List ℕ) → is_plain_note k bytes ≡ true → (sender_of bytes < k.n) × (sender_of bytes ≢ k.me)
 plain_peer k bytes plain =
     let i = sender_of bytes in
-    let long = both_true (length bytes == 44) (is_note bytes && (receiver_of bytes == k.me && is_peer k i)) plain in
+    let long = both_true (length bytes == note_length) (is_note bytes && (receiver_of bytes == k.me && is_peer k i)) plain in
     let note = both_true (is_note bytes) (receiver_of bytes == k.me && is_peer k i) long.1 in
     let mine = both_true (receiver_of bytes == k.me) (is_peer k i) note.1 in
     let peer = both_true (nat_lt i k.n) (not (i == k.me)) mine.1 in

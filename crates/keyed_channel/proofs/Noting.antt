@@ -7,6 +7,8 @@ use Rattle.std.proofs.lemmas.Bool.{eqb-true, le-leb, lt-ltb, eq-eqb, ne_eqb}
 use Rattle.std.proofs.lemmas.Slice.Eq.{bytes_eq-Decides}
 use Rattle.ritas_base.specs.declared.mode.FrameVersion.{FrameVersion}
 use Rattle.ritas_base.specs.declared.mode.FrameVersion.TheVariants.{One, Two}
+use Rattle.ritas_base.specs.Limits.{longest_frame}
+use Rattle.keyed_channel.specs.Lengths.{least_frame, note_length}
 use Rattle.keyed_channel.specs.Hmac.{hmac_of}
 use Rattle.keyed_channel.specs.KeyRow.{KeyRow, key_with}
 use Rattle.keyed_channel.specs.Keyed.{dealt_for}
@@ -53,7 +55,7 @@ version_wrong v bytes note = ap (λ (b : ℕ). b == version_byte v) (eqb-true (v
 
 pub no_frames : NotesAreNoFrames
 no_frames k bytes note =
-    elim (short_or_long (nat_le 43 (length bytes)) (nat_le (length bytes) 16384) (version_of bytes == version_byte k.version) (receiver_of bytes == k.me) (is_peer k (sender_of bytes)) (version_wrong k.version bytes note)) [
+    elim (short_or_long (nat_le least_frame (length bytes)) (nat_le (length bytes) longest_frame) (version_of bytes == version_byte k.version) (receiver_of bytes == k.me) (is_peer k (sender_of bytes)) (version_wrong k.version bytes note)) [
       | inl short ↦ inl (opening_plain k bytes Short short)
       | inr other ↦ elim other [
         | inl long ↦ inr (inl (opening_plain k bytes Long long))
@@ -64,15 +66,15 @@ no_frames k bytes note =
 wrong_only : (a b c d e : Bool) → a ≡ true → b ≡ true → c ≡ false → five a b c d e ≡ Some Version
 wrong_only a b c d e pa pb pc = rw (pa, pb, pc)
 
-pub length-sealed_note : (by : KeyRow) (to form number : ℕ) → length (sealed_note by to form number) ≡ 44
+pub length-sealed_note : (by : KeyRow) (to form number : ℕ) → length (sealed_note by to form number) ≡ note_length
 length-sealed_note by to form number = omega (arith, length-append (note_front by.me to form number) (hmac_of (key_with by to) (note_front by.me to form number)), length-hmac_of (key_with by to) (note_front by.me to form number))
 
 pub has_version : NoteHasVersion
 has_version k by to form number =
     let bytes = sealed_note by to form number in
     let size = length-sealed_note by to form number in
-    let enough : nat_le 43 (length bytes) ≡ true = le-leb 43 (length bytes) (omega (arith, size)) in
-    let most : nat_le (length bytes) 16384 ≡ true = le-leb (length bytes) 16384 (omega (arith, size)) in
+    let enough : nat_le least_frame (length bytes) ≡ true = le-leb least_frame (length bytes) (omega (arith, size)) in
+    let most : nat_le (length bytes) longest_frame ≡ true = le-leb (length bytes) longest_frame (omega (arith, size)) in
     opening_plain k bytes Version (wrong_only _ _ (version_of bytes == version_byte k.version) (receiver_of bytes == k.me) (is_peer k (sender_of bytes)) enough most (no_version k.version))
 
 -- ---- what is noted

@@ -8,6 +8,8 @@ use Rattle.std.proofs.lemmas.Bool.{le-leb, lt-ltb, eq-eqb, ne_eqb, lt-leb}
 use Rattle.std.proofs.lemmas.Slice.Eq.{bytes_eq-Decides}
 use Rattle.sha2.proofs.Facts256.{length-sha256}
 use Rattle.sha2.specs.Sha256.{sha256}
+use Rattle.ritas_base.specs.Limits.{longest_frame}
+use Rattle.keyed_channel.specs.Lengths.{head_length, tag_length, least_frame}
 use Rattle.keyed_channel.specs.Hmac.{hmac_of, pad}
 use Rattle.keyed_channel.specs.KeyRow.{key_with}
 use Rattle.keyed_channel.specs.Keyed.{dealt_for}
@@ -18,12 +20,11 @@ use Rattle.keyed_channel.specs.declared.frame.OpenFault.TheVariants.{Long}
 use Rattle.keyed_channel.proofs.Opens.{five_pass, too_long, opening_plain, opening_ok, opening_tagged}
 use Rattle.keyed_channel.proofs.Dealt.{key_with-dealt, pair_key_swapped}
 
--- a tag has 32 bytes
-pub length-hmac_of : (key text : List ℕ) → length (hmac_of key text) ≡ 32
+pub length-hmac_of : (key text : List ℕ) → length (hmac_of key text) ≡ tag_length
 unfolding hmac_of
 length-hmac_of key text = length-sha256 (pad 0x5c key ++ sha256 (pad 0x36 key ++ text))
 
-length-front : (version : FrameVersion) (from to seq : ℕ) (body : List ℕ) → length (frame_front version from to seq body) ≡ length body + 11
+length-front : (version : FrameVersion) (from to seq : ℕ) (body : List ℕ) → length (frame_front version from to seq body) ≡ length body + head_length
 length-front version from to seq body = omega arith
 
 pub sealed_length_holds : SealedLength
@@ -33,22 +34,22 @@ sealed_length_holds k to seq body =
     omega (arith, length-append front tag, length-front k.version k.me to seq body, length-hmac_of (key_with k to) front)
 
 -- a front with a tag behind it comes apart again
-pub front_is : (front tag : List ℕ) → length tag ≡ 32 → front_of (front ++ tag) ≡ front
+pub front_is : (front tag : List ℕ) → length tag ≡ tag_length → front_of (front ++ tag) ≡ front
 front_is front tag long =
-    let at : length (front ++ tag) - 32 ≡ length front = omega (arith, length-append front tag) in
+    let at : length (front ++ tag) - tag_length ≡ length front = omega (arith, length-append front tag) in
     ap (λ k. take k (front ++ tag)) at ∙ take-append_seam front tag
 
-pub tag_is : (front tag : List ℕ) → length tag ≡ 32 → tag_of (front ++ tag) ≡ tag
+pub tag_is : (front tag : List ℕ) → length tag ≡ tag_length → tag_of (front ++ tag) ≡ tag
 tag_is front tag long =
-    let at : length (front ++ tag) - 32 ≡ length front = omega (arith, length-append front tag) in
+    let at : length (front ++ tag) - tag_length ≡ length front = omega (arith, length-append front tag) in
     ap (λ k. drop k (front ++ tag)) at ∙ drop-append_seam front tag
 
-parts_are : (version : FrameVersion) (from to seq : ℕ) (body tag : List ℕ) → seq < 2 ^ 64 → length tag ≡ 32
+parts_are : (version : FrameVersion) (from to seq : ℕ) (body tag : List ℕ) → seq < 2 ^ 64 → length tag ≡ tag_length
     → parts_of (frame_front version from to seq body ++ tag) ≡ record { from = from; seq = seq; body = body }
 parts_are version from to seq body tag small long =
     let bytes = frame_front version from to seq body ++ tag in
     let number : seq_of bytes ≡ seq = from_be_bytes-to_be_bytes_8 seq small in
-    let at : length bytes - 32 - 11 ≡ length body = omega (arith, length-append body tag) in
+    let at : length bytes - tag_length - head_length ≡ length body = omega (arith, length-append body tag) in
     let said : body_of bytes ≡ body = ap (λ k. take k (body ++ tag)) at ∙ take-append_seam body tag in
     let opening_of : ℕ → List ℕ → Opening = λ q b. record { from = from; seq = q; body = b } in
     ap₂ opening_of number said
@@ -66,8 +67,8 @@ pub sealed_long_holds : SealedLong
 sealed_long_holds k by to seq body long =
     let bytes = sealed by to seq body in
     let size = sealed_length_holds by to seq body in
-    let enough : nat_le 43 (length bytes) ≡ true = le-leb 43 (length bytes) (omega arith) in
-    let over : nat_le (length bytes) 16384 ≡ false = lt-leb (length bytes) 16384 (omega arith) in
+    let enough : nat_le least_frame (length bytes) ≡ true = le-leb least_frame (length bytes) (omega arith) in
+    let over : nat_le (length bytes) longest_frame ≡ false = lt-leb (length bytes) longest_frame (omega arith) in
     opening_plain k bytes Long (too_long _ _ (version_of bytes == version_byte k.version) (receiver_of bytes == k.me) (is_peer k (sender_of bytes)) enough over)
 
 -- the tag is right at the other end
@@ -85,13 +86,13 @@ tagged_there version master session n i j seq body i_in j_in =
     (bytes_eq-Decides (hmac_of theirs (front_of (front ++ tag))) (tag_of (front ++ tag))).1 wanted
 
 pub sealed_opens_holds : SealedOpens
-sealed_opens_holds version master session n i j seq body i_in j_in ne small short =
+sealed_opens_holds version master session n i j seq body i_in j_in ne small enough_body short =
     let k = dealt_for version master session n j in
     let by = dealt_for version master session n i in
     let bytes = sealed by j seq body in
     let size = sealed_length_holds by j seq body in
-    let enough : nat_le 43 (length bytes) ≡ true = le-leb 43 (length bytes) (omega arith) in
-    let most : nat_le (length bytes) 16384 ≡ true = le-leb (length bytes) 16384 (omega arith) in
+    let enough : nat_le least_frame (length bytes) ≡ true = le-leb least_frame (length bytes) (omega arith) in
+    let most : nat_le (length bytes) longest_frame ≡ true = le-leb (length bytes) longest_frame (omega arith) in
     let peer : is_peer k i ≡ true = ap₂ (λ (x y : Bool). x && not y) (lt-ltb i n i_in) (ne_eqb i j ne) in
     let plain : plain_fault k bytes ≡ None =
     five_pass _ _ _ _ _ enough most (eq-eqb (version_byte version) (version_byte version) refl) (eq-eqb j j refl) peer in

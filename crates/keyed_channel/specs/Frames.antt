@@ -4,6 +4,8 @@ use Rattle.std.specs.Int.{w64, to_be_bytes, from_be_bytes}
 use Rattle.std.specs.Str.{bytes_eq}
 use Rattle.ritas_base.specs.declared.mode.FrameVersion.{FrameVersion}
 use Rattle.ritas_base.specs.declared.mode.FrameVersion.TheVariants.{One, Two}
+use Rattle.ritas_base.specs.Limits.{longest_frame}
+use Rattle.keyed_channel.specs.Lengths.{head_length, tag_length, least_frame}
 use Rattle.keyed_channel.specs.Hmac.{hmac_of}
 use Rattle.keyed_channel.specs.KeyRow.{KeyRow, key_with}
 use Rattle.keyed_channel.specs.declared.frame.OpenFault.{OpenFault}
@@ -36,16 +38,16 @@ abbrev pub receiver_of : List ℕ → ℕ
 receiver_of bytes = slice_index bytes 2
 
 abbrev pub seq_of : List ℕ → ℕ
-seq_of bytes = from_be_bytes w64 (slice_range bytes 3 11)
+seq_of bytes = from_be_bytes w64 (slice_range bytes 3 head_length)
 
 abbrev pub body_of : List ℕ → List ℕ
-body_of bytes = slice_range bytes 11 (length bytes - 32)
+body_of bytes = slice_range bytes head_length (length bytes - tag_length)
 
 abbrev pub front_of : List ℕ → List ℕ
-front_of bytes = take (length bytes - 32) bytes
+front_of bytes = take (length bytes - tag_length) bytes
 
 abbrev pub tag_of : List ℕ → List ℕ
-tag_of bytes = drop (length bytes - 32) bytes
+tag_of bytes = drop (length bytes - tag_length) bytes
 
 -- ---- opening
 
@@ -65,8 +67,8 @@ is_peer k j = nat_lt j k.n && not (j == k.me)
 -- the tests that need no key, each with the fault where it fails
 abbrev pub plain_tests : KeyRow → List ℕ → List (Bool × OpenFault)
 plain_tests k bytes =
-    (nat_le 43 (length bytes), faults.Short)
-    ∷ (nat_le (length bytes) 16384, faults.Long)
+    (nat_le least_frame (length bytes), faults.Short)
+    ∷ (nat_le (length bytes) longest_frame, faults.Long)
     ∷ (version_of bytes == version_byte k.version, faults.Version)
     ∷ (receiver_of bytes == k.me, faults.NotMine)
     ∷ (is_peer k (sender_of bytes), faults.NoSuchReplica)

@@ -2,6 +2,7 @@
 use Rattle.std.specs.Prelude.{◌≡◌, ◌≢◌, ℕ, ◌+◌, ◌^◌, ◌<◌, ◌≤◌, ◌⊎◌, List, length, slice_index, true, Some, Ok, Err}
 use Rattle.ritas_base.specs.declared.slot.Slot.{Slot}
 use Rattle.ritas_base.specs.declared.mode.FrameVersion.{FrameVersion}
+use Rattle.keyed_channel.specs.Lengths.{frame_overhead, least_frame, longest_body}
 use Rattle.keyed_channel.specs.KeyRow.{KeyRow}
 use Rattle.keyed_channel.specs.Keyed.{pair_key, dealt, dealt_for, entry_of, tags_of}
 use Rattle.keyed_channel.specs.Frames.{sealed, receiver_of, parts_of, opening, Opening}
@@ -9,9 +10,10 @@ use Rattle.keyed_channel.specs.declared.frame.OpenFault.TheVariants.{Short, Long
 use Rattle.keyed_channel.specs.Notes.{sealed_note, ack_note, again_note, is_note, noted}
 use Rattle.keyed_channel.specs.declared.note.Note.TheVariants.{Ack, Again}
 
--- what i seals for j opens at j
+-- what i seals for j opens at j, where the frame is as long as one that opens
 abbrev pub SealedOpens : Type 0
-SealedOpens = (version : FrameVersion) (master : List ℕ) (session n i j seq : ℕ) (body : List ℕ) → i < n → j < n → i ≢ j → seq < 2 ^ 64 → length body ≤ 16341
+SealedOpens = (version : FrameVersion) (master : List ℕ) (session n i j seq : ℕ) (body : List ℕ) → i < n → j < n → i ≢ j → seq < 2 ^ 64
+    → least_frame ≤ length body + frame_overhead → length body ≤ longest_body
     → opening (dealt_for version master session n j) (sealed (dealt_for version master session n i) j seq body) ≡ Ok (record { from = i; seq = seq; body = body })
 
 -- what opens at j is what its sender seals, another replica
@@ -30,17 +32,17 @@ abbrev pub OpenedFromPeer : Type 0
 OpenedFromPeer = (k : KeyRow) (bytes : List ℕ) (o : Opening) → opening k bytes ≡ Ok o
     → (o.from < k.n) × (o.from ≢ k.me) × (receiver_of bytes ≡ k.me)
 
--- whatever opens has 43 bytes at least, and says its parts
+-- whatever opens is as long as the shortest frame, and says its parts
 abbrev pub OpenedParts : Type 0
-OpenedParts = (k : KeyRow) (bytes : List ℕ) (o : Opening) → opening k bytes ≡ Ok o → (43 ≤ length bytes) × (o ≡ parts_of bytes)
+OpenedParts = (k : KeyRow) (bytes : List ℕ) (o : Opening) → opening k bytes ≡ Ok o → (least_frame ≤ length bytes) × (o ≡ parts_of bytes)
 
--- a frame has 43 bytes beside its body
+-- a frame has its overhead beside its body
 abbrev pub SealedLength : Type 0
-SealedLength = (k : KeyRow) (to seq : ℕ) (body : List ℕ) → length (sealed k to seq body) ≡ length body + 43
+SealedLength = (k : KeyRow) (to seq : ℕ) (body : List ℕ) → length (sealed k to seq body) ≡ length body + frame_overhead
 
 -- a longer body's frame is too long
 abbrev pub SealedLong : Type 0
-SealedLong = (k by : KeyRow) (to seq : ℕ) (body : List ℕ) → 16341 < length body → opening k (sealed by to seq body) ≡ Err Long
+SealedLong = (k by : KeyRow) (to seq : ℕ) (body : List ℕ) → longest_body < length body → opening k (sealed by to seq body) ≡ Err Long
 
 -- a replica may be asked for the entries that it has a part in
 abbrev pub MayAsk : ℕ → ℕ → ℕ → Type 0
@@ -86,6 +88,6 @@ abbrev pub NotesAreNoFrames : Type 0
 NotesAreNoFrames = (k : KeyRow) (bytes : List ℕ) → is_note bytes ≡ true
     → (opening k bytes ≡ Err Short) ⊎ (opening k bytes ≡ Err Long) ⊎ (opening k bytes ≡ Err Version)
 
--- a note of 44 bytes has a wrong version
+-- a note has a wrong version
 abbrev pub NoteHasVersion : Type 0
 NoteHasVersion = (k by : KeyRow) (to form number : ℕ) → opening k (sealed_note by to form number) ≡ Err Version

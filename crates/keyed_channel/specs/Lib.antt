@@ -1,3 +1,4 @@
+pub mod Lengths
 pub mod Hmac
 pub mod KeyRow
 pub mod Keyed

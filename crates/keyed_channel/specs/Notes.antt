@@ -1,6 +1,7 @@
 -- Notes between two replicas: that a frame was taken, and that frames are to be sent again.
 use Rattle.std.specs.Prelude.{ℕ, Bool, ◌==◌, ◌&&◌, List, ◌∷◌, ◌++◌, length, slice_index, slice_range, Option, Some, None, if◌then◌else◌}
 use Rattle.std.specs.Int.{w64, to_be_bytes, from_be_bytes}
+use Rattle.keyed_channel.specs.Lengths.{note_front_length, note_length}
 use Rattle.keyed_channel.specs.Hmac.{hmac_of}
 use Rattle.keyed_channel.specs.KeyRow.{KeyRow, key_with}
 use Rattle.keyed_channel.specs.Frames.{version_of, sender_of, receiver_of, is_peer, is_tagged}
@@ -30,7 +31,7 @@ abbrev pub form_of : List ℕ → ℕ
 form_of bytes = slice_index bytes 3
 
 abbrev pub number_of : List ℕ → ℕ
-number_of bytes = from_be_bytes w64 (slice_range bytes 4 12)
+number_of bytes = from_be_bytes w64 (slice_range bytes 4 note_front_length)
 
 -- what a form and a number say
 abbrev pub note_of : ℕ → ℕ → ℕ → Option Note
@@ -38,7 +39,7 @@ note_of from form number = if form == 1 then Some (Ack from number) else if form
 
 -- the tests that need no key: its length, its first byte, that it is for me, and that it is of another replica
 abbrev pub is_plain_note : KeyRow → List ℕ → Bool
-is_plain_note k bytes = length bytes == 44 && (is_note bytes && (receiver_of bytes == k.me && is_peer k (sender_of bytes)))
+is_plain_note k bytes = length bytes == note_length && (is_note bytes && (receiver_of bytes == k.me && is_peer k (sender_of bytes)))
 
 -- what a note says, if it is one, for me and from another replica, with a right tag
 unfoldable pub noted : KeyRow → List ℕ → Option Note

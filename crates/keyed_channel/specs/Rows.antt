@@ -1,6 +1,7 @@
 -- Worked rows.
-use Rattle.std.specs.Prelude.{◌≡◌, [], ◌∷◌, replicate, length, Some, None, Err, refl}
+use Rattle.std.specs.Prelude.{◌≡◌, ◌-◌, [], ◌∷◌, replicate, length, Some, None, Err, refl}
 use Rattle.ritas_base.specs.declared.slot.Slot.{Slot}
+use Rattle.keyed_channel.specs.Lengths.{least_frame}
 use Rattle.keyed_channel.specs.KeyRow.{KeyRow, filled_row}
 use Rattle.keyed_channel.specs.Keyed.{pair_string, coin_key_string, entry_string, coin_string, other_of}
 use Rattle.ritas_base.specs.declared.mode.FrameVersion.TheVariants.{One, Two}
@@ -45,8 +46,8 @@ other_rows = (refl, refl, refl)
 abbrev keys_row : KeyRow
 keys_row = record { session = 7; n = 4; me = 1; row = filled_row (replicate 4 (replicate 32 9)); version = One }
 
--- 42 bytes are too few, and then the first byte, the receiver and the sender are tested
-opening_rows : (opening keys_row (replicate 42 1) ≡ Err Short)
+-- one byte less than the shortest frame is too few, and then the first byte, the receiver and the sender are tested
+opening_rows : (opening keys_row (replicate (least_frame - 1) 1) ≡ Err Short)
     × (opening keys_row (2 ∷ 1 ∷ 0 ∷ replicate 40 0) ≡ Err Version)
     × (opening keys_row (1 ∷ 1 ∷ 0 ∷ replicate 40 0) ≡ Err NotMine)
     × (opening keys_row (1 ∷ 1 ∷ 1 ∷ replicate 40 0) ≡ Err NoSuchReplica)
@@ -72,7 +73,7 @@ note_row = refl
 note_rows : (note_of 3 1 258 ≡ Some (Ack 3 258)) × (note_of 3 2 0 ≡ Some (Again 3)) × (note_of 3 2 1 ≡ None) × (note_of 3 0 0 ≡ None) × (note_of 3 3 0 ≡ None)
 note_rows = (refl, refl, refl, refl, refl)
 
--- 44 bytes that begin as a note don't open as a frame, and without its tag it is no note
+-- what begins as a note doesn't open as a frame, and without its tag it is no note
 note_opening_row : opening keys_row (0x4e ∷ 0 ∷ 1 ∷ 1 ∷ replicate 40 0) ≡ Err Version
 unfolding opening
 note_opening_row = refl

@@ -8,9 +8,10 @@ ghost use Rattle.keyed_channel.specs.Keyed.{entry_of, tags_of};
 ghost use Rattle.keyed_channel.specs.Frames.{sealed, opening};
 ghost use Rattle.keyed_channel.specs.Notes.{sealed_note, ack_note, again_note, noted};
 
-use crate::frame::{OpenFault, Opened, TAG_LEN, check, front, parts, tagged};
+use crate::frame::{OpenFault, Opened, check, front, parts, tagged};
 use crate::hashed_key::HashedKey;
 use crate::keys::Keys;
+use crate::lengths::{NOTE_LEN, TAG_LEN};
 use crate::note::{Note, is_plain_note, note_front, note_of, tagged_note};
 use crate::tags::digest;
 use ritas_base::{Bytes, Mem, Slot, Tagger};
@@ -98,7 +99,7 @@ impl Channel {
     }
 
     // A note of a form and a number.
-    fn seal_note(&self, to: u8, form: u8, number: u64) -> [u8; 44]
+    fn seal_note(&self, to: u8, form: u8, number: u64) -> [u8; NOTE_LEN]
         requires { to < self.now.n }
         ensures { result ≡ sealed_note self.now to form number }
     {
@@ -108,7 +109,7 @@ impl Channel {
     }
 
     /// The note that a frame was taken, as `seal_ack` makes it. It takes no memory.
-    pub fn seal_ack(&self, to: u8, seq: u64) -> [u8; 44]
+    pub fn seal_ack(&self, to: u8, seq: u64) -> [u8; NOTE_LEN]
         requires { to < self.now.n }
         ensures { result ≡ ack_note self.now to seq }
     {
@@ -116,7 +117,7 @@ impl Channel {
     }
 
     /// The note that frames are to be sent again, as `seal_again` makes it. It takes no memory.
-    pub fn seal_again(&self, to: u8) -> [u8; 44]
+    pub fn seal_again(&self, to: u8) -> [u8; NOTE_LEN]
         requires { to < self.now.n }
         ensures { result ≡ again_note self.now to }
     {

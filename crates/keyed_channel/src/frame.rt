@@ -1,11 +1,13 @@
 //! Frames, sealed and opened: a body between its sender, receiver and number, and the tag of these.
 
 ghost use Rattle.std.specs.Prelude.{◌≡◌, ◌<◌, ◌≤◌, ◌++◌, length, IfOk, OnOk, MatchResult, Ok, Err, Some, None};
+ghost use Rattle.keyed_channel.specs.Lengths.{frame_overhead, least_frame};
 ghost use Rattle.keyed_channel.specs.Frames.{version_byte, sealed, frame_front, opening, plain_fault, parts_of, sender_of};
 
 use crate::keys::Keys;
+use crate::lengths::{FRAME_OVERHEAD, HEAD_LEN, LEAST_FRAME, TAG_LEN};
 use crate::tags::hmac;
-use ritas_base::{Bytes, FrameVersion, Mem};
+use ritas_base::{Bytes, FrameVersion, LONGEST_FRAME, Mem};
 use std::alloc::Global;
 
 // The first byte of a version's frames.
@@ -18,20 +20,12 @@ pub(crate) fn version_byte(version: FrameVersion) -> u8
     }
 }
 
-// The bytes of a frame beside its body, and of its tag.
-const LEAST_LEN: usize = 43;
-
-pub(crate) const TAG_LEN: usize = 32;
-
-// The bytes of the longest frame that opens.
-const MOST_LEN: usize = 16_384;
-
 /// Why a frame doesn't open: the first of these that holds.
 #[derive(Clone, Copy, Debug, PartialEq, Eq)]
 pub enum OpenFault {
-    /// It has fewer than 43 bytes.
+    /// It has fewer than `LEAST_FRAME` (43) bytes.
     Short,
-    /// It has more than 16,384 bytes.
+    /// It has more than `LONGEST_FRAME` (16,384) bytes.
     Long,
     /// The first byte isn't that of the keys' version.
     Version,
@@ -65,7 +59,7 @@ pub(crate) fn front(
 ) -> Result<Vec<u8>, Mem>
     ensures { IfOk result (λ frame. frame.items ≡ frame_front version me to seq body.now) }
 {
-    let mut frame = Vec::with_capacity(alloc, body.len() + LEAST_LEN)?;
+    let mut frame = Vec::with_capacity(alloc, body.len() + FRAME_OVERHEAD)?;
     frame.extend_from_slice(&[version_byte(version), me, to])?;
     frame.extend_from_slice(&seq.to_be_bytes())?;
     frame.extend_from_slice(body)?;
@@ -73,7 +67,7 @@ pub(crate) fn front(
 }
 
 // The front with its tag behind it.
-pub(crate) fn tagged(mut front: Vec<u8>, tag: &[u8; 32]) -> Result<Bytes, Mem>
+pub(crate) fn tagged(mut front: Vec<u8>, tag: &[u8; TAG_LEN]) -> Result<Bytes, Mem>
     ensures { IfOk result (λ frame. frame ≡ front.items ++ tag.now) }
 {
     front.extend_from_slice(tag)?;
@@ -82,7 +76,7 @@ pub(crate) fn tagged(mut front: Vec<u8>, tag: &[u8; 32]) -> Result<Bytes, Mem>
 
 /// The frame that carries a body to a replica: the version of the keys, sender, receiver, sequence number (8 bytes, big-endian),
 /// body, and the tag of all these bytes (HMAC-SHA-256, RFC 2104) under the key that sender and receiver share. The one
-/// error is want of memory. A body of more than 16,341 bytes gives a frame that opens nowhere.
+/// error is want of memory. A body of more than `longest_body` (16,341) bytes gives a frame that opens nowhere.
 pub fn seal(alloc: Global, keys: &Keys, to: u8, seq: u64, body: &[u8]) -> Result<Bytes, Mem>
     requires { to < keys.now.n }
     ensures { IfOk result (λ frame. frame ≡ sealed keys.now to seq body.now) }
@@ -97,13 +91,13 @@ pub(crate) fn check(keys: &Keys, bytes: &[u8]) -> Result<(), OpenFault>
     ensures fault { MatchResult result
         (λ _. plain_fault keys.now bytes.now ≡ None)
         (λ fault. plain_fault keys.now bytes.now ≡ Some fault) }
-    ensures long { OnOk result (43 ≤ length bytes.now) }
+    ensures long { OnOk result (least_frame ≤ length bytes.now) }
     ensures sender { OnOk result ((sender_of bytes.now < keys.now.n) × (keys.now.n ≤ 31)) }
 {
-    if bytes.len() < LEAST_LEN {
+    if bytes.len() < LEAST_FRAME {
         return Err(OpenFault::Short);
     }
-    if bytes.len() > MOST_LEN {
+    if bytes.len() > LONGEST_FRAME {
         return Err(OpenFault::Long);
     }
     if bytes[0] != version_byte(keys.version()) {
@@ -120,15 +114,15 @@ pub(crate) fn check(keys: &Keys, bytes: &[u8]) -> Result<(), OpenFault>
 
 // The parts of a frame that isn't too short.
 pub(crate) fn parts<'a>(bytes: &'a [u8]) -> Opened<'a>
-    requires { 43 ≤ length bytes.now }
+    requires { frame_overhead ≤ length bytes.now }
     ensures { record { from = result.from; seq = result.seq; body = result.body.now } ≡ parts_of bytes.now }
 {
     let mut seq = [0; 8];
-    seq.copy_from_slice(&bytes[3..11]);
+    seq.copy_from_slice(&bytes[3..HEAD_LEN]);
     Opened {
         from: bytes[1],
         seq: u64::from_be_bytes(seq),
-        body: &bytes[11..bytes.len() - TAG_LEN],
+        body: &bytes[HEAD_LEN..bytes.len() - TAG_LEN],
     }
 }
 

@@ -3,7 +3,8 @@
 ghost use Rattle.keyed_channel.specs.Laws.{EntriesAgree, EntryByPair, NotedFromPeer, NotesAreNoFrames, NoteHasVersion, NotesOpen, NotesSealed, OpenedFromPeer, OpenedParts, OpensAsSealed, OpensSealed, SealedLength, SealedLong, SealedOpens};
 
 /// A law of both versions: what replica i seals for replica j, both with keys dealt from one master key, opens at j as from
-/// i, with the same sequence number and body. The body has at most 16,341 bytes.
+/// i, with the same sequence number and body. The frame is as long as one that opens: the body has
+/// at most `longest_body` (16,341) bytes, and with a `least_frame` of the overhead alone it may be empty.
 ///
 /// It does nothing: its contract is the law.
 pub fn sealed_opens()
@@ -33,21 +34,21 @@ pub fn opened_from_peer()
     ensures { OpenedFromPeer }
 {}
 
-/// A law for every row of keys: what opens has at least 43 bytes, and says the sender, the number and the body that stand in it.
+/// A law for every row of keys: what opens has at least `least_frame` (43) bytes, and says the sender, the number and the body that stand in it.
 ///
 /// It does nothing: its contract is the law.
 pub fn opened_parts()
     ensures { OpenedParts }
 {}
 
-/// A law: a frame has 43 bytes more than its body.
+/// A law: a frame has `frame_overhead` (43) bytes more than its body.
 ///
 /// It does nothing: its contract is the law.
 pub fn sealed_length()
     ensures { SealedLength }
 {}
 
-/// A law: the frame of a body of more than 16,341 bytes opens nowhere, as `Long`.
+/// A law: the frame of a body of more than `longest_body` (16,341) bytes opens nowhere, as `Long`.
 ///
 /// It does nothing: its contract is the law.
 pub fn sealed_long()

@@ -47,6 +47,7 @@ mod frame;
 mod hashed_key;
 mod keys;
 mod laws;
+mod lengths;
 mod note;
 mod tags;
 #[cfg(test)]
@@ -61,5 +62,6 @@ pub use laws::{
     notes_open, notes_sealed, opened_from_peer, opened_parts, opens_as_sealed, opens_sealed,
     sealed_length, sealed_long, sealed_opens,
 };
+pub use lengths::{FRAME_OVERHEAD, HEAD_LEN, LEAST_FRAME, NOTE_LEN, TAG_LEN, lengths_are};
 pub use note::{Note, open_note, seal_ack, seal_again};
 pub use tags::{digest, hmac};

@@ -1,18 +1,16 @@
 //! Notes, sealed and opened: that a frame was taken, or that frames are to be sent again.
 
 ghost use Rattle.std.specs.Prelude.{◌≡◌, ◌<◌, ◌≤◌, ◌++◌, true, length};
+ghost use Rattle.keyed_channel.specs.Lengths.{note_length};
 ghost use Rattle.keyed_channel.specs.Frames.{sender_of};
 ghost use Rattle.keyed_channel.specs.Notes.{note_front, sealed_note, ack_note, again_note, form_of, number_of, note_of, is_plain_note, noted};
 
-use crate::frame::TAG_LEN;
 use crate::keys::Keys;
+use crate::lengths::{NOTE_FRONT_LEN, NOTE_LEN, TAG_LEN};
 use crate::tags::hmac;
 
 // The first byte of a note.
 const NOTE: u8 = 0x4e;
-
-// The bytes of a note, and of its front.
-const NOTE_LEN: usize = 44;
 
 const ACK: u8 = 1;
 
@@ -28,7 +26,7 @@ pub enum Note {
 }
 
 // The note without its tag.
-pub(crate) fn note_front(me: u8, to: u8, form: u8, number: u64) -> [u8; 12]
+pub(crate) fn note_front(me: u8, to: u8, form: u8, number: u64) -> [u8; NOTE_FRONT_LEN]
     ensures { result ≡ note_front me to form number }
 {
     let n = number.to_be_bytes();
@@ -38,19 +36,19 @@ pub(crate) fn note_front(me: u8, to: u8, form: u8, number: u64) -> [u8; 12]
 }
 
 // The front with its tag behind it.
-pub(crate) fn tagged_note(front: &[u8; 12], tag: &[u8; 32]) -> [u8; 44]
+pub(crate) fn tagged_note(front: &[u8; NOTE_FRONT_LEN], tag: &[u8; TAG_LEN]) -> [u8; NOTE_LEN]
     ensures { result ≡ front.now ++ tag.now }
 {
-    let mut note = [0; 44];
-    note[12..].copy_from_slice(tag);
-    note[..12].copy_from_slice(front);
+    let mut note = [0; NOTE_LEN];
+    note[NOTE_FRONT_LEN..].copy_from_slice(tag);
+    note[..NOTE_FRONT_LEN].copy_from_slice(front);
     note
 }
 
 // The tests that need no key.
 pub(crate) fn is_plain_note(keys: &Keys, bytes: &[u8]) -> bool
     ensures value { result ≡ is_plain_note keys.now bytes.now }
-    ensures long { result ≡ true → length bytes.now ≡ 44 }
+    ensures long { result ≡ true → length bytes.now ≡ note_length }
     ensures sender { result ≡ true → (sender_of bytes.now < keys.now.n) × (keys.now.n ≤ 31) }
 {
     bytes.len() == NOTE_LEN
@@ -62,11 +60,11 @@ pub(crate) fn is_plain_note(keys: &Keys, bytes: &[u8]) -> bool
 
 // What the parts of a note say.
 pub(crate) fn note_of(bytes: &[u8]) -> Option<Note>
-    requires { length bytes.now ≡ 44 }
+    requires { length bytes.now ≡ note_length }
     ensures { result ≡ note_of (sender_of bytes.now) (form_of bytes.now) (number_of bytes.now) }
 {
     let mut number = [0; 8];
-    number.copy_from_slice(&bytes[4..12]);
+    number.copy_from_slice(&bytes[4..NOTE_FRONT_LEN]);
     let seq = u64::from_be_bytes(number);
     let from = bytes[1];
     if bytes[3] == ACK {
@@ -79,7 +77,7 @@ pub(crate) fn note_of(bytes: &[u8]) -> Option<Note>
 }
 
 // A note of a form and a number.
-fn seal_note(keys: &Keys, to: u8, form: u8, number: u64) -> [u8; 44]
+fn seal_note(keys: &Keys, to: u8, form: u8, number: u64) -> [u8; NOTE_LEN]
     requires { to < keys.now.n }
     ensures { result ≡ sealed_note keys.now to form number }
 {
@@ -91,7 +89,7 @@ fn seal_note(keys: &Keys, to: u8, form: u8, number: u64) -> [u8; 44]
 /// The note for a replica that its frame with this number was taken: 0x4e, sender, receiver, form 1, the number (8 bytes,
 /// big-endian), and the tag of all these bytes (HMAC-SHA-256, RFC 2104) under the key that sender and receiver share. It
 /// takes no memory.
-pub fn seal_ack(keys: &Keys, to: u8, seq: u64) -> [u8; 44]
+pub fn seal_ack(keys: &Keys, to: u8, seq: u64) -> [u8; NOTE_LEN]
     requires { to < keys.now.n }
     ensures { result ≡ ack_note keys.now to seq }
 {
@@ -100,7 +98,7 @@ pub fn seal_ack(keys: &Keys, to: u8, seq: u64) -> [u8; 44]
 
 /// The note for a replica that it is to send its frames again: as that of `seal_ack`, with form 2 and number 0. It takes no
 /// memory.
-pub fn seal_again(keys: &Keys, to: u8) -> [u8; 44]
+pub fn seal_again(keys: &Keys, to: u8) -> [u8; NOTE_LEN]
     requires { to < keys.now.n }
     ensures { result ≡ again_note keys.now to }
 {

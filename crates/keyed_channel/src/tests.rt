@@ -1,8 +1,8 @@
 //! Tests of tags, frames, notes and coins in both versions, against public values and those that another program made.
 
 use crate::{
-    Channel, Keys, Note, OpenFault, SeedCoin, coin_key, digest, hmac, open_frame, open_note, seal,
-    seal_ack, seal_again,
+    Channel, Keys, LEAST_FRAME, NOTE_LEN, Note, OpenFault, SeedCoin, coin_key, digest, hmac,
+    open_frame, open_note, seal, seal_ack, seal_again,
 };
 use ritas_base::{Coin, FrameVersion, Params, Slot, Tagger};
 use std::process::Abort;
@@ -158,8 +158,8 @@ fn a_row_of_keys(rt: HostRuntime) -> Result<(), Fail> {
 }
 
 // The least bytes of a frame, with no tag.
-fn untagged(version: u8, from: u8, to: u8) -> [u8; 43] {
-    let mut bytes = [0; 43];
+fn untagged(version: u8, from: u8, to: u8) -> [u8; LEAST_FRAME] {
+    let mut bytes = [0; LEAST_FRAME];
     bytes[..3].copy_from_slice(&[version, from, to]);
     bytes
 }
@@ -220,7 +220,7 @@ fn notes_of_dealt_keys(rt: HostRuntime) {
     assert_eq!(rt; seal_again(&three, 1).as_slice(), AGAIN);
     assert!(rt; open_note(&one, ACK) == Some(Note::Ack { from: 3, seq: 258 }));
     assert!(rt; open_note(&one, AGAIN) == Some(Note::Again { from: 3 }));
-    for bytes in [NUMBERED, OTHER, FRAME, &ACK[..43], b"".as_slice()] {
+    for bytes in [NUMBERED, OTHER, FRAME, &ACK[..NOTE_LEN - 1], b"".as_slice()] {
         assert!(rt; open_note(&one, bytes).is_none());
     }
     assert!(rt; open_note(&three, ACK).is_none());
