@@ -4,6 +4,7 @@ use Rattle.std.specs.Prelude.{IfOk, OnOk, slice_index}
 use Rattle.std.proofs.lemmas.Bool.{ltb-false, ltb-true, le-ltb, eqb-true, ne_eqb, and_parts}
 use Rattle.std.proofs.lemmas.List.{nil_from_length}
 use Rattle.std.proofs.lemmas.Nat.{be_bytes_4, from_be_bytes-to_be_bytes_4}
+use Rattle.ritas_base.specs.Limits.{number_limit}
 use Rattle.ritas_base.specs.Numbers.{Numbers, IsSession}
 use Rattle.ritas_base.specs.Slots.{first_failed, slot_fault, slot_bytes, by_echo, reliable_form, form_of, has_class, within, has_number, has_attempt, has_count}
 use Rattle.ritas_base.specs.declared.slot.Slot.{Slot}
@@ -118,8 +119,8 @@ number_fits p mode s e =
     let a = failed_none (within 1 5 s.class) slot_faults.Class ((has_class root s.class, slot_faults.Closed) ∷ rest2) e in
     let b = failed_none (has_class root s.class) slot_faults.Closed rest2 a.1 in
     let c = failed_none (has_number root s.a) slot_faults.Number rest3 b.1 in
-    let d = and_parts (ltb s.a 1000000) (eqb s.a 0 || not (within 3 5 root)) c.0 in
-    omega (arith, ltb-true s.a 1000000 d.0)
+    let d = and_parts (ltb s.a number_limit) (eqb s.a 0 || not (within 3 5 root)) c.0 in
+    omega (arith, ltb-true s.a number_limit d.0)
 
 pub slot_again : (s : Slot) → s.a < 2 ^ 32 → slot_of (slot_bytes s) ≡ s
 unfolding slot_of

@@ -1,6 +1,7 @@
 -- Items of the grammar: read again, with another kind or sender, and made from inputs.
 use Rattle.std.proofs.Common.{◌≡◌, ℕ, ◌<◌, ◌≤◌, ◌&&◌, ◌||◌, Bool, true, false, not, cond, eqb, leb, ltb, List, length, None, Result, Ok, refl, sym, ap, subst, ◌∙◌, arith, inl, inr, ◌⊎◌}
 use Rattle.std.proofs.lemmas.Bool.{eqb-true, leb-true, lt-ltb, and_parts, and_from, or_right}
+use Rattle.ritas_base.specs.Limits.{number_limit}
 use Rattle.ritas_base.specs.Numbers.{Numbers, IsSession}
 use Rattle.ritas_base.specs.Slots.{within, has_class, has_number, slot_fault, by_echo, reliable_form, form_of, command_slot}
 use Rattle.ritas_base.specs.declared.slot.Slot.{Slot}
@@ -143,18 +144,18 @@ not_between false root is between = refl
 not_between true root (inl low) between = absurd (omega (arith, low, (between refl).0))
 not_between true root (inr six) between = absurd (omega (arith, six, (between refl).1))
 
-command_numbered : (root num : ℕ) → has_class root 1 ≡ true → num < 1000000 → has_number root num ≡ true
+command_numbered : (root num : ℕ) → has_class root 1 ≡ true → num < number_limit → has_number root num ≡ true
 unfolding has_class
 command_numbered root num has small =
     let is = has_commands (leb root 2) root (leb-true root 2) has in
-    and_from (ltb num 1000000) (eqb num 0 || not (within 3 5 root)) (lt-ltb num 1000000 small)
+    and_from (ltb num number_limit) (eqb num 0 || not (within 3 5 root)) (lt-ltb num number_limit small)
     (or_right (eqb num 0) (not (within 3 5 root)) (not_between (within 3 5 root) root is (is_between root)))
 
 no_tries : (t : Bool) (f : ℕ) → cond (t && false) (leb 0 f) true ≡ true
 no_tries true f = refl
 no_tries false f = refl
 
-pub command_slot_right : (p : Numbers) (mode : Mode) (origin num : ℕ) → has_class mode.root 1 ≡ true → origin < p.n → num < 1000000
+pub command_slot_right : (p : Numbers) (mode : Mode) (origin num : ℕ) → has_class mode.root 1 ≡ true → origin < p.n → num < number_limit
     → slot_fault p mode (command_slot origin num) ≡ None
 unfolding slot_fault
 command_slot_right p mode origin num has lt small =
@@ -197,7 +198,7 @@ command_takes_input root origin num has =
 
 -- an input of a root service with commands is one in the grammar
 pub command_is : (p : Numbers) (mode : Mode) (item : Item) (num : ℕ) → IsSession p → has_class mode.root 1 ≡ true
-    → item.slot ≡ command_slot item.slot.origin num → item.slot.origin < p.n → num < 1000000
+    → item.slot ≡ command_slot item.slot.origin num → item.slot.origin < p.n → num < number_limit
     → item.kind ≡ first_kind (by_echo mode item.slot) → IsInput p mode item.value → IsInGrammar p mode item
 command_is p mode item num session has slot lt small kind is =
     let echo = by_echo mode item.slot in

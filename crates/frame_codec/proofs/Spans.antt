@@ -11,6 +11,8 @@ use Rattle.ritas_base.specs.declared.item.Kind.{Kind}
 use Rattle.ritas_base.specs.declared.item.Kind.TheVariants as kinds
 use Rattle.ritas_base.specs.declared.item.Item.{Item}
 use Rattle.ritas_base.specs.declared.mode.Mode.{Mode}
+use Rattle.ritas_base.specs.Limits.{number_limit, least_request, longest_input}
+use Rattle.frame_codec.specs.Limits.{most_ids, longest_ids, longest_entry}
 use Rattle.frame_codec.specs.declared.ids.Run.{Run}
 use Rattle.ritas_base.specs.Slots.{form_of}
 use Rattle.frame_codec.specs.Body.{IsInGrammar}
@@ -96,19 +98,19 @@ ids_short n zero run k five enough = tt
 ids_short n (suc count) run k five enough = (
   five,
   λ b ok.
-      let parts = and_parts (ltb (id_of b).origin n) (ltb (id_of b).num 1000000 && (ltb run.total 64 && comes_after n run.last run.same (id_of b))) ok in
-      let others = and_parts (ltb (id_of b).num 1000000) (ltb run.total 64 && comes_after n run.last run.same (id_of b)) parts.1 in
-      let few : run.total < 64 = ltb-true _ _ (and_parts (ltb run.total 64) (comes_after n run.last run.same (id_of b)) others.1).0 in
+      let parts = and_parts (ltb (id_of b).origin n) (ltb (id_of b).num number_limit && (ltb run.total most_ids && comes_after n run.last run.same (id_of b))) ok in
+      let others = and_parts (ltb (id_of b).num number_limit) (ltb run.total most_ids && comes_after n run.last run.same (id_of b)) parts.1 in
+      let few : run.total < most_ids = ltb-true _ _ (and_parts (ltb run.total most_ids) (comes_after n run.last run.same (id_of b)) others.1).0 in
       ids_short n count (with_id run (id_of b)) (k - 5) (omega arith) (omega arith),
 )
 
-len_most : (t : Bool) (len : ℕ) → cond t (leb 5 len && leb len 320 && eqb (len % 5) 0) (leb 1 len && leb len 512) ≡ true → len ≤ 512
+len_most : (t : Bool) (len : ℕ) → cond t (leb 5 len && leb len longest_ids && eqb (len % 5) 0) (leb 1 len && leb len longest_entry) ≡ true → len ≤ 512
 len_most true len e =
-    let a = and_parts (leb 5 len && leb len 320) (eqb (len % 5) 0) e in
-    let b = and_parts (leb 5 len) (leb len 320) a.0 in
-    omega (arith, leb-true len 320 b.1)
+    let a = and_parts (leb 5 len && leb len longest_ids) (eqb (len % 5) 0) e in
+    let b = and_parts (leb 5 len) (leb len longest_ids) a.0 in
+    omega (arith, leb-true len longest_ids b.1)
 len_most false len e =
-    let b = and_parts (leb 1 len) (leb len 512) e in
+    let b = and_parts (leb 1 len) (leb len longest_entry) e in
     leb-true len 512 b.1
 
 entry_short : (n root : ℕ) → IsShort 514 (entry n root)
@@ -131,11 +133,11 @@ vector_short p root is = (
 
 class2_short : (p : Numbers) (root : ℕ) → IsShort 15942 (class2 p root)
 unfolding class2 ids
-class2_short p root = choice_short (eqb root 6) 15942 (ids p.n) (Plain 1 512) (λ len. ids_short p.n ((len - 1) / 5 + 1) no_ids 15942 (lit≤ tt) (lit≤ tt)) (lit≤ tt, lit≤ tt)
+class2_short p root = choice_short (eqb root 6) 15942 (ids p.n) (Plain 1 longest_entry) (λ len. ids_short p.n ((len - 1) / 5 + 1) no_ids 15942 (lit≤ tt) (lit≤ tt)) (lit≤ tt, lit≤ tt)
 
 class3_short : (p : Numbers) (root : ℕ) → IsSession p → IsShort 15938 (class3 p root)
 unfolding class3
-class3_short p root is = choice_short (eqb root 4) 15938 (Plain 1 4096) (vector p root) (lit≤ tt, lit≤ tt) (vector_short p root is)
+class3_short p root is = choice_short (eqb root 4) 15938 (Plain 1 longest_input) (vector p root) (lit≤ tt, lit≤ tt) (vector_short p root is)
 
 vect_short : (p : Numbers) (root : ℕ) → IsSession p → IsShort 15942 (vect p root)
 unfolding vect
@@ -146,7 +148,7 @@ bit_short : (step : ℕ) → IsShort 15942 (bit step)
 unfolding bit
 bit_short step = (lit≤ tt, λ x ok. tt)
 
-plain_short : (t : Bool) → IsShort 15942 (Plain (cond t 8 1) 4096)
+plain_short : (t : Bool) → IsShort 15942 (Plain (cond t least_request 1) longest_input)
 plain_short true = (lit≤ tt, lit≤ tt)
 plain_short false = (lit≤ tt, lit≤ tt)
 
@@ -198,7 +200,7 @@ choice_when : (t : Bool) (k : ℕ) (a b : Format) → (t ≡ true → IsShort k 
 choice_when true k a b x y = x refl
 choice_when false k a b x y = y
 
-plain_when : (t : Bool) (b : Format) → t ≡ true → IsShort 15942 (cond t (Plain 1 4096) b)
+plain_when : (t : Bool) (b : Format) → t ≡ true → IsShort 15942 (cond t (Plain 1 longest_input) b)
 plain_when true b e = (lit≤ tt, lit≤ tt)
 plain_when false b e = absurd cc
 

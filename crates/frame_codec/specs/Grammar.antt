@@ -9,6 +9,8 @@ use Rattle.ritas_base.specs.declared.item.Kind.{Kind}
 use Rattle.ritas_base.specs.declared.mode.Mode.{Mode}
 use Rattle.ritas_base.specs.declared.item.Kind.TheVariants.{Echo, Ready, Hashes, Column, Want}
 use Rattle.ritas_base.specs.declared.id.Id.{Id}
+use Rattle.ritas_base.specs.Limits.{number_limit, least_request, longest_input}
+use Rattle.frame_codec.specs.Limits.{most_ids, share_of, longest_ids, longest_entry}
 use Rattle.frame_codec.specs.declared.ids.Run.{Run}
 use Rattle.frame_codec.specs.Format.{Format, Done, Number, Block, Plain, Left, ◌>>◌, ◌>>=◌, block_at}
 
@@ -27,11 +29,11 @@ no_ids = record { last = None; same = 0; total = 0 }
 abbrev pub comes_after : ℕ → Option Id → ℕ → Id → Bool
 comes_after n None same x = true
 comes_after n (Some last) same x =
-    nat_lt last.origin x.origin || (x.origin == last.origin && (nat_lt last.num x.num && nat_lt same (64 / n)))
+    nat_lt last.origin x.origin || (x.origin == last.origin && (nat_lt last.num x.num && nat_lt same (share_of n)))
 
 abbrev pub admits : ℕ → Run → Id → Bool
 admits n run x =
-    nat_lt x.origin n && (nat_lt x.num 1000000 && (nat_lt run.total 64 && comes_after n run.last run.same x))
+    nat_lt x.origin n && (nat_lt x.num number_limit && (nat_lt run.total most_ids && comes_after n run.last run.same x))
 
 abbrev pub has_origin : Option Id → Id → Bool
 has_origin None x = false
@@ -63,7 +65,7 @@ abbrev pub is_places : ℕ → ℕ → ℕ → Bool
 is_places n least mask = nat_lt mask (2 ^ n) && nat_le least (count_ones mask)
 
 abbrev pub is_entry_len : ℕ → ℕ → Bool
-is_entry_len root len = if root == 6 then within 5 320 len && len % 5 == 0 else within 1 512 len
+is_entry_len root len = if root == 6 then within 5 longest_ids len && len % 5 == 0 else within 1 longest_entry len
 
 unfoldable pub entry : ℕ → ℕ → Format
 entry n root = Number w16 (is_entry_len root) (λ len. if root == 6 then ids_from n (len / 5) no_ids else Block len any (λ _. Done))
@@ -79,13 +81,13 @@ vector p root = Number w32 (is_places p.n (wait_of p)) (λ mask. times (count_on
 
 -- a command; in root service 6 it begins with the client's and the request's number
 unfoldable pub class1 : ℕ → Format
-class1 root = Plain (if root == 6 then 8 else 1) 4096
+class1 root = Plain (if root == 6 then least_request else 1) longest_input
 
 unfoldable pub class2 : Numbers → ℕ → Format
-class2 p root = if root == 6 then ids p.n else Plain 1 512
+class2 p root = if root == 6 then ids p.n else Plain 1 longest_entry
 
 unfoldable pub class3 : Numbers → ℕ → Format
-class3 p root = if root == 4 then Plain 1 4096 else vector p root
+class3 p root = if root == 4 then Plain 1 longest_input else vector p root
 
 -- none, or the places that it came from and a value of class 3
 unfoldable pub vect : Numbers → ℕ → Format

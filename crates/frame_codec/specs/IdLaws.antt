@@ -6,6 +6,8 @@ use Rattle.std.proofs.lemmas.List.Sums.{sum_by-cons}
 use Rattle.std.proofs.lemmas.Nat.{be_bytes_4, div-add-mod', mod_below, from_be_bytes-to_be_bytes_4}
 use Rattle.std.specs.Int.{w32, from_be_bytes}
 use Rattle.std.proofs.lemmas.List.{take_at, drop_at, length-append}
+use Rattle.ritas_base.specs.Limits.{number_limit}
+use Rattle.frame_codec.specs.Limits.{most_ids, share_of}
 use Rattle.frame_codec.specs.VectorLaws.{IsBytes-drop, IsBytes-take}
 use Rattle.frame_codec.specs.Format.{Is}
 use Rattle.frame_codec.specs.Values.{IsBytes, id_bytes, ids_bytes, ids_in, ids_of}
@@ -33,10 +35,10 @@ abbrev carried : Run → ℕ → ℕ
 carried run k = carried_by run.last run.same k
 
 record RestIs (n : ℕ) (run : Run) (xs : List Id) : Type 0 where
-  most : (0 < length xs → run.total + length xs ≤ 64)
-  in_range : AllByRecursion (λ x. (x.origin < n) × (x.num < 1000000)) xs
+  most : (0 < length xs → run.total + length xs ≤ most_ids)
+  in_range : AllByRecursion (λ x. (x.origin < n) × (x.num < number_limit)) xs
   ascending : AscendsAfter run.last xs
-  few : (k : ℕ) → of_origin k xs + carried run k ≤ 64 / n
+  few : (k : ℕ) → of_origin k xs + carried run k ≤ share_of n
 
 below_cases : (x y : Id) → IsBelow x y → (x.origin < y.origin) ⊎ (y.origin ≡ x.origin)
 below_cases x y h =
@@ -63,9 +65,9 @@ none_below x (y ∷ xs) k up lt =
     omega (arith, of_cons k y xs, is_none y.origin k 1 0 other, none_below y xs k up.1 le)
 
 -- one identifier more, counted
-more_few : (n : ℕ) (last : Option Id) (same : ℕ) (x : Id) (xs : List Id) (k : ℕ) → comes_after n last same x ≡ true → Ascends (x ∷ xs) → carried_by last same k ≤ 64 / n
-    → of_origin k xs + cond (eqb x.origin k) (cond (has_origin last x) (same + 1) 1) 0 ≤ 64 / n
-    → of_origin k (x ∷ xs) + carried_by last same k ≤ 64 / n
+more_few : (n : ℕ) (last : Option Id) (same : ℕ) (x : Id) (xs : List Id) (k : ℕ) → comes_after n last same x ≡ true → Ascends (x ∷ xs) → carried_by last same k ≤ share_of n
+    → of_origin k xs + cond (eqb x.origin k) (cond (has_origin last x) (same + 1) 1) 0 ≤ share_of n
+    → of_origin k (x ∷ xs) + carried_by last same k ≤ share_of n
 more_few n None same x xs k after up within few = omega (arith, of_cons k x xs, few)
 more_few n (Some last) same x xs k after up within few =
     elim (cases_eq x.origin k) [
@@ -88,9 +90,9 @@ more_few n (Some last) same x xs k after up within few =
           let next = is_none x.origin k (cond (eqb x.origin last.origin) (same + 1) 1) 0 there in
           elim (cases_eq last.origin k) [
             | inl was ↦
-                let above : k < x.origin = elim (or_cases (ltb last.origin x.origin) (eqb x.origin last.origin && (ltb last.num x.num && ltb same (64 / n))) after) [
+                let above : k < x.origin = elim (or_cases (ltb last.origin x.origin) (eqb x.origin last.origin && (ltb last.num x.num && ltb same (share_of n))) after) [
                   | inl a ↦ omega (arith, ltb-true last.origin x.origin a, was)
-                  | inr b ↦ absurd (there (eqb-true x.origin last.origin (and_parts (eqb x.origin last.origin) (ltb last.num x.num && ltb same (64 / n)) b).0 ∙ was))
+                  | inr b ↦ absurd (there (eqb-true x.origin last.origin (and_parts (eqb x.origin last.origin) (ltb last.num x.num && ltb same (share_of n)) b).0 ∙ was))
                 ] in
                 omega (arith, of_cons k x xs, one, none_below x xs k up above, within)
             | inr other ↦
@@ -100,16 +102,16 @@ more_few n (Some last) same x xs k after up within few =
     ]
 
 -- what the next one carries stays within the limit
-next_within : (n : ℕ) (last : Option Id) (same : ℕ) (x : Id) → 0 < 64 / n → comes_after n last same x ≡ true → cond (has_origin last x) (same + 1) 1 ≤ 64 / n
+next_within : (n : ℕ) (last : Option Id) (same : ℕ) (x : Id) → 0 < share_of n → comes_after n last same x ≡ true → cond (has_origin last x) (same + 1) 1 ≤ share_of n
 next_within n None same x some after = omega (arith, some)
 next_within n (Some last) same x some after =
-    elim (or_cases (ltb last.origin x.origin) (eqb x.origin last.origin && (ltb last.num x.num && ltb same (64 / n))) after) [
+    elim (or_cases (ltb last.origin x.origin) (eqb x.origin last.origin && (ltb last.num x.num && ltb same (share_of n))) after) [
       | inl a ↦
           let other : x.origin ≡ last.origin → ⊥ = λ e. absurd (omega (arith, e, ltb-true last.origin x.origin a)) in
           omega (arith, is_none x.origin last.origin (same + 1) 1 other, some)
       | inr b ↦
-          let c = and_parts (eqb x.origin last.origin) (ltb last.num x.num && ltb same (64 / n)) b in
-          let room = ltb-true same (64 / n) (and_parts (ltb last.num x.num) (ltb same (64 / n)) c.1).1 in
+          let c = and_parts (eqb x.origin last.origin) (ltb last.num x.num && ltb same (share_of n)) b in
+          let room = ltb-true same (share_of n) (and_parts (ltb last.num x.num) (ltb same (share_of n)) c.1).1 in
           omega (arith, is_one x.origin last.origin (same + 1) 1 (eqb-true x.origin last.origin c.0), room)
     ]
 
@@ -124,48 +126,48 @@ ascends_nil (Some last) = tt
 ascends_cons : (n : ℕ) (last : Option Id) (same : ℕ) (x : Id) (xs : List Id) → comes_after n last same x ≡ true → Ascends (x ∷ xs) → AscendsAfter last (x ∷ xs)
 ascends_cons n None same x xs after up = up
 ascends_cons n (Some last) same x xs after up =
-    let below : IsBelow last x = elim (or_cases (ltb last.origin x.origin) (eqb x.origin last.origin && (ltb last.num x.num && ltb same (64 / n))) after) [
+    let below : IsBelow last x = elim (or_cases (ltb last.origin x.origin) (eqb x.origin last.origin && (ltb last.num x.num && ltb same (share_of n))) after) [
       | inl a ↦ or_left (ltb last.origin x.origin) (eqb x.origin last.origin && ltb last.num x.num) a
       | inr b ↦
-          let c = and_parts (eqb x.origin last.origin) (ltb last.num x.num && ltb same (64 / n)) b in
+          let c = and_parts (eqb x.origin last.origin) (ltb last.num x.num && ltb same (share_of n)) b in
           or_right (ltb last.origin x.origin) (eqb x.origin last.origin && ltb last.num x.num)
-          (and_from (eqb x.origin last.origin) (ltb last.num x.num) c.0 (and_parts (ltb last.num x.num) (ltb same (64 / n)) c.1).0)
+          (and_from (eqb x.origin last.origin) (ltb last.num x.num) c.0 (and_parts (ltb last.num x.num) (ltb same (share_of n)) c.1).0)
     ] in
     (below, up)
 
-to_words : (n : ℕ) (run : Run) (xs : List Id) → 0 < 64 / n → ((k : ℕ) → carried run k ≤ 64 / n) → AreAdmitted n run xs → RestIs n run xs
+to_words : (n : ℕ) (run : Run) (xs : List Id) → 0 < share_of n → ((k : ℕ) → carried run k ≤ share_of n) → AreAdmitted n run xs → RestIs n run xs
 to_words n run [] some within ad = record { most = λ h. absurd (omega (arith, h)); in_range = tt; ascending = ascends_nil run.last; few = λ k. omega (arith, within k) }
 to_words n run (x ∷ xs) some within ad =
-    let a = and_parts (ltb x.origin n) (ltb x.num 1000000 && (ltb run.total 64 && comes_after n run.last run.same x)) ad.0 in
-    let b = and_parts (ltb x.num 1000000) (ltb run.total 64 && comes_after n run.last run.same x) a.1 in
-    let c = and_parts (ltb run.total 64) (comes_after n run.last run.same x) b.1 in
-    let room : run.total < 64 = ltb-true run.total 64 c.0 in
+    let a = and_parts (ltb x.origin n) (ltb x.num number_limit && (ltb run.total most_ids && comes_after n run.last run.same x)) ad.0 in
+    let b = and_parts (ltb x.num number_limit) (ltb run.total most_ids && comes_after n run.last run.same x) a.1 in
+    let c = and_parts (ltb run.total most_ids) (comes_after n run.last run.same x) b.1 in
+    let room : run.total < most_ids = ltb-true run.total most_ids c.0 in
     let next = next_within n run.last run.same x some c.1 in
-    let rest = to_words n (with_id run x) xs some (λ k. carries (eqb x.origin k) (cond (has_origin run.last x) (run.same + 1) 1) (64 / n) next) ad.1 in
+    let rest = to_words n (with_id run x) xs some (λ k. carries (eqb x.origin k) (cond (has_origin run.last x) (run.same + 1) 1) (share_of n) next) ad.1 in
     record {
       most = λ h. elim (cases_lt 0 (length xs)) [ inl more ↦ omega (arith, rest.most more) | inr none ↦ omega (arith, room, none) ];
-      in_range = ((ltb-true x.origin n a.0, ltb-true x.num 1000000 b.0), rest.in_range);
+      in_range = ((ltb-true x.origin n a.0, ltb-true x.num number_limit b.0), rest.in_range);
       ascending = ascends_cons n run.last run.same x xs c.1 rest.ascending;
       few = λ k. more_few n run.last run.same x xs k c.1 rest.ascending (within k) (rest.few k);
     }
 
 -- ---- and the other way round
 
-after_from : (n : ℕ) (last : Option Id) (same : ℕ) (x : Id) (xs : List Id) → AscendsAfter last (x ∷ xs) → of_origin x.origin (x ∷ xs) + carried_by last same x.origin ≤ 64 / n → comes_after n last same x ≡ true
+after_from : (n : ℕ) (last : Option Id) (same : ℕ) (x : Id) (xs : List Id) → AscendsAfter last (x ∷ xs) → of_origin x.origin (x ∷ xs) + carried_by last same x.origin ≤ share_of n → comes_after n last same x ≡ true
 after_from n None same x xs up few = refl
 after_from n (Some last) same x xs up few =
     elim (or_cases (ltb last.origin x.origin) (eqb x.origin last.origin && ltb last.num x.num) up.0) [
-      | inl a ↦ or_left (ltb last.origin x.origin) (eqb x.origin last.origin && (ltb last.num x.num && ltb same (64 / n))) a
+      | inl a ↦ or_left (ltb last.origin x.origin) (eqb x.origin last.origin && (ltb last.num x.num && ltb same (share_of n))) a
       | inr b ↦
           let c = and_parts (eqb x.origin last.origin) (ltb last.num x.num) b in
           let is = eqb-true x.origin last.origin c.0 in
-          let room : same < 64 / n = omega (arith, of_cons x.origin x xs, is_one x.origin x.origin 1 0 refl, is_one last.origin x.origin same 0 (sym is), few) in
-          or_right (ltb last.origin x.origin) (eqb x.origin last.origin && (ltb last.num x.num && ltb same (64 / n)))
-          (and_from (eqb x.origin last.origin) (ltb last.num x.num && ltb same (64 / n)) c.0 (and_from (ltb last.num x.num) (ltb same (64 / n)) c.1 (lt-ltb same (64 / n) room)))
+          let room : same < share_of n = omega (arith, of_cons x.origin x xs, is_one x.origin x.origin 1 0 refl, is_one last.origin x.origin same 0 (sym is), few) in
+          or_right (ltb last.origin x.origin) (eqb x.origin last.origin && (ltb last.num x.num && ltb same (share_of n)))
+          (and_from (eqb x.origin last.origin) (ltb last.num x.num && ltb same (share_of n)) c.0 (and_from (ltb last.num x.num) (ltb same (share_of n)) c.1 (lt-ltb same (share_of n) room)))
     ]
 
-next_few : (n : ℕ) (last : Option Id) (same : ℕ) (x : Id) (xs : List Id) (k : ℕ) → of_origin k (x ∷ xs) + carried_by last same k ≤ 64 / n
-    → of_origin k xs + cond (eqb x.origin k) (cond (has_origin last x) (same + 1) 1) 0 ≤ 64 / n
+next_few : (n : ℕ) (last : Option Id) (same : ℕ) (x : Id) (xs : List Id) (k : ℕ) → of_origin k (x ∷ xs) + carried_by last same k ≤ share_of n
+    → of_origin k xs + cond (eqb x.origin k) (cond (has_origin last x) (same + 1) 1) 0 ≤ share_of n
 next_few n None same x xs k few = omega (arith, of_cons k x xs, few)
 next_few n (Some last) same x xs k few =
     elim (cases_eq x.origin k) [
@@ -187,7 +189,7 @@ from_words : (n : ℕ) (run : Run) (xs : List Id) → RestIs n run xs → AreAdm
 from_words n run [] is = tt
 from_words n run (x ∷ xs) is =
     let most = is.most (omega arith) in
-    let room : run.total < 64 = omega (arith, most) in
+    let room : run.total < most_ids = omega (arith, most) in
     let after = after_from n run.last run.same x xs is.ascending (is.few x.origin) in
     let rest : RestIs n (with_id run x) xs = record {
       most = λ h. omega (arith, most);
@@ -195,10 +197,10 @@ from_words n run (x ∷ xs) is =
       ascending = ascends_tail run.last x xs is.ascending;
       few = λ k. next_few n run.last run.same x xs k (is.few k);
     } in
-    (and_from (ltb x.origin n) _ (lt-ltb _ _ is.in_range.0.0) (and_from (ltb x.num 1000000) _ (lt-ltb _ _ is.in_range.0.1) (and_from (ltb run.total 64) _ (lt-ltb _ _ room) after)), from_words n (with_id run x) xs rest)
+    (and_from (ltb x.origin n) _ (lt-ltb _ _ is.in_range.0.0) (and_from (ltb x.num number_limit) _ (lt-ltb _ _ is.in_range.0.1) (and_from (ltb run.total most_ids) _ (lt-ltb _ _ room) after)), from_words n (with_id run x) xs rest)
 
 -- the two readings of an identifier list are one
-pub words_from_admitted : (n : ℕ) (xs : List Id) → 0 < 64 / n → AreAdmitted n no_ids xs → AreIds n xs
+pub words_from_admitted : (n : ℕ) (xs : List Id) → 0 < share_of n → AreAdmitted n no_ids xs → AreIds n xs
 words_from_admitted n xs some ad =
     let is = to_words n no_ids xs some (λ k. omega arith) ad in
     record {
@@ -221,8 +223,8 @@ pub ids_written : (n : ℕ) (run : Run) (xs : List Id) → AreAdmitted n run xs 
 unfolding ids_from
 ids_written n run [] ad = refl
 ids_written n run (x ∷ xs) ad =
-    let a = and_parts (ltb x.origin n) (ltb x.num 1000000 && (ltb run.total 64 && comes_after n run.last run.same x)) ad.0 in
-    let small : x.num < 2 ^ 32 = omega (arith, ltb-true x.num 1000000 (and_parts (ltb x.num 1000000) (ltb run.total 64 && comes_after n run.last run.same x) a.1).0) in
+    let a = and_parts (ltb x.origin n) (ltb x.num number_limit && (ltb run.total most_ids && comes_after n run.last run.same x)) ad.0 in
+    let small : x.num < 2 ^ 32 = omega (arith, ltb-true x.num number_limit (and_parts (ltb x.num number_limit) (ltb run.total most_ids && comes_after n run.last run.same x) a.1).0) in
     let again = id_again x small in (
       id_bytes x,
       ids_bytes xs,
@@ -264,17 +266,17 @@ ids_are n (suc count) run text fits (f, r, parts, len, ok, more) =
     let P : List Id → Type 0 = λ xs. (text ≡ ids_bytes xs) × AreAdmitted n run xs in
     subst P (sym made) (spelled, (ok, others.1))
 
-share_some : (n : ℕ) → 1 ≤ n → n ≤ 64 → 0 < 64 / n
+share_some : (n : ℕ) → 1 ≤ n → n ≤ most_ids → 0 < share_of n
 share_some n some most =
-    elim (cases_lt 0 (64 / n)) [
+    elim (cases_lt 0 (share_of n)) [
       | inl lt ↦ lt
       | inr le ↦
-          let none : 64 / n ≡ 0 = omega (arith, le) in
-          let product : 64 / n * n ≡ 0 * n = ap (λ (q : ℕ). q * n) none in
-          absurd (omega (arith, div-add-mod' 64 n, mod_below 64 n some, product, most))
+          let none : share_of n ≡ 0 = omega (arith, le) in
+          let product : share_of n * n ≡ 0 * n = ap (λ (q : ℕ). q * n) none in
+          absurd (omega (arith, div-add-mod' most_ids n, mod_below most_ids n some, product, most))
     ]
 
-pub list_is : (n : ℕ) (text : List ℕ) → 1 ≤ n → n ≤ 64 → IsBytes text → Is (ids n) text
+pub list_is : (n : ℕ) (text : List ℕ) → 1 ≤ n → n ≤ most_ids → IsBytes text → Is (ids n) text
     → (0 < length (ids_of text)) × (text ≡ ids_bytes (ids_of text)) × AreIds n (ids_of text)
 unfolding ids
 list_is n text some most fits is =

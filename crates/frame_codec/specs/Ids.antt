@@ -1,7 +1,9 @@
 -- What an identifier list is, in words on the whole list.
-use Rattle.std.specs.Prelude.{◌≡◌, ℕ, ◌/◌, ◌<◌, ◌≤◌, true, ◌==◌, ◌&&◌, ◌||◌, nat_lt, List, [], ◌∷◌, length, count_by}
+use Rattle.std.specs.Prelude.{◌≡◌, ℕ, ◌<◌, ◌≤◌, true, ◌==◌, ◌&&◌, ◌||◌, nat_lt, List, [], ◌∷◌, length, count_by}
 use Rattle.std.specs.List.{AllByRecursion}
+use Rattle.ritas_base.specs.Limits.{number_limit}
 use Rattle.ritas_base.specs.declared.id.Id.{Id}
+use Rattle.frame_codec.specs.Limits.{most_ids, share_of}
 
 -- by origin, then by number
 abbrev pub IsBelow : Id → Id → Type 0
@@ -16,7 +18,7 @@ abbrev pub of_origin : ℕ → List Id → ℕ
 of_origin k xs = count_by (λ x. x.origin == k) xs
 
 pub record AreIds (n : ℕ) (xs : List Id) : Type 0 where
-  pub most : length xs ≤ 64
-  pub in_range : AllByRecursion (λ x. (x.origin < n) × (x.num < 1000000)) xs
+  pub most : length xs ≤ most_ids
+  pub in_range : AllByRecursion (λ x. (x.origin < n) × (x.num < number_limit)) xs
   pub ascending : Ascends xs
-  pub few : (k : ℕ) → of_origin k xs ≤ 64 / n
+  pub few : (k : ℕ) → of_origin k xs ≤ share_of n

@@ -1,5 +1,6 @@
 -- What holds of bodies and inputs, each statement with a name, so that a lemma can have it as a premise.
 use Rattle.std.specs.Prelude.{◌≡◌, ◌↔◌, ℕ, ◌<◌, List, true, None, Ok}
+use Rattle.ritas_base.specs.Limits.{number_limit}
 use Rattle.ritas_base.specs.Numbers.{Numbers, IsSession}
 use Rattle.ritas_base.specs.Slots.{has_class, slot_fault, command_slot}
 use Rattle.ritas_base.specs.declared.slot.Slot.{Slot}
@@ -33,4 +34,4 @@ InputsAreValues = (p : Numbers) (mode : Mode) (s : Slot) (bytes : List ℕ) → 
 -- nothing is wrong with a replica's slot of a command, where the root service has commands
 abbrev pub CommandSlotsRight : Type 0
 CommandSlotsRight = (p : Numbers) (mode : Mode) (origin num : ℕ) → has_class mode.root 1 ≡ true → origin < p.n
-    → num < 1000000 → slot_fault p mode (command_slot origin num) ≡ None
+    → num < number_limit → slot_fault p mode (command_slot origin num) ≡ None

@@ -1,3 +1,4 @@
+pub mod Limits
 pub mod Format
 pub mod Grammar
 pub mod Body

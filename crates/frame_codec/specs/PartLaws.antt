@@ -6,6 +6,7 @@ use Rattle.std.specs.Int.RustNames.{count_ones}
 use Rattle.std.proofs.lemmas.Bool.{eqb-true, and_parts}
 use Rattle.std.proofs.lemmas.List.{take_at, drop_at, drop-drop, length-append}
 use Rattle.ritas_base.specs.Numbers.{Numbers}
+use Rattle.frame_codec.specs.Limits.{longest_ids, longest_entry}
 use Rattle.frame_codec.specs.declared.ids.Run.{Run}
 use Rattle.frame_codec.specs.Format.{Format, Done, Number, Block, Plain, Left, Is, ◌>>◌}
 use Rattle.frame_codec.specs.Grammar.{any, id_of, no_ids, ids_from, entry, times, vector, vect, column}
@@ -66,10 +67,10 @@ ids_length n (suc count) run text (f, r, parts, len, ok, more) =
     let others = ids_length n count _ r more in
     ap length parts ∙ omega (arith, length-append f r, len, others)
 
-pub entry_length : (t : Bool) (n len : ℕ) (text : List ℕ) → cond t (leb 5 len && leb len 320 && eqb (len % 5) 0) (leb 1 len && leb len 512) ≡ true
+pub entry_length : (t : Bool) (n len : ℕ) (text : List ℕ) → cond t (leb 5 len && leb len longest_ids && eqb (len % 5) 0) (leb 1 len && leb len longest_entry) ≡ true
     → Is (cond t (ids_from n (len / 5) no_ids) (Block len any (λ _. Done))) text → length text ≡ len
 entry_length true n len text ok is =
-    let zero_rest : len % 5 ≡ 0 = eqb-true (len % 5) 0 (and_parts (leb 5 len && leb len 320) (eqb (len % 5) 0) ok).1 in
+    let zero_rest : len % 5 ≡ 0 = eqb-true (len % 5) 0 (and_parts (leb 5 len && leb len longest_ids) (eqb (len % 5) 0) ok).1 in
     let l = ids_length n (len / 5) no_ids text is in
     omega (arith, l, zero_rest)
 entry_length false n len text ok (f, r, parts, l, good, nil) =

@@ -1,6 +1,6 @@
 -- Some bodies and their answers, and some inputs and what is wrong with them, where there are four replicas and one may
 -- be faulty.
-use Rattle.std.specs.Prelude.{◌≡◌, ℕ, List, [], ◌∷◌, ◌++◌, take, Some, None, Result, Ok, Err, replicate, refl}
+use Rattle.std.specs.Prelude.{◌≡◌, ℕ, ◌+◌, List, [], ◌∷◌, ◌++◌, take, Some, None, Result, Ok, Err, replicate, refl}
 use Rattle.std.proofs.Common.{lit≤}
 use Rattle.std.specs.Int.RustNames.{count_ones}
 use Rattle.ritas_base.specs.Members.{has_member, member_count}
@@ -14,6 +14,8 @@ use Rattle.ritas_base.specs.declared.item.Kind.{Kind as a_kind}
 use Rattle.ritas_base.specs.declared.item.Kind.TheVariants as kinds
 use Rattle.ritas_base.specs.declared.item.Item.{Item}
 use Rattle.ritas_base.specs.declared.item.Kind.TheVariants.{Init}
+use Rattle.ritas_base.specs.Limits.{longest_input}
+use Rattle.frame_codec.specs.Limits.{longest_entry}
 use Rattle.frame_codec.specs.declared.fault.BodyFault.{BodyFault}
 use Rattle.frame_codec.specs.declared.fault.BodyFault.TheVariants.{Kind, Slot as SlotWrong, Payload, Rest}
 use Rattle.frame_codec.specs.Grammar.{ids_from, ids, class1, class2, class3, vect, bit, value, digest, payload}
@@ -210,11 +212,11 @@ one_byte : input_fault four one (97 ∷ []) ≡ None
 unfolding input_format class1 class2 class3 bit
 one_byte = refl
 
-longest_command : input_fault four one (replicate 4096 97) ≡ None
+longest_command : input_fault four one (replicate longest_input 97) ≡ None
 unfolding input_format class1 class2 class3 bit
 longest_command = refl
 
-command_too_long : input_fault four one (replicate 4097 97) ≡ Some 4096
+command_too_long : input_fault four one (replicate (longest_input + 1) 97) ≡ Some longest_input
 unfolding input_format class1 class2 class3 bit
 command_too_long = refl
 
@@ -242,15 +244,15 @@ no_proposal : input_fault four fourth [] ≡ Some 0
 unfolding input_format class1 class2 class3 bit
 no_proposal = refl
 
-proposal_too_long : input_fault four fourth (replicate 4097 0) ≡ Some 4096
+proposal_too_long : input_fault four fourth (replicate (longest_input + 1) 0) ≡ Some longest_input
 unfolding input_format class1 class2 class3 bit
 proposal_too_long = refl
 
-longest_vector_proposal : input_fault four five (replicate 512 0) ≡ None
+longest_vector_proposal : input_fault four five (replicate longest_entry 0) ≡ None
 unfolding input_format class1 class2 class3 bit
 longest_vector_proposal = refl
 
-vector_proposal_too_long : input_fault four five (replicate 513 0) ≡ Some 512
+vector_proposal_too_long : input_fault four five (replicate (longest_entry + 1) 0) ≡ Some longest_entry
 unfolding input_format class1 class2 class3 bit
 vector_proposal_too_long = refl
 
@@ -266,7 +268,7 @@ request_without_payload : input_fault four six (0 ∷ 0 ∷ 0 ∷ 7 ∷ 0 ∷ 0 
 unfolding input_format class1 class2 class3 bit
 request_without_payload = refl
 
-request_too_long : input_fault four six (replicate 4097 0) ≡ Some 4096
+request_too_long : input_fault four six (replicate (longest_input + 1) 0) ≡ Some longest_input
 unfolding input_format class1 class2 class3 bit
 request_too_long = refl
 

@@ -8,6 +8,8 @@ use Rattle.std.proofs.lemmas.List.{take_at, drop_at, append-nil, length-take, ge
 use Rattle.std.proofs.lemmas.List.Concat.{flat_map-cons}
 use Rattle.std.proofs.lemmas.Nat.{be_bytes_2, be_bytes_4, from_be_bytes-to_be_bytes_2, from_be_bytes-to_be_bytes_4}
 use Rattle.ritas_base.specs.Numbers.{Numbers, wait_of}
+use Rattle.ritas_base.specs.Limits.{number_limit}
+use Rattle.frame_codec.specs.Limits.{most_ids, longest_ids, longest_entry}
 use Rattle.frame_codec.specs.declared.ids.Run.{Run}
 use Rattle.frame_codec.specs.Format.{Done, Block, Plain, Is}
 use Rattle.frame_codec.specs.Grammar.{any, id_of, no_ids, with_id, comes_after, ids_from, ids, is_places, is_entry_len, entry, times, vector, class2}
@@ -16,13 +18,13 @@ use Rattle.frame_codec.specs.PartLaws.{is_then, then_is, entry_fixed, ids_length
 
 -- ---- a whole list of identifiers is of so many
 
-ids_count : (n count : ℕ) (run : Run) (text : List ℕ) → Is (ids_from n count run) text → 0 < count → run.total + count ≤ 64
+ids_count : (n count : ℕ) (run : Run) (text : List ℕ) → Is (ids_from n count run) text → 0 < count → run.total + count ≤ most_ids
 unfolding ids_from
 ids_count n zero run text is some = absurd (omega arith)
 ids_count n (suc zero) run text (f, r, parts, len, ok, more) some =
-    let a = and_parts (ltb (id_of f).origin n) (ltb (id_of f).num 1000000 && (ltb run.total 64 && comes_after n run.last run.same (id_of f))) ok in
-    let b = and_parts (ltb (id_of f).num 1000000) (ltb run.total 64 && comes_after n run.last run.same (id_of f)) a.1 in
-    let few : run.total < 64 = ltb-true _ _ (and_parts (ltb run.total 64) (comes_after n run.last run.same (id_of f)) b.1).0 in
+    let a = and_parts (ltb (id_of f).origin n) (ltb (id_of f).num number_limit && (ltb run.total most_ids && comes_after n run.last run.same (id_of f))) ok in
+    let b = and_parts (ltb (id_of f).num number_limit) (ltb run.total most_ids && comes_after n run.last run.same (id_of f)) a.1 in
+    let few : run.total < most_ids = ltb-true _ _ (and_parts (ltb run.total most_ids) (comes_after n run.last run.same (id_of f)) b.1).0 in
     omega arith
 ids_count n (suc (suc count)) run text (f, r, parts, len, ok, more) some =
     let others = ids_count n (suc count) (with_id run (id_of f)) r more (omega arith) in
@@ -30,19 +32,19 @@ ids_count n (suc (suc count)) run text (f, r, parts, len, ok, more) some =
 
 -- ---- an entry is a length and a value of class 2
 
-class2_from : (t : Bool) (n len : ℕ) (e : List ℕ) → cond t (leb 5 len && leb len 320 && eqb (len % 5) 0) (leb 1 len && leb len 512) ≡ true → length e ≡ len
-    → Is (cond t (ids_from n (len / 5) no_ids) (Block len any (λ _. Done))) e → Is (cond t (ids n) (Plain 1 512)) e
+class2_from : (t : Bool) (n len : ℕ) (e : List ℕ) → cond t (leb 5 len && leb len longest_ids && eqb (len % 5) 0) (leb 1 len && leb len longest_entry) ≡ true → length e ≡ len
+    → Is (cond t (ids_from n (len / 5) no_ids) (Block len any (λ _. Done))) e → Is (cond t (ids n) (Plain 1 longest_entry)) e
 unfolding ids
 class2_from true n len e ok same is =
-    let a = and_parts (leb 5 len && leb len 320) (eqb (len % 5) 0) ok in
-    let five : 5 ≤ len = leb-true 5 len (and_parts (leb 5 len) (leb len 320) a.0).0 in
+    let a = and_parts (leb 5 len && leb len longest_ids) (eqb (len % 5) 0) ok in
+    let five : 5 ≤ len = leb-true 5 len (and_parts (leb 5 len) (leb len longest_ids) a.0).0 in
     let whole : len % 5 ≡ 0 = eqb-true (len % 5) 0 a.1 in
     let count : len / 5 ≡ (length e - 1) / 5 + 1 = omega arith in
     subst (λ (c : ℕ). Is (ids_from n c no_ids) e) count is
 class2_from false n len e ok same is =
-    let b = and_parts (leb 1 len) (leb len 512) ok in
+    let b = and_parts (leb 1 len) (leb len longest_entry) ok in
     let low = leb-true 1 len b.0 in
-    let high = leb-true len 512 b.1 in
+    let high = leb-true len longest_entry b.1 in
     (omega (arith, low, same), omega (arith, high, same))
 
 pub record Entry (p : Numbers) (root : ℕ) (text head e : List ℕ) : Type 0 where
@@ -58,40 +60,40 @@ entry_parts p root text (f, r, parts, two, ok, more) =
     let same : length r ≡ len = entry_length (eqb root 6) p.n len r ok more in
     (f, r, record { parts = parts; two = two; says = sym same; right = class2_from (eqb root 6) p.n len r ok same more })
 
-class2_most : (t : Bool) (n : ℕ) (e : List ℕ) → Is (cond t (ids n) (Plain 1 512)) e → (1 ≤ length e) × (length e ≤ 512)
+class2_most : (t : Bool) (n : ℕ) (e : List ℕ) → Is (cond t (ids n) (Plain 1 longest_entry)) e → (1 ≤ length e) × (length e ≤ longest_entry)
 unfolding ids
 class2_most true n e is =
     let count = (length e - 1) / 5 + 1 in
     let same : length e ≡ 5 * count = ids_length n count no_ids e is in
     let some : 0 < count = omega arith in
-    let few : 0 + count ≤ 64 = ids_count n count no_ids e is some in
+    let few : 0 + count ≤ most_ids = ids_count n count no_ids e is some in
     (omega (arith, same, some), omega (arith, same, few))
 class2_most false n e is = is
 
-pub class2_short : (p : Numbers) (root : ℕ) (value : List ℕ) → Is (class2 p root) value → (1 ≤ length value) × (length value ≤ 512)
+pub class2_short : (p : Numbers) (root : ℕ) (value : List ℕ) → Is (class2 p root) value → (1 ≤ length value) × (length value ≤ longest_entry)
 unfolding class2
 class2_short p root value is = class2_most (eqb root 6) p.n value is
 
-class2_len : (t : Bool) (n : ℕ) (e : List ℕ) → Is (cond t (ids n) (Plain 1 512)) e
-    → (length e < 2 ^ 16) × (cond t (leb 5 (length e) && leb (length e) 320 && eqb (length e % 5) 0) (leb 1 (length e) && leb (length e) 512) ≡ true)
+class2_len : (t : Bool) (n : ℕ) (e : List ℕ) → Is (cond t (ids n) (Plain 1 longest_entry)) e
+    → (length e < 2 ^ 16) × (cond t (leb 5 (length e) && leb (length e) longest_ids && eqb (length e % 5) 0) (leb 1 (length e) && leb (length e) longest_entry) ≡ true)
     × Is (cond t (ids_from n (length e / 5) no_ids) (Block (length e) any (λ _. Done))) e
 unfolding ids
 class2_len true n e is =
     let count = (length e - 1) / 5 + 1 in
     let same : length e ≡ 5 * count = ids_length n count no_ids e is in
     let some : 0 < count = omega arith in
-    let few : 0 + count ≤ 64 = ids_count n count no_ids e is some in
+    let few : 0 + count ≤ most_ids = ids_count n count no_ids e is some in
     let low : 5 ≤ length e = omega arith in
-    let high : length e ≤ 320 = omega arith in
+    let high : length e ≤ longest_ids = omega arith in
     let whole : length e % 5 ≡ 0 = omega arith in
     let pieces : count ≡ length e / 5 = omega arith in (
       omega arith,
-      and_from (leb 5 (length e) && leb (length e) 320) (eqb (length e % 5) 0) (and_from (leb 5 (length e)) (leb (length e) 320) (le-leb _ _ low) (le-leb _ _ high)) (eq-eqb _ _ whole),
+      and_from (leb 5 (length e) && leb (length e) longest_ids) (eqb (length e % 5) 0) (and_from (leb 5 (length e)) (leb (length e) longest_ids) (le-leb _ _ low) (le-leb _ _ high)) (eq-eqb _ _ whole),
       subst (λ (c : ℕ). Is (ids_from n c no_ids) e) pieces is,
     )
 class2_len false n e is = (
   omega (arith, is.1),
-  and_from (leb 1 (length e)) (leb (length e) 512) (le-leb _ _ is.0) (le-leb _ _ is.1),
+  and_from (leb 1 (length e)) (leb (length e) longest_entry) (le-leb _ _ is.0) (le-leb _ _ is.1),
   (e, [], sym (append-nil e), refl, refl, refl),
 )
 

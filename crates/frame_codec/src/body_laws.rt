@@ -1,6 +1,7 @@
 //! What the grammar of bodies means: one spelling for each item, inputs as values, one value for several kinds.
 
 ghost use Rattle.std.specs.Prelude.{◌≡◌, ◌↔◌, ℕ, ◌<◌, ◌≤◌, List, length, true, false, None, Ok, Err};
+ghost use Rattle.ritas_base.specs.Limits.{number_limit};
 ghost use Rattle.ritas_base.specs.Numbers.{Numbers, IsSession};
 ghost use Rattle.ritas_base.specs.Slots.{has_class, slot_fault, by_echo, form_of, command_slot};
 ghost use Rattle.ritas_base.specs.declared.slot.Slot.{Slot};
@@ -81,6 +82,6 @@ pub fn input_is_value()
     ensures value { InputsAreValues }
     ensures slot { CommandSlotsRight }
     ensures command { (p : Numbers) (mode : Mode) (item : Item) (num : ℕ) → IsSession p → has_class mode.root 1 ≡ true
-        → item.slot ≡ command_slot item.slot.origin num → item.slot.origin < p.n → num < 1000000
+        → item.slot ≡ command_slot item.slot.origin num → item.slot.origin < p.n → num < number_limit
         → item.kind ≡ first_kind (by_echo mode item.slot) → IsInput p mode item.value → IsInGrammar p mode item }
 {}

@@ -6,6 +6,7 @@ ghost use Rattle.frame_codec.specs.Format.{Gives, read, number_at, block_at, pla
 ghost use Rattle.frame_codec.specs.Grammar.{any, is_places, is_entry_len};
 
 use crate::fault::Wrong;
+use crate::limits::{LONGEST_ENTRY, LONGEST_IDS};
 
 /// All bytes, of which there are at least and at most so many.
 pub(crate) fn plain(low: usize, high: usize, bytes: &[u8]) -> Result<&[u8], Wrong>
@@ -52,9 +53,9 @@ pub(crate) fn entry_len(root: u8, bytes: &[u8]) -> Result<(usize, &[u8]), Wrong>
     let (front, rest) = block(2, bytes)?;
     let len = usize::from(u16::from_be_bytes([front[0], front[1]]));
     let is_good = if root == 6 {
-        len >= 5 && len <= 320 && len % 5 == 0
+        len >= 5 && len <= LONGEST_IDS && len % 5 == 0
     } else {
-        len >= 1 && len <= 512
+        len >= 1 && len <= LONGEST_ENTRY
     };
     if !is_good {
         return Err(Wrong { left: bytes.len() });

@@ -1,12 +1,14 @@
 //! Identifier lists, read from the left.
 
 ghost use Rattle.std.specs.Prelude.{◌≡◌, ℕ, ◌≤◌, ◌<◌, length};
+ghost use Rattle.frame_codec.specs.Limits.{most_ids};
 ghost use Rattle.frame_codec.specs.Grammar.{admits, with_id, no_ids, id_of, id_at, ids_from, ids};
 ghost use Rattle.frame_codec.specs.Format.{Gives, read};
 
 use crate::fault::Wrong;
 use crate::fields::block;
-use ritas_base::{Id, Params};
+use crate::limits::MOST_IDS;
+use ritas_base::{Id, NUMBER_LIMIT, Params};
 
 /// The identifiers of a list so far: the last one, how many have its origin, and how many there are.
 #[derive(Clone, Copy, Debug)]
@@ -35,14 +37,14 @@ impl Run {
             None => true,
             Some(last) => {
                 last.origin < id.origin
-                    || id.origin == last.origin && last.num < id.num && self.same < 64 / p.n()
+                    || id.origin == last.origin && last.num < id.num && self.same < MOST_IDS / p.n()
             }
         };
-        id.origin < p.n() && id.num < 1_000_000 && self.total < 64 && is_after
+        id.origin < p.n() && id.num < NUMBER_LIMIT && self.total < MOST_IDS && is_after
     }
 
     fn with(self, id: Id) -> Run
-        requires total { self.total < 64 }
+        requires total { self.total < most_ids }
         requires same { self.same ≤ self.total }
         ensures { result ≡ with_id self id }
     {

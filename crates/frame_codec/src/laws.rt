@@ -8,6 +8,7 @@ ghost use Rattle.ritas_base.specs.Numbers.{Numbers, wait_of, support_of};
 ghost use Rattle.ritas_base.specs.History.{replicas};
 ghost use Rattle.ritas_base.specs.Members.{has_member};
 ghost use Rattle.ritas_base.specs.declared.id.Id.{Id};
+ghost use Rattle.frame_codec.specs.Limits.{most_ids, longest_entry};
 ghost use Rattle.frame_codec.specs.Format.{Is};
 ghost use Rattle.frame_codec.specs.Grammar.{ids, vector, vect, column, class2, class3, is_places};
 ghost use Rattle.frame_codec.specs.Ids.{AreIds};
@@ -15,13 +16,13 @@ ghost use Rattle.frame_codec.specs.Values.{IsBytes, ids_bytes, ids_of, mask_of, 
 ghost use Rattle.frame_codec.specs.Values.{IsVector, entries_in, entries_of, entry_of, is_passed, vector_bytes};
 ghost use Rattle.frame_codec.specs.Values.{IsColumn, rows_in, row_of, column_bytes, IsVect, vect_bytes};
 
-/// A value is an identifier list exactly where it spells some identifiers that are one in words: at most 64, ascending,
-/// of replicas, of numbers below 1,000,000, and at most 64 / n of one origin.
+/// A value is an identifier list exactly where it spells some identifiers that are one in words: at most `most_ids` (64), ascending,
+/// of replicas, of numbers below `number_limit` (1,000,000), and at most `share_of` n of one origin.
 ///
 /// It does nothing: its contract is the law.
 pub fn list_law()
     ensures written { (n : ℕ) (xs : List Id) → 0 < length xs → AreIds n xs → Is (ids n) (ids_bytes xs) }
-    ensures read { (n : ℕ) (value : List ℕ) → 1 ≤ n → n ≤ 64 → IsBytes value → Is (ids n) value
+    ensures read { (n : ℕ) (value : List ℕ) → 1 ≤ n → n ≤ most_ids → IsBytes value → Is (ids n) value
         → (0 < length (ids_of value)) × (value ≡ ids_bytes (ids_of value)) × AreIds n (ids_of value) }
     ensures again { (xs : List Id) → AllByRecursion (λ x. x.num < 2 ^ 32) xs → ids_of (ids_bytes xs) ≡ xs }
 {}
@@ -43,12 +44,12 @@ pub fn vector_law()
         → count_by test (entries_of value) ≡ count_by (λ k. is_passed test (entry_of value k)) (replicas p.n) }
 {}
 
-/// A value of class 2 has 1 to 512 bytes.
+/// A value of class 2 has 1 to `longest_entry` (512) bytes.
 ///
 /// It does nothing: its contract is the law.
 pub fn class2_is_short()
     ensures { (p : Numbers) (root : ℕ) (value : List ℕ) → Is (class2 p root) value
-        → (1 ≤ length value) × (length value ≤ 512) }
+        → (1 ≤ length value) × (length value ≤ longest_entry) }
 {}
 
 /// A value is a VECT exactly where it is none, which has no bytes, or a mask and a value of class 3.

@@ -8,7 +8,8 @@ ghost use Rattle.frame_codec.specs.Grammar.{entry, times, vector, class1, class2
 use crate::fault::Wrong;
 use crate::fields::{block, byte_below, entry_len, places, plain};
 use crate::ids::{ids, ids_from};
-use ritas_base::{Kind, Mode, Params, Slot};
+use crate::limits::LONGEST_ENTRY;
+use ritas_base::{Kind, LEAST_REQUEST, LONGEST_INPUT, Mode, Params, Slot};
 
 #[tactic(auto, unfolding(crate::specs::Grammar::entry))]
 fn entry<'a>(p: &Params, root: u8, bytes: &'a [u8]) -> Result<&'a [u8], Wrong>
@@ -44,7 +45,11 @@ fn vector<'a>(p: &Params, root: u8, bytes: &'a [u8]) -> Result<&'a [u8], Wrong>
 fn class1(root: u8, bytes: &[u8]) -> Result<&[u8], Wrong>
     ensures { Gives (λ rest. rest.now) result (read (class1 root) bytes.now) }
 {
-    plain(if root == 6 { 8 } else { 1 }, 4096, bytes)
+    plain(
+        if root == 6 { LEAST_REQUEST } else { 1 },
+        LONGEST_INPUT,
+        bytes,
+    )
 }
 
 #[tactic(auto, unfolding(crate::specs::Grammar::class2))]
@@ -54,7 +59,7 @@ fn class2<'a>(p: &Params, root: u8, bytes: &'a [u8]) -> Result<&'a [u8], Wrong>
     if root == 6 {
         ids(p, bytes)
     } else {
-        plain(1, 512, bytes)
+        plain(1, LONGEST_ENTRY, bytes)
     }
 }
 
@@ -63,7 +68,7 @@ fn class3<'a>(p: &Params, root: u8, bytes: &'a [u8]) -> Result<&'a [u8], Wrong>
     ensures { Gives (λ rest. rest.now) result (read (class3 p.now root) bytes.now) }
 {
     if root == 4 {
-        plain(1, 4096, bytes)
+        plain(1, LONGEST_INPUT, bytes)
     } else {
         vector(p, root, bytes)
     }

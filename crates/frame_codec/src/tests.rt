@@ -2,7 +2,8 @@
 
 use super::*;
 use ritas_base::{
-    Bytes, FrameVersion, Id, Item, Kind, Mem, Mode, Params, SenderSet, SlotFault, Vect,
+    Bytes, FrameVersion, Id, Item, Kind, LEAST_REQUEST, LONGEST_INPUT, Mem, Mode, Params,
+    SenderSet, SlotFault, Vect,
 };
 use std::alloc::Global;
 use std::test::*;
@@ -172,18 +173,22 @@ fn inputs(rt: HostRuntime) -> Result<(), Fail> {
         length_of(rt.alloc(), b"\x01\x01\0\0\0\0\0\0\0\0abc"),
         Some(13)
     );
-    let long = [7; 4097];
+    let long = [7; LONGEST_INPUT + 1];
     let cases: [(u8, &[u8], Option<u32>); 10] = [
         (1, &[], Some(0)),
-        (2, &long[..4096], None),
-        (2, &long, Some(4096)),
+        (2, &long[..LONGEST_INPUT], None),
+        (2, &long, Some(LONGEST_INPUT as u32)),
         (3, &[1], None),
         (3, &[2, 0], Some(0)),
         (3, &[0, 0], Some(1)),
-        (4, &long[..4096], None),
-        (5, &long[..513], Some(512)),
-        (6, &long[..7], Some(7)),
-        (6, &long[..8], None),
+        (4, &long[..LONGEST_INPUT], None),
+        (5, &long[..LONGEST_ENTRY + 1], Some(LONGEST_ENTRY as u32)),
+        (
+            6,
+            &long[..LEAST_REQUEST - 1],
+            Some(LEAST_REQUEST as u32 - 1),
+        ),
+        (6, &long[..LEAST_REQUEST], None),
     ];
     for (root, bytes, want) in cases {
         let (p, mode) = session(root).ok_or("no session")?;
