@@ -15,6 +15,7 @@ pub mod Entries
 pub mod OneValue
 pub mod OnceLaws
 pub mod EntryLaws
+pub mod Windows
 pub mod Service
 pub mod DecisionLaws
 pub mod ServiceCalls

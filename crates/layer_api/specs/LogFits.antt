@@ -5,6 +5,7 @@ use Rattle.std.proofs.Common.{ap, inl, inr, eqb, eqb-true, arith}
 use Rattle.std.proofs.lemmas.Bool.{and_from, eq-eqb, or_cases, or_parts, false_from_ne_true, both_ways}
 use Rattle.std.proofs.lemmas.List.{length-map}
 use Rattle.std.proofs.lemmas.Map.Steps.{length-le_from_distinct_below}
+use Rattle.ritas_base.specs.Limits.{number_limit}
 use Rattle.ritas_base.specs.declared.id.Id.{Id}
 use Rattle.ritas_base.specs.declared.slot.Slot.{Slot}
 use Rattle.ritas_base.specs.SlotOrder.{is_slot, same_slot}
@@ -16,7 +17,7 @@ use Rattle.layer_api.specs.Service.{ServiceRules, Seat, has_id, AreProper, AreDi
 
 pub record IsFitting (x : Id) : Type 0 where
   pub origin : x.origin < 31
-  pub number : x.num < 1000000
+  pub number : x.num < number_limit
 
 pub heard_fits : (r : ServiceRules) (seat : Seat) (w : List Word) (x : Id) → AreProper r seat w → is_heard w (command_slot x.origin x.num) ≡ true → IsFitting x
 heard_fits r seat [] x proper h = absurd (cc)
@@ -45,13 +46,13 @@ all_fit r seat w (x ∷ xs) proper h = (heard_fits r seat w x proper h.0, all_fi
 -- ---- distinct identifiers are as many as their numbers
 
 abbrev number_of : Id → ℕ
-number_of x = x.origin * 1000000 + x.num
+number_of x = x.origin * number_limit + x.num
 
-below_all : (xs : List Id) (q : ℕ) → AllFit xs → list_any (eqb q) (map number_of xs) ≡ true → q < 31000000
+below_all : (xs : List Id) (q : ℕ) → AllFit xs → list_any (eqb q) (map number_of xs) ≡ true → q < 31 * number_limit
 below_all [] q fit h = absurd (cc)
 below_all (x ∷ xs) q fit h =
     elim (or_cases (eqb q (number_of x)) (list_any (eqb q) (map number_of xs)) h) [
-      | inl here ↦ let is : q ≡ x.origin * 1000000 + x.num = eqb-true q (number_of x) here in omega (arith, is, fit.0.origin, fit.0.number)
+      | inl here ↦ let is : q ≡ x.origin * number_limit + x.num = eqb-true q (number_of x) here in omega (arith, is, fit.0.origin, fit.0.number)
       | inr there ↦ below_all xs q fit.1 there
     ]
 
@@ -75,8 +76,8 @@ distinct_numbers [] all once = tt
 distinct_numbers (x ∷ xs) all once = (apart x xs all.0 all.1 once.0, distinct_numbers xs all.1 once.1)
 
 -- of distinct identifiers that were heard there are at most 31,000,000
-pub ids_fit : (r : ServiceRules) (seat : Seat) (w : List Word) (xs : List Id) → AreProper r seat w → AreHeard w xs → AreDistinct xs → length xs ≤ 31000000
+pub ids_fit : (r : ServiceRules) (seat : Seat) (w : List Word) (xs : List Id) → AreProper r seat w → AreHeard w xs → AreDistinct xs → length xs ≤ 31 * number_limit
 ids_fit r seat w xs proper heard once =
     let fit = all_fit r seat w xs proper heard in
-    let most = length-le_from_distinct_below (map number_of xs) 31000000 (distinct_numbers xs fit once) (λ q h. below_all xs q fit h) in
+    let most = length-le_from_distinct_below (map number_of xs) (31 * number_limit) (distinct_numbers xs fit once) (λ q h. below_all xs q fit h) in
     omega (arith, most, length-map xs number_of)

@@ -1,5 +1,5 @@
 -- Root services with one instance of consensus: one input, no commands, no rounds and no identifier log. What is the same in all.
-use Rattle.std.specs.Prelude.{◌≡◌, ℕ, zero, suc, ◌+◌, ◌<◌, ◌≤◌, ◌⊎◌, Bool, true, false, not, ◌==◌, ◌&&◌, nat_le, nat_lt, if◌then◌else◌, List, [], ◌∷◌, length, Some, None, refl}
+use Rattle.std.specs.Prelude.{◌≡◌, ℕ, zero, suc, ◌+◌, ◌*◌, ◌<◌, ◌≤◌, ◌⊎◌, Bool, true, false, not, ◌==◌, ◌&&◌, nat_le, nat_lt, if◌then◌else◌, List, [], ◌∷◌, length, Some, None, refl}
 use Rattle.std.proofs.Common.{sym, ◌∙◌, ap, ap₂, subst, inl, inr, arith, ne_eqb}
 use Rattle.std.proofs.lemmas.Bool.{and_parts, eqb-true, leb-true, le-ltb, not-false, cond-false, both_ways}
 use Rattle.ritas_base.specs.declared.slot.Slot.{Slot}
@@ -9,6 +9,8 @@ use Rattle.ritas_base.specs.Numbers.{IsSession}
 use Rattle.ritas_base.specs.Slots.{slot_fault, has_class, within}
 use Rattle.frame_codec.specs.Format.{Is}
 use Rattle.frame_codec.specs.Grammar.{value}
+use Rattle.ritas_base.specs.Limits.{number_limit}
+use Rattle.layer_api.specs.Windows.{command_window, rounds_kept}
 use Rattle.layer_api.specs.Words.{Word, Ask, Hear, asked, AreFresh}
 use Rattle.layer_api.specs.FreshLaws.{fresh_other}
 use Rattle.layer_api.specs.Service.{ServiceRules, Seat, Instance, Decision, Decided, AreProper, AreGoodSays, AreInputs, AreDistinct, AreHeard, said, has_instance, IsEnding, Meanings, Insides, is_past, WordLaws}
@@ -115,7 +117,7 @@ module _ (r : ServiceRules) (one : HasOneInstance r) where
           base = λ o commands. absurd (both_ways _ none commands);
           base_none = λ o instance. one.base seat w o;
           done = λ low. one.done seat w;
-          done_few = subst (λ (xs : List Id). length xs ≤ 31000000) (sym (one.done seat w)) (omega arith);
+          done_few = subst (λ (xs : List Id). length xs ≤ 31 * number_limit) (sym (one.done seat w)) (omega arith);
           outcome = laws.ending seat w serves;
         }
 
@@ -133,11 +135,11 @@ module _ (r : ServiceRules) (one : HasOneInstance r) where
     -- no slot is ever past
     never_past : (seat : Seat) (w : List Word) (s : Slot) → is_past r seat w s ≡ false
     never_past seat w s =
-        ap₂ (λ (b k : ℕ). if s.class == 1 then nat_lt (s.a + 64) b else nat_lt (s.a + 2) k) (one.base seat w s.origin) (one.completed seat w) ∙ none (s.class == 1)
+        ap₂ (λ (b k : ℕ). if s.class == 1 then nat_lt (s.a + command_window) b else nat_lt (s.a + rounds_kept) k) (one.base seat w s.origin) (one.completed seat w) ∙ none (s.class == 1)
       where
-        none : (command : Bool) → (if command then nat_lt (s.a + 64) 0 else nat_lt (s.a + 2) 0) ≡ false
-        none true = le-ltb (s.a + 64) 0 (omega arith)
-        none false = le-ltb (s.a + 2) 0 (omega arith)
+        none : (command : Bool) → (if command then nat_lt (s.a + command_window) 0 else nat_lt (s.a + rounds_kept) 0) ≡ false
+        none true = le-ltb (s.a + command_window) 0 (omega arith)
+        none false = le-ltb (s.a + rounds_kept) 0 (omega arith)
 
     pub instance_word_laws : WordLaws r
     instance_word_laws = record {

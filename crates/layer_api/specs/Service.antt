@@ -1,14 +1,16 @@
 -- What a service means: its rules on lists of words, the newest first, and when a word may come.
-use Rattle.std.specs.Prelude.{◌≡◌, ℕ, ◌+◌, ◌<◌, ◌≤◌, ◌⊎◌, nat_lt, nat_le, Bool, true, false, not, ◌==◌, ◌&&◌, ◌||◌, List, [], ◌∷◌, ◌++◌, length, Option, Some, None, is_some, ⊤, if◌then◌else◌}
+use Rattle.std.specs.Prelude.{◌≡◌, ℕ, ◌+◌, ◌*◌, ◌<◌, ◌≤◌, ◌⊎◌, nat_le, Bool, true, false, not, ◌==◌, ◌&&◌, ◌||◌, List, [], ◌∷◌, ◌++◌, length, Option, Some, None, is_some, ⊤, if◌then◌else◌}
 use Rattle.ritas_base.specs.declared.slot.Slot.{Slot}
 use Rattle.ritas_base.specs.declared.item.Say.{Say}
 use Rattle.ritas_base.specs.declared.id.Id.{Id}
 use Rattle.ritas_base.specs.declared.mode.Mode.{Mode}
+use Rattle.ritas_base.specs.Limits.{number_limit}
 use Rattle.ritas_base.specs.Numbers.{Numbers, IsSession}
 use Rattle.ritas_base.specs.Slots.{slot_fault, has_class, within, command_slot}
 use Rattle.frame_codec.specs.Format.{Is}
 use Rattle.frame_codec.specs.Grammar.{value}
 use Rattle.frame_codec.specs.Inputs.{IsInput}
+use Rattle.layer_api.specs.Windows.{command_window, lies_behind, lies_beyond}
 use Rattle.layer_api.specs.Words.{Word, Ask, Hear, is_heard, asked, HasSay, AllMet, all_said, AreFresh}
 
 -- the session and the replica that a service's value is for, and its coin
@@ -108,11 +110,11 @@ said r seat w = all_said (r.says seat) w
 
 -- whether a slot's command number or round lies too far behind what is finished
 abbrev pub is_past : ServiceRules → Seat → List Word → Slot → Bool
-is_past r seat w s = if s.class == 1 then nat_lt (s.a + 64) (r.base seat w s.origin) else nat_lt (s.a + 2) (r.completed seat w)
+is_past r seat w s = lies_behind s (r.base seat w s.origin) (r.completed seat w)
 
 -- or too far ahead of it
 abbrev pub is_ahead : ServiceRules → Seat → List Word → Slot → Bool
-is_ahead r seat w s = if s.class == 1 then nat_le (r.base seat w s.origin + 64) s.a else nat_lt (r.completed seat w + 4) s.a
+is_ahead r seat w s = lies_beyond s (r.base seat w s.origin) (r.completed seat w)
 
 -- an input of the root service may be given: the one of a root service with one instance isn't there, and the next number lies in
 -- the window
@@ -121,8 +123,8 @@ pub record MayAsk (r : ServiceRules) (seat : Seat) (w : List Word) (v : List ℕ
   pub served : r.serves seat.mode.root ≡ true
   pub good : IsInput seat.numbers seat.mode v
   pub first : r.given seat w ≡ false
-  pub room : r.next_number seat w < r.base seat w seat.me + 64
-  pub number : r.next_number seat w < 1000000
+  pub room : r.next_number seat w < r.base seat w seat.me + command_window
+  pub number : r.next_number seat w < number_limit
 
 -- a slot of the root service is heard once, inside the window, while its items may be taken, and with a value of its grammar
 pub record MayHear (r : ServiceRules) (seat : Seat) (w : List Word) (s : Slot) (v : List ℕ) : Type 0 where
@@ -131,7 +133,7 @@ pub record MayHear (r : ServiceRules) (seat : Seat) (w : List Word) (s : Slot) (
   pub right : slot_fault seat.numbers seat.mode s ≡ None
   pub good : Is (value seat.numbers seat.mode.root s) v
   pub origin : s.origin < seat.numbers.n
-  pub number : s.a < 1000000
+  pub number : s.a < number_limit
   pub not_past : is_past r seat w s ≡ false
   pub not_ahead : is_ahead r seat w s ≡ false
   pub is_open : r.opens seat w s ≡ true
@@ -239,7 +241,7 @@ pub record Meanings (r : ServiceRules) (seat : Seat) (w : List Word) : Type 0 wh
   pub base_none : (o : ℕ) → has_instance seat.mode.root ≡ true → r.base seat w o ≡ 0
   -- the identifier log is that of root service 6; it is never longer than there are numbers
   pub done : nat_le seat.mode.root 5 ≡ true → r.done seat w ≡ []
-  pub done_few : length (r.done seat w) ≤ 31000000
+  pub done_few : length (r.done seat w) ≤ 31 * number_limit
   pub outcome : IsEnding seat.mode.root (r.outcome seat w)
 
 -- what instances inside decided goes together with what is shown

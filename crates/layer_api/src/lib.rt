@@ -20,6 +20,7 @@ mod slots;
 mod tests;
 mod vector_box;
 mod vote;
+mod windows;
 
 pub use binary_box::BinaryBox;
 pub use broadcast::{Broadcast, Heard};
@@ -32,3 +33,4 @@ pub use service::Service;
 pub use slots::is_slot_in;
 pub use vector_box::VectorBox;
 pub use vote::vote_of;
+pub use windows::{COMMAND_WINDOW, ROUNDS_AHEAD, ROUNDS_KEPT, windows_are};
