@@ -13,12 +13,12 @@ use std::collections::VecDeque;
 use std::marker::Model;
 
 /// The most bytes that are held for one peer.
-const MOST_BYTES: u64 = 1_048_576;
+pub(crate) const MOST_BYTES: u64 = 1_048_576;
 
 /// Why an item isn't held.
 #[derive(Clone, Copy, Debug, PartialEq, Eq)]
 pub enum HoldFault {
-    /// So many bytes are held for its sender, and with it they would be more than 1,048,576.
+    /// So many bytes are held for its sender, and with it they would be more than `most_bytes` (1,048,576).
     HeldFull(u32),
     /// There was not enough memory.
     Mem,
@@ -83,7 +83,7 @@ impl Held {
     /// Holds an item for its sender, behind those that are held for it.
     ///
     /// The length is in bytes, and is counted until the item leaves. `HeldFull` is answered exactly where the sender's
-    /// held bytes, which it carries, and the length are more than 1,048,576; otherwise the one error is `Mem`. All
+    /// held bytes, which it carries, and the length are more than `most_bytes` (1,048,576); otherwise the one error is `Mem`. All
     /// stays as it was after an error.
     pub fn hold(&mut self, _alloc: Global, item: Item, len: u32) -> Result<(), HoldFault>
         requires is_new { is_kept self.old item ≡ false }

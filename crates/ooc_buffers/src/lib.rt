@@ -3,7 +3,7 @@
 //! A replica that runs behind others gets messages of rounds that it hasn't begun: the "out-of-context" messages of
 //! Moniz, Neves, Correia and Veríssimo, "RITAS: Services for Randomized Intrusion Tolerance" (IEEE Transactions on
 //! Dependable and Secure Computing, 2011). They are held, up to a limit for each peer, so that no faulty one takes the
-//! room of others. The limit, 1,048,576 bytes for each peer, and the order are this project's own.
+//! room of others. The limit, `most_bytes` (1,048,576) for each peer, and the order are this project's own.
 //!
 //! Contracts see `Held` as one list for each peer, in the order in which its items came (`specs/Lists.antt`). Each call
 //! says exactly what it leaves there, and `release` what it moves.

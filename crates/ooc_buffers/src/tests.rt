@@ -3,6 +3,7 @@
 ghost use Rattle.std.specs.Prelude.{◌≡◌, length, IfOk};
 
 use super::*;
+use crate::held::MOST_BYTES;
 use ritas_base::{Bytes, Item, Kind, Mem, Slot};
 use std::alloc::Global;
 use std::collections::VecDeque;
@@ -56,16 +57,17 @@ fn put(
 #[test]
 fn a_list_takes_so_many_bytes(rt: HostRuntime) {
     let mut held = Held::new(rt.alloc(), 3).expect(&rt, "memory");
+    let most = MOST_BYTES as u32;
     for (from, a, len, full) in [
-        (1, 0, 1_048_000, None),
+        (1, 0, most - 576, None),
         (1, 1, 576, None),
-        (1, 2, 1, Some(1_048_576)),
+        (1, 2, 1, Some(most)),
         (2, 2, 1, None),
     ] {
         let fault = put(rt.alloc(), &mut held, from, Kind::Init, a, b"x", len).err();
         assert_eq!(rt; fault, full.map(HoldFault::HeldFull), "at {a}");
     }
-    assert!(rt; held.bytes(1) == 1_048_576 && held.bytes(2) == 1 && held.bytes(0) == 0);
+    assert!(rt; held.bytes(1) == most && held.bytes(2) == 1 && held.bytes(0) == 0);
 }
 
 // Items leave by peer, and for each peer in the order in which they came.
