@@ -12,6 +12,10 @@ from functools import lru_cache
 
 INIT, ECHO, READY, SEND, HASHES, COLUMN = range(1, 7)
 
+# commands and rounds are numbered below the first; a list has so many identifiers; the window of commands, and of rounds behind and ahead
+NUMBER_LIMIT, MOST_IDS = 1_000_000, 64
+COMMAND_WINDOW, ROUNDS_KEPT, ROUNDS_AHEAD = 64, 2, 4
+
 
 def slot_bytes(slot: tuple) -> bytes:
     kind, a, attempt, bround, step, origin = slot
@@ -247,10 +251,10 @@ class Atomic:
                     while (o, self.bases[o]) in self.logged:
                         self.bases[o] += 1
                 self.completed += 1
-                self.rounds.pop(self.completed - 3, None)
+                self.rounds.pop(self.completed - ROUNDS_KEPT - 1, None)
                 now = None
-        if now is None and self.pending and self.completed < 1_000_000:
-            share, taken = 64 // self.home.n, []
+        if now is None and self.pending and self.completed < NUMBER_LIMIT:
+            share, taken = MOST_IDS // self.home.n, []
             for o in range(self.home.n):
                 taken += sorted(x for x in self.pending if x[0] == o)[:share]
             self.rounds[self.completed] = Vector(self.home, self.completed)
@@ -270,10 +274,10 @@ class Atomic:
         return slot[0] == 1 or slot[1] in self.rounds and self.rounds[slot[1]].opens(slot)
 
     def past(self, slot):
-        return slot[1] + 64 < self.bases[slot[5]] if slot[0] == 1 else slot[1] + 2 < self.completed
+        return slot[1] + COMMAND_WINDOW < self.bases[slot[5]] if slot[0] == 1 else slot[1] + ROUNDS_KEPT < self.completed
 
     def ahead(self, slot):
-        return slot[1] >= self.bases[slot[5]] + 64 if slot[0] == 1 else slot[1] > self.completed + 4
+        return slot[1] >= self.bases[slot[5]] + COMMAND_WINDOW if slot[0] == 1 else slot[1] > self.completed + ROUNDS_AHEAD
 
 
 class Cast:

@@ -4,7 +4,8 @@ import struct
 
 import serving
 from clients import check
-from peers import MOST_FRAME, connect
+from limits import LONGEST_FRAME
+from peers import connect
 
 QUIET = 0.5
 
@@ -38,7 +39,7 @@ def first_bytes(port: int, me: int, n: int) -> None:
 
 def lengths(port: int, peer: int) -> None:
     """A length over that of the longest frame closes a connection."""
-    for length, is_wrong in ((MOST_FRAME, False), (MOST_FRAME + 1, True)):
+    for length, is_wrong in ((LONGEST_FRAME, False), (LONGEST_FRAME + 1, True)):
         with connect(port, bytes([peer]) + struct.pack(">H", length)) as one:
             check(is_closed(one) if is_wrong else stays(one), f"the length {length}")
 

@@ -7,7 +7,8 @@ import threading
 import time
 
 import serving
-from peers import HEAD_BYTES, MOST_FRAME, TAG_BYTES, Pieces, command_body, connect, pair_key, piece, seal
+from limits import LEAST_REQUEST, LONGEST_FRAME, LONGEST_INPUT
+from peers import HEAD_BYTES, TAG_BYTES, Pieces, command_body, connect, pair_key, piece, seal
 
 CROWD = 100
 MOST_ROUNDS = 20
@@ -39,14 +40,14 @@ class Liar:
     def bodies(self, to: int) -> list:
         """Sealed frames that spell no item, or one of a slot that isn't open."""
         far = command_body(self.me, 999_999, 97, 0, b"far")
-        texts = [b"", b"\xff", far, far[:-4], random.randbytes(40), random.randbytes(MOST_FRAME - HEAD_BYTES - TAG_BYTES)]
+        texts = [b"", b"\xff", far, far[:-4], random.randbytes(40), random.randbytes(LONGEST_FRAME - HEAD_BYTES - TAG_BYTES)]
         return [seal(self.key(to), self.me, to, 2, text) for text in texts]
 
     def lie(self, to: int) -> None:
         """Connects as itself, and sends frames of all these kinds, those that it heard from anyone, and noise."""
         link = Pieces(self.session.peers[to], bytes([self.me]))
         with link.socket:
-            link.send(*self.foreign(to), *self.repeated(to), *self.bodies(to), *self.heard[-20:], b"", random.randbytes(MOST_FRAME))
+            link.send(*self.foreign(to), *self.repeated(to), *self.bodies(to), *self.heard[-20:], b"", random.randbytes(LONGEST_FRAME))
             link.socket.shutdown(socket.SHUT_WR)
             while link.read():
                 pass
@@ -58,7 +59,7 @@ class Liar:
         None begins with the number of a correct replica: a node would take it for a newer connection of that one, and frames would be lost.
         """
         me = bytes([self.me])
-        texts = [me + b"\x01", me + piece(bytes(100))[:50], me + struct.pack(">H", MOST_FRAME + 1) + bytes(MOST_FRAME + 1), me + b"\xff" * 70_000]
+        texts = [me + b"\x01", me + piece(bytes(100))[:50], me + struct.pack(">H", LONGEST_FRAME + 1) + bytes(LONGEST_FRAME + 1), me + b"\xff" * 70_000]
         texts += [bytes([first]) + random.randbytes(1 << 16) for first in (self.me, to, 0, self.session.n, 31, 255)]
         for text in texts:
             send_alone(self.session.peers[to], text)
@@ -80,7 +81,7 @@ def crowd(port: int, count: int, first: bytes) -> list:
 
 def garbage() -> list:
     """Messages of a client that are no requests."""
-    return [os.urandom(size) for size in (0, 1, 7, 4097)]
+    return [os.urandom(size) for size in (0, 1, LEAST_REQUEST - 1, LONGEST_INPUT + 1)]
 
 
 class Crowds(threading.Thread):

@@ -1,5 +1,6 @@
 """What nodes write for each other, as a proxy sees it: frames for the first time and again, and notes."""
-from peers import HEAD_BYTES, MOST_FRAME, TAG_BYTES, tag
+from limits import LONGEST_FRAME
+from peers import HEAD_BYTES, TAG_BYTES, tag
 
 NOTE, ACK, AGAIN = 0x4E, 1, 2
 NOTE_BYTES, NOTE_TAG_AT, SEQ_AT = 44, 12, 3
@@ -23,7 +24,7 @@ class Sight:
         """A piece is a note, or a frame for the first time or again."""
         if text[:1] == bytes([NOTE]):
             self.take_note(text)
-        elif HEAD_BYTES + TAG_BYTES <= len(text) <= MOST_FRAME:
+        elif HEAD_BYTES + TAG_BYTES <= len(text) <= LONGEST_FRAME:
             self.take_frame(text)
         else:
             self.wrong.append(f"a piece of {len(text)} bytes")

@@ -1,0 +1,7 @@
+"""The limits that cases go to, each once. docs/PROTOCOL.md and docs/FORMATS.md say them."""
+LONGEST_FRAME = 16_384
+LEAST_REQUEST, LONGEST_INPUT = 8, 4_096
+LONGEST_PAYLOAD = LONGEST_INPUT - 8
+MOST_REQUESTS = 64
+HELD_BYTES = 1_048_576
+TEXT_BYTES = 1_048_576
