@@ -44,6 +44,10 @@ a_step = record { class = 5; a = 66051; attempt = 1; bround = 200; step = 3; ori
 bytes_of_a_step : slot_bytes a_step ≡ 5 ∷ 0 ∷ 1 ∷ 2 ∷ 3 ∷ 1 ∷ 200 ∷ 3 ∷ 30 ∷ []
 bytes_of_a_step = refl
 
+-- number 258 = 1 * 256 + 2
+bytes_of_a_command : slot_bytes (command_slot 3 258) ≡ 1 ∷ 0 ∷ 0 ∷ 1 ∷ 2 ∷ 0 ∷ 0 ∷ 0 ∷ 3 ∷ []
+bytes_of_a_command = refl
+
 -- the number comes before the origin
 number_first : slot_cmp (command_slot 3 255) (command_slot 0 256) ≡ Less
 number_first = refl

@@ -2,7 +2,7 @@
 
 ghost use Rattle.std.specs.Prelude.{◌≡◌, Some, None, MatchResult, OnOk, if◌then◌else◌, ◌==◌, ◌&&◌};
 ghost use Rattle.ritas_base.specs.Numbers.{IsSession};
-ghost use Rattle.ritas_base.specs.Slots.{slot_fault, slot_bytes, by_echo, form_of, has_class, has_count, within};
+ghost use Rattle.ritas_base.specs.Slots.{slot_fault, slot_bytes, by_echo, command_slot, form_of, has_class, has_count, within};
 
 use crate::limits::NUMBER_LIMIT;
 use crate::mode::{FrameVersion, Mode, Vect};
@@ -63,6 +63,21 @@ fn is_count(is_step: bool, high: u8, x: u8) -> bool
 }
 
 impl Slot {
+    /// The slot of an origin's command of this number: class 1, with no try, round or step. Nothing is asked of the
+    /// numbers: whether a session has the slot, `check` tells.
+    pub fn command(origin: u8, num: u32) -> Slot
+        ensures { result ≡ command_slot origin num }
+    {
+        Slot {
+            class: 1,
+            a: num,
+            attempt: 0,
+            bround: 0,
+            step: 0,
+            origin,
+        }
+    }
+
     /// The nine bytes of the slot: class, number (big-endian), try, round, step, origin. Slots are ordered as these bytes
     /// are (`order_of_bytes`).
     pub fn bytes(&self) -> [u8; 9]

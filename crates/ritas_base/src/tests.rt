@@ -45,6 +45,11 @@ fn rounds_and_steps(rt: HostRuntime) {
     );
 }
 
+#[test]
+fn slots_of_commands(rt: HostRuntime) {
+    assert_eq!(rt; Slot::command(3, 258).bytes(), [1, 0, 0, 1, 2, 0, 0, 0, 3]);
+}
+
 // Texts, and a copy of them.
 #[test]
 fn texts(rt: HostRuntime) -> Result<(), Mem> {
