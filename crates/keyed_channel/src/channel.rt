@@ -8,7 +8,7 @@ ghost use Rattle.keyed_channel.specs.Keyed.{entry_of, tags_of};
 ghost use Rattle.keyed_channel.specs.Frames.{sealed, opening};
 ghost use Rattle.keyed_channel.specs.Notes.{sealed_note, ack_note, again_note, noted};
 
-use crate::frame::{OpenFault, Opened, check, front, parts, tagged};
+use crate::frame::{OpenFault, Opened, as_opened, check, front, tagged};
 use crate::hashed_key::HashedKey;
 use crate::keys::Keys;
 use crate::lengths::{NOTE_LEN, TAG_LEN};
@@ -95,7 +95,7 @@ impl Channel {
         if wanted.as_slice() != tag {
             return Err(OpenFault::BadTag);
         }
-        Ok(parts(bytes))
+        Ok(as_opened(bytes))
     }
 
     // A note of a form and a number.
@@ -152,7 +152,7 @@ impl Channel {
             return None;
         }
         match check(&self.keys, bytes) {
-            Ok(()) => Some(parts(bytes)),
+            Ok(()) => Some(as_opened(bytes)),
             Err(_) => None,
         }
     }

@@ -5,7 +5,8 @@ ghost use Rattle.keyed_channel.specs.Lengths.{frame_overhead, least_frame};
 ghost use Rattle.keyed_channel.specs.Frames.{version_byte, sealed, frame_front, opening, plain_fault, parts_of, sender_of};
 
 use crate::keys::Keys;
-use crate::lengths::{FRAME_OVERHEAD, HEAD_LEN, LEAST_FRAME, TAG_LEN};
+use crate::lengths::{FRAME_OVERHEAD, LEAST_FRAME, TAG_LEN};
+use crate::parts::{FrameParts, parts};
 use crate::tags::hmac;
 use ritas_base::{Bytes, FrameVersion, LONGEST_FRAME, Mem};
 use std::alloc::Global;
@@ -112,18 +113,13 @@ pub(crate) fn check(keys: &Keys, bytes: &[u8]) -> Result<(), OpenFault>
     Ok(())
 }
 
-// The parts of a frame that isn't too short.
-pub(crate) fn parts<'a>(bytes: &'a [u8]) -> Opened<'a>
+// What a frame says that passed all tests.
+pub(crate) fn as_opened<'a>(bytes: &'a [u8]) -> Opened<'a>
     requires { frame_overhead ≤ length bytes.now }
     ensures { record { from = result.from; seq = result.seq; body = result.body.now } ≡ parts_of bytes.now }
 {
-    let mut seq = [0; 8];
-    seq.copy_from_slice(&bytes[3..HEAD_LEN]);
-    Opened {
-        from: bytes[1],
-        seq: u64::from_be_bytes(seq),
-        body: &bytes[HEAD_LEN..bytes.len() - TAG_LEN],
-    }
+    let FrameParts { from, seq, body } = parts(bytes);
+    Opened { from, seq, body }
 }
 
 /// Opens a frame: who sent it, its sequence number and its body. Where it doesn't open, the first fault that holds, in
@@ -139,5 +135,5 @@ pub fn open_frame<'a>(keys: &Keys, bytes: &'a [u8]) -> Result<Opened<'a>, OpenFa
     if wanted.as_slice() != tag {
         return Err(OpenFault::BadTag);
     }
-    Ok(parts(bytes))
+    Ok(as_opened(bytes))
 }

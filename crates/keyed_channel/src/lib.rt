@@ -34,7 +34,8 @@
 //! gives exactly that frame; `open_frame` gives the first fault that the bytes have, and their parts where they have
 //! none. So what one replica seals opens at the other (`sealed_opens`), and what opens is the very frame that its sender
 //! seals (`opens_sealed`); and with whatever keys, what opens of a sealed frame is what was sealed (`opens_as_sealed`).
-//! That nobody without the key makes up such a tag is no part of what is proved.
+//! That nobody without the key makes up such a tag is no part of what is proved. `frame_parts` and `frame_header` read what
+//! a frame says of itself with no key, and check nothing of it.
 //!
 //! `Channel` seals, opens and tags entries with the same contracts, and hashes the pads of each key once. A frame that is
 //! known to be sealed by a channel which shares its key needs no tag to be opened (`Channel::open_shared`). Nothing is said
@@ -49,6 +50,7 @@ mod keys;
 mod laws;
 mod lengths;
 mod note;
+mod parts;
 mod tags;
 #[cfg(test)]
 mod tests;
@@ -63,5 +65,6 @@ pub use laws::{
     sealed_length, sealed_long, sealed_opens,
 };
 pub use lengths::{FRAME_OVERHEAD, HEAD_LEN, LEAST_FRAME, NOTE_LEN, TAG_LEN, lengths_are};
-pub use note::{Note, open_note, seal_ack, seal_again};
+pub use note::{Note, is_note, open_note, seal_ack, seal_again};
+pub use parts::{FrameHeader, FrameParts, frame_header, frame_parts};
 pub use tags::{digest, hmac};

@@ -3,7 +3,7 @@
 ghost use Rattle.std.specs.Prelude.{◌≡◌, ◌<◌, ◌≤◌, ◌++◌, true, length};
 ghost use Rattle.keyed_channel.specs.Lengths.{note_length};
 ghost use Rattle.keyed_channel.specs.Frames.{sender_of};
-ghost use Rattle.keyed_channel.specs.Notes.{note_front, sealed_note, ack_note, again_note, form_of, number_of, note_of, is_plain_note, noted};
+ghost use Rattle.keyed_channel.specs.Notes.{note_front, sealed_note, ack_note, again_note, form_of, number_of, note_of, is_note, is_plain_note, noted};
 
 use crate::keys::Keys;
 use crate::lengths::{NOTE_FRONT_LEN, NOTE_LEN, TAG_LEN};
@@ -43,6 +43,14 @@ pub(crate) fn tagged_note(front: &[u8; NOTE_FRONT_LEN], tag: &[u8; TAG_LEN]) -> 
     note[NOTE_FRONT_LEN..].copy_from_slice(tag);
     note[..NOTE_FRONT_LEN].copy_from_slice(front);
     note
+}
+
+/// Whether bytes begin as a note. What does opens as no frame (`notes_are_no_frames`), and what doesn't says nothing as a
+/// note.
+pub fn is_note(bytes: &[u8]) -> bool
+    ensures { result ≡ is_note bytes.now }
+{
+    bytes.first() == Some(&NOTE)
 }
 
 // The tests that need no key.

@@ -1,8 +1,9 @@
 //! Tests of tags, frames, notes and coins in both versions, against public values and those that another program made.
 
 use crate::{
-    Channel, Keys, LEAST_FRAME, NOTE_LEN, Note, OpenFault, SeedCoin, coin_key, digest, hmac,
-    open_frame, open_note, seal, seal_ack, seal_again,
+    Channel, FRAME_OVERHEAD, FrameHeader, HEAD_LEN, Keys, LEAST_FRAME, NOTE_LEN, Note, OpenFault,
+    SeedCoin, coin_key, digest, frame_header, frame_parts, hmac, is_note, open_frame, open_note,
+    seal, seal_ack, seal_again,
 };
 use ritas_base::{Coin, FrameVersion, Params, Slot, Tagger};
 use std::process::Abort;
@@ -181,6 +182,22 @@ fn what_does_not_open(rt: HostRuntime) -> Result<(), Fail> {
         assert!(rt; matches!(open_frame(&keys, bytes), Err(x) if x == fault));
     }
     Ok(())
+}
+
+// The parts of a frame are there whoever reads it, and whatever its tag is.
+#[test]
+fn parts_of_what_is_not_opened(rt: HostRuntime) {
+    let parts = frame_parts(FRAME_2).expect(&rt, "long enough");
+    assert_eq!(rt; (parts.from, parts.seq), (3, 258));
+    assert_eq!(rt; parts.body, b"\xaa\xbb".as_slice());
+    let parts = frame_parts(&[9; FRAME_OVERHEAD]).expect(&rt, "long enough");
+    assert_eq!(rt; (parts.from, parts.seq), (9, 0x0909_0909_0909_0909));
+    assert!(rt; parts.body.is_empty());
+    assert!(rt; frame_parts(&[9; FRAME_OVERHEAD - 1]).is_none());
+    assert!(rt; frame_header(&FRAME[..HEAD_LEN]) == Some(FrameHeader { from: 3, seq: 258 }));
+    assert!(rt; frame_header(&FRAME[..HEAD_LEN - 1]).is_none());
+    assert!(rt; is_note(ACK) && is_note(&ACK[..1]));
+    assert!(rt; !is_note(FRAME) && !is_note(b""));
 }
 
 #[test]

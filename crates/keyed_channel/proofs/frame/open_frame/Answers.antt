@@ -25,4 +25,4 @@ returns c =
     let wanted = c.as_slice.ensures ∙ c.hmac-wanted.ensures ∙ ap₂ hmac_of c.key.ensures c.split_at.ensures.front in
     let same : bytes_eq c.as_slice.result.now c.split_at.result.1.now ≡ is_tagged c.args.keys.now c.args.bytes.now =
     ap₂ bytes_eq wanted c.split_at.ensures.back in
-    opening_tagged _ _ c.in_ok-check.ensures.fault (sym same ∙ true_from_not _ _ c.ne.ensures c.if-ne.false) ∙ ap Ok (sym c.parts.ensures)
+    opening_tagged _ _ c.in_ok-check.ensures.fault (sym same ∙ true_from_not _ _ c.ne.ensures c.if-ne.false) ∙ ap Ok (sym c.as_opened.ensures)

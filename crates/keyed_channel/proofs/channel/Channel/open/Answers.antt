@@ -32,4 +32,4 @@ returns c =
     let wanted = c.as_slice.ensures ∙ c.tag-wanted.ensures ∙ ap (hmac_of (key_with c.args.self.now (sender_of bytes))) c.split_at.ensures.front in
     let same : bytes_eq c.as_slice.result.now c.split_at.result.1.now ≡ is_tagged c.args.self.now bytes =
     ap₂ bytes_eq wanted c.split_at.ensures.back in
-    opening_tagged c.args.self.now bytes fault (sym same ∙ true_from_not _ _ c.ne.ensures c.if-ne.false) ∙ ap Ok (sym c.parts.ensures)
+    opening_tagged c.args.self.now bytes fault (sym same ∙ true_from_not _ _ c.ne.ensures c.if-ne.false) ∙ ap Ok (sym c.as_opened.ensures)

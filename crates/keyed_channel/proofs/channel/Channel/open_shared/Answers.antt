@@ -15,7 +15,7 @@ returns-in-Ok c =
     sym c.shares_key.ensures ∙ c.if-not-shares_key.false in
     let fault = ap (λ (k : KeyRow). plain_fault k bytes) (sym c.self.view_is) ∙ c.in-Ok.ensures.fault in
     record {
-      opens = λ to seq body is. shared_opens c.args.self.now c.args.sender.now to seq body bytes shared is fault ∙ ap Ok (sym c.parts.ensures);
+      opens = λ to seq body is. shared_opens c.args.self.now c.args.sender.now to seq body bytes shared is fault ∙ ap Ok (sym c.as_opened.ensures);
       apart = λ not. absurd (both_ways (shares_key c.args.self.now c.args.sender.now) not shared);
     }
 

@@ -1,0 +1,47 @@
+//! What a frame says of itself, whether it opens or not.
+
+ghost use Rattle.std.specs.Prelude.{◌≡◌, ◌<◌, ◌≤◌, length, MatchOption};
+ghost use Rattle.keyed_channel.specs.Frames.{parts_of};
+
+use crate::frame::{LEAST_LEN, TAG_LEN};
+
+/// What a frame says of itself, before anything of it is checked.
+#[derive(Clone, Copy, Debug)]
+pub struct FrameParts<'a> {
+    /// The replica that it names as its sender.
+    pub from: u8,
+    /// The sender's number of the frame.
+    pub seq: u64,
+    /// What is sent, borrowed from the frame.
+    pub body: &'a [u8],
+}
+
+// The parts of a frame that isn't too short.
+pub(crate) fn parts<'a>(bytes: &'a [u8]) -> FrameParts<'a>
+    requires { 43 ≤ length bytes.now }
+    ensures { record { from = result.from; seq = result.seq; body = result.body.now } ≡ parts_of bytes.now }
+{
+    let mut seq = [0; 8];
+    seq.copy_from_slice(&bytes[3..11]);
+    FrameParts {
+        from: bytes[1],
+        seq: u64::from_be_bytes(seq),
+        body: &bytes[11..bytes.len() - TAG_LEN],
+    }
+}
+
+/// What bytes say of themselves as a frame, unopened. Neither the version, the receiver, the sender nor the tag is
+/// checked, so whoever made the bytes may have made it up: `open_frame` tells what is true of it.
+///
+/// `None` is answered exactly where they are too short for a frame, with fewer than 43 bytes. It takes no memory.
+pub fn frame_parts<'a>(bytes: &'a [u8]) -> Option<FrameParts<'a>>
+    ensures { MatchOption result
+        (length bytes.now < 43)
+        (λ parts. (43 ≤ length bytes.now)
+        × (record { from = parts.from; seq = parts.seq; body = parts.body.now } ≡ parts_of bytes.now)) }
+{
+    if bytes.len() < LEAST_LEN {
+        return None;
+    }
+    Some(parts(bytes))
+}
