@@ -1,54 +1,23 @@
 -- What opens was sealed by its sender.
-use Rattle.std.specs.Prelude.{◌≡◌, ◌≢◌, ℕ, ◌+◌, ◌-◌, ◌<◌, ◌≤◌, Bool, true, false, not, ◌==◌, ◌&&◌, nat_le, nat_lt, List, [], ◌∷◌, ◌++◌, length, take, drop, slice_index, slice_range, None, refl}
+use Rattle.std.specs.Prelude.{◌≡◌, ◌≢◌, ℕ, ◌+◌, ◌-◌, ◌<◌, ◌≤◌, true, List, [], ◌∷◌, ◌++◌, length, take, drop, slice_index, slice_range, refl}
 use Rattle.std.specs.Int.{w64, to_be_bytes, from_be_bytes}
 use Rattle.std.proofs.Common.{sym, ◌∙◌, ap, ap₂, subst, inl, inr, arith}
 use Rattle.std.proofs.Math.ListN.{get_or, get_or-eq_default}
 use Rattle.std.proofs.Math.Seq.{take-add}
 use Rattle.std.proofs.lemmas.List.{take-append-drop, length-take, length-drop, get_or-take, get_or-drop}
 use Rattle.std.proofs.lemmas.Nat.{be_bytes_8}
-use Rattle.std.proofs.lemmas.Bool.{leb-true, ltb-true, eqb-true, eqb-false}
 use Rattle.std.proofs.lemmas.Bool.Decides.{leb_tells}
 use Rattle.std.proofs.lemmas.Slice.Eq.{bytes_eq-Decides}
 use Rattle.ritas_base.specs.Limits.{longest_frame}
 use Rattle.keyed_channel.specs.Lengths.{tag_length, frame_overhead, least_frame}
 use Rattle.keyed_channel.specs.Hmac.{hmac_of}
-use Rattle.keyed_channel.specs.KeyRow.{KeyRow, key_with}
+use Rattle.keyed_channel.specs.KeyRow.{key_with}
 use Rattle.keyed_channel.specs.Keyed.{dealt_for}
 use Rattle.ritas_base.specs.declared.mode.FrameVersion.{FrameVersion}
-use Rattle.keyed_channel.specs.Frames.{version_byte, frame_front, sealed, front_of, tag_of, version_of, sender_of, receiver_of, seq_of, body_of, parts_of, is_peer, is_tagged, plain_fault, Opening}
+use Rattle.keyed_channel.specs.Frames.{version_byte, frame_front, sealed, front_of, tag_of, version_of, sender_of, receiver_of, seq_of, body_of, parts_of, is_tagged, Opening}
+use Rattle.keyed_channel.specs.FramesLaws.{IsPlain, opened_is}
 use Rattle.keyed_channel.specs.Laws.{OpenedFromPeer, OpenedParts, OpensSealed}
-use Rattle.keyed_channel.proofs.Opens.{five, opening_ok}
 use Rattle.keyed_channel.proofs.Dealt.{key_with-dealt, pair_key_swapped}
-
--- ---- the tests
-
--- each test that needs no key is passed
-pub record AllPassed (a b c d e : Bool) : Type 0 where
-  pub long : a ≡ true
-  pub short : b ≡ true
-  pub version : c ≡ true
-  pub mine : d ≡ true
-  pub peer : e ≡ true
-
-five_passed : (a b c d e : Bool) → five a b c d e ≡ None → AllPassed a b c d e
-five_passed false b c d e h = cc
-five_passed true false c d e h = cc
-five_passed true true false d e h = cc
-five_passed true true true false e h = cc
-five_passed true true true true false h = cc
-five_passed true true true true true h = record { long = refl; short = refl; version = refl; mine = refl; peer = refl }
-
-pub passed : (k : KeyRow) (bytes : List ℕ) → plain_fault k bytes ≡ None
-    → AllPassed (nat_le least_frame (length bytes)) (nat_le (length bytes) longest_frame) (version_of bytes == version_byte k.version) (receiver_of bytes == k.me) (is_peer k (sender_of bytes))
-passed k bytes h = five_passed _ _ _ _ _ h
-
-pub both_true : (a b : Bool) → (a && b) ≡ true → (a ≡ true) × (b ≡ true)
-both_true true b h = (refl, h)
-both_true false b h = cc
-
-pub not_true : (b : Bool) → not b ≡ true → b ≡ false
-not_true true h = cc
-not_true false h = refl
 
 -- ---- the front of a frame, by its parts
 
@@ -100,47 +69,34 @@ IsFromSender version master session n j bytes o =
     (o.from < n) × (o.from ≢ j) × (bytes ≡ sealed (dealt_for version master session n o.from) j o.seq o.body)
 
 from_sender : (version : FrameVersion) (master : List ℕ) (session n j : ℕ) (bytes : List ℕ) → j < n → ((k : ℕ) → slice_index bytes k < 256)
-    → plain_fault (dealt_for version master session n j) bytes ≡ None → is_tagged (dealt_for version master session n j) bytes ≡ true
+    → IsPlain (dealt_for version master session n j) bytes → is_tagged (dealt_for version master session n j) bytes ≡ true
     → IsFromSender version master session n j bytes (parts_of bytes)
 from_sender version master session n j bytes j_in small plain tagged =
     let i = sender_of bytes in
     let k = dealt_for version master session n j in
     let by = dealt_for version master session n i in
-    let tests = passed k bytes plain in
-    let long : least_frame ≤ length bytes = leb-true least_frame (length bytes) tests.long in
-    let peer = both_true (nat_lt i n) (not (i == j)) tests.peer in
-    let i_in : i < n = ltb-true i n peer.0 in
-    let front = front_is version bytes j (omega (arith, long)) small (eqb-true _ _ tests.version) (eqb-true _ _ tests.mine) in
+    let i_in : i < n = plain.sender in
+    let front = front_is version bytes j plain.long small plain.version plain.receiver in
     let key : key_with k i ≡ key_with by j =
     key_with-dealt master session n j i i_in ∙ pair_key_swapped master session j i ∙ sym (key_with-dealt master session n i j j_in) in
     let tag = sym ((bytes_eq-Decides (hmac_of (key_with k i) (front_of bytes)) (tag_of bytes)).0 tagged) ∙ ap₂ hmac_of key front in
-    let other : i ≢ j = eqb-false i j (not_true (i == j) peer.1) in
-    (i_in, other, sym (take-append-drop (length bytes - tag_length) bytes) ∙ ap₂ (λ (x y : List ℕ). x ++ y) front tag)
+    (i_in, plain.other, sym (take-append-drop (length bytes - tag_length) bytes) ∙ ap₂ (λ (x y : List ℕ). x ++ y) front tag)
 
 pub opens_sealed_holds : OpensSealed
 opens_sealed_holds version master session n j bytes o j_in small opens =
-    let t = opening_ok (dealt_for version master session n j) bytes o opens in
+    let t = opened_is (dealt_for version master session n j) bytes o opens in
     let P : Opening → Type 0 = λ x. IsFromSender version master session n j bytes x in
-    subst P t.2 (from_sender version master session n j bytes j_in small t.0 t.1)
+    subst P t.parts (from_sender version master session n j bytes j_in small t.plain t.tagged)
 
 -- ---- what opens, whatever the keys
 
-abbrev IsFromPeer : KeyRow → List ℕ → Opening → Type 0
-IsFromPeer k bytes o = (o.from < k.n) × (o.from ≢ k.me) × (receiver_of bytes ≡ k.me)
-
-from_peer : (k : KeyRow) (bytes : List ℕ) → plain_fault k bytes ≡ None → IsFromPeer k bytes (parts_of bytes)
-from_peer k bytes plain =
-    let tests = passed k bytes plain in
-    let peer = both_true (nat_lt (sender_of bytes) k.n) (not (sender_of bytes == k.me)) tests.peer in
-    (ltb-true (sender_of bytes) k.n peer.0, eqb-false (sender_of bytes) k.me (not_true (sender_of bytes == k.me) peer.1), eqb-true _ _ tests.mine)
-
 pub opened_from_peer_holds : OpenedFromPeer
 opened_from_peer_holds k bytes o opens =
-    let t = opening_ok k bytes o opens in
-    let P : Opening → Type 0 = λ x. IsFromPeer k bytes x in
-    subst P t.2 (from_peer k bytes t.0)
+    let t = opened_is k bytes o opens in
+    let P : Opening → Type 0 = λ x. (x.from < k.n) × (x.from ≢ k.me) × (receiver_of bytes ≡ k.me) in
+    subst P t.parts (t.plain.sender, t.plain.other, t.plain.receiver)
 
 pub opened_parts_hold : OpenedParts
 opened_parts_hold k bytes o opens =
-    let t = opening_ok k bytes o opens in
-    (leb-true least_frame (length bytes) (passed k bytes t.0).long, sym t.2)
+    let t = opened_is k bytes o opens in
+    (t.plain.long, sym t.parts)

@@ -2,7 +2,7 @@
 use Rattle.std.specs.Prelude.{◌≡◌, ◌≢◌, ℕ, ◌-◌, ◌<◌, ◌≤◌, Bool, true, false, not, ◌==◌, ◌&&◌, nat_lt, List, [], ◌∷◌, ◌++◌, length, take, slice_index, slice_range, Option, Some, None, refl, if◌then◌else◌}
 use Rattle.std.proofs.Common.{sym, ◌∙◌, ap, ap₂, subst, arith}
 use Rattle.std.proofs.lemmas.List.{take-append-drop}
-use Rattle.std.proofs.lemmas.Bool.{ltb-true, eqb-true, eqb-false}
+use Rattle.std.proofs.lemmas.Bool.{and_parts, ltb-true, eqb-true, eqb-false, not-true}
 use Rattle.std.proofs.lemmas.Slice.Eq.{bytes_eq-Decides}
 use Rattle.ritas_base.specs.declared.mode.FrameVersion.{FrameVersion}
 use Rattle.keyed_channel.specs.Lengths.{tag_length, note_front_length, note_length}
@@ -15,7 +15,7 @@ use Rattle.keyed_channel.specs.Laws.{NotedFromPeer, NotesSealed}
 use Rattle.keyed_channel.specs.declared.note.Note.{Note}
 use Rattle.keyed_channel.specs.declared.note.Note.TheVariants.{Ack, Again}
 use Rattle.keyed_channel.proofs.Dealt.{key_with-dealt, pair_key_swapped}
-use Rattle.keyed_channel.proofs.FromSender.{both_true, not_true, word_is}
+use Rattle.keyed_channel.proofs.FromSender.{word_is}
 
 -- ---- the front of a note, by its parts
 
@@ -48,16 +48,16 @@ from_sender version master session n j bytes j_in small plain tagged =
     let i = sender_of bytes in
     let k = dealt_for version master session n j in
     let by = dealt_for version master session n i in
-    let long = both_true (length bytes == note_length) (is_note bytes && (receiver_of bytes == j && is_peer k i)) plain in
-    let note = both_true (is_note bytes) (receiver_of bytes == j && is_peer k i) long.1 in
-    let mine = both_true (receiver_of bytes == j) (is_peer k i) note.1 in
-    let peer = both_true (nat_lt i n) (not (i == j)) mine.1 in
+    let long = and_parts (length bytes == note_length) (is_note bytes && (receiver_of bytes == j && is_peer k i)) plain in
+    let note = and_parts (is_note bytes) (receiver_of bytes == j && is_peer k i) long.1 in
+    let mine = and_parts (receiver_of bytes == j) (is_peer k i) note.1 in
+    let peer = and_parts (nat_lt i n) (not (i == j)) mine.1 in
     let i_in : i < n = ltb-true i n peer.0 in
     let front = front_is bytes j (eqb-true _ _ long.0) small note.0 (eqb-true _ _ mine.0) in
     let key : key_with k i ≡ key_with by j =
     key_with-dealt master session n j i i_in ∙ pair_key_swapped master session j i ∙ sym (key_with-dealt master session n i j j_in) in
     let tag = sym ((bytes_eq-Decides (hmac_of (key_with k i) (front_of bytes)) (tag_of bytes)).0 tagged) ∙ ap₂ hmac_of key front in
-    (i_in, eqb-false i j (not_true (i == j) peer.1), sym (take-append-drop (length bytes - tag_length) bytes) ∙ ap₂ (λ (x y : List ℕ). x ++ y) front tag)
+    (i_in, eqb-false i j (not-true (i == j) peer.1), sym (take-append-drop (length bytes - tag_length) bytes) ∙ ap₂ (λ (x y : List ℕ). x ++ y) front tag)
 
 -- and by what its parts are
 from_parts : (version : FrameVersion) (master : List ℕ) (session n j : ℕ) (bytes : List ℕ) (i form number : ℕ)
@@ -112,7 +112,7 @@ wished : (version : FrameVersion) (master : List ℕ) (session n j : ℕ) (bytes
 wished version master session n j bytes j_in small i h =
     let parts = noted_by (dealt_for version master session n j) bytes (Again i) h in
     let again = again_by (form_of bytes == 1) (form_of bytes == 2 && number_of bytes == 0) (sender_of bytes) (number_of bytes) i parts.2 in
-    let both = both_true (form_of bytes == 2) (number_of bytes == 0) again.0 in
+    let both = and_parts (form_of bytes == 2) (number_of bytes == 0) again.0 in
     let form : form_of bytes ≡ 2 = eqb-true _ _ both.0 in
     let number : number_of bytes ≡ 0 = eqb-true _ _ both.1 in
     from_parts version master session n j bytes i 2 0 again.1 form number (from_sender version master session n j bytes j_in small parts.0 parts.1)
@@ -125,11 +125,11 @@ notes_sealed_holds version master session n j bytes j_in small = (acked version 
 plain_peer : (k : KeyRow) (bytes : List ℕ) → is_plain_note k bytes ≡ true → (sender_of bytes < k.n) × (sender_of bytes ≢ k.me)
 plain_peer k bytes plain =
     let i = sender_of bytes in
-    let long = both_true (length bytes == note_length) (is_note bytes && (receiver_of bytes == k.me && is_peer k i)) plain in
-    let note = both_true (is_note bytes) (receiver_of bytes == k.me && is_peer k i) long.1 in
-    let mine = both_true (receiver_of bytes == k.me) (is_peer k i) note.1 in
-    let peer = both_true (nat_lt i k.n) (not (i == k.me)) mine.1 in
-    (ltb-true i k.n peer.0, eqb-false i k.me (not_true (i == k.me) peer.1))
+    let long = and_parts (length bytes == note_length) (is_note bytes && (receiver_of bytes == k.me && is_peer k i)) plain in
+    let note = and_parts (is_note bytes) (receiver_of bytes == k.me && is_peer k i) long.1 in
+    let mine = and_parts (receiver_of bytes == k.me) (is_peer k i) note.1 in
+    let peer = and_parts (nat_lt i k.n) (not (i == k.me)) mine.1 in
+    (ltb-true i k.n peer.0, eqb-false i k.me (not-true (i == k.me) peer.1))
 
 ack_from_peer : (k : KeyRow) (bytes : List ℕ) (from seq : ℕ) → noted k bytes ≡ Some (Ack from seq) → (from < k.n) × (from ≢ k.me)
 ack_from_peer k bytes from seq h =

@@ -2,13 +2,13 @@
 use Rattle.std.specs.Prelude.{◌≡◌, ℕ, true, ◌==◌, List, ◌++◌, None, Ok}
 use Rattle.std.specs.Str.{bytes_eq}
 use Rattle.std.proofs.Common.{sym, ◌∙◌, ap, ap₂, subst}
-use Rattle.std.proofs.lemmas.Bool.{eqb-true}
+use Rattle.std.proofs.lemmas.Bool.{and_parts}
 use Rattle.std.proofs.lemmas.Slice.Eq.{bytes_eq-Decides}
 use Rattle.keyed_channel.specs.Hmac.{hmac_of}
 use Rattle.keyed_channel.specs.KeyRow.{KeyRow, key_with, shares_key}
 use Rattle.keyed_channel.specs.Frames.{frame_front, sealed, front_of, tag_of, parts_of, is_tagged, plain_fault, opening}
+use Rattle.keyed_channel.specs.FramesLaws.{plain_is}
 use Rattle.keyed_channel.proofs.Opens.{opening_tagged}
-use Rattle.keyed_channel.proofs.FromSender.{passed, both_true}
 use Rattle.keyed_channel.proofs.Sealing.{length-hmac_of, front_is, tag_is}
 
 -- the tag is right at the other end
@@ -20,8 +20,8 @@ tagged_shared k by to seq body shared plain =
     let front = frame_front by.version by.me to seq body in
     let tag = hmac_of mine front in
     let long = length-hmac_of mine front in
-    let one : theirs ≡ key_with by k.me = (bytes_eq-Decides theirs (key_with by k.me)).0 (both_true (k.session == by.session) (bytes_eq theirs (key_with by k.me)) shared).1 in
-    let me : to ≡ k.me = eqb-true to k.me (passed k (sealed by to seq body) plain).mine in
+    let one : theirs ≡ key_with by k.me = (bytes_eq-Decides theirs (key_with by k.me)).0 (and_parts (k.session == by.session) (bytes_eq theirs (key_with by k.me)) shared).1 in
+    let me : to ≡ k.me = (plain_is k (sealed by to seq body) plain).receiver in
     let wanted = ap₂ hmac_of (one ∙ ap (key_with by) (sym me)) (front_is front tag long) ∙ sym (tag_is front tag long) in
     (bytes_eq-Decides (hmac_of theirs (front_of (front ++ tag))) (tag_of (front ++ tag))).1 wanted
 

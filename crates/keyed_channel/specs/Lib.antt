@@ -3,6 +3,7 @@ pub mod Hmac
 pub mod KeyRow
 pub mod Keyed
 pub mod Frames
+pub mod FramesLaws
 pub mod Notes
 pub mod Laws
 pub mod Rows
