@@ -6,7 +6,8 @@ use Rattle.std.proofs.lemmas.List.{nil_from_length}
 use Rattle.std.proofs.lemmas.Nat.{be_bytes_4, from_be_bytes-to_be_bytes_4}
 use Rattle.ritas_base.specs.Limits.{number_limit}
 use Rattle.ritas_base.specs.Numbers.{Numbers, IsSession}
-use Rattle.ritas_base.specs.Slots.{first_failed, slot_fault, slot_bytes, by_echo, reliable_form, form_of, has_class, within, has_number, has_attempt, has_count}
+use Rattle.ritas_base.specs.Slots.{slot_fault, slot_bytes, by_echo, reliable_form, form_of, within}
+use Rattle.ritas_base.specs.SlotLaws.{right_is}
 use Rattle.ritas_base.specs.declared.slot.Slot.{Slot}
 use Rattle.ritas_base.specs.declared.slot.SlotFault.{SlotFault}
 use Rattle.ritas_base.specs.declared.slot.SlotFault.TheVariants as slot_faults
@@ -106,20 +107,9 @@ has_version mode s kind e = by_version mode.version (by_echo mode s) kind e
 
 -- ---- slots
 
-failed_none : (t : Bool) (x : SlotFault) (rest : List (Bool × SlotFault)) → first_failed ((t, x) ∷ rest) ≡ None → (t ≡ true) × (first_failed rest ≡ None)
-failed_none true x rest e = (refl, e)
-failed_none false x rest e = absurd cc
-
 pub number_fits : (p : Numbers) (mode : Mode) (s : Slot) → slot_fault p mode s ≡ None → s.a < 2 ^ 32
-unfolding slot_fault
 number_fits p mode s e =
-    let root = mode.root in
-    let rest3 : List (Bool × SlotFault) = (has_attempt root p.f s.class s.attempt, slot_faults.Attempt) ∷ (has_count 200 s.class s.bround, slot_faults.Round) ∷ (has_count 3 s.class s.step, slot_faults.Step) ∷ (ltb s.origin p.n, slot_faults.Origin) ∷ [] in
-    let rest2 : List (Bool × SlotFault) = (has_number root s.a, slot_faults.Number) ∷ rest3 in
-    let a = failed_none (within 1 5 s.class) slot_faults.Class ((has_class root s.class, slot_faults.Closed) ∷ rest2) e in
-    let b = failed_none (has_class root s.class) slot_faults.Closed rest2 a.1 in
-    let c = failed_none (has_number root s.a) slot_faults.Number rest3 b.1 in
-    let d = and_parts (ltb s.a number_limit) (eqb s.a 0 || not (within 3 5 root)) c.0 in
+    let d = and_parts (ltb s.a number_limit) (eqb s.a 0 || not (within 3 5 mode.root)) (right_is p mode s e).number in
     omega (arith, ltb-true s.a number_limit d.0)
 
 pub slot_again : (s : Slot) → s.a < 2 ^ 32 → slot_of (slot_bytes s) ≡ s
