@@ -1,9 +1,21 @@
 //! What a frame says of itself, whether it opens or not.
 
 ghost use Rattle.std.specs.Prelude.{◌≡◌, ◌<◌, ◌≤◌, length, MatchOption};
-ghost use Rattle.keyed_channel.specs.Frames.{parts_of};
+ghost use Rattle.keyed_channel.specs.Frames.{parts_of, sender_of, seq_of};
 
 use crate::frame::{LEAST_LEN, TAG_LEN};
+
+// The bytes before a frame's body.
+const HEADER_LEN: usize = 11;
+
+/// Whose a frame says it is, before anything of it is checked.
+#[derive(Clone, Copy, Debug, PartialEq, Eq)]
+pub struct FrameHeader {
+    /// The replica that it names as its sender.
+    pub from: u8,
+    /// The sender's number of the frame.
+    pub seq: u64,
+}
 
 /// What a frame says of itself, before anything of it is checked.
 #[derive(Clone, Copy, Debug)]
@@ -16,22 +28,48 @@ pub struct FrameParts<'a> {
     pub body: &'a [u8],
 }
 
+// The sender and the number, where they are there.
+fn header(bytes: &[u8]) -> FrameHeader
+    requires { 11 ≤ length bytes.now }
+    ensures { (result.from ≡ sender_of bytes.now) × (result.seq ≡ seq_of bytes.now) }
+{
+    let mut seq = [0; 8];
+    seq.copy_from_slice(&bytes[3..HEADER_LEN]);
+    FrameHeader {
+        from: bytes[1],
+        seq: u64::from_be_bytes(seq),
+    }
+}
+
 // The parts of a frame that isn't too short.
 pub(crate) fn parts<'a>(bytes: &'a [u8]) -> FrameParts<'a>
     requires { 43 ≤ length bytes.now }
     ensures { record { from = result.from; seq = result.seq; body = result.body.now } ≡ parts_of bytes.now }
 {
-    let mut seq = [0; 8];
-    seq.copy_from_slice(&bytes[3..11]);
+    let FrameHeader { from, seq } = header(bytes);
     FrameParts {
-        from: bytes[1],
-        seq: u64::from_be_bytes(seq),
-        body: &bytes[11..bytes.len() - TAG_LEN],
+        from,
+        seq,
+        body: &bytes[HEADER_LEN..bytes.len() - TAG_LEN],
     }
 }
 
-/// What bytes say of themselves as a frame, unopened. Neither the version, the receiver, the sender nor the tag is
-/// checked, so whoever made the bytes may have made it up: `open_frame` tells what is true of it.
+/// The sender and the number that bytes name where they are read as a frame. Nothing is checked, as with `frame_parts`.
+///
+/// `None` is answered exactly where they have fewer than 11 bytes. It takes no memory.
+pub fn frame_header(bytes: &[u8]) -> Option<FrameHeader>
+    ensures { MatchOption result
+        (length bytes.now < 11)
+        (λ named. (11 ≤ length bytes.now) × (named.from ≡ sender_of bytes.now) × (named.seq ≡ seq_of bytes.now)) }
+{
+    if bytes.len() < HEADER_LEN {
+        return None;
+    }
+    Some(header(bytes))
+}
+
+/// What bytes say of themselves where they are read as a frame. Neither the version, the receiver, the sender nor the tag
+/// is checked, so whoever made the bytes may have made it up: `open_frame` tells what is true of it.
 ///
 /// `None` is answered exactly where they are too short for a frame, with fewer than 43 bytes. It takes no memory.
 pub fn frame_parts<'a>(bytes: &'a [u8]) -> Option<FrameParts<'a>>
