@@ -33,6 +33,7 @@
 //! No call but `write_request` takes memory.
 #![tactic(auto)]
 
+mod front;
 mod laws;
 mod number;
 mod reply;
@@ -41,6 +42,7 @@ mod request;
 mod tests;
 mod votes;
 
+pub use front::{RequestFront, read_front};
 pub use laws::{position_is_true, replies_are_read, requests_are_read};
 pub use reply::{write_refusal, write_reply};
 pub use request::{RequestView, read_request, write_request};

@@ -4,7 +4,7 @@ ghost use Rattle.std.specs.Prelude.{◌≡◌, ◌<◌, ◌⊎◌, ◌↔◌, le
 ghost use Rattle.ritas_base.specs.Limits.{least_request, longest_input};
 ghost use Rattle.client_port.specs.Messages.{request_in, request_bytes};
 
-use crate::number::number_at;
+use crate::front::{RequestFront, front};
 use ritas_base::{Bytes, LEAST_REQUEST, LONGEST_INPUT, Mem, REQUEST_FRONT};
 use std::alloc::Global;
 
@@ -32,9 +32,10 @@ pub fn read_request(bytes: &[u8]) -> Option<RequestView<'_>>
     if bytes.len() < LEAST_REQUEST || bytes.len() > LONGEST_INPUT {
         return None;
     }
+    let RequestFront { client, request } = front(bytes);
     Some(RequestView {
-        client: number_at(bytes, 0),
-        request: number_at(bytes, 4),
+        client,
+        request,
         payload: &bytes[REQUEST_FRONT..],
     })
 }

@@ -14,8 +14,18 @@ fn requests_of_eight_bytes_or_more(rt: HostRuntime) {
     assert!(rt; request.client == 16_909_060 && request.request == 4_294_901_244);
     assert!(rt; request.payload.is_empty());
     assert!(rt; read_request(b"\0\0\0\x07\0\0\0").is_none() && read_request(b"").is_none());
-    assert!(rt; read_request(&[0; LONGEST_INPUT]).is_some());
-    assert!(rt; read_request(&[0; LONGEST_INPUT + 1]).is_none());
+    assert!(rt;
+        read_front(HI)
+            == Some(RequestFront {
+                client: 7,
+                request: 1
+            })
+    );
+    assert!(rt; read_front(&HI[..7]).is_none() && read_front(&[0; LONGEST_INPUT + 1]).is_some());
+    assert!(rt;
+        read_request(&[0; LONGEST_INPUT]).is_some()
+            && read_request(&[0; LONGEST_INPUT + 1]).is_none()
+    );
 }
 
 #[test]

@@ -1,0 +1,44 @@
+//! The two numbers that a request begins with.
+
+ghost use Rattle.std.specs.Prelude.{◌≡◌, ◌<◌, ◌≤◌, length, MatchOption};
+ghost use Rattle.client_port.specs.Messages.{number_at};
+
+use crate::number::number_at;
+
+// The bytes of the client's number and of the request's.
+pub(crate) const FRONT_LEN: usize = 8;
+
+/// Whose request a message is.
+#[derive(Clone, Copy, Debug, PartialEq, Eq)]
+pub struct RequestFront {
+    /// The client's number.
+    pub client: u32,
+    /// The client's number for this request.
+    pub request: u32,
+}
+
+// The two numbers, where they are there.
+pub(crate) fn front(bytes: &[u8]) -> RequestFront
+    requires { 8 ≤ length bytes.now }
+    ensures { (result.client ≡ number_at 0 bytes.now) × (result.request ≡ number_at 4 bytes.now) }
+{
+    RequestFront {
+        client: number_at(bytes, 0),
+        request: number_at(bytes, 4),
+    }
+}
+
+/// The two numbers that a message begins with, of four bytes each, the most significant first. It may be too long for a
+/// request: `read_request` tells.
+///
+/// `None` is answered exactly where the message has under 8 bytes.
+pub fn read_front(bytes: &[u8]) -> Option<RequestFront>
+    ensures { MatchOption result
+        (length bytes.now < 8)
+        (λ front. (8 ≤ length bytes.now) × (front.client ≡ number_at 0 bytes.now) × (front.request ≡ number_at 4 bytes.now)) }
+{
+    if bytes.len() < FRONT_LEN {
+        return None;
+    }
+    Some(front(bytes))
+}
