@@ -1,12 +1,11 @@
 //! The two numbers that a request begins with.
 
 ghost use Rattle.std.specs.Prelude.{◌≡◌, ◌<◌, ◌≤◌, length, MatchOption};
+ghost use Rattle.ritas_base.specs.Limits.{request_front};
 ghost use Rattle.client_port.specs.Messages.{number_at};
 
 use crate::number::number_at;
-
-// The bytes of the client's number and of the request's.
-pub(crate) const FRONT_LEN: usize = 8;
+use ritas_base::REQUEST_FRONT;
 
 /// Whose request a message is.
 #[derive(Clone, Copy, Debug, PartialEq, Eq)]
@@ -19,7 +18,7 @@ pub struct RequestFront {
 
 // The two numbers, where they are there.
 pub(crate) fn front(bytes: &[u8]) -> RequestFront
-    requires { 8 ≤ length bytes.now }
+    requires { request_front ≤ length bytes.now }
     ensures { (result.client ≡ number_at 0 bytes.now) × (result.request ≡ number_at 4 bytes.now) }
 {
     RequestFront {
@@ -31,13 +30,13 @@ pub(crate) fn front(bytes: &[u8]) -> RequestFront
 /// The two numbers that a message begins with, of four bytes each, the most significant first. It may be too long for a
 /// request: `read_request` tells.
 ///
-/// `None` is answered exactly where the message has under 8 bytes.
+/// `None` is answered exactly where the message has under `REQUEST_FRONT` (8) bytes.
 pub fn read_front(bytes: &[u8]) -> Option<RequestFront>
     ensures { MatchOption result
-        (length bytes.now < 8)
-        (λ front. (8 ≤ length bytes.now) × (front.client ≡ number_at 0 bytes.now) × (front.request ≡ number_at 4 bytes.now)) }
+        (length bytes.now < request_front)
+        (λ front. (request_front ≤ length bytes.now) × (front.client ≡ number_at 0 bytes.now) × (front.request ≡ number_at 4 bytes.now)) }
 {
-    if bytes.len() < FRONT_LEN {
+    if bytes.len() < REQUEST_FRONT {
         return None;
     }
     Some(front(bytes))

@@ -2,6 +2,8 @@
 use Rattle.std.specs.Prelude.{◌≡◌, ◌≢◌, ℕ, ◌<◌, ◌≤◌, ◌==◌, Bool, true, false, not, nat_lt, List, [], ◌∷◌, ◌++◌, length, Option, None, Some, Ok, refl}
 use Rattle.std.specs.List.{AllByRecursion}
 use Rattle.std.proofs.lemmas.Bool.{and_parts, ltb-true, leb-true, eqb-true, eqb-false, not-true}
+use Rattle.ritas_base.specs.Limits.{longest_frame}
+use Rattle.keyed_channel.specs.Lengths.{least_frame}
 use Rattle.keyed_channel.specs.KeyRow.{KeyRow}
 use Rattle.keyed_channel.specs.Frames.{Opening, version_byte, version_of, sender_of, receiver_of, parts_of, is_tagged, plain_tests, plain_fault, first_failed, open_fault, opening, opening_but}
 use Rattle.keyed_channel.specs.declared.frame.OpenFault.{OpenFault}
@@ -20,8 +22,8 @@ none_fails ((false, fault) ∷ xs) ys e = absurd cc
 
 -- what the tests that need no key say
 pub record IsPlain (k : KeyRow) (bytes : List ℕ) : Type 0 where
-  pub long : 43 ≤ length bytes
-  pub short : length bytes ≤ 16384
+  pub long : least_frame ≤ length bytes
+  pub short : length bytes ≤ longest_frame
   pub version : version_of bytes ≡ version_byte k.version
   pub receiver : receiver_of bytes ≡ k.me
   pub sender : sender_of bytes < k.n
@@ -32,8 +34,8 @@ plain_is k bytes e =
     let x = all_pass (plain_tests k bytes) e in
     let peer = and_parts (nat_lt (sender_of bytes) k.n) (not (sender_of bytes == k.me)) x.1.1.1.1.0 in
     record {
-      long = leb-true 43 (length bytes) x.0;
-      short = leb-true (length bytes) 16384 x.1.0;
+      long = leb-true least_frame (length bytes) x.0;
+      short = leb-true (length bytes) longest_frame x.1.0;
       version = eqb-true _ _ x.1.1.0;
       receiver = eqb-true _ _ x.1.1.1.0;
       sender = ltb-true (sender_of bytes) k.n peer.0;

@@ -1,12 +1,10 @@
 //! What a frame says of itself, whether it opens or not.
 
 ghost use Rattle.std.specs.Prelude.{◌≡◌, ◌<◌, ◌≤◌, length, MatchOption};
-ghost use Rattle.keyed_channel.specs.Frames.{parts_of, sender_of, seq_of};
+ghost use Rattle.keyed_channel.specs.Lengths.{head_length, frame_overhead};
+ghost use Rattle.keyed_channel.specs.Frames.{sender_of, seq_of, body_of};
 
-use crate::frame::{LEAST_LEN, TAG_LEN};
-
-// The bytes before a frame's body.
-const HEADER_LEN: usize = 11;
+use crate::lengths::{FRAME_OVERHEAD, HEAD_LEN, TAG_LEN};
 
 /// Whose a frame says it is, before anything of it is checked.
 #[derive(Clone, Copy, Debug, PartialEq, Eq)]
@@ -30,11 +28,11 @@ pub struct FrameParts<'a> {
 
 // The sender and the number, where they are there.
 fn header(bytes: &[u8]) -> FrameHeader
-    requires { 11 ≤ length bytes.now }
+    requires { head_length ≤ length bytes.now }
     ensures { (result.from ≡ sender_of bytes.now) × (result.seq ≡ seq_of bytes.now) }
 {
     let mut seq = [0; 8];
-    seq.copy_from_slice(&bytes[3..HEADER_LEN]);
+    seq.copy_from_slice(&bytes[3..HEAD_LEN]);
     FrameHeader {
         from: bytes[1],
         seq: u64::from_be_bytes(seq),
@@ -43,26 +41,26 @@ fn header(bytes: &[u8]) -> FrameHeader
 
 // The parts of a frame that isn't too short.
 pub(crate) fn parts<'a>(bytes: &'a [u8]) -> FrameParts<'a>
-    requires { 43 ≤ length bytes.now }
-    ensures { record { from = result.from; seq = result.seq; body = result.body.now } ≡ parts_of bytes.now }
+    requires { frame_overhead ≤ length bytes.now }
+    ensures { (result.from ≡ sender_of bytes.now) × (result.seq ≡ seq_of bytes.now) × (result.body.now ≡ body_of bytes.now) }
 {
     let FrameHeader { from, seq } = header(bytes);
     FrameParts {
         from,
         seq,
-        body: &bytes[HEADER_LEN..bytes.len() - TAG_LEN],
+        body: &bytes[HEAD_LEN..bytes.len() - TAG_LEN],
     }
 }
 
 /// The sender and the number that bytes name where they are read as a frame. Nothing is checked, as with `frame_parts`.
 ///
-/// `None` is answered exactly where they have fewer than 11 bytes. It takes no memory.
+/// `None` is answered exactly where they have fewer than `HEAD_LEN` (11) bytes. It takes no memory.
 pub fn frame_header(bytes: &[u8]) -> Option<FrameHeader>
     ensures { MatchOption result
-        (length bytes.now < 11)
-        (λ named. (11 ≤ length bytes.now) × (named.from ≡ sender_of bytes.now) × (named.seq ≡ seq_of bytes.now)) }
+        (length bytes.now < head_length)
+        (λ named. (head_length ≤ length bytes.now) × (named.from ≡ sender_of bytes.now) × (named.seq ≡ seq_of bytes.now)) }
 {
-    if bytes.len() < HEADER_LEN {
+    if bytes.len() < HEAD_LEN {
         return None;
     }
     Some(header(bytes))
@@ -71,14 +69,14 @@ pub fn frame_header(bytes: &[u8]) -> Option<FrameHeader>
 /// What bytes say of themselves where they are read as a frame. Neither the version, the receiver, the sender nor the tag
 /// is checked, so whoever made the bytes may have made it up: `open_frame` tells what is true of it.
 ///
-/// `None` is answered exactly where they are too short for a frame, with fewer than 43 bytes. It takes no memory.
+/// `None` is answered exactly where they are too short for a frame, with fewer than `FRAME_OVERHEAD` (43) bytes. It takes no memory.
 pub fn frame_parts<'a>(bytes: &'a [u8]) -> Option<FrameParts<'a>>
     ensures { MatchOption result
-        (length bytes.now < 43)
-        (λ parts. (43 ≤ length bytes.now)
-        × (record { from = parts.from; seq = parts.seq; body = parts.body.now } ≡ parts_of bytes.now)) }
+        (length bytes.now < frame_overhead)
+        (λ parts. (frame_overhead ≤ length bytes.now) × (parts.from ≡ sender_of bytes.now) × (parts.seq ≡ seq_of bytes.now)
+        × (parts.body.now ≡ body_of bytes.now)) }
 {
-    if bytes.len() < LEAST_LEN {
+    if bytes.len() < FRAME_OVERHEAD {
         return None;
     }
     Some(parts(bytes))
