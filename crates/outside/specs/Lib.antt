@@ -14,5 +14,4 @@ pub mod Disks
 pub mod DisksLaws
 pub mod MemoryDisk
 pub mod Stops
-pub mod StopsLaws
 pub mod DiskRows

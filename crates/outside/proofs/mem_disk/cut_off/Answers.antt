@@ -1,7 +1,7 @@
 use Rattle.std.proofs.Common.{arith, ◌%◌, ap, List, ℕ, length, ◌≡◌}
 use Rattle.outside.specs.MemoryDisk.{ranges_of}
 use Rattle.outside.specs.Stops.{fills}
-use Rattle.outside.specs.StopsLaws.{fills_long}
+use Rattle.outside.proofs.StopsLaws.{fills_long}
 use Rattle.outside.proofs.mem_disk.cut_off.Goals as goal
 
 pub ended-end-requires : goal.ended-end-requires

@@ -1,6 +1,6 @@
 use Rattle.std.proofs.Common.{◌≡◌, subst, ap, ◌∙◌}
 use Rattle.outside.specs.Disks.{IsBytes, state_of}
-use Rattle.outside.specs.StopsLaws.{left_image}
+use Rattle.outside.proofs.StopsLaws.{left_image}
 use Rattle.outside.specs.MemoryDisk.{MemDiskState, states_of}
 use Rattle.outside.proofs.mem_disk.MemDisk.after_stop.Goals as goal
 
