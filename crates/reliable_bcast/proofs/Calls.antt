@@ -16,7 +16,7 @@ use Rattle.layer_api.specs.BroadcastCalls.{CastShown, Started, Takes}
 use Rattle.reliable_bcast.specs.declared.rb.Rb.{Rb}
 use Rattle.reliable_bcast.specs.Bracha.{bracha}
 use Rattle.reliable_bcast.specs.State.{state_of, after_item, says_item, counts_item, Hears}
-use Rattle.reliable_bcast.specs.Steps.{IsStep, step_take, step_start, counts_is}
+use Rattle.reliable_bcast.specs.Laws.Steps.{IsStep, step_take, step_start, counts_is}
 
 abbrev pub Stands : Rb → Place → Tags → List Call → Type 0
 Stands b at tags h = b ≡ state_of at h

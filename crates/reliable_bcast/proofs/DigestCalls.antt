@@ -22,12 +22,12 @@ use Rattle.layer_api.specs.Broadcast.{Tagging, IsTagger, MayTake, is_of_origin}
 use Rattle.layer_api.specs.BroadcastCalls.{Started, Takes}
 use Rattle.reliable_bcast.specs.declared.digest_rb.Known.{Known}
 use Rattle.reliable_bcast.specs.declared.digest_rb.DigestRb.{DigestRb}
-use Rattle.reliable_bcast.specs.Steps.{awaited_is, nobody_yet}
+use Rattle.reliable_bcast.specs.Laws.Steps.{awaited_is, nobody_yet}
 use Rattle.reliable_bcast.specs.Tally.{is_awaited}
 use Rattle.reliable_bcast.specs.Digests.{out_of, by_digest}
-use Rattle.reliable_bcast.specs.DigestShown.{shows_out}
+use Rattle.reliable_bcast.specs.Laws.DigestShown.{shows_out}
 use Rattle.reliable_bcast.specs.DigestState.{value_in, value_for_full, delivered_of, shown_of, Keeps, IsNew, IsSame, Nothing, AfterInit, AfterValue, settled, ready_message, want_message, echoed_by, readied_by, want_answer, after_ready, HearsInit, HearsEcho, HearsReady, HearsWant, HearsValue, Hears}
-use Rattle.reliable_bcast.specs.DigestSteps.{IsStep, step_start, step_init, step_value, step_echo, step_ready, step_want}
+use Rattle.reliable_bcast.proofs.DigestSteps.{IsStep, step_start, step_init, step_value, step_echo, step_ready, step_want}
 
 abbrev pub is_live : DigestRb → Bool
 is_live b = b.live

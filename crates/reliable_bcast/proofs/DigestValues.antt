@@ -13,7 +13,7 @@ use Rattle.ritas_base.specs.declared.item.Msg.{Msg}
 use Rattle.ritas_base.specs.Members.{has_member}
 use Rattle.ritas_base.specs.History.{replicas, is_value}
 use Rattle.reliable_bcast.specs.declared.digest_rb.DigestRb.{DigestRb}
-use Rattle.reliable_bcast.specs.DigestNews.{ones, ones_alike}
+use Rattle.reliable_bcast.specs.Laws.DigestNews.{ones, ones_alike}
 use Rattle.reliable_bcast.specs.declared.digest_rb.Known.{Known}
 use Rattle.reliable_bcast.specs.DigestState.{value_in, answer_in, answer_for, answers_to}
 

@@ -3,3 +3,4 @@ pub mod Reading
 pub mod TallyLaws
 mod DigestValues
 mod DigestCalls
+mod DigestSteps

@@ -15,7 +15,7 @@ use Rattle.ritas_base.specs.HistoryLaws.{find_none, find_passes}
 use Rattle.ritas_base.specs.Shortest.{at_shortest, at_shortest_is, at_shortest_stays, at_shortest_never}
 use Rattle.reliable_bcast.specs.Bracha.{is_backed, is_carried, ready_value, out_of}
 use Rattle.reliable_bcast.specs.Reading.{IsOnlyAtShortest, IsTheValue}
-use Rattle.reliable_bcast.specs.Steps.{unvoted_backed, unvoted_carried, backed_kept, carried_kept, backed_same, carried_same}
+use Rattle.reliable_bcast.specs.Laws.Steps.{unvoted_backed, unvoted_carried, backed_kept, carried_kept, backed_same, carried_same}
 
 -- where no prefix gives anything
 nothing_before : {V : Type 0} (f : List Call → Option V) (h : List Call) → ((r b : List Call) → r ++ b ≡ h → f b ≡ None) → at_shortest f h ≡ None

@@ -16,7 +16,6 @@ use Rattle.ritas_base.specs.Tags.{Tags}
 use Rattle.layer_api.specs.Broadcast.{BroadcastRules}
 use Rattle.layer_api.specs.Entries.{OfMessage}
 use Rattle.reliable_bcast.specs.Bracha.{some_carried, ready_value}
-use Rattle.reliable_bcast.specs.Voted.{echo_of}
 
 -- ---- what is known
 
@@ -100,6 +99,11 @@ value_for at tags h k = if k == at.me then None else known_of at tags h (first h
 -- VALUE to each replica that is to be answered, ascending
 abbrev pub values_due : Place → Tags → List Call → List Msg
 values_due at tags h = flat_map (λ k. to_one at.slot k (value_for at tags h k)) (replicas at.numbers.n)
+
+-- what is echoed of a value, if there is one
+abbrev pub echo_of : (List ℕ → List ℕ) → Option (List ℕ) → Option (List ℕ)
+echo_of make None = None
+echo_of make (Some m) = Some (make m)
 
 -- INIT of what was started, ECHO of the digest of the origin's first INIT, READY of what is backed, WANT of what is asked for, and
 -- VALUE to those who asked

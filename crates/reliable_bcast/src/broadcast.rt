@@ -5,8 +5,8 @@ ghost use Rattle.std.proofs.Common.{ap};
 ghost use Rattle.reliable_bcast.specs.declared.rb.Rb.{Rb};
 ghost use Rattle.reliable_bcast.specs.Bracha.{bracha};
 ghost use Rattle.reliable_bcast.specs.State.{state_of};
-ghost use Rattle.reliable_bcast.specs.ValueLaws.{value_laws_of_bracha, entry_laws_of_bracha};
-ghost use Rattle.reliable_bcast.specs.OneValue.{one_value_of_bracha};
+ghost use Rattle.reliable_bcast.specs.Laws.Bracha.{value_laws_of_bracha, entry_laws_of_bracha};
+ghost use Rattle.reliable_bcast.specs.Laws.OneValue.{one_value_of_bracha};
 
 use crate::rb::Rb;
 use crate::saying::say_init;

@@ -3,9 +3,9 @@
 ghost use Rattle.std.specs.Prelude.{◌≡◌, refl};
 ghost use Rattle.reliable_bcast.specs.Digests.{by_digest};
 ghost use Rattle.reliable_bcast.specs.DigestState.{Keeps, shown_of};
-ghost use Rattle.reliable_bcast.specs.DigestShown.{shows_cast};
-ghost use Rattle.reliable_bcast.specs.DigestLaws.{value_laws_by_digest, entry_laws_by_digest};
-ghost use Rattle.reliable_bcast.specs.DigestOneValue.{one_value_by_digest};
+ghost use Rattle.reliable_bcast.specs.Laws.DigestShown.{shows_cast};
+ghost use Rattle.reliable_bcast.specs.Laws.ByDigest.{value_laws_by_digest, entry_laws_by_digest};
+ghost use Rattle.reliable_bcast.specs.Laws.DigestOneValue.{one_value_by_digest};
 
 use crate::digest_rb::DigestRb;
 use crate::saying::say_init;

@@ -16,7 +16,7 @@ use Rattle.reliable_bcast.specs.State.{state_of}
 use Rattle.reliable_bcast.specs.declared.digest_rb.DigestRb.{DigestRb}
 use Rattle.reliable_bcast.specs.Digests.{by_digest}
 use Rattle.reliable_bcast.specs.DigestState.{Keeps, shown_of}
-use Rattle.reliable_bcast.specs.DigestShown.{shows_cast}
+use Rattle.reliable_bcast.specs.Laws.DigestShown.{shows_cast}
 use Rattle.ritas_core.specs.declared.cast.Cast.{Cast}
 use Rattle.ritas_core.specs.declared.cast.Cast.TheVariants.{Plain, Digest, Other}
 use Rattle.ritas_core.specs.declared.route.Route.{Route}

@@ -12,8 +12,8 @@ use Rattle.ritas_base.specs.Numbers.{Numbers}
 use Rattle.ritas_base.specs.Slots.{first_failed, slot_fault, within, has_class, has_number, has_attempt, has_count, by_echo, reliable_form, form_of}
 use Rattle.layer_api.specs.Broadcast.{BroadcastRules}
 use Rattle.layer_api.specs.OneValue.{ValueLaws}
-use Rattle.reliable_bcast.specs.ValueLaws.{value_laws_of_bracha}
-use Rattle.reliable_bcast.specs.DigestLaws.{value_laws_by_digest}
+use Rattle.reliable_bcast.specs.Laws.Bracha.{value_laws_of_bracha}
+use Rattle.reliable_bcast.specs.Laws.ByDigest.{value_laws_by_digest}
 use Rattle.ritas_core.specs.Rules.{by_other, other_form, reliable_route, route_of, rules_by, at_slot_of, casts_by, FormsFit, HasForm}
 use Rattle.ritas_core.specs.declared.route.Route.{Route}
 use Rattle.ritas_core.specs.declared.route.Route.TheVariants as routes

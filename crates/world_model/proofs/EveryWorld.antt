@@ -9,9 +9,9 @@ use Rattle.sha2.proofs.Facts256.{length-sha256}
 use Rattle.keyed_channel.specs.Keyed.{tags_of}
 use Rattle.keyed_channel.specs.Laws.{OpensAsSealed, OpenedFromPeer}
 use Rattle.reliable_bcast.specs.Bracha.{bracha}
-use Rattle.reliable_bcast.specs.ValueLaws.{value_laws_of_bracha, entry_laws_of_bracha}
-use Rattle.reliable_bcast.specs.DigestLaws.{value_laws_by_digest, entry_laws_by_digest}
-use Rattle.reliable_bcast.specs.DigestOneValue.{one_value_by_digest}
+use Rattle.reliable_bcast.specs.Laws.Bracha.{value_laws_of_bracha, entry_laws_of_bracha}
+use Rattle.reliable_bcast.specs.Laws.ByDigest.{value_laws_by_digest, entry_laws_by_digest}
+use Rattle.reliable_bcast.specs.Laws.DigestOneValue.{one_value_by_digest}
 use Rattle.ritas_core.specs.declared.route.Route.{Route}
 use Rattle.ritas_core.specs.declared.route.Route.TheVariants as routes
 use Rattle.ritas_core.specs.Rules.{FormsFit, route_of, rules_by}

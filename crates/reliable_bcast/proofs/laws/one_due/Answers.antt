@@ -6,7 +6,7 @@ use Rattle.ritas_base.specs.Messages.{Place}
 use Rattle.ritas_base.specs.History.{Call}
 use Rattle.layer_api.specs.Runs.{Has}
 use Rattle.reliable_bcast.specs.Bracha.{due_of, is_reliable}
-use Rattle.reliable_bcast.specs.Due.{IsDue, value_due, due_is, listed_has}
+use Rattle.reliable_bcast.specs.Laws.Due.{IsDue, value_due, due_is, listed_has}
 use Rattle.reliable_bcast.proofs.laws.one_due.Goals as goal
 
 due : (at : Place) (h : List Call) (m : Msg) → Has (due_of at h) m → IsDue at h m

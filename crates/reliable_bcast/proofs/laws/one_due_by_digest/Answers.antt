@@ -10,7 +10,7 @@ use Rattle.ritas_base.specs.History.{Call}
 use Rattle.ritas_base.specs.Tags.{Tags}
 use Rattle.frame_codec.specs.Body.{is_of_form}
 use Rattle.reliable_bcast.specs.Digests.{value_for}
-use Rattle.reliable_bcast.specs.DigestDue.{IsDue, ToAll, ToOne, due_is, due_value}
+use Rattle.reliable_bcast.specs.Laws.DigestDue.{IsDue, ToAll, ToOne, due_is, due_value}
 use Rattle.reliable_bcast.proofs.laws.one_due_by_digest.Goals as goal
 
 same_value : (o : Option (List ℕ)) (v w a b : List ℕ) → o ≡ Some v → o ≡ Some w → a ≡ v → b ≡ w → a ≡ b

@@ -1,5 +1,5 @@
 use Rattle.std.proofs.Common.{◌∙◌}
-use Rattle.reliable_bcast.specs.Steps.{new_box}
+use Rattle.reliable_bcast.specs.Laws.Steps.{new_box}
 use Rattle.reliable_bcast.proofs.broadcast.RbBroadcast.new.Goals as goal
 
 pub returns : goal.returns

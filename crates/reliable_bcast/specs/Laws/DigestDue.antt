@@ -19,8 +19,8 @@ use Rattle.frame_codec.specs.Body.{is_of_form}
 use Rattle.layer_api.specs.Runs.{Has}
 use Rattle.layer_api.specs.HasLaws.{has_either, has_left, has_right}
 use Rattle.reliable_bcast.specs.Bracha.{some_backed, some_carried, ready_value}
-use Rattle.reliable_bcast.specs.Voted.{echo_of, echo_stays}
-use Rattle.reliable_bcast.specs.Digests.{if_digest, brought_by, known, Full, full_if, full_of, asked_for, known_of, to_one, value_for, values_due, due_of}
+use Rattle.reliable_bcast.specs.Laws.Voted.{echo_stays}
+use Rattle.reliable_bcast.specs.Digests.{if_digest, brought_by, known, Full, full_if, full_of, asked_for, known_of, to_one, value_for, values_due, due_of, echo_of}
 
 abbrev pub one_message : Slot → ℕ → List ℕ → Msg
 one_message s k m = record { to = One k; kind = Value; slot = s; value = m }

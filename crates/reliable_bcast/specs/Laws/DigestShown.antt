@@ -8,7 +8,7 @@ use Rattle.layer_api.specs.BroadcastCalls.{ShowsCast}
 use Rattle.reliable_bcast.specs.declared.digest_rb.DigestRb.{DigestRb}
 use Rattle.reliable_bcast.specs.Bracha.{out_of as carried_of}
 use Rattle.reliable_bcast.specs.Digests.{known_of, out_of, by_digest}
-use Rattle.reliable_bcast.specs.DigestLaws.{out_by}
+use Rattle.reliable_bcast.specs.Laws.ByDigest.{out_by}
 use Rattle.reliable_bcast.specs.DigestState.{value_for_full, delivered_of, shown_of, Keeps}
 
 full_value : (b : DigestRb) (at : Place) (tags : Tags) (h : List Call) → Keeps b at tags h → (o : Option (List ℕ)) → value_for_full b.values.items o ≡ known_of at tags h o

@@ -26,13 +26,12 @@ use Rattle.layer_api.specs.OneValue.{ValueLaws, IsOnce, IsReceiver}
 use Rattle.layer_api.specs.OnceLaws.{once_append, once_to_all, kinds_apart}
 use Rattle.layer_api.specs.EntryLaws.{EntryLaws, IsMetOf}
 use Rattle.reliable_bcast.specs.Bracha.{some_carried, ready_value, out_of as carried_of}
-use Rattle.reliable_bcast.specs.Steps.{out_quiet}
-use Rattle.reliable_bcast.specs.Voted.{echo_of}
-use Rattle.reliable_bcast.specs.Digests.{brings, brought_by, cons_if, brought, known, full_of, asked_for, known_of, to_one, value_for, values_due, due_of, out_of, by_digest}
-use Rattle.reliable_bcast.specs.DigestOneValue.{full_is, out_is}
-use Rattle.reliable_bcast.specs.DigestDue.{one_message, same_one, IsDue, ToAll, ToOne, ones_is, due_is, due_all, due_one, value_stays, value_for_stays, known_stays}
-use Rattle.reliable_bcast.specs.DigestGood.{due_good, out_good}
-use Rattle.reliable_bcast.specs.DigestNews.{no_ones}
+use Rattle.reliable_bcast.specs.Laws.Steps.{out_quiet}
+use Rattle.reliable_bcast.specs.Digests.{brings, brought_by, cons_if, brought, known, full_of, asked_for, known_of, to_one, value_for, values_due, due_of, out_of, by_digest, echo_of}
+use Rattle.reliable_bcast.specs.Laws.DigestOneValue.{full_is, out_is}
+use Rattle.reliable_bcast.specs.Laws.DigestDue.{one_message, same_one, IsDue, ToAll, ToOne, ones_is, due_is, due_all, due_one, value_stays, value_for_stays, known_stays}
+use Rattle.reliable_bcast.specs.Laws.DigestGood.{due_good, out_good}
+use Rattle.reliable_bcast.specs.Laws.DigestNews.{no_ones}
 
 -- ---- what is delivered
 

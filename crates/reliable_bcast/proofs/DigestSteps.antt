@@ -25,11 +25,10 @@ use Rattle.layer_api.specs.Replicas.{range_has, replica_below}
 use Rattle.reliable_bcast.specs.declared.digest_rb.Known.{Known}
 use Rattle.reliable_bcast.specs.declared.digest_rb.DigestRb.{DigestRb}
 use Rattle.reliable_bcast.specs.Bracha.{some_carried, ready_value, out_of as carried_of}
-use Rattle.reliable_bcast.specs.Steps.{backing, carrying, is_some_or, is_some_or_some, ready_quiet, ready_echo, ready_ready, out_quiet, out_ready}
-use Rattle.reliable_bcast.specs.Voted.{echo_of}
-use Rattle.reliable_bcast.specs.Digests.{brings, brought_by, if_digest, known, Full, full_if, full_of, digest_in, asked_for, known_of, to_one, value_for, by_digest}
-use Rattle.reliable_bcast.specs.DigestOneValue.{full_is}
-use Rattle.reliable_bcast.specs.DigestNews.{ones, gain, gain_for, parts, news_is, gained_or, gained_itself, gained_echo, no_ones, ones_alike, same_parts}
+use Rattle.reliable_bcast.specs.Laws.Steps.{backing, carrying, is_some_or, is_some_or_some, ready_quiet, ready_echo, ready_ready, out_quiet, out_ready}
+use Rattle.reliable_bcast.specs.Digests.{brings, brought_by, if_digest, known, Full, full_if, full_of, digest_in, asked_for, known_of, to_one, value_for, by_digest, echo_of}
+use Rattle.reliable_bcast.specs.Laws.DigestOneValue.{full_is}
+use Rattle.reliable_bcast.specs.Laws.DigestNews.{ones, gain, gain_for, parts, news_is, gained_or, gained_itself, gained_echo, no_ones, ones_alike, same_parts}
 use Rattle.reliable_bcast.specs.DigestState.{value_in, Keeps, with_known, answer_for, answers_to, answers, has_backing, has_carriers, settled, ready_message, want_message, echoed_by, readied_by, wanted_by, after_ready, want_answer}
 
 -- ---- known values

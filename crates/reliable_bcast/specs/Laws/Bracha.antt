@@ -17,9 +17,9 @@ use Rattle.layer_api.specs.OnceLaws.{once_append, once_to_all, kinds_apart}
 use Rattle.layer_api.specs.EntryLaws.{EntryLaws}
 use Rattle.layer_api.specs.Runs.{Has}
 use Rattle.reliable_bcast.specs.Bracha.{bracha, is_reliable, some_carried, ready_value, due_of}
-use Rattle.reliable_bcast.specs.Steps.{out_quiet}
-use Rattle.reliable_bcast.specs.Due.{due_more, due_is, listed_has}
-use Rattle.reliable_bcast.specs.Good.{due_good, out_good}
+use Rattle.reliable_bcast.specs.Laws.Steps.{out_quiet}
+use Rattle.reliable_bcast.specs.Laws.Due.{due_more, due_is, listed_has}
+use Rattle.reliable_bcast.specs.Laws.Good.{due_good, out_good}
 
 at_first : (kind : Kind) → is_of_form bracha.form kind ≡ true → true ≡ not (kind_eq kind Column)
 at_first kinds.Init e = refl

@@ -23,8 +23,8 @@ use Rattle.layer_api.specs.Runs.{Step, Has, calls_of, IsEnough}
 use Rattle.layer_api.specs.HasLaws.{map_has}
 use Rattle.layer_api.specs.OneValue.{Group, place_of, met_at, IsRun, IsClear, SameDigests, OneValue}
 use Rattle.reliable_bcast.specs.Bracha.{some_carried, out_of as carried_of}
-use Rattle.reliable_bcast.specs.Voted.{IsVotedAt, IsVoted, out_echoed, echoed_same, echoed_started}
-use Rattle.reliable_bcast.specs.DigestDue.{due_value, IsDue, ToAll, ToOne, due_is}
+use Rattle.reliable_bcast.specs.Laws.Voted.{IsVotedAt, IsVoted, out_echoed, echoed_same, echoed_started}
+use Rattle.reliable_bcast.specs.Laws.DigestDue.{due_value, IsDue, ToAll, ToOne, due_is}
 use Rattle.reliable_bcast.specs.Digests.{brings, brought_by, cons_if, brought, if_digest, known, Full, full_if, full_of, digest_in, known_of, out_of, by_digest}
 
 -- ---- what is due

@@ -24,11 +24,10 @@ use Rattle.frame_codec.specs.Body.{IsInGrammar, is_of_form}
 use Rattle.layer_api.specs.Runs.{Has}
 use Rattle.layer_api.specs.OneValue.{AreGoodCalls, IsOfSlot}
 use Rattle.reliable_bcast.specs.Bracha.{is_backed, is_carried, some_backed, some_carried, ready_value, out_of as carried_of}
-use Rattle.reliable_bcast.specs.Good.{good_prefix, started_good}
-use Rattle.reliable_bcast.specs.Voted.{echo_of}
-use Rattle.reliable_bcast.specs.Digests.{brings, cons_if, brought, Full, full_of, digest_in, asked_for, known_of, value_for, out_of, by_digest}
-use Rattle.reliable_bcast.specs.DigestOneValue.{known_is, full_is, out_is}
-use Rattle.reliable_bcast.specs.DigestDue.{due_value, IsDue, ToAll, ToOne}
+use Rattle.reliable_bcast.specs.Laws.Good.{good_prefix, started_good}
+use Rattle.reliable_bcast.specs.Digests.{brings, cons_if, brought, Full, full_of, digest_in, asked_for, known_of, value_for, out_of, by_digest, echo_of}
+use Rattle.reliable_bcast.specs.Laws.DigestOneValue.{known_is, full_is, out_is}
+use Rattle.reliable_bcast.specs.Laws.DigestDue.{due_value, IsDue, ToAll, ToOne}
 
 -- the format of a kind's payload in form 3
 abbrev format_of : Numbers → Mode → Kind → Slot → Format

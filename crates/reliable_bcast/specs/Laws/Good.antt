@@ -20,7 +20,7 @@ use Rattle.frame_codec.specs.Grammar.{payload, value}
 use Rattle.frame_codec.specs.Body.{IsInGrammar, is_of_form}
 use Rattle.layer_api.specs.OneValue.{AreGoodCalls, IsOfSlot}
 use Rattle.reliable_bcast.specs.Bracha.{bracha, is_reliable, is_backed, is_carried, out_of}
-use Rattle.reliable_bcast.specs.Due.{value_due, IsDue}
+use Rattle.reliable_bcast.specs.Laws.Due.{value_due, IsDue}
 
 -- in form 1 the payload of a reliable kind is the slot's value
 plain_at : (p : Numbers) (mode : Mode) (form : ℕ) (kind : Kind) (s : Slot) → form ≡ 1 → form_of mode s ≡ form → is_reliable kind ≡ true → payload p mode kind s ≡ value p mode.root s

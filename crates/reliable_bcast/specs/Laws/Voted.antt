@@ -22,12 +22,8 @@ use Rattle.std.specs.Option.{option_or}
 use Rattle.layer_api.specs.Broadcast.{BroadcastRules}
 use Rattle.layer_api.specs.Runs.{Step, Has, calls_of, IsEnough}
 use Rattle.layer_api.specs.OneValue.{Group, place_of, IsFed, IsRun}
+use Rattle.reliable_bcast.specs.Digests.{echo_of}
 use Rattle.reliable_bcast.specs.Bracha.{is_backed, is_carried, some_backed, some_carried, ready_value, out_of}
-
--- what is echoed of a value, if there is one
-abbrev pub echo_of : (List ℕ → List ℕ) → Option (List ℕ) → Option (List ℕ)
-echo_of make None = None
-echo_of make (Some m) = Some (make m)
 
 -- how a message of a kind comes to be due
 abbrev pub IsVotedAt : (Tags → List ℕ → List ℕ) → Place → Tags → List Call → Kind → List ℕ → Type 0

@@ -9,8 +9,9 @@ use Rattle.ritas_base.specs.Messages.{Place}
 use Rattle.ritas_base.specs.Tags.{Tags}
 use Rattle.layer_api.specs.OneValue.{OneValue}
 use Rattle.reliable_bcast.specs.Bracha.{bracha, due_of}
-use Rattle.reliable_bcast.specs.Due.{value_due, due_is, listed_has}
-use Rattle.reliable_bcast.specs.Voted.{echo_of, IsVotedAt, IsVoted, out_echoed, echoed_same, echoed_started}
+use Rattle.reliable_bcast.specs.Laws.Due.{value_due, due_is, listed_has}
+use Rattle.reliable_bcast.specs.Laws.Voted.{IsVotedAt, IsVoted, out_echoed, echoed_same, echoed_started}
+use Rattle.reliable_bcast.specs.Digests.{echo_of}
 
 -- ECHO and READY carry the value itself
 abbrev itself : Tags → List ℕ → List ℕ

@@ -16,9 +16,8 @@ use Rattle.ritas_base.specs.Tags.{Tags}
 use Rattle.layer_api.specs.Broadcast.{news}
 use Rattle.layer_api.specs.Runs.{Has}
 use Rattle.layer_api.specs.HasLaws.{has_listed, listed_has}
-use Rattle.reliable_bcast.specs.Voted.{echo_of}
-use Rattle.reliable_bcast.specs.Digests.{to_one, value_for, values_due, due_of, by_digest}
-use Rattle.reliable_bcast.specs.DigestDue.{one_message, same_one, due_value, IsDue, ToAll, ToOne, due_is, due_all, due_one, value_stays, value_for_stays}
+use Rattle.reliable_bcast.specs.Digests.{to_one, value_for, values_due, due_of, by_digest, echo_of}
+use Rattle.reliable_bcast.specs.Laws.DigestDue.{one_message, same_one, due_value, IsDue, ToAll, ToOne, due_is, due_all, due_one, value_stays, value_for_stays}
 
 -- messages to some, each to one
 abbrev pub ones : Slot → (ℕ → Option (List ℕ)) → List ℕ → List Msg
