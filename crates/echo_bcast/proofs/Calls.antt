@@ -28,8 +28,8 @@ use Rattle.layer_api.specs.Entries.{sent}
 use Rattle.echo_bcast.specs.declared.eb.Eb.{Eb}
 use Rattle.echo_bcast.specs.Matrix.{echo, hashes_in, columns_of, has_news, repeats_one, is_of_echo}
 use Rattle.echo_bcast.specs.State.{Keeps, shown_of, is_awaited, Nothing, HearsSend, HearsHashes, HearsColumn, HearsColumnOk, Hears}
-use Rattle.echo_bcast.specs.Once.{repeats_other}
-use Rattle.echo_bcast.specs.Shown.{some_as, shows_cast}
+use Rattle.echo_bcast.specs.Laws.Once.{repeats_other}
+use Rattle.echo_bcast.specs.Laws.Getters.{some_as, shows_cast}
 use Rattle.echo_bcast.proofs.News.{news_start, news_send, news_column, news_hashes}
 use Rattle.echo_bcast.proofs.Steps.{kept_start, kept_send, kept_hashes, kept_column, message_is, none_as, sent_as_kept, news_is}
 

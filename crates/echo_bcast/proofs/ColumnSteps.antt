@@ -11,7 +11,7 @@ use Rattle.ritas_base.specs.Numbers.{Numbers, wait_of}
 use Rattle.ritas_base.specs.History.{replicas}
 use Rattle.layer_api.specs.Entries.{entry_in}
 use Rattle.echo_bcast.specs.Matrix.{rows_for, senders_of, column_for, columns_of}
-use Rattle.echo_bcast.specs.Columns.{senders_ones}
+use Rattle.echo_bcast.specs.Laws.Columns.{senders_ones}
 
 -- the bytes of a row, where there is one
 abbrev pub row_bytes : ℕ → Option (List ℕ) → List ℕ

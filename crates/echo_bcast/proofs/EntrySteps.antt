@@ -19,8 +19,8 @@ use Rattle.frame_codec.specs.Values.{mask_of}
 use Rattle.layer_api.specs.Broadcast.{Tagging}
 use Rattle.echo_bcast.specs.Matrix.{as_entry, hashes_bytes}
 use Rattle.echo_bcast.specs.State.{tagged, is_tagged, adds_to, Joins}
-use Rattle.echo_bcast.specs.Members.{one_replica_more}
-use Rattle.echo_bcast.specs.Columns.{as_entry_is}
+use Rattle.echo_bcast.proofs.ListMembers.{one_replica_more}
+use Rattle.echo_bcast.specs.Laws.Columns.{as_entry_is}
 
 -- a column has a mask, and 32 bytes for each of its ones
 pub column_parts : (n : ℕ) (value : List ℕ) → Is (column n) value

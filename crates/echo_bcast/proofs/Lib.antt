@@ -4,3 +4,4 @@ mod News
 mod Steps
 mod Calls
 mod Reading
+mod ListMembers

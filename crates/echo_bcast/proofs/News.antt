@@ -23,7 +23,7 @@ use Rattle.layer_api.specs.Runs.{Has}
 use Rattle.layer_api.specs.HasLaws.{has_left, has_listed, has_right, listed_has}
 use Rattle.echo_bcast.specs.Matrix.{echo, hashes_for, hashes_in, senders_of, brings_hashes, column_for, columns_of, columns_at, columns_due, due_of, rows_for}
 use Rattle.echo_bcast.specs.Due.{IsDue, OfSend, OfHashes, OfColumn, IsColumnOf, due_is, columns_of_is}
-use Rattle.echo_bcast.specs.Columns.{column_mask, senders_have}
+use Rattle.echo_bcast.specs.Laws.Columns.{column_mask, senders_have}
 use Rattle.ritas_base.specs.HistoryLaws.{length-firsts}
 
 -- ---- the parts of what is due, old and new

@@ -22,9 +22,9 @@ use Rattle.layer_api.specs.HasLaws.{has_left, has_right}
 use Rattle.layer_api.specs.OneValue.{AreTaken}
 use Rattle.echo_bcast.specs.Matrix.{echo, as_entry, hashes_bytes, hashes_for, columns_due, due_of, is_good}
 use Rattle.echo_bcast.specs.Due.{IsDue, OfSend, OfHashes, OfColumn, due_is}
-use Rattle.echo_bcast.specs.Columns.{as_entry_is, senders_have}
-use Rattle.echo_bcast.specs.OneValue.{out_is}
-use Rattle.echo_bcast.specs.ValueLaws.{good_stays}
+use Rattle.echo_bcast.specs.Laws.Columns.{as_entry_is, senders_have}
+use Rattle.echo_bcast.specs.Laws.OneValue.{out_is}
+use Rattle.echo_bcast.specs.Laws.Matrix.{good_stays}
 use Rattle.echo_bcast.specs.Reading.{CarriesGiven, HashesCarry, IsShownGood, GoodIs, SendersAre}
 
 -- ---- HASHES

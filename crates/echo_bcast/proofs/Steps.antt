@@ -22,7 +22,7 @@ use Rattle.echo_bcast.specs.declared.eb.Eb.{Eb}
 use Rattle.echo_bcast.specs.declared.eb.Sent.{Sent}
 use Rattle.echo_bcast.specs.Matrix.{hashes_bytes, hashes_for, is_good, has_news}
 use Rattle.echo_bcast.specs.State.{Keeps, sent_as, tagged, hashes_message, is_tagged, adds_to, Joins, is_news, JoinsGood}
-use Rattle.echo_bcast.specs.Members.{any_replica_same, map_replicas_same}
+use Rattle.echo_bcast.proofs.ListMembers.{any_replica_same, map_replicas_same}
 use Rattle.echo_bcast.proofs.News.{sent_kept, sent_now}
 
 -- ---- what is kept of a call that brings no column

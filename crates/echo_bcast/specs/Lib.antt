@@ -1,14 +1,7 @@
 pub mod Matrix
-pub mod Members
 pub mod Due
-pub mod OneValue
-pub mod Columns
-pub mod Good
 pub mod State
-pub mod Shown
 pub mod Reading
-pub mod Once
-pub mod ValueLaws
-pub mod EntryLaws
 pub mod OneDue
 pub mod Rows
+pub mod Laws

@@ -4,10 +4,10 @@ ghost use Rattle.std.specs.Prelude.{◌≡◌, refl};
 ghost use Rattle.echo_bcast.specs.declared.eb.Eb.{Eb};
 ghost use Rattle.echo_bcast.specs.Matrix.{echo};
 ghost use Rattle.echo_bcast.specs.State.{Keeps, shown_of};
-ghost use Rattle.echo_bcast.specs.Shown.{shows_cast};
-ghost use Rattle.echo_bcast.specs.ValueLaws.{value_laws_of_echo};
-ghost use Rattle.echo_bcast.specs.EntryLaws.{entry_laws_of_echo};
-ghost use Rattle.echo_bcast.specs.OneValue.{one_value_of_echo};
+ghost use Rattle.echo_bcast.specs.Laws.Getters.{shows_cast};
+ghost use Rattle.echo_bcast.specs.Laws.Matrix.{value_laws_of_echo};
+ghost use Rattle.echo_bcast.specs.Laws.Entries.{entry_laws_of_echo};
+ghost use Rattle.echo_bcast.specs.Laws.OneValue.{one_value_of_echo};
 
 use crate::eb::Eb;
 use layer_api::{Broadcast, Heard};

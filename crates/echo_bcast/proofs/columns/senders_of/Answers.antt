@@ -5,7 +5,7 @@ use Rattle.std.proofs.lemmas.List.{get_or_past}
 use Rattle.ritas_base.specs.Members.{has_member}
 use Rattle.ritas_base.specs.MemberLaws.{same_mask}
 use Rattle.echo_bcast.specs.Matrix.{senders_of}
-use Rattle.echo_bcast.specs.Columns.{senders_have}
+use Rattle.echo_bcast.specs.Laws.Columns.{senders_have}
 use Rattle.echo_bcast.proofs.columns.senders_of.Goals as goal
 
 -- past the last there is nothing

@@ -18,10 +18,10 @@ use Rattle.layer_api.specs.Entries.{sent, entry_in, entries_of}
 use Rattle.layer_api.specs.OneDue.{HasEntriesOf}
 use Rattle.layer_api.specs.OneValue.{AreGoodCalls, IsOfSlot}
 use Rattle.layer_api.specs.Replicas.{replica_below}
-use Rattle.echo_bcast.specs.Columns.{AreLong, senders_have}
+use Rattle.echo_bcast.specs.Laws.Columns.{AreLong, senders_have}
 use Rattle.echo_bcast.specs.Due.{IsDue, OfSend, OfHashes, OfColumn, IsColumnOf, due_is}
-use Rattle.echo_bcast.specs.EntryLaws.{is_there, count_from, count_behind, placed_row, row_written, column_alone}
-use Rattle.echo_bcast.specs.Good.{columns_long}
+use Rattle.echo_bcast.specs.Laws.Entries.{is_there, count_from, count_behind, placed_row, row_written, column_alone}
+use Rattle.echo_bcast.specs.Laws.Good.{columns_long}
 use Rattle.echo_bcast.specs.Matrix.{echo, hashes_bytes, hashes_in, rows_for, senders_of}
 use Rattle.echo_bcast.specs.OneDue.{HasAll, AreNested}
 use Rattle.echo_bcast.proofs.laws.one_due.Goals as goal

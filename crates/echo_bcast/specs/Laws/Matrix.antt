@@ -19,9 +19,9 @@ use Rattle.layer_api.specs.OneValue.{ValueLaws, IsReceiver}
 use Rattle.echo_bcast.specs.Matrix.{echo, hashes_for, columns_at, columns_due, due_of, is_good, out_of, is_of_echo}
 use Rattle.layer_api.specs.Replicas.{replica_below}
 use Rattle.echo_bcast.specs.Due.{IsDue, OfSend, OfHashes, OfColumn, due_is}
-use Rattle.echo_bcast.specs.OneValue.{out_is}
-use Rattle.echo_bcast.specs.Once.{repeats_other, stays_there, due_once}
-use Rattle.echo_bcast.specs.Good.{due_good, out_good}
+use Rattle.echo_bcast.specs.Laws.OneValue.{out_is}
+use Rattle.echo_bcast.specs.Laws.Once.{repeats_other, stays_there, due_once}
+use Rattle.echo_bcast.specs.Laws.Good.{due_good, out_good}
 
 -- ---- what is due stays
 

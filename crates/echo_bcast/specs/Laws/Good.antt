@@ -27,7 +27,7 @@ use Rattle.layer_api.specs.OneValue.{AreGoodCalls, IsOfSlot}
 use Rattle.echo_bcast.specs.Matrix.{echo, hashes_in, hashes_bytes, column_for}
 use Rattle.echo_bcast.specs.Due.{IsDue, OfSend, OfHashes, OfColumn, IsColumnOf}
 use Rattle.layer_api.specs.Replicas.{replica_below}
-use Rattle.echo_bcast.specs.Columns.{hashes_good, hashes_long, AreLong, are_long, column_good}
+use Rattle.echo_bcast.specs.Laws.Columns.{hashes_good, hashes_long, AreLong, are_long, column_good}
 
 -- the value of an item of the slot is the payload of its kind
 payload_good : (p : Numbers) (mode : Mode) (s : Slot) (x : Item) (kind : Kind) (v : List ℕ) → x.slot ≡ s → IsInGrammar p mode x → x.kind ≡ kind → x.value ≡ v
