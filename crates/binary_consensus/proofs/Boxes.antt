@@ -16,7 +16,7 @@ use Rattle.bracha_validation.specs.declared.tally.Tally.{Tally}
 use Rattle.bracha_validation.specs.Tallies.{vote_count, IsTally}
 use Rattle.binary_consensus.specs.Steps.{round_of, step_of, step_slot, heard, listed, accepted}
 use Rattle.binary_consensus.specs.Consensus.{proposal, left, decides, next_vote, said, decided_below, steps, says_below, decision, binary}
-use Rattle.binary_consensus.specs.Stays.{steps_are, stays, unleft, next_none, said_down, silent, silent_above}
+use Rattle.binary_consensus.specs.Laws.Stays.{steps_are, stays, unleft, next_none, said_down, silent, silent_above}
 use Rattle.binary_consensus.specs.Counts.{Heard, HearsOne, tally_at}
 use Rattle.binary_consensus.specs.Going.{own_slot, line_of, IsPart, AreHeard, StandsAt, IsOver, IsHere, Passing, Done, GoesOn}
 use Rattle.binary_consensus.specs.Stands.{Stands}

@@ -18,8 +18,8 @@ use Rattle.bracha_validation.specs.Votes.{votes, may_give}
 use Rattle.bracha_validation.specs.Tallies.{vote_count, tally_votes, IsTally, DependsOnCounts}
 use Rattle.bracha_validation.specs.PickLaws.{one_more}
 use Rattle.binary_consensus.specs.Steps.{step_of, step_slot, vote_heard, heard, passed, push, listed, accepted}
-use Rattle.binary_consensus.specs.Acceptance.{holds, count_listed}
-use Rattle.binary_consensus.specs.Runs.{one_step}
+use Rattle.binary_consensus.specs.Laws.Acceptance.{holds, count_listed}
+use Rattle.binary_consensus.specs.Laws.OneBit.{one_step}
 use Rattle.binary_consensus.specs.Counts.{kept, taken, tally_at, counted, with_vote, Heard, HearsOne}
 use Rattle.binary_consensus.specs.Going.{AreHeard}
 

@@ -9,8 +9,7 @@ use Rattle.layer_api.specs.Calls.{IsCoin}
 use Rattle.bracha_validation.specs.declared.tally.Tally.{Tally}
 use Rattle.bracha_validation.specs.Tallies.{IsTally, DependsOnCounts}
 use Rattle.binary_consensus.specs.Steps.{step_slot, heard, accepted}
-use Rattle.binary_consensus.specs.Consensus.{decides}
-use Rattle.binary_consensus.specs.Stays.{next_said}
+use Rattle.binary_consensus.specs.Consensus.{decides, next_said}
 use Rattle.binary_consensus.specs.Counts.{Heard, counted}
 use Rattle.binary_consensus.specs.Going.{own_slot, IsPart, AreHeard, Leaves}
 use Rattle.binary_consensus.specs.declared.part.Part.{Part}

@@ -12,7 +12,7 @@ use Rattle.layer_api.specs.Binary.{BinaryRules, Bench}
 use Rattle.layer_api.specs.BinaryCalls.{BoxShown, ShowsBoxNear, Proposes, HearsVote}
 use Rattle.binary_consensus.specs.Root.{bench_of, binary_root}
 use Rattle.layer_api.specs.OneInstance.{given_now}
-use Rattle.binary_consensus.specs.RootLaws.{asks_bit, hears_vote, may_propose, may_vote}
+use Rattle.binary_consensus.specs.Laws.RootWords.{asks_bit, hears_vote, may_propose, may_vote}
 use Rattle.binary_consensus.specs.RootStands.{RootStands, root_shown, root_shows_near}
 use Rattle.binary_consensus.specs.declared.bin_root.BinRoot.{BinRoot}
 

@@ -9,8 +9,8 @@ use Rattle.ritas_base.specs.Shortest.{option_or_none}
 use Rattle.layer_api.specs.Words.{Word}
 use Rattle.layer_api.specs.Binary.{Bench}
 use Rattle.binary_consensus.specs.Steps.{step_of, step_slot, heard, accepted}
-use Rattle.binary_consensus.specs.Consensus.{left, decides, next_vote, said, decided_below, steps, newly, says_below, decision}
-use Rattle.binary_consensus.specs.Stays.{steps_are, next_said, stays, unleft, next_none, said_down}
+use Rattle.binary_consensus.specs.Consensus.{left, decides, next_vote, said, decided_below, steps, newly, says_below, decision, next_said}
+use Rattle.binary_consensus.specs.Laws.Stays.{steps_are, stays, unleft, next_none, said_down}
 use Rattle.binary_consensus.specs.Going.{StandsAt, Passing, Gone, Done}
 use Rattle.binary_consensus.specs.declared.place.Place.{Place}
 

@@ -41,6 +41,10 @@ abbrev pub decides : Numbers → ℕ → Option (List ℕ) → Option Bool
 decides p t None = None
 decides p t (Some vs) = verdict p (step_of t) vs
 
+-- what is said at the step after this one, by what is decided so far and what this one was left with
+abbrev pub next_said : Bench → ℕ → Option Bool → Option (List ℕ) → Option ℕ
+next_said at t d l = if step_of t == 3 && is_some d then None else option_map (next_vote at t) l
+
 -- one step of the line: the vote that is said at it, and what the steps below it decide
 pub record Stage : Type 0 where
   pub said : List Word → Option ℕ

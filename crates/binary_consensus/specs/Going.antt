@@ -12,8 +12,7 @@ use Rattle.layer_api.specs.Calls.{IsCoin}
 use Rattle.bracha_validation.specs.declared.tally.Tally.{Tally}
 use Rattle.bracha_validation.specs.Tallies.{IsTally}
 use Rattle.binary_consensus.specs.Steps.{round_of, step_of, heard, listed}
-use Rattle.binary_consensus.specs.Consensus.{left, decides, said, decided_below, steps, says_below, decision}
-use Rattle.binary_consensus.specs.Stays.{next_said}
+use Rattle.binary_consensus.specs.Consensus.{left, decides, said, decided_below, steps, says_below, decision, next_said}
 use Rattle.binary_consensus.specs.Counts.{Heard, tally_at}
 use Rattle.binary_consensus.specs.declared.part.Part.{Part}
 use Rattle.binary_consensus.specs.declared.leaving.Left.{Left}

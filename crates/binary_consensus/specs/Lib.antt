@@ -3,13 +3,7 @@ pub mod Consensus
 pub mod Root
 pub mod Rows
 pub mod Counts
-pub mod Acceptance
-pub mod Lock
-pub mod Stays
-pub mod Runs
 pub mod Going
 pub mod Stands
-pub mod BoxLaws
-pub mod RootLaws
-pub mod RootLog
 pub mod RootStands
+pub mod Laws

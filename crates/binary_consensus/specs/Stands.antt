@@ -12,7 +12,7 @@ use Rattle.layer_api.specs.Calls.{IsCoin}
 use Rattle.layer_api.specs.BinaryCalls.{BoxShown, ShowsBox, ShowsBoxNear}
 use Rattle.binary_consensus.specs.Steps.{step_of}
 use Rattle.binary_consensus.specs.Consensus.{left, next_vote, decides, said, decided_below, rounds, steps, last_step, decision, over, round_below, says_below, binary}
-use Rattle.binary_consensus.specs.Stays.{rounds_are, steps_are, last_is, unleft, next_none, silent, silent_above, clash}
+use Rattle.binary_consensus.specs.Laws.Stays.{rounds_are, steps_are, last_is, unleft, next_none, silent, silent_above, clash}
 use Rattle.binary_consensus.specs.Going.{IsPart, AreHeard, IsOver, IsHere}
 use Rattle.binary_consensus.specs.declared.place.Place.{Place}
 use Rattle.binary_consensus.specs.declared.bin.Bin.{Bin}

@@ -57,8 +57,8 @@ impl Bin {
 
 impl BinaryBox for Bin {
     ghost use Rattle.binary_consensus.specs.Consensus.{binary};
-    ghost use Rattle.binary_consensus.specs.Runs.{one_bit_law};
-    ghost use Rattle.binary_consensus.specs.BoxLaws.{box_laws_hold};
+    ghost use Rattle.binary_consensus.specs.Laws.OneBit.{one_bit_law};
+    ghost use Rattle.binary_consensus.specs.Laws.Box.{box_laws_hold};
     ghost use Rattle.binary_consensus.specs.Stands.{Stands, shown_by, shows_box};
 
     ghost stands = { Stands };

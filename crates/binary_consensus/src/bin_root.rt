@@ -18,8 +18,8 @@ pub struct BinRoot<B: BinaryBox> {
 impl<B: BinaryBox> Service for BinRoot<B> {
     ghost use Rattle.std.specs.Prelude.{◌≡◌};
     ghost use Rattle.binary_consensus.specs.Root.{bench_of, binary_root};
-    ghost use Rattle.binary_consensus.specs.RootLaws.{root_word_laws};
-    ghost use Rattle.binary_consensus.specs.RootLog.{root_one_log};
+    ghost use Rattle.binary_consensus.specs.Laws.RootWords.{root_word_laws};
+    ghost use Rattle.binary_consensus.specs.Laws.RootLog.{root_one_log};
     ghost use Rattle.binary_consensus.specs.RootStands.{RootStands, root_shown, root_shows};
 
     ghost stands = { RootStands B.stands };

@@ -8,7 +8,7 @@ use Rattle.ritas_base.specs.Shortest.{option_or_some, option_or_older}
 use Rattle.layer_api.specs.Words.{Word, Ask, Hear}
 use Rattle.layer_api.specs.Binary.{Bench}
 use Rattle.binary_consensus.specs.Steps.{step_of, vote_in, heard, accepted}
-use Rattle.binary_consensus.specs.Consensus.{proposal, enough_at, left_by, left, next_vote, decides, said, decided_below, rounds, steps, last_step, round_below}
+use Rattle.binary_consensus.specs.Consensus.{proposal, enough_at, left_by, left, next_vote, next_said, decides, said, decided_below, rounds, steps, last_step, round_below}
 use Rattle.layer_api.specs.FedLaws.{some_if}
 
 pub rounds_are : rounds ≡ 200
@@ -46,10 +46,7 @@ left_said at t f stay (c ∷ w) vs q =
     ]
 
 module _ (at : Bench) where
-  abbrev pub next_said : ℕ → Option Bool → Option (List ℕ) → Option ℕ
-  next_said t d l = if step_of t == 3 && is_some d then None else option_map (next_vote at t) l
-
-  pub next_left : (t : ℕ) (d : Option Bool) (l : Option (List ℕ)) (v : ℕ) → next_said t d l ≡ Some v → (vs : List ℕ) × (l ≡ Some vs)
+  pub next_left : (t : ℕ) (d : Option Bool) (l : Option (List ℕ)) (v : ℕ) → next_said at t d l ≡ Some v → (vs : List ℕ) × (l ≡ Some vs)
   next_left t d None v q = absurd (go (step_of t == 3 && is_some d) q)
     where
       go : (b : Bool) → (if b then None else None) ≡ Some v → ⊥
@@ -66,7 +63,7 @@ module _ (at : Bench) where
       let s = left_said at t (said at t) (λ c w v r. (stays t c w v r).0) w l.0 l.1 in
       let d = (stays t c w s.0 s.1).1 in
       let e : left at t (c ∷ w) ≡ left at t w = option_or_older (left at t w) _ l.0 l.1 ∙ sym l.1 in
-      (ap₂ (next_said t) d e ∙ q, ap₂ (λ (d : Option Bool) (l : Option (List ℕ)). option_or d (decides at.numbers t l)) d e)
+      (ap₂ (next_said at t) d e ∙ q, ap₂ (λ (d : Option Bool) (l : Option (List ℕ)). option_or d (decides at.numbers t l)) d e)
 
   -- a step that is left is said
   pub left_is_said : (t : ℕ) (w : List Word) (vs : List ℕ) → left at t w ≡ Some vs → (v : ℕ) × (said at t w ≡ Some v)

@@ -13,9 +13,9 @@ use Rattle.layer_api.specs.Binary.{Bench, IsStepSlot, vote_limit, AreVotes, bits
 use Rattle.bracha_validation.specs.Votes.{votes, majority, marked, backed, rule}
 use Rattle.binary_consensus.specs.Steps.{step_of, step_slot, vote_in}
 use Rattle.binary_consensus.specs.Consensus.{proposal, left, next_vote, said, decided_below, rounds, steps, newly, says_below, round_below, binary}
-use Rattle.binary_consensus.specs.Acceptance.{step_next}
-use Rattle.binary_consensus.specs.Runs.{newly_said, says_said, put_said}
-use Rattle.binary_consensus.specs.Stays.{rounds_are, steps_are, stays, silent, clash, decided_stays, round_stays, decision_first}
+use Rattle.binary_consensus.specs.Laws.Acceptance.{step_next}
+use Rattle.binary_consensus.specs.Laws.OneBit.{newly_said, says_said, put_said}
+use Rattle.binary_consensus.specs.Laws.Stays.{rounds_are, steps_are, stays, silent, clash, decided_stays, round_stays, decision_first}
 
 -- ---- votes of their step
 

@@ -12,7 +12,7 @@ use Rattle.bracha_validation.specs.Votes.{votes, gives}
 use Rattle.bracha_validation.specs.PickLaws.{one_more}
 use Rattle.bracha_validation.specs.RuleLaws.{ThirdSays, second_gives, third_gives}
 use Rattle.binary_consensus.specs.Steps.{step_of, accepts}
-use Rattle.binary_consensus.specs.Acceptance.{holds, holds_some, holds_is, is, count_of, accepts_heard, accepts_follows, third_follows_second, all_give}
+use Rattle.binary_consensus.specs.Laws.Acceptance.{holds, holds_some, holds_is, is, count_of, accepts_heard, accepts_follows, third_follows_second, all_give}
 
 -- votes that pass a test, and those that don't
 pub count_split : (test : ℕ → Bool) (vs : List ℕ) → length vs ≡ count_by test vs + count_by (λ x. not (test x)) vs

@@ -14,7 +14,7 @@ use Rattle.layer_api.specs.FedLaws.{same_fed}
 use Rattle.layer_api.specs.OneLog.{Session, seat_at, service_play, IsRunOf, OneLog}
 use Rattle.layer_api.specs.Binary.{BinaryRules, Bench, bench_at, binary_play, OneBit}
 use Rattle.binary_consensus.specs.Root.{ending, decided_in, binary_root}
-use Rattle.binary_consensus.specs.RootLaws.{are_votes}
+use Rattle.binary_consensus.specs.Laws.RootWords.{are_votes}
 
 ending_is : (o : Option Bool) (over : Bool) (d : Decision) → ending o over ≡ Decided d → (x : Bool) × (o ≡ Some x) × (d ≡ Bit x)
 ending_is None true d e = absurd cc

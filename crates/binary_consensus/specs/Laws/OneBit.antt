@@ -19,10 +19,10 @@ use Rattle.bracha_validation.specs.PickLaws.{no_bit, length_three}
 use Rattle.bracha_validation.specs.RuleLaws.{FirstSays, first_gives}
 use Rattle.binary_consensus.specs.Steps.{step_of, step_slot, vote_in, vote_heard, heard, accepts, accepted}
 use Rattle.binary_consensus.specs.Consensus.{proposal, enough_at, left, verdict, decides, stage, said, decided_below, steps, newly, says_below, decision, binary}
-use Rattle.binary_consensus.specs.Acceptance.{holds, holds_some, holds_is, is, count_of, count_listed, accepts_follows}
-use Rattle.binary_consensus.specs.Lock.{HeardVotes, same_bit}
-use Rattle.binary_consensus.specs.Lock as Lock
-use Rattle.binary_consensus.specs.Stays.{stays}
+use Rattle.binary_consensus.specs.Laws.Acceptance.{holds, holds_some, holds_is, is, count_of, count_listed, accepts_follows}
+use Rattle.binary_consensus.specs.Laws.Lock.{HeardVotes, same_bit}
+use Rattle.binary_consensus.specs.Laws.Lock as Lock
+use Rattle.binary_consensus.specs.Laws.Stays.{stays}
 
 -- ---- what is said at a step
 
