@@ -20,8 +20,8 @@ use Rattle.layer_api.specs.MultiCalls.{ShowsMultiNear, MultiProposes, MultiHears
 use Rattle.multivalued.specs.Consensus.{vect_slot, bit_words, bench_of, decision, multivalued}
 use Rattle.multivalued.specs.Entries.{KeepsValues}
 use Rattle.multivalued.specs.Tables.{IsTable, IsLong}
-use Rattle.multivalued.specs.Inside.{bits_met}
-use Rattle.multivalued.specs.ValueLaws.{multi_laws_law}
+use Rattle.multivalued.specs.Laws.Inside.{bits_met}
+use Rattle.multivalued.specs.Laws.Box.{multi_laws_law}
 use Rattle.multivalued.specs.Parts.{IsPart}
 use Rattle.multivalued.specs.Holding.{Holds, Heard, Starts, FollowsInit, FollowsVect, FollowsVote}
 use Rattle.multivalued.specs.Opening.{opens_by}

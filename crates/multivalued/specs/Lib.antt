@@ -1,13 +1,6 @@
 pub mod Consensus
 pub mod Rows
-pub mod Inside
-pub mod Agreement
-pub mod OneProposal
-pub mod OneDecisionLaw
-pub mod ValueLaws
 pub mod Root
-pub mod RootLaws
-pub mod RootValue
 pub mod RootStands
 pub mod Places
 pub mod Entries
@@ -20,3 +13,4 @@ pub mod Settling
 pub mod Holding
 pub mod Opening
 pub mod Stands
+pub mod Laws

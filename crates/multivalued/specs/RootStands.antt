@@ -11,7 +11,7 @@ use Rattle.layer_api.specs.OneInstance.{is_given, given_now}
 use Rattle.layer_api.specs.Multi.{Desk, MultiRules, is_slot_of}
 use Rattle.layer_api.specs.MultiCalls.{MultiShown, ShowsMulti, ShowsMultiNear, MultiProposes, MultiHears}
 use Rattle.multivalued.specs.Root.{desk_of, ending, multi_root}
-use Rattle.multivalued.specs.RootLaws.{may_ask, may_hear}
+use Rattle.multivalued.specs.Laws.RootLog.{may_ask, may_hear}
 use Rattle.multivalued.specs.declared.mvc_root.MvcRoot.{MvcRoot}
 
 -- the box stands for the service's words

@@ -49,8 +49,8 @@ impl<B: BinaryBox> Mvc<B> {
 
 impl<B: BinaryBox> MultiBox for Mvc<B> {
     ghost use Rattle.multivalued.specs.Consensus.{multivalued};
-    ghost use Rattle.multivalued.specs.ValueLaws.{multi_laws_law};
-    ghost use Rattle.multivalued.specs.OneDecisionLaw.{one_decision_law};
+    ghost use Rattle.multivalued.specs.Laws.Box.{multi_laws_law};
+    ghost use Rattle.multivalued.specs.Laws.OneDecision.{one_decision_law};
     ghost use Rattle.multivalued.specs.Stands.{Stands, shown_by, shows_multi};
 
     ghost stands = { Stands B.stands B.rules };

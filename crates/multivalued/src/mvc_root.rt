@@ -18,8 +18,8 @@ pub struct MvcRoot<M: MultiBox> {
 impl<M: MultiBox> Service for MvcRoot<M> {
     ghost use Rattle.std.specs.Prelude.{◌≡◌};
     ghost use Rattle.multivalued.specs.Root.{desk_of, multi_root};
-    ghost use Rattle.multivalued.specs.RootValue.{root_word_laws};
-    ghost use Rattle.multivalued.specs.RootLaws.{root_log};
+    ghost use Rattle.multivalued.specs.Laws.RootWords.{root_word_laws};
+    ghost use Rattle.multivalued.specs.Laws.RootLog.{root_log};
     ghost use Rattle.multivalued.specs.RootStands.{RootStands, root_shown, root_shows};
 
     ghost stands = { RootStands M.stands };

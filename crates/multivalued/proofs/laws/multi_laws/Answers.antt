@@ -1,4 +1,4 @@
-use Rattle.multivalued.specs.ValueLaws.{multi_laws_law}
+use Rattle.multivalued.specs.Laws.Box.{multi_laws_law}
 use Rattle.multivalued.proofs.laws.multi_laws.Goals as goal
 
 pub returns : goal.returns

@@ -9,7 +9,7 @@ use Rattle.layer_api.specs.Binary.{MayPropose}
 use Rattle.layer_api.specs.Part.{newly_asked, passed, says_in}
 use Rattle.layer_api.specs.PartLaws.{part_asked_still}
 use Rattle.multivalued.specs.Consensus.{init, members, valid, vect, vect_slot, bit, bit_asked, bit_words, bench_of, is_step, is_clear, candidates, decision}
-use Rattle.multivalued.specs.Inside.{bit_stays, bit_nothing}
+use Rattle.multivalued.specs.Laws.Inside.{bit_stays, bit_nothing}
 use Rattle.multivalued.specs.Known.{vect_of}
 use Rattle.multivalued.specs.Telling.{Tells, AsksBit, Asks}
 use Rattle.multivalued.proofs.Deciding.{some_support, decided_at, vect_place}

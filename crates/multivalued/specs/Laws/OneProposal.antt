@@ -22,8 +22,8 @@ use Rattle.layer_api.specs.FedLaws.{some_if, shortest_at, proposed_has, heard_sa
 use Rattle.layer_api.specs.PartLaws.{part_has}
 use Rattle.layer_api.specs.Multi.{Scope, multi_play}
 use Rattle.multivalued.specs.Consensus.{push, listed, lesser, least, init_slot, vect_slot, init, has_init, members, common, told, vect_at, vect, valid, valued, is_of, is_other, backers, candidates, is_clear, bit_at, bit, is_step, bit_asked, multivalued}
-use Rattle.multivalued.specs.Inside.{bit_stays, bit_nothing, bit_of, some_value, play, desk, bit_run, bit_fed, bit_calls, init_said, vect_said}
-use Rattle.multivalued.specs.Agreement.{IsPast, whole, less, said_more, least_passes, valid_reads, valid_inits, value_in, none_is_zero, inner_decided, bit_decided, size}
+use Rattle.multivalued.specs.Laws.Inside.{bit_stays, bit_nothing, bit_of, some_value, play, desk, bit_run, bit_fed, bit_calls, init_said, vect_said}
+use Rattle.multivalued.specs.Laws.Agreement.{IsPast, whole, less, said_more, least_passes, valid_reads, valid_inits, value_in, none_is_zero, inner_decided, bit_decided, size}
 
 -- ---- values that are there
 

@@ -32,8 +32,8 @@ use Rattle.layer_api.specs.PartLaws.{says_in_all}
 use Rattle.layer_api.specs.FreshLaws.{unsaid, has_said, fresh_append, fresh_other, fresh_newly, fresh_in}
 use Rattle.layer_api.specs.Multi.{Scope, Desk, MultiRules, is_multi_slot, MayMulti, AreMulti, IsMultiSaid, MultiLaws}
 use Rattle.multivalued.specs.Consensus.{init_slot, vect_slot, init, has_init, members, listed, common, told, vect_at, vect, valid, is_of, backers, candidates, bench_of, is_step, bit_asked, bit_words, supported, verdict, decision_at, decision, multivalued}
-use Rattle.multivalued.specs.Inside.{bit_stays, some_value, votes_said, init_said, vect_said, step_said, bits_met, decided_still, round_still}
-use Rattle.multivalued.specs.Agreement.{of_true, least_passes, verdict_is, valid_inits}
+use Rattle.multivalued.specs.Laws.Inside.{bit_stays, some_value, votes_said, init_said, vect_said, step_said, bits_met, decided_still, round_still}
+use Rattle.multivalued.specs.Laws.Agreement.{of_true, least_passes, verdict_is, valid_inits}
 
 -- ---- decisions
 

@@ -26,7 +26,7 @@ use Rattle.layer_api.specs.FedLaws.{some_if, say_later, shortest_at, proposed_ha
 use Rattle.layer_api.specs.PartLaws.{part_has}
 use Rattle.layer_api.specs.Multi.{Scope, multi_play}
 use Rattle.multivalued.specs.Consensus.{init_slot, vect_slot, init, has_init, members, lesser, least, backed, valid_of, valid, is_of, is_other, backers, candidates, is_clear, vect, bit_at, bit, bench_of, is_step, bit_asked, bit_words, supported, verdict, decision_at, multivalued}
-use Rattle.multivalued.specs.Inside.{bit_stays, bit_nothing, bit_of, play, desk, bit_run, bit_fed, bit_calls, init_said, decided_still}
+use Rattle.multivalued.specs.Laws.Inside.{bit_stays, bit_nothing, bit_of, play, desk, bit_run, bit_fed, bit_calls, init_said, decided_still}
 
 -- ---- values
 

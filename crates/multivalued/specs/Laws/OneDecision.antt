@@ -2,8 +2,8 @@
 use Rattle.layer_api.specs.Binary.{BinaryRules, BoxLaws, OneBit}
 use Rattle.layer_api.specs.Multi.{OneDecision}
 use Rattle.multivalued.specs.Consensus.{multivalued}
-use Rattle.multivalued.specs.Agreement.{agree, valid_value, same_inside}
-use Rattle.multivalued.specs.OneProposal.{decides_value}
+use Rattle.multivalued.specs.Laws.Agreement.{agree, valid_value, same_inside}
+use Rattle.multivalued.specs.Laws.OneProposal.{decides_value}
 
 pub one_decision_law : (b : BinaryRules) → BoxLaws b → OneBit b → OneDecision (multivalued b)
 one_decision_law b laws one = record {

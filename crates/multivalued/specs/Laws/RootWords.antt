@@ -16,7 +16,7 @@ use Rattle.layer_api.specs.OneInstance.{three_to_five, HasOneInstance, IsInstanc
 use Rattle.layer_api.specs.Words.{Word, Ask, Hear}
 use Rattle.layer_api.specs.Multi.{MultiRules, is_multi_slot, AreMulti, IsMultiSaid, MultiLaws}
 use Rattle.multivalued.specs.Root.{desk_of, ending, decided_in, multi_root}
-use Rattle.multivalued.specs.RootLaws.{may_word}
+use Rattle.multivalued.specs.Laws.RootLog.{may_word}
 
 -- ---- slots of the root service
 
