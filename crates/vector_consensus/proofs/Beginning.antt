@@ -13,8 +13,8 @@ use Rattle.layer_api.specs.Multi.{Desk, MultiRules, MultiLaws, MayMulti}
 use Rattle.layer_api.specs.MultiCalls.{MultiShown}
 use Rattle.layer_api.specs.Vectors.{HasVectors}
 use Rattle.vector_consensus.specs.Consensus.{props, vector_of, is_of_try, try_desk, failed_below, try_words, try_ask}
-use Rattle.vector_consensus.specs.Tries.{feeds, ask_stays}
-use Rattle.vector_consensus.specs.ValueLaws.{failed_stays}
+use Rattle.vector_consensus.specs.Laws.Tries.{feeds, ask_stays}
+use Rattle.vector_consensus.specs.Laws.Box.{failed_stays}
 use Rattle.vector_consensus.specs.Kept.{Kept}
 use Rattle.vector_consensus.specs.Begun.{all_failed, is_due, progress_of, IsBegun, Each}
 use Rattle.vector_consensus.specs.Going.{Began, Begins, Extends, mid, asks_below, Mid, Went}

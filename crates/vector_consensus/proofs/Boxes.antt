@@ -17,7 +17,7 @@ use Rattle.layer_api.specs.MultiCalls.{MultiShown}
 use Rattle.layer_api.specs.Vectors.{MayVector, is_slot_in, is_vector_slot}
 use Rattle.layer_api.specs.VectorCalls.{ShowsVectorNear, VectorProposes, VectorHears}
 use Rattle.vector_consensus.specs.Consensus.{props, try_desk, value_of, try_words, opens_at, vectors}
-use Rattle.vector_consensus.specs.ValueLaws.{decision_first, spent_first, try_stays}
+use Rattle.vector_consensus.specs.Laws.Box.{decision_first, spent_first, try_stays}
 use Rattle.vector_consensus.specs.Kept.{Kept, IsKept}
 use Rattle.vector_consensus.specs.Parts.{IsPart}
 use Rattle.vector_consensus.specs.Begun.{there_is, value_in, IsDecided}

@@ -17,7 +17,7 @@ use Rattle.layer_api.specs.Multi.{Desk, MultiRules, MultiLaws, MayMulti}
 use Rattle.layer_api.specs.MultiCalls.{MultiShown, MultiHears}
 use Rattle.layer_api.specs.Vectors.{MayVectorHear, AreVector}
 use Rattle.vector_consensus.specs.Consensus.{prop_slot, props, is_of_try, try_desk, try_words, says_below, vectors}
-use Rattle.vector_consensus.specs.Tries.{feeds, opens_try, untold_words}
+use Rattle.vector_consensus.specs.Laws.Tries.{feeds, opens_try, untold_words}
 use Rattle.vector_consensus.specs.Kept.{Kept, IsKept, Proposes}
 use Rattle.vector_consensus.specs.Parts.{IsPart, own_slot}
 use Rattle.vector_consensus.specs.Begun.{there_is, IsBegun, Each}

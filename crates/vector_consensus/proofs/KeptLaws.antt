@@ -16,7 +16,7 @@ use Rattle.ritas_base.specs.MemberLaws.{same_mask, places_there, rank_there}
 use Rattle.ritas_base.specs.Quorums.{count_yes, count_no}
 use Rattle.ritas_base.specs.Shortest.{not_there}
 use Rattle.vector_consensus.specs.Consensus.{present}
-use Rattle.vector_consensus.specs.Proposals.{present_length}
+use Rattle.vector_consensus.specs.Laws.Proposals.{present_length}
 use Rattle.vector_consensus.specs.Kept.{Kept, IsKept, AreSome}
 
 abbrev there : List (Option (List ℕ)) → ℕ → Bool

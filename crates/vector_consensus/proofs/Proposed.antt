@@ -21,7 +21,7 @@ use Rattle.layer_api.specs.PartLaws.{unheard}
 use Rattle.layer_api.specs.Multi.{Scope, Desk}
 use Rattle.layer_api.specs.Vectors.{VectorRules, MayVectorHear, is_vector_slot}
 use Rattle.vector_consensus.specs.Consensus.{prop_slot, props}
-use Rattle.vector_consensus.specs.Proposals.{prop_value}
+use Rattle.vector_consensus.specs.Laws.Proposals.{prop_value}
 
 -- a slot of class 2 is that of a proposal
 pub prop_slot_is : (at : Scope) (s : Slot) → is_vector_slot at s ≡ true → s.class ≡ 2 → s ≡ prop_slot at s.origin

@@ -10,9 +10,9 @@ use Rattle.layer_api.specs.Multi.{Desk, MultiRules, MultiLaws}
 use Rattle.layer_api.specs.MultiCalls.{MultiShown, ShowsMulti}
 use Rattle.layer_api.specs.Vectors.{HasVectors, MayVector, AreVector}
 use Rattle.vector_consensus.specs.Consensus.{try_desk, is_none, value_of, failed_below, decided_below, try_words, try_decides, try_ask, vectors}
-use Rattle.vector_consensus.specs.Tries.{untold_words}
-use Rattle.vector_consensus.specs.Agreement.{value_is}
-use Rattle.vector_consensus.specs.ValueLaws.{failed_nothing}
+use Rattle.vector_consensus.specs.Laws.Tries.{untold_words}
+use Rattle.vector_consensus.specs.Laws.Agreement.{value_is}
+use Rattle.vector_consensus.specs.Laws.Box.{failed_nothing}
 use Rattle.vector_consensus.specs.Begun.{there_is, last_of, has_failed, all_failed, value_in, decided_at, progress_of, IsBegun, Each, IsDecided, IsReached}
 use Rattle.vector_consensus.specs.declared.part.Part.{Part}
 use Rattle.vector_consensus.specs.declared.going.Progress.{Progress}

@@ -8,7 +8,7 @@ use Rattle.layer_api.specs.Part.{newly_asked, passed, part_of, says_in}
 use Rattle.layer_api.specs.Multi.{Desk, MultiRules, MultiLaws}
 use Rattle.layer_api.specs.Vectors.{MayVector, AreVector}
 use Rattle.vector_consensus.specs.Consensus.{is_of_try, try_desk, try_words, try_ask, says_below, vectors}
-use Rattle.vector_consensus.specs.Tries.{opens_try, untold_words}
+use Rattle.vector_consensus.specs.Laws.Tries.{opens_try, untold_words}
 use Rattle.vector_consensus.specs.Begun.{IsBegun}
 use Rattle.vector_consensus.specs.Going.{mid, asks_below}
 

@@ -1,16 +1,6 @@
 pub mod Consensus
 pub mod Rows
-pub mod Proposals
-pub mod Tries
-pub mod Agreement
-pub mod LastAttempt
-pub mod EntryLaws
-pub mod SameInside
-pub mod OneVectorLaw
-pub mod ValueLaws
 pub mod Root
-pub mod RootLaws
-pub mod RootValue
 pub mod RootStands
 pub mod Kept
 pub mod Parts
@@ -20,3 +10,4 @@ pub mod Holding
 pub mod Opening
 pub mod Stands
 pub mod Refusing
+pub mod Laws

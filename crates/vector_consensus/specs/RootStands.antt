@@ -12,7 +12,7 @@ use Rattle.layer_api.specs.Multi.{Desk}
 use Rattle.layer_api.specs.Vectors.{VectorRules, is_slot_in}
 use Rattle.layer_api.specs.VectorCalls.{VectorShown, ShowsVector, ShowsVectorNear, VectorProposes, VectorHears}
 use Rattle.vector_consensus.specs.Root.{desk_of, ending, vector_root}
-use Rattle.vector_consensus.specs.RootLaws.{may_ask, may_hear}
+use Rattle.vector_consensus.specs.Laws.RootLog.{may_ask, may_hear}
 use Rattle.vector_consensus.specs.declared.vc_root.VcRoot.{VcRoot}
 
 -- the box stands for the service's words

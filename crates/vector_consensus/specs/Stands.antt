@@ -15,8 +15,8 @@ use Rattle.layer_api.specs.MultiCalls.{MultiShown, ShowsMulti}
 use Rattle.layer_api.specs.Vectors.{MayVectorHear, is_slot_in, is_vector_slot}
 use Rattle.layer_api.specs.VectorCalls.{VectorShown, ShowsVector}
 use Rattle.vector_consensus.specs.Consensus.{try_desk, value_of, try_words, opens_at, vectors}
-use Rattle.vector_consensus.specs.Tries.{untold_words}
-use Rattle.vector_consensus.specs.ValueLaws.{attempt_there, attempt_is}
+use Rattle.vector_consensus.specs.Laws.Tries.{untold_words}
+use Rattle.vector_consensus.specs.Laws.Box.{attempt_there, attempt_is}
 use Rattle.vector_consensus.specs.Kept.{Kept}
 use Rattle.vector_consensus.specs.Begun.{there_is, value_in, IsDecided, IsReached}
 use Rattle.vector_consensus.specs.Holding.{Holds, Heard, AreNear}

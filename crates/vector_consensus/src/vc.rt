@@ -112,8 +112,8 @@ impl<M: MultiBox> Vc<M> {
 
 impl<M: MultiBox> VectorBox for Vc<M> {
     ghost use Rattle.vector_consensus.specs.Consensus.{vectors};
-    ghost use Rattle.vector_consensus.specs.ValueLaws.{vector_laws_law};
-    ghost use Rattle.vector_consensus.specs.OneVectorLaw.{one_vector_law};
+    ghost use Rattle.vector_consensus.specs.Laws.Box.{vector_laws_law};
+    ghost use Rattle.vector_consensus.specs.Laws.OneVector.{one_vector_law};
     ghost use Rattle.vector_consensus.specs.Stands.{Stands, shown_by, shows_vector};
 
     ghost stands = { Stands M.stands M.rules };

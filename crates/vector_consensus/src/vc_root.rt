@@ -18,8 +18,8 @@ pub struct VcRoot<V: VectorBox> {
 impl<V: VectorBox> Service for VcRoot<V> {
     ghost use Rattle.std.specs.Prelude.{◌≡◌};
     ghost use Rattle.vector_consensus.specs.Root.{desk_of, vector_root};
-    ghost use Rattle.vector_consensus.specs.RootValue.{root_word_laws};
-    ghost use Rattle.vector_consensus.specs.RootLaws.{root_log};
+    ghost use Rattle.vector_consensus.specs.Laws.RootWords.{root_word_laws};
+    ghost use Rattle.vector_consensus.specs.Laws.RootLog.{root_log};
     ghost use Rattle.vector_consensus.specs.RootStands.{RootStands, root_shown, root_shows};
 
     ghost stands = { RootStands V.stands };

@@ -1,4 +1,4 @@
-use Rattle.vector_consensus.specs.ValueLaws.{vector_laws_law}
+use Rattle.vector_consensus.specs.Laws.Box.{vector_laws_law}
 use Rattle.vector_consensus.proofs.laws.vector_laws.Goals as goal
 
 pub returns : goal.returns

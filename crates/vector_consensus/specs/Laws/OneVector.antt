@@ -2,10 +2,10 @@
 use Rattle.layer_api.specs.Multi.{MultiRules, MultiLaws, OneDecision}
 use Rattle.layer_api.specs.Vectors.{OneVector}
 use Rattle.vector_consensus.specs.Consensus.{vectors}
-use Rattle.vector_consensus.specs.Agreement.{agree, same_attempt}
-use Rattle.vector_consensus.specs.LastAttempt.{unspent}
-use Rattle.vector_consensus.specs.EntryLaws.{entry_asked}
-use Rattle.vector_consensus.specs.SameInside.{same_inside}
+use Rattle.vector_consensus.specs.Laws.Agreement.{agree, same_attempt}
+use Rattle.vector_consensus.specs.Laws.LastAttempt.{unspent}
+use Rattle.vector_consensus.specs.Laws.Entries.{entry_asked}
+use Rattle.vector_consensus.specs.Laws.SameInside.{same_inside}
 
 pub one_vector_law : (m : MultiRules) → MultiLaws m → OneDecision m → OneVector (vectors m)
 one_vector_law m laws one = record {

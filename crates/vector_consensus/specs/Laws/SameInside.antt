@@ -10,9 +10,9 @@ use Rattle.layer_api.specs.Fed.{IsFedRun}
 use Rattle.layer_api.specs.Multi.{Scope, Desk, desk_at, MultiRules, MultiLaws, OneDecision}
 use Rattle.layer_api.specs.Vectors.{HasVectors, vector_play}
 use Rattle.vector_consensus.specs.Consensus.{try_scope, try_desk, failed_below, decided_below, try_words, try_inside, vectors}
-use Rattle.vector_consensus.specs.Tries.{try_run, try_fed, try_calls}
-use Rattle.vector_consensus.specs.Agreement.{agree}
-use Rattle.vector_consensus.specs.LastAttempt.{unspent}
+use Rattle.vector_consensus.specs.Laws.Tries.{try_run, try_fed, try_calls}
+use Rattle.vector_consensus.specs.Laws.Agreement.{agree}
+use Rattle.vector_consensus.specs.Laws.LastAttempt.{unspent}
 
 module _ (m : MultiRules) (laws : MultiLaws m) (one : OneDecision m) (at : Scope) (is_correct : ℕ → Bool) (coins : ℕ → Slot → Bool) (xs : List (Step Word))
     (enough : IsEnough at.numbers is_correct) (has : HasVectors at) (fed : IsFedRun (vector_play (vectors m) at coins) is_correct xs) where

@@ -19,7 +19,7 @@ use Rattle.layer_api.specs.FreshLaws.{said_each}
 use Rattle.layer_api.specs.Multi.{Scope, Desk, desk_at, MultiRules, MultiLaws, is_multi_slot, MayMulti, AreMulti, IsMultiSaid, multi_play}
 use Rattle.layer_api.specs.Vectors.{HasVectors, is_vector_slot, MayVector, AreVector, vector_play}
 use Rattle.vector_consensus.specs.Consensus.{prop_slot, props, vector_of, try_at, try_asked, is_of_try, try_scope, try_desk, failed_below, try_words, try_ask, says_below, vectors}
-use Rattle.vector_consensus.specs.Proposals.{vector_is_good}
+use Rattle.vector_consensus.specs.Laws.Proposals.{vector_is_good}
 
 -- ---- slots
 

@@ -21,8 +21,8 @@ use Rattle.layer_api.specs.PartLaws.{part_has}
 use Rattle.layer_api.specs.Multi.{Scope, MultiRules, MultiLaws, OneDecision}
 use Rattle.layer_api.specs.Vectors.{HasVectors, vector_play}
 use Rattle.vector_consensus.specs.Consensus.{prop_slot, props, present, vector_of, try_at, is_of_try, try_scope, failed_below, vectors}
-use Rattle.vector_consensus.specs.Tries.{play, desk, ask, ask_stays, ask_nothing, try_run, try_fed, try_calls}
-use Rattle.vector_consensus.specs.Agreement.{failed_each, to_run}
+use Rattle.vector_consensus.specs.Laws.Tries.{play, desk, ask, ask_stays, ask_nothing, try_run, try_fed, try_calls}
+use Rattle.vector_consensus.specs.Laws.Agreement.{failed_each, to_run}
 
 -- two lists in which something stands at each place, and nothing else in the one than in the other
 same_full : {X : Type 0} (f g : ℕ → Option X) (ks : List ℕ) → ((k : ℕ) (a b : X) → f k ≡ Some a → g k ≡ Some b → a ≡ b)

@@ -17,7 +17,7 @@ use Rattle.layer_api.specs.Words.{Word, Ask, Hear}
 use Rattle.layer_api.specs.Vectors.{VectorRules, is_vector_slot, AreVector, IsVectorSaid, VectorLaws}
 use Rattle.layer_api.specs.VectorSlots.{no_command, vector_slot_right}
 use Rattle.vector_consensus.specs.Root.{desk_of, ending, decided_in, vector_root}
-use Rattle.vector_consensus.specs.RootLaws.{may_word}
+use Rattle.vector_consensus.specs.Laws.RootLog.{may_word}
 
 -- ---- slots of the root service
 

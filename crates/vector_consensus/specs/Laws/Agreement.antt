@@ -12,7 +12,7 @@ use Rattle.layer_api.specs.Fed.{IsFedRun}
 use Rattle.layer_api.specs.Multi.{Scope, Desk, desk_at, MultiRules, MultiLaws, OneDecision}
 use Rattle.layer_api.specs.Vectors.{HasVectors, vector_play}
 use Rattle.vector_consensus.specs.Consensus.{try_scope, try_desk, is_none, value_of, failed_below, decided_below, attempt_below, try_decides, vectors}
-use Rattle.vector_consensus.specs.Tries.{try_run, try_fed, try_calls}
+use Rattle.vector_consensus.specs.Laws.Tries.{try_run, try_fed, try_calls}
 
 -- ---- attempts that failed, and that which decided
 

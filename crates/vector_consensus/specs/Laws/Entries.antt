@@ -28,9 +28,9 @@ use Rattle.layer_api.specs.PartLaws.{part_has}
 use Rattle.layer_api.specs.Multi.{Scope, MultiRules, MultiLaws, OneDecision}
 use Rattle.layer_api.specs.Vectors.{HasVectors, MayVector, AreVector, vector_play}
 use Rattle.vector_consensus.specs.Consensus.{prop_slot, props, present, vector_of, try_at, is_of_try, try_scope, failed_below, vectors}
-use Rattle.vector_consensus.specs.Proposals.{present_length, present_all, prop_value}
-use Rattle.vector_consensus.specs.Tries.{play, desk, ask, ask_stays, ask_nothing, try_run, try_fed, try_calls, prop_said}
-use Rattle.vector_consensus.specs.Agreement.{decided_by, to_run}
+use Rattle.vector_consensus.specs.Laws.Proposals.{present_length, present_all, prop_value}
+use Rattle.vector_consensus.specs.Laws.Tries.{play, desk, ask, ask_stays, ask_nothing, try_run, try_fed, try_calls, prop_said}
+use Rattle.vector_consensus.specs.Laws.Agreement.{decided_by, to_run}
 
 -- ---- what stands at a place
 

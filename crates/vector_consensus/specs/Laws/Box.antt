@@ -22,9 +22,9 @@ use Rattle.layer_api.specs.FreshLaws.{unsaid, has_said, fresh_append, fresh_othe
 use Rattle.layer_api.specs.Multi.{Scope, Desk, MultiRules, MayMulti, AreMulti, IsMultiSaid, MultiLaws}
 use Rattle.layer_api.specs.Vectors.{HasVectors, is_vector_slot, AreVector, IsVectorSaid, VectorLaws}
 use Rattle.vector_consensus.specs.Consensus.{prop_slot, props, vector_of, is_of_try, try_desk, is_none, value_of, failed_below, decided_below, attempt_below, try_words, try_decides, try_ask, says_below, try_inside, inside_at, opens_at, vectors}
-use Rattle.vector_consensus.specs.Proposals.{prop_value, vector_class}
-use Rattle.vector_consensus.specs.Tries.{IsOfTry, of_try, outer_slot, words_met, tried_good, below_said, try_said, prop_said}
-use Rattle.vector_consensus.specs.Agreement.{none_is, value_is, if_true, failed_each, decided_by, attempt_by}
+use Rattle.vector_consensus.specs.Laws.Proposals.{prop_value, vector_class}
+use Rattle.vector_consensus.specs.Laws.Tries.{IsOfTry, of_try, outer_slot, words_met, tried_good, below_said, try_said, prop_said}
+use Rattle.vector_consensus.specs.Laws.Agreement.{none_is, value_is, if_true, failed_each, decided_by, attempt_by}
 
 -- where all attempts below one failed, none of them decided a value
 pub failed_nothing : (m : MultiRules) (at : Desk) (n : ℕ) (w : List Word) → failed_below m at n w ≡ true → decided_below m at n w ≡ None
