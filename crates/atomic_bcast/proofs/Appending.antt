@@ -21,9 +21,9 @@ use Rattle.layer_api.specs.OneLog.{Session, seat_at, service_play}
 use Rattle.layer_api.specs.Vectors.{VectorRules, VectorLaws, OneVector}
 use Rattle.atomic_bcast.specs.Identifiers.{in_order, kept, is_without, append_ids}
 use Rattle.atomic_bcast.specs.Rounds.{entry_ids, backers, wanted, round_scope, round_desk, is_of_round, log_below, round_words, round_decides, atomic}
-use Rattle.atomic_bcast.specs.RoundWords.{round_met, round_stays, round_nothing}
-use Rattle.atomic_bcast.specs.RoundRuns.{play, ask, round_run, round_fed, round_calls}
-use Rattle.atomic_bcast.specs.RoundLog.{completed_by, to_run}
+use Rattle.atomic_bcast.specs.Laws.WordsMeet.{round_met, round_stays, round_nothing}
+use Rattle.atomic_bcast.specs.Laws.VectorRuns.{play, ask, round_run, round_fed, round_calls}
+use Rattle.atomic_bcast.specs.Laws.OneLog.{completed_by, to_run}
 use Rattle.atomic_bcast.specs.Appended.{WasProposed, AppendsProposed}
 use Rattle.atomic_bcast.proofs.LedgerSteps.{kept_has}
 

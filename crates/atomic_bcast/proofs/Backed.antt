@@ -16,7 +16,7 @@ use Rattle.atomic_bcast.specs.Early.{id_cmp}
 use Rattle.atomic_bcast.specs.Identifiers.{kept, in_order}
 use Rattle.atomic_bcast.specs.Rounds.{backers, entry_ids}
 use Rattle.atomic_bcast.specs.Backing.{lists_with}
-use Rattle.atomic_bcast.specs.Ordered.{in_order_sorted, kept_sorted}
+use Rattle.atomic_bcast.specs.Laws.Ordered.{in_order_sorted, kept_sorted}
 use Rattle.atomic_bcast.proofs.Pending.{sorted_same, in_order_has, keys_sorted, keys_has}
 use Rattle.atomic_bcast.proofs.LedgerSteps.{kept_has}
 use Rattle.atomic_bcast.proofs.BackingSteps.{as_one, count_cons, no_count}

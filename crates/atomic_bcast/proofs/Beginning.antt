@@ -13,10 +13,10 @@ use Rattle.layer_api.specs.Vectors.{VectorRules, VectorLaws, MayVector}
 use Rattle.layer_api.specs.VectorCalls.{VectorShown}
 use Rattle.atomic_bcast.specs.Rounds.{delivered_ids, pending, proposal, first_ids, round_desk, rounds}
 use Rattle.atomic_bcast.specs.Stepping.{current, log_now, next_ask}
-use Rattle.atomic_bcast.specs.SteppingLaws.{may_ask}
+use Rattle.atomic_bcast.specs.Laws.Stepping.{may_ask}
 use Rattle.atomic_bcast.specs.Boxes.{Began}
 use Rattle.atomic_bcast.specs.Turning.{Poised, Turned}
-use Rattle.atomic_bcast.specs.AbcShows.{AllShow}
+use Rattle.atomic_bcast.specs.Laws.Getters.{AllShow}
 use Rattle.atomic_bcast.specs.declared.abc.Abc.{Abc}
 use Rattle.atomic_bcast.proofs.Stepped.{some_value}
 use Rattle.atomic_bcast.proofs.Turns.{turned_going, turned_none, turned_begun}

@@ -12,16 +12,16 @@ use Rattle.layer_api.specs.Words.{Word}
 use Rattle.layer_api.specs.Multi.{Desk}
 use Rattle.layer_api.specs.Vectors.{VectorRules, VectorLaws}
 use Rattle.layer_api.specs.VectorCalls.{VectorShown}
-use Rattle.atomic_bcast.specs.Identifiers.{kept, is_without, in_order, all_pass, append_ids}
-use Rattle.atomic_bcast.specs.Ordered.{IsSorted, in_order_sorted, kept_sorted}
+use Rattle.atomic_bcast.specs.Identifiers.{kept, is_without, in_order, all_pass, append_ids, IsSorted}
+use Rattle.atomic_bcast.specs.Laws.Ordered.{in_order_sorted, kept_sorted}
 use Rattle.atomic_bcast.specs.Rounds.{delivered_ids, wanted, backers, entry_ids, has_command, round_desk, round_ask, rounds}
-use Rattle.atomic_bcast.specs.RoundWords.{delivered_good}
+use Rattle.atomic_bcast.specs.Laws.WordsMeet.{delivered_good}
 use Rattle.atomic_bcast.specs.Stepping.{current, log_now, heard_words, words_now}
 use Rattle.atomic_bcast.specs.Ledger.{LedgerStands, IsReady, Between}
 use Rattle.atomic_bcast.specs.Boxes.{Stood}
 use Rattle.atomic_bcast.specs.Waiting.{decision_in, AreWanted, Knows}
 use Rattle.atomic_bcast.specs.Turning.{Mid, Known, Poised, IsNear}
-use Rattle.atomic_bcast.specs.AbcShows.{AllShow}
+use Rattle.atomic_bcast.specs.Laws.Getters.{AllShow}
 use Rattle.atomic_bcast.specs.declared.ledger.Ledger.{Ledger}
 use Rattle.atomic_bcast.specs.declared.abc.Abc.{Abc}
 use Rattle.atomic_bcast.proofs.Pending.{above_all}

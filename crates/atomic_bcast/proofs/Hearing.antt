@@ -15,15 +15,15 @@ use Rattle.layer_api.specs.Vectors.{VectorRules, VectorLaws}
 use Rattle.layer_api.specs.VectorCalls.{VectorShown}
 use Rattle.atomic_bcast.specs.Commands.{says_of}
 use Rattle.atomic_bcast.specs.Rounds.{delivered_ids, completes_with, round_desk, log_below, round_ask, round_words, complete_of, log_of, rounds, atomic}
-use Rattle.atomic_bcast.specs.RoundWords.{round_nothing}
+use Rattle.atomic_bcast.specs.Laws.WordsMeet.{round_nothing}
 use Rattle.atomic_bcast.specs.Stepping.{current, log_now, heard_says}
-use Rattle.atomic_bcast.specs.SteppingLaws.{IsStill, no_ask}
+use Rattle.atomic_bcast.specs.Laws.Stepping.{IsStill, no_ask}
 use Rattle.atomic_bcast.specs.Ledger.{LedgerStands}
 use Rattle.atomic_bcast.specs.Boxes.{box_at, Stood, BoxesStand}
 use Rattle.atomic_bcast.specs.Waiting.{decision_in, Awaits, Knows}
 use Rattle.atomic_bcast.specs.Abc.{Stands}
 use Rattle.atomic_bcast.specs.Turning.{Mid, Known, IsNear}
-use Rattle.atomic_bcast.specs.AbcShows.{AllShow}
+use Rattle.atomic_bcast.specs.Laws.Getters.{AllShow}
 use Rattle.atomic_bcast.specs.declared.boxes.Boxes.{Boxes}
 use Rattle.atomic_bcast.specs.declared.ledger.Ledger.{Ledger}
 use Rattle.atomic_bcast.specs.declared.abc.Abc.{Abc}

@@ -8,18 +8,18 @@ use Rattle.std.proofs.lemmas.List.{reverse-append, nil_from_length}
 use Rattle.std.proofs.lemmas.Bool.{and_parts, and_from, or_cases, eqb-true, eq-eqb, both_ways, false_from_ne_true, or_left, or_from, lt-ltb, le-ltb}
 use Rattle.ritas_base.specs.declared.id.Id.{Id}
 use Rattle.layer_api.specs.Service.{has_id, IsPart}
-use Rattle.atomic_bcast.specs.Identifiers.{kept, is_without, all_pass, append_ids}
+use Rattle.atomic_bcast.specs.Identifiers.{kept, is_without, all_pass, append_ids, IsSorted}
 use Rattle.atomic_bcast.specs.Early.{has_early, id_cmp, Notes}
 use Rattle.atomic_bcast.specs.Pending.{HoldsIds}
-use Rattle.atomic_bcast.specs.RoundLogs.{part_through}
+use Rattle.atomic_bcast.specs.Laws.LogsByRound.{part_through}
 use Rattle.atomic_bcast.specs.Rounds.{least_without}
-use Rattle.atomic_bcast.specs.Least.{least_from}
+use Rattle.atomic_bcast.specs.Laws.LeastNumber.{least_from}
 use Rattle.atomic_bcast.specs.Ledger.{LedgerStands, IsReady, at_bases, Appending}
 use Rattle.atomic_bcast.specs.declared.ledger.Ledger.{Ledger}
 use Rattle.atomic_bcast.proofs.Ids.{same_test, without_id}
 use Rattle.atomic_bcast.proofs.Pending.{is_same, same_id, itself, keys_has, above_all}
 use Rattle.frame_codec.specs.Ids.{IsBelow}
-use Rattle.atomic_bcast.specs.Ordered.{IsSorted, below_other, append_part}
+use Rattle.atomic_bcast.specs.Laws.Ordered.{below_other, append_part}
 
 same_swap : (x y : Id) → is_same x y ≡ is_same y x
 same_swap x y = same_test _ _ (λ h. turn x y h) (λ h. turn y x h)

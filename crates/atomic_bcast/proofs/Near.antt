@@ -12,14 +12,14 @@ use Rattle.layer_api.specs.Multi.{Desk}
 use Rattle.layer_api.specs.Vectors.{VectorRules, VectorLaws}
 use Rattle.layer_api.specs.VectorCalls.{VectorShown}
 use Rattle.atomic_bcast.specs.Rounds.{delivered_ids, least_without, is_of_round, round_desk, round_ask, round_words, round_opens, rounds, atomic, last_vector}
-use Rattle.atomic_bcast.specs.RoundLogs.{log_grows, complete_small}
+use Rattle.atomic_bcast.specs.Laws.LogsByRound.{log_grows, complete_small}
 use Rattle.atomic_bcast.specs.Stepping.{current, log_now, heard_words}
-use Rattle.atomic_bcast.specs.SteppingLaws.{steps, full_is}
+use Rattle.atomic_bcast.specs.Laws.Stepping.{steps, full_is}
 use Rattle.atomic_bcast.specs.Boxes.{box_at, opens_in, spent_in, Stood, last_in}
-use Rattle.atomic_bcast.specs.Shows.{opens_round, base_in}
+use Rattle.atomic_bcast.specs.AbcGetters.{opens_round, base_in}
 use Rattle.atomic_bcast.specs.Abc.{has_begun, Stands}
 use Rattle.atomic_bcast.specs.Turning.{Mid, IsNow, Poised, IsNear}
-use Rattle.atomic_bcast.specs.AbcShows.{told, ruled, none_beyond, same_inside, ruled_nothing, ruled_past, told_nothing, told_ahead, past_box, full_not_spent, base_is, AllShow, stood_opens, stood_spent, nothing_ahead, shows_rules, stood_vector}
+use Rattle.atomic_bcast.specs.Laws.Getters.{told, ruled, none_beyond, same_inside, ruled_nothing, ruled_past, told_nothing, told_ahead, past_box, full_not_spent, base_is, AllShow, stood_opens, stood_spent, nothing_ahead, shows_rules, stood_vector}
 use Rattle.atomic_bcast.specs.declared.boxes.Boxes.{Boxes}
 use Rattle.atomic_bcast.specs.declared.abc.Abc.{Abc}
 use Rattle.atomic_bcast.proofs.Stepped.{stays_or_goes, words_heard, not_spent_before, not_spent_after, only_current}

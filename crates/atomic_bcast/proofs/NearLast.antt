@@ -11,15 +11,15 @@ use Rattle.layer_api.specs.Multi.{Desk}
 use Rattle.layer_api.specs.Vectors.{VectorRules, VectorLaws}
 use Rattle.layer_api.specs.VectorCalls.{VectorShown}
 use Rattle.atomic_bcast.specs.Rounds.{round_desk, round_ask, round_words, round_decides, log_below, vector_of_round, last_complete, last_vector, rounds, atomic}
-use Rattle.atomic_bcast.specs.RoundLogs.{log_complete, complete_small}
-use Rattle.atomic_bcast.specs.RoundVectors.{completes_by, attempt_there, round_vector}
-use Rattle.atomic_bcast.specs.RoundStays.{decides_stay, attempt_stay}
+use Rattle.atomic_bcast.specs.Laws.LogsByRound.{log_complete, complete_small}
+use Rattle.atomic_bcast.specs.Laws.RoundVectors.{completes_by, attempt_there, round_vector}
+use Rattle.atomic_bcast.specs.Laws.RoundsStay.{decides_stay, attempt_stay}
 use Rattle.atomic_bcast.specs.Stepping.{current, log_now, heard_words, next_ask}
-use Rattle.atomic_bcast.specs.SteppingLaws.{steps, full_is}
+use Rattle.atomic_bcast.specs.Laws.Stepping.{steps, full_is}
 use Rattle.atomic_bcast.specs.Boxes.{vector_in, last_in, OldStand}
 use Rattle.atomic_bcast.specs.Abc.{has_begun}
 use Rattle.atomic_bcast.specs.Turning.{IsNow}
-use Rattle.atomic_bcast.specs.AbcShows.{AllShow, no_vector, full_undecided, stood_vector}
+use Rattle.atomic_bcast.specs.Laws.Getters.{AllShow, no_vector, full_undecided, stood_vector}
 use Rattle.atomic_bcast.specs.declared.boxes.Boxes.{Boxes}
 use Rattle.atomic_bcast.proofs.Stepped.{Goes, stays_or_goes, words_heard, words_same, done}
 

@@ -14,10 +14,10 @@ use Rattle.std.proofs.lemmas.Bool.{cases_order, and_parts, and_from, or_cases, o
 use Rattle.ritas_base.specs.declared.id.Id.{Id}
 use Rattle.layer_api.specs.Service.{has_id}
 use Rattle.frame_codec.specs.Ids.{IsBelow}
-use Rattle.atomic_bcast.specs.Identifiers.{is_below, insert_id, in_order}
+use Rattle.atomic_bcast.specs.Identifiers.{is_below, insert_id, in_order, IsSorted}
 use Rattle.atomic_bcast.specs.Early.{id_cmp}
 use Rattle.atomic_bcast.specs.Pending.{HoldsIds, Counts}
-use Rattle.atomic_bcast.specs.Ordered.{IsSorted, in_order_sorted, below_trans, below_other, below_from}
+use Rattle.atomic_bcast.specs.Laws.Ordered.{in_order_sorted, below_trans, below_other, below_from}
 use Rattle.atomic_bcast.proofs.Ids.{is_id, same_test}
 
 abbrev pub is_same : Id → Id → Bool

@@ -16,16 +16,16 @@ use Rattle.layer_api.specs.Multi.{Desk}
 use Rattle.layer_api.specs.Vectors.{VectorRules, VectorLaws, MayVector}
 use Rattle.layer_api.specs.VectorCalls.{VectorShown, VectorHears}
 use Rattle.atomic_bcast.specs.Rounds.{delivered_ids, is_of_round, round_desk, round_words, rounds, atomic}
-use Rattle.atomic_bcast.specs.RoundWords.{round_met}
-use Rattle.atomic_bcast.specs.RoundLogs.{log_grows}
+use Rattle.atomic_bcast.specs.Laws.WordsMeet.{round_met}
+use Rattle.atomic_bcast.specs.Laws.LogsByRound.{log_grows}
 use Rattle.atomic_bcast.specs.Stepping.{current, log_now, heard_says, heard_words}
-use Rattle.atomic_bcast.specs.SteppingLaws.{comes_to, no_step}
+use Rattle.atomic_bcast.specs.Laws.Stepping.{comes_to, no_step}
 use Rattle.atomic_bcast.specs.Ledger.{LedgerStands}
 use Rattle.atomic_bcast.specs.Boxes.{box_at, with_box, Stood, BoxesStand, HearsBox}
 use Rattle.atomic_bcast.specs.Waiting.{decision_in, Awaits, Knows}
 use Rattle.atomic_bcast.specs.Abc.{has_begun, Stands}
 use Rattle.atomic_bcast.specs.Turning.{Mid, Known, Takes, IsNear}
-use Rattle.atomic_bcast.specs.AbcShows.{base_is, AllShow}
+use Rattle.atomic_bcast.specs.Laws.Getters.{base_is, AllShow}
 use Rattle.atomic_bcast.specs.declared.boxes.Boxes.{Boxes}
 use Rattle.atomic_bcast.specs.declared.abc.Abc.{Abc}
 use Rattle.atomic_bcast.proofs.Hearing.{knows_awaits, still_stands}

@@ -16,12 +16,12 @@ use Rattle.layer_api.specs.Part.{newly_asked, passed}
 use Rattle.layer_api.specs.Vectors.{VectorRules, VectorLaws}
 use Rattle.atomic_bcast.specs.Identifiers.{all_pass}
 use Rattle.atomic_bcast.specs.Rounds.{delivered_ids, wanted, has_command, appended, is_of_round, completes_with, round_desk, round_ask, round_words, rounds, atomic}
-use Rattle.atomic_bcast.specs.RoundWords.{round_met}
-use Rattle.atomic_bcast.specs.RoundStays.{spent_stay}
-use Rattle.atomic_bcast.specs.RoundAsks.{words_asked}
-use Rattle.atomic_bcast.specs.RoundStill.{pass_same}
+use Rattle.atomic_bcast.specs.Laws.WordsMeet.{round_met}
+use Rattle.atomic_bcast.specs.Laws.RoundsStay.{spent_stay}
+use Rattle.atomic_bcast.specs.Laws.AskedFirst.{words_asked}
+use Rattle.atomic_bcast.specs.Laws.QuietRounds.{pass_same}
 use Rattle.atomic_bcast.specs.Stepping.{current, log_now, heard_words, next_ask, words_now, completes_now, Remains, Advances}
-use Rattle.atomic_bcast.specs.SteppingLaws.{asked_before, remains, remains_full, advances, no_step}
+use Rattle.atomic_bcast.specs.Laws.Stepping.{asked_before, remains, remains_full, advances, no_step}
 use Rattle.atomic_bcast.proofs.Ids.{same_test}
 
 -- what is there, where a test says so

@@ -15,10 +15,10 @@ use Rattle.layer_api.specs.VectorCalls.{VectorShown}
 use Rattle.atomic_bcast.specs.Rounds.{says_below, rounds, atomic}
 use Rattle.atomic_bcast.specs.Stepping.{heard_says}
 use Rattle.atomic_bcast.specs.Waiting.{decision_in, Learns}
-use Rattle.atomic_bcast.specs.Shows.{shown_by}
+use Rattle.atomic_bcast.specs.AbcGetters.{shown_by}
 use Rattle.atomic_bcast.specs.Abc.{Stands, Ends}
 use Rattle.atomic_bcast.specs.Turning.{Mid, Known, Turned, Takes, IsNear, TakesWord, LosesWord}
-use Rattle.atomic_bcast.specs.AbcShows.{AllShow}
+use Rattle.atomic_bcast.specs.Laws.Getters.{AllShow}
 use Rattle.atomic_bcast.specs.declared.abc.Abc.{Abc}
 use Rattle.atomic_bcast.proofs.Near.{shows_after}
 use Rattle.atomic_bcast.proofs.Hearing.{knows_awaits, input_taken, input_says}

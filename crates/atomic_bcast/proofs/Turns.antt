@@ -16,14 +16,14 @@ use Rattle.layer_api.specs.Multi.{Desk}
 use Rattle.layer_api.specs.Vectors.{VectorRules, VectorLaws}
 use Rattle.layer_api.specs.VectorCalls.{VectorShown}
 use Rattle.atomic_bcast.specs.Rounds.{delivered_ids, round_desk, round_ask, round_words, says_below, rounds, atomic}
-use Rattle.atomic_bcast.specs.RoundAsks.{ask_stays, words_new}
+use Rattle.atomic_bcast.specs.Laws.AskedFirst.{ask_stays, words_new}
 use Rattle.atomic_bcast.specs.Stepping.{current, log_now, heard_says, heard_words, next_ask, next_says}
-use Rattle.atomic_bcast.specs.SteppingLaws.{unasked, not_ahead, steps, full_is}
+use Rattle.atomic_bcast.specs.Laws.Stepping.{unasked, not_ahead, steps, full_is}
 use Rattle.atomic_bcast.specs.Ledger.{LedgerStands}
 use Rattle.atomic_bcast.specs.Boxes.{box_at, Stood, BoxesStand, OldStand, BeganAt}
 use Rattle.atomic_bcast.specs.Waiting.{decision_in, Knows}
 use Rattle.atomic_bcast.specs.Turning.{Mid, IsDue, IsGoing, IsNow, Poised, Turned}
-use Rattle.atomic_bcast.specs.AbcShows.{full_not_spent, AllShow}
+use Rattle.atomic_bcast.specs.Laws.Getters.{full_not_spent, AllShow}
 use Rattle.atomic_bcast.specs.declared.place.Place.{Place}
 use Rattle.atomic_bcast.specs.declared.boxes.Boxes.{Boxes}
 use Rattle.atomic_bcast.specs.declared.abc.Abc.{Abc}

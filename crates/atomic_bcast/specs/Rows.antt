@@ -1,4 +1,4 @@
--- Worked rows.
+-- Worked rows of the service of commands.
 use Rattle.std.specs.Prelude.{◌≡◌, List, [], ◌∷◌, refl}
 use Rattle.layer_api.specs.Words.{Word, Hear}
 use Rattle.ritas_base.specs.Slots.{command_slot}

@@ -16,7 +16,7 @@ use Rattle.atomic_bcast.specs.Stepping.{current, log_now, heard_says, heard_word
 use Rattle.atomic_bcast.specs.Ledger.{LedgerStands}
 use Rattle.atomic_bcast.specs.Boxes.{BoxesStand, OldStand}
 use Rattle.atomic_bcast.specs.Waiting.{decision_in, Awaits, Knows}
-use Rattle.atomic_bcast.specs.Shows.{shown_by}
+use Rattle.atomic_bcast.specs.AbcGetters.{shown_by}
 use Rattle.atomic_bcast.specs.Abc.{Seated, has_begun, Stands}
 use Rattle.atomic_bcast.specs.declared.abc.Abc.{Abc}
 

@@ -43,7 +43,7 @@ pub struct Abc<V: VectorBox> {
 
 impl<V: VectorBox> Abc<V> {
     ghost use Rattle.std.specs.Prelude.{◌≡◌, OnOk, OnErr};
-    ghost use Rattle.atomic_bcast.specs.Shows.{opens_round};
+    ghost use Rattle.atomic_bcast.specs.AbcGetters.{opens_round};
     ghost use Rattle.atomic_bcast.specs.Abc.{Ends};
     ghost use Rattle.atomic_bcast.specs.Turning.{Completes, CompletesNot, Begins, Settles, SettlesNot, TakesCommand, LosesCommand, TakesRound, LosesRound, TakesWord, LosesWord};
 
@@ -169,10 +169,10 @@ impl<V: VectorBox> Abc<V> {
 impl<V: VectorBox> Service for Abc<V> {
     ghost use Rattle.atomic_bcast.specs.Rounds.{atomic};
     ghost use Rattle.atomic_bcast.specs.Abc.{Stands};
-    ghost use Rattle.atomic_bcast.specs.Shows.{shown_by};
-    ghost use Rattle.atomic_bcast.specs.AbcShows.{shows_rules};
-    ghost use Rattle.atomic_bcast.specs.RoundLog.{one_log_law};
-    ghost use Rattle.atomic_bcast.specs.RoundLaws.{atomic_word_laws};
+    ghost use Rattle.atomic_bcast.specs.AbcGetters.{shown_by};
+    ghost use Rattle.atomic_bcast.specs.Laws.Getters.{shows_rules};
+    ghost use Rattle.atomic_bcast.specs.Laws.OneLog.{one_log_law};
+    ghost use Rattle.atomic_bcast.specs.Laws.AtomicWords.{atomic_word_laws};
 
     ghost stands = { Stands V.stands V.rules V.shown };
 

@@ -82,9 +82,9 @@ impl CmdRoot {
 
 impl Service for CmdRoot {
     ghost use Rattle.atomic_bcast.specs.Commands.{commands};
-    ghost use Rattle.atomic_bcast.specs.CommandLaws.{command_laws, command_log};
+    ghost use Rattle.atomic_bcast.specs.Laws.Commands.{command_laws, command_log};
     ghost use Rattle.atomic_bcast.specs.CmdRoot.{Stands};
-    ghost use Rattle.atomic_bcast.specs.Shown.{shown_by, shows_rules};
+    ghost use Rattle.atomic_bcast.specs.CmdRootGetters.{shown_by, shows_rules};
 
     ghost stands = { Stands };
 

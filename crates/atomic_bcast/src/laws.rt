@@ -9,7 +9,7 @@ ghost use Rattle.layer_api.specs.Vectors.{VectorRules, VectorLaws, OneVector};
 ghost use Rattle.ritas_base.specs.Slots.{command_slot};
 ghost use Rattle.atomic_bcast.specs.Commands.{base_of, commands};
 ghost use Rattle.atomic_bcast.specs.Rounds.{atomic};
-ghost use Rattle.atomic_bcast.specs.RoundLog.{VectorsAgree};
+ghost use Rattle.atomic_bcast.specs.VectorsAgree.{VectorsAgree};
 ghost use Rattle.atomic_bcast.specs.Appended.{AppendsProposed};
 
 /// The law of what is said: to an input the service says that input, alone, at the command slot of the next number.

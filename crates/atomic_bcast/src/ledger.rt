@@ -6,8 +6,7 @@ ghost use Rattle.ritas_base.specs.declared.id.Id.{Id};
 ghost use Rattle.frame_codec.specs.Ids.{IsBelow};
 ghost use Rattle.layer_api.specs.Service.{has_id};
 ghost use Rattle.atomic_bcast.specs.Early.{Notes};
-ghost use Rattle.atomic_bcast.specs.Identifiers.{kept, is_without, all_pass, append_ids};
-ghost use Rattle.atomic_bcast.specs.Ordered.{IsSorted};
+ghost use Rattle.atomic_bcast.specs.Identifiers.{kept, is_without, all_pass, append_ids, IsSorted};
 ghost use Rattle.atomic_bcast.specs.Rounds.{proposal, least_without};
 ghost use Rattle.atomic_bcast.specs.Ledger.{LedgerStands, IsReady, at_bases, Appending, Between};
 

@@ -1,4 +1,4 @@
-use Rattle.atomic_bcast.specs.RoundLaws.{atomic_word_laws}
+use Rattle.atomic_bcast.specs.Laws.AtomicWords.{atomic_word_laws}
 use Rattle.atomic_bcast.proofs.laws.atomic_laws.Goals as goal
 
 pub returns : goal.returns

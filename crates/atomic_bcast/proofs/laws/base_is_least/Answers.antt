@@ -1,4 +1,4 @@
-use Rattle.atomic_bcast.specs.CommandLaws.{base_is, heard_near}
+use Rattle.atomic_bcast.specs.Laws.Commands.{base_is, heard_near}
 use Rattle.atomic_bcast.proofs.laws.base_is_least.Goals as goal
 
 pub returns-clause-missing : goal.returns-clause-missing

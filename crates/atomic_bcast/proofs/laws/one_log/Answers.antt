@@ -1,5 +1,5 @@
-use Rattle.atomic_bcast.specs.RoundLog.{one_log_law, vectors_agree}
-use Rattle.atomic_bcast.specs.RoundLogs.{done_distinct}
+use Rattle.atomic_bcast.specs.Laws.OneLog.{one_log_law, vectors_agree}
+use Rattle.atomic_bcast.specs.Laws.LogsByRound.{done_distinct}
 use Rattle.atomic_bcast.proofs.Appending.{appends_proposed}
 use Rattle.atomic_bcast.proofs.laws.one_log.Goals as goal
 

@@ -1,6 +1,6 @@
 use Rattle.std.proofs.Common.{◌≡◌, ◌∙◌, rules}
-use Rattle.atomic_bcast.specs.Shows.{shown_by}
-use Rattle.atomic_bcast.specs.AbcShows.{shows_rules}
+use Rattle.atomic_bcast.specs.AbcGetters.{shown_by}
+use Rattle.atomic_bcast.specs.Laws.Getters.{shows_rules}
 use Rattle.atomic_bcast.proofs.abc.AbcService.is_open.Goals as goal
 
 pub returns-else-slot-eq1-clause-rules : goal.returns-else-slot-eq1-clause-rules

@@ -1,5 +1,5 @@
 use Rattle.std.proofs.Common.{◌∙◌}
-use Rattle.atomic_bcast.specs.AbcShows.{shows_rules}
+use Rattle.atomic_bcast.specs.Laws.Getters.{shows_rules}
 use Rattle.atomic_bcast.proofs.abc.AbcService.last_vector.Goals as goal
 
 pub returns-clause-rules : goal.returns-clause-rules

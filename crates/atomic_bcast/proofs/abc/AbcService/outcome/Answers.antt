@@ -2,7 +2,7 @@ use Rattle.std.proofs.Common.{◌≡◌, ◌∙◌, sym, ap, rules}
 use Rattle.std.specs.Prelude.{Bool, true, false, if◌then◌else◌}
 use Rattle.layer_api.specs.Service.{Decided, Undecided, Spent}
 use Rattle.atomic_bcast.specs.Boxes.{spent_in}
-use Rattle.atomic_bcast.specs.AbcShows.{shows_rules}
+use Rattle.atomic_bcast.specs.Laws.Getters.{shows_rules}
 use Rattle.atomic_bcast.proofs.abc.AbcService.outcome.Goals as goal
 
 pub returns-then-is_spent-clause-rules : goal.returns-then-is_spent-clause-rules

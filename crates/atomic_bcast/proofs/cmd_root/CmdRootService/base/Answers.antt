@@ -1,6 +1,6 @@
 use Rattle.std.proofs.Common.{◌≡◌, ◌∙◌, rules}
 use Rattle.std.specs.Prelude.{slice_index}
-use Rattle.atomic_bcast.specs.Shown.{base_known}
+use Rattle.atomic_bcast.specs.CmdRootGetters.{base_known}
 use Rattle.atomic_bcast.proofs.cmd_root.CmdRootService.base.Goals as goal
 
 pub returns-clause-rules : goal.returns-clause-rules

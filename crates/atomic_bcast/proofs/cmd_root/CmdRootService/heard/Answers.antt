@@ -3,7 +3,7 @@ use Rattle.std.specs.Prelude.{ℕ, List}
 use Rattle.layer_api.specs.Words.{Hear}
 use Rattle.layer_api.specs.ServiceCalls.{ShowsNear}
 use Rattle.atomic_bcast.specs.Commands.{commands}
-use Rattle.atomic_bcast.specs.Shown.{shown_with, shows_as_before}
+use Rattle.atomic_bcast.specs.CmdRootGetters.{shown_with, shows_as_before}
 use Rattle.atomic_bcast.specs.declared.cmd_root.CmdRoot.{CmdRoot}
 use Rattle.atomic_bcast.proofs.cmd_root.CmdRootService.heard.Goals as goal
 

@@ -1,5 +1,5 @@
 use Rattle.std.proofs.Common.{refl}
-use Rattle.atomic_bcast.specs.Shown.{shows_as_before}
+use Rattle.atomic_bcast.specs.CmdRootGetters.{shows_as_before}
 use Rattle.layer_api.specs.Words.{Ask}
 use Rattle.atomic_bcast.proofs.cmd_root.CmdRootService.input.Goals as goal
 

@@ -1,7 +1,7 @@
 use Rattle.std.proofs.Common.{◌≡◌, List, drop}
 use Rattle.std.specs.List.{AllByRecursion}
 use Rattle.ritas_base.specs.declared.id.Id.{Id}
-use Rattle.atomic_bcast.specs.Ordered.{IsSorted}
+use Rattle.atomic_bcast.specs.Identifiers.{IsSorted}
 use Rattle.atomic_bcast.specs.Ledger.{LedgerStands, IsReady, at_bases}
 use Rattle.atomic_bcast.proofs.LedgerSteps.{IsAppending}
 use Rattle.atomic_bcast.proofs.ledger.Ledger.append_new.Given as goal

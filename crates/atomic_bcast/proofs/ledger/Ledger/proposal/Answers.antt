@@ -1,6 +1,6 @@
 use Rattle.std.proofs.Common.{◌<◌}
 use Rattle.atomic_bcast.specs.Identifiers.{kept, is_without}
-use Rattle.atomic_bcast.specs.Ordered.{kept_all}
+use Rattle.atomic_bcast.specs.Laws.Ordered.{kept_all}
 use Rattle.atomic_bcast.proofs.ledger.Ledger.proposal.Goals as goal
 
 pub returns : goal.returns

@@ -1,5 +1,5 @@
 -- The law of one log of atomic broadcast, over any vector consensus with its laws.
-use Rattle.std.specs.Prelude.{◌≡◌, ℕ, zero, suc, ◌≤◌, Bool, true, false, if◌then◌else◌, List, ◌∷◌, Some, refl, ◌⊎◌}
+use Rattle.std.specs.Prelude.{◌≡◌, ℕ, zero, suc, ◌≤◌, Bool, true, false, if◌then◌else◌, List, Some, refl, ◌⊎◌}
 use Rattle.std.proofs.Common.{sym, ◌∙◌, ap, ap₂, subst, inl, inr, arith}
 use Rattle.std.proofs.lemmas.Bool.{eqb-true, cases_order}
 use Rattle.ritas_base.specs.declared.slot.Slot.{Slot}
@@ -9,16 +9,17 @@ use Rattle.ritas_base.specs.Numbers.{Numbers, IsSession}
 use Rattle.layer_api.specs.Runs.{Step, calls_of, IsEnough}
 use Rattle.layer_api.specs.Words.{Word}
 use Rattle.layer_api.specs.Service.{Seat, Instance, Decision, Bit, Spent, Undecided, Decided, IsPart, LastVector}
-use Rattle.layer_api.specs.OneLog.{Session, seat_at, service_play, IsRunOf, OneLog}
+use Rattle.layer_api.specs.OneLog.{seat_at, service_play, OneLog}
 use Rattle.layer_api.specs.Fed.{IsFedRun}
 use Rattle.layer_api.specs.FedLaws.{met}
 use Rattle.layer_api.specs.Multi.{desk_at}
 use Rattle.layer_api.specs.Vectors.{VectorRules, VectorLaws, vector_play, OneVector}
 use Rattle.atomic_bcast.specs.Rounds.{appended, round_scope, round_desk, log_below, complete_of, round_words, round_decides, rounds, atomic, vector_of_round, last_complete, round_of}
+use Rattle.atomic_bcast.specs.VectorsAgree.{VectorsAgree}
 use Rattle.layer_api.specs.DecisionLaws.{vector_parts}
-use Rattle.atomic_bcast.specs.RoundVectors.{completes_by}
-use Rattle.atomic_bcast.specs.RoundRuns.{play, round_run, round_fed, round_calls}
-use Rattle.atomic_bcast.specs.RoundLogs.{Completes, log_earlier, log_complete}
+use Rattle.atomic_bcast.specs.Laws.RoundVectors.{completes_by}
+use Rattle.atomic_bcast.specs.Laws.VectorRuns.{play, round_run, round_fed, round_calls}
+use Rattle.atomic_bcast.specs.Laws.LogsByRound.{Completes, log_earlier, log_complete}
 use Rattle.std.specs.Option.{option_or}
 use Rattle.ritas_base.specs.Shortest.{option_or_some}
 
@@ -195,13 +196,6 @@ one_log_law v laws one = record {
       (spent_is _ q);
   last_vectors = λ p mode is_correct coins steps run i j x y ci cj q r same. one_last v laws one p mode is_correct coins run.enough steps run.fed i j x y ci cj q r same;
 }
-
--- vectors of one round are equal, over every run
-abbrev pub VectorsAgree : VectorRules → Type 0
-VectorsAgree v = (p : Numbers) (mode : Mode) (is_correct : ℕ → Bool) (coins : ℕ → Slot → Bool) (steps : List (Step Word)) →
-    let g : Session = record { rules = atomic v; numbers = p; mode = mode; is_correct = is_correct; coins = coins } in
-    IsRunOf g steps → (a i j : ℕ) (x y : List ℕ) → is_correct i ≡ true → is_correct j ≡ true
-    → round_decides v (seat_at g i) a (calls_of i steps) ≡ Some x → round_decides v (seat_at g j) a (calls_of j steps) ≡ Some y → x ≡ y
 
 -- vectors of one round are equal, over every run, by the laws of their boxes
 pub vectors_agree : (v : VectorRules) → VectorLaws v → OneVector v → VectorsAgree v

@@ -8,7 +8,7 @@ use Rattle.ritas_base.specs.declared.id.Id.{Id}
 use Rattle.ritas_base.specs.Quorums.{count_yes, count_no}
 use Rattle.frame_codec.specs.Ids.{IsBelow, Ascends, of_origin, AreIds}
 use Rattle.layer_api.specs.Service.{has_id, AreDistinct, IsPart}
-use Rattle.atomic_bcast.specs.Identifiers.{is_below, insert_id, in_order, kept, is_without, first_of_each, append_ids}
+use Rattle.atomic_bcast.specs.Identifiers.{is_below, IsSorted, insert_id, in_order, kept, is_without, first_of_each, append_ids}
 use Rattle.atomic_bcast.specs.Rounds.{proposal}
 
 -- ---- the order
@@ -50,11 +50,6 @@ below_other x y h =
     ]
 
 -- ---- lists in order
-
--- each identifier is below all after it
-abbrev pub IsSorted : List Id → Type 0
-IsSorted [] = Unit {0}
-IsSorted (x ∷ xs) = AllByRecursion (IsBelow x) xs × IsSorted xs
 
 -- what is below an identifier is below all that this is below
 all_above : (x y : Id) → IsBelow x y → (xs : List Id) → AllByRecursion (IsBelow y) xs → AllByRecursion (IsBelow x) xs

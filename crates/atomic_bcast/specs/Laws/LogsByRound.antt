@@ -11,7 +11,7 @@ use Rattle.layer_api.specs.FedLaws.{some_if, shortest_at}
 use Rattle.layer_api.specs.Vectors.{VectorRules}
 use Rattle.atomic_bcast.specs.Identifiers.{in_order, kept, is_without, all_pass}
 use Rattle.atomic_bcast.specs.Rounds.{entry_ids, wanted, has_command, appended, completes_with, completes_at, log_below, log_of, complete_of, round_decides, rounds, atomic}
-use Rattle.atomic_bcast.specs.Ordered.{in_order_sorted, kept_sorted, append_new, append_part}
+use Rattle.atomic_bcast.specs.Laws.Ordered.{in_order_sorted, kept_sorted, append_new, append_part}
 use Rattle.frame_codec.specs.Values.{entries_of}
 
 -- ---- lists

@@ -13,8 +13,8 @@ use Rattle.layer_api.specs.Part.{newly_asked, passed, part_of, says_in}
 use Rattle.layer_api.specs.Vectors.{VectorRules, VectorLaws}
 use Rattle.atomic_bcast.specs.Rounds.{round_desk, is_of_round, round_ask, round_words, says_below, rounds, atomic}
 use Rattle.atomic_bcast.specs.Stepping.{heard_says, current, next_ask, next_says}
-use Rattle.atomic_bcast.specs.RoundAsks.{ask_stays, unasked_before, unheard, unasked}
-use Rattle.atomic_bcast.specs.CurrentRound.{heard_asked, comes_to}
+use Rattle.atomic_bcast.specs.Laws.AskedFirst.{ask_stays, unasked_before, unheard, unasked}
+use Rattle.atomic_bcast.specs.Laws.CurrentRound.{heard_asked, comes_to}
 
 module _ (v : VectorRules) (seat : Seat) (c : Word) (w : List Word) where
   -- what one round says

@@ -20,7 +20,7 @@ use Rattle.layer_api.specs.PartLaws.{part_heard, part_asked_still, Feeds, part_m
 use Rattle.layer_api.specs.Vectors.{VectorRules, is_vector_slot, MayVector, AreVector}
 use Rattle.atomic_bcast.specs.Identifiers.{is_without}
 use Rattle.atomic_bcast.specs.Rounds.{delivered_ids, pending, proposal, round_scope, round_desk, is_of_round, first_ids, begins_with, round_asked, log_below, round_ask, round_words, complete_of, round_opens, rounds, atomic}
-use Rattle.atomic_bcast.specs.Ordered.{kept_all, proposal_some, proposal_is}
+use Rattle.atomic_bcast.specs.Laws.Ordered.{kept_all, proposal_some, proposal_is}
 
 -- ---- what a round is asked
 

@@ -20,8 +20,8 @@ use Rattle.layer_api.specs.Vectors.{VectorRules, VectorLaws, is_vector_slot, May
 use Rattle.layer_api.specs.VectorSlots.{vector_slot_right}
 use Rattle.atomic_bcast.specs.Commands.{says_of}
 use Rattle.atomic_bcast.specs.Rounds.{round_scope, round_desk, is_of_round, round_ask, round_words, says_below, rounds, atomic}
-use Rattle.atomic_bcast.specs.RoundWords.{root_of, round_met}
-use Rattle.atomic_bcast.specs.RoundRuns.{IsOfRound, of_round_is, command_class, says_of_round, said_in_round, below_said, round_said}
+use Rattle.atomic_bcast.specs.Laws.WordsMeet.{root_of, round_met}
+use Rattle.atomic_bcast.specs.Laws.VectorRuns.{IsOfRound, of_round_is, command_class, says_of_round, said_in_round, below_said, round_said}
 
 -- ---- slots of the root service
 

@@ -14,11 +14,11 @@ use Rattle.layer_api.specs.DecisionLaws.{vector_is, vector_parts}
 use Rattle.layer_api.specs.FedLaws.{shortest_at}
 use Rattle.layer_api.specs.Vectors.{VectorRules, VectorLaws}
 use Rattle.atomic_bcast.specs.Rounds.{round_desk, round_words, round_decides, completes_at, log_below, complete_of, vector_of_round, last_complete, last_vector, inside_of, rounds, atomic}
-use Rattle.atomic_bcast.specs.RoundWords.{round_met}
-use Rattle.atomic_bcast.specs.RoundLogs.{Completes, completes_is, log_stays}
-use Rattle.atomic_bcast.specs.RoundStays.{decides_stay}
-use Rattle.atomic_bcast.specs.RoundCount.{complete_there}
-use Rattle.atomic_bcast.specs.CurrentRound.{not_ahead}
+use Rattle.atomic_bcast.specs.Laws.WordsMeet.{round_met}
+use Rattle.atomic_bcast.specs.Laws.LogsByRound.{Completes, completes_is, log_stays}
+use Rattle.atomic_bcast.specs.Laws.RoundsStay.{decides_stay}
+use Rattle.atomic_bcast.specs.Laws.CompleteRounds.{complete_there}
+use Rattle.atomic_bcast.specs.Laws.CurrentRound.{not_ahead}
 
 module _ (v : VectorRules) (laws : VectorLaws v) (seat : Seat) where
   -- what a round decided at a prefix it has now, and so has the log its entries

@@ -13,14 +13,14 @@ use Rattle.layer_api.specs.Part.{newly_asked}
 use Rattle.layer_api.specs.Vectors.{VectorRules, VectorLaws}
 use Rattle.atomic_bcast.specs.Rounds.{begins_with, completes_with, completes_at, log_below, round_ask, round_words, says_below, rounds, atomic}
 use Rattle.atomic_bcast.specs.Stepping.{current, log_now, heard_says, heard_words, next_ask, next_says, completes_now, Steps, Remains, Advances}
-use Rattle.atomic_bcast.specs.RoundAsks.{newly_same, words_more, ask_stays, words_asked, words_new, undecided_new}
-use Rattle.atomic_bcast.specs.RoundCount.{complete_is, complete_all}
-use Rattle.atomic_bcast.specs.StepSays.{IsQuiet, quiet_says, quiet_asked, quiet_unasked, says_quiet, says_next}
-use Rattle.atomic_bcast.specs.RoundStill.{no_command, none_delivered, ask_same, log_same, count_same, last_same}
-use Rattle.atomic_bcast.specs.RoundLogs.{log_complete, complete_small}
-use Rattle.atomic_bcast.specs.CurrentRound.{log_here, asks_here, words_here, completes_here, log_next}
-pub use Rattle.atomic_bcast.specs.RoundAsks.{unasked, asked_words}
-pub use Rattle.atomic_bcast.specs.CurrentRound.{log_there, log_not_yet, asked_below, not_ahead, full_is, heard_asked, comes_to, may_ask}
+use Rattle.atomic_bcast.specs.Laws.AskedFirst.{newly_same, words_more, ask_stays, words_asked, words_new, undecided_new}
+use Rattle.atomic_bcast.specs.Laws.CompleteRounds.{complete_is, complete_all}
+use Rattle.atomic_bcast.specs.Laws.NewlySaid.{IsQuiet, quiet_says, quiet_asked, quiet_unasked, says_quiet, says_next}
+use Rattle.atomic_bcast.specs.Laws.QuietRounds.{no_command, none_delivered, ask_same, log_same, count_same, last_same}
+use Rattle.atomic_bcast.specs.Laws.LogsByRound.{log_complete, complete_small}
+use Rattle.atomic_bcast.specs.Laws.CurrentRound.{log_here, asks_here, words_here, completes_here, log_next}
+pub use Rattle.atomic_bcast.specs.Laws.AskedFirst.{unasked, asked_words}
+pub use Rattle.atomic_bcast.specs.Laws.CurrentRound.{log_there, log_not_yet, asked_below, not_ahead, full_is, heard_asked, comes_to, may_ask}
 
 -- no round is asked by this word, and none becomes complete
 pub record IsStill (v : VectorRules) (seat : Seat) (c : Word) (w : List Word) : Type 0 where

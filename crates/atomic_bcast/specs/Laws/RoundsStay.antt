@@ -8,7 +8,7 @@ use Rattle.layer_api.specs.Part.{part_of}
 use Rattle.layer_api.specs.Multi.{Desk}
 use Rattle.layer_api.specs.Vectors.{VectorRules, VectorLaws, AreVector}
 use Rattle.atomic_bcast.specs.Rounds.{round_desk, is_of_round, round_ask, round_words, round_decides, atomic}
-use Rattle.atomic_bcast.specs.RoundWords.{session_of, round_met}
+use Rattle.atomic_bcast.specs.Laws.WordsMeet.{session_of, round_met}
 
 -- ---- a box, over several words more
 

@@ -8,7 +8,7 @@ use Rattle.layer_api.specs.Words.{Word}
 use Rattle.layer_api.specs.Service.{Seat}
 use Rattle.layer_api.specs.Vectors.{VectorRules}
 use Rattle.atomic_bcast.specs.Rounds.{log_below, log_of, complete_of}
-use Rattle.atomic_bcast.specs.RoundLogs.{log_earlier, log_complete}
+use Rattle.atomic_bcast.specs.Laws.LogsByRound.{log_earlier, log_complete}
 
 module _ (v : VectorRules) (seat : Seat) where
   -- rounds above those that are complete aren't

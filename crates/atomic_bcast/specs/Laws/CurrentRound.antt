@@ -15,10 +15,10 @@ use Rattle.layer_api.specs.Part.{newly_asked}
 use Rattle.layer_api.specs.Vectors.{VectorRules, VectorLaws, MayVector}
 use Rattle.atomic_bcast.specs.Rounds.{pending, proposal, round_desk, is_of_round, begins_with, completes_with, completes_at, log_below, round_ask, round_words, complete_of, rounds, atomic}
 use Rattle.atomic_bcast.specs.Stepping.{current, log_now, heard_words, asked_now, words_now, completes_now, ComesTo}
-use Rattle.atomic_bcast.specs.RoundWords.{AreOfSession, first_good, pending_good, round_opened, round_hears}
-use Rattle.atomic_bcast.specs.RoundAsks.{words_more, unheard, unasked, complete_asked, unasked_ahead, none_over}
-use Rattle.atomic_bcast.specs.RoundCount.{complete_none, complete_there}
-use Rattle.atomic_bcast.specs.RoundLogs.{log_stays, log_earlier, log_complete, complete_small}
+use Rattle.atomic_bcast.specs.Laws.WordsMeet.{AreOfSession, first_good, pending_good, round_opened, round_hears}
+use Rattle.atomic_bcast.specs.Laws.AskedFirst.{words_more, unheard, unasked, complete_asked, unasked_ahead, none_over}
+use Rattle.atomic_bcast.specs.Laws.CompleteRounds.{complete_none, complete_there}
+use Rattle.atomic_bcast.specs.Laws.LogsByRound.{log_stays, log_earlier, log_complete, complete_small}
 
 -- a slot that isn't a command's is of its round
 own_round : (s : Slot) → (s.class == 1) ≡ false → is_of_round s.a s ≡ true

@@ -19,7 +19,7 @@ use Rattle.layer_api.specs.FreshLaws.{said_each}
 use Rattle.layer_api.specs.Vectors.{VectorRules, VectorLaws, is_vector_slot, MayVector, IsVectorSaid, vector_play}
 use Rattle.atomic_bcast.specs.Commands.{says_of}
 use Rattle.atomic_bcast.specs.Rounds.{round_scope, round_desk, is_of_round, round_ask, round_words, says_below, rounds, atomic}
-use Rattle.atomic_bcast.specs.RoundWords.{round_asks, round_hears, round_met}
+use Rattle.atomic_bcast.specs.Laws.WordsMeet.{round_asks, round_hears, round_met}
 
 -- ---- slots of a round
 

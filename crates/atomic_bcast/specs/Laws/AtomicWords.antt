@@ -11,13 +11,13 @@ use Rattle.layer_api.specs.Service.{Seat, Instance, Decision, Spent, Undecided, 
 use Rattle.layer_api.specs.LogFits.{ids_fit}
 use Rattle.layer_api.specs.Vectors.{VectorRules, VectorLaws, is_vector_slot}
 use Rattle.atomic_bcast.specs.Rounds.{round_scope, round_desk, log_below, complete_of, round_words, round_decides, round_opens, inside_of, rounds, atomic, round_of}
-use Rattle.atomic_bcast.specs.RoundWords.{session_of, round_met, round_opened}
-use Rattle.atomic_bcast.specs.RoundLogs.{complete_stays, log_complete, log_earlier, done_distinct}
-use Rattle.atomic_bcast.specs.RoundStays.{spent_stay, inside_stay, opens_stay}
-use Rattle.atomic_bcast.specs.RoundGrowth.{least_is, base_stays, command_recent, done_grows, done_heard, done_nothing}
-use Rattle.atomic_bcast.specs.RoundSays.{six_commands, says_new, says_good, commands_said}
-use Rattle.atomic_bcast.specs.RoundVectors.{completes_by, insides}
-use Rattle.atomic_bcast.specs.SteppingLaws.{comes_to, rises, no_step}
+use Rattle.atomic_bcast.specs.Laws.WordsMeet.{session_of, round_met, round_opened}
+use Rattle.atomic_bcast.specs.Laws.LogsByRound.{complete_stays, log_complete, log_earlier, done_distinct}
+use Rattle.atomic_bcast.specs.Laws.RoundsStay.{spent_stay, inside_stay, opens_stay}
+use Rattle.atomic_bcast.specs.Laws.LogGrows.{least_is, base_stays, command_recent, done_grows, done_heard, done_nothing}
+use Rattle.atomic_bcast.specs.Laws.SaidIsNew.{six_commands, says_new, says_good, commands_said}
+use Rattle.atomic_bcast.specs.Laws.RoundVectors.{completes_by, insides}
+use Rattle.atomic_bcast.specs.Laws.Stepping.{comes_to, rises, no_step}
 
 -- ---- what the getters mean
 

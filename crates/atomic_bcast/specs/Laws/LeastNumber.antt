@@ -5,7 +5,7 @@ use Rattle.std.proofs.lemmas.Bool.{cases_order, both_ways}
 use Rattle.ritas_base.specs.declared.id.Id.{Id}
 use Rattle.layer_api.specs.Service.{IsBase}
 use Rattle.atomic_bcast.specs.Rounds.{least_without}
-use Rattle.atomic_bcast.specs.RoundGrowth.{is_in, least_is}
+use Rattle.atomic_bcast.specs.Laws.LogGrows.{is_in, least_is}
 
 pub least_from : (xs : List Id) (o b : ℕ) → IsBase (is_in xs o) b → b ≡ least_without xs o
 least_from xs o b least =

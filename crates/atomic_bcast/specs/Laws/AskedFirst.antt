@@ -14,8 +14,8 @@ use Rattle.layer_api.specs.FedLaws.{shortest_at}
 use Rattle.layer_api.specs.Vectors.{VectorRules, VectorLaws}
 use Rattle.atomic_bcast.specs.Rounds.{round_desk, is_of_round, begins_with, completes_at, log_below, round_ask, round_words, round_decides, rounds, atomic}
 use Rattle.atomic_bcast.specs.Stepping.{heard_words}
-use Rattle.atomic_bcast.specs.RoundWords.{round_stays, round_nothing, round_opened, round_hears}
-use Rattle.atomic_bcast.specs.RoundLogs.{completes_is, log_stays}
+use Rattle.atomic_bcast.specs.Laws.WordsMeet.{round_stays, round_nothing, round_opened, round_hears}
+use Rattle.atomic_bcast.specs.Laws.LogsByRound.{completes_is, log_stays}
 
 -- what is asked already isn't asked anew
 pub newly_same : (o : Option (List ℕ)) → newly_asked o o ≡ []

@@ -13,20 +13,20 @@ use Rattle.layer_api.specs.Multi.{Desk}
 use Rattle.layer_api.specs.Vectors.{VectorRules, VectorLaws, is_slot_in}
 use Rattle.layer_api.specs.VectorCalls.{VectorShown, ShowsVector}
 use Rattle.atomic_bcast.specs.Rounds.{delivered_ids, least_without, is_of_round, round_desk, log_below, round_ask, round_words, round_opens, rounds, atomic, round_decides, vector_of_round, last_complete, last_vector}
-use Rattle.atomic_bcast.specs.RoundWords.{round_stays, round_nothing}
+use Rattle.atomic_bcast.specs.Laws.WordsMeet.{round_stays, round_nothing}
 use Rattle.atomic_bcast.specs.Stepping.{current, log_now}
-use Rattle.atomic_bcast.specs.SteppingLaws.{not_ahead, full_is}
+use Rattle.atomic_bcast.specs.Laws.Stepping.{not_ahead, full_is}
 use Rattle.atomic_bcast.specs.Early.{has_early}
 use Rattle.atomic_bcast.specs.Ledger.{LedgerStands}
-use Rattle.atomic_bcast.specs.Least.{least_from}
+use Rattle.atomic_bcast.specs.Laws.LeastNumber.{least_from}
 use Rattle.atomic_bcast.specs.Boxes.{box_at, opens_in, spent_in, Stood, BoxesStand, vector_in, last_in}
-use Rattle.atomic_bcast.specs.Shows.{opens_round, base_in, shown_by}
+use Rattle.atomic_bcast.specs.AbcGetters.{opens_round, base_in, shown_by}
 use Rattle.atomic_bcast.specs.Abc.{has_begun, Stands}
 use Rattle.atomic_bcast.specs.declared.ledger.Ledger.{Ledger}
 use Rattle.atomic_bcast.specs.declared.boxes.Boxes.{Boxes}
 use Rattle.atomic_bcast.specs.declared.abc.Abc.{Abc}
 use Rattle.std.specs.Option.{option_or}
-use Rattle.atomic_bcast.specs.RoundLogs.{complete_small}
+use Rattle.atomic_bcast.specs.Laws.LogsByRound.{complete_small}
 
 -- ---- whether a slot of a round is open, by what the box of its round takes
 

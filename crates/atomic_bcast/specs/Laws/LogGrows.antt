@@ -14,10 +14,10 @@ use Rattle.layer_api.specs.Words.{Word, Ask, Hear, is_heard}
 use Rattle.layer_api.specs.Service.{Seat, is_past, is_ahead, MayHear, AreProper, AreDistinct, AreHeard, AreRecent, Appends, IsPart, IsBase, has_id}
 use Rattle.layer_api.specs.FedLaws.{some_if, shortest_at}
 use Rattle.layer_api.specs.Vectors.{VectorRules}
-use Rattle.atomic_bcast.specs.CommandLaws.{IsFirst, NonePasses, find_is, heard_stays}
+use Rattle.atomic_bcast.specs.Laws.Commands.{IsFirst, NonePasses, find_is, heard_stays}
 use Rattle.atomic_bcast.specs.Identifiers.{kept, is_without, all_pass, append_ids}
 use Rattle.atomic_bcast.specs.Rounds.{wanted, has_command, appended, completes_with, completes_at, log_below, complete_of, round_decides, least_without, rounds, atomic}
-use Rattle.atomic_bcast.specs.RoundLogs.{log_complete, log_grows, done_distinct}
+use Rattle.atomic_bcast.specs.Laws.LogsByRound.{log_complete, log_grows, done_distinct}
 
 -- ---- the least number that isn't in a log
 
