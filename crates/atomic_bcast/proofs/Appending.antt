@@ -9,7 +9,7 @@ use Rattle.ritas_base.specs.declared.mode.Mode.{Mode}
 use Rattle.ritas_base.specs.Numbers.{Numbers}
 use Rattle.ritas_base.specs.History.{replicas}
 use Rattle.ritas_base.specs.Quorums.{meet_two}
-use Rattle.frame_codec.specs.EntryCounts.{entries_by_place}
+use Rattle.frame_codec.specs.EntryCountLaws.{entries_by_place}
 use Rattle.frame_codec.specs.Values.{ids_of, entries_of, entry_of, is_passed}
 use Rattle.layer_api.specs.Runs.{Step, calls_of, Has, IsEnough}
 use Rattle.layer_api.specs.Words.{Word, Ask}

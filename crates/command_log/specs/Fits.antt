@@ -7,7 +7,7 @@ use Rattle.frame_codec.specs.Format.{Is}
 use Rattle.frame_codec.specs.Grammar.{class1}
 use Rattle.layer_api.specs.Words.{Word}
 use Rattle.layer_api.specs.Service.{ServiceRules, Seat, AreProper, WordLaws}
-use Rattle.layer_api.specs.LogFits.{ids_fit}
+use Rattle.layer_api.specs.LogLengthLaws.{ids_fit}
 use Rattle.command_log.specs.Rows.{Entry, Row, row_of, is_entered, with_entry, entry_of, entries_of, command_rows}
 
 -- so many does an identifier log have at most

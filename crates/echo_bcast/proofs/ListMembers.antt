@@ -4,7 +4,7 @@ use Rattle.std.proofs.Common.{◌∙◌, ap, inl, inr, arith}
 use Rattle.std.specs.List.{range_with_len, list_any}
 use Rattle.ritas_base.specs.History.{replicas}
 use Rattle.layer_api.specs.Runs.{Has}
-use Rattle.layer_api.specs.Replicas.{replica_below}
+use Rattle.layer_api.specs.ReplicaLaws.{replica_below}
 
 -- ---- the replicas
 

@@ -11,6 +11,6 @@ pub mod Ids
 pub mod Laws
 pub mod PartLaws
 pub mod VectorLaws
-pub mod EntryCounts
+pub mod EntryCountLaws
 pub mod IdLaws
 pub mod ColumnLaws

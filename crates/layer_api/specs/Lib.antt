@@ -1,5 +1,5 @@
 pub mod Runs
-pub mod Replicas
+pub mod ReplicaLaws
 pub mod RunsLaws
 pub mod HasLaws
 pub mod Words
@@ -23,11 +23,11 @@ pub mod OneLog
 pub mod OneInstance
 pub mod Binary
 pub mod BinaryCalls
-pub mod Votes
+pub mod VoteLaws
 pub mod Multi
 pub mod MultiCalls
 pub mod Vectors
 pub mod VectorCalls
-pub mod LogFits
-pub mod VectorSlots
+pub mod LogLengthLaws
+pub mod VectorSlotLaws
 pub mod OneDue

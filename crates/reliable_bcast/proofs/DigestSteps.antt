@@ -21,7 +21,7 @@ use Rattle.ritas_base.specs.Messages.{Place, kind_eq, to_all}
 use Rattle.ritas_base.specs.MessagesLaws.{gained, gained_none, gained_if}
 use Rattle.ritas_base.specs.Tags.{Tags}
 use Rattle.layer_api.specs.Broadcast.{news}
-use Rattle.layer_api.specs.Replicas.{range_has, replica_below}
+use Rattle.layer_api.specs.ReplicaLaws.{range_has, replica_below}
 use Rattle.reliable_bcast.specs.declared.digest_rb.Known.{Known}
 use Rattle.reliable_bcast.specs.declared.digest_rb.DigestRb.{DigestRb}
 use Rattle.reliable_bcast.specs.Bracha.{some_carried, ready_value, out_of as carried_of}

@@ -8,7 +8,7 @@ use Rattle.ritas_base.specs.declared.id.Id.{Id}
 use Rattle.ritas_base.specs.Slots.{has_class}
 use Rattle.layer_api.specs.Words.{Word, Hear, asked}
 use Rattle.layer_api.specs.Service.{Seat, Instance, Decision, Spent, Undecided, Decided, AreProper, IsEnding, Meanings, has_id, has_instance, is_finished, is_past, WordLaws}
-use Rattle.layer_api.specs.LogFits.{ids_fit}
+use Rattle.layer_api.specs.LogLengthLaws.{ids_fit}
 use Rattle.layer_api.specs.Vectors.{VectorRules, VectorLaws, is_vector_slot}
 use Rattle.atomic_bcast.specs.Rounds.{round_scope, round_desk, log_below, complete_of, round_words, round_decides, round_opens, inside_of, rounds, atomic, round_of}
 use Rattle.atomic_bcast.specs.Laws.WordsMeet.{session_of, round_met, round_opened}

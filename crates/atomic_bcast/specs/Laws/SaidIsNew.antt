@@ -17,7 +17,7 @@ use Rattle.layer_api.specs.Part.{part_of}
 use Rattle.layer_api.specs.FedLaws.{say_append}
 use Rattle.layer_api.specs.FreshLaws.{unsaid, has_said, fresh_append, fresh_other, fresh_in, fresh_each}
 use Rattle.layer_api.specs.Vectors.{VectorRules, VectorLaws, is_vector_slot, MayVector, IsVectorSaid}
-use Rattle.layer_api.specs.VectorSlots.{vector_slot_right}
+use Rattle.layer_api.specs.VectorSlotLaws.{vector_slot_right}
 use Rattle.atomic_bcast.specs.Commands.{says_of}
 use Rattle.atomic_bcast.specs.Rounds.{round_scope, round_desk, is_of_round, round_ask, round_words, says_below, rounds, atomic}
 use Rattle.atomic_bcast.specs.Laws.WordsMeet.{root_of, round_met}

@@ -13,7 +13,7 @@ use Rattle.layer_api.specs.Words.{Word, Ask, Hear, asked, bit_byte}
 use Rattle.layer_api.specs.FreshLaws.{fresh_other}
 use Rattle.layer_api.specs.OneInstance.{is_given, not_given, given_some, given_stays, HasOneInstance, IsInstanceSaid, served, asked_once, instance_word_laws}
 use Rattle.layer_api.specs.Binary.{BinaryRules, IsStepSlot, IsVote, MayVote, AreVotes, IsVoteSaid, BoxLaws}
-use Rattle.layer_api.specs.Votes.{value_vote, vote_value, input_bit}
+use Rattle.layer_api.specs.VoteLaws.{value_vote, vote_value, input_bit}
 use Rattle.binary_consensus.specs.Root.{bench_of, is_step, ending, decided_in, binary_root}
 
 module _ (b : BinaryRules) where

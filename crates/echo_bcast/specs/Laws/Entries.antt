@@ -29,7 +29,7 @@ use Rattle.layer_api.specs.Runs.{Has}
 use Rattle.layer_api.specs.HasLaws.{has_right}
 use Rattle.echo_bcast.specs.Matrix.{echo, as_entry, hashes_bytes, hashes_in, senders_of, rows_for}
 use Rattle.echo_bcast.specs.Laws.Columns.{as_entry_is, AreLong, senders_ones, senders_have, column_mask}
-use Rattle.layer_api.specs.Replicas.{replica_below}
+use Rattle.layer_api.specs.ReplicaLaws.{replica_below}
 use Rattle.echo_bcast.specs.Due.{IsDue, OfSend, OfHashes, OfColumn, IsHashes, IsColumnOf, due_is}
 use Rattle.echo_bcast.specs.Laws.Good.{columns_long}
 

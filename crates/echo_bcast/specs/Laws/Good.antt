@@ -26,7 +26,7 @@ use Rattle.layer_api.specs.Entries.{sent, entries_of, entry_of}
 use Rattle.layer_api.specs.OneValue.{AreGoodCalls, IsOfSlot}
 use Rattle.echo_bcast.specs.Matrix.{echo, hashes_in, hashes_bytes, column_for}
 use Rattle.echo_bcast.specs.Due.{IsDue, OfSend, OfHashes, OfColumn, IsColumnOf}
-use Rattle.layer_api.specs.Replicas.{replica_below}
+use Rattle.layer_api.specs.ReplicaLaws.{replica_below}
 use Rattle.echo_bcast.specs.Laws.Columns.{hashes_good, hashes_long, AreLong, are_long, column_good}
 
 -- the value of an item of the slot is the payload of its kind

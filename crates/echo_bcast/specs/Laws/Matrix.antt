@@ -17,7 +17,7 @@ use Rattle.layer_api.specs.Runs.{Has}
 use Rattle.layer_api.specs.HasLaws.{has_either, has_left, has_listed, has_right, listed_has}
 use Rattle.layer_api.specs.OneValue.{ValueLaws, IsReceiver}
 use Rattle.echo_bcast.specs.Matrix.{echo, hashes_for, columns_at, columns_due, due_of, is_good, out_of, is_of_echo}
-use Rattle.layer_api.specs.Replicas.{replica_below}
+use Rattle.layer_api.specs.ReplicaLaws.{replica_below}
 use Rattle.echo_bcast.specs.Due.{IsDue, OfSend, OfHashes, OfColumn, due_is}
 use Rattle.echo_bcast.specs.Laws.OneValue.{out_is}
 use Rattle.echo_bcast.specs.Laws.Once.{repeats_other, stays_there, due_once}

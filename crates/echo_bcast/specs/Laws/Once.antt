@@ -30,7 +30,7 @@ use Rattle.layer_api.specs.HasLaws.{has_listed}
 use Rattle.echo_bcast.specs.Matrix.{echo, hashes_for, hashes_in, senders_of, rows_for, column_for, columns_of, columns_at, columns_due, due_of, has_news, repeats_one}
 use Rattle.echo_bcast.specs.Laws.Columns.{hashes_long, are_long, rows_length}
 use Rattle.echo_bcast.specs.Due.{send_is, hashes_is, columns_of_is, column_is, column_due}
-use Rattle.layer_api.specs.Replicas.{replica_below}
+use Rattle.layer_api.specs.ReplicaLaws.{replica_below}
 
 -- ---- items that repeat none
 

@@ -20,7 +20,7 @@ use Rattle.layer_api.specs.Runs.{Step, Has, calls_of, IsEnough}
 use Rattle.layer_api.specs.HasLaws.{has_left, has_map, has_right, map_has}
 use Rattle.layer_api.specs.OneValue.{Group, place_of, met_at, IsFed, IsRun, IsClear, OneValue}
 use Rattle.echo_bcast.specs.Matrix.{echo, is_good, out_of}
-use Rattle.layer_api.specs.Replicas.{has_replica}
+use Rattle.layer_api.specs.ReplicaLaws.{has_replica}
 use Rattle.echo_bcast.specs.Due.{send_due}
 
 -- what is delivered was sent here, and an echo quorum is good

@@ -25,7 +25,7 @@ use Rattle.layer_api.specs.Service.{Instance, OfBit, OfValue, OfVector, Decision
 use Rattle.layer_api.specs.DecisionLaws.{decided_value, same_value}
 use Rattle.layer_api.specs.Words.{Word, Ask, Hear, HasSay, is_said, value_at, all_said, AreFresh}
 use Rattle.layer_api.specs.Binary.{BinaryRules, BoxLaws, IsStepSlot, MayBit, IsVoteSaid, bits_said}
-use Rattle.layer_api.specs.Votes.{vote_value}
+use Rattle.layer_api.specs.VoteLaws.{vote_value}
 use Rattle.layer_api.specs.Part.{proposed, newly, part_of, says_in}
 use Rattle.layer_api.specs.FedLaws.{some_if, say_append, shortest_at, newly_said, proposed_stays, heard_met}
 use Rattle.layer_api.specs.PartLaws.{says_in_all}

@@ -9,7 +9,7 @@ use Rattle.ritas_base.specs.Slots.{within, has_count}
 use Rattle.layer_api.specs.Runs.{Step, calls_of, inner_run}
 use Rattle.layer_api.specs.Words.{Word, Ask, Hear, HasSay, bit_byte}
 use Rattle.layer_api.specs.Binary.{BinaryRules, BoxLaws, IsStepSlot, MayBit, AreVotes, IsVoteSaid, binary_play, bits_said}
-use Rattle.layer_api.specs.Votes.{value_vote}
+use Rattle.layer_api.specs.VoteLaws.{value_vote}
 use Rattle.layer_api.specs.Part.{proposed, newly, passed, part_of}
 use Rattle.layer_api.specs.Fed.{Play, Met, IsFedRun}
 use Rattle.layer_api.specs.FedLaws.{say_append, newly_said, proposed_stays, kept_over, Stays}

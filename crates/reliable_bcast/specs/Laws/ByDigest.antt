@@ -19,7 +19,7 @@ use Rattle.ritas_base.specs.MessagesLaws.{to_all_has, has_append}
 use Rattle.ritas_base.specs.Tags.{Tags}
 use Rattle.frame_codec.specs.Body.{is_of_form}
 use Rattle.layer_api.specs.Entries.{Print, OfMessage, is_hashed, prints_at_kind}
-use Rattle.layer_api.specs.Replicas.{range_has, replica_below}
+use Rattle.layer_api.specs.ReplicaLaws.{range_has, replica_below}
 use Rattle.layer_api.specs.Runs.{Has}
 use Rattle.layer_api.specs.HasLaws.{has_listed, listed_has, has_map, map_has}
 use Rattle.layer_api.specs.OneValue.{ValueLaws, IsOnce, IsReceiver}

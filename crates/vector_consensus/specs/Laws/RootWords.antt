@@ -15,7 +15,7 @@ use Rattle.layer_api.specs.FreshLaws.{fresh_other}
 use Rattle.layer_api.specs.OneInstance.{HasOneInstance, IsInstanceSaid, served, instance_word_laws}
 use Rattle.layer_api.specs.Words.{Word, Ask, Hear}
 use Rattle.layer_api.specs.Vectors.{VectorRules, is_vector_slot, AreVector, IsVectorSaid, VectorLaws}
-use Rattle.layer_api.specs.VectorSlots.{no_command, vector_slot_right}
+use Rattle.layer_api.specs.VectorSlotLaws.{no_command, vector_slot_right}
 use Rattle.vector_consensus.specs.Root.{desk_of, ending, decided_in, vector_root}
 use Rattle.vector_consensus.specs.Laws.RootLog.{may_word}
 

@@ -17,7 +17,7 @@ use Rattle.frame_codec.specs.Values.{at_place, row_of, column_bytes}
 use Rattle.layer_api.specs.Entries.{sent, entry_in, entries_of}
 use Rattle.layer_api.specs.OneDue.{HasEntriesOf}
 use Rattle.layer_api.specs.OneValue.{AreGoodCalls, IsOfSlot}
-use Rattle.layer_api.specs.Replicas.{replica_below}
+use Rattle.layer_api.specs.ReplicaLaws.{replica_below}
 use Rattle.echo_bcast.specs.Laws.Columns.{AreLong, senders_have}
 use Rattle.echo_bcast.specs.Due.{IsDue, OfSend, OfHashes, OfColumn, IsColumnOf, due_is}
 use Rattle.echo_bcast.specs.Laws.Entries.{is_there, count_from, count_behind, placed_row, row_written, column_alone}

@@ -1,5 +1,5 @@
 use Rattle.frame_codec.specs.ColumnLaws.{vector_again}
-use Rattle.frame_codec.specs.EntryCounts.{entries_by_place}
+use Rattle.frame_codec.specs.EntryCountLaws.{entries_by_place}
 use Rattle.frame_codec.specs.VectorLaws.{vector_written, vector_is}
 use Rattle.frame_codec.proofs.laws.vector_law.Goals as goal
 
