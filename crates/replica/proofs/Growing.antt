@@ -22,7 +22,7 @@ use Rattle.ritas_core.specs.Rules.{Rules, seat_of}
 use Rattle.ritas_core.specs.Parts.{Entry, Took, Given, Parts, parts, heard_at, taken_at, item_delivers}
 use Rattle.ritas_core.specs.Machine.{with_entry}
 use Rattle.ritas_core.specs.Laws.{LayerLaws}
-use Rattle.ritas_core.specs.Heard.{heard_delivered, delivered_stays}
+use Rattle.ritas_core.specs.HeardLaws.{heard_delivered, delivered_stays}
 use Rattle.replica.specs.CommandRows.{command_of, ids_at, entries_at, rows_at, HasCommand}
 
 abbrev pub WordsAt : Rules → List Entry → List Word

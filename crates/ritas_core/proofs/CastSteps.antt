@@ -17,7 +17,7 @@ use Rattle.layer_api.specs.BroadcastCalls.{CastShown, ShowsCast, Starts, Dies}
 use Rattle.ritas_base.specs.declared.mode.Mode.{Mode}
 use Rattle.ritas_core.specs.declared.cast.Cast.{Cast}
 use Rattle.ritas_core.specs.Rules.{rules_by, CastRules, route_of, casts_by, place_at, out_at}
-use Rattle.ritas_core.specs.Cast.{CastStands, CastStandsAt, is_live, shown_by}
+use Rattle.ritas_core.specs.SlotCast.{CastStands, CastStandsAt, is_live, shown_by}
 use Rattle.ritas_core.specs.Casts.{CastsStand, called, newly}
 use Rattle.ritas_core.specs.CastCalls.{CanStart, StartsCast, StartsNone, CanTake, HearsItem, CastsFail, CastsHear}
 use Rattle.layer_api.specs.OneValue.{ValueLaws}

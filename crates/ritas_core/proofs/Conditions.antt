@@ -25,7 +25,7 @@ use Rattle.ritas_core.specs.Parts.{Entry, Took, Given, Parts, parts, told_to, he
 use Rattle.ritas_core.specs.PartsLaws.{newly_before, newly_after}
 use Rattle.ritas_core.specs.Checks.{is_item_past, is_item_ahead, IsTakable, IsGivable, IsHistory}
 use Rattle.ritas_core.specs.Laws.{LayerLaws}
-use Rattle.ritas_core.specs.Heard.{heard_delivered}
+use Rattle.ritas_core.specs.HeardLaws.{heard_delivered}
 use Rattle.layer_api.specs.PartLaws.{heard_is}
 use Rattle.ritas_core.proofs.TestLaws.{left_false, right_false, left_true, right_true, or_flip}
 use Rattle.ritas_core.proofs.GoodSlots.{slot_number, slot_origin, of_slot}

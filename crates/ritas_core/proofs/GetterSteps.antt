@@ -9,7 +9,7 @@ use Rattle.ooc_buffers.specs.Lists.{Kept, held_bytes}
 use Rattle.ritas_core.specs.declared.kernel.Core.{Core}
 use Rattle.ritas_core.specs.declared.cast.Cast.{Cast}
 use Rattle.ritas_core.specs.Rules.{Rules}
-use Rattle.ritas_core.specs.Cast.{shown_by}
+use Rattle.ritas_core.specs.SlotCast.{shown_by}
 use Rattle.ritas_core.specs.Casts.{shown_out}
 use Rattle.ritas_core.specs.Parts.{Entry}
 use Rattle.ritas_core.specs.Machine.{CoreState, with_entry, with_lost}

@@ -8,7 +8,7 @@ use Rattle.ritas_base.specs.History.{Take}
 use Rattle.layer_api.specs.Words.{Hear}
 use Rattle.ritas_core.specs.declared.layers.Layers.{Layers}
 use Rattle.ritas_core.specs.declared.cast.Cast.{Cast}
-use Rattle.ritas_core.specs.Cast.{CastStandsAt}
+use Rattle.ritas_core.specs.SlotCast.{CastStandsAt}
 use Rattle.ritas_core.specs.Casts.{news_at}
 use Rattle.ritas_core.specs.CastCalls.{CanTake, CastsTake}
 use Rattle.ritas_core.specs.Parts.{Parts, Took, told_news, heard_at, heard_news, taken_at, item_delivers, made_by}

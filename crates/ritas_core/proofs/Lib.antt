@@ -24,6 +24,6 @@ pub mod CoreSteps
 pub mod JudgeSteps
 pub mod CallSteps
 pub mod PassSteps
-pub mod HoldSteps
+pub mod HoldOutcomes
 pub mod WholeCalls
 pub mod GetterSteps

@@ -22,7 +22,7 @@ use Rattle.ritas_core.specs.declared.cast.Cast.TheVariants.{Plain, Digest, Other
 use Rattle.ritas_core.specs.declared.route.Route.{Route}
 use Rattle.ritas_core.specs.declared.route.Route.TheVariants as routes
 use Rattle.ritas_core.specs.Rules.{rules_by}
-use Rattle.ritas_core.specs.Cast.{CastStands, is_live, shown_by}
+use Rattle.ritas_core.specs.SlotCast.{CastStands, is_live, shown_by}
 
 -- a value that stands for calls where one inside does, by the same rules
 module _ {A B : Type 0} (stands : A → Place → Tags → List Call → Type 0) (r : BroadcastRules) (live : A → Bool) (shown : A → CastShown)

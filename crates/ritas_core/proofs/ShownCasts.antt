@@ -17,7 +17,7 @@ use Rattle.layer_api.specs.OneValue.{ValueLaws}
 use Rattle.ritas_core.specs.declared.cast.Cast.{Cast}
 use Rattle.ritas_core.specs.Rules.{CastRules, route_of, casts_by, place_at, out_at}
 use Rattle.ritas_core.specs.RulesLaws.{laws_at}
-use Rattle.ritas_core.specs.Cast.{CastStandsAt, shown_by}
+use Rattle.ritas_core.specs.SlotCast.{CastStandsAt, shown_by}
 use Rattle.ritas_core.specs.Casts.{CastsStand, CastsShowAt, CastsShow, called, started_all, shown_out}
 use Rattle.ritas_core.specs.CastCalls.{HearsNone}
 use Rattle.ritas_core.proofs.OneCast.{shows_at}

@@ -14,7 +14,7 @@ use Rattle.layer_api.specs.ServiceCalls.{ServiceShown, Shows, ShowsBetween}
 use Rattle.ritas_core.specs.declared.layers.Layers.{Layers}
 use Rattle.ritas_core.specs.declared.cast.Cast.{Cast}
 use Rattle.ritas_core.specs.Rules.{Rules, seat_of, out_at}
-use Rattle.ritas_core.specs.Cast.{CastStandsAt, shown_by}
+use Rattle.ritas_core.specs.SlotCast.{CastStandsAt, shown_by}
 use Rattle.ritas_core.specs.Casts.{CastsShowAt}
 use Rattle.ritas_core.specs.CastCalls.{CanTake, CastsFail}
 use Rattle.ritas_core.specs.Parts.{Parts, Entry, Took, Given, parts, told_to, heard_at, taken_at, item_delivers}

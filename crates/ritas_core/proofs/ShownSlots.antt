@@ -13,7 +13,7 @@ use Rattle.ritas_core.specs.Rules.{Rules, seat_of}
 use Rattle.ritas_core.specs.Parts.{Entry, Took, Given, Parts, parts, heard_at, taken_at, item_delivers}
 use Rattle.ritas_core.specs.Checks.{IsHistory}
 use Rattle.ritas_core.specs.Laws.{LayerLaws}
-use Rattle.ritas_core.specs.Heard.{heard_delivered}
+use Rattle.ritas_core.specs.HeardLaws.{heard_delivered}
 use Rattle.ritas_core.specs.Machine.{with_entry}
 use Rattle.ritas_core.specs.LayerCalls.{is_behind, mark_shown, is_past_shown, hides_shown}
 use Rattle.ritas_core.specs.Shown.{delivered_at, is_hidden, shown_at}

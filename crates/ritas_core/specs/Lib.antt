@@ -1,6 +1,6 @@
 pub mod Rules
 pub mod RulesLaws
-pub mod Cast
+pub mod SlotCast
 pub mod Casts
 pub mod CastCalls
 pub mod Parts
@@ -15,7 +15,7 @@ pub mod Calls
 pub mod CoreCalls
 pub mod Shown
 pub mod Laws
-pub mod Heard
+pub mod HeardLaws
 pub mod StandsLaws
 pub mod CoreOf
 pub mod Rows

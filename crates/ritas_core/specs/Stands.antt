@@ -14,7 +14,7 @@ use Rattle.ooc_buffers.specs.Lists.{Kept}
 use Rattle.ritas_core.specs.declared.layers.Layers.{Layers}
 use Rattle.ritas_core.specs.declared.kernel.Core.{Core}
 use Rattle.ritas_core.specs.Rules.{Rules, casts_by, seat_of, FormsFit}
-use Rattle.ritas_core.specs.Cast.{CastStandsAt, shown_by}
+use Rattle.ritas_core.specs.SlotCast.{CastStandsAt, shown_by}
 use Rattle.ritas_core.specs.Casts.{CastsStand, CastsShow}
 use Rattle.ritas_core.specs.Parts.{Parts, parts}
 use Rattle.ritas_core.specs.Checks.{IsHistory, IsGood}

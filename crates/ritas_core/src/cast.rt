@@ -8,7 +8,7 @@ ghost use Rattle.ritas_base.specs.Tags.{Tags};
 ghost use Rattle.layer_api.specs.BroadcastCalls.{Started, Takes};
 ghost use Rattle.ritas_core.specs.declared.route.Route.{Route};
 ghost use Rattle.ritas_core.specs.Rules.{route_of, rules_by};
-ghost use Rattle.ritas_core.specs.Cast.{CastStands, CastStandsAt, is_live, shown_by};
+ghost use Rattle.ritas_core.specs.SlotCast.{CastStands, CastStandsAt, is_live, shown_by};
 
 use crate::route::Route;
 use layer_api::{Broadcast, Heard};

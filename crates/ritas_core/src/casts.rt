@@ -5,7 +5,7 @@ ghost use Rattle.std.specs.BTreeMap.{get};
 ghost use Rattle.ritas_base.specs.SlotOrder.{slot_cmp};
 ghost use Rattle.ritas_base.specs.Tags.{Tags};
 ghost use Rattle.ritas_core.specs.Rules.{casts_by};
-ghost use Rattle.ritas_core.specs.Cast.{CastStandsAt, shown_by};
+ghost use Rattle.ritas_core.specs.SlotCast.{CastStandsAt, shown_by};
 ghost use Rattle.ritas_core.specs.CastCalls.{StartsCast, StartsNone, StartsCasts, StartsFewer};
 
 use crate::cast::Cast;

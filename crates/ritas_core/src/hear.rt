@@ -10,7 +10,7 @@ ghost use Rattle.ritas_base.specs.Numbers.{Numbers};
 ghost use Rattle.ritas_base.specs.Tags.{Tags};
 ghost use Rattle.ritas_core.specs.declared.route.Route.{Route};
 ghost use Rattle.ritas_core.specs.Rules.{casts_by, rules_by};
-ghost use Rattle.ritas_core.specs.Cast.{CastStands, CastStandsAt, shown_by};
+ghost use Rattle.ritas_core.specs.SlotCast.{CastStands, CastStandsAt, shown_by};
 ghost use Rattle.ritas_core.specs.Casts.{CastsStand};
 ghost use Rattle.ritas_core.specs.CastCalls.{HearsItem, CastsHear, is_ready_in};
 

@@ -11,12 +11,12 @@ use Rattle.ritas_base.specs.declared.id.Id.{Id}
 use Rattle.world_model.specs.declared.audit.Audit.TheVariants.{Holds}
 use Rattle.world_model.specs.World.{Setting, rules_at, states_of}
 use Rattle.world_model.specs.Audit.{has_too_many, first_broken, audit_of}
-use Rattle.world_model.specs.Agreement.{history_of}
+use Rattle.world_model.specs.OneValueEach.{history_of}
 use Rattle.world_model.specs.Agree.{log_of, command_of, OneIsPart, Agree, AgreeLaw}
 use Rattle.world_model.proofs.Law.{audit_parts, enough_of, law_of}
 use Rattle.world_model.proofs.Said.{asked_given}
 use Rattle.world_model.proofs.Logged.{ids_distinct, rows_one, row_submitted, row_confirmed_at}
-use Rattle.world_model.proofs.Words.{WordsAt, session_of, words_after}
+use Rattle.world_model.proofs.WordRuns.{WordsAt, session_of, words_after}
 use Rattle.world_model.specs.CoreLaws.{CoreLaws}
 use Rattle.world_model.proofs.Below.{IsSoundOver}
 

@@ -3,7 +3,7 @@ use Rattle.std.proofs.Common.{ℕ, ◌<◌}
 use Rattle.ritas_core.specs.Rules.{Rules}
 use Rattle.ritas_core.specs.Laws.{LayerLaws}
 use Rattle.world_model.specs.World.{Setting, rules_at}
-use Rattle.world_model.specs.Agreement.{IsSound}
+use Rattle.world_model.specs.OneValueEach.{IsSound}
 use Rattle.world_model.specs.CoreLaws.{CoreLaws}
 
 -- with those of one replica's layers

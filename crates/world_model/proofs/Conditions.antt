@@ -20,7 +20,7 @@ use Rattle.ritas_core.specs.Machine as core
 use Rattle.ritas_core.specs.Machine.{CoreState, What, MayGive, entered, gives, given_input, turned, moved_live, moved}
 use Rattle.replica.specs.Handling.{Call, Frame, Input, Turn, given_body, given_frame, handled}
 use Rattle.world_model.specs.World.{Setting, rules_at, CallAt, call_of, handled_at, after_call, states_of, states_before}
-use Rattle.world_model.specs.Agreement.{Codec}
+use Rattle.world_model.specs.OneValueEach.{Codec}
 use Rattle.world_model.proofs.Below.{IsFounded}
 use Rattle.world_model.proofs.Stored.{AreAll, AreAllHeld, all_append, all_own, all_released, all_remaining, all_with_kept, none_held}
 use Rattle.world_model.proofs.Worlds.{input_good}

@@ -17,7 +17,7 @@ use Rattle.ritas_core.specs.declared.route.Route.TheVariants as routes
 use Rattle.ritas_core.specs.Rules.{FormsFit, route_of, rules_by}
 use Rattle.ritas_core.specs.RulesLaws.{kinds_fit}
 use Rattle.world_model.specs.World.{Setting, rules_at}
-use Rattle.world_model.specs.Agreement.{Channel, Codec, IsSound}
+use Rattle.world_model.specs.OneValueEach.{Channel, Codec, IsSound}
 use Rattle.world_model.specs.Agree.{AgreeLaw}
 use Rattle.world_model.specs.EveryWorld.{IsWorld, AgreementLaw}
 

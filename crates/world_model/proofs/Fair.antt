@@ -16,7 +16,7 @@ use Rattle.keyed_channel.specs.KeyRow.{KeyRow, key_with}
 use Rattle.keyed_channel.specs.Keyed.{tags_of, other_of, entry_string}
 use Rattle.keyed_channel.specs.Laws.{OpensAsSealed, OpenedFromPeer, SealedLength}
 use Rattle.world_model.specs.World.{Setting}
-use Rattle.world_model.specs.Agreement.{Codec}
+use Rattle.world_model.specs.OneValueEach.{Codec}
 use Rattle.world_model.specs.CoreLaws.{CoreLaws}
 use Rattle.world_model.specs.EveryWorld.{IsWorld}
 use Rattle.world_model.specs.Stands.{NoneStops}

@@ -13,7 +13,7 @@ use Rattle.ritas_core.specs.Parts.{Entry}
 use Rattle.replica.specs.CommandRows as replica
 use Rattle.replica.proofs.Growing.{rows_grow, part_itself}
 use Rattle.world_model.specs.World.{Setting, rules_at, CallAt, call_of, handled_at, after_call, states_of, states_before}
-use Rattle.world_model.specs.Agreement.{Codec, history_of}
+use Rattle.world_model.specs.OneValueEach.{Codec, history_of}
 use Rattle.world_model.specs.Agree.{rows_at}
 use Rattle.world_model.specs.CoreLaws.{CoreLaws}
 use Rattle.world_model.specs.EveryWorld.{IsWorld, LogsGrow}

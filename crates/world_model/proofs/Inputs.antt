@@ -15,7 +15,7 @@ use Rattle.ritas_core.specs.Rules.{Rules, seat_of}
 use Rattle.ritas_core.specs.Casts.{called, started_all}
 use Rattle.ritas_core.specs.Parts.{Parts, Entry, Took, Given, parts, heard_at, taken_at, item_delivers}
 use Rattle.ritas_core.specs.Checks.{IsHistory}
-use Rattle.world_model.specs.Agreement.{inputs_of, input_at}
+use Rattle.world_model.specs.OneValueEach.{inputs_of, input_at}
 use Rattle.world_model.proofs.Below.{IsFounded}
 
 -- ---- the value that was started

@@ -17,7 +17,7 @@ use Rattle.world_model.specs.declared.audit.Audit.{Audit}
 use Rattle.world_model.specs.declared.audit.Audit.TheVariants as audits
 use Rattle.world_model.specs.World.{Setting, rules_at, states_of}
 use Rattle.world_model.specs.Audit.{calls_at, first_broken, has_too_many, prints_at, is_colliding, audit_of}
-use Rattle.world_model.specs.Agreement.{history_of, delivered, OneValueEach, WorldLaw}
+use Rattle.world_model.specs.OneValueEach.{history_of, delivered, OneValueEach, WorldLaw}
 use Rattle.world_model.proofs.Runs.{group_at, RunAt, calls_after}
 use Rattle.world_model.proofs.Earlier.{RunTo, run_back}
 use Rattle.world_model.proofs.Prints.{print_there, none_apart}

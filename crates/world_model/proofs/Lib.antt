@@ -18,7 +18,7 @@ pub mod Earlier
 pub mod Law
 pub mod Prefixes
 pub mod Said
-pub mod Words
+pub mod WordRuns
 pub mod Logged
 pub mod Agreed
 pub mod Positions

@@ -19,12 +19,12 @@ use Rattle.layer_api.specs.PartLaws.{heard_is}
 use Rattle.command_log.specs.Rows.{Row, row_of, is_same, is_origin, origins, entry_of, entries_of, IsIn, HasRow}
 use Rattle.command_log.specs.Laws.{command_part, row_is, row_confirmed, AreOne, one_from, IsOriginOf, origin_is}
 use Rattle.ritas_core.specs.Rules.{seat_of}
-use Rattle.ritas_core.specs.Heard.{heard_delivered}
+use Rattle.ritas_core.specs.HeardLaws.{heard_delivered}
 use Rattle.world_model.specs.declared.audit.Audit.TheVariants.{Holds}
 use Rattle.world_model.specs.World.{Setting, rules_at}
 use Rattle.world_model.specs.Audit.{has_too_many, first_broken, audit_of}
 use Rattle.ritas_core.specs.Parts.{Entry, Took, Given}
-use Rattle.world_model.specs.Agreement.{inputs_of, input_at, history_of, OneValueEach}
+use Rattle.world_model.specs.OneValueEach.{inputs_of, input_at, history_of, OneValueEach}
 use Rattle.world_model.specs.Agree.{words_of, log_of, command_of, rows_at, OneIsPart, HasInput, IsSubmitted, IsConfirmed}
 use Rattle.world_model.proofs.Worlds.{layer_laws, world_after}
 use Rattle.world_model.proofs.Law.{audit_parts, enough_of}

@@ -14,7 +14,7 @@ use Rattle.ritas_core.specs.Rules.{Rules, seat_of, out_at}
 use Rattle.ritas_core.specs.Casts.{called, started_all}
 use Rattle.ritas_core.specs.Parts.{Parts, Entry, Took, Given, parts, heard_at, taken_at, item_delivers}
 use Rattle.ritas_core.specs.PartsLaws.{newly_after}
-use Rattle.ritas_core.specs.Heard.{starts_deliver}
+use Rattle.ritas_core.specs.HeardLaws.{starts_deliver}
 use Rattle.world_model.specs.Agree.{HasInput}
 use Rattle.world_model.proofs.Inputs.{say_of, started_from, take_started}
 use Rattle.world_model.proofs.Below.{IsFounded}

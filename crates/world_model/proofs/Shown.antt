@@ -22,7 +22,7 @@ use Rattle.ritas_core.specs.Checks.{IsHistory}
 use Rattle.ritas_core.specs.Machine.{CoreState}
 use Rattle.replica.specs.Frames.{body_of, sealed_onto, made_for}
 use Rattle.world_model.specs.World.{Setting, rules_at, states_of}
-use Rattle.world_model.specs.Agreement.{Codec}
+use Rattle.world_model.specs.OneValueEach.{Codec}
 use Rattle.world_model.specs.CoreLaws.{CoreLaws}
 use Rattle.world_model.specs.EveryWorld.{IsWorld}
 use Rattle.world_model.specs.Stands.{frames_from}

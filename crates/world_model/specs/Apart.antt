@@ -5,7 +5,7 @@ use Rattle.ritas_base.specs.declared.slot.Slot.{Slot}
 use Rattle.layer_api.specs.Service.{Instance, LastVector, Decision, Decided}
 use Rattle.command_log.specs.Rows.{Row, row_at}
 use Rattle.world_model.specs.World.{Setting}
-use Rattle.world_model.specs.Agreement.{delivered}
+use Rattle.world_model.specs.OneValueEach.{delivered}
 use Rattle.world_model.specs.Agree.{rows_at, log_of, outcome_of, decision_of, last_of, Agree}
 
 -- two different replicas, both correct

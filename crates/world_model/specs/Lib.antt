@@ -3,7 +3,7 @@ pub mod MadeOrder
 pub mod FramesMade
 pub mod Counts
 pub mod Audit
-pub mod Agreement
+pub mod OneValueEach
 pub mod CoreLaws
 pub mod Agree
 pub mod Apart

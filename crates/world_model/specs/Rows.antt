@@ -32,7 +32,7 @@ use Rattle.world_model.specs.declared.audit.Audit.TheVariants as audits
 use Rattle.world_model.specs.declared.seen.Seen.TheVariants as seen_as
 use Rattle.world_model.specs.World.{Setting, rules_at, call_of, states_of, seen_of}
 use Rattle.world_model.specs.Audit.{newest_item, prints_in, clashes, broken_by, judged, has_too_many, audit_of}
-use Rattle.world_model.specs.Agreement.{input_at}
+use Rattle.world_model.specs.OneValueEach.{input_at}
 use Rattle.world_model.specs.Agree.{OneIsPart}
 use Rattle.world_model.specs.Counts.{no_counts, counted}
 use Rattle.world_model.specs.FramesMade.{MadeTable, made_in, made_at, with_frames}

@@ -6,7 +6,7 @@ use Rattle.command_log.specs.Rows.{Row, row_at}
 use Rattle.ritas_core.specs.Machine.{with_lost}
 use Rattle.ritas_core.specs.Calls.{stopped}
 use Rattle.world_model.specs.World.{Setting, call_of, states_of}
-use Rattle.world_model.specs.Agreement.{history_of}
+use Rattle.world_model.specs.OneValueEach.{history_of}
 use Rattle.world_model.specs.Agree.{rows_at, OneIsPart, Agree}
 use Rattle.world_model.specs.Stands.{NoneStops, IsTaking}
 

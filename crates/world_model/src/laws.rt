@@ -4,7 +4,7 @@ ghost use Rattle.std.specs.Prelude.{◌≡◌, List, ◌++◌};
 ghost use Rattle.ritas_base.specs.declared.event.Event.{Event};
 ghost use Rattle.world_model.specs.World.{Setting};
 ghost use Rattle.world_model.specs.Audit.{audit_of};
-ghost use Rattle.world_model.specs.Agreement.{WorldLaw};
+ghost use Rattle.world_model.specs.OneValueEach.{WorldLaw};
 ghost use Rattle.world_model.specs.CoreLaws.{CoreLaws};
 ghost use Rattle.world_model.specs.Agree.{AgreeLaw};
 ghost use Rattle.world_model.specs.Apart.{NoTwoValues, NoTwoRows, NoTwoIdentifierLogs, NoTwoOutcomes, NoTwoDecisions, NoTwoVectors};

@@ -6,7 +6,7 @@ use Rattle.ritas_base.specs.declared.slot.Slot.{Slot}
 use Rattle.ritas_base.specs.declared.item.Say.{Say}
 use Rattle.ritas_base.specs.History.{Call, Start}
 use Rattle.ritas_core.specs.Rules.{casts_by}
-use Rattle.ritas_core.specs.Cast.{CastStandsAt}
+use Rattle.ritas_core.specs.SlotCast.{CastStandsAt}
 use Rattle.ritas_core.specs.Casts.{CastsStand, started_all, start_news, news_at}
 use Rattle.ritas_core.specs.CastCalls.{CanStartAll, CanStart}
 use Rattle.ritas_core.proofs.TestLaws.{on_err_here}

@@ -2,7 +2,7 @@ use Rattle.std.proofs.Common.{◌≡◌, ◌++◌, List, take}
 use Rattle.ritas_base.specs.declared.slot.Slot.{Slot}
 use Rattle.ritas_base.specs.History.{Call}
 use Rattle.ritas_core.specs.Rules.{casts_by}
-use Rattle.ritas_core.specs.Cast.{CastStandsAt}
+use Rattle.ritas_core.specs.SlotCast.{CastStandsAt}
 use Rattle.ritas_core.specs.Casts.{CastsStand, started_all, start_news}
 use Rattle.ritas_core.specs.CastCalls.{CanStartAll}
 use Rattle.ritas_core.proofs.casts.start_casts.Given as goal

@@ -4,7 +4,7 @@ use Rattle.ritas_base.specs.declared.bytes.Mem.{Mem}
 use Rattle.layer_api.specs.Broadcast.{Tagging}
 use Rattle.ritas_core.specs.declared.taken.Taken.{Taken}
 use Rattle.ritas_core.specs.Rules.{rules_by}
-use Rattle.ritas_core.specs.Cast.{CastStands, is_live, shown_by}
+use Rattle.ritas_core.specs.SlotCast.{CastStands, is_live, shown_by}
 use Rattle.ritas_core.specs.CastCalls.{HearsItem}
 use Rattle.ritas_core.proofs.OneCast.{shows_at}
 use Rattle.ritas_core.proofs.ShownCasts.{none_hears, late_hears}

@@ -7,7 +7,7 @@ use Rattle.ritas_core.specs.declared.verdict.Verdict.TheVariants as verdicts
 use Rattle.ritas_core.specs.Checks.{body_length, IsGood}
 use Rattle.ritas_core.specs.CoreCalls.{DoesJudged}
 use Rattle.ritas_core.specs.Stands.{Meaning, meaning, rules_of}
-use Rattle.ritas_core.proofs.HoldSteps.{full_from, full_does}
+use Rattle.ritas_core.proofs.HoldOutcomes.{full_from, full_does}
 use Rattle.ritas_core.proofs.kernel.Core.copy_front.Goals as goal
 
 pub returns-in-Some-full_for : goal.returns-in-Some-full_for

@@ -4,7 +4,7 @@ use Rattle.ooc_buffers.specs.declared.held.HoldFault.TheVariants as faults
 use Rattle.ooc_buffers.specs.Lists.{held_bytes}
 use Rattle.ritas_core.specs.Checks.{body_length, IsGood}
 use Rattle.ritas_core.specs.Stands.{Meaning, meaning, rules_of}
-use Rattle.ritas_core.proofs.HoldSteps.{room_from, hold_does, full_does, mem_does}
+use Rattle.ritas_core.proofs.HoldOutcomes.{room_from, hold_does, full_does, mem_does}
 use Rattle.ritas_core.proofs.kernel.Core.hold.Goals as goal
 
 abbrev Answer : Type 0

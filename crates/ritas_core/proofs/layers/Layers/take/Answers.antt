@@ -5,7 +5,7 @@ use Rattle.layer_api.specs.declared.broadcast.Heard.{Heard}
 use Rattle.ritas_core.specs.declared.taken.Taken.{Taken}
 use Rattle.ritas_core.specs.declared.taken.Taken.TheVariants.{Took}
 use Rattle.ritas_core.specs.Rules.{casts_by}
-use Rattle.ritas_core.specs.Cast.{CastStandsAt, shown_by}
+use Rattle.ritas_core.specs.SlotCast.{CastStandsAt, shown_by}
 use Rattle.ritas_core.specs.CastCalls.{CastsTake, CastsHear}
 use Rattle.ritas_core.specs.Stands.{Meaning, meaning}
 use Rattle.ritas_core.specs.LayerCalls.{GivesItem}

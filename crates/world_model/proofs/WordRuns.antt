@@ -16,7 +16,7 @@ use Rattle.ritas_core.specs.Parts.{Entry, Took, Given, Parts, parts, heard_at, t
 use Rattle.ritas_core.specs.Checks.{IsHistory}
 use Rattle.ritas_core.specs.Machine.{CoreState}
 use Rattle.ritas_core.specs.PartsLaws.{newly_before, newly_after}
-use Rattle.ritas_core.specs.Heard.{heard_delivered}
+use Rattle.ritas_core.specs.HeardLaws.{heard_delivered}
 use Rattle.world_model.specs.declared.audit.Audit.TheVariants as audits
 use Rattle.world_model.specs.World.{Setting, rules_at, CallAt, call_of, handled_at, after_call, states_of, states_before}
 use Rattle.world_model.specs.Audit.{calls_at, has_too_many, first_broken, is_forged, is_colliding}
