@@ -9,3 +9,4 @@ pub mod Dealt
 pub mod Ending
 pub mod Pieces
 pub mod Showing
+pub mod VectorLaws

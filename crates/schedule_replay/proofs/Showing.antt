@@ -14,7 +14,7 @@ use Rattle.schedule_replay.specs.declared.cut.Cut.{Cut}
 use Rattle.schedule_replay.specs.declared.end.ReplayEnd.TheVariants.{Done}
 use Rattle.schedule_replay.specs.Replay.{text_on, ShowsWorld}
 use Rattle.schedule_replay.specs.Vectors.{vectors_on, VectorsAgree}
-use Rattle.schedule_replay.specs.VectorLaws.{vectors_agree}
+use Rattle.schedule_replay.proofs.VectorLaws.{vectors_agree}
 
 same_audit : (a b : Audit) → Done a ≡ Done b → a ≡ b
 same_audit a b e = cc

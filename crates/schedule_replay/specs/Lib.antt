@@ -4,7 +4,6 @@ pub mod Played
 pub mod Report
 pub mod Frames
 pub mod Vectors
-pub mod VectorLaws
 pub mod Replicas
 pub mod Replay
 pub mod VectorRows
