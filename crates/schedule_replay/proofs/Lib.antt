@@ -5,7 +5,7 @@ pub mod Deals
 pub mod Written
 pub mod Outs
 pub mod Totals
-pub mod Dealt
+pub mod KeysInOrder
 pub mod Ending
 pub mod Pieces
 pub mod Showing

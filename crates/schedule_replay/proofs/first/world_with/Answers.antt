@@ -6,7 +6,7 @@ use Rattle.keyed_channel.specs.KeyRow.{KeyRow}
 use Rattle.keyed_channel.specs.Keyed.{CoinSeed}
 use Rattle.world_model.specs.Stands.{IsWorldOf, AreKeys, AreOfVersion}
 use Rattle.schedule_replay.specs.Layers.{dealt_to, coin_to, setting_with, layers_by}
-use Rattle.schedule_replay.proofs.Dealt.{own_keys, version_keys, world_dealt}
+use Rattle.schedule_replay.proofs.KeysInOrder.{own_keys, version_keys, world_dealt}
 use Rattle.schedule_replay.proofs.first.world_with.Goals as goal
 
 pub new-requires-clause-rows : goal.new-requires-clause-rows
