@@ -7,13 +7,18 @@ import serving  # noqa: E402
 
 
 def tell(rows) -> int:
-    """Prints each row that something is wrong with, and then how many passed. Rows are pairs of a name and what is wrong, or nothing.
-
-    The program is built first where it isn't built. The result is an exit status.
-    """
+    """Counts rows that start the program, which is built first where it isn't built. The result is an exit status."""
     if not serving.is_built():
         print("the program isn't built")
         return 1
+    return count(rows)
+
+
+def count(rows) -> int:
+    """Prints each row that something is wrong with, and then how many passed. Rows are pairs of a name and what is wrong, or nothing.
+
+    The result is an exit status.
+    """
     passed = failed = 0
     for name, wrong in rows:
         passed, failed = passed + (not wrong), failed + bool(wrong)
