@@ -33,7 +33,7 @@ def write_body(kind: int, slot: Slot, value: bytes) -> bytes:
     return bytes([kind]) + slot.to_bytes() + value
 
 
-@lru_cache(maxsize=1 << 14)
+@lru_cache(maxsize=1 << 12)
 def read_body(session: Session, body: bytes) -> Optional[Body]:
     """The kind, slot and value that a body spells, or nothing where it spells none."""
     if len(body) < SLOT_END:

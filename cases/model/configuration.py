@@ -1,4 +1,4 @@
-"""Configurations: lists of lines, each a name and a value, in an order that the job says."""
+"""Configurations: lists of lines, each a name and a value, in an order that the job says. docs/FORMATS.md has the table of lines."""
 from __future__ import annotations
 
 import re

@@ -1,4 +1,4 @@
-"""One replica's step: the checks that an item meets, the inbox, and the items that are held."""
+"""One replica's step: the checks that an item meets, the inbox, and the items that are held. docs/PROTOCOL.md has their order."""
 from __future__ import annotations
 
 from collections import deque

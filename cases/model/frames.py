@@ -1,4 +1,4 @@
-"""Sealed frames: a body between its head and its tag."""
+"""Sealed frames: a body between its head and its tag, which is an HMAC (RFC 2104). docs/FORMATS.md has the fields."""
 from __future__ import annotations
 
 import struct
@@ -14,6 +14,7 @@ class Opened(NamedTuple):
     sender: int
     number: int
     body: bytes
+    frame: bytes
 
 
 def seal(key: bytes, version: int, sender: int, to: int, number: int, body: bytes) -> bytes:
@@ -22,7 +23,7 @@ def seal(key: bytes, version: int, sender: int, to: int, number: int, body: byte
 
 
 def open_frame(keys: Keys, version: int, frame: bytes) -> Optional[Opened]:
-    """The frame's sender, number and body, or nothing where it doesn't open."""
+    """The frame with its sender, number and body, or nothing where it doesn't open."""
     if not LEAST <= len(frame) <= MOST:
         return None
     first, sender, to, number = struct.unpack(">BBBQ", frame[:HEAD])
@@ -30,4 +31,4 @@ def open_frame(keys: Keys, version: int, frame: bytes) -> Optional[Opened]:
         return None
     if tag(keys.shared[sender], frame[:-TAG]) != frame[-TAG:]:
         return None
-    return Opened(sender, number, frame[HEAD:-TAG])
+    return Opened(sender, number, frame[HEAD:-TAG], frame)

@@ -2,6 +2,7 @@
 from __future__ import annotations
 
 from . import configuration, schedule
+from .audit import HOLDS
 from .configuration import Configuration, WrongLine, read_configuration
 from .drive import Limit, Plan, drive
 from .keys import deal
@@ -11,7 +12,7 @@ from .texts import frames_text, report, vectors_text
 from .words import USAGE, read_words
 from .world import World
 
-HOLDS, BROKEN, USE, FAULT, LIMIT = 0, 1, 2, 3, 7  # exit statuses
+DONE, BROKEN, USAGE_FAULT, FAULT, LIMIT = 0, 1, 2, 3, 7  # exit statuses
 
 Result = tuple[int, bytes]
 
@@ -28,7 +29,7 @@ def run(words: list[str], data: bytes) -> Result:
     """The status and the output, for the words behind the program's name."""
     job = read_words(words)
     if job is None:
-        return USE, USAGE
+        return USAGE_FAULT, USAGE
     name, what = job
     if name == "replay":
         return replay(what, data)
@@ -60,12 +61,12 @@ def replay(what: str, data: bytes) -> Result:
 
 
 def status_of(world: World) -> int:
-    return HOLDS if world.audit() == "holds" else BROKEN
+    return DONE if world.audit.result() == HOLDS else BROKEN
 
 
 def configured(what: str, read: Configuration) -> Result:
     if read.job == "keys":
-        return HOLDS, rows_of_keys(read)
+        return DONE, rows_of_keys(read)
     if read.job != "drive":
         raise Unmodelled(f"`{read.job}` serves, which this model doesn't")
     try:

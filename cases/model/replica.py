@@ -1,12 +1,12 @@
 """A replica: frames, inputs and turns in, frames out."""
 from __future__ import annotations
 
-from typing import NamedTuple
+from typing import NamedTuple, Optional
 
 from . import core
 from .bodies import read_body, write_body
 from .core import Core
-from .frames import open_frame, seal
+from .frames import Opened, open_frame, seal
 from .keys import Keys
 from .session import ALL, HASHES, Item, Message, Session, Slot
 
@@ -27,6 +27,7 @@ class Replica:
         self.core = Core(session, keys)
         self.made: list[list[bytes]] = [[] for _ in range(session.n)]
         self.made_now: list[Made] = []  # by the last call
+        self.opened: Optional[Opened] = None  # by the last call
         self.rows_made: dict[Slot, bytes] = {}  # the HASHES that it made, also those for itself
 
     def sent(self) -> int:
@@ -34,18 +35,20 @@ class Replica:
 
     def on_frame(self, frame: bytes) -> str:
         self.core.taken, self.made_now = None, []
-        opened = open_frame(self.keys, self.session.version, frame)
-        if opened is None:
+        self.opened = open_frame(self.keys, self.session.version, frame)
+        if self.opened is None:
             return UNOPENED
-        body = read_body(self.session, opened.body)
+        body = read_body(self.session, self.opened.body)
         if body is None:
             return UNREAD
-        return self.seal_all(self.core.give(Item(opened.sender, *body)))
+        return self.seal_all(self.core.give(Item(self.opened.sender, *body)))
 
     def on_input(self, value: bytes) -> str:
+        self.opened = None
         return self.seal_all(self.core.input(value))
 
     def on_turn(self) -> str:
+        self.opened = None
         return self.seal_all(self.core.turn())
 
     def seal_all(self, answer: str) -> str:

@@ -1,4 +1,4 @@
-"""Schedule files: a session with its correct replicas and their keys, and events."""
+"""Schedule files: a session with its correct replicas and their keys, and events. docs/FORMATS.md has the fields, and which fault comes first."""
 from __future__ import annotations
 
 import struct

@@ -1,4 +1,4 @@
-"""What is written of a world: the report, the frames text and the vectors text."""
+"""What is written of a world: the report, the frames text and the vectors text, as docs/FORMATS.md has them."""
 from __future__ import annotations
 
 from typing import Iterable
@@ -16,7 +16,7 @@ def hexadecimal(value: bytes) -> str:
 
 def text_of(world: World, lines: Iterable[str]) -> bytes:
     """These lines, and the audit's."""
-    return "".join(line + "\n" for line in [*lines, f"audit {world.audit()}"]).encode()
+    return "".join(line + "\n" for line in [*lines, f"audit {world.audit.result()}"]).encode()
 
 
 def report(world: World) -> bytes:
