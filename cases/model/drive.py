@@ -8,7 +8,7 @@ from typing import Optional
 from .pcg import Pcg32
 from .plan import CORRECT, Plan, Player
 from .schedule import END, MOST_BYTES, write_event, write_header
-from .world import Event, Frame, Input, Pass, Turn, World
+from .world import Frame, Input, Pass, Turn, World
 
 MOST_STEPS = 4_000_000
 PICKS_BETWEEN_GARBAGE = 256
@@ -116,7 +116,7 @@ class Drive:
             y.replica.on_frame(frame)
         self.note_frames(y)
 
-    def step(self, event: Optional[Event] = None) -> None:
+    def step(self, event: Frame | Input | Turn | Pass | None = None) -> None:
         """Counts a step, and lets it happen where it is an event."""
         if self.steps == MOST_STEPS:
             raise Limit(MOST_STEPS)

@@ -9,7 +9,7 @@ from .configuration import Configuration
 from .keys import deal
 from .replica import Replica
 from .schedule import Header
-from .session import ATOMIC, BINARY, ECHO_BROADCAST, INIT, RELIABLE, STEP, Message, Session, mask_of
+from .session import ATOMIC, BINARY, INIT, STEP, Message, Session, mask_of
 from .world import World
 
 CORRECT, FLIPPING, FACE_A, FACE_B = "", "flip", "A", "B"  # what a player is
@@ -79,16 +79,17 @@ class Plan:
         return FACE_A if player.number < (self.session.n - self.session.f + 1) // 2 else FACE_B
 
     def inputs(self, players: list[Player]) -> Iterator[tuple[Player, bytes]]:
+        """Who gets which input, in order."""
         m = len(self.correct)
-        if self.session.root in (RELIABLE, ECHO_BROADCAST, ATOMIC):
+        if self.session.has_commands:
             for k in range(self.commands):
                 for t in range(min(self.copies, m) if self.session.root == ATOMIC else 1):
                     yield players[(k + t) % m], self.input(k, k % m, k)
-        for player in players[m:] if self.session.root in (RELIABLE, ECHO_BROADCAST, ATOMIC) else players:
+        for player in players:
             if player.face in (FACE_A, FACE_B):
                 v = 2 * player.number + (player.face == FACE_B)
                 yield player, self.input(v, v, 0)
-            elif self.session.root not in (RELIABLE, ECHO_BROADCAST, ATOMIC) and self.commands > 0:
+            elif not self.session.has_commands and self.commands > 0:
                 yield player, self.input(player.number % self.commands, 0, 0)
 
     def input(self, value: int, client: int, request: int) -> bytes:

@@ -135,11 +135,10 @@ def write_header(header: Header) -> bytes:
     return MAGIC + struct.pack(">BQBBBBIB", session.version, *numbers) + header.master
 
 
-def write_event(event: Event) -> bytes:
+def write_event(event: Frame | Input | Turn | Pass) -> bytes:
+    """Of those that a plan's schedule has."""
     if isinstance(event, Turn):
         return struct.pack(">BB", TURN, event.at)
     if isinstance(event, Pass):
         return struct.pack(">BBBI", PASS, *event)
-    if isinstance(event, Sealed):
-        return struct.pack(">BBBH", SEALED, event.sender, event.to, len(event.body)) + event.body
     return struct.pack(">BBH", FRAME if isinstance(event, Frame) else INPUT, event[0], len(event[1])) + event[1]

@@ -57,6 +57,11 @@ class Session:
         """How many places agree on a multi-valued value."""
         return self.n - 2 * self.f
 
+    @property
+    def has_commands(self) -> bool:
+        """Whether an input is a command, of which there may be many."""
+        return self.root in (RELIABLE, ECHO_BROADCAST, ATOMIC)
+
     def goes_by_echo(self, slot: Slot) -> bool:
         """Whether the slot's broadcast is echo broadcast."""
         if slot.class_ == COMMAND:
