@@ -10,8 +10,8 @@ use Rattle.ritas_base.specs.Numbers.{Numbers}
 use Rattle.ritas_base.specs.History.{replicas}
 use Rattle.ritas_base.specs.Quorums.{meet_two}
 use Rattle.frame_codec.specs.EntryCountLaws.{entries_by_place}
-use Rattle.frame_codec.specs.Values.{ids_of, entries_of, entry_of, is_passed}
-use Rattle.layer_api.specs.Runs.{Step, calls_of, Has, IsEnough}
+use Rattle.frame_codec.specs.Values.{ids_of, vector_entries, entry_at_place, is_passed}
+use Rattle.layer_api.specs.Runs.{ReplicaStep, calls_of, Has, IsEnough}
 use Rattle.layer_api.specs.Words.{Word, Ask}
 use Rattle.layer_api.specs.Service.{Seat, has_id}
 use Rattle.layer_api.specs.Fed.{IsFedRun}
@@ -19,10 +19,10 @@ use Rattle.layer_api.specs.FedLaws.{met}
 use Rattle.layer_api.specs.PartLaws.{part_has}
 use Rattle.layer_api.specs.OneLog.{Session, seat_at, service_play}
 use Rattle.layer_api.specs.Vectors.{VectorRules, VectorLaws, OneVector}
-use Rattle.atomic_bcast.specs.Identifiers.{in_order, kept, is_without, append_ids}
+use Rattle.atomic_bcast.specs.Identifiers.{in_order, passing_ids, is_without, append_ids}
 use Rattle.atomic_bcast.specs.Rounds.{entry_ids, backers, wanted, round_scope, round_desk, is_of_round, log_below, round_words, round_decides, atomic}
 use Rattle.atomic_bcast.specs.Laws.WordsMeet.{round_met, round_stays, round_nothing}
-use Rattle.atomic_bcast.specs.Laws.VectorRuns.{play, ask, round_run, round_fed, round_calls}
+use Rattle.atomic_bcast.specs.Laws.VectorRuns.{session_play, ask_round, round_run, round_fed, round_calls}
 use Rattle.atomic_bcast.specs.Laws.OneLog.{completed_by, to_run}
 use Rattle.atomic_bcast.specs.Appended.{WasProposed, AppendsProposed}
 use Rattle.atomic_bcast.proofs.LedgerSteps.{kept_has}
@@ -41,7 +41,7 @@ grown (y ∷ xs) log x now none =
     ]
 
 module _ (v : VectorRules) (laws : VectorLaws v) (one : OneVector v) (p : Numbers) (mode : Mode) (is_correct : ℕ → Bool) (coins : ℕ → Slot → Bool)
-    (enough : IsEnough p is_correct) (xs : List (Step Word))
+    (enough : IsEnough p is_correct) (xs : List (ReplicaStep Word))
     (fed : IsFedRun (service_play (record { rules = atomic v; numbers = p; mode = mode; is_correct = is_correct; coins = coins })) is_correct xs) where
   abbrev group : Session
   group = record { rules = atomic v; numbers = p; mode = mode; is_correct = is_correct; coins = coins }
@@ -55,15 +55,15 @@ module _ (v : VectorRules) (laws : VectorLaws v) (one : OneVector v) (p : Number
   -- an identifier that a round appends stands in f + 1 lists of its vector
   backed : (a i : ℕ) (before after : List Id) (x : Id) → log_below v (seat i) a (words i) ≡ Some before → log_below v (seat i) (suc a) (words i) ≡ Some after
       → has_id after x ≡ true → has_id before x ≡ false
-      → (vector : List ℕ) × (round_decides v (seat i) a (words i) ≡ Some vector) × (p.f + 1 ≤ backers (entries_of vector) x)
+      → (vector : List ℕ) × (round_decides v (seat i) a (words i) ≡ Some vector) × (p.f + 1 ≤ backers (vector_entries vector) x)
   backed a i before after x q r now none =
       let c = completed_by v laws one p mode is_correct coins enough xs fed a i after r in
       let old : c.old ≡ before = some_same c.old before (sym c.there ∙ q) in
-      let is : has_id (append_ids (kept (is_without c.old) (wanted p c.vector)) c.old) x ≡ true = ap (λ (l : List Id). has_id l x) c.whole ∙ now in
-      let g = grown (kept (is_without c.old) (wanted p c.vector)) c.old x is (ap (λ (l : List Id). has_id l x) old ∙ none) in
+      let is : has_id (append_ids (passing_ids (is_without c.old) (wanted p c.vector)) c.old) x ≡ true = ap (λ (l : List Id). has_id l x) c.whole ∙ now in
+      let g = grown (passing_ids (is_without c.old) (wanted p c.vector)) c.old x is (ap (λ (l : List Id). has_id l x) old ∙ none) in
       let w = (and_parts (is_without c.old x) (has_id (wanted p c.vector) x) (sym (kept_has (is_without c.old) (wanted p c.vector) x) ∙ g)).1 in
-      let k = (and_parts (nat_le (p.f + 1) (backers (entries_of c.vector) x)) _
-      (sym (kept_has (λ z. nat_le (p.f + 1) (backers (entries_of c.vector) z)) (in_order (entry_ids (entries_of c.vector))) x) ∙ w)).0 in
+      let k = (and_parts (nat_le (p.f + 1) (backers (vector_entries c.vector) x)) _
+      (sym (kept_has (λ z. nat_le (p.f + 1) (backers (vector_entries c.vector) z)) (in_order (entry_ids (vector_entries c.vector))) x) ∙ w)).0 in
       (c.vector, c.decides, leb-true _ _ k)
     where
       some_same : (l m : List Id) → Some l ≡ Some m → l ≡ m
@@ -77,14 +77,14 @@ module _ (v : VectorRules) (laws : VectorLaws v) (one : OneVector v) (p : Number
       let vector : List ℕ = b.0 in
       let t : List ℕ → Bool = λ e. has_id (ids_of e) x in
       let session = enough.session in
-      let m = met (play v laws p mode is_correct coins session) is_correct xs fed i in
+      let m = met (session_play v laws p mode is_correct coins session) is_correct xs fed i in
       let good = laws.decision_good (round_desk (seat i) a) (round_words v (seat i) a (words i)) vector session refl (round_met v (seat i) a (words i) m) b.1 in
       let count = entries_by_place p 6 vector t good in
       let many = enough.many in
       let l = b.2 in
       let size : length (replicas p.n) ≡ p.n = length-range_with_len 0 p.n in
-      let k = meet_two (λ j. is_passed t (entry_of vector j)) is_correct (replicas p.n) (omega (arith, count, many, l, size)) in
-      let e = entry (entry_of vector k.member) k.first in
+      let k = meet_two (λ j. is_passed t (entry_at_place vector j)) is_correct (replicas p.n) (omega (arith, count, many, l, size)) in
+      let e = entry (entry_at_place vector k.member) k.first in
       let asked = one.entries (round_scope p a) is_correct coins (round_run v laws p mode is_correct coins session a xs) enough refl
       (round_fed v laws p mode is_correct coins session a xs fed) i k.member vector e.0 ci k.second
       (to_run v laws one p mode is_correct coins enough xs fed a i vector b.1) e.1 in
@@ -92,7 +92,7 @@ module _ (v : VectorRules) (laws : VectorLaws v) (one : OneVector v) (p : Number
         who = k.member;
         list = e.0;
         correct = k.second;
-        asked = part_has (ask v laws p mode is_correct coins session a k.member) (is_of_round a) (round_stays (seat k.member) (log_below v (seat k.member) a))
+        asked = part_has (ask_round v laws p mode is_correct coins session a k.member) (is_of_round a) (round_stays (seat k.member) (log_below v (seat k.member) a))
             (round_nothing (seat k.member) (log_below v (seat k.member) a)) (words k.member) e.0
             (subst (λ (w : List Word). Has w (Ask e.0)) (round_calls v laws p mode is_correct coins session a k.member xs) asked);
         stands = e.2;

@@ -13,7 +13,7 @@ use Rattle.ritas_base.specs.Members.{member_count}
 use Rattle.layer_api.specs.Service.{has_id}
 use Rattle.frame_codec.specs.Values.{ids_of}
 use Rattle.atomic_bcast.specs.Early.{id_cmp}
-use Rattle.atomic_bcast.specs.Identifiers.{kept, in_order}
+use Rattle.atomic_bcast.specs.Identifiers.{passing_ids, in_order}
 use Rattle.atomic_bcast.specs.Rounds.{backers, entry_ids}
 use Rattle.atomic_bcast.specs.Backing.{lists_with}
 use Rattle.atomic_bcast.specs.Laws.Ordered.{in_order_sorted, kept_sorted}
@@ -61,12 +61,12 @@ both_or_none false a b f g = refl
 
 pub backed_same : (noted : BTreeMap Id ℕ) (lists : List (List ℕ)) (least : ℕ) → 1 ≤ least → IsOrdered id_cmp noted
     → ((x : Id) → lists_with noted x ≡ backers lists x)
-    → kept (λ x. nat_le least (lists_with noted x)) (keys noted) ≡ kept (λ x. nat_le least (backers lists x)) (in_order (entry_ids lists))
+    → passing_ids (λ x. nat_le least (lists_with noted x)) (keys noted) ≡ passing_ids (λ x. nat_le least (backers lists x)) (in_order (entry_ids lists))
 backed_same noted lists least some ordered same =
     let mine : Id → Bool = λ x. nat_le least (lists_with noted x) in
     let theirs : Id → Bool = λ x. nat_le least (backers lists x) in
     let all = in_order (entry_ids lists) in
-    sorted_same (kept mine (keys noted)) (kept theirs all) (kept_sorted mine (keys noted) (keys_sorted (keys noted) ordered))
+    sorted_same (passing_ids mine (keys noted)) (passing_ids theirs all) (kept_sorted mine (keys noted) (keys_sorted (keys noted) ordered))
     (kept_sorted theirs all (in_order_sorted (entry_ids lists)))
     (λ z.
     let key : mine z ≡ true → has_id (keys noted) z ≡ true = λ t. noted_is_key noted z (let l = leb-true least (lists_with noted z) t in omega (arith, some, l)) in
@@ -85,7 +85,7 @@ AreEntries noted es = All (λ e. get id_cmp noted e.0 ≡ Some e.1) es
 -- of the entries some were taken, and so many are left
 pub record IsTaking (noted : BTreeMap Id ℕ) (least : ℕ) (taken : List Id) (rest : List (Id × ℕ)) : Type 0 where
   pub entries : AreEntries noted rest
-  pub sums : taken ++ kept (λ x. nat_le least (lists_with noted x)) (keys_of rest) ≡ kept (λ x. nat_le least (lists_with noted x)) (keys noted)
+  pub sums : taken ++ passing_ids (λ x. nat_le least (lists_with noted x)) (keys_of rest) ≡ passing_ids (λ x. nat_le least (lists_with noted x)) (keys noted)
 
 pub taking_next : (noted : BTreeMap Id ℕ) (least : ℕ) (taken taken' : List Id) (all rest : List (Id × ℕ)) (e : Id × ℕ) → all ≡ e ∷ rest
     → taken' ≡ (if nat_le least (member_count 32 e.1) then taken ++ e.0 ∷ [] else taken)
@@ -95,7 +95,7 @@ taking_next noted least taken taken' all rest e is took before =
     record {
       entries = All-tail (λ (q : Id × ℕ). get id_cmp noted q.0 ≡ Some q.1) e rest here.entries;
       sums =
-          ap (λ (t : List Id). t ++ kept mine (keys_of rest)) took
+          ap (λ (t : List Id). t ++ passing_ids mine (keys_of rest)) took
           ∙ (one (nat_le least (member_count 32 e.1)) (passes (All-head (λ (q : Id × ℕ). get id_cmp noted q.0 ≡ Some q.1) e rest here.entries)) ∙ here.sums);
     }
   where
@@ -106,21 +106,21 @@ taking_next noted least taken taken' all rest e is took before =
     passes found = ap (λ (o : Option ℕ). nat_le least (member_count 32 (unwrap_or o 0))) found
 
     put : Bool → List Id
-    put b = taken ++ (if b then e.0 ∷ kept mine (keys_of rest) else kept mine (keys_of rest))
+    put b = taken ++ (if b then e.0 ∷ passing_ids mine (keys_of rest) else passing_ids mine (keys_of rest))
 
-    one : (b : Bool) → mine e.0 ≡ b → (if b then taken ++ e.0 ∷ [] else taken) ++ kept mine (keys_of rest) ≡ taken ++ kept mine (e.0 ∷ keys_of rest)
-    one true t = append_assoc taken (e.0 ∷ []) (kept mine (keys_of rest)) ∙ ap put (sym t)
+    one : (b : Bool) → mine e.0 ≡ b → (if b then taken ++ e.0 ∷ [] else taken) ++ passing_ids mine (keys_of rest) ≡ taken ++ passing_ids mine (e.0 ∷ keys_of rest)
+    one true t = append_assoc taken (e.0 ∷ []) (passing_ids mine (keys_of rest)) ∙ ap put (sym t)
     one false t = ap put (sym t)
 
 pub taking_first : (noted : BTreeMap Id ℕ) (least : ℕ) (taken : List Id) (all : List (Id × ℕ)) → taken ≡ [] → all ≡ noted.entries
     → AreEntries noted noted.entries → IsTaking noted least taken all
 taking_first noted least taken all none is entries = record {
   entries = subst (λ (es : List (Id × ℕ)). AreEntries noted es) (sym is) entries;
-  sums = ap₂ (λ (t : List Id) (es : List (Id × ℕ)). t ++ kept (λ x. nat_le least (lists_with noted x)) (keys_of es)) none is;
+  sums = ap₂ (λ (t : List Id) (es : List (Id × ℕ)). t ++ passing_ids (λ x. nat_le least (lists_with noted x)) (keys_of es)) none is;
 }
 
 pub taking_done : (noted : BTreeMap Id ℕ) (least : ℕ) (taken : List Id) (all : List (Id × ℕ)) → all ≡ [] → IsTaking noted least taken all
-    → taken ≡ kept (λ x. nat_le least (lists_with noted x)) (keys noted)
+    → taken ≡ passing_ids (λ x. nat_le least (lists_with noted x)) (keys noted)
 taking_done noted least taken all none taking =
     sym (append-nil taken)
-    ∙ (ap (λ (es : List (Id × ℕ)). taken ++ kept (λ x. nat_le least (lists_with noted x)) (keys_of es)) (sym none) ∙ taking.sums)
+    ∙ (ap (λ (es : List (Id × ℕ)). taken ++ passing_ids (λ x. nat_le least (lists_with noted x)) (keys_of es)) (sym none) ∙ taking.sums)

@@ -12,10 +12,10 @@ use Rattle.ritas_base.specs.declared.id.Id.{Id}
 use Rattle.ritas_base.specs.Members.{has_member, member_count}
 use Rattle.ritas_base.specs.Quorums.{count_same}
 use Rattle.layer_api.specs.Service.{has_id}
-use Rattle.frame_codec.specs.Values.{ids_in, ids_of, entry_in, after_entry, entries_in, len_in}
+use Rattle.frame_codec.specs.Values.{ids_in, ids_of, entry_in_front, after_entry, entries_in, len_in}
 use Rattle.atomic_bcast.specs.Early.{id_cmp}
 use Rattle.atomic_bcast.specs.Rounds.{backers}
-use Rattle.atomic_bcast.specs.Backing.{mask_at, is_noted, lists_with, NotesList}
+use Rattle.atomic_bcast.specs.Backing.{backing_mask, is_noted, lists_with, NotesList}
 
 abbrev pub as_one : Bool → ℕ
 as_one b = cond b 1 0
@@ -74,22 +74,22 @@ other_list true j k less = ne_eqb j k (λ e. omega (arith, e, less))
 other_list false j k less = refl
 
 noting_next : (noted noted' : BTreeMap Id ℕ) (k left : ℕ) (rest : List ℕ) (lists : List (List ℕ)) → k < 32
-    → NotesList noted noted' (ids_of (entry_in rest)) k → IsNoting noted k (suc left) rest lists → IsNoting noted' (k + 1) left (after_entry rest) lists
+    → NotesList noted noted' (ids_of (entry_in_front rest)) k → IsNoting noted k (suc left) rest lists → IsNoting noted' (k + 1) left (after_entry rest) lists
 unfolding entries_in
 noting_next noted noted' k left rest lists small notes before = record {
   fresh = λ x j above.
       notes x j
-      ∙ (ap (λ (b : Bool). b || is_noted noted x j) (other_list (has_id (ids_of (entry_in rest)) x) j k (omega (arith, above)))
+      ∙ (ap (λ (b : Bool). b || is_noted noted x j) (other_list (has_id (ids_of (entry_in_front rest)) x) j k (omega (arith, above)))
       ∙ before.fresh x j (omega (arith, above)));
   sums = λ x.
-      let more = lists_more noted noted' (ids_of (entry_in rest)) k x small (before.fresh x k (omega arith)) notes in
-      let split = count_cons (λ (e : List ℕ). has_id (ids_of e) x) (entry_in rest) (entries_in left (after_entry rest)) in
+      let more = lists_more noted noted' (ids_of (entry_in_front rest)) k x small (before.fresh x k (omega arith)) notes in
+      let split = count_cons (λ (e : List ℕ). has_id (ids_of e) x) (entry_in_front rest) (entries_in left (after_entry rest)) in
       let sum = before.sums x in
       omega (arith, more, split, sum);
 }
 
 pub noting_step : (noted noted' : BTreeMap Id ℕ) (k count : ℕ) (rest list after : List ℕ) (lists : List (List ℕ)) → k < count → count ≤ 32
-    → list ≡ entry_in rest → after ≡ after_entry rest → NotesList noted noted' (ids_of list) k
+    → list ≡ entry_in_front rest → after ≡ after_entry rest → NotesList noted noted' (ids_of list) k
     → IsNoting noted k (count - k) rest lists → IsNoting noted' (k + 1) (count - (k + 1)) after lists
 noting_step noted noted' k count rest list after lists within few front behind notes before =
     let left : count - k ≡ suc (count - (k + 1)) = omega (arith, within) in
@@ -108,7 +108,7 @@ no_member : (j : ℕ) → has_member 0 j ≡ false
 unfolding has_member
 no_member j = ap (λ (b : ℕ). b == 1) (bit_at-zero j)
 
-no_lists : (noted : BTreeMap Id ℕ) (x : Id) → noted.entries ≡ [] → mask_at noted x ≡ 0
+no_lists : (noted : BTreeMap Id ℕ) (x : Id) → noted.entries ≡ [] → backing_mask noted x ≡ 0
 no_lists noted x none = ap (λ (es : List (Id × ℕ)). unwrap_or (lookup (is_at (id_cmp x)) es) 0) none
 
 pub no_count : member_count 32 0 ≡ 0
@@ -130,8 +130,8 @@ pub nothing_in : (count : ℕ) (x : Id) → backers (entries_in count []) x ≡ 
 unfolding entries_in len_in ids_in
 nothing_in zero x = refl
 nothing_in (suc count) x =
-    let split = count_cons (λ (e : List ℕ). has_id (ids_of e) x) (entry_in []) (entries_in count []) in
-    let none : has_id (ids_of (entry_in [])) x ≡ false = refl in
+    let split = count_cons (λ (e : List ℕ). has_id (ids_of e) x) (entry_in_front []) (entries_in count []) in
+    let none : has_id (ids_of (entry_in_front [])) x ≡ false = refl in
     omega (arith, split, ap as_one none, nothing_in count x)
 
 pub nothing_noted : (noted : BTreeMap Id ℕ) (bytes : List ℕ) (count : ℕ) (x : Id) → noted.entries ≡ [] → length bytes ≤ 4

@@ -14,7 +14,7 @@ use Rattle.layer_api.specs.VectorCalls.{VectorShown}
 use Rattle.atomic_bcast.specs.Rounds.{delivered_ids, pending, proposal, first_ids, round_desk, rounds}
 use Rattle.atomic_bcast.specs.Stepping.{current, log_now, next_ask}
 use Rattle.atomic_bcast.specs.Laws.Stepping.{may_ask}
-use Rattle.atomic_bcast.specs.Boxes.{Began}
+use Rattle.atomic_bcast.specs.Boxes.{RoundBegan}
 use Rattle.atomic_bcast.specs.Turning.{Poised, Turned}
 use Rattle.atomic_bcast.specs.Laws.Getters.{AllShow}
 use Rattle.atomic_bcast.specs.declared.abc.Abc.{Abc}
@@ -63,7 +63,7 @@ module _ {V : Type 0} (stands : V → Desk → List Word → Type 0) (v : Vector
       (λ small. ap (first_ids seat.numbers.n) (tests_none there waiting is lacks))
 
   pub round_begins : (there : Bool) (one : V) (before after : List Say) → is_some x.boxes.current ≡ false → x.completed < 1000000 → (IsTrue there ↔ (waiting ≡ [] → ⊥)) → there ≡ true
-      → Began stands v x.place x.ledger x.completed one before after → Turned stands v shown (record x { boxes = record x.boxes { current = Some one } }) seat w c before after
+      → RoundBegan stands v x.place x.ledger x.completed one before after → Turned stands v shown (record x { boxes = record x.boxes { current = Some one } }) seat w c before after
   round_begins there one before after none small is has began =
       let some = tests_some there waiting is has in
       let n : Numbers = x.place.numbers in

@@ -12,15 +12,15 @@ use Rattle.layer_api.specs.Words.{Word}
 use Rattle.layer_api.specs.Multi.{Desk}
 use Rattle.layer_api.specs.Vectors.{VectorRules, VectorLaws}
 use Rattle.layer_api.specs.VectorCalls.{VectorShown}
-use Rattle.atomic_bcast.specs.Identifiers.{kept, is_without, in_order, all_pass, append_ids, IsSorted}
+use Rattle.atomic_bcast.specs.Identifiers.{passing_ids, is_without, in_order, all_pass, append_ids, IsSorted}
 use Rattle.atomic_bcast.specs.Laws.Ordered.{in_order_sorted, kept_sorted}
 use Rattle.atomic_bcast.specs.Rounds.{delivered_ids, wanted, backers, entry_ids, has_command, round_desk, round_ask, rounds}
 use Rattle.atomic_bcast.specs.Laws.WordsMeet.{delivered_good}
 use Rattle.atomic_bcast.specs.Stepping.{current, log_now, heard_words, words_now}
 use Rattle.atomic_bcast.specs.Ledger.{LedgerStands, IsReady, Between}
 use Rattle.atomic_bcast.specs.Boxes.{Stood}
-use Rattle.atomic_bcast.specs.Waiting.{decision_in, AreWanted, Knows}
-use Rattle.atomic_bcast.specs.Turning.{Mid, Known, Poised, IsNear}
+use Rattle.atomic_bcast.specs.Waiting.{decision_in, AreWantedIds, Knows}
+use Rattle.atomic_bcast.specs.Turning.{IsMidway, IsWaitKnown, Poised, IsNear}
 use Rattle.atomic_bcast.specs.Laws.Getters.{AllShow}
 use Rattle.atomic_bcast.specs.declared.ledger.Ledger.{Ledger}
 use Rattle.atomic_bcast.specs.declared.abc.Abc.{Abc}
@@ -28,7 +28,7 @@ use Rattle.atomic_bcast.proofs.Pending.{above_all}
 use Rattle.atomic_bcast.proofs.Stepped.{some_value, all_delivered, complete_where, Goes, stays_or_goes, words_same, was_asked, done}
 use Rattle.atomic_bcast.proofs.Near.{near_before, mid_before}
 use Rattle.atomic_bcast.proofs.Turns.{begun_some, poised_stays, poised_next}
-use Rattle.frame_codec.specs.Values.{entries_of}
+use Rattle.frame_codec.specs.Values.{vector_entries}
 
 -- ---- what is wanted is ready
 
@@ -46,7 +46,7 @@ good_all n (x ∷ xs) most all = let l = all.0.0 in ((omega (arith, l, most), al
 
 wanted_sorted : (p : Numbers) (x : List ℕ) → IsSorted (wanted p x)
 wanted_sorted p x =
-    kept_sorted (λ y. nat_le (p.f + 1) (backers (entries_of x) y)) (in_order (entry_ids (entries_of x))) (in_order_sorted (entry_ids (entries_of x)))
+    kept_sorted (λ y. nat_le (p.f + 1) (backers (vector_entries x) y)) (in_order (entry_ids (vector_entries x))) (in_order_sorted (entry_ids (vector_entries x)))
 
 pub on_err_any : {T E : Type 0} (r : Result T E) (P : Type 0) → P → OnErr r P
 on_err_any (Ok x) P p = tt
@@ -58,8 +58,8 @@ unfolding rounds
 one_more n k l e = omega (arith, l, e)
 
 module _ {V : Type 0} (stands : V → Desk → List Word → Type 0) (v : VectorRules) (laws : VectorLaws v) (live : V → Bool) (shown : V → VectorShown) (shows : AllShow stands v live shown) where
-  module _ (x : Abc V) (seat : Seat) (w : List Word) (c : Word) (k : Known stands v shown x seat w c) where
-    abbrev m : Mid stands v shown x seat w c
+  module _ (x : Abc V) (seat : Seat) (w : List Word) (c : Word) (k : IsWaitKnown stands v shown x seat w c) where
+    abbrev m : IsMidway stands v shown x seat w c
     m = k.mid
 
     abbrev n : ℕ
@@ -90,7 +90,7 @@ module _ {V : Type 0} (stands : V → Desk → List Word → Type 0) (v : Vector
         (box_decided one.0 one.1).2 ∙ (done v laws seat m.seated.session c w m.seated.met goes).is
 
     -- the identifiers that its vector wants
-    wanted_goes : (ids : List Id) (goes : Goes v seat c w) → AreWanted x.place.numbers decided ids → ids ≡ wanted seat.numbers (done v laws seat m.seated.session c w m.seated.met goes).vector
+    wanted_goes : (ids : List Id) (goes : Goes v seat c w) → AreWantedIds x.place.numbers decided ids → ids ≡ wanted seat.numbers (done v laws seat m.seated.session c w m.seated.met goes).vector
     wanted_goes ids goes are =
         let same : are.value ≡ (done v laws seat m.seated.session c w m.seated.met goes).vector = same_Some _ _ (sym are.is ∙ goes_decided goes) in
         are.ids_are ∙ ap₂ wanted m.seated.numbers same
@@ -109,10 +109,10 @@ module _ {V : Type 0} (stands : V → Desk → List Word → Type 0) (v : Vector
         nothing None e q = q
         nothing (Some ids) e q = absurd cc
 
-    pub are_wanted : {Z : Type 0} (o : Option (Vec Id Z)) (ids : Vec Id Z) → o ≡ Some ids → Knows x.place.numbers decided o → AreWanted x.place.numbers decided ids.items
+    pub are_wanted : {Z : Type 0} (o : Option (Vec Id Z)) (ids : Vec Id Z) → o ≡ Some ids → Knows x.place.numbers decided o → AreWantedIds x.place.numbers decided ids.items
     are_wanted o ids e q = subst (λ (t : Option (Vec Id _)). Knows x.place.numbers decided t) e q
 
-    module _ (ids : List Id) (are : AreWanted x.place.numbers decided ids) where
+    module _ (ids : List Id) (are : AreWantedIds x.place.numbers decided ids) where
       all_there : all_pass (has_id (delivered_ids (c ∷ w))) ids ≡ all_pass (has_command (c ∷ w)) (wanted seat.numbers are.value)
       all_there =
           all_delivered v seat (c ∷ w) m.seated.met ids
@@ -149,10 +149,10 @@ module _ {V : Type 0} (stands : V → Desk → List Word → Type 0) (v : Vector
                   absurd (none-some _ (sym (stays.incomplete b.0) ∙ now))
             ]
 
-        log_is : completes.log ≡ append_ids (kept (is_without (log_now v seat w)) ids) (log_now v seat w)
+        log_is : completes.log ≡ append_ids (passing_ids (is_without (log_now v seat w)) ids) (log_now v seat w)
         log_is =
             (done v laws seat m.seated.session c w m.seated.met completes).log_is
-            ∙ ap (λ (xs : List Id). append_ids (kept (is_without (log_now v seat w)) xs) (log_now v seat w)) (sym (wanted_goes ids completes are))
+            ∙ ap (λ (xs : List Id). append_ids (passing_ids (is_without (log_now v seat w)) xs) (log_now v seat w)) (sym (wanted_goes ids completes are))
 
         pub are_ready : AllByRecursion (IsReady (delivered_ids (c ∷ w))) ids
         are_ready =
@@ -165,12 +165,12 @@ module _ {V : Type 0} (stands : V → Desk → List Word → Type 0) (v : Vector
         -- they are appended
         pub completed : (y : Abc V) (xs : List Id) → xs ≡ ids → y.place ≡ x.place → y.inputs ≡ x.inputs → y.live ≡ x.live
             → ((delivered log : List Id) → AllByRecursion (IsReady delivered) xs → IsSorted xs → LedgerStands x.ledger delivered log
-            → LedgerStands y.ledger delivered (append_ids (kept (is_without log) xs) log))
+            → LedgerStands y.ledger delivered (append_ids (passing_ids (is_without log) xs) log))
             → y.completed ≡ Prim.Native.Nat.min (x.completed + 1) 4294967295 → y.boxes ≡ record { current = None; last = x.boxes.current; oldest = x.boxes.last } → y.waits ≡ None
             → Poised stands v shown y seat w c
         completed y xs same place inputs alive appends count boxes waits =
             let appends_ids = subst (λ (zs : List Id). (delivered log : List Id) → AllByRecursion (IsReady delivered) zs → IsSorted zs → LedgerStands x.ledger delivered log
-            → LedgerStands y.ledger delivered (append_ids (kept (is_without log) zs) log)) same appends in
+            → LedgerStands y.ledger delivered (append_ids (passing_ids (is_without log) zs) log)) same appends in
             poised_next stands v laws live shown shows x y seat w c m completes (record {
               place = place;
               inputs = inputs;

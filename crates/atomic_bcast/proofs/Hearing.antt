@@ -13,7 +13,7 @@ use Rattle.layer_api.specs.Words.{Word, Ask, Hear, is_heard}
 use Rattle.layer_api.specs.Multi.{Desk}
 use Rattle.layer_api.specs.Vectors.{VectorRules, VectorLaws}
 use Rattle.layer_api.specs.VectorCalls.{VectorShown}
-use Rattle.atomic_bcast.specs.Commands.{says_of}
+use Rattle.atomic_bcast.specs.Commands.{says_input}
 use Rattle.atomic_bcast.specs.Rounds.{delivered_ids, completes_with, round_desk, log_below, round_ask, round_words, complete_of, log_of, rounds, atomic}
 use Rattle.atomic_bcast.specs.Laws.WordsMeet.{round_nothing}
 use Rattle.atomic_bcast.specs.Stepping.{current, log_now, heard_says}
@@ -21,8 +21,8 @@ use Rattle.atomic_bcast.specs.Laws.Stepping.{IsStill, no_ask}
 use Rattle.atomic_bcast.specs.Ledger.{LedgerStands}
 use Rattle.atomic_bcast.specs.Boxes.{box_at, Stood, BoxesStand}
 use Rattle.atomic_bcast.specs.Waiting.{decision_in, Awaits, Knows}
-use Rattle.atomic_bcast.specs.Abc.{Stands}
-use Rattle.atomic_bcast.specs.Turning.{Mid, Known, IsNear}
+use Rattle.atomic_bcast.specs.Abc.{AtomicStands}
+use Rattle.atomic_bcast.specs.Turning.{IsMidway, IsWaitKnown, IsNear}
 use Rattle.atomic_bcast.specs.Laws.Getters.{AllShow}
 use Rattle.atomic_bcast.specs.declared.boxes.Boxes.{Boxes}
 use Rattle.atomic_bcast.specs.declared.ledger.Ledger.{Ledger}
@@ -63,7 +63,7 @@ module _ {V : Type 0} (stands : V → Desk → List Word → Type 0) (v : Vector
   none_stand seat n a (suc (suc (suc k))) e few small = absurd (omega (arith, few))
 
   pub begins : (x : Abc V) (seat : Seat) → IsSession seat.numbers → x.place.numbers ≡ seat.numbers → x.place.me ≡ seat.me → x.inputs ≡ 0 → x.live ≡ true
-      → LedgerStands x.ledger [] [] → x.completed ≡ 0 → x.boxes ≡ record { current = None; last = None; oldest = None } → x.waits ≡ None → Stands stands v shown x seat []
+      → LedgerStands x.ledger [] [] → x.completed ≡ 0 → x.boxes ≡ record { current = None; last = None; oldest = None } → x.waits ≡ None → AtomicStands stands v shown x seat []
   begins x seat session numbers me inputs alive ledger completed boxes waits = record {
     seated = record { session = session; met = tt; numbers = numbers; me = me; inputs = inputs; live = alive };
     ledger = subst (λ (log : List Id). LedgerStands x.ledger [] log) (sym (none_logged v laws seat rounds)) ledger;
@@ -81,7 +81,7 @@ module _ {V : Type 0} (stands : V → Desk → List Word → Type 0) (v : Vector
 
   -- ---- where no round is asked and none becomes complete
 
-  pub still_stands : (x : Abc V) (seat : Seat) (w : List Word) (c : Word) → Known stands v shown x seat w c → IsStill v seat c w → Stands stands v shown x seat (c ∷ w)
+  pub still_stands : (x : Abc V) (seat : Seat) (w : List Word) (c : Word) → IsWaitKnown stands v shown x seat w c → IsStill v seat c w → AtomicStands stands v shown x seat (c ∷ w)
   still_stands x seat w c k still =
       let same = still.same in
       record {
@@ -99,10 +99,10 @@ module _ {V : Type 0} (stands : V → Desk → List Word → Type 0) (v : Vector
 
   -- ---- an input
 
-  pub input_taken : (x y : Abc V) (seat : Seat) (w : List Word) (u : List ℕ) → Stands stands v shown x seat w → MayAsk (atomic v) seat w u
-      → y ≡ record x { inputs = suc x.inputs } → Stands stands v shown y seat (Ask u ∷ w)
+  pub input_taken : (x y : Abc V) (seat : Seat) (w : List Word) (u : List ℕ) → AtomicStands stands v shown x seat w → MayAsk (atomic v) seat w u
+      → y ≡ record x { inputs = suc x.inputs } → AtomicStands stands v shown y seat (Ask u ∷ w)
   input_taken x y seat w u h may made =
-      subst (λ (z : Abc V). Stands stands v shown z seat (Ask u ∷ w)) (sym made)
+      subst (λ (z : Abc V). AtomicStands stands v shown z seat (Ask u ∷ w)) (sym made)
       (still_stands (record x { inputs = suc x.inputs }) seat w (Ask u) (record {
         mid = record {
           seated = record {
@@ -122,12 +122,12 @@ module _ {V : Type 0} (stands : V → Desk → List Word → Type 0) (v : Vector
         knows = h.waits;
       }) (no_ask v laws seat h.seated.session u w))
 
-  pub input_says : (seat : Seat) (w : List Word) (u : List ℕ) → IsSession seat.numbers → (atomic v).says seat w (Ask u) ≡ says_of seat w (Ask u)
-  input_says seat w u session = ap (λ (ys : List Say). says_of seat w (Ask u) ++ ys) ((no_ask v laws seat session u w).says)
+  pub input_says : (seat : Seat) (w : List Word) (u : List ℕ) → IsSession seat.numbers → (atomic v).says seat w (Ask u) ≡ says_input seat w (Ask u)
+  input_says seat w u session = ap (λ (ys : List Say). says_input seat w (Ask u) ++ ys) ((no_ask v laws seat session u w).says)
 
   -- ---- a command
 
-  module _ (x : Abc V) (seat : Seat) (w : List Word) (s : Slot) (u : List ℕ) (h : Stands stands v shown x seat w) (may : MayHear (atomic v) seat w s u) (one : s.class ≡ 1) where
+  module _ (x : Abc V) (seat : Seat) (w : List Word) (s : Slot) (u : List ℕ) (h : AtomicStands stands v shown x seat w) (may : MayHear (atomic v) seat w s u) (one : s.class ≡ 1) where
     abbrev command : Id
     command = record { origin = s.origin; num = s.a }
 
@@ -139,7 +139,7 @@ module _ {V : Type 0} (stands : V → Desk → List Word → Type 0) (v : Vector
         delivered_heard v seat w h.seated.met command
         ∙ (ap (is_heard w) (sym (right_command seat.numbers seat.mode s may.right (eq-eqb s.class 1 one))) ∙ may.first)
 
-    pub mid_command : (l : Ledger) → LedgerStands l (command ∷ delivered_ids w) (log_now v seat w) → Mid stands v shown (record x { ledger = l }) seat w (Hear s u)
+    pub mid_command : (l : Ledger) → LedgerStands l (command ∷ delivered_ids w) (log_now v seat w) → IsMidway stands v shown (record x { ledger = l }) seat w (Hear s u)
     mid_command l stood = record {
       seated = record {
         session = h.seated.session;

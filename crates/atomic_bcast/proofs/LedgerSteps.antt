@@ -8,7 +8,7 @@ use Rattle.std.proofs.lemmas.List.{reverse-append, nil_from_length}
 use Rattle.std.proofs.lemmas.Bool.{and_parts, and_from, or_cases, eqb-true, eq-eqb, both_ways, false_from_ne_true, or_left, or_from, lt-ltb, le-ltb}
 use Rattle.ritas_base.specs.declared.id.Id.{Id}
 use Rattle.layer_api.specs.Service.{has_id, IsPart}
-use Rattle.atomic_bcast.specs.Identifiers.{kept, is_without, all_pass, append_ids, IsSorted}
+use Rattle.atomic_bcast.specs.Identifiers.{passing_ids, is_without, all_pass, append_ids, IsSorted}
 use Rattle.atomic_bcast.specs.Early.{has_early, id_cmp, Notes}
 use Rattle.atomic_bcast.specs.Pending.{HoldsIds}
 use Rattle.atomic_bcast.specs.Laws.LogsByRound.{part_through}
@@ -30,7 +30,7 @@ same_swap x y = same_test _ _ (λ h. turn x y h) (λ h. turn y x h)
         and_from (b.origin == a.origin) (b.num == a.num) (eq-eqb b.origin a.origin (sym (eqb-true a.origin b.origin parts.0))) (eq-eqb b.num a.num (sym (eqb-true a.num b.num parts.1)))
 
 -- those kept are those that pass
-pub kept_has : (test : Id → Bool) (xs : List Id) (z : Id) → has_id (kept test xs) z ≡ (test z && has_id xs z)
+pub kept_has : (test : Id → Bool) (xs : List Id) (z : Id) → has_id (passing_ids test xs) z ≡ (test z && has_id xs z)
 kept_has test [] z = none (test z)
   where
     none : (t : Bool) → false ≡ (t && false)
@@ -38,11 +38,11 @@ kept_has test [] z = none (test z)
     none false = refl
 kept_has test (x ∷ xs) z = go (test x) (test z) (is_same x z) refl refl refl (kept_has test xs z)
   where
-    go : (a t s : Bool) → test x ≡ a → test z ≡ t → is_same x z ≡ s → has_id (kept test xs) z ≡ (t && has_id xs z)
-        → has_id (if a then x ∷ kept test xs else kept test xs) z ≡ (t && (s || has_id xs z))
-    go true true true p q e ih = ap (λ b. b || has_id (kept test xs) z) e
+    go : (a t s : Bool) → test x ≡ a → test z ≡ t → is_same x z ≡ s → has_id (passing_ids test xs) z ≡ (t && has_id xs z)
+        → has_id (if a then x ∷ passing_ids test xs else passing_ids test xs) z ≡ (t && (s || has_id xs z))
+    go true true true p q e ih = ap (λ b. b || has_id (passing_ids test xs) z) e
     go true false true p q e ih = absurd (both_ways (test z) q (subst (λ (y : Id). test y ≡ true) (same_id x z e) p))
-    go true t false p q e ih = ap (λ b. b || has_id (kept test xs) z) e ∙ ih
+    go true t false p q e ih = ap (λ b. b || has_id (passing_ids test xs) z) e ∙ ih
     go false true true p q e ih = absurd (both_ways (test z) (subst (λ (y : Id). test y ≡ false) (same_id x z e) p) q)
     go false false true p q e ih = ih
     go false t false p q e ih = ih
@@ -72,7 +72,7 @@ moves x z log delivered = ap (λ s. not s && (is_without log z && has_id deliver
 
 pub pending_less : (set set' : BTreeSet Id) (x : Id) (delivered log : List Id)
     → ((z : Id) → contains id_cmp set' z ≡ (if is_at (id_cmp x) z then false else contains id_cmp set z))
-    → HoldsIds set (kept (is_without log) delivered) → HoldsIds set' (kept (is_without (x ∷ log)) delivered)
+    → HoldsIds set (passing_ids (is_without log) delivered) → HoldsIds set' (passing_ids (is_without (x ∷ log)) delivered)
 pending_less set set' x delivered log less holds z =
     less z ∙ (without_id x.origin x.num z.origin z.num (contains id_cmp set z)
     ∙ (ap (λ b. not (is_same z x) && b) (holds z ∙ kept_has (is_without log) delivered z)
@@ -100,7 +100,7 @@ append_stands l l' x delivered log own few has less notes items stands = record 
 
 -- ---- several are appended
 
-kept_less : (x : Id) (log rest : List Id) → AllByRecursion (IsBelow x) rest → kept (is_without (x ∷ log)) rest ≡ kept (is_without log) rest
+kept_less : (x : Id) (log rest : List Id) → AllByRecursion (IsBelow x) rest → passing_ids (is_without (x ∷ log)) rest ≡ passing_ids (is_without log) rest
 kept_less x log [] above = refl
 kept_less x log (y ∷ rest) above =
     ap₂ (λ (b : Bool) (l : List Id). if b then y ∷ l else l) (ap (λ (s : Bool). not (s || has_id log y)) (below_other x y above.0)) (kept_less x log rest above.1)
@@ -110,7 +110,7 @@ one_had l delivered log rest x had stands = record {
   now = log;
   stands = stands;
   grown = ([], refl);
-  ends = ap (λ (b : Bool). append_ids (if not b then x ∷ kept (is_without log) rest else kept (is_without log) rest) log) (sym had);
+  ends = ap (λ (b : Bool). append_ids (if not b then x ∷ passing_ids (is_without log) rest else passing_ids (is_without log) rest) log) (sym had);
 }
 
 pub one_new : (l : Ledger) (delivered log rest : List Id) (x : Id) → has_id log x ≡ false → AllByRecursion (IsBelow x) rest → LedgerStands l delivered (x ∷ log)
@@ -121,7 +121,7 @@ one_new l delivered log rest x new above stands = record {
   grown = (x ∷ [], refl);
   ends =
       ap (λ (k : List Id). append_ids k (x ∷ log)) (kept_less x log rest above)
-      ∙ ap (λ (b : Bool). append_ids (if not b then x ∷ kept (is_without log) rest else kept (is_without log) rest) log) (sym new);
+      ∙ ap (λ (b : Bool). append_ids (if not b then x ∷ passing_ids (is_without log) rest else passing_ids (is_without log) rest) log) (sym new);
 }
 
 -- what is left is ready and in order, and some are appended
@@ -147,19 +147,19 @@ pub pass_next : (test : Id → Bool) (xs rest : List Id) (x : Id) (r : Bool) →
 pass_next test xs rest x r is passes = ap (all_pass test) is ∙ ap (λ b. b && all_pass test xs) passes
 
 pub append_done : (l : Ledger) (delivered log all rest : List Id) → rest ≡ [] → IsAppending l delivered log all rest
-    → LedgerStands l delivered (append_ids (kept (is_without log) all) log)
+    → LedgerStands l delivered (append_ids (passing_ids (is_without log) all) log)
 append_done l delivered log all rest none done =
-    subst (λ (g : List Id). LedgerStands l delivered g) (sym (ap (λ (r : List Id). append_ids (kept (is_without done.did.now) r) done.did.now) none) ∙ done.did.ends) done.did.stands
+    subst (λ (g : List Id). LedgerStands l delivered g) (sym (ap (λ (r : List Id). append_ids (passing_ids (is_without done.did.now) r) done.did.now) none) ∙ done.did.ends) done.did.stands
 
 -- those that are appended so far, after any that were
 pub append_between : (l l' : Ledger) (bases : List ℕ) (delivered log all rest : List Id) → l'.log.items ≡ l.log.items
     → IsAppending (at_bases l bases) delivered log all rest
-    → IsPart log (reverse l'.log.items) × IsPart (reverse l'.log.items) (append_ids (kept (is_without log) all) log)
+    → IsPart log (reverse l'.log.items) × IsPart (reverse l'.log.items) (append_ids (passing_ids (is_without log) all) log)
 append_between l l' bases delivered log all rest same done =
     let now : reverse l'.log.items ≡ done.did.now = ap reverse same ∙ done.did.stands.listed in
-    let part : IsPart done.did.now (append_ids (kept (is_without log) all) log) =
-    subst (λ (g : List Id). IsPart done.did.now g) done.did.ends (append_part (kept (is_without done.did.now) rest) done.did.now) in
-    (subst (λ (g : List Id). IsPart log g) (sym now) done.did.grown, subst (λ (g : List Id). IsPart g (append_ids (kept (is_without log) all) log)) (sym now) part)
+    let part : IsPart done.did.now (append_ids (passing_ids (is_without log) all) log) =
+    subst (λ (g : List Id). IsPart done.did.now g) done.did.ends (append_part (passing_ids (is_without done.did.now) rest) done.did.now) in
+    (subst (λ (g : List Id). IsPart log g) (sym now) done.did.grown, subst (λ (g : List Id). IsPart g (append_ids (passing_ids (is_without log) all) log)) (sym now) part)
 
 -- ---- what is shown
 
@@ -178,13 +178,13 @@ none_same xs (y ∷ ys) same none =
     let here : true ≡ false = sym (or_left (is_same y y) (has_id ys y) (itself y)) ∙ (sym (same y) ∙ ap (λ (l : List Id). has_id l y) none) in absurd (cc)
 
 -- nothing is pending where the set is empty, and only there
-pub pending_none : (l : Ledger) (delivered log : List Id) → LedgerStands l delivered log → l.pending.keys ≡ [] ↔ kept (is_without log) delivered ≡ []
+pub pending_none : (l : Ledger) (delivered log : List Id) → LedgerStands l delivered log → l.pending.keys ≡ [] ↔ passing_ids (is_without log) delivered ≡ []
 pending_none l delivered log stands =
     let same = λ (z : Id). sym (keys_has l.pending.keys z) ∙ stands.pending z in
     (none_same l.pending.keys _ same, none_same _ l.pending.keys (λ z. sym (same z)))
 
 pub pending_test : (l : Ledger) (delivered log : List Id) (b : Bool) → (IsTrue b ↔ length l.pending.keys ≡ 0) → LedgerStands l delivered log
-    → IsTrue (not b) ↔ (kept (is_without log) delivered ≡ [] → ⊥)
+    → IsTrue (not b) ↔ (passing_ids (is_without log) delivered ≡ [] → ⊥)
 pending_test l delivered log true is stands =
     (λ h. absurd (both_ways false refl h), λ some. absurd (some ((pending_none l delivered log stands).0 (nil_from_length l.pending.keys (is.0 refl)))))
 pending_test l delivered log false is stands =

@@ -17,9 +17,9 @@ use Rattle.atomic_bcast.specs.Stepping.{current, log_now, heard_words}
 use Rattle.atomic_bcast.specs.Laws.Stepping.{steps, full_is}
 use Rattle.atomic_bcast.specs.Boxes.{box_at, opens_in, spent_in, Stood, last_in}
 use Rattle.atomic_bcast.specs.AbcGetters.{opens_round, base_in}
-use Rattle.atomic_bcast.specs.Abc.{has_begun, Stands}
-use Rattle.atomic_bcast.specs.Turning.{Mid, IsNow, Poised, IsNear}
-use Rattle.atomic_bcast.specs.Laws.Getters.{told, ruled, none_beyond, same_inside, ruled_nothing, ruled_past, told_nothing, told_ahead, past_box, full_not_spent, base_is, AllShow, stood_opens, stood_spent, nothing_ahead, shows_rules, stood_vector}
+use Rattle.atomic_bcast.specs.Abc.{has_begun, AtomicStands}
+use Rattle.atomic_bcast.specs.Turning.{IsMidway, IsNow, Poised, IsNear}
+use Rattle.atomic_bcast.specs.Laws.Getters.{slot_told, ruled, none_beyond, same_inside, ruled_nothing, ruled_past, told_nothing, told_ahead, past_box, full_not_spent, base_is, AllShow, stood_opens, stood_spent, nothing_ahead, shows_rules, stood_vector}
 use Rattle.atomic_bcast.specs.declared.boxes.Boxes.{Boxes}
 use Rattle.atomic_bcast.specs.declared.abc.Abc.{Abc}
 use Rattle.atomic_bcast.proofs.Stepped.{stays_or_goes, words_heard, not_spent_before, not_spent_after, only_current}
@@ -103,7 +103,7 @@ module _ {V : Type 0} (stands : V → Desk → List Word → Type 0) (v : Vector
     -- what a box in the window takes
     box_near : (s : Slot) (t : Bool) → s.a < rounds → s.a ≤ n → n ≤ s.a + 2 → (s.a ≡ n → is_some (round_ask v seat n w) ≡ true)
         → (t ≡ old_opens s) ⊎ (t ≡ v.opens (round_desk seat s.a) (heard_words v seat c w s.a) s)
-        → (told seat.numbers.f n s t ≡ ruled seat.numbers.f n s (old_opens s)) ⊎ (told seat.numbers.f n s t ≡ ruled seat.numbers.f later s (new_opens s))
+        → (slot_told seat.numbers.f n s t ≡ ruled seat.numbers.f n s (old_opens s)) ⊎ (slot_told seat.numbers.f n s t ≡ ruled seat.numbers.f later s (new_opens s))
     box_near s t small begun recent asks (inl e) = inl (same_inside seat.numbers.f n n s _ _ small begun recent e)
     box_near s t small begun recent asks (inr e) =
         let f = seat.numbers.f in
@@ -121,8 +121,8 @@ module _ {V : Type 0} (stands : V → Desk → List Word → Type 0) (v : Vector
 
     one_near : (s : Slot) (o : Option V) → s.a < rounds → s.a ≤ n → n ≤ s.a + 2 → ((x : V) → o ≡ Some x → s.a ≡ n → is_some (round_ask v seat n w) ≡ true)
         → OneNear o (round_desk seat s.a) (round_words v seat s.a w) (heard_words v seat c w s.a)
-        → (told seat.numbers.f n s (opens_in shown o s) ≡ ruled seat.numbers.f n s (old_opens s))
-        ⊎ (told seat.numbers.f n s (opens_in shown o s) ≡ ruled seat.numbers.f later s (new_opens s))
+        → (slot_told seat.numbers.f n s (opens_in shown o s) ≡ ruled seat.numbers.f n s (old_opens s))
+        ⊎ (slot_told seat.numbers.f n s (opens_in shown o s) ≡ ruled seat.numbers.f later s (new_opens s))
     one_near s None small begun recent asks none = inl (same_inside seat.numbers.f n n s _ _ small begun recent (stood_opens stands v laws live shown shows None (round_desk seat s.a) (round_words v seat s.a w) s none))
     one_near s (Some one) small begun recent asks near = box_near s ((shown one).opens s) small begun recent (asks one refl) (near.opens s)
 
@@ -226,7 +226,7 @@ module _ {V : Type 0} (stands : V → Desk → List Word → Type 0) (v : Vector
   stood_near (Some one) at ds u stood = near_later one at u (ds ++ u) stood
 
   -- where the word was heard
-  pub mid_before : (x : Abc V) (seat : Seat) (w : List Word) (c : Word) → Mid stands v shown x seat w c → Before x seat w c
+  pub mid_before : (x : Abc V) (seat : Seat) (w : List Word) (c : Word) → IsMidway stands v shown x seat w c → Before x seat w c
   mid_before x seat w c m = record {
     session = m.seated.session;
     met = m.seated.met;
@@ -241,7 +241,7 @@ module _ {V : Type 0} (stands : V → Desk → List Word → Type 0) (v : Vector
   }
 
   -- where all stands as before the word, or as after it
-  pub shows_before : (x : Abc V) (seat : Seat) (w : List Word) (c : Word) → Stands stands v shown x seat w → IsNear stands v shown x seat w c
+  pub shows_before : (x : Abc V) (seat : Seat) (w : List Word) (c : Word) → AtomicStands stands v shown x seat w → IsNear stands v shown x seat w c
   shows_before x seat w c h =
       let s = shows_rules stands v laws live shown shows x seat w h in
       record {
@@ -256,7 +256,7 @@ module _ {V : Type 0} (stands : V → Desk → List Word → Type 0) (v : Vector
         last = inl s.last;
       }
 
-  pub shows_after : (x : Abc V) (seat : Seat) (w : List Word) (c : Word) → Stands stands v shown x seat (c ∷ w) → IsNear stands v shown x seat w c
+  pub shows_after : (x : Abc V) (seat : Seat) (w : List Word) (c : Word) → AtomicStands stands v shown x seat (c ∷ w) → IsNear stands v shown x seat w c
   shows_after x seat w c h =
       let s = shows_rules stands v laws live shown shows x seat (c ∷ w) h in
       record {
@@ -275,8 +275,8 @@ module _ {V : Type 0} (stands : V → Desk → List Word → Type 0) (v : Vector
 
   module _ (x : Abc V) (seat : Seat) (w : List Word) (c : Word) (p : Poised stands v shown x seat w c) where
     here_opens : (s : Slot) (o : Option V) → s.a ≡ current v seat (c ∷ w) → s.a < rounds → IsNow stands v shown o seat w c
-        → (told seat.numbers.f (current v seat (c ∷ w)) s (opens_in shown o s) ≡ ruled seat.numbers.f (current v seat w) s (v.opens (round_desk seat s.a) (round_words v seat s.a w) s))
-        ⊎ (told seat.numbers.f (current v seat (c ∷ w)) s (opens_in shown o s) ≡ ruled seat.numbers.f (current v seat (c ∷ w)) s (v.opens (round_desk seat s.a) (round_words v seat s.a (c ∷ w)) s))
+        → (slot_told seat.numbers.f (current v seat (c ∷ w)) s (opens_in shown o s) ≡ ruled seat.numbers.f (current v seat w) s (v.opens (round_desk seat s.a) (round_words v seat s.a w) s))
+        ⊎ (slot_told seat.numbers.f (current v seat (c ∷ w)) s (opens_in shown o s) ≡ ruled seat.numbers.f (current v seat (c ∷ w)) s (v.opens (round_desk seat s.a) (round_words v seat s.a (c ∷ w)) s))
     here_opens s None same small due =
         let none : round_words v seat s.a w ≡ [] =
         ap (λ (a : ℕ). round_words v seat a w) same ∙ due.unbegun (subst (λ (a : ℕ). a < rounds) same small) in
@@ -310,7 +310,7 @@ module _ {V : Type 0} (stands : V → Desk → List Word → Type 0) (v : Vector
                 | inr now ↦
                     let same : s.a ≡ m = omega (arith, there, now) in
                     let first : m - s.a ≡ 0 = omega (arith, same) in
-                    subst (λ (k : ℕ). (told f m s (opens_in shown (box_at x.boxes k) s) ≡ round_opens v seat w s) ⊎ (told f m s (opens_in shown (box_at x.boxes k) s) ≡ round_opens v seat (c ∷ w) s))
+                    subst (λ (k : ℕ). (slot_told f m s (opens_in shown (box_at x.boxes k) s) ≡ round_opens v seat w s) ⊎ (slot_told f m s (opens_in shown (box_at x.boxes k) s) ≡ round_opens v seat (c ∷ w) s))
                     (sym first) (here_opens s x.boxes.current same small p.here)
               ]
             ]

@@ -16,7 +16,7 @@ use Rattle.atomic_bcast.specs.Laws.RoundVectors.{completes_by, attempt_there, ro
 use Rattle.atomic_bcast.specs.Laws.RoundsStay.{decides_stay, attempt_stay}
 use Rattle.atomic_bcast.specs.Stepping.{current, log_now, heard_words, next_ask}
 use Rattle.atomic_bcast.specs.Laws.Stepping.{steps, full_is}
-use Rattle.atomic_bcast.specs.Boxes.{vector_in, last_in, OldStand}
+use Rattle.atomic_bcast.specs.Boxes.{vector_by_box, last_in, OldStand}
 use Rattle.atomic_bcast.specs.Abc.{has_begun}
 use Rattle.atomic_bcast.specs.Turning.{IsNow}
 use Rattle.atomic_bcast.specs.Laws.Getters.{AllShow, no_vector, full_undecided, stood_vector}
@@ -62,17 +62,17 @@ module _ (v : VectorRules) (laws : VectorLaws v) (seat : Seat) (session : IsSess
     -- a round's vector is that of before, or that of its words with what the word brings
     abbrev pub IsNearVector : ℕ → Option V → Type 0
     IsNearVector a o =
-        (vector_in shown a o ≡ vector_of_round v seat a w)
-        ⊎ (vector_in shown a o ≡ vector_with a (v.attempt (round_desk seat a) (heard_words v seat c w a)) (v.decision (round_desk seat a) (heard_words v seat c w a)))
+        (vector_by_box shown a o ≡ vector_of_round v seat a w)
+        ⊎ (vector_by_box shown a o ≡ vector_with a (v.attempt (round_desk seat a) (heard_words v seat c w a)) (v.decision (round_desk seat a) (heard_words v seat c w a)))
 
     -- that of the round before the current one is still what it was
     before_near : (b : Boxes V) (a : ℕ) → a ≡ n → ((k : ℕ) → suc k ≡ a → IsNearVector k b.last)
-        → (if nat_lt 0 a then vector_in shown (a - 1) b.last else None) ≡ last_complete v seat a w
+        → (if nat_lt 0 a then vector_by_box shown (a - 1) b.last else None) ≡ last_complete v seat a w
     before_near b zero same near = refl
     before_near b (suc a) same near =
         let less : suc a - 1 ≡ a = omega arith in
-        ap (λ (t : Bool). if t then vector_in shown (suc a - 1) b.last else None) (lt-ltb 0 (suc a) (omega arith))
-        ∙ (ap (λ (k : ℕ). vector_in shown k b.last) less
+        ap (λ (t : Bool). if t then vector_by_box shown (suc a - 1) b.last else None) (lt-ltb 0 (suc a) (omega arith))
+        ∙ (ap (λ (k : ℕ). vector_by_box shown k b.last) less
         ∙ elim (near a refl) [
           | inl e ↦ e
           | inr e ↦
@@ -95,10 +95,10 @@ module _ (v : VectorRules) (laws : VectorLaws v) (seat : Seat) (session : IsSess
 
     -- where the box of the current round shows what it decides with the word
     heard_near : (b : Boxes V) → is_some (round_ask v seat n w) ≡ true
-        → vector_in shown n b.current ≡ vector_with n (v.attempt (round_desk seat n) (heard_words v seat c w n)) (v.decision (round_desk seat n) (heard_words v seat c w n))
-        → (if nat_lt 0 n then vector_in shown (n - 1) b.last else None) ≡ last_complete v seat n w → last_in shown n b ≡ last_vector v seat (c ∷ w)
+        → vector_by_box shown n b.current ≡ vector_with n (v.attempt (round_desk seat n) (heard_words v seat c w n)) (v.decision (round_desk seat n) (heard_words v seat c w n))
+        → (if nat_lt 0 n then vector_by_box shown (n - 1) b.last else None) ≡ last_complete v seat n w → last_in shown n b ≡ last_vector v seat (c ∷ w)
     heard_near b asked e older =
-        let is : vector_in shown n b.current ≡ vector_of_round v seat n (c ∷ w) =
+        let is : vector_by_box shown n b.current ≡ vector_of_round v seat n (c ∷ w) =
         e ∙ ap (λ (u : List Word). vector_with n (v.attempt (round_desk seat n) u) (v.decision (round_desk seat n) u)) (sym (words_heard v laws seat session c w met n asked)) in
         elim (stays_or_goes v laws seat session c w met) [
           | inl stays ↦
@@ -111,13 +111,13 @@ module _ (v : VectorRules) (laws : VectorLaws v) (seat : Seat) (session : IsSess
               let k = attempt_there v laws seat n (c ∷ w) d.vector decides in
               let there = round_vector v laws seat n (c ∷ w) k.0 d.vector k.1 decides in
               let next = goes.advances.next in
-              first_of (vector_in shown n b.current) _ _ (is ∙ there)
+              first_of (vector_by_box shown n b.current) _ _ (is ∙ there)
               ∙ (is ∙ sym (ap (λ (o : Option LastVector). option_or o (last_complete v seat (current v seat (c ∷ w)) (c ∷ w))) (next_none goes)
               ∙ ap (λ (a : ℕ). last_complete v seat a (c ∷ w)) next))
         ]
 
     abbrev pub NearNow : Option V → Type 0
-    NearNow None = vector_in shown n None ≡ vector_of_round v seat n w
+    NearNow None = vector_by_box shown n None ≡ vector_of_round v seat n w
     NearNow (Some one) = IsNearVector n (Some one)
 
     pub last_near : (b : Boxes V) → is_some b.current ≡ has_begun v seat w → (n < rounds → NearNow b.current) → ((k : ℕ) → suc k ≡ n → IsNearVector k b.last)
@@ -128,14 +128,14 @@ module _ (v : VectorRules) (laws : VectorLaws v) (seat : Seat) (session : IsSess
           | inr full ↦ inl (ap₂ (λ (x u : Option LastVector). option_or x u) (none_now full) o)
         ]
       where
-        o : (if nat_lt 0 n then vector_in shown (n - 1) b.last else None) ≡ last_complete v seat n w
+        o : (if nat_lt 0 n then vector_by_box shown (n - 1) b.last else None) ≡ last_complete v seat n w
         o = before_near b n refl older
 
-        none_there : (x : Option V) → is_some x ≡ false → vector_in shown n x ≡ None
+        none_there : (x : Option V) → is_some x ≡ false → vector_by_box shown n x ≡ None
         none_there None q = refl
         none_there (Some y) q = absurd cc
 
-        none_now : rounds ≤ n → vector_in shown n b.current ≡ vector_of_round v seat n w
+        none_now : rounds ≤ n → vector_by_box shown n b.current ≡ vector_of_round v seat n w
         none_now full =
             none_there b.current (begun ∙ and_left (nat_lt n rounds) _ (le-ltb n rounds full))
             ∙ sym (subst (λ (a : ℕ). vector_of_round v seat a w ≡ None) (sym (full_is v laws seat session w full)) (none_full w met.1))
@@ -145,10 +145,10 @@ module _ (v : VectorRules) (laws : VectorLaws v) (seat : Seat) (session : IsSess
         both false u e = absurd cc
 
         go : (x : Option V) → b.current ≡ x → NearNow x → (last_in shown n b ≡ last_vector v seat w) ⊎ (last_in shown n b ≡ last_vector v seat (c ∷ w))
-        go None is e = inl (ap₂ (λ (x u : Option LastVector). option_or x u) (ap (vector_in shown n) is ∙ e) o)
-        go (Some one) is (inl e) = inl (ap₂ (λ (x u : Option LastVector). option_or x u) (ap (vector_in shown n) is ∙ e) o)
+        go None is e = inl (ap₂ (λ (x u : Option LastVector). option_or x u) (ap (vector_by_box shown n) is ∙ e) o)
+        go (Some one) is (inl e) = inl (ap₂ (λ (x u : Option LastVector). option_or x u) (ap (vector_by_box shown n) is ∙ e) o)
         go (Some one) is (inr e) =
-            inr (heard_near b (both (nat_lt n rounds) (is_some (round_ask v seat n w)) (sym (ap is_some is) ∙ begun)) (ap (vector_in shown n) is ∙ e) o)
+            inr (heard_near b (both (nat_lt n rounds) (is_some (round_ask v seat n w)) (sym (ap is_some is) ∙ begun)) (ap (vector_by_box shown n) is ∙ e) o)
 
     -- where a round became complete, and the next may have to begin
     pub last_poised : (b : Boxes V) → IsNow stands v shown b.current seat w c → OldStand stands seat (current v seat (c ∷ w)) (λ a. round_words v seat a (c ∷ w)) b
@@ -159,7 +159,7 @@ module _ (v : VectorRules) (laws : VectorLaws v) (seat : Seat) (session : IsSess
         m : ℕ
         m = current v seat (c ∷ w)
 
-        now : (x : Option V) → IsNow stands v shown x seat w c → vector_in shown m x ≡ vector_of_round v seat m (c ∷ w)
+        now : (x : Option V) → IsNow stands v shown x seat w c → vector_by_box shown m x ≡ vector_of_round v seat m (c ∷ w)
         now None due =
             elim (cases_lt m rounds) [
               | inl small ↦ sym (none_asked m (c ∷ w) (next_ask v seat (c ∷ w) (log_now v seat (c ∷ w))) (due.words small))
@@ -168,12 +168,12 @@ module _ (v : VectorRules) (laws : VectorLaws v) (seat : Seat) (session : IsSess
         now (Some one) going =
             stood_vector stands v laws live shown shows (Some one) m (round_desk seat m) (round_words v seat m (c ∷ w)) going.stood
 
-        before : (a : ℕ) → a ≡ m → (if nat_lt 0 a then vector_in shown (a - 1) b.last else None) ≡ last_complete v seat a (c ∷ w)
+        before : (a : ℕ) → a ≡ m → (if nat_lt 0 a then vector_by_box shown (a - 1) b.last else None) ≡ last_complete v seat a (c ∷ w)
         before zero same = refl
         before (suc a) same =
             let few = complete_small v seat rounds (c ∷ w) in
             let less : suc a - 1 ≡ a = omega arith in
-            ap (λ (t : Bool). if t then vector_in shown (suc a - 1) b.last else None) (lt-ltb 0 (suc a) (omega arith))
-            ∙ (ap (λ (k : ℕ). vector_in shown k b.last) less
+            ap (λ (t : Bool). if t then vector_by_box shown (suc a - 1) b.last else None) (lt-ltb 0 (suc a) (omega arith))
+            ∙ (ap (λ (k : ℕ). vector_by_box shown k b.last) less
             ∙ stood_vector stands v laws live shown shows b.last a (round_desk seat a) (round_words v seat a (c ∷ w))
             (older a 1 (omega (arith, same)) (omega arith) (omega arith) (omega (arith, same, few))))

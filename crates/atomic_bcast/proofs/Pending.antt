@@ -16,7 +16,7 @@ use Rattle.layer_api.specs.Service.{has_id}
 use Rattle.frame_codec.specs.Ids.{IsBelow}
 use Rattle.atomic_bcast.specs.Identifiers.{is_below, insert_id, in_order, IsSorted}
 use Rattle.atomic_bcast.specs.Early.{id_cmp}
-use Rattle.atomic_bcast.specs.Pending.{HoldsIds, Counts}
+use Rattle.atomic_bcast.specs.Pending.{HoldsIds, CountsOrigins}
 use Rattle.atomic_bcast.specs.Laws.Ordered.{in_order_sorted, below_trans, below_other, below_from}
 use Rattle.atomic_bcast.proofs.Ids.{is_id, same_test}
 
@@ -171,5 +171,5 @@ pub keys_all : (P : Id → Type 0) (set : BTreeSet Id) (ids : List Id) → Holds
 keys_all P set ids holds all = all_has P set.keys (λ z h. above_all P ids z all (sym (holds z) ∙ (keys_has set.keys z ∙ h)))
 
 -- nothing is counted at first
-pub none_counted : (counts : List ℕ) → counts ≡ replicate 31 0 → Counts counts []
+pub none_counted : (counts : List ℕ) → counts ≡ replicate 31 0 → CountsOrigins counts []
 none_counted counts is o small = ap (λ (l : List ℕ). slice_index l o) is ∙ get_or-replicate 31 o 0 0 small

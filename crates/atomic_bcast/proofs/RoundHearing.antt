@@ -23,8 +23,8 @@ use Rattle.atomic_bcast.specs.Laws.Stepping.{comes_to, no_step}
 use Rattle.atomic_bcast.specs.Ledger.{LedgerStands}
 use Rattle.atomic_bcast.specs.Boxes.{box_at, with_box, Stood, BoxesStand, HearsBox}
 use Rattle.atomic_bcast.specs.Waiting.{decision_in, Awaits, Knows}
-use Rattle.atomic_bcast.specs.Abc.{has_begun, Stands}
-use Rattle.atomic_bcast.specs.Turning.{Mid, Known, Takes, IsNear}
+use Rattle.atomic_bcast.specs.Abc.{has_begun, AtomicStands}
+use Rattle.atomic_bcast.specs.Turning.{IsMidway, IsWaitKnown, TookWord, IsNear}
 use Rattle.atomic_bcast.specs.Laws.Getters.{base_is, AllShow}
 use Rattle.atomic_bcast.specs.declared.boxes.Boxes.{Boxes}
 use Rattle.atomic_bcast.specs.declared.abc.Abc.{Abc}
@@ -59,7 +59,7 @@ with_other b (suc zero) (suc (suc (suc j))) o l m ne = absurd (omega (arith, m))
 with_other b (suc (suc zero)) (suc (suc (suc j))) o l m ne = absurd (omega (arith, m))
 
 module _ {V : Type 0} (stands : V → Desk → List Word → Type 0) (v : VectorRules) (laws : VectorLaws v) (live : V → Bool) (shown : V → VectorShown) (shows : AllShow stands v live shown) where
-  module _ (x : Abc V) (seat : Seat) (w : List Word) (s : Slot) (u : List ℕ) (h : Stands stands v shown x seat w) (may : MayHear (atomic v) seat w s u)
+  module _ (x : Abc V) (seat : Seat) (w : List Word) (s : Slot) (u : List ℕ) (h : AtomicStands stands v shown x seat w) (may : MayHear (atomic v) seat w s u)
       (other : (s.class == 1) ≡ false) where
     abbrev session : IsSession seat.numbers
     session = h.seated.session
@@ -179,7 +179,7 @@ module _ {V : Type 0} (stands : V → Desk → List Word → Type 0) (v : Vector
             | inr ne ↦ subst (λ (o : Option V). Awaits x.place.numbers (decision_in shown o) x.waits) (sym (current_other ne)) k
           ]
 
-      mid_round : stands next (round_desk seat s.a) (Hear s u ∷ round_words v seat s.a w) → Mid stands v shown (record x { boxes = b }) seat w (Hear s u)
+      mid_round : stands next (round_desk seat s.a) (Hear s u ∷ round_words v seat s.a w) → IsMidway stands v shown (record x { boxes = b }) seat w (Hear s u)
       mid_round heard = record {
         seated = record {
           session = session;
@@ -197,7 +197,7 @@ module _ {V : Type 0} (stands : V → Desk → List Word → Type 0) (v : Vector
       }
 
       -- another round than the current one hears it
-      known_round : (s.a ≡ n → ⊥) → stands next (round_desk seat s.a) (Hear s u ∷ round_words v seat s.a w) → Known stands v shown (record x { boxes = b }) seat w (Hear s u)
+      known_round : (s.a ≡ n → ⊥) → stands next (round_desk seat s.a) (Hear s u ∷ round_words v seat s.a w) → IsWaitKnown stands v shown (record x { boxes = b }) seat w (Hear s u)
       known_round ne heard = record {
         mid = mid_round heard;
         knows = subst (λ (o : Option V). Knows x.place.numbers (decision_in shown o) x.waits) (sym (current_other ne)) h.waits;
@@ -239,7 +239,7 @@ module _ {V : Type 0} (stands : V → Desk → List Word → Type 0) (v : Vector
 
     module _ (bits : Slot → Bool) (coin : IsCoin seat.coin bits) (b : Boxes V) (said made : List Say) where
       -- the current round's box heard it
-      pub mid_heard : (j : ℕ) → j ≡ k → HearsBox stands v live shown bits j x.boxes b s u said made (Ok tt) → Mid stands v shown (record x { boxes = b }) seat w (Hear s u)
+      pub mid_heard : (j : ℕ) → j ≡ k → HearsBox stands v live shown bits j x.boxes b s u said made (Ok tt) → IsMidway stands v shown (record x { boxes = b }) seat w (Hear s u)
       mid_heard j same hears =
           let o = there in
           let y = subst (λ (i : ℕ). (one : V) → box_at x.boxes i ≡ Some one → (next : V) × (b ≡ with_box x.boxes i (Some next)) × VectorHears stands v live shown bits one next s u said made (Ok tt)) same hears o.0 o.1 in
@@ -252,7 +252,7 @@ module _ {V : Type 0} (stands : V → Desk → List Word → Type 0) (v : Vector
           y.2.made (round_desk seat s.a) (round_words v seat s.a w) (stood b o.0 y.0 o.1 y.1) (coin, may_inner) ∙ ap (λ (ys : List Say). said ++ ys) (sym round_says)
 
       -- another's did
-      pub took_other : (j : ℕ) → j ≡ k → (j ≡ 0 → ⊥) → HearsBox stands v live shown bits j x.boxes b s u said made (Ok tt) → Takes stands v shown (record x { boxes = b }) seat w (Hear s u) said made
+      pub took_other : (j : ℕ) → j ≡ k → (j ≡ 0 → ⊥) → HearsBox stands v live shown bits j x.boxes b s u said made (Ok tt) → TookWord stands v shown (record x { boxes = b }) seat w (Hear s u) said made
       took_other j same ne hears =
           let o = there in
           let y = subst (λ (i : ℕ). (one : V) → box_at x.boxes i ≡ Some one → (next : V) × (b ≡ with_box x.boxes i (Some next)) × VectorHears stands v live shown bits one next s u said made (Ok tt)) same hears o.0 o.1 in

@@ -12,12 +12,12 @@ use Rattle.layer_api.specs.Calls.{IsCoin}
 use Rattle.layer_api.specs.Multi.{Desk}
 use Rattle.layer_api.specs.Vectors.{VectorRules, VectorLaws}
 use Rattle.layer_api.specs.VectorCalls.{VectorShown}
-use Rattle.atomic_bcast.specs.Rounds.{says_below, rounds, atomic}
+use Rattle.atomic_bcast.specs.Rounds.{rounds_say_below, rounds, atomic}
 use Rattle.atomic_bcast.specs.Stepping.{heard_says}
-use Rattle.atomic_bcast.specs.Waiting.{decision_in, Learns}
-use Rattle.atomic_bcast.specs.AbcGetters.{shown_by}
-use Rattle.atomic_bcast.specs.Abc.{Stands, Ends}
-use Rattle.atomic_bcast.specs.Turning.{Mid, Known, Turned, Takes, IsNear, TakesWord, LosesWord}
+use Rattle.atomic_bcast.specs.Waiting.{decision_in, LearnsWanted}
+use Rattle.atomic_bcast.specs.AbcGetters.{atomic_shown}
+use Rattle.atomic_bcast.specs.Abc.{AtomicStands, AtomicEnds}
+use Rattle.atomic_bcast.specs.Turning.{IsMidway, IsWaitKnown, Turned, TookWord, IsNear, TakesWord, LosesWord}
 use Rattle.atomic_bcast.specs.Laws.Getters.{AllShow}
 use Rattle.atomic_bcast.specs.declared.abc.Abc.{Abc}
 use Rattle.atomic_bcast.proofs.Near.{shows_after}
@@ -32,11 +32,11 @@ raised n k e l = omega (arith, e, l)
 
 module _ {V : Type 0} (stands : V → Desk → List Word → Type 0) (v : VectorRules) (laws : VectorLaws v) (live : V → Bool) (shown : V → VectorShown) (shows : AllShow stands v live shown) where
   -- what the current round waits for is learnt
-  pub learned : (x y : Abc V) (seat : Seat) (w : List Word) (c : Word) → Mid stands v shown x seat w c
-      → y ≡ record x { waits = y.waits } → Learns shown x.place.numbers x.boxes.current x.waits y.waits → Known stands v shown y seat w c
+  pub learned : (x y : Abc V) (seat : Seat) (w : List Word) (c : Word) → IsMidway stands v shown x seat w c
+      → y ≡ record x { waits = y.waits } → LearnsWanted shown x.place.numbers x.boxes.current x.waits y.waits → IsWaitKnown stands v shown y seat w c
   learned x y seat w c m made learns =
       let knows = learns m.waits in
-      subst (λ (z : Abc V). Known stands v shown z seat w c) (sym made) (record {
+      subst (λ (z : Abc V). IsWaitKnown stands v shown z seat w c) (sym made) (record {
         mid = record {
           seated = record { session = m.seated.session; met = m.seated.met; numbers = m.seated.numbers; me = m.seated.me; inputs = m.seated.inputs; live = m.seated.live };
           ledger = m.ledger;
@@ -51,7 +51,7 @@ module _ {V : Type 0} (stands : V → Desk → List Word → Type 0) (v : Vector
   -- ---- what is said
 
   pub took : (x : Abc V) (seat : Seat) (w : List Word) (c : Word) (said before after : List Say) → Turned stands v shown x seat w c before after
-      → before ≡ said ++ heard_says v seat w c → Takes stands v shown x seat w c said after
+      → before ≡ said ++ heard_says v seat w c → TookWord stands v shown x seat w c said after
   took x seat w c said before after t e = record {
     now = t.now;
     made =
@@ -64,7 +64,7 @@ module _ {V : Type 0} (stands : V → Desk → List Word → Type 0) (v : Vector
 
   pub input_done : (x y : Abc V) (u : List ℕ) (me : ℕ) (before after : List Say) → me ≡ x.place.me → y ≡ record x { inputs = y.inputs } → y.inputs ≡ Prim.Native.Nat.min (x.inputs + 1) 4294967295
       → after ≡ before ++ record { slot = command_slot me x.inputs; value = u } ∷ []
-      → Inputs (Stands stands v shown) (atomic v) (λ s. s.live) (shown_by shown) x y u before after (Ok tt)
+      → Inputs (AtomicStands stands v shown) (atomic v) (λ s. s.live) (atomic_shown shown) x y u before after (Ok tt)
   input_done x y u me before after mine made count put = record {
     grows = λ seat w h may.
         input_taken stands v laws live shown shows x y seat w u h may
@@ -79,15 +79,15 @@ module _ {V : Type 0} (stands : V → Desk → List Word → Type 0) (v : Vector
 
   pub heard_done : (bits : Slot → Bool) (x mid new : Abc V) (s : Slot) (u : List ℕ) (taken : Result (Unit {0}) Mem) (none made before after : List Say) (result : Result (Unit {0}) Mem)
       → none ≡ [] → OnOk taken (TakesWord stands v shown bits x mid s u none made) → OnErr taken (LosesWord stands v shown bits x mid s u)
-      → Ends mid new taken made before after result
-      → Heeds (Stands stands v shown) (atomic v) (λ y. y.live) (shown_by shown) bits x new s u before after result
+      → AtomicEnds mid new taken made before after result
+      → Heeds (AtomicStands stands v shown) (atomic v) (λ y. y.live) (atomic_shown shown) bits x new s u before after result
   heard_done bits x mid new s u taken none made before after (Ok t) empty takes loses ends =
       let done = at_ok taken t (TakesWord stands v shown bits x mid s u none made) ends.0 takes in
       record {
-        grows = λ seat w h may. subst (λ (y : Abc V). Stands stands v shown y seat (Hear s u ∷ w)) (sym ends.1) (done seat w h may.0 may.1).now;
+        grows = λ seat w h may. subst (λ (y : Abc V). AtomicStands stands v shown y seat (Hear s u ∷ w)) (sym ends.1) (done seat w h may.0 may.1).now;
         made = λ seat w h may.
             ends.2 ∙ ap (λ (ys : List Say). before ++ ys)
-            ((done seat w h may.0 may.1).made ∙ ap (λ (ys : List Say). ys ++ says_below v seat rounds w (Hear s u)) empty);
+            ((done seat w h may.0 may.1).made ∙ ap (λ (ys : List Say). ys ++ rounds_say_below v seat rounds w (Hear s u)) empty);
       }
   heard_done bits x mid new s u taken none made before after (Err e) empty takes loses ends = record {
     out = ends.1;
@@ -96,7 +96,7 @@ module _ {V : Type 0} (stands : V → Desk → List Word → Type 0) (v : Vector
   }
     where
       near : (r : Result (Unit {0}) Mem) → OnOk r (TakesWord stands v shown bits x mid s u none made) → OnErr r (LosesWord stands v shown bits x mid s u)
-          → (seat : Seat) (w : List Word) → Stands stands v shown x seat w → IsCoin seat.coin bits → MayHear (atomic v) seat w s u
+          → (seat : Seat) (w : List Word) → AtomicStands stands v shown x seat w → IsCoin seat.coin bits → MayHear (atomic v) seat w s u
           → IsNear stands v shown (record mid { live = false }) seat w (Hear s u)
       near (Ok t) takes loses seat w h coin may =
           shows_after stands v laws live shown shows mid seat w (Hear s u) (takes seat w h coin may).now

@@ -15,14 +15,14 @@ use Rattle.layer_api.specs.Part.{newly_asked, says_in}
 use Rattle.layer_api.specs.Multi.{Desk}
 use Rattle.layer_api.specs.Vectors.{VectorRules, VectorLaws}
 use Rattle.layer_api.specs.VectorCalls.{VectorShown}
-use Rattle.atomic_bcast.specs.Rounds.{delivered_ids, round_desk, round_ask, round_words, says_below, rounds, atomic}
+use Rattle.atomic_bcast.specs.Rounds.{delivered_ids, round_desk, round_ask, round_words, rounds_say_below, rounds, atomic}
 use Rattle.atomic_bcast.specs.Laws.AskedFirst.{ask_stays, words_new}
 use Rattle.atomic_bcast.specs.Stepping.{current, log_now, heard_says, heard_words, next_ask, next_says}
 use Rattle.atomic_bcast.specs.Laws.Stepping.{unasked, not_ahead, steps, full_is}
 use Rattle.atomic_bcast.specs.Ledger.{LedgerStands}
 use Rattle.atomic_bcast.specs.Boxes.{box_at, Stood, BoxesStand, OldStand, BeganAt}
 use Rattle.atomic_bcast.specs.Waiting.{decision_in, Knows}
-use Rattle.atomic_bcast.specs.Turning.{Mid, IsDue, IsGoing, IsNow, Poised, Turned}
+use Rattle.atomic_bcast.specs.Turning.{IsMidway, IsRoundDue, IsGoing, IsNow, Poised, Turned}
 use Rattle.atomic_bcast.specs.Laws.Getters.{full_not_spent, AllShow}
 use Rattle.atomic_bcast.specs.declared.place.Place.{Place}
 use Rattle.atomic_bcast.specs.declared.boxes.Boxes.{Boxes}
@@ -56,7 +56,7 @@ knows_new p d e (Some ids) k none now = absurd (none-some k.value (sym none ∙ 
 module _ {V : Type 0} (stands : V → Desk → List Word → Type 0) (v : VectorRules) (laws : VectorLaws v) (live : V → Bool) (shown : V → VectorShown) (shows : AllShow stands v live shown) where
   -- ---- the current round stays
 
-  module _ (x : Abc V) (seat : Seat) (w : List Word) (c : Word) (m : Mid stands v shown x seat w c) (stays : Stays v seat c w) where
+  module _ (x : Abc V) (seat : Seat) (w : List Word) (c : Word) (m : IsMidway stands v shown x seat w c) (stays : Stays v seat c w) where
     abbrev n : ℕ
     n = current v seat w
 
@@ -87,14 +87,14 @@ module _ {V : Type 0} (stands : V → Desk → List Word → Type 0) (v : Vector
     no_ask none small = begun_none x.boxes.current (nat_lt n rounds) (round_ask v seat n w) none m.begun (lt-ltb n rounds small)
 
     -- what it says, where it hasn't begun
-    due_says : x.boxes.current ≡ None → says_below v seat rounds w c ≡ heard_says v seat w c ++ next_says v seat n (c ∷ w) (log_now v seat w)
+    due_says : x.boxes.current ≡ None → rounds_say_below v seat rounds w c ≡ heard_says v seat w c ++ next_says v seat n (c ∷ w) (log_now v seat w)
     due_says none =
         elim (cases_lt n rounds) [
           | inl small ↦ stays.remains.says_new (no_ask none small)
           | inr full ↦ go full (round_ask v seat n w) refl
         ]
       where
-        go : rounds ≤ n → (o : Option (List ℕ)) → round_ask v seat n w ≡ o → says_below v seat rounds w c ≡ heard_says v seat w c ++ next_says v seat n (c ∷ w) (log_now v seat w)
+        go : rounds ≤ n → (o : Option (List ℕ)) → round_ask v seat n w ≡ o → rounds_say_below v seat rounds w c ≡ heard_says v seat w c ++ next_says v seat n (c ∷ w) (log_now v seat w)
         go full None e = stays.remains.says_new e
         go full (Some u) e =
             stays.remains.says_old u e
@@ -107,7 +107,7 @@ module _ {V : Type 0} (stands : V → Desk → List Word → Type 0) (v : Vector
           | inr full ↦ subst (λ (a : ℕ). v.spent (round_desk seat a) (round_words v seat a w) ≡ false) (sym (full_is v laws seat session w full)) (full_not_spent v seat laws w session met.1)
         ]
 
-    due : x.boxes.current ≡ None → IsDue stands v shown seat w c
+    due : x.boxes.current ≡ None → IsRoundDue stands v shown seat w c
     due none =
         let same = stays.remains.same in
         let log = stays.remains.log in
@@ -168,7 +168,7 @@ module _ {V : Type 0} (stands : V → Desk → List Word → Type 0) (v : Vector
     pub boxes : y.boxes ≡ record { current = None; last = x.boxes.current; oldest = x.boxes.last }
     pub waits : y.waits ≡ None
 
-  module _ (x y : Abc V) (seat : Seat) (w : List Word) (c : Word) (m : Mid stands v shown x seat w c) (goes : Goes v seat c w)
+  module _ (x y : Abc V) (seat : Seat) (w : List Word) (c : Word) (m : IsMidway stands v shown x seat w c) (goes : Goes v seat c w)
       (s : Shifted x y (delivered_ids (c ∷ w)) goes.log) where
     older_shifted : (a k : ℕ) → a + suc k ≡ suc (current v seat w) → k < 2 → a < rounds
         → Stood stands (box_at x.boxes k) (round_desk seat a) (round_words v seat a (c ∷ w))
@@ -191,7 +191,7 @@ module _ {V : Type 0} (stands : V → Desk → List Word → Type 0) (v : Vector
         (sym (ap (λ (b : Boxes V). box_at b (suc k)) s.boxes ∙ shifted_at x.boxes k (omega (arith, few))))
         (older_shifted a k (e ∙ goes.advances.next) (omega (arith, few)) small)
 
-    due_next : IsDue stands v shown seat w c
+    due_next : IsRoundDue stands v shown seat w c
     due_next =
         let next = goes.advances.next in
         let log = goes.advances.log_is in

@@ -28,7 +28,7 @@ pub record Seated {V : Type 0} (v : VectorRules) (x : Abc V) (seat : Seat) (w : 
 abbrev pub has_begun : VectorRules → Seat → List Word → Bool
 has_begun v seat w = nat_lt (current v seat w) rounds && is_some (round_ask v seat (current v seat w) w)
 
-pub record Stands {V : Type 0} (stands : V → Desk → List Word → Type 0) (v : VectorRules) (shown : V → VectorShown) (x : Abc V) (seat : Seat) (w : List Word) : Type 0 where
+pub record AtomicStands {V : Type 0} (stands : V → Desk → List Word → Type 0) (v : VectorRules) (shown : V → VectorShown) (x : Abc V) (seat : Seat) (w : List Word) : Type 0 where
   pub seated : Seated v x seat w
   pub ledger : LedgerStands x.ledger (delivered_ids w) (log_now v seat w)
   pub completed : x.completed ≡ current v seat w
@@ -37,6 +37,6 @@ pub record Stands {V : Type 0} (stands : V → Desk → List Word → Type 0) (v
   pub waits : Knows x.place.numbers (decision_in shown x.boxes.current) x.waits
 
 -- what was said is put out, or nothing is put out and the value is live no more
-abbrev pub Ends : {V : Type 0} → Abc V → Abc V → Result (Unit {0}) Mem → List Say → List Say → List Say → Result (Unit {0}) Mem → Type 0
-Ends old new taken made before after (Ok u) = (taken ≡ Ok u) × (new ≡ old) × (after ≡ before ++ made)
-Ends old new taken made before after (Err e) = (new ≡ record old { live = false }) × (after ≡ before)
+abbrev pub AtomicEnds : {V : Type 0} → Abc V → Abc V → Result (Unit {0}) Mem → List Say → List Say → List Say → Result (Unit {0}) Mem → Type 0
+AtomicEnds old new taken made before after (Ok u) = (taken ≡ Ok u) × (new ≡ old) × (after ≡ before ++ made)
+AtomicEnds old new taken made before after (Err e) = (new ≡ record old { live = false }) × (after ≡ before)

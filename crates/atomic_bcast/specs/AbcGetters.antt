@@ -20,8 +20,8 @@ opens_round shown p completed boxes s =
 abbrev pub base_in : Ledger → ℕ → ℕ
 base_in l origin = if nat_lt origin 31 then slice_index l.bases origin else 0
 
-abbrev pub shown_by : {V : Type 0} → (V → VectorShown) → Abc V → ServiceShown
-shown_by shown x = record {
+abbrev pub atomic_shown : {V : Type 0} → (V → VectorShown) → Abc V → ServiceShown
+atomic_shown shown x = record {
   opens = λ s. if s.class == 1 then true else opens_round shown x.place.numbers x.completed x.boxes s;
   completed = x.completed;
   base = λ o. base_in x.ledger o;

@@ -5,7 +5,7 @@ use Rattle.ritas_base.specs.declared.id.Id.{Id}
 use Rattle.ritas_base.specs.declared.mode.Mode.{Mode}
 use Rattle.ritas_base.specs.Numbers.{Numbers}
 use Rattle.frame_codec.specs.Values.{ids_of}
-use Rattle.layer_api.specs.Runs.{Step, calls_of}
+use Rattle.layer_api.specs.Runs.{ReplicaStep, calls_of}
 use Rattle.layer_api.specs.Words.{Word}
 use Rattle.layer_api.specs.Service.{has_id}
 use Rattle.layer_api.specs.OneLog.{Session, seat_at, IsRunOf}
@@ -13,7 +13,7 @@ use Rattle.layer_api.specs.Vectors.{VectorRules}
 use Rattle.atomic_bcast.specs.Rounds.{log_below, round_ask, atomic}
 
 -- a correct replica that proposed a list with the identifier in a round
-pub record WasProposed (v : VectorRules) (g : Session) (steps : List (Step Word)) (a : ℕ) (x : Id) : Type 0 where
+pub record WasProposed (v : VectorRules) (g : Session) (steps : List (ReplicaStep Word)) (a : ℕ) (x : Id) : Type 0 where
   pub who : ℕ
   pub list : List ℕ
   pub correct : g.is_correct who ≡ true
@@ -21,7 +21,7 @@ pub record WasProposed (v : VectorRules) (g : Session) (steps : List (Step Word)
   pub stands : has_id (ids_of list) x ≡ true
 
 abbrev pub AppendsProposed : VectorRules → Type 0
-AppendsProposed v = (p : Numbers) (mode : Mode) (is_correct : ℕ → Bool) (coins : ℕ → Slot → Bool) (steps : List (Step Word)) →
+AppendsProposed v = (p : Numbers) (mode : Mode) (is_correct : ℕ → Bool) (coins : ℕ → Slot → Bool) (steps : List (ReplicaStep Word)) →
     let g : Session = record { rules = atomic v; numbers = p; mode = mode; is_correct = is_correct; coins = coins } in
     IsRunOf g steps → (a i : ℕ) (before after : List Id) (x : Id) → is_correct i ≡ true
     → log_below v (seat_at g i) a (calls_of i steps) ≡ Some before → log_below v (seat_at g i) (suc a) (calls_of i steps) ≡ Some after

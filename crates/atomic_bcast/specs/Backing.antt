@@ -6,16 +6,16 @@ use Rattle.ritas_base.specs.Members.{has_member, member_count}
 use Rattle.layer_api.specs.Service.{has_id}
 use Rattle.atomic_bcast.specs.Early.{id_cmp}
 
-abbrev pub mask_at : BTreeMap Id ℕ → Id → ℕ
-mask_at noted x = unwrap_or (get id_cmp noted x) 0
+abbrev pub backing_mask : BTreeMap Id ℕ → Id → ℕ
+backing_mask noted x = unwrap_or (get id_cmp noted x) 0
 
 -- whether it is noted that an identifier stands in a list
 abbrev pub is_noted : BTreeMap Id ℕ → Id → ℕ → Bool
-is_noted noted x j = has_member (mask_at noted x) j
+is_noted noted x j = has_member (backing_mask noted x) j
 
 -- in how many lists it stands
 abbrev pub lists_with : BTreeMap Id ℕ → Id → ℕ
-lists_with noted x = member_count 32 (mask_at noted x)
+lists_with noted x = member_count 32 (backing_mask noted x)
 
 -- it was noted that these identifiers stand in list k, and nothing else changed
 abbrev pub NotesList : BTreeMap Id ℕ → BTreeMap Id ℕ → List Id → ℕ → Type 0

@@ -11,7 +11,7 @@ use Rattle.layer_api.specs.Words.{Word, Ask}
 use Rattle.layer_api.specs.Multi.{Desk}
 use Rattle.layer_api.specs.Vectors.{VectorRules, MayVector}
 use Rattle.layer_api.specs.VectorCalls.{VectorShown, VectorHears}
-use Rattle.atomic_bcast.specs.Identifiers.{kept, is_without}
+use Rattle.atomic_bcast.specs.Identifiers.{passing_ids, is_without}
 use Rattle.atomic_bcast.specs.Rounds.{proposal, round_desk, rounds}
 use Rattle.atomic_bcast.specs.Ledger.{LedgerStands}
 use Rattle.atomic_bcast.specs.declared.ledger.Ledger.{Ledger}
@@ -38,18 +38,18 @@ spent_in shown None = false
 spent_in shown (Some x) = (shown x).spent
 
 -- the vector of a round, by its box
-abbrev pub vector_in : {V : Type 0} → (V → VectorShown) → ℕ → Option V → Option LastVector
-vector_in shown a None = None
-vector_in shown a (Some x) = vector_with a (shown x).attempt (shown x).decision
+abbrev pub vector_by_box : {V : Type 0} → (V → VectorShown) → ℕ → Option V → Option LastVector
+vector_by_box shown a None = None
+vector_by_box shown a (Some x) = vector_with a (shown x).attempt (shown x).decision
 
 -- and the last one
 abbrev pub last_in : {V : Type 0} → (V → VectorShown) → ℕ → Boxes V → Option LastVector
-last_in shown completed b = option_or (vector_in shown completed b.current) (if nat_lt 0 completed then vector_in shown (completed - 1) b.last else None)
+last_in shown completed b = option_or (vector_by_box shown completed b.current) (if nat_lt 0 completed then vector_by_box shown (completed - 1) b.last else None)
 
 -- a box, where there is one, hears what a slot delivered
-abbrev pub HearsOne : {V : Type 0} → (V → Desk → List Word → Type 0) → VectorRules → (V → Bool) → (V → VectorShown) → (Slot → Bool) → Option V → Option V → Slot → List ℕ
+abbrev pub BoxHears : {V : Type 0} → (V → Desk → List Word → Type 0) → VectorRules → (V → Bool) → (V → VectorShown) → (Slot → Bool) → Option V → Option V → Slot → List ℕ
     → List Say → List Say → Result (Unit {0}) Mem → Type 0
-HearsOne {V} stands v live shown bits old new s x before after result =
+BoxHears {V} stands v live shown bits old new s x before after result =
     (one : V) → old ≡ Some one → (next : V) × (new ≡ Some next) × VectorHears stands v live shown bits one next s x before after result
 
 -- the box of the round so many before the current one does
@@ -64,10 +64,10 @@ pub record BeganAt {V : Type 0} (stands : V → Desk → List Word → Type 0) (
   pub made : after ≡ before ++ v.says at [] (Ask (ids_bytes ids))
 
 -- it was proposed those of what is pending
-abbrev pub Began : {V : Type 0} → (V → Desk → List Word → Type 0) → VectorRules → Place → Ledger → ℕ → V → List Say → List Say → Type 0
-Began stands v place ledger a one before after =
+abbrev pub RoundBegan : {V : Type 0} → (V → Desk → List Word → Type 0) → VectorRules → Place → Ledger → ℕ → V → List Say → List Say → Type 0
+RoundBegan stands v place ledger a one before after =
     (at : Desk) (delivered log : List Id) → at.scope.numbers ≡ place.numbers → at.me ≡ place.me → at.scope.a ≡ a → at.scope.attempt ≡ 0 → LedgerStands ledger delivered log →
-    let ids = proposal place.numbers.n (kept (is_without log) delivered) in
+    let ids = proposal place.numbers.n (passing_ids (is_without log) delivered) in
     MayVector v at [] (Ask (ids_bytes ids)) → BeganAt stands v at ids one before after
 
 -- a box stands for the words of its round; where there is none, the round has none

@@ -6,7 +6,7 @@ use Rattle.ritas_base.specs.Slots.{command_slot}
 use Rattle.atomic_bcast.specs.Early.{is_known, IsTight}
 use Rattle.atomic_bcast.specs.declared.cmd_root.CmdRoot.{CmdRoot}
 
-pub record Stands (s : CmdRoot) (seat : Seat) (w : List Word) : Type 0 where
+pub record CommandsStand (s : CmdRoot) (seat : Seat) (w : List Word) : Type 0 where
   pub numbers : s.numbers ≡ seat.numbers
   pub me : s.me ≡ seat.me
   pub inputs : s.inputs ≡ asked w

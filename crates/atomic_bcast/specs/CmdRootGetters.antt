@@ -8,7 +8,7 @@ use Rattle.layer_api.specs.ServiceCalls.{ServiceShown, Shows, ShowsNear}
 use Rattle.atomic_bcast.specs.Commands.{is_heard_from, base_of, commands}
 use Rattle.atomic_bcast.specs.Laws.Commands.{base_from}
 use Rattle.atomic_bcast.specs.Early.{has_early}
-use Rattle.atomic_bcast.specs.CmdRoot.{Stands}
+use Rattle.atomic_bcast.specs.CmdRoot.{CommandsStand}
 use Rattle.atomic_bcast.specs.declared.cmd_root.CmdRoot.{CmdRoot}
 
 -- by the inputs so far, and the bases
@@ -24,14 +24,14 @@ shown_with inputs bases = record {
   last = None;
 }
 
-abbrev pub shown_by : CmdRoot → ServiceShown
-shown_by s = shown_with s.inputs s.bases
+abbrev pub commands_shown : CmdRoot → ServiceShown
+commands_shown s = shown_with s.inputs s.bases
 
 below_itself : (k : ℕ) → nat_lt k k ≡ false
 below_itself k = le-ltb k k (omega arith)
 
 -- the base that a value keeps
-pub base_known : (s : CmdRoot) (seat : Seat) (w : List Word) (o : ℕ) → Stands s seat w → o < seat.numbers.n → slice_index s.bases o ≡ base_of w o
+pub base_known : (s : CmdRoot) (seat : Seat) (w : List Word) (o : ℕ) → CommandsStand s seat w → o < seat.numbers.n → slice_index s.bases o ≡ base_of w o
 base_known s seat w o stands within =
     let base : ℕ = slice_index s.bases o in
     let is : IsBase (is_heard_from w o) base = record {
@@ -40,7 +40,7 @@ base_known s seat w o stands within =
     } in
     sym (base_from w o base is)
 
-pub shows_rules : (s : CmdRoot) (seat : Seat) (w : List Word) → Stands s seat w → Shows commands seat w (shown_by s)
+pub shows_rules : (s : CmdRoot) (seat : Seat) (w : List Word) → CommandsStand s seat w → Shows commands seat w (commands_shown s)
 shows_rules s seat w stands = record {
   opens = λ q. refl;
   completed = refl;
@@ -53,7 +53,7 @@ shows_rules s seat w stands = record {
 }
 
 -- where what is kept stays, all is answered as before the call
-pub shows_as_before : (s : CmdRoot) (seat : Seat) (w : List Word) (c : Word) → Stands s seat w → ShowsNear commands seat w c (shown_by s)
+pub shows_as_before : (s : CmdRoot) (seat : Seat) (w : List Word) (c : Word) → CommandsStand s seat w → ShowsNear commands seat w c (commands_shown s)
 shows_as_before s seat w c stands = record {
   opens = λ q. inl refl;
   completed = inl refl;

@@ -19,14 +19,14 @@ unfoldable pub base_of : List Word → ℕ → ℕ
 base_of w origin = unwrap_or (find (is_missing w origin) (range_with_len 0 (length w + 1))) (length w)
 
 -- an input is said at the replica's next number
-abbrev pub says_of : Seat → List Word → Word → List Say
-says_of seat w (Ask v) = record { slot = command_slot seat.me (asked w); value = v } ∷ []
-says_of seat w (Hear s v) = []
+abbrev pub says_input : Seat → List Word → Word → List Say
+says_input seat w (Ask v) = record { slot = command_slot seat.me (asked w); value = v } ∷ []
+says_input seat w (Hear s v) = []
 
 abbrev pub commands : ServiceRules
 commands = record {
   serves = λ root. root == 1 || root == 2;
-  says = says_of;
+  says = says_input;
   opens = λ seat w s. s.class == 1;
   completed = λ seat w. 0;
   base = λ seat w origin. base_of w origin;

@@ -3,14 +3,14 @@ use Rattle.std.specs.Prelude.{◌≡◌, ℕ, ◌<◌, true, List, reverse, slic
 use Rattle.std.specs.List.{AllByRecursion}
 use Rattle.ritas_base.specs.declared.id.Id.{Id}
 use Rattle.layer_api.specs.Service.{has_id, IsPart}
-use Rattle.atomic_bcast.specs.Identifiers.{kept, is_without, append_ids}
+use Rattle.atomic_bcast.specs.Identifiers.{passing_ids, is_without, append_ids}
 use Rattle.atomic_bcast.specs.Early.{is_known, IsTight}
 use Rattle.atomic_bcast.specs.Pending.{HoldsIds}
 use Rattle.atomic_bcast.specs.declared.ledger.Ledger.{Ledger}
 
 -- by the identifiers that were delivered, and the log; each the newest first
 pub record LedgerStands (l : Ledger) (delivered log : List Id) : Type 0 where
-  pub pending : HoldsIds l.pending (kept (is_without log) delivered)
+  pub pending : HoldsIds l.pending (passing_ids (is_without log) delivered)
   pub listed : reverse l.log.items ≡ log
   pub known : (o k : ℕ) → o < 31 → is_known (slice_index l.bases o) l.early o k ≡ has_id log (record { origin = o; num = k })
   pub tight : IsTight 31 l.bases l.early
@@ -32,10 +32,10 @@ pub record Appending (l : Ledger) (delivered log all rest : List Id) : Type 0 wh
   pub now : List Id
   pub stands : LedgerStands l delivered now
   pub grown : IsPart log now
-  pub ends : append_ids (kept (is_without now) rest) now ≡ append_ids (kept (is_without log) all) log
+  pub ends : append_ids (passing_ids (is_without now) rest) now ≡ append_ids (passing_ids (is_without log) all) log
 
 -- some of the wanted ones are appended, in their order, and the bases are as before
 pub record Between (before after : Ledger) (wanted log : List Id) : Type 0 where
   pub grown : IsPart log (reverse after.log.items)
-  pub within : IsPart (reverse after.log.items) (append_ids (kept (is_without log) wanted) log)
+  pub within : IsPart (reverse after.log.items) (append_ids (passing_ids (is_without log) wanted) log)
   pub bases : after.bases ≡ before.bases

@@ -16,7 +16,7 @@ use Rattle.frame_codec.specs.Format.{Format, Plain, Is}
 use Rattle.frame_codec.specs.Grammar.{vector, class3, value}
 use Rattle.layer_api.specs.Service.{Instance, OfBit, OfValue, OfVector, Decision, Bit, Value, value_decision, vector_decision, IsAttemptOf}
 use Rattle.layer_api.specs.DecisionLaws.{if_so}
-use Rattle.layer_api.specs.Runs.{Step, calls_of, IsEnough}
+use Rattle.layer_api.specs.Runs.{ReplicaStep, calls_of, IsEnough}
 use Rattle.layer_api.specs.Words.{Word, Ask, Hear, asked, is_heard, value_at, HasSay, all_said}
 use Rattle.layer_api.specs.Fed.{IsFedRun}
 use Rattle.layer_api.specs.FedLaws.{value_stays, heard_met, heard_said}
@@ -25,92 +25,92 @@ use Rattle.layer_api.specs.Multi.{Scope}
 use Rattle.layer_api.specs.Vectors.{VectorRules, MayVector, VectorLaws, OneVector, vector_play}
 
 -- the slot of a replica that counts
-abbrev pub slot_of : ℕ → ℕ → Slot
-slot_of a k = record { class = 3; a = a; attempt = 0; bround = 0; step = 0; origin = k }
+abbrev pub counted_slot : ℕ → ℕ → Slot
+counted_slot a k = record { class = 3; a = a; attempt = 0; bround = 0; step = 0; origin = k }
 
 -- and that whose value is decided
 abbrev pub the_slot : ℕ → Slot
-the_slot a = slot_of a 0
+the_slot a = counted_slot a 0
 
 -- how many replicas were heard at such slots in order: replica 0, then replica 1, and so on
-abbrev pub in_order : ℕ → List Word → ℕ
-in_order a [] = 0
-in_order a (Ask v ∷ w) = in_order a w
-in_order a (Hear s v ∷ w) = if nat_lt (in_order a w) 32 && is_slot s (slot_of a (in_order a w)) then in_order a w + 1 else in_order a w
+abbrev pub heard_in_order : ℕ → List Word → ℕ
+heard_in_order a [] = 0
+heard_in_order a (Ask v ∷ w) = heard_in_order a w
+heard_in_order a (Hear s v ∷ w) = if nat_lt (heard_in_order a w) 32 && is_slot s (counted_slot a (heard_in_order a w)) then heard_in_order a w + 1 else heard_in_order a w
 
-abbrev pub is_enough : Numbers → ℕ → List Word → Bool
-is_enough p a w = nat_lt p.f (in_order a w)
+abbrev pub are_enough_heard : Numbers → ℕ → List Word → Bool
+are_enough_heard p a w = nat_lt p.f (heard_in_order a w)
 
-abbrev pub decides : Numbers → ℕ → List Word → Option (List ℕ)
-decides p a w = if is_enough p a w then value_at w (the_slot a) else None
+abbrev pub place_decides : Numbers → ℕ → List Word → Option (List ℕ)
+place_decides p a w = if are_enough_heard p a w then value_at w (the_slot a) else None
 
 -- it decides by the first attempt, and by the bit 1
-abbrev pub inside_of : ℕ → Option (List ℕ) → Instance → Option Decision
-inside_of a o (OfBit b k) = if b == a && k == 0 then option_map (λ v. Bit true) o else None
-inside_of a o (OfValue b k) = if b == a && k == 0 then option_map Value o else None
-inside_of a o (OfVector b) = if b == a then option_map Value o else None
+abbrev pub place_inside : ℕ → Option (List ℕ) → Instance → Option Decision
+place_inside a o (OfBit b k) = if b == a && k == 0 then option_map (λ v. Bit true) o else None
+place_inside a o (OfValue b k) = if b == a && k == 0 then option_map Value o else None
+place_inside a o (OfVector b) = if b == a then option_map Value o else None
 
 abbrev pub one_place : VectorRules
 one_place = record {
   says = λ at w c. [];
   opens = λ at w s. nat_lt 0 (asked w);
-  decision = λ at w. decides at.scope.numbers at.scope.a w;
-  attempt = λ at w. option_map (λ v. 0) (decides at.scope.numbers at.scope.a w);
+  decision = λ at w. place_decides at.scope.numbers at.scope.a w;
+  attempt = λ at w. option_map (λ v. 0) (place_decides at.scope.numbers at.scope.a w);
   spent = λ at w. false;
-  inside = λ at w x. inside_of at.scope.a (decides at.scope.numbers at.scope.a w) x;
+  inside = λ at w x. place_inside at.scope.a (place_decides at.scope.numbers at.scope.a w) x;
 }
 
 still_asked : (c : Word) (w : List Word) → nat_lt 0 (asked w) ≡ true → nat_lt 0 (asked (c ∷ w)) ≡ true
 still_asked (Ask v) w q = lt-ltb 0 (asked w + 1) (omega arith)
 still_asked (Hear s v) w q = q
 
-order_stays : (a : ℕ) (c : Word) (w : List Word) → in_order a w ≤ in_order a (c ∷ w)
+order_stays : (a : ℕ) (c : Word) (w : List Word) → heard_in_order a w ≤ heard_in_order a (c ∷ w)
 order_stays a (Ask v) w = omega arith
-order_stays a (Hear s v) w = go (nat_lt (in_order a w) 32 && is_slot s (slot_of a (in_order a w)))
+order_stays a (Hear s v) w = go (nat_lt (heard_in_order a w) 32 && is_slot s (counted_slot a (heard_in_order a w)))
   where
-    go : (b : Bool) → in_order a w ≤ (if b then in_order a w + 1 else in_order a w)
+    go : (b : Bool) → heard_in_order a w ≤ (if b then heard_in_order a w + 1 else heard_in_order a w)
     go true = omega arith
     go false = omega arith
 
 -- each of them was heard
-order_heard : (a : ℕ) (w : List Word) (k : ℕ) → k < in_order a w → is_heard w (slot_of a k) ≡ true
+order_heard : (a : ℕ) (w : List Word) (k : ℕ) → k < heard_in_order a w → is_heard w (counted_slot a k) ≡ true
 order_heard a [] k l = absurd (omega (arith, l))
 order_heard a (Ask v ∷ w) k l = order_heard a w k l
-order_heard a (Hear s v ∷ w) k l = go (nat_lt (in_order a w) 32 && is_slot s (slot_of a (in_order a w))) refl l (λ less. order_heard a w k less)
+order_heard a (Hear s v ∷ w) k l = go (nat_lt (heard_in_order a w) 32 && is_slot s (counted_slot a (heard_in_order a w))) refl l (λ less. order_heard a w k less)
   where
-    go : (b : Bool) → (nat_lt (in_order a w) 32 && is_slot s (slot_of a (in_order a w))) ≡ b → k < (if b then in_order a w + 1 else in_order a w) → (k < in_order a w → is_heard w (slot_of a k) ≡ true)
-        → (is_slot s (slot_of a k) || is_heard w (slot_of a k)) ≡ true
-    go false e l before = or_right (is_slot s (slot_of a k)) _ (before l)
+    go : (b : Bool) → (nat_lt (heard_in_order a w) 32 && is_slot s (counted_slot a (heard_in_order a w))) ≡ b → k < (if b then heard_in_order a w + 1 else heard_in_order a w) → (k < heard_in_order a w → is_heard w (counted_slot a k) ≡ true)
+        → (is_slot s (counted_slot a k) || is_heard w (counted_slot a k)) ≡ true
+    go false e l before = or_right (is_slot s (counted_slot a k)) _ (before l)
     go true e l before =
-        elim (cases_order k (in_order a w)) [
+        elim (cases_order k (heard_in_order a w)) [
           | inl same ↦
-              or_left (is_slot s (slot_of a k)) (is_heard w (slot_of a k))
-              (ap (λ (j : ℕ). is_slot s (slot_of a j)) same ∙ (and_parts (nat_lt (in_order a w) 32) (is_slot s (slot_of a (in_order a w))) e).1)
-          | inr (inl less) ↦ or_right (is_slot s (slot_of a k)) _ (before less)
+              or_left (is_slot s (counted_slot a k)) (is_heard w (counted_slot a k))
+              (ap (λ (j : ℕ). is_slot s (counted_slot a j)) same ∙ (and_parts (nat_lt (heard_in_order a w) 32) (is_slot s (counted_slot a (heard_in_order a w))) e).1)
+          | inr (inl less) ↦ or_right (is_slot s (counted_slot a k)) _ (before less)
           | inr (inr more) ↦ absurd (omega (arith, l, more))
         ]
 
-still_enough : (p : Numbers) (a : ℕ) (c : Word) (w : List Word) → is_enough p a w ≡ true → is_enough p a (c ∷ w) ≡ true
+still_enough : (p : Numbers) (a : ℕ) (c : Word) (w : List Word) → are_enough_heard p a w ≡ true → are_enough_heard p a (c ∷ w) ≡ true
 still_enough p a c w q =
-    let l = ltb-true p.f (in_order a w) q in
+    let l = ltb-true p.f (heard_in_order a w) q in
     let m = order_stays a c w in
-    lt-ltb p.f (in_order a (c ∷ w)) (omega (arith, l, m))
+    lt-ltb p.f (heard_in_order a (c ∷ w)) (omega (arith, l, m))
 
 -- what is decided was heard, from so many
-decides_is : (p : Numbers) (a : ℕ) (w : List Word) (v : List ℕ) → decides p a w ≡ Some v → (is_enough p a w ≡ true) × (value_at w (the_slot a) ≡ Some v)
-decides_is p a w v q = go (is_enough p a w) refl q
+decides_is : (p : Numbers) (a : ℕ) (w : List Word) (v : List ℕ) → place_decides p a w ≡ Some v → (are_enough_heard p a w ≡ true) × (value_at w (the_slot a) ≡ Some v)
+decides_is p a w v q = go (are_enough_heard p a w) refl q
   where
-    go : (b : Bool) → is_enough p a w ≡ b → (if b then value_at w (the_slot a) else None) ≡ Some v → (is_enough p a w ≡ true) × (value_at w (the_slot a) ≡ Some v)
+    go : (b : Bool) → are_enough_heard p a w ≡ b → (if b then value_at w (the_slot a) else None) ≡ Some v → (are_enough_heard p a w ≡ true) × (value_at w (the_slot a) ≡ Some v)
     go true e q = (e, q)
     go false e q = absurd cc
 
-decides_stays : (p : Numbers) (a : ℕ) (c : Word) (w : List Word) (v : List ℕ) → decides p a w ≡ Some v → decides p a (c ∷ w) ≡ Some v
+decides_stays : (p : Numbers) (a : ℕ) (c : Word) (w : List Word) (v : List ℕ) → place_decides p a w ≡ Some v → place_decides p a (c ∷ w) ≡ Some v
 decides_stays p a c w v q =
     let x = decides_is p a w v q in
     ap (λ (b : Bool). if b then value_at (c ∷ w) (the_slot a) else None) (still_enough p a c w x.0) ∙ value_stays c w (the_slot a) v x.1
 
-nothing_there : (p : Numbers) (a : ℕ) (w : List Word) → value_at w (the_slot a) ≡ None → decides p a w ≡ None
-nothing_there p a w none = go (is_enough p a w)
+nothing_there : (p : Numbers) (a : ℕ) (w : List Word) → value_at w (the_slot a) ≡ None → place_decides p a w ≡ None
+nothing_there p a w none = go (are_enough_heard p a w)
   where
     go : (b : Bool) → (if b then value_at w (the_slot a) else None) ≡ None
     go true = none
@@ -128,19 +128,19 @@ vector_is : (p : Numbers) (root a : ℕ) → (root == 4) ≡ false → value p r
 unfolding value class3
 vector_is p root a has = ap (λ (b : Bool). if b then Plain 1 4096 else vector p root) has
 
-own_vector : (a : ℕ) (o : Option (List ℕ)) → inside_of a o (OfVector a) ≡ option_map Value o
+own_vector : (a : ℕ) (o : Option (List ℕ)) → place_inside a o (OfVector a) ≡ option_map Value o
 own_vector a o = ap (λ (b : Bool). if b then option_map Value o else None) (eq-eqb a a refl)
 
-own_value : (a : ℕ) (o : Option (List ℕ)) → inside_of a o (OfValue a 0) ≡ option_map Value o
+own_value : (a : ℕ) (o : Option (List ℕ)) → place_inside a o (OfValue a 0) ≡ option_map Value o
 own_value a o = ap (λ (b : Bool). if b && true then option_map Value o else None) (eq-eqb a a refl)
 
 as_decision : (o : Option (List ℕ)) → option_map Value o ≡ vector_decision o false
 as_decision None = refl
 as_decision (Some v) = refl
 
-by_first : (a k : ℕ) (o : Option (List ℕ)) (v : List ℕ) → k ≡ 0 → o ≡ Some v → IsAttemptOf (inside_of a o) a k v
+by_first : (a k : ℕ) (o : Option (List ℕ)) (v : List ℕ) → k ≡ 0 → o ≡ Some v → IsAttemptOf (place_inside a o) a k v
 by_first a k o v zero q =
-    subst (λ (j : ℕ). IsAttemptOf (inside_of a o) a j v) (sym zero) (record {
+    subst (λ (j : ℕ). IsAttemptOf (place_inside a o) a j v) (sym zero) (record {
       vector = own_vector a o ∙ ap (option_map Value) q;
       value = own_value a o ∙ ap (option_map Value) q;
       failed = λ j l. absurd (omega (arith, l));
@@ -154,7 +154,7 @@ by_bit true (Some v) None q = absurd cc
 by_bit true (Some v) (Some u) q = refl
 
 -- what is decided inside is decided
-inside_decides : (a : ℕ) (o : Option (List ℕ)) (x : Instance) (d : Decision) → inside_of a o x ≡ Some d → (v : List ℕ) × (o ≡ Some v)
+inside_decides : (a : ℕ) (o : Option (List ℕ)) (x : Instance) (d : Decision) → place_inside a o x ≡ Some d → (v : List ℕ) × (o ≡ Some v)
 inside_decides a (Some v) x d q = (v, refl)
 inside_decides a None (OfBit b k) d q = absurd (none-some d (if_so (b == a && k == 0) None d q))
 inside_decides a None (OfValue b k) d q = absurd (none-some d (if_so (b == a && k == 0) None d q))
@@ -170,23 +170,23 @@ one_place_laws = record {
   decision_asked = λ at v session. nothing_there at.scope.numbers at.scope.a (Ask v ∷ []) refl;
   spent_asked = λ at v session. refl;
   decision_stays = λ at c w v session has met q. decides_stays at.scope.numbers at.scope.a c w v q;
-  attempt_there = λ at w. mapped (decides at.scope.numbers at.scope.a w);
-  attempt_few = λ at w k q. let e = (mapped_is (decides at.scope.numbers at.scope.a w) k q).2 in omega (arith, e);
+  attempt_there = λ at w. mapped (place_decides at.scope.numbers at.scope.a w);
+  attempt_few = λ at w k q. let e = (mapped_is (place_decides at.scope.numbers at.scope.a w) k q).2 in omega (arith, e);
   attempt_stays = λ at c w k session has met q.
-      let x = mapped_is (decides at.scope.numbers at.scope.a w) k q in
+      let x = mapped_is (place_decides at.scope.numbers at.scope.a w) k q in
       ap (option_map (λ v. 0)) (decides_stays at.scope.numbers at.scope.a c w x.0 x.1) ∙ ap Some (sym x.2);
   spent_stays = λ at c w session has met q. absurd (false≢true q);
   spent_alone = λ at w met q. absurd (false≢true q);
   decision_good = λ at w v session has met q.
       subst (λ (f : Format). Is f v) (vector_is at.scope.numbers at.scope.root at.scope.a has)
       (heard_met (MayVector one_place at) w (the_slot at.scope.a) v met (decides_is at.scope.numbers at.scope.a w v q).1).1.good;
-  inside_own = λ at w. own_vector at.scope.a (decides at.scope.numbers at.scope.a w) ∙ as_decision (decides at.scope.numbers at.scope.a w);
-  inside_attempt = λ at w k v q d. by_first at.scope.a k (decides at.scope.numbers at.scope.a w) v (mapped_is (decides at.scope.numbers at.scope.a w) k q).2 d;
+  inside_own = λ at w. own_vector at.scope.a (place_decides at.scope.numbers at.scope.a w) ∙ as_decision (place_decides at.scope.numbers at.scope.a w);
+  inside_attempt = λ at w k v q d. by_first at.scope.a k (place_decides at.scope.numbers at.scope.a w) v (mapped_is (place_decides at.scope.numbers at.scope.a w) k q).2 d;
   inside_spent = λ at w k q l. absurd (false≢true q);
-  inside_bit = λ at w a k session has met o q. by_bit (a == at.scope.a && k == 0) (decides at.scope.numbers at.scope.a w) o q;
+  inside_bit = λ at w a k session has met o q. by_bit (a == at.scope.a && k == 0) (place_decides at.scope.numbers at.scope.a w) o q;
   inside_stays = λ at c w x d session has met q.
-      let v = inside_decides at.scope.a (decides at.scope.numbers at.scope.a w) x d q in
-      ap (λ (o : Option (List ℕ)). inside_of at.scope.a o x) (decides_stays at.scope.numbers at.scope.a c w v.0 v.1 ∙ sym v.1) ∙ q;
+      let v = inside_decides at.scope.a (place_decides at.scope.numbers at.scope.a w) x d q in
+      ap (λ (o : Option (List ℕ)). place_inside at.scope.a o x) (decides_stays at.scope.numbers at.scope.a c w v.0 v.1 ∙ sym v.1) ∙ q;
 }
 
 nothing_said : (w : List Word) (y : Say) → HasSay (all_said (λ (u : List Word) (c : Word). []) w) y → ⊥
@@ -197,28 +197,28 @@ is_there : {X : Type 0} (o : Option X) → is_some o ≡ true → (v : X) × (o 
 is_there None q = absurd cc
 is_there (Some v) q = (v, refl)
 
-module _ (at : Scope) (is_correct : ℕ → Bool) (coins : ℕ → Slot → Bool) (xs : List (Step Word)) (enough : IsEnough at.numbers is_correct)
+module _ (at : Scope) (is_correct : ℕ → Bool) (coins : ℕ → Slot → Bool) (xs : List (ReplicaStep Word)) (enough : IsEnough at.numbers is_correct)
     (fed : IsFedRun (vector_play one_place at coins) is_correct xs) where
   -- of those who were heard one is correct, and it said nothing
-  never : (i : ℕ) (v : List ℕ) → decides at.numbers at.a (calls_of i xs) ≡ Some v → ⊥
+  never : (i : ℕ) (v : List ℕ) → place_decides at.numbers at.a (calls_of i xs) ≡ Some v → ⊥
   never i v q =
-      let l = ltb-true at.numbers.f (in_order at.a (calls_of i xs)) (decides_is at.numbers at.a (calls_of i xs) v q).0 in
+      let l = ltb-true at.numbers.f (heard_in_order at.a (calls_of i xs)) (decides_is at.numbers at.a (calls_of i xs) v q).0 in
       let many = enough.many in
       let session = enough.session.enough in
       let size : length (replicas at.numbers.n) ≡ at.numbers.n = length-range_with_len 0 at.numbers.n in
-      let heard = count_first (λ j. is_heard (calls_of i xs) (slot_of at.a j)) (at.numbers.f + 1) at.numbers.n
+      let heard = count_first (λ j. is_heard (calls_of i xs) (counted_slot at.a j)) (at.numbers.f + 1) at.numbers.n
       (λ j less. order_heard at.a (calls_of i xs) j (omega (arith, less, l))) (omega (arith, session)) in
-      let k = meet_two (λ j. is_heard (calls_of i xs) (slot_of at.a j)) is_correct (replicas at.numbers.n) (omega (arith, heard, many, size)) in
-      let u = is_there _ (sym (heard_is (calls_of i xs) (slot_of at.a k.member)) ∙ k.first) in
-      nothing_said (calls_of k.member xs) _ (heard_said (vector_play one_place at coins) is_correct (λ j c w y h. h) xs fed i (slot_of at.a k.member) u.0 u.1 k.second)
+      let k = meet_two (λ j. is_heard (calls_of i xs) (counted_slot at.a j)) is_correct (replicas at.numbers.n) (omega (arith, heard, many, size)) in
+      let u = is_there _ (sym (heard_is (calls_of i xs) (counted_slot at.a k.member)) ∙ k.first) in
+      nothing_said (calls_of k.member xs) _ (heard_said (vector_play one_place at coins) is_correct (λ j c w y h. h) xs fed i (counted_slot at.a k.member) u.0 u.1 k.second)
 
 pub one_place_agrees : OneVector one_place
 one_place_agrees = record {
   agree = λ at right coins steps enough has fed i j v u ci cj q r. absurd (never at right coins steps enough fed i v q);
   attempts = λ at right coins steps enough has fed i j k l ci cj q r.
-      (mapped_is (decides at.numbers at.a (calls_of i steps)) k q).2 ∙ sym (mapped_is (decides at.numbers at.a (calls_of j steps)) l r).2;
+      (mapped_is (place_decides at.numbers at.a (calls_of i steps)) k q).2 ∙ sym (mapped_is (place_decides at.numbers at.a (calls_of j steps)) l r).2;
   unspent = λ at right coins steps enough has fed i ci q. absurd (false≢true q);
   entries = λ at right coins steps enough has fed i k v e ci ck q r. absurd (never at right coins steps enough fed i v q);
   insides = λ at right coins steps enough has fed i j x d e ci cj q r.
-      absurd (let v = inside_decides at.a (decides at.numbers at.a (calls_of i steps)) x d q in never at right coins steps enough fed i v.0 v.1);
+      absurd (let v = inside_decides at.a (place_decides at.numbers at.a (calls_of i steps)) x d q in never at right coins steps enough fed i v.0 v.1);
 }

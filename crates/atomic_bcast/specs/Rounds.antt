@@ -7,15 +7,15 @@ use Rattle.ritas_base.specs.declared.item.Say.{Say}
 use Rattle.ritas_base.specs.declared.id.Id.{Id}
 use Rattle.ritas_base.specs.Numbers.{Numbers}
 use Rattle.ritas_base.specs.Shortest.{at_shortest}
-use Rattle.frame_codec.specs.Values.{ids_bytes, ids_of, entries_of}
+use Rattle.frame_codec.specs.Values.{ids_bytes, ids_of, vector_entries}
 use Rattle.ritas_base.specs.Slots.{command_slot}
 use Rattle.layer_api.specs.Words.{Word, Ask, Hear, is_heard, asked}
 use Rattle.layer_api.specs.Service.{ServiceRules, Seat, Instance, OfBit, OfValue, OfVector, Decision, Spent, Undecided, Decided, has_id, LastVector, vector_with}
 use Rattle.layer_api.specs.Part.{part_of, part_words, says_in}
 use Rattle.layer_api.specs.Multi.{Scope, Desk}
 use Rattle.layer_api.specs.Vectors.{VectorRules, is_vector_slot}
-use Rattle.atomic_bcast.specs.Commands.{says_of}
-use Rattle.atomic_bcast.specs.Identifiers.{in_order, kept, is_without, all_pass, first_of_each, append_ids}
+use Rattle.atomic_bcast.specs.Commands.{says_input}
+use Rattle.atomic_bcast.specs.Identifiers.{in_order, passing_ids, is_without, all_pass, first_of_each, append_ids}
 use Rattle.std.specs.Option.{option_or}
 
 -- ---- commands
@@ -28,7 +28,7 @@ delivered_ids (Hear s v ∷ w) = if s.class == 1 then record { origin = s.origin
 
 -- those that aren't in the log
 abbrev pub pending : List Word → List Id → List Id
-pending w log = kept (is_without log) (delivered_ids w)
+pending w log = passing_ids (is_without log) (delivered_ids w)
 
 -- of each origin's the least floor(64 / n), in ascending order
 abbrev pub proposal : ℕ → List Id → List Id
@@ -47,7 +47,7 @@ backers es x = count_by (λ e. has_id (ids_of e) x) es
 
 -- those that stand in f + 1 lists at least, ascending
 abbrev pub wanted : Numbers → List ℕ → List Id
-wanted p vector = kept (λ x. nat_le (p.f + 1) (backers (entries_of vector) x)) (in_order (entry_ids (entries_of vector)))
+wanted p vector = passing_ids (λ x. nat_le (p.f + 1) (backers (vector_entries vector) x)) (in_order (entry_ids (vector_entries vector)))
 
 -- whether an identifier's command is delivered
 abbrev pub has_command : List Word → Id → Bool
@@ -55,7 +55,7 @@ has_command w x = is_heard w (command_slot x.origin x.num)
 
 -- the log with those of them appended that it hasn't
 abbrev pub appended : Numbers → List ℕ → List Id → List Id
-appended p vector log = append_ids (kept (is_without log) (wanted p vector)) log
+appended p vector log = append_ids (passing_ids (is_without log) (wanted p vector)) log
 
 -- ---- rounds
 
@@ -81,8 +81,8 @@ begins_with seat (Some log) h = first_ids seat.numbers.n (pending h log)
 abbrev pub round_asked : Seat → (List Word → Option (List Id)) → List Word → Option (List ℕ)
 round_asked seat before w = at_shortest (λ h. begins_with seat (before h) h) w
 
-abbrev pub words_by : Seat → ℕ → (List Word → Option (List Id)) → List Word → List Word
-words_by seat a before w = part_words (round_asked seat before) (is_of_round a) w
+abbrev pub round_words_by : Seat → ℕ → (List Word → Option (List Id)) → List Word → List Word
+round_words_by seat a before w = part_words (round_asked seat before) (is_of_round a) w
 
 -- a round is complete where its vector is decided and each command that this wants is delivered
 abbrev pub completes_with : Seat → Option (List Id) → Option (List ℕ) → List Word → Option (List Id)
@@ -93,7 +93,7 @@ completes_with seat (Some log) (Some vector) h =
 
 module _ (v : VectorRules) (seat : Seat) where
   abbrev pub completes_at : ℕ → (List Word → Option (List Id)) → List Word → Option (List Id)
-  completes_at a before h = completes_with seat (before h) (v.decision (round_desk seat a) (words_by seat a before h)) h
+  completes_at a before h = completes_with seat (before h) (v.decision (round_desk seat a) (round_words_by seat a before h)) h
 
   -- the log after the rounds below this one, where they are complete: each is so from the shortest prefix on
   abbrev pub log_below : ℕ → List Word → Option (List Id)
@@ -105,7 +105,7 @@ module _ (v : VectorRules) (seat : Seat) where
   round_ask a w = round_asked seat (log_below a) w
 
   abbrev pub round_words : ℕ → List Word → List Word
-  round_words a w = words_by seat a (log_below a) w
+  round_words a w = round_words_by seat a (log_below a) w
 
   abbrev pub round_decides : ℕ → List Word → Option (List ℕ)
   round_decides a w = v.decision (round_desk seat a) (round_words a w)
@@ -120,10 +120,10 @@ module _ (v : VectorRules) (seat : Seat) where
   log_of (suc a) w = unwrap_or (log_below (suc a) w) (log_of a w)
 
   -- what a word newly says in the rounds below one, in their order
-  abbrev pub says_below : ℕ → List Word → Word → List Say
-  says_below zero w c = []
-  says_below (suc a) w c =
-      says_below a w c ++ says_in (v.says (round_desk seat a)) (part_of (round_ask a) (is_of_round a) w c) (round_words a w)
+  abbrev pub rounds_say_below : ℕ → List Word → Word → List Say
+  rounds_say_below zero w c = []
+  rounds_say_below (suc a) w c =
+      rounds_say_below a w c ++ says_in (v.says (round_desk seat a)) (part_of (round_ask a) (is_of_round a) w c) (round_words a w)
 
 -- rounds
 unfoldable pub rounds : ℕ
@@ -154,20 +154,20 @@ last_vector v seat w =
     let a = complete_of v seat rounds w in option_or (vector_of_round v seat a w) (last_complete v seat a w)
 
 -- the round of an instance
-abbrev pub round_of : Instance → ℕ
-round_of (OfBit a k) = a
-round_of (OfValue a k) = a
-round_of (OfVector a) = a
+abbrev pub instance_round : Instance → ℕ
+instance_round (OfBit a k) = a
+instance_round (OfValue a k) = a
+instance_round (OfVector a) = a
 
 -- what an instance decided, in its round
 abbrev pub inside_of : VectorRules → Seat → List Word → Instance → Option Decision
-inside_of v seat w x = v.inside (round_desk seat (round_of x)) (round_words v seat (round_of x) w) x
+inside_of v seat w x = v.inside (round_desk seat (instance_round x)) (round_words v seat (instance_round x) w) x
 
 -- atomic broadcast over vector consensus
 abbrev pub atomic : VectorRules → ServiceRules
 atomic v = record {
   serves = λ root. root == 6;
-  says = λ seat w c. says_of seat w c ++ says_below v seat rounds w c;
+  says = λ seat w c. says_input seat w c ++ rounds_say_below v seat rounds w c;
   opens = λ seat w s. if s.class == 1 then true else round_opens v seat w s;
   completed = λ seat w. complete_of v seat rounds w;
   base = λ seat w origin. least_without (log_of v seat rounds w) origin;

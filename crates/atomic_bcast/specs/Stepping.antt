@@ -9,7 +9,7 @@ use Rattle.layer_api.specs.Words.{Word, Ask, Hear}
 use Rattle.layer_api.specs.Service.{Seat}
 use Rattle.layer_api.specs.Part.{newly_asked, passed, says_in}
 use Rattle.layer_api.specs.Vectors.{VectorRules, MayVector}
-use Rattle.atomic_bcast.specs.Rounds.{pending, first_ids, round_desk, is_of_round, completes_with, round_ask, round_words, complete_of, log_of, says_below, rounds}
+use Rattle.atomic_bcast.specs.Rounds.{pending, first_ids, round_desk, is_of_round, completes_with, round_ask, round_words, complete_of, log_of, rounds_say_below, rounds}
 
 module _ (v : VectorRules) (seat : Seat) where
   -- the first round that isn't complete, and the log of those before it
@@ -20,7 +20,7 @@ module _ (v : VectorRules) (seat : Seat) where
   log_now w = log_of v seat rounds w
 
   -- what a slot of a round delivered comes to the round's box, which isn't past and was asked
-  pub record ComesTo (w : List Word) (s : Slot) (x : List ℕ) : Type 0 where
+  pub record ComesToRound (w : List Word) (s : Slot) (x : List ℕ) : Type 0 where
     pub round : s.a < rounds
     pub begun : s.a ≤ current w
     pub recent : current w ≤ s.a + 2
@@ -54,7 +54,7 @@ module _ (v : VectorRules) (seat : Seat) where
     completes_now = completes_with seat (Some (log_now w)) (v.decision (round_desk seat (current w)) words_now) (c ∷ w)
 
     -- whether or not it becomes complete
-    pub record Steps : Type 0 where
+    pub record RoundSteps : Type 0 where
       pub below : (a : ℕ) → a < current w → round_words v seat a (c ∷ w) ≡ heard_words a
       pub asks : current w < rounds → round_ask v seat (current w) (c ∷ w) ≡ asked_now
       pub words : current w < rounds → round_words v seat (current w) (c ∷ w) ≡ words_now
@@ -64,8 +64,8 @@ module _ (v : VectorRules) (seat : Seat) where
       pub same : current (c ∷ w) ≡ current w
       pub log : log_now (c ∷ w) ≡ log_now w
       pub above : (a : ℕ) → current w < a → a < rounds → (round_ask v seat a (c ∷ w) ≡ None) × (round_words v seat a (c ∷ w) ≡ [])
-      pub says_old : (u : List ℕ) → round_ask v seat (current w) w ≡ Some u → says_below v seat rounds w c ≡ heard_says w c
-      pub says_new : round_ask v seat (current w) w ≡ None → says_below v seat rounds w c ≡ heard_says w c ++ next_says (current w) (c ∷ w) (log_now w)
+      pub says_old : (u : List ℕ) → round_ask v seat (current w) w ≡ Some u → rounds_say_below v seat rounds w c ≡ heard_says w c
+      pub says_new : round_ask v seat (current w) w ≡ None → rounds_say_below v seat rounds w c ≡ heard_says w c ++ next_says (current w) (c ∷ w) (log_now w)
 
     -- it does, with this log: the next round is asked, if something is pending
     pub record Advances (log : List Id) : Type 0 where
@@ -74,4 +74,4 @@ module _ (v : VectorRules) (seat : Seat) where
       pub asks : suc (current w) < rounds → round_ask v seat (suc (current w)) (c ∷ w) ≡ next_ask (c ∷ w) log
       pub words : suc (current w) < rounds → round_words v seat (suc (current w)) (c ∷ w) ≡ newly_asked None (next_ask (c ∷ w) log)
       pub above : (a : ℕ) → suc (current w) < a → a < rounds → (round_ask v seat a (c ∷ w) ≡ None) × (round_words v seat a (c ∷ w) ≡ [])
-      pub says : says_below v seat rounds w c ≡ heard_says w c ++ next_says (suc (current w)) (c ∷ w) log
+      pub says : rounds_say_below v seat rounds w c ≡ heard_says w c ++ next_says (suc (current w)) (c ∷ w) log

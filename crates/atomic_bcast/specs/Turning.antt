@@ -11,18 +11,18 @@ use Rattle.layer_api.specs.Part.{newly_asked}
 use Rattle.layer_api.specs.Multi.{Desk}
 use Rattle.layer_api.specs.Vectors.{VectorRules}
 use Rattle.layer_api.specs.VectorCalls.{VectorShown}
-use Rattle.atomic_bcast.specs.Rounds.{delivered_ids, round_desk, round_ask, round_words, says_below, rounds, atomic}
+use Rattle.atomic_bcast.specs.Rounds.{delivered_ids, round_desk, round_ask, round_words, rounds_say_below, rounds, atomic}
 use Rattle.atomic_bcast.specs.Stepping.{current, log_now, heard_says, heard_words, next_ask, next_says}
 use Rattle.atomic_bcast.specs.Ledger.{LedgerStands}
 use Rattle.atomic_bcast.specs.Boxes.{BoxesStand, OldStand}
 use Rattle.atomic_bcast.specs.Waiting.{decision_in, Awaits, Knows}
-use Rattle.atomic_bcast.specs.AbcGetters.{shown_by}
-use Rattle.atomic_bcast.specs.Abc.{Seated, has_begun, Stands}
+use Rattle.atomic_bcast.specs.AbcGetters.{atomic_shown}
+use Rattle.atomic_bcast.specs.Abc.{Seated, has_begun, AtomicStands}
 use Rattle.atomic_bcast.specs.declared.abc.Abc.{Abc}
 
 module _ {V : Type 0} (stands : V → Desk → List Word → Type 0) (v : VectorRules) (shown : V → VectorShown) where
   -- the word was heard by the ledger or by the box that it is for, and nothing follows yet
-  pub record Mid (x : Abc V) (seat : Seat) (w : List Word) (c : Word) : Type 0 where
+  pub record IsMidway (x : Abc V) (seat : Seat) (w : List Word) (c : Word) : Type 0 where
     pub seated : Seated v x seat (c ∷ w)
     pub ledger : LedgerStands x.ledger (delivered_ids (c ∷ w)) (log_now v seat w)
     pub completed : x.completed ≡ current v seat w
@@ -31,16 +31,16 @@ module _ {V : Type 0} (stands : V → Desk → List Word → Type 0) (v : Vector
     pub waits : Awaits x.place.numbers (decision_in shown x.boxes.current) x.waits
 
   -- and it is known what the current round waits for
-  pub record Known (x : Abc V) (seat : Seat) (w : List Word) (c : Word) : Type 0 where
-    pub mid : Mid x seat w c
+  pub record IsWaitKnown (x : Abc V) (seat : Seat) (w : List Word) (c : Word) : Type 0 where
+    pub mid : IsMidway x seat w c
     pub knows : Knows x.place.numbers (decision_in shown x.boxes.current) x.waits
 
   -- the current round hasn't begun before the word, and does so by it if something is pending
-  pub record IsDue (seat : Seat) (w : List Word) (c : Word) : Type 0 where
+  pub record IsRoundDue (seat : Seat) (w : List Word) (c : Word) : Type 0 where
     pub asks : current v seat (c ∷ w) < rounds → round_ask v seat (current v seat (c ∷ w)) (c ∷ w) ≡ next_ask v seat (c ∷ w) (log_now v seat (c ∷ w))
     pub words : current v seat (c ∷ w) < rounds
         → round_words v seat (current v seat (c ∷ w)) (c ∷ w) ≡ newly_asked None (next_ask v seat (c ∷ w) (log_now v seat (c ∷ w)))
-    pub says : says_below v seat rounds w c ≡ heard_says v seat w c ++ next_says v seat (current v seat (c ∷ w)) (c ∷ w) (log_now v seat (c ∷ w))
+    pub says : rounds_say_below v seat rounds w c ≡ heard_says v seat w c ++ next_says v seat (current v seat (c ∷ w)) (c ∷ w) (log_now v seat (c ∷ w))
     pub unbegun : current v seat (c ∷ w) < rounds → round_words v seat (current v seat (c ∷ w)) w ≡ []
     pub not_spent : v.spent (round_desk seat (current v seat w)) (round_words v seat (current v seat w) w) ≡ false
 
@@ -49,10 +49,10 @@ module _ {V : Type 0} (stands : V → Desk → List Word → Type 0) (v : Vector
     pub round : current v seat (c ∷ w) < rounds
     pub asked : is_some (round_ask v seat (current v seat (c ∷ w)) (c ∷ w)) ≡ true
     pub stood : stands one (round_desk seat (current v seat (c ∷ w))) (round_words v seat (current v seat (c ∷ w)) (c ∷ w))
-    pub says : says_below v seat rounds w c ≡ heard_says v seat w c
+    pub says : rounds_say_below v seat rounds w c ≡ heard_says v seat w c
 
   abbrev pub IsNow : Option V → Seat → List Word → Word → Type 0
-  IsNow None seat w c = IsDue seat w c
+  IsNow None seat w c = IsRoundDue seat w c
   IsNow (Some one) seat w c = IsGoing one seat w c
 
   -- all stands as after the word, but that the current round may have to begin
@@ -66,61 +66,61 @@ module _ {V : Type 0} (stands : V → Desk → List Word → Type 0) (v : Vector
 
   -- all is done, and what is newly said is said
   pub record Turned (x : Abc V) (seat : Seat) (w : List Word) (c : Word) (before after : List Say) : Type 0 where
-    pub now : Stands stands v shown x seat (c ∷ w)
+    pub now : AtomicStands stands v shown x seat (c ∷ w)
     pub more : List Say
-    pub says : says_below v seat rounds w c ≡ heard_says v seat w c ++ more
+    pub says : rounds_say_below v seat rounds w c ≡ heard_says v seat w c ++ more
     pub made : after ≡ before ++ more
 
   -- its getters are near to both
   abbrev pub IsNear : Abc V → Seat → List Word → Word → Type 0
-  IsNear x seat w c = ShowsNear (atomic v) seat w c (shown_by shown x)
+  IsNear x seat w c = ShowsNear (atomic v) seat w c (atomic_shown shown x)
 
   -- a round completes, if it does
   abbrev pub Completes : Abc V → Abc V → Type 0
-  Completes old new = (seat : Seat) (w : List Word) (c : Word) → Known old seat w c → Poised new seat w c
+  Completes old new = (seat : Seat) (w : List Word) (c : Word) → IsWaitKnown old seat w c → Poised new seat w c
 
   abbrev pub CompletesNot : Abc V → Abc V → Type 0
-  CompletesNot old new = (seat : Seat) (w : List Word) (s : Slot) (x : List ℕ) → Known old seat w (Hear s x) → IsNear new seat w (Hear s x)
+  CompletesNot old new = (seat : Seat) (w : List Word) (s : Slot) (x : List ℕ) → IsWaitKnown old seat w (Hear s x) → IsNear new seat w (Hear s x)
 
   -- the current round begins, if it does
-  abbrev pub Begins : Abc V → Abc V → List Say → List Say → Type 0
-  Begins old new before after = (seat : Seat) (w : List Word) (c : Word) → Poised old seat w c → Turned new seat w c before after
+  abbrev pub RoundBegins : Abc V → Abc V → List Say → List Say → Type 0
+  RoundBegins old new before after = (seat : Seat) (w : List Word) (c : Word) → Poised old seat w c → Turned new seat w c before after
 
   -- what follows from a word
-  abbrev pub Settles : Abc V → Abc V → List Say → List Say → Type 0
-  Settles old new before after = (seat : Seat) (w : List Word) (c : Word) → Mid old seat w c → Turned new seat w c before after
+  abbrev pub RoundSettles : Abc V → Abc V → List Say → List Say → Type 0
+  RoundSettles old new before after = (seat : Seat) (w : List Word) (c : Word) → IsMidway old seat w c → Turned new seat w c before after
 
   abbrev pub SettlesNot : Abc V → Abc V → Type 0
-  SettlesNot old new = (seat : Seat) (w : List Word) (s : Slot) (x : List ℕ) → Mid old seat w (Hear s x) → IsNear new seat w (Hear s x)
+  SettlesNot old new = (seat : Seat) (w : List Word) (s : Slot) (x : List ℕ) → IsMidway old seat w (Hear s x) → IsNear new seat w (Hear s x)
 
   -- the value stands for one word more, and what this newly says is said
-  pub record Takes (new : Abc V) (seat : Seat) (w : List Word) (c : Word) (before after : List Say) : Type 0 where
-    pub now : Stands stands v shown new seat (c ∷ w)
-    pub made : after ≡ before ++ says_below v seat rounds w c
+  pub record TookWord (new : Abc V) (seat : Seat) (w : List Word) (c : Word) (before after : List Say) : Type 0 where
+    pub now : AtomicStands stands v shown new seat (c ∷ w)
+    pub made : after ≡ before ++ rounds_say_below v seat rounds w c
 
   -- what a command's slot delivered
   abbrev pub TakesCommand : Abc V → Abc V → Slot → List Say → List Say → Type 0
-  TakesCommand old new s before after = (seat : Seat) (w : List Word) (x : List ℕ) → Stands stands v shown old seat w → MayHear (atomic v) seat w s x → s.class ≡ 1
-      → Takes new seat w (Hear s x) before after
+  TakesCommand old new s before after = (seat : Seat) (w : List Word) (x : List ℕ) → AtomicStands stands v shown old seat w → MayHear (atomic v) seat w s x → s.class ≡ 1
+      → TookWord new seat w (Hear s x) before after
 
   abbrev pub LosesCommand : Abc V → Abc V → Slot → Type 0
-  LosesCommand old new s = (seat : Seat) (w : List Word) (x : List ℕ) → Stands stands v shown old seat w → MayHear (atomic v) seat w s x → s.class ≡ 1
+  LosesCommand old new s = (seat : Seat) (w : List Word) (x : List ℕ) → AtomicStands stands v shown old seat w → MayHear (atomic v) seat w s x → s.class ≡ 1
       → IsNear new seat w (Hear s x)
 
   -- what a slot of a round delivered
   abbrev pub TakesRound : (Slot → Bool) → Abc V → Abc V → Slot → List ℕ → List Say → List Say → Type 0
-  TakesRound bits old new s x before after = (seat : Seat) (w : List Word) → Stands stands v shown old seat w → IsCoin seat.coin bits → MayHear (atomic v) seat w s x
-      → (s.class == 1) ≡ false → Takes new seat w (Hear s x) before after
+  TakesRound bits old new s x before after = (seat : Seat) (w : List Word) → AtomicStands stands v shown old seat w → IsCoin seat.coin bits → MayHear (atomic v) seat w s x
+      → (s.class == 1) ≡ false → TookWord new seat w (Hear s x) before after
 
   abbrev pub LosesRound : (Slot → Bool) → Abc V → Abc V → Slot → List ℕ → Type 0
-  LosesRound bits old new s x = (seat : Seat) (w : List Word) → Stands stands v shown old seat w → IsCoin seat.coin bits → MayHear (atomic v) seat w s x
+  LosesRound bits old new s x = (seat : Seat) (w : List Word) → AtomicStands stands v shown old seat w → IsCoin seat.coin bits → MayHear (atomic v) seat w s x
       → (s.class == 1) ≡ false → IsNear new seat w (Hear s x)
 
   -- what a slot delivered
   abbrev pub TakesWord : (Slot → Bool) → Abc V → Abc V → Slot → List ℕ → List Say → List Say → Type 0
-  TakesWord bits old new s x before after = (seat : Seat) (w : List Word) → Stands stands v shown old seat w → IsCoin seat.coin bits → MayHear (atomic v) seat w s x
-      → Takes new seat w (Hear s x) before after
+  TakesWord bits old new s x before after = (seat : Seat) (w : List Word) → AtomicStands stands v shown old seat w → IsCoin seat.coin bits → MayHear (atomic v) seat w s x
+      → TookWord new seat w (Hear s x) before after
 
   abbrev pub LosesWord : (Slot → Bool) → Abc V → Abc V → Slot → List ℕ → Type 0
-  LosesWord bits old new s x = (seat : Seat) (w : List Word) → Stands stands v shown old seat w → IsCoin seat.coin bits → MayHear (atomic v) seat w s x
+  LosesWord bits old new s x = (seat : Seat) (w : List Word) → AtomicStands stands v shown old seat w → IsCoin seat.coin bits → MayHear (atomic v) seat w s x
       → IsNear new seat w (Hear s x)

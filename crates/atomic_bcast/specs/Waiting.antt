@@ -12,7 +12,7 @@ decision_in shown None = None
 decision_in shown (Some x) = (shown x).decision
 
 -- the vector is decided, and wants these
-pub record AreWanted (p : Numbers) (decided : Option (List ℕ)) (ids : List Id) : Type 0 where
+pub record AreWantedIds (p : Numbers) (decided : Option (List ℕ)) (ids : List Id) : Type 0 where
   pub value : List ℕ
   pub is : decided ≡ Some value
   pub ids_are : ids ≡ wanted p value
@@ -20,12 +20,12 @@ pub record AreWanted (p : Numbers) (decided : Option (List ℕ)) (ids : List Id)
 -- what it waits for, if anything, the decided vector wants
 abbrev pub Awaits : {Z : Type 0} → Numbers → Option (List ℕ) → Option (Vec Id Z) → Type 0
 Awaits p decided None = ⊤
-Awaits p decided (Some ids) = AreWanted p decided ids.items
+Awaits p decided (Some ids) = AreWantedIds p decided ids.items
 
 -- and it waits where a vector is decided
 abbrev pub Knows : {Z : Type 0} → Numbers → Option (List ℕ) → Option (Vec Id Z) → Type 0
 Knows p decided None = decided ≡ None
-Knows p decided (Some ids) = AreWanted p decided ids.items
+Knows p decided (Some ids) = AreWantedIds p decided ids.items
 
-abbrev pub Learns : {V Z : Type 0} → (V → VectorShown) → Numbers → Option V → Option (Vec Id Z) → Option (Vec Id Z) → Type 0
-Learns shown p one old new = Awaits p (decision_in shown one) old → Knows p (decision_in shown one) new
+abbrev pub LearnsWanted : {V Z : Type 0} → (V → VectorShown) → Numbers → Option V → Option (Vec Id Z) → Option (Vec Id Z) → Type 0
+LearnsWanted shown p one old new = Awaits p (decision_in shown one) old → Knows p (decision_in shown one) new

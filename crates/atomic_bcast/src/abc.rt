@@ -44,8 +44,8 @@ pub struct Abc<V: VectorBox> {
 impl<V: VectorBox> Abc<V> {
     ghost use Rattle.std.specs.Prelude.{◌≡◌, OnOk, OnErr};
     ghost use Rattle.atomic_bcast.specs.AbcGetters.{opens_round};
-    ghost use Rattle.atomic_bcast.specs.Abc.{Ends};
-    ghost use Rattle.atomic_bcast.specs.Turning.{Completes, CompletesNot, Begins, Settles, SettlesNot, TakesCommand, LosesCommand, TakesRound, LosesRound, TakesWord, LosesWord};
+    ghost use Rattle.atomic_bcast.specs.Abc.{AtomicEnds};
+    ghost use Rattle.atomic_bcast.specs.Turning.{Completes, CompletesNot, RoundBegins, RoundSettles, SettlesNot, TakesCommand, LosesCommand, TakesRound, LosesRound, TakesWord, LosesWord};
 
     // Whether the instance of a slot's round, which began and isn't past, takes its items.
     fn is_round_open(&self, slot: &Slot) -> bool
@@ -76,7 +76,7 @@ impl<V: VectorBox> Abc<V> {
 
     // Begins the current round, where it hasn't begun, one is left and something is pending.
     fn begin(&mut self, alloc: Global, made: &mut Vec<Say>) -> Result<(), Mem>
-        ensures ok { OnOk result (Begins V.stands V.rules V.shown self.old self.new made.old.items made.new.items) }
+        ensures ok { OnOk result (RoundBegins V.stands V.rules V.shown self.old self.new made.old.items made.new.items) }
         ensures err { OnErr result (self.new ≡ self.old) }
     {
         if self.boxes.current.is_some()
@@ -92,7 +92,7 @@ impl<V: VectorBox> Abc<V> {
 
     // Does what follows from a word: the current round may become complete, and the next may begin.
     fn settle(&mut self, alloc: Global, made: &mut Vec<Say>) -> Result<(), Mem>
-        ensures ok { OnOk result (Settles V.stands V.rules V.shown self.old self.new made.old.items made.new.items) }
+        ensures ok { OnOk result (RoundSettles V.stands V.rules V.shown self.old self.new made.old.items made.new.items) }
         ensures err { OnErr result (SettlesNot V.stands V.rules V.shown self.old self.new) }
     {
         learn(alloc, &self.place, &self.boxes.current, &mut self.waits)?;
@@ -154,7 +154,7 @@ impl<V: VectorBox> Abc<V> {
         made: &mut Vec<Say>,
         says: &mut Vec<Say>,
     ) -> Result<(), Mem>
-        ensures { Ends self.old self.new taken made.old.items says.old.items says.new.items result }
+        ensures { AtomicEnds self.old self.new taken made.old.items says.old.items says.new.items result }
     {
         match put_out(taken, made, says) {
             Ok(()) => Ok(()),
@@ -168,19 +168,19 @@ impl<V: VectorBox> Abc<V> {
 
 impl<V: VectorBox> Service for Abc<V> {
     ghost use Rattle.atomic_bcast.specs.Rounds.{atomic};
-    ghost use Rattle.atomic_bcast.specs.Abc.{Stands};
-    ghost use Rattle.atomic_bcast.specs.AbcGetters.{shown_by};
+    ghost use Rattle.atomic_bcast.specs.Abc.{AtomicStands};
+    ghost use Rattle.atomic_bcast.specs.AbcGetters.{atomic_shown};
     ghost use Rattle.atomic_bcast.specs.Laws.Getters.{shows_rules};
     ghost use Rattle.atomic_bcast.specs.Laws.OneLog.{one_log_law};
     ghost use Rattle.atomic_bcast.specs.Laws.AtomicWords.{atomic_word_laws};
 
-    ghost stands = { Stands V.stands V.rules V.shown };
+    ghost stands = { AtomicStands V.stands V.rules V.shown };
 
     ghost rules = { atomic V.rules };
 
     ghost live = { λ s. s.live };
 
-    ghost shown = { shown_by V.shown };
+    ghost shown = { atomic_shown V.shown };
 
     fn serves(root: u8) -> bool {
         root == 6

@@ -1,7 +1,7 @@
 //! The boxes of the rounds in the window.
 
 ghost use Rattle.std.specs.Prelude.{◌≡◌, None, option_map};
-ghost use Rattle.atomic_bcast.specs.Boxes.{box_at, opens_in, spent_in, vector_in, last_in, HearsOne, HearsBox};
+ghost use Rattle.atomic_bcast.specs.Boxes.{box_at, opens_in, spent_in, vector_by_box, last_in, BoxHears, HearsBox};
 
 use layer_api::VectorBox;
 use ritas_base::{Coin, Mem, Say, Slot};
@@ -37,7 +37,7 @@ fn hear<V: VectorBox, C: Coin>(
     value: &[u8],
     made: &mut Vec<Say>,
 ) -> Result<(), Mem>
-    ensures { HearsOne V.stands V.rules V.live V.shown (C.bits coin.now) one.old one.new slot.now value.now made.old.items made.new.items result }
+    ensures { BoxHears V.stands V.rules V.live V.shown (C.bits coin.now) one.old one.new slot.now value.now made.old.items made.new.items result }
 {
     match one {
         Some(one) => one.heard(alloc, coin, slot, value, made),
@@ -47,7 +47,7 @@ fn hear<V: VectorBox, C: Coin>(
 
 // The vector of a round, where the round's box decided one.
 fn vector_in<V: VectorBox>(round: u32, one: &Option<V>) -> Option<(u32, u8, &[u8])>
-    ensures { option_map (λ x. record { round = x.0; attempt = x.1; value = x.2.now }) result ≡ vector_in V.shown round one.now }
+    ensures { option_map (λ x. record { round = x.0; attempt = x.1; value = x.2.now }) result ≡ vector_by_box V.shown round one.now }
 {
     match one {
         Some(one) => Some((round, one.decided_try()?, one.decision()?)),

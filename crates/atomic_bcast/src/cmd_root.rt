@@ -83,16 +83,16 @@ impl CmdRoot {
 impl Service for CmdRoot {
     ghost use Rattle.atomic_bcast.specs.Commands.{commands};
     ghost use Rattle.atomic_bcast.specs.Laws.Commands.{command_laws, command_log};
-    ghost use Rattle.atomic_bcast.specs.CmdRoot.{Stands};
-    ghost use Rattle.atomic_bcast.specs.CmdRootGetters.{shown_by, shows_rules};
+    ghost use Rattle.atomic_bcast.specs.CmdRoot.{CommandsStand};
+    ghost use Rattle.atomic_bcast.specs.CmdRootGetters.{commands_shown, shows_rules};
 
-    ghost stands = { Stands };
+    ghost stands = { CommandsStand };
 
     ghost rules = { commands };
 
     ghost live = { λ s. s.live };
 
-    ghost shown = { shown_by };
+    ghost shown = { commands_shown };
 
     fn serves(root: u8) -> bool {
         root == 1 || root == 2

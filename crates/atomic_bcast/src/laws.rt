@@ -9,7 +9,7 @@ ghost use Rattle.layer_api.specs.Vectors.{VectorRules, VectorLaws, OneVector};
 ghost use Rattle.ritas_base.specs.Slots.{command_slot};
 ghost use Rattle.atomic_bcast.specs.Commands.{base_of, commands};
 ghost use Rattle.atomic_bcast.specs.Rounds.{atomic};
-ghost use Rattle.atomic_bcast.specs.VectorsAgree.{VectorsAgree};
+ghost use Rattle.atomic_bcast.specs.VectorsAgree.{RoundVectorsAgree};
 ghost use Rattle.atomic_bcast.specs.Appended.{AppendsProposed};
 
 /// The law of what is said: to an input the service says that input, alone, at the command slot of the next number.
@@ -39,7 +39,7 @@ pub fn base_is_least()
 pub fn one_log()
     ensures log { (v : VectorRules) → VectorLaws v → OneVector v → OneLog (atomic v) }
     ensures once { (v : VectorRules) (seat : Seat) (w : List Word) → AreDistinct ((atomic v).done seat w) }
-    ensures vectors { (v : VectorRules) → VectorLaws v → OneVector v → VectorsAgree v }
+    ensures vectors { (v : VectorRules) → VectorLaws v → OneVector v → RoundVectorsAgree v }
     ensures proposed { (v : VectorRules) → VectorLaws v → OneVector v → AppendsProposed v }
 {}
 

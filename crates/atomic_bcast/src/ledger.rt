@@ -6,7 +6,7 @@ ghost use Rattle.ritas_base.specs.declared.id.Id.{Id};
 ghost use Rattle.frame_codec.specs.Ids.{IsBelow};
 ghost use Rattle.layer_api.specs.Service.{has_id};
 ghost use Rattle.atomic_bcast.specs.Early.{Notes};
-ghost use Rattle.atomic_bcast.specs.Identifiers.{kept, is_without, all_pass, append_ids, IsSorted};
+ghost use Rattle.atomic_bcast.specs.Identifiers.{passing_ids, is_without, all_pass, append_ids, IsSorted};
 ghost use Rattle.atomic_bcast.specs.Rounds.{proposal, least_without};
 ghost use Rattle.atomic_bcast.specs.Ledger.{LedgerStands, IsReady, at_bases, Appending, Between};
 
@@ -76,7 +76,7 @@ impl Ledger {
 
     /// Whether a command was delivered that isn't in the log.
     pub(crate) fn has_pending(&self) -> bool
-        ensures { (delivered log : List Id) → LedgerStands self.now delivered log → IsTrue result ↔ (kept (is_without log) delivered ≡ [] → ⊥) }
+        ensures { (delivered log : List Id) → LedgerStands self.now delivered log → IsTrue result ↔ (passing_ids (is_without log) delivered ≡ [] → ⊥) }
     {
         !self.pending.is_empty()
     }
@@ -141,7 +141,7 @@ impl Ledger {
     /// After `Err` some of them may be appended, in their order; the bases are as before.
     pub(crate) fn append_new(&mut self, wanted: &[Id]) -> Result<(), Mem>
         ensures ok { OnOk result ((delivered log : List Id) → AllByRecursion (IsReady delivered) wanted.now → IsSorted wanted.now
-            → LedgerStands self.old delivered log → LedgerStands self.new delivered (append_ids (kept (is_without log) wanted.now) log)) }
+            → LedgerStands self.old delivered log → LedgerStands self.new delivered (append_ids (passing_ids (is_without log) wanted.now) log)) }
         ensures err { OnErr result ((delivered log : List Id) → AllByRecursion (IsReady delivered) wanted.now → IsSorted wanted.now
             → LedgerStands self.old delivered log → Between self.old self.new wanted.now log) }
     {
@@ -168,7 +168,7 @@ impl Ledger {
     /// What a round is proposed.
     pub(crate) fn proposal(&self, alloc: Global, n: u8) -> Result<Vec<Id>, Mem>
         requires { 1 ≤ n }
-        ensures { IfOk result (λ taken. (delivered log : List Id) → LedgerStands self.now delivered log → taken.items ≡ proposal n (kept (is_without log) delivered)) }
+        ensures { IfOk result (λ taken. (delivered log : List Id) → LedgerStands self.now delivered log → taken.items ≡ proposal n (passing_ids (is_without log) delivered)) }
     {
         let taken = proposal(alloc, n, &self.pending)?;
         Ok(taken)

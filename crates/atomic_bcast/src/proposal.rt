@@ -5,7 +5,7 @@ ghost use Rattle.std.specs.List.{AllByRecursion};
 ghost use Rattle.ritas_base.specs.declared.id.Id.{Id};
 ghost use Rattle.atomic_bcast.specs.Identifiers.{first_of_each};
 ghost use Rattle.atomic_bcast.specs.Rounds.{proposal};
-ghost use Rattle.atomic_bcast.specs.Pending.{HoldsIds, Counts};
+ghost use Rattle.atomic_bcast.specs.Pending.{HoldsIds, CountsOrigins};
 
 use crate::limits::{MOST_LISTED, MOST_REPLICAS};
 use ritas_base::{Id, Mem};
@@ -19,8 +19,8 @@ fn take_id(
     most: u8,
     id: Id,
 ) -> Result<(), Mem>
-    ensures counted { OnOk result (Counts counts.old (reverse taken.old.items) → Counts counts.new (reverse taken.new.items)) }
-    ensures taken { OnOk result ((rest : List Id) → id.origin < 31 → Counts counts.old (reverse taken.old.items)
+    ensures counted { OnOk result (CountsOrigins counts.old (reverse taken.old.items) → CountsOrigins counts.new (reverse taken.new.items)) }
+    ensures taken { OnOk result ((rest : List Id) → id.origin < 31 → CountsOrigins counts.old (reverse taken.old.items)
         → taken.new.items ++ first_of_each most (reverse taken.new.items) rest ≡ taken.old.items ++ first_of_each most (reverse taken.old.items) (id ∷ rest)) }
 {
     if (id.origin as usize) < MOST_REPLICAS && counts[id.origin as usize] < most {

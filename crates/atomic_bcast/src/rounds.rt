@@ -4,8 +4,8 @@ ghost use Rattle.std.specs.Prelude.{◌≡◌, ◌<◌, false, List, ◌∷◌, 
 ghost use Rattle.ritas_base.specs.declared.id.Id.{Id};
 ghost use Rattle.layer_api.specs.Service.{has_id};
 ghost use Rattle.atomic_bcast.specs.Ledger.{LedgerStands};
-ghost use Rattle.atomic_bcast.specs.Waiting.{Learns};
-ghost use Rattle.atomic_bcast.specs.Boxes.{Began};
+ghost use Rattle.atomic_bcast.specs.Waiting.{LearnsWanted};
+ghost use Rattle.atomic_bcast.specs.Boxes.{RoundBegan};
 
 use crate::ledger::Ledger;
 use crate::limits::MOST_REPLICAS;
@@ -39,7 +39,7 @@ pub(crate) fn learn<V: VectorBox>(
     now: &Option<V>,
     waits: &mut Option<Vec<Id>>,
 ) -> Result<(), Mem>
-    ensures { OnOk result (Learns V.shown place.now.numbers now.now waits.old waits.new) }
+    ensures { OnOk result (LearnsWanted V.shown place.now.numbers now.now waits.old waits.new) }
 {
     if waits.is_some() {
         return Ok(());
@@ -60,7 +60,7 @@ pub(crate) fn begin_round<V: VectorBox>(
     a: u32,
     made: &mut Vec<Say>,
 ) -> Result<V, Mem>
-    ensures { IfOk result (λ one. Began V.stands V.rules place.now ledger.now a one made.old.items made.new.items) }
+    ensures { IfOk result (λ one. RoundBegan V.stands V.rules place.now ledger.now a one made.old.items made.new.items) }
 {
     let ids = ledger.proposal(alloc, place.numbers.n())?;
     let list = write_ids(alloc, &ids)?;

@@ -2,7 +2,7 @@
 
 ghost use Rattle.std.specs.Prelude.{◌≡◌};
 ghost use Rattle.ritas_base.specs.SlotOrder.{is_slot};
-ghost use Rattle.atomic_bcast.specs.OnePlace.{slot_of};
+ghost use Rattle.atomic_bcast.specs.OnePlace.{counted_slot};
 
 use super::*;
 use layer_api::{Outcome, Service, VectorBox};
@@ -34,7 +34,7 @@ fn slot(class: u8, a: u32, step: u8, origin: u8) -> Slot {
 
 // Whether it is the slot of class 3 of attempt 0 and this replica in the round.
 fn is_of(slot: &Slot, a: u32, origin: u8) -> bool
-    ensures { result ≡ is_slot slot.now (slot_of a origin) }
+    ensures { result ≡ is_slot slot.now (counted_slot a origin) }
 {
     slot.cmp(&Slot {
         class: 3,
@@ -63,9 +63,9 @@ impl VectorBox for OnePlace {
     ghost use Rattle.std.specs.Prelude.{◌≡◌, ℕ, Bool, List, Option, None, true, false, nat_lt, option_map, if◌then◌else◌, refl};
     ghost use Rattle.std.proofs.Common.{ap, ap₂};
     ghost use Rattle.layer_api.specs.Words.{asked, value_at};
-    ghost use Rattle.atomic_bcast.specs.OnePlace.{the_slot, in_order, one_place, one_place_laws, one_place_agrees};
+    ghost use Rattle.atomic_bcast.specs.OnePlace.{the_slot, heard_in_order, one_place, one_place_laws, one_place_agrees};
 
-    ghost stands = { λ b at w. (b.a ≡ at.scope.a) × (b.f ≡ at.scope.numbers.f) × (b.next ≡ in_order at.scope.a w)
+    ghost stands = { λ b at w. (b.a ≡ at.scope.a) × (b.f ≡ at.scope.numbers.f) × (b.next ≡ heard_in_order at.scope.a w)
         × (b.asked ≡ nat_lt 0 (asked w)) × (b.vector ≡ value_at w (the_slot at.scope.a)) × (b.live ≡ true) };
 
     ghost rules = { one_place };

@@ -3,8 +3,8 @@
 ghost use Rattle.std.specs.Prelude.{◌≡◌, ℕ, ◌<◌, ◌≤◌, List, [], ◌∷◌, length, drop, nat_le, IfOk, OnOk};
 ghost use Rattle.std.specs.Int.RustNames.{count_ones};
 ghost use Rattle.ritas_base.specs.declared.id.Id.{Id};
-ghost use Rattle.frame_codec.specs.Values.{ids_of, mask_of, entry_in, after_entry, entries_of};
-ghost use Rattle.atomic_bcast.specs.Identifiers.{kept, in_order};
+ghost use Rattle.frame_codec.specs.Values.{ids_of, mask_of, entry_in_front, after_entry, vector_entries};
+ghost use Rattle.atomic_bcast.specs.Identifiers.{passing_ids, in_order};
 ghost use Rattle.atomic_bcast.specs.Rounds.{backers, entry_ids, wanted};
 ghost use Rattle.atomic_bcast.specs.Backing.{lists_with, NotesList};
 
@@ -29,7 +29,7 @@ fn split_count(vector: &[u8]) -> (u8, &[u8])
 // The list in front, and the bytes behind it. A list that is cut off is what there is of it.
 #[tactic(auto, unfolding(frame_codec::specs::Values::len_in))]
 fn split_list(bytes: &[u8]) -> (&[u8], &[u8])
-    ensures list { result.0.now ≡ entry_in bytes.now }
+    ensures list { result.0.now ≡ entry_in_front bytes.now }
     ensures rest { result.1.now ≡ after_entry bytes.now }
 {
     if bytes.len() < 2 {
@@ -65,7 +65,7 @@ fn note_list(noted: &mut BTreeMap<Id, u32>, list: &[u8], k: u8) -> Result<(), Me
 
 // In which lists each identifier stands, as a mask: bit j stands for list j.
 fn note_lists(alloc: Global, vector: &[u8]) -> Result<BTreeMap<Id, u32>, Mem>
-    ensures { IfOk result (λ noted. (x : Id) → lists_with noted x ≡ backers (entries_of vector.now) x) }
+    ensures { IfOk result (λ noted. (x : Id) → lists_with noted x ≡ backers (vector_entries vector.now) x) }
 {
     let mut noted = BTreeMap::new(alloc);
     if vector.len() < 4 {
@@ -84,7 +84,7 @@ fn note_lists(alloc: Global, vector: &[u8]) -> Result<BTreeMap<Id, u32>, Mem>
 fn with_backers(alloc: Global, least: u8, noted: &BTreeMap<Id, u32>) -> Result<Vec<Id>, Mem>
     requires { 1 ≤ least }
     ensures { IfOk result (λ ids. (lists : List (List ℕ)) → ((x : Id) → lists_with noted.now x ≡ backers lists x)
-        → ids.items ≡ kept (λ x. nat_le least (backers lists x)) (in_order (entry_ids lists))) }
+        → ids.items ≡ passing_ids (λ x. nat_le least (backers lists x)) (in_order (entry_ids lists))) }
 {
     let mut ids = Vec::new(alloc);
     for (id, lists) in noted.iter() {

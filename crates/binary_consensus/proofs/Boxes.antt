@@ -14,12 +14,13 @@ use Rattle.layer_api.specs.Calls.{IsCoin, WordTaken}
 use Rattle.layer_api.specs.FedLaws.{some_if}
 use Rattle.bracha_validation.specs.declared.tally.Tally.{Tally}
 use Rattle.bracha_validation.specs.Tallies.{vote_count, IsTally}
-use Rattle.binary_consensus.specs.Steps.{round_of, step_of, step_slot, heard, listed, accepted}
-use Rattle.binary_consensus.specs.Consensus.{proposal, left, decides, next_vote, said, decided_below, steps, says_below, decision, binary}
+use Rattle.ritas_base.specs.Places.{listed}
+use Rattle.binary_consensus.specs.Steps.{round_of, step_of, line_slot, heard, accepted}
+use Rattle.binary_consensus.specs.Consensus.{proposed_vote, left, decides, next_vote, vote_said, decided_below, steps, steps_say_below, binary_decision, binary}
 use Rattle.binary_consensus.specs.Laws.Stays.{steps_are, stays, unleft, next_none, said_down, silent, silent_above}
-use Rattle.binary_consensus.specs.Counts.{Heard, HearsOne, tally_at}
-use Rattle.binary_consensus.specs.Going.{own_slot, line_of, IsPart, AreHeard, StandsAt, IsOver, IsHere, Passing, Done, GoesOn}
-use Rattle.binary_consensus.specs.Stands.{Stands}
+use Rattle.binary_consensus.specs.Counts.{HeardTallies, HearsOneVote, tally_at}
+use Rattle.binary_consensus.specs.Going.{own_step_slot, line_of, IsBinaryPart, AreCountsHeard, StandsAtStep, IsOver, IsHere, Passing, Done, LineGoesOn}
+use Rattle.binary_consensus.specs.Stands.{BinaryStands}
 use Rattle.binary_consensus.specs.declared.part.Part.{Part}
 use Rattle.binary_consensus.specs.declared.place.Place.{Place}
 use Rattle.binary_consensus.specs.declared.bin.Bin.{Bin}
@@ -29,23 +30,23 @@ use Rattle.binary_consensus.proofs.Moves.{own_is}
 
 -- ---- a new box
 
-listed_none : (ks : List ℕ) → listed (λ k. None) ks ≡ []
+listed_none : (ks : List ℕ) → listed {X = ℕ} (λ k. None) ks ≡ []
 listed_none [] = refl
 listed_none (k ∷ ks) = listed_none ks
 
-none_tally : (t : ℕ) (n : ℕ) → IsTally (tally_at [] t) (listed (λ k. None) (replicas n))
+none_tally : (t : ℕ) (n : ℕ) → IsTally (tally_at [] t) (listed {X = ℕ} (λ k. None) (replicas n))
 none_tally t n = subst (λ (vs : List ℕ). IsTally (tally_at [] t) vs) (sym (listed_none (replicas n))) (record { zeros = refl; ones = refl; nones = refl; all = refl })
 
 decided_nothing : (at : Bench) (n : ℕ) → None ≡ decided_below at n []
 decided_nothing at zero = refl
 decided_nothing at (suc n) = ap₂ (λ (d : Option Bool) (l : Option (List ℕ)). option_or d (decides at.numbers n l)) (decided_nothing at n) (sym (unleft at n [] (silent at n)))
 
-pub new_stands : (at : Bench) (b : Bin) → IsSession at.numbers → IsPart b.part b.line.numbers at → b.line.votes ≡ [] → b.place.said ≡ 0 → b.place.ended ≡ false
-    → b.place.decided ≡ None → b.live ≡ true → Stands b at []
+pub new_stands : (at : Bench) (b : Bin) → IsSession at.numbers → IsBinaryPart b.part b.line.numbers at → b.line.votes ≡ [] → b.place.said ≡ 0 → b.place.ended ≡ false
+    → b.place.decided ≡ None → b.live ≡ true → BinaryStands b at []
 new_stands at b session part votes said-is ended decided live = record {
   session = session;
   part = part;
-  heard = λ unended. subst (λ (hs : List Tally). AreHeard at hs []) (sym votes) (λ t l. none_tally t at.numbers.n);
+  heard = λ unended. subst (λ (hs : List Tally). AreCountsHeard at hs []) (sym votes) (λ t l. none_tally t at.numbers.n);
   here = rw (said-is, ended) refl;
   decided = decided ∙ decided_nothing at steps;
   live = live;
@@ -54,12 +55,12 @@ new_stands at b session part votes said-is ended decided live = record {
 -- ---- the proposal
 
 -- what was proposed was asked
-asked_some : (w : List Word) (v : ℕ) → proposal w ≡ Some v → asked w ≡ 0 → ⊥
+asked_some : (w : List Word) (v : ℕ) → proposed_vote w ≡ Some v → asked w ≡ 0 → ⊥
 asked_some [] v q e = absurd cc
 asked_some (Ask value ∷ w) v q e = omega (arith, e)
 asked_some (Hear s value ∷ w) v q e = asked_some w v q e
 
-said_asked : (at : Bench) (t : ℕ) (w : List Word) (v : ℕ) → said at t w ≡ Some v → asked w ≡ 0 → ⊥
+said_asked : (at : Bench) (t : ℕ) (w : List Word) (v : ℕ) → vote_said at t w ≡ Some v → asked w ≡ 0 → ⊥
 said_asked at zero w v q e = asked_some w v q e
 said_asked at (suc t) w v q e = let d = said_down at t w v q in said_asked at t w d.0 d.1 e
 
@@ -76,26 +77,26 @@ here_first : (at : Bench) (ended : Bool) (w : List Word) → IsHere at ended 0 w
 here_first at false w h = h
 here_first at true w h = absurd h
 
-pub proposes : (at : Bench) (old new : Bin) (w : List Word) (bit : Bool) (before after : List Say) → Stands old at w → old.place.said ≡ 0
+pub proposes : (at : Bench) (old new : Bin) (w : List Word) (bit : Bool) (before after : List Say) → BinaryStands old at w → old.place.said ≡ 0
     → new.part ≡ old.part → new.line ≡ old.line → new.place.said ≡ 1 → new.place.ended ≡ false → new.place.decided ≡ None → new.live ≡ old.live
-    → after ≡ before ++ record { slot = own_slot old.part 0; value = bit_byte bit ∷ [] } ∷ []
-    → Stands new at (Ask (bit_byte bit ∷ []) ∷ w) × (after ≡ before ++ says_below at steps w (Ask (bit_byte bit ∷ [])))
+    → after ≡ before ++ record { slot = own_step_slot old.part 0; value = bit_byte bit ∷ [] } ∷ []
+    → BinaryStands new at (Ask (bit_byte bit ∷ []) ∷ w) × (after ≡ before ++ steps_say_below at steps w (Ask (bit_byte bit ∷ [])))
 proposes at old new w bit before after stands none part line said-is ended decided live pushed =
     let first : w ≡ [] = here_first at old.place.ended w (subst (λ (n : ℕ). IsHere at old.place.ended n w) none stands.here) in
-    subst (λ (x : List Word). Stands new at (Ask (bit_byte bit ∷ []) ∷ x) × (after ≡ before ++ says_below at steps x (Ask (bit_byte bit ∷ [])))) (sym first) empty
+    subst (λ (x : List Word). BinaryStands new at (Ask (bit_byte bit ∷ []) ∷ x) × (after ≡ before ++ steps_say_below at steps x (Ask (bit_byte bit ∷ [])))) (sym first) empty
   where
     c : Word
     c = Ask (bit_byte bit ∷ [])
 
     say : Say
-    say = record { slot = step_slot at 0 at.me; value = bit_byte bit ∷ [] }
+    say = record { slot = line_slot at 0 at.me; value = bit_byte bit ∷ [] }
 
     passing : Passing at 0 (Ask (bit_byte bit ∷ [])) []
     passing = record { value = bit_byte bit; is_said = refl; not_left = unleft at 0 [] (silent at 0) }
 
     few : length (accepted at.numbers (heard at (Ask (bit_byte bit ∷ []) ∷ [])) 0) < wait_of at.numbers
     few =
-        let e : length (listed (λ k. None) (replicas at.numbers.n)) ≡ 0 = ap (λ (vs : List ℕ). length vs) (listed_none (replicas at.numbers.n)) in
+        let e : length (listed {X = ℕ} (λ k. None) (replicas at.numbers.n)) ≡ 0 = ap (λ (vs : List ℕ). length vs) (listed_none (replicas at.numbers.n)) in
         let s = stands.session.enough in
         let n = stands.session.some in
         omega (arith, e, s, n)
@@ -106,10 +107,10 @@ proposes at old new w bit before after stands none part line said-is ended decid
     nothing_out : (out : List Say) → [] ≡ [] ++ out → out ≡ []
     nothing_out out e = sym e
 
-    says : says_below at steps [] (Ask (bit_byte bit ∷ [])) ≡ record { slot = step_slot at 0 at.me; value = bit_byte bit ∷ [] } ∷ []
-    says = done.says ∙ ap (λ (out : List Say). (let y : Say = record { slot = step_slot at 0 at.me; value = bit_byte bit ∷ [] } in y ∷ []) ++ out) (nothing_out done.out done.pushed)
+    says : steps_say_below at steps [] (Ask (bit_byte bit ∷ [])) ≡ record { slot = line_slot at 0 at.me; value = bit_byte bit ∷ [] } ∷ []
+    says = done.says ∙ ap (λ (out : List Say). (let y : Say = record { slot = line_slot at 0 at.me; value = bit_byte bit ∷ [] } in y ∷ []) ++ out) (nothing_out done.out done.pushed)
 
-    unheard : old.place.ended ≡ false → AreHeard at old.line.votes w
+    unheard : old.place.ended ≡ false → AreCountsHeard at old.line.votes w
     unheard = stands.heard
 
     is-first : w ≡ []
@@ -119,17 +120,17 @@ proposes at old new w bit before after stands none part line said-is ended decid
     not_ended false h = refl
     not_ended true h = absurd h
 
-    heard-is : AreHeard at new.line.votes (Ask (bit_byte bit ∷ []) ∷ [])
+    heard-is : AreCountsHeard at new.line.votes (Ask (bit_byte bit ∷ []) ∷ [])
     heard-is =
         let unended = not_ended old.place.ended (subst (λ (n : ℕ). IsHere at old.place.ended n w) none stands.here) in
-        let are : AreHeard at old.line.votes [] = subst (λ (x : List Word). AreHeard at old.line.votes x) is-first (stands.heard unended) in
-        subst (λ (h : Heard). AreHeard at h.votes (Ask (bit_byte bit ∷ []) ∷ [])) (sym line) (λ t l. are t l)
+        let are : AreCountsHeard at old.line.votes [] = subst (λ (x : List Word). AreCountsHeard at old.line.votes x) is-first (stands.heard unended) in
+        subst (λ (h : HeardTallies). AreCountsHeard at h.votes (Ask (bit_byte bit ∷ []) ∷ [])) (sym line) (λ t l. are t l)
 
-    empty : Stands new at (Ask (bit_byte bit ∷ []) ∷ []) × (after ≡ before ++ says_below at steps [] (Ask (bit_byte bit ∷ [])))
+    empty : BinaryStands new at (Ask (bit_byte bit ∷ []) ∷ []) × (after ≡ before ++ steps_say_below at steps [] (Ask (bit_byte bit ∷ [])))
     empty = (
       record {
         session = stands.session;
-        part = subst (λ (h : Heard). IsPart new.part h.numbers at) (sym line) (subst (λ (x : Part). IsPart x old.line.numbers at) (sym part) stands.part);
+        part = subst (λ (h : HeardTallies). IsBinaryPart new.part h.numbers at) (sym line) (subst (λ (x : Part). IsBinaryPart x old.line.numbers at) (sym part) stands.part);
         heard = λ unended. heard-is;
         here = done.here;
         decided = done.decided;
@@ -139,8 +140,8 @@ proposes at old new w bit before after stands none part line said-is ended decid
     )
 
 pub takes_proposal : (old new : Bin) (bit : Bool) (before after : List Say) → old.place.said ≡ 0 → new.part ≡ old.part → new.line ≡ old.line → new.place.said ≡ 1
-    → new.place.ended ≡ false → new.place.decided ≡ None → new.live ≡ old.live → after ≡ before ++ record { slot = own_slot old.part 0; value = bit_byte bit ∷ [] } ∷ []
-    → WordTaken Stands binary.says old new (Ask (bit_byte bit ∷ [])) (λ at w. MayPropose w) before after
+    → new.place.ended ≡ false → new.place.decided ≡ None → new.live ≡ old.live → after ≡ before ++ record { slot = own_step_slot old.part 0; value = bit_byte bit ∷ [] } ∷ []
+    → WordTaken BinaryStands binary.says old new (Ask (bit_byte bit ∷ [])) (λ at w. MayPropose w) before after
 takes_proposal old new bit before after none part line said-is ended decided live pushed = record {
   grows = λ at w stands may. (proposes at old new w bit before after stands none part line said-is ended decided live pushed).0;
   made = λ at w stands may. (proposes at old new w bit before after stands none part line said-is ended decided live pushed).1;
@@ -149,21 +150,21 @@ takes_proposal old new bit before after none part line said-is ended decided liv
 -- ---- a vote
 
 -- a box that is over stays so, and says nothing
-over_more : (at : Bench) (t : ℕ) (c : Word) (w : List Word) → IsOver at t w → (says_below at steps w c ≡ []) × (decision at (c ∷ w) ≡ decision at w) × IsOver at t (c ∷ w)
+over_more : (at : Bench) (t : ℕ) (c : Word) (w : List Word) → IsOver at t w → (steps_say_below at steps w c ≡ []) × (binary_decision at (c ∷ w) ≡ binary_decision at w) × IsOver at t (c ∷ w)
 over_more at t c w o =
     let s = stays at t c w o.value o.is_said in
     let left-is : left at t (c ∷ w) ≡ Some o.votes = option_or_older (left at t w) _ o.votes o.is_left in
     let leaves-are : left at t (c ∷ w) ≡ left at t w = left-is ∙ sym o.is_left in
     let next : decided_below at (suc t) (c ∷ w) ≡ decided_below at (suc t) w = ap₂ (λ (d : Option Bool) (l : Option (List ℕ)). option_or d (decides at.numbers t l)) s.1 leaves-are in
-    let quiet : (says_below at steps w c ≡ says_below at (suc t) w c) × (decision at (c ∷ w) ≡ decided_below at (suc t) (c ∷ w)) = elim o.ends [
+    let quiet : (steps_say_below at steps w c ≡ steps_say_below at (suc t) w c) × (binary_decision at (c ∷ w) ≡ decided_below at (suc t) (c ∷ w)) = elim o.ends [
       | inl f ↦
-          let g : said at (suc t) (c ∷ w) ≡ None =
+          let g : vote_said at (suc t) (c ∷ w) ≡ None =
           ap (λ (b : Bool). if b then None else option_map (next_vote at t) (left at t (c ∷ w))) (ap (λ (d : Option Bool). step_of t == 3 && is_some d) s.1 ∙ f) in
           let e = steps_are in
           let below = o.below in
           let r = rest at t c w g steps (omega (arith, e, below)) in
           (r.0, r.2)
-      | inr e ↦ (ap (λ (m : ℕ). says_below at m w c) (sym e), ap (λ (m : ℕ). decided_below at m (c ∷ w)) (sym e))
+      | inr e ↦ (ap (λ (m : ℕ). steps_say_below at m w c) (sym e), ap (λ (m : ℕ). decided_below at m (c ∷ w)) (sym e))
     ] in (
       quiet.0 ∙ says_old at t c w o.value o.is_said,
       quiet.1 ∙ (next ∙ sym o.is_decided),
@@ -178,15 +179,15 @@ over_more at t c w o =
       },
     )
 
-over_here : (at : Bench) (n : ℕ) (c : Word) (w : List Word) → IsHere at true n w → (says_below at steps w c ≡ []) × (decision at (c ∷ w) ≡ decision at w) × IsHere at true n (c ∷ w)
+over_here : (at : Bench) (n : ℕ) (c : Word) (w : List Word) → IsHere at true n w → (steps_say_below at steps w c ≡ []) × (binary_decision at (c ∷ w) ≡ binary_decision at w) × IsHere at true n (c ∷ w)
 over_here at zero c w h = absurd h
 over_here at (suc t) c w h = over_more at t c w h
 
-pub over_stands : (at : Bench) (b new : Bin) (c : Word) (w : List Word) (says : List Say) → new ≡ b → b.place.ended ≡ true → Stands b at w
-    → Stands new at (c ∷ w) × (says ≡ says ++ says_below at steps w c)
+pub over_stands : (at : Bench) (b new : Bin) (c : Word) (w : List Word) (says : List Say) → new ≡ b → b.place.ended ≡ true → BinaryStands b at w
+    → BinaryStands new at (c ∷ w) × (says ≡ says ++ steps_say_below at steps w c)
 over_stands at b new c w says same ended stands =
     let h = over_here at b.place.said c w (subst (λ (e : Bool). IsHere at e b.place.said w) ended stands.here) in (
-      subst (λ (x : Bin). Stands x at (c ∷ w)) (sym same) (record {
+      subst (λ (x : Bin). BinaryStands x at (c ∷ w)) (sym same) (record {
         session = stands.session;
         part = stands.part;
         heard = λ unended. absurd (both_ways _ unended ended);
@@ -206,7 +207,7 @@ no_early_vote at ended w h e =
 -- the slot of a vote is the step's at its origin
 record IsOfStep (at : Bench) (s : Slot) (t : ℕ) : Type 0 where
   below : t < 600
-  slot : s ≡ step_slot at t s.origin
+  slot : s ≡ line_slot at t s.origin
 
 slot_of_step : (at : Bench) (s : Slot) (t : ℕ) → IsStepSlot at s → line_of s ≡ Some t → IsOfStep at s t
 slot_of_step at s t is e =
@@ -237,9 +238,9 @@ limit_three step = go (step == 3)
     go false = omega arith
 
 -- the votes heard with one more
-heard_more : (at : Bench) (b : Bin) (w : List Word) (s : Slot) (t v : ℕ) (line : Heard) → Stands b at w → b.place.ended ≡ false → MayVote binary at w s v
-    → line_of s ≡ Some t → (vote_count (tally_at b.line.votes t) < b.line.numbers.n → v < vote_limit (step_of t) → HearsOne t v b.line line)
-    → AreHeard at line.votes (Hear s (v ∷ []) ∷ w) × (line.numbers ≡ b.line.numbers)
+heard_more : (at : Bench) (b : Bin) (w : List Word) (s : Slot) (t v : ℕ) (line : HeardTallies) → BinaryStands b at w → b.place.ended ≡ false → MayVote binary at w s v
+    → line_of s ≡ Some t → (vote_count (tally_at b.line.votes t) < b.line.numbers.n → v < vote_limit (step_of t) → HearsOneVote t v b.line line)
+    → AreCountsHeard at line.votes (Hear s (v ∷ []) ∷ w) × (line.numbers ≡ b.line.numbers)
 heard_more at b w s t v line stands unended may e hears =
     let is = slot_of_step at s t may.slot e in
     let slot = is.slot in
@@ -250,13 +251,13 @@ heard_more at b w s t v line stands unended may e hears =
     let small : v < vote_limit (step_of t) = subst (λ (k : ℕ). v < vote_limit k) step may.value in
     let one = hears (subst (λ (p : Numbers). vote_count (tally_at b.line.votes t) < p.n) (sym numbers) room) small in
     let three = limit_three (step_of t) in (
-      subst (λ (q : Slot). AreHeard at line.votes (Hear q (v ∷ []) ∷ w)) (sym slot)
+      subst (λ (q : Slot). AreCountsHeard at line.votes (Hear q (v ∷ []) ∷ w)) (sym slot)
           (heard_one_more at b.line line w t s.origin v (stands.heard unended) one is.below may.origin first (omega (arith, small, three))),
       one.numbers,
     )
 
 -- above a step that is not left nothing is decided
-stands_decision : (at : Bench) (t : ℕ) (w : List Word) → StandsAt at t w → (n : ℕ) → t < n → decided_below at n w ≡ decided_below at t w
+stands_decision : (at : Bench) (t : ℕ) (w : List Word) → StandsAtStep at t w → (n : ℕ) → t < n → decided_below at n w ≡ decided_below at t w
 stands_decision at t w s zero l = absurd (omega (arith, l))
 stands_decision at t w s (suc n) l =
     elim (cases_eq n t) [
@@ -270,20 +271,20 @@ stands_decision at t w s (suc n) l =
     ]
 
 pub vote_stands : (at : Bench) (b new : Bin) (w : List Word) (s : Slot) (t v : ℕ) (bits : Slot → Bool) (place : Place) (before after out : List Say)
-    → Stands b at w → b.place.ended ≡ false → (b.place.said ≡ 0 → ⊥) → IsCoin at.coin bits → MayVote binary at w s v → line_of s ≡ Some t
-    → (vote_count (tally_at b.line.votes t) < b.line.numbers.n → v < vote_limit (step_of t) → HearsOne t v b.line new.line)
-    → new.part ≡ b.part → new.live ≡ b.live → GoesOn b.part new.line bits b.place [] out new.place → after ≡ before ++ out
-    → Stands new at (Hear s (v ∷ []) ∷ w) × (after ≡ before ++ says_below at steps w (Hear s (v ∷ [])))
+    → BinaryStands b at w → b.place.ended ≡ false → (b.place.said ≡ 0 → ⊥) → IsCoin at.coin bits → MayVote binary at w s v → line_of s ≡ Some t
+    → (vote_count (tally_at b.line.votes t) < b.line.numbers.n → v < vote_limit (step_of t) → HearsOneVote t v b.line new.line)
+    → new.part ≡ b.part → new.live ≡ b.live → LineGoesOn b.part new.line bits b.place [] out new.place → after ≡ before ++ out
+    → BinaryStands new at (Hear s (v ∷ []) ∷ w) × (after ≡ before ++ steps_say_below at steps w (Hear s (v ∷ [])))
 vote_stands at b new w s t v bits place before after out stands unended some tosses may e hears part live goes pushed = go b.place.said refl stands.here
   where
     go : (n : ℕ) → b.place.said ≡ n → IsHere at b.place.ended b.place.said w
-        → Stands new at (Hear s (v ∷ []) ∷ w) × (after ≡ before ++ says_below at steps w (Hear s (v ∷ [])))
+        → BinaryStands new at (Hear s (v ∷ []) ∷ w) × (after ≡ before ++ steps_say_below at steps w (Hear s (v ∷ [])))
     go zero q here = absurd (some q)
     go (suc start) q here =
         let heard = heard_more at b w s t v new.line stands unended may e hears in
-        let at-start : StandsAt at start w = subst (λ (n : ℕ). IsHere at false n w) q (subst (λ (f : Bool). IsHere at f b.place.said w) unended here) in
+        let at-start : StandsAtStep at start w = subst (λ (n : ℕ). IsHere at false n w) q (subst (λ (f : Bool). IsHere at f b.place.said w) unended here) in
         let begun = begins at start (Hear s (v ∷ [])) w at-start in
-        let is : IsPart b.part new.line.numbers at = subst (λ (p : Numbers). IsPart b.part p at) (sym heard.1) stands.part in
+        let is : IsBinaryPart b.part new.line.numbers at = subst (λ (p : Numbers). IsBinaryPart b.part p at) (sym heard.1) stands.part in
         let all = steps_are in
         let below = at-start.below in
         let known : b.place.decided ≡ decided_below at start (Hear s (v ∷ []) ∷ w) =
@@ -291,7 +292,7 @@ vote_stands at b new w s t v bits place before after out stands unended some tos
         let done = goes at (Hear s (v ∷ [])) w start is tosses heard.0 q below begun.0 known in (
           record {
             session = stands.session;
-            part = subst (λ (x : Part). IsPart x new.line.numbers at) (sym part) is;
+            part = subst (λ (x : Part). IsBinaryPart x new.line.numbers at) (sym part) is;
             heard = λ still. heard.0;
             here = done.here;
             decided = done.decided;

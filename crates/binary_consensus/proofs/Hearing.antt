@@ -17,11 +17,12 @@ use Rattle.bracha_validation.specs.declared.tally.Tally.{Tally}
 use Rattle.bracha_validation.specs.Votes.{votes, may_give}
 use Rattle.bracha_validation.specs.Tallies.{vote_count, tally_votes, IsTally, DependsOnCounts}
 use Rattle.bracha_validation.specs.PickLaws.{one_more}
-use Rattle.binary_consensus.specs.Steps.{step_of, step_slot, vote_heard, heard, passed, push, listed, accepted}
-use Rattle.binary_consensus.specs.Laws.Acceptance.{holds, count_listed}
+use Rattle.ritas_base.specs.Places.{push, listed}
+use Rattle.binary_consensus.specs.Steps.{step_of, line_slot, vote_heard, heard, passed_vote, accepted}
+use Rattle.binary_consensus.specs.Laws.Acceptance.{has_passing_vote, count_listed}
 use Rattle.binary_consensus.specs.Laws.OneBit.{one_step}
-use Rattle.binary_consensus.specs.Counts.{kept, taken, tally_at, counted, with_vote, Heard, HearsOne}
-use Rattle.binary_consensus.specs.Going.{AreHeard}
+use Rattle.binary_consensus.specs.Counts.{count_kept, tally_taken, tally_at, accepted_tally, with_vote, HeardTallies, HearsOneVote}
+use Rattle.binary_consensus.specs.Going.{AreCountsHeard}
 
 -- ---- what is accepted, by counts
 
@@ -46,71 +47,71 @@ length_four (x ∷ xs) = go (x == 0) (x == 1) (x == 2) refl refl refl (one_more 
     go false false true p q r i j k l e = omega arith
     go false false false p q r i j k l e = omega arith
 
-holds_passed : (s test : ℕ → Bool) (o : Option ℕ) → holds s (passed test o) ≡ true → holds s o ≡ true
+holds_passed : (s test : ℕ → Bool) (o : Option ℕ) → has_passing_vote s (passed_vote test o) ≡ true → has_passing_vote s o ≡ true
 holds_passed s test None q = absurd cc
 holds_passed s test (Some v) q = go (test v) q
   where
-    go : (b : Bool) → holds s (if b then Some v else None) ≡ true → s v ≡ true
+    go : (b : Bool) → has_passing_vote s (if b then Some v else None) ≡ true → s v ≡ true
     go true q = q
     go false q = absurd cc
 
-passes_all : (v : ℕ) (test : ℕ → Bool) → test v ≡ true → (o : Option ℕ) → holds (λ x. x == v) (passed test o) ≡ holds (λ x. x == v) o
+passes_all : (v : ℕ) (test : ℕ → Bool) → test v ≡ true → (o : Option ℕ) → has_passing_vote (λ x. x == v) (passed_vote test o) ≡ has_passing_vote (λ x. x == v) o
 passes_all v test t None = refl
 passes_all v test t (Some x) = go (test x) refl
   where
-    go : (b : Bool) → test x ≡ b → holds (λ y. y == v) (if b then Some x else None) ≡ (x == v)
+    go : (b : Bool) → test x ≡ b → has_passing_vote (λ y. y == v) (if b then Some x else None) ≡ (x == v)
     go true e = refl
     go false e = sym (false_from_ne_true _ (λ q. both_ways (test x) e (subst (λ (y : ℕ). test y ≡ true) (sym (eqb-true x v q)) t)))
 
-passes_none : (v : ℕ) (test : ℕ → Bool) → test v ≡ false → (o : Option ℕ) → holds (λ x. x == v) (passed test o) ≡ true → ⊥
+passes_none : (v : ℕ) (test : ℕ → Bool) → test v ≡ false → (o : Option ℕ) → has_passing_vote (λ x. x == v) (passed_vote test o) ≡ true → ⊥
 passes_none v test t None q = absurd cc
 passes_none v test t (Some x) q = go (test x) refl q
   where
-    go : (b : Bool) → test x ≡ b → holds (λ y. y == v) (if b then Some x else None) ≡ true → ⊥
+    go : (b : Bool) → test x ≡ b → has_passing_vote (λ y. y == v) (if b then Some x else None) ≡ true → ⊥
     go true e q = both_ways (test v) t (subst (λ (y : ℕ). test y ≡ true) (eqb-true x v q) e)
     go false e q = absurd cc
 
 -- of the votes of one value all are accepted or none
-votes_passed : (v : ℕ) (test : ℕ → Bool) (a : ℕ → Option ℕ) (ks : List ℕ) → votes v (listed (λ k. passed test (a k)) ks) ≡ kept (test v) (votes v (listed a ks))
+votes_passed : (v : ℕ) (test : ℕ → Bool) (a : ℕ → Option ℕ) (ks : List ℕ) → votes v (listed (λ k. passed_vote test (a k)) ks) ≡ count_kept (test v) (votes v (listed a ks))
 votes_passed v test a ks =
-    let here = count_listed (λ x. x == v) (λ k. passed test (a k)) ks in
+    let here = count_listed (λ x. x == v) (λ k. passed_vote test (a k)) ks in
     let all = count_listed (λ x. x == v) a ks in
     elim (cases_Bool (test v)) [
-      | inl t ↦ here ∙ (count_same _ _ (λ k. passes_all v test t (a k)) ks ∙ (sym all ∙ sym (ap (λ (b : Bool). kept b (votes v (listed a ks))) t)))
-      | inr f ↦ here ∙ (count_none _ ks (λ k q. passes_none v test f (a k) q) ∙ sym (ap (λ (b : Bool). kept b (votes v (listed a ks))) f))
+      | inl t ↦ here ∙ (count_same _ _ (λ k. passes_all v test t (a k)) ks ∙ (sym all ∙ sym (ap (λ (b : Bool). count_kept b (votes v (listed a ks))) t)))
+      | inr f ↦ here ∙ (count_none _ ks (λ k q. passes_none v test f (a k) q) ∙ sym (ap (λ (b : Bool). count_kept b (votes v (listed a ks))) f))
     ]
 
-others_passed : (test : ℕ → Bool) (a : ℕ → Option ℕ) (ks : List ℕ) → count_by is_other (listed (λ k. passed test (a k)) ks) ≤ count_by is_other (listed a ks)
+others_passed : (test : ℕ → Bool) (a : ℕ → Option ℕ) (ks : List ℕ) → count_by is_other (listed (λ k. passed_vote test (a k)) ks) ≤ count_by is_other (listed a ks)
 others_passed test a ks =
-    let here = count_listed is_other (λ k. passed test (a k)) ks in
+    let here = count_listed is_other (λ k. passed_vote test (a k)) ks in
     let all = count_listed is_other a ks in
-    let more = count_more (λ k. holds is_other (passed test (a k))) (λ k. holds is_other (a k)) (λ k q. holds_passed is_other test (a k) q) ks in
+    let more = count_more (λ k. has_passing_vote is_other (passed_vote test (a k))) (λ k. has_passing_vote is_other (a k)) (λ k q. holds_passed is_other test (a k) q) ks in
     omega (arith, here, all, more)
 
-kept_votes : (b : Bool) (n m : ℕ) → n ≡ m → kept b n ≡ kept b m
-kept_votes b n m e = ap (kept b) e
+kept_votes : (b : Bool) (n m : ℕ) → n ≡ m → count_kept b n ≡ count_kept b m
+kept_votes b n m e = ap (count_kept b) e
 
 taken_tally : DependsOnCounts → (p : Numbers) (t : ℕ) (before heard : Tally) (vs : List ℕ) (a : ℕ → Option ℕ) (ks : List ℕ) → IsTally before vs → IsTally heard (listed a ks)
-    → IsTally (taken p (suc t) before heard) (listed (λ k. passed (λ v. may_give p (step_of t) v vs) (a k)) ks)
+    → IsTally (tally_taken p (suc t) before heard) (listed (λ k. passed_vote (λ v. may_give p (step_of t) v vs) (a k)) ks)
 taken_tally alone p t before heard vs a ks is tally =
     let test : ℕ → Bool = λ v. may_give p (step_of t) v vs in
-    let value : (v n : ℕ) → votes v (listed a ks) ≡ n → votes v (listed (λ k. passed test (a k)) ks) ≡ kept (may_give p (step_of t) v (tally_votes before)) n =
-    λ v n e. votes_passed v test a ks ∙ (ap (kept (test v)) e ∙ ap (λ (b : Bool). kept b n) (alone p (step_of t) v before vs is)) in
+    let value : (v n : ℕ) → votes v (listed a ks) ≡ n → votes v (listed (λ k. passed_vote test (a k)) ks) ≡ count_kept (may_give p (step_of t) v (tally_votes before)) n =
+    λ v n e. votes_passed v test a ks ∙ (ap (count_kept (test v)) e ∙ ap (λ (b : Bool). count_kept b n) (alone p (step_of t) v before vs is)) in
     let z = value 0 heard.zeros tally.zeros in
     let o = value 1 heard.ones tally.ones in
     let u = value 2 heard.nones tally.nones in
-    let all = length_four (listed (λ k. passed test (a k)) ks) in
+    let all = length_four (listed (λ k. passed_vote test (a k)) ks) in
     let some = others_passed test a ks in
     let rest = length_four (listed a ks) in
     let tz = tally.zeros in let to = tally.ones in let tu = tally.nones in let ta = tally.all in
     record { zeros = z; ones = o; nones = u; all = omega (arith, z, o, u, all, some, rest, tz, to, tu, ta) }
 
 -- the counts of what is accepted
-pub counted_tally : DependsOnCounts → (at : Bench) (hs : List Tally) (w : List Word) → AreHeard at hs w → (t : ℕ) → t < 600
-    → IsTally (counted at.numbers hs t) (accepted at.numbers (heard at w) t)
+pub counted_tally : DependsOnCounts → (at : Bench) (hs : List Tally) (w : List Word) → AreCountsHeard at hs w → (t : ℕ) → t < 600
+    → IsTally (accepted_tally at.numbers hs t) (accepted at.numbers (heard at w) t)
 counted_tally alone at hs w are zero l = are zero l
 counted_tally alone at hs w are (suc t) l =
-    taken_tally alone at.numbers t (counted at.numbers hs t) (tally_at hs (suc t)) (accepted at.numbers (heard at w) t) (heard at w (suc t)) (replicas at.numbers.n)
+    taken_tally alone at.numbers t (accepted_tally at.numbers hs t) (tally_at hs (suc t)) (accepted at.numbers (heard at w) t) (heard at w (suc t)) (replicas at.numbers.n)
     (counted_tally alone at hs w are t (omega arith)) (are (suc t) l)
 
 -- ---- one more vote
@@ -198,55 +199,55 @@ more_tally t (suc (suc (suc v))) n a b l more is = absurd (omega (arith, l))
 
 -- ---- a word that hears
 
-heard_now : (at : Bench) (w : List Word) (t k v : ℕ) → is_heard w (step_slot at t k) ≡ false → heard at (Hear (step_slot at t k) (v ∷ []) ∷ w) t k ≡ Some v
+heard_now : (at : Bench) (w : List Word) (t k v : ℕ) → is_heard w (line_slot at t k) ≡ false → heard at (Hear (line_slot at t k) (v ∷ []) ∷ w) t k ≡ Some v
 heard_now at w t k v first =
-    ap vote_heard (ap₂ (λ (o : Option (List ℕ)) (b : Bool). option_or o (if b then Some (v ∷ []) else None)) (unheard w (step_slot at t k) first) (slot_itself (step_slot at t k)))
+    ap vote_heard (ap₂ (λ (o : Option (List ℕ)) (b : Bool). option_or o (if b then Some (v ∷ []) else None)) (unheard w (line_slot at t k) first) (slot_itself (line_slot at t k)))
 
-heard_still : (at : Bench) (w : List Word) (t k s j v : ℕ) → (step_slot at t k ≡ step_slot at s j → ⊥) → heard at (Hear (step_slot at t k) (v ∷ []) ∷ w) s j ≡ heard at w s j
+heard_still : (at : Bench) (w : List Word) (t k s j v : ℕ) → (line_slot at t k ≡ line_slot at s j → ⊥) → heard at (Hear (line_slot at t k) (v ∷ []) ∷ w) s j ≡ heard at w s j
 heard_still at w t k s j v ne =
     ap vote_heard
-    (ap (λ (b : Bool). option_or (value_at w (step_slot at s j)) (if b then Some (v ∷ []) else None)) (false_from_ne_true _ (λ e. ne (same_slot _ _ e)))
-    ∙ option_or_none (value_at w (step_slot at s j)))
+    (ap (λ (b : Bool). option_or (value_at w (line_slot at s j)) (if b then Some (v ∷ []) else None)) (false_from_ne_true _ (λ e. ne (same_slot _ _ e)))
+    ∙ option_or_none (value_at w (line_slot at s j)))
 
 listed_all : (a b : ℕ → Option ℕ) → ((k : ℕ) → b k ≡ a k) → (ks : List ℕ) → listed b ks ≡ listed a ks
 listed_all a b e [] = refl
 listed_all a b e (k ∷ ks) = ap₂ push (e k) (listed_all a b e ks)
 
 -- there was room for a vote that was not heard
-pub heard_room : (at : Bench) (hs : List Tally) (w : List Word) (t k v : ℕ) → AreHeard at hs w → t < 600 → k < at.numbers.n → is_heard w (step_slot at t k) ≡ false
+pub heard_room : (at : Bench) (hs : List Tally) (w : List Word) (t k v : ℕ) → AreCountsHeard at hs w → t < 600 → k < at.numbers.n → is_heard w (line_slot at t k) ≡ false
     → vote_count (tally_at hs t) < at.numbers.n
 heard_room at hs w t k v are l within first =
-    let more = listed_more (heard at w t) (heard at (Hear (step_slot at t k) (v ∷ []) ∷ w) t) k v at.numbers.n (one_more_heard at w t k v first) within in
+    let more = listed_more (heard at w t) (heard at (Hear (line_slot at t k) (v ∷ []) ∷ w) t) k v at.numbers.n (one_more_heard at w t k v first) within in
     let all = (are t l).all in
     let room = more.room in
     omega (arith, all, room)
   where
-    one_more_heard : (at : Bench) (w : List Word) (t k v : ℕ) → is_heard w (step_slot at t k) ≡ false
-        → IsOneMore (heard at w t) (heard at (Hear (step_slot at t k) (v ∷ []) ∷ w) t) k v
+    one_more_heard : (at : Bench) (w : List Word) (t k v : ℕ) → is_heard w (line_slot at t k) ≡ false
+        → IsOneMore (heard at w t) (heard at (Hear (line_slot at t k) (v ∷ []) ∷ w) t) k v
     one_more_heard at w t k v first = record {
-      none_before = ap vote_heard (unheard w (step_slot at t k) first);
+      none_before = ap vote_heard (unheard w (line_slot at t k) first);
       some_after = heard_now at w t k v first;
       others = λ j ne. heard_still at w t k t j v (λ e. ne (sym (ap (λ (q : Slot). q.origin) e)));
     }
 
-pub heard_one_more : (at : Bench) (old new : Heard) (w : List Word) (t k v : ℕ) → AreHeard at old.votes w → HearsOne t v old new → t < 600 → k < at.numbers.n
-    → is_heard w (step_slot at t k) ≡ false → v < 3 → AreHeard at new.votes (Hear (step_slot at t k) (v ∷ []) ∷ w)
+pub heard_one_more : (at : Bench) (old new : HeardTallies) (w : List Word) (t k v : ℕ) → AreCountsHeard at old.votes w → HearsOneVote t v old new → t < 600 → k < at.numbers.n
+    → is_heard w (line_slot at t k) ≡ false → v < 3 → AreCountsHeard at new.votes (Hear (line_slot at t k) (v ∷ []) ∷ w)
 heard_one_more at old new w t k v are hears l within first small s ls =
     elim (cases_eq s t) [
-      | inl same ↦ subst (λ (r : ℕ). IsTally (tally_at new.votes r) (listed (heard at (Hear (step_slot at t k) (v ∷ []) ∷ w) r) (replicas at.numbers.n))) (sym same)
-          (subst (λ (x : Tally). IsTally x (listed (heard at (Hear (step_slot at t k) (v ∷ []) ∷ w) t) (replicas at.numbers.n))) (sym hears.here)
-          (more_tally (tally_at old.votes t) v at.numbers.n (heard at w t) (heard at (Hear (step_slot at t k) (v ∷ []) ∷ w) t) small
-          (listed_more (heard at w t) (heard at (Hear (step_slot at t k) (v ∷ []) ∷ w) t) k v at.numbers.n one within) (are t l)))
+      | inl same ↦ subst (λ (r : ℕ). IsTally (tally_at new.votes r) (listed (heard at (Hear (line_slot at t k) (v ∷ []) ∷ w) r) (replicas at.numbers.n))) (sym same)
+          (subst (λ (x : Tally). IsTally x (listed (heard at (Hear (line_slot at t k) (v ∷ []) ∷ w) t) (replicas at.numbers.n))) (sym hears.here)
+          (more_tally (tally_at old.votes t) v at.numbers.n (heard at w t) (heard at (Hear (line_slot at t k) (v ∷ []) ∷ w) t) small
+          (listed_more (heard at w t) (heard at (Hear (line_slot at t k) (v ∷ []) ∷ w) t) k v at.numbers.n one within) (are t l)))
       | inr other ↦
-          let votes : listed (heard at (Hear (step_slot at t k) (v ∷ []) ∷ w) s) (replicas at.numbers.n) ≡ listed (heard at w s) (replicas at.numbers.n) =
-          listed_all (heard at w s) (heard at (Hear (step_slot at t k) (v ∷ []) ∷ w) s) (λ j. heard_still at w t k s j v (λ e. other (sym (one_step at t s k j e)))) (replicas at.numbers.n) in
-          subst (λ (x : Tally). IsTally x (listed (heard at (Hear (step_slot at t k) (v ∷ []) ∷ w) s) (replicas at.numbers.n))) (sym (hears.others s other))
+          let votes : listed (heard at (Hear (line_slot at t k) (v ∷ []) ∷ w) s) (replicas at.numbers.n) ≡ listed (heard at w s) (replicas at.numbers.n) =
+          listed_all (heard at w s) (heard at (Hear (line_slot at t k) (v ∷ []) ∷ w) s) (λ j. heard_still at w t k s j v (λ e. other (sym (one_step at t s k j e)))) (replicas at.numbers.n) in
+          subst (λ (x : Tally). IsTally x (listed (heard at (Hear (line_slot at t k) (v ∷ []) ∷ w) s) (replicas at.numbers.n))) (sym (hears.others s other))
           (subst (λ (vs : List ℕ). IsTally (tally_at old.votes s) vs) (sym votes) (are s ls))
     ]
   where
-    one : IsOneMore (heard at w t) (heard at (Hear (step_slot at t k) (v ∷ []) ∷ w) t) k v
+    one : IsOneMore (heard at w t) (heard at (Hear (line_slot at t k) (v ∷ []) ∷ w) t) k v
     one = record {
-      none_before = ap vote_heard (unheard w (step_slot at t k) first);
+      none_before = ap vote_heard (unheard w (line_slot at t k) first);
       some_after = heard_now at w t k v first;
       others = λ j ne. heard_still at w t k t j v (λ e. ne (sym (ap (λ (q : Slot). q.origin) e)));
     }

@@ -7,14 +7,14 @@ use Rattle.bracha_validation.specs.declared.tally.Tally.{Tally}
 use Rattle.bracha_validation.specs.Tallies.{vote_count, tally_votes}
 use Rattle.bracha_validation.specs.Votes.{may_give}
 use Rattle.binary_consensus.specs.Steps.{step_of}
-use Rattle.binary_consensus.specs.Counts.{none, kept, taken, tally_at, counted, with_vote, HearsOne, HearsRow, row, heards, before_row, IsSmall, AreSmall, IsSettledAt, IsLine, IsLineBut}
+use Rattle.binary_consensus.specs.Counts.{none, count_kept, tally_taken, tally_at, accepted_tally, with_vote, HearsOneVote, HearsRow, row, heards, before_row, IsSmall, AreSmall, IsSettledAt, IsLine, IsLineBut}
 use Rattle.binary_consensus.specs.declared.line.StepVotes.{StepVotes}
 
-kept_less : (b : Bool) (n : ℕ) → kept b n ≤ n
+kept_less : (b : Bool) (n : ℕ) → count_kept b n ≤ n
 kept_less true n = omega arith
 kept_less false n = omega arith
 
-taken_small : (p : Numbers) (t : ℕ) (before heard : Tally) → IsSmall p t heard → IsSmall p t (taken p t before heard)
+taken_small : (p : Numbers) (t : ℕ) (before heard : Tally) → IsSmall p t heard → IsSmall p t (tally_taken p t before heard)
 taken_small p zero before heard small = small
 taken_small p (suc t) before heard small =
     let z = kept_less (may_give p (step_of t) 0 (tally_votes before)) heard.zeros in
@@ -80,25 +80,25 @@ before_kept rows t (suc s) votes ne = ap (λ (r : StepVotes). r.accepted) (row_o
 
 -- the accepted votes of a step brought up to date
 pub settled_next : (p : Numbers) (rows : List StepVotes) (t : ℕ) (votes : Tally) → t < length rows → IsLineBut p t rows
-    → votes ≡ taken p t (before_row rows t) (row rows t).heard → IsLineBut p (suc t) (with_accepted rows t votes)
+    → votes ≡ tally_taken p t (before_row rows t) (row rows t).heard → IsLineBut p (suc t) (with_accepted rows t votes)
 settled_next p rows t votes l line e = record {
   small = λ s. subst (λ (v : Tally). IsSmall p s v) (sym (heard_kept rows t s votes l)) (line.small s);
   settled = λ s ne. elim (cases_eq s t) [
     | inl same ↦ subst (λ (r : ℕ). IsSettledAt p (with_accepted rows t votes) r) (sym same)
         (ap (λ (r : StepVotes). r.accepted) (row_same rows t votes l)
-        ∙ (e ∙ sym (ap₂ (taken p t) (before_kept rows t t votes (λ q. omega (arith, q))) (heard_kept rows t t votes l))))
+        ∙ (e ∙ sym (ap₂ (tally_taken p t) (before_kept rows t t votes (λ q. omega (arith, q))) (heard_kept rows t t votes l))))
     | inr other ↦
         ap (λ (r : StepVotes). r.accepted) (row_other rows t s votes other)
-        ∙ (line.settled s other ∙ sym (ap₂ (taken p s) (before_kept rows t s votes ne) (heard_kept rows t s votes l)))
+        ∙ (line.settled s other ∙ sym (ap₂ (tally_taken p s) (before_kept rows t s votes ne) (heard_kept rows t s votes l)))
   ];
 }
 
-kept_none : (b : Bool) → kept b 0 ≡ 0
+kept_none : (b : Bool) → count_kept b 0 ≡ 0
 kept_none true = refl
 kept_none false = refl
 
 -- of no votes none are accepted
-pub taken_none : (p : Numbers) (t : ℕ) (before : Tally) → none ≡ taken p t before none
+pub taken_none : (p : Numbers) (t : ℕ) (before : Tally) → none ≡ tally_taken p t before none
 taken_none p zero before = refl
 taken_none p (suc t) before =
     let z = kept_none (may_give p (step_of t) 0 (tally_votes before)) in
@@ -114,7 +114,7 @@ get_past (x ∷ xs) (suc k) d l = get_past xs k d (omega arith)
 -- past the end nothing is to be done
 pub settled_end : (p : Numbers) (rows : List StepVotes) (t : ℕ) → length rows ≤ t → IsLineBut p t rows → IsLine p rows
 settled_end p rows t l line =
-    settled_here p rows t line (subst (λ (r : StepVotes). r.accepted ≡ taken p t (before_row rows t) r.heard) (sym (get_past rows t blank l)) (taken_none p t (before_row rows t)))
+    settled_here p rows t line (subst (λ (r : StepVotes). r.accepted ≡ tally_taken p t (before_row rows t) r.heard) (sym (get_past rows t blank l)) (taken_none p t (before_row rows t)))
 
 row_heard : (rows : List StepVotes) (t : ℕ) → tally_at (heards rows) t ≡ (row rows t).heard
 row_heard [] t = refl
@@ -122,9 +122,9 @@ row_heard (r ∷ rows) zero = refl
 row_heard (r ∷ rows) (suc t) = row_heard rows t
 
 -- the accepted votes that are kept are those that count
-pub accepted_counted : (p : Numbers) (rows : List StepVotes) (t : ℕ) → IsLine p rows → (row rows t).accepted ≡ counted p (heards rows) t
+pub accepted_counted : (p : Numbers) (rows : List StepVotes) (t : ℕ) → IsLine p rows → (row rows t).accepted ≡ accepted_tally p (heards rows) t
 accepted_counted p rows zero line = line.settled zero ∙ sym (row_heard rows zero)
-accepted_counted p rows (suc t) line = line.settled (suc t) ∙ ap₂ (taken p (suc t)) (accepted_counted p rows t line) (sym (row_heard rows (suc t)))
+accepted_counted p rows (suc t) line = line.settled (suc t) ∙ ap₂ (tally_taken p (suc t)) (accepted_counted p rows t line) (sym (row_heard rows (suc t)))
 
 pub before_first : (rows : List StepVotes) (t : ℕ) → t ≡ 0 → none ≡ before_row rows t
 before_first rows zero e = refl
@@ -173,7 +173,7 @@ heard_but p rows t v l line few small = record {
   ];
   settled = λ s ne.
       accepted_same rows t s (with_vote v (row rows t).heard) l
-      ∙ (line.settled s ∙ sym (ap₂ (taken p s) (before_same rows t s (with_vote v (row rows t).heard) l) (heard_other rows t s (with_vote v (row rows t).heard) ne)));
+      ∙ (line.settled s ∙ sym (ap₂ (tally_taken p s) (before_same rows t s (with_vote v (row rows t).heard) l) (heard_other rows t s (with_vote v (row rows t).heard) ne)));
 }
 
 heards_row : (old new : List StepVotes) → heards new ≡ heards old → (t : ℕ) → (row new t).heard ≡ (row old t).heard
@@ -213,14 +213,14 @@ pub same_line : (p : Numbers) (rows new : List StepVotes) → ((t : ℕ) → row
 same_line p rows new e line = record {
   small = λ t. subst (λ (r : StepVotes). IsSmall p t r.heard) (sym (e t)) (line.small t);
   settled = λ t. ap (λ (r : StepVotes). r.accepted) (e t)
-      ∙ (line.settled t ∙ sym (ap₂ (taken p t) (same_before rows new e t) (ap (λ (r : StepVotes). r.heard) (e t))));
+      ∙ (line.settled t ∙ sym (ap₂ (tally_taken p t) (same_before rows new e t) (ap (λ (r : StepVotes). r.heard) (e t))));
 }
 
 -- what is heard in the end
 pub hears_one : (p : Numbers) (rows more new : List StepVotes) (t v : ℕ) → ((s : ℕ) → row more s ≡ row rows s)
     → (vote_count (row more t).heard < p.n → v < vote_limit (step_of t) → HearsRow t v more new)
     → vote_count (tally_at (heards rows) t) < p.n → v < vote_limit (step_of t)
-    → HearsOne t v (record { numbers = p; votes = heards rows }) (record { numbers = p; votes = heards new })
+    → HearsOneVote t v (record { numbers = p; votes = heards rows }) (record { numbers = p; votes = heards new })
 hears_one p rows more new t v same hears few small =
     let old : (s : ℕ) → (row more s).heard ≡ tally_at (heards rows) s = λ s. ap (λ (r : StepVotes). r.heard) (same s) ∙ sym (row_heard rows s) in
     let h = hears (subst (λ (x : Tally). vote_count x < p.n) (sym (old t)) few) small in

@@ -8,13 +8,13 @@ use Rattle.ritas_base.specs.Shortest.{at_shortest}
 use Rattle.layer_api.specs.Words.{Word, Ask, Hear, bit_byte}
 use Rattle.layer_api.specs.Binary.{Bench, BinaryRules}
 use Rattle.bracha_validation.specs.Votes.{votes, rule}
-use Rattle.binary_consensus.specs.Steps.{step_of, step_slot, vote_in, heard, accepted}
+use Rattle.binary_consensus.specs.Steps.{step_of, line_slot, vote_in, heard, accepted}
 
 -- the bit that was proposed, as a vote
-abbrev pub proposal : List Word → Option ℕ
-proposal [] = None
-proposal (Ask value ∷ w) = option_or (proposal w) (vote_in value)
-proposal (Hear s value ∷ w) = proposal w
+abbrev pub proposed_vote : List Word → Option ℕ
+proposed_vote [] = None
+proposed_vote (Ask value ∷ w) = option_or (proposed_vote w) (vote_in value)
+proposed_vote (Hear s value ∷ w) = proposed_vote w
 
 -- the votes that are accepted at a step, where it is said and they are n - f at least
 abbrev pub enough_at : Bench → ℕ → (List Word → Option ℕ) → List Word → Option (List ℕ)
@@ -23,23 +23,23 @@ enough_at at t said w =
     if is_some (said w) && nat_le (wait_of at.numbers) (length vs) then Some vs else None
 
 -- a step is left at the shortest prefix in which it is said and has n - f accepted votes, and with all of those
-abbrev pub left_by : Bench → ℕ → (List Word → Option ℕ) → List Word → Option (List ℕ)
-left_by at t said w = at_shortest (enough_at at t said) w
+abbrev pub step_left_by : Bench → ℕ → (List Word → Option ℕ) → List Word → Option (List ℕ)
+step_left_by at t said w = at_shortest (enough_at at t said) w
 
 -- what is said after a step that is left with these votes: what its rule gives, or the coin's toss
 abbrev pub next_vote : Bench → ℕ → List ℕ → ℕ
-next_vote at t vs = unwrap_or (rule at.numbers (step_of t) vs) (bit_byte (at.coin (step_slot at t at.me)))
+next_vote at t vs = unwrap_or (rule at.numbers (step_of t) vs) (bit_byte (at.coin (line_slot at t at.me)))
 
 -- what a step that is left with these votes decides: in step 3 a bit with 2f + 1 votes
-abbrev pub verdict : Numbers → ℕ → List ℕ → Option Bool
-verdict p step vs =
+abbrev pub step_verdict : Numbers → ℕ → List ℕ → Option Bool
+step_verdict p step vs =
     if step == 3 then
     if nat_le (deliver_of p) (votes 0 vs) then Some false else if nat_le (deliver_of p) (votes 1 vs) then Some true else None
     else None
 
 abbrev pub decides : Numbers → ℕ → Option (List ℕ) → Option Bool
 decides p t None = None
-decides p t (Some vs) = verdict p (step_of t) vs
+decides p t (Some vs) = step_verdict p (step_of t) vs
 
 -- what is said at the step after this one, by what is decided so far and what this one was left with
 abbrev pub next_said : Bench → ℕ → Option Bool → Option (List ℕ) → Option ℕ
@@ -52,29 +52,29 @@ pub record Stage : Type 0 where
 
 -- at the first step the proposal is said; no round follows one that is over where a round before it decided
 abbrev pub stage : Bench → ℕ → Stage
-stage at zero = record { said = proposal; decided = λ w. None }
+stage at zero = record { said = proposed_vote; decided = λ w. None }
 stage at (suc t) =
     let before = stage at t in
     record {
-      said = λ w. if step_of t == 3 && is_some (before.decided w) then None else option_map (next_vote at t) (left_by at t before.said w);
-      decided = λ w. option_or (before.decided w) (decides at.numbers t (left_by at t before.said w));
+      said = λ w. if step_of t == 3 && is_some (before.decided w) then None else option_map (next_vote at t) (step_left_by at t before.said w);
+      decided = λ w. option_or (before.decided w) (decides at.numbers t (step_left_by at t before.said w));
     }
 
 -- the vote that is said at a step
-abbrev pub said : Bench → ℕ → List Word → Option ℕ
-said at t w = (stage at t).said w
+abbrev pub vote_said : Bench → ℕ → List Word → Option ℕ
+vote_said at t w = (stage at t).said w
 
 -- the votes that a step is left with
 abbrev pub left : Bench → ℕ → List Word → Option (List ℕ)
-left at t w = left_by at t (stage at t).said w
+left at t w = step_left_by at t (stage at t).said w
 
 -- what the steps below this one decide
 abbrev pub decided_below : Bench → ℕ → List Word → Option Bool
 decided_below at t w = (stage at t).decided w
 
 -- rounds, steps of the line, and the last of those
-unfoldable pub rounds : ℕ
-rounds = 200
+unfoldable pub binary_rounds : ℕ
+binary_rounds = 200
 
 unfoldable pub steps : ℕ
 steps = 600
@@ -82,33 +82,33 @@ steps = 600
 unfoldable pub last_step : ℕ
 last_step = 599
 
-abbrev pub decision : Bench → List Word → Option Bool
-decision at w = decided_below at steps w
+abbrev pub binary_decision : Bench → List Word → Option Bool
+binary_decision at w = decided_below at steps w
 
 -- the last step is left, and nothing is decided
 abbrev pub over : Bench → List Word → Bool
-over at w = is_some (left at last_step w) && not (is_some (decision at w))
+over at w = is_some (left at last_step w) && not (is_some (binary_decision at w))
 
 -- the greatest of so many rounds whose first step is said, or 0
 abbrev pub round_below : Bench → ℕ → List Word → ℕ
 round_below at zero w = 0
-round_below at (suc r) w = if is_some (said at (3 * r) w) then suc r else round_below at r w
+round_below at (suc r) w = if is_some (vote_said at (3 * r) w) then suc r else round_below at r w
 
 -- a broadcast to start, where something is said that was not said before
-abbrev pub newly : Slot → Option ℕ → Option ℕ → List Say
-newly s before None = []
-newly s (Some u) (Some v) = []
-newly s None (Some v) = record { slot = s; value = v ∷ [] } ∷ []
+abbrev pub newly_voted : Slot → Option ℕ → Option ℕ → List Say
+newly_voted s before None = []
+newly_voted s (Some u) (Some v) = []
+newly_voted s None (Some v) = record { slot = s; value = v ∷ [] } ∷ []
 
 -- what a word newly says at the steps below this one, in their order
-abbrev pub says_below : Bench → ℕ → List Word → Word → List Say
-says_below at zero w c = []
-says_below at (suc t) w c = says_below at t w c ++ newly (step_slot at t at.me) (said at t w) (said at t (c ∷ w))
+abbrev pub steps_say_below : Bench → ℕ → List Word → Word → List Say
+steps_say_below at zero w c = []
+steps_say_below at (suc t) w c = steps_say_below at t w c ++ newly_voted (line_slot at t at.me) (vote_said at t w) (vote_said at t (c ∷ w))
 
 abbrev pub binary : BinaryRules
 binary = record {
-  says = λ at w c. says_below at steps w c;
-  round = λ at w. round_below at rounds w;
-  decision = decision;
+  says = λ at w c. steps_say_below at steps w c;
+  round = λ at w. round_below at binary_rounds w;
+  decision = binary_decision;
   over = over;
 }

@@ -11,17 +11,17 @@ use Rattle.binary_consensus.specs.declared.line.StepVotes.{StepVotes}
 abbrev pub none : Tally
 none = record { zeros = 0; ones = 0; nones = 0 }
 
-abbrev pub kept : Bool → ℕ → ℕ
-kept follows count = if follows then count else 0
+abbrev pub count_kept : Bool → ℕ → ℕ
+count_kept follows count = if follows then count else 0
 
 -- of the votes heard at a step those that are accepted, by those accepted at the step before: a value follows or it does
 -- not, whoever says it
-abbrev pub taken : Numbers → ℕ → Tally → Tally → Tally
-taken p zero before heard = heard
-taken p (suc t) before heard = record {
-  zeros = kept (may_give p (step_of t) 0 (tally_votes before)) heard.zeros;
-  ones = kept (may_give p (step_of t) 1 (tally_votes before)) heard.ones;
-  nones = kept (may_give p (step_of t) 2 (tally_votes before)) heard.nones;
+abbrev pub tally_taken : Numbers → ℕ → Tally → Tally → Tally
+tally_taken p zero before heard = heard
+tally_taken p (suc t) before heard = record {
+  zeros = count_kept (may_give p (step_of t) 0 (tally_votes before)) heard.zeros;
+  ones = count_kept (may_give p (step_of t) 1 (tally_votes before)) heard.ones;
+  nones = count_kept (may_give p (step_of t) 2 (tally_votes before)) heard.nones;
 }
 
 -- the votes heard at a step
@@ -29,9 +29,9 @@ abbrev pub tally_at : List Tally → ℕ → Tally
 tally_at hs t = get_or hs t none
 
 -- the votes accepted at a step, by those heard at it and below
-abbrev pub counted : Numbers → List Tally → ℕ → Tally
-counted p hs zero = tally_at hs zero
-counted p hs (suc t) = taken p (suc t) (counted p hs t) (tally_at hs (suc t))
+abbrev pub accepted_tally : Numbers → List Tally → ℕ → Tally
+accepted_tally p hs zero = tally_at hs zero
+accepted_tally p hs (suc t) = tally_taken p (suc t) (accepted_tally p hs t) (tally_at hs (suc t))
 
 -- one more vote
 abbrev pub with_vote : ℕ → Tally → Tally
@@ -40,12 +40,12 @@ with_vote (suc zero) t = record { zeros = t.zeros; ones = t.ones + 1; nones = t.
 with_vote (suc (suc v)) t = record { zeros = t.zeros; ones = t.ones; nones = t.nones + 1 }
 
 -- the numbers of a session, and the votes heard at each step
-pub record Heard : Type 0 where
+pub record HeardTallies : Type 0 where
   pub numbers : Numbers
   pub votes : List Tally
 
 -- one more vote at a step
-pub record HearsOne (t v : ℕ) (old new : Heard) : Type 0 where
+pub record HearsOneVote (t v : ℕ) (old new : HeardTallies) : Type 0 where
   pub numbers : new.numbers ≡ old.numbers
   pub here : tally_at new.votes t ≡ with_vote v (tally_at old.votes t)
   pub others : (s : ℕ) → (s ≡ t → ⊥) → tally_at new.votes s ≡ tally_at old.votes s
@@ -77,7 +77,7 @@ abbrev pub AreSmall : Numbers → List StepVotes → Type 0
 AreSmall p rows = (t : ℕ) → IsSmall p t (row rows t).heard
 
 abbrev pub IsSettledAt : Numbers → List StepVotes → ℕ → Type 0
-IsSettledAt p rows t = (row rows t).accepted ≡ taken p t (before_row rows t) (row rows t).heard
+IsSettledAt p rows t = (row rows t).accepted ≡ tally_taken p t (before_row rows t) (row rows t).heard
 
 -- the accepted votes of all steps but one are up to date
 abbrev pub AreSettledBut : Numbers → List StepVotes → ℕ → Type 0

@@ -7,6 +7,7 @@ use Rattle.ritas_base.specs.History.{replicas}
 use Rattle.layer_api.specs.Words.{Word, value_at}
 use Rattle.layer_api.specs.Binary.{Bench}
 use Rattle.bracha_validation.specs.Votes.{may_give}
+use Rattle.ritas_base.specs.Places.{push, listed}
 
 -- the round of a step of the line, from 1, and which step of that round it is, 1 to 3
 abbrev pub round_of : ℕ → ℕ
@@ -16,8 +17,8 @@ abbrev pub step_of : ℕ → ℕ
 step_of t = t % 3 + 1
 
 -- the slot of a step of the line at an origin
-abbrev pub step_slot : Bench → ℕ → ℕ → Slot
-step_slot at t origin = record { class = 5; a = at.a; attempt = at.attempt; bround = round_of t; step = step_of t; origin = origin }
+abbrev pub line_slot : Bench → ℕ → ℕ → Slot
+line_slot at t origin = record { class = 5; a = at.a; attempt = at.attempt; bround = round_of t; step = step_of t; origin = origin }
 
 -- a vote is a value of one byte
 abbrev pub vote_in : List ℕ → Option ℕ
@@ -30,21 +31,12 @@ vote_heard (Some value) = vote_in value
 
 -- the vote that was heard first at a step from an origin
 abbrev pub heard : Bench → List Word → ℕ → ℕ → Option ℕ
-heard at w t origin = vote_heard (value_at w (step_slot at t origin))
+heard at w t origin = vote_heard (value_at w (line_slot at t origin))
 
 -- a vote, where it passes
-abbrev pub passed : (ℕ → Bool) → Option ℕ → Option ℕ
-passed test None = None
-passed test (Some v) = if test v then Some v else None
-
-abbrev pub push : Option ℕ → List ℕ → List ℕ
-push None vs = vs
-push (Some v) vs = v ∷ vs
-
--- the votes of these origins
-abbrev pub listed : (ℕ → Option ℕ) → List ℕ → List ℕ
-listed votes [] = []
-listed votes (k ∷ ks) = push (votes k) (listed votes ks)
+abbrev pub passed_vote : (ℕ → Bool) → Option ℕ → Option ℕ
+passed_vote test None = None
+passed_vote test (Some v) = if test v then Some v else None
 
 -- The vote that is accepted at a step from an origin, by the votes heard at each step from each origin. At the first step
 -- it is what was heard; later it is what was heard, where some set of exactly n - f of those accepted at the step before
@@ -52,7 +44,7 @@ listed votes (k ∷ ks) = push (votes k) (listed votes ks)
 abbrev pub accepts : Numbers → (ℕ → ℕ → Option ℕ) → ℕ → ℕ → Option ℕ
 accepts p votes zero origin = votes zero origin
 accepts p votes (suc t) origin =
-    passed (λ v. may_give p (step_of t) v (listed (accepts p votes t) (replicas p.n))) (votes (suc t) origin)
+    passed_vote (λ v. may_give p (step_of t) v (listed (accepts p votes t) (replicas p.n))) (votes (suc t) origin)
 
 -- the votes that are accepted at a step
 abbrev pub accepted : Numbers → (ℕ → ℕ → Option ℕ) → ℕ → List ℕ

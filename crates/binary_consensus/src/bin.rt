@@ -59,15 +59,15 @@ impl BinaryBox for Bin {
     ghost use Rattle.binary_consensus.specs.Consensus.{binary};
     ghost use Rattle.binary_consensus.specs.Laws.OneBit.{one_bit_law};
     ghost use Rattle.binary_consensus.specs.Laws.Box.{box_laws_hold};
-    ghost use Rattle.binary_consensus.specs.Stands.{Stands, shown_by, shows_box};
+    ghost use Rattle.binary_consensus.specs.Stands.{BinaryStands, binary_shown, shows_box};
 
-    ghost stands = { Stands };
+    ghost stands = { BinaryStands };
 
     ghost rules = { binary };
 
     ghost live = { λ b. b.live };
 
-    ghost shown = { shown_by };
+    ghost shown = { binary_shown };
 
     fn new(alloc: Global, p: &Params, me: u8, a: u32, attempt: u8) -> Result<Bin, Mem> {
         Ok(Bin {

@@ -17,18 +17,18 @@ pub struct BinRoot<B: BinaryBox> {
 
 impl<B: BinaryBox> Service for BinRoot<B> {
     ghost use Rattle.std.specs.Prelude.{◌≡◌};
-    ghost use Rattle.binary_consensus.specs.Root.{bench_of, binary_root};
+    ghost use Rattle.binary_consensus.specs.Root.{root_bench, binary_root};
     ghost use Rattle.binary_consensus.specs.Laws.RootWords.{root_word_laws};
     ghost use Rattle.binary_consensus.specs.Laws.RootLog.{root_one_log};
-    ghost use Rattle.binary_consensus.specs.RootStands.{RootStands, root_shown, root_shows};
+    ghost use Rattle.binary_consensus.specs.RootStands.{BinaryRootStands, binary_root_shown, root_shows};
 
-    ghost stands = { RootStands B.stands };
+    ghost stands = { BinaryRootStands B.stands };
 
     ghost rules = { binary_root B.rules };
 
     ghost live = { λ s. B.live s.inner };
 
-    ghost shown = { λ s. root_shown (B.shown s.inner) s.given };
+    ghost shown = { λ s. binary_root_shown (B.shown s.inner) s.given };
 
     fn serves(root: u8) -> bool {
         root == 3
@@ -105,9 +105,9 @@ impl<B: BinaryBox> Service for BinRoot<B> {
         self.inner.live()
     }
 
-    ghost lives = { λ s seat w stands. (B.shows s.inner (bench_of seat) w stands.inner).0 };
+    ghost lives = { λ s seat w stands. (B.shows s.inner (root_bench seat) w stands.inner).0 };
 
-    ghost shows = { λ s seat w stands. root_shows B.rules seat w (B.shown s.inner) s.given stands.given (B.shows s.inner (bench_of seat) w stands.inner).1 };
+    ghost shows = { λ s seat w stands. root_shows B.rules seat w (B.shown s.inner) s.given stands.given (B.shows s.inner (root_bench seat) w stands.inner).1 };
 
     ghost word_laws = { root_word_laws B.rules B.box_laws };
 

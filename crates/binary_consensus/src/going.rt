@@ -1,7 +1,7 @@
 //! How an instance goes on: each step that has n - f accepted votes is left, and what follows is said.
 
 ghost use Rattle.std.specs.Prelude.{◌≡◌, ℕ, ◌≤◌, ◌<◌, IfOk};
-ghost use Rattle.binary_consensus.specs.Going.{GoesOn};
+ghost use Rattle.binary_consensus.specs.Going.{LineGoesOn};
 
 use crate::leaving::leave;
 use crate::line::Line;
@@ -22,7 +22,7 @@ pub(crate) fn go_on<C: Coin>(
     says: &mut Vec<Say>,
 ) -> Result<Place, Mem>
     requires { 1 ≤ place.said }
-    ensures { IfOk result (λ next. GoesOn part.now line.now (C.bits coin.now) place says.old.items says.new.items next) }
+    ensures { IfOk result (λ next. LineGoesOn part.now line.now (C.bits coin.now) place says.old.items says.new.items next) }
 {
     set_of_votes();
     let p = line.params();

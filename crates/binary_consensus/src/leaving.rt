@@ -4,7 +4,7 @@ ghost use Rattle.std.specs.Prelude.{◌≡◌, ℕ, ◌≤◌, ◌<◌, List, No
 ghost use Rattle.bracha_validation.specs.Votes.{rule};
 ghost use Rattle.bracha_validation.specs.Tallies.{vote_count, IsTally};
 ghost use Rattle.binary_consensus.specs.Steps.{step_of};
-ghost use Rattle.binary_consensus.specs.Consensus.{verdict};
+ghost use Rattle.binary_consensus.specs.Consensus.{step_verdict};
 ghost use Rattle.binary_consensus.specs.Going.{Leaves};
 
 use crate::part::{Part, STEPS};
@@ -52,7 +52,7 @@ fn rule(p: &Params, step: u8, votes: &Tally) -> Option<u8>
 
 // The bit that step 3 of a round decides by these votes.
 fn verdict(p: &Params, votes: &Tally) -> Option<bool>
-    ensures { (vs : List ℕ) → IsTally votes.now vs → result ≡ verdict p.now 3 vs }
+    ensures { (vs : List ℕ) → IsTally votes.now vs → result ≡ step_verdict p.now 3 vs }
 {
     if p.deliver() <= votes.zeros {
         Some(false)

@@ -6,7 +6,7 @@ ghost use Rattle.layer_api.specs.Binary.{vote_limit};
 ghost use Rattle.bracha_validation.specs.Tallies.{vote_count, tally_votes};
 ghost use Rattle.bracha_validation.specs.Votes.{may_give, step_before};
 ghost use Rattle.binary_consensus.specs.Steps.{step_of};
-ghost use Rattle.binary_consensus.specs.Counts.{none, kept, taken, tally_at, counted, with_vote, HearsOne, HearsRow, row, heards, IsSmall, IsLine, IsLineBut};
+ghost use Rattle.binary_consensus.specs.Counts.{none, count_kept, tally_taken, tally_at, accepted_tally, with_vote, HearsOneVote, HearsRow, row, heards, IsSmall, IsLine, IsLineBut};
 
 use bracha_validation::{Tally, may_follow};
 use ritas_base::{Mem, Params};
@@ -37,9 +37,9 @@ pub(crate) struct Line {
 }
 
 impl Model for Line {
-    ghost use Rattle.binary_consensus.specs.Counts.{Heard, heards, IsLine};
+    ghost use Rattle.binary_consensus.specs.Counts.{HeardTallies, heards, IsLine};
 
-    ghost Value = { Heard };
+    ghost Value = { HeardTallies };
 
     ghost view = { λ l. record { numbers = l.params; votes = heards l.steps.items } };
 
@@ -69,7 +69,7 @@ impl Line {
 
     /// The votes that are accepted at a step.
     pub(crate) fn accepted(&self, t: u16) -> Tally
-        ensures counted { result ≡ counted self.now.numbers self.now.votes t }
+        ensures counted { result ≡ accepted_tally self.now.numbers self.now.votes t }
         ensures small { vote_count result ≤ self.now.numbers.n }
     {
         match self.steps.get(usize::from(t)) {
@@ -81,7 +81,7 @@ impl Line {
     /// Hears a vote at a step, where fewer than n were heard.
     pub(crate) fn hear(&mut self, t: u16, value: u8) -> Result<(), Mem>
         ensures { OnOk result (vote_count (tally_at self.old.votes t) < self.old.numbers.n → value < vote_limit (step_of t)
-            → HearsOne t value self.old self.new) }
+            → HearsOneVote t value self.old self.new) }
     {
         let at = usize::from(t);
         make_room(&mut self.steps, at)?;
@@ -156,7 +156,7 @@ fn kept(p: &Params, step: u8, value: u8, count: u8, before: &Tally) -> u8
     requires step { (1 ≤ step) × (step ≤ 3) }
     requires bits { step ≡ 2 → before.now.nones ≡ 0 }
     requires few { vote_count before.now ≤ p.now.n }
-    ensures { result ≡ kept (may_give p.now (step_before step) value (tally_votes before.now)) count }
+    ensures { result ≡ count_kept (may_give p.now (step_before step) value (tally_votes before.now)) count }
 {
     if count > 0 && may_follow(p, step, value, before) {
         count
@@ -169,7 +169,7 @@ fn kept(p: &Params, step: u8, value: u8, count: u8, before: &Tally) -> u8
 fn taken(p: &Params, t: usize, before: &Tally, heard: &Tally) -> Tally
     requires bits { step_of t ≡ 2 → before.now.nones ≡ 0 }
     requires few { vote_count before.now ≤ p.now.n }
-    ensures { result ≡ taken p.now t before.now heard.now }
+    ensures { result ≡ tally_taken p.now t before.now heard.now }
 {
     if t == 0 {
         return *heard;

@@ -1,7 +1,7 @@
 //! Whose part in which instance a box is, and the line of steps: 200 rounds of three.
 
 ghost use Rattle.std.specs.Prelude.{◌≡◌, ◌<◌, [], ◌∷◌, ◌++◌, OnOk, OnErr};
-ghost use Rattle.binary_consensus.specs.Going.{own_slot, line_of};
+ghost use Rattle.binary_consensus.specs.Going.{own_step_slot, line_of};
 
 use ritas_base::{Bytes, Mem, Say, Slot};
 use std::alloc::Global;
@@ -24,7 +24,7 @@ impl Part {
     /// The slot of a step at this replica.
     pub(crate) fn slot(&self, t: u16) -> Slot
         requires { t < 600 }
-        ensures { result ≡ own_slot self.now t }
+        ensures { result ≡ own_step_slot self.now t }
     {
         Slot {
             class: 5,
@@ -46,7 +46,7 @@ impl Part {
     ) -> Result<(), Mem>
         requires { t < 600 }
         ensures said { OnOk result
-            (says.new.items ≡ says.old.items ++ record { slot = own_slot self.now t; value = vote ∷ [] } ∷ []) }
+            (says.new.items ≡ says.old.items ++ record { slot = own_step_slot self.now t; value = vote ∷ [] } ∷ []) }
         ensures err { OnErr result (says.new.items ≡ says.old.items) }
     {
         let value = Bytes::from_slice(alloc, &[vote])?;

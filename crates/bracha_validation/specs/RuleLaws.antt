@@ -3,7 +3,7 @@ use Rattle.std.specs.Prelude.{◌≡◌, ℕ, ◌+◌, ◌*◌, ◌<◌, ◌≤�
 use Rattle.std.proofs.Common.{inl, inr, sym, arith, eq-eqb, eqb-true}
 use Rattle.std.proofs.lemmas.Bool.{leb-true, leb-false, ltb-true, ltb-false, le-leb}
 use Rattle.ritas_base.specs.Numbers.{Numbers}
-use Rattle.bracha_validation.specs.Votes.{votes, is_given, gives}
+use Rattle.bracha_validation.specs.Votes.{votes, is_vote_given, gives}
 
 -- the counts that let the rule of step 1 give v
 abbrev pub FirstSays : List ℕ → ℕ → Type 0
@@ -43,7 +43,7 @@ pub third_gives : (p : Numbers) (ys : List ℕ) (v : ℕ) → gives p 3 ys v ≡
 third_gives p ys v q = go (nat_le (p.f + 1) (votes 0 ys)) (nat_le (p.f + 1) (votes 1 ys)) refl refl q
   where
     go : (a b : Bool) → nat_le (p.f + 1) (votes 0 ys) ≡ a → nat_le (p.f + 1) (votes 1 ys) ≡ b
-        → is_given (if a then Some 0 else (if b then Some 1 else None)) v ≡ true → ThirdSays p ys v
+        → is_vote_given (if a then Some 0 else (if b then Some 1 else None)) v ≡ true → ThirdSays p ys v
     go true b d e q = let l = leb-true _ _ d in inl (omega arith, sym (eqb-true 0 v q))
     go false true d e q = let l = leb-false _ _ d in let m = leb-true _ _ e in inr (inl (omega arith, omega arith, sym (eqb-true 1 v q)))
     go false false d e q = let l = leb-false _ _ d in let m = leb-false _ _ e in inr (inr (omega arith, omega arith, leb-true _ _ q))
@@ -67,7 +67,7 @@ pub third_may : (p : Numbers) (ys : List ℕ) (v : ℕ) → ThirdSays p ys v →
 third_may p ys v h = go (nat_le (p.f + 1) (votes 0 ys)) (nat_le (p.f + 1) (votes 1 ys)) refl refl
   where
     go : (a b : Bool) → nat_le (p.f + 1) (votes 0 ys) ≡ a → nat_le (p.f + 1) (votes 1 ys) ≡ b
-        → is_given (if a then Some 0 else (if b then Some 1 else None)) v ≡ true
+        → is_vote_given (if a then Some 0 else (if b then Some 1 else None)) v ≡ true
     go true b x y = let m = leb-true _ _ x in eq-eqb 0 v (omega arith)
     go false true x y = let m = leb-false _ _ x in let n = leb-true _ _ y in eq-eqb 1 v (omega arith)
     go false false x y = let m = leb-false _ _ x in let n = leb-false _ _ y in le-leb v 1 (omega arith)

@@ -16,21 +16,21 @@ abbrev pub marked : Numbers → List ℕ → ℕ
 marked p vs = if nat_lt p.n (2 * votes 0 vs) then 0 else if nat_lt p.n (2 * votes 1 vs) then 1 else 2
 
 -- step 3: 0 where 0 has at least f + 1 votes; else 1 where 1 has; else neither, and a coin is tossed
-abbrev pub backed : Numbers → List ℕ → Option ℕ
-backed p vs = if nat_le (p.f + 1) (votes 0 vs) then Some 0 else if nat_le (p.f + 1) (votes 1 vs) then Some 1 else None
+abbrev pub backed_vote : Numbers → List ℕ → Option ℕ
+backed_vote p vs = if nat_le (p.f + 1) (votes 0 vs) then Some 0 else if nat_le (p.f + 1) (votes 1 vs) then Some 1 else None
 
 -- what the rule of a step gives to votes of that step; `None` is a coin
 abbrev pub rule : Numbers → ℕ → List ℕ → Option ℕ
-rule p step vs = if step == 1 then Some (majority vs) else if step == 2 then Some (marked p vs) else backed p vs
+rule p step vs = if step == 1 then Some (majority vs) else if step == 2 then Some (marked p vs) else backed_vote p vs
 
 -- the value is the one that is given; a coin gives both bits
-abbrev pub is_given : Option ℕ → ℕ → Bool
-is_given (Some u) value = u == value
-is_given None value = nat_le value 1
+abbrev pub is_vote_given : Option ℕ → ℕ → Bool
+is_vote_given (Some u) value = u == value
+is_vote_given None value = nat_le value 1
 
 -- the value is among those that the rule of the step gives to the votes
 abbrev pub gives : Numbers → ℕ → List ℕ → ℕ → Bool
-gives p step vs value = is_given (rule p step vs) value
+gives p step vs value = is_vote_given (rule p step vs) value
 
 -- some set of exactly m of the votes passes the test: the first vote is in it, or it is not
 abbrev pub some_set : (List ℕ → Bool) → ℕ → List ℕ → Bool

@@ -9,8 +9,9 @@ use Rattle.std.proofs.lemmas.Option.{cond_some}
 use Rattle.ritas_base.specs.History.{replicas}
 use Rattle.ritas_base.specs.Quorums.{map_same}
 use Rattle.ritas_base.specs.Shortest.{option_or_none}
-use Rattle.client_port.specs.Messages.{form_in, number_in}
-use Rattle.client_port.specs.Votes.{Wanted, Call, is_wanted, is_position_reply, said, replied, tally, first_failed, fault_of}
+use Rattle.client_port.specs.Messages.{form_in, reply_number_in}
+use Rattle.ritas_base.specs.Places.{first_failed}
+use Rattle.client_port.specs.Votes.{Wanted, ReplyCall, is_reply_wanted, is_position_reply, position_said, replied, tally, reply_fault_of}
 use Rattle.client_port.specs.declared.votes.ReplyFault.{ReplyFault}
 use Rattle.client_port.specs.declared.votes.ReplyFault.TheVariants.{NoSuchReplica, Length, Form, NotMine, Again, Refused}
 
@@ -45,19 +46,19 @@ is_none_is (Some x) e = absurd (cc)
 -- ---- a call without a fault
 
 -- it gives a position, and is the first of its replica to do so
-pub record IsFirst (w : Wanted) (before : Option ℕ) (c : Call) : Type 0 where
+pub record IsFirst (w : Wanted) (before : Option ℕ) (c : ReplyCall) : Type 0 where
   pub within : c.from < w.numbers.n
-  pub position : said w c ≡ Some (number_in c.bytes)
+  pub position : position_said w c ≡ Some (reply_number_in c.bytes)
   pub new : before ≡ None
 
-pub no_fault : (w : Wanted) (before : Option ℕ) (c : Call) → fault_of w before c ≡ None → IsFirst w before c
-unfolding fault_of
+pub no_fault : (w : Wanted) (before : Option ℕ) (c : ReplyCall) → reply_fault_of w before c ≡ None → IsFirst w before c
+unfolding reply_fault_of
 no_fault w before c e =
-    let all = six_none (nat_lt c.from w.numbers.n) (length c.bytes == 13) ((form_in c.bytes == 1) || (form_in c.bytes == 2)) (is_wanted w c.bytes) (is_none before) (form_in c.bytes == 1) (number_in c.bytes) e in
+    let all = six_none (nat_lt c.from w.numbers.n) (length c.bytes == 13) ((form_in c.bytes == 1) || (form_in c.bytes == 2)) (is_reply_wanted w c.bytes) (is_none before) (form_in c.bytes == 1) (reply_number_in c.bytes) e in
     let gives : is_position_reply w c ≡ true = rw (all.0, all.1, all.5, all.3) refl in
     record {
       within = ltb-true c.from w.numbers.n all.0;
-      position = cond-true (is_position_reply w c) (Some (number_in c.bytes)) None gives;
+      position = cond-true (is_position_reply w c) (Some (reply_number_in c.bytes)) None gives;
       new = is_none_is before all.4;
     }
 
@@ -71,28 +72,28 @@ still None true false q f = refl
 still None true true q f = absurd (let e = f refl refl in cc)
 
 -- the parts of a message that gives a position
-record Gives (w : Wanted) (c : Call) : Type 0 where
+record Gives (w : Wanted) (c : ReplyCall) : Type 0 where
   within : nat_lt c.from w.numbers.n ≡ true
   long : (length c.bytes == 13) ≡ true
   form : (form_in c.bytes == 1) ≡ true
-  wanted : is_wanted w c.bytes ≡ true
+  wanted : is_reply_wanted w c.bytes ≡ true
 
-gives_by : (w : Wanted) (c : Call) → is_position_reply w c ≡ true → Gives w c
+gives_by : (w : Wanted) (c : ReplyCall) → is_position_reply w c ≡ true → Gives w c
 gives_by w c e =
-    let three = and_parts (nat_lt c.from w.numbers.n && (length c.bytes == 13) && (form_in c.bytes == 1)) (is_wanted w c.bytes) e in
+    let three = and_parts (nat_lt c.from w.numbers.n && (length c.bytes == 13) && (form_in c.bytes == 1)) (is_reply_wanted w c.bytes) e in
     let two = and_parts (nat_lt c.from w.numbers.n && (length c.bytes == 13)) (form_in c.bytes == 1) three.0 in
     let one = and_parts (nat_lt c.from w.numbers.n) (length c.bytes == 13) two.0 in
     record { within = one.0; long = one.1; form = two.1; wanted = three.1 }
 
 -- it leaves what each replica replied
-pub replied_same : (w : Wanted) (h : List Call) (c : Call) (fault : ReplyFault) → fault_of w (replied w h c.from) c ≡ Some fault
+pub replied_same : (w : Wanted) (h : List ReplyCall) (c : ReplyCall) (fault : ReplyFault) → reply_fault_of w (replied w h c.from) c ≡ Some fault
     → (k : ℕ) → replied w (c ∷ h) k ≡ replied w h k
-unfolding fault_of
+unfolding reply_fault_of
 replied_same w h c fault e k =
-    still (replied w h k) (c.from == k) (is_position_reply w c) (number_in c.bytes)
+    still (replied w h k) (c.from == k) (is_position_reply w c) (reply_number_in c.bytes)
     (λ mine gives.
     let g = gives_by w c gives in
-    let failed = fifth_fails (nat_lt c.from w.numbers.n) (length c.bytes == 13) ((form_in c.bytes == 1) || (form_in c.bytes == 2)) (is_wanted w c.bytes) (is_none (replied w h c.from)) (form_in c.bytes == 1) (number_in c.bytes) fault e
+    let failed = fifth_fails (nat_lt c.from w.numbers.n) (length c.bytes == 13) ((form_in c.bytes == 1) || (form_in c.bytes == 2)) (is_reply_wanted w c.bytes) (is_none (replied w h c.from)) (form_in c.bytes == 1) (reply_number_in c.bytes) fault e
     g.within g.long (or_left (form_in c.bytes == 1) (form_in c.bytes == 2) g.form) g.wanted g.form in
     subst (λ (j : ℕ). is_none (replied w h j) ≡ false) (eqb-true c.from k mine) failed)
 
@@ -102,25 +103,25 @@ none_outside : (mine gives : Bool) (q : ℕ) → (mine ≡ true → gives ≡ fa
 none_outside false gives q f = refl
 none_outside true gives q f = cond-false gives (Some q) None (f refl)
 
-outside_gives : (w : Wanted) (c : Call) → w.numbers.n ≤ c.from → is_position_reply w c ≡ false
+outside_gives : (w : Wanted) (c : ReplyCall) → w.numbers.n ≤ c.from → is_position_reply w c ≡ false
 outside_gives w c le = rw (le-ltb c.from w.numbers.n le) refl
 
 -- who isn't a replica replied nothing
-replied_outside : (w : Wanted) (h : List Call) (k : ℕ) → w.numbers.n ≤ k → replied w h k ≡ None
+replied_outside : (w : Wanted) (h : List ReplyCall) (k : ℕ) → w.numbers.n ≤ k → replied w h k ≡ None
 replied_outside w [] k le = refl
 replied_outside w (c ∷ h) k le =
-    ap (λ o. option_or o (if c.from == k then said w c else None)) (replied_outside w h k le)
-    ∙ none_outside (c.from == k) (is_position_reply w c) (number_in c.bytes)
+    ap (λ o. option_or o (if c.from == k then position_said w c else None)) (replied_outside w h k le)
+    ∙ none_outside (c.from == k) (is_position_reply w c) (reply_number_in c.bytes)
     (λ mine. outside_gives w c (subst (λ (j : ℕ). w.numbers.n ≤ j) (sym (eqb-true c.from k mine)) le))
 
-length-tally : (w : Wanted) (h : List Call) → length (tally w h) ≡ w.numbers.n
+length-tally : (w : Wanted) (h : List ReplyCall) → length (tally w h) ≡ w.numbers.n
 length-tally w h = length-map-range_with_len (replied w h) 0 w.numbers.n
 
-tally_within : (w : Wanted) (h : List Call) (k : ℕ) → k < w.numbers.n → get_or (tally w h) k None ≡ replied w h k
+tally_within : (w : Wanted) (h : List ReplyCall) (k : ℕ) → k < w.numbers.n → get_or (tally w h) k None ≡ replied w h k
 tally_within w h k lt = get_or-map-range_with_len (replied w h) 0 w.numbers.n k k None lt (omega arith)
 
 -- the tally has what each replica replied
-pub tally_at : (w : Wanted) (h : List Call) (k : ℕ) → get_or (tally w h) k None ≡ replied w h k
+pub tally_at : (w : Wanted) (h : List ReplyCall) (k : ℕ) → get_or (tally w h) k None ≡ replied w h k
 tally_at w h k =
     elim (cases_Bool (nat_lt k w.numbers.n)) [
       | inl t ↦ tally_within w h k (ltb-true k w.numbers.n t)
@@ -130,44 +131,44 @@ tally_at w h k =
     ]
 
 -- what is replied is the position that a call without a fault gives
-pub replied_now : (w : Wanted) (h : List Call) (c : Call) → IsFirst w (replied w h c.from) c → replied w (c ∷ h) c.from ≡ Some (number_in c.bytes)
+pub replied_now : (w : Wanted) (h : List ReplyCall) (c : ReplyCall) → IsFirst w (replied w h c.from) c → replied w (c ∷ h) c.from ≡ Some (reply_number_in c.bytes)
 replied_now w h c first =
-    ap (λ o. option_or o (if c.from == c.from then said w c else None)) first.new
-    ∙ cond-true (c.from == c.from) (said w c) None (eq-eqb c.from c.from refl) ∙ first.position
+    ap (λ o. option_or o (if c.from == c.from then position_said w c else None)) first.new
+    ∙ cond-true (c.from == c.from) (position_said w c) None (eq-eqb c.from c.from refl) ∙ first.position
 
-replied_other : (w : Wanted) (h : List Call) (c : Call) (k : ℕ) → (k ≡ c.from → ⊥) → replied w (c ∷ h) k ≡ replied w h k
+replied_other : (w : Wanted) (h : List ReplyCall) (c : ReplyCall) (k : ℕ) → (k ≡ c.from → ⊥) → replied w (c ∷ h) k ≡ replied w h k
 replied_other w h c k ne =
-    ap (option_or (replied w h k)) (cond-false (c.from == k) (said w c) None (ne_eqb c.from k (λ e. ne (sym e)))) ∙ option_or_none (replied w h k)
+    ap (option_or (replied w h k)) (cond-false (c.from == k) (position_said w c) None (ne_eqb c.from k (λ e. ne (sym e)))) ∙ option_or_none (replied w h k)
 
-at_each : (w : Wanted) (h : List Call) (c : Call) → IsFirst w (replied w h c.from) c
-    → (k : ℕ) → k < w.numbers.n → get_or (set (tally w h) c.from (Some (number_in c.bytes))) k None ≡ replied w (c ∷ h) k
+at_each : (w : Wanted) (h : List ReplyCall) (c : ReplyCall) → IsFirst w (replied w h c.from) c
+    → (k : ℕ) → k < w.numbers.n → get_or (set (tally w h) c.from (Some (reply_number_in c.bytes))) k None ≡ replied w (c ∷ h) k
 at_each w h c first k lt =
     elim (cases_eq k c.from) [
       | inl same ↦
           let inside : c.from < length (tally w h) = omega (arith, length-tally w h, first.within) in
-          ap (λ (j : ℕ). get_or (set (tally w h) c.from (Some (number_in c.bytes))) j None) same
-          ∙ (get_or-set_same (tally w h) c.from (Some (number_in c.bytes)) None inside
+          ap (λ (j : ℕ). get_or (set (tally w h) c.from (Some (reply_number_in c.bytes))) j None) same
+          ∙ (get_or-set_same (tally w h) c.from (Some (reply_number_in c.bytes)) None inside
           ∙ sym (ap (replied w (c ∷ h)) same ∙ replied_now w h c first))
       | inr other ↦
-          get_or-set_other (tally w h) c.from k (Some (number_in c.bytes)) None other
+          get_or-set_other (tally w h) c.from k (Some (reply_number_in c.bytes)) None other
           ∙ (tally_within w h k lt ∙ sym (replied_other w h c k other))
     ]
 
 -- a call without a fault sets its replica's place
-pub tally_more : (w : Wanted) (h : List Call) (c : Call) → IsFirst w (replied w h c.from) c
-    → tally w (c ∷ h) ≡ set (tally w h) c.from (Some (number_in c.bytes))
+pub tally_more : (w : Wanted) (h : List ReplyCall) (c : ReplyCall) → IsFirst w (replied w h c.from) c
+    → tally w (c ∷ h) ≡ set (tally w h) c.from (Some (reply_number_in c.bytes))
 tally_more w h c first =
-    sym (fill_by_all (replied w (c ∷ h)) (set (tally w h) c.from (Some (number_in c.bytes))) w.numbers.n None
-    (length-set (tally w h) c.from (Some (number_in c.bytes)) ∙ length-tally w h)
+    sym (fill_by_all (replied w (c ∷ h)) (set (tally w h) c.from (Some (reply_number_in c.bytes))) w.numbers.n None
+    (length-set (tally w h) c.from (Some (reply_number_in c.bytes)) ∙ length-tally w h)
     (at_each w h c first))
 
 -- a call with a fault leaves it
-pub tally_same : (w : Wanted) (h : List Call) (c : Call) → ((k : ℕ) → replied w (c ∷ h) k ≡ replied w h k) → tally w (c ∷ h) ≡ tally w h
+pub tally_same : (w : Wanted) (h : List ReplyCall) (c : ReplyCall) → ((k : ℕ) → replied w (c ∷ h) k ≡ replied w h k) → tally w (c ∷ h) ≡ tally w h
 tally_same w h c same = map_same (replied w (c ∷ h)) (replied w h) same (replicas w.numbers.n)
 
 -- ---- who gives a position is a replica
 
-pub within_said : (w : Wanted) (c : Call) (position : ℕ) → said w c ≡ Some position → c.from < w.numbers.n
+pub within_said : (w : Wanted) (c : ReplyCall) (position : ℕ) → position_said w c ≡ Some position → c.from < w.numbers.n
 within_said w c position e =
-    let gives = gives_by w c (cond_some (is_position_reply w c) (number_in c.bytes) position e).0 in
+    let gives = gives_by w c (cond_some (is_position_reply w c) (reply_number_in c.bytes) position e).0 in
     ltb-true c.from w.numbers.n gives.within

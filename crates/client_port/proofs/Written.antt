@@ -7,14 +7,14 @@ use Rattle.std.proofs.lemmas.Bool.{cases_Bool, ltb-true, ltb-false, and_from, an
 use Rattle.std.proofs.lemmas.Option.{cond_some}
 use Rattle.std.proofs.lemmas.Nat.{be_bytes_4, from_be_bytes-to_be_bytes_4}
 use Rattle.ritas_base.specs.Limits.{request_front, least_request, longest_input}
-use Rattle.client_port.specs.Messages.{Request, number_at, request_bytes, request_in, parts_of, form_in, client_in, request_number_in, number_in, reply_bytes}
-use Rattle.client_port.specs.Votes.{Wanted, Call, is_wanted, replied, settled, fault_of, answer_but, answer_of}
+use Rattle.client_port.specs.Messages.{Request, four_bytes_at, request_bytes, request_in, request_parts, form_in, client_in, request_number_in, reply_number_in, reply_bytes}
+use Rattle.client_port.specs.Votes.{Wanted, ReplyCall, is_reply_wanted, replied, settled, reply_fault_of, answer_but, answer_of}
 use Rattle.client_port.specs.Laws.{RequestIsRead, RequestWasWritten, position_from, refusal_from, PositionIsRead, RefusalIsRead}
 use Rattle.client_port.specs.declared.votes.ReplyFault.TheVariants.{Refused}
 use Rattle.client_port.proofs.Tallies.{no_fault, replied_now, replied_same}
 
 pub request_is_read : RequestIsRead
-unfolding request_in number_at
+unfolding request_in four_bytes_at
 request_is_read r room =
     let bytes = request_bytes r in
     let long : length bytes ≡ length r.payload + request_front = omega arith in
@@ -22,10 +22,10 @@ request_is_read r room =
     let short = room.payload in
     let fits : (nat_le least_request (length bytes) && nat_le (length bytes) longest_input) ≡ true =
     and_from (nat_le least_request (length bytes)) (nat_le (length bytes) longest_input) (le-leb least_request (length bytes) (omega arith)) (le-leb (length bytes) longest_input (omega arith)) in
-    let client : number_at 0 bytes ≡ r.client = from_be_bytes-to_be_bytes_4 r.client room.client in
-    let request : number_at 4 bytes ≡ r.request = from_be_bytes-to_be_bytes_4 r.request room.request in
+    let client : four_bytes_at 0 bytes ≡ r.client = from_be_bytes-to_be_bytes_4 r.client room.client in
+    let request : four_bytes_at 4 bytes ≡ r.request = from_be_bytes-to_be_bytes_4 r.request room.request in
     let made : ℕ → ℕ → Request = λ x y. record { client = x; request = y; payload = r.payload } in
-    cond-true (nat_le least_request (length bytes) && nat_le (length bytes) longest_input) (Some (parts_of bytes)) None fits
+    cond-true (nat_le least_request (length bytes) && nat_le (length bytes) longest_input) (Some (request_parts bytes)) None fits
     ∙ ap Some (ap₂ made client request)
 
 bytes_small : (bytes : List ℕ) → ((k : ℕ) → slice_index bytes k < 256) → (k : ℕ) → get_or (take 4 bytes) k 0 < 256
@@ -45,8 +45,8 @@ slice_small bytes small k = let fits = small (4 + k) in rw (get_or-drop 4 bytes 
 four : (bytes : List ℕ) → ((k : ℕ) → slice_index bytes k < 256) → 4 ≤ length bytes → to_be_bytes w32 (from_be_bytes w32 (take 4 bytes)) ≡ take 4 bytes
 four bytes small long = be_bytes_4 (take 4 bytes) (from_be_bytes w32 (take 4 bytes)) (length-take-le 4 bytes long) (bytes_small bytes small) refl
 
-rewritten : (bytes : List ℕ) → ((k : ℕ) → slice_index bytes k < 256) → request_front ≤ length bytes → request_bytes (parts_of bytes) ≡ bytes
-unfolding number_at
+rewritten : (bytes : List ℕ) → ((k : ℕ) → slice_index bytes k < 256) → request_front ≤ length bytes → request_bytes (request_parts bytes) ≡ bytes
+unfolding four_bytes_at
 rewritten bytes small long =
     let rest = drop 4 bytes in
     let client = four bytes small (omega (arith, long)) in
@@ -60,7 +60,7 @@ pub request_was_written : RequestWasWritten
 unfolding request_in
 request_was_written bytes r small e =
     let fits = nat_le least_request (length bytes) && nat_le (length bytes) longest_input in
-    let is = cond_some fits (parts_of bytes) r e in
+    let is = cond_some fits (request_parts bytes) r e in
     let long = leb-true least_request (length bytes) (and_parts (nat_le least_request (length bytes)) (nat_le (length bytes) longest_input) is.0).0 in
     sym (rewritten bytes small (omega (arith, long))) ∙ ap request_bytes is.1
 
@@ -70,12 +70,12 @@ request_was_written bytes r small e =
 record IsWritten (w : Wanted) (form number : ℕ) (bytes : List ℕ) : Type 0 where
   long : (length bytes == 13) ≡ true
   form_is : form_in bytes ≡ form
-  wanted : is_wanted w bytes ≡ true
-  number_is : number_in bytes ≡ number
+  wanted : is_reply_wanted w bytes ≡ true
+  number_is : reply_number_in bytes ≡ number
 
 is_written : (w : Wanted) (form number : ℕ) → w.client < 2 ^ 32 → w.request < 2 ^ 32 → number < 2 ^ 32
     → IsWritten w form number (reply_bytes form w.client w.request number)
-unfolding number_at
+unfolding four_bytes_at
 is_written w form number client request small =
     let bytes = reply_bytes form w.client w.request number in
     record {
@@ -87,30 +87,30 @@ is_written w form number client request small =
       number_is = from_be_bytes-to_be_bytes_4 number small;
     }
 
-gives_position : (w : Wanted) (c : Call) (number : ℕ) → c.from < w.numbers.n → IsWritten w 1 number c.bytes → fault_of w None c ≡ None
-unfolding fault_of
+gives_position : (w : Wanted) (c : ReplyCall) (number : ℕ) → c.from < w.numbers.n → IsWritten w 1 number c.bytes → reply_fault_of w None c ≡ None
+unfolding reply_fault_of
 gives_position w c number within is = rw (lt-ltb c.from w.numbers.n within, is.long, is.form_is, is.wanted) refl
 
-gives_refusal : (w : Wanted) (c : Call) (number : ℕ) → c.from < w.numbers.n → IsWritten w 2 number c.bytes → fault_of w None c ≡ Some (Refused number)
-unfolding fault_of
+gives_refusal : (w : Wanted) (c : ReplyCall) (number : ℕ) → c.from < w.numbers.n → IsWritten w 2 number c.bytes → reply_fault_of w None c ≡ Some (Refused number)
+unfolding reply_fault_of
 gives_refusal w c number within is = rw (lt-ltb c.from w.numbers.n within, is.long, is.form_is, is.wanted, is.number_is) refl
 
 pub position_is_read : PositionIsRead
 unfolding answer_of
 position_is_read w h from position awaited small =
-    let c : Call = position_from w from position in
+    let c : ReplyCall = position_from w from position in
     let is = is_written w 1 position awaited.client awaited.request small in
-    let right : fault_of w (replied w h from) c ≡ None = ap (λ o. fault_of w o c) awaited.first ∙ gives_position w c position awaited.within is in (
+    let right : reply_fault_of w (replied w h from) c ≡ None = ap (λ o. reply_fault_of w o c) awaited.first ∙ gives_position w c position awaited.within is in (
       replied_now w h c (no_fault w (replied w h from) c right) ∙ ap Some is.number_is,
-      ap (λ o. answer_but o (settled w (c ∷ h) (number_in c.bytes))) right ∙ ap (λ p. Ok (settled w (c ∷ h) p)) is.number_is,
+      ap (λ o. answer_but o (settled w (c ∷ h) (reply_number_in c.bytes))) right ∙ ap (λ p. Ok (settled w (c ∷ h) p)) is.number_is,
     )
 
 pub refusal_is_read : RefusalIsRead
 unfolding answer_of
 refusal_is_read w h from code awaited small =
-    let c : Call = refusal_from w from code in
+    let c : ReplyCall = refusal_from w from code in
     let is = is_written w 2 code awaited.client awaited.request small in
-    let wrong : fault_of w (replied w h from) c ≡ Some (Refused code) = ap (λ o. fault_of w o c) awaited.first ∙ gives_refusal w c code awaited.within is in (
-      ap (λ o. answer_but o (settled w (c ∷ h) (number_in c.bytes))) wrong,
+    let wrong : reply_fault_of w (replied w h from) c ≡ Some (Refused code) = ap (λ o. reply_fault_of w o c) awaited.first ∙ gives_refusal w c code awaited.within is in (
+      ap (λ o. answer_but o (settled w (c ∷ h) (reply_number_in c.bytes))) wrong,
       replied_same w h c (Refused code) wrong,
     )

@@ -3,16 +3,16 @@ use Rattle.std.specs.Prelude.{◌≡◌, ℕ, ◌+◌, ◌-◌, ◌^◌, ◌<◌
 use Rattle.ritas_base.specs.History.{replicas}
 use Rattle.ritas_base.specs.Limits.{request_front, least_request, longest_payload}
 use Rattle.client_port.specs.Messages.{Request, request_bytes, request_in, position_reply, refusal_reply}
-use Rattle.client_port.specs.Votes.{Wanted, Call, said, replied, settled, answer_of}
+use Rattle.client_port.specs.Votes.{Wanted, ReplyCall, position_said, replied, settled, answer_of}
 use Rattle.client_port.specs.declared.votes.ReplyFault.TheVariants.{Refused}
 
 -- ---- positions are true
 
 -- a correct replica gives no other position than that of the request in its own log, where a row's position stays
-abbrev pub IsFromLog : Wanted → (ℕ → Bool) → (ℕ → Option ℕ) → Call → Type 0
-IsFromLog w is_correct log c = (position : ℕ) → is_correct c.from ≡ true → said w c ≡ Some position → log c.from ≡ Some position
+abbrev pub IsFromLog : Wanted → (ℕ → Bool) → (ℕ → Option ℕ) → ReplyCall → Type 0
+IsFromLog w is_correct log c = (position : ℕ) → is_correct c.from ≡ true → position_said w c ≡ Some position → log c.from ≡ Some position
 
-abbrev pub AreFromLogs : Wanted → (ℕ → Bool) → (ℕ → Option ℕ) → List Call → Type 0
+abbrev pub AreFromLogs : Wanted → (ℕ → Bool) → (ℕ → Option ℕ) → List ReplyCall → Type 0
 AreFromLogs w is_correct log [] = Unit {0}
 AreFromLogs w is_correct log (c ∷ h) = IsFromLog w is_correct log c × AreFromLogs w is_correct log h
 
@@ -25,7 +25,7 @@ pub record IsLogged (w : Wanted) (is_correct : ℕ → Bool) (log : ℕ → Opti
 
 -- of n replicas at least n - f are correct; then a position that is answered stands in the log of one of them
 abbrev pub PositionLaw : Type 0
-PositionLaw = (w : Wanted) (is_correct : ℕ → Bool) (log : ℕ → Option ℕ) (h : List Call) (c : Call) (position : ℕ)
+PositionLaw = (w : Wanted) (is_correct : ℕ → Bool) (log : ℕ → Option ℕ) (h : List ReplyCall) (c : ReplyCall) (position : ℕ)
     → w.numbers.n - w.numbers.f ≤ count_by is_correct (replicas w.numbers.n)
     → AreFromLogs w is_correct log (c ∷ h)
     → answer_of w h c ≡ Ok (Some position) → IsLogged w is_correct log position
@@ -51,26 +51,26 @@ RequestWasWritten = (bytes : List ℕ) (r : Request) → ((k : ℕ) → slice_in
 -- ---- replies
 
 -- a replica whose reply to this request is awaited: it gave no position yet, and the numbers fit four bytes
-pub record IsAwaited (w : Wanted) (h : List Call) (from : ℕ) : Type 0 where
+pub record IsAwaited (w : Wanted) (h : List ReplyCall) (from : ℕ) : Type 0 where
   pub client : w.client < 2 ^ 32
   pub request : w.request < 2 ^ 32
   pub within : from < w.numbers.n
   pub first : replied w h from ≡ None
 
-abbrev pub position_from : Wanted → ℕ → ℕ → Call
+abbrev pub position_from : Wanted → ℕ → ℕ → ReplyCall
 position_from w from position = record { from = from; bytes = position_reply w.client w.request position }
 
-abbrev pub refusal_from : Wanted → ℕ → ℕ → Call
+abbrev pub refusal_from : Wanted → ℕ → ℕ → ReplyCall
 refusal_from w from code = record { from = from; bytes = refusal_reply w.client w.request code }
 
 -- a position that is written is read as it
 abbrev pub PositionIsRead : Type 0
-PositionIsRead = (w : Wanted) (h : List Call) (from position : ℕ) → IsAwaited w h from → position < 2 ^ 32
+PositionIsRead = (w : Wanted) (h : List ReplyCall) (from position : ℕ) → IsAwaited w h from → position < 2 ^ 32
     → (replied w (position_from w from position ∷ h) from ≡ Some position)
     × (answer_of w h (position_from w from position) ≡ Ok (settled w (position_from w from position ∷ h) position))
 
 -- a refusal that is written is read as it, and isn't counted
 abbrev pub RefusalIsRead : Type 0
-RefusalIsRead = (w : Wanted) (h : List Call) (from code : ℕ) → IsAwaited w h from → code < 2 ^ 32
+RefusalIsRead = (w : Wanted) (h : List ReplyCall) (from code : ℕ) → IsAwaited w h from → code < 2 ^ 32
     → (answer_of w h (refusal_from w from code) ≡ Err (Refused code))
     × ((k : ℕ) → replied w (refusal_from w from code ∷ h) k ≡ replied w h k)

@@ -4,8 +4,8 @@ use Rattle.std.specs.Int.{w32, to_be_bytes, from_be_bytes}
 use Rattle.ritas_base.specs.Limits.{request_front, least_request, longest_input}
 
 -- the number in the four bytes from a place on
-unfoldable pub number_at : ℕ → List ℕ → ℕ
-number_at at bytes = from_be_bytes w32 (take 4 (drop at bytes))
+unfoldable pub four_bytes_at : ℕ → List ℕ → ℕ
+four_bytes_at at bytes = from_be_bytes w32 (take 4 (drop at bytes))
 
 -- ---- requests
 
@@ -19,12 +19,12 @@ pub record Request : Type 0 where
 abbrev pub request_bytes : Request → List ℕ
 request_bytes r = to_be_bytes w32 r.client ++ (to_be_bytes w32 r.request ++ r.payload)
 
-abbrev pub parts_of : List ℕ → Request
-parts_of bytes = record { client = number_at 0 bytes; request = number_at 4 bytes; payload = drop request_front bytes }
+abbrev pub request_parts : List ℕ → Request
+request_parts bytes = record { client = four_bytes_at 0 bytes; request = four_bytes_at 4 bytes; payload = drop request_front bytes }
 
 -- the request that a message is, which has `least_request` (8) to `longest_input` (4,096) bytes
 unfoldable pub request_in : List ℕ → Option Request
-request_in bytes = if nat_le least_request (length bytes) && nat_le (length bytes) longest_input then Some (parts_of bytes) else None
+request_in bytes = if nat_le least_request (length bytes) && nat_le (length bytes) longest_input then Some (request_parts bytes) else None
 
 -- ---- replies
 
@@ -45,10 +45,10 @@ abbrev pub form_in : List ℕ → ℕ
 form_in bytes = slice_index bytes 0
 
 abbrev pub client_in : List ℕ → ℕ
-client_in bytes = number_at 1 bytes
+client_in bytes = four_bytes_at 1 bytes
 
 abbrev pub request_number_in : List ℕ → ℕ
-request_number_in bytes = number_at 5 bytes
+request_number_in bytes = four_bytes_at 5 bytes
 
-abbrev pub number_in : List ℕ → ℕ
-number_in bytes = number_at 9 bytes
+abbrev pub reply_number_in : List ℕ → ℕ
+reply_number_in bytes = four_bytes_at 9 bytes

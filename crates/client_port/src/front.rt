@@ -2,7 +2,7 @@
 
 ghost use Rattle.std.specs.Prelude.{◌≡◌, ◌<◌, ◌≤◌, length, MatchOption};
 ghost use Rattle.ritas_base.specs.Limits.{request_front};
-ghost use Rattle.client_port.specs.Messages.{number_at};
+ghost use Rattle.client_port.specs.Messages.{four_bytes_at};
 
 use crate::number::number_at;
 use ritas_base::REQUEST_FRONT;
@@ -19,7 +19,7 @@ pub struct RequestFront {
 // The two numbers, where they are there.
 pub(crate) fn front(bytes: &[u8]) -> RequestFront
     requires { request_front ≤ length bytes.now }
-    ensures { (result.client ≡ number_at 0 bytes.now) × (result.request ≡ number_at 4 bytes.now) }
+    ensures { (result.client ≡ four_bytes_at 0 bytes.now) × (result.request ≡ four_bytes_at 4 bytes.now) }
 {
     RequestFront {
         client: number_at(bytes, 0),
@@ -34,7 +34,7 @@ pub(crate) fn front(bytes: &[u8]) -> RequestFront
 pub fn read_front(bytes: &[u8]) -> Option<RequestFront>
     ensures { MatchOption result
         (length bytes.now < request_front)
-        (λ front. (request_front ≤ length bytes.now) × (front.client ≡ number_at 0 bytes.now) × (front.request ≡ number_at 4 bytes.now)) }
+        (λ front. (request_front ≤ length bytes.now) × (front.client ≡ four_bytes_at 0 bytes.now) × (front.request ≡ four_bytes_at 4 bytes.now)) }
 {
     if bytes.len() < REQUEST_FRONT {
         return None;

@@ -1,8 +1,8 @@
 //! The votes over replies: the first position of each replica counts, and f + 1 equal ones settle it.
 
 ghost use Rattle.std.specs.Prelude.{◌≡◌, ◌<◌, ◌≤◌, List, [], ◌∷◌, length, slice_index_or, Some, None, IfOk, OnOk, OnErr, MatchResult};
-ghost use Rattle.client_port.specs.Messages.{number_in};
-ghost use Rattle.client_port.specs.Votes.{Wanted, Call, is_at, fault_of, answer_of, settled_in, VotesStand};
+ghost use Rattle.client_port.specs.Messages.{reply_number_in};
+ghost use Rattle.client_port.specs.Votes.{Wanted, ReplyCall, is_at, reply_fault_of, answer_of, settled_in, VotesStand};
 
 use crate::number::number_at;
 use crate::reply::{POSITION, REFUSAL, REPLY_LEN};
@@ -68,12 +68,12 @@ impl Votes {
     }
 
     // The position that a message gives, or its first fault.
-    #[tactic(auto, unfolding(crate::specs::Votes::fault_of))]
+    #[tactic(auto, unfolding(crate::specs::Votes::reply_fault_of))]
     fn check(&self, from: u8, bytes: &[u8]) -> Result<u32, ReplyFault>
         ensures fault { MatchResult result
-            (λ _. fault_of self.now.wanted (slice_index_or self.now.positions from None) (record { from = from; bytes = bytes.now }) ≡ None)
-            (λ fault. fault_of self.now.wanted (slice_index_or self.now.positions from None) (record { from = from; bytes = bytes.now }) ≡ Some fault) }
-        ensures position { IfOk result (λ position. position ≡ number_in bytes.now) }
+            (λ _. reply_fault_of self.now.wanted (slice_index_or self.now.positions from None) (record { from = from; bytes = bytes.now }) ≡ None)
+            (λ fault. reply_fault_of self.now.wanted (slice_index_or self.now.positions from None) (record { from = from; bytes = bytes.now }) ≡ Some fault) }
+        ensures position { IfOk result (λ position. position ≡ reply_number_in bytes.now) }
         ensures within { OnOk result ((from < self.now.wanted.numbers.n) × (self.now.wanted.numbers.n ≤ 31)) }
     {
         if from >= self.n {
@@ -120,9 +120,9 @@ impl Votes {
     /// `None` is answered where fewer have. The faults come in the order of `ReplyFault`, and leave the votes as they were.
     /// So `Again` is for a replica that gave a position, and not for one that only refused. It takes no memory.
     pub fn reply(&mut self, from: u8, bytes: &[u8]) -> Result<Option<u32>, ReplyFault>
-        ensures answer { (w : Wanted) (h : List Call) → VotesStand w h self.old
+        ensures answer { (w : Wanted) (h : List ReplyCall) → VotesStand w h self.old
             → result ≡ answer_of w h (record { from = from; bytes = bytes.now }) }
-        ensures stands { (w : Wanted) (h : List Call) → VotesStand w h self.old
+        ensures stands { (w : Wanted) (h : List ReplyCall) → VotesStand w h self.old
             → VotesStand w (record { from = from; bytes = bytes.now } ∷ h) self.new }
         ensures err { OnErr result (self.new ≡ self.old) }
     {

@@ -1,17 +1,17 @@
 -- What a text of lines says is what is read of it, and where nothing is read the first wrong line is answered, at every column.
 use Rattle.std.proofs.Common.{◌≡◌, ◌≢◌, ◌↔◌, ℕ, zero, suc, ◌+◌, ◌<◌, ◌≤◌, ◌==◌, Bool, true, false, List, [], length, Option, Result, Ok, Err, refl, sym, ◌∙◌, ap, subst, arith, inl, inr, if◌then◌else◌}
 use Rattle.std.proofs.lemmas.Bool.{cases_lt}
-use Rattle.cluster_config.specs.Lines.{Place, Reading, ◌>>=◌, first_line, end_at, field_at}
-use Rattle.cluster_config.specs.Columns.{BeginsWith, Column, Done, Line, Perhaps, is_one_line, read_by, without_place, read_text, IsText, AreRight, IsFirstWrong, IsReadRight}
+use Rattle.cluster_config.specs.Lines.{LinePlace, Reading, ◌>>=◌, first_line, text_end_at, field_at}
+use Rattle.cluster_config.specs.Columns.{BeginsWith, Column, Done, Line, Perhaps, is_one_line, read_by, without_place, read_text, IsText, AreRight, IsFirstWrongLine, IsReadRight}
 use Rattle.cluster_config.proofs.Fields.{bind_ok, bound, same_ok, field_is, field_again, names_field, begun, empty_is, end_is, end_again, names_end}
 
 -- what is read where nothing may follow
-abbrev unless_over : {X : Type 0} → Bool → X → Place → Reading X → Reading X
+abbrev unless_over : {X : Type 0} → Bool → X → LinePlace → Reading X → Reading X
 unless_over b x s more = if b then Ok (x, s) else more
 
 -- ---- the grammar
 abbrev Reads : {X : Type 0} → Column X → Type 0
-Reads {X} c = (s end : Place) (x : X) → read_by c s ≡ Ok (x, end) → IsText c x s.rest
+Reads {X} c = (s end : LinePlace) (x : X) → read_by c s ≡ Ok (x, end) → IsText c x s.rest
 
 line_found : {X A : Type 0} (name : List ℕ) (one : is_one_line name ≡ true) (read : List ℕ → Option A) (next : A → Column X) → ((y : A) → Reads (next y)) → Reads (Line name one read next)
 unfolding read_by
@@ -23,7 +23,7 @@ line_found name one read next more s end x e =
 found_at : {X : Type 0} (c : Column X) → Reads c
 unfolding read_by
 found_at (Done y) s end x e =
-    let over = bind_ok (end_at s) _ (x, end) e in
+    let over = bind_ok (text_end_at s) _ (x, end) e in
     (end_is s over.0.1 over.0.0 over.1, (same_ok y x over.0.1 end over.2).0)
 found_at (Line name one read next) s end x e = line_found name one read next (λ y. found_at (next y)) s end x e
 found_at {X} (Perhaps y name one read next) s end x e = go (line_found name one read next (λ z. found_at (next z)) s end x) (length s.rest == 0) refl e
@@ -34,20 +34,20 @@ found_at {X} (Perhaps y name one read next) s end x e = go (line_found name one 
     go more false is f = inr (more f)
 
 abbrev IsReadAs : {X : Type 0} → Column X → Type 0
-IsReadAs {X} c = (s : Place) (x : X) → IsText c x s.rest → (end : Place) × (read_by c s ≡ Ok (x, end))
+IsReadAs {X} c = (s : LinePlace) (x : X) → IsText c x s.rest → (end : LinePlace) × (read_by c s ≡ Ok (x, end))
 
 line_only : {X A : Type 0} (name : List ℕ) (one : is_one_line name ≡ true) (read : List ℕ → Option A) (next : A → Column X) → ((y : A) → IsReadAs (next y)) → IsReadAs (Line name one read next)
 unfolding read_by
 line_only name one read next only s x is =
-    let after : Place = record { number = s.number + 1; rest = is.1 } in
+    let after : LinePlace = record { number = s.number + 1; rest = is.1 } in
     let more = only is.0 after x is.3 in
     (more.0, bound (field_at name read s) _ (is.0, after) _ (field_again name read s is.0 is.1 one is.2) more.1)
 
 only_at : {X : Type 0} (c : Column X) → IsReadAs c
 unfolding read_by
 only_at {X} (Done y) s x is =
-    let end : Place = record { number = s.number; rest = [] } in
-    (end, bound (end_at s) _ (tt, end) _ (end_again s is.0) (ap (λ (z : X). Ok (z, end)) is.1))
+    let end : LinePlace = record { number = s.number; rest = [] } in
+    (end, bound (text_end_at s) _ (tt, end) _ (end_again s is.0) (ap (λ (z : X). Ok (z, end)) is.1))
 only_at (Line name one read next) s x is = line_only name one read next (λ y. only_at (next y)) s x is
 only_at {X} (Perhaps y name one read next) s x (inl is) =
     let nothing : (length s.rest == 0) ≡ true = ap (λ (l : List ℕ). length l == 0) is.0 in
@@ -56,7 +56,7 @@ only_at (Perhaps y name one read next) s x (inr is) =
     let more = line_only name one read next (λ z. only_at (next z)) s x is in
     (more.0, ap (λ (b : Bool). unless_over b y s (read_by (Line name one read next) s)) (begun name read is.0 is.1 s.rest is.2) ∙ more.1)
 
-placed : {X : Type 0} (r : Reading X) (x : X) → without_place r ≡ Ok x → (end : Place) × (r ≡ Ok (x, end))
+placed : {X : Type 0} (r : Reading X) (x : X) → without_place r ≡ Ok x → (end : LinePlace) × (r ≡ Ok (x, end))
 placed {X} (Ok y) x e = (y.1, let same : y.0 ≡ x = cc in ap (λ (z : X). Ok (z, y.1)) same)
 placed (Err line) x e = absurd cc
 
@@ -71,7 +71,7 @@ unfolding read_text
 only c text x is = ap without_place (only_at c (first_line text) x is).1
 
 -- ---- a text that is wrong
-record WrongFrom {X : Type 0} (c : Column X) (s : Place) (line : ℕ) : Type 0 where
+record WrongFrom {X : Type 0} (c : Column X) (s : LinePlace) (line : ℕ) : Type 0 where
   before : ℕ
   next : line ≡ s.number + before
   right : AreRight c before s.rest
@@ -85,7 +85,7 @@ no_fault : {A : Type 0} (r : Result A ℕ) (x : A) (line : ℕ) → r ≡ Ok x �
 no_fault r x line ok err = cc
 
 abbrev Fails : {X : Type 0} → Column X → Type 0
-Fails c = (s : Place) (line : ℕ) → read_by c s ≡ Err line → WrongFrom c s line
+Fails c = (s : LinePlace) (line : ℕ) → read_by c s ≡ Err line → WrongFrom c s line
 
 line_fails : {X A : Type 0} (name : List ℕ) (one : is_one_line name ≡ true) (read : List ℕ → Option A) (next : A → Column X) → ((y : A) → Fails (next y)) → Fails (Line name one read next)
 unfolding read_by
@@ -108,7 +108,7 @@ line_fails {X} {A} name one read next fail s line e =
           let again = field_again name read s there.0 there.1 one there.2 in
           let same = same_ok there.0 x.0 (record { number = s.number + 1; rest = there.1 }) x.1 (sym again ∙ is) in
           let at : AreRight (next x.0) (suc more.before) there.1 = subst (λ (y : A). AreRight (next y) (suc more.before) there.1) same.0 there.3 in
-          more.wrong (subst (λ (t : Place). AreRight (next x.0) (suc more.before) t.rest) same.1 at);
+          more.wrong (subst (λ (t : LinePlace). AreRight (next x.0) (suc more.before) t.rest) same.1 at);
     })
 
 -- a line that may be missing is wrong where there is something, and it isn't that line
@@ -125,12 +125,12 @@ perhaps_wrong z name one read next k text some wrong (inr there) = wrong there
 fails : {X : Type 0} (c : Column X) → Fails c
 unfolding read_by
 fails (Done y) s line e =
-    bind_err (WrongFrom (Done y) s line) (end_at s) _ line e
+    bind_err (WrongFrom (Done y) s line) (text_end_at s) _ line e
     (λ wrong. record {
       before = 0;
       next = names_end s line wrong ∙ omega arith;
       right = tt;
-      wrong = λ nothing. no_fault (end_at s) _ line (end_again s nothing) wrong;
+      wrong = λ nothing. no_fault (text_end_at s) _ line (end_again s nothing) wrong;
     })
     (λ x is other. absurd cc)
 fails (Line name one read next) s line e = line_fails name one read next (λ y. fails (next y)) s line e
@@ -174,10 +174,10 @@ all_right (Perhaps y name one read next) x text zero is = tt
 all_right (Perhaps y name one read next) x text (suc k) (inl is) = inl is.0
 all_right (Perhaps y name one read next) x text (suc k) (inr is) = inr (is.0, is.1, is.2, all_right (next is.0) x is.1 k is.3)
 
-not_below : {X : Type 0} (c : Column X) (text : List ℕ) (a b : ℕ) (one : IsFirstWrong c text a) (other : IsFirstWrong c text b) → one.before < other.before → ⊥
+not_below : {X : Type 0} (c : Column X) (text : List ℕ) (a b : ℕ) (one : IsFirstWrongLine c text a) (other : IsFirstWrongLine c text b) → one.before < other.before → ⊥
 not_below c text a b one other below = one.wrong (up_to c text (suc one.before) other.before (omega arith) other.right)
 
-unique : {X : Type 0} (c : Column X) (text : List ℕ) (a b : ℕ) → IsFirstWrong c text a → IsFirstWrong c text b → a ≡ b
+unique : {X : Type 0} (c : Column X) (text : List ℕ) (a b : ℕ) → IsFirstWrongLine c text a → IsFirstWrongLine c text b → a ≡ b
 unique c text a b one other = elim (cases_lt one.before other.before) [
   | inl below ↦ absurd (not_below c text a b one other below)
   | inr le ↦ elim (cases_lt other.before one.before) [
@@ -190,13 +190,13 @@ misplaced : {X : Type 0} (r : Reading X) (line : ℕ) → without_place r ≡ Er
 misplaced (Ok y) line e = absurd cc
 misplaced (Err d) line e = let same : d ≡ line = cc in ap (λ (n : ℕ). Err n) same
 
-first_wrong : {X : Type 0} (c : Column X) (text : List ℕ) (line : ℕ) → read_text c text ≡ Err line → IsFirstWrong c text line
+first_wrong : {X : Type 0} (c : Column X) (text : List ℕ) (line : ℕ) → read_text c text ≡ Err line → IsFirstWrongLine c text line
 unfolding read_text
 first_wrong c text line e =
     let from = fails c (first_line text) line (misplaced (read_by c (first_line text)) line e) in
     record { before = from.before; next = from.next ∙ omega arith; right = from.right; wrong = from.wrong }
 
-answered : {X : Type 0} (c : Column X) (text : List ℕ) (line : ℕ) (r : Result X ℕ) → read_text c text ≡ r → IsFirstWrong c text line → r ≡ Err line
+answered : {X : Type 0} (c : Column X) (text : List ℕ) (line : ℕ) (r : Result X ℕ) → read_text c text ≡ r → IsFirstWrongLine c text line → r ≡ Err line
 answered c text line (Ok x) is wrong = absurd (wrong.wrong (all_right c x text (suc wrong.before) (found c text x is)))
 answered c text line (Err d) is wrong = ap (λ (n : ℕ). Err n) (unique c text d line (first_wrong c text d is) wrong)
 

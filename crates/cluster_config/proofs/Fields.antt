@@ -5,7 +5,7 @@ use Rattle.std.proofs.lemmas.Bool.{eqb-true, ne_eqb}
 use Rattle.std.proofs.lemmas.List.{take-append-drop}
 use Rattle.std.proofs.Math.Seq.{take-append_seam, drop-append_seam}
 use Rattle.std.proofs.lemmas.Slice.Eq.{bytes_eq-Decides}
-use Rattle.cluster_config.specs.Lines.{Place, Reading, ◌>>=◌, or_line, line_from, line_at, end_from, end_at, behind, value_in, value_at, field_at}
+use Rattle.cluster_config.specs.Lines.{LinePlace, Reading, ◌>>=◌, or_line, line_from, line_at, text_end_from, text_end_at, behind, value_in, line_value_at, field_at}
 use Rattle.cluster_config.specs.Cuts.{cut_at}
 use Rattle.cluster_config.specs.Columns.{BeginsWith, is_one_line}
 use Rattle.cluster_config.proofs.FirstByte.{cut_split, cut_joined, both}
@@ -56,23 +56,23 @@ one_both (x ∷ a) b one two =
     rw parts.0 (one_both a b parts.1 two)
 
 -- ---- a line that is read
-abbrev ok_as : {A : Type 0} → A → Place → Reading A
+abbrev ok_as : {A : Type 0} → A → LinePlace → Reading A
 ok_as x s = Ok (x, s)
 
-pub same_ok : {A : Type 0} (x y : A) (s t : Place) → ok_as x s ≡ ok_as y t → (x ≡ y) × (s ≡ t)
+pub same_ok : {A : Type 0} (x y : A) (s t : LinePlace) → ok_as x s ≡ ok_as y t → (x ≡ y) × (s ≡ t)
 same_ok {A} x y s t e =
-    let p : ◌≡◌ {A = A × Place} (x, s) (y, t) = cc in
-    (ap (λ (q : A × Place). q.0) p, ap (λ (q : A × Place). q.1) p)
+    let p : ◌≡◌ {A = A × LinePlace} (x, s) (y, t) = cc in
+    (ap (λ (q : A × LinePlace). q.0) p, ap (λ (q : A × LinePlace). q.1) p)
 
 given : {A : Type 0} (line : ℕ) (o : Option A) (x : A) → or_line line o ≡ Ok x → o ≡ Some x
 given line None x e = absurd cc
 given line (Some y) x e = cc
 
-record IsLine (s : Place) (line : List ℕ) (next : Place) : Type 0 where
+record IsLine (s : LinePlace) (line : List ℕ) (next : LinePlace) : Type 0 where
   is : cut_at 10 s.rest ≡ Some (line, next.rest)
   number : next.number ≡ s.number + 1
 
-line_is : (s next : Place) (line : List ℕ) → line_at s ≡ Ok (line, next) → IsLine s line next
+line_is : (s next : LinePlace) (line : List ℕ) → line_at s ≡ Ok (line, next) → IsLine s line next
 unfolding line_at
 line_is s next line e = go (cut_at 10 s.rest) refl e
   where
@@ -81,17 +81,17 @@ line_is s next line e = go (cut_at 10 s.rest) refl e
     go (Some x) is f =
         let parts = same_ok x.0 line (record { number = s.number + 1; rest = x.1 }) next f in
         record {
-          is = is ∙ ap₂ (λ (a b : List ℕ). Some (a, b)) parts.0 (ap (λ (q : Place). q.rest) parts.1);
-          number = sym (ap (λ (q : Place). q.number) parts.1);
+          is = is ∙ ap₂ (λ (a b : List ℕ). Some (a, b)) parts.0 (ap (λ (q : LinePlace). q.rest) parts.1);
+          number = sym (ap (λ (q : LinePlace). q.number) parts.1);
         }
 
 -- the text begins with a line of this name and value, and the next line has the next number
-record IsSpelled (name : List ℕ) (s : Place) (value : List ℕ) (next : Place) : Type 0 where
+record IsSpelled (name : List ℕ) (s : LinePlace) (value : List ℕ) (next : LinePlace) : Type 0 where
   whole : s.rest ≡ name ++ 32 ∷ value ++ 10 ∷ next.rest
   one_line : is_one_line value ≡ true
   number : next.number ≡ s.number + 1
 
-spelled_as : (name : List ℕ) (s next : Place) (line value : List ℕ) → IsLine s line next → line ≡ name ++ 32 ∷ value → IsSpelled name s value next
+spelled_as : (name : List ℕ) (s next : LinePlace) (line value : List ℕ) → IsLine s line next → line ≡ name ++ 32 ∷ value → IsSpelled name s value next
 spelled_as name s next line value was spelled =
     let parts = cut_split s.rest line next.rest was.is in
     record {
@@ -100,25 +100,25 @@ spelled_as name s next line value was spelled =
       number = was.number;
     }
 
-value_found : (name : List ℕ) (s next : Place) (value : List ℕ) → value_at name s ≡ Ok (value, next) → IsSpelled name s value next
-unfolding value_at
+value_found : (name : List ℕ) (s next : LinePlace) (value : List ℕ) → line_value_at name s ≡ Ok (value, next) → IsSpelled name s value next
+unfolding line_value_at
 value_found name s next value e =
-    let line = bind_ok (line_at s) (λ (l : List ℕ × Place). or_line s.number (value_in name l.0) >>= λ (v : List ℕ). Ok (v, l.1)) (value, next) e in
+    let line = bind_ok (line_at s) (λ (l : List ℕ × LinePlace). or_line s.number (value_in name l.0) >>= λ (v : List ℕ). Ok (v, l.1)) (value, next) e in
     let read = bind_ok (or_line s.number (value_in name line.0.0)) (λ (v : List ℕ). Ok (v, line.0.1)) (value, next) line.2 in
     let same = same_ok read.0 value line.0.1 next read.2 in
     let was = line_is s line.0.1 line.0.0 line.1 in
     let made = spelled_as name s line.0.1 line.0.0 read.0 was (value_is name line.0.0 read.0 (given s.number (value_in name line.0.0) read.0 read.1)) in
-    subst (λ (v : List ℕ). IsSpelled name s v next) same.0 (subst (λ (t : Place). IsSpelled name s read.0 t) same.1 made)
+    subst (λ (v : List ℕ). IsSpelled name s v next) same.0 (subst (λ (t : LinePlace). IsSpelled name s read.0 t) same.1 made)
 
 -- the text begins with a line of this name, whose value reads as x, and the next line has the next number
-pub record IsField {A : Type 0} (name : List ℕ) (read : List ℕ → Option A) (s : Place) (x : A) (next : Place) : Type 0 where
+pub record IsField {A : Type 0} (name : List ℕ) (read : List ℕ → Option A) (s : LinePlace) (x : A) (next : LinePlace) : Type 0 where
   pub begins : BeginsWith name read x next.rest s.rest
   pub number : next.number ≡ s.number + 1
 
-pub field_is : {A : Type 0} (name : List ℕ) (read : List ℕ → Option A) (s next : Place) (x : A) → field_at name read s ≡ Ok (x, next) → IsField name read s x next
+pub field_is : {A : Type 0} (name : List ℕ) (read : List ℕ → Option A) (s next : LinePlace) (x : A) → field_at name read s ≡ Ok (x, next) → IsField name read s x next
 unfolding field_at
 field_is {A} name read s next x e =
-    let value = bind_ok (value_at name s) (λ (v : List ℕ × Place). or_line s.number (read v.0) >>= λ (y : A). Ok (y, v.1)) (x, next) e in
+    let value = bind_ok (line_value_at name s) (λ (v : List ℕ × LinePlace). or_line s.number (read v.0) >>= λ (y : A). Ok (y, v.1)) (x, next) e in
     let last = bind_ok (or_line s.number (read value.0.0)) (λ (y : A). Ok (y, value.0.1)) (x, next) value.2 in
     let same = same_ok last.0 x value.0.1 next last.2 in
     let found = value_found name s value.0.1 value.0.0 value.1 in
@@ -129,19 +129,19 @@ field_is {A} name read s next x e =
       reads = given s.number (read value.0.0) last.0 last.1;
     } in
     let made : IsField name read s last.0 value.0.1 = record { begins = begins; number = found.number } in
-    subst (λ (y : A). IsField name read s y next) same.0 (subst (λ (t : Place). IsField name read s last.0 t) same.1 made)
+    subst (λ (y : A). IsField name read s y next) same.0 (subst (λ (t : LinePlace). IsField name read s last.0 t) same.1 made)
 
 -- ---- a line that is spelled
 spelled_again : {A : Type 0} (name : List ℕ) (read : List ℕ → Option A) (number : ℕ) (value rest : List ℕ) (x : A) → is_one_line name ≡ true → is_one_line value ≡ true → read value ≡ Some x
     → field_at name read (record { number = number; rest = name ++ 32 ∷ value ++ 10 ∷ rest }) ≡ Ok (x, record { number = number + 1; rest = rest })
-unfolding field_at value_at line_at
+unfolding field_at line_value_at line_at
 spelled_again name read number value rest x named one reads =
     let line : List ℕ = name ++ 32 ∷ value in
     let joined : cut_at 10 (name ++ 32 ∷ value ++ 10 ∷ rest) ≡ Some (line, rest) = cut_joined line rest (one_both name (32 ∷ value) named one) in
     let valued = value_again name value in
     rw (joined, valued, reads) refl
 
-pub field_again : {A : Type 0} (name : List ℕ) (read : List ℕ → Option A) (s : Place) (x : A) (rest : List ℕ) → is_one_line name ≡ true → BeginsWith name read x rest s.rest
+pub field_again : {A : Type 0} (name : List ℕ) (read : List ℕ → Option A) (s : LinePlace) (x : A) (rest : List ℕ) → is_one_line name ≡ true → BeginsWith name read x rest s.rest
     → field_at name read s ≡ Ok (x, record { number = s.number + 1; rest = rest })
 field_again name read s x rest named begins =
     ap (λ (text : List ℕ). field_at name read (record { number = s.number; rest = text })) begins.whole
@@ -162,7 +162,7 @@ names_given number None line is = let same : number ≡ line = cc in sym same
 names_ok : {A : Type 0} (number : ℕ) (x : A) → Names {A = A} number (Ok x)
 names_ok number x line is = absurd cc
 
-names_line : (s : Place) → Names s.number (line_at s)
+names_line : (s : LinePlace) → Names s.number (line_at s)
 unfolding line_at
 names_line s = go (cut_at 10 s.rest)
   where
@@ -170,31 +170,31 @@ names_line s = go (cut_at 10 s.rest)
     go None line is = let same : s.number ≡ line = cc in sym same
     go (Some x) line is = absurd cc
 
-pub names_field : {A : Type 0} (name : List ℕ) (read : List ℕ → Option A) (s : Place) → Names s.number (field_at name read s)
-unfolding field_at value_at
+pub names_field : {A : Type 0} (name : List ℕ) (read : List ℕ → Option A) (s : LinePlace) → Names s.number (field_at name read s)
+unfolding field_at line_value_at
 names_field name read s =
-    names_bind s.number (value_at name s) _
+    names_bind s.number (line_value_at name s) _
     (names_bind s.number (line_at s) _ (names_line s) (λ l. names_bind s.number (or_line s.number _) _ (names_given s.number _) (λ v. names_ok s.number _)))
     (λ v. names_bind s.number (or_line s.number (read v.0)) _ (names_given s.number (read v.0)) (λ x. names_ok s.number _))
 
 -- ---- the end
-pub end_is : (s next : Place) (u : Unit {0}) → end_at s ≡ Ok (u, next) → s.rest ≡ []
-unfolding end_at
+pub end_is : (s next : LinePlace) (u : Unit {0}) → text_end_at s ≡ Ok (u, next) → s.rest ≡ []
+unfolding text_end_at
 end_is s next u e = go s.rest refl e
   where
-    go : (l : List ℕ) → s.rest ≡ l → end_from s.number l ≡ Ok (u, next) → s.rest ≡ []
+    go : (l : List ℕ) → s.rest ≡ l → text_end_from s.number l ≡ Ok (u, next) → s.rest ≡ []
     go [] is f = is
     go (b ∷ l) is f = absurd cc
 
-pub end_again : (s : Place) → s.rest ≡ [] → end_at s ≡ Ok (tt, record { number = s.number; rest = [] })
-unfolding end_at
-end_again s nothing = ap (end_from s.number) nothing
+pub end_again : (s : LinePlace) → s.rest ≡ [] → text_end_at s ≡ Ok (tt, record { number = s.number; rest = [] })
+unfolding text_end_at
+end_again s nothing = ap (text_end_from s.number) nothing
 
-pub names_end : (s : Place) → Names s.number (end_at s)
-unfolding end_at
+pub names_end : (s : LinePlace) → Names s.number (text_end_at s)
+unfolding text_end_at
 names_end s = go s.rest
   where
-    go : (l : List ℕ) → Names s.number (end_from s.number l)
+    go : (l : List ℕ) → Names s.number (text_end_from s.number l)
     go [] line is = absurd cc
     go (b ∷ l) line is = let same : s.number ≡ line = cc in sym same
 

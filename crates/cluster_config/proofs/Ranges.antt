@@ -14,7 +14,7 @@ use Rattle.ritas_base.specs.declared.mode.FrameVersion.{FrameVersion}
 use Rattle.ritas_base.specs.declared.mode.FrameVersion.TheVariants.{One, Two}
 use Rattle.cluster_config.specs.declared.requests.Request.{Request}
 use Rattle.cluster_config.specs.declared.submit.SubmitConfig.{SubmitConfig}
-use Rattle.cluster_config.specs.Values.{numeral, if_within, number_in, numbers_of, numbers_in, version_in, if_ok, key_in, keys_in, row_in, number_before, payload_in, request_in}
+use Rattle.cluster_config.specs.Values.{numeral, if_within, number_in, numbers_of, numbers_in, version_in, if_ok, key_in, keys_in, row_in, number_before, payload_in, request_of_line}
 use Rattle.cluster_config.specs.Cuts.{cut_at}
 use Rattle.cluster_config.specs.Columns.{BeginsWith, Column, is_one_line, lines_of, lines_up_to, read_text, IsText}
 use Rattle.cluster_config.specs.Front.{session_lines, numbers_lines, copies_line, journal_line}
@@ -152,7 +152,7 @@ record FitsRequest (n : ℕ) (r : Request) : Type 0 where
   at : r.at ≤ n - 1
   short : length r.payload ≤ 4088
 
-request_fits : (n : ℕ) (text : List ℕ) (r : Request) → request_in n text ≡ Some r → FitsRequest n r
+request_fits : (n : ℕ) (text : List ℕ) (r : Request) → request_of_line n text ≡ Some r → FitsRequest n r
 request_fits n text r e =
     option_and_then_some _ (number_before 32 (n - 1) text) r e (λ at is0 f0.
     option_and_then_some _ (number_before 32 4294967295 at.1) r f0 (λ client is1 f1.
@@ -254,11 +254,11 @@ node_fits text x is =
       keys = row_long p.0.n row.2.value row.0 row.2.reads;
     })
 
-all_short : (n : ℕ) (rs : List Request) → AllByRecursion (IsSaid (request_in n)) rs → AllByRecursion (λ r. length r.payload ≤ 4088) rs
+all_short : (n : ℕ) (rs : List Request) → AllByRecursion (IsSaid (request_of_line n)) rs → AllByRecursion (λ r. length r.payload ≤ 4088) rs
 all_short n [] said = tt
 all_short n (r ∷ rs) said = ((request_fits n said.0.0 r said.0.1).short, all_short n rs said.1)
 
-all_here : (n : ℕ) (rs : List Request) → 1 ≤ n → AllByRecursion (IsSaid (request_in n)) rs → AllByRecursion (λ r. r.at < n) rs
+all_here : (n : ℕ) (rs : List Request) → 1 ≤ n → AllByRecursion (IsSaid (request_of_line n)) rs → AllByRecursion (λ r. r.at < n) rs
 all_here n [] some said = tt
 all_here n (r ∷ rs) some said =
     let at = (request_fits n said.0.0 r said.0.1).at in

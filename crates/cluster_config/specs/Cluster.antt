@@ -5,7 +5,7 @@ use Rattle.ritas_base.specs.declared.mode.FrameVersion.{FrameVersion}
 use Rattle.ritas_base.specs.declared.mode.Vect.{Vect}
 use Rattle.cluster_config.specs.declared.cluster.ClusterConfig.{ClusterConfig}
 use Rattle.cluster_config.specs.declared.requests.Request.{Request}
-use Rattle.cluster_config.specs.Values.{most, number_in, vect_in, key_in, address_in, request_in}
+use Rattle.cluster_config.specs.Values.{most, number_in, vect_in, key_in, address_in, request_of_line}
 use Rattle.cluster_config.specs.Columns.{Column, Line, lines_of, lines_up_to}
 use Rattle.cluster_config.specs.Front.{session_lines, numbers_lines}
 
@@ -47,5 +47,5 @@ cluster_column =
     lines_of (codes "peer") refl address_in p.n (λ peers.
     Line (codes "limit") refl (number_in 1 most) (λ limit.
     Line (codes "until") refl (number_in 0 4294967295) (λ until.
-    lines_up_to (codes "request") refl (request_in p.n) 64 (λ requests.
+    lines_up_to (codes "request") refl (request_of_line p.n) 64 (λ requests.
     record { session = session; p = p; root = root; vect = vect; version = version; master = master; peers = peers; limit = limit; until = until; requests = requests })))))))))

@@ -1,6 +1,6 @@
 -- A configuration as a table of lines, and what a text of such lines says: read from above, as a grammar, and its first wrong line.
 use Rattle.std.specs.Prelude.{◌≡◌, ◌⊎◌, ◌↔◌, ℕ, zero, suc, ◌+◌, ◌==◌, ◌&&◌, Bool, true, not, List, [], ◌∷◌, ◌++◌, length, Option, Some, Result, Ok, Err, if◌then◌else◌}
-use Rattle.cluster_config.specs.Lines.{Place, Reading, ◌>>=◌, first_line, end_at, field_at}
+use Rattle.cluster_config.specs.Lines.{LinePlace, Reading, ◌>>=◌, first_line, text_end_at, field_at}
 
 -- no line feed is among these bytes
 abbrev pub is_one_line : List ℕ → Bool
@@ -26,8 +26,8 @@ lines_up_to name one read (suc k) said = Perhaps (said []) name one read (λ x. 
 
 -- ---- read from above
 
-unfoldable pub read_by : {X : Type 0} → Column X → Place → Reading X
-read_by (Done x) s = end_at s >>= λ over. Ok (x, over.1)
+unfoldable pub read_by : {X : Type 0} → Column X → LinePlace → Reading X
+read_by (Done x) s = text_end_at s >>= λ over. Ok (x, over.1)
 read_by (Line name one read next) s = field_at name read s >>= λ x. read_by (next x.0) x.1
 read_by (Perhaps x name one read next) s = if length s.rest == 0 then Ok (x, s) else (field_at name read s >>= λ y. read_by (next y.0) y.1)
 
@@ -68,7 +68,7 @@ AreRight (Perhaps {A} z name one read next) (suc k) text = (text ≡ [])
     ⊎ ((y : A) × (rest : List ℕ) × BeginsWith name read y rest text × AreRight (next y) k rest)
 
 -- the line of this number, from 1, is the first that is wrong or missing
-pub record IsFirstWrong {X : Type 0} (c : Column X) (text : List ℕ) (line : ℕ) : Type 0 where
+pub record IsFirstWrongLine {X : Type 0} (c : Column X) (text : List ℕ) (line : ℕ) : Type 0 where
   pub before : ℕ
   pub next : line ≡ before + 1
   pub right : AreRight c before text
@@ -79,4 +79,4 @@ pub record IsFirstWrong {X : Type 0} (c : Column X) (text : List ℕ) (line : �
 pub record IsReadRight {X : Type 0} (c : Column X) : Type 0 where
   pub found : (text : List ℕ) (x : X) → read_text c text ≡ Ok x → IsText c x text
   pub only : (text : List ℕ) (x : X) → IsText c x text → read_text c text ≡ Ok x
-  pub fault : (text : List ℕ) (line : ℕ) → (read_text c text ≡ Err line) ↔ IsFirstWrong c text line
+  pub fault : (text : List ℕ) (line : ℕ) → (read_text c text ≡ Err line) ↔ IsFirstWrongLine c text line

@@ -24,12 +24,12 @@ base = record (new_app (codes "ritas")) {
   };
 }
 
-abbrev pub valued : App
-valued = with_subcommand (with_subcommand base (with_value (codes "replay"))) (with_value (codes "drive"))
+abbrev pub valued_word : App
+valued_word = with_subcommand (with_subcommand base (with_value (codes "replay"))) (with_value (codes "drive"))
 
 abbrev pub ritas : App
 ritas =
-    let with_keys = with_subcommand valued (alone (codes "keys")) in
+    let with_keys = with_subcommand valued_word (alone (codes "keys")) in
     let with_node = with_subcommand with_keys (alone (codes "node")) in
     let with_cluster = with_subcommand with_node (alone (codes "cluster")) in
     with_subcommand with_cluster (alone (codes "submit"))

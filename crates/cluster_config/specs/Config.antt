@@ -12,38 +12,38 @@ use Rattle.cluster_config.specs.Cluster.{cluster_column, cluster_text}
 use Rattle.cluster_config.specs.Submit.{submit_column}
 
 -- what a text of a column's lines says, or its first wrong line; it takes no memory
-abbrev pub Says : {X C : Type 0} → Column X → (C → X) → List ℕ → Result C ConfigFault → Type 0
-Says column says text (Ok config) = read_text column text ≡ Ok (says config)
-Says column says text (Err (Line line)) = read_text column text ≡ Err line
-Says column says text (Err Mem) = ⊥
+abbrev pub SaysConfig : {X C : Type 0} → Column X → (C → X) → List ℕ → Result C ConfigFault → Type 0
+SaysConfig column says text (Ok config) = read_text column text ≡ Ok (says config)
+SaysConfig column says text (Err (Line line)) = read_text column text ≡ Err line
+SaysConfig column says text (Err Mem) = ⊥
 
 -- the same, or memory was wanting, and then the text is right
-abbrev pub Reads : {X C : Type 0} → Column X → (C → X) → List ℕ → Result C ConfigFault → Type 0
-Reads column says text (Ok config) = read_text column text ≡ Ok (says config)
-Reads column says text (Err (Line line)) = read_text column text ≡ Err line
-Reads {X} column says text (Err Mem) = (x : X) × (read_text column text ≡ Ok x)
+abbrev pub ReadsConfig : {X C : Type 0} → Column X → (C → X) → List ℕ → Result C ConfigFault → Type 0
+ReadsConfig column says text (Ok config) = read_text column text ≡ Ok (says config)
+ReadsConfig column says text (Err (Line line)) = read_text column text ≡ Err line
+ReadsConfig {X} column says text (Err Mem) = (x : X) × (read_text column text ≡ Ok x)
 
 abbrev pub AnswersDrive : List ℕ → Result Config ConfigFault → Type 0
-AnswersDrive text (Ok (Drive plan)) = Says drive_column planned text (Ok plan)
-AnswersDrive text (Err fault) = Says drive_column planned text (Err fault)
+AnswersDrive text (Ok (Drive plan)) = SaysConfig drive_column planned text (Ok plan)
+AnswersDrive text (Err fault) = SaysConfig drive_column planned text (Err fault)
 AnswersDrive text other = ⊥
 
 abbrev pub AnswersKeys : List ℕ → Result Config ConfigFault → Type 0
-AnswersKeys text (Ok (Keys config)) = Says keys_column (λ keys. keys) text (Ok config)
-AnswersKeys text (Err fault) = Says keys_column (λ keys. keys) text (Err fault)
+AnswersKeys text (Ok (Keys config)) = SaysConfig keys_column (λ keys. keys) text (Ok config)
+AnswersKeys text (Err fault) = SaysConfig keys_column (λ keys. keys) text (Err fault)
 AnswersKeys text other = ⊥
 
 abbrev pub AnswersNode : List ℕ → Result Config ConfigFault → Type 0
-AnswersNode text (Ok (Node config)) = Reads node_column node_text text (Ok config)
-AnswersNode text (Err fault) = Reads node_column node_text text (Err fault)
+AnswersNode text (Ok (Node config)) = ReadsConfig node_column node_text text (Ok config)
+AnswersNode text (Err fault) = ReadsConfig node_column node_text text (Err fault)
 AnswersNode text other = ⊥
 
 abbrev pub AnswersCluster : List ℕ → Result Config ConfigFault → Type 0
-AnswersCluster text (Ok (Cluster config)) = Reads cluster_column cluster_text text (Ok config)
-AnswersCluster text (Err fault) = Reads cluster_column cluster_text text (Err fault)
+AnswersCluster text (Ok (Cluster config)) = ReadsConfig cluster_column cluster_text text (Ok config)
+AnswersCluster text (Err fault) = ReadsConfig cluster_column cluster_text text (Err fault)
 AnswersCluster text other = ⊥
 
 abbrev pub AnswersSubmit : List ℕ → Result Config ConfigFault → Type 0
-AnswersSubmit text (Ok (Submit config)) = Reads submit_column (λ submit. submit) text (Ok config)
-AnswersSubmit text (Err fault) = Reads submit_column (λ submit. submit) text (Err fault)
+AnswersSubmit text (Ok (Submit config)) = ReadsConfig submit_column (λ submit. submit) text (Ok config)
+AnswersSubmit text (Err fault) = ReadsConfig submit_column (λ submit. submit) text (Err fault)
 AnswersSubmit text other = ⊥

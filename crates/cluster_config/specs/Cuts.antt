@@ -3,9 +3,9 @@ use Rattle.std.specs.Prelude.{ℕ, ◌+◌, ◌==◌, List, take, drop, Option, 
 use Rattle.std.specs.List.{position}
 
 -- where a byte comes first
-abbrev pub place_of : ℕ → List ℕ → Option ℕ
-place_of byte = position (λ b. b == byte)
+abbrev pub place_of_byte : ℕ → List ℕ → Option ℕ
+place_of_byte byte = position (λ b. b == byte)
 
 -- what stands before the first such byte, and what stands behind it
 abbrev pub cut_at : ℕ → List ℕ → Option (List ℕ × List ℕ)
-cut_at byte text = option_map (λ place. (take place text, drop (place + 1) text)) (place_of byte text)
+cut_at byte text = option_map (λ place. (take place text, drop (place + 1) text)) (place_of_byte byte text)

@@ -11,7 +11,7 @@ use Rattle.ritas_base.specs.declared.plan.Attack.TheVariants.{Absent}
 use Rattle.cluster_config.specs.declared.job.Job.TheVariants.{Replay, Drive, Node}
 use Rattle.cluster_config.specs.Words.{job_of}
 use Rattle.cluster_config.specs.Values.{numeral, number_in, numbers_in}
-use Rattle.cluster_config.specs.Lines.{line_at, end_at, value_at, field_at}
+use Rattle.cluster_config.specs.Lines.{line_at, text_end_at, line_value_at, field_at}
 use Rattle.cluster_config.specs.Columns.{read_by, read_text}
 use Rattle.cluster_config.specs.Front.{session_lines, numbers_lines, copies_line}
 use Rattle.cluster_config.specs.Drive.{Planned, drive_column}
@@ -158,76 +158,76 @@ plan = record {
 
 -- a plan
 is_read : read_text drive_column whole ≡ Ok plan
-unfolding read_text read_by drive_column session_lines numbers_lines copies_line field_at value_at line_at end_at decode_pairs
+unfolding read_text read_by drive_column session_lines numbers_lines copies_line field_at line_value_at line_at text_end_at decode_pairs
 is_read = refl
 
 -- the first line is the version of frames
 of_version_two : read_text drive_column (codes "ritas 2\n" ++ lines) ≡ Ok (record plan { version = Two })
-unfolding read_text read_by drive_column session_lines numbers_lines copies_line field_at value_at line_at end_at decode_pairs
+unfolding read_text read_by drive_column session_lines numbers_lines copies_line field_at line_value_at line_at text_end_at decode_pairs
 of_version_two = refl
 
 of_version_three : read_text drive_column (codes "ritas 3\n" ++ lines) ≡ Err 1
-unfolding read_text read_by drive_column session_lines numbers_lines copies_line field_at value_at line_at end_at decode_pairs
+unfolding read_text read_by drive_column session_lines numbers_lines copies_line field_at line_value_at line_at text_end_at decode_pairs
 of_version_three = refl
 
 -- what is said of copies: from one to all four
 one_copy : read_text drive_column (whole ++ codes "copies 1\n") ≡ Ok plan
-unfolding read_text read_by drive_column session_lines numbers_lines copies_line field_at value_at line_at end_at decode_pairs
+unfolding read_text read_by drive_column session_lines numbers_lines copies_line field_at line_value_at line_at text_end_at decode_pairs
 one_copy = refl
 
 all_copies : read_text drive_column (whole ++ codes "copies 4\n") ≡ Ok (record plan { copies = 4 })
-unfolding read_text read_by drive_column session_lines numbers_lines copies_line field_at value_at line_at end_at decode_pairs
+unfolding read_text read_by drive_column session_lines numbers_lines copies_line field_at line_value_at line_at text_end_at decode_pairs
 all_copies = refl
 
 no_copy : read_text drive_column (whole ++ codes "copies 0\n") ≡ Err 12
-unfolding read_text read_by drive_column session_lines numbers_lines copies_line field_at value_at line_at end_at decode_pairs
+unfolding read_text read_by drive_column session_lines numbers_lines copies_line field_at line_value_at line_at text_end_at decode_pairs
 no_copy = refl
 
 too_many_copies : read_text drive_column (whole ++ codes "copies 5\n") ≡ Err 12
-unfolding read_text read_by drive_column session_lines numbers_lines copies_line field_at value_at line_at end_at decode_pairs
+unfolding read_text read_by drive_column session_lines numbers_lines copies_line field_at line_value_at line_at text_end_at decode_pairs
 too_many_copies = refl
 
 -- and a line behind that
 behind_copies : read_text drive_column (whole ++ codes "copies 2\ncopies 2\n") ≡ Err 13
-unfolding read_text read_by drive_column session_lines numbers_lines copies_line field_at value_at line_at end_at decode_pairs
+unfolding read_text read_by drive_column session_lines numbers_lines copies_line field_at line_value_at line_at text_end_at decode_pairs
 behind_copies = refl
 
 -- a line more
 more : read_text drive_column (whole ++ 10 ∷ []) ≡ Err 12
-unfolding read_text read_by drive_column session_lines numbers_lines copies_line field_at value_at line_at end_at decode_pairs
+unfolding read_text read_by drive_column session_lines numbers_lines copies_line field_at line_value_at line_at text_end_at decode_pairs
 more = refl
 
 -- no line at all
 none : read_text drive_column [] ≡ Err 1
-unfolding read_text read_by drive_column session_lines numbers_lines copies_line field_at value_at line_at end_at
+unfolding read_text read_by drive_column session_lines numbers_lines copies_line field_at line_value_at line_at text_end_at
 none = refl
 
 -- the third line is missing
 missing : read_text drive_column front ≡ Err 3
-unfolding read_text read_by drive_column session_lines numbers_lines copies_line field_at value_at line_at end_at
+unfolding read_text read_by drive_column session_lines numbers_lines copies_line field_at line_value_at line_at text_end_at
 missing = refl
 
 -- its name stands there alone
 no_value : read_text drive_column (front ++ codes "n\n") ≡ Err 3
-unfolding read_text read_by drive_column session_lines numbers_lines copies_line field_at value_at line_at end_at
+unfolding read_text read_by drive_column session_lines numbers_lines copies_line field_at line_value_at line_at text_end_at
 no_value = refl
 
 -- two spaces
 two_spaces : read_text drive_column (front ++ codes "n  4\n") ≡ Err 3
-unfolding read_text read_by drive_column session_lines numbers_lines copies_line field_at value_at line_at end_at
+unfolding read_text read_by drive_column session_lines numbers_lines copies_line field_at line_value_at line_at text_end_at
 two_spaces = refl
 
 -- a line without an end
 no_end : read_text drive_column (front ++ codes "n 4") ≡ Err 3
-unfolding read_text read_by drive_column session_lines numbers_lines copies_line field_at value_at line_at end_at
+unfolding read_text read_by drive_column session_lines numbers_lines copies_line field_at line_value_at line_at text_end_at
 no_end = refl
 
 -- a line in the place of another
 other_line : read_text drive_column (front ++ codes "f 1\n") ≡ Err 3
-unfolding read_text read_by drive_column session_lines numbers_lines copies_line field_at value_at line_at end_at
+unfolding read_text read_by drive_column session_lines numbers_lines copies_line field_at line_value_at line_at text_end_at
 other_line = refl
 
 -- too many faulty replicas
 too_many : read_text drive_column (front ++ codes "n 4\nf 2\n") ≡ Err 4
-unfolding read_text read_by drive_column session_lines numbers_lines copies_line field_at value_at line_at end_at
+unfolding read_text read_by drive_column session_lines numbers_lines copies_line field_at line_value_at line_at text_end_at
 too_many = refl

@@ -5,7 +5,7 @@ use Rattle.cluster_config.specs.declared.submit.SubmitView.{SubmitView}
 use Rattle.cluster_config.specs.declared.submit.SubmitConfig.{SubmitConfig}
 use Rattle.cluster_config.specs.Node.{NodeText}
 use Rattle.cluster_config.specs.Cluster.{ClusterText}
-use Rattle.cluster_config.specs.Views.{request_of}
+use Rattle.cluster_config.specs.Views.{viewed_request}
 
 abbrev pub node_seen : NodeView → NodeText
 node_seen view = record {
@@ -39,4 +39,4 @@ cluster_seen view = record {
 }
 
 abbrev pub submit_seen : SubmitView → SubmitConfig
-submit_seen view = record { p = view.p; peers = view.peers; request = request_of view.request }
+submit_seen view = record { p = view.p; peers = view.peers; request = viewed_request view.request }

@@ -1,7 +1,7 @@
 -- The configuration of a request that is to be handed in: its lines, in their order. Requests are alike in both versions of frames.
 use Rattle.std.specs.Prelude.{codes, refl}
 use Rattle.cluster_config.specs.declared.submit.SubmitConfig.{SubmitConfig}
-use Rattle.cluster_config.specs.Values.{address_in, request_in, version_in}
+use Rattle.cluster_config.specs.Values.{address_in, request_of_line, version_in}
 use Rattle.cluster_config.specs.Columns.{Column, Done, Line, lines_of}
 use Rattle.cluster_config.specs.Front.{numbers_lines}
 
@@ -10,5 +10,5 @@ submit_column =
     Line (codes "ritas") refl version_in (λ version.
     numbers_lines (λ p.
     lines_of (codes "peer") refl address_in p.n (λ peers.
-    Line (codes "request") refl (request_in p.n) (λ request.
+    Line (codes "request") refl (request_of_line p.n) (λ request.
     Done (record { p = p; peers = peers; request = request })))))

@@ -3,7 +3,7 @@ use Rattle.std.specs.Prelude.{◌≡◌, ℕ, true, false, List, [], ◌∷◌, 
 use Rattle.hex.specs.Hex.{decode_pairs}
 use Rattle.ritas_base.specs.declared.mode.FrameVersion.TheVariants.{One, Two}
 use Rattle.ritas_base.specs.declared.mode.Vect.TheVariants.{Echo, Reliable}
-use Rattle.cluster_config.specs.Lines.{line_at, end_at, value_at, field_at}
+use Rattle.cluster_config.specs.Lines.{line_at, text_end_at, line_value_at, field_at}
 use Rattle.cluster_config.specs.Columns.{lines_of, lines_up_to, read_by, read_text}
 use Rattle.cluster_config.specs.Front.{session_lines, numbers_lines, journal_line}
 use Rattle.cluster_config.specs.Keys.{keys_column}
@@ -25,28 +25,28 @@ key = replicate 64 48
 -- ---- keys
 
 keys : read_text keys_column (front ++ codes "master " ++ key ++ codes "\n") ≡ Ok (record { session = 7; p = record { n = 1; f = 0 }; master = replicate 32 0 })
-unfolding read_text read_by keys_column session_lines numbers_lines field_at value_at line_at end_at decode_pairs
+unfolding read_text read_by keys_column session_lines numbers_lines field_at line_value_at line_at text_end_at decode_pairs
 keys = refl
 
 -- the same keys in a session of version 2, and no other versions
 keys_of_two : read_text keys_column (codes "ritas 2\n" ++ session_7 ++ codes "master " ++ key ++ codes "\n") ≡ Ok (record { session = 7; p = record { n = 1; f = 0 }; master = replicate 32 0 })
-unfolding read_text read_by keys_column session_lines numbers_lines field_at value_at line_at end_at decode_pairs
+unfolding read_text read_by keys_column session_lines numbers_lines field_at line_value_at line_at text_end_at decode_pairs
 keys_of_two = refl
 
 keys_of_three : read_text keys_column (codes "ritas 3\nsession 7\n") ≡ Err 1
-unfolding read_text read_by keys_column session_lines numbers_lines field_at value_at line_at end_at
+unfolding read_text read_by keys_column session_lines numbers_lines field_at line_value_at line_at text_end_at
 keys_of_three = refl
 
 keys_alone : read_text keys_column front ≡ Err 5
-unfolding read_text read_by keys_column session_lines numbers_lines field_at value_at line_at end_at
+unfolding read_text read_by keys_column session_lines numbers_lines field_at line_value_at line_at text_end_at
 keys_alone = refl
 
 short_key : read_text keys_column (front ++ codes "master 00\n") ≡ Err 5
-unfolding read_text read_by keys_column session_lines numbers_lines field_at value_at line_at end_at decode_pairs
+unfolding read_text read_by keys_column session_lines numbers_lines field_at line_value_at line_at text_end_at decode_pairs
 short_key = refl
 
 more_than_keys : read_text keys_column (front ++ codes "master " ++ key ++ codes "\norder sweep\n") ≡ Err 6
-unfolding read_text read_by keys_column session_lines numbers_lines field_at value_at line_at end_at decode_pairs
+unfolding read_text read_by keys_column session_lines numbers_lines field_at line_value_at line_at text_end_at decode_pairs
 more_than_keys = refl
 
 -- ---- a replica
@@ -80,52 +80,52 @@ abbrev node_back : List ℕ
 node_back = codes "peer 10.0.0.1:4000\nclient 10.0.0.1:80\nlimit 1\nuntil 0\n"
 
 node : read_text node_column (node_front ++ node_back) ≡ Ok one_node
-unfolding read_text read_by node_column session_lines numbers_lines lines_of journal_line field_at value_at line_at end_at decode_pairs
+unfolding read_text read_by node_column session_lines numbers_lines lines_of journal_line field_at line_value_at line_at text_end_at decode_pairs
 node = refl
 
 -- in a session of version 2
 node_of_two : read_text node_column (codes "ritas 2\n" ++ node_keys ++ node_back) ≡ Ok (record one_node { version = Two })
-unfolding read_text read_by node_column session_lines numbers_lines lines_of journal_line field_at value_at line_at end_at decode_pairs
+unfolding read_text read_by node_column session_lines numbers_lines lines_of journal_line field_at line_value_at line_at text_end_at decode_pairs
 node_of_two = refl
 
 -- what is said of a journal
 with_journal : read_text node_column (node_front ++ node_back ++ codes "journal yes\n") ≡ Ok (record one_node { journal = true })
-unfolding read_text read_by node_column session_lines numbers_lines lines_of journal_line field_at value_at line_at end_at decode_pairs
+unfolding read_text read_by node_column session_lines numbers_lines lines_of journal_line field_at line_value_at line_at text_end_at decode_pairs
 with_journal = refl
 
 without_journal : read_text node_column (node_front ++ node_back ++ codes "journal no\n") ≡ Ok one_node
-unfolding read_text read_by node_column session_lines numbers_lines lines_of journal_line field_at value_at line_at end_at decode_pairs
+unfolding read_text read_by node_column session_lines numbers_lines lines_of journal_line field_at line_value_at line_at text_end_at decode_pairs
 without_journal = refl
 
 no_word : read_text node_column (node_front ++ node_back ++ codes "journal\n") ≡ Err 14
-unfolding read_text read_by node_column session_lines numbers_lines lines_of journal_line field_at value_at line_at end_at decode_pairs
+unfolding read_text read_by node_column session_lines numbers_lines lines_of journal_line field_at line_value_at line_at text_end_at decode_pairs
 no_word = refl
 
 other_word : read_text node_column (node_front ++ node_back ++ codes "journal maybe\n") ≡ Err 14
-unfolding read_text read_by node_column session_lines numbers_lines lines_of journal_line field_at value_at line_at end_at decode_pairs
+unfolding read_text read_by node_column session_lines numbers_lines lines_of journal_line field_at line_value_at line_at text_end_at decode_pairs
 other_word = refl
 
 -- and a line behind that
 behind_journal : read_text node_column (node_front ++ node_back ++ codes "journal yes\njournal yes\n") ≡ Err 15
-unfolding read_text read_by node_column session_lines numbers_lines lines_of journal_line field_at value_at line_at end_at decode_pairs
+unfolding read_text read_by node_column session_lines numbers_lines lines_of journal_line field_at line_value_at line_at text_end_at decode_pairs
 behind_journal = refl
 
 other_root : read_text node_column (front ++ codes "root 5\n") ≡ Err 5
-unfolding read_text read_by node_column session_lines numbers_lines field_at value_at line_at end_at
+unfolding read_text read_by node_column session_lines numbers_lines field_at line_value_at line_at text_end_at
 other_root = refl
 
 no_such_replica : read_text node_column (front ++ codes "root 6\nvect echo\nme 1\n") ≡ Err 7
-unfolding read_text read_by node_column session_lines numbers_lines field_at value_at line_at end_at
+unfolding read_text read_by node_column session_lines numbers_lines field_at line_value_at line_at text_end_at
 no_such_replica = refl
 
 -- a peer too many
 two_peers : read_text node_column (node_front ++ codes "peer 10.0.0.1:4000\npeer 10.0.0.2:4000\nclient 10.0.0.1:80\n") ≡ Err 11
-unfolding read_text read_by node_column session_lines numbers_lines lines_of field_at value_at line_at end_at decode_pairs
+unfolding read_text read_by node_column session_lines numbers_lines lines_of field_at line_value_at line_at text_end_at decode_pairs
 two_peers = refl
 
 -- and none
 no_peer : read_text node_column (node_front ++ codes "client 10.0.0.1:80\n") ≡ Err 10
-unfolding read_text read_by node_column session_lines numbers_lines lines_of field_at value_at line_at end_at decode_pairs
+unfolding read_text read_by node_column session_lines numbers_lines lines_of field_at line_value_at line_at text_end_at decode_pairs
 no_peer = refl
 
 -- ---- all replicas
@@ -152,54 +152,54 @@ one_cluster = record {
 }
 
 cluster : read_text cluster_column (cluster_front ++ codes "request 0 1 2 -\nrequest 0 1 3 0a\n") ≡ Ok one_cluster
-unfolding read_text read_by cluster_column session_lines numbers_lines lines_of lines_up_to field_at value_at line_at end_at decode_pairs
+unfolding read_text read_by cluster_column session_lines numbers_lines lines_of lines_up_to field_at line_value_at line_at text_end_at decode_pairs
 cluster = refl
 
 -- in a session of version 2
 cluster_of_two : read_text cluster_column (codes "ritas 2\n" ++ cluster_back ++ codes "request 0 1 2 -\nrequest 0 1 3 0a\n") ≡ Ok (record one_cluster { version = Two })
-unfolding read_text read_by cluster_column session_lines numbers_lines lines_of lines_up_to field_at value_at line_at end_at decode_pairs
+unfolding read_text read_by cluster_column session_lines numbers_lines lines_of lines_up_to field_at line_value_at line_at text_end_at decode_pairs
 cluster_of_two = refl
 
 limit_zero : read_text cluster_column (front ++ codes "root 6\nvect echo\nmaster " ++ key ++ codes "\npeer 10.0.0.1:4000\nlimit 0\n") ≡ Err 9
-unfolding read_text read_by cluster_column session_lines numbers_lines lines_of field_at value_at line_at end_at decode_pairs
+unfolding read_text read_by cluster_column session_lines numbers_lines lines_of field_at line_value_at line_at text_end_at decode_pairs
 limit_zero = refl
 
 -- the second request is wrong
 wrong_request : read_text cluster_column (cluster_front ++ codes "request 0 1 2 -\nrequest 1 1 2 -\n") ≡ Err 12
-unfolding read_text read_by cluster_column session_lines numbers_lines lines_of lines_up_to field_at value_at line_at end_at decode_pairs
+unfolding read_text read_by cluster_column session_lines numbers_lines lines_of lines_up_to field_at line_value_at line_at text_end_at decode_pairs
 wrong_request = refl
 
 -- the 65th request
 too_many_requests : read_text cluster_column (cluster_front ++ flat_map (λ request. request) (replicate 65 (codes "request 0 1 2 -\n"))) ≡ Err 75
-unfolding read_text read_by cluster_column session_lines numbers_lines lines_of lines_up_to field_at value_at line_at end_at decode_pairs
+unfolding read_text read_by cluster_column session_lines numbers_lines lines_of lines_up_to field_at line_value_at line_at text_end_at decode_pairs
 too_many_requests = refl
 
 -- ---- a request
 
 submit : read_text submit_column (codes "ritas 1\nn 1\nf 0\npeer 10.0.0.1:4000\nrequest 0 1 2 -\n")
     ≡ Ok (record { p = record { n = 1; f = 0 }; peers = codes "10.0.0.1:4000" ∷ []; request = record { at = 0; client = 1; request = 2; payload = [] } })
-unfolding read_text read_by submit_column numbers_lines lines_of field_at value_at line_at end_at
+unfolding read_text read_by submit_column numbers_lines lines_of field_at line_value_at line_at text_end_at
 submit = refl
 
 -- a request of a session of version 2, and of no other version
 submit_of_two : read_text submit_column (codes "ritas 2\nn 1\nf 0\npeer 10.0.0.1:4000\nrequest 0 1 2 -\n")
     ≡ Ok (record { p = record { n = 1; f = 0 }; peers = codes "10.0.0.1:4000" ∷ []; request = record { at = 0; client = 1; request = 2; payload = [] } })
-unfolding read_text read_by submit_column numbers_lines lines_of field_at value_at line_at end_at
+unfolding read_text read_by submit_column numbers_lines lines_of field_at line_value_at line_at text_end_at
 submit_of_two = refl
 
 submit_of_three : read_text submit_column (codes "ritas 3\nn 1\n") ≡ Err 1
-unfolding read_text read_by submit_column numbers_lines field_at value_at line_at end_at
+unfolding read_text read_by submit_column numbers_lines field_at line_value_at line_at text_end_at
 submit_of_three = refl
 
 no_request : read_text submit_column (codes "ritas 1\nn 1\nf 0\npeer 10.0.0.1:4000\n") ≡ Err 5
-unfolding read_text read_by submit_column numbers_lines lines_of field_at value_at line_at end_at
+unfolding read_text read_by submit_column numbers_lines lines_of field_at line_value_at line_at text_end_at
 no_request = refl
 
 two_requests : read_text submit_column (codes "ritas 1\nn 1\nf 0\npeer 10.0.0.1:4000\nrequest 0 1 2 -\nrequest 0 1 2 -\n") ≡ Err 6
-unfolding read_text read_by submit_column numbers_lines lines_of field_at value_at line_at end_at
+unfolding read_text read_by submit_column numbers_lines lines_of field_at line_value_at line_at text_end_at
 two_requests = refl
 
 -- there is no session
 session : read_text submit_column front ≡ Err 2
-unfolding read_text read_by submit_column numbers_lines field_at value_at line_at end_at
+unfolding read_text read_by submit_column numbers_lines field_at line_value_at line_at text_end_at
 session = refl

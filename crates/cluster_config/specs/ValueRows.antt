@@ -1,7 +1,7 @@
 -- Worked rows of addresses, requests and keys.
 use Rattle.std.specs.Prelude.{◌≡◌, ℕ, List, [], ◌∷◌, ◌++◌, codes, replicate, option_map, length, Some, None, refl}
 use Rattle.hex.specs.Hex.{decode_pairs}
-use Rattle.cluster_config.specs.Values.{address_in, payload_in, request_in, row_in}
+use Rattle.cluster_config.specs.Values.{address_in, payload_in, request_of_line, row_in}
 
 -- ---- addresses
 
@@ -56,26 +56,26 @@ too_long = refl
 
 -- ---- requests, where there are four replicas
 
-request : request_in 4 (codes "3 4294967295 0 0a") ≡ Some (record { at = 3; client = 4294967295; request = 0; payload = 10 ∷ [] })
+request : request_of_line 4 (codes "3 4294967295 0 0a") ≡ Some (record { at = 3; client = 4294967295; request = 0; payload = 10 ∷ [] })
 unfolding decode_pairs
 request = refl
 
-empty_request : request_in 4 (codes "0 1 2 -") ≡ Some (record { at = 0; client = 1; request = 2; payload = [] })
+empty_request : request_of_line 4 (codes "0 1 2 -") ≡ Some (record { at = 0; client = 1; request = 2; payload = [] })
 empty_request = refl
 
-no_replica : request_in 4 (codes "4 1 2 -") ≡ None
+no_replica : request_of_line 4 (codes "4 1 2 -") ≡ None
 no_replica = refl
 
-great_client : request_in 4 (codes "0 4294967296 2 -") ≡ None
+great_client : request_of_line 4 (codes "0 4294967296 2 -") ≡ None
 great_client = refl
 
-two_spaces : request_in 4 (codes "0  1 2 -") ≡ None
+two_spaces : request_of_line 4 (codes "0  1 2 -") ≡ None
 two_spaces = refl
 
-without_payload : request_in 4 (codes "0 1 2") ≡ None
+without_payload : request_of_line 4 (codes "0 1 2") ≡ None
 without_payload = refl
 
-more_behind : request_in 4 (codes "0 1 2 - -") ≡ None
+more_behind : request_of_line 4 (codes "0 1 2 - -") ≡ None
 more_behind = refl
 
 -- ---- rows of keys, where there is one replica, or none too few digits

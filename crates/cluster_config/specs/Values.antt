@@ -93,8 +93,8 @@ payload_in text = if bytes_eq text (codes "-") then Some []
     else (if nat_le 2 (length text) && nat_le (length text) 8176 then if_ok (decode_of text) else None)
 
 -- a replica below n, a client, a request and its bytes, with a space between them
-abbrev pub request_in : ℕ → List ℕ → Option Request
-request_in n text = do
+abbrev pub request_of_line : ℕ → List ℕ → Option Request
+request_of_line n text = do
   at ← number_before 32 (n - 1) text
   client ← number_before 32 4294967295 at.1
   request ← number_before 32 4294967295 client.1

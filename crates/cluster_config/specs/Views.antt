@@ -10,5 +10,5 @@ use Rattle.cluster_config.specs.Values.{if_ok}
 abbrev pub payload_of : List ℕ → List ℕ
 payload_of digits = if bytes_eq digits (codes "-") then [] else unwrap_or (if_ok (decode_of digits)) []
 
-abbrev pub request_of : RequestView → Request
-request_of view = record { at = view.at; client = view.client; request = view.request; payload = payload_of view.digits.now }
+abbrev pub viewed_request : RequestView → Request
+viewed_request view = record { at = view.at; client = view.client; request = view.request; payload = payload_of view.digits.now }

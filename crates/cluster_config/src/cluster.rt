@@ -1,8 +1,8 @@
 //! The configuration of all replicas of a session.
 ghost use Rattle.std.specs.Prelude.{◌≡◌, ◌<◌, Ok, Err, IfOk, MatchResult};
-ghost use Rattle.cluster_config.specs.Lines.{Gives};
+ghost use Rattle.cluster_config.specs.Lines.{GivesLine};
 ghost use Rattle.cluster_config.specs.Columns.{read_by, read_text};
-ghost use Rattle.cluster_config.specs.Config.{Reads};
+ghost use Rattle.cluster_config.specs.Config.{ReadsConfig};
 ghost use Rattle.cluster_config.specs.Cluster.{cluster_column, cluster_text};
 ghost use Rattle.cluster_config.specs.Seen.{cluster_seen};
 
@@ -51,7 +51,7 @@ struct ClusterView<'a> {
 #[tactic(auto, using(crate::proofs::Parts::read_session, crate::proofs::Parts::read_numbers, crate::proofs::Parts::read_lines, crate::proofs::Parts::read_up_to), unfolding(crate::specs::Columns::read_by, crate::specs::Cluster::cluster_column))]
 fn cluster_lines<'a>(lines: &mut Lines<'a>) -> Result<ClusterView<'a>, WrongLine>
     requires { lines.old.number < 4294967000 }
-    ensures { Gives cluster_seen result lines.new (read_by cluster_column lines.old) }
+    ensures { GivesLine cluster_seen result lines.new (read_by cluster_column lines.old) }
 {
     let (version, session) = lines.session()?;
     let p = lines.numbers()?;
@@ -104,7 +104,7 @@ fn seen(text: &[u8]) -> Result<ClusterView<'_>, WrongLine>
 
 /// The replicas that a text says, or its first line that is wrong or missing. `Mem` comes only where the text is right.
 pub(crate) fn read_cluster(alloc: Global, text: &[u8]) -> Result<ClusterConfig, ConfigFault>
-    ensures { Reads cluster_column cluster_text text.now result }
+    ensures { ReadsConfig cluster_column cluster_text text.now result }
 {
     let view = seen(text)?;
     Ok(cluster_of(alloc, &view)?)

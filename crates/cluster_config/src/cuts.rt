@@ -1,10 +1,10 @@
 //! A text is cut where a byte comes first.
 ghost use Rattle.std.specs.Prelude.{◌≡◌, option_map};
-ghost use Rattle.cluster_config.specs.Cuts.{cut_at, place_of};
+ghost use Rattle.cluster_config.specs.Cuts.{cut_at, place_of_byte};
 
 // Where a byte comes first.
 fn place_of(text: &[u8], byte: u8) -> Option<usize>
-    ensures { result ≡ place_of byte text.now }
+    ensures { result ≡ place_of_byte byte text.now }
 {
     text.iter().position(|b| *b == byte)
 }

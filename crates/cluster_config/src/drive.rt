@@ -1,6 +1,6 @@
 //! The configuration of a schedule that is to be made.
 ghost use Rattle.std.specs.Prelude.{◌≡◌, ◌<◌, Ok, Err, MatchResult};
-ghost use Rattle.cluster_config.specs.Lines.{Gives};
+ghost use Rattle.cluster_config.specs.Lines.{GivesLine};
 ghost use Rattle.cluster_config.specs.Columns.{read_by, read_text};
 ghost use Rattle.cluster_config.specs.Drive.{drive_column, planned};
 
@@ -11,7 +11,7 @@ use ritas_base::{Mode, Plan};
 #[tactic(auto, using(crate::proofs::Parts::read_session, crate::proofs::Parts::read_numbers, crate::proofs::Parts::read_copies), unfolding(crate::specs::Columns::read_by, crate::specs::Drive::drive_column))]
 fn read_plan(lines: &mut Lines<'_>) -> Result<Plan, WrongLine>
     requires { lines.old.number < 4294967000 }
-    ensures { Gives planned result lines.new (read_by drive_column lines.old) }
+    ensures { GivesLine planned result lines.new (read_by drive_column lines.old) }
 {
     let (version, session) = lines.session()?;
     let p = lines.numbers()?;

@@ -1,6 +1,6 @@
 //! The configuration of keys that are to be dealt.
 ghost use Rattle.std.specs.Prelude.{◌≡◌, ◌<◌, Ok, Err, MatchResult};
-ghost use Rattle.cluster_config.specs.Lines.{Gives};
+ghost use Rattle.cluster_config.specs.Lines.{GivesLine};
 ghost use Rattle.cluster_config.specs.Columns.{read_by, read_text};
 ghost use Rattle.cluster_config.specs.Keys.{keys_column};
 
@@ -22,7 +22,7 @@ pub struct KeysConfig {
 #[tactic(auto, using(crate::proofs::Parts::read_session, crate::proofs::Parts::read_numbers), unfolding(crate::specs::Columns::read_by, crate::specs::Keys::keys_column))]
 fn keys_lines(lines: &mut Lines<'_>) -> Result<KeysConfig, WrongLine>
     requires { lines.old.number < 4294967000 }
-    ensures { Gives (λ keys. keys) result lines.new (read_by keys_column lines.old) }
+    ensures { GivesLine (λ keys. keys) result lines.new (read_by keys_column lines.old) }
 {
     let (_, session) = lines.session()?;
     let p = lines.numbers()?;

@@ -1,9 +1,9 @@
 //! Lines, each of which is a name, a space and a value.
 ghost use Rattle.std.specs.Prelude.{◌≡◌, ◌+◌, ◌<◌, ◌≤◌, ◌==◌, Ok, Err, MatchOption, OnOk, IfOk, length, option_map};
-ghost use Rattle.cluster_config.specs.Lines.{Gives, end_at, field_at, fields_at, fields_up_to, first_line, line_at, value_at, value_in};
-ghost use Rattle.cluster_config.specs.Front.{copies_at, journal_at, numbers_at, session_at};
-ghost use Rattle.cluster_config.specs.Values.{address_in, attack_in, key_in, number_in, numbers_in, order_in, request_in, row_in, vect_in, version_in, yes_or_no_in};
-ghost use Rattle.cluster_config.specs.Views.{request_of};
+ghost use Rattle.cluster_config.specs.Lines.{GivesLine, text_end_at, field_at, fields_at, fields_up_to, first_line, line_at, line_value_at, value_in};
+ghost use Rattle.cluster_config.specs.Front.{copies_at, journal_at, numbers_lines_at, session_at};
+ghost use Rattle.cluster_config.specs.Values.{address_in, attack_in, key_in, number_in, numbers_in, order_in, request_of_line, row_in, vect_in, version_in, yes_or_no_in};
+ghost use Rattle.cluster_config.specs.Views.{viewed_request};
 
 use crate::cuts::cut_at;
 use crate::values::{
@@ -28,9 +28,9 @@ pub(crate) struct Lines<'a> {
 }
 
 impl<'a> Model for Lines<'a> {
-    ghost use Rattle.cluster_config.specs.Lines.{Place};
+    ghost use Rattle.cluster_config.specs.Lines.{LinePlace};
 
-    ghost Value = { Place };
+    ghost Value = { LinePlace };
 
     ghost view = { λ l. record { number = l.number; rest = l.rest.now } };
 }
@@ -67,7 +67,7 @@ impl<'a> Lines<'a> {
     #[tactic(auto, unfolding(crate::specs::Lines::line_at))]
     fn line(&mut self) -> Result<&'a [u8], WrongLine>
         requires { self.old.number < 4294967295 }
-        ensures exact { Gives (λ x. x.now) result self.new (line_at self.old) }
+        ensures exact { GivesLine (λ x. x.now) result self.new (line_at self.old) }
         ensures next { OnOk result (self.new.number ≡ self.old.number + 1) }
     {
         match cut_at(self.rest, b'\n') {
@@ -88,9 +88,9 @@ impl<'a> Lines<'a> {
     }
 
     /// Nothing follows.
-    #[tactic(auto, unfolding(crate::specs::Lines::end_at))]
+    #[tactic(auto, unfolding(crate::specs::Lines::text_end_at))]
     pub(crate) fn end(&mut self) -> Result<(), WrongLine>
-        ensures { Gives (λ x. x) result self.new (end_at self.old) }
+        ensures { GivesLine (λ x. x) result self.new (text_end_at self.old) }
     {
         if self.is_over() {
             Ok(())
@@ -100,10 +100,10 @@ impl<'a> Lines<'a> {
     }
 
     // The value of the next line, which has this name.
-    #[tactic(auto, unfolding(crate::specs::Lines::value_at))]
+    #[tactic(auto, unfolding(crate::specs::Lines::line_value_at))]
     fn value(&mut self, name: &str) -> Result<&'a [u8], WrongLine>
         requires { self.old.number < 4294967295 }
-        ensures exact { Gives (λ x. x.now) result self.new (value_at name.now self.old) }
+        ensures exact { GivesLine (λ x. x.now) result self.new (line_value_at name.now self.old) }
         ensures next { OnOk result (self.new.number ≡ self.old.number + 1) }
     {
         let line = self.number;
@@ -114,7 +114,7 @@ impl<'a> Lines<'a> {
     #[tactic(auto, unfolding(crate::specs::Lines::field_at))]
     pub(crate) fn number(&mut self, name: &str, low: u64, high: u64) -> Result<u64, WrongLine>
         requires { self.old.number < 4294967295 }
-        ensures exact { Gives (λ x. x) result self.new (field_at name.now (number_in low high) self.old) }
+        ensures exact { GivesLine (λ x. x) result self.new (field_at name.now (number_in low high) self.old) }
         ensures next { OnOk result (self.new.number ≡ self.old.number + 1) }
         ensures range { IfOk result (λ x. (low ≤ x) × (x ≤ high)) }
     {
@@ -128,7 +128,7 @@ impl<'a> Lines<'a> {
         requires place { self.old.number < 4294967295 }
         requires least { 1 ≤ n }
         requires most { n ≤ 31 }
-        ensures exact { Gives (λ x. x) result self.new (field_at name.now (numbers_in n) self.old) }
+        ensures exact { GivesLine (λ x. x) result self.new (field_at name.now (numbers_in n) self.old) }
         ensures next { OnOk result (self.new.number ≡ self.old.number + 1) }
     {
         let line = self.number;
@@ -139,7 +139,7 @@ impl<'a> Lines<'a> {
     #[tactic(auto, unfolding(crate::specs::Lines::field_at))]
     pub(crate) fn key(&mut self, name: &str) -> Result<[u8; 32], WrongLine>
         requires { self.old.number < 4294967295 }
-        ensures exact { Gives (λ x. x) result self.new (field_at name.now key_in self.old) }
+        ensures exact { GivesLine (λ x. x) result self.new (field_at name.now key_in self.old) }
         ensures next { OnOk result (self.new.number ≡ self.old.number + 1) }
     {
         let line = self.number;
@@ -150,7 +150,7 @@ impl<'a> Lines<'a> {
     #[tactic(auto, unfolding(crate::specs::Lines::field_at))]
     pub(crate) fn version(&mut self, name: &str) -> Result<FrameVersion, WrongLine>
         requires { self.old.number < 4294967295 }
-        ensures exact { Gives (λ x. x) result self.new (field_at name.now version_in self.old) }
+        ensures exact { GivesLine (λ x. x) result self.new (field_at name.now version_in self.old) }
         ensures next { OnOk result (self.new.number ≡ self.old.number + 1) }
     {
         let line = self.number;
@@ -161,7 +161,7 @@ impl<'a> Lines<'a> {
     #[tactic(auto, unfolding(crate::specs::Lines::field_at))]
     pub(crate) fn vect(&mut self, name: &str) -> Result<Vect, WrongLine>
         requires { self.old.number < 4294967295 }
-        ensures exact { Gives (λ x. x) result self.new (field_at name.now vect_in self.old) }
+        ensures exact { GivesLine (λ x. x) result self.new (field_at name.now vect_in self.old) }
         ensures next { OnOk result (self.new.number ≡ self.old.number + 1) }
     {
         let line = self.number;
@@ -172,7 +172,7 @@ impl<'a> Lines<'a> {
     #[tactic(auto, unfolding(crate::specs::Lines::field_at))]
     pub(crate) fn yes_or_no(&mut self, name: &str) -> Result<bool, WrongLine>
         requires { self.old.number < 4294967295 }
-        ensures exact { Gives (λ x. x) result self.new (field_at name.now yes_or_no_in self.old) }
+        ensures exact { GivesLine (λ x. x) result self.new (field_at name.now yes_or_no_in self.old) }
         ensures next { OnOk result (self.new.number ≡ self.old.number + 1) }
     {
         let line = self.number;
@@ -183,7 +183,7 @@ impl<'a> Lines<'a> {
     #[tactic(auto, unfolding(crate::specs::Lines::field_at))]
     pub(crate) fn order(&mut self, name: &str) -> Result<Order, WrongLine>
         requires { self.old.number < 4294967295 }
-        ensures exact { Gives (λ x. x) result self.new (field_at name.now order_in self.old) }
+        ensures exact { GivesLine (λ x. x) result self.new (field_at name.now order_in self.old) }
         ensures next { OnOk result (self.new.number ≡ self.old.number + 1) }
     {
         let line = self.number;
@@ -194,7 +194,7 @@ impl<'a> Lines<'a> {
     #[tactic(auto, unfolding(crate::specs::Lines::field_at))]
     pub(crate) fn attack(&mut self, name: &str) -> Result<Attack, WrongLine>
         requires { self.old.number < 4294967295 }
-        ensures exact { Gives (λ x. x) result self.new (field_at name.now attack_in self.old) }
+        ensures exact { GivesLine (λ x. x) result self.new (field_at name.now attack_in self.old) }
         ensures next { OnOk result (self.new.number ≡ self.old.number + 1) }
     {
         let line = self.number;
@@ -205,7 +205,7 @@ impl<'a> Lines<'a> {
     #[tactic(auto, unfolding(crate::specs::Front::session_at))]
     pub(crate) fn session(&mut self) -> Result<(FrameVersion, u64), WrongLine>
         requires { self.old.number < 4294967200 }
-        ensures exact { Gives (λ x. x) result self.new (session_at self.old) }
+        ensures exact { GivesLine (λ x. x) result self.new (session_at self.old) }
         ensures next { OnOk result (self.new.number ≡ self.old.number + 2) }
     {
         let version = self.version("ritas")?;
@@ -214,10 +214,10 @@ impl<'a> Lines<'a> {
     }
 
     /// How many replicas there are, and how many of them may be faulty.
-    #[tactic(auto, unfolding(crate::specs::Front::numbers_at))]
+    #[tactic(auto, unfolding(crate::specs::Front::numbers_lines_at))]
     pub(crate) fn numbers(&mut self) -> Result<Params, WrongLine>
         requires { self.old.number < 4294967200 }
-        ensures exact { Gives (λ x. x) result self.new (numbers_at self.old) }
+        ensures exact { GivesLine (λ x. x) result self.new (numbers_lines_at self.old) }
         ensures next { OnOk result (self.new.number ≡ self.old.number + 2) }
     {
         let n = self.number("n", 1, 31)? as u8;
@@ -228,7 +228,7 @@ impl<'a> Lines<'a> {
     #[tactic(auto, unfolding(crate::specs::Front::copies_at))]
     pub(crate) fn copies(&mut self, n: u8) -> Result<u8, WrongLine>
         requires { self.old.number < 4294967295 }
-        ensures { Gives (λ x. x) result self.new (copies_at n self.old) }
+        ensures { GivesLine (λ x. x) result self.new (copies_at n self.old) }
     {
         if self.is_over() {
             return Ok(1);
@@ -242,7 +242,7 @@ impl<'a> Lines<'a> {
     #[tactic(auto, unfolding(crate::specs::Front::journal_at))]
     pub(crate) fn journal(&mut self) -> Result<bool, WrongLine>
         requires { self.old.number < 4294967295 }
-        ensures { Gives (λ x. x) result self.new (journal_at self.old) }
+        ensures { GivesLine (λ x. x) result self.new (journal_at self.old) }
     {
         if self.is_over() {
             return Ok(false);
@@ -257,7 +257,7 @@ impl<'a> Lines<'a> {
     pub(crate) fn row(&mut self, name: &str, n: u8) -> Result<[[u8; 32]; 31], WrongLine>
         requires place { self.old.number < 4294967295 }
         requires most { n ≤ 31 }
-        ensures exact { Gives (λ x. x) result self.new (field_at name.now (row_in n) self.old) }
+        ensures exact { GivesLine (λ x. x) result self.new (field_at name.now (row_in n) self.old) }
         ensures next { OnOk result (self.new.number ≡ self.old.number + 1) }
     {
         let line = self.number;
@@ -268,7 +268,7 @@ impl<'a> Lines<'a> {
     #[tactic(auto, unfolding(crate::specs::Lines::field_at))]
     pub(crate) fn address(&mut self, name: &str) -> Result<&'a [u8], WrongLine>
         requires { self.old.number < 4294967295 }
-        ensures exact { Gives (λ x. x.now) result self.new (field_at name.now address_in self.old) }
+        ensures exact { GivesLine (λ x. x.now) result self.new (field_at name.now address_in self.old) }
         ensures next { OnOk result (self.new.number ≡ self.old.number + 1) }
     {
         let line = self.number;
@@ -279,7 +279,7 @@ impl<'a> Lines<'a> {
     pub(crate) fn addresses(&mut self, name: &str, n: u8) -> Result<Addresses<'a>, WrongLine>
         requires place { self.old.number < 4294967200 }
         requires most { n ≤ 31 }
-        ensures exact { Gives (λ x. x) result self.new (fields_at name.now address_in n self.old) }
+        ensures exact { GivesLine (λ x. x) result self.new (fields_at name.now address_in n self.old) }
         ensures next { OnOk result (self.new.number ≡ self.old.number + n) }
     {
         let mut addresses = Addresses::new();
@@ -294,7 +294,7 @@ impl<'a> Lines<'a> {
     pub(crate) fn request(&mut self, name: &str, n: u8) -> Result<RequestView<'a>, WrongLine>
         requires place { self.old.number < 4294967295 }
         requires least { 1 ≤ n }
-        ensures exact { Gives request_of result self.new (field_at name.now (request_in n) self.old) }
+        ensures exact { GivesLine viewed_request result self.new (field_at name.now (request_of_line n) self.old) }
         ensures next { OnOk result (self.new.number ≡ self.old.number + 1) }
     {
         let line = self.number;
@@ -305,7 +305,7 @@ impl<'a> Lines<'a> {
     pub(crate) fn requests(&mut self, name: &str, n: u8) -> Result<RequestViews<'a>, WrongLine>
         requires place { self.old.number < 4294967200 }
         requires least { 1 ≤ n }
-        ensures { Gives (λ x. x) result self.new (fields_up_to name.now (request_in n) 64 self.old) }
+        ensures { GivesLine (λ x. x) result self.new (fields_up_to name.now (request_of_line n) 64 self.old) }
     {
         let mut requests = RequestViews::new();
         while requests.len() < 64 && !self.is_over() {

@@ -1,8 +1,8 @@
 //! The configuration of a replica.
 ghost use Rattle.std.specs.Prelude.{◌≡◌, ◌<◌, Ok, Err, IfOk, MatchResult};
-ghost use Rattle.cluster_config.specs.Lines.{Gives};
+ghost use Rattle.cluster_config.specs.Lines.{GivesLine};
 ghost use Rattle.cluster_config.specs.Columns.{read_by, read_text};
-ghost use Rattle.cluster_config.specs.Config.{Reads};
+ghost use Rattle.cluster_config.specs.Config.{ReadsConfig};
 ghost use Rattle.cluster_config.specs.Node.{node_column, node_text};
 ghost use Rattle.cluster_config.specs.Seen.{node_seen};
 
@@ -59,7 +59,7 @@ struct NodeView<'a> {
 #[tactic(auto, using(crate::proofs::Parts::read_session, crate::proofs::Parts::read_numbers, crate::proofs::Parts::read_lines, crate::proofs::Parts::read_journal), unfolding(crate::specs::Columns::read_by, crate::specs::Node::node_column))]
 fn node_lines<'a>(lines: &mut Lines<'a>) -> Result<NodeView<'a>, WrongLine>
     requires { lines.old.number < 4294967000 }
-    ensures { Gives node_seen result lines.new (read_by node_column lines.old) }
+    ensures { GivesLine node_seen result lines.new (read_by node_column lines.old) }
 {
     let (version, session) = lines.session()?;
     let p = lines.numbers()?;
@@ -121,7 +121,7 @@ fn seen(text: &[u8]) -> Result<NodeView<'_>, WrongLine>
 
 /// The replica that a text says, or its first line that is wrong or missing. `Mem` comes only where the text is right.
 pub(crate) fn read_node(alloc: Global, text: &[u8]) -> Result<NodeConfig, ConfigFault>
-    ensures { Reads node_column node_text text.now result }
+    ensures { ReadsConfig node_column node_text text.now result }
 {
     let view = seen(text)?;
     Ok(node_of(alloc, &view)?)

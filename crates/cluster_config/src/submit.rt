@@ -1,8 +1,8 @@
 //! The configuration of a request that is to be handed in.
 ghost use Rattle.std.specs.Prelude.{◌≡◌, ◌<◌, Ok, Err, IfOk, MatchResult};
-ghost use Rattle.cluster_config.specs.Lines.{Gives};
+ghost use Rattle.cluster_config.specs.Lines.{GivesLine};
 ghost use Rattle.cluster_config.specs.Columns.{read_by, read_text};
-ghost use Rattle.cluster_config.specs.Config.{Reads};
+ghost use Rattle.cluster_config.specs.Config.{ReadsConfig};
 ghost use Rattle.cluster_config.specs.Submit.{submit_column};
 ghost use Rattle.cluster_config.specs.Seen.{submit_seen};
 
@@ -36,7 +36,7 @@ struct SubmitView<'a> {
 #[tactic(auto, using(crate::proofs::Parts::read_numbers, crate::proofs::Parts::read_lines), unfolding(crate::specs::Columns::read_by, crate::specs::Submit::submit_column))]
 fn submit_lines<'a>(lines: &mut Lines<'a>) -> Result<SubmitView<'a>, WrongLine>
     requires { lines.old.number < 4294967000 }
-    ensures { Gives submit_seen result lines.new (read_by submit_column lines.old) }
+    ensures { GivesLine submit_seen result lines.new (read_by submit_column lines.old) }
 {
     lines.version("ritas")?;
     let p = lines.numbers()?;
@@ -67,7 +67,7 @@ fn seen(text: &[u8]) -> Result<SubmitView<'_>, WrongLine>
 
 /// The request that a text says, or its first line that is wrong or missing. `Mem` comes only where the text is right.
 pub(crate) fn read_submit(alloc: Global, text: &[u8]) -> Result<SubmitConfig, ConfigFault>
-    ensures { Reads submit_column (λ config. config) text.now result }
+    ensures { ReadsConfig submit_column (λ config. config) text.now result }
 {
     let view = seen(text)?;
     Ok(submit_of(alloc, &view)?)

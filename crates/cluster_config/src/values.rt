@@ -1,8 +1,8 @@
 //! The values of lines.
 ghost use Rattle.std.specs.Prelude.{◌≡◌, ◌≤◌, IfSome, Some, None, drop, option_map, take, if◌then◌else◌};
 ghost use Rattle.cluster_config.specs.Values.{number_from, numeral, number_in, numbers_in, key_in, row_in, version_in, vect_in, yes_or_no_in, order_in, attack_in};
-ghost use Rattle.cluster_config.specs.Values.{number_before, address_in, payload_in, request_in};
-ghost use Rattle.cluster_config.specs.Views.{payload_of, request_of};
+ghost use Rattle.cluster_config.specs.Values.{number_before, address_in, payload_in, request_of_line};
+ghost use Rattle.cluster_config.specs.Views.{payload_of, viewed_request};
 
 use crate::cuts::cut_at;
 use crate::views::RequestView;
@@ -201,7 +201,7 @@ fn is_payload(text: &[u8]) -> bool
 /// A request that is handed to one of `n` replicas.
 pub(crate) fn request_in(text: &[u8], n: u8) -> Option<RequestView<'_>>
     requires { 1 ≤ n }
-    ensures { option_map request_of result ≡ request_in n text.now }
+    ensures { option_map viewed_request result ≡ request_of_line n text.now }
 {
     let (at, rest) = number_before(text, b' ', u64::from(n) - 1)?;
     let (client, rest) = number_before(rest, b' ', u64::from(u32::MAX))?;

@@ -1,6 +1,6 @@
 //! What a text says, as parts of the text, before memory is taken for it.
 ghost use Rattle.std.specs.Prelude.{◌≡◌, ◌<◌, ◌≤◌, ◌∷◌, ◌++◌, [], IfOk, length};
-ghost use Rattle.cluster_config.specs.Views.{payload_of, request_of};
+ghost use Rattle.cluster_config.specs.Views.{payload_of, viewed_request};
 
 use crate::requests::{Request, Requests};
 use ritas_base::{Bytes, Mem, Texts};
@@ -88,7 +88,7 @@ fn payload(alloc: Global, digits: &[u8]) -> Result<Bytes, Mem>
 impl<'a> RequestView<'a> {
     /// A copy. The one error is want of memory.
     pub(crate) fn copy(&self, alloc: Global) -> Result<Request, Mem>
-        ensures { IfOk result (λ r. r ≡ request_of self.now) }
+        ensures { IfOk result (λ r. r ≡ viewed_request self.now) }
     {
         Ok(Request {
             at: self.at,
@@ -109,11 +109,11 @@ pub(crate) struct RequestViews<'a> {
 impl<'a> Model for RequestViews<'a> {
     ghost use Rattle.std.specs.Prelude.{◌≡◌, ◌≤◌, List, length, map, take};
     ghost use Rattle.cluster_config.specs.declared.requests.Request.{Request};
-    ghost use Rattle.cluster_config.specs.Views.{request_of};
+    ghost use Rattle.cluster_config.specs.Views.{viewed_request};
 
     ghost Value = { List Request };
 
-    ghost view = { λ r. map request_of (take r.len r.views) };
+    ghost view = { λ r. map viewed_request (take r.len r.views) };
 
     ghost invariant = { λ r. (r.len ≤ 64) × (length r.views ≡ 64) };
 }
@@ -145,7 +145,7 @@ impl<'a> RequestViews<'a> {
     /// Appends a request.
     pub(crate) fn push(&mut self, view: RequestView<'a>)
         requires { length self.old < 64 }
-        ensures { self.new ≡ self.old ++ request_of view.entry ∷ [] }
+        ensures { self.new ≡ self.old ++ viewed_request view.entry ∷ [] }
     {
         self.views[self.len] = view;
         self.len += 1;

@@ -11,15 +11,15 @@ use Rattle.ritas_base.specs.Members.{has_member, member_count}
 use Rattle.ritas_base.specs.History.{replicas}
 use Rattle.ritas_base.specs.RangeLaws.{range_more}
 use Rattle.command_log.specs.declared.waiting.Waiting.{Waiting}
-use Rattle.command_log.specs.Rows.{Entry, Row, client_of, request_of, row_of, has_row, is_same, is_origin, origins, is_confirmed, is_entered, with_entry, rows_of, entered}
-use Rattle.command_log.specs.Index.{key_of}
-use Rattle.command_log.specs.Standing.{Ledger, StandsFor, HasEntered, Waits, IsLeft, Payloads, payloads_at, origins_of, origins_at}
+use Rattle.command_log.specs.Rows.{CommandEntry, Row, client_of, request_of, row_of, has_row, is_same_command, is_origin, origins, is_confirmed, is_entered, rows_with, rows_of, entered}
+use Rattle.command_log.specs.Index.{row_key}
+use Rattle.command_log.specs.Standing.{Ledger, StandsFor, HasEntered, WaitsWith, IsEntryLost, Payloads, payloads_at, origins_of, origins_at}
 use Rattle.command_log.specs.Laws.{has_its, Enters, enters, AreOne, one_from, same_origin, row_covers}
 use Rattle.command_log.proofs.Places.{key_eq}
 
 -- the key of an entry's client and request
-abbrev pub key_in : Entry → ℕ
-key_in e = key_of (client_of e.command) (request_of e.command)
+abbrev pub key_in : CommandEntry → ℕ
+key_in e = row_key (client_of e.command) (request_of e.command)
 
 -- ---- origins
 
@@ -34,18 +34,18 @@ count_below p q (suc n) alike =
     ∙ sym more_q)
 
 -- a set with these members has so many origins
-pub counted : (mask : ℕ) (es : List Entry) (r : Row) → ((k : ℕ) → k < 32 → has_member mask k ≡ is_origin es r k) → member_count 32 mask ≡ origins es r
+pub counted : (mask : ℕ) (es : List CommandEntry) (r : Row) → ((k : ℕ) → k < 32 → has_member mask k ≡ is_origin es r k) → member_count 32 mask ≡ origins es r
 unfolding member_count
 counted mask es r alike = count_below (has_member mask) (is_origin es r) 32 alike
 
 -- a command is one with itself
-same_itself : (r : Row) → is_same r r ≡ true
+same_itself : (r : Row) → is_same_command r r ≡ true
 same_itself r =
     and_from (r.client == r.client) (r.request == r.request && bytes_eq r.payload r.payload) (eq-eqb r.client r.client refl)
     (and_from (r.request == r.request) (bytes_eq r.payload r.payload) (eq-eqb r.request r.request refl) ((bytes_eq-Decides r.payload r.payload).1 refl))
 
 -- a set with the newest entry's origin too
-more_origin : (e : Entry) (es : List Entry) (mask set : ℕ) → ((k : ℕ) → k < 32 → has_member mask k ≡ is_origin es (row_of e) k)
+more_origin : (e : CommandEntry) (es : List CommandEntry) (mask set : ℕ) → ((k : ℕ) → k < 32 → has_member mask k ≡ is_origin es (row_of e) k)
     → ((k : ℕ) → has_member set k ≡ (has_member mask k || (k == e.id.origin))) → (k : ℕ) → k < 32 → has_member set k ≡ is_origin (e ∷ es) (row_of e) k
 more_origin e es mask set old new k l =
     new k
@@ -69,7 +69,7 @@ more_origin e es mask set old new k l =
 -- ---- one that enters nothing
 
 -- an entry that adds no origin to its command
-pub nothing_new : (f : ℕ) (e : Entry) (es : List Entry) → ((k : ℕ) → k < 32 → is_origin (e ∷ es) (row_of e) k ≡ is_origin es (row_of e) k) → is_entered f e es (rows_of f es) ≡ false
+pub nothing_new : (f : ℕ) (e : CommandEntry) (es : List CommandEntry) → ((k : ℕ) → k < 32 → is_origin (e ∷ es) (row_of e) k ≡ is_origin es (row_of e) k) → is_entered f e es (rows_of f es) ≡ false
 nothing_new f e es alike =
     false_from_ne_true (is_entered f e es (rows_of f es)) (λ is.
     let it = enters f e es (rows_of f es) is in
@@ -78,38 +78,38 @@ nothing_new f e es alike =
     both_ways (has_its e (rows_of f es)) it.none (row_covers f es (row_of e) (omega (arith, many, before))))
 
 -- an entry whose client and request have a row
-pub nothing_again : (f : ℕ) (e : Entry) (es : List Entry) (rs : List Row) → has_its e rs ≡ true → is_entered f e es rs ≡ false
+pub nothing_again : (f : ℕ) (e : CommandEntry) (es : List CommandEntry) (rs : List Row) → has_its e rs ≡ true → is_entered f e es rs ≡ false
 nothing_again f e es rs has = ap (λ b. not b && is_confirmed f (e ∷ es) (row_of e)) has
 
 -- and one whose command has too few origins
-pub too_few : (f : ℕ) (e : Entry) (es : List Entry) (rs : List Row) → origins (e ∷ es) (row_of e) ≤ f → is_entered f e es rs ≡ false
+pub too_few : (f : ℕ) (e : CommandEntry) (es : List CommandEntry) (rs : List Row) → origins (e ∷ es) (row_of e) ≤ f → is_entered f e es rs ≡ false
 too_few f e es rs few =
     false_from_ne_true (is_entered f e es rs) (λ is.
     let many = leb-true (f + 1) (origins (e ∷ es) (row_of e)) (enters f e es rs is).confirmed in absurd (omega (arith, many, few)))
 
 -- and one that is entered
-pub enough : (f : ℕ) (e : Entry) (es : List Entry) (rs : List Row) → has_its e rs ≡ false → f < origins (e ∷ es) (row_of e) → is_entered f e es rs ≡ true
+pub enough : (f : ℕ) (e : CommandEntry) (es : List CommandEntry) (rs : List Row) → has_its e rs ≡ false → f < origins (e ∷ es) (row_of e) → is_entered f e es rs ≡ true
 enough f e es rs none many = ap₂ (λ a b. not a && b) none (le-leb (f + 1) (origins (e ∷ es) (row_of e)) (omega (arith, many)))
 
 -- what is answered
-pub answer_none : (l : Ledger) (e : Entry) (es : List Entry) → StandsFor l es → is_entered l.f e es l.rows ≡ false → None ≡ entered l.f e es
+pub answer_none : (l : Ledger) (e : CommandEntry) (es : List CommandEntry) → StandsFor l es → is_entered l.f e es l.rows ≡ false → None ≡ entered l.f e es
 answer_none l e es s unentered =
     let is = ap (is_entered l.f e es) (sym s.rows) ∙ unentered in
     ap (λ (b : Bool). if b then Some (length (rows_of l.f es)) else None) (sym is)
 
-pub answer_some : (l : Ledger) (e : Entry) (es : List Entry) (n : ℕ) → StandsFor l es → is_entered l.f e es l.rows ≡ true → n ≡ length l.rows → Some n ≡ entered l.f e es
+pub answer_some : (l : Ledger) (e : CommandEntry) (es : List CommandEntry) (n : ℕ) → StandsFor l es → is_entered l.f e es l.rows ≡ true → n ≡ length l.rows → Some n ≡ entered l.f e es
 answer_some l e es n s entering at =
     let is = ap (is_entered l.f e es) (sym s.rows) ∙ entering in
     ap Some (at ∙ ap length s.rows) ∙ ap (λ (b : Bool). if b then Some (length (rows_of l.f es)) else None) (sym is)
 
 -- ---- what the log stands for then
 
-rows_stay : (l : Ledger) (e : Entry) (es : List Entry) → StandsFor l es → is_entered l.f e es l.rows ≡ false → l.rows ≡ rows_of l.f (e ∷ es)
+rows_stay : (l : Ledger) (e : CommandEntry) (es : List CommandEntry) → StandsFor l es → is_entered l.f e es l.rows ≡ false → l.rows ≡ rows_of l.f (e ∷ es)
 rows_stay l e es s unentered =
     s.rows ∙ ap (λ (b : Bool). if b then row_of e ∷ rows_of l.f es else rows_of l.f es) (sym (ap (is_entered l.f e es) (sym s.rows) ∙ unentered))
 
 -- a log that is as it was
-pub stays : (l : Ledger) (e : Entry) (es : List Entry) → StandsFor l es → is_entered l.f e es l.rows ≡ false
+pub stays : (l : Ledger) (e : CommandEntry) (es : List CommandEntry) → StandsFor l es → is_entered l.f e es l.rows ≡ false
     → ((r : Row) → has_row l.rows r.client r.request ≡ false → (k : ℕ) → k < 32 → is_origin es r k ≡ is_origin (e ∷ es) r k) → StandsFor l (e ∷ es)
 stays l e es s unentered alike = record {
   rows = rows_stay l e es s unentered;
@@ -118,38 +118,38 @@ stays l e es s unentered alike = record {
 }
 
 -- commands of other clients and requests are others
-other_command : (e : Entry) (rs : List Row) (r : Row) → has_its e rs ≡ true → has_row rs r.client r.request ≡ false → is_same (row_of e) r ≡ false
+other_command : (e : CommandEntry) (rs : List Row) (r : Row) → has_its e rs ≡ true → has_row rs r.client r.request ≡ false → is_same_command (row_of e) r ≡ false
 other_command e rs r has none =
-    false_from_ne_true (is_same (row_of e) r) (λ is.
+    false_from_ne_true (is_same_command (row_of e) r) (λ is.
     let one = one_from (row_of e) r is in
     both_ways (has_row rs r.client r.request) none (sym (ap₂ (has_row rs) one.client one.request) ∙ has))
 
-no_origin : (e : Entry) (es : List Entry) (r : Row) (k : ℕ) → is_same (row_of e) r ≡ false → is_origin es r k ≡ is_origin (e ∷ es) r k
+no_origin : (e : CommandEntry) (es : List CommandEntry) (r : Row) (k : ℕ) → is_same_command (row_of e) r ≡ false → is_origin es r k ≡ is_origin (e ∷ es) r k
 no_origin e es r k other = ap (λ b. (b && e.id.origin == k) || is_origin es r k) (sym other)
 
 -- where the client and request have a row
-pub stays_again : (l : Ledger) (e : Entry) (es : List Entry) → has_its e l.rows ≡ true → StandsFor l es → StandsFor l (e ∷ es)
+pub stays_again : (l : Ledger) (e : CommandEntry) (es : List CommandEntry) → has_its e l.rows ≡ true → StandsFor l es → StandsFor l (e ∷ es)
 stays_again l e es has s =
     stays l e es s (nothing_again l.f e es l.rows has) (λ r none k small. no_origin e es r k (other_command e l.rows r has none))
 
 -- where the origin is no replica's, or was one already
-pub known_origin : (e : Entry) (es : List Entry) → (32 ≤ e.id.origin) ⊎ (is_origin es (row_of e) e.id.origin ≡ true) → (r : Row) (k : ℕ) → k < 32 → is_origin (e ∷ es) r k ≡ is_origin es r k
-known_origin e es known r k small = go (is_same (row_of e) r && e.id.origin == k) refl
+pub known_origin : (e : CommandEntry) (es : List CommandEntry) → (32 ≤ e.id.origin) ⊎ (is_origin es (row_of e) e.id.origin ≡ true) → (r : Row) (k : ℕ) → k < 32 → is_origin (e ∷ es) r k ≡ is_origin es r k
+known_origin e es known r k small = go (is_same_command (row_of e) r && e.id.origin == k) refl
   where
-    there : (32 ≤ e.id.origin) ⊎ (is_origin es (row_of e) e.id.origin ≡ true) → e.id.origin ≡ k → is_same (row_of e) r ≡ true → is_origin es r k ≡ true
+    there : (32 ≤ e.id.origin) ⊎ (is_origin es (row_of e) e.id.origin ≡ true) → e.id.origin ≡ k → is_same_command (row_of e) r ≡ true → is_origin es r k ≡ true
     there (inl great) is same = absurd (omega (arith, great, is, small))
     there (inr old) is same = sym (same_origin es (row_of e) r (one_from (row_of e) r same) k) ∙ (ap (is_origin es (row_of e)) (sym is) ∙ old)
 
-    go : (b : Bool) → (is_same (row_of e) r && e.id.origin == k) ≡ b → (b || is_origin es r k) ≡ is_origin es r k
+    go : (b : Bool) → (is_same_command (row_of e) r && e.id.origin == k) ≡ b → (b || is_origin es r k) ≡ is_origin es r k
     go true is =
-        let parts = and_parts (is_same (row_of e) r) (e.id.origin == k) is in
+        let parts = and_parts (is_same_command (row_of e) r) (e.id.origin == k) is in
         sym (there known (eqb-true e.id.origin k parts.1) parts.0)
     go false is = refl
 
-not_known : (l : Ledger) (e : Entry) (es : List Entry) → (32 ≤ e.id.origin) ⊎ (is_origin es (row_of e) e.id.origin ≡ true) → StandsFor l es → is_entered l.f e es l.rows ≡ false
+not_known : (l : Ledger) (e : CommandEntry) (es : List CommandEntry) → (32 ≤ e.id.origin) ⊎ (is_origin es (row_of e) e.id.origin ≡ true) → StandsFor l es → is_entered l.f e es l.rows ≡ false
 not_known l e es known s = ap (is_entered l.f e es) s.rows ∙ nothing_new l.f e es (known_origin e es known (row_of e))
 
-pub stays_known : (l : Ledger) (e : Entry) (es : List Entry) → (32 ≤ e.id.origin) ⊎ (is_origin es (row_of e) e.id.origin ≡ true) → StandsFor l es
+pub stays_known : (l : Ledger) (e : CommandEntry) (es : List CommandEntry) → (32 ≤ e.id.origin) ⊎ (is_origin es (row_of e) e.id.origin ≡ true) → StandsFor l es
     → (None ≡ entered l.f e es) × StandsFor l (e ∷ es)
 stays_known l e es known s =
     let unentered = not_known l e es known s in
@@ -158,34 +158,34 @@ stays_known l e es known s =
 -- ---- what a call finds
 
 -- the client and request of an entry have no row, and these are the origins of its command
-pub record Found (l : Ledger) (e : Entry) (mask : ℕ) : Type 0 where
+pub record Found (l : Ledger) (e : CommandEntry) (mask : ℕ) : Type 0 where
   pub client : client_of e.command < 4294967296
   pub request : request_of e.command < 4294967296
   pub none : has_its e l.rows ≡ false
   pub mask_is : mask ≡ origins_at l.waiting (key_in e) (drop 8 e.command)
 
-pub found_from : (l : Ledger) (e : Entry) (client request key mask : ℕ) (payload : List ℕ) (waiting : Waiting) → client ≡ client_of e.command → request ≡ request_of e.command
-    → client < 4294967296 → request < 4294967296 → key ≡ key_of client request → payload ≡ drop 8 e.command → mask ≡ origins_at waiting key payload → waiting ≡ l.waiting
+pub found_from : (l : Ledger) (e : CommandEntry) (client request key mask : ℕ) (payload : List ℕ) (waiting : Waiting) → client ≡ client_of e.command → request ≡ request_of e.command
+    → client < 4294967296 → request < 4294967296 → key ≡ row_key client request → payload ≡ drop 8 e.command → mask ≡ origins_at waiting key payload → waiting ≡ l.waiting
     → has_its e l.rows ≡ false → Found l e mask
 found_from l e client request key mask payload waiting client_is request_is client_small request_small key_is payload_is mask_is waiting_is none = record {
   client = subst (λ (n : ℕ). n < 4294967296) client_is client_small;
   request = subst (λ (n : ℕ). n < 4294967296) request_is request_small;
   none = none;
-  mask_is = mask_is ∙ (ap (λ w. origins_at w key payload) waiting_is ∙ ap₂ (origins_at l.waiting) (key_is ∙ ap₂ key_of client_is request_is) payload_is);
+  mask_is = mask_is ∙ (ap (λ w. origins_at w key payload) waiting_is ∙ ap₂ (origins_at l.waiting) (key_is ∙ ap₂ row_key client_is request_is) payload_is);
 }
 
-pub members : (l : Ledger) (e : Entry) (es : List Entry) (mask : ℕ) → Found l e mask → StandsFor l es → (k : ℕ) → k < 32 → has_member mask k ≡ is_origin es (row_of e) k
+pub members : (l : Ledger) (e : CommandEntry) (es : List CommandEntry) (mask : ℕ) → Found l e mask → StandsFor l es → (k : ℕ) → k < 32 → has_member mask k ≡ is_origin es (row_of e) k
 members l e es mask found s k small = ap (λ m. has_member m k) found.mask_is ∙ s.waiting (row_of e) found.client found.request found.none k small
 
 -- its origin is no replica's, or was one already
-pub knows : (l : Ledger) (e : Entry) (es : List Entry) (mask : ℕ) → Found l e mask → (32 ≤ e.id.origin) ⊎ ((e.id.origin < 32) × (has_member mask e.id.origin ≡ true)) → StandsFor l es
+pub knows : (l : Ledger) (e : CommandEntry) (es : List CommandEntry) (mask : ℕ) → Found l e mask → (32 ≤ e.id.origin) ⊎ ((e.id.origin < 32) × (has_member mask e.id.origin ≡ true)) → StandsFor l es
     → (None ≡ entered l.f e es) × StandsFor l (e ∷ es)
 knows l e es mask found known s =
     stays_known l e es
     (elim known [ inl great ↦ inl great | inr old ↦ inr (sym (members l e es mask found s e.id.origin old.0) ∙ old.1) ]) s
 
 -- or it is a new one
-pub is_first : (l : Ledger) (e : Entry) (es : List Entry) (mask : ℕ) → Found l e mask → e.id.origin < 32 → has_member mask e.id.origin ≡ false → StandsFor l es
+pub is_first : (l : Ledger) (e : CommandEntry) (es : List CommandEntry) (mask : ℕ) → Found l e mask → e.id.origin < 32 → has_member mask e.id.origin ≡ false → StandsFor l es
     → is_origin es (row_of e) e.id.origin ≡ false
 is_first l e es mask found small new s = sym (members l e es mask found s e.id.origin small) ∙ new
 
@@ -193,16 +193,16 @@ is_first l e es mask found small new s = sym (members l e es mask found s e.id.o
 pub record Joined (mask set origin : ℕ) : Type 0 where
   pub is : (k : ℕ) → has_member set k ≡ (has_member mask k || (k == origin))
 
-joined : (l : Ledger) (e : Entry) (es : List Entry) (mask set : ℕ) → Found l e mask → Joined mask set e.id.origin → StandsFor l es
+joined : (l : Ledger) (e : CommandEntry) (es : List CommandEntry) (mask set : ℕ) → Found l e mask → Joined mask set e.id.origin → StandsFor l es
     → (k : ℕ) → k < 32 → has_member set k ≡ is_origin (e ∷ es) (row_of e) k
 joined l e es mask set found join s = more_origin e es mask set (members l e es mask found s) join.is
 
-pub is_few : (l : Ledger) (e : Entry) (es : List Entry) (mask set : ℕ) → Found l e mask → Joined mask set e.id.origin → member_count 32 set ≤ l.f → StandsFor l es
+pub is_few : (l : Ledger) (e : CommandEntry) (es : List CommandEntry) (mask set : ℕ) → Found l e mask → Joined mask set e.id.origin → member_count 32 set ≤ l.f → StandsFor l es
     → is_entered l.f e es l.rows ≡ false
 is_few l e es mask set found join few s =
     let count = counted set (e ∷ es) (row_of e) (joined l e es mask set found join s) in too_few l.f e es l.rows (omega (arith, count, few))
 
-pub is_enough : (l : Ledger) (e : Entry) (es : List Entry) (mask set : ℕ) → Found l e mask → Joined mask set e.id.origin → l.f < member_count 32 set → StandsFor l es
+pub is_enough : (l : Ledger) (e : CommandEntry) (es : List CommandEntry) (mask set : ℕ) → Found l e mask → Joined mask set e.id.origin → l.f < member_count 32 set → StandsFor l es
     → is_entered l.f e es l.rows ≡ true
 is_enough l e es mask set found join many s =
     let count = counted set (e ∷ es) (row_of e) (joined l e es mask set found join s) in enough l.f e es l.rows found.none (omega (arith, count, many))
@@ -210,8 +210,8 @@ is_enough l e es mask set found join many s =
 -- ---- its origin is kept
 
 -- the command of an entry is one of a row, by key and payload
-same_test : (e : Entry) (r : Row) → request_of e.command < 4294967296 → r.request < 4294967296
-    → (key_of (client_of e.command) (request_of e.command) == key_of r.client r.request && bytes_eq (drop 8 e.command) r.payload) ≡ is_same (row_of e) r
+same_test : (e : CommandEntry) (r : Row) → request_of e.command < 4294967296 → r.request < 4294967296
+    → (row_key (client_of e.command) (request_of e.command) == row_key r.client r.request && bytes_eq (drop 8 e.command) r.payload) ≡ is_same_command (row_of e) r
 same_test e r small other =
     ap (λ b. b && bytes_eq (drop 8 e.command) r.payload) (key_eq (client_of e.command) (request_of e.command) r.client r.request small other)
     ∙ both (client_of e.command == r.client) (request_of e.command == r.request) (bytes_eq (drop 8 e.command) r.payload)
@@ -221,36 +221,36 @@ same_test e r small other =
     both false b c = refl
 
 -- the key of a row's client and request is another than that of one without a row
-other_key : (e : Entry) (rs : List Row) (client request : ℕ) → request_of e.command < 4294967296 → request < 4294967296
-    → has_its e rs ≡ false → has_row rs client request ≡ true → (key_of (client_of e.command) (request_of e.command) == key_of client request) ≡ false
+other_key : (e : CommandEntry) (rs : List Row) (client request : ℕ) → request_of e.command < 4294967296 → request < 4294967296
+    → has_its e rs ≡ false → has_row rs client request ≡ true → (row_key (client_of e.command) (request_of e.command) == row_key client request) ≡ false
 other_key e rs client request small other none has =
     key_eq (client_of e.command) (request_of e.command) client request small other
     ∙ false_from_ne_true (client_of e.command == client && request_of e.command == request) (λ is.
     let parts = and_parts (client_of e.command == client) (request_of e.command == request) is in
     both_ways (has_its e rs) none (ap₂ (has_row rs) (eqb-true (client_of e.command) client parts.0) (eqb-true (request_of e.command) request parts.1) ∙ has))
 
-pub stays_kept : (old new : Ledger) (e : Entry) (es : List Entry) (mask set : ℕ) → Found old e mask → Joined mask set e.id.origin → Waits old new (row_of e) set
+pub stays_kept : (old new : Ledger) (e : CommandEntry) (es : List CommandEntry) (mask set : ℕ) → Found old e mask → Joined mask set e.id.origin → WaitsWith old new (row_of e) set
     → is_entered old.f e es old.rows ≡ false → StandsFor old es → StandsFor new (e ∷ es)
 stays_kept old new e es mask set found join keeps unentered s = record {
   rows = keeps.rows ∙ (rows_stay old e es s unentered ∙ ap (λ f. rows_of f (e ∷ es)) (sym keeps.f));
   waiting = λ r client request free k l.
-      ap (λ m. has_member m k) (keeps.waiting (key_of r.client r.request) r.payload ∙ ap (λ (b : Bool). if b then set else origins_at old.waiting (key_of r.client r.request) r.payload) (same_test e r found.request request))
-      ∙ now r (origins_at old.waiting (key_of r.client r.request) r.payload) k l (s.waiting r client request (ap (λ rs. has_row rs r.client r.request) (sym keeps.rows) ∙ free) k l) (is_same (row_of e) r) refl;
+      ap (λ m. has_member m k) (keeps.waiting (row_key r.client r.request) r.payload ∙ ap (λ (b : Bool). if b then set else origins_at old.waiting (row_key r.client r.request) r.payload) (same_test e r found.request request))
+      ∙ now r (origins_at old.waiting (row_key r.client r.request) r.payload) k l (s.waiting r client request (ap (λ rs. has_row rs r.client r.request) (sym keeps.rows) ∙ free) k l) (is_same_command (row_of e) r) refl;
   gone = λ client request a b has.
       let there = ap (λ rs. has_row rs client request) (sym keeps.rows) ∙ has in
-      keeps.others (key_of client request) (other_key e old.rows client request found.request b found.none there) ∙ s.gone client request a b there;
+      keeps.others (row_key client request) (other_key e old.rows client request found.request b found.none there) ∙ s.gone client request a b there;
 }
   where
-    now : (r : Row) (m k : ℕ) → k < 32 → has_member m k ≡ is_origin es r k → (b : Bool) → is_same (row_of e) r ≡ b → has_member (if b then set else m) k ≡ is_origin (e ∷ es) r k
+    now : (r : Row) (m k : ℕ) → k < 32 → has_member m k ≡ is_origin es r k → (b : Bool) → is_same_command (row_of e) r ≡ b → has_member (if b then set else m) k ≡ is_origin (e ∷ es) r k
     now r m k l before true is = joined old e es mask set found join s k l ∙ same_origin (e ∷ es) (row_of e) r (one_from (row_of e) r is) k
     now r m k l before false is = before ∙ no_origin e es r k is
 
 -- ---- its row is entered
 
-abbrev is_its : Entry → ℕ → ℕ → Bool
+abbrev is_its : CommandEntry → ℕ → ℕ → Bool
 is_its e client request = client_of e.command == client && request_of e.command == request
 
-pub stays_entered : (old new : Ledger) (e : Entry) (es : List Entry) → HasEntered old new (row_of e) → request_of e.command < 4294967296
+pub stays_entered : (old new : Ledger) (e : CommandEntry) (es : List CommandEntry) → HasEntered old new (row_of e) → request_of e.command < 4294967296
     → is_entered old.f e es old.rows ≡ true → StandsFor old es → StandsFor new (e ∷ es)
 stays_entered old new e es now small entering s = record {
   rows = rows_now;
@@ -266,39 +266,39 @@ stays_entered old new e es now small entering s = record {
         ∙ ap (λ f. rows_of f (e ∷ es)) (sym now.f)))
 
     payloads : (client request : ℕ) (b : Bool) → request < 4294967296 → is_its e client request ≡ b
-        → payloads_at new.waiting (key_of client request) ≡ (if b then None else payloads_at old.waiting (key_of client request))
+        → payloads_at new.waiting (row_key client request) ≡ (if b then None else payloads_at old.waiting (row_key client request))
     payloads client request b other is =
-        now.waiting (key_of client request)
-        ∙ ap (λ (t : Bool). if t then None else payloads_at old.waiting (key_of client request)) (key_eq (client_of e.command) (request_of e.command) client request small other ∙ is)
+        now.waiting (row_key client request)
+        ∙ ap (λ (t : Bool). if t then None else payloads_at old.waiting (row_key client request)) (key_eq (client_of e.command) (request_of e.command) client request small other ∙ is)
 
     wait : (r : Row) → r.client < 4294967296 → r.request < 4294967296 → (b : Bool) → is_its e r.client r.request ≡ b → (b || has_row old.rows r.client r.request) ≡ false
-        → (k : ℕ) → k < 32 → has_member (origins_at new.waiting (key_of r.client r.request) r.payload) k ≡ is_origin (e ∷ es) r k
+        → (k : ℕ) → k < 32 → has_member (origins_at new.waiting (row_key r.client r.request) r.payload) k ≡ is_origin (e ∷ es) r k
     wait r client request true is free k l = absurd (both_ways true free refl)
     wait r client request false is free k l =
         ap (λ o. has_member (origins_of o r.payload) k) (payloads r.client r.request false request is)
         ∙ (s.waiting r client request free k l
         ∙ no_origin e es r k
-        (false_from_ne_true (is_same (row_of e) r) (λ same.
+        (false_from_ne_true (is_same_command (row_of e) r) (λ same.
         let one = one_from (row_of e) r same in
         both_ways (is_its e r.client r.request) is
         (and_from (client_of e.command == r.client) (request_of e.command == r.request) (eq-eqb (client_of e.command) r.client one.client) (eq-eqb (request_of e.command) r.request one.request)))))
 
     leave : (client request : ℕ) → client < 4294967296 → request < 4294967296 → (b : Bool) → is_its e client request ≡ b → (b || has_row old.rows client request) ≡ true
-        → payloads_at new.waiting (key_of client request) ≡ None
+        → payloads_at new.waiting (row_key client request) ≡ None
     leave client request a b true is has = payloads client request true b is
     leave client request a b false is has = payloads client request false b is ∙ s.gone client request a b has
 
 -- ---- want of memory
 
-pub stays_wanting : (old new : Ledger) (e : Entry) (es : List Entry) → IsLeft old new (row_of e) → request_of e.command < 4294967296 → has_its e old.rows ≡ false → StandsFor old es → StandsFor new es
+pub stays_wanting : (old new : Ledger) (e : CommandEntry) (es : List CommandEntry) → IsEntryLost old new (row_of e) → request_of e.command < 4294967296 → has_its e old.rows ≡ false → StandsFor old es → StandsFor new es
 stays_wanting old new e es keeps small none s = record {
   rows = keeps.rows ∙ (s.rows ∙ ap (λ f. rows_of f es) (sym keeps.f));
   waiting = λ r client request free k l.
-      ap (λ m. has_member m k) (keeps.waiting (key_of r.client r.request) r.payload)
+      ap (λ m. has_member m k) (keeps.waiting (row_key r.client r.request) r.payload)
       ∙ s.waiting r client request (ap (λ rs. has_row rs r.client r.request) (sym keeps.rows) ∙ free) k l;
   gone = λ client request a b has.
       let there = ap (λ rs. has_row rs client request) (sym keeps.rows) ∙ has in
-      keeps.others (key_of client request) (other_key e old.rows client request small b none there) ∙ s.gone client request a b there;
+      keeps.others (row_key client request) (other_key e old.rows client request small b none there) ∙ s.gone client request a b there;
 }
 
 -- ---- what a call leaves
@@ -306,8 +306,8 @@ stays_wanting old new e es keeps small none s = record {
 -- what `settle` ensures
 pub record Settles {M : Type 0} (old new : Ledger) (r : Row) (set : ℕ) (result : Result (Option ℕ) M) : Type 0 where
   pub many : old.f < member_count 32 set → IfOk result (λ position. position ≡ Some (length old.rows)) × OnOk result (HasEntered old new r)
-  pub few : member_count 32 set ≤ old.f → IfOk result (λ position. position ≡ None) × OnOk result (Waits old new r set)
-  pub err : OnErr result (IsLeft old new r)
+  pub few : member_count 32 set ≤ old.f → IfOk result (λ position. position ≡ None) × OnOk result (WaitsWith old new r set)
+  pub err : OnErr result (IsEntryLost old new r)
 
 if_ok : {A M : Type 0} {P Q : A → Type 0} (result : Result A M) → ((x : A) → P x → Q x) → IfOk result P → IfOk result Q
 if_ok (Ok x) more p = more x p
@@ -321,7 +321,7 @@ on_err : {A M P Q : Type 0} (result : Result A M) → (P → Q) → OnErr result
 on_err (Ok x) more p = p
 on_err (Err fault) more p = more p
 
-module _ {M : Type 0} (old new : Ledger) (e : Entry) (es : List Entry) (mask set : ℕ) (result : Result (Option ℕ) M) where
+module _ {M : Type 0} (old new : Ledger) (e : CommandEntry) (es : List CommandEntry) (mask set : ℕ) (result : Result (Option ℕ) M) where
   pub settled_position : Found old e mask → Joined mask set e.id.origin → Settles old new (row_of e) set result → StandsFor old es → IfOk result (λ position. position ≡ entered old.f e es)
   settled_position found join settles s =
       elim (cases_lt old.f (member_count 32 set)) [
@@ -349,6 +349,6 @@ zero_member k = ap (λ (b : ℕ). b == 1) (bit_at-zero k)
 pub stands_new : (l : Ledger) → l.rows ≡ [] → ((key : ℕ) → payloads_at l.waiting key ≡ None) → StandsFor l []
 stands_new l rows nothing = record {
   rows = rows;
-  waiting = λ r client request free k l2. ap (λ o. has_member (origins_of o r.payload) k) (nothing (key_of r.client r.request)) ∙ zero_member k;
-  gone = λ client request a b has. nothing (key_of client request);
+  waiting = λ r client request free k l2. ap (λ o. has_member (origins_of o r.payload) k) (nothing (row_key r.client r.request)) ∙ zero_member k;
+  gone = λ client request a b has. nothing (row_key client request);
 }

@@ -11,8 +11,8 @@ use Rattle.std.specs.Cmp.{nat_cmp_total}
 use Rattle.std.proofs.lemmas.Cmp.{tied_itself}
 use Rattle.ritas_base.specs.SlotOrder.{equal_from}
 use Rattle.ritas_base.specs.declared.id.Id.{Id}
-use Rattle.command_log.specs.Rows.{Entry, Row, client_of, request_of, row_of, has_row, row_at, position_of, AreOnce, HasPlace}
-use Rattle.command_log.specs.Index.{key_of, IsIndexed}
+use Rattle.command_log.specs.Rows.{CommandEntry, Row, client_of, request_of, row_of, has_row, row_at, position_of, AreOnce, HasPlace}
+use Rattle.command_log.specs.Index.{row_key, IsIndexed}
 
 -- ---- the last of a list
 
@@ -126,7 +126,7 @@ has_position (r ∷ rs) client request = go (has_position rs client request) (is
     go below false = below
 
 -- a row from an entry's parts
-pub row_from : (e : Entry) (client request : ℕ) (payload : List ℕ) → client ≡ client_of e.command → request ≡ request_of e.command → payload ≡ drop 8 e.command
+pub row_from : (e : CommandEntry) (client request : ℕ) (payload : List ℕ) → client ≡ client_of e.command → request ≡ request_of e.command → payload ≡ drop 8 e.command
     → record { id = e.id; client = client; request = request; payload = payload } ≡ row_of e
 row_from e client request payload a b p =
     ap₂ (λ m n. record { id = e.id; client = m; request = n; payload = payload }) a b ∙ ap (λ l. record { id = e.id; client = client_of e.command; request = request_of e.command; payload = l }) p
@@ -146,7 +146,7 @@ row_length xs rs view = sym (length-reverse xs) ∙ ap length view
 
 -- ---- the index
 
-keys_are : (a b c q : ℕ) → b < 4294967296 → q < 4294967296 → key_of a b ≡ key_of c q → (a ≡ c) × (b ≡ q)
+keys_are : (a b c q : ℕ) → b < 4294967296 → q < 4294967296 → row_key a b ≡ row_key c q → (a ≡ c) × (b ≡ q)
 keys_are a b c q small other e = (omega (arith, small, other, e), omega (arith, small, other, e))
 
 same_test : (a b : Bool) → (a ≡ true → b ≡ true) → (b ≡ true → a ≡ true) → a ≡ b
@@ -155,35 +155,35 @@ same_test false true to from = from refl
 same_test false false to from = refl
 
 -- keys are equal exactly where both numbers are
-pub key_eq : (a b c q : ℕ) → b < 4294967296 → q < 4294967296 → (key_of a b == key_of c q) ≡ (a == c && b == q)
+pub key_eq : (a b c q : ℕ) → b < 4294967296 → q < 4294967296 → (row_key a b == row_key c q) ≡ (a == c && b == q)
 key_eq a b c q small other =
     same_test _ _
     (λ alike.
-    let same = keys_are a b c q small other (eqb-true (key_of a b) (key_of c q) alike) in
+    let same = keys_are a b c q small other (eqb-true (row_key a b) (row_key c q) alike) in
     and_from (a == c) (b == q) (eq-eqb a c same.0) (eq-eqb b q same.1))
     (λ both.
     let parts = and_parts (a == c) (b == q) both in
-    eq-eqb (key_of a b) (key_of c q) (ap₂ key_of (eqb-true a c parts.0) (eqb-true b q parts.1)))
+    eq-eqb (row_key a b) (row_key c q) (ap₂ row_key (eqb-true a c parts.0) (eqb-true b q parts.1)))
 
-pub key_test : (a b c q : ℕ) → b < 4294967296 → q < 4294967296 → is_at (nat_cmp (key_of a b)) (key_of c q) ≡ (a == c && b == q)
+pub key_test : (a b c q : ℕ) → b < 4294967296 → q < 4294967296 → is_at (nat_cmp (row_key a b)) (row_key c q) ≡ (a == c && b == q)
 key_test a b c q small other =
     same_test _ _
     (λ alike.
-    let same = keys_are a b c q small other (exact_unsigned (key_of a b) (key_of c q) (equal_from _ alike)) in
+    let same = keys_are a b c q small other (exact_unsigned (row_key a b) (row_key c q) (equal_from _ alike)) in
     and_from (a == c) (b == q) (eq-eqb a c same.0) (eq-eqb b q same.1))
     (λ both.
     let parts = and_parts (a == c) (b == q) both in
-    let same : key_of c q ≡ key_of a b = ap₂ key_of (sym (eqb-true a c parts.0)) (sym (eqb-true b q parts.1)) in
-    ap (λ (k : ℕ). is_eq (nat_cmp (key_of a b) k)) same ∙ ap is_eq (tied_itself nat_cmp_total (key_of a b)))
+    let same : row_key c q ≡ row_key a b = ap₂ row_key (sym (eqb-true a c parts.0)) (sym (eqb-true b q parts.1)) in
+    ap (λ (k : ℕ). is_eq (nat_cmp (row_key a b) k)) same ∙ ap is_eq (tied_itself nat_cmp_total (row_key a b)))
 
 -- the index after a row is entered
 pub index_more : (index index' : BTreeMap ℕ ℕ) (r : Row) (rs : List Row) → r.request < 4294967296 → length rs + 1 < 4294967296 → has_row rs r.client r.request ≡ false
-    → IsIndexed index rs → ((k : ℕ) → get nat_cmp index' k ≡ (if is_at (nat_cmp (key_of r.client r.request)) k then Some (length rs) else get nat_cmp index k))
+    → IsIndexed index rs → ((k : ℕ) → get nat_cmp index' k ≡ (if is_at (nat_cmp (row_key r.client r.request)) k then Some (length rs) else get nat_cmp index k))
     → IsIndexed index' (r ∷ rs)
 index_more index index' r rs small room none before updates = record {
   finds = λ client request client_small request_small.
-      updates (key_of client request)
-      ∙ (ap (λ (b : Bool). if b then Some (length rs) else get nat_cmp index (key_of client request)) (key_test r.client r.request client request small request_small)
+      updates (row_key client request)
+      ∙ (ap (λ (b : Bool). if b then Some (length rs) else get nat_cmp index (row_key client request)) (key_test r.client r.request client request small request_small)
       ∙ ap (λ (o : Option ℕ). if r.client == client && r.request == request then Some (length rs) else o) (before.finds client request client_small request_small));
   once = (none, before.once);
   many = omega (arith, room);

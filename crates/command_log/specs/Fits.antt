@@ -8,7 +8,7 @@ use Rattle.frame_codec.specs.Grammar.{class1}
 use Rattle.layer_api.specs.Words.{Word}
 use Rattle.layer_api.specs.Service.{ServiceRules, Seat, AreProper, WordLaws}
 use Rattle.layer_api.specs.LogLengthLaws.{ids_fit}
-use Rattle.command_log.specs.Rows.{Entry, Row, row_of, is_entered, with_entry, entry_of, entries_of, command_rows}
+use Rattle.command_log.specs.Rows.{CommandEntry, Row, row_of, is_entered, rows_with, entry_of_id, entries_of_log, command_rows}
 
 -- so many does an identifier log have at most
 pub log_fits : (r : ServiceRules) → WordLaws r → (seat : Seat) (w : List Word) → AreProper r seat w → length (r.done seat w) ≤ 31000000
@@ -16,7 +16,7 @@ log_fits r laws seat w proper = ids_fit r seat w (r.done seat w) proper (laws.do
 
 -- ---- and no more rows
 
-with_most : (f : ℕ) (e : Entry) (es : List Entry) (rs : List Row) (n : ℕ) → length rs ≤ n → length (with_entry f e es rs) ≤ n + 1
+with_most : (f : ℕ) (e : CommandEntry) (es : List CommandEntry) (rs : List Row) (n : ℕ) → length rs ≤ n → length (rows_with f e es rs) ≤ n + 1
 with_most f e es rs n few = go (is_entered f e es rs)
   where
     go : (b : Bool) → length (if b then row_of e ∷ rs else rs) ≤ n + 1
@@ -27,7 +27,7 @@ with_most f e es rs n few = go (is_entered f e es rs)
 pub rows_fit : (f : ℕ) (a : Id → Option (List ℕ)) (xs : List Id) → length (command_rows f a xs) ≤ length xs
 rows_fit f a [] = omega arith
 rows_fit f a (x ∷ xs) =
-    let one = with_most f (entry_of a x) (entries_of a xs) (command_rows f a xs) (length xs) (rows_fit f a xs) in
+    let one = with_most f (entry_of_id a x) (entries_of_log a xs) (command_rows f a xs) (length xs) (rows_fit f a xs) in
     omega (arith, one)
 
 -- ---- a command of the grammar has a client's number and a request's

@@ -5,11 +5,11 @@ use Rattle.std.specs.BTreeMap.{BTreeMap, get}
 use Rattle.command_log.specs.Rows.{Row, position_of, AreOnce}
 
 -- the key: the client's number in the upper 32 bits, the request's in the lower
-abbrev pub key_of : ℕ → ℕ → ℕ
-key_of client request = client * 4294967296 + request
+abbrev pub row_key : ℕ → ℕ → ℕ
+row_key client request = client * 4294967296 + request
 
 -- the index has each row's position and no other, each client and request has one row, and positions fit
 pub record IsIndexed (index : BTreeMap ℕ ℕ) (rows : List Row) : Type 0 where
-  pub finds : (client request : ℕ) → client < 4294967296 → request < 4294967296 → get nat_cmp index (key_of client request) ≡ position_of rows client request
+  pub finds : (client request : ℕ) → client < 4294967296 → request < 4294967296 → get nat_cmp index (row_key client request) ≡ position_of rows client request
   pub once : AreOnce rows
   pub many : length rows < 4294967296

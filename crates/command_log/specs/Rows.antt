@@ -8,7 +8,7 @@ use Rattle.ritas_base.specs.History.{replicas}
 use Rattle.command_log.specs.declared.row.LogRow.{LogRow}
 
 -- a command and its identifier
-pub record Entry : Type 0 where
+pub record CommandEntry : Type 0 where
   pub id : Id
   pub command : List ℕ
 
@@ -25,7 +25,7 @@ abbrev pub request_of : List ℕ → ℕ
 request_of command = from_be_bytes w32 (take 4 (drop 4 command))
 
 -- the row of an entry; what is left of its command is the payload
-abbrev pub row_of : Entry → Row
+abbrev pub row_of : CommandEntry → Row
 row_of e = record { id = e.id; client = client_of e.command; request = request_of e.command; payload = drop 8 e.command }
 
 -- whether a row is of this client and request
@@ -34,36 +34,36 @@ has_row [] client request = false
 has_row (r ∷ rs) client request = (r.client == client && r.request == request) || has_row rs client request
 
 -- two commands are one: the same client, request and payload
-abbrev pub is_same : Row → Row → Bool
-is_same q r = q.client == r.client && (q.request == r.request && bytes_eq q.payload r.payload)
+abbrev pub is_same_command : Row → Row → Bool
+is_same_command q r = q.client == r.client && (q.request == r.request && bytes_eq q.payload r.payload)
 
 -- a replica is an origin of the command of r: one of these entries has that command, and is of it
-abbrev pub is_origin : List Entry → Row → ℕ → Bool
+abbrev pub is_origin : List CommandEntry → Row → ℕ → Bool
 is_origin [] r k = false
-is_origin (e ∷ es) r k = (is_same (row_of e) r && e.id.origin == k) || is_origin es r k
+is_origin (e ∷ es) r k = (is_same_command (row_of e) r && e.id.origin == k) || is_origin es r k
 
 -- how many replicas are; their numbers are below 32
-abbrev pub origins : List Entry → Row → ℕ
+abbrev pub origins : List CommandEntry → Row → ℕ
 origins es r = count_by (is_origin es r) (replicas 32)
 
 -- f + 1 origins confirm a command: one of them is correct
-abbrev pub is_confirmed : ℕ → List Entry → Row → Bool
+abbrev pub is_confirmed : ℕ → List CommandEntry → Row → Bool
 is_confirmed f es r = nat_le (f + 1) (origins es r)
 
 -- the row of the newest entry is entered where its command is confirmed, and its client and request have none
-abbrev pub is_entered : ℕ → Entry → List Entry → List Row → Bool
+abbrev pub is_entered : ℕ → CommandEntry → List CommandEntry → List Row → Bool
 is_entered f e es rs = not (has_row rs (client_of e.command) (request_of e.command)) && is_confirmed f (e ∷ es) (row_of e)
 
-abbrev pub with_entry : ℕ → Entry → List Entry → List Row → List Row
-with_entry f e es rs = if is_entered f e es rs then row_of e ∷ rs else rs
+abbrev pub rows_with : ℕ → CommandEntry → List CommandEntry → List Row → List Row
+rows_with f e es rs = if is_entered f e es rs then row_of e ∷ rs else rs
 
 -- the rows of these entries
-abbrev pub rows_of : ℕ → List Entry → List Row
+abbrev pub rows_of : ℕ → List CommandEntry → List Row
 rows_of f [] = []
-rows_of f (e ∷ es) = with_entry f e es (rows_of f es)
+rows_of f (e ∷ es) = rows_with f e es (rows_of f es)
 
 -- where the row of the newest entry comes to stand, if it is entered
-abbrev pub entered : ℕ → Entry → List Entry → Option ℕ
+abbrev pub entered : ℕ → CommandEntry → List CommandEntry → Option ℕ
 entered f e es = if is_entered f e es (rows_of f es) then Some (length (rows_of f es)) else None
 
 -- positions count from the oldest row, from 0
@@ -76,17 +76,17 @@ position_of [] client request = None
 position_of (r ∷ rs) client request = if r.client == client && r.request == request then Some (length rs) else position_of rs client request
 
 -- the entry of an identifier, by what was delivered of it
-abbrev pub entry_of : (Id → Option (List ℕ)) → Id → Entry
-entry_of delivered x = record { id = x; command = unwrap_or (delivered x) [] }
+abbrev pub entry_of_id : (Id → Option (List ℕ)) → Id → CommandEntry
+entry_of_id delivered x = record { id = x; command = unwrap_or (delivered x) [] }
 
 -- the entries of an identifier log
-abbrev pub entries_of : (Id → Option (List ℕ)) → List Id → List Entry
-entries_of delivered [] = []
-entries_of delivered (x ∷ xs) = entry_of delivered x ∷ entries_of delivered xs
+abbrev pub entries_of_log : (Id → Option (List ℕ)) → List Id → List CommandEntry
+entries_of_log delivered [] = []
+entries_of_log delivered (x ∷ xs) = entry_of_id delivered x ∷ entries_of_log delivered xs
 
 -- the log of commands
 abbrev pub command_rows : ℕ → (Id → Option (List ℕ)) → List Id → List Row
-command_rows f delivered log = rows_of f (entries_of delivered log)
+command_rows f delivered log = rows_of f (entries_of_log delivered log)
 
 -- each client and request stands there once
 abbrev pub AreOnce : List Row → Type 0

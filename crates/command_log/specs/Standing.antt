@@ -8,8 +8,8 @@ use Rattle.std.specs.Str.{bytes_eq}
 use Rattle.std.proofs.Common.{Global}
 use Rattle.ritas_base.specs.Members.{has_member}
 use Rattle.command_log.specs.declared.waiting.Waiting.{Waiting}
-use Rattle.command_log.specs.Rows.{Entry, Row, has_row, is_origin, rows_of}
-use Rattle.command_log.specs.Index.{key_of}
+use Rattle.command_log.specs.Rows.{CommandEntry, Row, has_row, is_origin, rows_of}
+use Rattle.command_log.specs.Index.{row_key}
 
 -- what a log keeps: its rows, and the origins of the commands that wait
 pub record Ledger : Type 0 where
@@ -37,14 +37,14 @@ abbrev pub origins_at : Waiting → ℕ → List ℕ → ℕ
 origins_at w key payload = origins_of (payloads_at w key) payload
 
 -- the log stands for these entries
-pub record StandsFor (l : Ledger) (es : List Entry) : Type 0 where
+pub record StandsFor (l : Ledger) (es : List CommandEntry) : Type 0 where
   pub rows : l.rows ≡ rows_of l.f es
   -- of a command whose client and request have no row its origins are kept
   pub waiting : (r : Row) → r.client < 4294967296 → r.request < 4294967296 → has_row l.rows r.client r.request ≡ false
-      → (k : ℕ) → k < 32 → has_member (origins_at l.waiting (key_of r.client r.request) r.payload) k ≡ is_origin es r k
+      → (k : ℕ) → k < 32 → has_member (origins_at l.waiting (row_key r.client r.request) r.payload) k ≡ is_origin es r k
   -- and where they have one, nothing is
   pub gone : (client request : ℕ) → client < 4294967296 → request < 4294967296 → has_row l.rows client request ≡ true
-      → payloads_at l.waiting (key_of client request) ≡ None
+      → payloads_at l.waiting (row_key client request) ≡ None
 
 -- ---- what comes of a command whose client and request have no row
 
@@ -52,18 +52,18 @@ pub record StandsFor (l : Ledger) (es : List Entry) : Type 0 where
 pub record HasEntered (old new : Ledger) (r : Row) : Type 0 where
   pub f : new.f ≡ old.f
   pub rows : new.rows ≡ r ∷ old.rows
-  pub waiting : (k : ℕ) → payloads_at new.waiting k ≡ (if key_of r.client r.request == k then None else payloads_at old.waiting k)
+  pub waiting : (k : ℕ) → payloads_at new.waiting k ≡ (if row_key r.client r.request == k then None else payloads_at old.waiting k)
 
 -- it waits with these origins
-pub record Waits (old new : Ledger) (r : Row) (origins : ℕ) : Type 0 where
+pub record WaitsWith (old new : Ledger) (r : Row) (origins : ℕ) : Type 0 where
   pub f : new.f ≡ old.f
   pub rows : new.rows ≡ old.rows
-  pub waiting : (k : ℕ) (v : List ℕ) → origins_at new.waiting k v ≡ (if key_of r.client r.request == k && bytes_eq r.payload v then origins else origins_at old.waiting k v)
-  pub others : (k : ℕ) → (key_of r.client r.request == k) ≡ false → payloads_at new.waiting k ≡ payloads_at old.waiting k
+  pub waiting : (k : ℕ) (v : List ℕ) → origins_at new.waiting k v ≡ (if row_key r.client r.request == k && bytes_eq r.payload v then origins else origins_at old.waiting k v)
+  pub others : (k : ℕ) → (row_key r.client r.request == k) ≡ false → payloads_at new.waiting k ≡ payloads_at old.waiting k
 
 -- for want of memory nothing comes of it
-pub record IsLeft (old new : Ledger) (r : Row) : Type 0 where
+pub record IsEntryLost (old new : Ledger) (r : Row) : Type 0 where
   pub f : new.f ≡ old.f
   pub rows : new.rows ≡ old.rows
   pub waiting : (k : ℕ) (v : List ℕ) → origins_at new.waiting k v ≡ origins_at old.waiting k v
-  pub others : (k : ℕ) → (key_of r.client r.request == k) ≡ false → payloads_at new.waiting k ≡ payloads_at old.waiting k
+  pub others : (k : ℕ) → (row_key r.client r.request == k) ≡ false → payloads_at new.waiting k ≡ payloads_at old.waiting k

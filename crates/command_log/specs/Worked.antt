@@ -1,7 +1,7 @@
 -- Worked rows.
 use Rattle.std.specs.Prelude.{◌≡◌, ℕ, List, [], ◌∷◌, Option, None, Some, refl}
 use Rattle.ritas_base.specs.declared.id.Id.{Id}
-use Rattle.command_log.specs.Rows.{Entry, Row, origins, rows_of, command_rows, row_at, position_of, entered}
+use Rattle.command_log.specs.Rows.{CommandEntry, Row, origins, rows_of, command_rows, row_at, position_of, entered}
 
 abbrev id : ℕ → ℕ → Id
 id origin num = record { origin = origin; num = num }
@@ -13,10 +13,10 @@ hi request = 0 ∷ 0 ∷ 0 ∷ 7 ∷ 0 ∷ 0 ∷ 0 ∷ request ∷ 0x68 ∷ 0x69
 abbrev ho : ℕ → List ℕ
 ho request = 0 ∷ 0 ∷ 0 ∷ 7 ∷ 0 ∷ 0 ∷ 0 ∷ request ∷ 0x68 ∷ 0x6f ∷ []
 
-abbrev entry : ℕ → ℕ → Entry
+abbrev entry : ℕ → ℕ → CommandEntry
 entry origin request = record { id = id origin 0; command = hi request }
 
-abbrev other : ℕ → ℕ → Entry
+abbrev other : ℕ → ℕ → CommandEntry
 other origin request = record { id = id origin 0; command = ho request }
 
 abbrev row : ℕ → ℕ → Row
@@ -76,7 +76,7 @@ two = refl
 
 -- ---- positions count from 0, in the order of entry
 
-abbrev three : List Entry
+abbrev three : List CommandEntry
 three = entry 2 2 ∷ entry 1 1 ∷ entry 0 1 ∷ []
 
 first_row : row_at (rows_of 0 three) 0 ≡ Some (row 0 1)
@@ -102,7 +102,7 @@ next = refl
 
 -- ---- a command without a payload, of four identifiers, with f = 1
 
-abbrev short : ℕ → ℕ → Entry
+abbrev short : ℕ → ℕ → CommandEntry
 short origin num = record { id = id origin num; command = 0 ∷ 0 ∷ 0 ∷ 7 ∷ 0 ∷ 0 ∷ 0 ∷ 1 ∷ [] }
 
 at_first : entered 1 (short 0 0) [] ≡ None

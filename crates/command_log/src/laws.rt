@@ -4,7 +4,7 @@ ghost use Rattle.std.specs.Prelude.{◌≡◌, ℕ, ◌<◌, ◌≤◌, true, Li
 ghost use Rattle.ritas_base.specs.declared.id.Id.{Id};
 ghost use Rattle.layer_api.specs.Words.{Word};
 ghost use Rattle.layer_api.specs.Service.{IsPart, ServiceRules, Seat, AreProper, WordLaws};
-ghost use Rattle.command_log.specs.Rows.{Entry, Row, has_row, is_origin, origins, rows_of, entries_of, command_rows, AreOnce, IsIn, HasRow};
+ghost use Rattle.command_log.specs.Rows.{CommandEntry, Row, has_row, is_origin, origins, rows_of, entries_of_log, command_rows, AreOnce, IsIn, HasRow};
 ghost use Rattle.command_log.specs.Laws.{IsRowOf, IsOriginOf};
 
 /// The laws of the rows of an identifier log. Each client and request has one row. The rows of a part of an identifier
@@ -14,13 +14,13 @@ ghost use Rattle.command_log.specs.Laws.{IsRowOf, IsOriginOf};
 ///
 /// It does nothing: its contract is the law.
 pub fn command_rows()
-    ensures once { (f : ℕ) (es : List Entry) → AreOnce (rows_of f es) }
+    ensures once { (f : ℕ) (es : List CommandEntry) → AreOnce (rows_of f es) }
     ensures part { (f : ℕ) (a b : Id → Option (List ℕ)) (xs ys : List Id) → IsPart xs ys → ((x : Id) → IsIn x xs → a x ≡ b x)
         → IsPart (command_rows f a xs) (command_rows f b ys) }
     ensures listed { (f : ℕ) (a : Id → Option (List ℕ)) (xs : List Id) (r : Row) → HasRow (command_rows f a xs) r → IsRowOf a xs r }
-    ensures confirmed { (f : ℕ) (es : List Entry) (r : Row) → HasRow (rows_of f es) r → f < origins es r }
-    ensures covered { (f : ℕ) (es : List Entry) (r : Row) → f < origins es r → has_row (rows_of f es) r.client r.request ≡ true }
-    ensures origin { (a : Id → Option (List ℕ)) (xs : List Id) (r : Row) (k : ℕ) → is_origin (entries_of a xs) r k ≡ true → IsOriginOf a xs r k }
+    ensures confirmed { (f : ℕ) (es : List CommandEntry) (r : Row) → HasRow (rows_of f es) r → f < origins es r }
+    ensures covered { (f : ℕ) (es : List CommandEntry) (r : Row) → f < origins es r → has_row (rows_of f es) r.client r.request ≡ true }
+    ensures origin { (a : Id → Option (List ℕ)) (xs : List Id) (r : Row) (k : ℕ) → is_origin (entries_of_log a xs) r k ≡ true → IsOriginOf a xs r k }
 {}
 
 /// The laws of a log that follows an identifier log. There are at most 31,000,000 identifiers, and no more rows. The entries
@@ -31,5 +31,5 @@ pub fn command_rows()
 pub fn log_follows()
     ensures identifiers { (r : ServiceRules) → WordLaws r → (seat : Seat) (w : List Word) → AreProper r seat w → length (r.done seat w) ≤ 31000000 }
     ensures rows { (f : ℕ) (a : Id → Option (List ℕ)) (xs : List Id) → length (command_rows f a xs) ≤ length xs }
-    ensures entries { (before now : Id → Option (List ℕ)) (xs : List Id) → ((x : Id) → IsIn x xs → before x ≡ now x) → entries_of before xs ≡ entries_of now xs }
+    ensures entries { (before now : Id → Option (List ℕ)) (xs : List Id) → ((x : Id) → IsIn x xs → before x ≡ now x) → entries_of_log before xs ≡ entries_of_log now xs }
 {}

@@ -4,9 +4,9 @@ ghost use Rattle.std.specs.Prelude.{◌≡◌, ℕ, ◌+◌, ◌<◌, ◌≤◌,
 ghost use Rattle.std.specs.Option.{option_copied};
 ghost use Rattle.std.specs.Int.{w32, from_be_bytes};
 ghost use Rattle.ritas_base.specs.Members.{member_count};
-ghost use Rattle.command_log.specs.Rows.{Entry, client_of, request_of, row_of, has_row, is_origin, row_at, position_of, entered, HasPlace};
-ghost use Rattle.command_log.specs.Index.{key_of};
-ghost use Rattle.command_log.specs.Standing.{StandsFor, HasEntered, Waits, IsLeft};
+ghost use Rattle.command_log.specs.Rows.{CommandEntry, client_of, request_of, row_of, has_row, is_origin, row_at, position_of, entered, HasPlace};
+ghost use Rattle.command_log.specs.Index.{row_key};
+ghost use Rattle.command_log.specs.Standing.{StandsFor, HasEntered, WaitsWith, IsEntryLost};
 
 use crate::row::LogRow;
 use crate::waiting::Waiting;
@@ -30,7 +30,7 @@ fn number(command: &[u8], at: usize) -> u32
 
 // The key of a client and a request.
 fn key_of(client: u32, request: u32) -> u64
-    ensures { result ≡ key_of client request }
+    ensures { result ≡ row_key client request }
 {
     u64::from(client) * 4_294_967_296 + u64::from(request)
 }
@@ -132,8 +132,8 @@ impl Log {
         ensures many { self.old.f < member_count 32 origins → IfOk result (λ position. position ≡ Some (length self.old.rows))
             × OnOk result (HasEntered self.old self.new (record { id = id; client = client; request = request; payload = payload.now })) }
         ensures few { member_count 32 origins ≤ self.old.f → IfOk result (λ position. position ≡ None)
-            × OnOk result (Waits self.old self.new (record { id = id; client = client; request = request; payload = payload.now }) origins) }
-        ensures err { OnErr result (IsLeft self.old self.new (record { id = id; client = client; request = request; payload = payload.now })) }
+            × OnOk result (WaitsWith self.old self.new (record { id = id; client = client; request = request; payload = payload.now }) origins) }
+        ensures err { OnErr result (IsEntryLost self.old self.new (record { id = id; client = client; request = request; payload = payload.now })) }
         ensures f { self.new.f ≡ self.old.f }
     {
         if origins.len() > self.f {
@@ -155,13 +155,13 @@ impl Log {
     pub fn append(&mut self, alloc: Global, id: Id, command: &[u8]) -> Result<Option<u32>, Mem>
         requires long { 8 ≤ length command.now }
         requires room { length self.old.rows < 4294967295 }
-        ensures position { (es : List Entry) → StandsFor self.old es → IfOk result (λ position. position ≡ entered self.old.f (record { id = id; command = command.now }) es) }
-        ensures ok { (es : List Entry) → StandsFor self.old es → OnOk result (StandsFor self.new (record { id = id; command = command.now } ∷ es)) }
-        ensures err { (es : List Entry) → StandsFor self.old es → OnErr result (StandsFor self.new es) }
+        ensures position { (es : List CommandEntry) → StandsFor self.old es → IfOk result (λ position. position ≡ entered self.old.f (record { id = id; command = command.now }) es) }
+        ensures ok { (es : List CommandEntry) → StandsFor self.old es → OnOk result (StandsFor self.new (record { id = id; command = command.now } ∷ es)) }
+        ensures err { (es : List CommandEntry) → StandsFor self.old es → OnErr result (StandsFor self.new es) }
         ensures kept { OnErr result (self.new.rows ≡ self.old.rows) }
         ensures f { self.new.f ≡ self.old.f }
         ensures only { OnErr result (has_row self.old.rows (client_of command.now) (request_of command.now) ≡ false) }
-        ensures first { (es : List Entry) → StandsFor self.old es → OnErr result (is_origin es (row_of (record { id = id; command = command.now })) id.origin ≡ false) }
+        ensures first { (es : List CommandEntry) → StandsFor self.old es → OnErr result (is_origin es (row_of (record { id = id; command = command.now })) id.origin ≡ false) }
     {
         let client = number(command, 0);
         let request = number(command, 4);

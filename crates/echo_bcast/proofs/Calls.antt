@@ -27,7 +27,8 @@ use Rattle.layer_api.specs.BroadcastCalls.{CastShown, ShowsCastNear, Started, Ta
 use Rattle.layer_api.specs.Entries.{sent}
 use Rattle.echo_bcast.specs.declared.eb.Eb.{Eb}
 use Rattle.echo_bcast.specs.Matrix.{echo, hashes_in, columns_of, has_news, repeats_one, is_of_echo}
-use Rattle.echo_bcast.specs.State.{Keeps, shown_of, is_awaited, Nothing, HearsSend, HearsHashes, HearsColumn, HearsColumnOk, Hears}
+use Rattle.ritas_base.specs.Places.{is_awaited}
+use Rattle.echo_bcast.specs.State.{KeepsMatrix, matrix_shown, MatrixUnchanged, HearsSend, HearsHashes, HearsColumn, HearsColumnOk, HearsMatrix}
 use Rattle.echo_bcast.specs.Laws.Once.{repeats_other}
 use Rattle.echo_bcast.specs.Laws.Getters.{some_as, shows_cast}
 use Rattle.echo_bcast.proofs.News.{news_start, news_send, news_column, news_hashes}
@@ -37,11 +38,11 @@ abbrev pub is_live : Eb → Bool
 is_live b = b.live
 
 abbrev TakesAs : Tagging → Eb → Eb → Item → List Msg → List Msg → Result Heard Mem → Type 0
-TakesAs t old new x before after r = Takes Keeps echo is_live shown_of t old new x before after r
+TakesAs t old new x before after r = Takes KeepsMatrix echo is_live matrix_shown t old new x before after r
 
 -- what shows as before the call
-shows_before : (old new : Eb) (at : Place) (tags : Tags) (h : List Call) (c : Call) → Keeps old at tags h → shown_of new ≡ shown_of old
-    → ShowsCastNear echo at tags h c (shown_of new)
+shows_before : (old new : Eb) (at : Place) (tags : Tags) (h : List Call) (c : Call) → KeepsMatrix old at tags h → matrix_shown new ≡ matrix_shown old
+    → ShowsCastNear echo at tags h c (matrix_shown new)
 shows_before old new at tags h c keeps same =
     let was = shows_cast old at tags h keeps in
     record {
@@ -67,7 +68,7 @@ from_origin at tags h x kind may = may.origin (ap (λ (k : Kind). is_of_origin k
 repeats_send : (at : Place) (tags : Tags) (h : List Call) (x : Item) → x.kind ≡ Send → MayTake echo at tags h x → repeats_one at tags h x ≡ is_some (sent at h)
 repeats_send at tags h x kind may = repeats_kind at tags h x Send kind refl ∙ ap (λ (k : ℕ). is_some (first h k Send)) (from_origin at tags h x kind may)
 
-unsent : (b : Eb) (at : Place) (tags : Tags) (h : List Call) → b.sent ≡ None → Keeps b at tags h → sent at h ≡ None
+unsent : (b : Eb) (at : Place) (tags : Tags) (h : List Call) → b.sent ≡ None → KeepsMatrix b at tags h → sent at h ≡ None
 unsent b at tags h none keeps = none_as tags (sent at h) (sym keeps.sent_is ∙ none)
 
 heard_send : (t : Tagging) (old new : Eb) (x : Item) (before after : List Msg) (r : Result Heard Mem) → x.kind ≡ Send → is_err r ≡ false
@@ -75,7 +76,7 @@ heard_send : (t : Tagging) (old new : Eb) (x : Item) (before after : List Msg) (
 heard_send t old new x before after (Ok Took) kind e hears =
     record {
       grows = λ at tags h keeps tagger may.
-          subst (λ (b : Eb). Keeps b at tags (Take x ∷ h)) (sym hears.1)
+          subst (λ (b : Eb). KeepsMatrix b at tags (Take x ∷ h)) (sym hears.1)
           (kept_send old at tags h x (t.tags.digest x.value) keeps kind (from_origin at tags h x kind may) (unsent old at tags h hears.0 keeps) (sym (tagger.alike.digest x.value)));
       made = λ at tags h keeps tagger may.
           hears.2
@@ -85,7 +86,7 @@ heard_send t old new x before after (Ok Took) kind e hears =
     }
 heard_send t old new x before after (Ok Repeat) kind e hears =
     record {
-      same = λ at tags h keeps. subst (λ (b : Eb). Keeps b at tags h) (sym hears.1.0) keeps;
+      same = λ at tags h keeps. subst (λ (b : Eb). KeepsMatrix b at tags h) (sym hears.1.0) keeps;
       out = hears.1.1;
       counts = λ at tags h keeps tagger may.
           repeats_send at tags h x kind may ∙ (sym (some_as tags (sent at h)) ∙ (ap is_some (sym keeps.sent_is) ∙ hears.0));
@@ -101,7 +102,7 @@ half_send t old new x before after (Err y) kind e hears =
       dies = record {
         out = hears.1.1;
         dead = refl;
-        shows = λ at tags h keeps tagger may. shows_before old new at tags h (Take x) keeps (ap (λ (b : Eb). shown_of b) hears.1.0);
+        shows = λ at tags h keeps tagger may. shows_before old new at tags h (Take x) keeps (ap (λ (b : Eb). matrix_shown b) hears.1.0);
       };
       counts = λ at tags h keeps tagger may. repeats_send at tags h x kind may ∙ ap is_some (unsent old at tags h hears.0 keeps);
     }
@@ -112,7 +113,7 @@ is_none_is : {A : Type 0} (o : Option A) → is_none o ≡ not (is_some o)
 is_none_is None = refl
 is_none_is (Some x) = refl
 
-awaited_is : (b : Eb) (at : Place) (tags : Tags) (h : List Call) (k : ℕ) → Keeps b at tags h → k < at.numbers.n → is_awaited b.hashes.items k ≡ not (is_some (first h k Hashes))
+awaited_is : (b : Eb) (at : Place) (tags : Tags) (h : List Call) (k : ℕ) → KeepsMatrix b at tags h → k < at.numbers.n → is_awaited b.hashes.items k ≡ not (is_some (first h k Hashes))
 awaited_is b at tags h k keeps lt =
     let n = at.numbers.n in
     let hs = hashes_in at h in
@@ -127,18 +128,18 @@ opposite true false p e q = ap not q
 opposite false true p e q = ap not q
 opposite false false p e q = absurd (cc)
 
-repeats_hashes : (b : Eb) (at : Place) (tags : Tags) (h : List Call) (x : Item) (awaits : Bool) → x.kind ≡ Hashes → Keeps b at tags h → MayTake echo at tags h x
+repeats_hashes : (b : Eb) (at : Place) (tags : Tags) (h : List Call) (x : Item) (awaits : Bool) → x.kind ≡ Hashes → KeepsMatrix b at tags h → MayTake echo at tags h x
     → is_awaited b.hashes.items x.from ≡ awaits → repeats_one at tags h x ≡ not awaits
 repeats_hashes b at tags h x awaits kind keeps may is =
     repeats_kind at tags h x Hashes kind refl
     ∙ opposite (is_awaited b.hashes.items x.from) (is_some (first h x.from Hashes)) (awaited_is b at tags h x.from keeps may.sender) awaits is
 
-new_hashes : (b : Eb) (at : Place) (tags : Tags) (h : List Call) (x : Item) → Keeps b at tags h → MayTake echo at tags h x
+new_hashes : (b : Eb) (at : Place) (tags : Tags) (h : List Call) (x : Item) → KeepsMatrix b at tags h → MayTake echo at tags h x
     → is_awaited b.hashes.items x.from ≡ true → first h x.from Hashes ≡ None
 new_hashes b at tags h x keeps may is =
     not_there (first h x.from Hashes) (opposite (is_awaited b.hashes.items x.from) (is_some (first h x.from Hashes)) (awaited_is b at tags h x.from keeps may.sender) true is)
 
-columns_are : (b c : Eb) (at : Place) (tags : Tags) (h : List Call) (x : Item) → Keeps b at tags h → Keeps c at tags (Take x ∷ h)
+columns_are : (b c : Eb) (at : Place) (tags : Tags) (h : List Call) (x : Item) → KeepsMatrix b at tags h → KeepsMatrix c at tags (Take x ∷ h)
     → columns_of b.params b.slot c.hashes.items ≡ columns_of at.numbers at.slot (hashes_in at (Take x ∷ h))
 columns_are b c at tags h x keeps kept =
     ap (λ (p : Numbers). columns_of p b.slot c.hashes.items) keeps.params
@@ -147,7 +148,7 @@ columns_are b c at tags h x keeps kept =
 heard_hashes : (t : Tagging) (old new : Eb) (x : Item) (before after : List Msg) (r : Result Heard Mem) → x.kind ≡ Hashes → is_err r ≡ false
     → HearsHashes old new x before after r → TakesAs t old new x before after r
 heard_hashes t old new x before after (Ok Took) kind e hears =
-    let kept : (at : Place) (tags : Tags) (h : List Call) → Keeps old at tags h → MayTake echo at tags h x → Keeps new at tags (Take x ∷ h) =
+    let kept : (at : Place) (tags : Tags) (h : List Call) → KeepsMatrix old at tags h → MayTake echo at tags h x → KeepsMatrix new at tags (Take x ∷ h) =
     λ at tags h keeps may. kept_hashes old new at tags h x keeps kind may.sender (new_hashes old at tags h x keeps may hears.0) hears.1 hears.2 in
     record {
       grows = λ at tags h keeps tagger may. kept at tags h keeps may;
@@ -161,7 +162,7 @@ heard_hashes t old new x before after (Ok Took) kind e hears =
     }
 heard_hashes t old new x before after (Ok Repeat) kind e hears =
     record {
-      same = λ at tags h keeps. subst (λ (b : Eb). Keeps b at tags h) (sym hears.1.0) keeps;
+      same = λ at tags h keeps. subst (λ (b : Eb). KeepsMatrix b at tags h) (sym hears.1.0) keeps;
       out = hears.1.1;
       counts = λ at tags h keeps tagger may. repeats_hashes old at tags h x false kind keeps may hears.0;
     }
@@ -176,7 +177,7 @@ half_hashes t old new x before after (Err y) kind e hears =
       dies = record {
         out = hears.2;
         dead = refl;
-        shows = λ at tags h keeps tagger may. shows_before old new at tags h (Take x) keeps (ap (λ (b : Eb). shown_of b) hears.1);
+        shows = λ at tags h keeps tagger may. shows_before old new at tags h (Take x) keeps (ap (λ (b : Eb). matrix_shown b) hears.1);
       };
       counts = λ at tags h keeps tagger may. repeats_hashes old at tags h x true kind keeps may hears.0;
     }
@@ -205,7 +206,7 @@ heard_column t old new x before after Took kind hears =
     }
 heard_column t old new x before after Repeat kind hears =
     record {
-      same = λ at tags h keeps. subst (λ (b : Eb). Keeps b at tags h) (sym hears.1.0) keeps;
+      same = λ at tags h keeps. subst (λ (b : Eb). KeepsMatrix b at tags h) (sym hears.1.0) keeps;
       out = hears.1.1;
       counts = λ at tags h keeps tagger may.
           let there = after_send at tags h x kind may in
@@ -217,24 +218,24 @@ heard_column t old new x before after Repeat kind hears =
 -- ---- every kind
 
 other_kind : (t : Tagging) (old new : Eb) (x : Item) (before after : List Msg) (r : Result Heard Mem) → is_of_echo x.kind ≡ false
-    → (r ≡ Ok Repeat) × Nothing old new before after → TakesAs t old new x before after r
+    → (r ≡ Ok Repeat) × MatrixUnchanged old new before after → TakesAs t old new x before after r
 other_kind t old new x before after r other hears =
     subst (λ (q : Result Heard Mem). TakesAs t old new x before after q) (sym hears.0)
     (record {
-      same = λ at tags h keeps. subst (λ (b : Eb). Keeps b at tags h) (sym hears.1.0) keeps;
+      same = λ at tags h keeps. subst (λ (b : Eb). KeepsMatrix b at tags h) (sym hears.1.0) keeps;
       out = hears.1.1;
       counts = λ at tags h keeps tagger may. absurd (both_ways (is_of_echo x.kind) other may.kind);
     })
 
 pub heard_well : (t : Tagging) (old new : Eb) (x : Item) (before after : List Msg) (r : Result Heard Mem) → is_err r ≡ false
-    → Hears x.kind t old new x before after r → TakesAs t old new x before after r
+    → HearsMatrix x.kind t old new x before after r → TakesAs t old new x before after r
 heard_well t old new x before after r e hears = go x.kind refl hears
   where
     column_well : (q : Result Heard Mem) → x.kind ≡ Column → HearsColumnOk t old new x before after q → TakesAs t old new x before after q
     column_well (Ok heard) kind h = heard_column t old new x before after heard kind h
     column_well (Err y) kind h = absurd h
 
-    go : (kind : Kind) → x.kind ≡ kind → Hears kind t old new x before after r → TakesAs t old new x before after r
+    go : (kind : Kind) → x.kind ≡ kind → HearsMatrix kind t old new x before after r → TakesAs t old new x before after r
     go kinds.Init kind h = other_kind t old new x before after r (ap (λ (k : Kind). is_of_echo k) kind) h
     go kinds.Echo kind h = other_kind t old new x before after r (ap (λ (k : Kind). is_of_echo k) kind) h
     go kinds.Ready kind h = other_kind t old new x before after r (ap (λ (k : Kind). is_of_echo k) kind) h
@@ -245,7 +246,7 @@ heard_well t old new x before after r e hears = go x.kind refl hears
     go kinds.Value kind h = other_kind t old new x before after r (ap (λ (k : Kind). is_of_echo k) kind) h
 
 pub heard_half : (t : Tagging) (old new : Eb) (x : Item) (before after : List Msg) (r : Result Heard Mem) → is_err r ≡ true
-    → Hears x.kind t old new x before after r → TakesAs t old (record new { live = false }) x before after r
+    → HearsMatrix x.kind t old new x before after r → TakesAs t old (record new { live = false }) x before after r
 heard_half t old new x before after r e hears = go x.kind refl hears
   where
     not_other : (r ≡ Ok Repeat) → TakesAs t old (record new { live = false }) x before after r
@@ -255,7 +256,7 @@ heard_half t old new x before after r e hears = go x.kind refl hears
     column_half (Ok heard) f h = absurd (cc)
     column_half (Err y) f h = absurd h
 
-    go : (kind : Kind) → x.kind ≡ kind → Hears kind t old new x before after r → TakesAs t old (record new { live = false }) x before after r
+    go : (kind : Kind) → x.kind ≡ kind → HearsMatrix kind t old new x before after r → TakesAs t old (record new { live = false }) x before after r
     go kinds.Init kind h = not_other h.0
     go kinds.Echo kind h = not_other h.0
     go kinds.Ready kind h = not_other h.0
@@ -268,7 +269,7 @@ heard_half t old new x before after r e hears = go x.kind refl hears
 -- ---- the start
 
 pub started_well : (t : Tagging) (old : Eb) (value : List ℕ) (before after : List Msg) (r : Result (Unit {0}) Mem) → is_err r ≡ false
-    → OnOk r (after ≡ before ++ to_all old.slot Send (Some value)) → Started Keeps echo is_live shown_of t old old value before after r
+    → OnOk r (after ≡ before ++ to_all old.slot Send (Some value)) → Started KeepsMatrix echo is_live matrix_shown t old old value before after r
 started_well t old value before after (Ok u) e said =
     record {
       grows = λ at tags h keeps tagger may. kept_start old at tags h value keeps;
@@ -278,7 +279,7 @@ started_well t old value before after (Ok u) e said =
 started_well t old value before after (Err x) e said = absurd (cc)
 
 pub started_half : (t : Tagging) (old : Eb) (value : List ℕ) (before after : List Msg) (r : Result (Unit {0}) Mem) → is_err r ≡ true
-    → OnErr r (after ≡ before) → Started Keeps echo is_live shown_of t old (record old { live = false }) value before after r
+    → OnErr r (after ≡ before) → Started KeepsMatrix echo is_live matrix_shown t old (record old { live = false }) value before after r
 started_half t old value before after (Ok u) e out = absurd (cc)
 started_half t old value before after (Err x) e out =
     record { out = out; dead = refl; shows = λ at tags h keeps tagger may. shows_before old old at tags h (Start value) keeps refl }
@@ -299,7 +300,7 @@ IsNew p slot b =
     (b.params ≡ p) × (b.slot ≡ slot) × (b.sent ≡ None) × (b.hashes.items ≡ replicate p.n None) × ((k : ℕ) → has_member b.good k ≡ false) × (b.live ≡ true) × IsSession p
 
 pub new_keeps : (p : Numbers) (me : ℕ) (slot : Slot) (r : Result Eb Mem) → me < p.n → IfOk r (IsNew p slot)
-    → IfOk r (λ b. (tags : Tags) → Keeps b (record { numbers = p; me = me; slot = slot }) tags [])
+    → IfOk r (λ b. (tags : Tags) → KeepsMatrix b (record { numbers = p; me = me; slot = slot }) tags [])
 new_keeps p me slot (Ok b) below new = λ tags.
     record {
       session = new.6;

@@ -18,7 +18,7 @@ use Rattle.frame_codec.specs.Grammar.{column, is_places}
 use Rattle.frame_codec.specs.Values.{mask_of}
 use Rattle.layer_api.specs.Broadcast.{Tagging}
 use Rattle.echo_bcast.specs.Matrix.{as_entry, hashes_bytes}
-use Rattle.echo_bcast.specs.State.{tagged, is_tagged, adds_to, Joins}
+use Rattle.echo_bcast.specs.State.{tagged, has_valid_entry, adds_to, JoinsSet}
 use Rattle.echo_bcast.proofs.ListMembers.{one_replica_more}
 use Rattle.echo_bcast.specs.Laws.Columns.{as_entry_is}
 
@@ -86,10 +86,10 @@ any_more p e =
 
 module _ (t : Tagging) (s : Slot) (digest value : List ℕ) (good e : ℕ) where
   abbrev valid : ℕ → Bool
-  valid k = is_tagged t s digest value k
+  valid k = has_valid_entry t s digest value k
 
   abbrev pub IsJudged : ℕ → ℕ → Bool → Type 0
-  IsJudged n all news = Joins t s n digest value good all × (news ≡ adds_to t s n digest value good)
+  IsJudged n all news = JoinsSet t s n digest value good all × (news ≡ adds_to t s n digest value good)
 
   -- a new one
   judged_new : (all more : ℕ) (news : Bool) → IsJudged e all news → has_member good e ≡ false → valid e ≡ true

@@ -21,8 +21,8 @@ use Rattle.layer_api.specs.Entries.{sent}
 use Rattle.layer_api.specs.Broadcast.{news}
 use Rattle.layer_api.specs.Runs.{Has}
 use Rattle.layer_api.specs.HasLaws.{has_left, has_listed, has_right, listed_has}
-use Rattle.echo_bcast.specs.Matrix.{echo, hashes_for, hashes_in, senders_of, brings_hashes, column_for, columns_of, columns_at, columns_due, due_of, rows_for}
-use Rattle.echo_bcast.specs.Due.{IsDue, OfSend, OfHashes, OfColumn, IsColumnOf, due_is, columns_of_is}
+use Rattle.echo_bcast.specs.Matrix.{echo, hashes_for, hashes_in, senders_of, brings_hashes, column_for, columns_of, columns_at, columns_due, matrix_due, rows_for}
+use Rattle.echo_bcast.specs.Due.{IsMatrixDue, OfSend, OfHashes, OfColumn, IsColumnOf, due_is, columns_of_is}
 use Rattle.echo_bcast.specs.Laws.Columns.{column_mask, senders_have}
 use Rattle.ritas_base.specs.HistoryLaws.{length-firsts}
 
@@ -37,10 +37,10 @@ part_new before xs new =
 
 news_are : (at : Place) (tags : Tags) (h : List Call) (c : Call)
     → news echo at tags h c
-    ≡ without (due_of at tags h) (to_all at.slot Send (started (c ∷ h))) ++ without (due_of at tags h) (hashes_for at tags (sent at (c ∷ h)))
-    ++ without (due_of at tags h) (columns_due at (c ∷ h))
+    ≡ without (matrix_due at tags h) (to_all at.slot Send (started (c ∷ h))) ++ without (matrix_due at tags h) (hashes_for at tags (sent at (c ∷ h)))
+    ++ without (matrix_due at tags h) (columns_due at (c ∷ h))
 news_are at tags h c =
-    let before = due_of at tags h in
+    let before = matrix_due at tags h in
     let xs = to_all at.slot Send (started (c ∷ h)) in
     let ys = hashes_for at tags (sent at (c ∷ h)) in
     let zs = columns_due at (c ∷ h) in
@@ -49,19 +49,19 @@ news_are at tags h c =
 joined : (x x' y y' z z' : List Msg) → x ≡ x' → y ≡ y' → z ≡ z' → x ++ y ++ z ≡ x' ++ y' ++ z'
 joined x x' y y' z z' p q r = cc
 
-sends_old : (at : Place) (tags : Tags) (h : List Call) (c : Call) → started (c ∷ h) ≡ started h → without (due_of at tags h) (to_all at.slot Send (started (c ∷ h))) ≡ []
+sends_old : (at : Place) (tags : Tags) (h : List Call) (c : Call) → started (c ∷ h) ≡ started h → without (matrix_due at tags h) (to_all at.slot Send (started (c ∷ h))) ≡ []
 sends_old at tags h c same =
-    ap (λ (o : Option (List ℕ)). without (due_of at tags h) (to_all at.slot Send o)) same
-    ∙ part_old (due_of at tags h) (to_all at.slot Send (started h))
+    ap (λ (o : Option (List ℕ)). without (matrix_due at tags h) (to_all at.slot Send o)) same
+    ∙ part_old (matrix_due at tags h) (to_all at.slot Send (started h))
     (λ m there. has_left (to_all at.slot Send (started h) ++ hashes_for at tags (sent at h)) (columns_due at h) m (has_left (to_all at.slot Send (started h)) (hashes_for at tags (sent at h)) m there))
 
-hashes_old : (at : Place) (tags : Tags) (h : List Call) (c : Call) → sent at (c ∷ h) ≡ sent at h → without (due_of at tags h) (hashes_for at tags (sent at (c ∷ h))) ≡ []
+hashes_old : (at : Place) (tags : Tags) (h : List Call) (c : Call) → sent at (c ∷ h) ≡ sent at h → without (matrix_due at tags h) (hashes_for at tags (sent at (c ∷ h))) ≡ []
 hashes_old at tags h c same =
-    ap (λ (o : Option (List ℕ)). without (due_of at tags h) (hashes_for at tags o)) same
-    ∙ part_old (due_of at tags h) (hashes_for at tags (sent at h))
+    ap (λ (o : Option (List ℕ)). without (matrix_due at tags h) (hashes_for at tags o)) same
+    ∙ part_old (matrix_due at tags h) (hashes_for at tags (sent at h))
     (λ m there. has_left (to_all at.slot Send (started h) ++ hashes_for at tags (sent at h)) (columns_due at h) m (has_right (to_all at.slot Send (started h)) (hashes_for at tags (sent at h)) m there))
 
-columns_in : (at : Place) (tags : Tags) (h : List Call) (m : Msg) → Has (columns_due at h) m → Has (due_of at tags h) m
+columns_in : (at : Place) (tags : Tags) (h : List Call) (m : Msg) → Has (columns_due at h) m → Has (matrix_due at tags h) m
 columns_in at tags h m there = has_right (to_all at.slot Send (started h) ++ hashes_for at tags (sent at h)) (columns_due at h) m there
 
 columns_same : (at : Place) (c : Call) (h : List Call) (b d : Bool) → d ≡ false
@@ -69,10 +69,10 @@ columns_same : (at : Place) (c : Call) (h : List Call) (b d : Bool) → d ≡ fa
 columns_same at c h true d none = ap (λ (x : Bool). (if x then columns_of at.numbers at.slot (hashes_in at (c ∷ h)) else []) ++ columns_at at h) none
 columns_same at c h false d none = refl
 
-columns_old : (at : Place) (tags : Tags) (h : List Call) (c : Call) → brings_hashes c ≡ false → without (due_of at tags h) (columns_due at (c ∷ h)) ≡ []
+columns_old : (at : Place) (tags : Tags) (h : List Call) (c : Call) → brings_hashes c ≡ false → without (matrix_due at tags h) (columns_due at (c ∷ h)) ≡ []
 columns_old at tags h c none =
-    ap (without (due_of at tags h)) (columns_same at c h (at.me == at.slot.origin) (brings_hashes c) none)
-    ∙ part_old (due_of at tags h) (columns_due at h) (columns_in at tags h)
+    ap (without (matrix_due at tags h)) (columns_same at c h (at.me == at.slot.origin) (brings_hashes c) none)
+    ∙ part_old (matrix_due at tags h) (columns_due at h) (columns_in at tags h)
 
 -- ---- each call
 
@@ -91,17 +91,17 @@ sent_now at x h kind mine new =
 pub news_start : (at : Place) (tags : Tags) (h : List Call) (v : List ℕ) → started h ≡ None → news echo at tags h (Start v) ≡ to_all at.slot Send (Some v)
 news_start at tags h v new =
     let now : started (Start v ∷ h) ≡ Some v = ap (λ (o : Option (List ℕ)). option_or o (Some v)) new in
-    let old : (m : Msg) → Has (to_all at.slot Send (Some v)) m → Has (due_of at tags h) m → ⊥ = λ m there was. no_send m there (due_is at tags h m was) in
+    let old : (m : Msg) → Has (to_all at.slot Send (Some v)) m → Has (matrix_due at tags h) m → ⊥ = λ m there was. no_send m there (due_is at tags h m was) in
     news_are at tags h (Start v)
     ∙ joined _ (to_all at.slot Send (Some v)) _ [] _ []
-    (ap (λ (o : Option (List ℕ)). without (due_of at tags h) (to_all at.slot Send o)) now ∙ part_new (due_of at tags h) (to_all at.slot Send (Some v)) old)
+    (ap (λ (o : Option (List ℕ)). without (matrix_due at tags h) (to_all at.slot Send o)) now ∙ part_new (matrix_due at tags h) (to_all at.slot Send (Some v)) old)
     (hashes_old at tags h (Start v) (option_or_none (sent at h))) (columns_old at tags h (Start v) refl)
   where
     send_kind : (m : Msg) → Has (to_all at.slot Send (Some v)) m → m.kind ≡ Send
     send_kind m (inl same) = ap (λ (x : Msg). x.kind) (sym same)
     send_kind m (inr later) = absurd later
 
-    no_send : (m : Msg) → Has (to_all at.slot Send (Some v)) m → IsDue at tags h m → ⊥
+    no_send : (m : Msg) → Has (to_all at.slot Send (Some v)) m → IsMatrixDue at tags h m → ⊥
     no_send m there (OfSend s) = (let none = new in let some = s.value in cc)
     no_send m there (OfHashes s) = (let a : m.kind ≡ Hashes = ap (λ (x : Msg). x.kind) s.whole in let b = send_kind m there in cc)
     no_send m there (OfColumn s) = (let a : m.kind ≡ Column = ap (λ (x : Msg). x.kind) s.whole in let b = send_kind m there in cc)
@@ -112,18 +112,18 @@ not_hashes x other = other
 pub news_send : (at : Place) (tags : Tags) (h : List Call) (x : Item) → x.kind ≡ Send → x.from ≡ at.slot.origin → sent at h ≡ None
     → news echo at tags h (Take x) ≡ hashes_for at tags (Some x.value)
 news_send at tags h x kind mine new =
-    let old : (m : Msg) → Has (hashes_for at tags (Some x.value)) m → Has (due_of at tags h) m → ⊥ = λ m there was. no_hashes m there (due_is at tags h m was) in
+    let old : (m : Msg) → Has (hashes_for at tags (Some x.value)) m → Has (matrix_due at tags h) m → ⊥ = λ m there was. no_hashes m there (due_is at tags h m was) in
     news_are at tags h (Take x)
     ∙ joined _ [] _ (hashes_for at tags (Some x.value)) _ []
     (sends_old at tags h (Take x) (started_kept x h))
-    (ap (λ (o : Option (List ℕ)). without (due_of at tags h) (hashes_for at tags o)) (sent_now at x h kind mine new) ∙ part_new (due_of at tags h) (hashes_for at tags (Some x.value)) old)
+    (ap (λ (o : Option (List ℕ)). without (matrix_due at tags h) (hashes_for at tags o)) (sent_now at x h kind mine new) ∙ part_new (matrix_due at tags h) (hashes_for at tags (Some x.value)) old)
     (columns_old at tags h (Take x) (ap (λ (k : Kind). kind_eq k Hashes) kind))
   where
     hashes_kind : (m : Msg) → Has (hashes_for at tags (Some x.value)) m → m.kind ≡ Hashes
     hashes_kind m (inl same) = ap (λ (y : Msg). y.kind) (sym same)
     hashes_kind m (inr later) = absurd later
 
-    no_hashes : (m : Msg) → Has (hashes_for at tags (Some x.value)) m → IsDue at tags h m → ⊥
+    no_hashes : (m : Msg) → Has (hashes_for at tags (Some x.value)) m → IsMatrixDue at tags h m → ⊥
     no_hashes m there (OfSend s) = (let a : m.kind ≡ Send = ap (λ (y : Msg). y.kind) s.whole in let b = hashes_kind m there in cc)
     no_hashes m there (OfHashes s) = (let none = new in let some = s.was_sent in cc)
     no_hashes m there (OfColumn s) = (let a : m.kind ≡ Column = ap (λ (y : Msg). y.kind) s.whole in let b = hashes_kind m there in cc)
@@ -166,7 +166,7 @@ other_column at h x m j most kind within new is old =
 pub news_hashes : (at : Place) (tags : Tags) (h : List Call) (x : Item) → at.numbers.n ≤ 31 → at.me ≡ at.slot.origin → x.kind ≡ Hashes → x.from < at.numbers.n
     → first h x.from Hashes ≡ None → news echo at tags h (Take x) ≡ columns_of at.numbers at.slot (hashes_in at (Take x ∷ h))
 news_hashes at tags h x most mine kind within new =
-    let before = due_of at tags h in
+    let before = matrix_due at tags h in
     let now = columns_of at.numbers at.slot (hashes_in at (Take x ∷ h)) in
     let old : (m : Msg) → Has now m → Has before m → ⊥ = λ m there was. no_column m there (due_is at tags h m was) in
     let origin : (at.me == at.slot.origin) ≡ true = eq-eqb at.me at.slot.origin mine in
@@ -190,7 +190,7 @@ news_hashes at tags h x most mine kind within new =
     found m there =
         let f = columns_of_is at (hashes_in at (Take x ∷ h)) m (nat_le (wait_of at.numbers) (count_by is_some (hashes_in at (Take x ∷ h)))) refl there in (f.1.0, sym f.1.2)
 
-    no_column : (m : Msg) → Has (columns_of at.numbers at.slot (hashes_in at (Take x ∷ h))) m → IsDue at tags h m → ⊥
+    no_column : (m : Msg) → Has (columns_of at.numbers at.slot (hashes_in at (Take x ∷ h))) m → IsMatrixDue at tags h m → ⊥
     no_column m there (OfSend s) = (let a : m.kind ≡ Send = ap (λ (y : Msg). y.kind) s.whole in let b : m.kind ≡ Column = ap (λ (y : Msg). y.kind) (found m there).1 in cc)
     no_column m there (OfHashes s) = (let a : m.kind ≡ Hashes = ap (λ (y : Msg). y.kind) s.whole in let b : m.kind ≡ Column = ap (λ (y : Msg). y.kind) (found m there).1 in cc)
     no_column m there (OfColumn s) = let f = found m there in other_column at h x m f.0 most kind within new f.1 s

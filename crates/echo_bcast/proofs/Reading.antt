@@ -20,8 +20,8 @@ use Rattle.layer_api.specs.Entries.{sent, given, entries_for, is_claim, is_valid
 use Rattle.layer_api.specs.Runs.{Has}
 use Rattle.layer_api.specs.HasLaws.{has_left, has_right}
 use Rattle.layer_api.specs.OneValue.{AreTaken}
-use Rattle.echo_bcast.specs.Matrix.{echo, as_entry, hashes_bytes, hashes_for, columns_due, due_of, is_good}
-use Rattle.echo_bcast.specs.Due.{IsDue, OfSend, OfHashes, OfColumn, due_is}
+use Rattle.echo_bcast.specs.Matrix.{echo, as_entry, hashes_bytes, hashes_for, columns_due, matrix_due, is_good}
+use Rattle.echo_bcast.specs.Due.{IsMatrixDue, OfSend, OfHashes, OfColumn, due_is}
 use Rattle.echo_bcast.specs.Laws.Columns.{as_entry_is, senders_have}
 use Rattle.echo_bcast.specs.Laws.OneValue.{out_is}
 use Rattle.echo_bcast.specs.Laws.Matrix.{good_stays}
@@ -29,7 +29,7 @@ use Rattle.echo_bcast.specs.Reading.{CarriesGiven, HashesCarry, IsShownGood, Goo
 
 -- ---- HASHES
 
-carried : (at : Place) (tags : Tags) (h : List Call) (m : Msg) → m.kind ≡ Hashes → IsDue at tags h m → CarriesGiven at tags h m
+carried : (at : Place) (tags : Tags) (h : List Call) (m : Msg) → m.kind ≡ Hashes → IsMatrixDue at tags h m → CarriesGiven at tags h m
 carried at tags h m kind (OfSend s) = absurd (let other : m.kind ≡ Send = ap (λ (x : Msg). x.kind) s.whole in cc)
 carried at tags h m kind (OfHashes s) =
     record {
@@ -39,7 +39,7 @@ carried at tags h m kind (OfHashes s) =
 carried at tags h m kind (OfColumn s) = absurd (let other : m.kind ≡ Column = ap (λ (x : Msg). x.kind) s.whole in cc)
 
 due_once : (at : Place) (tags : Tags) (h : List Call) (v : List ℕ) → sent at h ≡ Some v
-    → Has (due_of at tags h) (record { to = One at.slot.origin; kind = Hashes; slot = at.slot; value = hashes_bytes (given at tags h) })
+    → Has (matrix_due at tags h) (record { to = One at.slot.origin; kind = Hashes; slot = at.slot; value = hashes_bytes (given at tags h) })
 due_once at tags h v e =
     let m : Msg = record { to = One at.slot.origin; kind = Hashes; slot = at.slot; value = hashes_bytes (given at tags h) } in
     let same : record { to = One at.slot.origin; kind = Hashes; slot = at.slot; value = hashes_bytes (entries_for at tags (Some v)) } ≡ m =

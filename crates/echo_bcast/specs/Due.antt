@@ -12,7 +12,7 @@ use Rattle.ritas_base.specs.Tags.{Tags}
 use Rattle.layer_api.specs.Entries.{sent, entries_of}
 use Rattle.layer_api.specs.Runs.{Has}
 use Rattle.layer_api.specs.HasLaws.{has_either, has_map}
-use Rattle.echo_bcast.specs.Matrix.{hashes_bytes, hashes_for, hashes_in, brings_hashes, column_for, columns_of, columns_at, columns_due, due_of}
+use Rattle.echo_bcast.specs.Matrix.{hashes_bytes, hashes_for, hashes_in, brings_hashes, column_for, columns_of, columns_at, columns_due, matrix_due}
 
 -- SEND of what was started, to all
 pub record IsSend (at : Place) (h : List Call) (m : Msg) : Type 0 where
@@ -35,10 +35,10 @@ pub record IsColumnOf (at : Place) (h : List Call) (m : Msg) : Type 0 where
   pub within : Has (replicas at.numbers.n) receiver
   pub whole : m ≡ column_for at.slot (hashes_in at prefix) receiver
 
-pub data IsDue (at : Place) (tags : Tags) (h : List Call) (m : Msg) : Type 0 where
-  OfSend : IsSend at h m → IsDue at tags h m
-  OfHashes : IsHashes at tags h m → IsDue at tags h m
-  OfColumn : IsColumnOf at h m → IsDue at tags h m
+pub data IsMatrixDue (at : Place) (tags : Tags) (h : List Call) (m : Msg) : Type 0 where
+  OfSend : IsSend at h m → IsMatrixDue at tags h m
+  OfHashes : IsHashes at tags h m → IsMatrixDue at tags h m
+  OfColumn : IsColumnOf at h m → IsMatrixDue at tags h m
 
 pub send_is : (at : Place) (h : List Call) (o : Option (List ℕ)) (m : Msg) → started h ≡ o → Has (to_all at.slot Send o) m → IsSend at h m
 send_is at h None m e there = absurd there
@@ -79,7 +79,7 @@ column_due at h m true there = column_is at h m there
 column_due at h m false there = absurd there
 
 -- a message that is due is one of these
-pub due_is : (at : Place) (tags : Tags) (h : List Call) (m : Msg) → Has (due_of at tags h) m → IsDue at tags h m
+pub due_is : (at : Place) (tags : Tags) (h : List Call) (m : Msg) → Has (matrix_due at tags h) m → IsMatrixDue at tags h m
 due_is at tags h m there =
     elim (has_either (to_all at.slot Send (started h) ++ hashes_for at tags (sent at h)) (columns_due at h) m there) [
       | inl early ↦ elim (has_either (to_all at.slot Send (started h)) (hashes_for at tags (sent at h)) m early) [
@@ -90,10 +90,10 @@ due_is at tags h m there =
     ]
 
 -- a SEND that is due is of what was started
-pub send_due : (at : Place) (tags : Tags) (h : List Call) (m : Msg) → Has (due_of at tags h) m → m.kind ≡ Send → started h ≡ Some m.value
+pub send_due : (at : Place) (tags : Tags) (h : List Call) (m : Msg) → Has (matrix_due at tags h) m → m.kind ≡ Send → started h ≡ Some m.value
 send_due at tags h m there kind = go (due_is at tags h m there)
   where
-    go : IsDue at tags h m → started h ≡ Some m.value
+    go : IsMatrixDue at tags h m → started h ≡ Some m.value
     go (OfSend s) = s.value
     go (OfHashes s) = absurd (let other : m.kind ≡ Hashes = ap (λ (x : Msg). x.kind) s.whole in cc)
     go (OfColumn s) = absurd (let other : m.kind ≡ Column = ap (λ (x : Msg). x.kind) s.whole in cc)

@@ -73,8 +73,8 @@ columns_due at h = if at.me == at.slot.origin then columns_at at h else []
 -- ---- what is due and delivered
 
 -- SEND of what was started, HASHES of what was sent here, and the origin's columns
-abbrev pub due_of : Place → Tags → List Call → List Msg
-due_of at tags h = to_all at.slot Send (started h) ++ hashes_for at tags (sent at h) ++ columns_due at h
+abbrev pub matrix_due : Place → Tags → List Call → List Msg
+matrix_due at tags h = to_all at.slot Send (started h) ++ hashes_for at tags (sent at h) ++ columns_due at h
 
 -- whether an echoer is good: a column that was taken has a valid entry of it
 abbrev pub is_good : Place → Tags → List Call → ℕ → Bool
@@ -83,8 +83,8 @@ is_good at tags (Start m ∷ h) echoer = is_good at tags h echoer
 is_good at tags (Take x ∷ h) echoer = is_claim at tags h x echoer || is_good at tags h echoer
 
 -- what was sent here, where an echo quorum is good
-abbrev pub out_of : Place → Tags → List Call → Option (List ℕ)
-out_of at tags h = if nat_le (quorum_of at.numbers) (count_by (is_good at tags h) (replicas at.numbers.n)) then sent at h else None
+abbrev pub matrix_out : Place → Tags → List Call → Option (List ℕ)
+matrix_out at tags h = if nat_le (quorum_of at.numbers) (count_by (is_good at tags h) (replicas at.numbers.n)) then sent at h else None
 
 -- whether an item makes some echoer good that wasn't
 abbrev pub has_news : Place → Tags → List Call → Item → Bool
@@ -107,8 +107,8 @@ is_of_echo kind = is_of_form 2 kind
 abbrev pub echo : BroadcastRules
 echo = record {
   form = 2;
-  due = λ at tags h. due_of at tags h;
-  out = λ at tags h. out_of at tags h;
+  due = λ at tags h. matrix_due at tags h;
+  out = λ at tags h. matrix_out at tags h;
   repeats = λ at tags h x. repeats_one at tags h x;
   ready = λ at tags h x. is_ready at h x;
   met = λ at tags h. prints_for at tags (sent at h);

@@ -7,7 +7,7 @@ use Rattle.ritas_base.specs.History.{Call}
 use Rattle.ritas_base.specs.Tags.{Tags}
 use Rattle.layer_api.specs.Runs.{Has}
 use Rattle.echo_bcast.specs.Due.{IsColumnOf}
-use Rattle.echo_bcast.specs.Matrix.{due_of, hashes_in}
+use Rattle.echo_bcast.specs.Matrix.{matrix_due, hashes_in}
 
 -- the second has the HASHES of the first, and perhaps more
 abbrev pub HasAll : List (Option (List ℕ)) → List (Option (List ℕ)) → Type 0
@@ -20,5 +20,5 @@ pub record AreNested (at : Place) (h : List Call) (m o : Msg) : Type 0 where
   pub nested : HasAll (hashes_in at one.prefix) (hashes_in at two.prefix) ⊎ HasAll (hashes_in at two.prefix) (hashes_in at one.prefix)
 
 abbrev pub ColumnsGrow : Type 0
-ColumnsGrow = (at : Place) (tags : Tags) (h : List Call) (m o : Msg) → Has (due_of at tags h) m → Has (due_of at tags h) o
+ColumnsGrow = (at : Place) (tags : Tags) (h : List Call) (m o : Msg) → Has (matrix_due at tags h) m → Has (matrix_due at tags h) o
     → m.kind ≡ Column → o.kind ≡ Column → AreNested at h m o

@@ -13,7 +13,7 @@ use Rattle.ritas_base.specs.Tags.{Tags}
 use Rattle.layer_api.specs.Entries.{sent, given, is_valid}
 use Rattle.layer_api.specs.Runs.{Has}
 use Rattle.layer_api.specs.OneValue.{AreTaken}
-use Rattle.echo_bcast.specs.Matrix.{echo, hashes_bytes, senders_of, due_of, is_good, out_of}
+use Rattle.echo_bcast.specs.Matrix.{echo, hashes_bytes, senders_of, matrix_due, is_good, matrix_out}
 
 -- the message is to the origin, and of the entries that were given, one behind the other
 pub record CarriesGiven (at : Place) (tags : Tags) (h : List Call) (m : Msg) : Type 0 where
@@ -23,9 +23,9 @@ pub record CarriesGiven (at : Place) (tags : Tags) (h : List Call) (m : Msg) : T
 -- each HASHES that is due carries the entries that were given, and some is due once a message was sent; entries of 32
 -- bytes are written as they are
 pub record HashesCarry : Type 0 where
-  pub due : (at : Place) (tags : Tags) (h : List Call) (m : Msg) → Has (due_of at tags h) m → m.kind ≡ Hashes → CarriesGiven at tags h m
+  pub due : (at : Place) (tags : Tags) (h : List Call) (m : Msg) → Has (matrix_due at tags h) m → m.kind ≡ Hashes → CarriesGiven at tags h m
   pub once : (at : Place) (tags : Tags) (h : List Call) (v : List ℕ) → sent at h ≡ Some v
-      → Has (due_of at tags h) (record { to = One at.slot.origin; kind = Hashes; slot = at.slot; value = hashes_bytes (given at tags h) })
+      → Has (matrix_due at tags h) (record { to = One at.slot.origin; kind = Hashes; slot = at.slot; value = hashes_bytes (given at tags h) })
   pub plain : (es : List (List ℕ)) → AllByRecursion (λ e. length e ≡ 32) es → hashes_bytes es ≡ flat_map (λ e. e) es
 
 -- some column that was taken has the valid entry of an echoer
@@ -41,7 +41,7 @@ pub record GoodIs : Type 0 where
       → (echoer : ℕ) → ((is_good at tags h echoer ≡ true) ↔ IsShownGood at tags h v echoer)
   -- what was sent is delivered where an echo quorum is good
   pub out : (at : Place) (tags : Tags) (h : List Call) (v : List ℕ)
-      → ((out_of at tags h ≡ Some v) ↔ ((sent at h ≡ Some v) × (quorum_of at.numbers ≤ count_by (is_good at tags h) (replicas at.numbers.n))))
+      → ((matrix_out at tags h ≡ Some v) ↔ ((sent at h ≡ Some v) × (quorum_of at.numbers ≤ count_by (is_good at tags h) (replicas at.numbers.n))))
 
 -- a column's mask has those whose HASHES are there
 pub record SendersAre : Type 0 where

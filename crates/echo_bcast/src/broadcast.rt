@@ -3,7 +3,7 @@
 ghost use Rattle.std.specs.Prelude.{◌≡◌, refl};
 ghost use Rattle.echo_bcast.specs.declared.eb.Eb.{Eb};
 ghost use Rattle.echo_bcast.specs.Matrix.{echo};
-ghost use Rattle.echo_bcast.specs.State.{Keeps, shown_of};
+ghost use Rattle.echo_bcast.specs.State.{KeepsMatrix, matrix_shown};
 ghost use Rattle.echo_bcast.specs.Laws.Getters.{shows_cast};
 ghost use Rattle.echo_bcast.specs.Laws.Matrix.{value_laws_of_echo};
 ghost use Rattle.echo_bcast.specs.Laws.Entries.{entry_laws_of_echo};
@@ -15,7 +15,7 @@ use ritas_base::{Item, Kind, Mem, Msg, Params, Slot, Tagger};
 use std::alloc::Global;
 
 impl Broadcast for Eb {
-    ghost stands = { λ b at tags h. Keeps b at tags h };
+    ghost stands = { λ b at tags h. KeepsMatrix b at tags h };
 
     ghost rules = { echo };
 
@@ -23,7 +23,7 @@ impl Broadcast for Eb {
 
     ghost live = { λ b. b.live };
 
-    ghost shown = { λ b. shown_of b };
+    ghost shown = { λ b. matrix_shown b };
 
     ghost shows = { λ b at tags h keeps. (keeps.live, shows_cast b at tags h keeps) };
 

@@ -6,7 +6,7 @@ ghost use Rattle.ritas_base.specs.declared.item.Kind.TheVariants.{Send};
 ghost use Rattle.ritas_base.specs.Messages.{to_all};
 ghost use Rattle.ritas_base.specs.Numbers.{IsSession};
 ghost use Rattle.ritas_base.specs.Members.{has_member};
-ghost use Rattle.echo_bcast.specs.State.{delivered_of, Hears, HearsSend, HearsHashes, HearsColumn};
+ghost use Rattle.echo_bcast.specs.State.{matrix_delivered, HearsMatrix, HearsSend, HearsHashes, HearsColumn};
 
 use crate::columns::columns_of;
 use crate::entries::{hashes_of, is_column, judged};
@@ -147,7 +147,7 @@ impl Eb {
         out: &mut Vec<Msg>,
     ) -> Result<Heard, Mem>
         requires { T.me t.now < 31 }
-        ensures { Hears item.now.kind (record { me = T.me t.now; tags = T.tags t.now }) self.old self.new item.now out.old.items out.new.items result }
+        ensures { HearsMatrix item.now.kind (record { me = T.me t.now; tags = T.tags t.now }) self.old self.new item.now out.old.items out.new.items result }
     {
         match item.kind {
             Kind::Send => self.echo(alloc, t, item, out),
@@ -159,7 +159,7 @@ impl Eb {
 
     /// What is delivered.
     pub(crate) fn value(&self) -> Option<&[u8]>
-        ensures { option_copied result ≡ delivered_of self.now }
+        ensures { option_copied result ≡ matrix_delivered self.now }
     {
         if self.good.len() < self.params.q() {
             return None;

@@ -6,7 +6,7 @@ ghost use Rattle.frame_codec.specs.Format.{Is};
 ghost use Rattle.frame_codec.specs.Grammar.{column};
 ghost use Rattle.frame_codec.specs.Values.{mask_of};
 ghost use Rattle.echo_bcast.specs.Matrix.{hashes_bytes};
-ghost use Rattle.echo_bcast.specs.State.{tagged, is_tagged, adds_to, Joins};
+ghost use Rattle.echo_bcast.specs.State.{tagged, has_valid_entry, adds_to, JoinsSet};
 
 use frame_codec::column_entry;
 use ritas_base::{Bytes, Mem, SenderSet, Slot, Tagger};
@@ -68,7 +68,7 @@ fn is_valid<T: Tagger>(t: &T, slot: &Slot, digest: &[u8; 32], value: &[u8], echo
     requires me_fits { T.me t.now < 31 }
     requires echoer_fits { echoer < 31 }
     requires is_column { Is (column 32) value.now }
-    ensures { result ≡ is_tagged (record { me = T.me t.now; tags = T.tags t.now }) slot.now digest.now value.now echoer }
+    ensures { result ≡ has_valid_entry (record { me = T.me t.now; tags = T.tags t.now }) slot.now digest.now value.now echoer }
 {
     match column_entry(value, echoer) {
         None => false,
@@ -88,7 +88,7 @@ pub(crate) fn judged<T: Tagger>(
     requires me_fits { T.me t.now < 31 }
     requires all_fit { n ≤ 31 }
     requires is_column { Is (column 32) value.now }
-    ensures good { Joins (record { me = T.me t.now; tags = T.tags t.now }) slot.now n digest.now value.now good result.0 }
+    ensures good { JoinsSet (record { me = T.me t.now; tags = T.tags t.now }) slot.now n digest.now value.now good result.0 }
     ensures news { result.1 ≡ adds_to (record { me = T.me t.now; tags = T.tags t.now }) slot.now n digest.now value.now good }
 {
     let mut all = good;

@@ -4,7 +4,7 @@ use Rattle.std.specs.List.{flat_map, AllByRecursion}
 use Rattle.std.proofs.lemmas.List.{reverse-append, reverse-reverse, length-reverse}
 use Rattle.ritas_base.specs.declared.event.Event.{Event}
 use Rattle.schedule_file.specs.FileBytes.{limit}
-use Rattle.event_journal.specs.Journal.{IsRecord, behind_text, front_of, record_text, records}
+use Rattle.event_journal.specs.Journal.{IsRecord, behind_text, closed_front, record_text, records}
 use Rattle.event_journal.proofs.Images.{all_more, front_more}
 
 pub all_reverse : (me : ℕ) (xs : List Event) → AllByRecursion (IsRecord me) xs → AllByRecursion (IsRecord me) (reverse xs)
@@ -26,7 +26,7 @@ module _ (events : List Event) where
       → end + 1 + length (drop 1 taken) ≤ limit
   fits_limit end size taken is size_is le = omega (arith, ap length is, length-append (flat_map record_text events) (0 ∷ []), length-drop 1 taken, size_is, le)
 
-  pub ends_behind : (head : List ℕ) (es : List Event) (end size : ℕ) → end ≡ length (front_of head es) → size ≡ min (end + 1 + length (flat_map record_text events)) 18446744073709551615 → size ≤ 67108864
-      → size - 1 ≡ length (front_of head (reverse events ++ es))
+  pub ends_behind : (head : List ℕ) (es : List Event) (end size : ℕ) → end ≡ length (closed_front head es) → size ≡ min (end + 1 + length (flat_map record_text events)) 18446744073709551615 → size ≤ 67108864
+      → size - 1 ≡ length (closed_front head (reverse events ++ es))
   ends_behind head es end size place size_is le =
-      omega (arith, place, size_is, le, ap length (front_more head es (reverse events)), length-append (front_of head es) (records (reverse events)), ap length in_order)
+      omega (arith, place, size_is, le, ap length (front_more head es (reverse events)), length-append (closed_front head es) (records (reverse events)), ap length in_order)

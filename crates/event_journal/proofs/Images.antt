@@ -4,18 +4,18 @@ use Rattle.std.proofs.lemmas.Bool.{cases_eq}
 use Rattle.std.proofs.lemmas.List.{reverse-append, length-reverse}
 use Rattle.std.proofs.lemmas.List.Concat.{flat_map-append}
 use Rattle.std.specs.List.{flat_map, AllByRecursion}
-use Rattle.outside.specs.Disks.{Range, DiskState, IsTorn, MayLeave, LeavesOnly, LeavesTorn, at_rest, state_of, written}
+use Rattle.outside.specs.Disks.{Range, DiskState, IsTorn, MayLeave, LeavesOnly, LeavesTorn, at_rest, disk_state_of, bytes_written}
 use Rattle.outside.specs.DisksLaws.{length-written, rest_image, seen_image, leaves_weaker, leaves_then}
 use Rattle.ritas_base.specs.declared.event.Event.{Event}
 use Rattle.schedule_file.specs.FileBytes.{limit}
-use Rattle.event_journal.specs.Journal.{IsRecord, Opens, front_of, record_text, records}
-use Rattle.event_journal.specs.Appending.{AllOpen, Keeps, OpensWithout}
+use Rattle.event_journal.specs.Journal.{IsRecord, Opens, closed_front, record_text, records}
+use Rattle.event_journal.specs.Appending.{AllOpen, KeepsJournal, OpensWithout}
 use Rattle.event_journal.proofs.Lists.{torn_behind, torn_gate, written_behind, written_gate}
 
 pub records_then : (es more : List Event) → records (more ++ es) ≡ records es ++ records more
 records_then es more = ap (flat_map record_text) (reverse-append more es) ∙ flat_map-append record_text (reverse es) (reverse more)
 
-pub front_more : (head : List ℕ) (es more : List Event) → front_of head (more ++ es) ≡ front_of head es ++ records more
+pub front_more : (head : List ℕ) (es more : List Event) → closed_front head (more ++ es) ≡ closed_front head es ++ records more
 front_more head es more =
     ap (λ (x : List ℕ). 1 ∷ head ++ x) (records_then es more) ∙ ap (λ (x : List ℕ). 1 ∷ x) (sym (append_assoc head (records es) (records more)))
 
@@ -32,13 +32,13 @@ all_more me [] es first second = second
 all_more me (e ∷ more) es first second = (first.0, all_more me more es first.1 second)
 
 -- `tail` is the records of the new events but for their first gate
-module _ (me : ℕ) (head : List ℕ) (es more : List Event) (tail : List ℕ) (tail_is : records more ≡ 1 ∷ tail) (all : AllByRecursion (IsRecord me) more) (at : ℕ) (place : at ≡ length (front_of head es))
+module _ (me : ℕ) (head : List ℕ) (es more : List Event) (tail : List ℕ) (tail_is : records more ≡ 1 ∷ tail) (all : AllByRecursion (IsRecord me) more) (at : ℕ) (place : at ≡ length (closed_front head es))
     (low : at + 1 + length (tail ++ 0 ∷ []) ≤ limit) where
   -- a write behind the gate is torn: the events stay
   pub first_torn : (file image : List ℕ) → Opens me head file es → IsTorn (record { at = at + 1; count = length (tail ++ 0 ∷ []) }) file image → Opens me head image es
   first_torn file image opens torn =
       let range : Range = record { at = at + 1; count = length (tail ++ 0 ∷ []) } in
-      let behind = torn_behind (front_of head es) opens.gate opens.rest image (at + 1) (length (tail ++ 0 ∷ [])) (omega (arith, place)) (subst (λ (x : List ℕ). IsTorn range x image) opens.text torn) in
+      let behind = torn_behind (closed_front head es) opens.gate opens.rest image (at + 1) (length (tail ++ 0 ∷ [])) (omega (arith, place)) (subst (λ (x : List ℕ). IsTorn range x image) opens.text torn) in
       record {
         gate = opens.gate;
         rest = behind.rest;
@@ -52,21 +52,21 @@ module _ (me : ℕ) (head : List ℕ) (es more : List Event) (tail : List ℕ) (
   pub record Staged (file : List ℕ) : Type 0 where
     pub gate : ℕ
     pub rest : List ℕ
-    pub text : file ≡ front_of head es ++ gate ∷ (tail ++ 0 ∷ rest)
+    pub text : file ≡ closed_front head es ++ gate ∷ (tail ++ 0 ∷ rest)
     pub shut : gate ≢ 1
     pub each : AllByRecursion (IsRecord me) es
     pub size : length file ≤ limit
 
   -- the write isn't torn
-  pub first_written : (file : List ℕ) → Opens me head file es → Staged (written (at + 1) (tail ++ 0 ∷ []) file)
+  pub first_written : (file : List ℕ) → Opens me head file es → Staged (bytes_written (at + 1) (tail ++ 0 ∷ []) file)
   first_written file opens =
-      let behind = written_behind (front_of head es) opens.gate opens.rest (tail ++ 0 ∷ []) (at + 1) (omega (arith, place)) in
+      let behind = written_behind (closed_front head es) opens.gate opens.rest (tail ++ 0 ∷ []) (at + 1) (omega (arith, place)) in
       let long = length-written (at + 1) (tail ++ 0 ∷ []) file in
       let left = drop (length (tail ++ 0 ∷ [])) opens.rest in
       record {
         gate = opens.gate;
         rest = left;
-        text = ap (written (at + 1) (tail ++ 0 ∷ [])) opens.text ∙ behind ∙ ap (λ (x : List ℕ). front_of head es ++ opens.gate ∷ x) (append_assoc tail (0 ∷ []) left);
+        text = ap (bytes_written (at + 1) (tail ++ 0 ∷ [])) opens.text ∙ behind ∙ ap (λ (x : List ℕ). closed_front head es ++ opens.gate ∷ x) (append_assoc tail (0 ∷ []) left);
         shut = opens.shut;
         each = opens.each;
         size = omega (arith, long, opens.size, low);
@@ -83,12 +83,12 @@ module _ (me : ℕ) (head : List ℕ) (es more : List Event) (tail : List ℕ) (
   }
 
   -- an open gate before the record
-  opened : (rest : List ℕ) → front_of head es ++ 1 ∷ (tail ++ 0 ∷ rest) ≡ front_of head (more ++ es) ++ 0 ∷ rest
+  opened : (rest : List ℕ) → closed_front head es ++ 1 ∷ (tail ++ 0 ∷ rest) ≡ closed_front head (more ++ es) ++ 0 ∷ rest
   opened rest =
-      ap (λ (x : List ℕ). front_of head es ++ (x ++ 0 ∷ rest)) (sym tail_is)
-      ∙ sym (append_assoc (front_of head es) (records more) (0 ∷ rest)) ∙ ap (λ (x : List ℕ). x ++ 0 ∷ rest) (sym (front_more head es more))
+      ap (λ (x : List ℕ). closed_front head es ++ (x ++ 0 ∷ rest)) (sym tail_is)
+      ∙ sym (append_assoc (closed_front head es) (records more) (0 ∷ rest)) ∙ ap (λ (x : List ℕ). x ++ 0 ∷ rest) (sym (front_more head es more))
 
-  with_it : (image rest : List ℕ) → image ≡ front_of head es ++ 1 ∷ (tail ++ 0 ∷ rest) → AllByRecursion (IsRecord me) es → length image ≤ limit → Opens me head image (more ++ es)
+  with_it : (image rest : List ℕ) → image ≡ closed_front head es ++ 1 ∷ (tail ++ 0 ∷ rest) → AllByRecursion (IsRecord me) es → length image ≤ limit → Opens me head image (more ++ es)
   with_it image rest text each size = record { gate = 0; rest = rest; text = text ∙ opened rest; shut = λ is. cc; each = all_more me more es all each; size = size }
 
   -- a write of the gate is torn: it's open or closed
@@ -96,19 +96,19 @@ module _ (me : ℕ) (head : List ℕ) (es more : List Event) (tail : List ℕ) (
   second_torn file image staged torn =
       let range : Range = record { at = at; count = 1 } in
       let behind = tail ++ 0 ∷ staged.rest in
-      let gated = torn_gate (front_of head es) staged.gate behind image at place (subst (λ (x : List ℕ). IsTorn range x image) staged.text torn) in
+      let gated = torn_gate (closed_front head es) staged.gate behind image at place (subst (λ (x : List ℕ). IsTorn range x image) staged.text torn) in
       let size : length image ≤ limit = omega (arith, torn.most, staged.size, low) in
       elim (cases_eq gated.gate 1) [
-        | inl is_open ↦ inl (with_it image staged.rest (gated.text ∙ ap (λ (x : ℕ). front_of head es ++ x ∷ behind) is_open) staged.each size)
+        | inl is_open ↦ inl (with_it image staged.rest (gated.text ∙ ap (λ (x : ℕ). closed_front head es ++ x ∷ behind) is_open) staged.each size)
         | inr shut ↦ inr (record { gate = gated.gate; rest = behind; text = gated.text; shut = shut; each = staged.each; size = size })
       ]
 
   -- it isn't torn
-  pub second_written : (file : List ℕ) → Staged file → Opens me head (written at (1 ∷ []) file) (more ++ es)
+  pub second_written : (file : List ℕ) → Staged file → Opens me head (bytes_written at (1 ∷ []) file) (more ++ es)
   second_written file staged =
       let behind = tail ++ 0 ∷ staged.rest in
       let long = length-written at (1 ∷ []) file in
-      with_it (written at (1 ∷ []) file) staged.rest (ap (written at (1 ∷ [])) staged.text ∙ written_gate (front_of head es) staged.gate 1 behind at place) staged.each (omega (arith, long, staged.size, low))
+      with_it (bytes_written at (1 ∷ []) file) staged.rest (ap (bytes_written at (1 ∷ [])) staged.text ∙ written_gate (closed_front head es) staged.gate 1 behind at place) staged.each (omega (arith, long, staged.size, low))
 
   -- ---- two writes, each with its sync
 
@@ -133,22 +133,22 @@ module _ (me : ℕ) (head : List ℕ) (es more : List Event) (tail : List ℕ) (
       subst (λ (x : List ℕ). Opens me head x now) (sym (rest_image file image (subst (λ (x : DiskState). MayLeave x image) rests may))) opens
 
   -- the second put ended so
-  pub kept : {E : Type 0} (r : Result (Unit {0}) E) (old mid new : List DiskState) → AllOpen me head es (state_of old)
-      → state_of mid ≡ at_rest (written (at + 1) (tail ++ 0 ∷ []) (state_of old).seen) → LeavesOnly (LeavesTorn first_range (state_of old)) old mid
-      → OnOk r (state_of new ≡ at_rest (written at (1 ∷ []) (state_of mid).seen)) → LeavesOnly (LeavesTorn second_range (state_of mid)) mid new
-      → Keeps me head es more old new r
+  pub kept : {E : Type 0} (r : Result (Unit {0}) E) (old mid new : List DiskState) → AllOpen me head es (disk_state_of old)
+      → disk_state_of mid ≡ at_rest (bytes_written (at + 1) (tail ++ 0 ∷ []) (disk_state_of old).seen) → LeavesOnly (LeavesTorn first_range (disk_state_of old)) old mid
+      → OnOk r (disk_state_of new ≡ at_rest (bytes_written at (1 ∷ []) (disk_state_of mid).seen)) → LeavesOnly (LeavesTorn second_range (disk_state_of mid)) mid new
+      → KeepsJournal me head es more old new r
   kept {E = E} r old mid new were first since second later =
-      let file = written (at + 1) (tail ++ 0 ∷ []) (state_of old).seen in
-      let staged = first_written (state_of old).seen (were (state_of old).seen (seen_image (state_of old))) in
-      let same : (state_of mid).seen ≡ file = ap (λ (x : DiskState). x.seen) first in
+      let file = bytes_written (at + 1) (tail ++ 0 ∷ []) (disk_state_of old).seen in
+      let staged = first_written (disk_state_of old).seen (were (disk_state_of old).seen (seen_image (disk_state_of old))) in
+      let same : (disk_state_of mid).seen ≡ file = ap (λ (x : DiskState). x.seen) first in
       record {
         images = done r second same staged;
-        since = leaves_then _ old mid new (first_since (state_of old) old mid were since) (second_since file (state_of mid) mid new staged first later);
+        since = leaves_then _ old mid new (first_since (disk_state_of old) old mid were since) (second_since file (disk_state_of mid) mid new staged first later);
       }
     where
-      done : (r : Result (Unit {0}) E) → OnOk r (state_of new ≡ at_rest (written at (1 ∷ []) (state_of mid).seen)) → (state_of mid).seen ≡ written (at + 1) (tail ++ 0 ∷ []) (state_of old).seen
-          → Staged (written (at + 1) (tail ++ 0 ∷ []) (state_of old).seen) → OnOk r (AllOpen me head (more ++ es) (state_of new))
+      done : (r : Result (Unit {0}) E) → OnOk r (disk_state_of new ≡ at_rest (bytes_written at (1 ∷ []) (disk_state_of mid).seen)) → (disk_state_of mid).seen ≡ bytes_written (at + 1) (tail ++ 0 ∷ []) (disk_state_of old).seen
+          → Staged (bytes_written (at + 1) (tail ++ 0 ∷ []) (disk_state_of old).seen) → OnOk r (AllOpen me head (more ++ es) (disk_state_of new))
       done (Ok x) second same staged =
-          let file = written (at + 1) (tail ++ 0 ∷ []) (state_of old).seen in
-          all_open (written at (1 ∷ []) file) (state_of new) (more ++ es) (second ∙ ap (λ (x : List ℕ). at_rest (written at (1 ∷ []) x)) same) (second_written file staged)
+          let file = bytes_written (at + 1) (tail ++ 0 ∷ []) (disk_state_of old).seen in
+          all_open (bytes_written at (1 ∷ []) file) (disk_state_of new) (more ++ es) (second ∙ ap (λ (x : List ℕ). at_rest (bytes_written at (1 ∷ []) x)) same) (second_written file staged)
       done (Err x) second same staged = tt

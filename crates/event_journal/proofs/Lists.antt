@@ -1,7 +1,7 @@
 -- A file behind a front: what a torn write and a whole one leave of it.
 use Rattle.std.proofs.Common.{◌≡◌, ℕ, ◌+◌, ◌<◌, List, [], ◌∷◌, ◌++◌, length, take, drop, min, get_or, sym, ap, ◌∙◌, append_assoc, arith, length-append, take-append-drop}
 use Rattle.std.proofs.lemmas.List.{take_at, drop_at, drop_more, drop-drop}
-use Rattle.outside.specs.Disks.{IsTorn, written}
+use Rattle.outside.specs.Disks.{IsTorn, bytes_written}
 use Rattle.outside.specs.DisksLaws.{written_inside}
 
 -- the same front and the same gate, and something behind
@@ -52,7 +52,7 @@ torn_gate front gate rest image at is torn =
 
 -- a write behind the gate
 pub written_behind : (front : List ℕ) (gate : ℕ) (rest bytes : List ℕ) (at : ℕ) → at ≡ length front + 1
-    → written at bytes (front ++ gate ∷ rest) ≡ front ++ gate ∷ (bytes ++ drop (length bytes) rest)
+    → bytes_written at bytes (front ++ gate ∷ rest) ≡ front ++ gate ∷ (bytes ++ drop (length bytes) rest)
 written_behind front gate rest bytes at is =
     let file = front ++ gate ∷ rest in
     let first : take at file ≡ front ++ gate ∷ [] =
@@ -67,7 +67,7 @@ written_behind front gate rest bytes at is =
 
 -- a write of the gate
 pub written_gate : (front : List ℕ) (gate same : ℕ) (rest : List ℕ) (at : ℕ) → at ≡ length front
-    → written at (same ∷ []) (front ++ gate ∷ rest) ≡ front ++ same ∷ rest
+    → bytes_written at (same ∷ []) (front ++ gate ∷ rest) ≡ front ++ same ∷ rest
 written_gate front gate same rest at is =
     let file = front ++ gate ∷ rest in
     let last : drop (at + 1) file ≡ rest =

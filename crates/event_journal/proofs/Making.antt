@@ -2,12 +2,12 @@
 use Rattle.std.proofs.Common.{◌≡◌, ◌≢◌, ◌⊎◌, inl, inr, ℕ, ◌+◌, ◌<◌, ◌≤◌, List, [], ◌∷◌, ◌++◌, length, drop, get_or, Result, Ok, Err, OnOk, refl, sym, ap, ◌∙◌, subst, append_assoc, arith, length-append}
 use Rattle.std.proofs.lemmas.Bool.{cases_eq}
 use Rattle.std.proofs.lemmas.List.{append-nil}
-use Rattle.outside.specs.Disks.{Range, DiskState, IsTorn, MayLeave, LeavesOnly, LeavesTorn, at_rest, state_of, written, after_sync}
+use Rattle.outside.specs.Disks.{Range, DiskState, IsTorn, MayLeave, LeavesOnly, LeavesTorn, at_rest, disk_state_of, bytes_written, after_sync}
 use Rattle.outside.specs.DisksLaws.{length-written, rest_image, written_inside, leaves_more, leaves_then, leaves_weaker}
 use Rattle.schedule_file.specs.FileBytes.{limit}
 use Rattle.event_journal.specs.Journal.{IsUnmade, Opens}
 use Rattle.event_journal.specs.Appending.{AllOpen}
-use Rattle.event_journal.specs.Reading.{IsClear, OpensEmpty, RestsClear, Makes, IsKept}
+use Rattle.event_journal.specs.Reading.{HasClosedGate, OpensEmpty, RestsClear, Makes, OpensAsKept}
 use Rattle.event_journal.proofs.Lists.{torn_behind, torn_gate, written_behind, written_gate}
 
 pub unmade_empty : (me : ℕ) (head image : List ℕ) → IsUnmade image → length image ≤ limit → OpensEmpty me head image
@@ -29,21 +29,21 @@ low_unmade file (inl short) why = short
 low_unmade file (inr not) (inl none) = omega (arith, none)
 low_unmade file (inr not) (inr one) = absurd (not one)
 
-pub clear_since : (me : ℕ) (head file : List ℕ) (old new : List DiskState) → IsUnmade file → (length file ≡ 0) ⊎ (get_or file 0 0 ≡ 1) → state_of old ≡ at_rest file
-    → LeavesOnly (LeavesTorn (record { at = 0; count = 1 }) (state_of old)) old new → LeavesOnly (OpensEmpty me head) old new
+pub clear_since : (me : ℕ) (head file : List ℕ) (old new : List DiskState) → IsUnmade file → (length file ≡ 0) ⊎ (get_or file 0 0 ≡ 1) → disk_state_of old ≡ at_rest file
+    → LeavesOnly (LeavesTorn (record { at = 0; count = 1 }) (disk_state_of old)) old new → LeavesOnly (OpensEmpty me head) old new
 clear_since me head file old new is why rests leaves =
     leaves_weaker _ _ old new (λ image left.
-    let torn = was_file (record { at = 0; count = 1 }) file image (state_of old) rests left in
+    let torn = was_file (record { at = 0; count = 1 }) file image (disk_state_of old) rests left in
     unmade_empty me head image (inl (omega (arith, torn.most, low_unmade file is why))) (omega (arith, torn.most, low_unmade file is why))) leaves
 
-pub cleared : (file : List ℕ) (s t : DiskState) → length file ≤ limit → s ≡ at_rest file → t ≡ at_rest (written 0 (0 ∷ []) s.seen) → RestsClear t
+pub cleared : (file : List ℕ) (s t : DiskState) → length file ≤ limit → s ≡ at_rest file → t ≡ at_rest (bytes_written 0 (0 ∷ []) s.seen) → RestsClear t
 cleared file s t short rests now =
     let long = length-written 0 (0 ∷ []) file in
     let seen : s.seen ≡ file = ap (λ (x : DiskState). x.seen) rests in
-    let is : written 0 (0 ∷ []) file ≡ 0 ∷ drop (0 + 1) file = written_inside 0 (0 ∷ []) file (omega arith) in
+    let is : bytes_written 0 (0 ∷ []) file ≡ 0 ∷ drop (0 + 1) file = written_inside 0 (0 ∷ []) file (omega arith) in
     record {
-      file = written 0 (0 ∷ []) file;
-      rests = now ∙ ap (λ (x : List ℕ). at_rest (written 0 (0 ∷ []) x)) seen;
+      file = bytes_written 0 (0 ∷ []) file;
+      rests = now ∙ ap (λ (x : List ℕ). at_rest (bytes_written 0 (0 ∷ []) x)) seen;
       clear = record {
         some = omega (arith, ap length is);
         other = λ one. let clash : 0 ≡ 1 = sym (ap (λ (x : List ℕ). get_or x 0 0) is) ∙ one in omega (arith, clash);
@@ -71,13 +71,13 @@ module _ (me : ℕ) (head : List ℕ) (long : length head ≡ 51) where
   text_long : length (head ++ 0 ∷ []) ≡ 52
   text_long = omega (arith, long, length-append head (0 ∷ []))
 
-  pub head_torn : (file image : List ℕ) → IsClear file → IsTorn head_range file image → OpensEmpty me head image
+  pub head_torn : (file image : List ℕ) → HasClosedGate file → IsTorn head_range file image → OpensEmpty me head image
   head_torn [] image clear torn = absurd (omega (arith, clear.some))
   head_torn (b ∷ rest) image clear torn =
       let behind = torn_behind [] b rest image 1 52 (omega arith) torn in
       unmade_empty me head image (inr (λ one. clear.other (sym (ap (λ (x : List ℕ). get_or x 0 0) behind.text) ∙ one))) (omega (arith, torn.most, clear.size))
 
-  pub head_written : (file : List ℕ) → IsClear file → HasHead head (written 1 (head ++ 0 ∷ []) file)
+  pub head_written : (file : List ℕ) → HasClosedGate file → HasHead head (bytes_written 1 (head ++ 0 ∷ []) file)
   head_written [] clear = absurd (omega (arith, clear.some))
   head_written (b ∷ rest) clear =
       let written_long = length-written 1 (head ++ 0 ∷ []) (b ∷ rest) in
@@ -109,40 +109,40 @@ module _ (me : ℕ) (head : List ℕ) (long : length head ≡ 51) where
         | inr not ↦ unmade_empty me head image (inr (λ one. not (sym (ap (λ (x : List ℕ). get_or x 0 0) gated.text) ∙ one))) (omega (arith, torn.most, has.size))
       ]
 
-  pub made_written : (file : List ℕ) → HasHead head file → Opens me head (written 0 (1 ∷ []) file) []
+  pub made_written : (file : List ℕ) → HasHead head file → Opens me head (bytes_written 0 (1 ∷ []) file) []
   made_written file has =
       let written_long = length-written 0 (1 ∷ []) file in
-      made_empty (written 0 (1 ∷ []) file) has.rest (ap (written 0 (1 ∷ [])) has.text ∙ written_gate [] has.first 1 (head ++ 0 ∷ has.rest) 0 refl) (omega (arith, written_long, has.size))
+      made_empty (bytes_written 0 (1 ∷ []) file) has.rest (ap (bytes_written 0 (1 ∷ [])) has.text ∙ written_gate [] has.first 1 (head ++ 0 ∷ has.rest) 0 refl) (omega (arith, written_long, has.size))
 
-  pub head_since : (old new : List DiskState) → RestsClear (state_of old) → LeavesOnly (LeavesTorn (record { at = 1; count = length (head ++ 0 ∷ []) }) (state_of old)) old new
+  pub head_since : (old new : List DiskState) → RestsClear (disk_state_of old) → LeavesOnly (LeavesTorn (record { at = 1; count = length (head ++ 0 ∷ []) }) (disk_state_of old)) old new
       → LeavesOnly (OpensEmpty me head) old new
   head_since old new clear leaves =
-      let same = subst (λ (x : ℕ). LeavesOnly (LeavesTorn (record { at = 1; count = x }) (state_of old)) old new) text_long leaves in
-      leaves_weaker _ _ old new (λ image left. head_torn clear.file image clear.clear (was_file head_range clear.file image (state_of old) clear.rests left)) same
+      let same = subst (λ (x : ℕ). LeavesOnly (LeavesTorn (record { at = 1; count = x }) (disk_state_of old)) old new) text_long leaves in
+      leaves_weaker _ _ old new (λ image left. head_torn clear.file image clear.clear (was_file head_range clear.file image (disk_state_of old) clear.rests left)) same
 
-  pub makes : {E : Type 0} (r : Result (Unit {0}) E) (old mid new : List DiskState) → RestsClear (state_of old)
-      → state_of mid ≡ at_rest (written 1 (head ++ 0 ∷ []) (state_of old).seen) → LeavesOnly (LeavesTorn (record { at = 1; count = length (head ++ 0 ∷ []) }) (state_of old)) old mid
-      → OnOk r (state_of new ≡ at_rest (written 0 (1 ∷ []) (state_of mid).seen)) → LeavesOnly (LeavesTorn made_range (state_of mid)) mid new → Makes me head old new r
+  pub makes : {E : Type 0} (r : Result (Unit {0}) E) (old mid new : List DiskState) → RestsClear (disk_state_of old)
+      → disk_state_of mid ≡ at_rest (bytes_written 1 (head ++ 0 ∷ []) (disk_state_of old).seen) → LeavesOnly (LeavesTorn (record { at = 1; count = length (head ++ 0 ∷ []) }) (disk_state_of old)) old mid
+      → OnOk r (disk_state_of new ≡ at_rest (bytes_written 0 (1 ∷ []) (disk_state_of mid).seen)) → LeavesOnly (LeavesTorn made_range (disk_state_of mid)) mid new → Makes me head old new r
   makes {E = E} r old mid new clear first since second later =
-      let seen : (state_of old).seen ≡ clear.file = ap (λ (x : DiskState). x.seen) clear.rests in
-      let file = written 1 (head ++ 0 ∷ []) clear.file in
+      let seen : (disk_state_of old).seen ≡ clear.file = ap (λ (x : DiskState). x.seen) clear.rests in
+      let file = bytes_written 1 (head ++ 0 ∷ []) clear.file in
       let has = head_written clear.file clear.clear in
-      let rests : state_of mid ≡ at_rest file = first ∙ ap (λ (x : List ℕ). at_rest (written 1 (head ++ 0 ∷ []) x)) seen in
-      let last = leaves_weaker _ (OpensEmpty me head) mid new (λ image left. made_torn file image has (was_file made_range file image (state_of mid) rests left)) later in
+      let rests : disk_state_of mid ≡ at_rest file = first ∙ ap (λ (x : List ℕ). at_rest (bytes_written 1 (head ++ 0 ∷ []) x)) seen in
+      let last = leaves_weaker _ (OpensEmpty me head) mid new (λ image left. made_torn file image has (was_file made_range file image (disk_state_of mid) rests left)) later in
       record { images = done r second rests has; since = leaves_then _ old mid new (head_since old mid clear since) last }
     where
-      done : (q : Result (Unit {0}) E) → OnOk q (state_of new ≡ at_rest (written 0 (1 ∷ []) (state_of mid).seen)) → state_of mid ≡ at_rest (written 1 (head ++ 0 ∷ []) clear.file)
-          → HasHead head (written 1 (head ++ 0 ∷ []) clear.file) → OnOk q (AllOpen me head [] (state_of new))
+      done : (q : Result (Unit {0}) E) → OnOk q (disk_state_of new ≡ at_rest (bytes_written 0 (1 ∷ []) (disk_state_of mid).seen)) → disk_state_of mid ≡ at_rest (bytes_written 1 (head ++ 0 ∷ []) clear.file)
+          → HasHead head (bytes_written 1 (head ++ 0 ∷ []) clear.file) → OnOk q (AllOpen me head [] (disk_state_of new))
       done (Ok x) second rests has =
-          let file = written 1 (head ++ 0 ∷ []) clear.file in
-          let now : state_of new ≡ at_rest (written 0 (1 ∷ []) file) = second ∙ ap (λ (x : DiskState). at_rest (written 0 (1 ∷ []) x.seen)) rests in
-          λ image may. subst (λ (x : List ℕ). Opens me head x []) (sym (rests_only (written 0 (1 ∷ []) file) image (state_of new) now may)) (made_written file has)
+          let file = bytes_written 1 (head ++ 0 ∷ []) clear.file in
+          let now : disk_state_of new ≡ at_rest (bytes_written 0 (1 ∷ []) file) = second ∙ ap (λ (x : DiskState). at_rest (bytes_written 0 (1 ∷ []) x.seen)) rests in
+          λ image may. subst (λ (x : List ℕ). Opens me head x []) (sym (rests_only (bytes_written 0 (1 ∷ []) file) image (disk_state_of new) now may)) (made_written file has)
       done (Err x) second rests has = tt
 
 -- ---- opening
 
 -- a sync leaves what a read gives
-pub synced_kept : (me : ℕ) (head : List ℕ) (old new : List DiskState) → new ≡ after_sync old → LeavesOnly (IsKept me head (state_of old)) old new
+pub synced_kept : (me : ℕ) (head : List ℕ) (old new : List DiskState) → new ≡ after_sync old → LeavesOnly (OpensAsKept me head (disk_state_of old)) old new
 synced_kept me head old new e =
-    subst (λ (x : List DiskState). LeavesOnly (IsKept me head (state_of old)) old x) (sym e)
-    (leaves_more (IsKept me head (state_of old)) old (at_rest (state_of old).seen) (λ image may. inl (inr (rest_image (state_of old).seen image may))))
+    subst (λ (x : List DiskState). LeavesOnly (OpensAsKept me head (disk_state_of old)) old x) (sym e)
+    (leaves_more (OpensAsKept me head (disk_state_of old)) old (at_rest (disk_state_of old).seen) (λ image may. inl (inr (rest_image (disk_state_of old).seen image may))))

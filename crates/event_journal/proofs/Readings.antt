@@ -5,7 +5,7 @@ use Rattle.std.proofs.lemmas.Bool.{cases_lt}
 use Rattle.std.proofs.lemmas.List.{append_cancel_left, reverse-reverse, get_or_append_left, get_or-take}
 use Rattle.ritas_base.specs.declared.event.Event.{Event}
 use Rattle.schedule_file.specs.Spelling.{event_text, sized}
-use Rattle.event_journal.specs.Journal.{IsRecord, IsUnmade, Opens, OpensAs, front_of, record_text, records}
+use Rattle.event_journal.specs.Journal.{IsRecord, IsUnmade, Opens, OpensAs, closed_front, record_text, records}
 use Rattle.event_journal.specs.Reading.{IsBroken, IsForeign, NoRecord, record_in}
 use Rattle.event_journal.proofs.Groups.{all_reverse}
 use Rattle.event_journal.proofs.Records.{record_only}
@@ -65,7 +65,7 @@ same_records me (x ∷ xs) (y ∷ ys) g h r s all_xs all_ys end_xs end_ys e =
 
 -- a file with this head, records, and an end of these
 record Reads (me : ℕ) (head file : List ℕ) (es : List Event) (gate : ℕ) (rest : List ℕ) : Type 0 where
-  pub text : file ≡ front_of head es ++ gate ∷ rest
+  pub text : file ≡ closed_front head es ++ gate ∷ rest
   pub each : AllByRecursion (IsRecord me) es
   pub stops : Stops me gate rest
 
@@ -85,17 +85,17 @@ one_reading me head file es fs g h r s one two =
 -- ---- the first 52 bytes
 
 module _ (me : ℕ) (head file : List ℕ) (long : length head ≡ 51) where
-  at_head : (es : List Event) (g : ℕ) (r : List ℕ) (p : ℕ) → file ≡ front_of head es ++ g ∷ r → p < 52 → get_or file p 0 ≡ get_or (1 ∷ head) p 0
+  at_head : (es : List Event) (g : ℕ) (r : List ℕ) (p : ℕ) → file ≡ closed_front head es ++ g ∷ r → p < 52 → get_or file p 0 ≡ get_or (1 ∷ head) p 0
   at_head es g r p text lt =
       ap (λ (x : List ℕ). get_or x p 0) (text ∙ append_assoc (1 ∷ head) (records es) (g ∷ r))
       ∙ get_or_append_left (1 ∷ head) (records es ++ g ∷ r) 0 p (omega (arith, long, lt))
 
-  read_made : (es : List Event) (g : ℕ) (r : List ℕ) → file ≡ front_of head es ++ g ∷ r → IsUnmade file → ⊥
+  read_made : (es : List Event) (g : ℕ) (r : List ℕ) → file ≡ closed_front head es ++ g ∷ r → IsUnmade file → ⊥
   read_made es g r text (inl short) =
-      omega (arith, ap length text, length-append (front_of head es) (g ∷ r), length-append head (records es), long, short)
+      omega (arith, ap length text, length-append (closed_front head es) (g ∷ r), length-append head (records es), long, short)
   read_made es g r text (inr other) = other (at_head es g r 0 text (omega arith))
 
-  read_own : (es : List Event) (g : ℕ) (r : List ℕ) (p : ℕ) → file ≡ front_of head es ++ g ∷ r → IsForeign head file p → ⊥
+  read_own : (es : List Event) (g : ℕ) (r : List ℕ) (p : ℕ) → file ≡ closed_front head es ++ g ∷ r → IsForeign head file p → ⊥
   read_own es g r p text foreign = foreign.differs (at_head es g r p text foreign.within.1)
 
   pub one_list : (es fs : List Event) → OpensAs me head file es → OpensAs me head file fs → es ≡ fs
@@ -120,7 +120,7 @@ module _ (me : ℕ) (head file : List ℕ) (long : length head ≡ 51) where
 pub one_broken : (me : ℕ) (head file : List ℕ) (p q : ℕ) → IsBroken me head file p → IsBroken me head file q → p ≡ q
 one_broken me head file p q a b =
     let same = one_reading me head file a.es b.es 1 1 a.rest b.rest (broken me head file p a) (broken me head file q b) in
-    a.place ∙ ap (λ (es : List Event). length (front_of head es)) same.events ∙ sym b.place
+    a.place ∙ ap (λ (es : List Event). length (closed_front head es)) same.events ∙ sym b.place
 
 -- below the first place that differs, bytes are the same
 same_below : (head file : List ℕ) (p q : ℕ) → p < q → IsForeign head file p → IsForeign head file q → ⊥

@@ -10,10 +10,10 @@ use Rattle.std.proofs.lemmas.Nat.{be_bytes_2, from_be_bytes-to_be_bytes_2}
 use Rattle.ritas_base.specs.declared.event.Event.{Event}
 use Rattle.schedule_file.specs.OwnEvents.{own_event}
 use Rattle.schedule_file.specs.OwnEventsLaws.{own_only, own_found}
-use Rattle.schedule_file.specs.Reading.{IsBytes}
+use Rattle.ritas_base.specs.Bytes.{IsBytes}
 use Rattle.schedule_file.specs.Spelling.{event_text, sized}
 use Rattle.schedule_file.specs.FileBytes.{limit}
-use Rattle.event_journal.specs.Journal.{IsRecord, Opens, front_of, record_text, records}
+use Rattle.event_journal.specs.Journal.{IsRecord, Opens, closed_front, record_text, records}
 use Rattle.event_journal.specs.Reading.{whole_in, record_in, BeginsRecord, NoRecord, AtGate, IsBroken}
 
 -- ---- one record
@@ -118,8 +118,8 @@ at_next me file at es e k here is_open begins =
 
 -- the gate behind records, of a file with this head
 pub record FromGate (head file : List ℕ) (at : ℕ) (es : List Event) : Type 0 where
-  pub text : file ≡ front_of head es ++ get_or file at 0 ∷ drop (at + 1) file
-  pub place : at ≡ length (front_of head es)
+  pub text : file ≡ closed_front head es ++ get_or file at 0 ∷ drop (at + 1) file
+  pub place : at ≡ length (closed_front head es)
 
 pub from_gate : (me : ℕ) (head file : List ℕ) (at : ℕ) (es : List Event) → AtGate me file at es → take 52 file ≡ 1 ∷ head → 53 ≤ length file → FromGate head file at es
 from_gate me head file at es here same long =
@@ -127,12 +127,12 @@ from_gate me head file at es here same long =
     record {
       text = here.text ∙ ap (λ (x : List ℕ). x ++ (records es ++ drop at file)) same
           ∙ sym (append_assoc (1 ∷ head) (records es) (drop at file))
-          ∙ ap (λ (x : List ℕ). front_of head es ++ x) (drop_more file at 0 here.within);
+          ∙ ap (λ (x : List ℕ). closed_front head es ++ x) (drop_more file at 0 here.within);
       place = omega (arith, here.place, size, length-append head (records es));
     }
 
 pub opens_there : (me : ℕ) (head file : List ℕ) (at : ℕ) (es : List Event) → AtGate me file at es → take 52 file ≡ 1 ∷ head → 53 ≤ length file → length file ≤ limit
-    → get_or file at 0 ≢ 1 → Opens me head file es × (at ≡ length (front_of head es))
+    → get_or file at 0 ≢ 1 → Opens me head file es × (at ≡ length (closed_front head es))
 opens_there me head file at es here same long short shut =
     let from = from_gate me head file at es here same long in
     (record { gate = get_or file at 0; rest = drop (at + 1) file; text = from.text; shut = shut; each = here.each; size = short }, from.place)
@@ -144,7 +144,7 @@ broken_there me head file at es here same long short is_open none =
     record {
       es = es;
       rest = drop (at + 1) file;
-      text = from.text ∙ ap (λ (x : ℕ). front_of head es ++ x ∷ drop (at + 1) file) is_open;
+      text = from.text ∙ ap (λ (x : ℕ). closed_front head es ++ x ∷ drop (at + 1) file) is_open;
       each = here.each;
       place = from.place;
       none = none;

@@ -1,8 +1,8 @@
 -- What a journal stands for, and what comes of appending events to it. Lists of events have the newest first.
 use Rattle.std.specs.Prelude.{◌≡◌, ◌⊎◌, ℕ, ◌+◌, Bool, List, ◌++◌, length, Result, OnOk}
-use Rattle.outside.specs.Disks.{DiskState, MayLeave, LeavesOnly, state_of}
+use Rattle.outside.specs.Disks.{DiskState, MayLeave, LeavesOnly, disk_state_of}
 use Rattle.ritas_base.specs.declared.event.Event.{Event}
-use Rattle.event_journal.specs.Journal.{Opens, front_of, records}
+use Rattle.event_journal.specs.Journal.{Opens, closed_front, records}
 use Rattle.event_journal.specs.declared.fault.JournalFault.{JournalFault}
 
 -- what contracts see of a journal: the offset of its closed gate, its replica, and whether it's live
@@ -12,8 +12,8 @@ pub record JournalState : Type 0 where
   pub live : Bool
 
 -- the journal stands for these events
-abbrev pub StandsFor : JournalState → List ℕ → List Event → Type 0
-StandsFor journal head es = journal.end ≡ length (front_of head es)
+abbrev pub JournalStandsFor : JournalState → List ℕ → List Event → Type 0
+JournalStandsFor journal head es = journal.end ≡ length (closed_front head es)
 
 -- every image that a stop may leave in a state is a made file that opens as these events
 abbrev pub AllOpen : ℕ → List ℕ → List Event → DiskState → Type 0
@@ -29,11 +29,11 @@ length_with journal more = journal.end + 1 + length (records more)
 
 -- What comes of writing behind the closed gate, and then the gate: at Ok every image opens with the new events; at each
 -- moment, with all of them or with none.
-pub record Keeps (me : ℕ) (head : List ℕ) (es more : List Event) (old new : List DiskState) {E : Type 0} (result : Result (Unit {0}) E) : Type 0 where
-  pub images : OnOk result (AllOpen me head (more ++ es) (state_of new))
+pub record KeepsJournal (me : ℕ) (head : List ℕ) (es more : List Event) (old new : List DiskState) {E : Type 0} (result : Result (Unit {0}) E) : Type 0 where
+  pub images : OnOk result (AllOpen me head (more ++ es) (disk_state_of new))
   pub since : LeavesOnly (OpensWithout me head es more) old new
 
 -- And at Ok the journal stands for the new events too.
-pub record Appends (me : ℕ) (head : List ℕ) (es more : List Event) (old new : List DiskState) (journal : JournalState) (result : Result (Unit {0}) JournalFault) : Type 0 where
-  pub stands : OnOk result (StandsFor journal head (more ++ es))
-  pub kept : Keeps me head es more old new result
+pub record AppendsEvents (me : ℕ) (head : List ℕ) (es more : List Event) (old new : List DiskState) (journal : JournalState) (result : Result (Unit {0}) JournalFault) : Type 0 where
+  pub stands : OnOk result (JournalStandsFor journal head (more ++ es))
+  pub kept : KeepsJournal me head es more old new result

@@ -5,7 +5,8 @@ use Rattle.std.specs.Int.{w64, to_be_bytes}
 use Rattle.sha2.specs.Sha256.{sha256}
 use Rattle.ritas_base.specs.Numbers.{Numbers}
 use Rattle.ritas_base.specs.declared.mode.Mode.{Mode}
-use Rattle.schedule_file.specs.Spelling.{vect_byte, version_byte}
+use Rattle.ritas_base.specs.Bytes.{version_byte}
+use Rattle.schedule_file.specs.Spelling.{vect_byte}
 
 -- RITJ, 1 and the session
 abbrev pub session_text : ℕ → List ℕ

@@ -26,14 +26,14 @@ abbrev pub behind_text : List Event → List ℕ
 behind_text es = drop 1 (records es ++ 0 ∷ [])
 
 -- a made file up to the closed gate
-abbrev pub front_of : List ℕ → List Event → List ℕ
-front_of head es = 1 ∷ head ++ records es
+abbrev pub closed_front : List ℕ → List Event → List ℕ
+closed_front head es = 1 ∷ head ++ records es
 
 -- a made file, which opens as these events of a replica
 pub record Opens (me : ℕ) (head file : List ℕ) (es : List Event) : Type 0 where
   pub gate : ℕ
   pub rest : List ℕ
-  pub text : file ≡ front_of head es ++ gate ∷ rest
+  pub text : file ≡ closed_front head es ++ gate ∷ rest
   pub shut : gate ≢ 1
   pub each : AllByRecursion (IsRecord me) es
   pub size : length file ≤ limit

@@ -2,12 +2,12 @@
 use Rattle.std.specs.Prelude.{◌≡◌, ◌≢◌, ◌⊎◌, ℕ, ◌+◌, ◌<◌, ◌≤◌, List, [], ◌∷◌, ◌++◌, length, take, drop, slice_index, nat_lt, ◌==◌, ◌&&◌, Option, Some, None, Result, OnOk, if◌then◌else◌}
 use Rattle.std.specs.List.{AllByRecursion}
 use Rattle.std.specs.Int.{w16, from_be_bytes}
-use Rattle.outside.specs.Disks.{DiskState, MayLeave, LeavesOnly, at_rest, state_of}
+use Rattle.outside.specs.Disks.{DiskState, MayLeave, LeavesOnly, at_rest, disk_state_of}
 use Rattle.ritas_base.specs.declared.event.Event.{Event}
 use Rattle.schedule_file.specs.FileBytes.{limit}
 use Rattle.schedule_file.specs.OwnEvents.{own_event}
 use Rattle.schedule_file.specs.Spelling.{event_text, sized}
-use Rattle.event_journal.specs.Journal.{IsRecord, IsUnmade, OpensAs, front_of, records}
+use Rattle.event_journal.specs.Journal.{IsRecord, IsUnmade, OpensAs, closed_front, records}
 use Rattle.event_journal.specs.Appending.{AllOpen}
 
 -- an event of so many bytes, behind which a gate is left
@@ -46,9 +46,9 @@ pub record IsForeign (head file : List ℕ) (p : ℕ) : Type 0 where
 pub record IsBroken (me : ℕ) (head file : List ℕ) (p : ℕ) : Type 0 where
   pub es : List Event
   pub rest : List ℕ
-  pub text : file ≡ front_of head es ++ 1 ∷ rest
+  pub text : file ≡ closed_front head es ++ 1 ∷ rest
   pub each : AllByRecursion (IsRecord me) es
-  pub place : p ≡ length (front_of head es)
+  pub place : p ≡ length (closed_front head es)
   pub none : NoRecord me rest
   pub size : length file ≤ limit
 
@@ -70,11 +70,11 @@ pub record OpensAlike (me : ℕ) (head file other : List ℕ) : Type 0 where
   pub two : OpensAs me head other events
 
 -- an image is one of this state, or opens as one of them does
-abbrev pub IsKept : ℕ → List ℕ → DiskState → List ℕ → Type 0
-IsKept me head s image = MayLeave s image ⊎ ((older : List ℕ) × MayLeave s older × OpensAlike me head older image)
+abbrev pub OpensAsKept : ℕ → List ℕ → DiskState → List ℕ → Type 0
+OpensAsKept me head s image = MayLeave s image ⊎ ((older : List ℕ) × MayLeave s older × OpensAlike me head older image)
 
 -- a file whose first byte is there and isn't 1
-pub record IsClear (file : List ℕ) : Type 0 where
+pub record HasClosedGate (file : List ℕ) : Type 0 where
   pub some : 0 < length file
   pub other : slice_index file 0 ≢ 1
   pub size : length file ≤ limit
@@ -87,16 +87,16 @@ OpensEmpty me head image = OpensAs me head image []
 pub record RestsClear (s : DiskState) : Type 0 where
   pub file : List ℕ
   pub rests : s ≡ at_rest file
-  pub clear : IsClear file
+  pub clear : HasClosedGate file
 
 -- the first byte is cleared, where it was missing or 1
 pub record Clears (me : ℕ) (head : List ℕ) (old new : List DiskState) {E : Type 0} (result : Result (Unit {0}) E) : Type 0 where
-  pub rests : OnOk result (RestsClear (state_of new))
+  pub rests : OnOk result (RestsClear (disk_state_of new))
   pub since : LeavesOnly (OpensEmpty me head) old new
 
 -- the file is made
 pub record Makes (me : ℕ) (head : List ℕ) (old new : List DiskState) {E : Type 0} (result : Result (Unit {0}) E) : Type 0 where
-  pub images : OnOk result (AllOpen me head [] (state_of new))
+  pub images : OnOk result (AllOpen me head [] (disk_state_of new))
   pub since : LeavesOnly (OpensEmpty me head) old new
 
 -- the image opens as no events, and so does the file, which isn't made

@@ -3,7 +3,7 @@ use Rattle.std.specs.Prelude.{◌≡◌, ℕ, List, [], ◌∷◌, Some, None, r
 use Rattle.std.proofs.Common.{inl, inr, lit≤}
 use Rattle.ritas_base.specs.declared.event.Event.{Event}
 use Rattle.ritas_base.specs.declared.event.Event.TheVariants.{Input, Turn}
-use Rattle.event_journal.specs.Journal.{IsRecord, IsUnmade, Opens, behind_text, front_of, record_text, records}
+use Rattle.event_journal.specs.Journal.{IsRecord, IsUnmade, Opens, behind_text, closed_front, record_text, records}
 use Rattle.event_journal.specs.Reading.{record_in}
 
 -- an input of replica 0, "h", and then a turn: the newest first
@@ -26,7 +26,7 @@ behind_none : behind_text [] ≡ []
 behind_none = refl
 
 -- the head 82 and no record
-front_of_none : front_of (82 ∷ []) [] ≡ 1 ∷ 82 ∷ []
+front_of_none : closed_front (82 ∷ []) [] ≡ 1 ∷ 82 ∷ []
 front_of_none = refl
 
 a_turn : IsRecord 0 (Turn 0)

@@ -1,6 +1,7 @@
 //! The head of a journal's file.
 ghost use Rattle.std.specs.Prelude.{◌≡◌, slice_index};
-ghost use Rattle.schedule_file.specs.Spelling.{vect_byte, version_byte};
+ghost use Rattle.ritas_base.specs.Bytes.{version_byte};
+ghost use Rattle.schedule_file.specs.Spelling.{vect_byte};
 ghost use Rattle.event_journal.specs.Head.{head_of, keys_digest, place_text, session_text};
 
 use ritas_base::{FrameVersion, Mode, Params, Vect};

@@ -3,11 +3,11 @@
 ghost use Rattle.std.specs.Prelude.{◌≡◌, ◌<◌, ◌≤◌, ◌+◌, ◌-◌, ◌++◌, ◌∷◌, ◌^◌, ◌↔◌, ◌⊎◌, [], ℕ, List, true, false, length, min, reverse, Err, IfOk, OnOk, IsOk, IsErr, IsTrue};
 ghost use Rattle.std.specs.List.{flat_map, AllByRecursion};
 ghost use Rattle.outside.specs.Faults.{HasCause};
-ghost use Rattle.outside.specs.Disks.{state_of};
+ghost use Rattle.outside.specs.Disks.{disk_state_of};
 ghost use Rattle.ritas_base.specs.declared.event.Event.{Event};
 ghost use Rattle.schedule_file.specs.FileBytes.{limit};
-ghost use Rattle.event_journal.specs.Journal.{IsRecord, behind_text, front_of, record_text};
-ghost use Rattle.event_journal.specs.Appending.{AllOpen, Appends, Keeps, StandsFor, length_with};
+ghost use Rattle.event_journal.specs.Journal.{IsRecord, behind_text, closed_front, record_text};
+ghost use Rattle.event_journal.specs.Appending.{AllOpen, AppendsEvents, KeepsJournal, JournalStandsFor, length_with};
 
 use crate::fault::JournalFault;
 use outside::{Buffer, Disk, Failed, put, write_all};
@@ -83,8 +83,8 @@ fn size_with(front: u64, me: u8, events: &[Event]) -> u64
 fn keep<D: Disk>(disk: &mut D, gate: u64, text: &[u8]) -> Result<(), Failed>
     requires { gate < 67108864 }
     ensures kept { D.tells ≡ true → (me : ℕ) (head : List ℕ) (es more : List Event) → 0 < length more → AllByRecursion (IsRecord me) more
-        → gate ≡ length (front_of head es) → text.now ≡ behind_text more → gate + 1 + length text.now ≤ limit
-        → AllOpen me head es (state_of (D.told disk.old)) → Keeps me head es more (D.told disk.old) (D.told disk.new) result }
+        → gate ≡ length (closed_front head es) → text.now ≡ behind_text more → gate + 1 + length text.now ≤ limit
+        → AllOpen me head es (disk_state_of (D.told disk.old)) → KeepsJournal me head es more (D.told disk.old) (D.told disk.new) result }
     ensures cause { HasCause (D.faults disk.old) (D.faults disk.new) (IsErr result) }
 {
     put(disk, gate + 1, text)?;
@@ -141,8 +141,8 @@ impl Journal {
     ) -> Result<(), JournalFault>
         requires live { self.old.live ≡ true }
         requires own { AllByRecursion (IsRecord self.old.me) events.now }
-        ensures kept { D.tells ≡ true → (head : List ℕ) (es : List Event) → StandsFor self.old head es → AllOpen self.old.me head es (state_of (D.told disk.old))
-            → Appends self.old.me head es (reverse events.now) (D.told disk.old) (D.told disk.new) self.new result }
+        ensures kept { D.tells ≡ true → (head : List ℕ) (es : List Event) → JournalStandsFor self.old head es → AllOpen self.old.me head es (disk_state_of (D.told disk.old))
+            → AppendsEvents self.old.me head es (reverse events.now) (D.told disk.old) (D.told disk.new) self.new result }
         ensures full { (x : ℕ) → (result ≡ Err (JournalFault.Full x)) ↔ ((x ≡ min (length_with self.old (reverse events.now)) (2 ^ 64 - 1)) × (limit < x)) }
         ensures same { (x : ℕ) → result ≡ Err (JournalFault.Full x) → (self.new ≡ self.old) × (disk.new ≡ disk.old) }
         ensures none { events.now ≡ [] → IsOk result × (self.new ≡ self.old) × (disk.new ≡ disk.old) }
@@ -175,8 +175,8 @@ impl Journal {
     ) -> Result<(), JournalFault>
         requires live { self.old.live ≡ true }
         requires own { IsRecord self.old.me ev.now }
-        ensures kept { D.tells ≡ true → (head : List ℕ) (es : List Event) → StandsFor self.old head es → AllOpen self.old.me head es (state_of (D.told disk.old))
-            → Appends self.old.me head es (ev.now ∷ []) (D.told disk.old) (D.told disk.new) self.new result }
+        ensures kept { D.tells ≡ true → (head : List ℕ) (es : List Event) → JournalStandsFor self.old head es → AllOpen self.old.me head es (disk_state_of (D.told disk.old))
+            → AppendsEvents self.old.me head es (ev.now ∷ []) (D.told disk.old) (D.told disk.new) self.new result }
         ensures full { (x : ℕ) → (result ≡ Err (JournalFault.Full x)) ↔ ((x ≡ length_with self.old (ev.now ∷ [])) × (limit < x)) }
         ensures same { (x : ℕ) → result ≡ Err (JournalFault.Full x) → (self.new ≡ self.old) × (disk.new ≡ disk.old) }
         ensures live { OnOk result (self.new.live ≡ true) }

@@ -1,12 +1,12 @@
 //! Opening a journal.
 ghost use Rattle.std.specs.Prelude.{◌≡◌, ◌<◌, ◌≤◌, ◌++◌, ◌∷◌, ◌⊎◌, [], ℕ, List, true, length, reverse, slice_index, Err, IfOk, IsErr, ◌≢◌};
 ghost use Rattle.outside.specs.Faults.{HasCause};
-ghost use Rattle.outside.specs.Disks.{LeavesOnly, at_rest, state_of};
+ghost use Rattle.outside.specs.Disks.{LeavesOnly, at_rest, disk_state_of};
 ghost use Rattle.schedule_file.specs.FileBytes.{limit};
 ghost use Rattle.std.specs.List.{AllByRecursion};
-ghost use Rattle.event_journal.specs.Journal.{IsRecord, IsUnmade, Opens, OpensAs, front_of};
-ghost use Rattle.event_journal.specs.Appending.{AllOpen, StandsFor};
-ghost use Rattle.event_journal.specs.Reading.{Clears, IsBroken, IsClear, IsForeign, IsKept, Makes, OpensLike, RestsClear};
+ghost use Rattle.event_journal.specs.Journal.{IsRecord, IsUnmade, Opens, OpensAs, closed_front};
+ghost use Rattle.event_journal.specs.Appending.{AllOpen, JournalStandsFor};
+ghost use Rattle.event_journal.specs.Reading.{Clears, IsBroken, HasClosedGate, IsForeign, OpensAsKept, Makes, OpensLike, RestsClear};
 
 use crate::fault::JournalFault;
 use crate::journal::Journal;
@@ -19,7 +19,7 @@ use std::alloc::Global;
 fn clear<D: Disk>(disk: &mut D, file: &[u8]) -> Result<(), Failed>
     requires unmade { IsUnmade file.now }
     requires short { length file.now ≤ limit }
-    ensures cleared { D.tells ≡ true → (me : ℕ) (head : List ℕ) → state_of (D.told disk.old) ≡ at_rest file.now
+    ensures cleared { D.tells ≡ true → (me : ℕ) (head : List ℕ) → disk_state_of (D.told disk.old) ≡ at_rest file.now
         → Clears me head (D.told disk.old) (D.told disk.new) result }
     ensures cause { HasCause (D.faults disk.old) (D.faults disk.new) (IsErr result) }
 {
@@ -31,7 +31,7 @@ fn clear<D: Disk>(disk: &mut D, file: &[u8]) -> Result<(), Failed>
 
 // Writes the head and a closed gate, and then that the file is made.
 fn write_head<D: Disk>(disk: &mut D, text: &[u8; 52]) -> Result<(), Failed>
-    ensures made { D.tells ≡ true → (me : ℕ) (head : List ℕ) → text.now ≡ head ++ 0 ∷ [] → RestsClear (state_of (D.told disk.old))
+    ensures made { D.tells ≡ true → (me : ℕ) (head : List ℕ) → text.now ≡ head ++ 0 ∷ [] → RestsClear (disk_state_of (D.told disk.old))
         → Makes me head (D.told disk.old) (D.told disk.new) result }
     ensures cause { HasCause (D.faults disk.old) (D.faults disk.new) (IsErr result) }
 {
@@ -52,7 +52,7 @@ fn with_gate(head: &[u8; 51]) -> [u8; 52]
 fn make<D: Disk>(disk: &mut D, file: &[u8], head: &[u8; 51]) -> Result<(), Failed>
     requires unmade { IsUnmade file.now }
     requires short { length file.now ≤ limit }
-    ensures made { D.tells ≡ true → (me : ℕ) → state_of (D.told disk.old) ≡ at_rest file.now
+    ensures made { D.tells ≡ true → (me : ℕ) → disk_state_of (D.told disk.old) ≡ at_rest file.now
         → Makes me head.now (D.told disk.old) (D.told disk.new) result }
     ensures cause { HasCause (D.faults disk.old) (D.faults disk.new) (IsErr result) }
 {
@@ -71,7 +71,7 @@ fn decode(
     requires long { 53 ≤ length file.now }
     requires made { slice_index file.now 0 ≡ 1 }
     requires short { length file.now ≤ limit }
-    ensures opens { IfOk result (λ x. Opens me head.now file.now (reverse x.0.items) × (x.1 ≡ length (front_of head.now (reverse x.0.items))) × (x.1 < 67108864)) }
+    ensures opens { IfOk result (λ x. Opens me head.now file.now (reverse x.0.items) × (x.1 ≡ length (closed_front head.now (reverse x.0.items))) × (x.1 < 67108864)) }
     ensures foreign { (p : ℕ) → result ≡ Err (JournalFault.Foreign p) → IsForeign head.now file.now p }
     ensures broken { (p : ℕ) → result ≡ Err (JournalFault.Broken p) → IsBroken me head.now file.now p }
     ensures others { (p : ℕ) → (result ≢ Err (JournalFault.Full p)) × (result ≢ Err JournalFault.Disk) }
@@ -96,11 +96,11 @@ fn open_file<D: Disk>(
 ) -> Result<(Journal, Vec<Event>), JournalFault>
     requires me_below { me < slice_index head.now 13 }
     requires short { length file.now ≤ limit }
-    ensures opened { D.tells ≡ true → state_of (D.told disk.old) ≡ at_rest file.now → IfOk result (λ x. StandsFor x.0 head.now (reverse x.1.items)
-        × AllOpen me head.now (reverse x.1.items) (state_of (D.told disk.new))) }
+    ensures opened { D.tells ≡ true → disk_state_of (D.told disk.old) ≡ at_rest file.now → IfOk result (λ x. JournalStandsFor x.0 head.now (reverse x.1.items)
+        × AllOpen me head.now (reverse x.1.items) (disk_state_of (D.told disk.new))) }
     ensures gives { IfOk result (λ x. OpensAs me head.now file.now (reverse x.1.items)) }
     ensures live { IfOk result (λ x. (x.0.me ≡ me) × (x.0.live ≡ true)) }
-    ensures since { D.tells ≡ true → state_of (D.told disk.old) ≡ at_rest file.now
+    ensures since { D.tells ≡ true → disk_state_of (D.told disk.old) ≡ at_rest file.now
         → LeavesOnly (OpensLike me head.now file.now) (D.told disk.old) (D.told disk.new) }
     ensures foreign { (p : ℕ) → result ≡ Err (JournalFault.Foreign p) → IsForeign head.now file.now p }
     ensures broken { (p : ℕ) → result ≡ Err (JournalFault.Broken p) → IsBroken me head.now file.now p }
@@ -134,20 +134,20 @@ pub fn open_journal<D: Disk>(
     requires me_below { me < slice_index head.now 13 }
 
     // From Ok on, every image is a made file and opens as the events that were given.
-    ensures opened { D.tells ≡ true → IfOk result (λ x. StandsFor x.0 head.now (reverse x.1.items)
-        × AllOpen me head.now (reverse x.1.items) (state_of (D.told disk.new))) }
+    ensures opened { D.tells ≡ true → IfOk result (λ x. JournalStandsFor x.0 head.now (reverse x.1.items)
+        × AllOpen me head.now (reverse x.1.items) (disk_state_of (D.told disk.new))) }
     ensures live { IfOk result (λ x. (x.0.me ≡ me) × (x.0.live ≡ true)) }
     ensures own { IfOk result (λ x. AllByRecursion (IsRecord me) x.1.items) }
 
     // The file that was there opened as these events.
-    ensures gives { D.tells ≡ true → IfOk result (λ x. OpensAs me head.now (state_of (D.told disk.old)).seen (reverse x.1.items)) }
+    ensures gives { D.tells ≡ true → IfOk result (λ x. OpensAs me head.now (disk_state_of (D.told disk.old)).seen (reverse x.1.items)) }
 
     // At each moment every image is one from before, or opens as one does.
-    ensures since { D.tells ≡ true → LeavesOnly (IsKept me head.now (state_of (D.told disk.old))) (D.told disk.old) (D.told disk.new) }
+    ensures since { D.tells ≡ true → LeavesOnly (OpensAsKept me head.now (disk_state_of (D.told disk.old))) (D.told disk.old) (D.told disk.new) }
 
-    ensures foreign { D.tells ≡ true → (p : ℕ) → result ≡ Err (JournalFault.Foreign p) → IsForeign head.now (state_of (D.told disk.old)).seen p }
-    ensures broken { D.tells ≡ true → (p : ℕ) → result ≡ Err (JournalFault.Broken p) → IsBroken me head.now (state_of (D.told disk.old)).seen p }
-    ensures full { (x : ℕ) → result ≡ Err (JournalFault.Full x) → (x ≡ 67108865) × (D.tells ≡ true → limit < length (state_of (D.told disk.old)).seen) }
+    ensures foreign { D.tells ≡ true → (p : ℕ) → result ≡ Err (JournalFault.Foreign p) → IsForeign head.now (disk_state_of (D.told disk.old)).seen p }
+    ensures broken { D.tells ≡ true → (p : ℕ) → result ≡ Err (JournalFault.Broken p) → IsBroken me head.now (disk_state_of (D.told disk.old)).seen p }
+    ensures full { (x : ℕ) → result ≡ Err (JournalFault.Full x) → (x ≡ 67108865) × (D.tells ≡ true → limit < length (disk_state_of (D.told disk.old)).seen) }
     ensures cause { HasCause (D.faults disk.old) (D.faults disk.new) (result ≡ Err JournalFault.Disk) }
 {
     match disk.sync() {

@@ -1,7 +1,7 @@
 //! Reading a journal's file.
 ghost use Rattle.std.specs.Prelude.{◌≡◌, ◌≢◌, ◌<◌, ◌≤◌, ◌+◌, ◌∷◌, ◌↔◌, ℕ, List, true, length, take, drop, reverse, slice_index, Err, Ok, IfOk, OnOk, IsErr, IsTrue, MatchOption, MatchResult};
 ghost use Rattle.outside.specs.Faults.{HasCause};
-ghost use Rattle.outside.specs.Disks.{state_of};
+ghost use Rattle.outside.specs.Disks.{disk_state_of};
 ghost use Rattle.ritas_base.specs.declared.event.Event.{Event};
 ghost use Rattle.schedule_file.specs.FileBytes.{limit};
 ghost use Rattle.event_journal.specs.Journal.{IsUnmade};
@@ -18,9 +18,9 @@ const LIMIT: usize = 67_108_864;
 
 /// All bytes of a disk's file, if it has at most 67,108,864.
 pub(crate) fn read_file<D: Disk>(alloc: Global, disk: &mut D) -> Result<Vec<u8>, JournalFault>
-    ensures whole { D.tells ≡ true → IfOk result (λ v. v.items ≡ (state_of (D.told disk.old)).seen) }
+    ensures whole { D.tells ≡ true → IfOk result (λ v. v.items ≡ (disk_state_of (D.told disk.old)).seen) }
     ensures short { IfOk result (λ v. length v.items ≤ limit) }
-    ensures full { (x : ℕ) → result ≡ Err (JournalFault.Full x) → (x ≡ 67108865) × (D.tells ≡ true → limit < length (state_of (D.told disk.old)).seen) }
+    ensures full { (x : ℕ) → result ≡ Err (JournalFault.Full x) → (x ≡ 67108865) × (D.tells ≡ true → limit < length (disk_state_of (D.told disk.old)).seen) }
     ensures others { (p : ℕ) → (result ≢ Err (JournalFault.Foreign p)) × (result ≢ Err (JournalFault.Broken p)) }
     ensures same { D.tells ≡ true → D.told disk.new ≡ D.told disk.old }
     ensures cause { HasCause (D.faults disk.old) (D.faults disk.new) (result ≡ Err JournalFault.Disk) }

@@ -21,8 +21,8 @@ use Rattle.frame_codec.specs.declared.fault.BodyFault.{BodyFault}
 use Rattle.frame_codec.specs.declared.fault.BodyFault.TheVariants as faults
 use Rattle.frame_codec.specs.Format.{read}
 use Rattle.frame_codec.specs.Grammar.{payload}
-use Rattle.frame_codec.specs.Body.{kind_byte, kind_of, kind_at, is_of_version, if_of_version, is_of_form, slot_of, IsInGrammar, Spells, spelling, unless, slot_fault_of, slot_answer, kind_answer, head_answer, payload_fault, body_answer, Answers}
-use Rattle.frame_codec.specs.Values.{IsBytes}
+use Rattle.frame_codec.specs.Body.{kind_byte, kind_of, body_kind, is_of_version, if_of_version, is_of_form, slot_of, IsInGrammar, Spells, spelling, unless, slot_fault_of, slot_answer, kind_answer, head_answer, payload_fault, body_answer, Answers}
+use Rattle.ritas_base.specs.Bytes.{IsBytes}
 use Rattle.frame_codec.proofs.Formats.{bind_ok, read_is, is_read}
 
 abbrev fault_if : Bool → BodyFault → Option BodyFault
@@ -170,7 +170,7 @@ first_kind : (version : FrameVersion) (t : Bool) (b : ℕ) (kind : Kind) → con
 first_kind version true b kind e = absurd cc
 first_kind version false b kind e = versioned version (kind_of b) kind e
 
-kind_ok : (p : Numbers) (mode : Mode) (bytes : List ℕ) (o : Option Kind) (head : Kind × Slot) → kind_at mode.version bytes ≡ o → kind_answer p mode bytes o ≡ Ok head → Head p mode bytes head
+kind_ok : (p : Numbers) (mode : Mode) (bytes : List ℕ) (o : Option Kind) (head : Kind × Slot) → body_kind mode.version bytes ≡ o → kind_answer p mode bytes o ≡ Ok head → Head p mode bytes head
 kind_ok p mode bytes None head is e = absurd cc
 kind_ok p mode bytes (Some kind) head is e =
     let slot = slot_of (take 9 (drop 1 bytes)) in
@@ -181,7 +181,7 @@ kind_ok p mode bytes (Some kind) head is e =
 
 head_ok : (p : Numbers) (mode : Mode) (bytes : List ℕ) (head : Kind × Slot) → head_answer p mode bytes ≡ Ok head → Head p mode bytes head
 unfolding head_answer
-head_ok p mode bytes head e = kind_ok p mode bytes (kind_at mode.version bytes) head refl e
+head_ok p mode bytes head e = kind_ok p mode bytes (body_kind mode.version bytes) head refl e
 
 -- the item of this kind and slot
 abbrev made_of : ℕ → List ℕ → Kind × Slot → Item

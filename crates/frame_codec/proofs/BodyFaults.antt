@@ -13,7 +13,7 @@ use Rattle.frame_codec.specs.declared.fault.BodyFault.{BodyFault}
 use Rattle.frame_codec.specs.declared.fault.BodyFault.TheVariants as faults
 use Rattle.frame_codec.specs.Format.{read}
 use Rattle.frame_codec.specs.Grammar.{payload}
-use Rattle.frame_codec.specs.Body.{kind_at, slot_at, is_of_form, head_answer, body_answer, Answers}
+use Rattle.frame_codec.specs.Body.{body_kind, slot_at, is_of_form, head_answer, body_answer, Answers}
 use Rattle.frame_codec.specs.Faults.{HasSlot, HasHead, IsKindFault, IsSlotFault, IsPayloadFault, IsRestFault}
 
 abbrev reading : Numbers → Mode → Kind → List ℕ → Result (List ℕ) ℕ
@@ -21,16 +21,16 @@ reading p mode kind bytes = read (payload p mode kind (slot_at bytes)) (drop 10 
 
 -- ---- the answer of each case
 
-no_kind : (p : Numbers) (mode : Mode) (from : ℕ) (bytes : List ℕ) → kind_at mode.version bytes ≡ None → body_answer p mode from bytes ≡ Err faults.Kind
+no_kind : (p : Numbers) (mode : Mode) (from : ℕ) (bytes : List ℕ) → body_kind mode.version bytes ≡ None → body_answer p mode from bytes ≡ Err faults.Kind
 unfolding body_answer head_answer
 no_kind p mode from bytes none = rw none refl
 
-short_slot : (p : Numbers) (mode : Mode) (from : ℕ) (bytes : List ℕ) (kind : Kind) → kind_at mode.version bytes ≡ Some kind → length bytes < 10
+short_slot : (p : Numbers) (mode : Mode) (from : ℕ) (bytes : List ℕ) (kind : Kind) → body_kind mode.version bytes ≡ Some kind → length bytes < 10
     → body_answer p mode from bytes ≡ Err (faults.Slot Whole)
 unfolding body_answer head_answer
 short_slot p mode from bytes kind begins short = rw (begins, lt-ltb (length bytes) 10 short) refl
 
-wrong_slot : (p : Numbers) (mode : Mode) (from : ℕ) (bytes : List ℕ) (kind : Kind) (x : SlotFault) → kind_at mode.version bytes ≡ Some kind → 10 ≤ length bytes
+wrong_slot : (p : Numbers) (mode : Mode) (from : ℕ) (bytes : List ℕ) (kind : Kind) (x : SlotFault) → body_kind mode.version bytes ≡ Some kind → 10 ≤ length bytes
     → slot_fault p mode (slot_at bytes) ≡ Some x → body_answer p mode from bytes ≡ Err (faults.Slot x)
 unfolding body_answer head_answer
 wrong_slot p mode from bytes kind x begins whole wrong = rw (begins, le-ltb (length bytes) 10 whole, wrong) refl
@@ -94,14 +94,14 @@ by_broadcast p mode from bytes kind true has e =
     by_reading p mode from bytes kind (reading p mode kind bytes) (record { slot = has; goes = e }) refl
 by_broadcast p mode from bytes kind false has e = (Err faults.Kind, other_kind p mode from bytes kind has e, inr (kind, has, e))
 
-by_slot : (p : Numbers) (mode : Mode) (from : ℕ) (bytes : List ℕ) (kind : Kind) (o : Option SlotFault) → kind_at mode.version bytes ≡ Some kind
+by_slot : (p : Numbers) (mode : Mode) (from : ℕ) (bytes : List ℕ) (kind : Kind) (o : Option SlotFault) → body_kind mode.version bytes ≡ Some kind
     → 10 ≤ length bytes → slot_fault p mode (slot_at bytes) ≡ o → Found p mode from bytes
 by_slot p mode from bytes kind None begins whole e =
     by_broadcast p mode from bytes kind (is_of_form (form_of mode (slot_at bytes)) kind) (record { begins = begins; whole = whole; right = e }) refl
 by_slot p mode from bytes kind (Some x) begins whole e =
     (Err (faults.Slot x), wrong_slot p mode from bytes kind x begins whole e, (kind, begins, inr (whole, e)))
 
-by_length : (p : Numbers) (mode : Mode) (from : ℕ) (bytes : List ℕ) (kind : Kind) (short : Bool) → kind_at mode.version bytes ≡ Some kind
+by_length : (p : Numbers) (mode : Mode) (from : ℕ) (bytes : List ℕ) (kind : Kind) (short : Bool) → body_kind mode.version bytes ≡ Some kind
     → ltb (length bytes) 10 ≡ short → Found p mode from bytes
 by_length p mode from bytes kind true begins e =
     let short = ltb-true (length bytes) 10 e in
@@ -109,14 +109,14 @@ by_length p mode from bytes kind true begins e =
 by_length p mode from bytes kind false begins e =
     by_slot p mode from bytes kind (slot_fault p mode (slot_at bytes)) begins (ltb-false (length bytes) 10 e) refl
 
-by_kind : (p : Numbers) (mode : Mode) (from : ℕ) (bytes : List ℕ) (o : Option Kind) → kind_at mode.version bytes ≡ o → Found p mode from bytes
+by_kind : (p : Numbers) (mode : Mode) (from : ℕ) (bytes : List ℕ) (o : Option Kind) → body_kind mode.version bytes ≡ o → Found p mode from bytes
 by_kind p mode from bytes None e = (Err faults.Kind, no_kind p mode from bytes e, inl e)
 by_kind p mode from bytes (Some kind) e = by_length p mode from bytes kind (ltb (length bytes) 10) e refl
 
 found_at : (p : Numbers) (mode : Mode) (from : ℕ) (bytes : List ℕ) (answer : Result Item BodyFault)
     → body_answer p mode from bytes ≡ answer → Finding p mode bytes answer
 found_at p mode from bytes answer e =
-    let f = by_kind p mode from bytes (kind_at mode.version bytes) refl in
+    let f = by_kind p mode from bytes (body_kind mode.version bytes) refl in
     subst (Finding p mode bytes) (sym f.1 ∙ e) f.2
 
 -- ---- what is returned where a step fails

@@ -87,8 +87,8 @@ if_of_version version None = None
 if_of_version version (Some kind) = if is_of_version version kind then Some kind else None
 
 -- the kind that a body begins with
-abbrev pub kind_at : FrameVersion → List ℕ → Option Kind
-kind_at version bytes = if length bytes == 0 then None else if_of_version version (kind_of (slice_index bytes 0))
+abbrev pub body_kind : FrameVersion → List ℕ → Option Kind
+body_kind version bytes = if length bytes == 0 then None else if_of_version version (kind_of (slice_index bytes 0))
 
 -- the slot that nine bytes are
 unfoldable pub slot_of : List ℕ → Slot
@@ -125,7 +125,7 @@ kind_answer p mode bytes (Some kind) =
     if nat_lt (length bytes) 10 then Err (faults.Slot Whole) else slot_answer p mode kind (slot_at bytes)
 
 unfoldable pub head_answer : Numbers → Mode → List ℕ → Result (Kind × Slot) BodyFault
-head_answer p mode bytes = kind_answer p mode bytes (kind_at mode.version bytes)
+head_answer p mode bytes = kind_answer p mode bytes (body_kind mode.version bytes)
 
 -- offsets are counted from the body's first byte
 abbrev pub payload_fault : ℕ → Result (List ℕ) ℕ → Option BodyFault

@@ -12,7 +12,8 @@ use Rattle.std.proofs.lemmas.Nat.{be_bytes_4, from_be_bytes-to_be_bytes_4}
 use Rattle.ritas_base.specs.Numbers.{Numbers, support_of}
 use Rattle.frame_codec.specs.Format.{Format, Done, Number, Is}
 use Rattle.frame_codec.specs.Grammar.{is_places, class3, vect, column}
-use Rattle.frame_codec.specs.Values.{IsBytes, IsColumn, IsVect, mask_of, at_place, entry_bytes, entries_in, vector_bytes, vect_bytes, column_bytes, rows_in, if_whole, row_of}
+use Rattle.ritas_base.specs.Bytes.{IsBytes}
+use Rattle.frame_codec.specs.Values.{IsColumn, IsVect, mask_of, at_place, entry_bytes, entries_in, vector_bytes, vect_bytes, column_bytes, rows_in, if_whole, column_row}
 use Rattle.frame_codec.specs.RowLaws.{whole_place}
 use Rattle.frame_codec.specs.PartLaws.{vect_from, column_parts}
 use Rattle.frame_codec.specs.VectorLaws.{IsBytes-take, mask_again, entries_again}
@@ -134,7 +135,7 @@ column_is n value fits (f, r, parts, four, ok, (b, nothing, parts2, len, ok2, ni
 
 -- in a column each row is whole
 pub row_at : (n : ℕ) (value : List ℕ) (k : ℕ) → Is (column n) value
-    → row_of value k ≡ at_place (mask_of value) (rows_in (count_ones (mask_of value)) (drop 4 value)) k
+    → column_row value k ≡ at_place (mask_of value) (rows_in (count_ones (mask_of value)) (drop 4 value)) k
 row_at n value k is =
     let are = rows_are (count_ones (mask_of value)) (drop 4 value) (column_parts n value is).1 in
     whole_place (mask_of value) k (rows_in (count_ones (mask_of value)) (drop 4 value)) are.right

@@ -16,7 +16,7 @@ use Rattle.ritas_base.specs.Numbers.{Numbers, wait_of}
 use Rattle.ritas_base.specs.RangeLaws.{range_more}
 use Rattle.frame_codec.specs.Format.{Is}
 use Rattle.frame_codec.specs.Grammar.{vector, is_places}
-use Rattle.frame_codec.specs.Values.{mask_of, at_place, entries_in, entries_of, entry_of, is_passed}
+use Rattle.frame_codec.specs.Values.{mask_of, at_place, entries_in, vector_entries, entry_at_place, is_passed}
 
 module _ (mask : ℕ) (test : List ℕ → Bool) (es : List (List ℕ)) where
   abbrev stands : ℕ → Bool
@@ -74,10 +74,10 @@ places_good p root value (f, r, parts, four, ok, more) =
     ap (λ (l : List ℕ). is_places p.n (wait_of p) (from_be_bytes w32 l)) first ∙ ok
 
 pub entries_by_place : (p : Numbers) (root : ℕ) (value : List ℕ) (test : List ℕ → Bool) → Is (vector p root) value
-    → count_by test (entries_of value) ≡ count_by (λ k. is_passed test (entry_of value k)) (range_with_len 0 p.n)
+    → count_by test (vector_entries value) ≡ count_by (λ k. is_passed test (entry_at_place value k)) (range_with_len 0 p.n)
 entries_by_place p root value test good =
     let mask = mask_of value in
-    let es = entries_of value in
+    let es = vector_entries value in
     let small = ltb-true mask (2 ^ p.n) (and_parts (nat_lt mask (2 ^ p.n)) _ (places_good p root value good)).0 in
     let ones : count_ones mask ≡ member_count p.n mask = ap count_ones (sym (mod-eq_of_lt small)) ∙ ones_are p.n mask in
     let size : length es ≡ member_count p.n mask = entries_length (count_ones mask) (drop 4 value) ∙ ones in

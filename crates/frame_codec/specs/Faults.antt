@@ -8,11 +8,11 @@ use Rattle.ritas_base.specs.declared.mode.Mode.{Mode}
 use Rattle.ritas_base.specs.declared.item.Kind.{Kind}
 use Rattle.frame_codec.specs.Format.{read}
 use Rattle.frame_codec.specs.Grammar.{payload}
-use Rattle.frame_codec.specs.Body.{kind_at, slot_at, is_of_form}
+use Rattle.frame_codec.specs.Body.{body_kind, slot_at, is_of_form}
 
 -- a kind, and a whole slot that is right
 pub record HasSlot (p : Numbers) (mode : Mode) (bytes : List ℕ) (kind : Kind) : Type 0 where
-  pub begins : kind_at mode.version bytes ≡ Some kind
+  pub begins : body_kind mode.version bytes ≡ Some kind
   pub whole : 10 ≤ length bytes
   pub right : slot_fault p mode (slot_at bytes) ≡ None
 
@@ -24,13 +24,13 @@ pub record HasHead (p : Numbers) (mode : Mode) (bytes : List ℕ) (kind : Kind) 
 -- there is no kind, or the broadcast of a right slot hasn't it
 abbrev pub IsKindFault : Numbers → Mode → List ℕ → Type 0
 IsKindFault p mode bytes =
-    (kind_at mode.version bytes ≡ None)
+    (body_kind mode.version bytes ≡ None)
     ⊎ ((kind : Kind) × HasSlot p mode bytes kind × (is_of_form (form_of mode (slot_at bytes)) kind ≡ false))
 
 -- there is a kind, and the slot isn't whole or has this fault
 abbrev pub IsSlotFault : Numbers → Mode → List ℕ → SlotFault → Type 0
 IsSlotFault p mode bytes x =
-    (kind : Kind) × (kind_at mode.version bytes ≡ Some kind)
+    (kind : Kind) × (body_kind mode.version bytes ≡ Some kind)
     × (((length bytes < 10) × (Whole ≡ x)) ⊎ ((10 ≤ length bytes) × (slot_fault p mode (slot_at bytes) ≡ Some x)))
 
 -- the payload is read from the left up to a fault at this offset

@@ -10,7 +10,8 @@ use Rattle.ritas_base.specs.Limits.{number_limit}
 use Rattle.frame_codec.specs.Limits.{most_ids, share_of}
 use Rattle.frame_codec.specs.VectorLaws.{IsBytes-drop, IsBytes-take}
 use Rattle.frame_codec.specs.Format.{Is}
-use Rattle.frame_codec.specs.Values.{IsBytes, id_bytes, ids_bytes, ids_in, ids_of}
+use Rattle.ritas_base.specs.Bytes.{IsBytes}
+use Rattle.frame_codec.specs.Values.{id_bytes, ids_bytes, ids_in, ids_of}
 use Rattle.frame_codec.specs.PartLaws.{ids_length, ids_length_in}
 use Rattle.std.proofs.lemmas.Bool.{ltb-true, lt-ltb, eqb-true, eq-eqb, ne_eqb, and_parts, and_from, or_left, or_right, or_cases, cases_eq, cases_lt, cond-true, cond-false}
 use Rattle.ritas_base.specs.declared.id.Id.{Id}

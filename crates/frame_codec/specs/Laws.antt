@@ -10,7 +10,7 @@ use Rattle.frame_codec.specs.Format.{Is}
 use Rattle.frame_codec.specs.Grammar.{value}
 use Rattle.frame_codec.specs.Body.{Spells, IsInGrammar, body_answer}
 use Rattle.frame_codec.specs.Inputs.{IsInput, takes_input, input_fault}
-use Rattle.frame_codec.specs.Values.{IsBytes}
+use Rattle.ritas_base.specs.Bytes.{IsBytes}
 
 -- an item that bytes are answered as is in the grammar, and from the sender
 abbrev pub AnswersGood : Type 0

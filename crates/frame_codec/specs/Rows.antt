@@ -21,7 +21,7 @@ use Rattle.frame_codec.specs.declared.fault.BodyFault.TheVariants.{Kind, Slot as
 use Rattle.frame_codec.specs.Grammar.{ids_from, ids, class1, class2, class3, vect, bit, value, digest, payload}
 use Rattle.frame_codec.specs.Body.{slot_of, head_answer, body_answer}
 use Rattle.frame_codec.specs.Inputs.{input_format, input_fault}
-use Rattle.frame_codec.specs.Values.{mask_of, at_place, rows_in, row_of}
+use Rattle.frame_codec.specs.Values.{mask_of, at_place, rows_in, column_row}
 
 abbrev four : Numbers
 four = record { n = 4; f = 1 }
@@ -278,14 +278,14 @@ request_too_long = refl
 abbrev two_rows : List ℕ
 two_rows = 0 ∷ 0 ∷ 0 ∷ 5 ∷ replicate 32 7 ++ replicate 32 8
 
-row_of_two : row_of two_rows 2 ≡ Some (replicate 32 8)
+row_of_two : column_row two_rows 2 ≡ Some (replicate 32 8)
 unfolding at_place mask_of rows_in has_member member_count count_ones
 row_of_two = refl
 
-row_of_another : row_of two_rows 1 ≡ None
+row_of_another : column_row two_rows 1 ≡ None
 unfolding at_place mask_of rows_in has_member member_count count_ones
 row_of_another = refl
 
-row_that_is_cut : row_of (take 67 two_rows) 2 ≡ None
+row_that_is_cut : column_row (take 67 two_rows) 2 ≡ None
 unfolding at_place mask_of rows_in has_member member_count count_ones
 row_that_is_cut = refl

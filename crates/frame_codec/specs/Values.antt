@@ -1,5 +1,5 @@
 -- What stands in values: identifiers, entries by place, rows by place; and how these are written.
-use Rattle.std.specs.Prelude.{◌≡◌, ◌<◌, ◌==◌, Bool, true, false, slice_index, ℕ, zero, suc, ◌≤◌, ◌/◌, List, [], ◌∷◌, ◌++◌, length, take, drop, Option, Some, None, if◌then◌else◌}
+use Rattle.std.specs.Prelude.{◌≡◌, ◌==◌, Bool, true, false, ℕ, zero, suc, ◌≤◌, ◌/◌, List, [], ◌∷◌, ◌++◌, length, take, drop, Option, Some, None, if◌then◌else◌}
 use Rattle.std.specs.List.{flat_map, slice_get, filter, range_with_len, AllByRecursion}
 use Rattle.std.specs.Int.RustNames.{count_ones}
 use Rattle.std.specs.Int.{w16, w32, to_be_bytes, from_be_bytes}
@@ -47,23 +47,23 @@ vector_bytes mask entries = to_be_bytes w32 mask ++ flat_map entry_bytes entries
 unfoldable pub len_in : List ℕ → ℕ
 len_in bytes = from_be_bytes w16 (take 2 bytes)
 
-abbrev pub entry_in : List ℕ → List ℕ
-entry_in bytes = take (len_in bytes) (drop 2 bytes)
+abbrev pub entry_in_front : List ℕ → List ℕ
+entry_in_front bytes = take (len_in bytes) (drop 2 bytes)
 
 abbrev pub after_entry : List ℕ → List ℕ
 after_entry bytes = drop (len_in bytes) (drop 2 bytes)
 
 unfoldable pub entries_in : ℕ → List ℕ → List (List ℕ)
 entries_in zero bytes = []
-entries_in (suc count) bytes = entry_in bytes ∷ entries_in count (after_entry bytes)
+entries_in (suc count) bytes = entry_in_front bytes ∷ entries_in count (after_entry bytes)
 
 -- all entries of a vector
-abbrev pub entries_of : List ℕ → List (List ℕ)
-entries_of vector = entries_in (count_ones (mask_of vector)) (drop 4 vector)
+abbrev pub vector_entries : List ℕ → List (List ℕ)
+vector_entries vector = entries_in (count_ones (mask_of vector)) (drop 4 vector)
 
 -- the entry at a replica's place, if it has one
-abbrev pub entry_of : List ℕ → ℕ → Option (List ℕ)
-entry_of vector k = at_place (mask_of vector) (entries_of vector) k
+abbrev pub entry_at_place : List ℕ → ℕ → Option (List ℕ)
+entry_at_place vector k = at_place (mask_of vector) (vector_entries vector) k
 
 -- whether something is there that passes a test
 abbrev pub is_passed : (List ℕ → Bool) → Option (List ℕ) → Bool
@@ -76,7 +76,7 @@ HasEntries zero bytes = Unit {0}
 HasEntries (suc count) bytes = (2 ≤ length bytes) × (len_in bytes ≤ length (drop 2 bytes)) × HasEntries count (after_entry bytes)
 
 unfoldable pub nth_entry : ℕ → List ℕ → List ℕ
-nth_entry zero bytes = entry_in bytes
+nth_entry zero bytes = entry_in_front bytes
 nth_entry (suc at) bytes = nth_entry at (after_entry bytes)
 
 -- ---- columns
@@ -94,8 +94,8 @@ if_whole None = None
 if_whole (Some row) = if length row == 32 then Some row else None
 
 -- the whole row that a column has for an echoer, if it has one
-abbrev pub row_of : List ℕ → ℕ → Option (List ℕ)
-row_of column echoer = if_whole (at_place (mask_of column) (rows_in (count_ones (mask_of column)) (drop 4 column)) echoer)
+abbrev pub column_row : List ℕ → ℕ → Option (List ℕ)
+column_row column echoer = if_whole (at_place (mask_of column) (rows_in (count_ones (mask_of column)) (drop 4 column)) echoer)
 
 -- ---- VECTs that aren't none
 
@@ -103,9 +103,6 @@ abbrev pub vect_bytes : ℕ → List ℕ → List ℕ
 vect_bytes mask value = to_be_bytes w32 mask ++ value
 
 -- ---- what vectors, columns and VECTs are, in words on the whole value
-
-abbrev pub IsBytes : List ℕ → Type 0
-IsBytes bytes = (i : ℕ) → slice_index bytes i < 256
 
 pub record IsVector (p : Numbers) (root mask : ℕ) (es : List (List ℕ)) (value : List ℕ) : Type 0 where
   pub places : is_places p.n (wait_of p) mask ≡ true

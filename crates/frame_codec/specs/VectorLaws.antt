@@ -13,7 +13,8 @@ use Rattle.frame_codec.specs.Limits.{most_ids, longest_ids, longest_entry}
 use Rattle.frame_codec.specs.declared.ids.Run.{Run}
 use Rattle.frame_codec.specs.Format.{Done, Block, Plain, Is}
 use Rattle.frame_codec.specs.Grammar.{any, id_of, no_ids, with_id, comes_after, ids_from, ids, is_places, is_entry_len, entry, times, vector, class2}
-use Rattle.frame_codec.specs.Values.{IsBytes, IsVector, mask_of, len_in, entry_in, after_entry, entries_in, entry_bytes, vector_bytes}
+use Rattle.ritas_base.specs.Bytes.{IsBytes}
+use Rattle.frame_codec.specs.Values.{IsVector, mask_of, len_in, entry_in_front, after_entry, entries_in, entry_bytes, vector_bytes}
 use Rattle.frame_codec.specs.PartLaws.{is_then, then_is, entry_fixed, ids_length, entry_length}
 
 -- ---- a whole list of identifiers is of so many
@@ -47,13 +48,13 @@ class2_from false n len e ok same is =
     let high = leb-true len longest_entry b.1 in
     (omega (arith, low, same), omega (arith, high, same))
 
-pub record Entry (p : Numbers) (root : ℕ) (text head e : List ℕ) : Type 0 where
+pub record IsEntryText (p : Numbers) (root : ℕ) (text head e : List ℕ) : Type 0 where
   pub parts : text ≡ head ++ e
   pub two : length head ≡ 2
   pub says : from_be_bytes w16 head ≡ length e
   pub right : Is (class2 p root) e
 
-pub entry_parts : (p : Numbers) (root : ℕ) (text : List ℕ) → Is (entry p.n root) text → (head : List ℕ) × (e : List ℕ) × Entry p root text head e
+pub entry_parts : (p : Numbers) (root : ℕ) (text : List ℕ) → Is (entry p.n root) text → (head : List ℕ) × (e : List ℕ) × IsEntryText p root text head e
 unfolding entry class2
 entry_parts p root text (f, r, parts, two, ok, more) =
     let len = from_be_bytes w16 f in
@@ -157,8 +158,8 @@ IsBytes-take n bytes h i =
     ]
 
 -- an entry in front of the rest
-entry_first : (p : Numbers) (root : ℕ) (text front rest head e : List ℕ) → IsBytes text → text ≡ front ++ rest → Entry p root front head e
-    → (entry_in text ≡ e) × (after_entry text ≡ rest) × (text ≡ entry_bytes e ++ rest) × IsBytes rest
+entry_first : (p : Numbers) (root : ℕ) (text front rest head e : List ℕ) → IsBytes text → text ≡ front ++ rest → IsEntryText p root front head e
+    → (entry_in_front text ≡ e) × (after_entry text ≡ rest) × (text ≡ entry_bytes e ++ rest) × IsBytes rest
 unfolding len_in
 entry_first p root text front rest head e fits parts is =
     let whole : text ≡ head ++ (e ++ rest) = parts ∙ ap (λ (l : List ℕ). l ++ rest) is.parts ∙ append_assoc head e rest in

@@ -12,9 +12,10 @@ ghost use Rattle.frame_codec.specs.Limits.{most_ids, longest_entry};
 ghost use Rattle.frame_codec.specs.Format.{Is};
 ghost use Rattle.frame_codec.specs.Grammar.{ids, vector, vect, column, class2, class3, is_places};
 ghost use Rattle.frame_codec.specs.Ids.{AreIds};
-ghost use Rattle.frame_codec.specs.Values.{IsBytes, ids_bytes, ids_of, mask_of, places, at_place};
-ghost use Rattle.frame_codec.specs.Values.{IsVector, entries_in, entries_of, entry_of, is_passed, vector_bytes};
-ghost use Rattle.frame_codec.specs.Values.{IsColumn, rows_in, row_of, column_bytes, IsVect, vect_bytes};
+ghost use Rattle.ritas_base.specs.Bytes.{IsBytes};
+ghost use Rattle.frame_codec.specs.Values.{ids_bytes, ids_of, mask_of, places, at_place};
+ghost use Rattle.frame_codec.specs.Values.{IsVector, entries_in, vector_entries, entry_at_place, is_passed, vector_bytes};
+ghost use Rattle.frame_codec.specs.Values.{IsColumn, rows_in, column_row, column_bytes, IsVect, vect_bytes};
 
 /// A value is an identifier list exactly where it spells some identifiers that are one in words: at most `most_ids` (64), ascending,
 /// of replicas, of numbers below `number_limit` (1,000,000), and at most `share_of` n of one origin.
@@ -36,12 +37,12 @@ pub fn vector_law()
         → is_places p.n (wait_of p) mask ≡ true → length es ≡ count_ones mask → AllByRecursion (Is (class2 p root)) es
         → Is (vector p root) (vector_bytes mask es) }
     ensures read { (p : Numbers) (root : ℕ) (value : List ℕ) → IsBytes value → Is (vector p root) value
-        → IsVector p root (mask_of value) (entries_of value) value }
+        → IsVector p root (mask_of value) (vector_entries value) value }
     ensures again { (mask : ℕ) (es : List (List ℕ)) → mask < 2 ^ 32 → length es ≡ count_ones mask
         → AllByRecursion (λ e. length e < 2 ^ 16) es
         → (mask_of (vector_bytes mask es) ≡ mask) × (entries_in (count_ones mask) (drop 4 (vector_bytes mask es)) ≡ es) }
     ensures counted { (p : Numbers) (root : ℕ) (value : List ℕ) (test : List ℕ → Bool) → Is (vector p root) value
-        → count_by test (entries_of value) ≡ count_by (λ k. is_passed test (entry_of value k)) (replicas p.n) }
+        → count_by test (vector_entries value) ≡ count_by (λ k. is_passed test (entry_at_place value k)) (replicas p.n) }
 {}
 
 /// A value of class 2 has 1 to `longest_entry` (512) bytes.
@@ -79,7 +80,7 @@ pub fn column_law()
         → AllByRecursion (λ row. length row ≡ 32) rows
         → (mask_of (column_bytes mask rows) ≡ mask) × (rows_in (count_ones mask) (drop 4 (column_bytes mask rows)) ≡ rows) }
     ensures rows { (n : ℕ) (value : List ℕ) (k : ℕ) → Is (column n) value
-        → row_of value k ≡ at_place (mask_of value) (rows_in (count_ones (mask_of value)) (drop 4 value)) k }
+        → column_row value k ≡ at_place (mask_of value) (rows_in (count_ones (mask_of value)) (drop 4 value)) k }
 {}
 
 /// A mask below a power of two has members below its exponent alone, and what stands for a place is found by its number

@@ -7,8 +7,8 @@ ghost use Rattle.std.specs.List.{slice_get};
 ghost use Rattle.ritas_base.specs.Numbers.{Numbers};
 ghost use Rattle.frame_codec.specs.Format.{Is};
 ghost use Rattle.frame_codec.specs.Grammar.{vector, vect};
-ghost use Rattle.frame_codec.specs.Values.{ids_of, mask_of, entry_of, row_of};
-ghost use Rattle.frame_codec.specs.Values.{len_in, entry_in, after_entry, HasEntries, nth_entry};
+ghost use Rattle.frame_codec.specs.Values.{ids_of, mask_of, entry_at_place, column_row};
+ghost use Rattle.frame_codec.specs.Values.{len_in, entry_in_front, after_entry, HasEntries, nth_entry};
 
 use crate::ids::id_from;
 use ritas_base::{Id, SenderSet};
@@ -51,7 +51,7 @@ fn split_mask(value: &[u8]) -> (SenderSet, &[u8])
 fn split_entry(bytes: &[u8]) -> (&[u8], &[u8])
     requires length { 2 ≤ length bytes.now }
     requires whole { len_in bytes.now ≤ length (drop 2 bytes.now) }
-    ensures entry { result.0.now ≡ entry_in bytes.now }
+    ensures entry { result.0.now ≡ entry_in_front bytes.now }
     ensures rest { result.1.now ≡ after_entry bytes.now }
 {
     let (front, rest) = bytes.split_at(2);
@@ -76,7 +76,7 @@ fn nth_entry(at: u32, bytes: &[u8]) -> &[u8]
 /// vector.
 pub fn vector_entry(value: &[u8], k: u8) -> Option<&[u8]>
     requires { (p : Numbers) × (root : ℕ) × Is (vector p root) value.now }
-    ensures { option_copied result ≡ entry_of value.now k }
+    ensures { option_copied result ≡ entry_at_place value.now k }
 {
     let (places, rest) = split_mask(value);
     if !places.has(k) {
@@ -100,7 +100,7 @@ pub fn vect_parts(value: &[u8]) -> Option<(SenderSet, &[u8])>
 /// The row of a column at replica k's place; `None` exactly where it has no such place, or where its row there isn't
 /// whole. So it is of any bytes.
 pub fn column_entry(value: &[u8], k: u8) -> Option<&[u8]>
-    ensures { option_copied result ≡ row_of value.now k }
+    ensures { option_copied result ≡ column_row value.now k }
 {
     if value.len() < 4 {
         return None;

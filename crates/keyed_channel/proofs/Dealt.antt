@@ -7,9 +7,10 @@ use Rattle.std.proofs.lemmas.List.{get_or_append_left}
 use Rattle.std.proofs.lemmas.List.FromFn.{length-map-range_with_len, get_or-map-range_with_len}
 use Rattle.std.proofs.lemmas.Bool.{eq-eqb, ne_eqb, cases_eq}
 use Rattle.keyed_channel.specs.Hmac.{hmac_of}
-use Rattle.keyed_channel.specs.KeyRow.{zero_key, key_with}
-use Rattle.keyed_channel.specs.Keyed.{pair_key, dealt, dealt_keys, entry_of, other_of, tags_of}
-use Rattle.keyed_channel.specs.Laws.{MayAsk, EntryByPair, EntriesAgree}
+use Rattle.ritas_base.specs.Bytes.{zero_key}
+use Rattle.keyed_channel.specs.KeyRow.{key_with}
+use Rattle.keyed_channel.specs.Keyed.{pair_key, dealt, dealt_keys, keyed_entry, other_of_two, tags_of}
+use Rattle.keyed_channel.specs.Laws.{MayAskEntries, EntryByPair, EntriesAgree}
 
 -- the key with j
 pub key_with-dealt : (master : List ℕ) (session n i j : ℕ) → j < n → key_with (dealt master session n i) j ≡ pair_key master session i j
@@ -26,8 +27,8 @@ pair_key_swapped master session i j =
     ap₂ (λ (low high : ℕ). hmac_of master (0x4b ∷ to_be_bytes w64 session ++ low ∷ high ∷ [])) (min_comm i j) (max_comm i j)
 
 -- the key of the two, for the one that is me
-pub other_key : (master : List ℕ) (session n me echoer verifier : ℕ) → echoer < n → verifier < n → MayAsk me echoer verifier
-    → key_with (dealt master session n me) (other_of me echoer verifier) ≡ pair_key master session echoer verifier
+pub other_key : (master : List ℕ) (session n me echoer verifier : ℕ) → echoer < n → verifier < n → MayAskEntries me echoer verifier
+    → key_with (dealt master session n me) (other_of_two me echoer verifier) ≡ pair_key master session echoer verifier
 other_key master session n me echoer verifier e v ask =
     let k = dealt master session n me in
     let choice : Bool → ℕ = λ b. if b then verifier else echoer in
@@ -43,7 +44,7 @@ other_key master session n me echoer verifier e v ask =
 
 pub entry_by_pair_holds : EntryByPair
 entry_by_pair_holds master session n me s echoer verifier d e v ask =
-    ap (λ (key : List ℕ). entry_of key session s echoer verifier d) (other_key master session n me echoer verifier e v ask)
+    ap (λ (key : List ℕ). keyed_entry key session s echoer verifier d) (other_key master session n me echoer verifier e v ask)
 
 pub entries_agree_hold : EntriesAgree
 entries_agree_hold master session n i j s echoer verifier d i_in j_in ask_i ask_j =

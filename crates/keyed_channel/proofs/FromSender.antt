@@ -14,7 +14,8 @@ use Rattle.keyed_channel.specs.Hmac.{hmac_of}
 use Rattle.keyed_channel.specs.KeyRow.{key_with}
 use Rattle.keyed_channel.specs.Keyed.{dealt_for}
 use Rattle.ritas_base.specs.declared.mode.FrameVersion.{FrameVersion}
-use Rattle.keyed_channel.specs.Frames.{version_byte, frame_front, sealed, front_of, tag_of, version_of, sender_of, receiver_of, seq_of, body_of, parts_of, is_tagged, Opening}
+use Rattle.ritas_base.specs.Bytes.{version_byte}
+use Rattle.keyed_channel.specs.Frames.{frame_front, sealed, tagged_front, tag_of, version_of, sender_of, receiver_of, seq_of, frame_body, opening_parts, is_tagged, Opening}
 use Rattle.keyed_channel.specs.FramesLaws.{IsPlain, opened_is}
 use Rattle.keyed_channel.specs.Laws.{OpenedFromPeer, OpenedParts, OpensSealed}
 use Rattle.keyed_channel.proofs.Dealt.{key_with-dealt, pair_key_swapped}
@@ -56,11 +57,11 @@ word_is xs from long small =
     sym (be_bytes_8 word (from_be_bytes w64 word) size (word_small xs from small) refl)
 
 front_is : (version : FrameVersion) (xs : List ℕ) (j : ℕ) → frame_overhead ≤ length xs → ((k : ℕ) → slice_index xs k < 256) → version_of xs ≡ version_byte version → receiver_of xs ≡ j
-    → front_of xs ≡ frame_front version (sender_of xs) j (seq_of xs) (body_of xs)
+    → tagged_front xs ≡ frame_front version (sender_of xs) j (seq_of xs) (frame_body xs)
 front_is version xs j long small one mine =
     split_front xs (length xs - tag_length) (omega arith) (omega arith)
-    ∙ ap₂ (λ (v r : ℕ). v ∷ sender_of xs ∷ r ∷ (slice_range xs 3 11 ++ body_of xs)) one mine
-    ∙ ap (λ l. version_byte version ∷ sender_of xs ∷ j ∷ (l ++ body_of xs)) (word_is xs 3 (omega arith) small)
+    ∙ ap₂ (λ (v r : ℕ). v ∷ sender_of xs ∷ r ∷ (slice_range xs 3 11 ++ frame_body xs)) one mine
+    ∙ ap (λ l. version_byte version ∷ sender_of xs ∷ j ∷ (l ++ frame_body xs)) (word_is xs 3 (omega arith) small)
 
 -- ---- the law
 
@@ -70,7 +71,7 @@ IsFromSender version master session n j bytes o =
 
 from_sender : (version : FrameVersion) (master : List ℕ) (session n j : ℕ) (bytes : List ℕ) → j < n → ((k : ℕ) → slice_index bytes k < 256)
     → IsPlain (dealt_for version master session n j) bytes → is_tagged (dealt_for version master session n j) bytes ≡ true
-    → IsFromSender version master session n j bytes (parts_of bytes)
+    → IsFromSender version master session n j bytes (opening_parts bytes)
 from_sender version master session n j bytes j_in small plain tagged =
     let i = sender_of bytes in
     let k = dealt_for version master session n j in
@@ -79,7 +80,7 @@ from_sender version master session n j bytes j_in small plain tagged =
     let front = front_is version bytes j plain.long small plain.version plain.receiver in
     let key : key_with k i ≡ key_with by j =
     key_with-dealt master session n j i i_in ∙ pair_key_swapped master session j i ∙ sym (key_with-dealt master session n i j j_in) in
-    let tag = sym ((bytes_eq-Decides (hmac_of (key_with k i) (front_of bytes)) (tag_of bytes)).0 tagged) ∙ ap₂ hmac_of key front in
+    let tag = sym ((bytes_eq-Decides (hmac_of (key_with k i) (tagged_front bytes)) (tag_of bytes)).0 tagged) ∙ ap₂ hmac_of key front in
     (i_in, plain.other, sym (take-append-drop (length bytes - tag_length) bytes) ∙ ap₂ (λ (x y : List ℕ). x ++ y) front tag)
 
 pub opens_sealed_holds : OpensSealed

@@ -7,7 +7,8 @@ use Rattle.std.proofs.Math.Seq.{drop-append_seam}
 use Rattle.std.proofs.lemmas.List.{length-append, length-replicate, set-append_right, get_or-take, get_or_read}
 use Rattle.std.proofs.lemmas.List.FromFn.{length-map-range_with_len, map-range_with_len_more}
 use Rattle.ritas_base.specs.declared.mode.FrameVersion.TheVariants.{One}
-use Rattle.keyed_channel.specs.KeyRow.{IsKeyRow, zero_key, filled_row}
+use Rattle.ritas_base.specs.Bytes.{zero_key, filled_row}
+use Rattle.keyed_channel.specs.KeyRow.{IsKeyRow}
 
 -- a row made of n keys is one
 pub filled_row_is : (session n me : ℕ) (keys : List (List ℕ)) → length keys ≡ n → me < n → n ≤ 31

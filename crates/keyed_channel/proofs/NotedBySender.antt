@@ -9,8 +9,8 @@ use Rattle.keyed_channel.specs.Lengths.{tag_length, note_front_length, note_leng
 use Rattle.keyed_channel.specs.Hmac.{hmac_of}
 use Rattle.keyed_channel.specs.KeyRow.{KeyRow, key_with}
 use Rattle.keyed_channel.specs.Keyed.{dealt_for}
-use Rattle.keyed_channel.specs.Frames.{front_of, tag_of, sender_of, receiver_of, is_peer, is_tagged}
-use Rattle.keyed_channel.specs.Notes.{note_front, sealed_note, form_of, number_of, note_of, is_note, is_plain_note, noted}
+use Rattle.keyed_channel.specs.Frames.{tagged_front, tag_of, sender_of, receiver_of, is_peer, is_tagged}
+use Rattle.keyed_channel.specs.Notes.{note_front, sealed_note, note_form, note_number, note_of, is_note, is_plain_note, noted}
 use Rattle.keyed_channel.specs.Laws.{NotedFromPeer, NotesSealed}
 use Rattle.keyed_channel.specs.declared.note.Note.{Note}
 use Rattle.keyed_channel.specs.declared.note.Note.TheVariants.{Ack, Again}
@@ -28,12 +28,12 @@ four (a ∷ b ∷ c ∷ []) h = absurd (omega (arith, h))
 four (a ∷ b ∷ c ∷ d ∷ xs) h = refl
 
 front_is : (xs : List ℕ) (j : ℕ) → length xs ≡ note_length → ((k : ℕ) → slice_index xs k < 256) → is_note xs ≡ true → receiver_of xs ≡ j
-    → front_of xs ≡ note_front (sender_of xs) j (form_of xs) (number_of xs)
+    → tagged_front xs ≡ note_front (sender_of xs) j (note_form xs) (note_number xs)
 front_is xs j long small note mine =
     let size : length xs - tag_length ≡ note_front_length = omega (arith, long) in
     ap (λ m. take m xs) size ∙ four xs (omega (arith, long))
-    ∙ ap₂ (λ (v r : ℕ). v ∷ sender_of xs ∷ r ∷ form_of xs ∷ slice_range xs 4 12) (eqb-true _ _ note) mine
-    ∙ ap (λ l. 0x4e ∷ sender_of xs ∷ j ∷ form_of xs ∷ l) (word_is xs 4 (omega (arith, long)) small)
+    ∙ ap₂ (λ (v r : ℕ). v ∷ sender_of xs ∷ r ∷ note_form xs ∷ slice_range xs 4 12) (eqb-true _ _ note) mine
+    ∙ ap (λ l. 0x4e ∷ sender_of xs ∷ j ∷ note_form xs ∷ l) (word_is xs 4 (omega (arith, long)) small)
 
 -- ---- the note, by its sender
 
@@ -43,7 +43,7 @@ IsFromSender version master session n j bytes i form number =
 
 from_sender : (version : FrameVersion) (master : List ℕ) (session n j : ℕ) (bytes : List ℕ) → j < n → ((k : ℕ) → slice_index bytes k < 256)
     → is_plain_note (dealt_for version master session n j) bytes ≡ true → is_tagged (dealt_for version master session n j) bytes ≡ true
-    → IsFromSender version master session n j bytes (sender_of bytes) (form_of bytes) (number_of bytes)
+    → IsFromSender version master session n j bytes (sender_of bytes) (note_form bytes) (note_number bytes)
 from_sender version master session n j bytes j_in small plain tagged =
     let i = sender_of bytes in
     let k = dealt_for version master session n j in
@@ -56,17 +56,17 @@ from_sender version master session n j bytes j_in small plain tagged =
     let front = front_is bytes j (eqb-true _ _ long.0) small note.0 (eqb-true _ _ mine.0) in
     let key : key_with k i ≡ key_with by j =
     key_with-dealt master session n j i i_in ∙ pair_key_swapped master session j i ∙ sym (key_with-dealt master session n i j j_in) in
-    let tag = sym ((bytes_eq-Decides (hmac_of (key_with k i) (front_of bytes)) (tag_of bytes)).0 tagged) ∙ ap₂ hmac_of key front in
+    let tag = sym ((bytes_eq-Decides (hmac_of (key_with k i) (tagged_front bytes)) (tag_of bytes)).0 tagged) ∙ ap₂ hmac_of key front in
     (i_in, eqb-false i j (not-true (i == j) peer.1), sym (take-append-drop (length bytes - tag_length) bytes) ∙ ap₂ (λ (x y : List ℕ). x ++ y) front tag)
 
 -- and by what its parts are
 from_parts : (version : FrameVersion) (master : List ℕ) (session n j : ℕ) (bytes : List ℕ) (i form number : ℕ)
-    → sender_of bytes ≡ i → form_of bytes ≡ form → number_of bytes ≡ number
-    → IsFromSender version master session n j bytes (sender_of bytes) (form_of bytes) (number_of bytes)
+    → sender_of bytes ≡ i → note_form bytes ≡ form → note_number bytes ≡ number
+    → IsFromSender version master session n j bytes (sender_of bytes) (note_form bytes) (note_number bytes)
     → IsFromSender version master session n j bytes i form number
 from_parts version master session n j bytes i form number is_i is_form is_number by =
-    let by_number : IsFromSender version master session n j bytes (sender_of bytes) (form_of bytes) number =
-    subst (λ (x : ℕ). IsFromSender version master session n j bytes (sender_of bytes) (form_of bytes) x) is_number by in
+    let by_number : IsFromSender version master session n j bytes (sender_of bytes) (note_form bytes) number =
+    subst (λ (x : ℕ). IsFromSender version master session n j bytes (sender_of bytes) (note_form bytes) x) is_number by in
     let by_form : IsFromSender version master session n j bytes (sender_of bytes) form number =
     subst (λ (x : ℕ). IsFromSender version master session n j bytes (sender_of bytes) x number) is_form by_number in
     subst (λ (x : ℕ). IsFromSender version master session n j bytes x form number) is_i by_form
@@ -79,7 +79,7 @@ said_by true false said x h = cc
 said_by false b said x h = cc
 
 noted_by : (k : KeyRow) (bytes : List ℕ) (x : Note) → noted k bytes ≡ Some x
-    → (is_plain_note k bytes ≡ true) × (is_tagged k bytes ≡ true) × (note_of (sender_of bytes) (form_of bytes) (number_of bytes) ≡ Some x)
+    → (is_plain_note k bytes ≡ true) × (is_tagged k bytes ≡ true) × (note_of (sender_of bytes) (note_form bytes) (note_number bytes) ≡ Some x)
 unfolding noted
 noted_by k bytes x h = said_by _ _ _ x h
 
@@ -102,8 +102,8 @@ acked : (version : FrameVersion) (master : List ℕ) (session n j : ℕ) (bytes 
     → IsFromSender version master session n j bytes i 1 seq
 acked version master session n j bytes j_in small i seq h =
     let parts = noted_by (dealt_for version master session n j) bytes (Ack i seq) h in
-    let ack = ack_by (form_of bytes == 1) (form_of bytes == 2 && number_of bytes == 0) (sender_of bytes) (number_of bytes) i seq parts.2 in
-    let form : form_of bytes ≡ 1 = eqb-true _ _ ack.0 in
+    let ack = ack_by (note_form bytes == 1) (note_form bytes == 2 && note_number bytes == 0) (sender_of bytes) (note_number bytes) i seq parts.2 in
+    let form : note_form bytes ≡ 1 = eqb-true _ _ ack.0 in
     from_parts version master session n j bytes i 1 seq ack.1 form ack.2 (from_sender version master session n j bytes j_in small parts.0 parts.1)
 
 wished : (version : FrameVersion) (master : List ℕ) (session n j : ℕ) (bytes : List ℕ) → j < n → ((k : ℕ) → slice_index bytes k < 256)
@@ -111,10 +111,10 @@ wished : (version : FrameVersion) (master : List ℕ) (session n j : ℕ) (bytes
     → IsFromSender version master session n j bytes i 2 0
 wished version master session n j bytes j_in small i h =
     let parts = noted_by (dealt_for version master session n j) bytes (Again i) h in
-    let again = again_by (form_of bytes == 1) (form_of bytes == 2 && number_of bytes == 0) (sender_of bytes) (number_of bytes) i parts.2 in
-    let both = and_parts (form_of bytes == 2) (number_of bytes == 0) again.0 in
-    let form : form_of bytes ≡ 2 = eqb-true _ _ both.0 in
-    let number : number_of bytes ≡ 0 = eqb-true _ _ both.1 in
+    let again = again_by (note_form bytes == 1) (note_form bytes == 2 && note_number bytes == 0) (sender_of bytes) (note_number bytes) i parts.2 in
+    let both = and_parts (note_form bytes == 2) (note_number bytes == 0) again.0 in
+    let form : note_form bytes ≡ 2 = eqb-true _ _ both.0 in
+    let number : note_number bytes ≡ 0 = eqb-true _ _ both.1 in
     from_parts version master session n j bytes i 2 0 again.1 form number (from_sender version master session n j bytes j_in small parts.0 parts.1)
 
 pub notes_sealed_holds : NotesSealed
@@ -134,13 +134,13 @@ plain_peer k bytes plain =
 ack_from_peer : (k : KeyRow) (bytes : List ℕ) (from seq : ℕ) → noted k bytes ≡ Some (Ack from seq) → (from < k.n) × (from ≢ k.me)
 ack_from_peer k bytes from seq h =
     let parts = noted_by k bytes (Ack from seq) h in
-    let ack = ack_by (form_of bytes == 1) (form_of bytes == 2 && number_of bytes == 0) (sender_of bytes) (number_of bytes) from seq parts.2 in
+    let ack = ack_by (note_form bytes == 1) (note_form bytes == 2 && note_number bytes == 0) (sender_of bytes) (note_number bytes) from seq parts.2 in
     subst (λ (x : ℕ). (x < k.n) × (x ≢ k.me)) ack.1 (plain_peer k bytes parts.0)
 
 again_from_peer : (k : KeyRow) (bytes : List ℕ) (from : ℕ) → noted k bytes ≡ Some (Again from) → (from < k.n) × (from ≢ k.me)
 again_from_peer k bytes from h =
     let parts = noted_by k bytes (Again from) h in
-    let again = again_by (form_of bytes == 1) (form_of bytes == 2 && number_of bytes == 0) (sender_of bytes) (number_of bytes) from parts.2 in
+    let again = again_by (note_form bytes == 1) (note_form bytes == 2 && note_number bytes == 0) (sender_of bytes) (note_number bytes) from parts.2 in
     subst (λ (x : ℕ). (x < k.n) × (x ≢ k.me)) again.1 (plain_peer k bytes parts.0)
 
 pub noted_from_peer_holds : NotedFromPeer

@@ -12,8 +12,9 @@ use Rattle.keyed_channel.specs.Lengths.{least_frame, note_length}
 use Rattle.keyed_channel.specs.Hmac.{hmac_of}
 use Rattle.keyed_channel.specs.KeyRow.{KeyRow, key_with}
 use Rattle.keyed_channel.specs.Keyed.{dealt_for}
-use Rattle.keyed_channel.specs.Frames.{version_byte, version_of, sender_of, receiver_of, front_of, tag_of, is_peer, is_tagged}
-use Rattle.keyed_channel.specs.Notes.{note_front, sealed_note, form_of, number_of, note_of, is_note, is_plain_note, noted}
+use Rattle.ritas_base.specs.Bytes.{version_byte}
+use Rattle.keyed_channel.specs.Frames.{version_of, sender_of, receiver_of, tagged_front, tag_of, is_peer, is_tagged}
+use Rattle.keyed_channel.specs.Notes.{note_front, sealed_note, note_form, note_number, note_of, is_note, is_plain_note, noted}
 use Rattle.keyed_channel.specs.Laws.{NotesOpen, NotesAreNoFrames, NoteHasVersion}
 use Rattle.keyed_channel.specs.declared.note.Note.{Note}
 use Rattle.keyed_channel.specs.declared.frame.OpenFault.TheVariants.{Short, Long, Version}
@@ -27,16 +28,16 @@ by_tests a b said plain tagged p t = ap₂ (λ (x y : Bool). if x && y then said
 
 pub note_plain : (k : KeyRow) (bytes : List ℕ) → is_plain_note k bytes ≡ false → noted k bytes ≡ None
 unfolding noted
-note_plain k bytes p = by_tests _ _ (note_of (sender_of bytes) (form_of bytes) (number_of bytes)) false (is_tagged k bytes) p refl
+note_plain k bytes p = by_tests _ _ (note_of (sender_of bytes) (note_form bytes) (note_number bytes)) false (is_tagged k bytes) p refl
 
 pub note_untagged : (k : KeyRow) (bytes : List ℕ) → is_plain_note k bytes ≡ true → is_tagged k bytes ≡ false → noted k bytes ≡ None
 unfolding noted
-note_untagged k bytes p t = by_tests _ _ (note_of (sender_of bytes) (form_of bytes) (number_of bytes)) true false p t
+note_untagged k bytes p t = by_tests _ _ (note_of (sender_of bytes) (note_form bytes) (note_number bytes)) true false p t
 
 pub note_tagged : (k : KeyRow) (bytes : List ℕ) → is_plain_note k bytes ≡ true → is_tagged k bytes ≡ true
-    → noted k bytes ≡ note_of (sender_of bytes) (form_of bytes) (number_of bytes)
+    → noted k bytes ≡ note_of (sender_of bytes) (note_form bytes) (note_number bytes)
 unfolding noted
-note_tagged k bytes p t = by_tests _ _ (note_of (sender_of bytes) (form_of bytes) (number_of bytes)) true true p t
+note_tagged k bytes p t = by_tests _ _ (note_of (sender_of bytes) (note_form bytes) (note_number bytes)) true true p t
 
 -- ---- no note is a frame
 
@@ -91,7 +92,7 @@ tagged_there version master session n i j form number i_in j_in =
     let same : theirs ≡ mine =
     key_with-dealt master session n j i i_in ∙ pair_key_swapped master session j i ∙ sym (key_with-dealt master session n i j j_in) in
     let wanted = ap₂ hmac_of same (front_is front tag long) ∙ sym (tag_is front tag long) in
-    (bytes_eq-Decides (hmac_of theirs (front_of (front ++ tag))) (tag_of (front ++ tag))).1 wanted
+    (bytes_eq-Decides (hmac_of theirs (tagged_front (front ++ tag))) (tag_of (front ++ tag))).1 wanted
 
 plain_there : (version : FrameVersion) (master : List ℕ) (session n i j form number : ℕ) → i < n → i ≢ j
     → is_plain_note (dealt_for version master session n j) (sealed_note (dealt_for version master session n i) j form number) ≡ true

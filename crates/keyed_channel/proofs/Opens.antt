@@ -3,7 +3,8 @@ use Rattle.std.specs.Prelude.{◌≡◌, ℕ, Bool, true, false, not, List, [], 
 use Rattle.std.specs.Option.{option_or}
 use Rattle.std.proofs.Common.{sym, ◌∙◌, ap}
 use Rattle.keyed_channel.specs.KeyRow.{KeyRow}
-use Rattle.keyed_channel.specs.Frames.{plain_tests, is_tagged, first_failed, plain_fault, opening, opening_but, Opening, parts_of}
+use Rattle.ritas_base.specs.Places.{first_failed}
+use Rattle.keyed_channel.specs.Frames.{plain_tests, is_tagged, plain_fault, opening, opening_but, Opening, opening_parts}
 use Rattle.keyed_channel.specs.declared.frame.OpenFault.{OpenFault}
 use Rattle.keyed_channel.specs.declared.frame.OpenFault.TheVariants.{Short, Long, Version, NotMine, NoSuchReplica, BadTag}
 
@@ -29,10 +30,10 @@ first_more ((true, fault) ∷ tests) b = first_more tests b
 first_more ((false, fault) ∷ tests) b = refl
 
 by_tests : (k : KeyRow) (bytes : List ℕ) (plain : Option OpenFault) (b : Bool) → plain_fault k bytes ≡ plain → is_tagged k bytes ≡ b
-    → opening k bytes ≡ opening_but (option_or plain (last_test b)) (parts_of bytes)
+    → opening k bytes ≡ opening_but (option_or plain (last_test b)) (opening_parts bytes)
 unfolding opening
 by_tests k bytes plain b p t =
-    ap (λ o. opening_but o (parts_of bytes))
+    ap (λ o. opening_but o (opening_parts bytes))
     (first_more (plain_tests k bytes) (is_tagged k bytes) ∙ ap (λ o. option_or o (last_test (is_tagged k bytes))) p ∙ ap (λ x. option_or plain (last_test x)) t)
 
 pub opening_plain : (k : KeyRow) (bytes : List ℕ) (fault : OpenFault) → plain_fault k bytes ≡ Some fault → opening k bytes ≡ Err fault
@@ -41,21 +42,21 @@ opening_plain k bytes fault p = by_tests k bytes (Some fault) (is_tagged k bytes
 pub opening_untagged : (k : KeyRow) (bytes : List ℕ) → plain_fault k bytes ≡ None → is_tagged k bytes ≡ false → opening k bytes ≡ Err BadTag
 opening_untagged k bytes p t = by_tests k bytes None false p t
 
-pub opening_tagged : (k : KeyRow) (bytes : List ℕ) → plain_fault k bytes ≡ None → is_tagged k bytes ≡ true → opening k bytes ≡ Ok (parts_of bytes)
+pub opening_tagged : (k : KeyRow) (bytes : List ℕ) → plain_fault k bytes ≡ None → is_tagged k bytes ≡ true → opening k bytes ≡ Ok (opening_parts bytes)
 opening_tagged k bytes p t = by_tests k bytes None true p t
 
 -- what opened passed every test
 abbrev WasOpened : KeyRow → List ℕ → Opening → Type 0
-WasOpened k bytes o = (plain_fault k bytes ≡ None) × (is_tagged k bytes ≡ true) × (parts_of bytes ≡ o)
+WasOpened k bytes o = (plain_fault k bytes ≡ None) × (is_tagged k bytes ≡ true) × (opening_parts bytes ≡ o)
 
 was_opened : (k : KeyRow) (bytes : List ℕ) (o : Opening) (plain : Option OpenFault) (b : Bool) → plain_fault k bytes ≡ plain → is_tagged k bytes ≡ b
-    → opening_but (option_or plain (last_test b)) (parts_of bytes) ≡ Ok o → WasOpened k bytes o
+    → opening_but (option_or plain (last_test b)) (opening_parts bytes) ≡ Ok o → WasOpened k bytes o
 was_opened k bytes o None true p t h = (p, t, cc)
 was_opened k bytes o None false p t h = cc
 was_opened k bytes o (Some fault) b p t h = cc
 
 pub opening_ok : (k : KeyRow) (bytes : List ℕ) (o : Opening) → opening k bytes ≡ Ok o
-    → (plain_fault k bytes ≡ None) × (is_tagged k bytes ≡ true) × (parts_of bytes ≡ o)
+    → (plain_fault k bytes ≡ None) × (is_tagged k bytes ≡ true) × (opening_parts bytes ≡ o)
 opening_ok k bytes o h =
     was_opened k bytes o (plain_fault k bytes) (is_tagged k bytes) refl refl
     (sym (by_tests k bytes (plain_fault k bytes) (is_tagged k bytes) refl refl) ∙ h)

@@ -14,7 +14,8 @@ use Rattle.keyed_channel.specs.Hmac.{hmac_of, pad}
 use Rattle.keyed_channel.specs.KeyRow.{key_with}
 use Rattle.keyed_channel.specs.Keyed.{dealt_for}
 use Rattle.ritas_base.specs.declared.mode.FrameVersion.{FrameVersion}
-use Rattle.keyed_channel.specs.Frames.{version_byte, frame_front, sealed, front_of, tag_of, version_of, sender_of, receiver_of, seq_of, body_of, parts_of, is_peer, is_tagged, plain_fault, Opening}
+use Rattle.ritas_base.specs.Bytes.{version_byte}
+use Rattle.keyed_channel.specs.Frames.{frame_front, sealed, tagged_front, tag_of, version_of, sender_of, receiver_of, seq_of, frame_body, opening_parts, is_peer, is_tagged, plain_fault, Opening}
 use Rattle.keyed_channel.specs.Laws.{OpensAsSealed, SealedLength, SealedLong, SealedOpens}
 use Rattle.keyed_channel.specs.declared.frame.OpenFault.TheVariants.{Long}
 use Rattle.keyed_channel.proofs.Opens.{five_pass, too_long, opening_plain, opening_ok, opening_tagged}
@@ -34,7 +35,7 @@ sealed_length_holds k to seq body =
     omega (arith, length-append front tag, length-front k.version k.me to seq body, length-hmac_of (key_with k to) front)
 
 -- a front with a tag behind it comes apart again
-pub front_is : (front tag : List ℕ) → length tag ≡ tag_length → front_of (front ++ tag) ≡ front
+pub front_is : (front tag : List ℕ) → length tag ≡ tag_length → tagged_front (front ++ tag) ≡ front
 front_is front tag long =
     let at : length (front ++ tag) - tag_length ≡ length front = omega (arith, length-append front tag) in
     ap (λ k. take k (front ++ tag)) at ∙ take-append_seam front tag
@@ -45,12 +46,12 @@ tag_is front tag long =
     ap (λ k. drop k (front ++ tag)) at ∙ drop-append_seam front tag
 
 parts_are : (version : FrameVersion) (from to seq : ℕ) (body tag : List ℕ) → seq < 2 ^ 64 → length tag ≡ tag_length
-    → parts_of (frame_front version from to seq body ++ tag) ≡ record { from = from; seq = seq; body = body }
+    → opening_parts (frame_front version from to seq body ++ tag) ≡ record { from = from; seq = seq; body = body }
 parts_are version from to seq body tag small long =
     let bytes = frame_front version from to seq body ++ tag in
     let number : seq_of bytes ≡ seq = from_be_bytes-to_be_bytes_8 seq small in
     let at : length bytes - tag_length - head_length ≡ length body = omega (arith, length-append body tag) in
-    let said : body_of bytes ≡ body = ap (λ k. take k (body ++ tag)) at ∙ take-append_seam body tag in
+    let said : frame_body bytes ≡ body = ap (λ k. take k (body ++ tag)) at ∙ take-append_seam body tag in
     let opening_of : ℕ → List ℕ → Opening = λ q b. record { from = from; seq = q; body = b } in
     ap₂ opening_of number said
 
@@ -83,7 +84,7 @@ tagged_there version master session n i j seq body i_in j_in =
     let same : theirs ≡ mine =
     key_with-dealt master session n j i i_in ∙ pair_key_swapped master session j i ∙ sym (key_with-dealt master session n i j j_in) in
     let wanted = ap₂ hmac_of same (front_is front tag long) ∙ sym (tag_is front tag long) in
-    (bytes_eq-Decides (hmac_of theirs (front_of (front ++ tag))) (tag_of (front ++ tag))).1 wanted
+    (bytes_eq-Decides (hmac_of theirs (tagged_front (front ++ tag))) (tag_of (front ++ tag))).1 wanted
 
 pub sealed_opens_holds : SealedOpens
 sealed_opens_holds version master session n i j seq body i_in j_in ne small enough_body short =

@@ -1,22 +1,18 @@
 -- Sealed frames, and what opens.
-use Rattle.std.specs.Prelude.{ℕ, Bool, not, ◌==◌, ◌&&◌, ◌-◌, nat_le, nat_lt, List, [], ◌∷◌, ◌++◌, length, take, drop, slice_index, slice_range, Option, Some, None, Result, Ok, Err, if◌then◌else◌}
+use Rattle.std.specs.Prelude.{ℕ, Bool, not, ◌==◌, ◌&&◌, ◌-◌, nat_le, nat_lt, List, [], ◌∷◌, ◌++◌, length, take, drop, slice_index, slice_range, Option, Some, None, Result, Ok, Err}
 use Rattle.std.specs.Int.{w64, to_be_bytes, from_be_bytes}
 use Rattle.std.specs.Str.{bytes_eq}
 use Rattle.ritas_base.specs.declared.mode.FrameVersion.{FrameVersion}
-use Rattle.ritas_base.specs.declared.mode.FrameVersion.TheVariants.{One, Two}
 use Rattle.ritas_base.specs.Limits.{longest_frame}
 use Rattle.keyed_channel.specs.Lengths.{head_length, tag_length, least_frame}
 use Rattle.keyed_channel.specs.Hmac.{hmac_of}
 use Rattle.keyed_channel.specs.KeyRow.{KeyRow, key_with}
 use Rattle.keyed_channel.specs.declared.frame.OpenFault.{OpenFault}
 use Rattle.keyed_channel.specs.declared.frame.OpenFault.TheVariants as faults
+use Rattle.ritas_base.specs.Bytes.{version_byte}
+use Rattle.ritas_base.specs.Places.{first_failed}
 
 -- ---- sealing
-
--- the first byte of a version's frames
-abbrev pub version_byte : FrameVersion → ℕ
-version_byte One = 1
-version_byte Two = 2
 
 -- the frame without its tag: version, sender, receiver, sequence number, body
 abbrev pub frame_front : FrameVersion → ℕ → ℕ → ℕ → List ℕ → List ℕ
@@ -40,11 +36,11 @@ receiver_of bytes = slice_index bytes 2
 abbrev pub seq_of : List ℕ → ℕ
 seq_of bytes = from_be_bytes w64 (slice_range bytes 3 head_length)
 
-abbrev pub body_of : List ℕ → List ℕ
-body_of bytes = slice_range bytes head_length (length bytes - tag_length)
+abbrev pub frame_body : List ℕ → List ℕ
+frame_body bytes = slice_range bytes head_length (length bytes - tag_length)
 
-abbrev pub front_of : List ℕ → List ℕ
-front_of bytes = take (length bytes - tag_length) bytes
+abbrev pub tagged_front : List ℕ → List ℕ
+tagged_front bytes = take (length bytes - tag_length) bytes
 
 abbrev pub tag_of : List ℕ → List ℕ
 tag_of bytes = drop (length bytes - tag_length) bytes
@@ -57,8 +53,8 @@ pub record Opening : Type 0 where
   pub seq : ℕ
   pub body : List ℕ
 
-abbrev pub parts_of : List ℕ → Opening
-parts_of bytes = record { from = sender_of bytes; seq = seq_of bytes; body = body_of bytes }
+abbrev pub opening_parts : List ℕ → Opening
+opening_parts bytes = record { from = sender_of bytes; seq = seq_of bytes; body = frame_body bytes }
 
 -- a replica that isn't me
 abbrev pub is_peer : KeyRow → ℕ → Bool
@@ -76,12 +72,7 @@ plain_tests k bytes =
 
 -- whether the tag is that of the front, under the key shared with the sender
 abbrev pub is_tagged : KeyRow → List ℕ → Bool
-is_tagged k bytes = bytes_eq (hmac_of (key_with k (sender_of bytes)) (front_of bytes)) (tag_of bytes)
-
--- the fault of the first test that fails
-abbrev pub first_failed : List (Bool × OpenFault) → Option OpenFault
-first_failed [] = None
-first_failed (test ∷ tests) = if test.0 then first_failed tests else Some test.1
+is_tagged k bytes = bytes_eq (hmac_of (key_with k (sender_of bytes)) (tagged_front bytes)) (tag_of bytes)
 
 abbrev pub plain_fault : KeyRow → List ℕ → Option OpenFault
 plain_fault k bytes = first_failed (plain_tests k bytes)
@@ -95,4 +86,4 @@ opening_but (Some fault) parts = Err fault
 
 -- the first fault that holds, or the parts of the frame
 unfoldable pub opening : KeyRow → List ℕ → Result Opening OpenFault
-opening k bytes = opening_but (open_fault k bytes) (parts_of bytes)
+opening k bytes = opening_but (open_fault k bytes) (opening_parts bytes)

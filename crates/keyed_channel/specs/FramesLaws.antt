@@ -5,7 +5,9 @@ use Rattle.std.proofs.lemmas.Bool.{and_parts, ltb-true, leb-true, eqb-true, eqb-
 use Rattle.ritas_base.specs.Limits.{longest_frame}
 use Rattle.keyed_channel.specs.Lengths.{least_frame}
 use Rattle.keyed_channel.specs.KeyRow.{KeyRow}
-use Rattle.keyed_channel.specs.Frames.{Opening, version_byte, version_of, sender_of, receiver_of, parts_of, is_tagged, plain_tests, plain_fault, first_failed, open_fault, opening, opening_but}
+use Rattle.ritas_base.specs.Bytes.{version_byte}
+use Rattle.ritas_base.specs.Places.{first_failed}
+use Rattle.keyed_channel.specs.Frames.{Opening, version_of, sender_of, receiver_of, opening_parts, is_tagged, plain_tests, plain_fault, open_fault, opening, opening_but}
 use Rattle.keyed_channel.specs.declared.frame.OpenFault.{OpenFault}
 use Rattle.keyed_channel.specs.declared.frame.OpenFault.TheVariants.{BadTag}
 
@@ -46,9 +48,9 @@ plain_is k bytes e =
 pub record IsOpened (k : KeyRow) (bytes : List ℕ) (o : Opening) : Type 0 where
   pub plain : IsPlain k bytes
   pub tagged : is_tagged k bytes ≡ true
-  pub parts : parts_of bytes ≡ o
+  pub parts : opening_parts bytes ≡ o
 
-opened_but : (k : KeyRow) (bytes : List ℕ) (o : Opening) (fault : Option OpenFault) → open_fault k bytes ≡ fault → opening_but fault (parts_of bytes) ≡ Ok o → IsOpened k bytes o
+opened_but : (k : KeyRow) (bytes : List ℕ) (o : Opening) (fault : Option OpenFault) → open_fault k bytes ≡ fault → opening_but fault (opening_parts bytes) ≡ Ok o → IsOpened k bytes o
 opened_but k bytes o (Some fault) e opens = cc
 opened_but k bytes o None e opens =
     let tests = none_fails (plain_tests k bytes) ((is_tagged k bytes, BadTag) ∷ []) e in

@@ -1,7 +1,8 @@
 -- The keys of one replica.
-use Rattle.std.specs.Prelude.{◌≡◌, ℕ, Bool, ◌==◌, ◌&&◌, ◌-◌, ◌<◌, ◌≤◌, List, ◌++◌, length, drop, replicate, slice_index_or}
+use Rattle.std.specs.Prelude.{◌≡◌, ℕ, Bool, ◌==◌, ◌&&◌, ◌-◌, ◌<◌, ◌≤◌, List, length, drop, replicate, slice_index_or}
 use Rattle.std.specs.Str.{bytes_eq}
 use Rattle.ritas_base.specs.declared.mode.FrameVersion.{FrameVersion}
+use Rattle.ritas_base.specs.Bytes.{zero_key}
 
 -- the replica's number, the number of replicas, and the key that it shares with each replica: 31 places, and those
 -- from n on are zero
@@ -12,13 +13,6 @@ pub record KeyRow : Type 0 where
   pub row : List (List ℕ)
   -- the version of the frames that are sealed and opened with them
   pub version : FrameVersion
-
-abbrev pub zero_key : List ℕ
-zero_key = replicate 32 0
-
--- these keys, and zeros up to the 31 places
-abbrev pub filled_row : List (List ℕ) → List (List ℕ)
-filled_row keys = keys ++ replicate (31 - length keys) zero_key
 
 pub record IsKeyRow (k : KeyRow) : Type 0 where
   pub mine : k.me < k.n

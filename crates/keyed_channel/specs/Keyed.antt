@@ -9,7 +9,8 @@ use Rattle.ritas_base.specs.declared.mode.FrameVersion.TheVariants.{One}
 use Rattle.ritas_base.specs.Tags.{Tags}
 use Rattle.ritas_base.specs.declared.slot.Slot.{Slot}
 use Rattle.keyed_channel.specs.Hmac.{hmac_of}
-use Rattle.keyed_channel.specs.KeyRow.{KeyRow, filled_row, key_with}
+use Rattle.ritas_base.specs.Bytes.{filled_row}
+use Rattle.keyed_channel.specs.KeyRow.{KeyRow, key_with}
 
 -- ---- keys
 
@@ -50,19 +51,19 @@ entry_string session slot echoer verifier digest =
     0x45 ∷ to_be_bytes w64 session ++ slot_bytes slot ++ echoer ∷ verifier ∷ digest
 
 -- the entry, under the key that the echoer and the verifier share
-abbrev pub entry_of : List ℕ → ℕ → Slot → ℕ → ℕ → List ℕ → List ℕ
-entry_of key session slot echoer verifier digest = hmac_of key (entry_string session slot echoer verifier digest)
+abbrev pub keyed_entry : List ℕ → ℕ → Slot → ℕ → ℕ → List ℕ → List ℕ
+keyed_entry key session slot echoer verifier digest = hmac_of key (entry_string session slot echoer verifier digest)
 
 -- the one of the two that isn't me
-abbrev pub other_of : ℕ → ℕ → ℕ → ℕ
-other_of me echoer verifier = if echoer == me then verifier else echoer
+abbrev pub other_of_two : ℕ → ℕ → ℕ → ℕ
+other_of_two me echoer verifier = if echoer == me then verifier else echoer
 
 -- what a replica with these keys tags
 abbrev pub tags_of : KeyRow → Tags
 tags_of k = record {
   digest = sha256;
   entry = λ slot echoer verifier digest.
-      entry_of (key_with k (other_of k.me echoer verifier)) k.session slot echoer verifier digest;
+      keyed_entry (key_with k (other_of_two k.me echoer verifier)) k.session slot echoer verifier digest;
 }
 
 -- ---- coins

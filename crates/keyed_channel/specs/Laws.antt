@@ -4,8 +4,8 @@ use Rattle.ritas_base.specs.declared.slot.Slot.{Slot}
 use Rattle.ritas_base.specs.declared.mode.FrameVersion.{FrameVersion}
 use Rattle.keyed_channel.specs.Lengths.{frame_overhead, least_frame, longest_body}
 use Rattle.keyed_channel.specs.KeyRow.{KeyRow}
-use Rattle.keyed_channel.specs.Keyed.{pair_key, dealt, dealt_for, entry_of, tags_of}
-use Rattle.keyed_channel.specs.Frames.{sealed, receiver_of, parts_of, opening, Opening}
+use Rattle.keyed_channel.specs.Keyed.{pair_key, dealt, dealt_for, keyed_entry, tags_of}
+use Rattle.keyed_channel.specs.Frames.{sealed, receiver_of, opening_parts, opening, Opening}
 use Rattle.keyed_channel.specs.declared.frame.OpenFault.TheVariants.{Short, Long, Version}
 use Rattle.keyed_channel.specs.Notes.{sealed_note, ack_note, again_note, is_note, noted}
 use Rattle.keyed_channel.specs.declared.note.Note.TheVariants.{Ack, Again}
@@ -34,7 +34,7 @@ OpenedFromPeer = (k : KeyRow) (bytes : List ℕ) (o : Opening) → opening k byt
 
 -- whatever opens is as long as the shortest frame, and says its parts
 abbrev pub OpenedParts : Type 0
-OpenedParts = (k : KeyRow) (bytes : List ℕ) (o : Opening) → opening k bytes ≡ Ok o → (least_frame ≤ length bytes) × (o ≡ parts_of bytes)
+OpenedParts = (k : KeyRow) (bytes : List ℕ) (o : Opening) → opening k bytes ≡ Ok o → (least_frame ≤ length bytes) × (o ≡ opening_parts bytes)
 
 -- a frame has its overhead beside its body
 abbrev pub SealedLength : Type 0
@@ -45,20 +45,20 @@ abbrev pub SealedLong : Type 0
 SealedLong = (k by : KeyRow) (to seq : ℕ) (body : List ℕ) → longest_body < length body → opening k (sealed by to seq body) ≡ Err Long
 
 -- a replica may be asked for the entries that it has a part in
-abbrev pub MayAsk : ℕ → ℕ → ℕ → Type 0
-MayAsk me echoer verifier = (echoer ≡ me) ⊎ (verifier ≡ me)
+abbrev pub MayAskEntries : ℕ → ℕ → ℕ → Type 0
+MayAskEntries me echoer verifier = (echoer ≡ me) ⊎ (verifier ≡ me)
 
 -- an entry is tagged under the key of its echoer and its verifier
 abbrev pub EntryByPair : Type 0
 EntryByPair = (master : List ℕ) (session n me : ℕ) (s : Slot) (echoer verifier : ℕ) (d : List ℕ)
-    → echoer < n → verifier < n → MayAsk me echoer verifier
+    → echoer < n → verifier < n → MayAskEntries me echoer verifier
     → (tags_of (dealt master session n me)).entry s echoer verifier d
-    ≡ entry_of (pair_key master session echoer verifier) session s echoer verifier d
+    ≡ keyed_entry (pair_key master session echoer verifier) session s echoer verifier d
 
 -- two replicas tag an entry alike, wherever both may be asked for it
 abbrev pub EntriesAgree : Type 0
 EntriesAgree = (master : List ℕ) (session n i j : ℕ) (s : Slot) (echoer verifier : ℕ) (d : List ℕ)
-    → i < n → j < n → MayAsk i echoer verifier → MayAsk j echoer verifier
+    → i < n → j < n → MayAskEntries i echoer verifier → MayAskEntries j echoer verifier
     → (tags_of (dealt master session n i)).entry s echoer verifier d ≡ (tags_of (dealt master session n j)).entry s echoer verifier d
 
 -- ---- notes

@@ -27,11 +27,11 @@ again_note k to = sealed_note k to 2 0
 abbrev pub is_note : List ℕ → Bool
 is_note bytes = version_of bytes == 0x4e
 
-abbrev pub form_of : List ℕ → ℕ
-form_of bytes = slice_index bytes 3
+abbrev pub note_form : List ℕ → ℕ
+note_form bytes = slice_index bytes 3
 
-abbrev pub number_of : List ℕ → ℕ
-number_of bytes = from_be_bytes w64 (slice_range bytes 4 note_front_length)
+abbrev pub note_number : List ℕ → ℕ
+note_number bytes = from_be_bytes w64 (slice_range bytes 4 note_front_length)
 
 -- what a form and a number say
 abbrev pub note_of : ℕ → ℕ → ℕ → Option Note
@@ -43,4 +43,4 @@ is_plain_note k bytes = length bytes == note_length && (is_note bytes && (receiv
 
 -- what a note says, if it is one, for me and from another replica, with a right tag
 unfoldable pub noted : KeyRow → List ℕ → Option Note
-noted k bytes = if is_plain_note k bytes && is_tagged k bytes then note_of (sender_of bytes) (form_of bytes) (number_of bytes) else None
+noted k bytes = if is_plain_note k bytes && is_tagged k bytes then note_of (sender_of bytes) (note_form bytes) (note_number bytes) else None

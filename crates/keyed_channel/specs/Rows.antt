@@ -2,8 +2,9 @@
 use Rattle.std.specs.Prelude.{◌≡◌, ◌-◌, [], ◌∷◌, replicate, length, Some, None, Err, refl}
 use Rattle.ritas_base.specs.declared.slot.Slot.{Slot}
 use Rattle.keyed_channel.specs.Lengths.{least_frame}
-use Rattle.keyed_channel.specs.KeyRow.{KeyRow, filled_row}
-use Rattle.keyed_channel.specs.Keyed.{pair_string, coin_key_string, entry_string, coin_string, other_of}
+use Rattle.ritas_base.specs.Bytes.{filled_row}
+use Rattle.keyed_channel.specs.KeyRow.{KeyRow}
+use Rattle.keyed_channel.specs.Keyed.{pair_string, coin_key_string, entry_string, coin_string, other_of_two}
 use Rattle.ritas_base.specs.declared.mode.FrameVersion.TheVariants.{One, Two}
 use Rattle.keyed_channel.specs.Frames.{frame_front, opening}
 use Rattle.keyed_channel.specs.Notes.{note_front, note_of}
@@ -39,7 +40,7 @@ entry_row = refl
 entry_length_row : length (entry_string 7 slot_row 3 1 (replicate 32 0xaa)) ≡ 52
 entry_length_row = refl
 
-other_rows : (other_of 3 3 1 ≡ 1) × (other_of 1 3 1 ≡ 3) × (other_of 3 3 3 ≡ 3)
+other_rows : (other_of_two 3 3 1 ≡ 1) × (other_of_two 1 3 1 ≡ 3) × (other_of_two 3 3 3 ≡ 3)
 other_rows = (refl, refl, refl)
 
 -- replica 1 of 4

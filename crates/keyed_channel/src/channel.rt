@@ -4,7 +4,7 @@ ghost use Rattle.sha2.proofs.Facts256.{length-sha256};
 ghost use Rattle.std.specs.Prelude.{◌≡◌, ℕ, ◌<◌, true, false, List, Option, None, IfOk, IsErr, MatchOption, MatchResult, Ok, Err};
 ghost use Rattle.keyed_channel.specs.Hmac.{hmac_of};
 ghost use Rattle.keyed_channel.specs.KeyRow.{key_with, shares_key};
-ghost use Rattle.keyed_channel.specs.Keyed.{entry_of, tags_of};
+ghost use Rattle.keyed_channel.specs.Keyed.{keyed_entry, tags_of};
 ghost use Rattle.keyed_channel.specs.Frames.{sealed, opening};
 ghost use Rattle.keyed_channel.specs.Notes.{sealed_note, ack_note, again_note, noted};
 

@@ -2,7 +2,8 @@
 
 ghost use Rattle.std.specs.Prelude.{◌≡◌, ◌<◌, ◌≤◌, ◌++◌, length, IfOk, OnOk, MatchResult, Ok, Err, Some, None};
 ghost use Rattle.keyed_channel.specs.Lengths.{frame_overhead, least_frame};
-ghost use Rattle.keyed_channel.specs.Frames.{version_byte, sealed, frame_front, opening, plain_fault, parts_of, sender_of};
+ghost use Rattle.ritas_base.specs.Bytes.{version_byte};
+ghost use Rattle.keyed_channel.specs.Frames.{sealed, frame_front, opening, plain_fault, opening_parts, sender_of};
 
 use crate::keys::Keys;
 use crate::lengths::{FRAME_OVERHEAD, LEAST_FRAME, TAG_LEN};
@@ -116,7 +117,7 @@ pub(crate) fn check(keys: &Keys, bytes: &[u8]) -> Result<(), OpenFault>
 // What a frame says that passed all tests.
 pub(crate) fn as_opened<'a>(bytes: &'a [u8]) -> Opened<'a>
     requires { frame_overhead ≤ length bytes.now }
-    ensures { record { from = result.from; seq = result.seq; body = result.body.now } ≡ parts_of bytes.now }
+    ensures { record { from = result.from; seq = result.seq; body = result.body.now } ≡ opening_parts bytes.now }
 {
     let FrameParts { from, seq, body } = parts(bytes);
     Opened { from, seq, body }

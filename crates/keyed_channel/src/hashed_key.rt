@@ -2,7 +2,7 @@
 
 ghost use Rattle.std.specs.Prelude.{◌≡◌, ℕ, List, ◌++◌};
 ghost use Rattle.keyed_channel.specs.Hmac.{hmac_of};
-ghost use Rattle.keyed_channel.specs.Keyed.{entry_of, entry_string};
+ghost use Rattle.keyed_channel.specs.Keyed.{keyed_entry, entry_string};
 ghost use Rattle.sha2.specs.Hashers.{Holds256};
 
 use crate::tags::{finished, inner, outer};
@@ -80,7 +80,7 @@ impl HashedKey {
         verifier: u8,
         d: &[u8; 32],
     ) -> [u8; 32]
-        ensures { result ≡ entry_of self.now session slot.now echoer verifier d.now }
+        ensures { result ≡ keyed_entry self.now session slot.now echoer verifier d.now }
     {
         let inner = self.inner.clone().unwrap();
         finished(

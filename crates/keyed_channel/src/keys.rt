@@ -3,7 +3,8 @@
 ghost use Rattle.std.specs.Prelude.{◌≡◌, ◌<◌, ◌≤◌, ℕ, List, length, take};
 ghost use Rattle.sha2.proofs.Facts256.{length-sha256};
 ghost use Rattle.ritas_base.specs.declared.mode.FrameVersion.TheVariants.{One};
-ghost use Rattle.keyed_channel.specs.KeyRow.{IsKeyRow, filled_row, key_with};
+ghost use Rattle.ritas_base.specs.Bytes.{filled_row};
+ghost use Rattle.keyed_channel.specs.KeyRow.{IsKeyRow, key_with};
 ghost use Rattle.keyed_channel.specs.Keyed.{pair_key, dealt_keys, dealt, tags_of};
 
 use crate::hashed_key::HashedKey;

@@ -3,7 +3,7 @@
 ghost use Rattle.std.specs.Prelude.{◌≡◌, ◌<◌, ◌≤◌, ◌++◌, true, length};
 ghost use Rattle.keyed_channel.specs.Lengths.{note_length};
 ghost use Rattle.keyed_channel.specs.Frames.{sender_of};
-ghost use Rattle.keyed_channel.specs.Notes.{note_front, sealed_note, ack_note, again_note, form_of, number_of, note_of, is_note, is_plain_note, noted};
+ghost use Rattle.keyed_channel.specs.Notes.{note_front, sealed_note, ack_note, again_note, note_form, note_number, note_of, is_note, is_plain_note, noted};
 
 use crate::keys::Keys;
 use crate::lengths::{NOTE_FRONT_LEN, NOTE_LEN, TAG_LEN};
@@ -69,7 +69,7 @@ pub(crate) fn is_plain_note(keys: &Keys, bytes: &[u8]) -> bool
 // What the parts of a note say.
 pub(crate) fn note_of(bytes: &[u8]) -> Option<Note>
     requires { length bytes.now ≡ note_length }
-    ensures { result ≡ note_of (sender_of bytes.now) (form_of bytes.now) (number_of bytes.now) }
+    ensures { result ≡ note_of (sender_of bytes.now) (note_form bytes.now) (note_number bytes.now) }
 {
     let mut number = [0; 8];
     number.copy_from_slice(&bytes[4..NOTE_FRONT_LEN]);

@@ -2,7 +2,7 @@
 
 ghost use Rattle.std.specs.Prelude.{◌≡◌, ◌<◌, ◌≤◌, length, MatchOption};
 ghost use Rattle.keyed_channel.specs.Lengths.{head_length, frame_overhead};
-ghost use Rattle.keyed_channel.specs.Frames.{sender_of, seq_of, body_of};
+ghost use Rattle.keyed_channel.specs.Frames.{sender_of, seq_of, frame_body};
 
 use crate::lengths::{FRAME_OVERHEAD, HEAD_LEN, TAG_LEN};
 
@@ -42,7 +42,7 @@ fn header(bytes: &[u8]) -> FrameHeader
 // The parts of a frame that isn't too short.
 pub(crate) fn parts<'a>(bytes: &'a [u8]) -> FrameParts<'a>
     requires { frame_overhead ≤ length bytes.now }
-    ensures { (result.from ≡ sender_of bytes.now) × (result.seq ≡ seq_of bytes.now) × (result.body.now ≡ body_of bytes.now) }
+    ensures { (result.from ≡ sender_of bytes.now) × (result.seq ≡ seq_of bytes.now) × (result.body.now ≡ frame_body bytes.now) }
 {
     let FrameHeader { from, seq } = header(bytes);
     FrameParts {
@@ -74,7 +74,7 @@ pub fn frame_parts<'a>(bytes: &'a [u8]) -> Option<FrameParts<'a>>
     ensures { MatchOption result
         (length bytes.now < frame_overhead)
         (λ parts. (frame_overhead ≤ length bytes.now) × (parts.from ≡ sender_of bytes.now) × (parts.seq ≡ seq_of bytes.now)
-        × (parts.body.now ≡ body_of bytes.now)) }
+        × (parts.body.now ≡ frame_body bytes.now)) }
 {
     if bytes.len() < FRAME_OVERHEAD {
         return None;

@@ -5,7 +5,7 @@ use Rattle.std.specs.Prelude.{◌≡◌, ℕ, ◌+◌, ◌<◌, ◌≤◌, Bool,
 use Rattle.ritas_base.specs.declared.slot.Slot.{Slot}
 use Rattle.ritas_base.specs.declared.item.Say.{Say}
 use Rattle.ritas_base.specs.Numbers.{Numbers}
-use Rattle.layer_api.specs.Runs.{Step, calls_of, Has, IsEnough}
+use Rattle.layer_api.specs.Runs.{ReplicaStep, calls_of, Has, IsEnough}
 use Rattle.layer_api.specs.Words.{Word, Ask, Hear, asked, is_heard, is_said, bit_byte, AllMet, all_said, AreFresh}
 use Rattle.layer_api.specs.Fed.{Play, IsFedRun}
 
@@ -111,12 +111,12 @@ binary_play r p a attempt coins = record {
 -- the law of a box, of these rules: over every run all decisions of correct replicas are equal, and a bit that one of them
 -- decides was proposed by a correct one
 pub record OneBit (r : BinaryRules) : Type 0 where
-  pub agree : (p : Numbers) (a attempt : ℕ) (is_correct : ℕ → Bool) (coins : ℕ → Slot → Bool) (steps : List (Step Word))
+  pub agree : (p : Numbers) (a attempt : ℕ) (is_correct : ℕ → Bool) (coins : ℕ → Slot → Bool) (steps : List (ReplicaStep Word))
       → IsEnough p is_correct → IsFedRun (binary_play r p a attempt coins) is_correct steps
       → (i j : ℕ) (b d : Bool) → is_correct i ≡ true → is_correct j ≡ true
       → r.decision (bench_at p a attempt coins i) (calls_of i steps) ≡ Some b
       → r.decision (bench_at p a attempt coins j) (calls_of j steps) ≡ Some d → b ≡ d
-  pub valid : (p : Numbers) (a attempt : ℕ) (is_correct : ℕ → Bool) (coins : ℕ → Slot → Bool) (steps : List (Step Word))
+  pub valid : (p : Numbers) (a attempt : ℕ) (is_correct : ℕ → Bool) (coins : ℕ → Slot → Bool) (steps : List (ReplicaStep Word))
       → IsEnough p is_correct → IsFedRun (binary_play r p a attempt coins) is_correct steps
       → (i : ℕ) (b : Bool) → is_correct i ≡ true → r.decision (bench_at p a attempt coins i) (calls_of i steps) ≡ Some b
       → (k : ℕ) × (is_correct k ≡ true) × Has (calls_of k steps) (Ask (bit_byte b ∷ []))

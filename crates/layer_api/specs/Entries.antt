@@ -9,7 +9,7 @@ use Rattle.ritas_base.specs.declared.item.Item.{Item}
 use Rattle.ritas_base.specs.Messages.{Place, kind_eq}
 use Rattle.ritas_base.specs.History.{Call, first, is_value, replicas}
 use Rattle.ritas_base.specs.Tags.{Tags}
-use Rattle.frame_codec.specs.Values.{row_of}
+use Rattle.frame_codec.specs.Values.{column_row}
 
 -- the entry of a message for an echoer and a verifier
 abbrev pub entry_of : Place → Tags → ℕ → ℕ → List ℕ → List ℕ
@@ -37,7 +37,7 @@ entry_in k value = take 32 (drop (32 * k) value)
 
 -- whether a column has, for an echoer, the valid entry of a message: the one of the echoer and of this replica
 abbrev pub is_valid : Place → Tags → List ℕ → List ℕ → ℕ → Bool
-is_valid at tags m column echoer = is_value (entry_of at tags echoer at.me m) (row_of column echoer)
+is_valid at tags m column echoer = is_value (entry_of at tags echoer at.me m) (column_row column echoer)
 
 abbrev pub is_valid_for : Place → Tags → Option (List ℕ) → List ℕ → ℕ → Bool
 is_valid_for at tags None column echoer = false

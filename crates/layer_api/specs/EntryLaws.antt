@@ -9,7 +9,7 @@ use Rattle.ritas_base.specs.History.{Call, Take}
 use Rattle.ritas_base.specs.Messages.{Place}
 use Rattle.ritas_base.specs.Tags.{Tags}
 use Rattle.layer_api.specs.Broadcast.{BroadcastRules}
-use Rattle.frame_codec.specs.Values.{row_of}
+use Rattle.frame_codec.specs.Values.{column_row}
 use Rattle.layer_api.specs.Entries.{given, entry_in, Print, is_hashed, prints_at_kind}
 use Rattle.layer_api.specs.OneValue.{AreGoodCalls, IsOfSlot}
 use Rattle.layer_api.specs.Runs.{Has}
@@ -25,8 +25,8 @@ pub record IsHashedBy (n : ℕ) (h : List Call) (echoer : ℕ) (entry : List ℕ
   pub same : entry ≡ entry_in verifier item.value
 
 -- entries have 32 bytes
-abbrev pub HasEntries : Tags → Type 0
-HasEntries tags = (s : Slot) (echoer verifier : ℕ) (digest : List ℕ) → length (tags.entry s echoer verifier digest) ≡ 32
+abbrev pub HasWholeEntries : Tags → Type 0
+HasWholeEntries tags = (s : Slot) (echoer verifier : ℕ) (digest : List ℕ) → length (tags.entry s echoer verifier digest) ≡ 32
 
 -- a print is of an item that was taken, of a kind of which the broadcast hashes what it takes
 pub record IsMetOf (r : BroadcastRules) (at : Place) (tags : Tags) (h : List Call) (a : Print) : Type 0 where
@@ -37,11 +37,11 @@ pub record IsMetOf (r : BroadcastRules) (at : Place) (tags : Tags) (h : List Cal
 
 pub record EntryLaws (r : BroadcastRules) : Type 0 where
   -- HASHES that are due carry entries that were given
-  pub hashes : (at : Place) (tags : Tags) (h : List Call) (m : Msg) → HasEntries tags → Has (r.due at tags h) m → m.kind ≡ Hashes
+  pub hashes : (at : Place) (tags : Tags) (h : List Call) (m : Msg) → HasWholeEntries tags → Has (r.due at tags h) m → m.kind ≡ Hashes
       → (k : ℕ) → k < at.numbers.n → Has (given at tags h) (entry_in k m.value)
   -- a column that is due has, for each echoer, an entry of HASHES of it that were taken
   pub columns : (at : Place) (tags : Tags) (mode : Mode) (h : List Call) (m : Msg) → IsOfSlot r at.numbers mode at.slot → AreGoodCalls at.numbers mode at.slot h
-      → Has (r.due at tags h) m → m.kind ≡ Column → (echoer : ℕ) (entry : List ℕ) → row_of m.value echoer ≡ Some entry
+      → Has (r.due at tags h) m → m.kind ≡ Column → (echoer : ℕ) (entry : List ℕ) → column_row m.value echoer ≡ Some entry
       → IsHashedBy at.numbers.n h echoer entry
   -- what was hashed is of what was taken, and stays
   pub met_taken : (at : Place) (tags : Tags) (h : List Call) (a : Print) → Has (r.met at tags h) a → IsMetOf r at tags h a

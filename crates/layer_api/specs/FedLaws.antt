@@ -8,7 +8,7 @@ use Rattle.ritas_base.specs.declared.slot.Slot.{Slot}
 use Rattle.ritas_base.specs.declared.item.Say.{Say}
 use Rattle.ritas_base.specs.Shortest.{option_or_some, option_or_older, option_or_none, at_shortest}
 use Rattle.ritas_base.specs.SlotOrder.{is_slot, same_slot}
-use Rattle.layer_api.specs.Runs.{Step, calls_of, Has}
+use Rattle.layer_api.specs.Runs.{ReplicaStep, calls_of, Has}
 use Rattle.layer_api.specs.Words.{Word, Ask, Hear, asked, AllMet, HasSay, value_at}
 use Rattle.layer_api.specs.Part.{proposed, newly, newly_asked, passed, part_words}
 use Rattle.layer_api.specs.Fed.{Play, Met, IsGenuine, Brings, IsFedRun}
@@ -102,19 +102,19 @@ kept_over may P keeps (d ∷ ds) u met p = keeps d (ds ++ u) met (kept_over may 
 -- ---- a run
 
 module _ (g : Play) (is_correct : ℕ → Bool) where
-  value_step : (i : ℕ) (x : Step Word) (xs : List (Step Word)) (s : Slot) (v : List ℕ) → value_at (calls_of i (x ∷ xs)) s ≡ Some v
+  value_step : (i : ℕ) (x : ReplicaStep Word) (xs : List (ReplicaStep Word)) (s : Slot) (v : List ℕ) → value_at (calls_of i (x ∷ xs)) s ≡ Some v
       → (value_at (calls_of i xs) s ≡ Some v) ⊎ (x.call ≡ Hear s v)
   value_step i x xs s v q =
       cond_both (x.who == i) (x.call ∷ calls_of i xs) (calls_of i xs)
       (λ (w : List Word). value_at w s ≡ Some v → (value_at (calls_of i xs) s ≡ Some v) ⊎ (x.call ≡ Hear s v))
       (λ e r. value_now x.call (calls_of i xs) s v r) (λ e r. inl r) q
 
-  brought : (xs : List (Step Word)) (c : Word) (s : Slot) (v : List ℕ) → c ≡ Hear s v → Brings g is_correct xs c
+  brought : (xs : List (ReplicaStep Word)) (c : Word) (s : Slot) (v : List ℕ) → c ≡ Hear s v → Brings g is_correct xs c
       → IsGenuine g is_correct xs (record { slot = s; value = v })
   brought xs c s v e h = subst (λ (y : Word). Brings g is_correct xs y) e h
 
   -- one value is heard at a slot
-  pub one_value : (xs : List (Step Word)) → IsFedRun g is_correct xs → (i j : ℕ) (s : Slot) (v u : List ℕ) → is_correct i ≡ true → is_correct j ≡ true
+  pub one_value : (xs : List (ReplicaStep Word)) → IsFedRun g is_correct xs → (i j : ℕ) (s : Slot) (v u : List ℕ) → is_correct i ≡ true → is_correct j ≡ true
       → value_at (calls_of i xs) s ≡ Some v → value_at (calls_of j xs) s ≡ Some u → v ≡ u
   one_value [] fed i j s v u ci cj q r = absurd cc
   one_value (x ∷ xs) fed i j s v u ci cj q r =
@@ -130,13 +130,13 @@ module _ (g : Play) (is_correct : ℕ → Bool) where
       ]
 
   module _ (more : (k : ℕ) (c : Word) (w : List Word) (y : Say) → HasSay (g.said k w) y → HasSay (g.said k (c ∷ w)) y) where
-    says_stay : (k : ℕ) (x : Step Word) (xs : List (Step Word)) (y : Say) → HasSay (g.said k (calls_of k xs)) y → HasSay (g.said k (calls_of k (x ∷ xs))) y
+    says_stay : (k : ℕ) (x : ReplicaStep Word) (xs : List (ReplicaStep Word)) (y : Say) → HasSay (g.said k (calls_of k xs)) y → HasSay (g.said k (calls_of k (x ∷ xs))) y
     says_stay k x xs y h =
         cond_both (x.who == k) (x.call ∷ calls_of k xs) (calls_of k xs) (λ (w : List Word). HasSay (g.said k w) y)
         (λ e. more k x.call (calls_of k xs) y h) (λ e. h)
 
     -- a value heard from a correct origin was said there
-    pub heard_said : (xs : List (Step Word)) → IsFedRun g is_correct xs → (i : ℕ) (s : Slot) (v : List ℕ) → value_at (calls_of i xs) s ≡ Some v
+    pub heard_said : (xs : List (ReplicaStep Word)) → IsFedRun g is_correct xs → (i : ℕ) (s : Slot) (v : List ℕ) → value_at (calls_of i xs) s ≡ Some v
         → is_correct s.origin ≡ true → HasSay (g.said s.origin (calls_of s.origin xs)) (record { slot = s; value = v })
     heard_said [] fed i s v q co = absurd cc
     heard_said (x ∷ xs) fed i s v q co =
@@ -147,7 +147,7 @@ module _ (g : Play) (is_correct : ℕ → Bool) where
         ])
 
   -- each replica's words met their conditions
-  pub met : (xs : List (Step Word)) → IsFedRun g is_correct xs → (i : ℕ) → Met g i (calls_of i xs)
+  pub met : (xs : List (ReplicaStep Word)) → IsFedRun g is_correct xs → (i : ℕ) → Met g i (calls_of i xs)
   met [] fed i = tt
   met (x ∷ xs) fed i =
       cond_both (x.who == i) (x.call ∷ calls_of i xs) (calls_of i xs) (λ (w : List Word). Met g i w)
@@ -160,14 +160,14 @@ module _ (g : Play) (is_correct : ℕ → Bool) where
 module _ (g h : Play) (is_correct : ℕ → Bool)
     (may : (i : ℕ) (c : Word) (w : List Word) → Met g i (c ∷ w) → h.may i w c)
     (says : (i : ℕ) (w : List Word) (y : Say) → Met g i w → HasSay (g.said i w) y → HasSay (h.said i w) y) where
-  same_brings : (xs : List (Step Word)) → IsFedRun g is_correct xs → (c : Word) → Brings g is_correct xs c → Brings h is_correct xs c
+  same_brings : (xs : List (ReplicaStep Word)) → IsFedRun g is_correct xs → (c : Word) → Brings g is_correct xs c → Brings h is_correct xs c
   same_brings xs fed (Ask v) b = tt
   same_brings xs fed (Hear s v) b = record {
     same = b.same;
     said = λ co. says s.origin (calls_of s.origin xs) (record { slot = s; value = v }) (met g is_correct xs fed s.origin) (b.said co);
   }
 
-  pub same_fed : (xs : List (Step Word)) → IsFedRun g is_correct xs → IsFedRun h is_correct xs
+  pub same_fed : (xs : List (ReplicaStep Word)) → IsFedRun g is_correct xs → IsFedRun h is_correct xs
   same_fed [] fed = tt
   same_fed (x ∷ xs) fed = (
     fed.0,

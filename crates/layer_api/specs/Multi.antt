@@ -7,7 +7,7 @@ use Rattle.ritas_base.specs.Numbers.{Numbers, IsSession}
 use Rattle.ritas_base.specs.Slots.{within, has_count}
 use Rattle.frame_codec.specs.Format.{Is}
 use Rattle.frame_codec.specs.Grammar.{class3, value}
-use Rattle.layer_api.specs.Runs.{Step, calls_of, Has, IsEnough}
+use Rattle.layer_api.specs.Runs.{ReplicaStep, calls_of, Has, IsEnough}
 use Rattle.layer_api.specs.Words.{Word, Ask, Hear, asked, is_heard, AllMet, all_said, AreFresh}
 use Rattle.layer_api.specs.Fed.{Play, IsFedRun, ProposeOne}
 use Rattle.layer_api.specs.Service.{Instance, OfValue, Decision, value_decision, GoesByBit}
@@ -100,18 +100,18 @@ multi_play r at coins = record {
 -- what they decided in each instance inside; a value that one of them decides was proposed by a correct one; and where all that
 -- correct replicas proposed is equal, none of them decides that no value is
 pub record OneDecision (r : MultiRules) : Type 0 where
-  pub agree : (at : Scope) (is_correct : ℕ → Bool) (coins : ℕ → Slot → Bool) (steps : List (Step Word))
+  pub agree : (at : Scope) (is_correct : ℕ → Bool) (coins : ℕ → Slot → Bool) (steps : List (ReplicaStep Word))
       → IsEnough at.numbers is_correct → IsFedRun (multi_play r at coins) is_correct steps
       → (i j : ℕ) (d e : Option (List ℕ)) → is_correct i ≡ true → is_correct j ≡ true
       → r.decision (desk_at at coins i) (calls_of i steps) ≡ Some d → r.decision (desk_at at coins j) (calls_of j steps) ≡ Some e → d ≡ e
-  pub valid : (at : Scope) (is_correct : ℕ → Bool) (coins : ℕ → Slot → Bool) (steps : List (Step Word))
+  pub valid : (at : Scope) (is_correct : ℕ → Bool) (coins : ℕ → Slot → Bool) (steps : List (ReplicaStep Word))
       → IsEnough at.numbers is_correct → IsFedRun (multi_play r at coins) is_correct steps
       → (i : ℕ) (v : List ℕ) → is_correct i ≡ true → r.decision (desk_at at coins i) (calls_of i steps) ≡ Some (Some v)
       → (k : ℕ) × (is_correct k ≡ true) × Has (calls_of k steps) (Ask v)
-  pub decides : (at : Scope) (is_correct : ℕ → Bool) (coins : ℕ → Slot → Bool) (steps : List (Step Word))
+  pub decides : (at : Scope) (is_correct : ℕ → Bool) (coins : ℕ → Slot → Bool) (steps : List (ReplicaStep Word))
       → IsEnough at.numbers is_correct → IsFedRun (multi_play r at coins) is_correct steps → ProposeOne is_correct steps
       → (i : ℕ) → is_correct i ≡ true → r.decision (desk_at at coins i) (calls_of i steps) ≡ Some None → ⊥
-  pub insides : (at : Scope) (is_correct : ℕ → Bool) (coins : ℕ → Slot → Bool) (steps : List (Step Word))
+  pub insides : (at : Scope) (is_correct : ℕ → Bool) (coins : ℕ → Slot → Bool) (steps : List (ReplicaStep Word))
       → IsEnough at.numbers is_correct → IsFedRun (multi_play r at coins) is_correct steps
       → (i j : ℕ) (x : Instance) (d e : Decision) → is_correct i ≡ true → is_correct j ≡ true
       → r.inside (desk_at at coins i) (calls_of i steps) x ≡ Some d → r.inside (desk_at at coins j) (calls_of j steps) x ≡ Some e → d ≡ e

@@ -7,14 +7,14 @@ use Rattle.ritas_base.specs.declared.mode.Mode.{Mode}
 use Rattle.ritas_base.specs.Messages.{Place, reaches}
 use Rattle.ritas_base.specs.History.{Call}
 use Rattle.ritas_base.specs.Tags.{Tags}
-use Rattle.frame_codec.specs.Values.{row_of}
+use Rattle.frame_codec.specs.Values.{column_row}
 use Rattle.layer_api.specs.Broadcast.{BroadcastRules}
 use Rattle.layer_api.specs.OneValue.{AreGoodCalls, IsOfSlot}
 use Rattle.layer_api.specs.Runs.{Has}
 
 -- a column has the entries of another, and perhaps more
 abbrev pub HasEntriesOf : List ℕ → List ℕ → Type 0
-HasEntriesOf more column = (echoer : ℕ) (entry : List ℕ) → row_of column echoer ≡ Some entry → row_of more echoer ≡ Some entry
+HasEntriesOf more column = (echoer : ℕ) (entry : List ℕ) → column_row column echoer ≡ Some entry → column_row more echoer ≡ Some entry
 
 pub record OneDue (r : BroadcastRules) : Type 0 where
   -- two messages of one kind to one receiver, which aren't columns, have one value

@@ -17,8 +17,8 @@ use Rattle.ritas_base.specs.History.{Call, Start, Take, started, first}
 use Rattle.ritas_base.specs.Tags.{Tags, HasDigests}
 use Rattle.layer_api.specs.Broadcast.{BroadcastRules, MayStart, MayTake}
 use Rattle.layer_api.specs.Entries.{given, is_claim, Print, IsApart}
-use Rattle.frame_codec.specs.Values.{row_of}
-use Rattle.layer_api.specs.Runs.{Step, calls_of, Has, IsEnough}
+use Rattle.frame_codec.specs.Values.{column_row}
+use Rattle.layer_api.specs.Runs.{ReplicaStep, calls_of, Has, IsEnough}
 
 -- among these messages is the one that the item came from, and it was for replica j
 pub record IsDueTo (due : List Msg) (j : ℕ) (x : Item) : Type 0 where
@@ -38,37 +38,37 @@ pub record Group : Type 0 where
 abbrev pub place_of : Group → ℕ → Place
 place_of g i = record { numbers = g.numbers; me = i; slot = g.slot }
 
-abbrev pub due_at : Group → ℕ → List (Step Call) → List Msg
+abbrev pub due_at : Group → ℕ → List (ReplicaStep Call) → List Msg
 due_at g i steps = g.rules.due (place_of g i) (g.tags i) (calls_of i steps)
 
-abbrev pub out_at : Group → ℕ → List (Step Call) → Option (List ℕ)
+abbrev pub out_at : Group → ℕ → List (ReplicaStep Call) → Option (List ℕ)
 out_at g i steps = g.rules.out (place_of g i) (g.tags i) (calls_of i steps)
 
 -- the entries that a replica gave
-abbrev pub given_at : Group → ℕ → List (Step Call) → List (List ℕ)
+abbrev pub given_at : Group → ℕ → List (ReplicaStep Call) → List (List ℕ)
 given_at g i steps = given (place_of g i) (g.tags i) (calls_of i steps)
 
 -- what a replica met
-abbrev pub met_at : Group → ℕ → List (Step Call) → List Print
+abbrev pub met_at : Group → ℕ → List (ReplicaStep Call) → List Print
 met_at g i steps = g.rules.met (place_of g i) (g.tags i) (calls_of i steps)
 
 -- a call of replica i after these steps meets its conditions; what a correct replica sent was due there before, and
 -- each valid entry of a correct echoer is one that it gave before
-abbrev pub IsFed : Group → List (Step Call) → ℕ → Call → Type 0
+abbrev pub IsFed : Group → List (ReplicaStep Call) → ℕ → Call → Type 0
 IsFed g steps i (Start v) = MayStart (place_of g i) (calls_of i steps)
 IsFed g steps i (Take x) =
     MayTake g.rules (place_of g i) (g.tags i) (calls_of i steps) x
     × (g.is_correct x.from ≡ true → IsDueTo (due_at g x.from steps) i x)
     × ((echoer : ℕ) (entry : List ℕ) → g.is_correct echoer ≡ true
-    → is_claim (place_of g i) (g.tags i) (calls_of i steps) x echoer ≡ true → row_of x.value echoer ≡ Some entry
+    → is_claim (place_of g i) (g.tags i) (calls_of i steps) x echoer ≡ true → column_row x.value echoer ≡ Some entry
     → Has (given_at g echoer steps) entry)
 
-abbrev pub IsRun : Group → List (Step Call) → Type 0
+abbrev pub IsRun : Group → List (ReplicaStep Call) → Type 0
 IsRun g [] = ⊤
 IsRun g (x ∷ xs) = (g.is_correct x.who ≡ true) × IsFed g xs x.who x.call × IsRun g xs
 
 -- nothing that correct replicas hashed collides
-abbrev pub IsClear : Group → List (Step Call) → Type 0
+abbrev pub IsClear : Group → List (ReplicaStep Call) → Type 0
 IsClear g steps = (i j : ℕ) (a c : Print) → g.is_correct i ≡ true → g.is_correct j ≡ true
     → Has (met_at g i steps) a → Has (met_at g j steps) c → IsApart a c
 
@@ -79,11 +79,11 @@ SameDigests tags = (i j : ℕ) (m : List ℕ) → (tags i).digest m ≡ (tags j)
 -- the law of one value, of the broadcast with these rules: over every run all outputs of correct replicas are equal,
 -- and where the origin is correct they are what it started
 pub record OneValue (r : BroadcastRules) : Type 0 where
-  pub agree : (p : Numbers) (s : Slot) (is_correct : ℕ → Bool) (tags : ℕ → Tags) (steps : List (Step Call)) →
+  pub agree : (p : Numbers) (s : Slot) (is_correct : ℕ → Bool) (tags : ℕ → Tags) (steps : List (ReplicaStep Call)) →
       let g : Group = record { rules = r; numbers = p; slot = s; is_correct = is_correct; tags = tags } in
       IsEnough p is_correct → SameDigests tags → IsRun g steps → IsClear g steps
       → (i j : ℕ) (v u : List ℕ) → is_correct i ≡ true → is_correct j ≡ true → out_at g i steps ≡ Some v → out_at g j steps ≡ Some u → v ≡ u
-  pub genuine : (p : Numbers) (s : Slot) (is_correct : ℕ → Bool) (tags : ℕ → Tags) (steps : List (Step Call)) →
+  pub genuine : (p : Numbers) (s : Slot) (is_correct : ℕ → Bool) (tags : ℕ → Tags) (steps : List (ReplicaStep Call)) →
       let g : Group = record { rules = r; numbers = p; slot = s; is_correct = is_correct; tags = tags } in
       IsEnough p is_correct → SameDigests tags → IsRun g steps → IsClear g steps
       → (i : ℕ) (v : List ℕ) → is_correct i ≡ true → is_correct s.origin ≡ true → out_at g i steps ≡ Some v
@@ -96,10 +96,10 @@ AreTaken r at tags (Start v ∷ h) = MayStart at h × AreTaken r at tags h
 AreTaken r at tags (Take x ∷ h) = MayTake r at tags h x × AreTaken r at tags h
 
 -- no item of these repeats one that was taken before it
-abbrev pub AreFirst : BroadcastRules → Place → Tags → List Call → Type 0
-AreFirst r at tags [] = ⊤
-AreFirst r at tags (Start v ∷ h) = AreFirst r at tags h
-AreFirst r at tags (Take x ∷ h) = (r.repeats at tags h x ≡ false) × AreFirst r at tags h
+abbrev pub RepeatNone : BroadcastRules → Place → Tags → List Call → Type 0
+RepeatNone r at tags [] = ⊤
+RepeatNone r at tags (Start v ∷ h) = RepeatNone r at tags h
+RepeatNone r at tags (Take x ∷ h) = (r.repeats at tags h x ≡ false) × RepeatNone r at tags h
 
 -- a message is for all, or for one of n replicas
 abbrev pub IsReceiver : ℕ → To → Type 0
@@ -137,7 +137,7 @@ pub record ValueLaws (r : BroadcastRules) : Type 0 where
   pub due_kind : (at : Place) (tags : Tags) (h : List Call) (m : Msg) → Has (r.due at tags h) m → is_of_form r.form m.kind ≡ true
   pub due_to : (at : Place) (tags : Tags) (h : List Call) (m : Msg) → at.slot.origin < at.numbers.n → Has (r.due at tags h) m → IsReceiver at.numbers.n m.to
   -- and it is due once, where no item was taken twice
-  pub due_once : (at : Place) (tags : Tags) (h : List Call) → AreTaken r at tags h → AreFirst r at tags h → IsOnce (r.due at tags h)
+  pub due_once : (at : Place) (tags : Tags) (h : List Call) → AreTaken r at tags h → RepeatNone r at tags h → IsOnce (r.due at tags h)
   -- where the values started and the items taken are in the grammar, each message and what is delivered are
   pub due_good : (at : Place) (tags : Tags) (mode : Mode) (h : List Call) (m : Msg) → HasDigests tags → IsOfSlot r at.numbers mode at.slot → AreGoodCalls at.numbers mode at.slot h
       → Has (r.due at tags h) m → IsInGrammar at.numbers mode (item_of at.me m)

@@ -6,7 +6,7 @@ use Rattle.ritas_base.specs.declared.slot.Slot.{Slot}
 use Rattle.ritas_base.specs.declared.item.Say.{Say}
 use Rattle.ritas_base.specs.Shortest.{not_there}
 use Rattle.ritas_base.specs.SlotOrder.{is_slot}
-use Rattle.layer_api.specs.Runs.{Step, calls_of, steps_by, Has, Inner, inner, inner_run}
+use Rattle.layer_api.specs.Runs.{ReplicaStep, calls_of, steps_by, Has, Inner, inner, inner_run}
 use Rattle.layer_api.specs.RunsLaws.{inner_calls, same}
 use Rattle.layer_api.specs.Words.{Word, Ask, Hear, HasSay, asked, is_heard, value_at, all_said}
 use Rattle.layer_api.specs.Part.{newly_asked, passed, part_of, part_words, says_in}
@@ -172,14 +172,14 @@ module _ (ask : ℕ → List Word → Option (List ℕ)) (takes : Slot → Bool)
   inner_words i [] = refl
   inner_words i (c ∷ w) = ap (λ (ys : List Word). part_of (ask i) takes w c ++ ys) (inner_words i w)
 
-  pub part_calls : (i : ℕ) (xs : List (Step Word)) → calls_of i (inner_run part_inner xs) ≡ part_words (ask i) takes (calls_of i xs)
+  pub part_calls : (i : ℕ) (xs : List (ReplicaStep Word)) → calls_of i (inner_run part_inner xs) ≡ part_words (ask i) takes (calls_of i xs)
   part_calls i xs = inner_calls part_inner i xs ∙ inner_words i (calls_of i xs)
 
 module _ (g h : Play) (is_correct : ℕ → Bool) (ask : ℕ → List Word → Option (List ℕ)) (takes : Slot → Bool) (p : Passes g h ask takes) where
-  abbrev run : List (Step Word) → List (Step Word)
+  abbrev run : List (ReplicaStep Word) → List (ReplicaStep Word)
   run xs = inner_run (part_inner ask takes) xs
 
-  passed_fed : (xs : List (Step Word)) (i : ℕ) (c : Word) → is_correct i ≡ true → Met g i (c ∷ calls_of i xs) → IsFedRun g is_correct xs
+  passed_fed : (xs : List (ReplicaStep Word)) (i : ℕ) (c : Word) → is_correct i ≡ true → Met g i (c ∷ calls_of i xs) → IsFedRun g is_correct xs
       → Brings g is_correct xs c → IsFedRun h is_correct (run xs) → IsFedRun h is_correct (steps_by i (passed takes c) (run xs))
   passed_fed xs i (Ask v) ci m all fed rest = rest
   passed_fed xs i (Hear s v) ci m all fed rest = go (takes s) refl
@@ -201,7 +201,7 @@ module _ (g h : Play) (is_correct : ℕ → Bool) (ask : ℕ → List Word → O
         rest,
       )
 
-  asked_fed : (xs : List (Step Word)) (i : ℕ) (c : Word) → is_correct i ≡ true → Met g i (c ∷ calls_of i xs)
+  asked_fed : (xs : List (ReplicaStep Word)) (i : ℕ) (c : Word) → is_correct i ≡ true → Met g i (c ∷ calls_of i xs)
       → IsFedRun h is_correct (steps_by i (passed takes c) (run xs))
       → (before after : Option (List ℕ)) → ask i (calls_of i xs) ≡ before → ask i (c ∷ calls_of i xs) ≡ after
       → IsFedRun h is_correct (steps_by i (newly_asked before after ++ passed takes c) (run xs))
@@ -219,7 +219,7 @@ module _ (g h : Play) (is_correct : ℕ → Bool) (ask : ℕ → List Word → O
   )
 
   -- a run of the layer gives a run of the instance
-  pub part_fed : (xs : List (Step Word)) → IsFedRun g is_correct xs → IsFedRun h is_correct (run xs)
+  pub part_fed : (xs : List (ReplicaStep Word)) → IsFedRun g is_correct xs → IsFedRun h is_correct (run xs)
   part_fed [] fed = tt
   part_fed (x ∷ xs) fed =
       let m : Met g x.who (x.call ∷ calls_of x.who xs) = (fed.1.0, met g is_correct xs fed.2 x.who) in

@@ -4,12 +4,12 @@ use Rattle.ritas_base.specs.Numbers.{Numbers, IsSession}
 use Rattle.ritas_base.specs.History.{replicas}
 
 -- a step: a replica, and a call on its value
-pub record Step (C : Type 0) : Type 0 where
+pub record ReplicaStep (C : Type 0) : Type 0 where
   pub who : ℕ
   pub call : C
 
 -- the calls of one replica
-abbrev pub calls_of : {C : Type 0} → ℕ → List (Step C) → List C
+abbrev pub calls_of : {C : Type 0} → ℕ → List (ReplicaStep C) → List C
 calls_of i [] = []
 calls_of i (x ∷ xs) = if x.who == i then x.call ∷ calls_of i xs else calls_of i xs
 
@@ -25,7 +25,7 @@ pub record IsEnough (p : Numbers) (is_correct : ℕ → Bool) : Type 0 where
   pub many : p.n ≤ count_by is_correct (replicas p.n) + p.f
 
 -- these calls of one replica, on a run
-abbrev pub steps_by : {C : Type 0} → ℕ → List C → List (Step C) → List (Step C)
+abbrev pub steps_by : {C : Type 0} → ℕ → List C → List (ReplicaStep C) → List (ReplicaStep C)
 steps_by i [] xs = xs
 steps_by i (c ∷ cs) xs = record { who = i; call = c } ∷ steps_by i cs xs
 
@@ -39,6 +39,6 @@ inner f i [] = []
 inner f i (c ∷ cs) = f i cs c ++ inner f i cs
 
 -- the run of the inner part
-abbrev pub inner_run : {C D : Type 0} → Inner C D → List (Step C) → List (Step D)
+abbrev pub inner_run : {C D : Type 0} → Inner C D → List (ReplicaStep C) → List (ReplicaStep D)
 inner_run f [] = []
 inner_run f (x ∷ xs) = steps_by x.who (f x.who (calls_of x.who xs) x.call) (inner_run f xs)

@@ -8,8 +8,8 @@ use Rattle.ritas_base.specs.Numbers.{IsSession}
 use Rattle.ritas_base.specs.Slots.{within, has_count}
 use Rattle.frame_codec.specs.Format.{Is}
 use Rattle.frame_codec.specs.Grammar.{class2, vector, value}
-use Rattle.frame_codec.specs.Values.{entry_of}
-use Rattle.layer_api.specs.Runs.{Step, calls_of, Has, IsEnough}
+use Rattle.frame_codec.specs.Values.{entry_at_place}
+use Rattle.layer_api.specs.Runs.{ReplicaStep, calls_of, Has, IsEnough}
 use Rattle.layer_api.specs.Words.{Word, Ask, Hear, asked, is_heard, AllMet, all_said, AreFresh}
 use Rattle.layer_api.specs.Fed.{Play, IsFedRun}
 use Rattle.layer_api.specs.Service.{Instance, OfValue, OfVector, Decision, Nothing, vector_decision, GoesByBit, IsAttemptOf}
@@ -116,22 +116,22 @@ vector_play r at coins = record {
 -- them; none is spent; in a vector that one of them decides the entry of a correct replica is that one's proposal; and what they decided
 -- in each instance inside is equal
 pub record OneVector (r : VectorRules) : Type 0 where
-  pub agree : (at : Scope) (is_correct : ℕ → Bool) (coins : ℕ → Slot → Bool) (steps : List (Step Word))
+  pub agree : (at : Scope) (is_correct : ℕ → Bool) (coins : ℕ → Slot → Bool) (steps : List (ReplicaStep Word))
       → IsEnough at.numbers is_correct → HasVectors at → IsFedRun (vector_play r at coins) is_correct steps
       → (i j : ℕ) (v u : List ℕ) → is_correct i ≡ true → is_correct j ≡ true
       → r.decision (desk_at at coins i) (calls_of i steps) ≡ Some v → r.decision (desk_at at coins j) (calls_of j steps) ≡ Some u → v ≡ u
-  pub attempts : (at : Scope) (is_correct : ℕ → Bool) (coins : ℕ → Slot → Bool) (steps : List (Step Word))
+  pub attempts : (at : Scope) (is_correct : ℕ → Bool) (coins : ℕ → Slot → Bool) (steps : List (ReplicaStep Word))
       → IsEnough at.numbers is_correct → HasVectors at → IsFedRun (vector_play r at coins) is_correct steps
       → (i j : ℕ) (k l : ℕ) → is_correct i ≡ true → is_correct j ≡ true
       → r.attempt (desk_at at coins i) (calls_of i steps) ≡ Some k → r.attempt (desk_at at coins j) (calls_of j steps) ≡ Some l → k ≡ l
-  pub unspent : (at : Scope) (is_correct : ℕ → Bool) (coins : ℕ → Slot → Bool) (steps : List (Step Word))
+  pub unspent : (at : Scope) (is_correct : ℕ → Bool) (coins : ℕ → Slot → Bool) (steps : List (ReplicaStep Word))
       → IsEnough at.numbers is_correct → HasVectors at → IsFedRun (vector_play r at coins) is_correct steps
       → (i : ℕ) → is_correct i ≡ true → r.spent (desk_at at coins i) (calls_of i steps) ≡ true → ⊥
-  pub entries : (at : Scope) (is_correct : ℕ → Bool) (coins : ℕ → Slot → Bool) (steps : List (Step Word))
+  pub entries : (at : Scope) (is_correct : ℕ → Bool) (coins : ℕ → Slot → Bool) (steps : List (ReplicaStep Word))
       → IsEnough at.numbers is_correct → HasVectors at → IsFedRun (vector_play r at coins) is_correct steps
       → (i k : ℕ) (v e : List ℕ) → is_correct i ≡ true → is_correct k ≡ true
-      → r.decision (desk_at at coins i) (calls_of i steps) ≡ Some v → entry_of v k ≡ Some e → Has (calls_of k steps) (Ask e)
-  pub insides : (at : Scope) (is_correct : ℕ → Bool) (coins : ℕ → Slot → Bool) (steps : List (Step Word))
+      → r.decision (desk_at at coins i) (calls_of i steps) ≡ Some v → entry_at_place v k ≡ Some e → Has (calls_of k steps) (Ask e)
+  pub insides : (at : Scope) (is_correct : ℕ → Bool) (coins : ℕ → Slot → Bool) (steps : List (ReplicaStep Word))
       → IsEnough at.numbers is_correct → HasVectors at → IsFedRun (vector_play r at coins) is_correct steps
       → (i j : ℕ) (x : Instance) (d e : Decision) → is_correct i ≡ true → is_correct j ≡ true
       → r.inside (desk_at at coins i) (calls_of i steps) x ≡ Some d → r.inside (desk_at at coins j) (calls_of j steps) x ≡ Some e → d ≡ e

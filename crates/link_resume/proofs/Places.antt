@@ -12,8 +12,8 @@ use Rattle.std.proofs.lemmas.List.Kept.{AllPairs-filter}
 use Rattle.std.proofs.lemmas.List.Quantifiers.{all_pairs_push, all_pairs_remove}
 use Rattle.std.proofs.lemmas.List.Sums.{sum_by-append, sum_by-cons, sum_by-remove}
 use Rattle.link_resume.specs.declared.kept.Kept.{Kept}
-use Rattle.link_resume.specs.Lanes.{IsLane}
-use Rattle.link_resume.specs.Lists.{bytes_in, most_bytes, all_but, Ascend, IsPlace}
+use Rattle.link_resume.specs.Lanes.{IsPeerLane}
+use Rattle.link_resume.specs.Lists.{bytes_in, most_kept_bytes, all_but, Ascend, IsPlace}
 
 -- ---- filters
 
@@ -135,9 +135,9 @@ fewer_bytes p (x ∷ xs) =
 -- ---- the frames of one peer
 
 -- one frame more
-pub lane_more : (bytes seq : ℕ) (frame : List ℕ) (before now : Bool) (xs : List Kept) → IsLane bytes before xs → length frame ≤ most_bytes - bytes
+pub lane_more : (bytes seq : ℕ) (frame : List ℕ) (before now : Bool) (xs : List Kept) → IsPeerLane bytes before xs → length frame ≤ most_kept_bytes - bytes
     → (now ≡ true → (before ≡ true) × ((d : Kept) → 0 < length xs → (get_or xs (length xs - 1) d).seq < seq))
-    → IsLane (bytes + length frame) now (xs ++ record { seq = seq; frame = frame } ∷ [])
+    → IsPeerLane (bytes + length frame) now (xs ++ record { seq = seq; frame = frame } ∷ [])
 lane_more bytes seq frame before now xs lane room order =
     let k : Kept = record { seq = seq; frame = frame } in
     let sum = sum_by-append (λ (y : Kept). length y.frame) xs (k ∷ []) in
@@ -148,8 +148,8 @@ lane_more bytes seq frame before now xs lane room order =
     }
 
 -- one less
-pub lane_less : (bytes at : ℕ) (x : Kept) (ascends : Bool) (xs : List Kept) → IsLane bytes ascends xs → at < length xs → get_or xs at x ≡ x
-    → IsLane (bytes - length x.frame) ascends (remove xs at)
+pub lane_less : (bytes at : ℕ) (x : Kept) (ascends : Bool) (xs : List Kept) → IsPeerLane bytes ascends xs → at < length xs → get_or xs at x ≡ x
+    → IsPeerLane (bytes - length x.frame) ascends (remove xs at)
 lane_less bytes at x ascends xs lane here is =
     let sum = sum_by-remove (λ (y : Kept). length y.frame) xs at x here in
     let this = ap (λ (y : Kept). length y.frame) is in
@@ -160,7 +160,7 @@ lane_less bytes at x ascends xs lane here is =
     }
 
 -- the others, where nothing is known of the order
-pub lane_others : (bytes seq : ℕ) (ascends : Bool) (xs : List Kept) → IsLane bytes ascends xs → IsLane (bytes_in (all_but seq xs)) ascends (all_but seq xs)
+pub lane_others : (bytes seq : ℕ) (ascends : Bool) (xs : List Kept) → IsPeerLane bytes ascends xs → IsPeerLane (bytes_in (all_but seq xs)) ascends (all_but seq xs)
 lane_others bytes seq ascends xs lane = record {
   count = refl;
   most = omega (arith, fewer_bytes (λ k. not (k.seq == seq)) xs, lane.most);

@@ -12,25 +12,25 @@ abbrev pub bytes_in : List Kept → ℕ
 bytes_in kept = sum_by (λ k. length k.frame) kept
 
 -- the most that are kept for one peer
-abbrev pub most_bytes : ℕ
-most_bytes = 8388608
+abbrev pub most_kept_bytes : ℕ
+most_kept_bytes = 8388608
 
 -- a frame of this number is kept behind the others of the peer
-abbrev pub with_kept : List (List Kept) → ℕ → ℕ → List ℕ → List (List Kept)
-with_kept lists peer seq frame = slice_set lists peer (kept_for lists peer ++ record { seq = seq; frame = frame } ∷ [])
+abbrev pub with_frame_kept : List (List Kept) → ℕ → ℕ → List ℕ → List (List Kept)
+with_frame_kept lists peer seq frame = slice_set lists peer (kept_for lists peer ++ record { seq = seq; frame = frame } ∷ [])
 
 -- those that have another number
 abbrev pub all_but : ℕ → List Kept → List Kept
 all_but seq kept = filter (λ k. not (k.seq == seq)) kept
 
 -- the frames of this number aren't kept any more
-abbrev pub without : List (List Kept) → ℕ → ℕ → List (List Kept)
-without lists peer seq = slice_set lists peer (all_but seq (kept_for lists peer))
+abbrev pub without_number : List (List Kept) → ℕ → ℕ → List (List Kept)
+without_number lists peer seq = slice_set lists peer (all_but seq (kept_for lists peer))
 
 -- the oldest are dropped until so many bytes fit behind the others
 abbrev pub room_for : ℕ → List Kept → List Kept
 room_for size [] = []
-room_for size (k ∷ ks) = if nat_le (bytes_in (k ∷ ks) + size) most_bytes then k ∷ ks else room_for size ks
+room_for size (k ∷ ks) = if nat_le (bytes_in (k ∷ ks) + size) most_kept_bytes then k ∷ ks else room_for size ks
 
 -- so it is of what is kept for a peer
 abbrev pub with_room : List (List Kept) → ℕ → ℕ → List (List Kept)

@@ -3,7 +3,7 @@
 ghost use Rattle.std.specs.Prelude.{◌≡◌, ℕ, ◌+◌, ◌-◌, ◌^◌, ◌<◌, ◌≤◌, ◌↔◌, [], ◌∷◌, ◌++◌, length, slice_index_or, Err, Some, OnOk, OnErr, MatchOption, true};
 ghost use Rattle.std.specs.List.{slice_get};
 ghost use Rattle.link_resume.specs.declared.kept.Kept.{Kept};
-ghost use Rattle.link_resume.specs.Lists.{bytes_in, most_bytes, all_but, room_for, Ascend, IsPlace};
+ghost use Rattle.link_resume.specs.Lists.{bytes_in, most_kept_bytes, all_but, room_for, Ascend, IsPlace};
 
 use crate::kept::{KeepFault, Kept};
 use ritas_base::Bytes;
@@ -27,13 +27,13 @@ pub(crate) struct Lane {
 impl Model for Lane {
     ghost use Rattle.std.specs.Prelude.{List};
     ghost use Rattle.link_resume.specs.declared.kept.Kept.{Kept};
-    ghost use Rattle.link_resume.specs.Lanes.{IsLane};
+    ghost use Rattle.link_resume.specs.Lanes.{IsPeerLane};
 
     ghost Value = { List Kept };
 
     ghost view = { λ l. l.kept.items };
 
-    ghost invariant = { λ l. IsLane l.bytes l.ascends l.kept.items };
+    ghost invariant = { λ l. IsPeerLane l.bytes l.ascends l.kept.items };
 }
 
 // How many bytes these frames have, which are at most as many as may be kept.
@@ -88,7 +88,7 @@ impl Lane {
     /// How many bytes the frames have.
     pub(crate) fn bytes(&self) -> u64
         ensures value { result ≡ bytes_in self.now }
-        ensures most { result ≤ most_bytes }
+        ensures most { result ≤ most_kept_bytes }
     {
         self.bytes
     }
@@ -110,7 +110,7 @@ impl Lane {
     /// Keeps a copy of the frame behind the others.
     pub(crate) fn add(&mut self, alloc: Global, seq: u64, frame: &[u8]) -> Result<(), KeepFault>
         ensures ok { OnOk result (self.new ≡ self.old ++ record { seq = seq; frame = frame.now } ∷ []) }
-        ensures full { (b : ℕ) → (result ≡ Err (KeepFault.QueueFull b)) ↔ ((b ≡ bytes_in self.old) × (most_bytes < b + length frame.now)) }
+        ensures full { (b : ℕ) → (result ≡ Err (KeepFault.QueueFull b)) ↔ ((b ≡ bytes_in self.old) × (most_kept_bytes < b + length frame.now)) }
         ensures err { OnErr result (self.new ≡ self.old) }
     {
         let len = frame.len() as u64;

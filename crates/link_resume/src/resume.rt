@@ -2,7 +2,7 @@
 
 ghost use Rattle.std.specs.Prelude.{◌≡◌, ℕ, ◌+◌, ◌<◌, ◌≤◌, ◌↔◌, [], length, replicate, Err, IfOk, OnOk, OnErr, MatchOption, Some};
 ghost use Rattle.std.specs.List.{slice_get};
-ghost use Rattle.link_resume.specs.Lists.{kept_for, bytes_in, most_bytes, with_kept, with_room, without};
+ghost use Rattle.link_resume.specs.Lists.{kept_for, bytes_in, most_kept_bytes, with_frame_kept, with_room, without_number};
 
 use crate::kept::{KeepFault, Kept};
 use crate::lane::Lane;
@@ -50,8 +50,8 @@ impl Resume {
     /// 8,388,608; otherwise the one error is `Mem`. All stays as it was after an error.
     pub fn keep(&mut self, alloc: Global, peer: u8, seq: u64, frame: &[u8]) -> Result<(), KeepFault>
         requires { peer < length self.old }
-        ensures ok { OnOk result (self.new ≡ with_kept self.old peer seq frame.now) }
-        ensures full { (b : ℕ) → (result ≡ Err (KeepFault.QueueFull b)) ↔ ((b ≡ bytes_in (kept_for self.old peer)) × (most_bytes < b + length frame.now)) }
+        ensures ok { OnOk result (self.new ≡ with_frame_kept self.old peer seq frame.now) }
+        ensures full { (b : ℕ) → (result ≡ Err (KeepFault.QueueFull b)) ↔ ((b ≡ bytes_in (kept_for self.old peer)) × (most_kept_bytes < b + length frame.now)) }
         ensures err { OnErr result (self.new ≡ self.old) }
     {
         self.lanes[peer as usize].add(alloc, seq, frame)
@@ -60,7 +60,7 @@ impl Resume {
     /// The peer's frames with this number aren't kept any more. It takes no memory.
     pub fn acked(&mut self, peer: u8, seq: u64)
         requires { peer < length self.old }
-        ensures { self.new ≡ without self.old peer seq }
+        ensures { self.new ≡ without_number self.old peer seq }
     {
         self.lanes[peer as usize].acked(seq);
     }
@@ -94,7 +94,7 @@ impl Resume {
     pub fn bytes(&self, peer: u8) -> u64
         requires { peer < length self.now }
         ensures value { result ≡ bytes_in (kept_for self.now peer) }
-        ensures most { result ≤ most_bytes }
+        ensures most { result ≤ most_kept_bytes }
     {
         self.lanes[peer as usize].bytes()
     }

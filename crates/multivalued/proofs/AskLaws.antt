@@ -10,10 +10,10 @@ use Rattle.ritas_base.specs.Members.{has_member, member_count}
 use Rattle.ritas_base.specs.History.{replicas, is_value}
 use Rattle.ritas_base.specs.Quorums.{count_yes, count_no}
 use Rattle.frame_codec.specs.Values.{mask_of}
-use Rattle.multivalued.specs.Consensus.{listed}
+use Rattle.ritas_base.specs.Places.{listed}
 use Rattle.multivalued.specs.Places.{count_of_set}
-use Rattle.multivalued.specs.Entries.{passes, claimed, holds, HasEntry}
-use Rattle.multivalued.specs.Least.{is_enough, is_clear, LeastTo, ValueOf}
+use Rattle.multivalued.specs.Entries.{passes, claimed, is_valid_vect, HasEntry}
+use Rattle.multivalued.specs.Least.{has_enough_backers, is_clear, LeastTo, ValueOf}
 use Rattle.multivalued.specs.Tables.{IsTable, valid_value, least_with, has_other, one_clear}
 use Rattle.multivalued.specs.declared.entry.Entry.{Entry}
 use Rattle.multivalued.specs.declared.table.Table.{Table}
@@ -36,7 +36,7 @@ valid_is n support init v (Some (b ∷ bs)) = go (drop 4 (b ∷ bs)) (mask_of (b
         ap₂ (λ (a b : Bool). a && b) t (ap (λ (x : List ℕ). passes n support init x m) (sym ((bytes_eq-Decides u v).0 t))) ∙ pick u (passes n support init u m) true t
     go u m (inr f) = ap (λ (a : Bool). a && passes n support init v m) f ∙ pick u (passes n support init u m) false f
 
-pub some_is : (n support : ℕ) (init : ℕ → Option (List ℕ)) (o : Option (List ℕ)) → holds n support init false o ≡ is_some (valid_value n support init o)
+pub some_is : (n support : ℕ) (init : ℕ → Option (List ℕ)) (o : Option (List ℕ)) → is_valid_vect n support init false o ≡ is_some (valid_value n support init o)
 some_is n support init None = refl
 some_is n support init (Some []) = refl
 some_is n support init (Some (b ∷ bs)) = go (passes n support init (drop 4 (b ∷ bs)) (mask_of (b ∷ bs)))
@@ -128,16 +128,16 @@ module _ (n support : ℕ) (init vect : ℕ → Option (List ℕ)) (small : n �
   all_valid : (v : List ℕ) (k : ℕ) → is_value v (valid_value n support init (vect k)) ≡ true → HasEntry t.entries.items v
   all_valid v k e = is.entries.claims v k (claimed_weaker v (passes n support init v) (vect k) (valid_is n support init v (vect k) ∙ e))
 
-  pub common_is : (r : Option ℕ) → LeastTo (is_enough t.support false) t.entries.items (length t.entries.items) r → ValueOf t.entries.items r (least_with n support init)
+  pub common_is : (r : Option ℕ) → LeastTo (has_enough_backers t.support false) t.entries.items (length t.entries.items) r → ValueOf t.entries.items r (least_with n support init)
   common_is r h =
       value_of_least n support small some init is.inits_inside t.entries.items (λ e. e.inits) (λ i e q. (is.entries.each i e q).inits) is.entries.proposed r
-      (subst (λ (s : ℕ). LeastTo (is_enough s false) t.entries.items (length t.entries.items) r) is.support_is h)
+      (subst (λ (s : ℕ). LeastTo (has_enough_backers s false) t.entries.items (length t.entries.items) r) is.support_is h)
 
-  pub supported_is : (r : Option ℕ) → LeastTo (is_enough t.support true) t.entries.items (length t.entries.items) r
+  pub supported_is : (r : Option ℕ) → LeastTo (has_enough_backers t.support true) t.entries.items (length t.entries.items) r
       → ValueOf t.entries.items r (least_with n support (λ k. valid_value n support init (vect k)))
   supported_is r h =
       value_of_least n support small some g g_inside t.entries.items (λ e. e.backs) backs_are all_valid r
-      (subst (λ (s : ℕ). LeastTo (is_enough s true) t.entries.items (length t.entries.items) r) is.support_is h)
+      (subst (λ (s : ℕ). LeastTo (has_enough_backers s true) t.entries.items (length t.entries.items) r) is.support_is h)
 
   abbrev clear : List ℕ → Bool
   clear v = nat_le support (count_by (λ k. is_value v (g k)) (replicas n)) && (count_by (λ k. has_other v (g k)) (replicas n) == 0)
@@ -170,5 +170,5 @@ module _ (n support : ℕ) (init vect : ℕ → Option (List ℕ)) (small : n �
   pub proposals_are : member_count 32 t.inits ≡ count_by (λ k. is_some (init k)) (replicas n)
   proposals_are = count_of_set t.inits n (λ k. is_some (init k)) small is.inits (λ k l. ap is_some (is.inits_inside k l))
 
-  pub valids_are : member_count 32 t.valids ≡ count_by (λ k. holds n support init true (vect k)) (replicas n)
-  valids_are = count_of_set t.valids n (λ k. holds n support init true (vect k)) small is.valids (λ k l. ap (holds n support init true) (is.vects_inside k l))
+  pub valids_are : member_count 32 t.valids ≡ count_by (λ k. is_valid_vect n support init true (vect k)) (replicas n)
+  valids_are = count_of_set t.valids n (λ k. is_valid_vect n support init true (vect k)) small is.valids (λ k l. ap (is_valid_vect n support init true) (is.vects_inside k l))

@@ -17,15 +17,15 @@ use Rattle.layer_api.specs.FedLaws.{unasked}
 use Rattle.layer_api.specs.PartLaws.{unheard}
 use Rattle.layer_api.specs.Multi.{Scope, Desk, is_multi_slot, MayMulti, MayMultiHear, AreMulti}
 use Rattle.layer_api.specs.MultiCalls.{ShowsMultiNear, MultiProposes, MultiHears}
-use Rattle.multivalued.specs.Consensus.{vect_slot, bit_words, bench_of, decision, multivalued}
+use Rattle.multivalued.specs.Consensus.{vect_slot, bit_words, bench_of, multi_decision, multivalued}
 use Rattle.multivalued.specs.Entries.{KeepsValues}
 use Rattle.multivalued.specs.Tables.{IsTable, IsLong}
 use Rattle.multivalued.specs.Laws.Inside.{bits_met}
 use Rattle.multivalued.specs.Laws.Box.{multi_laws_law}
-use Rattle.multivalued.specs.Parts.{IsPart}
-use Rattle.multivalued.specs.Holding.{Holds, Heard, Starts, FollowsInit, FollowsVect, FollowsVote}
-use Rattle.multivalued.specs.Opening.{opens_by}
-use Rattle.multivalued.specs.Stands.{Stands, FollowsSlot, Keeps, Ends, shown_decision, shown_by, decided_shown, shows_multi}
+use Rattle.multivalued.specs.Parts.{IsMultiPart}
+use Rattle.multivalued.specs.Holding.{BoxHolds, BoxHeard, StartsProposal, FollowsInit, FollowsVect, FollowsVote}
+use Rattle.multivalued.specs.Opening.{part_opens}
+use Rattle.multivalued.specs.Stands.{MultiStands, FollowsSlot, KeepsBox, MultiEnds, shown_decision, multi_shown, decided_shown, shows_multi}
 use Rattle.multivalued.specs.declared.part.Part.{Part}
 use Rattle.multivalued.specs.declared.table.Table.{Table}
 use Rattle.multivalued.specs.declared.settling.Progress.{Progress}
@@ -71,14 +71,14 @@ classes at s e =
 module _ {B : Type 0} (stands : B → Bench → List Word → Type 0) (b : BinaryRules) (old new : Mvc B) (next : Progress) (before after : List Say) (at : Desk) (w : List Word) (s : Slot) (v : List ℕ)
     (may : MayMultiHear (multivalued b) at w s v) where
   abbrev Done : Slot → List ℕ → Type 0
-  Done q x = Heard stands b new next at w (Hear q x) before after
+  Done q x = BoxHeard stands b new next at w (Hear q x) before after
 
-  pub by_init : s.class ≡ 3 → FollowsInit stands b old new next before after s.origin v → Holds stands b old old.place at w → Done s v
+  pub by_init : s.class ≡ 3 → FollowsInit stands b old new next before after s.origin v → BoxHolds stands b old old.place at w → Done s v
   by_init three follows h =
       let e = plain_slot at.scope s 3 may.slot three refl in
       subst (λ (q : Slot). Done q v) (sym e) (follows at w h may.origin (ap (value_at w) (sym e) ∙ unheard w s may.first))
 
-  pub by_vect : s.class ≡ 4 → FollowsVect stands b old new next before after s.origin v → Holds stands b old old.place at w → Done s v
+  pub by_vect : s.class ≡ 4 → FollowsVect stands b old new next before after s.origin v → BoxHolds stands b old old.place at w → Done s v
   by_vect four follows h =
       let e = plain_slot at.scope s 4 may.slot four refl in
       let long = long_enough at.scope.numbers at.scope.root at.scope s.origin v (subst (λ (q : Slot). Is (value at.scope.numbers at.scope.root q) v) e may.good) in
@@ -90,7 +90,7 @@ module _ {B : Type 0} (stands : B → Bench → List Word → Type 0) (b : Binar
       (subst (λ (u : List Word). AllMet (MayBit b (bench_of at)) u) (words_are stands b at w s v five) (bits_met b at.scope (λ i. at.coin) at.me (Hear s v ∷ w) (may, met))).0
 
   pub by_vote : (bits : Slot → Bool) (vote : ℕ) → AreMulti (multivalued b) at w → s.class ≡ 5 → IsCoin at.coin bits → ((x : ℕ) → v ≡ x ∷ [] → vote ≡ x)
-      → FollowsVote stands b old new next before after bits s vote → Holds stands b old old.place at w → Done s v
+      → FollowsVote stands b old new next before after bits s vote → BoxHolds stands b old old.place at w → Done s v
   by_vote bits vote met five coin read follows h =
       let m = is_vote met five in
       let same : vote ≡ m.0 = read m.0 m.1 in
@@ -101,17 +101,17 @@ module _ {B : Type 0} (stands : B → Bench → List Word → Type 0) (b : Binar
 
 module _ {B : Type 0} (stands : B → Bench → List Word → Type 0) (b : BinaryRules) where
   abbrev Near : Desk → List Word → Word → Mvc B → Type 0
-  Near at w c x = ShowsMultiNear (multivalued b) at w c (shown_by x)
+  Near at w c x = ShowsMultiNear (multivalued b) at w c (multi_shown x)
 
   -- where the progress stays, all is answered as before the call
-  near : (x new : Mvc B) (at : Desk) (w : List Word) (c : Word) → Stands stands b x at w → new.part ≡ x.part → new.place ≡ x.place
+  near : (x new : Mvc B) (at : Desk) (w : List Word) (c : Word) → MultiStands stands b x at w → new.part ≡ x.part → new.place ≡ x.place
       → KeepsValues x.table.entries.items new.table.entries.items → Near at w c new
   near x new at w c s part place values =
       let shows = (shows_multi stands b x at w s).1 in
-      let decided = decided_still x.table.entries.items new.table.entries.items x.place.decided (decision b at w) values s.holds.reached.decided in
+      let decided = decided_still x.table.entries.items new.table.entries.items x.place.decided (multi_decision b at w) values s.holds.reached.decided in
       record {
-        opens = λ q. inl (ap₂ (λ (p : Part) (n : Progress). opens_by p n q) part place ∙ shows.opens q);
-        decision = inl (ap (λ (n : Progress). shown_decision new.table.entries.items n.decided) place ∙ decided_shown new.table.entries.items x.place.decided (decision b at w) decided);
+        opens = λ q. inl (ap₂ (λ (p : Part) (n : Progress). part_opens p n q) part place ∙ shows.opens q);
+        decision = inl (ap (λ (n : Progress). shown_decision new.table.entries.items n.decided) place ∙ decided_shown new.table.entries.items x.place.decided (multi_decision b at w) decided);
       }
 
   ok_at : (P : Progress → Type 0) (next : Result Progress Mem) (place : Progress) → next ≡ Ok place → IfOk next P → P place
@@ -120,11 +120,11 @@ module _ {B : Type 0} (stands : B → Bench → List Word → Type 0) (b : Binar
   -- so far the box has come by the word, on the way to what is put out
   abbrev Follows : Mvc B → Mvc B → Word → (Desk → List Word → Type 0) → List Say → Progress → Type 0
   Follows x mid c may made place =
-      (at : Desk) (w : List Word) → Stands stands b x at w → may at w → Heard stands b mid place at w c [] made
+      (at : Desk) (w : List Word) → MultiStands stands b x at w → may at w → BoxHeard stands b mid place at w c [] made
 
   word_done : (x mid new : Mvc B) (c : Word) (may : Desk → List Word → Type 0) (next : Result Progress Mem) (made before after : List Say) (result : Result (Unit {0}) Mem)
-      → ((at : Desk) (w : List Word) → may at w → MayMulti (multivalued b) at w c) → Keeps x mid → IfOk next (Follows x mid c may made) → Ends mid new next made before after result
-      → WordDone (Stands stands b) (multivalued b).says (λ at w d y. Near at w d y) (λ y. y.live) x new c may before after result
+      → ((at : Desk) (w : List Word) → may at w → MayMulti (multivalued b) at w c) → KeepsBox x mid → IfOk next (Follows x mid c may made) → MultiEnds mid new next made before after result
+      → WordDone (MultiStands stands b) (multivalued b).says (λ at w d y. Near at w d y) (λ y. y.live) x new c may before after result
   word_done x mid new c may next made before after (Err e) meets keeps follows ends = record {
     out = ends.1;
     dead = ap (λ (y : Mvc B). y.live) ends.0;
@@ -137,7 +137,7 @@ module _ {B : Type 0} (stands : B → Bench → List Word → Type 0) (b : Binar
       let place = ends.0 in
       let heard = ok_at (Follows x mid c may made) next place ends.1 follows in
       record {
-        grows = λ at w s m. subst (λ (y : Mvc B). Stands stands b y at (c ∷ w)) (sym ends.2) (record {
+        grows = λ at w s m. subst (λ (y : Mvc B). MultiStands stands b y at (c ∷ w)) (sym ends.2) (record {
           met = (meets at w m, s.met);
           holds = let h = (heard at w s m).holds in record { part_is = h.part_is; known = h.known; reached = h.reached };
           live = keeps.live ∙ s.live;
@@ -145,25 +145,25 @@ module _ {B : Type 0} (stands : B → Bench → List Word → Type 0) (b : Binar
         made = λ at w s m. ends.3 ∙ ap (λ (ys : List Say). before ++ ys) (heard at w s m).made;
       }
 
-  module _ (x mid new : Mvc B) (v : List ℕ) (next : Result Progress Mem) (none made before after : List Say) (result : Result (Unit {0}) Mem) (empty : none ≡ []) (keeps : Keeps x mid)
-      (ends : Ends mid new next made before after result) where
+  module _ (x mid new : Mvc B) (v : List ℕ) (next : Result Progress Mem) (none made before after : List Say) (result : Result (Unit {0}) Mem) (empty : none ≡ []) (keeps : KeepsBox x mid)
+      (ends : MultiEnds mid new next made before after result) where
     -- a proposal
-    pub proposes : IfOk next (λ place. Starts stands b x mid place none made v) → MultiProposes (Stands stands b) (multivalued b) (λ y. y.live) shown_by x new v before after result
+    pub proposes : IfOk next (λ place. StartsProposal stands b x mid place none made v) → MultiProposes (MultiStands stands b) (multivalued b) (λ y. y.live) multi_shown x new v before after result
     proposes starts =
         let may : Desk → List Word → Type 0 = λ at w. MayMulti (multivalued b) at w (Ask v) in
         word_done x mid new (Ask v) may next made before after result (λ at w m. m) keeps
-        (if_ok next (λ place. Starts stands b x mid place none made v) (Follows x mid (Ask v) may made)
-        (λ place s at w h m. subst (λ (ys : List Say). Heard stands b mid place at w (Ask v) ys made) empty (s at w h.holds (unasked w m.0))) starts)
+        (if_ok next (λ place. StartsProposal stands b x mid place none made v) (Follows x mid (Ask v) may made)
+        (λ place s at w h m. subst (λ (ys : List Say). BoxHeard stands b mid place at w (Ask v) ys made) empty (s at w h.holds (unasked w m.0))) starts)
         ends
 
     -- and what a slot delivered
     pub hears_slot : (bits : Slot → Bool) (s : Slot) → IfOk next (λ place. FollowsSlot stands b x mid place none made bits s v)
-        → MultiHears (Stands stands b) (multivalued b) (λ y. y.live) shown_by bits x new s v before after result
+        → MultiHears (MultiStands stands b) (multivalued b) (λ y. y.live) multi_shown bits x new s v before after result
     hears_slot bits s follows =
         let may : Desk → List Word → Type 0 = λ at w. IsCoin at.coin bits × MayMulti (multivalued b) at w (Hear s v) in
         word_done x mid new (Hear s v) may next made before after result (λ at w m. m.1) keeps
         (if_ok next (λ place. FollowsSlot stands b x mid place none made bits s v) (Follows x mid (Hear s v) may made)
-        (λ place f at w h m. subst (λ (ys : List Say). Heard stands b mid place at w (Hear s v) ys made) empty (f at w h m.0 m.1)) follows)
+        (λ place f at w h m. subst (λ (ys : List Say). BoxHeard stands b mid place at w (Hear s v) ys made) empty (f at w h m.0 m.1)) follows)
         ends
 
 -- ---- before any word
@@ -172,8 +172,8 @@ module _ {B : Type 0} (stands : B → Bench → List Word → Type 0) (b : Binar
   no_round : (at : Bench) → b.round at [] ≡ 0
   no_round at = elim (laws.round_said at [] tt) [ inl z ↦ z | inr s ↦ absurd (let e : false ≡ true = s in cc) ]
 
-  pub begins : (part : Part) (inner : B) (t : Table) (at : Desk) → IsPart part at → IsTable at.scope.numbers.n (support_of at.scope.numbers) (λ k. None) (λ k. None) t → stands inner (bench_of at) []
-      → Stands stands b (record { part = part; inner = inner; table = t; place = record { own = false; told = false; asked = false; round = 0; decided = decisions.NotYet }; live = true }) at []
+  pub begins : (part : Part) (inner : B) (t : Table) (at : Desk) → IsMultiPart part at → IsTable at.scope.numbers.n (support_of at.scope.numbers) (λ k. None) (λ k. None) t → stands inner (bench_of at) []
+      → MultiStands stands b (record { part = part; inner = inner; table = t; place = record { own = false; told = false; asked = false; round = 0; decided = decisions.NotYet }; live = true }) at []
   begins part inner t at is known stood = record {
     met = tt;
     holds = record {

@@ -10,8 +10,8 @@ use Rattle.ritas_base.specs.Members.{has_member}
 use Rattle.ritas_base.specs.History.{replicas, is_value}
 use Rattle.ritas_base.specs.Quorums.{count_same, count_more}
 use Rattle.frame_codec.specs.Values.{mask_of}
-use Rattle.multivalued.specs.Places.{is_backed, count_all}
-use Rattle.multivalued.specs.Entries.{has_claim, Proposed, Claims, put, passes, claimed, holds, IsEntry}
+use Rattle.multivalued.specs.Places.{are_places_backed, count_all}
+use Rattle.multivalued.specs.Entries.{has_claim, Proposed, Claims, put, passes, claimed, is_valid_vect, IsEntry}
 use Rattle.multivalued.specs.declared.entry.Entry.{Entry}
 
 pub same_value : (v : List ℕ) → bytes_eq v v ≡ true
@@ -45,7 +45,7 @@ claimed_more v p q more (Some (b ∷ bs)) = or_more (bytes_eq (drop 4 (b ∷ bs)
 
 module _ (n support : ℕ) (small : n ≤ 31) (init vect : ℕ → Option (List ℕ)) (inside : (k : ℕ) → n ≤ k → init k ≡ None) where
   -- by the set of those who proposed
-  pub passes_is : (v : List ℕ) (inits : ℕ) → ((k : ℕ) → has_member inits k ≡ is_value v (init k)) → (m : ℕ) → is_backed support m inits ≡ passes n support init v m
+  pub passes_is : (v : List ℕ) (inits : ℕ) → ((k : ℕ) → has_member inits k ≡ is_value v (init k)) → (m : ℕ) → are_places_backed support m inits ≡ passes n support init v m
   passes_is v inits same m =
       ap (nat_le support) (count_same (λ k. has_member m k && has_member inits k) (λ k. has_member m k && is_value v (init k)) (λ k. ap (λ (b : Bool). has_member m k && b) (same k)) (range_with_len 0 32)
       ∙ count_all (λ k. has_member m k && is_value v (init k)) n small (λ k le. ap (λ (o : Option (List ℕ)). has_member m k && is_value v o) (inside k le) ∙ and-false (has_member m k)))
@@ -111,15 +111,15 @@ module _ (n support : ℕ) (small : n ≤ 31) (init vect : ℕ → Option (List 
             p.backs j
             ∙ (ap₂ (λ (a b : Bool). a || b)
             (is.backs j ∙ ap (λ (u : List ℕ). claimed u (passes n support init u) (vect j)) value)
-            (is.claims (λ places. is_backed support places new.inits) j
-            ∙ (ap (λ (u : List ℕ). claimed u (λ places. is_backed support places new.inits) (vect j)) value
+            (is.claims (λ places. are_places_backed support places new.inits) j
+            ∙ (ap (λ (u : List ℕ). claimed u (λ places. are_places_backed support places new.inits) (vect j)) value
             ∙ claimed_same v _ _ (passes_is n support small (put init k v) vect inside_put v new.inits inits) (vect j)))
             ∙ (claimed_more v (passes n support init v) (passes n support (put init k v) v) passes_more (vect j)
             ∙ ap (λ (u : List ℕ). claimed u (passes n support (put init k v) u) (vect j)) (sym new_value)));
       }
 
   -- what was valid is, and so are those that the value's new place makes so
-  pub holds_more : (q : Bool) (o : Option (List ℕ)) → holds n support (put init k v) q o ≡ (holds n support init q o || claimed v (passes n support (put init k v) v) o)
+  pub holds_more : (q : Bool) (o : Option (List ℕ)) → is_valid_vect n support (put init k v) q o ≡ (is_valid_vect n support init q o || claimed v (passes n support (put init k v) v) o)
   holds_more q None = refl
   holds_more q (Some []) = sym (or-false q)
   holds_more q (Some (b ∷ bs)) = go (drop 4 (b ∷ bs)) (mask_of (b ∷ bs)) (cases_Bool (bytes_eq (drop 4 (b ∷ bs)) v))
@@ -149,12 +149,12 @@ module _ (n support : ℕ) (small : n ≤ 31) (init vect : ℕ → Option (List 
       go false e = sym (or-false (claimed v p (vect j)))
       go true e = ap (λ (b : Bool). b || claimed v p (Some x)) (sym (ap (λ (i : ℕ). claimed v p (vect i)) (eqb-true j k e) ∙ ap (claimed v p) nothing))
 
-  pub holds_put : (q : Bool) (j : ℕ) → holds n support init q (put vect k x j) ≡ (holds n support init q (vect j) || ((j == k) && holds n support init q (Some x)))
+  pub holds_put : (q : Bool) (j : ℕ) → is_valid_vect n support init q (put vect k x j) ≡ (is_valid_vect n support init q (vect j) || ((j == k) && is_valid_vect n support init q (Some x)))
   holds_put q j = go (j == k) refl
     where
-      go : (b : Bool) → (j == k) ≡ b → holds n support init q (if b then Some x else vect j) ≡ (holds n support init q (vect j) || (b && holds n support init q (Some x)))
-      go false e = sym (or-false (holds n support init q (vect j)))
-      go true e = ap (λ (b : Bool). b || holds n support init q (Some x)) (sym (ap (λ (i : ℕ). holds n support init q (vect i)) (eqb-true j k e) ∙ ap (holds n support init q) nothing))
+      go : (b : Bool) → (j == k) ≡ b → is_valid_vect n support init q (if b then Some x else vect j) ≡ (is_valid_vect n support init q (vect j) || (b && is_valid_vect n support init q (Some x)))
+      go false e = sym (or-false (is_valid_vect n support init q (vect j)))
+      go true e = ap (λ (b : Bool). b || is_valid_vect n support init q (Some x)) (sym (ap (λ (i : ℕ). is_valid_vect n support init q (vect i)) (eqb-true j k e) ∙ ap (is_valid_vect n support init q) nothing))
 
   -- an entry of another value
   pub entry_unclaimed : (d : Entry) → ((p : ℕ → Bool) → claimed d.value p (Some x) ≡ false) → IsEntry n support init vect d → IsEntry n support init (put vect k x) d

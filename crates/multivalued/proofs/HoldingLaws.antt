@@ -9,12 +9,12 @@ use Rattle.layer_api.specs.Words.{Word, Ask}
 use Rattle.layer_api.specs.Binary.{BinaryRules, Bench}
 use Rattle.layer_api.specs.Part.{proposed, newly, newly_asked, passed, says_in}
 use Rattle.layer_api.specs.Multi.{Desk}
-use Rattle.multivalued.specs.Consensus.{init_slot, vect_slot, vect, bit_asked, bit_words, bench_of, is_step, decision}
+use Rattle.multivalued.specs.Consensus.{init_slot, vect_slot, own_vect, bit_asked, bit_words, bench_of, is_step, multi_decision}
 use Rattle.multivalued.specs.Entries.{KeepsValues}
 use Rattle.multivalued.specs.Known.{IsKnown}
-use Rattle.multivalued.specs.Parts.{own_slot}
-use Rattle.multivalued.specs.Settling.{Unsettled, Settles}
-use Rattle.multivalued.specs.Holding.{Holds, Heard}
+use Rattle.multivalued.specs.Parts.{own_class_slot}
+use Rattle.multivalued.specs.Settling.{Unsettled, BoxSettles}
+use Rattle.multivalued.specs.Holding.{BoxHolds, BoxHeard}
 use Rattle.multivalued.specs.declared.mvc.Mvc.{Mvc}
 use Rattle.multivalued.specs.declared.table.Table.{Table}
 use Rattle.multivalued.specs.declared.settling.Progress.{Progress}
@@ -38,27 +38,27 @@ proposing p = record { own = true; told = p.told; asked = p.asked; round = p.rou
 
 module _ {B : Type 0} (stands : B → Bench → List Word → Type 0) (b : BinaryRules) (x : Mvc B) (at : Desk) (w : List Word) where
   abbrev vect_says : Word → List Say
-  vect_says c = newly (vect_slot at.scope at.me) (vect at.scope w) (vect at.scope (c ∷ w))
+  vect_says c = newly (vect_slot at.scope at.me) (own_vect at.scope w) (own_vect at.scope (c ∷ w))
 
   abbrev asked_newly : Word → List Word
   asked_newly c = newly_asked (bit_asked at.scope w) (bit_asked at.scope (c ∷ w))
 
   unsettled : (c : Word) (u : Table) → passed is_step c ≡ [] → proposed (c ∷ w) ≡ proposed w → KeepsValues x.table.entries.items u.entries.items
-      → IsKnown at.scope (c ∷ w) u → Holds stands b x x.place at w → Unsettled stands b at w c x.part x.place u x.inner
+      → IsKnown at.scope (c ∷ w) u → BoxHolds stands b x x.place at w → Unsettled stands b at w c x.part x.place u x.inner
   unsettled c u quiet still keeps known h = record {
     part_is = h.part_is;
     known = known;
     owns = h.reached.owns ∙ sym (ap is_some still);
     told = h.reached.told;
     asked = h.reached.asked;
-    decided = decided_still x.table.entries.items u.entries.items x.place.decided (decision b at w) keeps h.reached.decided;
+    decided = decided_still x.table.entries.items u.entries.items x.place.decided (multi_decision b at w) keeps h.reached.decided;
     heard = subst (λ (ps : List Word). stands x.inner (bench_of at) (ps ++ bit_words at.scope w)) (sym quiet) h.reached.stood;
   }
 
   -- what follows from a proposal or a VECT that the table heard
   pub follows : (c : Word) (u : Table) (inner : B) (next : Progress) (before after : List Say) → passed is_step c ≡ [] → proposed (c ∷ w) ≡ proposed w
-      → KeepsValues x.table.entries.items u.entries.items → IsKnown at.scope (c ∷ w) u → Settles stands b x.part x.place u x.inner inner before after next
-      → Holds stands b x x.place at w → Heard stands b (record x { table = u; inner = inner }) next at w c before after
+      → KeepsValues x.table.entries.items u.entries.items → IsKnown at.scope (c ∷ w) u → BoxSettles stands b x.part x.place u x.inner inner before after next
+      → BoxHolds stands b x x.place at w → BoxHeard stands b (record x { table = u; inner = inner }) next at w c before after
   follows c u inner next before after quiet still keeps known settles h =
       let s = settles at w c (unsettled c u quiet still keeps known h) in
       record {
@@ -71,9 +71,9 @@ module _ {B : Type 0} (stands : B → Bench → List Word → Type 0) (b : Binar
       }
 
   -- what follows from a proposal of its own
-  pub starts : (inner : B) (next : Progress) (before mid after : List Say) (v : List ℕ) → mid ≡ before ++ record { slot = own_slot x.part 3; value = v } ∷ []
-      → Settles stands b x.part (proposing x.place) x.table x.inner inner mid after next → Holds stands b x x.place at w → proposed w ≡ None
-      → Heard stands b (record x { inner = inner }) next at w (Ask v) before after
+  pub starts : (inner : B) (next : Progress) (before mid after : List Say) (v : List ℕ) → mid ≡ before ++ record { slot = own_class_slot x.part 3; value = v } ∷ []
+      → BoxSettles stands b x.part (proposing x.place) x.table x.inner inner mid after next → BoxHolds stands b x x.place at w → proposed w ≡ None
+      → BoxHeard stands b (record x { inner = inner }) next at w (Ask v) before after
   starts inner next before mid after v said settles h none =
       let now : proposed (Ask v ∷ w) ≡ Some v = ap (λ (o : Option (List ℕ)). option_or o (Some v)) none in
       let s = settles at w (Ask v) (record {
@@ -90,7 +90,7 @@ module _ {B : Type 0} (stands : B → Bench → List Word → Type 0) (b : Binar
         made =
             s.made
             ∙ (ap (λ (ys : List Say). ys ++ rest) said
-            ∙ (append_assoc before (record { slot = own_slot x.part 3; value = v } ∷ []) rest
+            ∙ (append_assoc before (record { slot = own_class_slot x.part 3; value = v } ∷ []) rest
             ∙ (ap (λ (q : Slot). before ++ ((record { slot = q; value = v } ∷ []) ++ rest)) (init_place x.part at h.part_is)
             ∙ (ap (λ (ys : List Say). before ++ (ys ++ rest)) (sym (first none))
             ∙ ap (λ (ys : List Say). before ++ (newly (init_slot at.scope at.me) (proposed w) (proposed (Ask v ∷ w)) ++ (vect_says (Ask v) ++ ys)))

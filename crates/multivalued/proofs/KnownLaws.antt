@@ -1,7 +1,7 @@
 -- What the table answers is what the words tell.
 use Rattle.std.specs.Prelude.{◌≡◌, ℕ, ◌≤◌, ◌<◌, Bool, true, false, ◌==◌, ◌&&◌, ◌||◌, nat_le, List, [], ◌∷◌, count_by, drop, Option, Some, None, if◌then◌else◌, refl, is_some}
 use Rattle.std.specs.List.{list_any}
-use Rattle.std.specs.Option.{option_or}
+use Rattle.std.specs.Option.{option_or, option_flatten}
 use Rattle.std.proofs.Common.{sym, ◌∙◌, ap, ap₂}
 use Rattle.std.proofs.lemmas.Bool.{both_ways, eqb-true, eq-eqb, false_from_ne_true}
 use Rattle.ritas_base.specs.declared.slot.Slot.{Slot}
@@ -14,9 +14,10 @@ use Rattle.ritas_base.specs.Quorums.{count_same}
 use Rattle.frame_codec.specs.Values.{mask_of}
 use Rattle.layer_api.specs.Words.{Word, Hear, value_at}
 use Rattle.layer_api.specs.Multi.{Scope}
-use Rattle.multivalued.specs.Consensus.{push, listed, lesser, least, init_slot, vect_slot, init, members, common, told, valid_of, valid, valued, is_of, is_other, backers, candidates, is_clear, supported}
-use Rattle.multivalued.specs.Entries.{put, passes, claimed, holds, IsEntry}
-use Rattle.multivalued.specs.Tables.{IsTable, valid_value, least_with, has_other, one_clear, told_by, HearsInit, HearsVect}
+use Rattle.ritas_base.specs.Places.{push, listed}
+use Rattle.multivalued.specs.Consensus.{lesser, least, init_slot, vect_slot, init, count_passing, common, vect_told, valid_of, valid, is_of, is_other, vect_backers, candidates, is_clear, supported}
+use Rattle.multivalued.specs.Entries.{put, passes, claimed, is_valid_vect, IsEntry}
+use Rattle.multivalued.specs.Tables.{IsTable, valid_value, least_with, has_other, one_clear, table_told_by, HearsProposal, HearsVect}
 use Rattle.multivalued.specs.Known.{vect_of, IsKnown}
 use Rattle.multivalued.specs.declared.entry.Entry.{Entry}
 use Rattle.multivalued.specs.declared.table.Table.{Table}
@@ -28,7 +29,7 @@ module _ (n support : ℕ) (init init' vect vect' : ℕ → Option (List ℕ)) (
   pub passes_same : (v : List ℕ) (m : ℕ) → passes n support init v m ≡ passes n support init' v m
   passes_same v m = ap (nat_le support) (count_same (λ k. has_member m k && is_value v (init k)) (λ k. has_member m k && is_value v (init' k)) (λ k. ap (λ (o : Option (List ℕ)). has_member m k && is_value v o) (same k)) (replicas n))
 
-  pub holds_same : (q : Bool) (o : Option (List ℕ)) → holds n support init q o ≡ holds n support init' q o
+  pub holds_same : (q : Bool) (o : Option (List ℕ)) → is_valid_vect n support init q o ≡ is_valid_vect n support init' q o
   holds_same q None = refl
   holds_same q (Some []) = refl
   holds_same q (Some (b ∷ bs)) = passes_same (drop 4 (b ∷ bs)) (mask_of (b ∷ bs))
@@ -52,8 +53,8 @@ module _ (n support : ℕ) (init init' vect vect' : ℕ → Option (List ℕ)) (
       claims = λ v k t. is.entries.claims v k (ap (claimed v (λ m. true)) (alike k) ∙ t);
     };
     inits = λ j. is.inits j ∙ ap is_some (same j);
-    valids = λ j. is.valids j ∙ (holds_same true (vect j) ∙ ap (holds n support init' true) (alike j));
-    valued = λ j. is.valued j ∙ (holds_same false (vect j) ∙ ap (holds n support init' false) (alike j));
+    valids = λ j. is.valids j ∙ (holds_same true (vect j) ∙ ap (is_valid_vect n support init' true) (alike j));
+    valued = λ j. is.valued j ∙ (holds_same false (vect j) ∙ ap (is_valid_vect n support init' false) (alike j));
   }
 
 -- ---- a word is heard
@@ -94,7 +95,7 @@ module _ (at : Scope) (w : List Word) (k : ℕ) (v : List ℕ) where
       classes e = cc
 
   -- the table after a proposal is heard
-  pub known_init : (old new : Table) → at.numbers.n ≤ 31 → k < at.numbers.n → value_at w (init_slot at k) ≡ None → HearsInit k v old new → IsKnown at w old
+  pub known_init : (old new : Table) → at.numbers.n ≤ 31 → k < at.numbers.n → value_at w (init_slot at k) ≡ None → HearsProposal k v old new → IsKnown at w old
       → IsKnown at (Hear (init_slot at k) v ∷ w) new
   known_init old new small within none hears known =
       table_same at.numbers.n (support_of at.numbers) (put (init at w) k v) (init at (Hear (init_slot at k) v ∷ w)) (vect_of at w) (vect_of at (Hear (init_slot at k) v ∷ w)) (init_put none) init_unheard new
@@ -121,7 +122,7 @@ known_step at w s v t five known =
 
 -- ---- answers
 
-pub told_is : (at : Scope) (h : List Word) (o : Option (List ℕ)) → told_by at.numbers.n (init at h) o ≡ told at h o
+pub told_is : (at : Scope) (h : List Word) (o : Option (List ℕ)) → table_told_by at.numbers.n (init at h) o ≡ vect_told at h o
 told_is at h None = refl
 told_is at h (Some v) = refl
 
@@ -132,16 +133,16 @@ module _ (at : Scope) (h : List Word) where
   abbrev got : ℕ → Option (List ℕ)
   got k = valid_value at.numbers.n (support_of at.numbers) (init at h) (vect_of at h k)
 
-  valued_of : (o : Option (List ℕ)) → valid_value at.numbers.n (support_of at.numbers) (init at h) o ≡ valued (valid_of at h o)
+  valued_of : (o : Option (List ℕ)) → valid_value at.numbers.n (support_of at.numbers) (init at h) o ≡ option_flatten (valid_of at h o)
   valued_of None = refl
   valued_of (Some []) = refl
   valued_of (Some (b ∷ bs)) = go (passes at.numbers.n (support_of at.numbers) (init at h) (drop 4 (b ∷ bs)) (mask_of (b ∷ bs)))
     where
-      go : (p : Bool) → (if p then Some (drop 4 (b ∷ bs)) else None) ≡ valued (if p then Some (Some (drop 4 (b ∷ bs))) else None)
+      go : (p : Bool) → (if p then Some (drop 4 (b ∷ bs)) else None) ≡ option_flatten (if p then Some (Some (drop 4 (b ∷ bs))) else None)
       go true = refl
       go false = refl
 
-  holds_of : (o : Option (List ℕ)) → holds at.numbers.n (support_of at.numbers) (init at h) true o ≡ is_some (valid_of at h o)
+  holds_of : (o : Option (List ℕ)) → is_valid_vect at.numbers.n (support_of at.numbers) (init at h) true o ≡ is_some (valid_of at h o)
   holds_of None = refl
   holds_of (Some []) = refl
   holds_of (Some (b ∷ bs)) = go (passes at.numbers.n (support_of at.numbers) (init at h) (drop 4 (b ∷ bs)) (mask_of (b ∷ bs)))
@@ -150,11 +151,11 @@ module _ (at : Scope) (h : List Word) where
       go true = refl
       go false = refl
 
-  of_valued : (v : List ℕ) (x : Option (Option (List ℕ))) → is_value v (valued x) ≡ is_of v x
+  of_valued : (v : List ℕ) (x : Option (Option (List ℕ))) → is_value v (option_flatten x) ≡ is_of v x
   of_valued v None = refl
   of_valued v (Some o) = refl
 
-  other_valued : (v : List ℕ) (x : Option (Option (List ℕ))) → has_other v (valued x) ≡ is_other v x
+  other_valued : (v : List ℕ) (x : Option (Option (List ℕ))) → has_other v (option_flatten x) ≡ is_other v x
   other_valued v None = refl
   other_valued v (Some None) = refl
   other_valued v (Some (Some u)) = refl
@@ -172,12 +173,12 @@ module _ (at : Scope) (h : List Word) where
   least_same p q same (v ∷ vs) = ap₂ (λ (b : Bool) (o : Option (List ℕ)). if b then Some (lesser v o) else o) (same v) (least_same p q same vs)
 
   values : listed got (replicas at.numbers.n) ≡ candidates at h
-  values = listed_same got (λ k. valued (valid at h k)) (λ k. valued_of (vect_of at h k)) (replicas at.numbers.n)
+  values = listed_same got (λ k. option_flatten (valid at h k)) (λ k. valued_of (vect_of at h k)) (replicas at.numbers.n)
 
-  backers_are : (v : List ℕ) → count_by (λ k. is_value v (got k)) (replicas at.numbers.n) ≡ backers at h v
+  backers_are : (v : List ℕ) → count_by (λ k. is_value v (got k)) (replicas at.numbers.n) ≡ vect_backers at h v
   backers_are v = count_same (λ k. is_value v (got k)) (λ k. is_of v (valid at h k)) (λ k. ap (is_value v) (valued_of (vect_of at h k)) ∙ of_valued v (valid at h k)) (replicas at.numbers.n)
 
-  others_are : (v : List ℕ) → count_by (λ k. has_other v (got k)) (replicas at.numbers.n) ≡ members at (λ k. is_other v (valid at h k))
+  others_are : (v : List ℕ) → count_by (λ k. has_other v (got k)) (replicas at.numbers.n) ≡ count_passing at (λ k. is_other v (valid at h k))
   others_are v = count_same (λ k. has_other v (got k)) (λ k. is_other v (valid at h k)) (λ k. ap (has_other v) (valued_of (vect_of at h k)) ∙ other_valued v (valid at h k)) (replicas at.numbers.n)
 
   pub clear_at : one_clear at.numbers.n (support_of at.numbers) (λ k. valid_value at.numbers.n (support_of at.numbers) (init at h) (vect_of at h k)) ≡ list_any (is_clear at h) (candidates at h)
@@ -187,8 +188,8 @@ module _ (at : Scope) (h : List Word) where
 
   pub supported_is : least_with at.numbers.n (support_of at.numbers) (λ k. valid_value at.numbers.n (support_of at.numbers) (init at h) (vect_of at h k)) ≡ supported at h
   supported_is =
-      least_same _ (λ v. nat_le (support_of at.numbers) (backers at h v)) (λ v. ap (nat_le (support_of at.numbers)) (backers_are v)) (listed got (replicas at.numbers.n))
-      ∙ ap (least (λ v. nat_le (support_of at.numbers) (backers at h v))) values
+      least_same _ (λ v. nat_le (support_of at.numbers) (vect_backers at h v)) (λ v. ap (nat_le (support_of at.numbers)) (backers_are v)) (listed got (replicas at.numbers.n))
+      ∙ ap (least (λ v. nat_le (support_of at.numbers) (vect_backers at h v))) values
 
-  pub valids_at : count_by (λ k. holds at.numbers.n (support_of at.numbers) (init at h) true (vect_of at h k)) (replicas at.numbers.n) ≡ members at (λ k. is_some (valid at h k))
+  pub valids_at : count_by (λ k. is_valid_vect at.numbers.n (support_of at.numbers) (init at h) true (vect_of at h k)) (replicas at.numbers.n) ≡ count_passing at (λ k. is_some (valid at h k))
   valids_at = count_same _ (λ k. is_some (valid at h k)) (λ k. holds_of (vect_of at h k)) (replicas at.numbers.n)

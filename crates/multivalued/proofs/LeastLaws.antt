@@ -13,7 +13,8 @@ use Rattle.std.proofs.lemmas.Slice.Eq.{bytes_eq-Decides}
 use Rattle.ritas_base.specs.Members.{has_member, member_count}
 use Rattle.ritas_base.specs.History.{replicas, is_value}
 use Rattle.ritas_base.specs.Quorums.{some_member}
-use Rattle.multivalued.specs.Consensus.{push, listed, lesser, least}
+use Rattle.ritas_base.specs.Places.{push, listed}
+use Rattle.multivalued.specs.Consensus.{lesser, least}
 use Rattle.multivalued.specs.Places.{count_of_set}
 use Rattle.multivalued.specs.Entries.{HasEntry}
 use Rattle.multivalued.specs.Least.{is_less, LeastTo, IsLesser, ValueOf}

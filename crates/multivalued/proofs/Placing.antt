@@ -11,7 +11,7 @@ use Rattle.std.proofs.lemmas.Slice.Eq.{bytes_eq-Decides}
 use Rattle.std.proofs.lemmas.List.Quantifiers.{position-Some}
 use Rattle.ritas_base.specs.Members.{has_member}
 use Rattle.ritas_base.specs.History.{is_value}
-use Rattle.multivalued.specs.Entries.{has_claim, passes, claimed, IsEntry, AreEntries, HasEntry, HasPlace}
+use Rattle.multivalued.specs.Entries.{has_claim, passes, claimed, IsEntry, AreEntries, HasEntry, HasEntryPlace}
 use Rattle.multivalued.specs.declared.entry.Entry.{Entry}
 use Rattle.multivalued.proofs.EntryLaws.{claimed_weaker}
 
@@ -24,7 +24,7 @@ is_none (Some x) f = absurd (f x refl)
 abbrev pub IsNew : List ℕ → List Entry → Type 0
 IsNew v es = (i : ℕ) (e : Entry) → slice_get es i ≡ Some e → e.value ≡ v → ⊥
 
-pub found : (es : List Entry) (v : List ℕ) (i : ℕ) (e : Entry) → slice_get es i ≡ Some e → i < length es → bytes_eq e.value v ≡ true → HasPlace v i es es
+pub found : (es : List Entry) (v : List ℕ) (i : ℕ) (e : Entry) → slice_get es i ≡ Some e → i < length es → bytes_eq e.value v ≡ true → HasEntryPlace v i es es
 found es v i e is l t = record {
   here = (e, is, (bytes_eq-Decides e.value v).0 t);
   within = l;
@@ -59,7 +59,7 @@ push_length [] x = omega arith
 push_length (d ∷ es) x = let m = push_length es x in omega (arith, m)
 
 pub made : (es : List Entry) (x : Entry) (v : List ℕ) → x.value ≡ v → ((j : ℕ) → has_member x.inits j ≡ false) → x.claims.items ≡ [] → ((j : ℕ) → has_member x.backs j ≡ false) → IsNew v es
-    → HasPlace v (length es) es (es ++ x ∷ [])
+    → HasEntryPlace v (length es) es (es ++ x ∷ [])
 made es x v value inits claims backs fresh = record {
   here = (x, push_last es x, value);
   within = push_length es x;
@@ -121,7 +121,7 @@ none_found es v e =
     let all = ltb-false (position_or_len test es) (length es) past in
     new_value es v (recursion_from_All (λ b. bytes_eq b.value v ≡ false) es (λ k d lt. let before : k < position_or_len test es = omega (arith, lt, all) in fails_before_first test es k d before))
 
-some_at : (es : List Entry) (v : List ℕ) (i : ℕ) → position (λ e. bytes_eq e.value v) es ≡ Some i → (d : Entry) → HasPlace v i es es
+some_at : (es : List Entry) (v : List ℕ) (i : ℕ) → position (λ e. bytes_eq e.value v) es ≡ Some i → (d : Entry) → HasEntryPlace v i es es
 some_at es v i e d =
     let p = position-Some (λ (x : Entry). bytes_eq x.value v) es i d e in
     found es v i (get_or es i d) (slice_get-get_or es i d p.0) p.0 p.1
@@ -130,5 +130,5 @@ a_member : (es : List Entry) (v : List ℕ) (i : ℕ) → position (λ e. bytes_
 a_member [] v i e = absurd cc
 a_member (d ∷ es) v i e = d
 
-pub place_found : (es : List Entry) (v : List ℕ) (i : ℕ) → position (λ e. bytes_eq e.value v) es ≡ Some i → HasPlace v i es es
+pub place_found : (es : List Entry) (v : List ℕ) (i : ℕ) → position (λ e. bytes_eq e.value v) es ≡ Some i → HasEntryPlace v i es es
 place_found es v i e = some_at es v i e (a_member es v i e)

@@ -10,7 +10,7 @@ use Rattle.std.proofs.lemmas.Slice.Eq.{bytes_eq-Decides}
 use Rattle.ritas_base.specs.Members.{has_member}
 use Rattle.ritas_base.specs.History.{is_value}
 use Rattle.frame_codec.specs.Values.{mask_of}
-use Rattle.multivalued.specs.Entries.{Proposed, Claims, put, passes, claimed, holds, IsEntry, AreEntries, HasAt, HasEntry, KeepsValues}
+use Rattle.multivalued.specs.Entries.{Proposed, Claims, put, passes, claimed, is_valid_vect, IsEntry, AreEntries, HasAt, HasEntry, KeepsValues}
 use Rattle.multivalued.specs.Tables.{IsInside, IsTable, ProposedAt, ClaimedAt}
 use Rattle.multivalued.specs.declared.entry.Entry.{Entry}
 use Rattle.multivalued.specs.declared.table.Table.{Table}
@@ -155,18 +155,18 @@ module _ (n support : ℕ) (small : n ≤ 31) (init vect : ℕ → Option (List 
         });
         inits = λ j. ap (λ (m : ℕ). has_member m j) inits ∙ t.inits j;
         valids = λ j. valids j ∙ (ap₂ (λ (p q : Bool). p || q) (t.valids j) (one j ∙ all true j) ∙ sym (holds_put n support small init vect inside k x nothing true j));
-        valued = λ j. ap (λ (m : ℕ). has_member m j) valued ∙ (t.valued j ∙ sym (holds_put n support small init vect inside k x nothing false j ∙ nothing_more (holds n support init false (vect j)) j));
+        valued = λ j. ap (λ (m : ℕ). has_member m j) valued ∙ (t.valued j ∙ sym (holds_put n support small init vect inside k x nothing false j ∙ nothing_more (is_valid_vect n support init false (vect j)) j));
       }
     where
-      all : (q : Bool) (j : ℕ) → (j == k) ≡ ((j == k) && holds n support init true (Some x))
-      all q j = by (j == k) ∙ ap (λ (y : List ℕ). (j == k) && holds n support init true (Some y)) (sym empty)
+      all : (q : Bool) (j : ℕ) → (j == k) ≡ ((j == k) && is_valid_vect n support init true (Some x))
+      all q j = by (j == k) ∙ ap (λ (y : List ℕ). (j == k) && is_valid_vect n support init true (Some y)) (sym empty)
         where
           by : (b : Bool) → b ≡ (b && true)
           by true = refl
           by false = refl
 
-      nothing_more : (b : Bool) (j : ℕ) → (b || ((j == k) && holds n support init false (Some x))) ≡ b
-      nothing_more b j = ap (λ (y : List ℕ). b || ((j == k) && holds n support init false (Some y))) empty ∙ (ap (λ (c : Bool). b || c) (and-false (j == k)) ∙ or-false b)
+      nothing_more : (b : Bool) (j : ℕ) → (b || ((j == k) && is_valid_vect n support init false (Some x))) ≡ b
+      nothing_more b j = ap (λ (y : List ℕ). b || ((j == k) && is_valid_vect n support init false (Some y))) empty ∙ (ap (λ (c : Bool). b || c) (and-false (j == k)) ∙ or-false b)
 
   -- what is claimed is of the value
   long : (p : ℕ → Bool) → 4 ≤ length x → claimed (drop 4 x) p (Some x) ≡ p (mask_of x)
@@ -183,10 +183,10 @@ module _ (n support : ℕ) (small : n ≤ 31) (init vect : ℕ → Option (List 
       go [] l ne = absurd (omega (arith, l))
       go (b ∷ bs) l ne = ap (λ (t : Bool). t && p (mask_of (b ∷ bs))) (false_from_ne_true (bytes_eq (drop 4 (b ∷ bs)) u) (λ t. ne (sym ((bytes_eq-Decides (drop 4 (b ∷ bs)) u).0 t))))
 
-  holds_is : (q : Bool) → 4 ≤ length x → holds n support init q (Some x) ≡ claimed (drop 4 x) (passes n support init (drop 4 x)) (Some x)
+  holds_is : (q : Bool) → 4 ≤ length x → is_valid_vect n support init q (Some x) ≡ claimed (drop 4 x) (passes n support init (drop 4 x)) (Some x)
   holds_is q l = go x l
     where
-      go : (y : List ℕ) → 4 ≤ length y → holds n support init q (Some y) ≡ claimed (drop 4 y) (passes n support init (drop 4 y)) (Some y)
+      go : (y : List ℕ) → 4 ≤ length y → is_valid_vect n support init q (Some y) ≡ claimed (drop 4 y) (passes n support init (drop 4 y)) (Some y)
       go [] l = absurd (omega (arith, l))
       go (b ∷ bs) l = sym (ap (λ (t : Bool). t && passes n support init (drop 4 (b ∷ bs)) (mask_of (b ∷ bs))) (same_value (drop 4 (b ∷ bs))))
 
@@ -236,18 +236,18 @@ module _ (n support : ℕ) (small : n ≤ 31) (init vect : ℕ → Option (List 
       }
     where
       -- those of the value are valid already
-      within_holds : (q : Bool) (o : Option (List ℕ)) → claimed (drop 4 x) (passes n support init (drop 4 x)) o ≡ true → holds n support init q o ≡ true
+      within_holds : (q : Bool) (o : Option (List ℕ)) → claimed (drop 4 x) (passes n support init (drop 4 x)) o ≡ true → is_valid_vect n support init q o ≡ true
       within_holds q None e = absurd cc
       within_holds q (Some []) e = absurd cc
       within_holds q (Some (b ∷ bs)) e =
           let p = and_parts (bytes_eq (drop 4 (b ∷ bs)) (drop 4 x)) _ e in
           ap (λ (u : List ℕ). passes n support init u (mask_of (b ∷ bs))) ((bytes_eq-Decides (drop 4 (b ∷ bs)) (drop 4 x)).0 p.0) ∙ p.1
 
-      joined : (q : Bool) (j : ℕ) → (holds n support init q (vect j) || (claimed (drop 4 x) (passes n support init (drop 4 x)) (vect j) || ((j == k) && claimed (drop 4 x) (passes n support init (drop 4 x)) (Some x))))
-          ≡ holds n support init q (put vect k x j)
+      joined : (q : Bool) (j : ℕ) → (is_valid_vect n support init q (vect j) || (claimed (drop 4 x) (passes n support init (drop 4 x)) (vect j) || ((j == k) && claimed (drop 4 x) (passes n support init (drop 4 x)) (Some x))))
+          ≡ is_valid_vect n support init q (put vect k x j)
       joined q j =
-          by (holds n support init q (vect j)) (claimed (drop 4 x) (passes n support init (drop 4 x)) (vect j)) ((j == k) && claimed (drop 4 x) (passes n support init (drop 4 x)) (Some x)) (within_holds q (vect j))
-          ∙ (ap (λ (b : Bool). holds n support init q (vect j) || ((j == k) && b)) (sym (holds_is q l)) ∙ sym (holds_put n support small init vect inside k x nothing q j))
+          by (is_valid_vect n support init q (vect j)) (claimed (drop 4 x) (passes n support init (drop 4 x)) (vect j)) ((j == k) && claimed (drop 4 x) (passes n support init (drop 4 x)) (Some x)) (within_holds q (vect j))
+          ∙ (ap (λ (b : Bool). is_valid_vect n support init q (vect j) || ((j == k) && b)) (sym (holds_is q l)) ∙ sym (holds_put n support small init vect inside k x nothing q j))
         where
           by : (a b c : Bool) → (b ≡ true → a ≡ true) → (a || (b || c)) ≡ (a || c)
           by true b c m = refl

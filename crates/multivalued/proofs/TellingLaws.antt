@@ -11,10 +11,10 @@ use Rattle.layer_api.specs.Words.{Word, Ask, bit_byte}
 use Rattle.layer_api.specs.Binary.{BinaryRules, Bench, MayPropose}
 use Rattle.layer_api.specs.Part.{proposed, newly, newly_asked, passed, says_in}
 use Rattle.layer_api.specs.Multi.{Scope, Desk}
-use Rattle.multivalued.specs.Consensus.{init, vect_slot, members, common, told, vect, valid, candidates, is_clear, bit, bit_asked, bit_words, bench_of, is_step}
-use Rattle.multivalued.specs.Tables.{told_by}
+use Rattle.multivalued.specs.Consensus.{init, vect_slot, count_passing, common, vect_told, own_vect, valid, candidates, is_clear, proposed_bit, bit_asked, bit_words, bench_of, is_step}
+use Rattle.multivalued.specs.Tables.{table_told_by}
 use Rattle.multivalued.specs.Known.{IsKnown, vect_of}
-use Rattle.multivalued.specs.Telling.{Tells, AsksBit}
+use Rattle.multivalued.specs.Telling.{TellsVect, AsksBit}
 use Rattle.multivalued.specs.declared.table.Table.{Table}
 use Rattle.multivalued.proofs.KnownLaws.{told_is}
 
@@ -42,43 +42,43 @@ due_asked None false x = refl
 -- ---- the VECT
 
 module _ (at : Scope) (w : List Word) (c : Word) (t : Table) (known : IsKnown at (c ∷ w) t) (small : at.numbers.n ≤ 31) (some : 1 ≤ support_of at.numbers)
-    (own said : Bool) (wait count : ℕ) (own_is : own ≡ is_some (proposed (c ∷ w))) (said_is : said ≡ is_some (vect at w)) (wait_is : wait ≡ wait_of at.numbers)
-    (count_is : count ≡ members at (λ k. is_some (init at (c ∷ w) k))) where
+    (own said : Bool) (wait count : ℕ) (own_is : own ≡ is_some (proposed (c ∷ w))) (said_is : said ≡ is_some (own_vect at w)) (wait_is : wait ≡ wait_of at.numbers)
+    (count_is : count ≡ count_passing at (λ k. is_some (init at (c ∷ w) k))) where
   abbrev condition : Bool
-  condition = is_some (proposed (c ∷ w)) && nat_le (wait_of at.numbers) (members at (λ k. is_some (init at (c ∷ w) k)))
+  condition = is_some (proposed (c ∷ w)) && nat_le (wait_of at.numbers) (count_passing at (λ k. is_some (init at (c ∷ w) k)))
 
-  due_is : ((own && nat_le wait count) && not said) ≡ (condition && not (is_some (vect at w)))
+  due_is : ((own && nat_le wait count) && not said) ≡ (condition && not (is_some (own_vect at w)))
   due_is = rw (own_is, said_is, wait_is, count_is) refl
 
-  pub told_newly : (me : ℕ) (before after : List Say) → Tells ((own && nat_le wait count) && not said) (vect_slot at me) t before after
-      → after ≡ before ++ newly (vect_slot at me) (vect at w) (vect at (c ∷ w))
+  pub told_newly : (me : ℕ) (before after : List Say) → TellsVect ((own && nat_le wait count) && not said) (vect_slot at me) t before after
+      → after ≡ before ++ newly (vect_slot at me) (own_vect at w) (own_vect at (c ∷ w))
   told_newly me before after tells =
       tells at.numbers.n (support_of at.numbers) (init at (c ∷ w)) (vect_of at (c ∷ w)) small some known
-      ∙ (ap (λ (d : Bool). before ++ (if d then record { slot = vect_slot at me; value = told_by at.numbers.n (init at (c ∷ w)) (common at (c ∷ w)) } ∷ [] else [])) due_is
-      ∙ (ap (λ (v : List ℕ). before ++ (if condition && not (is_some (vect at w)) then record { slot = vect_slot at me; value = v } ∷ [] else [])) (told_is at (c ∷ w) (common at (c ∷ w)))
-      ∙ ap (λ (ys : List Say). before ++ ys) (due_newly (vect_slot at me) (vect at w) condition (told at (c ∷ w) (common at (c ∷ w))))))
+      ∙ (ap (λ (d : Bool). before ++ (if d then record { slot = vect_slot at me; value = table_told_by at.numbers.n (init at (c ∷ w)) (common at (c ∷ w)) } ∷ [] else [])) due_is
+      ∙ (ap (λ (v : List ℕ). before ++ (if condition && not (is_some (own_vect at w)) then record { slot = vect_slot at me; value = v } ∷ [] else [])) (told_is at (c ∷ w) (common at (c ∷ w)))
+      ∙ ap (λ (ys : List Say). before ++ ys) (due_newly (vect_slot at me) (own_vect at w) condition (vect_told at (c ∷ w) (common at (c ∷ w))))))
 
-  pub told_now : (said || ((own && nat_le wait count) && not said)) ≡ is_some (vect at (c ∷ w))
-  told_now = ap₂ (λ (a b : Bool). a || b) said_is due_is ∙ due_some (vect at w) condition (told at (c ∷ w) (common at (c ∷ w)))
+  pub told_now : (said || ((own && nat_le wait count) && not said)) ≡ is_some (own_vect at (c ∷ w))
+  told_now = ap₂ (λ (a b : Bool). a || b) said_is due_is ∙ due_some (own_vect at w) condition (vect_told at (c ∷ w) (common at (c ∷ w)))
 
 -- ---- the bit
 
-module _ (at : Desk) (w : List Word) (c : Word) (ready asked : Bool) (wait count : ℕ) (ready_is : ready ≡ is_some (vect at.scope (c ∷ w))) (asked_is : asked ≡ is_some (bit at.scope w))
-    (wait_is : wait ≡ wait_of at.scope.numbers) (count_is : count ≡ members at.scope (λ k. is_some (valid at.scope (c ∷ w) k))) where
+module _ (at : Desk) (w : List Word) (c : Word) (ready asked : Bool) (wait count : ℕ) (ready_is : ready ≡ is_some (own_vect at.scope (c ∷ w))) (asked_is : asked ≡ is_some (proposed_bit at.scope w))
+    (wait_is : wait ≡ wait_of at.scope.numbers) (count_is : count ≡ count_passing at.scope (λ k. is_some (valid at.scope (c ∷ w) k))) where
   abbrev enough : Bool
-  enough = is_some (vect at.scope (c ∷ w)) && nat_le (wait_of at.scope.numbers) (members at.scope (λ k. is_some (valid at.scope (c ∷ w) k)))
+  enough = is_some (own_vect at.scope (c ∷ w)) && nat_le (wait_of at.scope.numbers) (count_passing at.scope (λ k. is_some (valid at.scope (c ∷ w) k)))
 
   abbrev clear : Bool
   clear = list_any (is_clear at.scope (c ∷ w)) (candidates at.scope (c ∷ w))
 
-  bit_due : ((ready && nat_le wait count) && not asked) ≡ (enough && not (is_some (bit at.scope w)))
+  bit_due : ((ready && nat_le wait count) && not asked) ≡ (enough && not (is_some (proposed_bit at.scope w)))
   bit_due = rw (ready_is, asked_is, wait_is, count_is) refl
 
-  pub asked_now : (asked || ((ready && nat_le wait count) && not asked)) ≡ is_some (bit at.scope (c ∷ w))
-  asked_now = ap₂ (λ (a b : Bool). a || b) asked_is bit_due ∙ due_some (bit at.scope w) enough clear
+  pub asked_now : (asked || ((ready && nat_le wait count) && not asked)) ≡ is_some (proposed_bit at.scope (c ∷ w))
+  asked_now = ap₂ (λ (a b : Bool). a || b) asked_is bit_due ∙ due_some (proposed_bit at.scope w) enough clear
 
   pub asked_newly : (if (ready && nat_le wait count) && not asked then Ask (bit_byte clear ∷ []) ∷ [] else []) ≡ newly_asked (bit_asked at.scope w) (bit_asked at.scope (c ∷ w))
-  asked_newly = ap (λ (d : Bool). if d then Ask (bit_byte clear ∷ []) ∷ [] else []) bit_due ∙ due_asked (bit at.scope w) enough clear
+  asked_newly = ap (λ (d : Bool). if d then Ask (bit_byte clear ∷ []) ∷ [] else []) bit_due ∙ due_asked (proposed_bit at.scope w) enough clear
 
   -- the binary instance after its proposal, where it is due
   pub record BitAsked {B : Type 0} (stands : B → Bench → List Word → Type 0) (b : BinaryRules) (new : B) (before after : List Say) : Type 0 where
@@ -87,7 +87,7 @@ module _ (at : Desk) (w : List Word) (c : Word) (ready asked : Bool) (wait count
 
   pub bit_is_asked : {B : Type 0} (stands : B → Bench → List Word → Type 0) (b : BinaryRules) (old new : B) (before after : List Say)
       → stands old (bench_of at) (passed is_step c ++ bit_words at.scope w)
-      → (is_some (bit at.scope w) ≡ false → MayPropose (passed is_step c ++ bit_words at.scope w))
+      → (is_some (proposed_bit at.scope w) ≡ false → MayPropose (passed is_step c ++ bit_words at.scope w))
       → AsksBit stands b ((ready && nat_le wait count) && not asked) clear old new before after → BitAsked stands b new before after
   bit_is_asked {B = B} stands b old new before after stood may asks = go ((ready && nat_le wait count) && not asked) refl
     where

@@ -17,17 +17,10 @@ use Rattle.layer_api.specs.Words.{Word, value_at, bit_byte}
 use Rattle.layer_api.specs.Binary.{BinaryRules, Bench}
 use Rattle.layer_api.specs.Part.{proposed, newly, part_of, part_words, says_in}
 use Rattle.layer_api.specs.Multi.{Scope, Desk, MultiRules, is_multi_slot}
+use Rattle.ritas_base.specs.Places.{push, listed}
+use Rattle.std.specs.Option.{option_flatten}
 
 -- ---- values
-
--- the values that are there
-abbrev pub push : Option (List ℕ) → List (List ℕ) → List (List ℕ)
-push None vs = vs
-push (Some v) vs = v ∷ vs
-
-abbrev pub listed : (ℕ → Option (List ℕ)) → List ℕ → List (List ℕ)
-listed at [] = []
-listed at (k ∷ ks) = push (at k) (listed at ks)
 
 -- the least value in byte order that passes
 abbrev pub lesser : List ℕ → Option (List ℕ) → List ℕ
@@ -54,40 +47,40 @@ abbrev pub has_init : Scope → List Word → List ℕ → ℕ → Bool
 has_init at w v k = is_value v (init at w k)
 
 -- so many replicas pass
-abbrev pub members : Scope → (ℕ → Bool) → ℕ
-members at test = count_by test (replicas at.numbers.n)
+abbrev pub count_passing : Scope → (ℕ → Bool) → ℕ
+count_passing at test = count_by test (replicas at.numbers.n)
 
 -- ---- the VECT
 
 -- the least value that n - 2f replicas proposed
 abbrev pub common : Scope → List Word → Option (List ℕ)
 common at h =
-    least (λ v. nat_le (support_of at.numbers) (members at (has_init at h v))) (listed (init at h) (replicas at.numbers.n))
+    least (λ v. nat_le (support_of at.numbers) (count_passing at (has_init at h v))) (listed (init at h) (replicas at.numbers.n))
 
 -- it is told with all that proposed it; that there is none is told by no bytes
-abbrev pub told : Scope → List Word → Option (List ℕ) → List ℕ
-told at h None = []
-told at h (Some v) = vect_bytes (mask_l (map (has_init at h v) (replicas at.numbers.n))) v
+abbrev pub vect_told : Scope → List Word → Option (List ℕ) → List ℕ
+vect_told at h None = []
+vect_told at h (Some v) = vect_bytes (mask_l (map (has_init at h v) (replicas at.numbers.n))) v
 
 -- it is said at the shortest prefix where something is proposed and n - f proposals are there
-abbrev pub vect_at : Scope → List Word → Option (List ℕ)
-vect_at at h =
-    if is_some (proposed h) && nat_le (wait_of at.numbers) (members at (λ k. is_some (init at h k))) then Some (told at h (common at h)) else None
+abbrev pub vect_now : Scope → List Word → Option (List ℕ)
+vect_now at h =
+    if is_some (proposed h) && nat_le (wait_of at.numbers) (count_passing at (λ k. is_some (init at h k))) then Some (vect_told at h (common at h)) else None
 
-abbrev pub vect : Scope → List Word → Option (List ℕ)
-vect at w = at_shortest (vect_at at) w
+abbrev pub own_vect : Scope → List Word → Option (List ℕ)
+own_vect at w = at_shortest (vect_now at) w
 
 -- ---- valid VECTs
 
 -- a VECT of v is valid where n - 2f of its places proposed v
-abbrev pub backed : Scope → List Word → ℕ → List ℕ → Option (Option (List ℕ))
-backed at h mask v = if nat_le (support_of at.numbers) (members at (λ k. has_member mask k && has_init at h v k)) then Some (Some v) else None
+abbrev pub backed_vect : Scope → List Word → ℕ → List ℕ → Option (Option (List ℕ))
+backed_vect at h mask v = if nat_le (support_of at.numbers) (count_passing at (λ k. has_member mask k && has_init at h v k)) then Some (Some v) else None
 
 -- one of none is valid
 abbrev pub valid_of : Scope → List Word → Option (List ℕ) → Option (Option (List ℕ))
 valid_of at h None = None
 valid_of at h (Some []) = Some None
-valid_of at h (Some (b ∷ bs)) = backed at h (mask_of (b ∷ bs)) (drop 4 (b ∷ bs))
+valid_of at h (Some (b ∷ bs)) = backed_vect at h (mask_of (b ∷ bs)) (drop 4 (b ∷ bs))
 
 -- what the valid VECT of k has
 abbrev pub valid : Scope → List Word → ℕ → Option (Option (List ℕ))
@@ -102,31 +95,27 @@ is_other v None = false
 is_other v (Some None) = false
 is_other v (Some (Some u)) = not (bytes_eq u v)
 
-abbrev pub valued : Option (Option (List ℕ)) → Option (List ℕ)
-valued None = None
-valued (Some o) = o
-
 -- how many valid VECTs have v
-abbrev pub backers : Scope → List Word → List ℕ → ℕ
-backers at h v = members at (λ k. is_of v (valid at h k))
+abbrev pub vect_backers : Scope → List Word → List ℕ → ℕ
+vect_backers at h v = count_passing at (λ k. is_of v (valid at h k))
 
 -- the values of valid VECTs
 abbrev pub candidates : Scope → List Word → List (List ℕ)
-candidates at h = listed (λ k. valued (valid at h k)) (replicas at.numbers.n)
+candidates at h = listed (λ k. option_flatten (valid at h k)) (replicas at.numbers.n)
 
 -- ---- the bit
 
 -- n - 2f valid VECTs have v, and none has another value
 abbrev pub is_clear : Scope → List Word → List ℕ → Bool
-is_clear at h v = nat_le (support_of at.numbers) (backers at h v) && (members at (λ k. is_other v (valid at h k)) == 0)
+is_clear at h v = nat_le (support_of at.numbers) (vect_backers at h v) && (count_passing at (λ k. is_other v (valid at h k)) == 0)
 
 -- it is proposed at the shortest prefix where the VECT is said and n - f VECTs are valid
 abbrev pub bit_at : Scope → List Word → Option Bool
 bit_at at h =
-    if is_some (vect at h) && nat_le (wait_of at.numbers) (members at (λ k. is_some (valid at h k))) then Some (list_any (is_clear at h) (candidates at h)) else None
+    if is_some (own_vect at h) && nat_le (wait_of at.numbers) (count_passing at (λ k. is_some (valid at h k))) then Some (list_any (is_clear at h) (candidates at h)) else None
 
-abbrev pub bit : Scope → List Word → Option Bool
-bit at w = at_shortest (bit_at at) w
+abbrev pub proposed_bit : Scope → List Word → Option Bool
+proposed_bit at w = at_shortest (bit_at at) w
 
 -- ---- the binary instance
 
@@ -137,7 +126,7 @@ abbrev pub is_step : Slot → Bool
 is_step s = s.class == 5
 
 abbrev pub bit_asked : Scope → List Word → Option (List ℕ)
-bit_asked at w = option_map (λ b. bit_byte b ∷ []) (bit at w)
+bit_asked at w = option_map (λ b. bit_byte b ∷ []) (proposed_bit at w)
 
 -- its words
 abbrev pub bit_words : Scope → List Word → List Word
@@ -147,39 +136,39 @@ bit_words at w = part_words (bit_asked at) is_step w
 
 -- the least value that n - 2f valid VECTs have
 abbrev pub supported : Scope → List Word → Option (List ℕ)
-supported at h = least (λ v. nat_le (support_of at.numbers) (backers at h v)) (candidates at h)
+supported at h = least (λ v. nat_le (support_of at.numbers) (vect_backers at h v)) (candidates at h)
 
 -- no value where the binary instance decided 0, and where it decided 1 the supported one, if one is
-abbrev pub verdict : Option Bool → Option (List ℕ) → Option (Option (List ℕ))
-verdict None o = None
-verdict (Some false) o = Some None
-verdict (Some true) None = None
-verdict (Some true) (Some v) = Some (Some v)
+abbrev pub multi_verdict : Option Bool → Option (List ℕ) → Option (Option (List ℕ))
+multi_verdict None o = None
+multi_verdict (Some false) o = Some None
+multi_verdict (Some true) None = None
+multi_verdict (Some true) (Some v) = Some (Some v)
 
 abbrev pub decision_at : BinaryRules → Desk → List Word → Option (Option (List ℕ))
-decision_at b at h = verdict (b.decision (bench_of at) (bit_words at.scope h)) (supported at.scope h)
+decision_at b at h = multi_verdict (b.decision (bench_of at) (bit_words at.scope h)) (supported at.scope h)
 
 -- it is decided at the shortest prefix with a verdict
-abbrev pub decision : BinaryRules → Desk → List Word → Option (Option (List ℕ))
-decision b at w = at_shortest (decision_at b at) w
+abbrev pub multi_decision : BinaryRules → Desk → List Word → Option (Option (List ℕ))
+multi_decision b at w = at_shortest (decision_at b at) w
 
 -- this instance's decision, and the bit of the binary one inside it
-abbrev pub inside_of : Scope → Option Bool → Option (Option (List ℕ)) → Instance → Option Decision
-inside_of at bit o (OfBit a attempt) = if a == at.a && attempt == at.attempt then option_map Bit bit else None
-inside_of at bit o (OfValue a attempt) = if a == at.a && attempt == at.attempt then option_map value_decision o else None
-inside_of at bit o (OfVector a) = None
+abbrev pub multi_inside : Scope → Option Bool → Option (Option (List ℕ)) → Instance → Option Decision
+multi_inside at bit o (OfBit a attempt) = if a == at.a && attempt == at.attempt then option_map Bit bit else None
+multi_inside at bit o (OfValue a attempt) = if a == at.a && attempt == at.attempt then option_map value_decision o else None
+multi_inside at bit o (OfVector a) = None
 
-abbrev pub opens_at : Scope → List Word → ℕ → Slot → Bool
-opens_at at w round s = is_multi_slot at s && (if is_step s then is_some (bit_asked at w) && nat_le s.bround (round + 1) else is_some (proposed w))
+abbrev pub multi_opens : Scope → List Word → ℕ → Slot → Bool
+multi_opens at w round s = is_multi_slot at s && (if is_step s then is_some (bit_asked at w) && nat_le s.bround (round + 1) else is_some (proposed w))
 
 -- multi-valued consensus over binary consensus
 abbrev pub multivalued : BinaryRules → MultiRules
 multivalued b = record {
   says = λ at w c.
       newly (init_slot at.scope at.me) (proposed w) (proposed (c ∷ w))
-      ++ (newly (vect_slot at.scope at.me) (vect at.scope w) (vect at.scope (c ∷ w))
+      ++ (newly (vect_slot at.scope at.me) (own_vect at.scope w) (own_vect at.scope (c ∷ w))
       ++ says_in (b.says (bench_of at)) (part_of (bit_asked at.scope) is_step w c) (bit_words at.scope w));
-  opens = λ at w s. opens_at at.scope w (b.round (bench_of at) (bit_words at.scope w)) s;
-  decision = λ at w. decision b at w;
-  inside = λ at w x. inside_of at.scope (b.decision (bench_of at) (bit_words at.scope w)) (decision b at w) x;
+  opens = λ at w s. multi_opens at.scope w (b.round (bench_of at) (bit_words at.scope w)) s;
+  decision = λ at w. multi_decision b at w;
+  inside = λ at w x. multi_inside at.scope (b.decision (bench_of at) (bit_words at.scope w)) (multi_decision b at w) x;
 }

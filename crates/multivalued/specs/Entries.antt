@@ -6,7 +6,7 @@ use Rattle.std.specs.Str.{bytes_eq}
 use Rattle.ritas_base.specs.Members.{has_member}
 use Rattle.ritas_base.specs.History.{replicas, is_value}
 use Rattle.frame_codec.specs.Values.{mask_of}
-use Rattle.multivalued.specs.Places.{is_backed}
+use Rattle.multivalued.specs.Places.{are_places_backed}
 use Rattle.multivalued.specs.declared.entry.Claim.{Claim}
 use Rattle.multivalued.specs.declared.entry.Entry.{Entry}
 
@@ -19,14 +19,14 @@ pub record Proposed (support who : ℕ) (old new : Entry) : Type 0 where
   pub value : new.value ≡ old.value
   pub claims : new.claims ≡ old.claims
   pub inits : (j : ℕ) → has_member new.inits j ≡ (has_member old.inits j || has_member who j)
-  pub backs : (j : ℕ) → has_member new.backs j ≡ (has_member old.backs j || has_claim (λ places. is_backed support places new.inits) j old.claims.items)
+  pub backs : (j : ℕ) → has_member new.backs j ≡ (has_member old.backs j || has_claim (λ places. are_places_backed support places new.inits) j old.claims.items)
 
 -- one more VECT has the value, with these places
 pub record Claims (support who places : ℕ) (old new : Entry) : Type 0 where
   pub value : new.value ≡ old.value
   pub inits : new.inits ≡ old.inits
   pub claims : (p : ℕ → Bool) (j : ℕ) → has_claim p j new.claims.items ≡ (has_claim p j old.claims.items || (has_member who j && p places))
-  pub backs : (j : ℕ) → has_member new.backs j ≡ (has_member old.backs j || (has_member who j && is_backed support places old.inits))
+  pub backs : (j : ℕ) → has_member new.backs j ≡ (has_member old.backs j || (has_member who j && are_places_backed support places old.inits))
 
 -- ---- what is known of the replicas
 
@@ -44,10 +44,10 @@ claimed v p (Some []) = false
 claimed v p (Some (b ∷ bs)) = bytes_eq (drop 4 (b ∷ bs)) v && p (mask_of (b ∷ bs))
 
 -- the VECT is valid; one of none counts as q says
-abbrev pub holds : ℕ → ℕ → (ℕ → Option (List ℕ)) → Bool → Option (List ℕ) → Bool
-holds n support init q None = false
-holds n support init q (Some []) = q
-holds n support init q (Some (b ∷ bs)) = passes n support init (drop 4 (b ∷ bs)) (mask_of (b ∷ bs))
+abbrev pub is_valid_vect : ℕ → ℕ → (ℕ → Option (List ℕ)) → Bool → Option (List ℕ) → Bool
+is_valid_vect n support init q None = false
+is_valid_vect n support init q (Some []) = q
+is_valid_vect n support init q (Some (b ∷ bs)) = passes n support init (drop 4 (b ∷ bs)) (mask_of (b ∷ bs))
 
 -- an entry tells what is known
 pub record IsEntry (n support : ℕ) (init vect : ℕ → Option (List ℕ)) (e : Entry) : Type 0 where
@@ -79,7 +79,7 @@ abbrev pub KeepsValues : List Entry → List Entry → Type 0
 KeepsValues old new = (j : ℕ) (e : Entry) → slice_get old j ≡ Some e → HasAt new j e.value
 
 -- the value has an entry at this place
-pub record HasPlace (v : List ℕ) (i : ℕ) (old new : List Entry) : Type 0 where
+pub record HasEntryPlace (v : List ℕ) (i : ℕ) (old new : List Entry) : Type 0 where
   pub here : HasAt new i v
   pub within : i < length new
   pub keeps : KeepsValues old new

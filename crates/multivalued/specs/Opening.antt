@@ -6,8 +6,8 @@ use Rattle.multivalued.specs.declared.part.Part.{Part}
 use Rattle.multivalued.specs.declared.settling.Progress.{Progress}
 
 -- those of a step up to one round ahead, once the bit is proposed, and the others once a value is
-abbrev pub is_allowed : Progress → ℕ → ℕ → Bool
-is_allowed now class bround = if class == 5 then now.asked && nat_le bround (now.round + 1) else now.own
+abbrev pub is_class_allowed : Progress → ℕ → ℕ → Bool
+is_class_allowed now class bround = if class == 5 then now.asked && nat_le bround (now.round + 1) else now.own
 
-abbrev pub opens_by : Part → Progress → Slot → Bool
-opens_by part now s = is_slot_of part.a part.attempt s && is_allowed now s.class s.bround
+abbrev pub part_opens : Part → Progress → Slot → Bool
+part_opens part now s = is_slot_of part.a part.attempt s && is_class_allowed now s.class s.bround

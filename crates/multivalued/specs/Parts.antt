@@ -6,11 +6,11 @@ use Rattle.layer_api.specs.Multi.{Desk}
 use Rattle.multivalued.specs.declared.part.Part.{Part}
 
 -- the part's own slot of a class below 5
-abbrev pub own_slot : Part → ℕ → Slot
-own_slot part class = record { class = class; a = part.a; attempt = part.attempt; bround = 0; step = 0; origin = part.me }
+abbrev pub own_class_slot : Part → ℕ → Slot
+own_class_slot part class = record { class = class; a = part.a; attempt = part.attempt; bround = 0; step = 0; origin = part.me }
 
 -- the part is that of the desk
-pub record IsPart (part : Part) (at : Desk) : Type 0 where
+pub record IsMultiPart (part : Part) (at : Desk) : Type 0 where
   pub session : IsSession at.scope.numbers
   pub me : part.me ≡ at.me
   pub a : part.a ≡ at.scope.a

@@ -9,8 +9,8 @@ use Rattle.ritas_base.specs.Quorums.{count_same}
 use Rattle.ritas_base.specs.RangeLaws.{range_more}
 
 -- so many of the places are among those who proposed
-abbrev pub is_backed : ℕ → ℕ → ℕ → Bool
-is_backed support places inits = nat_le support (count_by (λ k. has_member places k && has_member inits k) (range_with_len 0 32))
+abbrev pub are_places_backed : ℕ → ℕ → ℕ → Bool
+are_places_backed support places inits = nat_le support (count_by (λ k. has_member places k && has_member inits k) (range_with_len 0 32))
 
 -- where none from n on passes, those below n are all
 count_to : (p : ℕ → Bool) (n d w : ℕ) → ((k : ℕ) → n ≤ k → p k ≡ false) → w ≡ n + d → count_by p (range_with_len 0 w) ≡ count_by p (replicas n)

@@ -11,8 +11,8 @@ use Rattle.ritas_base.specs.declared.mode.FrameVersion.TheVariants.{One}
 use Rattle.std.proofs.Common.{lit≤}
 use Rattle.layer_api.specs.Binary.{BinaryRules}
 use Rattle.layer_api.specs.Multi.{Scope, Desk}
-use Rattle.multivalued.specs.Consensus.{init_slot, vect_slot, vect, bit, bit_asked, bit_words, supported, verdict, decision, multivalued}
-use Rattle.multivalued.specs.Root.{decided_in}
+use Rattle.multivalued.specs.Consensus.{init_slot, vect_slot, own_vect, proposed_bit, bit_asked, bit_words, supported, multi_verdict, multi_decision, multivalued}
+use Rattle.multivalued.specs.Root.{multi_decided_in}
 
 -- four replicas, of which one may be faulty
 abbrev four : Scope
@@ -41,18 +41,18 @@ of_62 k = vote four k (0 ∷ 0 ∷ 0 ∷ 12 ∷ 0x62 ∷ [])
 -- ---- the VECT
 
 -- the VECT is 61 of the places 0 and 1
-vect_of_three : vect four three ≡ Some (0 ∷ 0 ∷ 0 ∷ 3 ∷ 0x61 ∷ [])
+vect_of_three : own_vect four three ≡ Some (0 ∷ 0 ∷ 0 ∷ 3 ∷ 0x61 ∷ [])
 vect_of_three = refl
 
 -- it stays so, though 62 has as many places with the fourth proposal
-vect_stays : vect four (init four 3 (0x62 ∷ []) ∷ three) ≡ Some (0 ∷ 0 ∷ 0 ∷ 3 ∷ 0x61 ∷ [])
+vect_stays : own_vect four (init four 3 (0x62 ∷ []) ∷ three) ≡ Some (0 ∷ 0 ∷ 0 ∷ 3 ∷ 0x61 ∷ [])
 vect_stays = refl
 
-not_before : vect four (init four 1 (0x61 ∷ []) ∷ init four 0 (0x61 ∷ []) ∷ Ask (0x61 ∷ []) ∷ []) ≡ None
+not_before : own_vect four (init four 1 (0x61 ∷ []) ∷ init four 0 (0x61 ∷ []) ∷ Ask (0x61 ∷ []) ∷ []) ≡ None
 not_before = refl
 
 -- three proposals without two alike: the VECT is none
-no_common : vect four (init four 2 (0x63 ∷ []) ∷ init four 1 (0x62 ∷ []) ∷ init four 0 (0x61 ∷ []) ∷ Ask (0x61 ∷ []) ∷ []) ≡ Some []
+no_common : own_vect four (init four 2 (0x63 ∷ []) ∷ init four 1 (0x62 ∷ []) ∷ init four 0 (0x61 ∷ []) ∷ Ask (0x61 ∷ []) ∷ []) ≡ Some []
 no_common = refl
 
 -- ---- the bit
@@ -70,27 +70,27 @@ unfolding mask_of has_member
 both_words = refl
 
 -- without the fourth proposal the VECT of 62 isn't valid yet, and nothing is proposed
-not_valid_yet : bit four (of_62 2 ∷ of_61 1 ∷ of_61 0 ∷ three) ≡ None
+not_valid_yet : proposed_bit four (of_62 2 ∷ of_61 1 ∷ of_61 0 ∷ three) ≡ None
 unfolding mask_of has_member
 not_valid_yet = refl
 
 -- two VECTs of 61 and one of none: the bit is 1
-one_of_none : bit four (vote four 3 [] ∷ of_61 1 ∷ of_61 0 ∷ three) ≡ Some true
+one_of_none : proposed_bit four (vote four 3 [] ∷ of_61 1 ∷ of_61 0 ∷ three) ≡ Some true
 unfolding mask_of has_member
 one_of_none = refl
 
 -- ---- the decision
 
 -- decided 0, the decision is none; decided 1, it is 61
-nothing : verdict (Some false) (supported four both) ≡ Some None
+nothing : multi_verdict (Some false) (supported four both) ≡ Some None
 nothing = refl
 
-value : verdict (Some true) (supported four both) ≡ Some (Some (0x61 ∷ []))
+value : multi_verdict (Some true) (supported four both) ≡ Some (Some (0x61 ∷ []))
 unfolding mask_of has_member
 value = refl
 
 -- decided 1 without a supported value, there is no decision yet
-no_support : verdict (Some true) (supported four (of_61 0 ∷ three)) ≡ None
+no_support : multi_verdict (Some true) (supported four (of_61 0 ∷ three)) ≡ None
 unfolding mask_of has_member
 no_support = refl
 
@@ -121,39 +121,39 @@ later_61 = of_61 1 ∷ of_61 0 ∷ of_62 3 ∷ of_62 2 ∷ all_four
 abbrev earlier_61 : List Word
 earlier_61 = of_62 3 ∷ of_62 2 ∷ of_61 1 ∷ of_61 0 ∷ all_four
 
-least_of_later : decision at_once desk (heard_bit 1 ∷ later_61) ≡ Some (Some (0x61 ∷ []))
+least_of_later : multi_decision at_once desk (heard_bit 1 ∷ later_61) ≡ Some (Some (0x61 ∷ []))
 unfolding mask_of has_member
 least_of_later = refl
 
-least_of_earlier : decision at_once desk (heard_bit 1 ∷ earlier_61) ≡ Some (Some (0x61 ∷ []))
+least_of_earlier : multi_decision at_once desk (heard_bit 1 ∷ earlier_61) ≡ Some (Some (0x61 ∷ []))
 unfolding mask_of has_member
 least_of_earlier = refl
 
 -- before the bit there is no decision, though both values have their support
-undecided_later : decision at_once desk later_61 ≡ None
+undecided_later : multi_decision at_once desk later_61 ≡ None
 unfolding mask_of has_member
 undecided_later = refl
 
-undecided_earlier : decision at_once desk earlier_61 ≡ None
+undecided_earlier : multi_decision at_once desk earlier_61 ≡ None
 unfolding mask_of has_member
 undecided_earlier = refl
 
 -- with the bit decided 1 after the support of 62 alone, it is 62, and stays so when 61 has its support
-first_support : decision at_once desk (of_61 1 ∷ of_61 0 ∷ heard_bit 1 ∷ of_62 3 ∷ of_62 2 ∷ all_four) ≡ Some (Some (0x62 ∷ []))
+first_support : multi_decision at_once desk (of_61 1 ∷ of_61 0 ∷ heard_bit 1 ∷ of_62 3 ∷ of_62 2 ∷ all_four) ≡ Some (Some (0x62 ∷ []))
 unfolding mask_of has_member
 first_support = refl
 
 -- with the bit decided 1 before any value has its support, the decision waits for it
-support_after : decision at_once desk (of_62 3 ∷ of_62 2 ∷ heard_bit 1 ∷ all_four) ≡ Some (Some (0x62 ∷ []))
+support_after : multi_decision at_once desk (of_62 3 ∷ of_62 2 ∷ heard_bit 1 ∷ all_four) ≡ Some (Some (0x62 ∷ []))
 unfolding mask_of has_member
 support_after = refl
 
-not_supported : decision at_once desk (of_62 2 ∷ heard_bit 1 ∷ all_four) ≡ None
+not_supported : multi_decision at_once desk (of_62 2 ∷ heard_bit 1 ∷ all_four) ≡ None
 unfolding mask_of has_member
 not_supported = refl
 
 -- with the bit decided 0 it is none, whatever has its support
-none_of_zero : decision at_once desk (heard_bit 0 ∷ later_61) ≡ Some None
+none_of_zero : multi_decision at_once desk (heard_bit 0 ∷ later_61) ≡ Some None
 unfolding mask_of has_member
 none_of_zero = refl
 
@@ -162,7 +162,7 @@ none_of_zero = refl
 abbrev alone : List Word
 alone = vote one 0 (0 ∷ 0 ∷ 0 ∷ 1 ∷ 0x61 ∷ []) ∷ init one 0 (0x61 ∷ []) ∷ Ask (0x61 ∷ []) ∷ []
 
-alone_says : vect one alone ≡ Some (0 ∷ 0 ∷ 0 ∷ 1 ∷ 0x61 ∷ [])
+alone_says : own_vect one alone ≡ Some (0 ∷ 0 ∷ 0 ∷ 1 ∷ 0x61 ∷ [])
 alone_says = refl
 
 alone_proposes : bit_words one alone ≡ Ask (1 ∷ []) ∷ []
@@ -186,14 +186,14 @@ inside_of_another = refl
 abbrev seat : Seat
 seat = record { numbers = four.numbers; mode = record { root = 4; vect = Echo; version = One; low = lit≤ tt; high = lit≤ tt }; me = 0; coin = λ s. false }
 
-root_bit : decided_in (multivalued at_once) seat (heard_bit 1 ∷ later_61) (OfBit 0 0) ≡ Some (Bit true)
+root_bit : multi_decided_in (multivalued at_once) seat (heard_bit 1 ∷ later_61) (OfBit 0 0) ≡ Some (Bit true)
 unfolding mask_of has_member
 root_bit = refl
 
-root_value : decided_in (multivalued at_once) seat (heard_bit 1 ∷ later_61) (OfValue 0 0) ≡ Some (Value (0x61 ∷ []))
+root_value : multi_decided_in (multivalued at_once) seat (heard_bit 1 ∷ later_61) (OfValue 0 0) ≡ Some (Value (0x61 ∷ []))
 unfolding mask_of has_member
 root_value = refl
 
-root_nothing : decided_in (multivalued at_once) seat (heard_bit 0 ∷ later_61) (OfValue 0 0) ≡ Some Nothing
+root_nothing : multi_decided_in (multivalued at_once) seat (heard_bit 0 ∷ later_61) (OfValue 0 0) ≡ Some Nothing
 unfolding mask_of has_member
 root_nothing = refl

@@ -6,8 +6,9 @@ use Rattle.ritas_base.specs.History.{replicas, is_value}
 use Rattle.frame_codec.specs.Values.{mask_of, vect_bytes}
 use Rattle.std.specs.Simd.Lanes.{mask_l}
 use Rattle.ritas_base.specs.Members.{has_member}
-use Rattle.multivalued.specs.Entries.{passes, Proposed, Claims, put, holds, AreEntries}
-use Rattle.multivalued.specs.Consensus.{listed, least}
+use Rattle.multivalued.specs.Entries.{passes, Proposed, Claims, put, is_valid_vect, AreEntries}
+use Rattle.ritas_base.specs.Places.{listed}
+use Rattle.multivalued.specs.Consensus.{least}
 use Rattle.multivalued.specs.declared.entry.Entry.{Entry}
 use Rattle.multivalued.specs.declared.table.Table.{Table}
 
@@ -21,8 +22,8 @@ pub record IsTable (n support : ℕ) (init vect : ℕ → Option (List ℕ)) (t 
   pub vects_inside : IsInside n vect
   pub entries : AreEntries n support init vect t.entries.items
   pub inits : (j : ℕ) → has_member t.inits j ≡ is_some (init j)
-  pub valids : (j : ℕ) → has_member t.valids j ≡ holds n support init true (vect j)
-  pub valued : (j : ℕ) → has_member t.valued j ≡ holds n support init false (vect j)
+  pub valids : (j : ℕ) → has_member t.valids j ≡ is_valid_vect n support init true (vect j)
+  pub valued : (j : ℕ) → has_member t.valued j ≡ is_valid_vect n support init false (vect j)
 
 -- one more replica proposes the value of an entry
 pub record ProposedAt (support who i : ℕ) (old new : List Entry) (backs : ℕ) : Type 0 where
@@ -39,8 +40,8 @@ pub record ClaimedAt (support who places i : ℕ) (old new : List Entry) (backs 
   pub backs_are : backs ≡ entry.backs
 
 -- replica k's proposal v is heard
-abbrev pub HearsInit : ℕ → List ℕ → Table → Table → Type 0
-HearsInit k v old new =
+abbrev pub HearsProposal : ℕ → List ℕ → Table → Table → Type 0
+HearsProposal k v old new =
     (n support : ℕ) (init vect : ℕ → Option (List ℕ)) → n ≤ 31 → k < n → init k ≡ None
     → IsTable n support init vect old → IsTable n support (put init k v) vect new
 
@@ -80,6 +81,6 @@ abbrev pub Asked : Table → (ℕ → ℕ → (ℕ → Option (List ℕ)) → (�
 Asked t P = (n support : ℕ) (init vect : ℕ → Option (List ℕ)) → n ≤ 31 → 1 ≤ support → IsTable n support init vect t → P n support init vect
 
 -- a value is told with all that proposed it; that there is none is told by no bytes
-abbrev pub told_by : ℕ → (ℕ → Option (List ℕ)) → Option (List ℕ) → List ℕ
-told_by n init None = []
-told_by n init (Some v) = vect_bytes (mask_l (map (λ k. is_value v (init k)) (replicas n))) v
+abbrev pub table_told_by : ℕ → (ℕ → Option (List ℕ)) → Option (List ℕ) → List ℕ
+table_told_by n init None = []
+table_told_by n init (Some v) = vect_bytes (mask_l (map (λ k. is_value v (init k)) (replicas n))) v

@@ -1,8 +1,8 @@
 //! What a call does: a proposal of one's own, or what a slot delivered.
 
 ghost use Rattle.std.specs.Prelude.{◌≡◌, ℕ, [], ◌∷◌, IfOk};
-ghost use Rattle.multivalued.specs.Holding.{Starts, FollowsInit, FollowsVect, FollowsVote};
-ghost use Rattle.multivalued.specs.Stands.{FollowsSlot, Keeps};
+ghost use Rattle.multivalued.specs.Holding.{StartsProposal, FollowsInit, FollowsVect, FollowsVote};
+ghost use Rattle.multivalued.specs.Stands.{FollowsSlot, KeepsBox};
 
 use crate::mvc::Mvc;
 use crate::settling::{Progress, decide, settle};
@@ -19,8 +19,8 @@ impl<B: BinaryBox> Mvc<B> {
         value: &[u8],
         made: &mut Vec<Say>,
     ) -> Result<Progress, Mem>
-        ensures ok { IfOk result (λ next. Starts B.stands B.rules self.old self.new next made.old.items made.new.items value.now) }
-        ensures keeps { Keeps self.old self.new }
+        ensures ok { IfOk result (λ next. StartsProposal B.stands B.rules self.old self.new next made.old.items made.new.items value.now) }
+        ensures keeps { KeepsBox self.old self.new }
     {
         let value = Bytes::from_slice(alloc, value)?;
         let slot = self.part.slot(3);
@@ -41,7 +41,7 @@ impl<B: BinaryBox> Mvc<B> {
         made: &mut Vec<Say>,
     ) -> Result<Progress, Mem>
         ensures ok { IfOk result (λ next. FollowsInit B.stands B.rules self.old self.new next made.old.items made.new.items k value.now) }
-        ensures keeps { Keeps self.old self.new }
+        ensures keeps { KeepsBox self.old self.new }
     {
         self.table.hear_init(alloc, k, value)?;
         settle(
@@ -63,7 +63,7 @@ impl<B: BinaryBox> Mvc<B> {
         made: &mut Vec<Say>,
     ) -> Result<Progress, Mem>
         ensures ok { IfOk result (λ next. FollowsVect B.stands B.rules self.old self.new next made.old.items made.new.items k value.now) }
-        ensures keeps { Keeps self.old self.new }
+        ensures keeps { KeepsBox self.old self.new }
     {
         self.table.hear_vect(alloc, k, value)?;
         settle(
@@ -86,7 +86,7 @@ impl<B: BinaryBox> Mvc<B> {
         made: &mut Vec<Say>,
     ) -> Result<Progress, Mem>
         ensures ok { IfOk result (λ next. FollowsVote B.stands B.rules self.old self.new next made.old.items made.new.items (C.bits coin.now) slot.now vote) }
-        ensures keeps { Keeps self.old self.new }
+        ensures keeps { KeepsBox self.old self.new }
     {
         self.inner.heard(alloc, coin, slot, vote, made)?;
         Ok(Progress {
@@ -106,7 +106,7 @@ impl<B: BinaryBox> Mvc<B> {
         made: &mut Vec<Say>,
     ) -> Result<Progress, Mem>
         ensures ok { IfOk result (λ next. FollowsSlot B.stands B.rules self.old self.new next made.old.items made.new.items (C.bits coin.now) slot.now value.now) }
-        ensures keeps { Keeps self.old self.new }
+        ensures keeps { KeepsBox self.old self.new }
     {
         match slot.class {
             3 => self.hear_init(alloc, slot.origin, value, made),

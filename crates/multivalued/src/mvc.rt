@@ -1,6 +1,6 @@
 //! One instance of multi-valued consensus, over any binary consensus.
 
-ghost use Rattle.multivalued.specs.Stands.{Ends};
+ghost use Rattle.multivalued.specs.Stands.{MultiEnds};
 
 use crate::opening::is_open;
 use crate::part::Part;
@@ -32,7 +32,7 @@ impl<B: BinaryBox> Mvc<B> {
         made: &mut Vec<Say>,
         says: &mut Vec<Say>,
     ) -> Result<(), Mem>
-        ensures { Ends self.old self.new next made.old.items says.old.items says.new.items result }
+        ensures { MultiEnds self.old self.new next made.old.items says.old.items says.new.items result }
     {
         match put_out(next, made, says) {
             Ok(place) => {
@@ -51,15 +51,15 @@ impl<B: BinaryBox> MultiBox for Mvc<B> {
     ghost use Rattle.multivalued.specs.Consensus.{multivalued};
     ghost use Rattle.multivalued.specs.Laws.Box.{multi_laws_law};
     ghost use Rattle.multivalued.specs.Laws.OneDecision.{one_decision_law};
-    ghost use Rattle.multivalued.specs.Stands.{Stands, shown_by, shows_multi};
+    ghost use Rattle.multivalued.specs.Stands.{MultiStands, multi_shown, shows_multi};
 
-    ghost stands = { Stands B.stands B.rules };
+    ghost stands = { MultiStands B.stands B.rules };
 
     ghost rules = { multivalued B.rules };
 
     ghost live = { λ x. x.live };
 
-    ghost shown = { shown_by };
+    ghost shown = { multi_shown };
 
     fn new(alloc: Global, p: &Params, me: u8, a: u32, attempt: u8) -> Result<Mvc<B>, Mem> {
         Ok(Mvc {

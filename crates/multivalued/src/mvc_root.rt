@@ -17,18 +17,18 @@ pub struct MvcRoot<M: MultiBox> {
 
 impl<M: MultiBox> Service for MvcRoot<M> {
     ghost use Rattle.std.specs.Prelude.{◌≡◌};
-    ghost use Rattle.multivalued.specs.Root.{desk_of, multi_root};
+    ghost use Rattle.multivalued.specs.Root.{multi_root_desk, multi_root};
     ghost use Rattle.multivalued.specs.Laws.RootWords.{root_word_laws};
     ghost use Rattle.multivalued.specs.Laws.RootLog.{root_log};
-    ghost use Rattle.multivalued.specs.RootStands.{RootStands, root_shown, root_shows};
+    ghost use Rattle.multivalued.specs.RootStands.{MultiRootStands, multi_root_shown, root_shows};
 
-    ghost stands = { RootStands M.stands };
+    ghost stands = { MultiRootStands M.stands };
 
     ghost rules = { multi_root M.rules };
 
     ghost live = { λ s. M.live s.inner };
 
-    ghost shown = { λ s. root_shown (M.shown s.inner) s.given };
+    ghost shown = { λ s. multi_root_shown (M.shown s.inner) s.given };
 
     fn serves(root: u8) -> bool {
         root == 4
@@ -100,9 +100,9 @@ impl<M: MultiBox> Service for MvcRoot<M> {
         self.inner.live()
     }
 
-    ghost lives = { λ s seat w stands. (M.shows s.inner (desk_of seat) w stands.inner).0 };
+    ghost lives = { λ s seat w stands. (M.shows s.inner (multi_root_desk seat) w stands.inner).0 };
 
-    ghost shows = { λ s seat w stands. root_shows M.rules seat w (M.shown s.inner) s.given stands.given (M.shows s.inner (desk_of seat) w stands.inner).1 };
+    ghost shows = { λ s seat w stands. root_shows M.rules seat w (M.shown s.inner) s.given stands.given (M.shows s.inner (multi_root_desk seat) w stands.inner).1 };
 
     ghost word_laws = { root_word_laws M.rules M.multi_laws };
 

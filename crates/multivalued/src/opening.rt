@@ -2,7 +2,7 @@
 
 ghost use Rattle.std.specs.Prelude.{◌≡◌};
 ghost use Rattle.layer_api.specs.Multi.{is_slot_of};
-ghost use Rattle.multivalued.specs.Opening.{opens_by, is_allowed};
+ghost use Rattle.multivalued.specs.Opening.{part_opens, is_class_allowed};
 
 use crate::part::Part;
 use crate::settling::Progress;
@@ -21,7 +21,7 @@ pub(crate) fn is_slot_of(a: u32, attempt: u8, slot: &Slot) -> bool
 
 /// Whether items of a class and round may be taken.
 fn is_allowed(now: &Progress, class: u8, bround: u8) -> bool
-    ensures { result ≡ is_allowed now.now class bround }
+    ensures { result ≡ is_class_allowed now.now class bround }
 {
     if class == 5 {
         now.asked && u16::from(bround) <= u16::from(now.round) + 1
@@ -32,7 +32,7 @@ fn is_allowed(now: &Progress, class: u8, bround: u8) -> bool
 
 /// Whether items of the slot may be taken.
 pub(crate) fn is_open(part: &Part, now: &Progress, slot: &Slot) -> bool
-    ensures { result ≡ opens_by part.now now.now slot.now }
+    ensures { result ≡ part_opens part.now now.now slot.now }
 {
     is_slot_of(part.a, part.attempt, slot) && is_allowed(now, slot.class, slot.bround)
 }

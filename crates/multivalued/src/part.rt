@@ -1,7 +1,7 @@
 //! Whose part in which instance a box is, and at which slots it speaks.
 
 ghost use Rattle.std.specs.Prelude.{◌≡◌};
-ghost use Rattle.multivalued.specs.Parts.{IsPart, own_slot};
+ghost use Rattle.multivalued.specs.Parts.{IsMultiPart, own_class_slot};
 ghost use Rattle.layer_api.specs.Multi.{Desk};
 
 use ritas_base::{Params, Slot};
@@ -18,7 +18,7 @@ pub(crate) struct Part {
 impl Part {
     /// The part of a replica in a session of these numbers, in the instance of a round and an attempt.
     pub(crate) fn new(p: &Params, me: u8, a: u32, attempt: u8) -> Part
-        ensures { (at : Desk) → at.scope.numbers ≡ p.now → at.me ≡ me → at.scope.a ≡ a → at.scope.attempt ≡ attempt → IsPart result at }
+        ensures { (at : Desk) → at.scope.numbers ≡ p.now → at.me ≡ me → at.scope.a ≡ a → at.scope.attempt ≡ attempt → IsMultiPart result at }
     {
         Part {
             me,
@@ -30,7 +30,7 @@ impl Part {
 
     /// This replica's slot of its proposal, of class 3, or of its VECT, of class 4.
     pub(crate) fn slot(&self, class: u8) -> Slot
-        ensures { result ≡ own_slot self.now class }
+        ensures { result ≡ own_class_slot self.now class }
     {
         Slot {
             class,

@@ -1,7 +1,7 @@
 //! What follows where a proposal or a VECT is there: the VECT, the bit, and the decision.
 
 ghost use Rattle.std.specs.Prelude.{◌≡◌, ◌||◌, IfOk};
-ghost use Rattle.multivalued.specs.Settling.{Decides, Settles};
+ghost use Rattle.multivalued.specs.Settling.{Decides, BoxSettles};
 
 use crate::part::Part;
 use crate::table::Table;
@@ -58,7 +58,7 @@ pub(crate) fn settle<B: BinaryBox>(
     inner: &mut B,
     made: &mut Vec<Say>,
 ) -> Result<Progress, Mem>
-    ensures { IfOk result (λ next. Settles B.stands B.rules part.now old table.now inner.old inner.new made.old.items made.new.items next) }
+    ensures { IfOk result (λ next. BoxSettles B.stands B.rules part.now old table.now inner.old inner.new made.old.items made.new.items next) }
 {
     let tells = is_due(old.own, old.told, part.wait, table.proposals());
     tell(alloc, tells, part.slot(4), table, made)?;

@@ -3,12 +3,12 @@
 ghost use Rattle.std.specs.Prelude.{◌≡◌, ℕ, ◌≤◌, ◌<◌, true, List, [], length, drop, count_by, position, Option, Some, None, is_some, IfOk};
 ghost use Rattle.frame_codec.specs.Values.{mask_of};
 ghost use Rattle.std.specs.Str.{bytes_eq};
-ghost use Rattle.multivalued.specs.Entries.{holds, value_there, HasPlace, KeepsValues};
+ghost use Rattle.multivalued.specs.Entries.{is_valid_vect, value_there, HasEntryPlace, KeepsValues};
 ghost use Rattle.std.specs.Option.{option_copied};
 ghost use Rattle.multivalued.specs.Least.{ValueOf};
 ghost use Rattle.ritas_base.specs.History.{replicas, is_value};
 ghost use Rattle.ritas_base.specs.Members.{has_member};
-ghost use Rattle.multivalued.specs.Tables.{Asked, IsInside, told_by, least_with, valid_value, one_clear, IsTable, IsLong, ProposedAt, ClaimedAt, HearsInit, HearsVect};
+ghost use Rattle.multivalued.specs.Tables.{Asked, IsInside, table_told_by, least_with, valid_value, one_clear, IsTable, IsLong, ProposedAt, ClaimedAt, HearsProposal, HearsVect};
 
 use crate::entry::{Entry, either, only};
 use crate::least::{any_clear, least_of};
@@ -27,7 +27,7 @@ fn place_of(entries: &[Entry], value: &[u8]) -> Option<usize>
 
 /// Where the entry of this value stands, which is made where there is none. Each entry's value stays.
 fn place_for(alloc: Global, entries: &mut Vec<Entry>, value: &[u8]) -> Result<usize, Mem>
-    ensures ok { IfOk result (λ i. HasPlace value.now i entries.old.items entries.new.items) }
+    ensures ok { IfOk result (λ i. HasEntryPlace value.now i entries.old.items entries.new.items) }
     ensures keeps { KeepsValues entries.old.items entries.new.items }
 {
     if let Some(at) = place_of(entries, value) {
@@ -109,7 +109,7 @@ impl Table {
 
     /// Hears what a replica proposes. Each entry's value stays, for want of memory too.
     pub(crate) fn hear_init(&mut self, alloc: Global, k: u8, value: &[u8]) -> Result<(), Mem>
-        ensures ok { IfOk result (λ u. HearsInit k value.now self.old self.new) }
+        ensures ok { IfOk result (λ u. HearsProposal k value.now self.old self.new) }
         ensures keeps { KeepsValues self.old.entries.items self.new.entries.items }
     {
         let at = place_for(alloc, &mut self.entries, value)?;
@@ -193,14 +193,14 @@ impl Table {
 
     /// How many valid VECTs are there.
     pub(crate) fn valids(&self) -> u8
-        ensures { Asked self.now (λ n support init vect. result ≡ count_by (λ k. holds n support init true (vect k)) (replicas n)) }
+        ensures { Asked self.now (λ n support init vect. result ≡ count_by (λ k. is_valid_vect n support init true (vect k)) (replicas n)) }
     {
         self.valids.len()
     }
 
     /// The bytes of the VECT that tells what the replicas proposed. The one error is want of memory.
     pub(crate) fn told(&self, alloc: Global) -> Result<Bytes, Mem>
-        ensures { IfOk result (λ bytes. Asked self.now (λ n support init vect. bytes ≡ told_by n init (least_with n support init))) }
+        ensures { IfOk result (λ bytes. Asked self.now (λ n support init vect. bytes ≡ table_told_by n init (least_with n support init))) }
     {
         match least_of(self.support, false, &self.entries) {
             None => Ok(Bytes::from_vec(Vec::new(alloc))),
@@ -215,7 +215,7 @@ impl Table {
 /// The bytes of the VECT of an entry. The one error is want of memory.
 fn told_entry(alloc: Global, entry: &Entry) -> Result<Bytes, Mem>
     ensures { IfOk result (λ bytes. (n : ℕ) (init : ℕ → Option (List ℕ)) → n ≤ 31 → ((k : ℕ) → has_member entry.now.inits k ≡ is_value entry.now.value (init k))
-        → IsInside n init → bytes ≡ told_by n init (Some entry.now.value)) }
+        → IsInside n init → bytes ≡ table_told_by n init (Some entry.now.value)) }
 {
     let places = SenderSet::from_mask(entry.inits.mask());
     let bytes = write_vect(alloc, places, entry.value.as_slice())?;

@@ -1,7 +1,7 @@
 //! When the VECT and the bit are said.
 
 ghost use Rattle.std.specs.Prelude.{◌≡◌, ◌&&◌, not, nat_le, IfOk};
-ghost use Rattle.multivalued.specs.Telling.{Tells, Asks};
+ghost use Rattle.multivalued.specs.Telling.{TellsVect, ProposesBit};
 
 use crate::table::Table;
 use layer_api::BinaryBox;
@@ -23,7 +23,7 @@ pub(crate) fn tell(
     table: &Table,
     made: &mut Vec<Say>,
 ) -> Result<(), Mem>
-    ensures { IfOk result (λ u. Tells due slot table.now made.old.items made.new.items) }
+    ensures { IfOk result (λ u. TellsVect due slot table.now made.old.items made.new.items) }
 {
     if due {
         let value = table.told(alloc)?;
@@ -40,7 +40,7 @@ pub(crate) fn ask<B: BinaryBox>(
     inner: &mut B,
     made: &mut Vec<Say>,
 ) -> Result<(), Mem>
-    ensures { IfOk result (λ u. Asks B.stands B.rules due table.now inner.old inner.new made.old.items made.new.items) }
+    ensures { IfOk result (λ u. ProposesBit B.stands B.rules due table.now inner.old inner.new made.old.items made.new.items) }
 {
     if due {
         inner.propose(alloc, table.is_clear(), made)?;

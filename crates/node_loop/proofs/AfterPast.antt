@@ -6,7 +6,7 @@ use Rattle.ritas_base.specs.declared.event.Event.{Event}
 use Rattle.ritas_base.specs.declared.event.Event.TheVariants as events
 use Rattle.keyed_channel.specs.KeyRow.{KeyRow}
 use Rattle.ritas_core.specs.Stands.{Meaning}
-use Rattle.outside.specs.Disks.{DiskState, state_of}
+use Rattle.outside.specs.Disks.{DiskState, disk_state_of}
 use Rattle.outside.specs.DisksLaws.{leaves_none}
 use Rattle.outside.specs.Faults.{count_after}
 use Rattle.outside.specs.LinkCallsLaws.{back_none}
@@ -15,7 +15,7 @@ use Rattle.outside.specs.Writing.{TookFront}
 use Rattle.outside.specs.WritingLaws.{front_then, none_written}
 use Rattle.replica.specs.declared.replica.Replica.{Replica}
 use Rattle.schedule_file.specs.Spelling.{IsSized}
-use Rattle.event_journal.specs.Appending.{AllOpen, JournalState, StandsFor}
+use Rattle.event_journal.specs.Appending.{AllOpen, JournalState, JournalStandsFor}
 use Rattle.event_journal.specs.Journal.{IsRecord}
 use Rattle.world_model.specs.World.{Setting}
 use Rattle.node_loop.specs.declared.end.Fault.{Fault}
@@ -27,7 +27,7 @@ use Rattle.node_loop.specs.Again.{ServesAgain}
 use Rattle.node_loop.specs.Archives.{Moment}
 use Rattle.node_loop.specs.Journals.{OpensSome, JournalStands}
 use Rattle.node_loop.specs.Laws.{IsServed}
-use Rattle.node_loop.specs.Outs.{text_of, Outs, Tells, Agrees, HasCauses, AllWritten, InOrder, Stops}
+use Rattle.node_loop.specs.Outs.{events_text, Outs, Tells, Agrees, HasCauses, AllWritten, InOrder, StopsPartway}
 use Rattle.node_loop.specs.Recovering.{recalled_waiting, recalled_peers, recovered, with_past}
 use Rattle.node_loop.specs.Running.{Running}
 use Rattle.node_loop.specs.Served.{AreHere, Whole}
@@ -56,7 +56,7 @@ record_served w me (e ∷ es) right all = (one_served w me e right all.0, record
 
 -- before any is given
 pub kept_past : (head : List ℕ) (past : List Event) (journal : JournalState) (tells : Bool) (now : List DiskState) (count : ℕ)
-    → (tells ≡ true → StandsFor journal head past × AllOpen journal.me head past (state_of now)) → JournalStands head past [] journal tells now now count count
+    → (tells ≡ true → JournalStandsFor journal head past × AllOpen journal.me head past (disk_state_of now)) → JournalStands head past [] journal tells now now count count
 kept_past head past journal tells now count stands = record {
   kept = λ t. record { stands = (stands t).0; images = (stands t).1; since = leaves_none (OpensSome journal.me head past []) now };
   later = omega arith;
@@ -65,14 +65,14 @@ kept_past head past journal tells now count stands = record {
 -- ---- what the tape took
 
 -- it took the past events first
-module _ (tells : Tells) (base : Outs) (taken : List ℕ) (count : ℕ) (past : List Event) (wrote : tells.tape ≡ true → taken ≡ base.taken ++ text_of past)
+module _ (tells : Tells) (base : Outs) (taken : List ℕ) (count : ℕ) (past : List Event) (wrote : tells.tape ≡ true → taken ≡ base.taken ++ events_text past)
     (still : count ≡ base.tape_faults) where
   abbrev pub mid : Outs
   mid = record base { taken = taken; tape_faults = count }
 
   all_with : (now : Outs) (es : List Event) → AllWritten tells mid now es → AllWritten tells base now (es ++ past)
   all_with now es written t =
-      written t ∙ (ap (λ (l : List ℕ). l ++ text_of es) (wrote t) ∙ (append_assoc base.taken (text_of past) (text_of es) ∙ ap (λ (l : List ℕ). base.taken ++ l) (sym (text_parts es past))))
+      written t ∙ (ap (λ (l : List ℕ). l ++ events_text es) (wrote t) ∙ (append_assoc base.taken (events_text past) (events_text es) ∙ ap (λ (l : List ℕ). base.taken ++ l) (sym (text_parts es past))))
 
   agrees_with : (now : Outs) (es : List Event) (acts : List LinkAct) → Agrees tells mid now es acts → Agrees tells base now (es ++ past) acts
   agrees_with now es acts agrees = record {
@@ -97,10 +97,10 @@ module _ (tells : Tells) (base : Outs) (taken : List ℕ) (count : ℕ) (past : 
   cause_with now faults.Disk cause = (cause.0 ∙ still, cause.1)
   cause_with now (faults.Full x) cause = (cause.0 ∙ still, cause.1)
 
-  stops_with : (now : Outs) (fault : Fault) (es : List Event) (sooner news : List LinkAct) → Stops tells mid now fault es sooner news → Stops tells base now fault (es ++ past) sooner news
+  stops_with : (now : Outs) (fault : Fault) (es : List Event) (sooner news : List LinkAct) → StopsPartway tells mid now fault es sooner news → StopsPartway tells base now fault (es ++ past) sooner news
   stops_with now fault es sooner news stops = record {
-    taken = λ t. front_then base.taken taken now.taken (text_of past) (text_of es) [] (text_of (es ++ past))
-        (text_parts es past ∙ ap (λ (l : List ℕ). text_of past ++ l) (sym (append-nil (text_of es)))) (wrote t) (stops.taken t);
+    taken = λ t. front_then base.taken taken now.taken (events_text past) (events_text es) [] (events_text (es ++ past))
+        (text_parts es past ∙ ap (λ (l : List ℕ). events_text past ++ l) (sym (append-nil (events_text es)))) (wrote t) (stops.taken t);
     told = stops.told;
     order = order_with now fault es sooner stops.order;
     tape_later = let later = stops.tape_later in omega (arith, still, later);
@@ -156,7 +156,7 @@ module _ {S E C : Type 0} (m : Meaning S E C KeyRow) (w : Setting) (past : List 
     one = no_group;
     wanted = tt;
     so = record {
-      taken = λ t. none_written now.outs.taken (text_of past);
+      taken = λ t. none_written now.outs.taken (events_text past);
       told = λ t. back_none now.outs.told [];
       order = inr (λ t. refl);
       tape_later = omega arith;
@@ -168,7 +168,7 @@ module _ {S E C : Type 0} (m : Meaning S E C KeyRow) (w : Setting) (past : List 
 
   -- the tape failed over the past events
   pub again_unwritten : (here : List (Replica S E C)) (base : Outs) (now : Moment) (until limit : ℕ) → AreHere m w past numbers here → now.stands []
-      → (tells.tape ≡ true → TookFront base.taken now.outs.taken (text_of past)) → now.outs.tape_faults ≡ count_after base.tape_faults → base.tape_faults ≤ now.outs.tape_faults
+      → (tells.tape ≡ true → TookFront base.taken now.outs.taken (events_text past)) → now.outs.tape_faults ≡ count_after base.tape_faults → base.tape_faults ≤ now.outs.tape_faults
       → now.outs.told ≡ base.told → now.outs.link_faults ≡ base.link_faults → ServesAgain m w past numbers here tells base now ends.TapeFault until limit
   again_unwritten here base now until limit stand stood front rises later told faults_are = record {
     group = [];

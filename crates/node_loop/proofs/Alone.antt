@@ -5,10 +5,10 @@ use Rattle.ritas_base.specs.declared.event.Event.{Event}
 use Rattle.ritas_base.specs.declared.event.Event.TheVariants as events
 use Rattle.ritas_core.specs.Machine.{CoreState}
 use Rattle.replica.specs.declared.frame.OutFrame.{OutFrame}
-use Rattle.replica.specs.Handling.{Call, Frame, Input, Turn, Handled, handled}
+use Rattle.replica.specs.Handling.{ReplicaCall, Frame, Input, Turn, Handled, handled}
 use Rattle.world_model.specs.World.{Setting, rules_at, CallAt, call_at, call_of, handled_at, after_call, states_of, states_before, seen_answer, seen_call, seen_of}
 use Rattle.world_model.specs.Stands.{NoneStops}
-use Rattle.world_model.specs.MadeOrder.{frames_in}
+use Rattle.world_model.specs.MadeOrder.{frames_of_call}
 use Rattle.node_loop.specs.Serving.{as_sent, sent_by}
 use Rattle.schedule_file.specs.Spelling.{IsAlone}
 use Rattle.node_loop.specs.Standing.{frame_by}
@@ -16,7 +16,7 @@ use Rattle.world_model.proofs.Continues.{found_as_left}
 
 -- ---- the call
 
-abbrev pub call_in : Event → Call
+abbrev pub call_in : Event → ReplicaCall
 call_in (events.Frame to bytes) = Frame bytes
 call_in (events.Input at bytes) = Input bytes
 call_in (events.Turn at) = Turn
@@ -27,7 +27,7 @@ call_in (events.Sealed from to body) = Turn
 abbrev pub done_by : Setting → List Event → ℕ → Event → Handled
 done_by w es at e = handled (rules_at w at) (w.keys at) (states_of w es at) (call_in e)
 
-correct_call : (w : Setting) (at : ℕ) (call : Call) → w.is_correct at ≡ true → call_at w at call ≡ Some (record { at = at; call = call })
+correct_call : (w : Setting) (at : ℕ) (call : ReplicaCall) → w.is_correct at ≡ true → call_at w at call ≡ Some (record { at = at; call = call })
 correct_call w at call right = ap (λ b. if b then Some (record { at = at; call = call }) else None) right
 
 alone_call : (w : Setting) (states : ℕ → CoreState) (at : ℕ) (e : Event) → w.is_correct at ≡ true → IsAlone at e
@@ -78,6 +78,6 @@ as_frames k at (o ∷ out) = ap (λ xs. frame_by at o ∷ xs) (as_frames k at ou
 pub alone_sent : (w : Setting) (es : List Event) (at : ℕ) (e : Event) → NoneStops w → w.is_correct at ≡ true → IsAlone at e
     → sent_by w es (Some e) ≡ map (frame_by at) (done_by w es at e).out
 alone_sent w es at e going right alone =
-    ap (λ (st : ℕ → CoreState). map as_sent (frames_in (length es) w st (call_of w st e))) (sym (found_as_left w es going))
-    ∙ ap (λ (x : Option CallAt). map as_sent (frames_in (length es) w (states_of w es) x)) (alone_call w (states_of w es) at e right alone)
+    ap (λ (st : ℕ → CoreState). map as_sent (frames_of_call (length es) w st (call_of w st e))) (sym (found_as_left w es going))
+    ∙ ap (λ (x : Option CallAt). map as_sent (frames_of_call (length es) w (states_of w es) x)) (alone_call w (states_of w es) at e right alone)
     ∙ as_frames (length es) at (done_by w es at e).out

@@ -10,11 +10,11 @@ use Rattle.std.specs.Map.Calls.{RetainsPairs}
 use Rattle.std.proofs.lemmas.Bool.{eqb-true, ne_eqb, ltb-true, and_parts}
 use Rattle.node_loop.specs.declared.waiting.Asked.{Asked}
 use Rattle.node_loop.specs.declared.waiting.Waiters.{Waiters}
-use Rattle.node_loop.specs.Waiting.{Waiting, is_same, is_conn, joined, with_waiter, without_conn}
+use Rattle.node_loop.specs.Waiting.{Waiting, is_same_request, is_conn, joined, with_waiter, without_conn}
 use Rattle.node_loop.specs.Standing.{asked_cmp, conns_in, IsWaiting}
 
 -- requests that agree in all fields are one
-same_asked : (a b : Asked) → is_same a b ≡ true → a ≡ b
+same_asked : (a b : Asked) → is_same_request a b ≡ true → a ≡ b
 same_asked a b e =
     let first = and_parts (a.at == b.at) (a.client == b.client && a.request == b.request) e in
     let rest = and_parts (a.client == b.client) (a.request == b.request) first.1 in
@@ -22,7 +22,7 @@ same_asked a b e =
     ∙ ap₂ (λ x y. record { at = b.at; client = x; request = y }) (eqb-true a.client b.client rest.0) (eqb-true a.request b.request rest.1)
 
 -- nobody waits for one that the map doesn't have
-pub none_waits : (old : Waiters) (asked : Asked) (ws : Waiting) → None ≡ get asked_cmp old.by_request asked → IsWaiting old ws → (b : Asked) → is_same asked b ≡ true → ws b ≡ []
+pub none_waits : (old : Waiters) (asked : Asked) (ws : Waiting) → None ≡ get asked_cmp old.by_request asked → IsWaiting old ws → (b : Asked) → is_same_request asked b ≡ true → ws b ≡ []
 none_waits old asked ws none is b same = ap ws (sym (same_asked asked b same)) ∙ sym (is asked) ∙ ap conns_in (sym none)
 
 -- the order of requests tells them apart
@@ -40,7 +40,7 @@ by_tests false false apart = refl
 nat_eq_is : (x y : ℕ) → is_eq (nat_cmp x y) ≡ (x == y)
 nat_eq_is x y = by_tests (nat_lt x y) (x == y) (λ lt. let below : x < y = ltb-true x y lt in ne_eqb x y (λ e. omega arith))
 
-at_same : (a b : Asked) → is_eq (asked_cmp a b) ≡ is_same a b
+at_same : (a b : Asked) → is_eq (asked_cmp a b) ≡ is_same_request a b
 at_same a b =
     then_eq (nat_cmp a.at b.at) (ordering_then (nat_cmp a.client b.client) (nat_cmp a.request b.request))
     ∙ ap₂ (λ x y. x && y) (nat_eq_is a.at b.at)
@@ -51,7 +51,7 @@ pub first_waits : (old new : Waiters) (asked : Asked) (conn : Option ℕ) (conns
     → conns.items ≡ conn ∷ [] → (b : Asked) → get asked_cmp new.by_request b ≡ cond (is_eq (asked_cmp asked b)) (Some conns) (get asked_cmp old.by_request b)
     → conns_in (get asked_cmp new.by_request b) ≡ with_waiter asked conn ws b
 first_waits old new asked conn conns ws none is items b made =
-    let step = elim (is_same asked b) as (λ t. is_same asked b ≡ t → conns_in (cond t (Some conns) (get asked_cmp old.by_request b)) ≡ (if t then joined conn (ws b) else ws b)) [
+    let step = elim (is_same_request asked b) as (λ t. is_same_request asked b ≡ t → conns_in (cond t (Some conns) (get asked_cmp old.by_request b)) ≡ (if t then joined conn (ws b) else ws b)) [
       | true ↦ λ same. items ∙ ap (joined conn) (sym (none_waits old asked ws none is b same))
       | false ↦ λ other. is b
     ] in

@@ -5,7 +5,7 @@ use Rattle.std.specs.Option.{MatchOption}
 use Rattle.std.proofs.lemmas.Bool.{lt-ltb, ltb-true, ltb-false, cases_eq, cases_Bool, cond-true, cond-false, both_ways, and_right}
 use Rattle.ritas_base.specs.declared.item.Item.{Item}
 use Rattle.node_loop.specs.Serving.{is_busy}
-use Rattle.node_loop.specs.Standing.{is_less}
+use Rattle.node_loop.specs.Standing.{is_before_other}
 
 pub busy_is : (n : ℕ) (items : List Item) → n ≡ length items → nat_lt 0 n ≡ is_busy items
 busy_is n [] same = ap (nat_lt 0) same
@@ -98,7 +98,7 @@ fails_more p xs i (Some m) fails is = record {
 }
 
 passes_more : (p : ℕ → Bool) (xs : List ℕ) (i : ℕ) (least : Option ℕ) → p (slice_index_or xs i 0) ≡ true → Least p xs i least
-    → Least p xs (i + 1) (if is_less (slice_index_or xs i 0) least then Some (slice_index_or xs i 0) else least)
+    → Least p xs (i + 1) (if is_before_other (slice_index_or xs i 0) least then Some (slice_index_or xs i 0) else least)
 passes_more p xs i None passes none = record {
   place = i;
   within = omega arith;
@@ -132,10 +132,10 @@ passes_more p xs i (Some m) passes is =
 
 -- of one more
 pub least_more : (p : ℕ → Bool) (xs : List ℕ) (i : ℕ) (least : Option ℕ) → Least p xs i least
-    → Least p xs (i + 1) (if p (slice_index_or xs i 0) && is_less (slice_index_or xs i 0) least then Some (slice_index_or xs i 0) else least)
+    → Least p xs (i + 1) (if p (slice_index_or xs i 0) && is_before_other (slice_index_or xs i 0) least then Some (slice_index_or xs i 0) else least)
 least_more p xs i least so_far =
     let x = slice_index_or xs i 0 in
-    let P : Bool → Type 0 = λ t. Least p xs (i + 1) (if t && is_less x least then Some x else least) in
+    let P : Bool → Type 0 = λ t. Least p xs (i + 1) (if t && is_before_other x least then Some x else least) in
     elim (cases_Bool (p x)) [
       | inl passes ↦ subst P (sym passes) (passes_more p xs i least passes so_far)
       | inr fails ↦ subst P (sym fails) (fails_more p xs i least fails so_far)

@@ -8,7 +8,7 @@ use Rattle.ritas_base.specs.declared.event.Event.{Event}
 use Rattle.keyed_channel.specs.KeyRow.{KeyRow}
 use Rattle.ritas_core.specs.Stands.{Meaning}
 use Rattle.outside.specs.declared.link.Sent.{Sent}
-use Rattle.client_port.specs.Messages.{Request, parts_of, request_in}
+use Rattle.client_port.specs.Messages.{Request, request_parts, request_in}
 use Rattle.command_log.specs.Rows.{position_of}
 use Rattle.replica.specs.declared.frame.OutFrame.{OutFrame}
 use Rattle.replica.specs.declared.replica.Replica.{Replica}
@@ -22,13 +22,13 @@ use Rattle.node_loop.specs.declared.output.Reply.{Reply}
 use Rattle.node_loop.specs.declared.waiting.Asked.{Asked}
 use Rattle.node_loop.specs.declared.waiting.Waiters.{Waiters}
 use Rattle.node_loop.specs.Waiting.{Waiting, with_waiter}
-use Rattle.node_loop.specs.Calls.{Outcome, called, left_by, replies_by, asked_in, submitted, asked_so, asks, asks_so, silent, is_waited_for, if_here}
+use Rattle.node_loop.specs.Calls.{Outcome, event_called, waiting_left_by, replies_by, asked_in, submitted, asked_so, asks, asks_so, silent, is_waited_for, if_here}
 use Rattle.node_loop.specs.Peers.{Peers, keep_all}
 use Rattle.node_loop.specs.Resending.{Brought, nothing_more}
-use Rattle.node_loop.specs.Serving.{made_by, sent_by}
+use Rattle.node_loop.specs.Serving.{frames_made_by, sent_by}
 use Rattle.node_loop.specs.Served.{AreHere}
 use Rattle.node_loop.specs.Keeping.{is_kept}
-use Rattle.node_loop.specs.Standing.{IsWaiting, HouseStands, IsClear, Comes, IsMore, frame_by, reply_by}
+use Rattle.node_loop.specs.Standing.{IsWaiting, HouseStands, IsEmptyOutput, ComesOut, IsMore, frame_by, reply_by}
 use Rattle.node_loop.proofs.Heres.{nowhere}
 
 -- a correct replica stands at a place that has a number
@@ -62,7 +62,7 @@ wait_else {S = S} {E = E} {C = C} m w es numbers old now ws us p stands reps kee
 
 -- nothing goes to peers but the frames of a call
 abbrev pub quietly : Setting → List Event → Peers → Outcome → Brought
-quietly w es p did = nothing_more (keep_all (made_by w es did.event) p)
+quietly w es p did = nothing_more (keep_all (frames_made_by w es did.event) p)
 
 pub is_none : (w : Setting) (at : ℕ) (is : More) (more : Brought) → is ≡ mores.Nothing → more.deeds ≡ [] → IsMore w at is more
 is_none w at is more none no_deeds = let P : More → Type 0 = λ x. IsMore w at x more in subst P (sym none) no_deeds
@@ -77,10 +77,10 @@ same_more w at k is was more at_is same it =
 pub came : {S E C : Type 0} (m : Meaning S E C KeyRow) (w : Setting) (es : List Event) (numbers : List ℕ) (now : House S E C) (output : Output) (at count : ℕ) (e : Event)
     (clear frames : List OutFrame) (quiet : List Reply) (ws : Waiting) (before : Peers) (more : Brought)
     → count ≡ length (rows_at w es at) → clear ≡ [] → map (frame_by at) frames ≡ map (frame_by at) clear ++ sent_by w es (Some e) → quiet ≡ []
-    → w.is_correct at ≡ true → IsMore w at output.more more → keep_all (made_by w es (Some e)) before ≡ more.peers
-    → HouseStands m w (e ∷ es) numbers now (left_by at count (rows_at w (e ∷ es) at) ws) before
+    → w.is_correct at ≡ true → IsMore w at output.more more → keep_all (frames_made_by w es (Some e)) before ≡ more.peers
+    → HouseStands m w (e ∷ es) numbers now (waiting_left_by at count (rows_at w (e ∷ es) at) ws) before
     → map (reply_by at) output.replies.items ≡ map (reply_by at) quiet ++ replies_by at count (rows_at w (e ∷ es) at) ws
-    → output.at ≡ at → output.event ≡ Some e → output.kept ≡ is_kept w es e → output.frames.items ≡ frames → Comes m w es numbers now output (called w es at e ws) more
+    → output.at ≡ at → output.event ≡ Some e → output.kept ≡ is_kept w es e → output.frames.items ≡ frames → ComesOut m w es numbers now output (event_called w es at e ws) more
 came m w es numbers now output at count e clear frames quiet ws before more many none made silence right besides keeps stands replied at_is event_is kept_is frames_is =
     let rows = rows_at w (e ∷ es) at in
     record {
@@ -92,7 +92,7 @@ came m w es numbers now output at count e clear frames quiet ws before more many
       replies = ap (λ k. map (reply_by k) output.replies.items) at_is ∙ replied ∙ ap (λ xs. map (reply_by at) xs ++ replies_by at count rows ws) silence ∙ ap (λ n. replies_by at n rows ws) many;
       before = before;
       kept = keeps;
-      stands = let P : ℕ → Type 0 = λ n. HouseStands m w (e ∷ es) numbers now (left_by at n rows ws) before in subst P many stands;
+      stands = let P : ℕ → Type 0 = λ n. HouseStands m w (e ∷ es) numbers now (waiting_left_by at n rows ws) before in subst P many stands;
     }
 
 -- nothing goes to peers besides
@@ -100,19 +100,19 @@ pub came_quietly : {S E C : Type 0} (m : Meaning S E C KeyRow) (w : Setting) (es
     (clear frames : List OutFrame) (quiet : List Reply) (ws : Waiting) (p : Peers)
     → count ≡ length (rows_at w es at) → clear ≡ [] → map (frame_by at) frames ≡ map (frame_by at) clear ++ sent_by w es (Some e) → quiet ≡ []
     → w.is_correct at ≡ true → output.more ≡ mores.Nothing
-    → HouseStands m w (e ∷ es) numbers now (left_by at count (rows_at w (e ∷ es) at) ws) p
+    → HouseStands m w (e ∷ es) numbers now (waiting_left_by at count (rows_at w (e ∷ es) at) ws) p
     → map (reply_by at) output.replies.items ≡ map (reply_by at) quiet ++ replies_by at count (rows_at w (e ∷ es) at) ws
-    → output.at ≡ at → output.event ≡ Some e → output.kept ≡ is_kept w es e → output.frames.items ≡ frames → Comes m w es numbers now output (called w es at e ws) (quietly w es p (called w es at e ws))
+    → output.at ≡ at → output.event ≡ Some e → output.kept ≡ is_kept w es e → output.frames.items ≡ frames → ComesOut m w es numbers now output (event_called w es at e ws) (quietly w es p (event_called w es at e ws))
 came_quietly m w es numbers now output at count e clear frames quiet ws p many none made silence right no_more stands replied at_is event_is kept_is frames_is =
-    let more = quietly w es p (called w es at e ws) in
+    let more = quietly w es p (event_called w es at e ws) in
     came m w es numbers now output at count e clear frames quiet ws p more many none made silence right (is_none w at output.more more no_more refl) refl
     stands replied at_is event_is kept_is frames_is
 
 -- and these replies more
 pub replied_too : {S E C : Type 0} (m : Meaning S E C KeyRow) (w : Setting) (es : List Event) (numbers : List ℕ) (now : House S E C) (before output : Output) (at : ℕ) (did : Outcome) (replies : List Sent) (more : Brought)
-    → Comes m w es numbers now before did more → before.at ≡ at → output.at ≡ before.at → output.event ≡ before.event → output.kept ≡ before.kept → output.frames ≡ before.frames → output.more ≡ before.more
+    → ComesOut m w es numbers now before did more → before.at ≡ at → output.at ≡ before.at → output.event ≡ before.event → output.kept ≡ before.kept → output.frames ≡ before.frames → output.more ≡ before.more
     → map (reply_by at) output.replies.items ≡ map (reply_by at) before.replies.items ++ replies
-    → Comes m w es numbers now output (record did { replies = did.replies ++ replies }) more
+    → ComesOut m w es numbers now output (record did { replies = did.replies ++ replies }) more
 replied_too m w es numbers now before output at did replies more comes before_is at_is event_is kept_is frames_is more_is replied = record {
   event = event_is ∙ comes.event;
   keeps = kept_is ∙ comes.keeps;
@@ -127,10 +127,10 @@ replied_too m w es numbers now before output at did replies more comes before_is
 
 -- nothing but what goes to peers besides, and replies
 pub no_call : {S E C : Type 0} (m : Meaning S E C KeyRow) (w : Setting) (es : List Event) (numbers : List ℕ) (now : House S E C) (before output : Output) (replies : List Sent) (ws : Waiting) (more : Brought)
-    → HouseStands m w es numbers now ws more.peers → IsClear before → IsMore w before.at output.more more → (w.is_correct before.at ≡ false → more.deeds ≡ [])
+    → HouseStands m w es numbers now ws more.peers → IsEmptyOutput before → IsMore w before.at output.more more → (w.is_correct before.at ≡ false → more.deeds ≡ [])
     → output.at ≡ before.at → output.event ≡ before.event → output.kept ≡ before.kept → output.frames ≡ before.frames
     → map (reply_by before.at) output.replies.items ≡ map (reply_by before.at) before.replies.items ++ replies
-    → Comes m w es numbers now output (silent replies ws) more
+    → ComesOut m w es numbers now output (silent replies ws) more
 no_call m w es numbers now before output replies ws more stands clear besides none at_is event_is kept_is frames_is replied = record {
   event = event_is ∙ clear.event;
   keeps = kept_is ∙ clear.kept;
@@ -145,47 +145,47 @@ no_call m w es numbers now before output replies ws more stands clear besides no
 
 -- nothing but replies
 pub only_replies : {S E C : Type 0} (m : Meaning S E C KeyRow) (w : Setting) (es : List Event) (numbers : List ℕ) (now : House S E C) (before output : Output) (replies : List Sent) (ws : Waiting) (p : Peers)
-    → HouseStands m w es numbers now ws p → IsClear before → output.at ≡ before.at → output.event ≡ before.event → output.kept ≡ before.kept → output.frames ≡ before.frames → output.more ≡ before.more
+    → HouseStands m w es numbers now ws p → IsEmptyOutput before → output.at ≡ before.at → output.event ≡ before.event → output.kept ≡ before.kept → output.frames ≡ before.frames → output.more ≡ before.more
     → map (reply_by before.at) output.replies.items ≡ map (reply_by before.at) before.replies.items ++ replies
-    → Comes m w es numbers now output (silent replies ws) (nothing_more p)
+    → ComesOut m w es numbers now output (silent replies ws) (nothing_more p)
 only_replies m w es numbers now before output replies ws p stands clear at_is event_is kept_is frames_is more_is replied =
     no_call m w es numbers now before output replies ws (nothing_more p) stands clear (is_none w before.at output.more (nothing_more p) (more_is ∙ clear.more) refl) (λ faulty. refl)
     at_is event_is kept_is frames_is replied
 
 -- nothing but what goes to peers besides
 pub only_more : {S E C : Type 0} (m : Meaning S E C KeyRow) (w : Setting) (es : List Event) (numbers : List ℕ) (now : House S E C) (before output : Output) (ws : Waiting) (more : Brought)
-    → HouseStands m w es numbers now ws more.peers → IsClear before → IsMore w before.at output.more more → (w.is_correct before.at ≡ false → more.deeds ≡ [])
+    → HouseStands m w es numbers now ws more.peers → IsEmptyOutput before → IsMore w before.at output.more more → (w.is_correct before.at ≡ false → more.deeds ≡ [])
     → output.at ≡ before.at → output.event ≡ before.event → output.kept ≡ before.kept → output.frames ≡ before.frames → output.replies ≡ before.replies
-    → Comes m w es numbers now output (silent [] ws) more
+    → ComesOut m w es numbers now output (silent [] ws) more
 only_more m w es numbers now before output ws more stands clear besides none at_is event_is kept_is frames_is replies_is =
     no_call m w es numbers now before output [] ws more stands clear besides none at_is event_is kept_is frames_is
     (ap (λ v. map (reply_by before.at) v.items) replies_is ∙ sym (append-nil (map (reply_by before.at) before.replies.items)))
 
 -- nothing at all
 pub nothing_comes : {S E C : Type 0} (m : Meaning S E C KeyRow) (w : Setting) (es : List Event) (numbers : List ℕ) (now : House S E C) (output : Output) (ws : Waiting) (p : Peers)
-    → HouseStands m w es numbers now ws p → IsClear output → Comes m w es numbers now output (silent [] ws) (nothing_more p)
+    → HouseStands m w es numbers now ws p → IsEmptyOutput output → ComesOut m w es numbers now output (silent [] ws) (nothing_more p)
 nothing_comes m w es numbers now output ws p stands clear =
     only_replies m w es numbers now output output [] ws p stands clear refl refl refl refl refl (sym (append-nil (map (reply_by output.at) output.replies.items)))
 
 pub does_here : {S E C : Type 0} (m : Meaning S E C KeyRow) (w : Setting) (es : List Event) (numbers : List ℕ) (now : House S E C) (output : Output) (at : ℕ) (did : Outcome) (ws : Waiting) (more : Outcome → Brought)
-    → w.is_correct at ≡ true → Comes m w es numbers now output did (more did) → Comes m w es numbers now output (if_here w at did ws) (more (if_here w at did ws))
+    → w.is_correct at ≡ true → ComesOut m w es numbers now output did (more did) → ComesOut m w es numbers now output (if_here w at did ws) (more (if_here w at did ws))
 does_here m w es numbers now output at did ws more right comes =
-    let P : Bool → Type 0 = λ b. Comes m w es numbers now output (if b then did else silent [] ws) (more (if b then did else silent [] ws)) in subst P (sym right) comes
+    let P : Bool → Type 0 = λ b. ComesOut m w es numbers now output (if b then did else silent [] ws) (more (if b then did else silent [] ws)) in subst P (sym right) comes
 
 pub not_here : {S E C : Type 0} (m : Meaning S E C KeyRow) (w : Setting) (es : List Event) (numbers : List ℕ) (now : House S E C) (output : Output) (at : ℕ) (did : Outcome) (ws : Waiting) (p : Peers) (more : Outcome → Brought)
-    → w.is_correct at ≡ false → more (silent [] ws) ≡ nothing_more p → HouseStands m w es numbers now ws p → IsClear output
-    → Comes m w es numbers now output (if_here w at did ws) (more (if_here w at did ws))
+    → w.is_correct at ≡ false → more (silent [] ws) ≡ nothing_more p → HouseStands m w es numbers now ws p → IsEmptyOutput output
+    → ComesOut m w es numbers now output (if_here w at did ws) (more (if_here w at did ws))
 not_here m w es numbers now output at did ws p more faulty none stands clear =
-    let P : Bool → Type 0 = λ b. Comes m w es numbers now output (if b then did else silent [] ws) (more (if b then did else silent [] ws)) in
-    let Q : Brought → Type 0 = λ x. Comes m w es numbers now output (silent [] ws) x in
+    let P : Bool → Type 0 = λ b. ComesOut m w es numbers now output (if b then did else silent [] ws) (more (if b then did else silent [] ws)) in
+    let Q : Brought → Type 0 = λ x. ComesOut m w es numbers now output (silent [] ws) x in
     subst P (sym faulty) (subst Q (sym none) (nothing_comes m w es numbers now output ws p stands clear))
 
 -- ---- a message that is a request
 
 asks_at : (w : Setting) (es : List Event) (at : ℕ) (conn : Option ℕ) (bytes : List ℕ) (ws : Waiting) (long short : Bool) (none : Asked)
-    → ((if long && short then Some (parts_of bytes) else None) ≡ None → ⊥)
-    → (let asked = if long then record { at = at; client = (parts_of bytes).client; request = (parts_of bytes).request } else none in
-    asks_so w es at conn bytes ws (if long && short then Some (parts_of bytes) else None) ≡ asked_so w es at conn bytes ws (position_of (rows_at w es at) asked.client asked.request))
+    → ((if long && short then Some (request_parts bytes) else None) ≡ None → ⊥)
+    → (let asked = if long then record { at = at; client = (request_parts bytes).client; request = (request_parts bytes).request } else none in
+    asks_so w es at conn bytes ws (if long && short then Some (request_parts bytes) else None) ≡ asked_so w es at conn bytes ws (position_of (rows_at w es at) asked.client asked.request))
 asks_at w es at conn bytes ws true true none some = refl
 asks_at w es at conn bytes ws true false none some = absurd (some refl)
 asks_at w es at conn bytes ws false short none some = absurd (some refl)
@@ -200,18 +200,18 @@ pub asks_none : (w : Setting) (es : List Event) (at : ℕ) (conn : Option ℕ) (
     → asks w es at conn bytes ws ≡ submitted w es at conn bytes ws
 asks_none w es at conn bytes ws none = ap (asks_so w es at conn bytes ws) none
 
-pub cleared : (o : Output) → (o.event ≡ None) × (o.frames.items ≡ []) × (o.more ≡ mores.Nothing) × (o.replies.items ≡ []) × (o.kept ≡ false) → IsClear o
+pub cleared : (o : Output) → (o.event ≡ None) × (o.frames.items ≡ []) × (o.more ≡ mores.Nothing) × (o.replies.items ≡ []) × (o.kept ≡ false) → IsEmptyOutput o
 cleared o none = record { event = none.0; frames = none.1; more = none.2; replies = none.3; kept = none.4 }
 
 -- the same number
 pub comes_at : {S E C : Type 0} (m : Meaning S E C KeyRow) (w : Setting) (es : List Event) (numbers : List ℕ) (now : House S E C) (output : Output) (did : ℕ → Outcome) (more : ℕ → Brought) (k j : ℕ) → k ≡ j
-    → Comes m w es numbers now output (did k) (more k) → Comes m w es numbers now output (did j) (more j)
-comes_at m w es numbers now output did more k j same comes = let P : ℕ → Type 0 = λ x. Comes m w es numbers now output (did x) (more x) in subst P same comes
+    → ComesOut m w es numbers now output (did k) (more k) → ComesOut m w es numbers now output (did j) (more j)
+comes_at m w es numbers now output did more k j same comes = let P : ℕ → Type 0 = λ x. ComesOut m w es numbers now output (did x) (more x) in subst P same comes
 
 -- what comes, where it is known by another name
 pub comes_as : {S E C : Type 0} (m : Meaning S E C KeyRow) (w : Setting) (es : List Event) (numbers : List ℕ) (now : House S E C) (output : Output) (did other : Outcome) (more : Outcome → Brought) → did ≡ other
-    → Comes m w es numbers now output did (more did) → Comes m w es numbers now output other (more other)
-comes_as m w es numbers now output did other more same comes = let P : Outcome → Type 0 = λ x. Comes m w es numbers now output x (more x) in subst P same comes
+    → ComesOut m w es numbers now output did (more did) → ComesOut m w es numbers now output other (more other)
+comes_as m w es numbers now output did other more same comes = let P : Outcome → Type 0 = λ x. ComesOut m w es numbers now output x (more x) in subst P same comes
 
 -- ---- a request without a row
 

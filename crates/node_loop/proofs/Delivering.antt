@@ -24,10 +24,10 @@ use Rattle.node_loop.specs.declared.end.ServeEnd.{ServeEnd}
 use Rattle.node_loop.specs.declared.group.Group.{Group}
 use Rattle.node_loop.specs.declared.house.House.{House}
 use Rattle.node_loop.specs.declared.output.Output.{Output}
-use Rattle.node_loop.specs.Archives.{Moment, LeftAt, fault_in}
-use Rattle.node_loop.specs.Groups.{Fits, acts_by, acts_each, if_kept}
+use Rattle.node_loop.specs.Archives.{Moment, ArchiveLeftAt, fault_in}
+use Rattle.node_loop.specs.Groups.{FitsPeers, acts_by, acts_each, if_kept}
 use Rattle.node_loop.specs.Keeping.{kept_of}
-use Rattle.node_loop.specs.Outs.{text_of, Outs, Tells, Agrees, Stops, HasCauses, InOrder, NoneSent, Fails}
+use Rattle.node_loop.specs.Outs.{events_text, Outs, Tells, Agrees, StopsPartway, HasCauses, InOrder, NoneSent, IsFaultOfLink}
 use Rattle.node_loop.specs.Running.{Running, Gathered, NotYet, IsEndOf, IsOfTape}
 use Rattle.node_loop.specs.ServedKept.{ServesKept, group_kept}
 use Rattle.node_loop.specs.Serving.{Serving, Round, IsGroup, after_from, events_from, newest_from, sooner_from}
@@ -41,10 +41,10 @@ use Rattle.node_loop.proofs.Stepping.{with_link, same_failed, link_goes, link_st
 -- these events were written
 pub wrote_all : (tells : Tells) (base : Outs) (old new : List ℕ) (x y : ℕ) (told : List LinkAct) (link_faults : FaultCounts) (es older : List Event) (acts : List LinkAct)
     → Agrees tells base (record { taken = old; tape_faults = x; told = told; link_faults = link_faults }) older acts
-    → (tells.tape ≡ true → new ≡ old ++ text_of es) → y ≡ x
+    → (tells.tape ≡ true → new ≡ old ++ events_text es) → y ≡ x
     → Agrees tells base (record { taken = new; tape_faults = y; told = told; link_faults = link_faults }) (es ++ older) acts
 wrote_all tells base old new x y told link_faults es older acts agrees whole stands = record {
-  taken = λ t. whole t ∙ rw (agrees.taken t, text_parts es older) (append_assoc base.taken (text_of older) (text_of es));
+  taken = λ t. whole t ∙ rw (agrees.taken t, text_parts es older) (append_assoc base.taken (events_text older) (events_text es));
   told = agrees.told;
   tape_stands = stands ∙ agrees.tape_stands;
   link_stands = agrees.link_stands;
@@ -53,11 +53,11 @@ wrote_all tells base old new x y told link_faults es older acts agrees whole sta
 -- a front of their text was
 pub wrote_front : (tells : Tells) (base : Outs) (old new : List ℕ) (x y : ℕ) (told : List LinkAct) (link_faults : FaultCounts) (es older : List Event) (acts news : List LinkAct)
     → Agrees tells base (record { taken = old; tape_faults = x; told = told; link_faults = link_faults }) older acts
-    → (tells.tape ≡ true → TookFront old new (text_of es)) → x ≤ y → y ≡ count_after x
-    → Stops tells base (record { taken = new; tape_faults = y; told = told; link_faults = link_faults }) faults.Tape (es ++ older) acts news
+    → (tells.tape ≡ true → TookFront old new (events_text es)) → x ≤ y → y ≡ count_after x
+    → StopsPartway tells base (record { taken = new; tape_faults = y; told = told; link_faults = link_faults }) faults.Tape (es ++ older) acts news
 wrote_front tells base old new x y told link_faults es older acts news agrees front le rises = record {
-  taken = λ t. front_then base.taken old new (text_of older) (text_of es) [] (text_of (es ++ older))
-      (text_parts es older ∙ ap (λ (l : List ℕ). text_of older ++ l) (sym (append-nil (text_of es)))) (agrees.taken t) (front t);
+  taken = λ t. front_then base.taken old new (events_text older) (events_text es) [] (events_text (es ++ older))
+      (text_parts es older ∙ ap (λ (l : List ℕ). events_text older ++ l) (sym (append-nil (events_text es)))) (agrees.taken t) (front t);
   told = λ t. rw (agrees.told t) (back_none (acts ++ base.told) news);
   order = agrees.told;
   tape_later = omega (arith, agrees.tape_stands, le);
@@ -67,10 +67,10 @@ wrote_front tells base old new x y told link_faults es older acts news agrees fr
 
 -- nothing was, for want of memory
 pub wrote_none : (tells : Tells) (base o : Outs) (es older : List Event) (acts news : List LinkAct) → Agrees tells base o older acts
-    → Stops tells base o faults.Mem (es ++ older) acts news
+    → StopsPartway tells base o faults.Mem (es ++ older) acts news
 wrote_none tells base o es older acts news agrees = record {
   taken = λ t. subst (λ (l : List ℕ). TookFront base.taken o.taken l) (sym (text_parts es older))
-      (front_more base.taken o.taken (text_of older) (text_of es) (all_written base.taken o.taken (text_of older) (agrees.taken t)));
+      (front_more base.taken o.taken (events_text older) (events_text es) (all_written base.taken o.taken (events_text older) (agrees.taken t)));
   told = λ t. rw (agrees.told t) (back_none (acts ++ base.told) news);
   order = inr agrees.told;
   tape_later = omega (arith, agrees.tape_stands);
@@ -81,7 +81,7 @@ wrote_none tells base o es older acts news agrees = record {
 -- ---- the archive
 
 -- where the tape failed, only the older ones were kept
-left_tape : (now : Moment) (none : Type 0) (kept group older : List Event) (fault : Fault) → IsOfTape fault → none → now.stands older → LeftAt now none kept group older fault
+left_tape : (now : Moment) (none : Type 0) (kept group older : List Event) (fault : Fault) → IsOfTape fault → none → now.stands older → ArchiveLeftAt now none kept group older fault
 left_tape now none kept group older faults.Tape own sent stands = stands
 left_tape now none kept group older faults.Mem own sent stands = inr (sent, inl stands)
 left_tape now none kept group older faults.Link own sent stands = absurd own
@@ -89,12 +89,12 @@ left_tape now none kept group older faults.Disk own sent stands = absurd own
 left_tape now none kept group older (faults.Full x) own sent stands = absurd own
 
 -- all was kept where the link failed
-left_link : (now : Moment) (none : Type 0) (kept group older : List Event) (x : LinkFault) (fault : Fault) → Fails x fault → now.stands kept → LeftAt now none kept group older fault
+left_link : (now : Moment) (none : Type 0) (kept group older : List Event) (x : LinkFault) (fault : Fault) → IsFaultOfLink x fault → now.stands kept → ArchiveLeftAt now none kept group older fault
 left_link now none kept group older link_faults.Failed fault is stands = rw is stands
 left_link now none kept group older link_faults.Mem fault is stands = rw is (inl stands)
 
 -- the archive failed over the newest group
-left_archive : (now : Moment) (none : Type 0) (kept group older : List Event) (x : ArchiveFault) → none → now.fails x group older → LeftAt now none kept group older (fault_in x)
+left_archive : (now : Moment) (none : Type 0) (kept group older : List Event) (x : ArchiveFault) → none → now.fails x group older → ArchiveLeftAt now none kept group older (fault_in x)
 left_archive now none kept group older archive.Disk sent fails = fails
 left_archive now none kept group older (archive.Full x) sent fails = fails
 left_archive now none kept group older archive.Mem sent fails = inr (sent, inr fails)
@@ -151,11 +151,11 @@ module _ {S E C : Type 0} (m : Meaning S E C KeyRow) (w : Setting) (past : List 
 
   -- the tape failed
   pub tape_fails : (now : Moment) (items : List Event) (fault : Fault) (end : ServeEnd) → items ≡ group.events.items → IsOfTape fault → NoneSent tells base now.outs old
-      → Stops tells base now.outs fault (reverse items ++ s₀.events) old new → now.stands (kept_of w past s₀.events) → IsEndOf fault end
+      → StopsPartway tells base now.outs fault (reverse items ++ s₀.events) old new → now.stands (kept_of w past s₀.events) → IsEndOf fault end
       → ServesKept m w past numbers house.replicas.items tells base now end until limit start
   tape_fails now items fault end same own sent stops stands is =
       at_fault m w past numbers tells base until limit start run.newest older now house.replicas.items fault end one run.wanted is
-      (subst (λ (es : List Event). Stops tells base now.outs fault es old new) (all_events items same) stops) (if_failed fault _ run.under.stands.here)
+      (subst (λ (es : List Event). StopsPartway tells base now.outs fault es old new) (all_events items same) stops) (if_failed fault _ run.under.stands.here)
       (left_tape now (NoneSent tells base now.outs old) (kept_of w past s₁.events) (group_kept w past start run.newest older) (kept_of w past s₀.events) fault own sent stands)
 
   -- all events were written
@@ -169,7 +169,7 @@ module _ {S E C : Type 0} (m : Meaning S E C KeyRow) (w : Setting) (past : List 
   archive_fails now x fault end same agrees fails is =
       at_fault m w past numbers tells base until limit start run.newest older now house.replicas.items (fault_in x) end one run.wanted (subst (λ (f : Fault). IsEndOf f end) same is)
       (record {
-        taken = λ t. all_written base.taken now.outs.taken (text_of s₁.events) (agrees.taken t);
+        taken = λ t. all_written base.taken now.outs.taken (events_text s₁.events) (agrees.taken t);
         told = λ t. rw (agrees.told t) (back_none (old ++ base.told) new);
         order = archive_order tells base now.outs s₁.events old x agrees;
         tape_later = omega (arith, agrees.tape_stands);
@@ -181,8 +181,8 @@ module _ {S E C : Type 0} (m : Meaning S E C KeyRow) (w : Setting) (past : List 
       (subst (λ (l : List Event). now.fails x l (kept_of w past s₀.events)) kept_as fails))
 
   -- what goes out goes to peers, or is for none
-  pub all_fit : (outputs : List Output) → outputs ≡ group.outputs.items → AllByRecursion (λ o. Fits w s₁.peers.keeping o.at o.more) outputs
-  all_fit outputs same = subst (λ (l : List Output). AllByRecursion (λ o. Fits w s₁.peers.keeping o.at o.more) l) (sym same) run.under.holds.fit
+  pub all_fit : (outputs : List Output) → outputs ≡ group.outputs.items → AllByRecursion (λ o. FitsPeers w s₁.peers.keeping o.at o.more) outputs
+  all_fit outputs same = subst (λ (l : List Output). AllByRecursion (λ o. FitsPeers w s₁.peers.keeping o.at o.more) l) (sym same) run.under.holds.fit
 
   -- all events were kept
   pub all_kept : (stands : List Event → Type 0) → stands (if_kept group.kept (reverse group.events.items) ++ kept_of w past s₀.events) → stands (kept_of w past s₁.events)
@@ -210,7 +210,7 @@ module _ {S E C : Type 0} (m : Meaning S E C KeyRow) (w : Setting) (past : List 
     }
 
     -- or a part of it
-    pub group_stops : (outputs : List Output) (x : LinkFault) (fault : Fault) (end : ServeEnd) → outputs ≡ group.outputs.items → Fails x fault
+    pub group_stops : (outputs : List Output) (x : LinkFault) (fault : Fault) (end : ServeEnd) → outputs ≡ group.outputs.items → IsFaultOfLink x fault
         → LinkDid tells.link (acts_each (acts_by s₁.peers.keeping) outputs) o.told told o.link_faults count (Err x) → IsEndOf fault end
         → ServesKept m w past numbers house.replicas.items tells base then end until limit start
     group_stops outputs x fault end same why did is =

@@ -16,11 +16,11 @@ use Rattle.world_model.specs.World.{Setting, seen_of}
 use Rattle.node_loop.specs.Resending.{mark_at}
 use Rattle.world_model.specs.MadeOrder.{MadeFrame}
 use Rattle.node_loop.specs.Waiting.{Waiting}
-use Rattle.node_loop.specs.Calls.{Outcome, called, item_does, first_does}
+use Rattle.node_loop.specs.Calls.{Outcome, event_called, item_does, first_does}
 use Rattle.node_loop.specs.Peers.{Peers, keep_all, with_mark}
 use Rattle.node_loop.specs.Deeds.{Deed, Came, Made, Resent, Acked, Wished, Replied, pushed}
 use Rattle.node_loop.specs.Resending.{Brought, nothing_more, is_deferred, opened_so, resends, noted_so}
-use Rattle.node_loop.specs.Serving.{Serving, so_far, onto, Round, Began, Turned, Reminded, Took, made_by, outcome, brought, round_does, after_from, came, with_deeds, deeds_from}
+use Rattle.node_loop.specs.Serving.{Serving, so_far, onto, Round, Began, Turned, Reminded, Took, frames_made_by, outcome, brought, round_does, after_from, came, with_deeds, deeds_from}
 use Rattle.node_loop.specs.Laws.{IsEarned, AreEarned, AcksAreEarned}
 use Rattle.node_loop.proofs.Reopening.{did_so, brings_so}
 
@@ -120,8 +120,8 @@ opened_earned w es i bytes p fs ds (Ok o) is all =
 abbrev FrameEarned : Setting → List Event → List Event → ℕ → List ℕ → Waiting → Peers → List Deed → Bool → Bool → Type 0
 FrameEarned w now past to bytes ws p ds here note =
     let es = now ++ past in
-    let did = did_so here note (called w es to (events.Frame to bytes) ws) ws in
-    let fs = made_by w es did.event in
+    let did = did_so here note (event_called w es to (events.Frame to bytes) ws) ws in
+    let fs = frames_made_by w es did.event in
     let q = keep_all fs p in
     let more = brings_so here note (noted_so to q (noted (w.keys to) bytes)) (opened_so w es to bytes q (opening (w.keys to) bytes)) q in
     AreEarned w (onto did.event now ++ past) (with_deeds fs more.deeds did.replies (Came (items.Frame to bytes) ∷ ds))
@@ -132,8 +132,8 @@ frame_earned w now past to bytes ws p ds false note all = all
 frame_earned w now past to bytes ws p ds true true all = noted_earned w (now ++ past) to p (noted (w.keys to) bytes) (Came (items.Frame to bytes) ∷ ds) all
 frame_earned w now past to bytes ws p ds true false all =
     let es = now ++ past in
-    let did = called w es to (events.Frame to bytes) ws in
-    let fs = made_by w es did.event in
+    let did = event_called w es to (events.Frame to bytes) ws in
+    let fs = frames_made_by w es did.event in
     replied_earned w (events.Frame to bytes ∷ es) did.replies _
     (opened_earned w es to bytes (keep_all fs p) fs ds (opening (w.keys to) bytes) refl (earned_later w es (Some (events.Frame to bytes)) ds all))
 
@@ -143,10 +143,10 @@ onto_past (Some e) now past = refl
 
 -- its frames and its replies alone
 plain_earned : (w : Setting) (now past : List Event) (did : Outcome) (ds : List Deed) → AreEarned w (now ++ past) ds
-    → AreEarned w (onto did.event now ++ past) (with_deeds (made_by w (now ++ past) did.event) [] did.replies ds)
+    → AreEarned w (onto did.event now ++ past) (with_deeds (frames_made_by w (now ++ past) did.event) [] did.replies ds)
 plain_earned w now past did ds all =
     replied_earned w (onto did.event now ++ past) did.replies _
-    (made_earned w (onto did.event now ++ past) (made_by w (now ++ past) did.event) ds
+    (made_earned w (onto did.event now ++ past) (frames_made_by w (now ++ past) did.event) ds
     (subst (λ (es : List Event). AreEarned w es ds) (sym (onto_past did.event now past)) (earned_later w (now ++ past) did.event ds all)))
 
 up_earned : (w : Setting) (es : List Event) (at peer : ℕ) (p : Peers) (ds : List Deed) (b : Bool) → AreEarned w es ds
@@ -156,9 +156,9 @@ up_earned w es at peer p ds false all = all
 
 round_earned : (w : Setting) (past : List Event) (x : Round) (s : Serving) (ds : List Deed) → AreEarned w (so_far past s) ds
     → AreEarned w (so_far past (round_does w past x s))
-    (with_deeds (made_by w (so_far past s) (outcome w past x s).event) (brought w past x s).deeds (outcome w past x s).replies (came x ds))
+    (with_deeds (frames_made_by w (so_far past s) (outcome w past x s).event) (brought w past x s).deeds (outcome w past x s).replies (came x ds))
 round_earned w past (Began item) s ds all = plain_earned w s.events past (first_does w (so_far past s) item s.waiting) ds all
-round_earned w past (Turned i) s ds all = plain_earned w s.events past (called w (so_far past s) i (events.Turn i) s.waiting) ds all
+round_earned w past (Turned i) s ds all = plain_earned w s.events past (event_called w (so_far past s) i (events.Turn i) s.waiting) ds all
 round_earned w past (Reminded i j) s ds all = all
 round_earned w past (Took (items.Frame to bytes)) s ds all =
     frame_earned w s.events past to bytes s.waiting s.peers ds (w.is_correct to) (is_note bytes) all

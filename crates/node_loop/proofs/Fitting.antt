@@ -12,9 +12,9 @@ use Rattle.command_log.specs.Rows.{position_of}
 use Rattle.world_model.specs.World.{Setting, seen_of}
 use Rattle.world_model.specs.Agree.{rows_at}
 use Rattle.node_loop.specs.Waiting.{Waiting, with_waiter}
-use Rattle.node_loop.specs.Calls.{Outcome, called, asked_in, refusal_in, submitted, submitted_so, silent, is_waited_for, asked_so, asks_so, asks, if_here, item_does, first_does}
-use Rattle.node_loop.specs.Serving.{so_far, onto, Want, Begins, Finishes, Turns, Halts, Reminds, Asks, here, is_done, busy, turn_or, remind_or, wants_of, first_or, Serving, Round, Began, Turned, Reminded, Took, behind_first, after_from, IsWanted}
-use Rattle.node_loop.specs.Served.{IsFirst}
+use Rattle.node_loop.specs.Calls.{Outcome, event_called, asked_in, refusal_in, submitted, submitted_so, silent, is_waited_for, asked_so, asks_so, asks, if_here, item_does, first_does}
+use Rattle.node_loop.specs.Serving.{so_far, onto, Want, Begins, Finishes, Turns, Halts, Reminds, Asks, here, has_enough_rows, busy, turn_or, remind_or, wants_of, first_or, Serving, Round, Began, Turned, Reminded, Took, behind_first, after_from, IsWanted}
+use Rattle.node_loop.specs.Served.{MayBegin}
 use Rattle.node_loop.specs.Laws.{IsServed, EventsFit}
 use Rattle.node_loop.proofs.Turning.{turns_correct}
 use Rattle.keyed_channel.specs.Notes.{is_note}
@@ -24,12 +24,12 @@ use Rattle.node_loop.specs.Resending.{due}
 
 -- ---- the first items that are left
 
-behind_fits : (left : List LinkItem) → AllByRecursion IsFirst left → AllByRecursion IsFirst (behind_first left)
+behind_fits : (left : List LinkItem) → AllByRecursion MayBegin left → AllByRecursion MayBegin (behind_first left)
 behind_fits [] all = tt
 behind_fits (item ∷ left) all = all.1
 
-left_fits : (w : Setting) (past : List Event) (start : Serving) (rounds : List Round) → AllByRecursion IsFirst start.left
-    → AllByRecursion IsFirst (after_from w past start rounds).left
+left_fits : (w : Setting) (past : List Event) (start : Serving) (rounds : List Round) → AllByRecursion MayBegin start.left
+    → AllByRecursion MayBegin (after_from w past start rounds).left
 left_fits w past start [] all = all
 left_fits w past start (Began item ∷ rounds) all = behind_fits (after_from w past start rounds).left (left_fits w past start rounds all)
 left_fits w past start (Turned i ∷ rounds) all = left_fits w past start rounds all
@@ -37,15 +37,15 @@ left_fits w past start (Reminded i j ∷ rounds) all = left_fits w past start ro
 left_fits w past start (Took item ∷ rounds) all = left_fits w past start rounds all
 
 -- one that is taken up is a first one
-begun_fits : (left : List LinkItem) (other : Want) (item : LinkItem) → AllByRecursion IsFirst left → ((x : LinkItem) → other ≡ Begins x → ⊥)
-    → IsWanted (first_or left other) (Began item) → IsFirst item
+begun_fits : (left : List LinkItem) (other : Want) (item : LinkItem) → AllByRecursion MayBegin left → ((x : LinkItem) → other ≡ Begins x → ⊥)
+    → IsWanted (first_or left other) (Began item) → MayBegin item
 begun_fits [] (Begins x) item all none want = absurd (none x refl)
 begun_fits [] Finishes item all none want = absurd want
 begun_fits [] (Turns i) item all none want = absurd want
 begun_fits [] Halts item all none want = absurd want
 begun_fits [] (Reminds i j) item all none want = absurd want
 begun_fits [] Asks item all none want = absurd want
-begun_fits (x ∷ left) other item all none want = subst IsFirst want all.0
+begun_fits (x ∷ left) other item all none want = subst MayBegin want all.0
 
 -- ---- outcomes
 
@@ -81,13 +81,13 @@ here_fits w at did ws fits = here (w.is_correct at) refl
     here false wrong = tt
 
 note_fits : (w : Setting) (es : List Event) (to : ℕ) (bytes : List ℕ) (ws : Waiting) (b : Bool) → IsServed w (events.Frame to bytes)
-    → FitsOutcome w (if b then silent [] ws else called w es to (events.Frame to bytes) ws).event
+    → FitsOutcome w (if b then silent [] ws else event_called w es to (events.Frame to bytes) ws).event
 note_fits w es to bytes ws true fits = tt
 note_fits w es to bytes ws false fits = fits
 
 item_fits : (w : Setting) (es : List Event) (item : LinkItem) (ws : Waiting) → length (bytes_of item) < 2 ^ 16 → FitsOutcome w (item_does w es item ws).event
 item_fits w es (items.Frame to bytes) ws short =
-    here_fits w to (if is_note bytes then silent [] ws else called w es to (events.Frame to bytes) ws) ws (λ right. note_fits w es to bytes ws (is_note bytes) (right, short))
+    here_fits w to (if is_note bytes then silent [] ws else event_called w es to (events.Frame to bytes) ws) ws (λ right. note_fits w es to bytes ws (is_note bytes) (right, short))
 item_fits w es (items.Client at conn bytes) ws short =
     here_fits w at (asks w es at (Some conn) bytes ws) ws (λ right. asks_fits w es at (Some conn) bytes ws (request_in bytes) (right, short))
 item_fits w es (items.Reply from bytes) ws short = tt
@@ -96,7 +96,7 @@ item_fits w es (items.Down at peer) ws short = tt
 item_fits w es (items.Left at conn) ws short = tt
 item_fits w es items.End ws short = tt
 
-first_fits : (w : Setting) (es : List Event) (item : LinkItem) (ws : Waiting) → IsFirst item → FitsOutcome w (first_does w es item ws).event
+first_fits : (w : Setting) (es : List Event) (item : LinkItem) (ws : Waiting) → MayBegin item → FitsOutcome w (first_does w es item ws).event
 first_fits w es (items.Client at conn bytes) ws short =
     here_fits w at (asks w es at None bytes ws) ws (λ right. asks_fits w es at None bytes ws (request_in bytes) (right, short))
 first_fits w es (items.Frame to bytes) ws none = absurd none
@@ -114,7 +114,7 @@ onto_fits w es (Some e) fits all = (fits, all)
 
 -- what is wanted of rules is no first item
 no_first : (w : Setting) (until limit : ℕ) (es : List Event) (taken : ℕ) (p : Peers) (x : LinkItem) → wants_of w until limit es taken p ≡ Begins x → ⊥
-no_first w until limit es taken p x = go (is_done w until es)
+no_first w until limit es taken p x = go (has_enough_rows w until es)
   where
     reminds : (pairs : List Pair) → remind_or pairs ≡ Begins x → ⊥
     reminds [] e = absurd (cc)
@@ -164,7 +164,7 @@ pub all_fit : EventsFit
 all_fit w past until limit start [] firsts all wanted = all
 all_fit w past until limit start (Began item ∷ rounds) firsts all wanted =
     let s = after_from w past start rounds in
-    let is_first = begun_fits s.left (wants_of w until limit (so_far past s) s.taken s.peers) item (left_fits w past start rounds (recursion_from_All IsFirst start.left firsts))
+    let is_first = begun_fits s.left (wants_of w until limit (so_far past s) s.taken s.peers) item (left_fits w past start rounds (recursion_from_All MayBegin start.left firsts))
     (no_first w until limit (so_far past s) s.taken s.peers) wanted.0 in
     onto_fits w s.events (first_does w (so_far past s) item s.waiting).event (first_fits w (so_far past s) item s.waiting is_first)
     (all_fit w past until limit start rounds firsts all wanted.1)

@@ -21,7 +21,7 @@ use Rattle.node_loop.specs.Calls.{Outcome}
 use Rattle.node_loop.specs.Peers.{Peers, keep_all}
 use Rattle.node_loop.specs.Deeds.{Deed, Came, Made, Resent, Acked, Wished, Replied, pushed, act_of, firsts_in}
 use Rattle.node_loop.specs.Resending.{Brought, is_deferred, opened_so, noted_so, item_brings}
-use Rattle.node_loop.specs.Serving.{Serving, so_far, as_sent, made_by, sent_by, onto, Round, Began, Turned, Reminded, Took, outcome, brought, round_does, after_from, came, with_deeds, deeds_from}
+use Rattle.node_loop.specs.Serving.{Serving, so_far, as_sent, frames_made_by, sent_by, onto, Round, Began, Turned, Reminded, Took, outcome, brought, round_does, after_from, came, with_deeds, deeds_from}
 use Rattle.node_loop.specs.Laws.{ActsAreDeeds, FramesAreMade}
 
 reverse_cons : {A : Type 0} (x : A) (xs : List A) → reverse (x ∷ xs) ≡ reverse xs ++ x ∷ []
@@ -57,13 +57,13 @@ deeds_act keys fs more rs ds =
 -- what a round adds to both, where its calls of the link are these
 round_acts : (w : Setting) (es : List Event) (did : Outcome) (more : Brought) (acts : List LinkAct) (ds : List Deed) → acts ≡ map (act_of w.keys) ds
     → reverse (map Replies did.replies) ++ (reverse (map (act_of w.keys) more.deeds) ++ (reverse (sent_by w es did.event) ++ acts))
-    ≡ map (act_of w.keys) (with_deeds (made_by w es did.event) more.deeds did.replies ds)
+    ≡ map (act_of w.keys) (with_deeds (frames_made_by w es did.event) more.deeds did.replies ds)
 round_acts w es did more acts ds is =
     ap (λ (l : List LinkAct). reverse (map Replies did.replies) ++ (reverse (map (act_of w.keys) more.deeds) ++ (reverse (sent_by w es did.event) ++ l))) is
-    ∙ sym (deeds_act w.keys (made_by w es did.event) more.deeds did.replies ds)
+    ∙ sym (deeds_act w.keys (frames_made_by w es did.event) more.deeds did.replies ds)
 
 acts_more : (w : Setting) (past : List Event) (x : Round) (s : Serving) (ds : List Deed) → s.acts ≡ map (act_of w.keys) ds
-    → (round_does w past x s).acts ≡ map (act_of w.keys) (with_deeds (made_by w (so_far past s) (outcome w past x s).event) (brought w past x s).deeds (outcome w past x s).replies (came x ds))
+    → (round_does w past x s).acts ≡ map (act_of w.keys) (with_deeds (frames_made_by w (so_far past s) (outcome w past x s).event) (brought w past x s).deeds (outcome w past x s).replies (came x ds))
 acts_more w past (Began item) s ds is = round_acts w (so_far past s) (outcome w past (Began item) s) (brought w past (Began item) s) s.acts ds is
 acts_more w past (Turned i) s ds is = round_acts w (so_far past s) (outcome w past (Turned i) s) (brought w past (Turned i) s) s.acts ds is
 acts_more w past (Reminded i j) s ds is = round_acts w (so_far past s) (outcome w past (Reminded i j) s) (brought w past (Reminded i j) s) s.acts ds is
@@ -134,16 +134,16 @@ item_besides w es (items.Down at peer) p = tt
 item_besides w es (items.Left at conn) p = tt
 item_besides w es items.End p = tt
 
-made_next : (w : Setting) (es : List Event) (past : List Event) (o : Option Event) → all_made w (onto o es ++ past) ≡ all_made w (es ++ past) ++ made_by w (es ++ past) o
+made_next : (w : Setting) (es : List Event) (past : List Event) (o : Option Event) → all_made w (onto o es ++ past) ≡ all_made w (es ++ past) ++ frames_made_by w (es ++ past) o
 unfolding all_made
 made_next w es past None = sym (append-nil (all_made w (es ++ past)))
 made_next w es past (Some e) = refl
 
 made_round : (w : Setting) (es past : List Event) (before : List MadeFrame) (o : Option Event) (more : List Deed) (rs : List Sent) (ds : List Deed) → AllByRecursion IsBesides more
     → all_made w (es ++ past) ≡ before ++ reverse (firsts_in ds)
-    → all_made w (onto o es ++ past) ≡ before ++ reverse (firsts_in (with_deeds (made_by w (es ++ past) o) more rs ds))
+    → all_made w (onto o es ++ past) ≡ before ++ reverse (firsts_in (with_deeds (frames_made_by w (es ++ past) o) more rs ds))
 made_round w es past before o more rs ds besides so =
-    let fs = made_by w (es ++ past) o in
+    let fs = frames_made_by w (es ++ past) o in
     let firsts : firsts_in (with_deeds fs more rs ds) ≡ reverse fs ++ firsts_in ds =
     firsts_replied rs (pushed more (pushed (map Made fs) ds)) ∙ (firsts_besides more (pushed (map Made fs) ds) besides ∙ firsts_made fs ds) in
     let back : reverse (firsts_in (with_deeds fs more rs ds)) ≡ reverse (firsts_in ds) ++ fs =
@@ -156,13 +156,13 @@ made_round w es past before o more rs ds besides so =
 frames_more : (w : Setting) (past : List Event) (before : List MadeFrame) (x : Round) (s : Serving) (ds : List Deed)
     → all_made w (so_far past s) ≡ before ++ reverse (firsts_in ds)
     → all_made w (so_far past (round_does w past x s)) ≡ before
-    ++ reverse (firsts_in (with_deeds (made_by w (so_far past s) (outcome w past x s).event) (brought w past x s).deeds (outcome w past x s).replies (came x ds)))
+    ++ reverse (firsts_in (with_deeds (frames_made_by w (so_far past s) (outcome w past x s).event) (brought w past x s).deeds (outcome w past x s).replies (came x ds)))
 frames_more w past before (Began item) s ds so = made_round w s.events past before (outcome w past (Began item) s).event (brought w past (Began item) s).deeds (outcome w past (Began item) s).replies ds tt so
 frames_more w past before (Turned i) s ds so = made_round w s.events past before (outcome w past (Turned i) s).event (brought w past (Turned i) s).deeds (outcome w past (Turned i) s).replies ds tt so
 frames_more w past before (Reminded i j) s ds so = made_round w s.events past before (outcome w past (Reminded i j) s).event (brought w past (Reminded i j) s).deeds (outcome w past (Reminded i j) s).replies ds (tt, tt) so
 frames_more w past before (Took item) s ds so =
     made_round w s.events past before (outcome w past (Took item) s).event (brought w past (Took item) s).deeds (outcome w past (Took item) s).replies (Came item ∷ ds)
-    (item_besides w (so_far past s) item (keep_all (made_by w (so_far past s) (outcome w past (Took item) s).event) s.peers)) so
+    (item_besides w (so_far past s) item (keep_all (frames_made_by w (so_far past s) (outcome w past (Took item) s).event) s.peers)) so
 
 pub are_made : FramesAreMade
 are_made w past start before ds [] so = so

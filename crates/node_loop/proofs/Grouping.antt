@@ -28,15 +28,15 @@ use Rattle.node_loop.specs.declared.output.Reply.{Reply}
 use Rattle.replica.specs.declared.frame.OutFrame.{OutFrame}
 use Rattle.node_loop.specs.Calls.{Outcome}
 use Rattle.node_loop.specs.Deeds.{Deed, Resent, act_of}
-use Rattle.node_loop.specs.Groups.{acts_by, acts_each, more_by, is_again, Fits, listed, if_kept, Holds, Joins, Under, IsEmpty}
+use Rattle.node_loop.specs.Groups.{acts_by, acts_each, more_by, is_again, FitsPeers, event_listed, if_kept, GroupHolds, JoinsGroup, Under, IsEmpty}
 use Rattle.node_loop.specs.Keeping.{is_kept, has_kept, kept_onto, kept_of}
-use Rattle.node_loop.specs.Outs.{text_of}
+use Rattle.node_loop.specs.Outs.{events_text}
 use Rattle.node_loop.specs.Peers.{Keeping}
 use Rattle.node_loop.specs.PeersStanding.{kept_by}
 use Rattle.node_loop.specs.Resending.{Brought}
 use Rattle.node_loop.specs.Serving.{Serving, so_far, sent_by, sent_of, onto, Round, Began, Turned, Reminded, Took, at_call, outcome, brought, after_from, events_from, newest_from, given_behind}
 use Rattle.node_loop.specs.ServedKept.{group_kept}
-use Rattle.node_loop.specs.Standing.{HouseStands, Comes, IsMore, frame_by, reply_by}
+use Rattle.node_loop.specs.Standing.{HouseStands, ComesOut, IsMore, frame_by, reply_by}
 
 -- ---- what goes out, round after round
 
@@ -89,7 +89,7 @@ none_kept : (at peer : ℕ) (kept : List Kept) → map (λ k. Resent at peer k.f
 none_kept at peer [] none = refl
 none_kept at peer (k ∷ kept) none = absurd (cc)
 
-fits_as : (w : Setting) (at : ℕ) (goes : More) (more : Brought) → IsMore w at goes more → (w.is_correct at ≡ false → more.deeds ≡ []) → Fits w more.peers.keeping at goes
+fits_as : (w : Setting) (at : ℕ) (goes : More) (more : Brought) → IsMore w at goes more → (w.is_correct at ≡ false → more.deeds ≡ []) → FitsPeers w more.peers.keeping at goes
 fits_as w at mores.Nothing more brings nowhere = tt
 fits_as w at (mores.Note peer bytes) more brings nowhere = tt
 fits_as w at (mores.Kept peer) more brings nowhere = (brings.0, λ away. none_kept at peer (more.peers.keeping at peer) (sym brings.1 ∙ nowhere away))
@@ -144,7 +144,7 @@ more_settled p q at mores.Nothing calm = refl
 more_settled p q at (mores.Note peer bytes) calm = refl
 more_settled p q at (mores.Kept peer) calm = absurd (cc)
 
-fit_settled : (w : Setting) (q : Keeping) (at : ℕ) (goes : More) → is_again goes ≡ false → Fits w q at goes
+fit_settled : (w : Setting) (q : Keeping) (at : ℕ) (goes : More) → is_again goes ≡ false → FitsPeers w q at goes
 fit_settled w q at mores.Nothing calm = tt
 fit_settled w q at (mores.Note peer bytes) calm = tt
 fit_settled w q at (mores.Kept peer) calm = absurd (cc)
@@ -157,7 +157,7 @@ all_settled : (p q : Keeping) (os : List Output) → AreSettled os → acts_each
 all_settled p q [] calm = refl
 all_settled p q (o ∷ os) calm = ap₂ (λ (a b : List LinkAct). a ++ b) (all_settled p q os calm.1) (one_settled p q o calm.0)
 
-all_fit : (w : Setting) (q : Keeping) (os : List Output) → AreSettled os → AllByRecursion (λ o. Fits w q o.at o.more) os
+all_fit : (w : Setting) (q : Keeping) (os : List Output) → AreSettled os → AllByRecursion (λ o. FitsPeers w q o.at o.more) os
 all_fit w q [] calm = tt
 all_fit w q (o ∷ os) calm = (fit_settled w q o.at o.more calm.0, all_fit w q os calm.1)
 
@@ -166,7 +166,7 @@ all_pushed P [] x all one = (one, tt)
 all_pushed P (y ∷ xs) x all one = (all.0, all_pushed P xs x all.1 one)
 
 -- with an event, if there is one
-pub all_listed : (P : Event → Type 0) (es : List Event) (o : Option Event) → AllByRecursion P es → IfSome o P → AllByRecursion P (es ++ listed o)
+pub all_listed : (P : Event → Type 0) (es : List Event) (o : Option Event) → AllByRecursion P es → IfSome o P → AllByRecursion P (es ++ event_listed o)
 all_listed P es None all one = subst (λ (l : List Event). AllByRecursion P l) (sym (append-nil es)) all
 all_listed P es (Some e) all one = all_pushed P es e all one
 
@@ -190,7 +190,7 @@ events_parts w past start (x ∷ group) older =
     ap (onto (outcome w past x s).event) (at_events x s ∙ events_parts w past start group older)
     ∙ onto_past (outcome w past x s).event (events_from w past start group older) (after_from w past start older).events
 
-pub text_parts : (a b : List Event) → text_of (a ++ b) ≡ text_of b ++ text_of a
+pub text_parts : (a b : List Event) → events_text (a ++ b) ≡ events_text b ++ events_text a
 text_parts a b = ap (flat_map event_text) (reverse-append a b) ∙ flat_map-append event_text (reverse b) (reverse a)
 
 kept_past : (b : Bool) (e : Event) (xs ys : List Event) → kept_onto b e (xs ++ ys) ≡ kept_onto b e xs ++ ys
@@ -210,7 +210,7 @@ kept_parts w past start group older =
 
 -- ---- a round more
 
-turned_onto : (o : Option Event) (es : List Event) → reverse es ++ listed o ≡ reverse (onto o es)
+turned_onto : (o : Option Event) (es : List Event) → reverse es ++ event_listed o ≡ reverse (onto o es)
 turned_onto None es = append-nil (reverse es)
 turned_onto (Some e) es = sym (reverse-append (e ∷ []) es)
 
@@ -223,21 +223,21 @@ first_kept w es (Some e) = either (is_kept w es e)
     either false = refl
 
 module _ (w : Setting) (past : List Event) (start : Serving) (older : List Round) (group : Group) where
-  calm : (newest : List Round) (x : Round) → Holds w past start newest older group → Joins newest x group → AreSettled group.outputs.items
+  calm : (newest : List Round) (x : Round) → GroupHolds w past start newest older group → JoinsGroup newest x group → AreSettled group.outputs.items
   calm [] x holds joins = subst AreSettled (sym (holds.none refl)) tt
   calm (y ∷ newest) (Turned i) holds joins = holds.settled joins.1
   calm (y ∷ newest) (Began item) holds joins = absurd joins
   calm (y ∷ newest) (Reminded i j) holds joins = absurd joins
   calm (y ∷ newest) (Took item) holds joins = absurd joins
 
-  gives_none : (newest : List Round) (x : Round) → Joins newest x group → given_behind newest x ≡ []
+  gives_none : (newest : List Round) (x : Round) → JoinsGroup newest x group → given_behind newest x ≡ []
   gives_none [] x joins = refl
   gives_none (y ∷ newest) (Turned i) joins = refl
   gives_none (y ∷ newest) (Began item) joins = absurd joins
   gives_none (y ∷ newest) (Reminded i j) joins = absurd joins
   gives_none (y ∷ newest) (Took item) joins = absurd joins
 
-  keeps_on : (newest : List Round) (x : Round) (kept : Bool) → Holds w past start newest older group → Joins newest x group
+  keeps_on : (newest : List Round) (x : Round) (kept : Bool) → GroupHolds w past start newest older group → JoinsGroup newest x group
       → kept ≡ has_kept w (so_far past (at_call x (after_from w past start (newest ++ older)))) (outcome w past x (after_from w past start (newest ++ older))).event
       → group_kept w past start (x ∷ newest) older ≡ if_kept kept (events_from w past start (x ∷ newest) older)
   keeps_on [] x kept holds joins is =
@@ -268,8 +268,8 @@ module _ {S E C : Type 0} (m : Meaning S E C KeyRow) (w : Setting) (past : List 
   abbrev then : Output
   then = record o { event = None }
 
-  acts_grow : acts_by more.peers.keeping then ≡ sent_of w (so_far past (at_call x s)) did more → AreSettled group.outputs.items → Holds w past start newest older group
-      → Joins newest x group → new.outputs.items ≡ group.outputs.items ++ then ∷ []
+  acts_grow : acts_by more.peers.keeping then ≡ sent_of w (so_far past (at_call x s)) did more → AreSettled group.outputs.items → GroupHolds w past start newest older group
+      → JoinsGroup newest x group → new.outputs.items ≡ group.outputs.items ++ then ∷ []
       → acts_each (acts_by more.peers.keeping) new.outputs.items ≡ newest_from w past start (x ∷ newest) older
   acts_grow sent still holds joins outputs =
       let keeping = more.peers.keeping in
@@ -279,23 +279,23 @@ module _ {S E C : Type 0} (m : Meaning S E C KeyRow) (w : Setting) (past : List 
       ∙ ap₂ (λ (a b : List LinkAct). a ++ b) sent (all_settled keeping s.peers.keeping group.outputs.items still ∙ holds.acts)
       ∙ ap (λ (l : List LinkAct). sent_of w (so_far past (at_call x s)) did more ++ (l ++ news)) (sym (gives_none w past start older group newest x joins))
 
-  pub joined : Comes m w (so_far past (at_call x s)) numbers house o did more → Holds w past start newest older group → Joins newest x group
-      → new.events.items ≡ group.events.items ++ listed o.event → new.outputs.items ≡ group.outputs.items ++ then ∷ [] → new.kept ≡ o.kept → new.resends ≡ is_again o.more
-      → Holds w past start (x ∷ newest) older new
+  pub joined : ComesOut m w (so_far past (at_call x s)) numbers house o did more → GroupHolds w past start newest older group → JoinsGroup newest x group
+      → new.events.items ≡ group.events.items ++ event_listed o.event → new.outputs.items ≡ group.outputs.items ++ then ∷ [] → new.kept ≡ o.kept → new.resends ≡ is_again o.more
+      → GroupHolds w past start (x ∷ newest) older new
   joined comes holds joins events outputs kept again =
       let still = calm w past start older group newest x holds joins in
       record {
         none = λ no. absurd (cc);
-        events = events ∙ ap₂ (λ (a : List Event) (e : Option Event). a ++ listed e) holds.events comes.event ∙ turned_onto did.event (events_from w past start newest older);
+        events = events ∙ ap₂ (λ (a : List Event) (e : Option Event). a ++ event_listed e) holds.events comes.event ∙ turned_onto did.event (events_from w past start newest older);
         keeps = keeps_on w past start older group newest x new.kept holds joins (kept ∙ comes.keeps);
         acts = acts_grow (acts_as w (so_far past (at_call x s)) did more o comes.frames comes.besides comes.replies) still holds joins outputs;
-        fit = subst (λ (os : List Output). AllByRecursion (λ o. Fits w more.peers.keeping o.at o.more) os) (sym outputs)
-            (all_pushed (λ o. Fits w more.peers.keeping o.at o.more) group.outputs.items then (all_fit w more.peers.keeping group.outputs.items still)
+        fit = subst (λ (os : List Output). AllByRecursion (λ o. FitsPeers w more.peers.keeping o.at o.more) os) (sym outputs)
+            (all_pushed (λ o. FitsPeers w more.peers.keeping o.at o.more) group.outputs.items then (all_fit w more.peers.keeping group.outputs.items still)
             (fits_as w o.at o.more more comes.besides (λ away. (comes.nowhere away).1)));
         settled = λ is. subst AreSettled (sym outputs) (all_pushed (λ o. is_again o.more ≡ false) group.outputs.items then still (sym again ∙ is));
       }
 
-  pub under_more : HouseStands m w (onto did.event (so_far past (at_call x s))) numbers house did.waiting more.peers → Holds w past start (x ∷ newest) older new
+  pub under_more : HouseStands m w (onto did.event (so_far past (at_call x s))) numbers house did.waiting more.peers → GroupHolds w past start (x ∷ newest) older new
       → Under m w past numbers start (x ∷ newest) older house new
   under_more stands holds = record {
     stands = subst (λ (es : List Event). HouseStands m w es numbers house did.waiting more.peers) (onto_past did.event (at_call x s).events past) stands;
@@ -303,13 +303,13 @@ module _ {S E C : Type 0} (m : Meaning S E C KeyRow) (w : Setting) (past : List 
   }
 
 -- of no round a group holds nothing
-pub holds_none : (w : Setting) (past : List Event) (start : Serving) (older : List Round) (group : Group) → IsEmpty group → Holds w past start [] older group
+pub holds_none : (w : Setting) (past : List Event) (start : Serving) (older : List Round) (group : Group) → IsEmpty group → GroupHolds w past start [] older group
 holds_none w past start older group empty = record {
   none = λ is. empty.outputs;
   events = empty.events;
   keeps = no_events group.kept;
   acts = ap (acts_each (acts_by (after_from w past start older).peers.keeping)) empty.outputs;
-  fit = subst (λ (os : List Output). AllByRecursion (λ o. Fits w (after_from w past start older).peers.keeping o.at o.more) os) (sym empty.outputs) tt;
+  fit = subst (λ (os : List Output). AllByRecursion (λ o. FitsPeers w (after_from w past start older).peers.keeping o.at o.more) os) (sym empty.outputs) tt;
   settled = λ is. subst AreSettled (sym empty.outputs) tt;
 }
   where
@@ -319,18 +319,18 @@ holds_none w past start older group empty = record {
 
 -- what a group gets of a round
 module _ (P : Event → Type 0) (r : Result (Unit {0}) Mem) (old new : List Event) (o : Option Event) where
-  pub still_all : OnOk r (new ≡ old ++ listed o) → AllByRecursion P old → IfSome o P → OnOk r (AllByRecursion P new)
-  still_all added all one = on_ok_weaker r (λ (is : new ≡ old ++ listed o). subst (λ (l : List Event). AllByRecursion P l) (sym is) (all_listed P old o all one)) added
+  pub still_all : OnOk r (new ≡ old ++ event_listed o) → AllByRecursion P old → IfSome o P → OnOk r (AllByRecursion P new)
+  still_all added all one = on_ok_weaker r (λ (is : new ≡ old ++ event_listed o). subst (λ (l : List Event). AllByRecursion P l) (sym is) (all_listed P old o all one)) added
 
 -- a round joined, if memory was enough
 pub added : {S E C : Type 0} (m : Meaning S E C KeyRow) (w : Setting) (past : List Event) (numbers : List ℕ) (start : Serving) (x : Round) (newest older : List Round)
     (old house : House S E C) (group new : Group) (o : Output) (r : Result (Unit {0}) Mem)
-    → Comes m w (so_far past (at_call x (after_from w past start (newest ++ older)))) numbers old o (outcome w past x (after_from w past start (newest ++ older)))
+    → ComesOut m w (so_far past (at_call x (after_from w past start (newest ++ older)))) numbers old o (outcome w past x (after_from w past start (newest ++ older)))
     (brought w past x (after_from w past start (newest ++ older)))
     → HouseStands m w (onto (outcome w past x (after_from w past start (newest ++ older))).event (so_far past (at_call x (after_from w past start (newest ++ older))))) numbers house
     (outcome w past x (after_from w past start (newest ++ older))).waiting (brought w past x (after_from w past start (newest ++ older))).peers
-    → Holds w past start newest older group → Joins newest x group
-    → OnOk r (new.events.items ≡ group.events.items ++ listed o.event) → OnOk r (new.outputs.items ≡ group.outputs.items ++ record o { event = None } ∷ [])
+    → GroupHolds w past start newest older group → JoinsGroup newest x group
+    → OnOk r (new.events.items ≡ group.events.items ++ event_listed o.event) → OnOk r (new.outputs.items ≡ group.outputs.items ++ record o { event = None } ∷ [])
     → OnOk r (new.kept ≡ o.kept) → OnOk r (new.resends ≡ is_again o.more) → OnOk r (Under m w past numbers start (x ∷ newest) older house new)
 added m w past numbers start x newest older old house group new o (Ok done) comes stands holds joins events outputs kept again =
     under_more m w past numbers start x newest older house group new o stands (joined m w past numbers start x newest older old group new o comes holds joins events outputs kept again)

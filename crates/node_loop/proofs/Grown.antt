@@ -5,7 +5,7 @@ use Rattle.ritas_base.specs.declared.event.Event.TheVariants as events
 use Rattle.outside.specs.Links.{Gives, Replies}
 use Rattle.layer_api.specs.Service.{IsPart}
 use Rattle.world_model.specs.World.{Setting}
-use Rattle.node_loop.specs.Calls.{Outcome, called, silent, item_does, first_does}
+use Rattle.node_loop.specs.Calls.{Outcome, event_called, silent, item_does, first_does}
 use Rattle.node_loop.specs.Deeds.{act_of}
 use Rattle.node_loop.specs.Resending.{Brought}
 use Rattle.node_loop.specs.Serving.{Serving, so_far, sent_by, onto, with_outcome, Round, Began, Turned, Reminded, Took, began, gave, brought, round_does, after_from}
@@ -31,7 +31,7 @@ grown_outcome w past did more s t grown = (
 
 grown_round : (w : Setting) (past : List Event) (x : Round) (s t : Serving) → Grown s t → Grown s (round_does w past x t)
 grown_round w past (Began item) s t grown = grown_outcome w past (first_does w (so_far past t) item t.waiting) (brought w past (Began item) t) s (began t) grown
-grown_round w past (Turned i) s t grown = grown_outcome w past (called w (so_far past t) i (events.Turn i) t.waiting) (brought w past (Turned i) t) s t grown
+grown_round w past (Turned i) s t grown = grown_outcome w past (event_called w (so_far past t) i (events.Turn i) t.waiting) (brought w past (Turned i) t) s t grown
 grown_round w past (Reminded i j) s t grown = grown_outcome w past (silent [] t.waiting) (brought w past (Reminded i j) t) s t grown
 grown_round w past (Took item) s t grown =
     grown_outcome w past (item_does w (so_far past t) item t.waiting) (brought w past (Took item) t) s (gave item t) (grown.0, part_front (Gives item ∷ []) s.acts t.acts grown.1)

@@ -10,7 +10,7 @@ use Rattle.ritas_base.specs.declared.event.Event.{Event}
 use Rattle.ritas_base.specs.declared.event.Event.TheVariants as events
 use Rattle.ritas_base.specs.declared.item.Item.{Item}
 use Rattle.frame_codec.specs.declared.fault.BodyFault.{BodyFault}
-use Rattle.keyed_channel.specs.Frames.{Opening, sender_of, seq_of, parts_of, opening}
+use Rattle.keyed_channel.specs.Frames.{Opening, sender_of, seq_of, opening_parts, opening}
 use Rattle.keyed_channel.specs.Laws.{OpenedParts, OpenedFromPeer}
 use Rattle.keyed_channel.specs.Notes.{ack_note, is_note, noted}
 use Rattle.keyed_channel.specs.declared.frame.OpenFault.{OpenFault}
@@ -44,14 +44,14 @@ use Rattle.node_loop.specs.declared.peers.Keeper.{Keeper}
 use Rattle.node_loop.specs.declared.peers.Mark.{Mark}
 use Rattle.node_loop.specs.declared.waiting.Waiters.{Waiters}
 use Rattle.node_loop.specs.Waiting.{Waiting}
-use Rattle.node_loop.specs.Calls.{Outcome, called, silent, item_does, left_by, replies_by}
+use Rattle.node_loop.specs.Calls.{Outcome, event_called, silent, item_does, waiting_left_by, replies_by}
 use Rattle.node_loop.specs.Deeds.{Acked}
 use Rattle.node_loop.specs.Peers.{Peers, is_pair, with_list, with_mark, keep_all}
 use Rattle.node_loop.specs.PeersStanding.{AreKept, IsKeeper}
 use Rattle.node_loop.specs.Resending.{Brought, nothing_more, mark_at, is_deferred, opened_so, noted_so, item_brings}
-use Rattle.node_loop.specs.Serving.{made_by}
+use Rattle.node_loop.specs.Serving.{frames_made_by}
 use Rattle.node_loop.specs.Served.{AreHere}
-use Rattle.node_loop.specs.Standing.{IsWaiting, HouseStands, Comes, IsClear, IsMore, is_opened, reply_by}
+use Rattle.node_loop.specs.Standing.{IsWaiting, HouseStands, ComesOut, IsEmptyOutput, IsMore, is_answer_opened, reply_by}
 use Rattle.node_loop.proofs.Alone.{alone_seen}
 use Rattle.node_loop.proofs.Comings.{right_at, is_none, nothing_comes}
 
@@ -150,8 +150,8 @@ one_keeper {S = S} {E = E} {C = C} m w es numbers old now ws p q place at was ke
 
 -- the same for peers by another name
 pub comes_with : {S E C : Type 0} (m : Meaning S E C KeyRow) (w : Setting) (es : List Event) (numbers : List ℕ) (now : House S E C) (output : Output) (did : Outcome) (more other : Brought) → more ≡ other
-    → Comes m w es numbers now output did more → Comes m w es numbers now output did other
-comes_with m w es numbers now output did more other same comes = let P : Brought → Type 0 = λ x. Comes m w es numbers now output did x in subst P same comes
+    → ComesOut m w es numbers now output did more → ComesOut m w es numbers now output did other
+comes_with m w es numbers now output did more other same comes = let P : Brought → Type 0 = λ x. ComesOut m w es numbers now output did x in subst P same comes
 
 -- a mark stays where frames are kept
 pub keep_marked : (fs : List MadeFrame) (i j : ℕ) (mark : Option Mark) (p : Peers) → keep_all fs (with_mark i j mark p) ≡ with_mark i j mark (keep_all fs p)
@@ -173,7 +173,7 @@ abbrev opened_seen : Seen → Bool
 opened_seen (seen.Refused (refusals.Open fault)) = false
 opened_seen other = true
 
-opened_is : (answer : Result Answer Refusal) → is_opened answer ≡ opened_seen (seen_answer answer)
+opened_is : (answer : Result Answer Refusal) → is_answer_opened answer ≡ opened_seen (seen_answer answer)
 opened_is (Ok answer) = refl
 opened_is (Err (refusals.Open fault)) = refl
 opened_is (Err (refusals.Body fault)) = refl
@@ -197,7 +197,7 @@ frame_opens r k st (Err fault) = refl
 
 -- a frame that was answered so opened, where it did
 answered_opens : (w : Setting) (es : List Event) (at : ℕ) (bytes : List ℕ) (answer : Result Answer Refusal) → NoneStops w → w.is_correct at ≡ true
-    → seen_answer answer ≡ seen_of w es (events.Frame at bytes) → is_opened answer ≡ is_ok (opening (w.keys at) bytes)
+    → seen_answer answer ≡ seen_of w es (events.Frame at bytes) → is_answer_opened answer ≡ is_ok (opening (w.keys at) bytes)
 answered_opens w es at bytes answer going right saw =
     opened_is answer ∙ ap opened_seen (saw ∙ alone_seen w es at (events.Frame at bytes) going right refl) ∙ frame_opens (rules_at w at) (w.keys at) (states_of w es at) (opening (w.keys at) bytes)
 
@@ -207,7 +207,7 @@ answered_opens w es at bytes answer going right saw =
 pub record Heard {S E C : Type 0} (m : Meaning S E C KeyRow) (w : Setting) (es : List Event) (numbers : List ℕ) (now : House S E C) (ws : Waiting) (at : ℕ) (e : Event) (out : More) (brought : Brought) : Type 0 where
   pub before : Peers
   pub besides : IsMore w at out brought
-  pub kept : keep_all (made_by w es (Some e)) before ≡ brought.peers
+  pub kept : keep_all (frames_made_by w es (Some e)) before ≡ brought.peers
   pub stands : HouseStands m w (e ∷ es) numbers now ws before
 
 heard_as : {S E C : Type 0} (m : Meaning S E C KeyRow) (w : Setting) (es : List Event) (numbers : List ℕ) (now : House S E C) (ws : Waiting) (at : ℕ) (e : Event) (out : More) (brought other : Brought)
@@ -222,10 +222,10 @@ opened_comes : {S E C : Type 0} (m : Meaning S E C KeyRow) (w : Setting) (es : L
     → (is_deferred (seen_answer answer) ≡ true
     → HouseStands m w (events.Frame at bytes ∷ es) numbers now ws (with_mark at frame.from (Some (mark_at w (events.Frame at bytes ∷ es) at frame.from)) p) × (out ≡ was))
     → (is_deferred (seen_answer answer) ≡ false → frame.from < w.numbers.n → (now ≡ given) × (out ≡ mores.Note frame.from (ack_note (w.keys at) frame.from frame.seq)))
-    → Heard m w es numbers now ws at (events.Frame at bytes) out (opened_so w es at bytes (keep_all (made_by w es (Some (events.Frame at bytes))) p) (Ok o))
+    → Heard m w es numbers now ws at (events.Frame at bytes) out (opened_so w es at bytes (keep_all (frames_made_by w es (Some (events.Frame at bytes))) p) (Ok o))
 opened_comes m w es numbers given now ws p at bytes frame o was out answer true stands clear from_is seq_is below deferred told marks takes =
     let e = events.Frame at bytes in
-    let fs = made_by w es (Some e) in
+    let fs = frames_made_by w es (Some e) in
     let marked = marks told in
     let mark : ℕ → Option Mark = λ j. Some (mark_at w (e ∷ es) at j) in
     heard_as m w es numbers now ws at e out (nothing_more (with_mark at o.from (mark o.from) (keep_all fs p))) _
@@ -238,7 +238,7 @@ opened_comes m w es numbers given now ws p at bytes frame o was out answer true 
     })
 opened_comes {S = S} {E = E} {C = C} m w es numbers given now ws p at bytes frame o was out answer false stands clear from_is seq_is below deferred told marks takes =
     let e = events.Frame at bytes in
-    let fs = made_by w es (Some e) in
+    let fs = frames_made_by w es (Some e) in
     let took = takes told (omega (arith, below, from_is)) in
     let mark : ℕ → Option Mark = λ j. Some (mark_at w (e ∷ es) at j) in
     let note : ℕ → ℕ → More = λ j seq. mores.Note j (ack_note (w.keys at) j seq) in
@@ -255,21 +255,21 @@ opened_comes {S = S} {E = E} {C = C} m w es numbers given now ws p at bytes fram
 heard_by : {S E C : Type 0} (m : Meaning S E C KeyRow) (w : Setting) (es : List Event) (numbers : List ℕ) (given now : House S E C) (ws : Waiting) (p : Peers) (at : ℕ) (bytes : List ℕ) (carried : Option Carried)
     (was out : More) (answer : Result Answer Refusal) (o : Result Opening OpenFault)
     → HouseStands m w (events.Frame at bytes ∷ es) numbers given ws p → was ≡ mores.Nothing
-    → seen_answer answer ≡ seen_of w es (events.Frame at bytes) → is_opened answer ≡ is_ok o
+    → seen_answer answer ≡ seen_of w es (events.Frame at bytes) → is_answer_opened answer ≡ is_ok o
     → MatchOption carried (length bytes < 43) (λ f. (f.from ≡ sender_of bytes) × (f.seq ≡ seq_of bytes))
-    → ((x : Opening) → o ≡ Ok x → (43 ≤ length bytes) × (x ≡ parts_of bytes) × (x.from < w.numbers.n))
-    → (is_opened answer ≡ false → (now ≡ given) × (out ≡ was))
-    → (is_opened answer ≡ true → is_deferred (seen_answer answer) ≡ true → IfSome carried (λ f.
+    → ((x : Opening) → o ≡ Ok x → (43 ≤ length bytes) × (x ≡ opening_parts bytes) × (x.from < w.numbers.n))
+    → (is_answer_opened answer ≡ false → (now ≡ given) × (out ≡ was))
+    → (is_answer_opened answer ≡ true → is_deferred (seen_answer answer) ≡ true → IfSome carried (λ f.
     HouseStands m w (events.Frame at bytes ∷ es) numbers now ws (with_mark at f.from (Some (mark_at w (events.Frame at bytes ∷ es) at f.from)) p) × (out ≡ was)))
-    → (is_opened answer ≡ true → is_deferred (seen_answer answer) ≡ false → IfSome carried (λ f.
+    → (is_answer_opened answer ≡ true → is_deferred (seen_answer answer) ≡ false → IfSome carried (λ f.
     f.from < w.numbers.n → (now ≡ given) × (out ≡ mores.Note f.from (ack_note (w.keys at) f.from f.seq))))
-    → Heard m w es numbers now ws at (events.Frame at bytes) out (opened_so w es at bytes (keep_all (made_by w es (Some (events.Frame at bytes))) p) o)
+    → Heard m w es numbers now ws at (events.Frame at bytes) out (opened_so w es at bytes (keep_all (frames_made_by w es (Some (events.Frame at bytes))) p) o)
 heard_by {S = S} {E = E} {C = C} m w es numbers given now ws p at bytes carried was out answer (Err fault) stands clear saw opened reads says none marks takes =
     let e = events.Frame at bytes in
     let same = none opened in
     record {
       before = p;
-      besides = is_none w at out (nothing_more (keep_all (made_by w es (Some e)) p)) (same.1 ∙ clear) refl;
+      besides = is_none w at out (nothing_more (keep_all (frames_made_by w es (Some e)) p)) (same.1 ∙ clear) refl;
       kept = refl;
       stands = let P : House S E C → Type 0 = λ x. HouseStands m w (e ∷ es) numbers x ws p in subst P (sym same.0) stands;
     }
@@ -293,12 +293,12 @@ pub heard : {S E C : Type 0} (m : Meaning S E C KeyRow) (w : Setting) (es : List
     → AreHere m w es numbers old → slice_get numbers place ≡ Some at
     → HouseStands m w (events.Frame at bytes ∷ es) numbers given ws p → was ≡ mores.Nothing → seen_answer answer ≡ seen_of w es (events.Frame at bytes)
     → MatchOption carried (length bytes < 43) (λ f. (f.from ≡ sender_of bytes) × (f.seq ≡ seq_of bytes)) → OpenedParts → OpenedFromPeer
-    → (is_opened answer ≡ false → (now ≡ given) × (out ≡ was))
-    → (is_opened answer ≡ true → is_deferred (seen_answer answer) ≡ true → IfSome carried (λ f.
+    → (is_answer_opened answer ≡ false → (now ≡ given) × (out ≡ was))
+    → (is_answer_opened answer ≡ true → is_deferred (seen_answer answer) ≡ true → IfSome carried (λ f.
     HouseStands m w (events.Frame at bytes ∷ es) numbers now ws (with_mark at f.from (Some (mark_at w (events.Frame at bytes ∷ es) at f.from)) p) × (out ≡ was)))
-    → (is_opened answer ≡ true → is_deferred (seen_answer answer) ≡ false → IfSome carried (λ f.
+    → (is_answer_opened answer ≡ true → is_deferred (seen_answer answer) ≡ false → IfSome carried (λ f.
     f.from < w.numbers.n → (now ≡ given) × (out ≡ mores.Note f.from (ack_note (w.keys at) f.from f.seq))))
-    → Heard m w es numbers now ws at (events.Frame at bytes) out (opened_so w es at bytes (keep_all (made_by w es (Some (events.Frame at bytes))) p) (opening (w.keys at) bytes))
+    → Heard m w es numbers now ws at (events.Frame at bytes) out (opened_so w es at bytes (keep_all (frames_made_by w es (Some (events.Frame at bytes))) p) (opening (w.keys at) bytes))
 heard m w es numbers old given now ws p place at bytes carried was out answer stand number stands clear saw reads parts peer none marks takes =
     let right = right_at m w es numbers old place at stand number in
     let own : (w.keys at).n ≡ w.numbers.n = (stand.kind.own at (stand.kind.within at right)).1 in
@@ -309,10 +309,10 @@ heard m w es numbers old given now ws p place at bytes carried was out answer st
 
 -- the rows that came in, of a replica by another name
 pub entered_at : {S E C : Type 0} (m : Meaning S E C KeyRow) (w : Setting) (es : List Event) (numbers : List ℕ) (now : House S E C) (count : ℕ) (ws : Waiting) (p : Peers) (after quiet : List Reply) (k at : ℕ) → k ≡ at
-    → HouseStands m w es numbers now (left_by k count (rows_at w es k) ws) p × (map (reply_by k) after ≡ map (reply_by k) quiet ++ replies_by k count (rows_at w es k) ws)
-    → HouseStands m w es numbers now (left_by at count (rows_at w es at) ws) p × (map (reply_by at) after ≡ map (reply_by at) quiet ++ replies_by at count (rows_at w es at) ws)
+    → HouseStands m w es numbers now (waiting_left_by k count (rows_at w es k) ws) p × (map (reply_by k) after ≡ map (reply_by k) quiet ++ replies_by k count (rows_at w es k) ws)
+    → HouseStands m w es numbers now (waiting_left_by at count (rows_at w es at) ws) p × (map (reply_by at) after ≡ map (reply_by at) quiet ++ replies_by at count (rows_at w es at) ws)
 entered_at m w es numbers now count ws p after quiet k at same entered =
-    let P : ℕ → Type 0 = λ x. HouseStands m w es numbers now (left_by x count (rows_at w es x) ws) p × (map (reply_by x) after ≡ map (reply_by x) quiet ++ replies_by x count (rows_at w es x) ws) in
+    let P : ℕ → Type 0 = λ x. HouseStands m w es numbers now (waiting_left_by x count (rows_at w es x) ws) p × (map (reply_by x) after ≡ map (reply_by x) quiet ++ replies_by x count (rows_at w es x) ws) in
     subst P same entered
 
 -- ---- an item
@@ -320,7 +320,7 @@ entered_at m w es numbers now count ws p after quiet k at same entered =
 -- what comes of an item of the link
 abbrev pub ComesOf : {S E C : Type 0} → Meaning S E C KeyRow → Setting → List Event → List ℕ → House S E C → Output → Waiting → Peers → LinkItem → Type 0
 ComesOf m w es numbers now output ws p item =
-    Comes m w es numbers now output (item_does w es item ws) (item_brings w es item (keep_all (made_by w es (item_does w es item ws).event) p))
+    ComesOut m w es numbers now output (item_does w es item ws) (item_brings w es item (keep_all (frames_made_by w es (item_does w es item ws).event) p))
 
 pub same_item : {S E C : Type 0} (m : Meaning S E C KeyRow) (w : Setting) (es : List Event) (numbers : List ℕ) (now : House S E C) (output : Output) (ws : Waiting) (p : Peers) (item other : LinkItem) → item ≡ other
     → ComesOf m w es numbers now output ws p item → ComesOf m w es numbers now output ws p other
@@ -328,7 +328,7 @@ same_item m w es numbers now output ws p item other same comes = let P : LinkIte
 
 -- a frame or a note, by whether the replica is here and whether it is a note
 abbrev frame_does : Setting → List Event → ℕ → List ℕ → Waiting → Bool → Bool → Outcome
-frame_does w es to bytes ws right note = if right then (if note then silent [] ws else called w es to (events.Frame to bytes) ws) else silent [] ws
+frame_does w es to bytes ws right note = if right then (if note then silent [] ws else event_called w es to (events.Frame to bytes) ws) else silent [] ws
 
 abbrev frame_brings : Setting → List Event → ℕ → List ℕ → Peers → Bool → Bool → Brought
 frame_brings w es to bytes p right note =
@@ -336,8 +336,8 @@ frame_brings w es to bytes p right note =
 
 abbrev FrameComes : {S E C : Type 0} → Meaning S E C KeyRow → Setting → List Event → List ℕ → House S E C → Output → Waiting → Peers → ℕ → List ℕ → Bool → Bool → Type 0
 FrameComes m w es numbers now output ws p to bytes right note =
-    Comes m w es numbers now output (frame_does w es to bytes ws right note)
-    (frame_brings w es to bytes (keep_all (made_by w es (frame_does w es to bytes ws right note).event) p) right note)
+    ComesOut m w es numbers now output (frame_does w es to bytes ws right note)
+    (frame_brings w es to bytes (keep_all (frames_made_by w es (frame_does w es to bytes ws right note).event) p) right note)
 
 by_tests : {S E C : Type 0} (m : Meaning S E C KeyRow) (w : Setting) (es : List Event) (numbers : List ℕ) (now : House S E C) (output : Output) (ws : Waiting) (p : Peers) (to : ℕ) (bytes : List ℕ) (right note : Bool)
     → w.is_correct to ≡ right → is_note bytes ≡ note → FrameComes m w es numbers now output ws p to bytes right note → ComesOf m w es numbers now output ws p (items.Frame to bytes)
@@ -348,12 +348,12 @@ by_tests m w es numbers now output ws p to bytes right note here is comes =
 
 -- of a replica that isn't here nothing comes
 pub frame_nowhere : {S E C : Type 0} (m : Meaning S E C KeyRow) (w : Setting) (es : List Event) (numbers : List ℕ) (now : House S E C) (output : Output) (ws : Waiting) (p : Peers) (to : ℕ) (bytes : List ℕ)
-    → w.is_correct to ≡ false → HouseStands m w es numbers now ws p → IsClear output → ComesOf m w es numbers now output ws p (items.Frame to bytes)
+    → w.is_correct to ≡ false → HouseStands m w es numbers now ws p → IsEmptyOutput output → ComesOf m w es numbers now output ws p (items.Frame to bytes)
 frame_nowhere m w es numbers now output ws p to bytes faulty stands clear =
     by_tests m w es numbers now output ws p to bytes false (is_note bytes) faulty refl (nothing_comes m w es numbers now output ws p stands clear)
 
 pub note_here : {S E C : Type 0} (m : Meaning S E C KeyRow) (w : Setting) (es : List Event) (numbers : List ℕ) (now : House S E C) (output : Output) (ws : Waiting) (p : Peers) (to at : ℕ) (bytes read : List ℕ)
-    → w.is_correct to ≡ true → is_note read ≡ true → at ≡ to → read ≡ bytes → Comes m w es numbers now output (silent [] ws) (noted_so at p (noted (w.keys at) read))
+    → w.is_correct to ≡ true → is_note read ≡ true → at ≡ to → read ≡ bytes → ComesOut m w es numbers now output (silent [] ws) (noted_so at p (noted (w.keys at) read))
     → ComesOf m w es numbers now output ws p (items.Frame to bytes)
 note_here m w es numbers now output ws p to at bytes read right note at_is read_is comes =
     by_tests m w es numbers now output ws p to bytes true true right (ap is_note (sym read_is) ∙ note)
@@ -361,7 +361,7 @@ note_here m w es numbers now output ws p to at bytes read right note at_is read_
 
 pub frame_here : {S E C : Type 0} (m : Meaning S E C KeyRow) (w : Setting) (es : List Event) (numbers : List ℕ) (now : House S E C) (output : Output) (ws : Waiting) (p : Peers) (to : ℕ) (bytes read : List ℕ)
     → w.is_correct to ≡ true → is_note read ≡ false → read ≡ bytes
-    → Comes m w es numbers now output (called w es to (events.Frame to bytes) ws) (opened_so w es to bytes (keep_all (made_by w es (Some (events.Frame to bytes))) p) (opening (w.keys to) bytes))
+    → ComesOut m w es numbers now output (event_called w es to (events.Frame to bytes) ws) (opened_so w es to bytes (keep_all (frames_made_by w es (Some (events.Frame to bytes))) p) (opening (w.keys to) bytes))
     → ComesOf m w es numbers now output ws p (items.Frame to bytes)
 frame_here m w es numbers now output ws p to bytes read right note read_is comes =
     by_tests m w es numbers now output ws p to bytes true false right (ap is_note (sym read_is) ∙ note) comes

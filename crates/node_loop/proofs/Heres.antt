@@ -14,14 +14,14 @@ use Rattle.ritas_core.specs.declared.fault.CoreFault.TheVariants as faults
 use Rattle.ritas_core.specs.Machine.{CoreState}
 use Rattle.ritas_core.specs.Rules.{Rules}
 use Rattle.command_log.specs.Rows.{Row}
-use Rattle.replica.specs.CommandRows.{rows_at as replica_rows}
+use Rattle.replica.specs.CommandRows.{history_rows as replica_rows}
 use Rattle.ritas_core.specs.Stands.{Meaning}
 use Rattle.replica.specs.declared.frame.OutFrame.{OutFrame}
 use Rattle.replica.specs.declared.refusal.Refusal.{Refusal}
 use Rattle.replica.specs.declared.refusal.Refusal.TheVariants as refusals
 use Rattle.replica.specs.declared.replica.Replica.{Replica}
-use Rattle.replica.specs.Handling.{Call}
-use Rattle.replica.specs.Stands.{Handles, DoesAll}
+use Rattle.replica.specs.Handling.{ReplicaCall}
+use Rattle.replica.specs.Stands.{Handles, ReplicaDoesAll}
 use Rattle.replica.specs.Replica.{ReplicaStands}
 use Rattle.world_model.specs.World.{Setting, rules_at, states_of, seen_answer, seen_of}
 use Rattle.world_model.specs.Stands.{IsReplica}
@@ -133,7 +133,7 @@ answered m w es numbers here place at old new e before after answer result stand
 pub given : {S E C : Type 0} (m : Meaning S E C KeyRow) (w : Setting) (es : List Event) (numbers : List ℕ) (here : List (Replica S E C)) (place at : ℕ) (old new : Replica S E C) (e : Event)
     (before after : List OutFrame) (answer : Result Answer Refusal) (result : Result (Result Answer Refusal) Mem)
     → AreHere m w es numbers here → slice_get numbers place ≡ Some at → slice_get here place ≡ Some old → IsAlone at e
-    → DoesAll (ReplicaStands m) old new (call_in e) before after answer → TellsWant answer result
+    → ReplicaDoesAll (ReplicaStands m) old new (call_in e) before after answer → TellsWant answer result
     → OnOk result (Given m w es numbers (slice_set here place new) at e before after)
 given m w es numbers here place at old new e before after (Err (refusals.Core faults.Mem)) result stand number there alone does saw =
     wants (Given m w es numbers (slice_set here place new) at e before after) (Err (refusals.Core faults.Mem)) result refl saw
@@ -155,7 +155,7 @@ seen_so m w es at new e before after answer (Err mem) seen did saw = tt
 pub tells : {S E C : Type 0} (m : Meaning S E C KeyRow) (w : Setting) (es : List Event) (numbers : List ℕ) (here : List (Replica S E C)) (place at : ℕ) (old new : Replica S E C) (e : Event)
     (before after : List OutFrame) (answer : Result Answer Refusal) (result : Result (Result Answer Refusal) Mem)
     → AreHere m w es numbers here → slice_get numbers place ≡ Some at → slice_get here place ≡ Some old → IsAlone at e
-    → DoesAll (ReplicaStands m) old new (call_in e) before after answer → TellsWant answer result
+    → ReplicaDoesAll (ReplicaStands m) old new (call_in e) before after answer → TellsWant answer result
     → IfOk result (λ told. seen_answer told ≡ seen_of w es e)
 tells m w es numbers here place at old new e before after (Err (refusals.Core faults.Mem)) result stand number there alone does saw =
     wants_none (λ told. seen_answer told ≡ seen_of w es e) (Err (refusals.Core faults.Mem)) result refl saw
@@ -170,18 +170,18 @@ tells m w es numbers here place at old new e before after answer result stand nu
 is_there : {X : Type 0} (xs : List X) (place : ℕ) (x : X) → place < length xs → x ≡ slice_index_or xs place x → slice_get xs place ≡ Some x
 is_there xs place x within is = slice_get-get_or xs place x within ∙ ap (λ y. Some y) (sym is)
 
-does_so : {S E C : Type 0} (m : Meaning S E C KeyRow) (old new : Replica S E C) (e : Event) (call : Call) (before after : List OutFrame) (answer : Result Answer Refusal)
-    → call ≡ call_in e → DoesAll (ReplicaStands m) old new call before after answer → DoesAll (ReplicaStands m) old new (call_in e) before after answer
+does_so : {S E C : Type 0} (m : Meaning S E C KeyRow) (old new : Replica S E C) (e : Event) (call : ReplicaCall) (before after : List OutFrame) (answer : Result Answer Refusal)
+    → call ≡ call_in e → ReplicaDoesAll (ReplicaStands m) old new call before after answer → ReplicaDoesAll (ReplicaStands m) old new (call_in e) before after answer
 does_so m old new e call before after answer is does =
-    let P : Call → Type 0 = λ x. DoesAll (ReplicaStands m) old new x before after answer in subst P is does
+    let P : ReplicaCall → Type 0 = λ x. ReplicaDoesAll (ReplicaStands m) old new x before after answer in subst P is does
 
 told_so : (answer said : Result Answer Refusal) (result : Result (Result Answer Refusal) Mem) → said ≡ answer → TellsWant said result → TellsWant answer result
 told_so answer said result is saw = let P : Result Answer Refusal → Type 0 = λ x. TellsWant x result in subst P is saw
 
-pub gave : {S E C : Type 0} (m : Meaning S E C KeyRow) (w : Setting) (es : List Event) (numbers : List ℕ) (here now : List (Replica S E C)) (place at : ℕ) (old new : Replica S E C) (e : Event) (call : Call)
+pub gave : {S E C : Type 0} (m : Meaning S E C KeyRow) (w : Setting) (es : List Event) (numbers : List ℕ) (here now : List (Replica S E C)) (place at : ℕ) (old new : Replica S E C) (e : Event) (call : ReplicaCall)
     (before after out : List OutFrame) (answer said : Result Answer Refusal) (result : Result (Result Answer Refusal) Mem)
     → AreHere m w es numbers here → slice_get numbers place ≡ Some at → place < length here → old ≡ slice_index_or here place old → IsAlone at e → call ≡ call_in e
-    → DoesAll (ReplicaStands m) old new call before after answer → TellsWant said result → said ≡ answer → now ≡ slice_set here place new → out ≡ after
+    → ReplicaDoesAll (ReplicaStands m) old new call before after answer → TellsWant said result → said ≡ answer → now ≡ slice_set here place new → out ≡ after
     → OnOk result (Given m w es numbers now at e before out)
 gave {S = S} {E = E} {C = C} m w es numbers here now place at old new e call before after out answer said result stand number within is alone calls does saw same now_is out_is =
     let P : List (Replica S E C) → Type 0 = λ x. OnOk result (Given m w es numbers x at e before out) in
@@ -190,10 +190,10 @@ gave {S = S} {E = E} {C = C} m w es numbers here now place at old new e call bef
     (given m w es numbers here place at old new e before after answer result stand number (is_there here place old within is) alone
     (does_so m old new e call before after answer calls does) (told_so answer said result same saw)))
 
-pub answers : {S E C : Type 0} (m : Meaning S E C KeyRow) (w : Setting) (es : List Event) (numbers : List ℕ) (here : List (Replica S E C)) (place at : ℕ) (old new : Replica S E C) (e : Event) (call : Call)
+pub answers : {S E C : Type 0} (m : Meaning S E C KeyRow) (w : Setting) (es : List Event) (numbers : List ℕ) (here : List (Replica S E C)) (place at : ℕ) (old new : Replica S E C) (e : Event) (call : ReplicaCall)
     (before after : List OutFrame) (answer said : Result Answer Refusal) (result : Result (Result Answer Refusal) Mem)
     → AreHere m w es numbers here → slice_get numbers place ≡ Some at → place < length here → old ≡ slice_index_or here place old → IsAlone at e → call ≡ call_in e
-    → DoesAll (ReplicaStands m) old new call before after answer → TellsWant said result → said ≡ answer
+    → ReplicaDoesAll (ReplicaStands m) old new call before after answer → TellsWant said result → said ≡ answer
     → IfOk result (λ told. seen_answer told ≡ seen_of w es e)
 answers m w es numbers here place at old new e call before after answer said result stand number within is alone calls does saw same =
     tells m w es numbers here place at old new e before after answer result stand number (is_there here place old within is) alone

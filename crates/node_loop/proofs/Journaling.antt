@@ -2,12 +2,12 @@
 use Rattle.std.proofs.Common.{◌≡◌, ℕ, ◌≤◌, ◌<◌, ◌-◌, ◌^◌, min, Bool, true, List, [], ◌∷◌, ◌++◌, Result, Ok, Err, inl, inr, refl, sym, ap, ◌∙◌, subst, append_assoc, arith}
 use Rattle.std.specs.List.{AllByRecursion}
 use Rattle.ritas_base.specs.declared.event.Event.{Event}
-use Rattle.outside.specs.Disks.{DiskState, MayLeave, LeavesOnly, state_of}
+use Rattle.outside.specs.Disks.{DiskState, MayLeave, LeavesOnly, disk_state_of}
 use Rattle.outside.specs.DisksLaws.{leaves_then, leaves_weaker}
 use Rattle.outside.specs.Faults.{Rose}
 use Rattle.schedule_file.specs.FileBytes.{limit}
 use Rattle.event_journal.specs.Journal.{Opens}
-use Rattle.event_journal.specs.Appending.{JournalState, AllOpen, StandsFor, OpensWithout, Appends, length_with}
+use Rattle.event_journal.specs.Appending.{JournalState, AllOpen, JournalStandsFor, OpensWithout, AppendsEvents, length_with}
 use Rattle.event_journal.specs.declared.fault.JournalFault.{JournalFault}
 use Rattle.node_loop.specs.declared.archive.ArchiveFault.{ArchiveFault}
 use Rattle.node_loop.specs.declared.archive.ArchiveFault.TheVariants as archive
@@ -46,12 +46,12 @@ since_then me head past group given before now new first second =
 
 -- what every image had before and at each moment since, it has now
 last_image : (P : List ℕ → Type 0) (more old new : List DiskState) → new ≡ more ++ old → AllByRecursion (λ s. (image : List ℕ) → MayLeave s image → P image) more
-    → ((image : List ℕ) → MayLeave (state_of old) image → P image) → (image : List ℕ) → MayLeave (state_of new) image → P image
-last_image P [] old new states each before image may = before image (subst (λ (x : List DiskState). MayLeave (state_of x) image) states may)
-last_image P (s ∷ more) old new states each before image may = each.0 image (subst (λ (x : List DiskState). MayLeave (state_of x) image) states may)
+    → ((image : List ℕ) → MayLeave (disk_state_of old) image → P image) → (image : List ℕ) → MayLeave (disk_state_of new) image → P image
+last_image P [] old new states each before image may = before image (subst (λ (x : List DiskState). MayLeave (disk_state_of x) image) states may)
+last_image P (s ∷ more) old new states each before image may = each.0 image (subst (λ (x : List DiskState). MayLeave (disk_state_of x) image) states may)
 
-left_now : (P : List ℕ → Type 0) (old new : List DiskState) → LeavesOnly P old new → ((image : List ℕ) → MayLeave (state_of old) image → P image)
-    → (image : List ℕ) → MayLeave (state_of new) image → P image
+left_now : (P : List ℕ → Type 0) (old new : List DiskState) → LeavesOnly P old new → ((image : List ℕ) → MayLeave (disk_state_of old) image → P image)
+    → (image : List ℕ) → MayLeave (disk_state_of new) image → P image
 left_now P old new leaves before = last_image P leaves.more old new leaves.states leaves.each before
 
 -- the count rose
@@ -63,8 +63,8 @@ module _ (head : List ℕ) (past given group : List Event) (tells : Bool) (befor
     (stands : JournalStands head past given old tells before now few some) where
   -- what an append of the group does to a disk
   abbrev pub AppendsGroup : JournalState → List DiskState → Result (Unit {0}) JournalFault → Type 0
-  AppendsGroup new then result = tells ≡ true → (front : List ℕ) (es : List Event) → StandsFor old front es → AllOpen old.me front es (state_of now)
-      → Appends old.me front es group now then new result
+  AppendsGroup new then result = tells ≡ true → (front : List ℕ) (es : List Event) → JournalStandsFor old front es → AllOpen old.me front es (disk_state_of now)
+      → AppendsEvents old.me front es group now then new result
 
   went_on : (new : JournalState) (then : List DiskState) (result : Result (Unit {0}) JournalFault) → new.me ≡ old.me → AppendsGroup new then result
       → tells ≡ true → LeavesOnly (OpensSome new.me head past (group ++ given)) before then
@@ -74,15 +74,15 @@ module _ (head : List ℕ) (past given group : List Event) (tells : Bool) (befor
       subst (λ (i : ℕ). LeavesOnly (OpensSome i head past (group ++ given)) before then) (sym me) (since_then old.me head past group given before now then k.since did.kept.since)
 
   -- what it leaves
-  stays : tells ≡ true → OpensNewest old.me head past group given (state_of now)
+  stays : tells ≡ true → OpensNewest old.me head past group given (disk_state_of now)
   stays t = λ image may. inr ((stands.kept t).images image may)
 
   leaves : (new : JournalState) (then : List DiskState) (result : Result (Unit {0}) JournalFault) → new.me ≡ old.me → AppendsGroup new then result
-      → tells ≡ true → OpensNewest new.me head past group given (state_of then)
+      → tells ≡ true → OpensNewest new.me head past group given (disk_state_of then)
   leaves new then result me appends t =
       let k = stands.kept t in
       let did = appends t head (given ++ past) k.stands k.images in
-      subst (λ (i : ℕ). OpensNewest i head past group given (state_of then)) (sym me)
+      subst (λ (i : ℕ). OpensNewest i head past group given (disk_state_of then)) (sym me)
       (left_now (OpensWithout old.me head (given ++ past) group) now then did.kept.since (λ image may. inr (k.images image may)))
 
   -- it was appended
@@ -93,9 +93,9 @@ module _ (head : List ℕ) (past given group : List Event) (tells : Bool) (befor
         let did = appends t head (given ++ past) k.stands k.images in
         let together = append_assoc group given past in
         record {
-          stands = subst (λ (es : List Event). StandsFor new head es) (sym together) did.stands;
-          images = subst (λ (es : List Event). AllOpen new.me head es (state_of then)) (sym together)
-              (subst (λ (i : ℕ). AllOpen i head (group ++ (given ++ past)) (state_of then)) (sym me) did.kept.images);
+          stands = subst (λ (es : List Event). JournalStandsFor new head es) (sym together) did.stands;
+          images = subst (λ (es : List Event). AllOpen new.me head es (disk_state_of then)) (sym together)
+              (subst (λ (i : ℕ). AllOpen i head (group ++ (given ++ past)) (disk_state_of then)) (sym me) did.kept.images);
           since = went_on new then (Ok tt) me appends t;
         };
     later = omega (arith, stands.later, le);

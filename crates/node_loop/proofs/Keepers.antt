@@ -18,7 +18,7 @@ use Rattle.node_loop.specs.declared.peers.Mark.{Mark}
 use Rattle.node_loop.specs.declared.peers.Pair.{Pair}
 use Rattle.node_loop.specs.Peers.{Peers, is_due_of}
 use Rattle.node_loop.specs.PeersStanding.{IsKeeper}
-use Rattle.node_loop.specs.Resending.{progress_of, mark_at, due_at}
+use Rattle.node_loop.specs.Resending.{replica_progress, mark_at, peers_due}
 
 -- ---- how far a replica is
 
@@ -86,24 +86,24 @@ is_due_at w es p i j = is_due_of (p.marks i j) (mark_at w es i j)
 abbrev pub pair_of : ℕ → ℕ → Pair
 pair_of i j = record { at = i; peer = j }
 
-pub none_due : (w : Setting) (es : List Event) (p : Peers) (i : ℕ) → ((j : ℕ) → j < w.numbers.n → is_due_at w es p i j ≡ false) → due_at w es p i ≡ []
+pub none_due : (w : Setting) (es : List Event) (p : Peers) (i : ℕ) → ((j : ℕ) → j < w.numbers.n → is_due_at w es p i j ≡ false) → peers_due w es p i ≡ []
 none_due w es p i none = ap (map (pair_of i)) (none_of (is_due_at w es p i) 0 w.numbers.n (λ j from below. none j (omega arith)))
 
 pub first_due : (w : Setting) (es : List Event) (p : Peers) (i j : ℕ) → j < w.numbers.n → is_due_at w es p i j ≡ true → ((k : ℕ) → k < j → is_due_at w es p i k ≡ false)
-    → (more : List Pair) × (due_at w es p i ≡ record { at = i; peer = j } ∷ more)
+    → (more : List Pair) × (peers_due w es p i ≡ record { at = i; peer = j } ∷ more)
 first_due w es p i j below passes none =
     let found = first_of (is_due_at w es p i) 0 w.numbers.n j (omega arith) (omega arith) passes (λ k from before. none k before) in
     (map (pair_of i) found.0, ap (map (pair_of i)) found.1)
 
 -- no peer is marked
 pub no_marks : (w : Setting) (es : List Event) (p : Peers) (i : ℕ) (keeper : Keeper) → IsKeeper w.numbers.n i keeper p
-    → ((j : ℕ) → slice_index_or keeper.marks.items j None ≡ None) → due_at w es p i ≡ []
+    → ((j : ℕ) → slice_index_or keeper.marks.items j None ≡ None) → peers_due w es p i ≡ []
 no_marks w es p i keeper is none =
     none_due w es p i (λ j below. ap (λ (o : Option Mark). is_due_of o (mark_at w es i j)) (sym (is.marked.each j below) ∙ none j))
 
 -- what was read of a peer
 pub due_read : (w : Setting) (es : List Event) (p : Peers) (i j progress held : ℕ) (keeper : Keeper) (was : Option Mark) (said : Bool) → IsKeeper w.numbers.n i keeper p → j < w.numbers.n
-    → progress ≡ progress_of (rules_at w i) (states_of w es i) w.numbers.n → held ≡ held_bytes (states_of w es i).held j
+    → progress ≡ replica_progress (rules_at w i) (states_of w es i) w.numbers.n → held ≡ held_bytes (states_of w es i).held j
     → was ≡ slice_index_or keeper.marks.items j None → said ≡ is_due_of was (record { progress = progress; held = held }) → said ≡ is_due_at w es p i j
 due_read w es p i j progress held keeper was said is below come holds read saw =
     let now : record { progress = progress; held = held } ≡ mark_at w es i j = ap₂ (λ (x y : ℕ). record { progress = x; held = y }) come holds in

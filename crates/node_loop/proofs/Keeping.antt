@@ -10,7 +10,7 @@ use Rattle.replica.specs.declared.frame.OutFrame.{OutFrame}
 use Rattle.world_model.specs.MadeOrder.{MadeFrame}
 use Rattle.keyed_channel.specs.Frames.{seq_of}
 use Rattle.link_resume.specs.declared.kept.Kept.{Kept}
-use Rattle.link_resume.specs.Lists.{kept_for, bytes_in, most_bytes, with_kept}
+use Rattle.link_resume.specs.Lists.{kept_for, bytes_in, most_kept_bytes, with_frame_kept}
 use Rattle.node_loop.specs.Peers.{Peers, is_pair, with_list, keeps, keep_one, keep_all}
 use Rattle.node_loop.specs.PeersStanding.{AreKept, made_as}
 
@@ -23,13 +23,13 @@ pair_other i peer j other = elim (cases_Bool (j == peer)) [
   | inr not_same ↦ ap₂ (λ (a b : Bool). a && b) (eq-eqb i i refl) not_same
 ]
 
-keeps_more : (frame : List ℕ) (ks : List Kept) → bytes_in ks + length frame ≤ most_bytes → keeps frame ks ≡ ks ++ record { seq = seq_of frame; frame = frame } ∷ []
+keeps_more : (frame : List ℕ) (ks : List Kept) → bytes_in ks + length frame ≤ most_kept_bytes → keeps frame ks ≡ ks ++ record { seq = seq_of frame; frame = frame } ∷ []
 keeps_more frame ks room =
-    ap (λ (b : Bool). if b then ks ++ record { seq = seq_of frame; frame = frame } ∷ [] else ks) (le-leb (bytes_in ks + length frame) most_bytes room)
+    ap (λ (b : Bool). if b then ks ++ record { seq = seq_of frame; frame = frame } ∷ [] else ks) (le-leb (bytes_in ks + length frame) most_kept_bytes room)
 
-keeps_none : (frame : List ℕ) (ks : List Kept) → most_bytes < bytes_in ks + length frame → keeps frame ks ≡ ks
+keeps_none : (frame : List ℕ) (ks : List Kept) → most_kept_bytes < bytes_in ks + length frame → keeps frame ks ≡ ks
 keeps_none frame ks full =
-    ap (λ (b : Bool). if b then ks ++ record { seq = seq_of frame; frame = frame } ∷ [] else ks) (lt-leb (bytes_in ks + length frame) most_bytes full)
+    ap (λ (b : Bool). if b then ks ++ record { seq = seq_of frame; frame = frame } ∷ [] else ks) (lt-leb (bytes_in ks + length frame) most_kept_bytes full)
 
 -- what is kept for one peer is this list, and the others' lists stay
 pub one_list : (n i peer : ℕ) (list : List Kept) (lists : List (List Kept)) (p : Peers) → AreKept n i lists p.keeping → peer < n
@@ -49,22 +49,22 @@ one_list n i peer list lists p kept here = record {
 }
 
 pub kept_more : (n i peer seq : ℕ) (frame : List ℕ) (lists now : List (List Kept)) (p : Peers) → AreKept n i lists p.keeping → peer < n → seq ≡ seq_of frame
-    → now ≡ with_kept lists peer seq frame → bytes_in (kept_for lists peer) + length frame ≤ most_bytes
+    → now ≡ with_frame_kept lists peer seq frame → bytes_in (kept_for lists peer) + length frame ≤ most_kept_bytes
     → AreKept n i now (with_list i peer (keeps frame (p.keeping i peer)) p).keeping
 kept_more n i peer seq frame lists now p kept here number is room =
     let same = kept.each peer here in
     let list : kept_for lists peer ++ record { seq = seq; frame = frame } ∷ [] ≡ keeps frame (p.keeping i peer) =
     ap₂ (λ (ks : List Kept) (s : ℕ). ks ++ record { seq = s; frame = frame } ∷ []) same number
-    ∙ sym (keeps_more frame (p.keeping i peer) (subst (λ (ks : List Kept). bytes_in ks + length frame ≤ most_bytes) same room)) in
+    ∙ sym (keeps_more frame (p.keeping i peer) (subst (λ (ks : List Kept). bytes_in ks + length frame ≤ most_kept_bytes) same room)) in
     subst (λ (ls : List (List Kept)). AreKept n i ls (with_list i peer (keeps frame (p.keeping i peer)) p).keeping)
     (ap (slice_set lists peer) (sym list) ∙ sym is) (one_list n i peer (keeps frame (p.keeping i peer)) lists p kept here)
 
 pub kept_full : (n i peer : ℕ) (frame : List ℕ) (lists now : List (List Kept)) (p : Peers) → AreKept n i lists p.keeping → peer < n
-    → now ≡ lists → most_bytes < bytes_in (kept_for lists peer) + length frame
+    → now ≡ lists → most_kept_bytes < bytes_in (kept_for lists peer) + length frame
     → AreKept n i now (with_list i peer (keeps frame (p.keeping i peer)) p).keeping
 kept_full n i peer frame lists now p kept here is full =
     let same = kept.each peer here in
-    let none = keeps_none frame (p.keeping i peer) (subst (λ (ks : List Kept). most_bytes < bytes_in ks + length frame) same full) in
+    let none = keeps_none frame (p.keeping i peer) (subst (λ (ks : List Kept). most_kept_bytes < bytes_in ks + length frame) same full) in
     record {
       many = ap length is ∙ kept.many;
       each = λ j within. ap (λ (ls : List (List Kept)). kept_for ls j) is ∙ (kept.each j within ∙ elim (cases_eq j peer) [

@@ -14,7 +14,8 @@ use Rattle.frame_codec.specs.Format.{Done, Plain, read, plain_at, ◌>>=◌}
 use Rattle.frame_codec.specs.Grammar.{bit, class1, class2, class3, ids, vector}
 use Rattle.frame_codec.specs.Inputs.{input_format, input_fault, fault_offset}
 use Rattle.keyed_channel.specs.KeyRow.{KeyRow}
-use Rattle.keyed_channel.specs.Frames.{Opening, opening, opening_but, parts_of, plain_tests, first_failed, is_tagged, open_fault}
+use Rattle.ritas_base.specs.Places.{first_failed}
+use Rattle.keyed_channel.specs.Frames.{Opening, opening, opening_but, opening_parts, plain_tests, is_tagged, open_fault}
 use Rattle.keyed_channel.specs.declared.frame.OpenFault.{OpenFault}
 use Rattle.keyed_channel.specs.declared.frame.OpenFault.TheVariants as open_faults
 use Rattle.ritas_core.specs.declared.answer.Answer.{Answer}
@@ -24,19 +25,19 @@ use Rattle.ritas_core.specs.declared.verdict.Verdict.{Verdict}
 use Rattle.ritas_core.specs.declared.verdict.Verdict.TheVariants as verdicts
 use Rattle.ritas_core.specs.Rules.{Rules}
 use Rattle.ritas_core.specs.Machine as core
-use Rattle.ritas_core.specs.Machine.{CoreState, What, Moved, stays, gives, given_item, given_input, moved_live}
+use Rattle.ritas_core.specs.Machine.{CoreState, What, Moved, stays, gives_item, given_item, given_input, moved_live}
 use Rattle.ritas_core.specs.Checks.{verdict_on, input_check, input_fault_or, window_fault}
 use Rattle.ritas_core.specs.Parts.{Parts, parts}
-use Rattle.replica.specs.Handling.{Call, Frame, Input, Turn, Handled, handled, given_body, given_frame, core_answer, framed}
+use Rattle.replica.specs.Handling.{ReplicaCall, Frame, Input, Turn, Handled, handled, given_body, given_frame, core_answer, framed}
 use Rattle.replica.specs.Frames.{frames_of as frames_for, count_for}
 use Rattle.replica.specs.declared.frame.OutFrame.{OutFrame}
 use Rattle.world_model.specs.World.{Setting, CallAt, rules_at, handled_at, after_call, call_at, call_of, halted_at, seen_answer, seen_call, states_of, states_before}
-use Rattle.world_model.specs.MadeOrder.{MadeFrame, frames_in, all_made}
+use Rattle.world_model.specs.MadeOrder.{MadeFrame, frames_of_call, all_made}
 use Rattle.world_model.specs.Stands.{NoneStops}
 use Rattle.outside.specs.declared.link.Sent.{Sent}
 use Rattle.node_loop.specs.Keeping.{is_kept_answer, is_kept, kept_onto, kept_of, IsCallEvent, KeptStands, KeptIsShort}
-use Rattle.node_loop.specs.Serving.{made_by}
-use Rattle.node_loop.specs.Laws.{sent_as, frames_of, KeptMakes}
+use Rattle.node_loop.specs.Serving.{frames_made_by}
+use Rattle.node_loop.specs.Laws.{sent_as, all_frames_of, KeptMakes}
 
 -- ---- what isn't kept changes nothing
 
@@ -48,7 +49,7 @@ keeps answer = is_kept_answer (seen_answer (core_answer answer))
 abbrev IsIdle : CoreState → Moved → Type 0
 IsIdle st did = (did.state ≡ st) × (did.out ≡ [])
 
-gives_same : (r : Rules) (st : CoreState) (item : Item) (v : Verdict) → keeps (gives r st item st.inbox v).answer ≡ false → IsIdle st (gives r st item st.inbox v)
+gives_same : (r : Rules) (st : CoreState) (item : Item) (v : Verdict) → keeps (gives_item r st item st.inbox v).answer ≡ false → IsIdle st (gives_item r st item st.inbox v)
 gives_same r st item (verdicts.Refuse fault) e = (refl, refl)
 gives_same r st item verdicts.Again e = (refl, refl)
 gives_same r st item verdicts.Hold e = absurd (cc e)
@@ -102,7 +103,7 @@ frame_same r k st (Ok o) e = body_same r k st (body_answer r.casts.numbers r.mod
 frame_same r k st (Err fault) e = (refl, refl)
 
 -- a call that isn't a turn and isn't kept leaves the replica as it was
-handled_same : (r : Rules) (k : KeyRow) (st : CoreState) (call : Call) → call ≢ Turn → is_kept_answer (seen_answer (handled r k st call).answer) ≡ false → IsUnmoved st (handled r k st call)
+handled_same : (r : Rules) (k : KeyRow) (st : CoreState) (call : ReplicaCall) → call ≢ Turn → is_kept_answer (seen_answer (handled r k st call).answer) ≡ false → IsUnmoved st (handled r k st call)
 handled_same r k st (Frame bytes) not e = frame_same r k st (opening k bytes) e
 handled_same r k st (Input bytes) not e = idle_framed r k st (core.moved r st (core.Input bytes)) (input_moved r st bytes e)
 handled_same r k st Turn not e = absurd (not refl)
@@ -113,7 +114,7 @@ abbrev IsOther : Option CallAt → Type 0
 IsOther None = Unit {0}
 IsOther (Some c) = c.call ≢ Turn
 
-is_other : (w : Setting) (at : ℕ) (call : Call) → call ≢ Turn → IsOther (call_at w at call)
+is_other : (w : Setting) (at : ℕ) (call : ReplicaCall) → call ≢ Turn → IsOther (call_at w at call)
 is_other w at call not = here (w.is_correct at)
   where
     here : (b : Bool) → IsOther (if b then Some (record { at = at; call = call }) else None)
@@ -129,7 +130,7 @@ called_same w states (Some c) other e i = elim (cases_eq c.at i) [
   | inr apart ↦ ap (λ (b : Bool). if b then (handled_at w states c).state else states i) (ne_eqb c.at i apart)
 ]
 
-called_none : (k : ℕ) (w : Setting) (states : ℕ → CoreState) (o : Option CallAt) → IsOther o → is_kept_answer (seen_call w states o) ≡ false → frames_in k w states o ≡ []
+called_none : (k : ℕ) (w : Setting) (states : ℕ → CoreState) (o : Option CallAt) → IsOther o → is_kept_answer (seen_call w states o) ≡ false → frames_of_call k w states o ≡ []
 called_none k w states None other e = refl
 called_none k w states (Some c) other e =
     ap (λ (out : List OutFrame). map (λ o. record { event = k; from = c.at; to = o.to; bytes = o.bytes }) out)
@@ -141,13 +142,13 @@ sent_numbered : (j k at : ℕ) (out : List OutFrame)
 sent_numbered j k at [] = refl
 sent_numbered j k at (f ∷ out) = ap (λ (l : List Sent). record { at = at; to = f.to; bytes = f.bytes } ∷ l) (sent_numbered j k at out)
 
-sent_called : (j k : ℕ) (w : Setting) (states : ℕ → CoreState) (o : Option CallAt) → map sent_as (frames_in j w states o) ≡ map sent_as (frames_in k w states o)
+sent_called : (j k : ℕ) (w : Setting) (states : ℕ → CoreState) (o : Option CallAt) → map sent_as (frames_of_call j w states o) ≡ map sent_as (frames_of_call k w states o)
 sent_called j k w states None = refl
 sent_called j k w states (Some c) = sent_numbered j k c.at (handled_at w states c).out
 
-frames_next : (w : Setting) (e : Event) (es : List Event) → frames_of w (e ∷ es) ≡ frames_of w es ++ map sent_as (made_by w es (Some e))
+frames_next : (w : Setting) (e : Event) (es : List Event) → all_frames_of w (e ∷ es) ≡ all_frames_of w es ++ map sent_as (frames_made_by w es (Some e))
 unfolding all_made
-frames_next w e es = map-append sent_as (all_made w es) (made_by w es (Some e))
+frames_next w e es = map-append sent_as (all_made w es) (frames_made_by w es (Some e))
 
 and_true : (b : Bool) → (b && true) ≡ b
 and_true true = refl
@@ -173,7 +174,7 @@ module _ (w : Setting) (none : NoneStops w) where
   unfolding states_of
   next_is e es = ap (λ (s : ℕ → CoreState). stepped s e) (before_same es)
 
-  unkept_call : (es : List Event) (at : ℕ) (call : Call) → call ≢ Turn → is_kept_answer (seen_call w (states_before w es) (call_at w at call)) ≡ false
+  unkept_call : (es : List Event) (at : ℕ) (call : ReplicaCall) → call ≢ Turn → is_kept_answer (seen_call w (states_before w es) (call_at w at call)) ≡ false
       → (i : ℕ) → after_call w (states_before w es) (call_at w at call) i ≡ states_of w es i
   unkept_call es at call not e i = called_same w (states_before w es) (call_at w at call) (is_other w at call not) e i ∙ halted_same (length es) (states_of w es) i
 
@@ -196,7 +197,7 @@ module _ (w : Setting) (none : NoneStops w) where
       here false is older = older ∙ sym (unkept_same e (es ++ past) all.0 is)
 
   -- and makes no frame
-  unkept_none : (e : Event) (es : List Event) → IsCallEvent e → is_kept w es e ≡ false → made_by w es (Some e) ≡ []
+  unkept_none : (e : Event) (es : List Event) → IsCallEvent e → is_kept w es e ≡ false → frames_made_by w es (Some e) ≡ []
   unkept_none (events.Frame to bytes) es is no_keep =
       called_none (length es) w (states_before w es) (call_at w to (Frame bytes)) (is_other w to (Frame bytes) (λ t. cc t)) no_keep
   unkept_none (events.Input at bytes) es is no_keep =
@@ -206,24 +207,24 @@ module _ (w : Setting) (none : NoneStops w) where
   unkept_none (events.Sealed from to body) es is no_keep = absurd is
 
   -- an event makes the same frames wherever the replicas stand alike
-  sent_alike : (e : Event) (xs ys : List Event) → states_of w xs ≡ states_of w ys → map sent_as (made_by w xs (Some e)) ≡ map sent_as (made_by w ys (Some e))
+  sent_alike : (e : Event) (xs ys : List Event) → states_of w xs ≡ states_of w ys → map sent_as (frames_made_by w xs (Some e)) ≡ map sent_as (frames_made_by w ys (Some e))
   sent_alike e xs ys alike =
       sent_called (length xs) (length ys) w (states_before w xs) (call_of w (states_before w xs) e)
-      ∙ ap (λ (s : ℕ → CoreState). map sent_as (frames_in (length ys) w s (call_of w s e))) (before_same xs ∙ alike ∙ sym (before_same ys))
+      ∙ ap (λ (s : ℕ → CoreState). map sent_as (frames_of_call (length ys) w s (call_of w s e))) (before_same xs ∙ alike ∙ sym (before_same ys))
 
-  all_make : (past es : List Event) → AllByRecursion IsCallEvent es → frames_of w (kept_of w past es ++ past) ≡ frames_of w (es ++ past)
+  all_make : (past es : List Event) → AllByRecursion IsCallEvent es → all_frames_of w (kept_of w past es ++ past) ≡ all_frames_of w (es ++ past)
   all_make past [] all = refl
   all_make past (e ∷ es) all = here (is_kept w (es ++ past) e) refl (all_make past es all.1)
     where
-      here : (b : Bool) → is_kept w (es ++ past) e ≡ b → frames_of w (kept_of w past es ++ past) ≡ frames_of w (es ++ past) → frames_of w (kept_onto b e (kept_of w past es) ++ past) ≡ frames_of w (e ∷ (es ++ past))
+      here : (b : Bool) → is_kept w (es ++ past) e ≡ b → all_frames_of w (kept_of w past es ++ past) ≡ all_frames_of w (es ++ past) → all_frames_of w (kept_onto b e (kept_of w past es) ++ past) ≡ all_frames_of w (e ∷ (es ++ past))
       here true is older =
           frames_next w e (kept_of w past es ++ past)
           ∙ ap₂ (λ (a b : List Sent). a ++ b) older (sent_alike e (kept_of w past es ++ past) (es ++ past) (all_stand past es all.1))
           ∙ sym (frames_next w e (es ++ past))
       here false is older =
-          let same : frames_of w (e ∷ (es ++ past)) ≡ frames_of w (es ++ past) ++ [] =
-          frames_next w e (es ++ past) ∙ ap (λ (l : List MadeFrame). frames_of w (es ++ past) ++ map sent_as l) (unkept_none e (es ++ past) all.0 is) in
-          older ∙ sym (same ∙ append-nil (frames_of w (es ++ past)))
+          let same : all_frames_of w (e ∷ (es ++ past)) ≡ all_frames_of w (es ++ past) ++ [] =
+          frames_next w e (es ++ past) ∙ ap (λ (l : List MadeFrame). all_frames_of w (es ++ past) ++ map sent_as l) (unkept_none e (es ++ past) all.0 is) in
+          older ∙ sym (same ∙ append-nil (all_frames_of w (es ++ past)))
 
 pub stands_kept : KeptStands
 stands_kept w past es none all = all_stand w none past es all
@@ -246,7 +247,7 @@ opened_short k bytes e =
     leb-true (length bytes) 16384 (second_holds (nat_le 43 (length bytes)) (nat_le (length bytes) 16384) open_faults.Short open_faults.Long (drop 2 (tests_of k bytes)) e)
 
 answered_short : (r : Rules) (k : KeyRow) (st : CoreState) (bytes : List ℕ) (o : Option OpenFault) → (o ≡ None → length bytes ≤ 16384)
-    → is_kept_answer (seen_answer (given_frame r k st (opening_but o (parts_of bytes))).answer) ≡ true → length bytes ≤ 16384
+    → is_kept_answer (seen_answer (given_frame r k st (opening_but o (opening_parts bytes))).answer) ≡ true → length bytes ≤ 16384
 answered_short r k st bytes None short e = short refl
 answered_short r k st bytes (Some fault) short e = absurd (cc e)
 
@@ -331,7 +332,7 @@ input_short r k st bytes e = here st.live (sym (ap (λ (x : Moved). keeps x.answ
     here true e = given (input_check r (parts r st.history) bytes) refl e
     here false e = absurd (cc e)
 
-called_short : (w : Setting) (states : ℕ → CoreState) (at : ℕ) (call : Call) (bytes : List ℕ)
+called_short : (w : Setting) (states : ℕ → CoreState) (at : ℕ) (call : ReplicaCall) (bytes : List ℕ)
     → (is_kept_answer (seen_answer (handled_at w states (record { at = at; call = call })).answer) ≡ true → length bytes ≤ 16384)
     → is_kept_answer (seen_call w states (call_at w at call)) ≡ true → length bytes ≤ 16384
 called_short w states at call bytes short e = here (w.is_correct at) e

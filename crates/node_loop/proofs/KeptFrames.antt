@@ -22,10 +22,10 @@ use Rattle.ritas_core.specs.Machine.{CoreState}
 use Rattle.ritas_core.specs.Stands.{Meaning}
 use Rattle.replica.specs.declared.frame.OutFrame.{OutFrame}
 use Rattle.replica.specs.Frames.{body_of, frame_for, receivers, frames_of}
-use Rattle.replica.specs.Handling.{Call, Frame, Input, Turn, handled, given_body, given_frame}
+use Rattle.replica.specs.Handling.{ReplicaCall, Frame, Input, Turn, handled, given_body, given_frame}
 use Rattle.outside.specs.Links.{LinkAct, Sends}
 use Rattle.world_model.specs.World.{Setting, CallAt, call_of, handled_at, states_before}
-use Rattle.world_model.specs.MadeOrder.{MadeFrame, frames_in}
+use Rattle.world_model.specs.MadeOrder.{MadeFrame, frames_of_call}
 use Rattle.world_model.proofs.Left.{get_set_same, get_set_other}
 use Rattle.node_loop.specs.declared.house.House.{House}
 use Rattle.node_loop.specs.declared.peers.Keeper.{Keeper}
@@ -33,7 +33,7 @@ use Rattle.node_loop.specs.Waiting.{Waiting}
 use Rattle.link_resume.specs.declared.kept.Kept.{Kept}
 use Rattle.node_loop.specs.Peers.{Peers, with_list, keeps, keep_one, keep_all}
 use Rattle.node_loop.specs.PeersStanding.{AreKept, AreMarked, IsKeeper, made_as}
-use Rattle.node_loop.specs.Serving.{as_sent, made_by, sent_by, onto}
+use Rattle.node_loop.specs.Serving.{as_sent, frames_made_by, sent_by, onto}
 use Rattle.node_loop.specs.Standing.{HouseStands, frame_by}
 
 -- ---- frames are long enough for a number
@@ -64,7 +64,7 @@ frame_long : SealedLength → (r : Rules) (k : KeyRow) (st : CoreState) (o : Res
 frame_long law r k st (Ok o) = body_long law r k st (body_answer r.casts.numbers r.mode o.from o.body)
 frame_long law r k st (Err fault) = tt
 
-out_long : SealedLength → (r : Rules) (k : KeyRow) (st : CoreState) (call : Call) → AreLong (handled r k st call).out
+out_long : SealedLength → (r : Rules) (k : KeyRow) (st : CoreState) (call : ReplicaCall) → AreLong (handled r k st call).out
 out_long law r k st (Frame bytes) = frame_long law r k st (opening k bytes)
 out_long law r k st (Input bytes) = all_long law k _ _
 out_long law r k st Turn = all_long law k _ _
@@ -77,7 +77,7 @@ sent_long : (k at : ℕ) (frames : List OutFrame) → AreLong frames → AllByRe
 sent_long k at [] long = tt
 sent_long k at (f ∷ fs) long = (long.0, sent_long k at fs long.1)
 
-call_long : SealedLength → (k : ℕ) (w : Setting) (states : ℕ → CoreState) (c : Option CallAt) → AllByRecursion IsLong (map as_sent (frames_in k w states c))
+call_long : SealedLength → (k : ℕ) (w : Setting) (states : ℕ → CoreState) (c : Option CallAt) → AllByRecursion IsLong (map as_sent (frames_of_call k w states c))
 call_long law k w states None = tt
 call_long law k w states (Some c) = sent_long k c.at (handled_at w states c).out (out_long law _ (w.keys c.at) (states c.at) c.call)
 
@@ -126,10 +126,10 @@ sent_so k at [] = refl
 sent_so k at (f ∷ fs) = ap (λ (acts : List LinkAct). frame_by at f ∷ acts) (sent_so k at fs)
 
 pub same_put : (put : Put) (w : Setting) (es : List Event) (e : Option Event) (k at : ℕ) (frames : List OutFrame) (p : Peers) → map (frame_by at) frames ≡ sent_by w es e
-    → put_all put (map (made_as k at) frames) p ≡ put_all put (made_by w es e) p
+    → put_all put (map (made_as k at) frames) p ≡ put_all put (frames_made_by w es e) p
 same_put put w es e k at frames p is =
     as_acts put (map (made_as k at) frames) p
-    ∙ (ap (λ (acts : List LinkAct). put_acts put acts p) (sent_so k at frames ∙ is) ∙ sym (as_acts put (made_by w es e) p))
+    ∙ (ap (λ (acts : List LinkAct). put_acts put acts p) (sent_so k at frames ∙ is) ∙ sym (as_acts put (frames_made_by w es e) p))
 
 -- ---- the keepers
 
@@ -201,8 +201,8 @@ house_put put m w es numbers house ws p q r k at place frames old lists stands n
 -- ---- with each, what doesn't make it too many
 
 pub same_kept : (w : Setting) (es : List Event) (e : Option Event) (k at : ℕ) (frames : List OutFrame) (p : Peers) → map (frame_by at) frames ≡ sent_by w es e
-    → keep_all (map (made_as k at) frames) p ≡ keep_all (made_by w es e) p
-same_kept w es e k at frames p is = sym (all_put (map (made_as k at) frames) p) ∙ (same_put keeps w es e k at frames p is ∙ all_put (made_by w es e) p)
+    → keep_all (map (made_as k at) frames) p ≡ keep_all (frames_made_by w es e) p
+same_kept w es e k at frames p is = sym (all_put (map (made_as k at) frames) p) ∙ (same_put keeps w es e k at frames p is ∙ all_put (frames_made_by w es e) p)
 
 -- the house stands, where one keeper kept the frames of its replica
 pub house_kept : {S E C : Type 0} (m : Meaning S E C KeyRow) (w : Setting) (es : List Event) (numbers : List ℕ) (house : House S E C) (ws : Waiting) (p q : Peers)
@@ -215,6 +215,6 @@ house_kept m w es numbers house ws p q k at place frames old lists stands number
 
 -- where there was no call, all stands
 pub none_kept : {S E C : Type 0} (m : Meaning S E C KeyRow) (w : Setting) (es : List Event) (numbers : List ℕ) (house : House S E C) (ws : Waiting) (e : Option Event) (p q : Peers)
-    → e ≡ None → keep_all (made_by w es e) p ≡ q → HouseStands m w (onto e es) numbers house ws p → HouseStands m w (onto e es) numbers house ws q
+    → e ≡ None → keep_all (frames_made_by w es e) p ≡ q → HouseStands m w (onto e es) numbers house ws p → HouseStands m w (onto e es) numbers house ws q
 none_kept m w es numbers house ws e p q none is stands =
-    subst (λ (r : Peers). HouseStands m w (onto e es) numbers house ws r) (sym (ap (λ (o : Option Event). keep_all (made_by w es o) p) none) ∙ is) stands
+    subst (λ (r : Peers). HouseStands m w (onto e es) numbers house ws r) (sym (ap (λ (o : Option Event). keep_all (frames_made_by w es o) p) none) ∙ is) stands

@@ -14,13 +14,13 @@ use Rattle.world_model.specs.declared.seen.Seen.{Seen}
 use Rattle.world_model.specs.Agree.{rows_at}
 use Rattle.world_model.specs.MadeOrder.{MadeFrame}
 use Rattle.node_loop.specs.declared.house.House.{House}
-use Rattle.node_loop.specs.Calls.{left_by, refusal_in, submitted_so}
+use Rattle.node_loop.specs.Calls.{waiting_left_by, refusal_in, submitted_so}
 use Rattle.node_loop.specs.Laws.{IsServed}
 use Rattle.node_loop.specs.Peers.{Peers, is_pair, with_list, keeps}
 use Rattle.node_loop.specs.PeersStanding.{AreKept, made_as}
 use Rattle.node_loop.specs.Recalling.{waits_unless, waits_again}
 use Rattle.node_loop.specs.Recovering.{keep_newest, all_newest, recalled}
-use Rattle.node_loop.specs.Serving.{made_by, sent_by}
+use Rattle.node_loop.specs.Serving.{frames_made_by, sent_by}
 use Rattle.node_loop.specs.Standing.{HouseStands, frame_by}
 use Rattle.node_loop.specs.Waiting.{Waiting}
 use Rattle.node_loop.proofs.Keeping.{pair_same, one_list}
@@ -50,33 +50,33 @@ served_here w (events.Sealed from to body) at served alone = absurd served
 -- ---- who waits
 
 input_waits : (w : Setting) (es : List Event) (at : ℕ) (bytes : List ℕ) (ws : Waiting) (o : Option ℕ)
-    → (submitted_so w es at None bytes ws o).waiting ≡ left_by at (length (rows_at w es at)) (rows_at w (events.Input at bytes ∷ es) at) (waits_unless o at bytes ws)
+    → (submitted_so w es at None bytes ws o).waiting ≡ waiting_left_by at (length (rows_at w es at)) (rows_at w (events.Input at bytes ∷ es) at) (waits_unless o at bytes ws)
 input_waits w es at bytes ws (Some code) = refl
 input_waits w es at bytes ws None = refl
 
 recalled_waits : (w : Setting) (es : List Event) (e : Event) (at : ℕ) (ws : Waiting) → IsAlone at e
-    → (recalled w es e ws).waiting ≡ left_by at (length (rows_at w es at)) (rows_at w (e ∷ es) at) (waits_again e (seen_of w es e) ws)
+    → (recalled w es e ws).waiting ≡ waiting_left_by at (length (rows_at w es at)) (rows_at w (e ∷ es) at) (waits_again e (seen_of w es e) ws)
 recalled_waits w es (events.Frame to bytes) at ws alone =
-    ap (λ (i : ℕ). left_by i (length (rows_at w es i)) (rows_at w (events.Frame to bytes ∷ es) i) ws) alone
+    ap (λ (i : ℕ). waiting_left_by i (length (rows_at w es i)) (rows_at w (events.Frame to bytes ∷ es) i) ws) alone
 recalled_waits w es (events.Input to bytes) at ws alone =
     let e : Event = events.Input to bytes in
     input_waits w es to bytes ws (refusal_in (seen_of w es e))
-    ∙ ap (λ (i : ℕ). left_by i (length (rows_at w es i)) (rows_at w (e ∷ es) i) (waits_again e (seen_of w es e) ws)) alone
+    ∙ ap (λ (i : ℕ). waiting_left_by i (length (rows_at w es i)) (rows_at w (e ∷ es) i) (waits_again e (seen_of w es e) ws)) alone
 recalled_waits w es (events.Turn to) at ws alone =
-    ap (λ (i : ℕ). left_by i (length (rows_at w es i)) (rows_at w (events.Turn to ∷ es) i) ws) alone
+    ap (λ (i : ℕ). waiting_left_by i (length (rows_at w es i)) (rows_at w (events.Turn to ∷ es) i) ws) alone
 recalled_waits w es (events.Pass from to m) at ws alone = absurd alone
 recalled_waits w es (events.Sealed from to body) at ws alone = absurd alone
 
 -- its rows came in
 pub happened : {S E C : Type 0} (m : Meaning S E C KeyRow) (w : Setting) (es : List Event) (numbers : List ℕ) (house : House S E C) (e : Event) (at out count : ℕ) (seen : Seen) (ws : Waiting) (p : Peers)
     → IsAlone at e → out ≡ at → count ≡ length (rows_at w es at) → seen ≡ seen_of w es e
-    → HouseStands m w (e ∷ es) numbers house (left_by out count (rows_at w (e ∷ es) out) (waits_again e seen ws)) p
+    → HouseStands m w (e ∷ es) numbers house (waiting_left_by out count (rows_at w (e ∷ es) out) (waits_again e seen ws)) p
     → HouseStands m w (e ∷ es) numbers house (recalled w es e ws).waiting p
 happened m w es numbers house e at out count seen ws p alone out_is count_is seen_is stands =
     subst (λ (us : Waiting). HouseStands m w (e ∷ es) numbers house us p)
-    (ap (λ (i : ℕ). left_by i count (rows_at w (e ∷ es) i) (waits_again e seen ws)) out_is
-    ∙ (ap (λ (n : ℕ). left_by at n (rows_at w (e ∷ es) at) (waits_again e seen ws)) count_is
-    ∙ (ap (λ (s : Seen). left_by at (length (rows_at w es at)) (rows_at w (e ∷ es) at) (waits_again e s ws)) seen_is
+    (ap (λ (i : ℕ). waiting_left_by i count (rows_at w (e ∷ es) i) (waits_again e seen ws)) out_is
+    ∙ (ap (λ (n : ℕ). waiting_left_by at n (rows_at w (e ∷ es) at) (waits_again e seen ws)) count_is
+    ∙ (ap (λ (s : Seen). waiting_left_by at (length (rows_at w es at)) (rows_at w (e ∷ es) at) (waits_again e s ws)) seen_is
     ∙ sym (recalled_waits w es e at ws alone))))
     stands
 
@@ -90,8 +90,8 @@ all_put_newest [] p = refl
 all_put_newest (f ∷ fs) p = all_put_newest fs (keep_newest f p)
 
 pub same_newest : (w : Setting) (es : List Event) (e : Option Event) (k at : ℕ) (frames : List OutFrame) (p : Peers) → map (frame_by at) frames ≡ sent_by w es e
-    → all_newest (map (made_as k at) frames) p ≡ all_newest (made_by w es e) p
-same_newest w es e k at frames p is = sym (all_put_newest (map (made_as k at) frames) p) ∙ (same_put newest w es e k at frames p is ∙ all_put_newest (made_by w es e) p)
+    → all_newest (map (made_as k at) frames) p ≡ all_newest (frames_made_by w es e) p
+same_newest w es e k at frames p is = sym (all_put_newest (map (made_as k at) frames) p) ∙ (same_put newest w es e k at frames p is ∙ all_put_newest (frames_made_by w es e) p)
 
 newest_last : (fs : List MadeFrame) (f : MadeFrame) (p : Peers) → all_newest (fs ++ f ∷ []) p ≡ keep_newest f (all_newest fs p)
 newest_last [] f p = refl

@@ -16,18 +16,18 @@ use Rattle.keyed_channel.specs.declared.frame.OpenFault.{OpenFault}
 use Rattle.keyed_channel.specs.declared.note.Note.{Note}
 use Rattle.keyed_channel.specs.declared.note.Note.TheVariants as notes
 use Rattle.link_resume.specs.declared.kept.Kept.{Kept}
-use Rattle.link_resume.specs.Lists.{bytes_in, most_bytes, all_but, room_for}
+use Rattle.link_resume.specs.Lists.{bytes_in, most_kept_bytes, all_but, room_for}
 use Rattle.world_model.specs.World.{Setting, seen_of}
 use Rattle.world_model.specs.MadeOrder.{MadeFrame, all_made}
 use Rattle.node_loop.specs.Waiting.{Waiting}
-use Rattle.node_loop.specs.Calls.{Outcome, called, silent, item_does, first_does}
+use Rattle.node_loop.specs.Calls.{Outcome, event_called, silent, item_does, first_does}
 use Rattle.node_loop.specs.declared.peers.Mark.{Mark}
 use Rattle.node_loop.specs.Peers.{Peers, is_pair, with_list, with_mark, keeps, keep_one, keep_all, acknowledged}
-use Rattle.node_loop.specs.Deeds.{Deed, Came, Made, Resent, Acked, Wished, Replied, pushed, says_so, acks, is_first, is_open}
+use Rattle.node_loop.specs.Deeds.{Deed, Came, Made, Resent, Acked, Wished, Replied, pushed, says_so, acks, is_first, is_connected}
 use Rattle.node_loop.specs.Resending.{Brought, nothing_more, mark_at, is_deferred, opened_so, resends, noted_so}
-use Rattle.node_loop.specs.Serving.{Serving, so_far, Round, Began, Turned, Reminded, Took, made_by, brought, outcome, after_from, came, with_deeds, deeds_from}
+use Rattle.node_loop.specs.Serving.{Serving, so_far, Round, Began, Turned, Reminded, Took, frames_made_by, brought, outcome, after_from, came, with_deeds, deeds_from}
 use Rattle.node_loop.specs.Recovering.{keep_newest, all_newest, recalled_peers, recalled_deeds}
-use Rattle.node_loop.specs.Laws.{IsSent, AllSent, AreOpen, ResendsAreOpen, RecalledAreSent, RecalledAreOpen}
+use Rattle.node_loop.specs.Laws.{IsUnacknowledged, AllSent, AreOpen, ResendsAreOpen, RecalledAreSent, RecalledAreOpen}
 use Rattle.node_loop.proofs.FramesSent.{firsts_made}
 
 -- ---- tests
@@ -62,39 +62,39 @@ append_all P (x ∷ xs) y all one = (all.0, append_all P xs y all.1 one)
 pair_is : (i j a b : ℕ) → is_pair i j a b ≡ true → (a ≡ i) × (b ≡ j)
 pair_is i j a b h = let t = both (a == i) (b == j) h in (eqb-true a i t.0, eqb-true b j t.1)
 
-one_list : (w : Setting) (i j : ℕ) (kept : List Kept) (p : Peers) (ds : List Deed) → AllByRecursion (IsSent w i j ds) kept
-    → ((a b : ℕ) → is_pair i j a b ≡ false → AllByRecursion (IsSent w a b ds) (p.keeping a b)) → AllSent w (with_list i j kept p) ds
+one_list : (w : Setting) (i j : ℕ) (kept : List Kept) (p : Peers) (ds : List Deed) → AllByRecursion (IsUnacknowledged w i j ds) kept
+    → ((a b : ℕ) → is_pair i j a b ≡ false → AllByRecursion (IsUnacknowledged w a b ds) (p.keeping a b)) → AllSent w (with_list i j kept p) ds
 one_list w i j kept p ds here others = record {
   each = λ a b. by_pair a b (is_pair i j a b) refl;
 }
   where
-    by_pair : (a b : ℕ) (t : Bool) → is_pair i j a b ≡ t → AllByRecursion (IsSent w a b ds) (if t then kept else p.keeping a b)
+    by_pair : (a b : ℕ) (t : Bool) → is_pair i j a b ≡ t → AllByRecursion (IsUnacknowledged w a b ds) (if t then kept else p.keeping a b)
     by_pair a b true same =
         let e = pair_is i j a b same in
-        subst (λ (x : ℕ). AllByRecursion (IsSent w x b ds) kept) (sym e.0) (subst (λ (y : ℕ). AllByRecursion (IsSent w i y ds) kept) (sym e.1) here)
+        subst (λ (x : ℕ). AllByRecursion (IsUnacknowledged w x b ds) kept) (sym e.0) (subst (λ (y : ℕ). AllByRecursion (IsUnacknowledged w i y ds) kept) (sym e.1) here)
     by_pair a b false other = others a b other
 
 -- ---- frames that go out for the first time
 
-made_stays : (w : Setting) (f : MadeFrame) (i j : ℕ) (ds : List Deed) (ks : List Kept) → AllByRecursion (IsSent w i j ds) ks
-    → AllByRecursion (IsSent w i j (Made f ∷ ds)) ks
+made_stays : (w : Setting) (f : MadeFrame) (i j : ℕ) (ds : List Deed) (ks : List Kept) → AllByRecursion (IsUnacknowledged w i j ds) ks
+    → AllByRecursion (IsUnacknowledged w i j (Made f ∷ ds)) ks
 made_stays w f i j ds [] all = tt
 made_stays w f i j ds (k ∷ ks) all =
-    ((all.0.0, or_right (is_first f i j k.frame) (is_open w i j k.frame ds) all.0.1), made_stays w f i j ds ks all.1)
+    ((all.0.0, or_right (is_first f i j k.frame) (is_connected w i j k.frame ds) all.0.1), made_stays w f i j ds ks all.1)
 
 first_itself : (f : MadeFrame) → is_first f f.from f.to f.bytes ≡ true
 first_itself f =
     ap₂ (λ (x y : Bool). x && y) (eq-eqb f.from f.from refl)
     (ap₂ (λ (x y : Bool). x && y) (eq-eqb f.to f.to refl) ((bytes_eq-Decides f.bytes f.bytes).1 refl))
 
-keeps_sent : (w : Setting) (f : MadeFrame) (ds : List Deed) (ks : List Kept) → AllByRecursion (IsSent w f.from f.to ds) ks
-    → AllByRecursion (IsSent w f.from f.to (Made f ∷ ds)) (keeps f.bytes ks)
-keeps_sent w f ds ks all = by_room (nat_le (bytes_in ks + length f.bytes) most_bytes)
+keeps_sent : (w : Setting) (f : MadeFrame) (ds : List Deed) (ks : List Kept) → AllByRecursion (IsUnacknowledged w f.from f.to ds) ks
+    → AllByRecursion (IsUnacknowledged w f.from f.to (Made f ∷ ds)) (keeps f.bytes ks)
+keeps_sent w f ds ks all = by_room (nat_le (bytes_in ks + length f.bytes) most_kept_bytes)
   where
-    by_room : (b : Bool) → AllByRecursion (IsSent w f.from f.to (Made f ∷ ds)) (if b then ks ++ record { seq = seq_of f.bytes; frame = f.bytes } ∷ [] else ks)
+    by_room : (b : Bool) → AllByRecursion (IsUnacknowledged w f.from f.to (Made f ∷ ds)) (if b then ks ++ record { seq = seq_of f.bytes; frame = f.bytes } ∷ [] else ks)
     by_room true =
-        append_all (IsSent w f.from f.to (Made f ∷ ds)) ks (record { seq = seq_of f.bytes; frame = f.bytes }) (made_stays w f f.from f.to ds ks all)
-        (refl, or_left (is_first f f.from f.to f.bytes) (is_open w f.from f.to f.bytes ds) (first_itself f))
+        append_all (IsUnacknowledged w f.from f.to (Made f ∷ ds)) ks (record { seq = seq_of f.bytes; frame = f.bytes }) (made_stays w f f.from f.to ds ks all)
+        (refl, or_left (is_first f f.from f.to f.bytes) (is_connected w f.from f.to f.bytes ds) (first_itself f))
     by_room false = made_stays w f f.from f.to ds ks all
 
 one_made : (w : Setting) (f : MadeFrame) (p : Peers) (ds : List Deed) → Good w p ds → Good w (keep_one f p) (Made f ∷ ds)
@@ -113,7 +113,7 @@ all_made_good w (f ∷ fs) p ds good = all_made_good w fs (keep_one f p) (Made f
 again_sent : (w : Setting) (i j : ℕ) (p : Peers) (frame : List ℕ) (ds : List Deed) → AllSent w p ds → AllSent w p (Resent i j frame ∷ ds)
 again_sent w i j p frame ds sent = record { each = sent.each }
 
-resent_good : (w : Setting) (i j : ℕ) (p : Peers) (ks : List Kept) (ds : List Deed) → AllByRecursion (IsSent w i j ds) ks → Good w p ds
+resent_good : (w : Setting) (i j : ℕ) (p : Peers) (ks : List Kept) (ds : List Deed) → AllByRecursion (IsUnacknowledged w i j ds) ks → Good w p ds
     → Good w p (pushed (map (λ k. Resent i j k.frame) ks) ds)
 resent_good w i j p [] ds all good = good
 resent_good w i j p (k ∷ ks) ds all good =
@@ -138,10 +138,10 @@ asked_good w i j p ds good = record { sent = record { each = good.sent.each }; a
 -- ---- items that are no acknowledgement
 
 came_stays : (w : Setting) (item : LinkItem) (i j : ℕ) (ds : List Deed) (ks : List Kept) → ((seq : ℕ) → acks w item i j seq ≡ false)
-    → AllByRecursion (IsSent w i j ds) ks → AllByRecursion (IsSent w i j (Came item ∷ ds)) ks
+    → AllByRecursion (IsUnacknowledged w i j ds) ks → AllByRecursion (IsUnacknowledged w i j (Came item ∷ ds)) ks
 came_stays w item i j ds [] none all = tt
 came_stays w item i j ds (k ∷ ks) none all =
-    ((all.0.0, not_and (acks w item i j (seq_of k.frame)) (is_open w i j k.frame ds) (none (seq_of k.frame)) all.0.1), came_stays w item i j ds ks none all.1)
+    ((all.0.0, not_and (acks w item i j (seq_of k.frame)) (is_connected w i j k.frame ds) (none (seq_of k.frame)) all.0.1), came_stays w item i j ds ks none all.1)
 
 came_good : (w : Setting) (item : LinkItem) (p : Peers) (ds : List Deed) → ((i j seq : ℕ) → acks w item i j seq ≡ false) → Good w p ds → Good w p (Came item ∷ ds)
 came_good w item p ds none good = record {
@@ -170,19 +170,19 @@ other_seq a b h = elim (cases_Bool (a == b)) [
 ]
 
 taken_step : (w : Setting) (to from number : ℕ) (bytes : List ℕ) → ((i j seq : ℕ) → acks w (items.Frame to bytes) i j seq ≡ (to == i && (from == j && number == seq)))
-    → (ds : List Deed) (k : Kept) (ks : List Kept) (b : Bool) → not (k.seq == number) ≡ b → IsSent w to from ds k
-    → AllByRecursion (IsSent w to from (Came (items.Frame to bytes) ∷ ds)) ks
-    → AllByRecursion (IsSent w to from (Came (items.Frame to bytes) ∷ ds)) (if b then k ∷ ks else ks)
+    → (ds : List Deed) (k : Kept) (ks : List Kept) (b : Bool) → not (k.seq == number) ≡ b → IsUnacknowledged w to from ds k
+    → AllByRecursion (IsUnacknowledged w to from (Came (items.Frame to bytes) ∷ ds)) ks
+    → AllByRecursion (IsUnacknowledged w to from (Came (items.Frame to bytes) ∷ ds)) (if b then k ∷ ks else ks)
 taken_step w to from number bytes is ds k ks true other one rest =
     let none : acks w (items.Frame to bytes) to from (seq_of k.frame) ≡ false =
     is to from (seq_of k.frame)
     ∙ and_false (to == to) (from == from && number == seq_of k.frame) (and_false (from == from) (number == seq_of k.frame)
     (ap (λ (n : ℕ). number == n) (sym one.0) ∙ other_seq number k.seq other)) in
-    ((one.0, not_and (acks w (items.Frame to bytes) to from (seq_of k.frame)) (is_open w to from k.frame ds) none one.1), rest)
+    ((one.0, not_and (acks w (items.Frame to bytes) to from (seq_of k.frame)) (is_connected w to from k.frame ds) none one.1), rest)
 taken_step w to from number bytes is ds k ks false same one rest = rest
 
 taken_stays : (w : Setting) (to from number : ℕ) (bytes : List ℕ) → ((i j seq : ℕ) → acks w (items.Frame to bytes) i j seq ≡ (to == i && (from == j && number == seq)))
-    → (ds : List Deed) (ks : List Kept) → AllByRecursion (IsSent w to from ds) ks → AllByRecursion (IsSent w to from (Came (items.Frame to bytes) ∷ ds)) (all_but number ks)
+    → (ds : List Deed) (ks : List Kept) → AllByRecursion (IsUnacknowledged w to from ds) ks → AllByRecursion (IsUnacknowledged w to from (Came (items.Frame to bytes) ∷ ds)) (all_but number ks)
 taken_stays w to from number bytes is ds [] all = tt
 taken_stays w to from number bytes is ds (k ∷ ks) all =
     taken_step w to from number bytes is ds k (all_but number ks) (not (k.seq == number)) refl all.0 (taken_stays w to from number bytes is ds ks all.1)
@@ -256,8 +256,8 @@ brings_so here note a b p = if here then (if note then a else b) else nothing_mo
 
 abbrev FrameGood : Setting → List Event → ℕ → List ℕ → Waiting → Peers → List Deed → Bool → Bool → Type 0
 FrameGood w es to bytes ws p ds here note =
-    let did = did_so here note (called w es to (events.Frame to bytes) ws) ws in
-    let fs = made_by w es did.event in
+    let did = did_so here note (event_called w es to (events.Frame to bytes) ws) ws in
+    let fs = frames_made_by w es did.event in
     let q = keep_all fs p in
     let more = brings_so here note (noted_so to q (noted (w.keys to) bytes)) (opened_so w es to bytes q (opening (w.keys to) bytes)) q in
     Good w more.peers (with_deeds fs more.deeds did.replies (Came (items.Frame to bytes) ∷ ds))
@@ -268,8 +268,8 @@ frame_good w es to bytes ws p ds false note is kind good =
     came_good w (items.Frame to bytes) p ds (λ i j seq. ap (λ (b : Bool). b && (to == i && (is_note bytes && says_so (noted (w.keys to) bytes) j seq))) is) good
 frame_good w es to bytes ws p ds true true is kind good = note_good w to bytes p ds (noted (w.keys to) bytes) is kind refl good
 frame_good w es to bytes ws p ds true false is kind good =
-    let did = called w es to (events.Frame to bytes) ws in
-    let fs = made_by w es did.event in
+    let did = event_called w es to (events.Frame to bytes) ws in
+    let fs = frames_made_by w es did.event in
     let came_so = came_good w (items.Frame to bytes) p ds
     (λ i j seq. acks_frame w to bytes i j seq kind) good in
     replied_good w did.replies _ _
@@ -280,12 +280,12 @@ frame_good w es to bytes ws p ds true false is kind good =
 
 abbrev RoundGood : Setting → List Event → Round → Serving → List Deed → Type 0
 RoundGood w past x s ds =
-    Good w (brought w past x s).peers (with_deeds (made_by w (so_far past s) (outcome w past x s).event) (brought w past x s).deeds (outcome w past x s).replies (came x ds))
+    Good w (brought w past x s).peers (with_deeds (frames_made_by w (so_far past s) (outcome w past x s).event) (brought w past x s).deeds (outcome w past x s).replies (came x ds))
 
 -- its frames and its replies alone
 plain_good : (w : Setting) (es : List Event) (did : Outcome) (p : Peers) (ds : List Deed) → Good w p ds
-    → Good w (keep_all (made_by w es did.event) p) (with_deeds (made_by w es did.event) [] did.replies ds)
-plain_good w es did p ds good = replied_good w did.replies _ _ (all_made_good w (made_by w es did.event) p ds good)
+    → Good w (keep_all (frames_made_by w es did.event) p) (with_deeds (frames_made_by w es did.event) [] did.replies ds)
+plain_good w es did p ds good = replied_good w did.replies _ _ (all_made_good w (frames_made_by w es did.event) p ds good)
 
 up_good : (w : Setting) (at peer : ℕ) (p : Peers) (ds : List Deed) (b : Bool) → Good w p ds
     → Good w (if b then resends at peer p else nothing_more p).peers (pushed (if b then resends at peer p else nothing_more p).deeds ds)
@@ -294,7 +294,7 @@ up_good w at peer p ds false good = good
 
 round_good : (w : Setting) (past : List Event) (x : Round) (s : Serving) (ds : List Deed) → Good w s.peers ds → RoundGood w past x s ds
 round_good w past (Began item) s ds good = plain_good w (so_far past s) (first_does w (so_far past s) item s.waiting) s.peers ds good
-round_good w past (Turned i) s ds good = plain_good w (so_far past s) (called w (so_far past s) i (events.Turn i) s.waiting) s.peers ds good
+round_good w past (Turned i) s ds good = plain_good w (so_far past s) (event_called w (so_far past s) i (events.Turn i) s.waiting) s.peers ds good
 round_good w past (Reminded i j) s ds good = asked_good w i j s.peers ds good
 round_good w past (Took (items.Frame to bytes)) s ds good =
     frame_good w (so_far past s) to bytes s.waiting s.peers ds (w.is_correct to) (is_note bytes) refl refl good
@@ -323,7 +323,7 @@ resends_open w past start ds rounds sent again = (all_good w past start ds round
 -- where the oldest are dropped, all others stay
 room_all : (P : Kept → Type 0) (size : ℕ) (ks : List Kept) → AllByRecursion P ks → AllByRecursion P (room_for size ks)
 room_all P size [] all = tt
-room_all P size (k ∷ ks) all = by_room (nat_le (bytes_in (k ∷ ks) + size) most_bytes) (room_all P size ks all.1)
+room_all P size (k ∷ ks) all = by_room (nat_le (bytes_in (k ∷ ks) + size) most_kept_bytes) (room_all P size ks all.1)
   where
     by_room : (b : Bool) → AllByRecursion P (room_for size ks) → AllByRecursion P (if b then k ∷ ks else room_for size ks)
     by_room true fewer = all
@@ -334,7 +334,7 @@ one_newest w f p ds good =
     let own = p.keeping f.from f.to in
     record {
       sent = one_list w f.from f.to (keeps f.bytes (room_for (length f.bytes) own)) p (Made f ∷ ds)
-          (keeps_sent w f ds (room_for (length f.bytes) own) (room_all (IsSent w f.from f.to ds) (length f.bytes) own (good.sent.each f.from f.to)))
+          (keeps_sent w f ds (room_for (length f.bytes) own) (room_all (IsUnacknowledged w f.from f.to ds) (length f.bytes) own (good.sent.each f.from f.to)))
           (λ a b _. made_stays w f a b ds (p.keeping a b) (good.sent.each a b));
       again = good.again;
     }
@@ -351,8 +351,8 @@ recalled_good : (w : Setting) (past : List Event) → Good w (recalled_peers w p
 unfolding all_made
 recalled_good w [] = record { sent = record { each = λ i j. tt }; again = tt }
 recalled_good w (e ∷ es) =
-    subst (λ (ds : List Deed). Good w (recalled_peers w (e ∷ es)) ds) (sym (pushed_made (all_made w es) (made_by w es (Some e)) []))
-    (newest_good w (made_by w es (Some e)) (recalled_peers w es) (recalled_deeds w es) (recalled_good w es))
+    subst (λ (ds : List Deed). Good w (recalled_peers w (e ∷ es)) ds) (sym (pushed_made (all_made w es) (frames_made_by w es (Some e)) []))
+    (newest_good w (frames_made_by w es (Some e)) (recalled_peers w es) (recalled_deeds w es) (recalled_good w es))
 
 pub recalled_sent : RecalledAreSent
 recalled_sent w past = (recalled_good w past).sent

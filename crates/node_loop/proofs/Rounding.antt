@@ -24,18 +24,18 @@ use Rattle.node_loop.specs.declared.peers.Pair.{Pair}
 use Rattle.node_loop.specs.declared.rounds.Next.TheVariants as next
 use Rattle.node_loop.specs.Peers.{Peers}
 use Rattle.node_loop.specs.Resending.{due}
-use Rattle.node_loop.specs.Serving.{Serving, begin, so_far, Want, Begins, Finishes, Turns, Halts, Reminds, Asks, wants_of, turn_or, remind_or, first_or, here, busy, is_done, wants, Round, Began, Turned, Reminded, Took, AreTurns, IsGroup, behind_first, round_does, after, newest, sooner, after_from, events_from, newest_from, sooner_from, given_in, given_first, IsGiven, IsWanted, AreWantedFrom}
-use Rattle.node_loop.specs.Outs.{text_of, Outs, Tells, Agrees, HasCauses, AllWritten, NoneSent, InOrder, Stops, IfFailed, Fails}
+use Rattle.node_loop.specs.Serving.{Serving, begin, so_far, Want, Begins, Finishes, Turns, Halts, Reminds, Asks, wants_of, turn_or, remind_or, first_or, here, busy, has_enough_rows, wants, Round, Began, Turned, Reminded, Took, AreTurns, IsGroup, behind_first, round_does, serving_after, newest, sooner, after_from, events_from, newest_from, sooner_from, given_for_round, given_first, IsGiven, IsWanted, AreWantedFrom}
+use Rattle.node_loop.specs.Outs.{events_text, Outs, Tells, Agrees, HasCauses, AllWritten, NoneSent, InOrder, StopsPartway, IfFailed, IsFaultOfLink}
 use Rattle.node_loop.specs.ServingLaws.{acts_from}
 use Rattle.node_loop.specs.Standing.{HouseStands}
 use Rattle.node_loop.specs.Served.{AreHere, EndsSo, Serves}
 use Rattle.node_loop.specs.ServedKept.{EndsKept, ServesKept, earlier_from, group_kept}
 use Rattle.node_loop.specs.declared.archive.ArchiveFault.{ArchiveFault}
-use Rattle.node_loop.specs.Archives.{Moment, LeftAt, KeptAt}
+use Rattle.node_loop.specs.Archives.{Moment, ArchiveLeftAt, KeptAt}
 use Rattle.node_loop.specs.Keeping.{kept_of}
 use Rattle.node_loop.specs.Running.{IsEndOf, Running, Gathered, FellShortOf, NotYet, IsNext}
 use Rattle.node_loop.specs.declared.group.Group.{Group}
-use Rattle.node_loop.specs.Groups.{IsEmpty, Joins, Under}
+use Rattle.node_loop.specs.Groups.{IsEmpty, JoinsGroup, Under}
 use Rattle.outside.specs.LinkCallsLaws.{back_none, back_all}
 use Rattle.node_loop.proofs.Stepping.{with_link, has_cause, same_failed}
 use Rattle.node_loop.proofs.Grouping.{events_parts, text_parts, holds_none}
@@ -70,12 +70,12 @@ pub record GaveNone (tells : Tells) (base now : Outs) (fault : Fault) (s : Servi
   pub own : IsOfLink fault
   pub cause : HasCauses base now fault
 
-link_alone : (x : LinkFault) (fault : Fault) → Fails x fault → IsOfLink fault
+link_alone : (x : LinkFault) (fault : Fault) → IsFaultOfLink x fault → IsOfLink fault
 link_alone link_faults.Failed fault is = rw is tt
 link_alone link_faults.Mem fault is = rw is tt
 
 pub next_failed : (tells : Tells) (base o : Outs) (s : Serving) (told : List LinkAct) (count : FaultCounts) (x : LinkFault) (fault : Fault)
-    → Fails x fault → Agrees tells base o s.events s.acts → (tells.link ≡ true → told ≡ o.told)
+    → IsFaultOfLink x fault → Agrees tells base o s.events s.acts → (tells.link ≡ true → told ≡ o.told)
     → o.link_faults.failed ≤ count.failed → count ≡ faults_after {A = LinkItem} o.link_faults (Err x) → GaveNone tells base (with_link o told count) fault s
 next_failed tells base o s told count x fault is agrees same le counts = record {
   written = agrees.taken;
@@ -103,13 +103,13 @@ whole_order tells base o faults.Mem events sooner own written = inl written
 -- then all that came of the rounds was told
 none_stops : (w : Setting) (past : List Event) (start : Serving) (newest older : List Round) (tells : Tells) (base o : Outs) (fault : Fault)
     → GaveNone tells base o fault (after_from w past start (newest ++ older))
-    → Stops tells base o fault (after_from w past start (newest ++ older)).events (sooner_from w past start newest older) (newest_from w past start newest older)
+    → StopsPartway tells base o fault (after_from w past start (newest ++ older)).events (sooner_from w past start newest older) (newest_from w past start newest older)
 none_stops w past start newest older tells base o fault gave =
     let s = after_from w past start (newest ++ older) in
     let new = newest_from w past start newest older in
     let old = sooner_from w past start newest older in
     record {
-      taken = λ t. all_written base.taken o.taken (text_of s.events) (gave.written t);
+      taken = λ t. all_written base.taken o.taken (events_text s.events) (gave.written t);
       told = λ t. back_all (old ++ base.told) o.told new
           (gave.told t ∙ ap (λ (l : List LinkAct). l ++ base.told) (acts_from w past start newest older) ∙ append_assoc new old base.told);
       order = whole_order tells base o fault s.events old gave.own gave.written;
@@ -162,26 +162,26 @@ next_remind Asks pair is = absurd is
 
 -- what the rules want, by what is found
 module _ (w : Setting) (until limit : ℕ) (es : List Event) (taken : ℕ) (p : Peers) where
-  pub wants_turn : (at : ℕ) (more : List ℕ) → is_done w until es ≡ false → busy w es ≡ at ∷ more → IsNext (wants_of w until limit es taken p) (next.Turn at)
+  pub wants_turn : (at : ℕ) (more : List ℕ) → has_enough_rows w until es ≡ false → busy w es ≡ at ∷ more → IsNext (wants_of w until limit es taken p) (next.Turn at)
   wants_turn at more going first =
       let other : Want = if nat_le limit taken then Halts else remind_or (due w es (here w) p) in
       subst (λ (b : Bool). IsNext (if b then Finishes else turn_or (busy w es) other) (next.Turn at)) (sym going)
       (subst (λ (is : List ℕ). IsNext (turn_or is other) (next.Turn at)) (sym first) refl)
 
   -- where no turn is
-  wants_other : (b : Bool) (ds : List Pair) → is_done w until es ≡ false → busy w es ≡ [] → nat_le limit taken ≡ b → due w es (here w) p ≡ ds
+  wants_other : (b : Bool) (ds : List Pair) → has_enough_rows w until es ≡ false → busy w es ≡ [] → nat_le limit taken ≡ b → due w es (here w) p ≡ ds
       → wants_of w until limit es taken p ≡ (if b then Halts else remind_or ds)
   wants_other b ds going idle limited pairs =
       ap (λ (c : Bool). if c then Finishes else turn_or (busy w es) (if nat_le limit taken then Halts else remind_or (due w es (here w) p))) going
       ∙ (ap (λ (is : List ℕ). turn_or is (if nat_le limit taken then Halts else remind_or (due w es (here w) p))) idle
       ∙ ap₂ (λ (c : Bool) (l : List Pair). if c then Halts else remind_or l) limited pairs)
 
-  pub wants_remind : (pair : Pair) (more : List Pair) → is_done w until es ≡ false → busy w es ≡ [] → nat_le limit taken ≡ false → due w es (here w) p ≡ pair ∷ more
+  pub wants_remind : (pair : Pair) (more : List Pair) → has_enough_rows w until es ≡ false → busy w es ≡ [] → nat_le limit taken ≡ false → due w es (here w) p ≡ pair ∷ more
       → IsNext (wants_of w until limit es taken p) (next.Remind pair)
   wants_remind pair more going idle limited pairs =
       subst (λ (want : Want). IsNext want (next.Remind pair)) (sym (wants_other false (pair ∷ more) going idle limited pairs)) (refl, refl)
 
-  pub wants_ask : is_done w until es ≡ false → busy w es ≡ [] → nat_le limit taken ≡ false → due w es (here w) p ≡ [] → IsNext (wants_of w until limit es taken p) next.Ask
+  pub wants_ask : has_enough_rows w until es ≡ false → busy w es ≡ [] → nat_le limit taken ≡ false → due w es (here w) p ≡ [] → IsNext (wants_of w until limit es taken p) next.Ask
   wants_ask going idle limited pairs = subst (λ (want : Want). IsNext want next.Ask) (sym (wants_other false [] going idle limited pairs)) tt
 
 -- ---- rounds
@@ -195,7 +195,7 @@ if_failed (faults.Full x) P p = p
 
 pub ends_so : {S E C : Type 0} (m : Meaning S E C KeyRow) (w : Setting) (past : List Event) (numbers : List ℕ) (here : List _) (tells : Tells) (base now : Outs)
     (fault : Fault) (end : ServeEnd) (s : Serving) (sooner news : List LinkAct) (rule : Want)
-    → IsEndOf fault end → Stops tells base now fault s.events sooner news → IfFailed fault (AreHere m w (so_far past s) numbers here) → EndsKept {S = S} {E = E} {C = C} m w past numbers here tells base now end s sooner news rule
+    → IsEndOf fault end → StopsPartway tells base now fault s.events sooner news → IfFailed fault (AreHere m w (so_far past s) numbers here) → EndsKept {S = S} {E = E} {C = C} m w past numbers here tells base now end s sooner news rule
 ends_so m w past numbers here tells base now faults.Link end s sooner news rule is stops stand = rw is (stops, stand)
 ends_so m w past numbers here tells base now faults.Tape end s sooner news rule is stops stand = rw is (stops, stand)
 ends_so m w past numbers here tells base now faults.Mem end s sooner news rule is stops stand = rw is stops
@@ -203,7 +203,7 @@ ends_so m w past numbers here tells base now faults.Disk end s sooner news rule 
 ends_so m w past numbers here tells base now (faults.Full x) end s sooner news rule is stops stand = rw is (stops, stand)
 
 -- what was kept at a fault was at the end that it is
-left_end : (now : Moment) (none : Type 0) (kept group older : List Event) (fault : Fault) (end : ServeEnd) → IsEndOf fault end → LeftAt now none kept group older fault
+left_end : (now : Moment) (none : Type 0) (kept group older : List Event) (fault : Fault) (end : ServeEnd) → IsEndOf fault end → ArchiveLeftAt now none kept group older fault
     → KeptAt now none kept group older end
 left_end now none kept group older faults.Link end is left = rw is left
 left_end now none kept group older faults.Tape end is left = rw is left
@@ -212,7 +212,7 @@ left_end now none kept group older faults.Disk end is left = rw is left
 left_end now none kept group older (faults.Full x) end is left = rw is left
 
 -- all was where the link gave none
-left_none : (now : Moment) (none : Type 0) (kept group older : List Event) (fault : Fault) → IsOfLink fault → now.stands kept → LeftAt now none kept group older fault
+left_none : (now : Moment) (none : Type 0) (kept group older : List Event) (fault : Fault) → IsOfLink fault → now.stands kept → ArchiveLeftAt now none kept group older fault
 left_none now none kept group older faults.Link own stands = stands
 left_none now none kept group older faults.Mem own stands = inl stands
 left_none now none kept group older faults.Tape own stands = absurd own
@@ -255,7 +255,7 @@ module _ (w : Setting) (past : List Event) (until limit : ℕ) (start : Serving)
 
 -- ---- a turn may join
 
-pub may_turn : (newest : List Round) (at : ℕ) (group : Group) → (true ≡ group.kept && not group.resends) → Joins newest (Turned at) group
+pub may_turn : (newest : List Round) (at : ℕ) (group : Group) → (true ≡ group.kept && not group.resends) → JoinsGroup newest (Turned at) group
 may_turn [] at group goes = tt
 may_turn (y ∷ newest) at group goes = (and_left group.kept (not group.resends) (sym goes), not_true group.resends (and_right group.kept (not group.resends) (sym goes)))
   where
@@ -351,8 +351,8 @@ module _ {S E C : Type 0} (m : Meaning S E C KeyRow) (w : Setting) (past : List 
     -- it broke in it
     pub at_fault : (now : Moment) (here : List (Replica S E C)) (fault : Fault) (end : ServeEnd) → IsGroup newest older → AreWantedFrom w past until limit start (newest ++ older)
         → IsEndOf fault end
-        → Stops tells base now.outs fault s₁.events before news → IfFailed fault (AreHere m w (so_far past s₁) numbers here)
-        → LeftAt now (NoneSent tells base now.outs before) (kept_of w past s₁.events) (group_kept w past start newest older) (kept_of w past s₀.events) fault
+        → StopsPartway tells base now.outs fault s₁.events before news → IfFailed fault (AreHere m w (so_far past s₁) numbers here)
+        → ArchiveLeftAt now (NoneSent tells base now.outs before) (kept_of w past s₁.events) (group_kept w past start newest older) (kept_of w past s₀.events) fault
         → ServesKept m w past numbers here tells base now end until limit start
     at_fault now here fault end one wanted is stops stand left = record {
       group = newest;
@@ -370,8 +370,8 @@ module _ {S E C : Type 0} (m : Meaning S E C KeyRow) (w : Setting) (past : List 
         let es = events_from w past start newest older in
         at_fault now here faults.Mem ends.Mem one wanted refl
         (record {
-          taken = λ t. subst (λ (l : List ℕ). TookFront base.taken now.outs.taken l) (sym (ap text_of (events_parts w past start newest older) ∙ text_parts es s₀.events))
-              (front_more base.taken now.outs.taken (text_of s₀.events) (text_of es) (all_written base.taken now.outs.taken (text_of s₀.events) (agrees.taken t)));
+          taken = λ t. subst (λ (l : List ℕ). TookFront base.taken now.outs.taken l) (sym (ap events_text (events_parts w past start newest older) ∙ text_parts es s₀.events))
+              (front_more base.taken now.outs.taken (events_text s₀.events) (events_text es) (all_written base.taken now.outs.taken (events_text s₀.events) (agrees.taken t)));
           told = λ t. rw (agrees.told t) (back_none (before ++ base.told) news);
           order = inr agrees.told;
           tape_later = omega (arith, agrees.tape_stands);
@@ -399,7 +399,7 @@ module _ {S E C : Type 0} (m : Meaning S E C KeyRow) (w : Setting) (past : List 
   pub gathers_first : (old new : House S E C) (group : Group) (o : Moment) (taken more most : ℕ) (left rest : List LinkItem) (x : Round) (run : Running m w past numbers old tells base o taken until limit start left)
       → IsWanted (wants w past until limit (after_from w past start run.rounds)) x
       → (round_does w past x (after_from w past start run.rounds)).left ≡ rest → more ≡ (round_does w past x (after_from w past start run.rounds)).taken
-      → 1 ≤ most → Under m w past numbers start (x ∷ []) run.rounds new group → Gathered m w past numbers new group more until limit start rest run.rounds (given_in x) most
+      → 1 ≤ most → Under m w past numbers start (x ∷ []) run.rounds new group → Gathered m w past numbers new group more until limit start rest run.rounds (given_for_round x) most
   gathers_first old new group o taken more most left rest x run want is_left is_taken le under = record {
     newest = x ∷ [];
     some = λ no. absurd (cc);
@@ -428,7 +428,7 @@ module _ {S E C : Type 0} (m : Meaning S E C KeyRow) (w : Setting) (past : List 
 
   -- memory ran out at its first round
   pub first_short : (house : House S E C) (o : Moment) (taken : ℕ) (left : List LinkItem) (here : List (Replica S E C)) (x : Round)
-      (run : Running m w past numbers house tells base o taken until limit start left) → given_in x ≡ [] → IsWanted (wants w past until limit (after_from w past start run.rounds)) x
+      (run : Running m w past numbers house tells base o taken until limit start left) → given_for_round x ≡ [] → IsWanted (wants w past until limit (after_from w past start run.rounds)) x
       → ServesKept m w past numbers here tells base o ends.Mem until limit start
   first_short house o taken left here x run none want =
       falls_short (x ∷ []) run.rounds o here (one_alone x run.rounds) (want, run.wanted)
@@ -543,7 +543,7 @@ serves_plain m w past numbers here tells base now end until limit first never se
 }
   where
     s : Serving
-    s = after w past first (served.group ++ served.older)
+    s = serving_after w past first (served.group ++ served.older)
 
     older : List LinkAct
     older = sooner w past first served.group served.older

@@ -9,8 +9,8 @@ use Rattle.outside.specs.declared.link.Sent.{Sent}
 use Rattle.client_port.specs.Messages.{position_reply}
 use Rattle.command_log.specs.Rows.{Row, row_at}
 use Rattle.node_loop.specs.declared.waiting.Waiters.{Waiters}
-use Rattle.node_loop.specs.Waiting.{Waiting, without}
-use Rattle.node_loop.specs.Calls.{asked_by, left_by, replies_by, reply_each}
+use Rattle.node_loop.specs.Waiting.{Waiting, without_asked}
+use Rattle.node_loop.specs.Calls.{asked_by, waiting_left_by, replies_by, reply_each}
 use Rattle.node_loop.specs.Standing.{IsWaiting}
 
 -- the first so many rows
@@ -19,18 +19,18 @@ first rows position = drop (length rows - position) rows
 
 -- those of them behind the first `count` came in
 pub record Entered (at count : ℕ) (rows : List Row) (position : ℕ) (waiting : Waiters) (before now : List Sent) (ws : Waiting) : Type 0 where
-  pub waits : IsWaiting waiting (left_by at count (first rows position) ws)
+  pub waits : IsWaiting waiting (waiting_left_by at count (first rows position) ws)
   pub replies : now ≡ before ++ replies_by at count (first rows position) ws
 
 -- ---- none came in where there are no more rows than `count`
 
-left_none : (at count : ℕ) (rows : List Row) (ws : Waiting) → length rows ≤ count → left_by at count rows ws ≡ ws
+left_none : (at count : ℕ) (rows : List Row) (ws : Waiting) → length rows ≤ count → waiting_left_by at count rows ws ≡ ws
 left_none at count [] ws few = refl
-left_none at count (row ∷ rows) ws few = cond-true (nat_lt (length rows) count) ws (without (asked_by at row) (left_by at count rows ws)) (lt-ltb (length rows) count (omega arith))
+left_none at count (row ∷ rows) ws few = cond-true (nat_lt (length rows) count) ws (without_asked (asked_by at row) (waiting_left_by at count rows ws)) (lt-ltb (length rows) count (omega arith))
 
 replies_none : (at count : ℕ) (rows : List Row) (ws : Waiting) → length rows ≤ count → replies_by at count rows ws ≡ []
 replies_none at count [] ws few = refl
-replies_none at count (row ∷ rows) ws few = ap (λ b. if b then [] else (replies_by at count rows ws ++ reply_each at (position_reply row.client row.request (length rows)) (left_by at count rows ws (asked_by at row)))) (lt-ltb (length rows) count (omega arith))
+replies_none at count (row ∷ rows) ws few = ap (λ b. if b then [] else (replies_by at count rows ws ++ reply_each at (position_reply row.client row.request (length rows)) (waiting_left_by at count rows ws (asked_by at row)))) (lt-ltb (length rows) count (omega arith))
 
 length_first : (rows : List Row) (position : ℕ) → position ≤ length rows → length (first rows position) ≡ position
 length_first rows position within = omega (arith, length-drop (length rows - position) rows)
@@ -86,21 +86,21 @@ no_row rows p within none = elim (slice_get_cases (reverse rows) p).1 [
 
 pub enters_more : (at count : ℕ) (rows : List Row) (p : ℕ) (row : Row) (waiting later : Waiters) (before now more : List Sent) (ws : Waiting)
     → Entered at count rows p waiting before now ws → count ≤ p → row_at rows p ≡ Some row
-    → IsWaiting later (without (asked_by at row) (left_by at count (first rows p) ws))
-    → more ≡ now ++ reply_each at (position_reply row.client row.request p) (left_by at count (first rows p) ws (asked_by at row))
+    → IsWaiting later (without_asked (asked_by at row) (waiting_left_by at count (first rows p) ws))
+    → more ≡ now ++ reply_each at (position_reply row.client row.request p) (waiting_left_by at count (first rows p) ws (asked_by at row))
     → Entered at count rows (p + 1) later before more ws
 enters_more at count rows p row waiting later before now more ws so_far above there waits did =
     let rest = first rows p in
     let within : p < length rows = let below = slice_get_within (reverse rows) p row there in let long = length-reverse rows in omega arith in
     let long : length rest ≡ p = length_first rows p (omega arith) in
     let past : nat_lt (length rest) count ≡ false = le-ltb (length rest) count (omega arith) in
-    let left : left_by at count (first rows (p + 1)) ws ≡ without (asked_by at row) (left_by at count rest ws) =
-    ap (λ xs. left_by at count xs ws) (first_more rows p row there) ∙ cond-false (nat_lt (length rest) count) ws (without (asked_by at row) (left_by at count rest ws)) past in
-    let said = reply_each at (position_reply row.client row.request p) (left_by at count rest ws (asked_by at row)) in
+    let left : waiting_left_by at count (first rows (p + 1)) ws ≡ without_asked (asked_by at row) (waiting_left_by at count rest ws) =
+    ap (λ xs. waiting_left_by at count xs ws) (first_more rows p row there) ∙ cond-false (nat_lt (length rest) count) ws (without_asked (asked_by at row) (waiting_left_by at count rest ws)) past in
+    let said = reply_each at (position_reply row.client row.request p) (waiting_left_by at count rest ws (asked_by at row)) in
     let replied : replies_by at count (first rows (p + 1)) ws ≡ replies_by at count rest ws ++ said =
     ap (λ xs. replies_by at count xs ws) (first_more rows p row there)
-    ∙ cond-false (nat_lt (length rest) count) [] (replies_by at count rest ws ++ reply_each at (position_reply row.client row.request (length rest)) (left_by at count rest ws (asked_by at row))) past
-    ∙ ap (λ k. replies_by at count rest ws ++ reply_each at (position_reply row.client row.request k) (left_by at count rest ws (asked_by at row))) long in
+    ∙ cond-false (nat_lt (length rest) count) [] (replies_by at count rest ws ++ reply_each at (position_reply row.client row.request (length rest)) (waiting_left_by at count rest ws (asked_by at row))) past
+    ∙ ap (λ k. replies_by at count rest ws ++ reply_each at (position_reply row.client row.request k) (waiting_left_by at count rest ws (asked_by at row))) long in
     record {
       waits = let P : Waiting → Type 0 = λ x. IsWaiting later x in subst P (sym left) waits;
       replies = did ∙ ap (λ xs. xs ++ said) so_far.replies ∙ append_assoc before (replies_by at count rest ws) said ∙ ap (λ xs. before ++ xs) (sym replied);

@@ -14,9 +14,9 @@ use Rattle.replica.specs.declared.replica.Replica.{Replica}
 use Rattle.world_model.specs.World.{Setting, states_of}
 use Rattle.world_model.specs.Stands.{IsReplica}
 use Rattle.world_model.specs.Agree.{rows_at}
-use Rattle.node_loop.specs.Serving.{is_busy, busy, here, is_done}
+use Rattle.node_loop.specs.Serving.{is_busy, busy, here, has_enough_rows}
 use Rattle.node_loop.specs.Served.{AreHere}
-use Rattle.node_loop.specs.Standing.{is_less}
+use Rattle.node_loop.specs.Standing.{is_before_other}
 use Rattle.node_loop.proofs.Heres.{as_here}
 use Rattle.node_loop.proofs.Busy.{Least, least_more, none_pass, first_passes, all_pass, all_fails, below_next}
 
@@ -116,13 +116,13 @@ is_busy_at w es i = is_busy (states_of w es i).inbox
 pub least_next : {S E C : Type 0} (m : Meaning S E C KeyRow) (w : Setting) (es : List Event) (numbers : List ℕ) (reps xs : List (Replica S E C)) (k : ℕ) (rep : Replica S E C) (least result : Option ℕ)
     → AreHere m w es numbers reps → xs ≡ reps → k < length xs → rep ≡ slice_index_or xs k rep
     → ((v : Setting) (states : ℕ → CoreState) (i : ℕ) → IsReplica m v states i rep
-    → result ≡ (if is_busy (states i).inbox && is_less (v.keys i).me least then Some (v.keys i).me else least))
+    → result ≡ (if is_busy (states i).inbox && is_before_other (v.keys i).me least then Some (v.keys i).me else least))
     → Least (is_busy_at w es) numbers k least → Least (is_busy_at w es) numbers (k + 1) result
 least_next m w es numbers reps xs k rep least result stand same within is did so_far =
     let there = read_replica m w es numbers reps xs k rep stand same within is in
     let x = slice_index_or numbers k 0 in
     let Q : Option ℕ → Type 0 = λ o. Least (is_busy_at w es) numbers (k + 1) o in
-    subst Q (sym (did w (states_of w es) x there ∙ ap (λ j. if is_busy_at w es x && is_less j least then Some j else least) (own_number m w es numbers reps x stand there.correct)))
+    subst Q (sym (did w (states_of w es) x there ∙ ap (λ j. if is_busy_at w es x && is_before_other j least then Some j else least) (own_number m w es numbers reps x stand there.correct)))
     (least_more (is_busy_at w es) numbers k least so_far)
 
 pub least_is : {S E C : Type 0} (m : Meaning S E C KeyRow) (w : Setting) (es : List Event) (numbers : List ℕ) (reps xs : List (Replica S E C)) (k : ℕ) (least : Option ℕ)
@@ -159,7 +159,7 @@ is_asked until some = ap not (ne_eqb until 0 some)
 
 pub all_have : {S E C : Type 0} (m : Meaning S E C KeyRow) (w : Setting) (es : List Event) (numbers : List ℕ) (reps xs : List (Replica S E C)) (until k : ℕ)
     → AreHere m w es numbers reps → xs ≡ reps → length xs ≤ k → (until ≡ 0 → ⊥) → ((j : ℕ) → j < k → has_rows_at w until es (slice_index_or numbers j 0) ≡ true)
-    → true ≡ is_done w until es
+    → true ≡ has_enough_rows w until es
 all_have m w es numbers reps xs until k stand same past some all =
     let many = stand.many in
     let long = ap length same in
@@ -179,7 +179,7 @@ rows_read m w es numbers reps xs k until rep has stand same within is shows =
 
 pub one_lacks : {S E C : Type 0} (m : Meaning S E C KeyRow) (w : Setting) (es : List Event) (numbers : List ℕ) (reps xs : List (Replica S E C)) (k until : ℕ) (rep : Replica S E C)
     → AreHere m w es numbers reps → xs ≡ reps → k < length xs → rep ≡ slice_index_or xs k rep → (until ≡ 0 → ⊥) → has_rows_at w until es (slice_index_or numbers k 0) ≡ false
-    → false ≡ is_done w until es
+    → false ≡ has_enough_rows w until es
 one_lacks m w es numbers reps xs k until rep stand same within is some lacks =
     let there = read_replica m w es numbers reps xs k rep stand same within is in
     let i = slice_index_or numbers k 0 in

@@ -14,7 +14,7 @@ use Rattle.outside.specs.declared.link.FaultCounts.{FaultCounts}
 use Rattle.outside.specs.declared.link.LinkFault.{LinkFault}
 use Rattle.outside.specs.declared.link.LinkFault.TheVariants as link_faults
 use Rattle.node_loop.specs.declared.end.Fault.{Fault}
-use Rattle.node_loop.specs.Outs.{text_of, Outs, Tells, Agrees, HasCauses, AllWritten, InOrder, Stops, Fails}
+use Rattle.node_loop.specs.Outs.{events_text, Outs, Tells, Agrees, HasCauses, AllWritten, InOrder, StopsPartway, IsFaultOfLink}
 
 pub same_failed : {a b : FaultCounts} → a ≡ b → a.failed ≡ b.failed
 same_failed e = ap (λ (n : FaultCounts). n.failed) e
@@ -24,32 +24,32 @@ with_link o told faults = record o { told = told; link_faults = faults }
 
 -- ---- events, one after the other, the oldest first
 
-text_turned : (es : List Event) → text_of (reverse es) ≡ flat_map event_text es
+text_turned : (es : List Event) → events_text (reverse es) ≡ flat_map event_text es
 text_turned es = ap (flat_map event_text) (reverse-reverse es)
 
 text_from : (es : List Event) (i : ℕ) (e : Event) → i < length es → e ≡ get_or es i e
-    → text_of (reverse es) ≡ text_of (reverse (take i es)) ++ (event_text e ++ flat_map event_text (drop (i + 1) es))
+    → events_text (reverse es) ≡ events_text (reverse (take i es)) ++ (event_text e ++ flat_map event_text (drop (i + 1) es))
 text_from es i e lt is =
     text_turned es ∙ (ap (flat_map event_text) (sym (take-append-drop i es)) ∙ flat_map-append event_text (take i es) (drop i es))
     ∙ ap₂ (λ (a b : List ℕ). a ++ b) (sym (text_turned (take i es)))
     (ap (flat_map event_text) (drop_more es i e lt) ∙ ap (λ (x : Event). event_text x ++ flat_map event_text (drop (i + 1) es)) (sym is))
 
 -- an event more was written
-pub text_more : (es : List Event) (i : ℕ) (e : Event) (old mid new : List ℕ) → i < length es → e ≡ get_or es i e → mid ≡ old ++ text_of (reverse (take i es)) → new ≡ mid ++ event_text e
-    → new ≡ old ++ text_of (reverse (take (i + 1) es))
+pub text_more : (es : List Event) (i : ℕ) (e : Event) (old mid new : List ℕ) → i < length es → e ≡ get_or es i e → mid ≡ old ++ events_text (reverse (take i es)) → new ≡ mid ++ event_text e
+    → new ≡ old ++ events_text (reverse (take (i + 1) es))
 text_more es i e old mid new lt is before wrote =
-    let a = text_of (reverse (take i es)) in
-    let more : a ++ event_text e ≡ text_of (reverse (take (i + 1) es)) =
+    let a = events_text (reverse (take i es)) in
+    let more : a ++ event_text e ≡ events_text (reverse (take (i + 1) es)) =
     sym (text_turned (take (i + 1) es)
     ∙ (ap (flat_map event_text) (take_more es i e lt) ∙ flat_map-append event_text (take i es) (get_or es i e ∷ []))
     ∙ ap₂ (λ (x y : List ℕ). x ++ y) (sym (text_turned (take i es))) (append-nil (event_text (get_or es i e)) ∙ ap event_text (sym is))) in
     wrote ∙ (ap (λ (l : List ℕ). l ++ event_text e) before ∙ (append_assoc old a (event_text e) ∙ ap (λ (l : List ℕ). old ++ l) more))
 
 -- or a front of it
-pub text_front : (es : List Event) (i : ℕ) (e : Event) (old mid new : List ℕ) → i < length es → e ≡ get_or es i e → mid ≡ old ++ text_of (reverse (take i es)) → TookFront mid new (event_text e)
-    → TookFront old new (text_of (reverse es))
+pub text_front : (es : List Event) (i : ℕ) (e : Event) (old mid new : List ℕ) → i < length es → e ≡ get_or es i e → mid ≡ old ++ events_text (reverse (take i es)) → TookFront mid new (event_text e)
+    → TookFront old new (events_text (reverse es))
 text_front es i e old mid new lt is before front =
-    front_then old mid new (text_of (reverse (take i es))) (event_text e) (flat_map event_text (drop (i + 1) es)) (text_of (reverse es)) (text_from es i e lt is) before front
+    front_then old mid new (events_text (reverse (take i es))) (event_text e) (flat_map event_text (drop (i + 1) es)) (events_text (reverse es)) (text_from es i e lt is) before front
 
 -- ---- the link
 
@@ -66,22 +66,22 @@ link_goes tells base o events acts news told count agrees did = record {
 
 -- ---- the link wasn't given all
 
-pub has_cause : (A : Type 0) (base o : Outs) (events : List Event) (acts told : List LinkAct) (tells : Tells) (count : FaultCounts) (x : LinkFault) (fault : Fault) → Fails x fault
+pub has_cause : (A : Type 0) (base o : Outs) (events : List Event) (acts told : List LinkAct) (tells : Tells) (count : FaultCounts) (x : LinkFault) (fault : Fault) → IsFaultOfLink x fault
     → Agrees tells base o events acts → count ≡ faults_after {A = A} o.link_faults (Err x) → HasCauses base (with_link o told count) fault
 has_cause A base o events acts told tells count link_faults.Failed fault is agrees counts = rw is (agrees.tape_stands, counts ∙ ap failed_once agrees.link_stands)
 has_cause A base o events acts told tells count link_faults.Mem fault is agrees counts = rw is (agrees.tape_stands, inr (counts ∙ ap short_once agrees.link_stands))
 
-in_order : (tells : Tells) (base o : Outs) (told : List LinkAct) (count : FaultCounts) (events : List Event) (sooner : List LinkAct) (x : LinkFault) (fault : Fault) → Fails x fault
+in_order : (tells : Tells) (base o : Outs) (told : List LinkAct) (count : FaultCounts) (events : List Event) (sooner : List LinkAct) (x : LinkFault) (fault : Fault) → IsFaultOfLink x fault
     → AllWritten tells base o events → InOrder tells base (with_link o told count) fault events sooner
 in_order tells base o told count events sooner link_faults.Failed fault is written = rw is written
 in_order tells base o told count events sooner link_faults.Mem fault is written = rw is (inl written)
 
 -- of what is new some was told before, and then a part of the rest
 pub link_stops : (tells : Tells) (base o : Outs) (events : List Event) (sooner done news all told : List LinkAct) (count : FaultCounts) (x : LinkFault) (fault : Fault)
-    → Fails x fault → all ≡ news ++ done → Agrees tells base o events (done ++ sooner) → LinkDid tells.link news o.told told o.link_faults count (Err x)
-    → Stops tells base (with_link o told count) fault events sooner all
+    → IsFaultOfLink x fault → all ≡ news ++ done → Agrees tells base o events (done ++ sooner) → LinkDid tells.link news o.told told o.link_faults count (Err x)
+    → StopsPartway tells base (with_link o told count) fault events sooner all
 link_stops tells base o events sooner done news all told count x fault is both agrees did = record {
-  taken = λ t. all_written base.taken o.taken (text_of events) (agrees.taken t);
+  taken = λ t. all_written base.taken o.taken (events_text events) (agrees.taken t);
   told = λ t. rw both (back_then (sooner ++ base.told) o.told told done news (agrees.told t ∙ append_assoc done sooner base.told) (did.back t));
   order = in_order tells base o told count events sooner x fault is agrees.taken;
   tape_later = omega (arith, agrees.tape_stands);

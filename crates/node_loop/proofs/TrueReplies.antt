@@ -9,7 +9,7 @@ use Rattle.outside.specs.declared.link.LinkItem.{LinkItem}
 use Rattle.outside.specs.declared.link.LinkItem.TheVariants as items
 use Rattle.outside.specs.declared.link.Sent.{Sent}
 use Rattle.outside.specs.Links.{LinkAct, Starts, Gives, Sends, Replies, replies_in}
-use Rattle.client_port.specs.Messages.{Request, parts_of, request_in, position_reply, refusal_reply}
+use Rattle.client_port.specs.Messages.{Request, request_parts, request_in, position_reply, refusal_reply}
 use Rattle.command_log.specs.Rows.{Row, position_of}
 use Rattle.layer_api.specs.Service.{IsPart}
 use Rattle.world_model.specs.World.{Setting, seen_of}
@@ -23,8 +23,8 @@ use Rattle.node_loop.specs.Deeds.{Deed, Came, Made, Resent, Acked, Wished, Repli
 use Rattle.node_loop.specs.Resending.{Brought}
 use Rattle.node_loop.proofs.FramesSent.{IsBesides, item_besides}
 use Rattle.node_loop.specs.Waiting.{Waiting, with_waiter}
-use Rattle.node_loop.specs.Calls.{Outcome, reply, reply_each, asked_by, left_by, replies_by, called, asked_in, refusal_in, submitted, submitted_so, silent, is_waited_for, asked_so, asks_so, asks, if_here, item_does, first_does}
-use Rattle.node_loop.specs.Serving.{Serving, so_far, as_sent, made_by, sent_by, onto, with_outcome, Round, Began, Turned, Reminded, Took, began, gave, brought, after_from}
+use Rattle.node_loop.specs.Calls.{Outcome, reply, reply_each, asked_by, waiting_left_by, replies_by, event_called, asked_in, refusal_in, submitted, submitted_so, silent, is_waited_for, asked_so, asks_so, asks, if_here, item_does, first_does}
+use Rattle.node_loop.specs.Serving.{Serving, so_far, as_sent, frames_made_by, sent_by, onto, with_outcome, Round, Began, Turned, Reminded, Took, began, gave, brought, after_from}
 use Rattle.node_loop.specs.Laws.{IsTrueReply}
 use Rattle.node_loop.proofs.Logs.{rows_are_once, position_in_part}
 
@@ -65,7 +65,7 @@ no_replies [] = refl
 no_replies (f ∷ fs) = rw (reverse_cons (as_sent f) (map as_sent fs), replies_more (reverse (map as_sent fs)) (as_sent f ∷ []), no_replies fs) refl
 
 none_sent : (w : Setting) (es : List Event) (o : Option Event) → replies_in (reverse (sent_by w es o)) ≡ []
-none_sent w es o = no_replies (made_by w es o)
+none_sent w es o = no_replies (frames_made_by w es o)
 
 besides_none : (keys : ℕ → KeyRow) (more : List Deed) → AllByRecursion IsBesides more → replies_in (reverse (map (act_of keys) more)) ≡ []
 besides_none keys [] all = refl
@@ -125,14 +125,14 @@ rows_true w es at count ws [] part = tt
 rows_true w es at count ws (row ∷ rows) part = here (nat_lt (length rows) count) (rows_true w es at count ws rows (tail_part row rows (rows_at w es at) part))
   where
     here : (b : Bool) → AreTrue w es (replies_by at count rows ws) → AreTrue w es (if b then [] else replies_by at count rows ws
-        ++ reply_each at (position_reply row.client row.request (length rows)) (left_by at count rows ws (asked_by at row)))
+        ++ reply_each at (position_reply row.client row.request (length rows)) (waiting_left_by at count rows ws (asked_by at row)))
     here true below = tt
     here false below =
-        all_append (IsTrueReply w es) (replies_by at count rows ws) (reply_each at (position_reply row.client row.request (length rows)) (left_by at count rows ws (asked_by at row)))
+        all_append (IsTrueReply w es) (replies_by at count rows ws) (reply_each at (position_reply row.client row.request (length rows)) (waiting_left_by at count rows ws (asked_by at row)))
         below
         (each_true w es at row.client row.request (length rows)
         (position_in_part (row ∷ rows) (rows_at w es at) part (rows_are_once w es at) row.client row.request (length rows) (row_stands row rows))
-        (left_by at count rows ws (asked_by at row)))
+        (waiting_left_by at count rows ws (asked_by at row)))
 
 -- ---- outcomes
 
@@ -140,7 +140,7 @@ rows_true w es at count ws (row ∷ rows) part = here (nat_lt (length rows) coun
 abbrev IsTrueOutcome : Setting → List Event → Outcome → Type 0
 IsTrueOutcome w es did = AreTrue w (onto did.event es) did.replies
 
-called_true : (w : Setting) (es : List Event) (at : ℕ) (e : Event) (ws : Waiting) → IsTrueOutcome w es (called w es at e ws)
+called_true : (w : Setting) (es : List Event) (at : ℕ) (e : Event) (ws : Waiting) → IsTrueOutcome w es (event_called w es at e ws)
 called_true w es at e ws = rows_true w (e ∷ es) at (length (rows_at w es at)) ws (rows_at w (e ∷ es) at) ([], refl)
 
 submitted_true : (w : Setting) (es : List Event) (at : ℕ) (conn : Option ℕ) (bytes : List ℕ) (ws : Waiting) (code : Option ℕ)
@@ -149,7 +149,7 @@ submitted_true w es at conn bytes ws None = called_true w es at (events.Input at
 submitted_true w es at conn bytes ws (Some code) =
     let now = events.Input at bytes ∷ es in
     let a = asked_in at bytes in
-    all_append (IsTrueReply w now) (called w es at (events.Input at bytes) ws).replies (reply at (refusal_reply a.client a.request code) conn)
+    all_append (IsTrueReply w now) (event_called w es at (events.Input at bytes) ws).replies (reply at (refusal_reply a.client a.request code) conn)
     (called_true w es at (events.Input at bytes) ws) (refusal_true w now at a.client a.request code conn)
 
 asked_true : (w : Setting) (es : List Event) (at : ℕ) (conn : Option ℕ) (bytes : List ℕ) (ws : Waiting) (place : Option ℕ)
@@ -172,8 +172,8 @@ request_asked at bytes r is = go (nat_le 8 (length bytes)) (nat_le (length bytes
     same_parts : (x y : Request) → Some x ≡ Some y → x ≡ y
     same_parts x y e = cc
 
-    go : (a b : Bool) → (if a && b then Some (parts_of bytes) else None) ≡ Some r → (if a then asks_for at (parts_of bytes) else record { at = at; client = 0; request = 0 }) ≡ asks_for at r
-    go true true is = ap (asks_for at) (same_parts (parts_of bytes) r is)
+    go : (a b : Bool) → (if a && b then Some (request_parts bytes) else None) ≡ Some r → (if a then asks_for at (request_parts bytes) else record { at = at; client = 0; request = 0 }) ≡ asks_for at r
+    go true true is = ap (asks_for at) (same_parts (request_parts bytes) r is)
     go true false is = absurd (cc)
     go false b is = absurd (cc)
 
@@ -192,13 +192,13 @@ here_true w es at did ws holds = here (w.is_correct at)
     here false = tt
 
 note_true : (w : Setting) (es : List Event) (to : ℕ) (bytes : List ℕ) (ws : Waiting) (b : Bool)
-    → IsTrueOutcome w es (if b then silent [] ws else called w es to (events.Frame to bytes) ws)
+    → IsTrueOutcome w es (if b then silent [] ws else event_called w es to (events.Frame to bytes) ws)
 note_true w es to bytes ws true = tt
 note_true w es to bytes ws false = called_true w es to (events.Frame to bytes) ws
 
 item_true : (w : Setting) (es : List Event) (item : LinkItem) (ws : Waiting) → IsTrueOutcome w es (item_does w es item ws)
 item_true w es (items.Frame to bytes) ws =
-    here_true w es to (if is_note bytes then silent [] ws else called w es to (events.Frame to bytes) ws) ws (note_true w es to bytes ws (is_note bytes))
+    here_true w es to (if is_note bytes then silent [] ws else event_called w es to (events.Frame to bytes) ws) ws (note_true w es to bytes ws (is_note bytes))
 item_true w es (items.Client at conn bytes) ws =
     here_true w es at (asks w es at (Some conn) bytes ws) ws (asks_true w es at (Some conn) bytes ws (request_in bytes) refl)
 item_true w es (items.Reply from bytes) ws = tt
@@ -255,11 +255,11 @@ module _ (w : Setting) (grow : (more es : List Event) (i : ℕ) → IsPart (rows
       outcome_true past (first_does w (so_far past s) item s.waiting) (brought w past (Began item) s) (began s) tt (replies_true past start rounds all) (first_true w (so_far past s) item s.waiting)
   replies_true past start (Turned i ∷ rounds) all =
       let s = after_from w past start rounds in
-      outcome_true past (called w (so_far past s) i (events.Turn i) s.waiting) (brought w past (Turned i) s) s tt (replies_true past start rounds all) (called_true w (so_far past s) i (events.Turn i) s.waiting)
+      outcome_true past (event_called w (so_far past s) i (events.Turn i) s.waiting) (brought w past (Turned i) s) s tt (replies_true past start rounds all) (called_true w (so_far past s) i (events.Turn i) s.waiting)
   replies_true past start (Reminded i j ∷ rounds) all =
       let s = after_from w past start rounds in
       outcome_true past (silent [] s.waiting) (brought w past (Reminded i j) s) s (tt, tt) (replies_true past start rounds all) tt
   replies_true past start (Took item ∷ rounds) all =
       let s = after_from w past start rounds in
       outcome_true past (item_does w (so_far past s) item s.waiting) (brought w past (Took item) s) (gave item s)
-      (item_besides w (so_far past s) item (keep_all (made_by w (so_far past s) (item_does w (so_far past s) item s.waiting).event) s.peers)) (replies_true past start rounds all) (item_true w (so_far past s) item s.waiting)
+      (item_besides w (so_far past s) item (keep_all (frames_made_by w (so_far past s) (item_does w (so_far past s) item s.waiting).event) s.peers)) (replies_true past start rounds all) (item_true w (so_far past s) item s.waiting)

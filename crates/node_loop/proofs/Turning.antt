@@ -6,8 +6,8 @@ use Rattle.ritas_base.specs.History.{replicas}
 use Rattle.world_model.specs.World.{Setting}
 use Rattle.node_loop.specs.declared.peers.Pair.{Pair}
 use Rattle.node_loop.specs.Peers.{Peers, is_due_of}
-use Rattle.node_loop.specs.Resending.{mark_at, due_at, due}
-use Rattle.node_loop.specs.Serving.{Finishes, Turns, Halts, Reminds, here, busy, is_done, turn_or, remind_or, wants_of}
+use Rattle.node_loop.specs.Resending.{mark_at, peers_due, due}
+use Rattle.node_loop.specs.Serving.{Finishes, Turns, Halts, Reminds, here, busy, has_enough_rows, turn_or, remind_or, wants_of}
 
 abbrev AreCorrect : Setting → List ℕ → Type 0
 AreCorrect w is = AllByRecursion (λ i. w.is_correct i ≡ true) is
@@ -52,11 +52,11 @@ both_peers : (w : Setting) (xs ys : List Pair) → AllByRecursion (IsPeerOf w) x
 both_peers w [] ys first second = second
 both_peers w (x ∷ xs) ys first second = (first.0, both_peers w xs ys first.1 second)
 
-due_peers : (w : Setting) (es : List Event) (p : Peers) (is : List ℕ) → AreCorrect w is → AllByRecursion (IsPeerOf w) (flat_map (due_at w es p) is)
+due_peers : (w : Setting) (es : List Event) (p : Peers) (is : List ℕ) → AreCorrect w is → AllByRecursion (IsPeerOf w) (flat_map (peers_due w es p) is)
 due_peers w es p [] right = tt
 due_peers w es p (i ∷ is) right =
     let below = some_pass (λ j. j < w.numbers.n) (λ j. is_due_of (p.marks i j) (mark_at w es i j)) (replicas w.numbers.n) (all_below 0 w.numbers.n w.numbers.n (omega arith)) in
-    both_peers w (due_at w es p i) (flat_map (due_at w es p) is) (pairs_of w i _ right.0 below) (due_peers w es p is right.1)
+    both_peers w (peers_due w es p i) (flat_map (peers_due w es p) is) (pairs_of w i _ right.0 below) (due_peers w es p is right.1)
 
 -- ---- what is wanted
 
@@ -68,7 +68,7 @@ turn_correct w [] false (pair ∷ pairs) at all e = absurd (cc)
 turn_correct w (i ∷ is) ask pairs at all e = let same : i ≡ at = cc in subst (λ (k : ℕ). w.is_correct k ≡ true) same all.0
 
 pub turns_correct : (w : Setting) (until limit : ℕ) (es : List Event) (taken : ℕ) (p : Peers) (at : ℕ) → wants_of w until limit es taken p ≡ Turns at → w.is_correct at ≡ true
-turns_correct w until limit es taken p at = go (is_done w until es)
+turns_correct w until limit es taken p at = go (has_enough_rows w until es)
   where
     go : (b : Bool) → (if b then Finishes else turn_or (busy w es) (if nat_le limit taken then Halts else remind_or (due w es (here w) p))) ≡ Turns at → w.is_correct at ≡ true
     go true e = absurd (cc)
@@ -87,7 +87,7 @@ remind_peer w (k ∷ ks) ask pairs i j all e = absurd (cc)
 -- a peer of a replica that is to be asked is one of its peers, and the replica is here
 pub reminds_peer : (w : Setting) (until limit : ℕ) (es : List Event) (taken : ℕ) (p : Peers) (i j : ℕ) → wants_of w until limit es taken p ≡ Reminds i j
     → (w.is_correct i ≡ true) × (j < w.numbers.n)
-reminds_peer w until limit es taken p i j = go (is_done w until es)
+reminds_peer w until limit es taken p i j = go (has_enough_rows w until es)
   where
     go : (b : Bool) → (if b then Finishes else turn_or (busy w es) (if nat_le limit taken then Halts else remind_or (due w es (here w) p))) ≡ Reminds i j
         → (w.is_correct i ≡ true) × (j < w.numbers.n)

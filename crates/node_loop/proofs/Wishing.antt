@@ -29,10 +29,10 @@ use Rattle.node_loop.specs.Waiting.{Waiting, nobody}
 use Rattle.node_loop.specs.Peers.{Peers, no_peers, is_pair, with_mark}
 use Rattle.node_loop.specs.PeersStanding.{IsKeeper}
 use Rattle.node_loop.specs.Deeds.{sends}
-use Rattle.node_loop.specs.Resending.{due_at, due, asks_for_more}
+use Rattle.node_loop.specs.Resending.{peers_due, due, asks_for_more}
 use Rattle.node_loop.specs.Serving.{here}
 use Rattle.node_loop.specs.Served.{AreHere}
-use Rattle.node_loop.specs.Standing.{HouseStands, IsWaiting, IsMore, is_less}
+use Rattle.node_loop.specs.Standing.{HouseStands, IsWaiting, IsMore, is_before_other}
 use Rattle.node_loop.proofs.Busy.{Least, least_more}
 use Rattle.node_loop.proofs.Keepers.{pair_of}
 use Rattle.node_loop.proofs.Heres.{as_here}
@@ -63,15 +63,15 @@ in_house m w es numbers house ws p ks place at stands same number past =
 
 -- whether it has one
 abbrev pub wishes : Setting → List Event → Peers → ℕ → Bool
-wishes w es p i = nat_lt 0 (length (due_at w es p i))
+wishes w es p i = nat_lt 0 (length (peers_due w es p i))
 
 wish_read : (at : ℕ) (xs : List Pair) (o : Option ℕ) → MatchOption o (xs ≡ []) (λ j. (more : List Pair) × (xs ≡ record { at = at; peer = j } ∷ more)) → is_some o ≡ nat_lt 0 (length xs)
 wish_read at xs None is = sym (ap (λ (ys : List Pair). nat_lt 0 (length ys)) is)
 wish_read at xs (Some j) is = sym (ap (λ (ys : List Pair). nat_lt 0 (length ys)) is.1 ∙ lt-ltb 0 (length (pair_of at j ∷ is.0)) (omega arith))
 
 pub lesser_is : (at number : ℕ) (xs : List Pair) (o least : Option ℕ) (some less : Bool) → MatchOption o (xs ≡ []) (λ j. (more : List Pair) × (xs ≡ record { at = at; peer = j } ∷ more))
-    → some ≡ is_some o → less ≡ is_less number least
-    → (if some && less then Some number else least) ≡ (if nat_lt 0 (length xs) && is_less number least then Some number else least)
+    → some ≡ is_some o → less ≡ is_before_other number least
+    → (if some && less then Some number else least) ≡ (if nat_lt 0 (length xs) && is_before_other number least then Some number else least)
 lesser_is at number xs o least some less is some_is less_is =
     ap₂ (λ (a b : Bool). if a && b then Some number else least) (some_is ∙ wish_read at xs o is) less_is
 
@@ -79,7 +79,7 @@ pub least_wishing_next : {S E C : Type 0} (m : Meaning S E C KeyRow) (w : Settin
     (number : ℕ) (least result : Option ℕ)
     → AreHere m w es numbers reps → xs ≡ reps → k < length xs → rep ≡ slice_index_or xs k rep
     → ((v : Setting) (states : ℕ → CoreState) (i : ℕ) → IsReplica m v states i rep → number ≡ (v.keys i).me)
-    → ((at : ℕ) → slice_get numbers k ≡ Some at → result ≡ (if wishes w es p at && is_less number least then Some number else least))
+    → ((at : ℕ) → slice_get numbers k ≡ Some at → result ≡ (if wishes w es p at && is_before_other number least then Some number else least))
     → Least (wishes w es p) numbers k least → Least (wishes w es p) numbers (k + 1) result
 least_wishing_next m w es numbers reps xs k rep p number least result stand same within is has did so_far =
     let x = slice_index_or numbers k 0 in
@@ -88,7 +88,7 @@ least_wishing_next m w es numbers reps xs k rep p number least result stand same
     let long = ap length same in
     let placed : slice_get numbers k ≡ Some x = slice_get-get_or numbers k 0 (omega arith) in
     let Q : Option ℕ → Type 0 = λ o. Least (wishes w es p) numbers (k + 1) o in
-    subst Q (sym (did x placed ∙ ap (λ (j : ℕ). if wishes w es p x && is_less j least then Some j else least) mine))
+    subst Q (sym (did x placed ∙ ap (λ (j : ℕ). if wishes w es p x && is_before_other j least then Some j else least) mine))
     (least_more (wishes w es p) numbers k least so_far)
 
 -- ---- all that are to be asked
@@ -126,22 +126,22 @@ first_has p f a (suc n) i from below passes none = elim (cases_eq a i) [
 pub least_wishing_is : {S E C : Type 0} (m : Meaning S E C KeyRow) (w : Setting) (es : List Event) (numbers : List ℕ) (reps xs : List (Replica S E C)) (k : ℕ) (p : Peers) (least : Option ℕ)
     → AreHere m w es numbers reps → xs ≡ reps → k ≤ length xs → length xs ≤ k → Least (wishes w es p) numbers k least
     → MatchOption least (due w es (here w) p ≡ []) (λ i. (more : List Pair) × (w.is_correct i ≡ true)
-    × (wishes w es p i ≡ true) × (due w es (here w) p ≡ due_at w es p i ++ more))
+    × (wishes w es p i ≡ true) × (due w es (here w) p ≡ peers_due w es p i ++ more))
 least_wishing_is m w es numbers reps xs k p None stand same below above none =
-    all_empty w.is_correct (due_at w es p) 0 w.numbers.n (λ j from under right.
+    all_empty w.is_correct (peers_due w es p) 0 w.numbers.n (λ j from under right.
     let many = stand.many in
     let long = ap length same in
     let found = place_in m w es numbers reps j stand right in
     let within = found.within in
-    none_from (due_at w es p j) (ap (wishes w es p) (sym found.is) ∙ none found.place (omega arith)))
+    none_from (peers_due w es p j) (ap (wishes w es p) (sym found.is) ∙ none found.place (omega arith)))
 least_wishing_is m w es numbers reps xs k p (Some i) stand same below above is =
     let many = stand.many in
     let long = ap length same in
     let place_within = is.within in
     let here_it_is = at_place m w es numbers reps is.place stand (omega arith) in
     let right : w.is_correct i ≡ true = ap w.is_correct (sym is.is) ∙ here_it_is.is.correct in
-    let found = first_has w.is_correct (due_at w es p) 0 w.numbers.n i (omega arith) (let within = stand.kind.within i right in omega arith) right (λ j from before correct.
-    none_from (due_at w es p j) (false_from_ne_true (wishes w es p j) (λ yes.
+    let found = first_has w.is_correct (peers_due w es p) 0 w.numbers.n i (omega arith) (let within = stand.kind.within i right in omega arith) right (λ j from before correct.
+    none_from (peers_due w es p j) (false_from_ne_true (wishes w es p j) (λ yes.
     let found = place_in m w es numbers reps j stand correct in
     let within = found.within in
     let at_least = is.no_less found.place (omega arith) (ap (wishes w es p) found.is ∙ yes) in
@@ -150,7 +150,7 @@ least_wishing_is m w es numbers reps xs k p (Some i) stand same below above is =
     (found.0, right, is.passes, found.1)
 
 -- the first pair of all
-pub due_first : (w : Setting) (es : List Event) (p : Peers) (i j : ℕ) (mine more : List Pair) → due_at w es p i ≡ record { at = i; peer = j } ∷ mine → due w es (here w) p ≡ due_at w es p i ++ more
+pub due_first : (w : Setting) (es : List Event) (p : Peers) (i j : ℕ) (mine more : List Pair) → peers_due w es p i ≡ record { at = i; peer = j } ∷ mine → due w es (here w) p ≡ peers_due w es p i ++ more
     → (rest : List Pair) × (due w es (here w) p ≡ record { at = i; peer = j } ∷ rest)
 due_first w es p i j mine more first all = (mine ++ more, all ∙ ap (λ (xs : List Pair). xs ++ more) first)
 

@@ -27,8 +27,8 @@ moment_of taken tape_faults told link_faults stands fails out =
     moment (outs_of taken tape_faults told link_faults out.tape.now out.link.now) (stands out.archive.now out.disk.now) (fails out.archive.now out.disk.now)
 
 -- they are of the same link, tape, archive and disk
-abbrev pub IsSame : {L K A D : Type 0} → Outlets L K A D → Outlets L K A D → Type 0
-IsSame old new =
+abbrev pub AreSameOutlets : {L K A D : Type 0} → Outlets L K A D → Outlets L K A D → Type 0
+AreSameOutlets old new =
     (new.link.ghost_name ≡ old.link.ghost_name) × (new.tape.ghost_name ≡ old.tape.ghost_name) × (new.archive.ghost_name ≡ old.archive.ghost_name)
     × (new.disk.ghost_name ≡ old.disk.ghost_name)
 
@@ -40,20 +40,20 @@ fault_in archive.Mem = faults.Mem
 
 -- What it stands for at a fault, of these kept events, which are those of the newest group and the older ones: all were kept before the link told
 -- anything of the group, which is nothing (`none`) unless all were.
-abbrev pub LeftAt : Moment → Type 0 → List Event → List Event → List Event → Fault → Type 0
-LeftAt now none kept group older faults.Link = now.stands kept
-LeftAt now none kept group older faults.Tape = now.stands older
-LeftAt now none kept group older faults.Disk = now.fails archive.Disk group older
-LeftAt now none kept group older (faults.Full x) = now.fails (archive.Full x) group older
-LeftAt now none kept group older faults.Mem = now.stands kept ⊎ (none × (now.stands older ⊎ now.fails archive.Mem group older))
+abbrev pub ArchiveLeftAt : Moment → Type 0 → List Event → List Event → List Event → Fault → Type 0
+ArchiveLeftAt now none kept group older faults.Link = now.stands kept
+ArchiveLeftAt now none kept group older faults.Tape = now.stands older
+ArchiveLeftAt now none kept group older faults.Disk = now.fails archive.Disk group older
+ArchiveLeftAt now none kept group older (faults.Full x) = now.fails (archive.Full x) group older
+ArchiveLeftAt now none kept group older faults.Mem = now.stands kept ⊎ (none × (now.stands older ⊎ now.fails archive.Mem group older))
 
 -- the same at an end
 abbrev pub KeptAt : Moment → Type 0 → List Event → List Event → List Event → ServeEnd → Type 0
 KeptAt now none kept group older ends.Done = now.stands kept
 KeptAt now none kept group older ends.Limit = now.stands kept
 KeptAt now none kept group older ends.End = now.stands kept
-KeptAt now none kept group older ends.LinkFault = LeftAt now none kept group older faults.Link
-KeptAt now none kept group older ends.TapeFault = LeftAt now none kept group older faults.Tape
-KeptAt now none kept group older ends.Mem = LeftAt now none kept group older faults.Mem
-KeptAt now none kept group older ends.DiskFault = LeftAt now none kept group older faults.Disk
-KeptAt now none kept group older (ends.JournalFull x) = LeftAt now none kept group older (faults.Full x)
+KeptAt now none kept group older ends.LinkFault = ArchiveLeftAt now none kept group older faults.Link
+KeptAt now none kept group older ends.TapeFault = ArchiveLeftAt now none kept group older faults.Tape
+KeptAt now none kept group older ends.Mem = ArchiveLeftAt now none kept group older faults.Mem
+KeptAt now none kept group older ends.DiskFault = ArchiveLeftAt now none kept group older faults.Disk
+KeptAt now none kept group older (ends.JournalFull x) = ArchiveLeftAt now none kept group older (faults.Full x)

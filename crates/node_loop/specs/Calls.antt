@@ -7,7 +7,7 @@ use Rattle.outside.specs.declared.link.LinkItem.{LinkItem}
 use Rattle.outside.specs.declared.link.LinkItem.TheVariants as items
 use Rattle.outside.specs.declared.link.Sent.{Sent}
 use Rattle.keyed_channel.specs.Notes.{is_note}
-use Rattle.client_port.specs.Messages.{Request, number_at, request_in, position_reply, refusal_reply}
+use Rattle.client_port.specs.Messages.{Request, four_bytes_at, request_in, position_reply, refusal_reply}
 use Rattle.command_log.specs.Rows.{Row, position_of}
 use Rattle.ritas_core.specs.declared.fault.CoreFault.{CoreFault}
 use Rattle.ritas_core.specs.declared.fault.CoreFault.TheVariants as faults
@@ -17,7 +17,7 @@ use Rattle.world_model.specs.declared.seen.Seen.TheVariants as seen
 use Rattle.world_model.specs.World.{Setting, seen_of}
 use Rattle.world_model.specs.Agree.{rows_at}
 use Rattle.node_loop.specs.declared.waiting.Asked.{Asked}
-use Rattle.node_loop.specs.Waiting.{Waiting, with_waiter, without, left_off}
+use Rattle.node_loop.specs.Waiting.{Waiting, with_waiter, without_asked, left_off}
 
 -- what comes of an item or a turn: the event that it is, if it is one, the replies, and who waits then
 pub record Outcome : Type 0 where
@@ -42,25 +42,25 @@ asked_by at row = record { at = at; client = row.client; request = row.request }
 
 -- The rows of a log behind the first so many come in: nobody waits for them any more. Rows have the newest first, and the one in front
 -- of others stands at the position of their number.
-abbrev pub left_by : ℕ → ℕ → List Row → Waiting → Waiting
-left_by at count [] ws = ws
-left_by at count (row ∷ rows) ws = if nat_lt (length rows) count then ws else without (asked_by at row) (left_by at count rows ws)
+abbrev pub waiting_left_by : ℕ → ℕ → List Row → Waiting → Waiting
+waiting_left_by at count [] ws = ws
+waiting_left_by at count (row ∷ rows) ws = if nat_lt (length rows) count then ws else without_asked (asked_by at row) (waiting_left_by at count rows ws)
 
 -- and all that waited for them are replied their positions
 abbrev pub replies_by : ℕ → ℕ → List Row → Waiting → List Sent
 replies_by at count [] ws = []
 replies_by at count (row ∷ rows) ws = if nat_lt (length rows) count then []
     else replies_by at count rows ws
-    ++ reply_each at (position_reply row.client row.request (length rows)) (left_by at count rows ws (asked_by at row))
+    ++ reply_each at (position_reply row.client row.request (length rows)) (waiting_left_by at count rows ws (asked_by at row))
 
 -- ---- one call on a replica
 
 -- an event at a replica: the rows that come in by it are replied to
-abbrev pub called : Setting → List Event → ℕ → Event → Waiting → Outcome
-called w es at e ws = let count = length (rows_at w es at) in let rows = rows_at w (e ∷ es) at in record {
+abbrev pub event_called : Setting → List Event → ℕ → Event → Waiting → Outcome
+event_called w es at e ws = let count = length (rows_at w es at) in let rows = rows_at w (e ∷ es) at in record {
   event = Some e;
   replies = replies_by at count rows ws;
-  waiting = left_by at count rows ws;
+  waiting = waiting_left_by at count rows ws;
 }
 
 -- ---- a message of a client
@@ -85,22 +85,22 @@ refusal_in _ = None
 -- the request that a message is at a replica; of one with under 8 bytes the numbers are 0
 abbrev pub asked_in : ℕ → List ℕ → Asked
 asked_in at bytes = if nat_le 8 (length bytes)
-    then record { at = at; client = number_at 0 bytes; request = number_at 4 bytes }
+    then record { at = at; client = four_bytes_at 0 bytes; request = four_bytes_at 4 bytes }
     else record { at = at; client = 0; request = 0 }
 
 -- what is refused is replied to, after what else comes of the call
-abbrev pub refused : Setting → List Event → ℕ → Option ℕ → List ℕ → ℕ → Waiting → Outcome
-refused w es at conn bytes code ws = let did = called w es at (events.Input at bytes) ws in record did {
+abbrev pub refusal_replied : Setting → List Event → ℕ → Option ℕ → List ℕ → ℕ → Waiting → Outcome
+refusal_replied w es at conn bytes code ws = let did = event_called w es at (events.Input at bytes) ws in record did {
   replies = did.replies ++ reply at (refusal_reply (asked_in at bytes).client (asked_in at bytes).request code) conn;
 }
 
 -- what is taken waits for its row
-abbrev pub taken : Setting → List Event → ℕ → Option ℕ → List ℕ → Waiting → Outcome
-taken w es at conn bytes ws = called w es at (events.Input at bytes) (with_waiter (asked_in at bytes) conn ws)
+abbrev pub request_taken : Setting → List Event → ℕ → Option ℕ → List ℕ → Waiting → Outcome
+request_taken w es at conn bytes ws = event_called w es at (events.Input at bytes) (with_waiter (asked_in at bytes) conn ws)
 
 abbrev pub submitted_so : Setting → List Event → ℕ → Option ℕ → List ℕ → Waiting → Option ℕ → Outcome
-submitted_so w es at conn bytes ws (Some code) = refused w es at conn bytes code ws
-submitted_so w es at conn bytes ws None = taken w es at conn bytes ws
+submitted_so w es at conn bytes ws (Some code) = refusal_replied w es at conn bytes code ws
+submitted_so w es at conn bytes ws None = request_taken w es at conn bytes ws
 
 -- the message is an input of the replica
 abbrev pub submitted : Setting → List Event → ℕ → Option ℕ → List ℕ → Waiting → Outcome
@@ -138,7 +138,7 @@ if_here w at did ws = if w.is_correct at then did else silent [] ws
 
 -- an item that the link gave: a note is no call
 abbrev pub item_does : Setting → List Event → LinkItem → Waiting → Outcome
-item_does w es (items.Frame to bytes) ws = if_here w to (if is_note bytes then silent [] ws else called w es to (events.Frame to bytes) ws) ws
+item_does w es (items.Frame to bytes) ws = if_here w to (if is_note bytes then silent [] ws else event_called w es to (events.Frame to bytes) ws) ws
 item_does w es (items.Client at conn bytes) ws = if_here w at (asks w es at (Some conn) bytes ws) ws
 item_does w es (items.Reply from bytes) ws = silent [] ws
 item_does w es (items.Up at peer) ws = silent [] ws

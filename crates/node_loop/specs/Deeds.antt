@@ -64,11 +64,11 @@ acks w item i j seq = false
 abbrev pub is_first : MadeFrame → ℕ → ℕ → List ℕ → Bool
 is_first f i j frame = f.from == i && (f.to == j && bytes_eq f.bytes frame)
 
-abbrev pub is_open : Setting → ℕ → ℕ → List ℕ → List Deed → Bool
-is_open w i j frame [] = false
-is_open w i j frame (Came item ∷ ds) = not (acks w item i j (seq_of frame)) && is_open w i j frame ds
-is_open w i j frame (Made f ∷ ds) = is_first f i j frame || is_open w i j frame ds
-is_open w i j frame (Resent a b other ∷ ds) = is_open w i j frame ds
-is_open w i j frame (Acked a b seq ∷ ds) = is_open w i j frame ds
-is_open w i j frame (Wished a b ∷ ds) = is_open w i j frame ds
-is_open w i j frame (Replied sent ∷ ds) = is_open w i j frame ds
+abbrev pub is_connected : Setting → ℕ → ℕ → List ℕ → List Deed → Bool
+is_connected w i j frame [] = false
+is_connected w i j frame (Came item ∷ ds) = not (acks w item i j (seq_of frame)) && is_connected w i j frame ds
+is_connected w i j frame (Made f ∷ ds) = is_first f i j frame || is_connected w i j frame ds
+is_connected w i j frame (Resent a b other ∷ ds) = is_connected w i j frame ds
+is_connected w i j frame (Acked a b seq ∷ ds) = is_connected w i j frame ds
+is_connected w i j frame (Wished a b ∷ ds) = is_connected w i j frame ds
+is_connected w i j frame (Replied sent ∷ ds) = is_connected w i j frame ds

@@ -43,17 +43,17 @@ is_again (mores.Note peer bytes) = false
 is_again (mores.Kept peer) = true
 
 -- it goes to a peer, and what is for a replica that isn't here is nothing
-abbrev pub Fits : Setting → Keeping → ℕ → More → Type 0
-Fits w keeping at mores.Nothing = Unit {0}
-Fits w keeping at (mores.Note peer bytes) = Unit {0}
-Fits w keeping at (mores.Kept peer) = (peer < w.numbers.n) × (w.is_correct at ≡ false → keeping at peer ≡ [])
+abbrev pub FitsPeers : Setting → Keeping → ℕ → More → Type 0
+FitsPeers w keeping at mores.Nothing = Unit {0}
+FitsPeers w keeping at (mores.Note peer bytes) = Unit {0}
+FitsPeers w keeping at (mores.Kept peer) = (peer < w.numbers.n) × (w.is_correct at ≡ false → keeping at peer ≡ [])
 
 -- ---- what a group holds
 
 -- an event, if there is one
-abbrev pub listed : Option Event → List Event
-listed None = []
-listed (Some e) = e ∷ []
+abbrev pub event_listed : Option Event → List Event
+event_listed None = []
+event_listed (Some e) = e ∷ []
 
 abbrev pub if_kept : Bool → List Event → List Event
 if_kept true es = es
@@ -66,25 +66,25 @@ pub record IsEmpty (group : Group) : Type 0 where
 
 -- It holds what came of the newest rounds, behind older ones: their events, of which a journal keeps all or none, and what goes to the link, of
 -- what is kept for peers now. Only the newest round's may go by that.
-pub record Holds (w : Setting) (past : List Event) (start : Serving) (newest older : List Round) (group : Group) : Type 0 where
+pub record GroupHolds (w : Setting) (past : List Event) (start : Serving) (newest older : List Round) (group : Group) : Type 0 where
   pub none : newest ≡ [] → group.outputs.items ≡ []
   pub events : group.events.items ≡ reverse (events_from w past start newest older)
   pub keeps : group_kept w past start newest older ≡ if_kept group.kept (events_from w past start newest older)
   pub acts : acts_each (acts_by (after_from w past start (newest ++ older)).peers.keeping) group.outputs.items ≡ newest_from w past start newest older
-  pub fit : AllByRecursion (λ o. Fits w (after_from w past start (newest ++ older)).peers.keeping o.at o.more) group.outputs.items
+  pub fit : AllByRecursion (λ o. FitsPeers w (after_from w past start (newest ++ older)).peers.keeping o.at o.more) group.outputs.items
   pub settled : group.resends ≡ false → AllByRecursion (λ o. is_again o.more ≡ false) group.outputs.items
 
 -- a round may join the group of these: it is the first, or a turn, where all that the group has is kept and none goes out again
-abbrev pub Joins : List Round → Round → Group → Type 0
-Joins [] x group = Unit {0}
-Joins (y ∷ newest) (Turned i) group = (group.kept ≡ true) × (group.resends ≡ false)
-Joins (y ∷ newest) (Began item) group = ⊥
-Joins (y ∷ newest) (Reminded i j) group = ⊥
-Joins (y ∷ newest) (Took item) group = ⊥
+abbrev pub JoinsGroup : List Round → Round → Group → Type 0
+JoinsGroup [] x group = Unit {0}
+JoinsGroup (y ∷ newest) (Turned i) group = (group.kept ≡ true) × (group.resends ≡ false)
+JoinsGroup (y ∷ newest) (Began item) group = ⊥
+JoinsGroup (y ∷ newest) (Reminded i j) group = ⊥
+JoinsGroup (y ∷ newest) (Took item) group = ⊥
 
 -- the replicas stand after the rounds, and the group holds what came of the newest
 pub record Under {S E C : Type 0} (m : Meaning S E C KeyRow) (w : Setting) (past : List Event) (numbers : List ℕ) (start : Serving) (newest older : List Round)
     (house : House S E C) (group : Group) : Type 0 where
   pub stands : HouseStands m w (so_far past (after_from w past start (newest ++ older))) numbers house (after_from w past start (newest ++ older)).waiting
       (after_from w past start (newest ++ older)).peers
-  pub holds : Holds w past start newest older group
+  pub holds : GroupHolds w past start newest older group

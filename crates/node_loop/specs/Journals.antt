@@ -1,11 +1,11 @@
 -- What a journal keeps of the events that it is given. Lists of events have the newest first.
 use Rattle.std.specs.Prelude.{◌≡◌, ℕ, ◌≤◌, ◌<◌, ◌-◌, ◌^◌, min, Bool, true, List, [], ◌∷◌, ◌++◌}
 use Rattle.ritas_base.specs.declared.event.Event.{Event}
-use Rattle.outside.specs.Disks.{DiskState, MayLeave, LeavesOnly, state_of}
+use Rattle.outside.specs.Disks.{DiskState, MayLeave, LeavesOnly, disk_state_of}
 use Rattle.outside.specs.Faults.{Rose}
 use Rattle.schedule_file.specs.FileBytes.{limit}
 use Rattle.event_journal.specs.Journal.{Opens}
-use Rattle.event_journal.specs.Appending.{AllOpen, JournalState, OpensWithout, StandsFor, length_with}
+use Rattle.event_journal.specs.Appending.{AllOpen, JournalState, OpensWithout, JournalStandsFor, length_with}
 use Rattle.node_loop.specs.declared.archive.ArchiveFault.{ArchiveFault}
 use Rattle.node_loop.specs.declared.archive.ArchiveFault.TheVariants as archive
 
@@ -19,8 +19,8 @@ pub record OpensSome (me : ℕ) (head : List ℕ) (past given : List Event) (ima
 -- the journal stands for the past and the given events, every image opens as these, and at each moment since before the given ones every
 -- image opened as the past ones and the first of the given
 pub record HasKept (head : List ℕ) (past given : List Event) (journal : JournalState) (before now : List DiskState) : Type 0 where
-  pub stands : StandsFor journal head (given ++ past)
-  pub images : AllOpen journal.me head (given ++ past) (state_of now)
+  pub stands : JournalStandsFor journal head (given ++ past)
+  pub images : AllOpen journal.me head (given ++ past) (disk_state_of now)
   pub since : LeavesOnly (OpensSome journal.me head past given) before now
 
 -- so it is, where the disk tells, and its count of faults didn't fall
@@ -41,7 +41,7 @@ OpensNewest me head past group older s = (image : List ℕ) → MayLeave s image
 -- all of the group or with none of it; and at each moment every image opened as the past events and the first of the given
 pub record JournalFails (head : List ℕ) (past group older : List Event) (journal : JournalState) (tells : Bool) (before now : List DiskState) (few many : ℕ)
     (fault : ArchiveFault) : Type 0 where
-  pub left : tells ≡ true → OpensNewest journal.me head past group older (state_of now)
+  pub left : tells ≡ true → OpensNewest journal.me head past group older (disk_state_of now)
   pub since : tells ≡ true → LeavesOnly (OpensSome journal.me head past (group ++ older)) before now
   pub later : few ≤ many
   pub disk : fault ≡ archive.Disk → Rose few many

@@ -14,14 +14,14 @@ use Rattle.world_model.specs.World.{Setting, seen_of}
 use Rattle.world_model.specs.EveryWorld.{IsWorld}
 use Rattle.world_model.specs.MadeOrder.{MadeFrame, all_made}
 use Rattle.world_model.specs.Agree.{OneIsPart, rows_at}
-use Rattle.node_loop.specs.Served.{IsFirst}
+use Rattle.node_loop.specs.Served.{MayBegin}
 use Rattle.node_loop.specs.Serving.{Serving, so_far, Round, Began, Turned, Reminded, Took, after_from, AreWantedFrom, deeds_from}
 use Rattle.node_loop.specs.Keeping.{IsCallEvent, kept_of}
 use Rattle.node_loop.specs.Peers.{Peers}
 use Rattle.node_loop.specs.Recovering.{recovered, recalled_deeds}
 use Rattle.link_resume.specs.declared.kept.Kept.{Kept}
 use Rattle.world_model.specs.Stands.{NoneStops}
-use Rattle.node_loop.specs.Deeds.{Deed, Came, Made, Resent, Acked, Wished, Replied, act_of, firsts_in, is_open}
+use Rattle.node_loop.specs.Deeds.{Deed, Came, Made, Resent, Acked, Wished, Replied, act_of, firsts_in, is_connected}
 use Rattle.node_loop.specs.Resending.{is_deferred}
 use Rattle.keyed_channel.specs.Frames.{opening, seq_of}
 use Rattle.outside.specs.declared.link.LinkItem.TheVariants as items
@@ -55,8 +55,8 @@ abbrev pub sent_as : MadeFrame → Sent
 sent_as f = record { at = f.from; to = f.to; bytes = f.bytes }
 
 -- all frames that the replicas of a world made in these events, the oldest first
-abbrev pub frames_of : Setting → List Event → List Sent
-frames_of w es = map sent_as (all_made w es)
+abbrev pub all_frames_of : Setting → List Event → List Sent
+all_frames_of w es = map sent_as (all_made w es)
 
 -- the link's calls are the deeds, where those before are
 abbrev pub ActsAreDeeds : Type 0
@@ -70,19 +70,19 @@ FramesAreMade = (w : Setting) (past : List Event) (start : Serving) (before : Li
     → all_made w (so_far past (after_from w past start rounds)) ≡ before ++ reverse (firsts_in (deeds_from w past start ds rounds))
 
 -- a kept frame went out for the first time, and no acknowledgement of its number came since
-abbrev pub IsSent : Setting → ℕ → ℕ → List Deed → Kept → Type 0
-IsSent w i j ds k = (k.seq ≡ seq_of k.frame) × (is_open w i j k.frame ds ≡ true)
+abbrev pub IsUnacknowledged : Setting → ℕ → ℕ → List Deed → Kept → Type 0
+IsUnacknowledged w i j ds k = (k.seq ≡ seq_of k.frame) × (is_connected w i j k.frame ds ≡ true)
 
 -- so it is of all that is kept
 pub record AllSent (w : Setting) (p : Peers) (ds : List Deed) : Type 0 where
-  pub each : (i j : ℕ) → AllByRecursion (IsSent w i j ds) (p.keeping i j)
+  pub each : (i j : ℕ) → AllByRecursion (IsUnacknowledged w i j ds) (p.keeping i j)
 
 -- each frame that went out again went out for the first time before it, and no acknowledgement of it came between the two
 abbrev pub AreOpen : Setting → List Deed → Type 0
 AreOpen w [] = Unit {0}
 AreOpen w (Came item ∷ ds) = AreOpen w ds
 AreOpen w (Made f ∷ ds) = AreOpen w ds
-AreOpen w (Resent i j frame ∷ ds) = (is_open w i j frame ds ≡ true) × AreOpen w ds
+AreOpen w (Resent i j frame ∷ ds) = (is_connected w i j frame ds ≡ true) × AreOpen w ds
 AreOpen w (Acked i j seq ∷ ds) = AreOpen w ds
 AreOpen w (Wished i j ∷ ds) = AreOpen w ds
 AreOpen w (Replied sent ∷ ds) = AreOpen w ds
@@ -156,7 +156,7 @@ IsServed w (events.Sealed from to body) = ⊥
 
 -- each event of serving is one, where those before are
 abbrev pub EventsFit : Type 0
-EventsFit = (w : Setting) (past : List Event) (until limit : ℕ) (start : Serving) (rounds : List Round) → All IsFirst start.left
+EventsFit = (w : Setting) (past : List Event) (until limit : ℕ) (start : Serving) (rounds : List Round) → All MayBegin start.left
     → AllByRecursion (IsServed w) start.events → AreWantedFrom w past until limit start rounds
     → AllByRecursion (IsServed w) (after_from w past start rounds).events
 
@@ -165,4 +165,4 @@ EventsFit = (w : Setting) (past : List Event) (until limit : ℕ) (start : Servi
 -- the events that a journal keeps make the frames that all events make
 abbrev pub KeptMakes : Type 0
 KeptMakes = (w : Setting) (past es : List Event) → NoneStops w → AllByRecursion IsCallEvent es
-    → frames_of w (kept_of w past es ++ past) ≡ frames_of w (es ++ past)
+    → all_frames_of w (kept_of w past es ++ past) ≡ all_frames_of w (es ++ past)

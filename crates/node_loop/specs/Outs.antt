@@ -14,8 +14,8 @@ use Rattle.node_loop.specs.declared.end.Fault.{Fault}
 use Rattle.node_loop.specs.declared.end.Fault.TheVariants as faults
 
 -- the bytes of events, in the order of the file
-abbrev pub text_of : List Event → List ℕ
-text_of events = flat_map event_text (reverse events)
+abbrev pub events_text : List Event → List ℕ
+events_text events = flat_map event_text (reverse events)
 
 -- a tape and a link: what was taken, what was told, how many calls of each failed, and how many of the link's were without memory
 pub record Outs : Type 0 where
@@ -55,7 +55,7 @@ pub record Tells : Type 0 where
 
 -- since base, the tape took these events, the link told these calls, and none failed or was without memory
 pub record Agrees (tells : Tells) (base now : Outs) (events : List Event) (acts : List LinkAct) : Type 0 where
-  pub taken : tells.tape ≡ true → now.taken ≡ base.taken ++ text_of events
+  pub taken : tells.tape ≡ true → now.taken ≡ base.taken ++ events_text events
   pub told : tells.link ≡ true → now.told ≡ acts ++ base.told
   pub tape_stands : now.tape_faults ≡ base.tape_faults
   pub link_stands : now.link_faults ≡ base.link_faults
@@ -81,7 +81,7 @@ HasCauses base now (faults.Full x) = NoneFailed base now
 
 -- the tape took all events
 abbrev pub AllWritten : Tells → Outs → Outs → List Event → Type 0
-AllWritten tells base now events = tells.tape ≡ true → now.taken ≡ base.taken ++ text_of events
+AllWritten tells base now events = tells.tape ≡ true → now.taken ≡ base.taken ++ events_text events
 
 -- the link told nothing of the newest group
 abbrev pub NoneSent : Tells → Outs → Outs → List LinkAct → Type 0
@@ -97,8 +97,8 @@ InOrder tells base now faults.Disk events sooner = AllWritten tells base now eve
 InOrder tells base now (faults.Full x) events sooner = AllWritten tells base now events × NoneSent tells base now sooner
 
 -- the tape took a front of the events' text, and the link told the calls that are sooner, and of the news a part
-pub record Stops (tells : Tells) (base now : Outs) (fault : Fault) (events : List Event) (sooner news : List LinkAct) : Type 0 where
-  pub taken : tells.tape ≡ true → TookFront base.taken now.taken (text_of events)
+pub record StopsPartway (tells : Tells) (base now : Outs) (fault : Fault) (events : List Event) (sooner news : List LinkAct) : Type 0 where
+  pub taken : tells.tape ≡ true → TookFront base.taken now.taken (events_text events)
   pub told : tells.link ≡ true → TookBack (sooner ++ base.told) now.told news
   pub order : InOrder tells base now fault events sooner
   pub tape_later : base.tape_faults ≤ now.tape_faults
@@ -107,11 +107,11 @@ pub record Stops (tells : Tells) (base now : Outs) (fault : Fault) (events : Lis
 
 -- ---- each outcome of a step that leads to these events and calls
 
-abbrev pub Steps : {A : Type 0} → Tells → Outs → Outs → Result A Fault → List Event → List LinkAct → List LinkAct → List LinkAct → Type 0
-Steps tells base now (Ok done) events acts sooner news = Agrees tells base now events acts
-Steps tells base now (Err fault) events acts sooner news = Stops tells base now fault events sooner news
+abbrev pub StepsInOrder : {A : Type 0} → Tells → Outs → Outs → Result A Fault → List Event → List LinkAct → List LinkAct → List LinkAct → Type 0
+StepsInOrder tells base now (Ok done) events acts sooner news = Agrees tells base now events acts
+StepsInOrder tells base now (Err fault) events acts sooner news = StopsPartway tells base now fault events sooner news
 
 -- a fault of the link as one of serving
-abbrev pub Fails : LinkFault → Fault → Type 0
-Fails link_faults.Failed fault = fault ≡ faults.Link
-Fails link_faults.Mem fault = fault ≡ faults.Mem
+abbrev pub IsFaultOfLink : LinkFault → Fault → Type 0
+IsFaultOfLink link_faults.Failed fault = fault ≡ faults.Link
+IsFaultOfLink link_faults.Mem fault = fault ≡ faults.Mem

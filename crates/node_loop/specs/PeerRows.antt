@@ -2,7 +2,7 @@
 use Rattle.std.specs.Prelude.{◌≡◌, [], ◌∷◌, Some, None, true, false, refl}
 use Rattle.world_model.specs.MadeOrder.{MadeFrame}
 use Rattle.keyed_channel.specs.declared.note.Note.TheVariants.{Ack, Again}
-use Rattle.node_loop.specs.Peers.{Peers, no_peers, keep_all, is_due}
+use Rattle.node_loop.specs.Peers.{Peers, no_peers, keep_all, has_come_further}
 use Rattle.node_loop.specs.Deeds.{Resent}
 use Rattle.node_loop.specs.Resending.{resends, noted_so}
 
@@ -37,8 +37,8 @@ ack_rows : ((noted_so 0 kept_both (Some (Ack 1 0))).peers.keeping 0 1 ≡ record
 ack_rows = (refl, refl, refl, refl)
 
 -- a marked peer is asked when fewer bytes are held for it, or when the replica has come further
-due_rows : (is_due (record { progress = 3; held = 50 }) (record { progress = 3; held = 50 }) ≡ false)
-    × (is_due (record { progress = 3; held = 50 }) (record { progress = 3; held = 49 }) ≡ true)
-    × (is_due (record { progress = 3; held = 50 }) (record { progress = 4; held = 90 }) ≡ true)
-    × (is_due (record { progress = 3; held = 50 }) (record { progress = 3; held = 90 }) ≡ false)
+due_rows : (has_come_further (record { progress = 3; held = 50 }) (record { progress = 3; held = 50 }) ≡ false)
+    × (has_come_further (record { progress = 3; held = 50 }) (record { progress = 3; held = 49 }) ≡ true)
+    × (has_come_further (record { progress = 3; held = 50 }) (record { progress = 4; held = 90 }) ≡ true)
+    × (has_come_further (record { progress = 3; held = 50 }) (record { progress = 3; held = 90 }) ≡ false)
 due_rows = (refl, refl, refl, refl)

@@ -1,7 +1,7 @@
 -- What is kept for peers until they acknowledge it, and who is to be asked to send again. All lists here have the oldest first.
 use Rattle.std.specs.Prelude.{ℕ, ◌+◌, ◌==◌, ◌&&◌, ◌||◌, Bool, false, nat_le, nat_lt, List, [], ◌∷◌, ◌++◌, length, Option, Some, None, if◌then◌else◌}
 use Rattle.link_resume.specs.declared.kept.Kept.{Kept}
-use Rattle.link_resume.specs.Lists.{bytes_in, most_bytes, all_but}
+use Rattle.link_resume.specs.Lists.{bytes_in, most_kept_bytes, all_but}
 use Rattle.keyed_channel.specs.Frames.{seq_of}
 use Rattle.world_model.specs.MadeOrder.{MadeFrame}
 use Rattle.node_loop.specs.declared.peers.Mark.{Mark}
@@ -37,7 +37,7 @@ with_mark i j mark p = record p { marks = λ a b. if is_pair i j a b then mark e
 
 -- a frame is kept under the number that it carries, unless the bytes would be too many
 abbrev pub keeps : List ℕ → List Kept → List Kept
-keeps frame kept = if nat_le (bytes_in kept + length frame) most_bytes then kept ++ record { seq = seq_of frame; frame = frame } ∷ [] else kept
+keeps frame kept = if nat_le (bytes_in kept + length frame) most_kept_bytes then kept ++ record { seq = seq_of frame; frame = frame } ∷ [] else kept
 
 abbrev pub keep_one : MadeFrame → Peers → Peers
 keep_one f p = with_list f.from f.to (keeps f.bytes (p.keeping f.from f.to)) p
@@ -53,9 +53,9 @@ acknowledged i j seq p = with_list i j (all_but seq (p.keeping i j)) p
 -- ---- who is asked
 
 -- the held bytes are fewer now, or the replica has come further
-abbrev pub is_due : Mark → Mark → Bool
-is_due was now = nat_lt now.held was.held || nat_lt was.progress now.progress
+abbrev pub has_come_further : Mark → Mark → Bool
+has_come_further was now = nat_lt now.held was.held || nat_lt was.progress now.progress
 
 abbrev pub is_due_of : Option Mark → Mark → Bool
 is_due_of None now = false
-is_due_of (Some was) now = is_due was now
+is_due_of (Some was) now = has_come_further was now

@@ -5,9 +5,9 @@ use Rattle.ritas_base.specs.declared.event.Event.TheVariants as events
 use Rattle.link_resume.specs.Lists.{room_for}
 use Rattle.world_model.specs.World.{Setting}
 use Rattle.world_model.specs.MadeOrder.{MadeFrame, all_made}
-use Rattle.node_loop.specs.Calls.{Outcome, called, silent, submitted}
+use Rattle.node_loop.specs.Calls.{Outcome, event_called, silent, submitted}
 use Rattle.node_loop.specs.Peers.{Peers, no_peers, keeps, with_list}
-use Rattle.node_loop.specs.Serving.{Serving, made_by, so_far}
+use Rattle.node_loop.specs.Serving.{Serving, frames_made_by, so_far}
 use Rattle.node_loop.specs.Deeds.{Deed, Made, pushed}
 use Rattle.node_loop.specs.Waiting.{Waiting, nobody}
 
@@ -21,9 +21,9 @@ all_newest (f ∷ fs) p = all_newest fs (keep_newest f p)
 
 -- what comes of an event that is recovered: an input that is taken waits for its row with no connection
 abbrev pub recalled : Setting → List Event → Event → Waiting → Outcome
-recalled w es (events.Frame to bytes) ws = called w es to (events.Frame to bytes) ws
+recalled w es (events.Frame to bytes) ws = event_called w es to (events.Frame to bytes) ws
 recalled w es (events.Input at bytes) ws = submitted w es at None bytes ws
-recalled w es (events.Turn at) ws = called w es at (events.Turn at) ws
+recalled w es (events.Turn at) ws = event_called w es at (events.Turn at) ws
 recalled w es (events.Pass from to m) ws = silent [] ws
 recalled w es (events.Sealed from to body) ws = silent [] ws
 
@@ -35,7 +35,7 @@ recalled_waiting w (e ∷ es) = (recalled w es e (recalled_waiting w es)).waitin
 -- what is kept for peers after them; nobody is marked
 abbrev pub recalled_peers : Setting → List Event → Peers
 recalled_peers w [] = no_peers
-recalled_peers w (e ∷ es) = all_newest (made_by w es (Some e)) (recalled_peers w es)
+recalled_peers w (e ∷ es) = all_newest (frames_made_by w es (Some e)) (recalled_peers w es)
 
 -- with what serving begins after these events; none of their frames goes out by it
 abbrev pub recovered : Setting → List Event → Serving

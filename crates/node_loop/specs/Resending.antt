@@ -37,13 +37,13 @@ nothing_more p = record { deeds = []; peers = p }
 -- ---- how far a replica is
 
 -- its completed rounds and all its bases
-abbrev pub progress_of : Rules → CoreState → ℕ → ℕ
-progress_of r st n = let words = (parts r st.history).words in
+abbrev pub replica_progress : Rules → CoreState → ℕ → ℕ
+replica_progress r st n = let words = (parts r st.history).words in
     r.service.completed (seat_of r) words + sum_by (λ o. r.service.base (seat_of r) words o) (replicas n)
 
 -- where replica i stands after these events, and what it holds for j
 abbrev pub mark_at : Setting → List Event → ℕ → ℕ → Mark
-mark_at w es i j = record { progress = progress_of (rules_at w i) (states_of w es i) w.numbers.n; held = held_bytes (states_of w es i).held j }
+mark_at w es i j = record { progress = replica_progress (rules_at w i) (states_of w es i) w.numbers.n; held = held_bytes (states_of w es i).held j }
 
 -- ---- a frame
 
@@ -94,9 +94,9 @@ asks_for_more i j p = record { deeds = Wished i j ∷ []; peers = with_mark i j 
 -- ---- who is to be asked
 
 -- the peers of a replica that are due, in order
-abbrev pub due_at : Setting → List Event → Peers → ℕ → List Pair
-due_at w es p i = map (λ j. record { at = i; peer = j }) (filter (λ j. is_due_of (p.marks i j) (mark_at w es i j)) (replicas w.numbers.n))
+abbrev pub peers_due : Setting → List Event → Peers → ℕ → List Pair
+peers_due w es p i = map (λ j. record { at = i; peer = j }) (filter (λ j. is_due_of (p.marks i j) (mark_at w es i j)) (replicas w.numbers.n))
 
 -- those that are due, by replica and then by peer
 abbrev pub due : Setting → List Event → List ℕ → Peers → List Pair
-due w es here p = flat_map (due_at w es p) here
+due w es here p = flat_map (peers_due w es p) here

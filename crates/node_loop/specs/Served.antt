@@ -14,8 +14,8 @@ use Rattle.world_model.specs.Stands.{NoneStops, IsReplica}
 use Rattle.node_loop.specs.declared.end.Fault.TheVariants as faults
 use Rattle.node_loop.specs.declared.end.ServeEnd.{ServeEnd}
 use Rattle.node_loop.specs.declared.end.ServeEnd.TheVariants as ends
-use Rattle.node_loop.specs.Serving.{Serving, so_far, Want, Finishes, Halts, Asks, wants, Round, IsGroup, after, AreWanted, newest, sooner}
-use Rattle.node_loop.specs.Outs.{Outs, Tells, Agrees, Stops}
+use Rattle.node_loop.specs.Serving.{Serving, so_far, Want, Finishes, Halts, Asks, wants, Round, IsGroup, serving_after, AreWanted, newest, sooner}
+use Rattle.node_loop.specs.Outs.{Outs, Tells, Agrees, StopsPartway}
 
 -- The replicas of a world that are here are its correct ones: replica k of the list is that of the k-th number, as it stands after these
 -- events, and none is stopped.
@@ -29,9 +29,9 @@ pub record AreHere {S E C : Type 0} (m : Meaning S E C KeyRow) (w : Setting) (es
   pub each : (k i : ℕ) (rep : Replica S E C) → slice_get numbers k ≡ Some i → slice_get here k ≡ Some rep → IsReplica m w (states_of w es) i rep
 
 -- an item with which serving may begin
-abbrev pub IsFirst : LinkItem → Type 0
-IsFirst (items.Client at conn bytes) = length bytes < 2 ^ 16
-IsFirst item = ⊥
+abbrev pub MayBegin : LinkItem → Type 0
+MayBegin (items.Client at conn bytes) = length bytes < 2 ^ 16
+MayBegin item = ⊥
 
 -- serving ended for a reason: the tape took all its events, the link told all its calls, and the replicas stand where these leave them
 pub record Whole {S E C : Type 0} (m : Meaning S E C KeyRow) (w : Setting) (past : List Event) (numbers : List ℕ) (here : List (Replica S E C))
@@ -42,9 +42,9 @@ pub record Whole {S E C : Type 0} (m : Meaning S E C KeyRow) (w : Setting) (past
 
 -- it broke at a fault
 abbrev pub Breaks : Tells → Outs → Outs → ServeEnd → List Event → List LinkAct → List LinkAct → Type 0
-Breaks tells base now ends.LinkFault events sooner news = Stops tells base now faults.Link events sooner news
-Breaks tells base now ends.TapeFault events sooner news = Stops tells base now faults.Tape events sooner news
-Breaks tells base now ends.Mem events sooner news = Stops tells base now faults.Mem events sooner news
+Breaks tells base now ends.LinkFault events sooner news = StopsPartway tells base now faults.Link events sooner news
+Breaks tells base now ends.TapeFault events sooner news = StopsPartway tells base now faults.Tape events sooner news
+Breaks tells base now ends.Mem events sooner news = StopsPartway tells base now faults.Mem events sooner news
 Breaks tells base now end events sooner news = ⊥
 
 -- Each end of serving that keeps no events, where the newest group's calls are `news`, and those before are `sooner`. Unless memory ran out,
@@ -68,5 +68,5 @@ pub record Serves {S E C : Type 0} (m : Meaning S E C KeyRow) (w : Setting) (pas
   pub older : List Round
   pub one : IsGroup group older
   pub wanted : AreWanted w past until limit first (group ++ older)
-  pub so : EndsSo m w past numbers here tells base now end (after w past first (group ++ older)) (sooner w past first group older) (newest w past first group older)
-      (wants w past until limit (after w past first (group ++ older)))
+  pub so : EndsSo m w past numbers here tells base now end (serving_after w past first (group ++ older)) (sooner w past first group older) (newest w past first group older)
+      (wants w past until limit (serving_after w past first (group ++ older)))

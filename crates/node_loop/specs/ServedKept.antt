@@ -11,14 +11,14 @@ use Rattle.node_loop.specs.declared.end.ServeEnd.{ServeEnd}
 use Rattle.node_loop.specs.declared.end.ServeEnd.TheVariants as ends
 use Rattle.node_loop.specs.Archives.{Moment, KeptAt}
 use Rattle.node_loop.specs.Keeping.{kept_of}
-use Rattle.node_loop.specs.Outs.{Outs, Tells, NoneSent, Stops}
+use Rattle.node_loop.specs.Outs.{Outs, Tells, NoneSent, StopsPartway}
 use Rattle.node_loop.specs.Served.{AreHere, EndsSo}
 use Rattle.node_loop.specs.Serving.{Serving, so_far, Want, wants, Round, IsGroup, after_from, AreWantedFrom, events_from, newest_from, sooner_from}
 
 -- it broke at a fault of the archive
 abbrev pub BreaksOff : Tells → Outs → Outs → ServeEnd → List Event → List LinkAct → List LinkAct → Type 0
-BreaksOff tells base now ends.DiskFault events sooner news = Stops tells base now faults.Disk events sooner news
-BreaksOff tells base now (ends.JournalFull x) events sooner news = Stops tells base now (faults.Full x) events sooner news
+BreaksOff tells base now ends.DiskFault events sooner news = StopsPartway tells base now faults.Disk events sooner news
+BreaksOff tells base now (ends.JournalFull x) events sooner news = StopsPartway tells base now (faults.Full x) events sooner news
 BreaksOff tells base now end events sooner news = ⊥
 
 -- each end: where the archive fails, the newest group's events were written, and nothing of them went out

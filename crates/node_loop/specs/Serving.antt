@@ -10,10 +10,10 @@ use Rattle.outside.specs.declared.link.LinkItem.{LinkItem}
 use Rattle.outside.specs.declared.link.LinkItem.TheVariants.{End}
 use Rattle.outside.specs.Links.{LinkAct, Gives, Sends, Replies, bytes_of}
 use Rattle.world_model.specs.World.{Setting, states_of, states_before, call_of}
-use Rattle.world_model.specs.MadeOrder.{MadeFrame, frames_in}
+use Rattle.world_model.specs.MadeOrder.{MadeFrame, frames_of_call}
 use Rattle.world_model.specs.Agree.{rows_at}
 use Rattle.node_loop.specs.Waiting.{Waiting, nobody}
-use Rattle.node_loop.specs.Calls.{Outcome, called, silent, item_does, first_does}
+use Rattle.node_loop.specs.Calls.{Outcome, event_called, silent, item_does, first_does}
 use Rattle.node_loop.specs.Peers.{Peers, no_peers, keep_all}
 use Rattle.node_loop.specs.Deeds.{Deed, Came, Made, Replied, pushed, act_of}
 use Rattle.outside.specs.declared.link.Sent.{Sent}
@@ -43,13 +43,13 @@ abbrev pub as_sent : MadeFrame → LinkAct
 as_sent f = Sends (record { at = f.from; to = f.to; bytes = f.bytes })
 
 -- the frames that the call of an event made, in their order
-abbrev pub made_by : Setting → List Event → Option Event → List MadeFrame
-made_by w es None = []
-made_by w es (Some e) = frames_in (length es) w (states_before w es) (call_of w (states_before w es) e)
+abbrev pub frames_made_by : Setting → List Event → Option Event → List MadeFrame
+frames_made_by w es None = []
+frames_made_by w es (Some e) = frames_of_call (length es) w (states_before w es) (call_of w (states_before w es) e)
 
 -- they are sent
 abbrev pub sent_by : Setting → List Event → Option Event → List LinkAct
-sent_by w es e = map as_sent (made_by w es e)
+sent_by w es e = map as_sent (frames_made_by w es e)
 
 -- the event of a call, onto those before it
 abbrev pub onto : Option Event → List Event → List Event
@@ -86,8 +86,8 @@ abbrev pub here : Setting → List ℕ
 here w = filter w.is_correct (replicas w.numbers.n)
 
 -- each log has so many rows, if that isn't 0
-abbrev pub is_done : Setting → ℕ → List Event → Bool
-is_done w until es = not (until == 0) && list_all (λ i. nat_le until (length (rows_at w es i))) (here w)
+abbrev pub has_enough_rows : Setting → ℕ → List Event → Bool
+has_enough_rows w until es = not (until == 0) && list_all (λ i. nat_le until (length (rows_at w es i))) (here w)
 
 abbrev pub is_busy : List Item → Bool
 is_busy [] = false
@@ -109,7 +109,7 @@ remind_or (pair ∷ pairs) = Reminds pair.at pair.peer
 
 abbrev pub wants_of : Setting → ℕ → ℕ → List Event → ℕ → Peers → Want
 wants_of w until limit es taken p =
-    if is_done w until es then Finishes else turn_or (busy w es) (if nat_le limit taken then Halts else remind_or (due w es (here w) p))
+    if has_enough_rows w until es then Finishes else turn_or (busy w es) (if nat_le limit taken then Halts else remind_or (due w es (here w) p))
 
 abbrev pub first_or : List LinkItem → Want → Want
 first_or [] other = other
@@ -150,19 +150,19 @@ at_call (Took item) s = gave item s
 
 abbrev pub outcome : Setting → List Event → Round → Serving → Outcome
 outcome w past (Began item) s = first_does w (so_far past s) item s.waiting
-outcome w past (Turned i) s = called w (so_far past s) i (events.Turn i) s.waiting
+outcome w past (Turned i) s = event_called w (so_far past s) i (events.Turn i) s.waiting
 outcome w past (Reminded i j) s = silent [] s.waiting
 outcome w past (Took item) s = item_does w (so_far past s) item s.waiting
 
 -- what comes of it for peers, where what is kept has the frames of its call
-abbrev pub brings : Setting → List Event → Round → Peers → Brought
-brings w es (Began item) p = nothing_more p
-brings w es (Turned i) p = nothing_more p
-brings w es (Reminded i j) p = asks_for_more i j p
-brings w es (Took item) p = item_brings w es item p
+abbrev pub brings_peers : Setting → List Event → Round → Peers → Brought
+brings_peers w es (Began item) p = nothing_more p
+brings_peers w es (Turned i) p = nothing_more p
+brings_peers w es (Reminded i j) p = asks_for_more i j p
+brings_peers w es (Took item) p = item_brings w es item p
 
 abbrev pub brought : Setting → List Event → Round → Serving → Brought
-brought w past x s = brings w (so_far past s) x (keep_all (made_by w (so_far past s) (outcome w past x s).event) s.peers)
+brought w past x s = brings_peers w (so_far past s) x (keep_all (frames_made_by w (so_far past s) (outcome w past x s).event) s.peers)
 
 abbrev pub round_does : Setting → List Event → Round → Serving → Serving
 round_does w past x s = with_outcome w past (outcome w past x s) (brought w past x s) (at_call x s)
@@ -173,20 +173,20 @@ after_from w past start [] = start
 after_from w past start (x ∷ xs) = round_does w past x (after_from w past start xs)
 
 -- the item that the link gave for it, as a call of the link
-abbrev pub given_in : Round → List LinkAct
-given_in (Began item) = []
-given_in (Turned i) = []
-given_in (Reminded i j) = []
-given_in (Took item) = Gives item ∷ []
+abbrev pub given_for_round : Round → List LinkAct
+given_for_round (Began item) = []
+given_for_round (Turned i) = []
+given_for_round (Reminded i j) = []
+given_for_round (Took item) = Gives item ∷ []
 
 -- for a round that others of its group are before
 abbrev pub given_behind : List Round → Round → List LinkAct
 given_behind [] x = []
-given_behind (y ∷ group) x = given_in x
+given_behind (y ∷ group) x = given_for_round x
 
 -- for the oldest round of a group, of which this is the newest
 abbrev pub given_oldest : Round → List Round → List LinkAct
-given_oldest x [] = given_in x
+given_oldest x [] = given_for_round x
 given_oldest x (y ∷ group) = given_oldest y group
 
 abbrev pub given_first : List Round → List LinkAct
@@ -208,8 +208,8 @@ abbrev pub sooner_from : Setting → List Event → Serving → List Round → L
 sooner_from w past start group older = given_first group ++ (after_from w past start older).acts
 
 -- of serving that begins with these items
-abbrev pub after : Setting → List Event → List LinkItem → List Round → Serving
-after w past first rounds = after_from w past (begin first) rounds
+abbrev pub serving_after : Setting → List Event → List LinkItem → List Round → Serving
+serving_after w past first rounds = after_from w past (begin first) rounds
 
 abbrev pub newest : Setting → List Event → List LinkItem → List Round → List Round → List LinkAct
 newest w past first group older = newest_from w past (begin first) group older
@@ -277,7 +277,7 @@ with_deeds frames more replies ds = pushed (map Replied replies) (pushed more (p
 abbrev pub deeds_from : Setting → List Event → Serving → List Deed → List Round → List Deed
 deeds_from w past start ds [] = ds
 deeds_from w past start ds (x ∷ xs) = let s = after_from w past start xs in
-    with_deeds (made_by w (so_far past s) (outcome w past x s).event) (brought w past x s).deeds (outcome w past x s).replies
+    with_deeds (frames_made_by w (so_far past s) (outcome w past x s).event) (brought w past x s).deeds (outcome w past x s).replies
     (came x (deeds_from w past start ds xs))
 
 -- of serving that begins with these items

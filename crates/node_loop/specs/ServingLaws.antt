@@ -7,10 +7,10 @@ use Rattle.outside.specs.declared.link.LinkItem.{LinkItem}
 use Rattle.outside.specs.Links.{LinkAct, Replies}
 use Rattle.world_model.specs.World.{Setting}
 use Rattle.node_loop.specs.Deeds.{act_of}
-use Rattle.node_loop.specs.Serving.{so_far, sent_by, Round, Began, Turned, Reminded, Took, at_call, outcome, brought, Serving, begin, after, newest, sooner, after_from, given_in, given_behind, newest_from, sooner_from}
+use Rattle.node_loop.specs.Serving.{so_far, sent_by, Round, Began, Turned, Reminded, Took, at_call, outcome, brought, Serving, begin, serving_after, newest, sooner, after_from, given_for_round, given_behind, newest_from, sooner_from}
 
 -- the item that a round takes is in front of the calls before
-pub at_acts : (x : Round) (s : Serving) → (at_call x s).acts ≡ given_in x ++ s.acts
+pub at_acts : (x : Round) (s : Serving) → (at_call x s).acts ≡ given_for_round x ++ s.acts
 at_acts (Began item) s = refl
 at_acts (Turned i) s = refl
 at_acts (Reminded i j) s = refl
@@ -27,14 +27,14 @@ acts_from w past start (x ∷ group) older =
     let sent = reverse (sent_by w (so_far past (at_call x s)) (outcome w past x s).event) in
     let out = replied ++ (besides ++ sent) in
     sym (append_assoc replied (besides ++ sent) (at_call x s).acts ∙ ap (λ (l : List LinkAct). replied ++ l) (append_assoc besides sent (at_call x s).acts))
-    ∙ (ap (λ (l : List LinkAct). out ++ l) (at_acts x s ∙ ap (λ (l : List LinkAct). given_in x ++ l) (acts_from w past start group older)) ∙ regroup x group out)
+    ∙ (ap (λ (l : List LinkAct). out ++ l) (at_acts x s ∙ ap (λ (l : List LinkAct). given_for_round x ++ l) (acts_from w past start group older)) ∙ regroup x group out)
   where
     regroup : (x : Round) (group : List Round) (out : List LinkAct)
-        → out ++ (given_in x ++ (newest_from w past start group older ++ sooner_from w past start group older))
+        → out ++ (given_for_round x ++ (newest_from w past start group older ++ sooner_from w past start group older))
         ≡ (out ++ (given_behind group x ++ newest_from w past start group older)) ++ sooner_from w past start (x ∷ group) older
-    regroup x [] out = ap (λ (l : List LinkAct). l ++ (given_in x ++ (after_from w past start older).acts)) (sym (append-nil out))
+    regroup x [] out = ap (λ (l : List LinkAct). l ++ (given_for_round x ++ (after_from w past start older).acts)) (sym (append-nil out))
     regroup x (y ∷ group) out = simp append_assoc
 
 pub acts_of : (w : Setting) (past : List Event) (first : List LinkItem) (group older : List Round)
-    → (after w past first (group ++ older)).acts ≡ newest w past first group older ++ sooner w past first group older
+    → (serving_after w past first (group ++ older)).acts ≡ newest w past first group older ++ sooner w past first group older
 acts_of w past first group older = acts_from w past (begin first) group older

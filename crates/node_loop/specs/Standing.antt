@@ -32,7 +32,7 @@ use Rattle.node_loop.specs.Peers.{Peers, keep_all}
 use Rattle.node_loop.specs.Deeds.{Resent, act_of, sends}
 use Rattle.node_loop.specs.Resending.{Brought}
 use Rattle.node_loop.specs.Keeping.{has_kept}
-use Rattle.node_loop.specs.Serving.{made_by, sent_by, onto}
+use Rattle.node_loop.specs.Serving.{frames_made_by, sent_by, onto}
 use Rattle.node_loop.specs.PeersStanding.{IsKeeper}
 use Rattle.node_loop.specs.Served.{AreHere}
 
@@ -68,7 +68,7 @@ abbrev pub reply_by : ℕ → Reply → Sent
 reply_by at r = record { at = at; to = r.conn; bytes = r.bytes }
 
 -- nothing came yet
-pub record IsClear (o : Output) : Type 0 where
+pub record IsEmptyOutput (o : Output) : Type 0 where
   pub event : o.event ≡ None
   pub frames : o.frames.items ≡ []
   pub more : o.more ≡ mores.Nothing
@@ -83,7 +83,7 @@ IsMore w at (mores.Kept peer) more = (peer < w.numbers.n) × (more.deeds ≡ map
 
 -- It is put out, with whether a journal keeps it, and the replicas and those who wait stand for it; the peers stand for it once the frames of its call are kept, as they
 -- are when they go out. What is for a replica that isn't here brings nothing.
-pub record Comes {S E C : Type 0} (m : Meaning S E C KeyRow) (w : Setting) (es : List Event) (numbers : List ℕ) (now : House S E C)
+pub record ComesOut {S E C : Type 0} (m : Meaning S E C KeyRow) (w : Setting) (es : List Event) (numbers : List ℕ) (now : House S E C)
     (output : Output) (did : Outcome) (more : Brought) : Type 0 where
   pub event : output.event ≡ did.event
   pub keeps : output.kept ≡ has_kept w es did.event
@@ -92,12 +92,12 @@ pub record Comes {S E C : Type 0} (m : Meaning S E C KeyRow) (w : Setting) (es :
   pub nowhere : w.is_correct output.at ≡ false → (did.event ≡ None) × (more.deeds ≡ [])
   pub replies : map (reply_by output.at) output.replies.items ≡ did.replies
   pub before : Peers
-  pub kept : keep_all (made_by w es did.event) before ≡ more.peers
+  pub kept : keep_all (frames_made_by w es did.event) before ≡ more.peers
   pub stands : HouseStands m w (onto did.event es) numbers now did.waiting before
 
-abbrev pub is_less : ℕ → Option ℕ → Bool
-is_less number None = true
-is_less number (Some other) = nat_lt number other
+abbrev pub is_before_other : ℕ → Option ℕ → Bool
+is_before_other number None = true
+is_before_other number (Some other) = nat_lt number other
 
 -- ---- refusals
 
@@ -108,9 +108,9 @@ is_want (Err (refusals.Body body.Mem)) = true
 is_want _ = false
 
 -- a frame that was answered so opened
-abbrev pub is_opened : Result Answer Refusal → Bool
-is_opened (Err (refusals.Open fault)) = false
-is_opened _ = true
+abbrev pub is_answer_opened : Result Answer Refusal → Bool
+is_answer_opened (Err (refusals.Open fault)) = false
+is_answer_opened _ = true
 
 -- want of memory is told apart from all other answers
 abbrev pub TellsWant : Result Answer Refusal → Result (Result Answer Refusal) Mem → Type 0

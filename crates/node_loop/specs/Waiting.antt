@@ -11,8 +11,8 @@ Waiting = Asked → List (Option ℕ)
 abbrev pub nobody : Waiting
 nobody a = []
 
-abbrev pub is_same : Asked → Asked → Bool
-is_same a b = a.at == b.at && (a.client == b.client && a.request == b.request)
+abbrev pub is_same_request : Asked → Asked → Bool
+is_same_request a b = a.at == b.at && (a.client == b.client && a.request == b.request)
 
 abbrev pub is_conn : Option ℕ → Option ℕ → Bool
 is_conn None None = true
@@ -25,7 +25,7 @@ joined conn conns = if list_any (is_conn conn) conns then conns else conns ++ co
 
 -- one more waits for this request, if it doesn't wait already
 abbrev pub with_waiter : Asked → Option ℕ → Waiting → Waiting
-with_waiter a conn ws b = if is_same a b then joined conn (ws b) else ws b
+with_waiter a conn ws b = if is_same_request a b then joined conn (ws b) else ws b
 
 -- those that wait without this connection: where it is the only one, nobody in particular waits on
 abbrev pub without_conn : ℕ → List (Option ℕ) → List (Option ℕ)
@@ -37,5 +37,5 @@ abbrev pub left_off : ℕ → ℕ → Waiting → Waiting
 left_off at conn ws b = if b.at == at then without_conn conn (ws b) else ws b
 
 -- nobody waits for it any more
-abbrev pub without : Asked → Waiting → Waiting
-without a ws b = if is_same a b then [] else ws b
+abbrev pub without_asked : Asked → Waiting → Waiting
+without_asked a ws b = if is_same_request a b then [] else ws b

@@ -2,14 +2,14 @@
 ghost use Rattle.std.specs.Prelude.{◌≡◌, ℕ, [], List, true, reverse};
 ghost use Rattle.std.specs.List.{AllByRecursion};
 ghost use Rattle.ritas_base.specs.declared.event.Event.{Event};
-ghost use Rattle.outside.specs.Disks.{state_of};
+ghost use Rattle.outside.specs.Disks.{disk_state_of};
 ghost use Rattle.replica.specs.Replica.{with_keys};
 ghost use Rattle.schedule_file.specs.Spelling.{IsSized};
 ghost use Rattle.world_model.specs.World.{Setting};
-ghost use Rattle.event_journal.specs.Appending.{AllOpen, StandsFor};
+ghost use Rattle.event_journal.specs.Appending.{AllOpen, JournalStandsFor};
 ghost use Rattle.event_journal.specs.Journal.{IsRecord};
 ghost use Rattle.node_loop.specs.Again.{ServesAgain};
-ghost use Rattle.node_loop.specs.Archives.{IsSame, moment, moment_of};
+ghost use Rattle.node_loop.specs.Archives.{AreSameOutlets, moment, moment_of};
 ghost use Rattle.node_loop.specs.Journals.{JournalStands, JournalFails};
 ghost use Rattle.node_loop.specs.Laws.{IsServed};
 ghost use Rattle.node_loop.specs.Outs.{outs_of};
@@ -53,7 +53,7 @@ fn serve_again<
     recovered: &[Event],
 ) -> ServeEnd
     requires { AllByRecursion IsSized recovered.now }
-    ensures same { IsSame out.old out.new }
+    ensures same { AreSameOutlets out.old out.new }
     ensures goes { let m = with_keys S.stands S.rules S.shown E.stands E.rules E.shown C.bits in
         (head : List ℕ) (before : D) (w : Setting) (numbers : List ℕ) → HouseStands m w [] numbers house.old nobody no_peers
         → AllByRecursion (IsServed w) recovered.now
@@ -155,7 +155,7 @@ pub fn serve_kept<
     requires own { AllByRecursion (IsRecord journal.old.me) recovered.now.items }
     ensures { let m = with_keys S.stands S.rules S.shown E.stands E.rules E.shown C.bits in
         (head : List ℕ) (w : Setting) (numbers : List ℕ) → AreHere m w [] numbers replicas.old.items → w.is_correct journal.old.me ≡ true
-        → (D.tells ≡ true → StandsFor journal.old head (reverse recovered.now.items) × AllOpen journal.old.me head (reverse recovered.now.items) (state_of (D.told disk.old)))
+        → (D.tells ≡ true → JournalStandsFor journal.old head (reverse recovered.now.items) × AllOpen journal.old.me head (reverse recovered.now.items) (disk_state_of (D.told disk.old)))
         → ServesAgain m w (reverse recovered.now.items) numbers replicas.new.items (record { tape = K.tells; link = L.tells })
         (outs_of K.taken K.faults L.told L.faults tape.old link.old)
         (moment (outs_of K.taken K.faults L.told L.faults tape.new link.new)

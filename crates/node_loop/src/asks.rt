@@ -20,7 +20,7 @@ use ritas_core::Answer;
 use std::alloc::Global;
 
 /// The request that a message is at a replica; of one with under 8 bytes the numbers are 0.
-#[tactic(auto, unfolding(client_port::specs::Messages::number_at))]
+#[tactic(auto, unfolding(client_port::specs::Messages::four_bytes_at))]
 pub(crate) fn asked_in(at: u8, bytes: &[u8]) -> Asked
     ensures { result ≡ asked_in at bytes.now }
 {
@@ -94,12 +94,12 @@ impl<S: Service, E: Broadcast, C: Coin + Drop> House<S, E, C> {
     ghost use Rattle.keyed_channel.specs.Notes.{ack_note, noted};
     ghost use Rattle.outside.specs.declared.link.LinkItem.TheVariants as items;
     ghost use Rattle.node_loop.specs.declared.output.More.TheVariants as mores;
-    ghost use Rattle.node_loop.specs.Calls.{called, silent, submitted, asked_so, asks, if_here, item_does, first_does};
+    ghost use Rattle.node_loop.specs.Calls.{event_called, silent, submitted, asked_so, asks, if_here, item_does, first_does};
     ghost use Rattle.node_loop.specs.Peers.{Peers, keep_all, with_mark};
     ghost use Rattle.node_loop.specs.Resending.{nothing_more, mark_at, is_deferred, noted_so, opened_so, item_brings};
-    ghost use Rattle.node_loop.specs.Serving.{made_by};
-    ghost use Rattle.node_loop.specs.Served.{AreHere, IsFirst};
-    ghost use Rattle.node_loop.specs.Standing.{HouseStands, Comes, IsClear, is_opened};
+    ghost use Rattle.node_loop.specs.Serving.{frames_made_by};
+    ghost use Rattle.node_loop.specs.Served.{AreHere, MayBegin};
+    ghost use Rattle.node_loop.specs.Standing.{HouseStands, ComesOut, IsEmptyOutput, is_answer_opened};
 
     // A message is an input of the replica at a place: what is refused is replied to, and what is taken waits for its row.
     fn submit(
@@ -112,9 +112,9 @@ impl<S: Service, E: Broadcast, C: Coin + Drop> House<S, E, C> {
     ) -> Result<(), Mem>
         ensures comes { let m = with_keys S.stands S.rules S.shown E.stands E.rules E.shown C.bits in
             (w : Setting) (es : List Event) (numbers : List ℕ) (ws : Waiting) (p : Peers) → HouseStands m w es numbers self.old ws p
-            → slice_get numbers place ≡ Some output.old.at → IsClear output.old
-            → OnOk result (Comes m w es numbers self.new output.new (submitted w es output.old.at conn bytes ws)
-            (nothing_more (keep_all (made_by w es (submitted w es output.old.at conn bytes ws).event) p))) }
+            → slice_get numbers place ≡ Some output.old.at → IsEmptyOutput output.old
+            → OnOk result (ComesOut m w es numbers self.new output.new (submitted w es output.old.at conn bytes ws)
+            (nothing_more (keep_all (frames_made_by w es (submitted w es output.old.at conn bytes ws).event) p))) }
         ensures sized { length bytes < 2 ^ 16 → OnOk result (IfSome output.new.event IsSized) }
     {
         let count = self.rows_at(place);
@@ -162,10 +162,10 @@ impl<S: Service, E: Broadcast, C: Coin + Drop> House<S, E, C> {
     ) -> Result<(), Mem>
         ensures comes { let m = with_keys S.stands S.rules S.shown E.stands E.rules E.shown C.bits in
             (w : Setting) (es : List Event) (numbers : List ℕ) (ws : Waiting) (p : Peers) → HouseStands m w es numbers self.old ws p
-            → slice_get numbers place ≡ Some output.old.at → IsClear output.old
+            → slice_get numbers place ≡ Some output.old.at → IsEmptyOutput output.old
             → let did = asked_so w es output.old.at conn bytes ws
             (position_of (rows_at w es output.old.at) (asked_in output.old.at bytes).client (asked_in output.old.at bytes).request) in
-            OnOk result (Comes m w es numbers self.new output.new did (nothing_more (keep_all (made_by w es did.event) p))) }
+            OnOk result (ComesOut m w es numbers self.new output.new did (nothing_more (keep_all (frames_made_by w es did.event) p))) }
         ensures sized { length bytes < 2 ^ 16 → IfSome output.old.event IsSized → OnOk result (IfSome output.new.event IsSized) }
     {
         let asked = asked_in(output.at, bytes.as_slice());
@@ -191,7 +191,7 @@ impl<S: Service, E: Broadcast, C: Coin + Drop> House<S, E, C> {
         ensures comes { let m = with_keys S.stands S.rules S.shown E.stands E.rules E.shown C.bits in
             (w : Setting) (es : List Event) (numbers : List ℕ) (ws : Waiting) (p : Peers) → HouseStands m w es numbers self.old ws p
             → let did = if_here w at (asks w es at conn bytes ws) ws in
-            OnOk result (Comes m w es numbers self.new output.new did (nothing_more (keep_all (made_by w es did.event) p))) }
+            OnOk result (ComesOut m w es numbers self.new output.new did (nothing_more (keep_all (frames_made_by w es did.event) p))) }
         ensures sized { length bytes < 2 ^ 16 → OnOk result (IfSome output.new.event IsSized) }
     {
         output.clear(at);
@@ -209,8 +209,8 @@ impl<S: Service, E: Broadcast, C: Coin + Drop> House<S, E, C> {
     fn note(&mut self, place: usize, bytes: &[u8], output: &mut Output)
         ensures comes { let m = with_keys S.stands S.rules S.shown E.stands E.rules E.shown C.bits in
             (w : Setting) (es : List Event) (numbers : List ℕ) (ws : Waiting) (p : Peers) → HouseStands m w es numbers self.old ws p
-            → slice_get numbers place ≡ Some output.old.at → IsClear output.old
-            → Comes m w es numbers self.new output.new (silent [] ws) (noted_so output.old.at p (noted (w.keys output.old.at) bytes.now)) }
+            → slice_get numbers place ≡ Some output.old.at → IsEmptyOutput output.old
+            → ComesOut m w es numbers self.new output.new (silent [] ws) (noted_so output.old.at p (noted (w.keys output.old.at) bytes.now)) }
         ensures none { output.new.event ≡ output.old.event }
     {
         noted_from_peer();
@@ -269,15 +269,15 @@ impl<S: Service, E: Broadcast, C: Coin + Drop> House<S, E, C> {
         answer: Result<Answer, Refusal>,
         output: &mut Output,
     )
-        ensures none { is_opened answer ≡ false → (self.new ≡ self.old) × (output.new.more ≡ output.old.more) }
+        ensures none { is_answer_opened answer ≡ false → (self.new ≡ self.old) × (output.new.more ≡ output.old.more) }
         ensures marks { let m = with_keys S.stands S.rules S.shown E.stands E.rules E.shown C.bits in
             (w : Setting) (es : List Event) (numbers : List ℕ) (ws : Waiting) (p : Peers) (at : ℕ) → HouseStands m w es numbers self.old ws p
-            → slice_get numbers place ≡ Some at → is_opened answer ≡ true → is_deferred (seen_answer answer) ≡ true
+            → slice_get numbers place ≡ Some at → is_answer_opened answer ≡ true → is_deferred (seen_answer answer) ≡ true
             → IfSome carried (λ frame. HouseStands m w es numbers self.new ws (with_mark at frame.from (Some (mark_at w es at frame.from)) p)
             × (output.new.more ≡ output.old.more)) }
         ensures takes { let m = with_keys S.stands S.rules S.shown E.stands E.rules E.shown C.bits in
             (w : Setting) (es : List Event) (numbers : List ℕ) (at : ℕ) → AreHere m w es numbers self.old.replicas.items
-            → slice_get numbers place ≡ Some at → is_opened answer ≡ true → is_deferred (seen_answer answer) ≡ false
+            → slice_get numbers place ≡ Some at → is_answer_opened answer ≡ true → is_deferred (seen_answer answer) ≡ false
             → IfSome carried (λ frame. frame.from < w.numbers.n
             → (self.new ≡ self.old) × (output.new.more ≡ mores.Note frame.from (ack_note (w.keys at) frame.from frame.seq))) }
         ensures same { (output.new.at ≡ output.old.at) × (output.new.event ≡ output.old.event) × (output.new.frames ≡ output.old.frames) × (output.new.replies ≡ output.old.replies) × (output.new.kept ≡ output.old.kept) }
@@ -305,9 +305,9 @@ impl<S: Service, E: Broadcast, C: Coin + Drop> House<S, E, C> {
     ) -> Result<(), Mem>
         ensures comes { let m = with_keys S.stands S.rules S.shown E.stands E.rules E.shown C.bits in
             (w : Setting) (es : List Event) (numbers : List ℕ) (ws : Waiting) (p : Peers) (at : ℕ) → HouseStands m w es numbers self.old ws p
-            → at ≡ output.old.at → slice_get numbers place ≡ Some at → IsClear output.old
-            → OnOk result (Comes m w es numbers self.new output.new (called w es at (Frame at bytes) ws)
-            (opened_so w es at bytes (keep_all (made_by w es (Some (Frame at bytes))) p) (opening (w.keys at) bytes))) }
+            → at ≡ output.old.at → slice_get numbers place ≡ Some at → IsEmptyOutput output.old
+            → OnOk result (ComesOut m w es numbers self.new output.new (event_called w es at (Frame at bytes) ws)
+            (opened_so w es at bytes (keep_all (frames_made_by w es (Some (Frame at bytes))) p) (opening (w.keys at) bytes))) }
         ensures sized { length bytes < 2 ^ 16 → OnOk result (IfSome output.new.event IsSized) }
     {
         opened_parts();
@@ -330,7 +330,7 @@ impl<S: Service, E: Broadcast, C: Coin + Drop> House<S, E, C> {
         ensures comes { let m = with_keys S.stands S.rules S.shown E.stands E.rules E.shown C.bits in
             (w : Setting) (es : List Event) (numbers : List ℕ) (ws : Waiting) (p : Peers) → HouseStands m w es numbers self.old ws p
             → let did = item_does w es (items.Frame to bytes) ws in
-            OnOk result (Comes m w es numbers self.new output.new did (item_brings w es (items.Frame to bytes) (keep_all (made_by w es did.event) p))) }
+            OnOk result (ComesOut m w es numbers self.new output.new did (item_brings w es (items.Frame to bytes) (keep_all (frames_made_by w es did.event) p))) }
         ensures sized { length bytes < 2 ^ 16 → OnOk result (IfSome output.new.event IsSized) }
     {
         output.clear(to);
@@ -348,7 +348,7 @@ impl<S: Service, E: Broadcast, C: Coin + Drop> House<S, E, C> {
     fn up(&mut self, at: u8, peer: u8, output: &mut Output)
         ensures comes { let m = with_keys S.stands S.rules S.shown E.stands E.rules E.shown C.bits in
             (w : Setting) (es : List Event) (numbers : List ℕ) (ws : Waiting) (p : Peers) → HouseStands m w es numbers self.old ws p
-            → Comes m w es numbers self.new output.new (silent [] ws) (item_brings w es (items.Up at peer) p) }
+            → ComesOut m w es numbers self.new output.new (silent [] ws) (item_brings w es (items.Up at peer) p) }
         ensures none { output.new.event ≡ None }
     {
         output.clear(at);
@@ -373,7 +373,7 @@ impl<S: Service, E: Broadcast, C: Coin + Drop> House<S, E, C> {
         ensures comes { let m = with_keys S.stands S.rules S.shown E.stands E.rules E.shown C.bits in
             (w : Setting) (es : List Event) (numbers : List ℕ) (ws : Waiting) (p : Peers) → HouseStands m w es numbers self.old ws p
             → let did = item_does w es item ws in
-            OnOk result (Comes m w es numbers self.new output.new did (item_brings w es item (keep_all (made_by w es did.event) p))) }
+            OnOk result (ComesOut m w es numbers self.new output.new did (item_brings w es item (keep_all (frames_made_by w es did.event) p))) }
         ensures sized { OnOk result (IfSome output.new.event IsSized) }
     {
         match item {
@@ -402,11 +402,11 @@ impl<S: Service, E: Broadcast, C: Coin + Drop> House<S, E, C> {
         item: &LinkItem,
         output: &mut Output,
     ) -> Result<(), Mem>
-        requires { IsFirst item.now }
+        requires { MayBegin item.now }
         ensures comes { let m = with_keys S.stands S.rules S.shown E.stands E.rules E.shown C.bits in
             (w : Setting) (es : List Event) (numbers : List ℕ) (ws : Waiting) (p : Peers) → HouseStands m w es numbers self.old ws p
             → let did = first_does w es item.now ws in
-            OnOk result (Comes m w es numbers self.new output.new did (nothing_more (keep_all (made_by w es did.event) p))) }
+            OnOk result (ComesOut m w es numbers self.new output.new did (nothing_more (keep_all (frames_made_by w es did.event) p))) }
         ensures sized { OnOk result (IfSome output.new.event IsSized) }
     {
         match item {

@@ -19,12 +19,12 @@ impl<S: Service, E: Broadcast, C: Coin + Drop> House<S, E, C> {
     ghost use Rattle.world_model.specs.World.{Setting, seen_of, seen_answer};
     ghost use Rattle.world_model.specs.Agree.{rows_at};
     ghost use Rattle.node_loop.specs.Waiting.{Waiting};
-    ghost use Rattle.node_loop.specs.Calls.{called, left_by, replies_by};
+    ghost use Rattle.node_loop.specs.Calls.{event_called, waiting_left_by, replies_by};
     ghost use Rattle.node_loop.specs.Peers.{Peers, keep_all};
     ghost use Rattle.node_loop.specs.Resending.{nothing_more};
-    ghost use Rattle.node_loop.specs.Serving.{made_by, sent_by};
+    ghost use Rattle.node_loop.specs.Serving.{frames_made_by, sent_by};
     ghost use Rattle.node_loop.specs.Served.{AreHere};
-    ghost use Rattle.node_loop.specs.Standing.{HouseStands, Comes, IsClear, frame_by, reply_by};
+    ghost use Rattle.node_loop.specs.Standing.{HouseStands, ComesOut, IsEmptyOutput, frame_by, reply_by};
 
     /// How many rows the log of the replica at a place has.
     pub(crate) fn rows_at(&self, place: usize) -> u32
@@ -79,7 +79,7 @@ impl<S: Service, E: Broadcast, C: Coin + Drop> House<S, E, C> {
     ) -> Result<(), Mem>
         ensures enters { let m = with_keys S.stands S.rules S.shown E.stands E.rules E.shown C.bits in
             (w : Setting) (es : List Event) (numbers : List ℕ) (ws : Waiting) (p : Peers) → HouseStands m w es numbers self.old ws p → slice_get numbers place ≡ Some output.old.at
-            → OnOk result (HouseStands m w es numbers self.new (left_by output.old.at count (rows_at w es output.old.at) ws) p
+            → OnOk result (HouseStands m w es numbers self.new (waiting_left_by output.old.at count (rows_at w es output.old.at) ws) p
             × (map (reply_by output.old.at) output.new.replies.items
             ≡ map (reply_by output.old.at) output.old.replies.items ++ replies_by output.old.at count (rows_at w es output.old.at) ws)) }
         ensures same { (output.new.at ≡ output.old.at) × (output.new.event ≡ output.old.event) × (output.new.frames ≡ output.old.frames) × (output.new.more ≡ output.old.more) × (output.new.kept ≡ output.old.kept) }
@@ -107,8 +107,8 @@ impl<S: Service, E: Broadcast, C: Coin + Drop> House<S, E, C> {
     ) -> Result<(), Mem>
         ensures comes { let m = with_keys S.stands S.rules S.shown E.stands E.rules E.shown C.bits in
             (w : Setting) (es : List Event) (numbers : List ℕ) (ws : Waiting) (p : Peers) → HouseStands m w es numbers self.old ws p → slice_get numbers place ≡ Some output.old.at
-            → IsAlone output.old.at event → IsClear output.old
-            → OnOk result (Comes m w es numbers self.new output.new (called w es output.old.at event ws) (nothing_more (keep_all (made_by w es (Some event)) p))) }
+            → IsAlone output.old.at event → IsEmptyOutput output.old
+            → OnOk result (ComesOut m w es numbers self.new output.new (event_called w es output.old.at event ws) (nothing_more (keep_all (frames_made_by w es (Some event)) p))) }
         ensures sized { IsSized event → OnOk result (IfSome output.new.event IsSized) }
     {
         let count = self.rows_at(place);
@@ -122,7 +122,7 @@ impl<S: Service, E: Broadcast, C: Coin + Drop> House<S, E, C> {
     pub(crate) fn turn(&mut self, alloc: Global, at: u8, output: &mut Output) -> Result<(), Mem>
         ensures comes { let m = with_keys S.stands S.rules S.shown E.stands E.rules E.shown C.bits in
             (w : Setting) (es : List Event) (numbers : List ℕ) (ws : Waiting) (p : Peers) → HouseStands m w es numbers self.old ws p → w.is_correct at ≡ true
-            → OnOk result (Comes m w es numbers self.new output.new (called w es at (Turn at) ws) (nothing_more (keep_all (made_by w es (Some (Turn at))) p))) }
+            → OnOk result (ComesOut m w es numbers self.new output.new (event_called w es at (Turn at) ws) (nothing_more (keep_all (frames_made_by w es (Some (Turn at))) p))) }
         ensures sized { OnOk result (IfSome output.new.event IsSized) }
     {
         output.clear(at);

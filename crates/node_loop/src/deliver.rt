@@ -16,12 +16,12 @@ ghost use Rattle.node_loop.specs.Waiting.{Waiting};
 ghost use Rattle.node_loop.specs.Peers.{Peers, keep_all};
 ghost use Rattle.node_loop.specs.PeersStanding.{AreKept, kept_by, made_as};
 ghost use Rattle.node_loop.specs.Resending.{Brought};
-ghost use Rattle.node_loop.specs.Outs.{Outs, Tells, Agrees, Steps, Fails, text_of};
+ghost use Rattle.node_loop.specs.Outs.{Outs, Tells, Agrees, StepsInOrder, IsFaultOfLink, events_text};
 ghost use Rattle.node_loop.specs.Serving.{Serving, Round, so_far, onto, at_call, outcome, brought, after_from};
-ghost use Rattle.node_loop.specs.Standing.{HouseStands, Comes, frame_by, reply_by};
-ghost use Rattle.node_loop.specs.Groups.{Fits, Holds, Joins, Under, IsEmpty, more_by, acts_by, acts_each, if_kept};
+ghost use Rattle.node_loop.specs.Standing.{HouseStands, ComesOut, frame_by, reply_by};
+ghost use Rattle.node_loop.specs.Groups.{FitsPeers, GroupHolds, JoinsGroup, Under, IsEmpty, more_by, acts_by, acts_each, if_kept};
 ghost use Rattle.node_loop.specs.Running.{Gathered, NotYet, Delivered, IsOfTape};
-ghost use Rattle.node_loop.specs.Archives.{IsSame, moment_of};
+ghost use Rattle.node_loop.specs.Archives.{AreSameOutlets, moment_of};
 
 use crate::archive::{Archive, ArchiveFault, Outlets, fault_in};
 use crate::end::Fault;
@@ -58,7 +58,7 @@ fn keep_frames<S: Service, E: Broadcast, C: Coin + Drop>(
 ) -> Result<(), Mem>
     ensures { let m = with_keys S.stands S.rules S.shown E.stands E.rules E.shown C.bits in
         (w : Setting) (es : List Event) (numbers : List ℕ) (did : Outcome) (more : Brought)
-        → Comes m w es numbers house.old output.now did more
+        → ComesOut m w es numbers house.old output.now did more
         → OnOk result (HouseStands m w (onto did.event es) numbers house.new did.waiting more.peers) }
 {
     keyed_channel::sealed_length();
@@ -127,7 +127,7 @@ fn send_again<R: Net + Wait, S: Service, E: Broadcast, C: Coin + Drop, L: Link>(
 ) -> Result<(), LinkFault>
     ensures { let m = with_keys S.stands S.rules S.shown E.stands E.rules E.shown C.bits in
         (w : Setting) (es : List Event) (numbers : List ℕ) (ws : Waiting) (p : Peers) → HouseStands m w es numbers house.now ws p
-        → Fits w p.keeping at (More.Kept peer)
+        → FitsPeers w p.keeping at (More.Kept peer)
         → LinkDid L.tells (each_act (kept_by at peer) (p.keeping at peer)) (L.told link.old) (L.told link.new) (L.faults link.old) (L.faults link.new) result }
 {
     let Some(place) = house.place_of(at) else {
@@ -156,7 +156,7 @@ fn send_more<R: Net + Wait, S: Service, E: Broadcast, C: Coin + Drop, L: Link>(
 ) -> Result<(), LinkFault>
     ensures { let m = with_keys S.stands S.rules S.shown E.stands E.rules E.shown C.bits in
         (w : Setting) (es : List Event) (numbers : List ℕ) (ws : Waiting) (p : Peers) → HouseStands m w es numbers house.now ws p
-        → Fits w p.keeping at more
+        → FitsPeers w p.keeping at more
         → LinkDid L.tells (more_by p.keeping at more) (L.told link.old) (L.told link.new) (L.faults link.old) (L.faults link.new) result }
 {
     match more {
@@ -176,7 +176,7 @@ fn send_out<R: Net + Wait, S: Service, E: Broadcast, C: Coin + Drop, L: Link>(
 ) -> Result<(), LinkFault>
     ensures { let m = with_keys S.stands S.rules S.shown E.stands E.rules E.shown C.bits in
         (w : Setting) (es : List Event) (numbers : List ℕ) (ws : Waiting) (p : Peers) → HouseStands m w es numbers house.now ws p
-        → Fits w p.keeping output.now.at output.now.more
+        → FitsPeers w p.keeping output.now.at output.now.more
         → LinkDid L.tells (acts_by p.keeping output.now) (L.told link.old) (L.told link.new) (L.faults link.old) (L.faults link.new) result }
 {
     let at = output.at;
@@ -201,7 +201,7 @@ fn send_each<R: Net + Wait, S: Service, E: Broadcast, C: Coin + Drop, L: Link>(
 ) -> Result<(), LinkFault>
     ensures { let m = with_keys S.stands S.rules S.shown E.stands E.rules E.shown C.bits in
         (w : Setting) (es : List Event) (numbers : List ℕ) (ws : Waiting) (p : Peers) → HouseStands m w es numbers house.now ws p
-        → AllByRecursion (λ o. Fits w p.keeping o.at o.more) outputs.now
+        → AllByRecursion (λ o. FitsPeers w p.keeping o.at o.more) outputs.now
         → LinkDid L.tells (acts_each (acts_by p.keeping) outputs.now) (L.told link.old) (L.told link.new) (L.faults link.old) (L.faults link.new) result }
 {
     for output in outputs {
@@ -234,7 +234,7 @@ fn reply_all<R: Net + Wait, L: Link>(
 
 // A fault of the link as one of serving.
 pub(crate) fn fault_of(fault: LinkFault) -> Fault
-    ensures { Fails fault result }
+    ensures { IsFaultOfLink fault result }
 {
     match fault {
         LinkFault::Failed => Fault::Link,
@@ -245,9 +245,9 @@ pub(crate) fn fault_of(fault: LinkFault) -> Fault
 /// Writes these events to the tape, the oldest first.
 pub(crate) fn write_events<K: Sink>(tape: &mut K, events: &[Event]) -> Result<(), Failed>
     requires { AllByRecursion IsSized events.now }
-    ensures whole { OnOk result ((K.faults tape.new ≡ K.faults tape.old) × (K.tells ≡ true → K.taken tape.new ≡ K.taken tape.old ++ text_of (reverse events.now))) }
+    ensures whole { OnOk result ((K.faults tape.new ≡ K.faults tape.old) × (K.tells ≡ true → K.taken tape.new ≡ K.taken tape.old ++ events_text (reverse events.now))) }
     ensures front { OnErr result ((K.faults tape.new ≡ count_after (K.faults tape.old)) × (K.faults tape.old ≤ K.faults tape.new)
-        × (K.tells ≡ true → TookFront (K.taken tape.old) (K.taken tape.new) (text_of (reverse events.now)))) }
+        × (K.tells ≡ true → TookFront (K.taken tape.old) (K.taken tape.new) (events_text (reverse events.now)))) }
 {
     for event in events {
         match Writer::event(tape, event) {
@@ -264,7 +264,7 @@ fn write<K: Sink>(alloc: Global, tape: &mut K, events: &[Event]) -> Result<(), F
     ensures own { IfErr result IsOfTape }
     ensures steps { (tells : Tells) (base : Outs) (told : List LinkAct) (link_faults : _) (older : List Event) (acts news : List LinkAct) → tells.tape ≡ K.tells
         → Agrees tells base (record { taken = K.taken tape.old; tape_faults = K.faults tape.old; told = told; link_faults = link_faults }) older acts
-        → Steps tells base (record { taken = K.taken tape.new; tape_faults = K.faults tape.new; told = told; link_faults = link_faults }) result
+        → StepsInOrder tells base (record { taken = K.taken tape.new; tape_faults = K.faults tape.new; told = told; link_faults = link_faults }) result
         (reverse events.now ++ older) acts acts news }
 {
     let mut text = Buffer::new(alloc);
@@ -308,8 +308,8 @@ pub(crate) fn gather<S: Service, E: Broadcast, C: Coin + Drop>(
     ensures joins { let m = with_keys S.stands S.rules S.shown E.stands E.rules E.shown C.bits in
         (w : Setting) (past : List Event) (numbers : List ℕ) (start : Serving) (x : Round) (newest older : List Round)
         → let s = after_from w past start (newest ++ older) in
-        Comes m w (so_far past (at_call x s)) numbers house.old output (outcome w past x s) (brought w past x s)
-        → Holds w past start newest older group.old → Joins newest x group.old
+        ComesOut m w (so_far past (at_call x s)) numbers house.old output (outcome w past x s) (brought w past x s)
+        → GroupHolds w past start newest older group.old → JoinsGroup newest x group.old
         → OnOk result (Under m w past numbers start (x ∷ newest) older house.new group.new) }
 {
     keep_frames(house, alloc, &output)?;
@@ -335,7 +335,7 @@ pub(crate) fn deliver<
     group: &mut Group,
 ) -> Result<(), Fault>
     requires { AllByRecursion IsSized group.old.events.items }
-    ensures same { IsSame out.old out.new }
+    ensures same { AreSameOutlets out.old out.new }
     ensures empty { OnOk result (IsEmpty group.new) }
     ensures goes { let m = with_keys S.stands S.rules S.shown E.stands E.rules E.shown C.bits in
         (head : List ℕ) (before : D) (w : Setting) (past : List Event) (numbers : List ℕ) (base : Outs) (taken until limit : ℕ) (start : Serving)

@@ -2,8 +2,8 @@
 ghost use Rattle.std.specs.Prelude.{◌≡◌, ◌++◌, ◌∷◌, ◌<◌, length, map, OnOk, Some};
 ghost use Rattle.client_port.specs.Messages.{position_reply};
 ghost use Rattle.command_log.specs.Rows.{Row, row_at};
-ghost use Rattle.node_loop.specs.Waiting.{Waiting, without};
-ghost use Rattle.node_loop.specs.Calls.{asked_by, left_by, replies_by, reply_each};
+ghost use Rattle.node_loop.specs.Waiting.{Waiting, without_asked};
+ghost use Rattle.node_loop.specs.Calls.{asked_by, waiting_left_by, replies_by, reply_each};
 ghost use Rattle.node_loop.specs.Standing.{IsWaiting, reply_by};
 
 use crate::output::Reply;
@@ -35,7 +35,7 @@ fn enter_row(
     replies: &mut Vec<Reply>,
 ) -> Result<(), Mem>
     ensures { (ws : Waiting) → IsWaiting waiting.old ws → OnOk result
-        (IsWaiting waiting.new (without (asked_by at row.now) ws)
+        (IsWaiting waiting.new (without_asked (asked_by at row.now) ws)
         × (map (reply_by at) replies.new.items ≡ map (reply_by at) replies.old.items
         ++ reply_each at (position_reply row.now.client row.now.request position) (ws (asked_by at row.now)))) }
 {
@@ -63,7 +63,7 @@ pub(crate) fn enter_rows(
     replies: &mut Vec<Reply>,
 ) -> Result<(), Mem>
     ensures { (ws : Waiting) → IsWaiting waiting.old ws → OnOk result
-        (IsWaiting waiting.new (left_by at count log.now.rows ws)
+        (IsWaiting waiting.new (waiting_left_by at count log.now.rows ws)
         × (map (reply_by at) replies.new.items ≡ map (reply_by at) replies.old.items ++ replies_by at count log.now.rows ws)) }
 {
     for position in count..log.len() {

@@ -1,6 +1,6 @@
 //! What is delivered together: what came of an item and of the turns behind it.
 ghost use Rattle.std.specs.Prelude.{◌≡◌, ◌++◌, ◌∷◌, [], ◌&&◌, not, None, OnOk};
-ghost use Rattle.node_loop.specs.Groups.{IsEmpty, is_again, listed};
+ghost use Rattle.node_loop.specs.Groups.{IsEmpty, is_again, event_listed};
 
 use crate::output::{More, Output};
 use ritas_base::{Event, Mem};
@@ -53,7 +53,7 @@ impl Group {
 
     /// What came of a round joins. The one error is want of memory.
     pub(crate) fn add(&mut self, mut output: Output) -> Result<(), Mem>
-        ensures events { OnOk result (self.new.events.items ≡ self.old.events.items ++ listed output.event) }
+        ensures events { OnOk result (self.new.events.items ≡ self.old.events.items ++ event_listed output.event) }
         ensures outputs { OnOk result (self.new.outputs.items ≡ self.old.outputs.items ++ record output { event = None } ∷ []) }
         ensures kept { OnOk result (self.new.kept ≡ output.kept) }
         ensures resends { OnOk result (self.new.resends ≡ is_again output.more) }

@@ -7,7 +7,7 @@ ghost use Rattle.world_model.specs.World.{Setting, states_of};
 ghost use Rattle.world_model.specs.Stands.{IsReplica};
 ghost use Rattle.world_model.specs.Agree.{rows_at};
 ghost use Rattle.node_loop.specs.Serving.{is_busy};
-ghost use Rattle.node_loop.specs.Standing.{is_less};
+ghost use Rattle.node_loop.specs.Standing.{is_before_other};
 
 use crate::output::{More, Output};
 use crate::peers::{Keeper, Pair};
@@ -27,7 +27,7 @@ pub(crate) struct House<S: Service, E: Broadcast, C: Coin + Drop> {
 
 // Whether a number is less than the least one, if there is one.
 fn is_less(number: u8, least: Option<u8>) -> bool
-    ensures { result ≡ is_less number least }
+    ensures { result ≡ is_before_other number least }
 {
     match least {
         Some(other) => number < other,
@@ -69,7 +69,7 @@ fn lesser<S: Service, E: Broadcast, C: Coin + Drop>(
 ) -> Option<u8>
     ensures { let m = with_keys S.stands S.rules S.shown E.stands E.rules E.shown C.bits in
         (w : Setting) (states : ℕ → CoreState) (i : ℕ) → IsReplica m w states i replica.now
-        → result ≡ (if is_busy (states i).inbox && is_less (w.keys i).me least then Some (w.keys i).me else least) }
+        → result ≡ (if is_busy (states i).inbox && is_before_other (w.keys i).me least then Some (w.keys i).me else least) }
 {
     let number = number_of(replica);
     if is_busy(replica) && is_less(number, least) {
@@ -89,10 +89,10 @@ impl<S: Service, E: Broadcast, C: Coin + Drop> House<S, E, C> {
     ghost use Rattle.node_loop.specs.Waiting.{Waiting, nobody};
     ghost use Rattle.node_loop.specs.Calls.{silent};
     ghost use Rattle.node_loop.specs.Peers.{Peers, no_peers, with_mark};
-    ghost use Rattle.node_loop.specs.Resending.{asks_for_more, due_at, due};
-    ghost use Rattle.node_loop.specs.Serving.{here, busy, is_done};
+    ghost use Rattle.node_loop.specs.Resending.{asks_for_more, peers_due, due};
+    ghost use Rattle.node_loop.specs.Serving.{here, busy, has_enough_rows};
     ghost use Rattle.node_loop.specs.Served.{AreHere};
-    ghost use Rattle.node_loop.specs.Standing.{HouseStands, IsMore, Comes, is_less};
+    ghost use Rattle.node_loop.specs.Standing.{HouseStands, IsMore, ComesOut, is_before_other};
 
     /// These replicas, at which nobody waits, and for whose peers nothing is kept. The one error is want of memory, and then the
     /// replicas are as they were.
@@ -148,7 +148,7 @@ impl<S: Service, E: Broadcast, C: Coin + Drop> House<S, E, C> {
         ensures { let m = with_keys S.stands S.rules S.shown E.stands E.rules E.shown C.bits in
             (w : Setting) (es : List Event) (numbers : List ℕ) (ws : Waiting) (p : Peers) (at : ℕ) → HouseStands m w es numbers self.now ws p
             → slice_get numbers place ≡ Some at
-            → MatchOption result (due_at w es p at ≡ []) (λ j. (more : List APair) × (due_at w es p at ≡ record { at = at; peer = j } ∷ more)) }
+            → MatchOption result (peers_due w es p at ≡ []) (λ j. (more : List APair) × (peers_due w es p at ≡ record { at = at; peer = j } ∷ more)) }
     {
         self.keepers.get(place)?.due(self.replicas.get(place)?)
     }
@@ -159,7 +159,7 @@ impl<S: Service, E: Broadcast, C: Coin + Drop> House<S, E, C> {
         ensures { let m = with_keys S.stands S.rules S.shown E.stands E.rules E.shown C.bits in
             (w : Setting) (es : List Event) (numbers : List ℕ) (ws : Waiting) (p : Peers) (at : ℕ) → HouseStands m w es numbers self.now ws p
             → slice_get numbers place ≡ Some at
-            → result ≡ (if nat_lt 0 (length (due_at w es p at)) && is_less number least then Some number else least) }
+            → result ≡ (if nat_lt 0 (length (peers_due w es p at)) && is_before_other number least then Some number else least) }
     {
         if self.due_at(place).is_some() && is_less(number, least) {
             Some(number)
@@ -173,7 +173,7 @@ impl<S: Service, E: Broadcast, C: Coin + Drop> House<S, E, C> {
         ensures { let m = with_keys S.stands S.rules S.shown E.stands E.rules E.shown C.bits in
             (w : Setting) (es : List Event) (numbers : List ℕ) (ws : Waiting) (p : Peers) → HouseStands m w es numbers self.now ws p
             → MatchOption result (due w es (here w) p ≡ []) (λ i. (more : List APair) × (w.is_correct i ≡ true)
-            × (nat_lt 0 (length (due_at w es p i)) ≡ true) × (due w es (here w) p ≡ due_at w es p i ++ more)) }
+            × (nat_lt 0 (length (peers_due w es p i)) ≡ true) × (due w es (here w) p ≡ peers_due w es p i ++ more)) }
     {
         let mut least: Option<u8> = None;
         for (place, replica) in self.replicas.iter().enumerate() {
@@ -228,7 +228,7 @@ impl<S: Service, E: Broadcast, C: Coin + Drop> House<S, E, C> {
         ensures comes { let m = with_keys S.stands S.rules S.shown E.stands E.rules E.shown C.bits in
             (w : Setting) (es : List Event) (numbers : List ℕ) (ws : Waiting) (p : Peers) → HouseStands m w es numbers self.old ws p
             → w.is_correct pair.at ≡ true → pair.peer < w.numbers.n
-            → Comes m w es numbers self.new output.new (silent [] ws) (asks_for_more pair.at pair.peer p) }
+            → ComesOut m w es numbers self.new output.new (silent [] ws) (asks_for_more pair.at pair.peer p) }
         ensures none { output.new.event ≡ None }
     {
         output.clear(pair.at);
@@ -243,7 +243,7 @@ impl<S: Service, E: Broadcast, C: Coin + Drop> House<S, E, C> {
     pub(crate) fn is_done(&self, until: u32) -> bool
         ensures { let m = with_keys S.stands S.rules S.shown E.stands E.rules E.shown C.bits in
             (w : Setting) (es : List Event) (numbers : List ℕ) → AreHere m w es numbers self.now.replicas.items
-            → result ≡ is_done w until es }
+            → result ≡ has_enough_rows w until es }
     {
         if until == 0 {
             return false;

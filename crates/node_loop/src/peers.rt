@@ -9,7 +9,7 @@ ghost use Rattle.world_model.specs.Stands.{IsReplica};
 ghost use Rattle.node_loop.specs.declared.peers.Pair.{Pair as APair};
 ghost use Rattle.node_loop.specs.Peers.{Peers, with_list, keeps, acknowledged, is_due_of};
 ghost use Rattle.node_loop.specs.PeersStanding.{AreKept, IsKeeper};
-ghost use Rattle.node_loop.specs.Resending.{progress_of, mark_at, due_at};
+ghost use Rattle.node_loop.specs.Resending.{replica_progress, mark_at, peers_due};
 
 use layer_api::{Broadcast, Service};
 use link_resume::{KeepFault, Resume};
@@ -46,7 +46,7 @@ pub(crate) struct Keeper {
 fn progress_of<S: Service, E: Broadcast, C: Coin + Drop>(replica: &Replica<S, E, C>) -> u64
     ensures { let m = with_keys S.stands S.rules S.shown E.stands E.rules E.shown C.bits in
         (w : Setting) (es : List Event) (i : ℕ) → IsWorld m.service m.cast w → IsReplica m w (states_of w es) i replica.now
-        → result ≡ progress_of (rules_at w i) (states_of w es i) w.numbers.n }
+        → result ≡ replica_progress (rules_at w i) (states_of w es i) w.numbers.n }
 {
     let service = replica.core().service();
     let mut progress = u64::from(service.completed());
@@ -176,7 +176,7 @@ impl Keeper {
         ensures { let m = with_keys S.stands S.rules S.shown E.stands E.rules E.shown C.bits in
             (w : Setting) (es : List Event) (i : ℕ) (p : Peers) → IsWorld m.service m.cast w → IsReplica m w (states_of w es) i replica.now
             → IsKeeper w.numbers.n i self.now p
-            → MatchOption result (due_at w es p i ≡ []) (λ j. (more : List APair) × (due_at w es p i ≡ record { at = i; peer = j } ∷ more)) }
+            → MatchOption result (peers_due w es p i ≡ []) (λ j. (more : List APair) × (peers_due w es p i ≡ record { at = i; peer = j } ∷ more)) }
     {
         if self.has_no_marks() {
             return None;

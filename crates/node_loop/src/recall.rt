@@ -91,7 +91,7 @@ impl<S: Service, E: Broadcast, C: Coin + Drop> House<S, E, C> {
     ghost use Rattle.node_loop.specs.Waiting.{Waiting, nobody};
     ghost use Rattle.node_loop.specs.Peers.{Peers, no_peers};
     ghost use Rattle.node_loop.specs.Recovering.{recalled, all_newest, recalled_waiting, recalled_peers};
-    ghost use Rattle.node_loop.specs.Serving.{made_by, sent_by};
+    ghost use Rattle.node_loop.specs.Serving.{frames_made_by, sent_by};
     ghost use Rattle.node_loop.specs.Standing.{HouseStands, frame_by};
     ghost use Rattle.node_loop.specs.Laws.{IsServed};
 
@@ -120,7 +120,7 @@ impl<S: Service, E: Broadcast, C: Coin + Drop> House<S, E, C> {
     fn recall(&mut self, alloc: Global, event: &Event, output: &mut Output) -> Result<(), Mem>
         ensures { let m = with_keys S.stands S.rules S.shown E.stands E.rules E.shown C.bits in
             (w : Setting) (es : List Event) (numbers : List ℕ) (ws : Waiting) (p : Peers) → HouseStands m w es numbers self.old ws p → IsServed w event.now
-            → OnOk result (HouseStands m w (event.now ∷ es) numbers self.new (recalled w es event.now ws).waiting (all_newest (made_by w es (Some event.now)) p)) }
+            → OnOk result (HouseStands m w (event.now ∷ es) numbers self.new (recalled w es event.now ws).waiting (all_newest (frames_made_by w es (Some event.now)) p)) }
     {
         keyed_channel::sealed_length();
         self.happen(alloc, event, output)?;

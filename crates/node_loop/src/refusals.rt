@@ -5,7 +5,7 @@ ghost use Rattle.world_model.specs.World.{seen_answer};
 ghost use Rattle.node_loop.specs.Calls.{fault_number, refusal_in};
 ghost use Rattle.node_loop.specs.Keeping.{is_kept_so};
 ghost use Rattle.node_loop.specs.Resending.{is_deferred};
-ghost use Rattle.node_loop.specs.Standing.{is_opened, TellsWant};
+ghost use Rattle.node_loop.specs.Standing.{is_answer_opened, TellsWant};
 
 use frame_codec::BodyFault;
 use replica::Refusal;
@@ -52,7 +52,7 @@ pub(crate) fn refusal_in(answer: Result<Answer, Refusal>) -> Option<u32>
 
 /// Whether a frame that was answered so opened.
 pub(crate) fn is_opened(answer: Result<Answer, Refusal>) -> bool
-    ensures { result ≡ is_opened answer }
+    ensures { result ≡ is_answer_opened answer }
 {
     !matches!(answer, Err(Refusal::Open(_)))
 }

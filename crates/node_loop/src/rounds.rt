@@ -12,10 +12,10 @@ ghost use Rattle.node_loop.specs.Peers.{Peers, no_peers};
 ghost use Rattle.node_loop.specs.Serving.{Serving, begin, so_far, wants_of, Round, Began, Turned, Reminded, Took, after_from};
 ghost use Rattle.node_loop.specs.Outs.{Outs, outs_of, Agrees};
 ghost use Rattle.node_loop.specs.Standing.{HouseStands};
-ghost use Rattle.node_loop.specs.Served.{AreHere, IsFirst, Serves};
+ghost use Rattle.node_loop.specs.Served.{AreHere, MayBegin, Serves};
 ghost use Rattle.node_loop.specs.ServedKept.{ServesKept};
-ghost use Rattle.node_loop.specs.Archives.{IsSame, moment, moment_of};
-ghost use Rattle.node_loop.specs.Groups.{IsEmpty, Joins, Under};
+ghost use Rattle.node_loop.specs.Archives.{AreSameOutlets, moment, moment_of};
+ghost use Rattle.node_loop.specs.Groups.{IsEmpty, JoinsGroup, Under};
 ghost use Rattle.node_loop.specs.Running.{Running, RanRound, Gathered, NotYet, FellShortOf, Delivered, IsNext, IsEndOf};
 
 use crate::archive::{Archive, NoArchive, NoDisk, Outlets};
@@ -101,7 +101,7 @@ fn remind<S: Service, E: Broadcast, C: Coin + Drop>(
     ensures sized { OnOk result (AllByRecursion IsSized group.new.events.items) }
     ensures joins { let m = with_keys S.stands S.rules S.shown E.stands E.rules E.shown C.bits in
         (w : Setting) (past : List Event) (numbers : List ℕ) (start : Serving) (newest older : List Round)
-        → Under m w past numbers start newest older house.old group.old → Joins newest (Reminded pair.at pair.peer) group.old
+        → Under m w past numbers start newest older house.old group.old → JoinsGroup newest (Reminded pair.at pair.peer) group.old
         → w.is_correct pair.at ≡ true → pair.peer < w.numbers.n
         → OnOk result (Under m w past numbers start (Reminded pair.at pair.peer ∷ newest) older house.new group.new) }
 {
@@ -121,7 +121,7 @@ fn turn<S: Service, E: Broadcast, C: Coin + Drop>(
     ensures sized { OnOk result (AllByRecursion IsSized group.new.events.items) }
     ensures joins { let m = with_keys S.stands S.rules S.shown E.stands E.rules E.shown C.bits in
         (w : Setting) (past : List Event) (numbers : List ℕ) (start : Serving) (newest older : List Round)
-        → Under m w past numbers start newest older house.old group.old → Joins newest (Turned at) group.old
+        → Under m w past numbers start newest older house.old group.old → JoinsGroup newest (Turned at) group.old
         → w.is_correct at ≡ true
         → OnOk result (Under m w past numbers start (Turned at ∷ newest) older house.new group.new) }
 {
@@ -142,7 +142,7 @@ fn take<S: Service, E: Broadcast, C: Coin + Drop>(
     ensures sized { OnOk result (AllByRecursion IsSized group.new.events.items) }
     ensures joins { let m = with_keys S.stands S.rules S.shown E.stands E.rules E.shown C.bits in
         (w : Setting) (past : List Event) (numbers : List ℕ) (start : Serving) (newest older : List Round)
-        → Under m w past numbers start newest older house.old group.old → Joins newest (Took item) group.old
+        → Under m w past numbers start newest older house.old group.old → JoinsGroup newest (Took item) group.old
         → OnOk result (Under m w past numbers start (Took item ∷ newest) older house.new group.new) }
 {
     let mut output = Output::new(alloc);
@@ -158,11 +158,11 @@ fn take_first<S: Service, E: Broadcast, C: Coin + Drop>(
     group: &mut Group,
 ) -> Result<(), Mem>
     requires sized { AllByRecursion IsSized group.old.events.items }
-    requires first { IsFirst item.now }
+    requires first { MayBegin item.now }
     ensures sized { OnOk result (AllByRecursion IsSized group.new.events.items) }
     ensures joins { let m = with_keys S.stands S.rules S.shown E.stands E.rules E.shown C.bits in
         (w : Setting) (past : List Event) (numbers : List ℕ) (start : Serving) (newest older : List Round)
-        → Under m w past numbers start newest older house.old group.old → Joins newest (Began item.now) group.old
+        → Under m w past numbers start newest older house.old group.old → JoinsGroup newest (Began item.now) group.old
         → OnOk result (Under m w past numbers start (Began item.now ∷ newest) older house.new group.new) }
 {
     let mut output = Output::new(alloc);
@@ -221,7 +221,7 @@ fn finish<
     group: &mut Group,
 ) -> Result<(), ServeEnd>
     requires { AllByRecursion IsSized group.old.events.items }
-    ensures same { IsSame out.old out.new }
+    ensures same { AreSameOutlets out.old out.new }
     ensures empty { OnOk result (IsEmpty group.new) }
     ensures goes { let m = with_keys S.stands S.rules S.shown E.stands E.rules E.shown C.bits in
         (head : List ℕ) (before : D) (w : Setting) (past : List Event) (numbers : List ℕ) (base : Outs) (start : Serving) (older : List Round) (given : List LinkAct)
@@ -263,7 +263,7 @@ fn run_turns<
     group: &mut Group,
 ) -> Result<(), ServeEnd>
     requires empty { IsEmpty group.old }
-    ensures same { IsSame out.old out.new }
+    ensures same { AreSameOutlets out.old out.new }
     ensures empty { OnOk result (IsEmpty group.new) }
     ensures goes { let m = with_keys S.stands S.rules S.shown E.stands E.rules E.shown C.bits in
         (head : List ℕ) (before : D) (w : Setting) (past : List Event) (numbers : List ℕ) (base : Outs) (start : Serving)
@@ -302,7 +302,7 @@ fn run_remind<
     group: &mut Group,
 ) -> Result<(), ServeEnd>
     requires empty { IsEmpty group.old }
-    ensures same { IsSame out.old out.new }
+    ensures same { AreSameOutlets out.old out.new }
     ensures empty { OnOk result (IsEmpty group.new) }
     ensures goes { let m = with_keys S.stands S.rules S.shown E.stands E.rules E.shown C.bits in
         (head : List ℕ) (before : D) (w : Setting) (past : List Event) (numbers : List ℕ) (base : Outs) (start : Serving)
@@ -345,7 +345,7 @@ fn run_item<
 ) -> Result<(), ServeEnd>
     requires room { taken.old < bounds.limit }
     requires empty { IsEmpty group.old }
-    ensures same { IsSame out.old out.new }
+    ensures same { AreSameOutlets out.old out.new }
     ensures empty { OnOk result (IsEmpty group.new) }
     ensures goes { let m = with_keys S.stands S.rules S.shown E.stands E.rules E.shown C.bits in
         (head : List ℕ) (before : D) (w : Setting) (past : List Event) (numbers : List ℕ) (base : Outs) (start : Serving)
@@ -391,7 +391,7 @@ fn run_group<
     group: &mut Group,
 ) -> Result<(), ServeEnd>
     requires empty { IsEmpty group.old }
-    ensures same { IsSame out.old out.new }
+    ensures same { AreSameOutlets out.old out.new }
     ensures empty { OnOk result (IsEmpty group.new) }
     ensures goes { let m = with_keys S.stands S.rules S.shown E.stands E.rules E.shown C.bits in
         (head : List ℕ) (before : D) (w : Setting) (past : List Event) (numbers : List ℕ) (base : Outs) (start : Serving)
@@ -430,7 +430,7 @@ pub(crate) fn go_on<
     group: &mut Group,
 ) -> ServeEnd
     requires { IsEmpty group.old }
-    ensures same { IsSame out.old out.new }
+    ensures same { AreSameOutlets out.old out.new }
     ensures goes { let m = with_keys S.stands S.rules S.shown E.stands E.rules E.shown C.bits in
         (head : List ℕ) (before : D) (w : Setting) (past : List Event) (numbers : List ℕ) (base : Outs) (start : Serving)
         → Running m w past numbers house.old (record { tape = K.tells; link = L.tells }) base
@@ -468,9 +468,9 @@ fn begin<
     first: &[LinkItem],
     group: &mut Group,
 ) -> Result<(), Fault>
-    requires first { All IsFirst first.now }
+    requires first { All MayBegin first.now }
     requires empty { IsEmpty group.old }
-    ensures same { IsSame out.old out.new }
+    ensures same { AreSameOutlets out.old out.new }
     ensures empty { OnOk result (IsEmpty group.new) }
     ensures goes { let m = with_keys S.stands S.rules S.shown E.stands E.rules E.shown C.bits in
         (head : List ℕ) (before : D) (w : Setting) (past : List Event) (numbers : List ℕ) (base : Outs) (until limit : ℕ)
@@ -511,8 +511,8 @@ fn serve_house<
     bounds: Bounds,
     first: &[LinkItem],
 ) -> ServeEnd
-    requires { All IsFirst first.now }
-    ensures same { IsSame out.old out.new }
+    requires { All MayBegin first.now }
+    ensures same { AreSameOutlets out.old out.new }
     ensures goes { let m = with_keys S.stands S.rules S.shown E.stands E.rules E.shown C.bits in
         (head : List ℕ) (before : D) (w : Setting) (past : List Event) (numbers : List ℕ) → HouseStands m w past numbers house.old nobody no_peers
         → A.stands head before past out.old.archive.now out.old.disk.now []
@@ -549,7 +549,7 @@ fn serve_with<
     bounds: Bounds,
     first: &[LinkItem],
 ) -> ServeEnd
-    requires { All IsFirst first.now }
+    requires { All MayBegin first.now }
     ensures { let m = with_keys S.stands S.rules S.shown E.stands E.rules E.shown C.bits in
         (head : List ℕ) (before : D) (w : Setting) (past : List Event) (numbers : List ℕ) → HouseStands m w past numbers house.old nobody no_peers
         → A.stands head before past archive.old disk.old []
@@ -606,7 +606,7 @@ pub fn serve<R: Net + Wait, S: Service, E: Broadcast, C: Coin + Drop, L: Link, K
     until: u32,
     first: &Vec<LinkItem>,
 ) -> ServeEnd
-    requires { All IsFirst first.now.items }
+    requires { All MayBegin first.now.items }
     ensures { let m = with_keys S.stands S.rules S.shown E.stands E.rules E.shown C.bits in
         (w : Setting) (past : List Event) (numbers : List ℕ) → AreHere m w past numbers replicas.old.items
         → Serves m w past numbers replicas.new.items (record { tape = K.tells; link = L.tells })

@@ -2,7 +2,7 @@
 
 ghost use Rattle.std.specs.Prelude.{◌<◌, ◌^◌, length, All, IfOk, OnOk};
 ghost use Rattle.outside.specs.MemoryLink.{IsShort};
-ghost use Rattle.node_loop.specs.Served.{IsFirst};
+ghost use Rattle.node_loop.specs.Served.{MayBegin};
 
 use crate::{ServeEnd, serve};
 use atomic_bcast::CmdRoot;
@@ -34,9 +34,9 @@ fn alone(rt: &impl Abort, alloc: Global) -> Result<Vec<Replica<CmdRoot, Rb, Seed
 // A message of a client more.
 fn add(items: &mut Vec<LinkItem>, alloc: Global, at: u8, conn: u32, bytes: &[u8]) -> Result<(), Mem>
     requires short { length bytes.now < 2 ^ 16 }
-    requires firsts { All IsFirst items.old.items }
+    requires firsts { All MayBegin items.old.items }
     requires shorts { All IsShort items.old.items }
-    ensures firsts { OnOk result (All IsFirst items.new.items) }
+    ensures firsts { OnOk result (All MayBegin items.new.items) }
     ensures shorts { OnOk result (All IsShort items.new.items) }
 {
     let bytes = Bytes::from_slice(alloc, bytes)?;
@@ -57,7 +57,7 @@ fn three(alloc: Global) -> Result<Vec<LinkItem>, Mem>
 
 // One that is refused.
 fn one(alloc: Global) -> Result<Vec<LinkItem>, Mem>
-    ensures firsts { IfOk result (λ v. All IsFirst v.items) }
+    ensures firsts { IfOk result (λ v. All MayBegin v.items) }
     ensures shorts { IfOk result (λ v. All IsShort v.items) }
 {
     let mut items = Vec::new(alloc);

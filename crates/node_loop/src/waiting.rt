@@ -1,6 +1,6 @@
 //! Who waits for which request.
 ghost use Rattle.std.specs.Prelude.{◌≡◌, ◌==◌, ℕ, List, [], not, Some, OnOk, OnErr, if◌then◌else◌};
-ghost use Rattle.node_loop.specs.Waiting.{Waiting as waiting, nobody, is_conn, joined, with_waiter, without_conn, left_off, without};
+ghost use Rattle.node_loop.specs.Waiting.{Waiting as waiting, nobody, is_conn, joined, with_waiter, without_conn, left_off, without_asked};
 ghost use Rattle.node_loop.specs.Calls.{is_waited_for};
 ghost use Rattle.node_loop.specs.Standing.{IsWaiting};
 
@@ -105,7 +105,7 @@ impl Waiters {
     /// Those that wait for this request, who then don't wait any more.
     pub(crate) fn take(&mut self, alloc: Global, asked: Asked) -> Vec<Option<u32>>
         ensures those { (ws : waiting) → IsWaiting self.old ws → result.items ≡ ws asked }
-        ensures rest { (ws : waiting) → IsWaiting self.old ws → IsWaiting self.new (without asked ws) }
+        ensures rest { (ws : waiting) → IsWaiting self.old ws → IsWaiting self.new (without_asked asked ws) }
     {
         match self.by_request.remove(&asked) {
             Some(conns) => conns,

@@ -5,7 +5,7 @@ use Rattle.outside.specs.declared.link.Sent.{Sent}
 use Rattle.world_model.specs.World.{Setting}
 use Rattle.world_model.specs.MadeOrder.{MadeFrame}
 use Rattle.node_loop.specs.Deeds.{Deed, Made, Replied, pushed}
-use Rattle.node_loop.specs.Serving.{Serving, so_far, Round, Began, Turned, Reminded, Took, outcome, brought, made_by, after_from, came, with_deeds, deeds_from}
+use Rattle.node_loop.specs.Serving.{Serving, so_far, Round, Began, Turned, Reminded, Took, outcome, brought, frames_made_by, after_from, came, with_deeds, deeds_from}
 
 pushed_behind : (xs ds e : List Deed) → pushed xs (ds ++ e) ≡ pushed xs ds ++ e
 pushed_behind [] ds e = refl
@@ -28,7 +28,7 @@ pub deeds_behind : (w : Setting) (past : List Event) (start : Serving) (e : List
 deeds_behind w past start e [] = refl
 deeds_behind w past start e (x ∷ xs) =
     let s = after_from w past start xs in
-    let frames = made_by w (so_far past s) (outcome w past x s).event in
+    let frames = frames_made_by w (so_far past s) (outcome w past x s).event in
     let more = (brought w past x s).deeds in
     let replies = (outcome w past x s).replies in
     let ds = deeds_from w past start [] xs in

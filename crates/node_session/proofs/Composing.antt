@@ -12,7 +12,7 @@ use Rattle.schedule_file.specs.Spelling.{header_text}
 use Rattle.schedule_file.specs.declared.header.Header.{Header}
 use Rattle.node_loop.specs.declared.end.ServeEnd.{ServeEnd}
 use Rattle.node_loop.specs.declared.end.ServeEnd.TheVariants as ends
-use Rattle.node_loop.specs.Outs.{Outs, Tells, Agrees, text_of}
+use Rattle.node_loop.specs.Outs.{Outs, Tells, Agrees, events_text}
 use Rattle.node_loop.specs.Serving.{Serving, Want, Begins, Finishes, Turns, Halts, Reminds, Asks}
 use Rattle.node_session.specs.Session.{TookAll, TookPart, last_acts, NotStarted, SessionEnds}
 use Rattle.node_session.specs.Opening.{HasBegun, HasFailed}
@@ -68,23 +68,23 @@ module _ (h : Header) (plan : LinkPlan) (tells : Tells) where
   pub all_taken : (base mid now last : Outs) (events : List Event) (acts : List LinkAct) → HasBegun (heading h) plan tells base mid → Agrees tells mid now events acts
       → (tells.tape ≡ true → last.taken ≡ now.taken ++ 0 ∷ []) → last.told ≡ now.told → last.tape_faults ≡ now.tape_faults → last.link_faults ≡ now.link_faults → TookAll h plan tells base last events acts
   all_taken base mid now last events acts begun served closed same tape link = record {
-    file = λ t. in_file base.taken mid.taken now.taken last.taken (text_of events) (0 ∷ []) (begun.taken t) (served.taken t) (closed t);
+    file = λ t. in_file base.taken mid.taken now.taken last.taken (events_text events) (0 ∷ []) (begun.taken t) (served.taken t) (closed t);
     told = λ t. same ∙ told_all base.told mid.told now.told acts (begun.told t) (served.told t);
     none_failed = (tape ∙ (served.tape_stands ∙ begun.tape_stands), link ∙ (served.link_stands ∙ begun.link_stands));
   }
 
   pub part_taken : (base mid now : Outs) (events : List Event) (acts more : List LinkAct) → HasBegun (heading h) plan tells base mid
-      → (tells.tape ≡ true → TookFront mid.taken now.taken (text_of events)) → (tells.link ≡ true → TookBack mid.told now.told acts)
+      → (tells.tape ≡ true → TookFront mid.taken now.taken (events_text events)) → (tells.link ≡ true → TookBack mid.told now.told acts)
       → TookPart h plan tells base now events (more ++ acts)
   part_taken base mid now events acts more begun taken told = record {
-    file = λ t. front_in_file base.taken mid.taken now.taken (text_of events) (begun.taken t) (taken t);
+    file = λ t. front_in_file base.taken mid.taken now.taken (events_text events) (begun.taken t) (taken t);
     told = λ t. told_part base.told mid.told now.told acts more (begun.told t) (told t);
   }
 
   pub mark_lost : (base mid now last : Outs) (events : List Event) (acts : List LinkAct) → HasBegun (heading h) plan tells base mid → Agrees tells mid now events acts
       → (tells.tape ≡ true → TookFront now.taken last.taken (0 ∷ [])) → last.told ≡ now.told → TookPart h plan tells base last events acts
   mark_lost base mid now last events acts begun served lost same = record {
-    file = λ t. mark_in_file base.taken mid.taken now.taken last.taken (text_of events) (begun.taken t) (served.taken t) (lost t);
+    file = λ t. mark_in_file base.taken mid.taken now.taken last.taken (events_text events) (begun.taken t) (served.taken t) (lost t);
     told = λ t. told_part base.told mid.told last.told acts [] (begun.told t)
         (record { rest = []; back = acts; parts = refl; told = same ∙ served.told t });
   }
@@ -113,8 +113,8 @@ module _ (h : Header) (plan : LinkPlan) (tells : Tells) where
       part more = record {
         file = λ t. let part = failed.taken t in record {
           front = part.front;
-          rest = part.rest ++ (text_of s.events ++ 0 ∷ []);
-          parts = ap (λ l. l ++ (text_of s.events ++ 0 ∷ [])) part.parts ∙ append_assoc part.front part.rest (text_of s.events ++ 0 ∷ []);
+          rest = part.rest ++ (events_text s.events ++ 0 ∷ []);
+          parts = ap (λ l. l ++ (events_text s.events ++ 0 ∷ [])) part.parts ∙ append_assoc part.front part.rest (events_text s.events ++ 0 ∷ []);
           taken = part.taken;
         };
         told = λ t. record { rest = (more ++ s.acts) ++ Starts plan ∷ []; back = []; parts = sym (append-nil ((more ++ s.acts) ++ Starts plan ∷ [])); told = failed.told t };

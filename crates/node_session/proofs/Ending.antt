@@ -13,7 +13,7 @@ use Rattle.ritas_core.specs.Stands.{Meaning}
 use Rattle.world_model.specs.World.{Setting}
 use Rattle.node_loop.specs.declared.end.ServeEnd.{ServeEnd}
 use Rattle.node_loop.specs.declared.end.ServeEnd.TheVariants as ends
-use Rattle.node_loop.specs.Outs.{Outs, TapeFailed, LinkFailed, FellShort, Tells, Agrees, Stops}
+use Rattle.node_loop.specs.Outs.{Outs, TapeFailed, LinkFailed, FellShort, Tells, Agrees, StopsPartway}
 use Rattle.node_loop.specs.Served.{Breaks, EndsSo, Whole}
 use Rattle.node_loop.specs.Serving.{Serving, Want, Finishes, Halts, Asks}
 use Rattle.node_session.specs.declared.session.Session.{Session}
@@ -47,7 +47,7 @@ module _ (x : Session) (w : Setting) (tells : Tells) where
           )
 
       -- a fault came
-      pub breaks : (fault : _) (more : List LinkAct) → Stops tells mid now fault s.events sooner news → s.acts ≡ news ++ sooner → last ≡ now
+      pub breaks : (fault : _) (more : List LinkAct) → StopsPartway tells mid now fault s.events sooner news → s.acts ≡ news ++ sooner → last ≡ now
           → TookPart x.header x.plan tells base last s.events (more ++ s.acts)
       breaks fault more stops both same =
           subst (λ (o : Outs). TookPart x.header x.plan tells base o s.events (more ++ s.acts)) (sym same)

@@ -17,7 +17,7 @@ use Rattle.cluster_config.specs.declared.requests.Request.{Request}
 use Rattle.cluster_config.specs.Cluster.{cluster_text}
 use Rattle.cluster_config.specs.Node.{node_text}
 use Rattle.cluster_config.specs.Ranges.{FitsNode, FitsCluster}
-use Rattle.node_loop.specs.Served.{IsFirst}
+use Rattle.node_loop.specs.Served.{MayBegin}
 use Rattle.node_session.specs.Configs.{node_header, node_session, cluster_header, first_item}
 use Rattle.node_session.specs.Session.{IsServable}
 
@@ -36,7 +36,7 @@ node_heading config session numbers places keys coin fits = record {
 
 -- the session of a node may be served
 pub node_servable : (config : NodeConfig) (first : List LinkItem) → config.session < 2 ^ 64 → IsSession config.p → length config.key_row ≡ 31 → AllByRecursion IsKey config.key_row
-    → length config.coin_key ≡ 32 → FitsNode (node_text config) → All IsFirst first → IsServable (node_session config) first
+    → length config.coin_key ≡ 32 → FitsNode (node_text config) → All MayBegin first → IsServable (node_session config) first
 node_servable config first session numbers places keys coin fits firsts = record {
   heading = node_heading config session numbers places keys coin fits;
   atomic = fits.root;
@@ -55,16 +55,16 @@ cluster_heading config session numbers master fits = record {
 
 -- ---- requests
 
-short_first : (r : Request) → length r.payload ≤ 4088 → IsFirst (first_item r)
+short_first : (r : Request) → length r.payload ≤ 4088 → MayBegin (first_item r)
 short_first r short =
     omega (arith, short, length-append (to_be_bytes w32 r.client) (to_be_bytes w32 r.request ++ r.payload), length-append (to_be_bytes w32 r.request) r.payload)
 
-all_first : (rs : List Request) → AllByRecursion (λ r. length r.payload ≤ 4088) rs → AllByRecursion IsFirst (map first_item rs)
+all_first : (rs : List Request) → AllByRecursion (λ r. length r.payload ≤ 4088) rs → AllByRecursion MayBegin (map first_item rs)
 all_first [] all = tt
 all_first (r ∷ rs) all = (short_first r all.0, all_first rs all.1)
 
-pub are_first : (rs : List Request) → AllByRecursion (λ r. length r.payload ≤ 4088) rs → All IsFirst (map first_item rs)
-are_first rs all = All-from_recursion IsFirst (map first_item rs) (all_first rs all)
+pub are_first : (rs : List Request) → AllByRecursion (λ r. length r.payload ≤ 4088) rs → All MayBegin (map first_item rs)
+are_first rs all = All-from_recursion MayBegin (map first_item rs) (all_first rs all)
 
 -- one more of them
 pub first_more : (rs : List Request) (at : ℕ) (r : Request) (xs ys zs : List LinkItem) (item : LinkItem) → slice_get rs at ≡ Some r → xs ≡ map first_item (take at rs)

@@ -15,7 +15,7 @@ use Rattle.world_model.specs.EveryWorld.{IsWorld, AgreementLaw}
 use Rattle.world_model.specs.MadeOrder.{all_made}
 use Rattle.node_loop.specs.Deeds.{firsts_in}
 use Rattle.node_loop.specs.Laws.{ActsAreDeeds, FramesAreMade, ResendsAreOpen, RecalledAreSent, RecalledAreOpen, AcksAreEarned, EventsFit, RepliesAreTrue, IsServed}
-use Rattle.node_loop.specs.Served.{IsFirst}
+use Rattle.node_loop.specs.Served.{MayBegin}
 use Rattle.node_loop.proofs.AfterPast.{record_served}
 use Rattle.node_session.proofs.Sessions.{all_back, is_true}
 use Rattle.ritas_base.specs.declared.event.Event.{Event}
@@ -191,7 +191,7 @@ is_life h w is service other kind numbers correct done made kept earned fit repl
     let past = reverse events in
     let made_first : all_made w past ≡ reverse (firsts_in (recalled_deeds w past)) = sym (ap reverse (again w past).1 ∙ reverse-reverse (all_made w past)) in
     is_true h w is service other kind numbers correct done made kept earned fit replied agreed past until limit (recovered w past) (recalled_deeds w past) rounds refl refl
-    (All-from_recursion IsFirst [] tt) made_first (sent w past) (again w past).0 (all_back (IsServed w) events (record_served w me events right own)) wanted
+    (All-from_recursion MayBegin [] tt) made_first (sent w past) (again w past).0 (all_back (IsServed w) events (record_served w me events right own)) wanted
 
 module _ (x : Session) (past : List Event) (w : Setting) (tells : Tells) (stands : List Event → Type 0) (fails : ArchiveFault → List Event → List Event → Type 0)
     (session : (rounds : List Round) → AreWantedFrom w past x.until x.limit (recovered w past) rounds

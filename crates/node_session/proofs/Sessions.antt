@@ -15,7 +15,7 @@ use Rattle.ritas_core.specs.Rules.{HasForm}
 use Rattle.outside.specs.Links.{LinkAct, replies_in}
 use Rattle.outside.specs.declared.link.LinkItem.{LinkItem}
 use Rattle.schedule_file.specs.ReadHeader.{heading}
-use Rattle.schedule_file.specs.Spelling.{IsHeading, IsEvent, IsSized, MayStand, AreKeys}
+use Rattle.schedule_file.specs.Spelling.{IsHeading, IsEvent, IsSized, MayStand, AreHeaderKeys}
 use Rattle.schedule_file.specs.declared.header.Header.{Header}
 use Rattle.ritas_base.specs.declared.mode.FrameVersion.{FrameVersion}
 use Rattle.schedule_file.specs.declared.header.HeaderKeys.{HeaderKeys}
@@ -32,9 +32,9 @@ use Rattle.node_loop.specs.declared.end.ServeEnd.{ServeEnd}
 use Rattle.node_loop.specs.Deeds.{Deed, firsts_in}
 use Rattle.node_loop.specs.Laws.{sent_as, ActsAreDeeds, FramesAreMade, AllSent, AreOpen, ResendsAreOpen, AcksAreEarned, RepliesAreTrue, EventsFit, IsServed, IsTrueReply}
 use Rattle.node_loop.specs.Outs.{Outs, Tells}
-use Rattle.node_loop.specs.Served.{IsFirst, Serves}
+use Rattle.node_loop.specs.Served.{MayBegin, Serves}
 use Rattle.node_loop.specs.ServingLaws.{acts_of}
-use Rattle.node_loop.specs.Serving.{Serving, begin, so_far, Round, after, after_from, deeds_of, deeds_from, sooner, newest, wants, AreWanted, AreWantedFrom}
+use Rattle.node_loop.specs.Serving.{Serving, begin, so_far, Round, serving_after, after_from, deeds_of, deeds_from, sooner, newest, wants, AreWanted, AreWantedFrom}
 use Rattle.node_session.specs.declared.session.Session.{Session}
 use Rattle.node_session.specs.Session.{IsTrueSession, ServesSession}
 use Rattle.node_session.specs.Opening.{HasBegun, HasFailed, Closes, is_reason}
@@ -76,7 +76,7 @@ at_me : (me mask i : ℕ) → mask ≡ 2 ^ me → has_member mask i ≡ true →
 at_me me mask i is member = alone_member me i (subst (λ (m : ℕ). has_member m i ≡ true) is member)
 
 -- an event of a correct replica may stand behind the header
-stands : (n mask : ℕ) (keys : HeaderKeys) (w : Setting) → AreKeys n mask keys → ((i : ℕ) → w.is_correct i ≡ true → i < n) → ((i : ℕ) → w.is_correct i ≡ true → has_member mask i ≡ true)
+stands : (n mask : ℕ) (keys : HeaderKeys) (w : Setting) → AreHeaderKeys n mask keys → ((i : ℕ) → w.is_correct i ≡ true → i < n) → ((i : ℕ) → w.is_correct i ≡ true → has_member mask i ≡ true)
     → (e : Event) → IsServed w e → MayStand keys n e
 stands n mask (Master master) w are within correct (events.Frame to bytes) fits = within to fits.0
 stands n mask (Master master) w are within correct (events.Input at bytes) fits = within at fits.0
@@ -120,7 +120,7 @@ module _ (h : Header) (w : Setting) (is : IsHeading (heading h)) (service : Serv
     (done : ActsAreDeeds) (made : FramesAreMade) (kept : ResendsAreOpen) (earned : AcksAreEarned) (fit : EventsFit) (replied : RepliesAreTrue service other) (agreed : AgreementLaw service other) where
   -- of serving that began after the past events, whose frames went out earlier
   pub is_true : (past : List Event) (until limit : ℕ) (start : Serving) (earlier : List Deed) (rounds : List Round) → start.acts ≡ [] → start.events ≡ []
-      → All IsFirst start.left → all_made w past ≡ reverse (firsts_in earlier) → AllSent w start.peers earlier → AreOpen w earlier
+      → All MayBegin start.left → all_made w past ≡ reverse (firsts_in earlier) → AllSent w start.peers earlier → AreOpen w earlier
       → AllByRecursion (IsServed w) past → AreWantedFrom w past until limit start rounds
       → IsTrueSession h w (so_far past (after_from w past start rounds)) earlier (deeds_from w past start [] rounds) (after_from w past start rounds).acts
   is_true past until limit start earlier rounds no_acts no_events firsts first_made sent again served wanted =
@@ -147,11 +147,11 @@ module _ (h : Header) (w : Setting) (is : IsHeading (heading h)) (service : Serv
         agree = λ holds. agreed w (so_far past s) kind holds;
       }
 
-  pub is_session : (until limit : ℕ) (first : List LinkItem) (rounds : List Round) → All IsFirst first → AreWanted w [] until limit first rounds
-      → IsTrueSession h w (after w [] first rounds).events [] (deeds_of w [] first rounds) (after w [] first rounds).acts
+  pub is_session : (until limit : ℕ) (first : List LinkItem) (rounds : List Round) → All MayBegin first → AreWanted w [] until limit first rounds
+      → IsTrueSession h w (serving_after w [] first rounds).events [] (deeds_of w [] first rounds) (serving_after w [] first rounds).acts
   unfolding all_made
   is_session until limit first rounds firsts wanted =
-      let s = after w [] first rounds in
+      let s = serving_after w [] first rounds in
       subst (λ (es : List Event). IsTrueSession h w es [] (deeds_of w [] first rounds) s.acts) (append-nil s.events)
       (is_true [] until limit (begin first) [] rounds refl refl firsts refl (record { each = λ i j. tt }) tt tt wanted)
 
@@ -159,7 +159,7 @@ module _ (h : Header) (w : Setting) (is : IsHeading (heading h)) (service : Serv
 
 module _ (x : Session) (first : List LinkItem) (w : Setting) (tells : Tells)
     (session : (rounds : List Round) → AreWanted w [] x.until x.limit first rounds
-    → IsTrueSession x.header w (after w [] first rounds).events [] (deeds_of w [] first rounds) (after w [] first rounds).acts) where
+    → IsTrueSession x.header w (serving_after w [] first rounds).events [] (deeds_of w [] first rounds) (serving_after w [] first rounds).acts) where
   -- it ended before it was served
   pub fails : (base now : Outs) (end : ServeEnd) → HasFailed (heading x.header) x.plan tells base now end → ServesSession x first w tells base now end
   fails base now end failed = record {
@@ -178,7 +178,7 @@ module _ (x : Session) (first : List LinkItem) (w : Setting) (tells : Tells)
         → (is_reason end ≡ true → Closes tells.tape now.taken last.taken now.tape_faults last.tape_faults end result)
         → (is_reason end ≡ false → (result ≡ end) × (last ≡ now)) → ServesSession x first w tells base last result
     serves end result run same same_count closed kept =
-        let s = after w [] first (run.group ++ run.older) in
+        let s = serving_after w [] first (run.group ++ run.older) in
         let old = sooner w [] first run.group run.older in
         let new = newest w [] first run.group run.older in
         let rule = wants w [] x.until x.limit s in

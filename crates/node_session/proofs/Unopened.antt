@@ -1,32 +1,32 @@
 -- Why a journal couldn't be opened.
 use Rattle.std.proofs.Common.{◌≡◌, ℕ, ◌≤◌, ◌<◌, ◌^◌, ◌==◌, Bool, true, List, length, Result, Err, refl, sym, ◌∙◌, ap, subst}
 use Rattle.std.proofs.lemmas.Nat.Bits.{bit_at-pow_same}
-use Rattle.outside.specs.Disks.{LeavesOnly, state_of}
+use Rattle.outside.specs.Disks.{LeavesOnly, disk_state_of}
 use Rattle.outside.specs.Faults.{HasCause}
 use Rattle.ritas_base.specs.Members.{has_member}
 use Rattle.schedule_file.specs.FileBytes.{limit}
 use Rattle.cluster_config.specs.declared.node.NodeConfig.{NodeConfig}
-use Rattle.event_journal.specs.Reading.{IsBroken, IsForeign, IsKept}
+use Rattle.event_journal.specs.Reading.{IsBroken, IsForeign, OpensAsKept}
 use Rattle.event_journal.specs.declared.fault.JournalFault.{JournalFault}
 use Rattle.event_journal.specs.declared.fault.JournalFault.TheVariants as faults
 use Rattle.node_session.specs.Lives.{DiskSeen, IsFaultOf, Unopened, head_in}
 
 -- what the call that opens says, of the fault that it answered
 pub unopened : {A : Type 0} (config : NodeConfig) (head : List ℕ) (d : DiskSeen) (result : Result A JournalFault) (fault : JournalFault) → result ≡ Err fault → head ≡ head_in config
-    → (d.tells ≡ true → LeavesOnly (IsKept config.me head (state_of d.before)) d.before d.now)
-    → (d.tells ≡ true → (p : ℕ) → result ≡ Err (faults.Foreign p) → IsForeign head (state_of d.before).seen p)
-    → (d.tells ≡ true → (p : ℕ) → result ≡ Err (faults.Broken p) → IsBroken config.me head (state_of d.before).seen p)
-    → ((x : ℕ) → result ≡ Err (faults.Full x) → (x ≡ 67108865) × (d.tells ≡ true → limit < length (state_of d.before).seen))
+    → (d.tells ≡ true → LeavesOnly (OpensAsKept config.me head (disk_state_of d.before)) d.before d.now)
+    → (d.tells ≡ true → (p : ℕ) → result ≡ Err (faults.Foreign p) → IsForeign head (disk_state_of d.before).seen p)
+    → (d.tells ≡ true → (p : ℕ) → result ≡ Err (faults.Broken p) → IsBroken config.me head (disk_state_of d.before).seen p)
+    → ((x : ℕ) → result ≡ Err (faults.Full x) → (x ≡ 67108865) × (d.tells ≡ true → limit < length (disk_state_of d.before).seen))
     → HasCause d.few d.many (result ≡ Err faults.Disk) → Unopened config d fault
 unopened config head d result fault is named since foreign broken full cause = record {
   cause = by_fault fault is;
-  since = λ t. subst (λ (h : List ℕ). LeavesOnly (IsKept config.me h (state_of d.before)) d.before d.now) named (since t);
+  since = λ t. subst (λ (h : List ℕ). LeavesOnly (OpensAsKept config.me h (disk_state_of d.before)) d.before d.now) named (since t);
   later = cause.later;
 }
   where
     by_fault : (e : JournalFault) → result ≡ Err e → IsFaultOf config.me (head_in config) d e
-    by_fault (faults.Foreign p) same = λ t. subst (λ (h : List ℕ). IsForeign h (state_of d.before).seen p) named (foreign t p same)
-    by_fault (faults.Broken p) same = λ t. subst (λ (h : List ℕ). IsBroken config.me h (state_of d.before).seen p) named (broken t p same)
+    by_fault (faults.Foreign p) same = λ t. subst (λ (h : List ℕ). IsForeign h (disk_state_of d.before).seen p) named (foreign t p same)
+    by_fault (faults.Broken p) same = λ t. subst (λ (h : List ℕ). IsBroken config.me h (disk_state_of d.before).seen p) named (broken t p same)
     by_fault (faults.Full x) same = full x same
     by_fault faults.Disk same = cause.cause same
     by_fault faults.Mem same = tt

@@ -2,7 +2,7 @@
 -- the link's calls have the newest first.
 use Rattle.std.specs.Prelude.{◌≡◌, ◌⊎◌, ℕ, ◌+◌, ◌-◌, ◌^◌, ◌<◌, ◌≤◌, min, Bool, true, List, [], ◌∷◌, ◌++◌, length}
 use Rattle.ritas_base.specs.declared.event.Event.{Event}
-use Rattle.outside.specs.Disks.{DiskState, LeavesOnly, state_of}
+use Rattle.outside.specs.Disks.{DiskState, LeavesOnly, disk_state_of}
 use Rattle.outside.specs.Faults.{Rose}
 use Rattle.outside.specs.Links.{LinkAct, Starts}
 use Rattle.outside.specs.declared.link.LinkPlan.{LinkPlan}
@@ -13,8 +13,8 @@ use Rattle.world_model.specs.World.{Setting}
 use Rattle.cluster_config.specs.declared.node.NodeConfig.{NodeConfig}
 use Rattle.event_journal.specs.Appending.{AllOpen}
 use Rattle.event_journal.specs.Head.{head_of}
-use Rattle.event_journal.specs.Journal.{OpensAs, front_of, records}
-use Rattle.event_journal.specs.Reading.{IsBroken, IsForeign, IsKept}
+use Rattle.event_journal.specs.Journal.{OpensAs, closed_front, records}
+use Rattle.event_journal.specs.Reading.{IsBroken, IsForeign, OpensAsKept}
 use Rattle.event_journal.specs.declared.fault.JournalFault.{JournalFault}
 use Rattle.event_journal.specs.declared.fault.JournalFault.TheVariants as journal_faults
 use Rattle.node_loop.specs.declared.archive.ArchiveFault.{ArchiveFault}
@@ -49,26 +49,26 @@ disk_seen tells told faults old new = record { tells = tells; before = told old;
 
 -- an image is one from before or opens as one of these, or it opens as the past events and the first of the given ones
 abbrev pub IsOfLife : ℕ → List ℕ → List Event → List Event → DiskState → List ℕ → Type 0
-IsOfLife me head past given s image = IsKept me head s image ⊎ OpensSome me head past given image
+IsOfLife me head past given s image = OpensAsKept me head s image ⊎ OpensSome me head past given image
 
 -- every image opens now as the past and the given events, and at each moment as the past ones and the first of the given, or as one from before
 pub record DiskKeeps (me : ℕ) (head : List ℕ) (past : List Event) (d : DiskSeen) (given : List Event) : Type 0 where
-  pub images : d.tells ≡ true → AllOpen me head (given ++ past) (state_of d.now)
-  pub since : d.tells ≡ true → LeavesOnly (IsOfLife me head past given (state_of d.before)) d.before d.now
+  pub images : d.tells ≡ true → AllOpen me head (given ++ past) (disk_state_of d.now)
+  pub since : d.tells ≡ true → LeavesOnly (IsOfLife me head past given (disk_state_of d.before)) d.before d.now
   pub later : d.few ≤ d.many
 
 -- with the newest group of events the file would be so long, up to 2^64 - 1, which is too long: every image opens as the others
-abbrev pub IsTooLong : ℕ → List ℕ → List Event → DiskSeen → List Event → List Event → ℕ → Type 0
-IsTooLong me head past d group older x = (limit < x)
-    × (d.tells ≡ true → (x ≡ min (length (front_of head (older ++ past)) + 1 + length (records group)) (2 ^ 64 - 1)) × AllOpen me head (older ++ past) (state_of d.now))
+abbrev pub IsJournalTooLong : ℕ → List ℕ → List Event → DiskSeen → List Event → List Event → ℕ → Type 0
+IsJournalTooLong me head past d group older x = (limit < x)
+    × (d.tells ≡ true → (x ≡ min (length (closed_front head (older ++ past)) + 1 + length (records group)) (2 ^ 64 - 1)) × AllOpen me head (older ++ past) (disk_state_of d.now))
 
 -- The newest group of the given events couldn't be kept: every image opens as the others, with all of it or with none.
 pub record DiskBreaks (me : ℕ) (head : List ℕ) (past : List Event) (d : DiskSeen) (fault : ArchiveFault) (group older : List Event) : Type 0 where
-  pub left : d.tells ≡ true → OpensNewest me head past group older (state_of d.now)
-  pub since : d.tells ≡ true → LeavesOnly (IsOfLife me head past (group ++ older) (state_of d.before)) d.before d.now
+  pub left : d.tells ≡ true → OpensNewest me head past group older (disk_state_of d.now)
+  pub since : d.tells ≡ true → LeavesOnly (IsOfLife me head past (group ++ older) (disk_state_of d.before)) d.before d.now
   pub later : d.few ≤ d.many
   pub disk : fault ≡ archive.Disk → Rose d.few d.many
-  pub full : (x : ℕ) → fault ≡ archive.Full x → IsTooLong me head past d group older x
+  pub full : (x : ℕ) → fault ≡ archive.Full x → IsJournalTooLong me head past d group older x
 
 -- ---- the ends
 
@@ -122,20 +122,20 @@ head_in config = head_of config.session config.p config.mode config.me config.ke
 -- The disk's file opened as past events, and a life began with these.
 pub record ServesNode (config : NodeConfig) (tells : Tells) (base now : Outs) (d : DiskSeen) (end : ServeEnd) : Type 0 where
   pub past : List Event
-  pub opened : d.tells ≡ true → OpensAs config.me (head_in config) (state_of d.before).seen past
+  pub opened : d.tells ≡ true → OpensAs config.me (head_in config) (disk_state_of d.before).seen past
   pub life : ServesLife (node_session config) past (setting_of (node_header config)) tells base
       (moment now (DiskKeeps config.me (head_in config) past d) (DiskBreaks config.me (head_in config) past d)) end
 
 -- the journal's fault is that of the disk's file, or its count rose
 abbrev pub IsFaultOf : ℕ → List ℕ → DiskSeen → JournalFault → Type 0
-IsFaultOf me head d (journal_faults.Foreign p) = d.tells ≡ true → IsForeign head (state_of d.before).seen p
-IsFaultOf me head d (journal_faults.Broken p) = d.tells ≡ true → IsBroken me head (state_of d.before).seen p
-IsFaultOf me head d (journal_faults.Full x) = (x ≡ 67108865) × (d.tells ≡ true → limit < length (state_of d.before).seen)
+IsFaultOf me head d (journal_faults.Foreign p) = d.tells ≡ true → IsForeign head (disk_state_of d.before).seen p
+IsFaultOf me head d (journal_faults.Broken p) = d.tells ≡ true → IsBroken me head (disk_state_of d.before).seen p
+IsFaultOf me head d (journal_faults.Full x) = (x ≡ 67108865) × (d.tells ≡ true → limit < length (disk_state_of d.before).seen)
 IsFaultOf me head d journal_faults.Disk = Rose d.few d.many
 IsFaultOf me head d journal_faults.Mem = Unit {0}
 
 -- The journal couldn't be opened, or memory ran out: every image is one from before, or opens as one of these.
 pub record Unopened (config : NodeConfig) (d : DiskSeen) (fault : JournalFault) : Type 0 where
   pub cause : IsFaultOf config.me (head_in config) d fault
-  pub since : d.tells ≡ true → LeavesOnly (IsKept config.me (head_in config) (state_of d.before)) d.before d.now
+  pub since : d.tells ≡ true → LeavesOnly (OpensAsKept config.me (head_in config) (disk_state_of d.before)) d.before d.now
   pub later : d.few ≤ d.many

@@ -13,9 +13,9 @@ use Rattle.node_loop.specs.declared.end.ServeEnd.TheVariants as ends
 use Rattle.node_loop.specs.Outs.{Outs, TapeFailed, LinkFailed, FellShort, Tells}
 
 -- the end that a fault of the link is
-abbrev pub Ends : LinkFault → ServeEnd → Type 0
-Ends faults.Failed end = end ≡ ends.LinkFault
-Ends faults.Mem end = end ≡ ends.Mem
+abbrev pub IsServeEndOf : LinkFault → ServeEnd → Type 0
+IsServeEndOf faults.Failed end = end ≡ ends.LinkFault
+IsServeEndOf faults.Mem end = end ≡ ends.Mem
 
 -- ---- the beginning
 
@@ -27,22 +27,22 @@ pub record HasBegun (h : Heading) (plan : LinkPlan) (tells : Tells) (base now : 
   pub link_stands : now.link_faults ≡ base.link_faults
 
 -- a fault came on the way there, and its cause
-abbrev pub HasCause : Outs → Outs → ServeEnd → Type 0
-HasCause base now ends.LinkFault = LinkFailed base now
-HasCause base now ends.TapeFault = TapeFailed base now
-HasCause base now ends.Mem = FellShort base now
-HasCause base now end = ⊥
+abbrev pub HasServeCause : Outs → Outs → ServeEnd → Type 0
+HasServeCause base now ends.LinkFault = LinkFailed base now
+HasServeCause base now ends.TapeFault = TapeFailed base now
+HasServeCause base now ends.Mem = FellShort base now
+HasServeCause base now end = ⊥
 
 pub record HasFailed (h : Heading) (plan : LinkPlan) (tells : Tells) (base now : Outs) (end : ServeEnd) : Type 0 where
   pub taken : tells.tape ≡ true → TookFront base.taken now.taken (header_text h)
   pub told : tells.link ≡ true → now.told ≡ base.told
   pub tape_later : base.tape_faults ≤ now.tape_faults
   pub link_later : base.link_faults.failed ≤ now.link_faults.failed
-  pub cause : HasCause base now end
+  pub cause : HasServeCause base now end
 
-abbrev pub Opens : Heading → LinkPlan → Tells → Outs → Outs → Result (Unit {0}) ServeEnd → Type 0
-Opens h plan tells base now (Ok done) = HasBegun h plan tells base now
-Opens h plan tells base now (Err end) = HasFailed h plan tells base now end
+abbrev pub OpensSession : Heading → LinkPlan → Tells → Outs → Outs → Result (Unit {0}) ServeEnd → Type 0
+OpensSession h plan tells base now (Ok done) = HasBegun h plan tells base now
+OpensSession h plan tells base now (Err end) = HasFailed h plan tells base now end
 
 -- ---- the end
 

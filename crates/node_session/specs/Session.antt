@@ -19,10 +19,10 @@ use Rattle.world_model.specs.World.{Setting}
 use Rattle.node_loop.specs.declared.end.ServeEnd.{ServeEnd}
 use Rattle.node_loop.specs.declared.end.ServeEnd.TheVariants as ends
 use Rattle.node_loop.specs.Deeds.{Deed, act_of, firsts_in}
-use Rattle.node_loop.specs.Laws.{sent_as, frames_of, AreOpen, AreEarned, IsTrueReply}
+use Rattle.node_loop.specs.Laws.{sent_as, all_frames_of, AreOpen, AreEarned, IsTrueReply}
 use Rattle.node_loop.specs.Outs.{Outs, NoneFailed, TapeFailed, LinkFailed, FellShort, Tells, Agrees}
-use Rattle.node_loop.specs.Served.{IsFirst, Breaks}
-use Rattle.node_loop.specs.Serving.{Serving, Want, Begins, Finishes, Turns, Halts, Reminds, Asks, Round, IsGroup, after, deeds_of, sooner, newest, wants, AreWanted}
+use Rattle.node_loop.specs.Served.{MayBegin, Breaks}
+use Rattle.node_loop.specs.Serving.{Serving, Want, Begins, Finishes, Turns, Halts, Reminds, Asks, Round, IsGroup, serving_after, deeds_of, sooner, newest, wants, AreWanted}
 use Rattle.node_session.specs.declared.session.Session.{Session}
 use Rattle.node_session.specs.Opening.{HasBegun, HasFailed}
 
@@ -32,7 +32,7 @@ use Rattle.node_session.specs.Opening.{HasBegun, HasFailed}
 pub record IsServable (s : Session) (first : List LinkItem) : Type 0 where
   pub heading : IsHeading (heading s.header)
   pub atomic : s.header.mode.root ≡ 6
-  pub firsts : All IsFirst first
+  pub firsts : All MayBegin first
 
 -- ---- what is served
 
@@ -86,7 +86,7 @@ SessionEnds h plan tells base now (ends.JournalFull x) s sooner news rule = ⊥
 pub record IsTrueSession (h : Header) (w : Setting) (events : List Event) (earlier deeds : List Deed) (acts : List LinkAct) : Type 0 where
   pub file : length (FileOf (heading h) events) ≤ file.limit → IsFile (FileOf (heading h) events) (heading h) events
   pub calls : acts ≡ map (act_of w.keys) deeds
-  pub frames : frames_of w events ≡ map sent_as (reverse (firsts_in (deeds ++ earlier)))
+  pub frames : all_frames_of w events ≡ map sent_as (reverse (firsts_in (deeds ++ earlier)))
   pub resends : AreOpen w (deeds ++ earlier)
   pub acknowledged : AreEarned w events deeds
   pub replies : AllByRecursion (IsTrueReply w events) (replies_in acts)
@@ -98,8 +98,8 @@ pub record ServesSession (s : Session) (first : List LinkItem) (w : Setting) (te
   pub older : List Round
   pub one : IsGroup group older
   pub wanted : AreWanted w [] s.until s.limit first (group ++ older)
-  pub so : SessionEnds s.header s.plan tells base now end (after w [] first (group ++ older)) (sooner w [] first group older) (newest w [] first group older)
-      (wants w [] s.until s.limit (after w [] first (group ++ older)))
-  pub true_of : IsTrueSession s.header w (after w [] first (group ++ older)).events [] (deeds_of w [] first (group ++ older)) (after w [] first (group ++ older)).acts
+  pub so : SessionEnds s.header s.plan tells base now end (serving_after w [] first (group ++ older)) (sooner w [] first group older) (newest w [] first group older)
+      (wants w [] s.until s.limit (serving_after w [] first (group ++ older)))
+  pub true_of : IsTrueSession s.header w (serving_after w [] first (group ++ older)).events [] (deeds_of w [] first (group ++ older)) (serving_after w [] first (group ++ older)).acts
   pub tape_later : base.tape_faults ≤ now.tape_faults
   pub link_later : base.link_faults.failed ≤ now.link_faults.failed

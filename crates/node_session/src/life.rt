@@ -1,10 +1,10 @@
 //! Serving the session of a header after the events that a journal kept.
 ghost use Rattle.std.specs.Prelude.{◌≡◌, true, [], List, ℕ, reverse, IfOk, OnErr};
 ghost use Rattle.std.specs.List.{AllByRecursion};
-ghost use Rattle.outside.specs.Disks.{state_of};
+ghost use Rattle.outside.specs.Disks.{disk_state_of};
 ghost use Rattle.ritas_base.specs.Members.{has_member};
 ghost use Rattle.ritas_core.specs.Rules.{other_form};
-ghost use Rattle.event_journal.specs.Appending.{AllOpen, StandsFor};
+ghost use Rattle.event_journal.specs.Appending.{AllOpen, JournalStandsFor};
 ghost use Rattle.event_journal.specs.Journal.{IsRecord};
 ghost use Rattle.schedule_replay.specs.Layers.{setting_by, setting_of};
 ghost use Rattle.node_loop.specs.Archives.{moment};
@@ -53,8 +53,8 @@ fn live_as<R: Net + Wait, S: Service, E: Broadcast, L: Link, K: Sink, D: Disk>(
     requires live { journal.old.live ≡ true }
     requires own { AllByRecursion (IsRecord journal.old.me) recovered.now.items }
     requires member { has_member session.now.header.correct journal.old.me ≡ true }
-    ensures served { (head : List ℕ) → (D.tells ≡ true → StandsFor journal.old head (reverse recovered.now.items)
-        × AllOpen journal.old.me head (reverse recovered.now.items) (state_of (D.told disk.old)))
+    ensures served { (head : List ℕ) → (D.tells ≡ true → JournalStandsFor journal.old head (reverse recovered.now.items)
+        × AllOpen journal.old.me head (reverse recovered.now.items) (disk_state_of (D.told disk.old)))
         → IfOk result (λ end. ServesLife session.now (reverse recovered.now.items) (setting_by S.rules E.rules session.now.header) (record { tape = K.tells; link = L.tells })
         (outs_of K.taken K.faults L.told L.faults output.old link.old)
         (moment (outs_of K.taken K.faults L.told L.faults output.new link.new)
@@ -108,8 +108,8 @@ pub(crate) fn serve_life<R: Net + Wait, L: Link, K: Sink, D: Disk>(
     requires live { journal.old.live ≡ true }
     requires own { AllByRecursion (IsRecord journal.old.me) recovered.now.items }
     requires member { has_member session.now.header.correct journal.old.me ≡ true }
-    ensures served { (head : List ℕ) → (D.tells ≡ true → StandsFor journal.old head (reverse recovered.now.items)
-        × AllOpen journal.old.me head (reverse recovered.now.items) (state_of (D.told disk.old)))
+    ensures served { (head : List ℕ) → (D.tells ≡ true → JournalStandsFor journal.old head (reverse recovered.now.items)
+        × AllOpen journal.old.me head (reverse recovered.now.items) (disk_state_of (D.told disk.old)))
         → IfOk result (λ end. ServesLife session.now (reverse recovered.now.items) (setting_of session.now.header) (record { tape = K.tells; link = L.tells })
         (outs_of K.taken K.faults L.told L.faults output.old link.old)
         (moment (outs_of K.taken K.faults L.told L.faults output.new link.new)

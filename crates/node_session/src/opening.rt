@@ -2,7 +2,7 @@
 ghost use Rattle.std.specs.Prelude.{◌≡◌};
 ghost use Rattle.schedule_file.specs.ReadHeader.{heading};
 ghost use Rattle.node_loop.specs.Outs.{outs_of};
-ghost use Rattle.node_session.specs.Opening.{Opens, Ends};
+ghost use Rattle.node_session.specs.Opening.{OpensSession, IsServeEndOf};
 
 use node_loop::ServeEnd;
 use outside::{Link, LinkFault, LinkPlan, Sink};
@@ -13,7 +13,7 @@ use std::sync::Wait;
 
 // The end that a fault of the link is.
 fn end_of(fault: LinkFault) -> ServeEnd
-    ensures { Ends fault result }
+    ensures { IsServeEndOf fault result }
 {
     match fault {
         LinkFault::Failed => ServeEnd::LinkFault,
@@ -30,7 +30,7 @@ pub(crate) fn open<R: Net + Wait, L: Link, K: Sink>(
     link: &mut L,
     output: &mut K,
 ) -> Result<(), ServeEnd>
-    ensures { Opens (heading header.now) plan.now (record { tape = K.tells; link = L.tells })
+    ensures { OpensSession (heading header.now) plan.now (record { tape = K.tells; link = L.tells })
         (outs_of K.taken K.faults L.told L.faults output.old link.old)
         (outs_of K.taken K.faults L.told L.faults output.new link.new)
         result }

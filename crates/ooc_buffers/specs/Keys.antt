@@ -4,16 +4,16 @@ use Rattle.indexmap.specs.IndexMap.{IndexMap, get}
 use Rattle.ritas_base.specs.declared.item.Item.{Item}
 use Rattle.ritas_base.specs.declared.item.Kind.TheVariants.{Column}
 use Rattle.ritas_base.specs.Messages.{kind_rank, kind_eq}
-use Rattle.ooc_buffers.specs.Lists.{Kept}
+use Rattle.ooc_buffers.specs.Lists.{HeldItem}
 use Rattle.ooc_buffers.specs.declared.key.Key.{Key}
 
 -- the hash FNV-1a of 64 bits
-unfoldable pub mark_of : List ℕ → ℕ
-mark_of value = fold (λ h b. bit_xor h b * 1099511628211 % 2 ^ 64) 14695981039346656037 value
+unfoldable pub value_mark : List ℕ → ℕ
+value_mark value = fold (λ h b. bit_xor h b * 1099511628211 % 2 ^ 64) 14695981039346656037 value
 
 -- the kind and slot, and for a column a mark of its value
-abbrev pub key_of : Item → Key
-key_of item = record {
+abbrev pub item_key : Item → Key
+item_key item = record {
   kind = kind_rank item.kind;
   class = item.slot.class;
   a = item.slot.a;
@@ -21,7 +21,7 @@ key_of item = record {
   bround = item.slot.bround;
   step = item.slot.step;
   origin = item.slot.origin;
-  mark = if kind_eq item.kind Column then mark_of item.value else 0;
+  mark = if kind_eq item.kind Column then value_mark item.value else 0;
 }
 
 abbrev pub key_eq : Key → Key → Bool
@@ -36,10 +36,10 @@ abbrev pub count_at : {S : Type 0} → IndexMap Key ℕ S → Key → ℕ
 count_at index key = unwrap_or (get key_eq index key) 0
 
 -- the index counts how many items of the list have each key
-abbrev pub Counts : {S : Type 0} → IndexMap Key ℕ S → List Kept → Type 0
-Counts index kept = (key : Key) → count_at index key ≡ count_by (λ k. key_eq key (key_of k.item)) kept
+abbrev pub CountsKeys : {S : Type 0} → IndexMap Key ℕ S → List HeldItem → Type 0
+CountsKeys index kept = (key : Key) → count_at index key ≡ count_by (λ k. key_eq key (item_key k.item)) kept
 
 -- the index and the number of bytes are those of the list
-pub record IsIndexed {S : Type 0} (index : IndexMap Key ℕ S) (bytes : ℕ) (kept : List Kept) : Type 0 where
-  pub counts : Counts index kept
+pub record IsKeyIndexed {S : Type 0} (index : IndexMap Key ℕ S) (bytes : ℕ) (kept : List HeldItem) : Type 0 where
+  pub counts : CountsKeys index kept
   pub sum : bytes ≡ sum_by (λ k. k.len) kept

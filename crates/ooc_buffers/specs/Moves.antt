@@ -3,15 +3,15 @@ use Rattle.std.specs.Prelude.{◌≡◌, ℕ, Bool, List, ◌++◌, ◌+◌, map
 use Rattle.std.specs.VecDeque.{deque_len}
 use Rattle.std.specs.declared.collections.VecDeque.{VecDeque}
 use Rattle.ritas_base.specs.declared.item.Item.{Item}
-use Rattle.ooc_buffers.specs.Lists.{Kept, passing, failing}
+use Rattle.ooc_buffers.specs.Lists.{HeldItem, passing, failing}
 
 -- of the first i of one list's items those that pass have moved behind the inbox, and the others stand behind the rest
-pub record HasMoved (t : Item → Bool) (old : List Kept) (i : ℕ) (now : List Kept) (inbox inbox' : List Item) : Type 0 where
+pub record HasMoved (t : Item → Bool) (old : List HeldItem) (i : ℕ) (now : List HeldItem) (inbox inbox' : List Item) : Type 0 where
   pub kept : now ≡ drop i old ++ failing t (take i old)
   pub moved : inbox' ≡ inbox ++ map (λ k. k.item) (passing t (take i old))
 
 -- all that pass have moved
-pub record Releases {Z : Type 0} (t : Item → Bool) (old new : List Kept) (inbox inbox' : VecDeque Item Z) : Type 0 where
+pub record Releases {Z : Type 0} (t : Item → Bool) (old new : List HeldItem) (inbox inbox' : VecDeque Item Z) : Type 0 where
   pub kept : new ≡ failing t old
   pub moved : inbox'.items ≡ inbox.items ++ map (λ k. k.item) (passing t old)
   pub len : deque_len inbox' ≡ deque_len inbox + length (passing t old)

@@ -3,7 +3,7 @@
 ghost use Rattle.std.specs.Prelude.{◌≡◌, ℕ, ◌+◌, ◌<◌, ◌≤◌, ◌↔◌, Bool, [], ◌++◌, length, replicate, Err, OnOk, OnErr, IfOk, false};
 ghost use Rattle.std.specs.VecDeque.{deque_len, deque_capacity};
 ghost use Rattle.ritas_base.specs.declared.item.Item.{Item};
-ghost use Rattle.ooc_buffers.specs.Lists.{is_kept, held_bytes, most_bytes, bytes_if_full, with_kept, released, remaining, busy_peers};
+ghost use Rattle.ooc_buffers.specs.Lists.{is_held, held_bytes, most_held_bytes, bytes_if_full, with_item_held, released, remaining, busy_peers};
 ghost use Rattle.ooc_buffers.specs.Closures.{Computes};
 
 use crate::peer::Peer;
@@ -56,9 +56,9 @@ pub struct Held {
 
 impl Model for Held {
     ghost use Rattle.std.specs.Prelude.{List};
-    ghost use Rattle.ooc_buffers.specs.Lists.{Kept};
+    ghost use Rattle.ooc_buffers.specs.Lists.{HeldItem};
 
-    ghost Value = { List (List Kept) };
+    ghost Value = { List (List HeldItem) };
 
     ghost view = { λ h. h.peers.items };
 
@@ -86,10 +86,10 @@ impl Held {
     /// held bytes, which it carries, and the length are more than `most_bytes` (1,048,576); otherwise the one error is `Mem`. All
     /// stays as it was after an error.
     pub fn hold(&mut self, _alloc: Global, item: Item, len: u32) -> Result<(), HoldFault>
-        requires is_new { is_kept self.old item ≡ false }
+        requires is_new { is_held self.old item ≡ false }
         requires sender { item.from < length self.old }
-        ensures ok { OnOk result (self.new ≡ with_kept self.old item len) }
-        ensures full { (b : ℕ) → (result ≡ Err (HoldFault.HeldFull b)) ↔ ((b ≡ held_bytes self.old item.from) × (most_bytes < b + len)) }
+        ensures ok { OnOk result (self.new ≡ with_item_held self.old item len) }
+        ensures full { (b : ℕ) → (result ≡ Err (HoldFault.HeldFull b)) ↔ ((b ≡ held_bytes self.old item.from) × (most_held_bytes < b + len)) }
         ensures err { OnErr result (self.new ≡ self.old) }
     {
         let peer = &mut self.peers[item.from as usize];
@@ -113,7 +113,7 @@ impl Held {
 
     /// Whether the item is held: one of its sender, kind and slot, and for a column of its value too.
     pub fn has(&self, item: &Item) -> bool
-        ensures { result ≡ is_kept self.now item.now }
+        ensures { result ≡ is_held self.now item.now }
     {
         match self.peers.get(item.from as usize) {
             Some(peer) => peer.has(item),

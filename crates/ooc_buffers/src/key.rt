@@ -2,7 +2,7 @@
 
 ghost use Rattle.std.specs.Prelude.{◌≡◌, ℕ, ◌+◌, ◌-◌, ◌<◌, ◌^◌, OnOk, OnErr, if◌then◌else◌};
 ghost use Rattle.ritas_base.specs.Messages.{kind_rank};
-ghost use Rattle.ooc_buffers.specs.Keys.{mark_of, key_of, key_eq, count_at};
+ghost use Rattle.ooc_buffers.specs.Keys.{value_mark, item_key, key_eq, count_at};
 ghost use Rattle.ooc_buffers.specs.declared.key.Key.{Key};
 
 use indexmap::IndexMap;
@@ -38,9 +38,9 @@ fn rank(kind: Kind) -> u8
 }
 
 // The hash FNV-1a of 64 bits, of Fowler, Noll and Vo.
-#[tactic(auto, unfolding(crate::specs::Keys::mark_of))]
+#[tactic(auto, unfolding(crate::specs::Keys::value_mark))]
 fn mark(value: &[u8]) -> u64
-    ensures { result ≡ mark_of value.now }
+    ensures { result ≡ value_mark value.now }
 {
     value.iter().fold(14_695_981_039_346_656_037, |hash, byte| {
         (hash ^ u64::from(*byte)).wrapping_mul(1_099_511_628_211)
@@ -49,7 +49,7 @@ fn mark(value: &[u8]) -> u64
 
 impl Key {
     pub(crate) fn of(item: &Item) -> Key
-        ensures { result ≡ key_of item.now }
+        ensures { result ≡ item_key item.now }
     {
         let mark = match item.kind {
             Kind::Column => mark(item.value.as_slice()),

@@ -5,10 +5,10 @@ ghost use Rattle.std.specs.List.{list_any};
 ghost use Rattle.std.specs.VecDeque.{deque_len, deque_capacity};
 ghost use Rattle.ritas_base.specs.declared.item.Item.{Item};
 ghost use Rattle.ritas_base.specs.Messages.{kind_eq};
-ghost use Rattle.ooc_buffers.specs.Lists.{Kept, is_same, passing, failing};
+ghost use Rattle.ooc_buffers.specs.Lists.{HeldItem, is_same_item, passing, failing};
 ghost use Rattle.ooc_buffers.specs.Closures.{Computes};
 ghost use Rattle.ooc_buffers.specs.Moves.{Releases};
-ghost use Rattle.ooc_buffers.specs.Keys.{Counts};
+ghost use Rattle.ooc_buffers.specs.Keys.{CountsKeys};
 
 use crate::key::{Key, count_in, count_of, count_out};
 use indexmap::IndexMap;
@@ -25,9 +25,9 @@ pub(crate) struct Entry {
 }
 
 impl Model for Entry {
-    ghost use Rattle.ooc_buffers.specs.Lists.{Kept};
+    ghost use Rattle.ooc_buffers.specs.Lists.{HeldItem};
 
-    ghost Value = { Kept };
+    ghost Value = { HeldItem };
 
     ghost view = { λ e. record { item = e.item; len = e.len } };
 }
@@ -50,12 +50,12 @@ fn turn<F: Fn(&Item) -> bool>(
 ) -> u32
     requires { F.IsAlwaysCallable test.now }
     ensures capacity { deque_capacity inbox.new ≡ deque_capacity inbox.old }
-    ensures counts { Counts index.old entries.old.items → Counts index.new entries.new.items }
+    ensures counts { CountsKeys index.old entries.old.items → CountsKeys index.new entries.new.items }
     ensures bytes { sum_by (λ k. k.len) entries.new.items + result ≡ sum_by (λ k. k.len) entries.old.items }
-    ensures moves { (t : Item → Bool) (k : Kept) (rest : List Kept) → Computes F.Fn test.now t → entries.old.items ≡ k ∷ rest
+    ensures moves { (t : Item → Bool) (k : HeldItem) (rest : List HeldItem) → Computes F.Fn test.now t → entries.old.items ≡ k ∷ rest
         → t k.item ≡ true → deque_len inbox.old < deque_capacity inbox.old
         → (entries.new.items ≡ rest) × (inbox.new.items ≡ inbox.old.items ++ k.item ∷ []) × (deque_len inbox.new ≡ deque_len inbox.old + 1) }
-    ensures keeps { (t : Item → Bool) (k : Kept) (rest : List Kept) → Computes F.Fn test.now t → entries.old.items ≡ k ∷ rest
+    ensures keeps { (t : Item → Bool) (k : HeldItem) (rest : List HeldItem) → Computes F.Fn test.now t → entries.old.items ≡ k ∷ rest
         → t k.item ≡ false
         → (entries.new.items ≡ rest ++ k ∷ []) × (inbox.new.items ≡ inbox.old.items) × (deque_len inbox.new ≡ deque_len inbox.old) }
 {
@@ -79,9 +79,9 @@ fn forget_turn<F: Fn(&Item) -> bool>(
     test: &F,
 ) -> u32
     requires { F.IsAlwaysCallable test.now }
-    ensures counts { Counts index.old entries.old.items → Counts index.new entries.new.items }
+    ensures counts { CountsKeys index.old entries.old.items → CountsKeys index.new entries.new.items }
     ensures bytes { sum_by (λ k. k.len) entries.new.items + result ≡ sum_by (λ k. k.len) entries.old.items }
-    ensures turns { (t : Item → Bool) (k : Kept) (rest : List Kept) → Computes F.Fn test.now t → entries.old.items ≡ k ∷ rest
+    ensures turns { (t : Item → Bool) (k : HeldItem) (rest : List HeldItem) → Computes F.Fn test.now t → entries.old.items ≡ k ∷ rest
         → entries.new.items ≡ (if t k.item then rest else rest ++ k ∷ []) }
 {
     let Some(entry) = entries.pop_front() else {
@@ -105,15 +105,15 @@ pub(crate) struct Peer {
 
 impl Model for Peer {
     ghost use Rattle.std.specs.Prelude.{List};
-    ghost use Rattle.ooc_buffers.specs.Lists.{Kept};
+    ghost use Rattle.ooc_buffers.specs.Lists.{HeldItem};
 
-    ghost Value = { List Kept };
+    ghost Value = { List HeldItem };
 
-    ghost use Rattle.ooc_buffers.specs.Keys.{IsIndexed};
+    ghost use Rattle.ooc_buffers.specs.Keys.{IsKeyIndexed};
 
     ghost view = { λ p. p.entries.items };
 
-    ghost invariant = { λ p. IsIndexed p.index p.bytes p.entries.items };
+    ghost invariant = { λ p. IsKeyIndexed p.index p.bytes p.entries.items };
 }
 
 // Whether it is the kind of columns.
@@ -125,7 +125,7 @@ fn is_column(kind: Kind) -> bool
 
 // Whether two items of one peer are held as one.
 fn is_same(a: &Item, b: &Item) -> bool
-    ensures { result ≡ is_same a.now b.now }
+    ensures { result ≡ is_same_item a.now b.now }
 {
     a.kind == b.kind && a.slot == b.slot && (a.kind != Kind::Column || a.value.is_same(&b.value))
 }
@@ -157,7 +157,7 @@ impl Peer {
 
     // Whether the item is held.
     pub(crate) fn has(&self, item: &Item) -> bool
-        ensures { result ≡ list_any (λ k. is_same item.now k.item) self.now }
+        ensures { result ≡ list_any (λ k. is_same_item item.now k.item) self.now }
     {
         if self.entries.is_empty() {
             return false;

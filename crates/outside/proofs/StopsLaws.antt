@@ -3,9 +3,10 @@ use Rattle.std.specs.Prelude.{◌≡◌, Bool, true, false, ℕ, ◌+◌, ◌-�
 use Rattle.std.proofs.Common.{inl, inr, sym, ap, ◌∙◌, subst, arith, lit≤, length-take}
 use Rattle.std.proofs.lemmas.Bool.{cases_lt}
 use Rattle.std.proofs.lemmas.List.{take-take, take_min, take_all, drop_all, drop-take, length-replicate, get_or-replicate, get_or_past, get_or-take}
-use Rattle.outside.specs.Disks.{Range, DiskState, IsBytes, IsTorn, IsImage, MayLeave, end_of, written}
+use Rattle.ritas_base.specs.Bytes.{IsBytes}
+use Rattle.outside.specs.Disks.{Range, DiskState, IsTorn, IsImage, MayLeave, range_end, bytes_written}
 use Rattle.outside.specs.DisksLaws.{torn_whole, length-written, seen_image}
-use Rattle.outside.specs.Stops.{ended, fills, filled_by, left_by}
+use Rattle.outside.specs.Stops.{end_left, fills, filled_by, image_left_by}
 
 cut_before : (at len : ℕ) (a b : List ℕ) → take (min at (length a)) b ≡ take at a → take (min at (length (take len a))) (take len b) ≡ take at (take len a)
 cut_before at len a b before = elim (cases_lt len at) [
@@ -36,7 +37,7 @@ cut_after end len a b after = elim (cases_lt end len) [
 pub torn_cut : (range : Range) (len : ℕ) (a b : List ℕ) → IsTorn range a b → IsTorn range (take len a) (take len b)
 torn_cut range len a b torn = record {
   before = cut_before range.at len a b torn.before;
-  after = cut_after (end_of range) len a b torn.after;
+  after = cut_after (range_end range) len a b torn.after;
   least = omega (arith, torn.least, length-take len a, length-take len b);
   most = omega (arith, torn.most, length-take len a, length-take len b);
   bytes = λ i low high. elim (cases_lt i len) [
@@ -51,9 +52,9 @@ IsBytes-replicate n byte lt i = elim (cases_lt i n) [
   | inr le ↦ rw (get_or_past (replicate n byte) i 0 (omega (arith, le, length-replicate {A = ℕ} n byte))) (lit≤ tt)
 ]
 
-torn_fill : (byte : ℕ) (range : Range) (file : List ℕ) → byte < 256 → IsTorn range file (written range.at (replicate range.count byte) file)
+torn_fill : (byte : ℕ) (range : Range) (file : List ℕ) → byte < 256 → IsTorn range file (bytes_written range.at (replicate range.count byte) file)
 torn_fill byte range file lt =
-    subst (λ (n : ℕ). IsTorn (record { at = range.at; count = n }) file (written range.at (replicate range.count byte) file)) (length-replicate {A = ℕ} range.count byte)
+    subst (λ (n : ℕ). IsTorn (record { at = range.at; count = n }) file (bytes_written range.at (replicate range.count byte) file)) (length-replicate {A = ℕ} range.count byte)
     (torn_whole range.at (replicate range.count byte) file (IsBytes-replicate range.count byte lt))
 
 -- a file with filled ranges is an image, at whatever length from the old end on it is cut
@@ -84,7 +85,7 @@ fills_long byte (range ∷ ranges) file =
     let bytes = replicate range.count byte in
     omega (arith, fills_long byte ranges file, length-written range.at bytes (fills byte ranges file))
 
-end_low : (way old new : ℕ) → old ≤ new → old ≤ ended way old new
+end_low : (way old new : ℕ) → old ≤ new → old ≤ end_left way old new
 end_low way old new le = first (way == 0)
   where
     second : (b : Bool) → old ≤ (if b then old + (new - old) / 2 else new)
@@ -95,7 +96,7 @@ end_low way old new le = first (way == 0)
     first true = omega arith
     first false = second (way == 1)
 
-pub left_image : (pick : ℕ) (s : DiskState) → IsBytes s.synced → MayLeave s (left_by pick s)
+pub left_image : (pick : ℕ) (s : DiskState) → IsBytes s.synced → MayLeave s (image_left_by pick s)
 left_image pick s fits = first (pick == 0)
   where
     second : (b : Bool) → MayLeave s (if b then s.seen else filled_by pick s.synced s.ranges)

@@ -1,21 +1,22 @@
 -- Worked rows of a disk: what a write gives, what a stop may leave, and what it is left with by a pick.
 use Rattle.std.specs.Prelude.{◌≡◌, ℕ, zero, suc, List, [], ◌∷◌, length, min, refl}
 use Rattle.std.proofs.Common.{inl, inr, arith, lit≤, subst, take}
-use Rattle.outside.specs.Disks.{DiskState, IsBytes, MayLeave, at_rest, after_sync, after_write, state_of, with_write, written}
-use Rattle.outside.specs.Stops.{left_by}
+use Rattle.ritas_base.specs.Bytes.{IsBytes}
+use Rattle.outside.specs.Disks.{DiskState, MayLeave, at_rest, after_sync, after_write, disk_state_of, with_write, bytes_written}
+use Rattle.outside.specs.Stops.{image_left_by}
 
 -- "abc"
 abbrev file : List ℕ
 file = 97 ∷ 98 ∷ 99 ∷ []
 
-written_over_the_end : written 2 (120 ∷ 121 ∷ []) file ≡ 97 ∷ 98 ∷ 120 ∷ 121 ∷ []
+written_over_the_end : bytes_written 2 (120 ∷ 121 ∷ []) file ≡ 97 ∷ 98 ∷ 120 ∷ 121 ∷ []
 written_over_the_end = refl
 
-written_inside : written 0 (120 ∷ []) file ≡ 120 ∷ 98 ∷ 99 ∷ []
+written_inside : bytes_written 0 (120 ∷ []) file ≡ 120 ∷ 98 ∷ 99 ∷ []
 written_inside = refl
 
 -- behind the end, zeros stand in front of what is written
-written_behind_a_gap : written 5 (120 ∷ []) file ≡ 97 ∷ 98 ∷ 99 ∷ 0 ∷ 0 ∷ 120 ∷ []
+written_behind_a_gap : bytes_written 5 (120 ∷ []) file ≡ 97 ∷ 98 ∷ 99 ∷ 0 ∷ 0 ∷ 120 ∷ []
 written_behind_a_gap = refl
 
 -- "abc" was synced, and then "xy" was written at 2
@@ -28,7 +29,7 @@ is_seen = refl
 is_pending : pending.ranges ≡ record { at = 2; count = 2 } ∷ []
 is_pending = refl
 
-rests_after_a_sync : state_of (after_sync (after_write 2 (120 ∷ 121 ∷ []) (at_rest file ∷ []))) ≡ at_rest pending.seen
+rests_after_a_sync : disk_state_of (after_sync (after_write 2 (120 ∷ 121 ∷ []) (at_rest file ∷ []))) ≡ at_rest pending.seen
 rests_after_a_sync = refl
 
 -- ---- what a stop may leave
@@ -59,21 +60,21 @@ stays (inl (older, is, torn)) = differ (subst (λ (x : List ℕ). take (min 2 (l
 
 -- ---- what a pick leaves
 
-none_is_left : left_by 0 pending ≡ file
+none_is_left : image_left_by 0 pending ≡ file
 none_is_left = refl
 
-all_is_left : left_by 1 pending ≡ 97 ∷ 98 ∷ 120 ∷ 121 ∷ []
+all_is_left : image_left_by 1 pending ≡ 97 ∷ 98 ∷ 120 ∷ 121 ∷ []
 all_is_left = refl
 
-filled_to_the_new_end : left_by 2 pending ≡ 97 ∷ 98 ∷ 2 ∷ 2 ∷ []
+filled_to_the_new_end : image_left_by 2 pending ≡ 97 ∷ 98 ∷ 2 ∷ 2 ∷ []
 filled_to_the_new_end = refl
 
-filled_to_the_old_end : left_by 3 pending ≡ 97 ∷ 98 ∷ 3 ∷ []
+filled_to_the_old_end : image_left_by 3 pending ≡ 97 ∷ 98 ∷ 3 ∷ []
 filled_to_the_old_end = refl
 
 -- half of one byte more is none
-filled_halfway : left_by 4 pending ≡ 97 ∷ 98 ∷ 4 ∷ []
+filled_halfway : image_left_by 4 pending ≡ 97 ∷ 98 ∷ 4 ∷ []
 filled_halfway = refl
 
-filled_with_a_byte : left_by 257 pending ≡ 97 ∷ 98 ∷ 1 ∷ 1 ∷ []
+filled_with_a_byte : image_left_by 257 pending ≡ 97 ∷ 98 ∷ 1 ∷ 1 ∷ []
 filled_with_a_byte = refl

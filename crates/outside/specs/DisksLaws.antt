@@ -6,7 +6,8 @@ use Rattle.std.proofs.lemmas.Bool.{cases_lt}
 use Rattle.std.proofs.lemmas.List.{append-nil, take_at, drop_at, take_all, length-replicate, get_or-replicate, get_or_past}
 use Rattle.std.proofs.Math.ListN.{get_or-append}
 use Rattle.std.proofs.Math.Seq.{get_or-append_right}
-use Rattle.outside.specs.Disks.{Range, DiskState, IsBytes, IsTorn, MayLeave, at_rest, state_of, padded, written, after_write, after_sync, Tears, FailsToWrite, LeavesOnly, LeavesTorn}
+use Rattle.ritas_base.specs.Bytes.{IsBytes}
+use Rattle.outside.specs.Disks.{Range, DiskState, IsTorn, MayLeave, at_rest, disk_state_of, padded, bytes_written, after_write, after_sync, Tears, FailsToWrite, LeavesOnly, LeavesTorn}
 
 -- ---- moments
 
@@ -46,11 +47,11 @@ padded_low at file le = let none : at - length file ≡ 0 = omega (arith, le) in
 pub length-padded : (at : ℕ) (file : List ℕ) → length (padded at file) ≡ at
 length-padded at file = omega (arith, length-append (take at file) (replicate (at - length file) 0), length-take at file, length-replicate {A = ℕ} (at - length file) 0)
 
-pub length-written : (at : ℕ) (bytes file : List ℕ) → length (written at bytes file) ≡ at + (length bytes + (length file - (at + length bytes)))
+pub length-written : (at : ℕ) (bytes file : List ℕ) → length (bytes_written at bytes file) ≡ at + (length bytes + (length file - (at + length bytes)))
 length-written at bytes file =
     omega (arith, length-append (padded at file) (bytes ++ drop (at + length bytes) file), length-append bytes (drop (at + length bytes) file), length-drop (at + length bytes) file, length-padded at file)
 
-written_before : (at : ℕ) (bytes file : List ℕ) → take (min at (length file)) (written at bytes file) ≡ take at file
+written_before : (at : ℕ) (bytes file : List ℕ) → take (min at (length file)) (bytes_written at bytes file) ≡ take at file
 written_before at bytes file = elim (cases_lt (length file) at) [
   | inl short ↦
       let least : min at (length file) ≡ length file = omega (arith, short) in
@@ -61,7 +62,7 @@ written_before at bytes file = elim (cases_lt (length file) at) [
       rw least (take_at (padded at file) _ at (length-padded at file) ∙ padded_low at file le)
 ]
 
-written_after : (at : ℕ) (bytes file : List ℕ) → drop (at + length bytes) (written at bytes file) ≡ drop (at + length bytes) file
+written_after : (at : ℕ) (bytes file : List ℕ) → drop (at + length bytes) (bytes_written at bytes file) ≡ drop (at + length bytes) file
 written_after at bytes file =
     let rest = drop (at + length bytes) file in
     let long : length (padded at file ++ bytes) ≡ at + length bytes = omega (arith, length-append (padded at file) bytes, length-padded at file) in
@@ -81,7 +82,7 @@ padded_zero at file i le =
     ]
 
 -- what was written, and the zeros in front of it, are bytes
-written_bytes : (at : ℕ) (bytes file : List ℕ) → IsBytes bytes → (i : ℕ) → min at (length file) ≤ i → i < at + length bytes → get_or (written at bytes file) i 0 < 256
+written_bytes : (at : ℕ) (bytes file : List ℕ) → IsBytes bytes → (i : ℕ) → min at (length file) ≤ i → i < at + length bytes → get_or (bytes_written at bytes file) i 0 < 256
 written_bytes at bytes file fits i low high = elim (cases_lt i at) [
   | inl lt ↦
       let is = get_or-append (padded at file) (bytes ++ drop (at + length bytes) file) 0 i (omega (arith, lt, length-padded at file)) in
@@ -93,7 +94,7 @@ written_bytes at bytes file fits i low high = elim (cases_lt i at) [
 ]
 
 -- what a write leaves when it isn't cut off
-pub torn_whole : (at : ℕ) (bytes file : List ℕ) → IsBytes bytes → IsTorn (record { at = at; count = length bytes }) file (written at bytes file)
+pub torn_whole : (at : ℕ) (bytes file : List ℕ) → IsBytes bytes → IsTorn (record { at = at; count = length bytes }) file (bytes_written at bytes file)
 torn_whole at bytes file fits =
     let long = length-written at bytes file in
     record {
@@ -105,7 +106,7 @@ torn_whole at bytes file fits =
     }
 
 -- a write at or before the end
-pub written_inside : (at : ℕ) (bytes file : List ℕ) → at ≤ length file → written at bytes file ≡ take at file ++ (bytes ++ drop (at + length bytes) file)
+pub written_inside : (at : ℕ) (bytes file : List ℕ) → at ≤ length file → bytes_written at bytes file ≡ take at file ++ (bytes ++ drop (at + length bytes) file)
 written_inside at bytes file le = rw (padded_low at file le) refl
 
 -- ---- images
@@ -121,41 +122,41 @@ rest_image file image (inr is) = is
 
 -- ---- a write and a sync
 
-tears_leaves : (range : Range) (old new : List DiskState) → Tears range old new → LeavesOnly (LeavesTorn range (state_of old)) old new
+tears_leaves : (range : Range) (old new : List DiskState) → Tears range old new → LeavesOnly (LeavesTorn range (disk_state_of old)) old new
 tears_leaves range old new tears =
-    let s : DiskState = record { seen = tears.seen; synced = (state_of old).synced; ranges = range ∷ (state_of old).ranges } in
-    subst (λ (x : List DiskState). LeavesOnly (LeavesTorn range (state_of old)) old x) (sym tears.states)
-    (leaves_more (LeavesTorn range (state_of old)) old s left)
+    let s : DiskState = record { seen = tears.seen; synced = (disk_state_of old).synced; ranges = range ∷ (disk_state_of old).ranges } in
+    subst (λ (x : List DiskState). LeavesOnly (LeavesTorn range (disk_state_of old)) old x) (sym tears.states)
+    (leaves_more (LeavesTorn range (disk_state_of old)) old s left)
   where
-    left : (image : List ℕ) → MayLeave (record { seen = tears.seen; synced = (state_of old).synced; ranges = range ∷ (state_of old).ranges }) image → LeavesTorn range (state_of old) image
+    left : (image : List ℕ) → MayLeave (record { seen = tears.seen; synced = (disk_state_of old).synced; ranges = range ∷ (disk_state_of old).ranges }) image → LeavesTorn range (disk_state_of old) image
     left image (inl may) = record { older = may.0; was = inl may.1; torn = may.2 }
-    left image (inr is) = record { older = (state_of old).seen; was = seen_image (state_of old); torn = subst (IsTorn range (state_of old).seen) (sym is) tears.torn }
+    left image (inr is) = record { older = (disk_state_of old).seen; was = seen_image (disk_state_of old); torn = subst (IsTorn range (disk_state_of old).seen) (sym is) tears.torn }
 
 -- the write failed
-pub failed_leaves : (range : Range) (old new : List DiskState) → FailsToWrite range old new → LeavesOnly (LeavesTorn range (state_of old)) old new
-failed_leaves range old new (inl same) = subst (λ (x : List DiskState). LeavesOnly (LeavesTorn range (state_of old)) old x) (sym same) (leaves_none _ old)
+pub failed_leaves : (range : Range) (old new : List DiskState) → FailsToWrite range old new → LeavesOnly (LeavesTorn range (disk_state_of old)) old new
+failed_leaves range old new (inl same) = subst (λ (x : List DiskState). LeavesOnly (LeavesTorn range (disk_state_of old)) old x) (sym same) (leaves_none _ old)
 failed_leaves range old new (inr tears) = tears_leaves range old new tears
 
 -- it didn't
 pub wrote_leaves : (at : ℕ) (bytes : List ℕ) (old new : List DiskState) → IsBytes bytes → new ≡ after_write at bytes old
-    → LeavesOnly (LeavesTorn (record { at = at; count = length bytes }) (state_of old)) old new
+    → LeavesOnly (LeavesTorn (record { at = at; count = length bytes }) (disk_state_of old)) old new
 wrote_leaves at bytes old new fits e =
     tears_leaves (record { at = at; count = length bytes }) old new
-    (record { seen = written at bytes (state_of old).seen; torn = torn_whole at bytes (state_of old).seen fits; states = e })
+    (record { seen = bytes_written at bytes (disk_state_of old).seen; torn = torn_whole at bytes (disk_state_of old).seen fits; states = e })
 
 -- and the sync neither
 pub synced_leaves : (at : ℕ) (bytes : List ℕ) (old mid new : List DiskState) → IsBytes bytes → mid ≡ after_write at bytes old → new ≡ after_sync mid
-    → LeavesOnly (LeavesTorn (record { at = at; count = length bytes }) (state_of old)) old new
+    → LeavesOnly (LeavesTorn (record { at = at; count = length bytes }) (disk_state_of old)) old new
 synced_leaves at bytes old mid new fits e f =
     let range : Range = record { at = at; count = length bytes } in
-    let file = written at bytes (state_of old).seen in
-    let is : new ≡ at_rest file ∷ mid = f ∙ ap (λ (x : List DiskState). at_rest (state_of x).seen ∷ mid) e in
-    let torn = torn_whole at bytes (state_of old).seen fits in
-    let second : LeavesOnly (LeavesTorn range (state_of old)) mid (at_rest file ∷ mid) =
-    leaves_more _ mid (at_rest file) (λ image may. record { older = (state_of old).seen; was = seen_image (state_of old); torn = subst (IsTorn range (state_of old).seen) (sym (rest_image file image may)) torn }) in
-    subst (λ (x : List DiskState). LeavesOnly (LeavesTorn range (state_of old)) old x) (sym is)
+    let file = bytes_written at bytes (disk_state_of old).seen in
+    let is : new ≡ at_rest file ∷ mid = f ∙ ap (λ (x : List DiskState). at_rest (disk_state_of x).seen ∷ mid) e in
+    let torn = torn_whole at bytes (disk_state_of old).seen fits in
+    let second : LeavesOnly (LeavesTorn range (disk_state_of old)) mid (at_rest file ∷ mid) =
+    leaves_more _ mid (at_rest file) (λ image may. record { older = (disk_state_of old).seen; was = seen_image (disk_state_of old); torn = subst (IsTorn range (disk_state_of old).seen) (sym (rest_image file image may)) torn }) in
+    subst (λ (x : List DiskState). LeavesOnly (LeavesTorn range (disk_state_of old)) old x) (sym is)
     (leaves_then _ old mid (at_rest file ∷ mid) (wrote_leaves at bytes old mid fits e) second)
 
 pub synced_state : (at : ℕ) (bytes : List ℕ) (old mid new : List DiskState) → mid ≡ after_write at bytes old → new ≡ after_sync mid
-    → state_of new ≡ at_rest (written at bytes (state_of old).seen)
-synced_state at bytes old mid new e f = ap state_of f ∙ ap (λ (x : List DiskState). at_rest (state_of x).seen) e
+    → disk_state_of new ≡ at_rest (bytes_written at bytes (disk_state_of old).seen)
+synced_state at bytes old mid new e f = ap disk_state_of f ∙ ap (λ (x : List DiskState). at_rest (disk_state_of x).seen) e

@@ -4,17 +4,17 @@ use Rattle.outside.specs.Faults.{count_after, counted}
 use Rattle.outside.specs.declared.source.Failed.{Failed}
 
 -- the numbers of the calls that fail, the number of the next call, and how many calls failed
-pub record Calls : Type 0 where
+pub record FailingCalls : Type 0 where
   pub fails : List ℕ
   pub number : ℕ
   pub faults : ℕ
 
 -- before the first call, the count is 0
-abbrev pub no_calls : List ℕ → Calls
+abbrev pub no_calls : List ℕ → FailingCalls
 no_calls fails = record { fails = fails; number = 0; faults = 0 }
 
 -- one call more, which failed or didn't
-abbrev pub calls_after : {A : Type 0} → Calls → Result A Failed → Calls
+abbrev pub calls_after : {A : Type 0} → FailingCalls → Result A Failed → FailingCalls
 calls_after calls result = record {
   fails = calls.fails;
   number = count_after calls.number;
@@ -22,17 +22,17 @@ calls_after calls result = record {
 }
 
 -- the next call is one of those that fail
-abbrev pub IsFault : Calls → Type 0
+abbrev pub IsFault : FailingCalls → Type 0
 IsFault calls = Contains calls.fails calls.number
 
 pub record SourceState : Type 0 where
   pub left : List ℕ
-  pub calls : Calls
+  pub calls : FailingCalls
 
 pub record SinkState : Type 0 where
   pub taken : List ℕ
   pub room : ℕ
-  pub calls : Calls
+  pub calls : FailingCalls
 
 -- what a sink that grows took, and how many of its calls failed
 pub record BufferState : Type 0 where

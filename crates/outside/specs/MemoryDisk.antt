@@ -1,8 +1,8 @@
 -- A disk in memory: what it holds, what a call does, and what it keeps.
 use Rattle.std.specs.Prelude.{◌≡◌, ◌↔◌, ◌⊎◌, ℕ, ◌+◌, ◌<◌, ◌≤◌, List, [], ◌∷◌, ◌++◌, length, map, reverse, take, drop, min, Result, Ok, Err, IsErr, IfOk, OnErr}
 use Rattle.std.specs.List.{AllByRecursion}
-use Rattle.outside.specs.Memory.{Calls, IsFault, calls_after}
-use Rattle.outside.specs.Disks.{Range, DiskState, at_rest, state_of, after_write, after_sync}
+use Rattle.outside.specs.Memory.{FailingCalls, IsFault, calls_after}
+use Rattle.outside.specs.Disks.{Range, DiskState, at_rest, disk_state_of, after_write, after_sync}
 use Rattle.outside.specs.declared.source.Failed.{Failed}
 use Rattle.outside.specs.declared.mem_disk.DiskDid.{DiskDid}
 use Rattle.outside.specs.declared.mem_disk.Span.{Span}
@@ -19,7 +19,7 @@ pub record MemDiskState : Type 0 where
   pub acts : List DiskAct
   pub room : ℕ
   pub most : ℕ
-  pub calls : Calls
+  pub calls : FailingCalls
 
 -- the states after these acts, the newest first
 abbrev pub states_after : List ℕ → List DiskAct → List DiskState
@@ -27,8 +27,8 @@ states_after first [] = at_rest first ∷ []
 states_after first (Writes at bytes ∷ acts) = after_write at bytes (states_after first acts)
 states_after first (Syncs ∷ acts) = after_sync (states_after first acts)
 
-abbrev pub states_of : MemDiskState → List DiskState
-states_of s = states_after s.first s.acts
+abbrev pub disk_states_of : MemDiskState → List DiskState
+disk_states_of s = states_after s.first s.acts
 
 -- how many bytes were written
 abbrev pub wrote_in : List DiskAct → ℕ
@@ -43,32 +43,32 @@ abbrev pub IsRefused : MemDiskState → Type 0
 IsRefused s = IsFault s.calls ⊎ (s.most ≤ s.calls.number)
 
 -- a write with which the file or all writes would pass the room
-abbrev pub IsTooLong : MemDiskState → ℕ → ℕ → Type 0
-IsTooLong s at count = (s.room < at + count) ⊎ (s.room < wrote_in s.acts + count)
+abbrev pub IsWriteTooLong : MemDiskState → ℕ → ℕ → Type 0
+IsWriteTooLong s at count = (s.room < at + count) ⊎ (s.room < wrote_in s.acts + count)
 
 -- what a disk is after a call that did these acts
-abbrev pub with_acts : List DiskAct → Calls → MemDiskState → MemDiskState
+abbrev pub with_acts : List DiskAct → FailingCalls → MemDiskState → MemDiskState
 with_acts acts calls s = record s { acts = acts ++ s.acts; calls = calls }
 
 pub record DiskReads (at : ℕ) (old new : MemDiskState) (buf_old buf_new : List ℕ) (result : Result ℕ Failed) : Type 0 where
   pub fails : IsErr result ↔ IsRefused old
   pub now : new ≡ with_acts [] (calls_after old.calls result) old
-  pub count : IfOk result (λ k. k ≡ min (length buf_old) (length (drop at (state_of (states_of old)).seen)))
-  pub buf : IfOk result (λ k. buf_new ≡ take k (drop at (state_of (states_of old)).seen) ++ drop k buf_old)
+  pub count : IfOk result (λ k. k ≡ min (length buf_old) (length (drop at (disk_state_of (disk_states_of old)).seen)))
+  pub buf : IfOk result (λ k. buf_new ≡ take k (drop at (disk_state_of (disk_states_of old)).seen) ++ drop k buf_old)
   pub same : OnErr result (buf_new ≡ buf_old)
 
 -- at Ok it did this, and else nothing
-abbrev pub acts_by : {A E : Type 0} → DiskAct → Result A E → List DiskAct
-acts_by act (Ok x) = act ∷ []
-acts_by act (Err e) = []
+abbrev pub disk_acts_by : {A E : Type 0} → DiskAct → Result A E → List DiskAct
+disk_acts_by act (Ok x) = act ∷ []
+disk_acts_by act (Err e) = []
 
 pub record DiskWrites (at : ℕ) (bytes : List ℕ) (old new : MemDiskState) (result : Result (Unit {0}) Failed) : Type 0 where
-  pub fails : IsErr result ↔ (IsRefused old ⊎ IsTooLong old at (length bytes))
-  pub now : new ≡ with_acts (acts_by (Writes at bytes) result) (calls_after old.calls result) old
+  pub fails : IsErr result ↔ (IsRefused old ⊎ IsWriteTooLong old at (length bytes))
+  pub now : new ≡ with_acts (disk_acts_by (Writes at bytes) result) (calls_after old.calls result) old
 
 pub record DiskSyncs (old new : MemDiskState) (result : Result (Unit {0}) Failed) : Type 0 where
   pub fails : IsErr result ↔ IsRefused old
-  pub now : new ≡ with_acts (acts_by Syncs result) (calls_after old.calls result) old
+  pub now : new ≡ with_acts (disk_acts_by Syncs result) (calls_after old.calls result) old
 
 -- ---- what it keeps
 
@@ -82,14 +82,14 @@ unfoldable pub acts_of : List ℕ → List DiskDid → List DiskAct
 acts_of text dids = acts_after text (reverse dids)
 
 -- a write is of a part of so long a text
-abbrev pub IsPart : ℕ → DiskDid → Type 0
-IsPart len (Wrote at from count) = from + count ≤ len
-IsPart len Synced = Unit {0}
+abbrev pub IsPartialWrite : ℕ → DiskDid → Type 0
+IsPartialWrite len (Wrote at from count) = from + count ≤ len
+IsPartialWrite len Synced = Unit {0}
 
 -- what a read gives is held, and there is room
 pub record FitsDisk (first bytes text : List ℕ) (dids : List DiskDid) (room number : ℕ) : Type 0 where
-  pub seen : bytes ≡ (state_of (states_after first (acts_of text dids))).seen
-  pub parts : AllByRecursion (IsPart (length text)) (reverse dids)
+  pub seen : bytes ≡ (disk_state_of (states_after first (acts_of text dids))).seen
+  pub parts : AllByRecursion (IsPartialWrite (length text)) (reverse dids)
   pub sum : length text ≡ wrote_in (acts_of text dids)
   pub short : length bytes ≤ room
   pub few : length text ≤ room
@@ -102,13 +102,13 @@ range_of span = record { at = span.at; count = span.count }
 unfoldable pub ranges_of : List Span → List Range
 ranges_of spans = map range_of (reverse spans)
 
-abbrev pub IsWithin : ℕ → Span → Type 0
-IsWithin room span = span.at + span.count ≤ room
+abbrev pub IsSpanWithin : ℕ → Span → Type 0
+IsSpanWithin room span = span.at + span.count ≤ room
 
 -- what the last sync left, and what was written since
 pub record KeepsSynced (first text : List ℕ) (dids : List DiskDid) (synced : List ℕ) (spans : List Span) (room : ℕ) : Type 0 where
-  pub file : synced ≡ (state_of (states_after first (acts_of text dids))).synced
-  pub ranges : ranges_of spans ≡ (state_of (states_after first (acts_of text dids))).ranges
-  pub within : AllByRecursion (IsWithin room) spans
+  pub file : synced ≡ (disk_state_of (states_after first (acts_of text dids))).synced
+  pub ranges : ranges_of spans ≡ (disk_state_of (states_after first (acts_of text dids))).ranges
+  pub within : AllByRecursion (IsSpanWithin room) spans
   pub short : length synced ≤ room
   pub few : length spans ≤ length dids

@@ -1,7 +1,7 @@
 -- A link in memory: what it holds, and what a call does.
 use Rattle.std.specs.Prelude.{◌≡◌, ℕ, ◌↔◌, ◌<◌, ◌^◌, List, [], ◌∷◌, length, Result, Err, IfOk, OnErr}
 use Rattle.outside.specs.Faults.{count_after}
-use Rattle.outside.specs.Memory.{Calls, IsFault}
+use Rattle.outside.specs.Memory.{FailingCalls, IsFault}
 use Rattle.outside.specs.Links.{LinkAct, bytes_of, faults_after}
 use Rattle.outside.specs.declared.link.FaultCounts.{FaultCounts}
 use Rattle.outside.specs.declared.link.LinkFault.{LinkFault}
@@ -13,7 +13,7 @@ use Rattle.outside.specs.declared.link.LinkItem.TheVariants as item
 pub record LinkState : Type 0 where
   pub left : List LinkItem
   pub told : List LinkAct
-  pub calls : Calls
+  pub calls : FailingCalls
   pub short : ℕ
 
 -- how many of its calls answered each fault

@@ -3,7 +3,7 @@ use Rattle.std.specs.Prelude.{◌≡◌, ◌≤◌, ℕ, List, ◌++◌, Bool, t
 use Rattle.outside.specs.Faults.{count_after, Rose}
 
 -- Where this call failed, one call of a sink did, and else none did. So none did at Ok.
-pub record Counts {A E : Type 0} (before now : ℕ) (result : Result A E) (failed : Type 0) : Type 0 where
+pub record CountsFault {A E : Type 0} (before now : ℕ) (result : Result A E) (failed : Type 0) : Type 0 where
   pub stands : OnOk result (now ≡ before)
   pub rises : failed → now ≡ count_after before
   pub others : ¬ failed → now ≡ before
@@ -21,4 +21,4 @@ pub record Writes {E : Type 0} (text : List ℕ) (tells : Bool) (old new : List 
   pub front : tells ≡ true → TookFront old new text
   pub later : before ≤ now
   pub cause : failed → Rose before now
-  pub counts : Counts before now result failed
+  pub counts : CountsFault before now result failed

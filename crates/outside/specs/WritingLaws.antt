@@ -5,7 +5,7 @@ use Rattle.std.proofs.lemmas.List.{take-append-drop, append-nil}
 use Rattle.std.proofs.lemmas.Result.{on_ok_weaker}
 use Rattle.outside.specs.Faults.{count_after}
 use Rattle.outside.specs.FaultsLaws.{rose_after}
-use Rattle.outside.specs.Writing.{Counts, TookFront, Writes}
+use Rattle.outside.specs.Writing.{CountsFault, TookFront, Writes}
 
 pub front_of : (old new text : List ℕ) (k : ℕ) → new ≡ old ++ take k text → TookFront old new text
 front_of old new text k e = record { front = take k text; rest = drop k text; parts = sym (take-append-drop k text); taken = e }
@@ -42,7 +42,7 @@ writes_none text tells old x e not = record {
 }
 
 -- the counts of one call, and then of another
-pub counts_then : {A B E D : Type 0} {F G : Type 0} (x y z : ℕ) {a : A} (r : Result B D) → Counts {E = E} x y (Ok a) F → Counts y z r G → Counts x z r G
+pub counts_then : {A B E D : Type 0} {F G : Type 0} (x y z : ℕ) {a : A} (r : Result B D) → CountsFault {E = E} x y (Ok a) F → CountsFault y z r G → CountsFault x z r G
 counts_then x y z r first second = record {
   stands = on_ok_weaker r (λ e. e ∙ first.stands) second.stands;
   rises = λ f. second.rises f ∙ ap count_after first.stands;

@@ -1,7 +1,7 @@
 //! Sources and sinks over the readers and writers of the system: an error is a fault, which is counted.
 
 ghost use Rattle.std.specs.Prelude.{◌≡◌, ◌<◌, ◌≤◌, ℕ, [], length, Bool, false, IfOk, IsErr};
-ghost use Rattle.outside.specs.Adapters.{comes_to, ComesOf};
+ghost use Rattle.outside.specs.Adapters.{comes_of, ComesOf};
 ghost use Rattle.outside.specs.Faults.{HasCause, counted};
 
 use crate::calls::{ReadCall, WriteCall};
@@ -18,7 +18,7 @@ fn counted(
     least: usize,
     most: usize,
 ) -> Result<usize, Failed>
-    ensures value { result ≡ comes_to least most answer }
+    ensures value { result ≡ comes_of least most answer }
     ensures within { IfOk result (λ k. (least ≤ k) × (k ≤ most)) }
     ensures counts { faults.new ≡ counted faults.old result }
     ensures cause { HasCause faults.old faults.new (IsErr result) }

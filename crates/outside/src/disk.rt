@@ -2,7 +2,7 @@
 
 ghost use Rattle.std.specs.Prelude.{◌≡◌, ◌<◌, ◌≤◌, List, ℕ, Bool, true, length, take, drop, IfOk, OnOk, OnErr, IsErr};
 ghost use Rattle.outside.specs.Faults.{HasCause, counted};
-ghost use Rattle.outside.specs.Disks.{DiskState, FailsToWrite, Puts, after_sync, after_write, state_of};
+ghost use Rattle.outside.specs.Disks.{DiskState, FailsToWrite, Puts, after_sync, after_write, disk_state_of};
 
 use crate::source::Failed;
 
@@ -22,8 +22,8 @@ pub trait Disk {
     /// Reads from an offset on, and says how many bytes: none only at the end or behind it.
     fn read(&mut self, at: u64, buf: &mut [u8]) -> Result<usize, Failed>
         ensures count { IfOk result (λ k. k ≤ length buf.old) }
-        ensures bytes { tells ≡ true → IfOk result (λ k. take k buf.new ≡ take k (drop at (state_of (told self.old)).seen)) }
-        ensures end { tells ≡ true → IfOk result (λ k. k ≡ 0 → 0 < length buf.old → length (state_of (told self.old)).seen ≤ at) }
+        ensures bytes { tells ≡ true → IfOk result (λ k. take k buf.new ≡ take k (drop at (disk_state_of (told self.old)).seen)) }
+        ensures end { tells ≡ true → IfOk result (λ k. k ≡ 0 → 0 < length buf.old → length (disk_state_of (told self.old)).seen ≤ at) }
         ensures same { tells ≡ true → told self.new ≡ told self.old }
         ensures cause { HasCause (faults self.old) (faults self.new) (IsErr result) }
         ensures counts { faults self.new ≡ counted (faults self.old) result };

@@ -2,9 +2,10 @@
 ghost use Rattle.std.specs.Prelude.{◌≡◌, ◌<◌, ◌≤◌, ◌+◌, ◌↔◌, ◌⊎◌, [], true, length, take, drop, vec_capacity, IsTrue, IfOk, OnOk, OnErr, IsErr};
 ghost use Rattle.outside.specs.Faults.{HasCause, counted};
 ghost use Rattle.outside.specs.Memory.{no_calls, calls_after};
-ghost use Rattle.outside.specs.Disks.{FailsToWrite, IsBytes, MayLeave, after_sync, after_write, state_of, written};
-ghost use Rattle.outside.specs.MemoryDisk.{DiskReads, DiskSyncs, DiskWrites, IsRefused, IsTooLong, IsWithin, ranges_of, states_of};
-ghost use Rattle.outside.specs.Stops.{ended, filled_by, fills, left_by};
+ghost use Rattle.ritas_base.specs.Bytes.{IsBytes};
+ghost use Rattle.outside.specs.Disks.{FailsToWrite, MayLeave, after_sync, after_write, disk_state_of, bytes_written};
+ghost use Rattle.outside.specs.MemoryDisk.{DiskReads, DiskSyncs, DiskWrites, IsRefused, IsWriteTooLong, IsSpanWithin, ranges_of, disk_states_of};
+ghost use Rattle.outside.specs.Stops.{end_left, filled_by, fills, image_left_by};
 ghost use Rattle.std.specs.List.{AllByRecursion};
 
 use crate::disk::Disk;
@@ -68,7 +69,7 @@ impl Model for MemDisk {
 // Writes bytes at an offset of a file, for which there is room.
 fn overwrite(file: &mut Vec<u8>, at: usize, bytes: &[u8])
     requires { at + length bytes.now ≤ vec_capacity file.old }
-    ensures value { file.new.items ≡ written at bytes.now file.old.items }
+    ensures value { file.new.items ≡ bytes_written at bytes.now file.old.items }
     ensures room { vec_capacity file.old ≤ vec_capacity file.new }
 {
     if at + bytes.len() < file.len() {
@@ -91,7 +92,7 @@ fn copied(alloc: Global, room: usize, bytes: &[u8]) -> Result<Vec<u8>, Mem>
 
 // A file of which these ranges, the oldest first, are filled with a byte.
 fn filled(alloc: Global, room: u64, synced: &[u8], spans: &[Span], byte: u8) -> Result<Vec<u8>, Mem>
-    requires within { AllByRecursion (IsWithin room) spans.now }
+    requires within { AllByRecursion (IsSpanWithin room) spans.now }
     requires short { length synced.now ≤ room }
     ensures value { IfOk result (λ file. file.items ≡ fills byte (ranges_of spans.now) synced.now) }
     ensures short { IfOk result (λ file. length file.items ≤ room) }
@@ -113,7 +114,7 @@ fn are_bytes(_bytes: &[u8])
 // Where a file ends that a stop leaves: at the old end, halfway to the new end, or at the new end.
 fn ended(way: u32, old: usize, new: usize) -> usize
     requires { old ≤ new }
-    ensures { result ≡ ended way old new }
+    ensures { result ≡ end_left way old new }
 {
     match way {
         0 => old,
@@ -130,7 +131,7 @@ fn cut_off(
     spans: &[Span],
     pick: u32,
 ) -> Result<Vec<u8>, Mem>
-    requires within { AllByRecursion (IsWithin room) spans.now }
+    requires within { AllByRecursion (IsSpanWithin room) spans.now }
     requires short { length synced.now ≤ room }
     ensures value { IfOk result (λ file. file.items ≡ filled_by pick synced.now (ranges_of spans.now)) }
     ensures short { IfOk result (λ file. length file.items ≤ room) }
@@ -174,13 +175,13 @@ impl MemDisk {
     /// The one error is want of memory.
     pub fn after_stop(&self, alloc: Global, pick: u32) -> Result<MemDisk, Mem>
         ensures disk { IfOk result (λ s. s ≡ record {
-          first = left_by pick (state_of (states_of self.now));
+          first = image_left_by pick (disk_state_of (disk_states_of self.now));
           acts = [];
           room = self.now.room;
           most = self.now.most;
           calls = no_calls [];
         }) }
-        ensures image { MayLeave (state_of (states_of self.now)) (left_by pick (state_of (states_of self.now))) }
+        ensures image { MayLeave (disk_state_of (disk_states_of self.now)) (image_left_by pick (disk_state_of (disk_states_of self.now))) }
     {
         are_bytes(&self.synced);
         match pick {
@@ -202,7 +203,7 @@ impl MemDisk {
 
     // Whether a write of so many bytes at an offset passes the room.
     fn is_too_long(&self, at: u64, count: usize) -> bool
-        ensures { IsTrue result ↔ IsTooLong self.now at count }
+        ensures { IsTrue result ↔ IsWriteTooLong self.now at count }
     {
         let count = count as u64;
         at > self.room || count > self.room - at || count > self.room - self.text.len() as u64
@@ -212,7 +213,7 @@ impl MemDisk {
 impl Disk for MemDisk {
     ghost tells = { true };
 
-    ghost told = { λ s. states_of s };
+    ghost told = { λ s. disk_states_of s };
 
     ghost faults = { λ s. s.calls.faults };
 
@@ -221,9 +222,9 @@ impl Disk for MemDisk {
     fn read(&mut self, at: u64, buf: &mut [u8]) -> Result<usize, Failed>
         ensures exact { DiskReads at self.old self.new buf.old buf.new result }
         ensures count { IfOk result (λ k. k ≤ length buf.old) }
-        ensures bytes { IfOk result (λ k. take k buf.new ≡ take k (drop at (state_of (states_of self.old)).seen)) }
-        ensures end { IfOk result (λ k. k ≡ 0 → 0 < length buf.old → length (state_of (states_of self.old)).seen ≤ at) }
-        ensures same { states_of self.new ≡ states_of self.old }
+        ensures bytes { IfOk result (λ k. take k buf.new ≡ take k (drop at (disk_state_of (disk_states_of self.old)).seen)) }
+        ensures end { IfOk result (λ k. k ≡ 0 → 0 < length buf.old → length (disk_state_of (disk_states_of self.old)).seen ≤ at) }
+        ensures same { disk_states_of self.new ≡ disk_states_of self.old }
         ensures cause { HasCause self.old.calls.faults self.new.calls.faults (IsErr result) }
         ensures counts { self.new.calls.faults ≡ counted self.old.calls.faults result }
     {
@@ -242,8 +243,8 @@ impl Disk for MemDisk {
     /// Fails, and does nothing, exactly where a read would, or where the file or the sum of all writes would pass the room.
     fn write_at(&mut self, at: u64, bytes: &[u8]) -> Result<(), Failed>
         ensures exact { DiskWrites at bytes.now self.old self.new result }
-        ensures written { OnOk result (states_of self.new ≡ after_write at bytes.now (states_of self.old)) }
-        ensures err { OnErr result (FailsToWrite (record { at = at; count = length bytes.now }) (states_of self.old) (states_of self.new)) }
+        ensures written { OnOk result (disk_states_of self.new ≡ after_write at bytes.now (disk_states_of self.old)) }
+        ensures err { OnErr result (FailsToWrite (record { at = at; count = length bytes.now }) (disk_states_of self.old) (disk_states_of self.new)) }
         ensures cause { HasCause self.old.calls.faults self.new.calls.faults (IsErr result) }
         ensures counts { self.new.calls.faults ≡ counted self.old.calls.faults result }
     {
@@ -271,8 +272,8 @@ impl Disk for MemDisk {
     /// Fails, and does nothing, exactly where a read would.
     fn sync(&mut self) -> Result<(), Failed>
         ensures exact { DiskSyncs self.old self.new result }
-        ensures synced { OnOk result (states_of self.new ≡ after_sync (states_of self.old)) }
-        ensures err { OnErr result (states_of self.new ≡ states_of self.old) }
+        ensures synced { OnOk result (disk_states_of self.new ≡ after_sync (disk_states_of self.old)) }
+        ensures err { OnErr result (disk_states_of self.new ≡ disk_states_of self.old) }
         ensures cause { HasCause self.old.calls.faults self.new.calls.faults (IsErr result) }
         ensures counts { self.new.calls.faults ≡ counted self.old.calls.faults result }
     {

@@ -27,9 +27,9 @@ pub(crate) struct CallList {
 }
 
 impl Model for CallList {
-    ghost use Rattle.outside.specs.Memory.{Calls};
+    ghost use Rattle.outside.specs.Memory.{FailingCalls};
 
-    ghost Value = { Calls };
+    ghost Value = { FailingCalls };
 
     ghost view = { λ c. record { fails = c.fails.items; number = c.number; faults = c.faults } };
 }

@@ -2,7 +2,7 @@
 
 ghost use Rattle.std.specs.Prelude.{◌≡◌, ◌≢◌, ◌<◌, ◌≤◌, ◌+◌, ◌^◌, ◌↔◌, [], true, length, Err, IfOk};
 ghost use Rattle.outside.specs.Faults.{HasCause};
-ghost use Rattle.outside.specs.Wholes.{faults_after};
+ghost use Rattle.outside.specs.Wholes.{read_faults_after};
 ghost use Rattle.outside.specs.declared.whole.ReadFault.TheVariants as faults;
 
 use crate::source::{Failed, Source};
@@ -61,7 +61,7 @@ pub fn read_whole<S: Source>(
     // In any case at most one byte more was taken.
     ensures taken { S.tells ≡ true → length (S.left source.old) ≤ length (S.left source.new) + most + 1 }
     ensures cause { HasCause (S.faults source.old) (S.faults source.new) (result ≡ Err ReadFault.Failed) }
-    ensures counts { S.faults source.new ≡ faults_after (S.faults source.old) result }
+    ensures counts { S.faults source.new ≡ read_faults_after (S.faults source.old) result }
 {
     let mut bytes = Vec::new(alloc);
     let mut piece = [0; PIECE];

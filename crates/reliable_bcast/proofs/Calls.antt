@@ -15,8 +15,8 @@ use Rattle.layer_api.specs.Broadcast.{Tagging, MayTake}
 use Rattle.layer_api.specs.BroadcastCalls.{CastShown, Started, Takes}
 use Rattle.reliable_bcast.specs.declared.rb.Rb.{Rb}
 use Rattle.reliable_bcast.specs.Bracha.{bracha}
-use Rattle.reliable_bcast.specs.State.{state_of, after_item, says_item, counts_item, Hears}
-use Rattle.reliable_bcast.specs.Laws.Steps.{IsStep, step_take, step_start, counts_is}
+use Rattle.reliable_bcast.specs.State.{state_of, after_item, says_item, counts_item, HearsByValue}
+use Rattle.reliable_bcast.specs.Laws.Steps.{IsValueStep, step_take, step_start, counts_is}
 
 abbrev pub Stands : Rb → Place → Tags → List Call → Type 0
 Stands b at tags h = b ≡ state_of at h
@@ -31,9 +31,9 @@ abbrev delivered : Rb → Option (List ℕ)
 delivered b = b.delivered
 
 step : (b : Rb) (i : Item) (at : Place) (tags : Tags) (h : List Call) → b ≡ state_of at h → MayTake bracha at tags h i → counts_item i.kind b i.from ≡ true
-    → IsStep at tags h (Take i) (after_item i.kind b i) (says_item i.kind b i)
+    → IsValueStep at tags h (Take i) (after_item i.kind b i) (says_item i.kind b i)
 step b i at tags h stands may counts =
-    subst (λ (x : Rb). IsStep at tags h (Take i) (after_item i.kind x i) (says_item i.kind x i)) (sym stands)
+    subst (λ (x : Rb). IsValueStep at tags h (Take i) (after_item i.kind x i) (says_item i.kind x i)) (sym stands)
     (step_take at tags h i may (ap (λ (x : Rb). counts_item i.kind x i.from) (sym stands) ∙ counts))
 
 counted : (b : Rb) (i : Item) (at : Place) (tags : Tags) (h : List Call) → b ≡ state_of at h → MayTake bracha at tags h i
@@ -48,7 +48,7 @@ opposites b true false p q = absurd (both_ways b p q)
 opposites b false true p q = absurd (both_ways b q p)
 
 pub heard_well : (t : Tagging) (old new : Rb) (i : Item) (before after : List Msg) (r : Result Heard Mem) → is_err r ≡ false
-    → Hears old new i before after r → Takes Stands bracha is_live shown t old new i before after r
+    → HearsByValue old new i before after r → Takes Stands bracha is_live shown t old new i before after r
 heard_well t old new i before after (Ok Took) e hears =
     record {
       grows = λ at tags h stands tagger may. hears.state ∙ (step old i at tags h stands may hears.counts).state;
@@ -64,7 +64,7 @@ heard_well t old new i before after (Ok Repeat) e hears =
 heard_well t old new i before after (Err x) e hears = absurd (cc)
 
 pub heard_half : (t : Tagging) (old new : Rb) (i : Item) (before after : List Msg) (r : Result Heard Mem) → is_err r ≡ true
-    → Hears old new i before after r → Takes Stands bracha is_live shown t old (record new { live = false }) i before after r
+    → HearsByValue old new i before after r → Takes Stands bracha is_live shown t old (record new { live = false }) i before after r
 heard_half t old new i before after (Ok Took) e hears = absurd (cc)
 heard_half t old new i before after (Ok Repeat) e hears = absurd (cc)
 heard_half t old new i before after (Err x) e hears =

@@ -23,21 +23,21 @@ use Rattle.layer_api.specs.BroadcastCalls.{Started, Takes}
 use Rattle.reliable_bcast.specs.declared.digest_rb.Known.{Known}
 use Rattle.reliable_bcast.specs.declared.digest_rb.DigestRb.{DigestRb}
 use Rattle.reliable_bcast.specs.Laws.Steps.{awaited_is, nobody_yet}
-use Rattle.reliable_bcast.specs.Tally.{is_awaited}
-use Rattle.reliable_bcast.specs.Digests.{out_of, by_digest}
+use Rattle.ritas_base.specs.Places.{is_awaited}
+use Rattle.reliable_bcast.specs.Digests.{out_by_digest, by_digest}
 use Rattle.reliable_bcast.specs.Laws.DigestShown.{shows_out}
-use Rattle.reliable_bcast.specs.DigestState.{value_in, value_for_full, delivered_of, shown_of, Keeps, IsNew, IsSame, Nothing, AfterInit, AfterValue, settled, ready_message, want_message, echoed_by, readied_by, want_answer, after_ready, HearsInit, HearsEcho, HearsReady, HearsWant, HearsValue, Hears}
+use Rattle.reliable_bcast.specs.DigestState.{value_with_digest, value_for_full, delivered_of, digest_shown, KeepsDigests, IsNew, IsSameState, DigestsUnchanged, AfterInit, AfterValue, settled_by_digest, ready_message, want_message, echoed_by, readied_by, want_answer, after_ready, HearsInit, HearsEcho, HearsReady, HearsWant, HearsValue, HearsByDigest}
 use Rattle.reliable_bcast.proofs.DigestSteps.{IsStep, step_start, step_init, step_value, step_echo, step_ready, step_want}
 
 abbrev pub is_live : DigestRb → Bool
 is_live b = b.live
 
 abbrev TakesAs : Tagging → DigestRb → DigestRb → Item → List Msg → List Msg → Result Heard Mem → Type 0
-TakesAs t old new i before after r = Takes Keeps by_digest is_live shown_of t old new i before after r
+TakesAs t old new i before after r = Takes KeepsDigests by_digest is_live digest_shown t old new i before after r
 
 -- for all calls at which the item may be taken
 abbrev ForAll : Tagging → DigestRb → Item → (Place → Tags → List Call → Type 0) → Type 0
-ForAll t old i P = (at : Place) (tags : Tags) (h : List Call) → Keeps old at tags h → IsTagger at tags t → MayTake by_digest at tags h i → P at tags h
+ForAll t old i P = (at : Place) (tags : Tags) (h : List Call) → KeepsDigests old at tags h → IsTagger at tags t → MayTake by_digest at tags h i → P at tags h
 
 abbrev IsFirst : Item → Place → Tags → List Call → Type 0
 IsFirst i at tags h = first h i.from i.kind ≡ None
@@ -53,18 +53,18 @@ took t old new i before after put steps firsts said =
     }
 
 -- one that repeats another
-again : (t : Tagging) (old new : DigestRb) (i : Item) (before after : List Msg) → Nothing old new before after
+again : (t : Tagging) (old new : DigestRb) (i : Item) (before after : List Msg) → DigestsUnchanged old new before after
     → ForAll t old i (λ at tags h. is_some (first h i.from i.kind) ≡ true) → TakesAs t old new i before after (Ok Repeat)
 again t old new i before after same there =
     record {
-      same = λ at tags h keeps. subst (λ (b : DigestRb). Keeps b at tags h) (sym same.state) keeps;
+      same = λ at tags h keeps. subst (λ (b : DigestRb). KeepsDigests b at tags h) (sym same.state) keeps;
       out = same.out;
       counts = there;
     }
 
 -- want of memory
 half : (t : Tagging) (old new : DigestRb) (i : Item) (before after : List Msg) (e : Mem) → after ≡ before → ForAll t old i (IsFirst i)
-    → ForAll t old i (λ at tags h. (delivered_of new ≡ out_of at tags h) ⊎ (delivered_of new ≡ out_of at tags (Take i ∷ h)))
+    → ForAll t old i (λ at tags h. (delivered_of new ≡ out_by_digest at tags h) ⊎ (delivered_of new ≡ out_by_digest at tags (Take i ∷ h)))
     → TakesAs t old (record new { live = false }) i before after (Err e)
 half t old new i before after e out firsts near =
     record {
@@ -96,7 +96,7 @@ init_first : (t : Tagging) (old : DigestRb) (i : Item) → i.kind ≡ Init → (
 init_first t old i kind b is = λ at tags h keeps tagger may.
     ap (λ (k : ℕ). is_some (first h k Init)) (mine at tags h i may kind) ∙ (sym keeps.inited ∙ is)
 
-init_step : (t : Tagging) (old new : DigestRb) (i : Item) → i.kind ≡ Init → old.inited ≡ false → AfterInit t old new i → ForAll t old i (λ at tags h. Keeps new at tags (Take i ∷ h))
+init_step : (t : Tagging) (old new : DigestRb) (i : Item) → i.kind ≡ Init → old.inited ≡ false → AfterInit t old new i → ForAll t old i (λ at tags h. KeepsDigests new at tags (Take i ∷ h))
 init_step t old new i kind is after = λ at tags h keeps tagger may.
     (step_init old at tags h i new (t.tags.digest i.value) keeps kind (mine at tags h i may kind) (not_there (first h i.from Init) (init_first t old i kind false is at tags h keeps tagger may))
     (sym (tagger.alike.digest i.value)) after.state after.values).keeps
@@ -116,7 +116,7 @@ heard_init t old new i before after (Ok Repeat) kind e hears =
 heard_init t old new i before after (Err x) kind e hears = absurd (cc)
 
 -- what is the same delivers the same
-same_out : (old new : DigestRb) → IsSame old new → delivered_of new ≡ delivered_of old
+same_out : (old new : DigestRb) → IsSameState old new → delivered_of new ≡ delivered_of old
 same_out old new same =
     ap (λ (o : Option (List ℕ)). value_for_full new.values.items o) (ap (λ (b : DigestRb). b.full) same.state) ∙ ap (λ (ks : List Known). value_for_full ks old.full) same.values
 
@@ -138,7 +138,7 @@ half_init t old new i before after (Err x) kind e hears =
 value_first : (t : Tagging) (old : DigestRb) (i : Item) (b : Bool) → has_member old.given i.from ≡ b → ForAll t old i (λ at tags h. is_some (first h i.from Value) ≡ b)
 value_first t old i b is = λ at tags h keeps tagger may. sym (keeps.given i.from may.sender) ∙ is
 
-value_step : (t : Tagging) (old new : DigestRb) (i : Item) → i.kind ≡ Value → has_member old.given i.from ≡ false → AfterValue t old new i → ForAll t old i (λ at tags h. Keeps new at tags (Take i ∷ h))
+value_step : (t : Tagging) (old new : DigestRb) (i : Item) → i.kind ≡ Value → has_member old.given i.from ≡ false → AfterValue t old new i → ForAll t old i (λ at tags h. KeepsDigests new at tags (Take i ∷ h))
 value_step t old new i kind is after = λ at tags h keeps tagger may.
     (step_value old at tags h i new (t.tags.digest i.value) keeps kind (not_there (first h i.from Value) (value_first t old i false is at tags h keeps tagger may))
     (sym (tagger.alike.digest i.value)) after.state after.values after.given).keeps
@@ -210,9 +210,9 @@ heard_ready : (t : Tagging) (old new : DigestRb) (i : Item) (before after : List
     → HearsReady old new i before after r → TakesAs t old new i before after r
 heard_ready t old new i before after (Ok Took) kind e hears =
     let none = ready_first t old i hears.0 in
-    took t old new i before after (ready_message (readied_by old i) i.value ++ want_message (settled (readied_by old i) i.value) i.value)
+    took t old new i before after (ready_message (readied_by old i) i.value ++ want_message (settled_by_digest (readied_by old i) i.value) i.value)
     (λ at tags h keeps tagger may.
-    subst (λ (b : DigestRb). IsStep at tags h (Take i) b (ready_message (readied_by old i) i.value ++ want_message (settled (readied_by old i) i.value) i.value)) (sym hears.1) (step_ready old at tags h i keeps kind may.sender (none at tags h keeps tagger may)))
+    subst (λ (b : DigestRb). IsStep at tags h (Take i) b (ready_message (readied_by old i) i.value ++ want_message (settled_by_digest (readied_by old i) i.value) i.value)) (sym hears.1) (step_ready old at tags h i keeps kind may.sender (none at tags h keeps tagger may)))
     (λ at tags h keeps tagger may. of_kind h i Ready kind ∙ none at tags h keeps tagger may) hears.2
 heard_ready t old new i before after (Ok Repeat) kind e hears =
     again t old new i before after hears.1
@@ -259,16 +259,16 @@ half_want t old new i before after (Err x) kind e hears =
 -- ---- every kind
 
 other_kind : (t : Tagging) (old new : DigestRb) (i : Item) (before after : List Msg) (r : Result Heard Mem) → is_of_form 3 i.kind ≡ false
-    → (r ≡ Ok Repeat) × Nothing old new before after → TakesAs t old new i before after r
+    → (r ≡ Ok Repeat) × DigestsUnchanged old new before after → TakesAs t old new i before after r
 other_kind t old new i before after r other hears =
     subst (λ (q : Result Heard Mem). TakesAs t old new i before after q) (sym hears.0)
     (again t old new i before after hears.1 (λ at tags h keeps tagger may. absurd (both_ways (is_of_form 3 i.kind) other may.kind)))
 
 pub heard_well : (t : Tagging) (old new : DigestRb) (i : Item) (before after : List Msg) (r : Result Heard Mem) → is_err r ≡ false
-    → Hears i.kind t old new i before after r → TakesAs t old new i before after r
+    → HearsByDigest i.kind t old new i before after r → TakesAs t old new i before after r
 heard_well t old new i before after r e hears = go i.kind refl hears
   where
-    go : (kind : Kind) → i.kind ≡ kind → Hears kind t old new i before after r → TakesAs t old new i before after r
+    go : (kind : Kind) → i.kind ≡ kind → HearsByDigest kind t old new i before after r → TakesAs t old new i before after r
     go kinds.Init kind h = heard_init t old new i before after r kind e h
     go kinds.Echo kind h = heard_echo t old new i before after r kind e h
     go kinds.Ready kind h = heard_ready t old new i before after r kind e h
@@ -279,13 +279,13 @@ heard_well t old new i before after r e hears = go i.kind refl hears
     go kinds.Value kind h = heard_value t old new i before after r kind e h
 
 pub heard_half : (t : Tagging) (old new : DigestRb) (i : Item) (before after : List Msg) (r : Result Heard Mem) → is_err r ≡ true
-    → Hears i.kind t old new i before after r → TakesAs t old (record new { live = false }) i before after r
+    → HearsByDigest i.kind t old new i before after r → TakesAs t old (record new { live = false }) i before after r
 heard_half t old new i before after r e hears = go i.kind refl hears
   where
     not_other : (r ≡ Ok Repeat) → TakesAs t old (record new { live = false }) i before after r
     not_other same = absurd (both_ways (is_err r) (ap is_err same) e)
 
-    go : (kind : Kind) → i.kind ≡ kind → Hears kind t old new i before after r → TakesAs t old (record new { live = false }) i before after r
+    go : (kind : Kind) → i.kind ≡ kind → HearsByDigest kind t old new i before after r → TakesAs t old (record new { live = false }) i before after r
     go kinds.Init kind h = half_init t old new i before after r kind e h
     go kinds.Echo kind h = half_echo t old new i before after r kind e h
     go kinds.Ready kind h = half_ready t old new i before after r kind e h
@@ -298,7 +298,7 @@ heard_half t old new i before after r e hears = go i.kind refl hears
 -- ---- the start
 
 pub started_well : (t : Tagging) (old : DigestRb) (value : List ℕ) (before after : List Msg) (r : Result (Unit {0}) Mem) → is_err r ≡ false
-    → OnOk r (after ≡ before ++ to_all old.slot Init (Some value)) → Started Keeps by_digest is_live shown_of t old old value before after r
+    → OnOk r (after ≡ before ++ to_all old.slot Init (Some value)) → Started KeepsDigests by_digest is_live digest_shown t old old value before after r
 started_well t old value before after (Ok u) e said =
     record {
       grows = λ at tags h keeps tagger may. (step_start old at tags h value keeps may.once).keeps;
@@ -307,7 +307,7 @@ started_well t old value before after (Ok u) e said =
 started_well t old value before after (Err x) e said = absurd (cc)
 
 pub started_half : (t : Tagging) (old : DigestRb) (value : List ℕ) (before after : List Msg) (r : Result (Unit {0}) Mem) → is_err r ≡ true
-    → OnErr r (after ≡ before) → Started Keeps by_digest is_live shown_of t old (record old { live = false }) value before after r
+    → OnErr r (after ≡ before) → Started KeepsDigests by_digest is_live digest_shown t old (record old { live = false }) value before after r
 started_half t old value before after (Ok u) e out = absurd (cc)
 started_half t old value before after (Err x) e out =
     record {
@@ -318,7 +318,7 @@ started_half t old value before after (Err x) e out =
 
 -- ---- before any call
 
-pub new_keeps : (p : Numbers) (me : ℕ) (s : Slot) (b : DigestRb) → IsNew p me s b → (tags : Tags) → Keeps b (record { numbers = p; me = me; slot = s }) tags []
+pub new_keeps : (p : Numbers) (me : ℕ) (s : Slot) (b : DigestRb) → IsNew p me s b → (tags : Tags) → KeepsDigests b (record { numbers = p; me = me; slot = s }) tags []
 new_keeps p me s b new tags =
     record {
       small = new.small;
@@ -331,7 +331,7 @@ new_keeps p me s b new tags =
       readies = new.readies ∙ nobody_yet p.n Ready;
       wants = new.wants ∙ nobody_yet p.n Want;
       given = λ k lt. new.given k;
-      values = λ d. ap (λ (ks : List Known). value_in ks d) new.values;
+      values = λ d. ap (λ (ks : List Known). value_with_digest ks d) new.values;
       full = new.full;
       live = new.live;
     }

@@ -24,21 +24,21 @@ use Rattle.layer_api.specs.Broadcast.{news}
 use Rattle.layer_api.specs.ReplicaLaws.{range_has, replica_below}
 use Rattle.reliable_bcast.specs.declared.digest_rb.Known.{Known}
 use Rattle.reliable_bcast.specs.declared.digest_rb.DigestRb.{DigestRb}
-use Rattle.reliable_bcast.specs.Bracha.{some_carried, ready_value, out_of as carried_of}
+use Rattle.reliable_bcast.specs.Bracha.{some_carried, ready_value, out_by_value as carried_of}
 use Rattle.reliable_bcast.specs.Laws.Steps.{backing, carrying, is_some_or, is_some_or_some, ready_quiet, ready_echo, ready_ready, out_quiet, out_ready}
 use Rattle.reliable_bcast.specs.Digests.{brings, brought_by, if_digest, known, Full, full_if, full_of, digest_in, asked_for, known_of, to_one, value_for, by_digest, echo_of}
 use Rattle.reliable_bcast.specs.Laws.DigestOneValue.{full_is}
-use Rattle.reliable_bcast.specs.Laws.DigestNews.{ones, gain, gain_for, parts, news_is, gained_or, gained_itself, gained_echo, no_ones, ones_alike, same_parts}
-use Rattle.reliable_bcast.specs.DigestState.{value_in, Keeps, with_known, answer_for, answers_to, answers, has_backing, has_carriers, settled, ready_message, want_message, echoed_by, readied_by, wanted_by, after_ready, want_answer}
+use Rattle.reliable_bcast.specs.Laws.DigestNews.{ones, gain, gain_for, digest_parts, news_is, gained_or, gained_itself, gained_echo, no_ones, ones_alike, same_parts}
+use Rattle.reliable_bcast.specs.DigestState.{value_with_digest, KeepsDigests, with_known, answer_for, answers_to, answers, has_backing, has_carriers, settled_by_digest, ready_message, want_message, echoed_by, readied_by, wanted_by, after_ready, want_answer}
 
 -- ---- known values
 
-value_append : (ks : List Known) (k : Known) (e : List ℕ) → value_in (ks ++ k ∷ []) e ≡ option_or (value_in ks e) (if bytes_eq k.digest e then Some k.value else None)
+value_append : (ks : List Known) (k : Known) (e : List ℕ) → value_with_digest (ks ++ k ∷ []) e ≡ option_or (value_with_digest ks e) (if bytes_eq k.digest e then Some k.value else None)
 value_append [] k e = refl
 value_append (x ∷ ks) k e = go (bytes_eq x.digest e) (value_append ks k e)
   where
-    go : (b : Bool) → value_in (ks ++ k ∷ []) e ≡ option_or (value_in ks e) (if bytes_eq k.digest e then Some k.value else None)
-        → (if b then Some x.value else value_in (ks ++ k ∷ []) e) ≡ option_or (if b then Some x.value else value_in ks e) (if bytes_eq k.digest e then Some k.value else None)
+    go : (b : Bool) → value_with_digest (ks ++ k ∷ []) e ≡ option_or (value_with_digest ks e) (if bytes_eq k.digest e then Some k.value else None)
+        → (if b then Some x.value else value_with_digest (ks ++ k ∷ []) e) ≡ option_or (if b then Some x.value else value_with_digest ks e) (if bytes_eq k.digest e then Some k.value else None)
     go true ih = refl
     go false ih = ih
 
@@ -47,12 +47,12 @@ there_already None true m there = absurd (both_ways false refl (there refl))
 there_already None false m there = refl
 there_already (Some v) b m there = refl
 
-pub value_with : (ks : List Known) (d m e : List ℕ) → value_in (with_known ks d m) e ≡ option_or (value_in ks e) (if bytes_eq d e then Some m else None)
-value_with ks d m e = go (is_some (value_in ks d)) refl
+pub value_with : (ks : List Known) (d m e : List ℕ) → value_with_digest (with_known ks d m) e ≡ option_or (value_with_digest ks e) (if bytes_eq d e then Some m else None)
+value_with ks d m e = go (is_some (value_with_digest ks d)) refl
   where
-    go : (b : Bool) → is_some (value_in ks d) ≡ b
-        → value_in (if b then ks else ks ++ record { digest = d; value = m } ∷ []) e ≡ option_or (value_in ks e) (if bytes_eq d e then Some m else None)
-    go true some = there_already (value_in ks e) (bytes_eq d e) m (λ t. ap (λ (x : List ℕ). is_some (value_in ks x)) (sym ((bytes_eq-Decides d e).0 t)) ∙ some)
+    go : (b : Bool) → is_some (value_with_digest ks d) ≡ b
+        → value_with_digest (if b then ks else ks ++ record { digest = d; value = m } ∷ []) e ≡ option_or (value_with_digest ks e) (if bytes_eq d e then Some m else None)
+    go true some = there_already (value_with_digest ks e) (bytes_eq d e) m (λ t. ap (λ (x : List ℕ). is_some (value_with_digest ks x)) (sym ((bytes_eq-Decides d e).0 t)) ∙ some)
     go false none = value_append ks (record { digest = d; value = m }) e
 
 -- a call that brings nothing
@@ -180,7 +180,7 @@ gain_of at tags h c d m k more quiet =
         ap (gained (known at tags h e)) (more e) ∙ (gained_or (known at tags h e) (if bytes_eq d e then Some m else None) ∙ by_digest_of e (bytes_eq d e) refl)
 
 -- what a replica keeps says who asked
-asked_is : (b : DigestRb) (at : Place) (tags : Tags) (h : List Call) (d m : List ℕ) (k : ℕ) → Keeps b at tags h → k < at.numbers.n
+asked_is : (b : DigestRb) (at : Place) (tags : Tags) (h : List Call) (d m : List ℕ) (k : ℕ) → KeepsDigests b at tags h → k < at.numbers.n
     → answer_for b d m k ≡ (if not (k == at.me) && is_value d (first h k Want) then Some m else None)
 asked_is b at tags h d m k keeps lt =
     let ws = firsts at.numbers.n h Want in
@@ -190,7 +190,7 @@ asked_is b at tags h d m k keeps lt =
     ∙ (ap (λ (t : Bool). if not (k == at.me) && (t && is_value d (get_or ws k None)) then Some m else None) (lt-ltb k (length ws) inside)
     ∙ ap (λ (o : Option (List ℕ)). if not (k == at.me) && is_value d o then Some m else None) (firsts_at at.numbers.n h Want k lt)))
 
-pub answers_are : (b : DigestRb) (at : Place) (tags : Tags) (h : List Call) (c : Call) (d m : List ℕ) → Keeps b at tags h
+pub answers_are : (b : DigestRb) (at : Place) (tags : Tags) (h : List Call) (c : Call) (d m : List ℕ) → KeepsDigests b at tags h
     → ((e : List ℕ) → known at tags (c ∷ h) e ≡ option_or (known at tags h e) (if bytes_eq d e then Some m else None)) → ((k : ℕ) → told k Want c ≡ None)
     → ones at.slot (gain_for at tags h c) (replicas at.numbers.n) ≡ answers b d m
 answers_are b at tags h c d m keeps more quiet =
@@ -209,7 +209,7 @@ answers_are b at tags h c d m keeps more quiet =
 -- ---- one call
 
 pub record IsStep (at : Place) (tags : Tags) (h : List Call) (c : Call) (after : DigestRb) (put : List Msg) : Type 0 where
-  pub keeps : Keeps after at tags (c ∷ h)
+  pub keeps : KeepsDigests after at tags (c ∷ h)
   pub said : put ≡ news by_digest at tags h c
 
 some_or_none : {A : Type 0} (o more : Option A) → more ≡ None → is_some (option_or o more) ≡ is_some o
@@ -230,7 +230,7 @@ no_ready at tags h c same = ap (gained (ready_value at.numbers h)) same ∙ gain
 quiet : (i : Item) (kind : Kind) → kind_eq i.kind kind ≡ false → (j : ℕ) → told j kind (Take i) ≡ None
 quiet i kind e j = told_not_this j kind i e
 
-pub step_init : (b : DigestRb) (at : Place) (tags : Tags) (h : List Call) (i : Item) (new : DigestRb) (d : List ℕ) → Keeps b at tags h → i.kind ≡ Init → i.from ≡ at.slot.origin → first h i.from Init ≡ None
+pub step_init : (b : DigestRb) (at : Place) (tags : Tags) (h : List Call) (i : Item) (new : DigestRb) (d : List ℕ) → KeepsDigests b at tags h → i.kind ≡ Init → i.from ≡ at.slot.origin → first h i.from Init ≡ None
     → d ≡ tags.digest i.value → new ≡ record b { inited = true; values = new.values } → new.values.items ≡ with_known b.values.items d i.value
     → IsStep at tags h (Take i) new (to_all b.slot Echo (Some d) ++ answers b d i.value)
 step_init b at tags h i new d keeps kind mine none digest state values =
@@ -257,7 +257,7 @@ step_init b at tags h i new d keeps kind mine none digest state values =
         wants = ap (λ (x : DigestRb). x.wants) state ∙ (keeps.wants ∙ sym (firsts_same p.n h Want (Take i) want));
         given = λ k lt. ap (λ (x : DigestRb). has_member x.given k) state ∙ (keeps.given k lt ∙ sym (some_or_none (first h k Value) (told k Value (Take i)) (value k)));
         values = λ e.
-            ap (λ (l : List Known). value_in l e) values
+            ap (λ (l : List Known). value_with_digest l e) values
             ∙ (value_with b.values.items d i.value e ∙ (ap (λ (o : Option (List ℕ)). option_or o (if bytes_eq d e then Some i.value else None)) (keeps.values e) ∙ sym (more e)));
         full = ap (λ (x : DigestRb). x.full) state ∙ (keeps.full ∙ sym (out_quiet at h (Take i) ready));
         live = ap (λ (x : DigestRb). x.live) state ∙ keeps.live;
@@ -288,7 +288,7 @@ is_some_either : {A : Type 0} (o u : Option A) → is_some (option_or o u) ≡ (
 is_some_either None u = refl
 is_some_either (Some x) u = refl
 
-pub step_value : (b : DigestRb) (at : Place) (tags : Tags) (h : List Call) (i : Item) (new : DigestRb) (d : List ℕ) → Keeps b at tags h → i.kind ≡ Value → first h i.from Value ≡ None
+pub step_value : (b : DigestRb) (at : Place) (tags : Tags) (h : List Call) (i : Item) (new : DigestRb) (d : List ℕ) → KeepsDigests b at tags h → i.kind ≡ Value → first h i.from Value ≡ None
     → d ≡ tags.digest i.value → new ≡ record b { given = new.given; values = new.values } → new.values.items ≡ with_known b.values.items d i.value
     → ((k : ℕ) → has_member new.given k ≡ (has_member b.given k || (k == i.from)))
     → IsStep at tags h (Take i) new (answers b d i.value)
@@ -317,7 +317,7 @@ step_value b at tags h i new d keeps kind none digest state values given =
             ∙ (ap (λ (x : Bool). x || (k == i.from)) (keeps.given k lt)
             ∙ (ap (λ (x : Bool). is_some (first h k Value) || x) (sym (told_value i k kind)) ∙ sym (is_some_either (first h k Value) (told k Value (Take i)))));
         values = λ e.
-            ap (λ (l : List Known). value_in l e) values
+            ap (λ (l : List Known). value_with_digest l e) values
             ∙ (value_with b.values.items d i.value e ∙ (ap (λ (o : Option (List ℕ)). option_or o (if bytes_eq d e then Some i.value else None)) (keeps.values e) ∙ sym (more e)));
         full = ap (λ (x : DigestRb). x.full) state ∙ (keeps.full ∙ sym (out_quiet at h (Take i) ready));
         live = ap (λ (x : DigestRb). x.live) state ∙ keeps.live;
@@ -334,7 +334,7 @@ step_value b at tags h i new d keeps kind none digest state values given =
 -- ---- votes
 
 -- READY that is backed by these votes
-backed_by : (b : DigestRb) (at : Place) (tags : Tags) (h : List Call) (d : List ℕ) (es rs es' rs' : List (Option (List ℕ))) → Keeps b at tags h → es ≡ es' → rs ≡ rs'
+backed_by : (b : DigestRb) (at : Place) (tags : Tags) (h : List Call) (d : List ℕ) (es rs es' rs' : List (Option (List ℕ))) → KeepsDigests b at tags h → es ≡ es' → rs ≡ rs'
     → backing b.params es rs d ≡ backing at.numbers es' rs' d
 backed_by b at tags h d es rs es' rs' keeps p q =
     ap (λ (x : Numbers). backing x es rs d) keeps.params
@@ -349,11 +349,11 @@ voted : (ws : List (Option (List ℕ))) (us : List (Option (List ℕ))) (k : ℕ
 voted ws us k v e = ap (λ (l : List (Option (List ℕ))). slice_set l k (Some v)) e
 
 -- what an ECHO, a READY and a WANT leave as it is
-only_ready : (s : Slot) (r : Option (List ℕ)) → parts s None None r None [] ≡ to_all s Ready r
+only_ready : (s : Slot) (r : Option (List ℕ)) → digest_parts s None None r None [] ≡ to_all s Ready r
 only_ready s r = append-nil (to_all s Ready r ++ []) ∙ append-nil (to_all s Ready r)
 
-pub step_echo : (b : DigestRb) (at : Place) (tags : Tags) (h : List Call) (i : Item) → Keeps b at tags h → i.kind ≡ Echo → i.from < at.numbers.n → first h i.from Echo ≡ None
-    → IsStep at tags h (Take i) (settled (echoed_by b i) i.value) (ready_message (echoed_by b i) i.value)
+pub step_echo : (b : DigestRb) (at : Place) (tags : Tags) (h : List Call) (i : Item) → KeepsDigests b at tags h → i.kind ≡ Echo → i.from < at.numbers.n → first h i.from Echo ≡ None
+    → IsStep at tags h (Take i) (settled_by_digest (echoed_by b i) i.value) (ready_message (echoed_by b i) i.value)
 step_echo b at tags h i keeps kind within none =
     let p = at.numbers in
     let v = i.value in
@@ -407,11 +407,11 @@ wants_now at tags h v None true = go (known at tags h v)
 wants_now at tags h v None false = refl
 wants_now at tags h v (Some d) carries = refl
 
-two_said : (s : Slot) (r w : Option (List ℕ)) → parts s None None r w [] ≡ to_all s Ready r ++ to_all s Want w
+two_said : (s : Slot) (r w : Option (List ℕ)) → digest_parts s None None r w [] ≡ to_all s Ready r ++ to_all s Want w
 two_said s r w = append-nil (to_all s Ready r ++ to_all s Want w)
 
-pub step_ready : (b : DigestRb) (at : Place) (tags : Tags) (h : List Call) (i : Item) → Keeps b at tags h → i.kind ≡ Ready → i.from < at.numbers.n → first h i.from Ready ≡ None
-    → IsStep at tags h (Take i) (after_ready b i) (ready_message (readied_by b i) i.value ++ want_message (settled (readied_by b i) i.value) i.value)
+pub step_ready : (b : DigestRb) (at : Place) (tags : Tags) (h : List Call) (i : Item) → KeepsDigests b at tags h → i.kind ≡ Ready → i.from < at.numbers.n → first h i.from Ready ≡ None
+    → IsStep at tags h (Take i) (after_ready b i) (ready_message (readied_by b i) i.value ++ want_message (settled_by_digest (readied_by b i) i.value) i.value)
 step_ready b at tags h i keeps kind within none =
     let p = at.numbers in
     let v = i.value in
@@ -426,7 +426,7 @@ step_ready b at tags h i keeps kind within none =
     let test2 : Bool = carrying p (slice_set (firsts p.n h Ready) i.from (Some v)) v in
     let votes = voted b.readies (firsts p.n h Ready) i.from v keeps.readies in
     let backed : has_backing (readied_by b i) v ≡ test = backed_by b at tags h v _ _ _ _ keeps keeps.echoes votes in
-    let carries : has_carriers (settled (readied_by b i) v) v ≡ test2 =
+    let carries : has_carriers (settled_by_digest (readied_by b i) v) v ≡ test2 =
     ap (λ (x : Numbers). carrying x (slice_set b.readies i.from (Some v)) v) keeps.params ∙ ap (λ (l : List (Option (List ℕ))). carrying p l v) votes in
     let r : Option (List ℕ) = if not (is_some (ready_value p h)) && test then Some v else None in
     let w : Option (List ℕ) = if (is_none (carried_of at h) && test2) && is_none (known at tags h v) then Some v else None in
@@ -451,8 +451,8 @@ step_ready b at tags h i keeps kind within none =
         live = keeps.live;
       };
       said =
-          said_two b.slot at.slot b.readied (is_some (ready_value p h)) (has_backing (readied_by b i) v) test b.full (carried_of at h) (has_carriers (settled (readied_by b i) v) v) test2
-          (value_in b.values.items v) (known at tags h v) v keeps.slot keeps.readied backed keeps.full carries (keeps.values v)
+          said_two b.slot at.slot b.readied (is_some (ready_value p h)) (has_backing (readied_by b i) v) test b.full (carried_of at h) (has_carriers (settled_by_digest (readied_by b i) v) v) test2
+          (value_with_digest b.values.items v) (known at tags h v) v keeps.slot keeps.readied backed keeps.full carries (keeps.values v)
           ∙ sym (news_is at tags h (Take i)
           ∙ (same_parts at.slot _ None _ None _ r _ w _ []
           (no_start at tags h i) (no_echo at tags h (Take i) (init at.slot.origin)) (ready_gain at tags h (Take i) v test more)
@@ -486,7 +486,7 @@ ones_single s o k from (suc n) low high other =
           ∙ ones_single s o k (from + 1) n (omega (arith, low, differ)) (omega (arith, high)) other
     ]
 
-pub step_want : (b : DigestRb) (at : Place) (tags : Tags) (h : List Call) (i : Item) → Keeps b at tags h → i.kind ≡ Want → i.from < at.numbers.n → first h i.from Want ≡ None
+pub step_want : (b : DigestRb) (at : Place) (tags : Tags) (h : List Call) (i : Item) → KeepsDigests b at tags h → i.kind ≡ Want → i.from < at.numbers.n → first h i.from Want ≡ None
     → IsStep at tags h (Take i) (wanted_by b i) (want_answer b i)
 step_want b at tags h i keeps kind within none =
     let p = at.numbers in
@@ -518,8 +518,8 @@ step_want b at tags h i keeps kind within none =
         live = keeps.live;
       };
       said =
-          ap (λ (s : Slot). to_one s i.from (if i.from == b.me then None else value_in b.values.items v)) keeps.slot
-          ∙ (ap (λ (x : ℕ). to_one at.slot i.from (if i.from == x then None else value_in b.values.items v)) keeps.me
+          ap (λ (s : Slot). to_one s i.from (if i.from == b.me then None else value_with_digest b.values.items v)) keeps.slot
+          ∙ (ap (λ (x : ℕ). to_one at.slot i.from (if i.from == x then None else value_with_digest b.values.items v)) keeps.me
           ∙ (ap (λ (o : Option (List ℕ)). to_one at.slot i.from (if i.from == at.me then None else o)) (keeps.values v)
           ∙ (ap (to_one at.slot i.from) (sym now)
           ∙ sym (news_is at tags h (Take i)
@@ -536,7 +536,7 @@ step_want b at tags h i keeps kind within none =
 
 -- ---- the start
 
-pub step_start : (b : DigestRb) (at : Place) (tags : Tags) (h : List Call) (m : List ℕ) → Keeps b at tags h → started h ≡ None → IsStep at tags h (Start m) b (to_all b.slot Init (Some m))
+pub step_start : (b : DigestRb) (at : Place) (tags : Tags) (h : List Call) (m : List ℕ) → KeepsDigests b at tags h → started h ≡ None → IsStep at tags h (Start m) b (to_all b.slot Init (Some m))
 step_start b at tags h m keeps none =
     let p = at.numbers in
     let same = known_same at tags h (Start m) refl in

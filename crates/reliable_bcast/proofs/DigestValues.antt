@@ -15,25 +15,25 @@ use Rattle.ritas_base.specs.History.{replicas, is_value}
 use Rattle.reliable_bcast.specs.declared.digest_rb.DigestRb.{DigestRb}
 use Rattle.reliable_bcast.specs.Laws.DigestNews.{ones, ones_alike}
 use Rattle.reliable_bcast.specs.declared.digest_rb.Known.{Known}
-use Rattle.reliable_bcast.specs.DigestState.{value_in, answer_in, answer_for, answers_to}
+use Rattle.reliable_bcast.specs.DigestState.{value_with_digest, answer_in, answer_for, answers_to}
 
 found_at : (d : List ℕ) (ks : List Known) (i : ℕ) (k : Known) → i < length ks → bytes_eq (get_or ks i k).digest d ≡ true
-    → ((j : ℕ) → j < i → bytes_eq (get_or ks j k).digest d ≡ false) → value_in ks d ≡ Some (get_or ks i k).value
+    → ((j : ℕ) → j < i → bytes_eq (get_or ks j k).digest d ≡ false) → value_with_digest ks d ≡ Some (get_or ks i k).value
 found_at d [] i k lt here before = absurd (omega (arith, lt))
-found_at d (x ∷ ks) zero k lt here before = cond-true (bytes_eq x.digest d) (Some x.value) (value_in ks d) here
+found_at d (x ∷ ks) zero k lt here before = cond-true (bytes_eq x.digest d) (Some x.value) (value_with_digest ks d) here
 found_at d (x ∷ ks) (suc i) k lt here before =
     let lower : i < length ks = omega (arith, lt) in
-    cond-false (bytes_eq x.digest d) (Some x.value) (value_in ks d) (before 0 (omega arith))
+    cond-false (bytes_eq x.digest d) (Some x.value) (value_with_digest ks d) (before 0 (omega arith))
     ∙ found_at d ks i k lower here (λ j l. before (suc j) (omega (arith, l)))
 
-pub value_found : (ks : List Known) (d : List ℕ) (i : ℕ) (k : Known) → position (λ x. bytes_eq x.digest d) ks ≡ Some i → value_in ks d ≡ Some (get_or ks i k).value
+pub value_found : (ks : List Known) (d : List ℕ) (i : ℕ) (k : Known) → position (λ x. bytes_eq x.digest d) ks ≡ Some i → value_with_digest ks d ≡ Some (get_or ks i k).value
 value_found ks d i k found = let at = position-Some (λ (x : Known). bytes_eq x.digest d) ks i k found in found_at d ks i k at.0 at.1 at.2
 
-none_known : (ks : List Known) (d : List ℕ) → AllByRecursion (λ k. bytes_eq k.digest d ≡ false) ks → value_in ks d ≡ None
+none_known : (ks : List Known) (d : List ℕ) → AllByRecursion (λ k. bytes_eq k.digest d ≡ false) ks → value_with_digest ks d ≡ None
 none_known [] d all = refl
-none_known (k ∷ ks) d all = cond-false (bytes_eq k.digest d) (Some k.value) (value_in ks d) all.0 ∙ none_known ks d all.1
+none_known (k ∷ ks) d all = cond-false (bytes_eq k.digest d) (Some k.value) (value_with_digest ks d) all.0 ∙ none_known ks d all.1
 
-pub value_not_found : (ks : List Known) (d : List ℕ) → position (λ k. bytes_eq k.digest d) ks ≡ None → value_in ks d ≡ None
+pub value_not_found : (ks : List Known) (d : List ℕ) → position (λ k. bytes_eq k.digest d) ks ≡ None → value_with_digest ks d ≡ None
 value_not_found ks d e =
     let test : Known → Bool = λ k. bytes_eq k.digest d in
     let past : nat_lt (position_or_len test ks) (length ks) ≡ false =

@@ -13,7 +13,7 @@ use Rattle.ritas_base.specs.Messages.{Place}
 use Rattle.ritas_base.specs.History.{Call, Start, Take, values}
 use Rattle.ritas_base.specs.HistoryLaws.{find_none, find_passes}
 use Rattle.ritas_base.specs.Shortest.{at_shortest, at_shortest_is, at_shortest_stays, at_shortest_never}
-use Rattle.reliable_bcast.specs.Bracha.{is_backed, is_carried, ready_value, out_of}
+use Rattle.reliable_bcast.specs.Bracha.{is_backed, is_carried, ready_value, out_by_value}
 use Rattle.reliable_bcast.specs.Reading.{IsOnlyAtShortest, IsTheValue}
 use Rattle.reliable_bcast.specs.Laws.Steps.{unvoted_backed, unvoted_carried, backed_kept, carried_kept, backed_same, carried_same}
 
@@ -103,5 +103,5 @@ module _ (test : List Call → List ℕ → Bool)
 pub backed_value : (p : Numbers) → IsTheValue (is_backed p) (ready_value p)
 backed_value p = the_value (is_backed p) (unvoted_backed p) (backed_kept p) (λ h m w. backed_same p h (Start m) (λ k. refl) (λ k. refl) w)
 
-pub carried_value : (at : Place) → IsTheValue (is_carried at.numbers) (out_of at)
+pub carried_value : (at : Place) → IsTheValue (is_carried at.numbers) (out_by_value at)
 carried_value at = the_value (is_carried at.numbers) (unvoted_carried at.numbers) (carried_kept at.numbers) (λ h m w. carried_same at.numbers h (Start m) (λ k. refl) w)

@@ -17,13 +17,14 @@ use Rattle.ritas_base.specs.RangeLaws.{range_more}
 use Rattle.ritas_base.specs.History.{replicas, is_value}
 use Rattle.ritas_base.specs.Quorums.{count_by-map, count_same, count_none}
 use Rattle.reliable_bcast.specs.declared.votes.Ballot.{Ballot}
-use Rattle.reliable_bcast.specs.Tally.{is_awaited, vote_in, votes_in, IsWithin, IsApartFrom, IsTally}
+use Rattle.ritas_base.specs.Places.{is_awaited}
+use Rattle.reliable_bcast.specs.Tally.{ballot_value, votes_in, AreVotersWithin, IsApartFrom, IsBallotTally}
 
 pub length-votes_in : (n : ℕ) (bs : List Ballot) → length (votes_in n bs) ≡ n
-length-votes_in n bs = length-map-range_with_len (vote_in bs) 0 n
+length-votes_in n bs = length-map-range_with_len (ballot_value bs) 0 n
 
-pub votes_at : (n : ℕ) (bs : List Ballot) (k : ℕ) → k < n → get_or (votes_in n bs) k None ≡ vote_in bs k
-votes_at n bs k lt = get_or-map-range_with_len (vote_in bs) 0 n k k None lt (omega arith)
+pub votes_at : (n : ℕ) (bs : List Ballot) (k : ℕ) → k < n → get_or (votes_in n bs) k None ≡ ballot_value bs k
+votes_at n bs k lt = get_or-map-range_with_len (ballot_value bs) 0 n k k None lt (omega arith)
 
 pub member_of_none : (k : ℕ) → has_member 0 k ≡ false
 unfolding has_member
@@ -34,13 +35,13 @@ abbrev pub voters_for : List ℕ → List Ballot → ℕ
 voters_for m [] = 0
 voters_for m (b ∷ bs) = cond (bytes_eq b.value m) b.voters (voters_for m bs)
 
-apart_value : (b : Ballot) (bs : List Ballot) (m : List ℕ) (k : ℕ) → IsApartFrom b bs → b.value ≡ m → is_value m (vote_in bs k) ≡ false
+apart_value : (b : Ballot) (bs : List Ballot) (m : List ℕ) (k : ℕ) → IsApartFrom b bs → b.value ≡ m → is_value m (ballot_value bs k) ≡ false
 apart_value b [] m k apart e = refl
 apart_value b (c ∷ bs) m k apart e =
     elim (cases_Bool (has_member c.voters k)) [
-      | inl t ↦ ap (is_value m) (cond-true (has_member c.voters k) (Some c.value) (vote_in bs k) t)
+      | inl t ↦ ap (is_value m) (cond-true (has_member c.voters k) (Some c.value) (ballot_value bs k) t)
           ∙ false_from_ne_true (bytes_eq c.value m) (λ s. apart.0 (e ∙ sym ((bytes_eq-Decides c.value m).0 s)))
-      | inr f ↦ ap (is_value m) (cond-false (has_member c.voters k) (Some c.value) (vote_in bs k) f) ∙ apart_value b bs m k apart.2 e
+      | inr f ↦ ap (is_value m) (cond-false (has_member c.voters k) (Some c.value) (ballot_value bs k) f) ∙ apart_value b bs m k apart.2 e
     ]
 
 apart_voters : (b : Ballot) (bs : List Ballot) (m : List ℕ) (k : ℕ) → IsApartFrom b bs → has_member b.voters k ≡ true → has_member (voters_for m bs) k ≡ false
@@ -51,35 +52,35 @@ apart_voters b (c ∷ bs) m k apart e =
       | inr f ↦ ap (λ (s : ℕ). has_member s k) (cond-false (bytes_eq c.value m) c.voters (voters_for m bs) f) ∙ apart_voters b bs m k apart.2 e
     ]
 
-vote_is_member : (n : ℕ) (bs : List Ballot) (m : List ℕ) (k : ℕ) → IsTally n bs → is_value m (vote_in bs k) ≡ has_member (voters_for m bs) k
+vote_is_member : (n : ℕ) (bs : List Ballot) (m : List ℕ) (k : ℕ) → IsBallotTally n bs → is_value m (ballot_value bs k) ≡ has_member (voters_for m bs) k
 vote_is_member n [] m k tally = sym (member_of_none k)
 vote_is_member n (b ∷ bs) m k tally =
     elim (cases_Bool (bytes_eq b.value m)) [
       | inl same ↦
           let mask = ap (λ (s : ℕ). has_member s k) (cond-true (bytes_eq b.value m) b.voters (voters_for m bs) same) in
           elim (cases_Bool (has_member b.voters k)) [
-            | inl t ↦ ap (is_value m) (cond-true (has_member b.voters k) (Some b.value) (vote_in bs k) t) ∙ (same ∙ sym (mask ∙ t))
-            | inr f ↦ ap (is_value m) (cond-false (has_member b.voters k) (Some b.value) (vote_in bs k) f)
+            | inl t ↦ ap (is_value m) (cond-true (has_member b.voters k) (Some b.value) (ballot_value bs k) t) ∙ (same ∙ sym (mask ∙ t))
+            | inr f ↦ ap (is_value m) (cond-false (has_member b.voters k) (Some b.value) (ballot_value bs k) f)
                 ∙ (apart_value b bs m k tally.1 ((bytes_eq-Decides b.value m).0 same) ∙ sym (mask ∙ f))
           ]
       | inr other ↦
           let mask = ap (λ (s : ℕ). has_member s k) (cond-false (bytes_eq b.value m) b.voters (voters_for m bs) other) in
           elim (cases_Bool (has_member b.voters k)) [
-            | inl t ↦ ap (is_value m) (cond-true (has_member b.voters k) (Some b.value) (vote_in bs k) t) ∙ (other ∙ sym (mask ∙ apart_voters b bs m k tally.1 t))
-            | inr f ↦ ap (is_value m) (cond-false (has_member b.voters k) (Some b.value) (vote_in bs k) f) ∙ (vote_is_member n bs m k tally.2 ∙ sym mask)
+            | inl t ↦ ap (is_value m) (cond-true (has_member b.voters k) (Some b.value) (ballot_value bs k) t) ∙ (other ∙ sym (mask ∙ apart_voters b bs m k tally.1 t))
+            | inr f ↦ ap (is_value m) (cond-false (has_member b.voters k) (Some b.value) (ballot_value bs k) f) ∙ (vote_is_member n bs m k tally.2 ∙ sym mask)
           ]
     ]
 
-within_for : (n : ℕ) (bs : List Ballot) (m : List ℕ) → IsTally n bs → IsWithin n (voters_for m bs)
+within_for : (n : ℕ) (bs : List Ballot) (m : List ℕ) → IsBallotTally n bs → AreVotersWithin n (voters_for m bs)
 within_for n [] m tally = λ k e. absurd (both_ways (has_member 0 k) (member_of_none k) e)
 within_for n (b ∷ bs) m tally =
     elim (cases_Bool (bytes_eq b.value m)) [
-      | inl t ↦ subst (λ (s : ℕ). IsWithin n s) (sym (cond-true (bytes_eq b.value m) b.voters (voters_for m bs) t)) tally.0
-      | inr f ↦ subst (λ (s : ℕ). IsWithin n s) (sym (cond-false (bytes_eq b.value m) b.voters (voters_for m bs) f)) (within_for n bs m tally.2)
+      | inl t ↦ subst (λ (s : ℕ). AreVotersWithin n s) (sym (cond-true (bytes_eq b.value m) b.voters (voters_for m bs) t)) tally.0
+      | inr f ↦ subst (λ (s : ℕ). AreVotersWithin n s) (sym (cond-false (bytes_eq b.value m) b.voters (voters_for m bs) f)) (within_for n bs m tally.2)
     ]
 
 -- members from n on don't count
-count_within : (n s : ℕ) → IsWithin n s → (d w : ℕ) → w ≡ n + d → count_by (has_member s) (range_with_len 0 w) ≡ count_by (has_member s) (range_with_len 0 n)
+count_within : (n s : ℕ) → AreVotersWithin n s → (d w : ℕ) → w ≡ n + d → count_by (has_member s) (range_with_len 0 w) ≡ count_by (has_member s) (range_with_len 0 n)
 count_within n s within zero w e = let same : w ≡ n = omega (arith, e) in ap (λ (x : ℕ). count_by (has_member s) (range_with_len 0 x)) same
 count_within n s within (suc d) w e =
     let next : w ≡ suc (n + d) = omega (arith, e) in
@@ -92,11 +93,11 @@ count_within n s within (suc d) w e =
     ∙ (ap (count_by (has_member s)) (range_more 0 (n + d) (n + d) (omega arith)) ∙ omega (arith, more, last, rest))
 
 -- as many votes for a value as its ballot has voters
-pub tally_count : (n : ℕ) (bs : List Ballot) (m : List ℕ) → n ≤ 31 → IsTally n bs → count_by (is_value m) (votes_in n bs) ≡ member_count 32 (voters_for m bs)
+pub tally_count : (n : ℕ) (bs : List Ballot) (m : List ℕ) → n ≤ 31 → IsBallotTally n bs → count_by (is_value m) (votes_in n bs) ≡ member_count 32 (voters_for m bs)
 unfolding member_count
 tally_count n bs m small tally =
-    count_by-map (is_value m) (vote_in bs) (replicas n)
-    ∙ (count_same (λ k. is_value m (vote_in bs k)) (has_member (voters_for m bs)) (λ k. vote_is_member n bs m k tally) (replicas n)
+    count_by-map (is_value m) (ballot_value bs) (replicas n)
+    ∙ (count_same (λ k. is_value m (ballot_value bs k)) (has_member (voters_for m bs)) (λ k. vote_is_member n bs m k tally) (replicas n)
     ∙ sym (count_within n (voters_for m bs) (within_for n bs m tally) (32 - n) 32 (omega arith)))
 
 -- the voters with one more
@@ -108,52 +109,52 @@ or_no true c e = refl
 or_no false c e = e
 
 -- one vote more, where k gave none
-pub votes_changed : (n : ℕ) (bs new : List Ballot) (k : ℕ) (m : List ℕ) → k < n → ((j : ℕ) → vote_in new j ≡ cond (j == k) (Some m) (vote_in bs j))
+pub votes_changed : (n : ℕ) (bs new : List Ballot) (k : ℕ) (m : List ℕ) → k < n → ((j : ℕ) → ballot_value new j ≡ cond (j == k) (Some m) (ballot_value bs j))
     → votes_in n new ≡ set (votes_in n bs) k (Some m)
 votes_changed n bs new k m within e =
     let inside : k < length (votes_in n bs) = subst (λ (x : ℕ). k < x) (sym (length-votes_in n bs)) within in
-    sym (fill_by_all (vote_in new) (set (votes_in n bs) k (Some m)) n None (length-set (votes_in n bs) k (Some m) ∙ length-votes_in n bs)
+    sym (fill_by_all (ballot_value new) (set (votes_in n bs) k (Some m)) n None (length-set (votes_in n bs) k (Some m) ∙ length-votes_in n bs)
     (λ j lt. elim (cases_eq j k) [
       | inl same ↦
           ap (λ (x : ℕ). get_or (set (votes_in n bs) k (Some m)) x None) same
           ∙ (get_or-set_same (votes_in n bs) k (Some m) None inside
-          ∙ sym (e j ∙ cond-true (j == k) (Some m) (vote_in bs j) (eq-eqb j k same)))
+          ∙ sym (e j ∙ cond-true (j == k) (Some m) (ballot_value bs j) (eq-eqb j k same)))
       | inr other ↦
           get_or-set_other (votes_in n bs) k j (Some m) None other
-          ∙ (votes_at n bs j lt ∙ sym (e j ∙ cond-false (j == k) (Some m) (vote_in bs j) (ne_eqb j k other)))
+          ∙ (votes_at n bs j lt ∙ sym (e j ∙ cond-false (j == k) (Some m) (ballot_value bs j) (ne_eqb j k other)))
     ]))
 
 -- who gave nothing is no voter
-none_parts : (b : Ballot) (bs : List Ballot) (k : ℕ) → vote_in (b ∷ bs) k ≡ None → (has_member b.voters k ≡ false) × (vote_in bs k ≡ None)
+none_parts : (b : Ballot) (bs : List Ballot) (k : ℕ) → ballot_value (b ∷ bs) k ≡ None → (has_member b.voters k ≡ false) × (ballot_value bs k ≡ None)
 none_parts b bs k e =
     elim (cases_Bool (has_member b.voters k)) [
-      | inl t ↦ absurd (none-some b.value (sym e ∙ cond-true (has_member b.voters k) (Some b.value) (vote_in bs k) t))
-      | inr f ↦ (f, sym (cond-false (has_member b.voters k) (Some b.value) (vote_in bs k) f) ∙ e)
+      | inl t ↦ absurd (none-some b.value (sym e ∙ cond-true (has_member b.voters k) (Some b.value) (ballot_value bs k) t))
+      | inr f ↦ (f, sym (cond-false (has_member b.voters k) (Some b.value) (ballot_value bs k) f) ∙ e)
     ]
 
 pub with_voters : Ballot → ℕ → Ballot
 with_voters b v = record { value = b.value; voters = v }
 
-more_head : (b : Ballot) (bs : List Ballot) (v k j : ℕ) → IsMore b.voters k v → cond (has_member v j) (Some b.value) (vote_in bs j) ≡ cond (j == k) (Some b.value) (vote_in (b ∷ bs) j)
+more_head : (b : Ballot) (bs : List Ballot) (v k j : ℕ) → IsMore b.voters k v → cond (has_member v j) (Some b.value) (ballot_value bs j) ≡ cond (j == k) (Some b.value) (ballot_value (b ∷ bs) j)
 more_head b bs v k j more =
     elim (cases_Bool (j == k)) [
-      | inl t ↦ cond-true _ _ _ (more j ∙ or_right (has_member b.voters j) (j == k) t) ∙ sym (cond-true (j == k) (Some b.value) (vote_in (b ∷ bs) j) t)
-      | inr f ↦ ap (λ (x : Bool). cond x (Some b.value) (vote_in bs j)) (more j ∙ or_no (has_member b.voters j) (j == k) f) ∙ sym (cond-false (j == k) (Some b.value) (vote_in (b ∷ bs) j) f)
+      | inl t ↦ cond-true _ _ _ (more j ∙ or_right (has_member b.voters j) (j == k) t) ∙ sym (cond-true (j == k) (Some b.value) (ballot_value (b ∷ bs) j) t)
+      | inr f ↦ ap (λ (x : Bool). cond x (Some b.value) (ballot_value bs j)) (more j ∙ or_no (has_member b.voters j) (j == k) f) ∙ sym (cond-false (j == k) (Some b.value) (ballot_value (b ∷ bs) j) f)
     ]
 
-more_tail : (c : Ballot) (bs new : List Ballot) (k j : ℕ) (m : List ℕ) → has_member c.voters k ≡ false → vote_in new j ≡ cond (j == k) (Some m) (vote_in bs j)
-    → vote_in (c ∷ new) j ≡ cond (j == k) (Some m) (vote_in (c ∷ bs) j)
+more_tail : (c : Ballot) (bs new : List Ballot) (k j : ℕ) (m : List ℕ) → has_member c.voters k ≡ false → ballot_value new j ≡ cond (j == k) (Some m) (ballot_value bs j)
+    → ballot_value (c ∷ new) j ≡ cond (j == k) (Some m) (ballot_value (c ∷ bs) j)
 more_tail c bs new k j m no_k e =
     elim (cases_Bool (j == k)) [
       | inl t ↦
           let same : j ≡ k = eqb-true j k t in
-          cond-false _ _ _ (ap (has_member c.voters) same ∙ no_k) ∙ (e ∙ (cond-true (j == k) (Some m) (vote_in bs j) t ∙ sym (cond-true (j == k) (Some m) (vote_in (c ∷ bs) j) t)))
+          cond-false _ _ _ (ap (has_member c.voters) same ∙ no_k) ∙ (e ∙ (cond-true (j == k) (Some m) (ballot_value bs j) t ∙ sym (cond-true (j == k) (Some m) (ballot_value (c ∷ bs) j) t)))
       | inr f ↦
-          ap (λ (o : Option (List ℕ)). cond (has_member c.voters j) (Some c.value) o) (e ∙ cond-false (j == k) (Some m) (vote_in bs j) f)
-          ∙ sym (cond-false (j == k) (Some m) (vote_in (c ∷ bs) j) f)
+          ap (λ (o : Option (List ℕ)). cond (has_member c.voters j) (Some c.value) o) (e ∙ cond-false (j == k) (Some m) (ballot_value bs j) f)
+          ∙ sym (cond-false (j == k) (Some m) (ballot_value (c ∷ bs) j) f)
     ]
 
-apart_of_more : (b : Ballot) (bs : List Ballot) (v k : ℕ) → IsMore b.voters k v → vote_in bs k ≡ None → IsApartFrom b bs → IsApartFrom (with_voters b v) bs
+apart_of_more : (b : Ballot) (bs : List Ballot) (v k : ℕ) → IsMore b.voters k v → ballot_value bs k ≡ None → IsApartFrom b bs → IsApartFrom (with_voters b v) bs
 unfolding with_voters
 apart_of_more b [] v k more none apart = tt
 apart_of_more b (c ∷ bs) v k more none apart =
@@ -168,8 +169,8 @@ apart_of_more b (c ∷ bs) v k more none apart =
 
 -- a voter more at one ballot
 pub record Voted (n : ℕ) (bs new : List Ballot) (k : ℕ) (m : List ℕ) : Type 0 where
-  pub votes : (j : ℕ) → vote_in new j ≡ cond (j == k) (Some m) (vote_in bs j)
-  pub tally : IsTally n new
+  pub votes : (j : ℕ) → ballot_value new j ≡ cond (j == k) (Some m) (ballot_value bs j)
+  pub tally : IsBallotTally n new
 
 apart_from_set : (c : Ballot) (bs : List Ballot) (i : ℕ) (d : Ballot) (v k : ℕ) → IsMore (get_or bs i d).voters k v → has_member c.voters k ≡ false → IsApartFrom c bs
     → IsApartFrom c (set bs i (with_voters (get_or bs i d) v))
@@ -182,7 +183,7 @@ apart_from_set c (b ∷ bs) zero d v k more no_k apart = (
 )
 apart_from_set c (b ∷ bs) (suc i) d v k more no_k apart = (apart.0, apart.1, apart_from_set c bs i d v k more no_k apart.2)
 
-pub voted_set : (n : ℕ) (bs : List Ballot) (i : ℕ) (d : Ballot) (v k : ℕ) → i < length bs → k < n → IsMore (get_or bs i d).voters k v → vote_in bs k ≡ None → IsTally n bs
+pub voted_set : (n : ℕ) (bs : List Ballot) (i : ℕ) (d : Ballot) (v k : ℕ) → i < length bs → k < n → IsMore (get_or bs i d).voters k v → ballot_value bs k ≡ None → IsBallotTally n bs
     → Voted n bs (set bs i (with_voters (get_or bs i d) v)) k (get_or bs i d).value
 unfolding with_voters
 voted_set n [] i d v k lt within more none tally = absurd (omega (arith, lt))
@@ -217,7 +218,7 @@ apart_from_push c [] m v k more other no_k apart = (
 apart_from_push c (b ∷ bs) m v k more other no_k apart = (apart.0, apart.1, apart_from_push c bs m v k more other no_k apart.2)
 
 -- a ballot more, where none is for the value
-pub voted_push : (n : ℕ) (bs : List Ballot) (m : List ℕ) (v k : ℕ) → k < n → IsMore 0 k v → vote_in bs k ≡ None → AllByRecursion (λ b. bytes_eq b.value m ≡ false) bs → IsTally n bs
+pub voted_push : (n : ℕ) (bs : List Ballot) (m : List ℕ) (v k : ℕ) → k < n → IsMore 0 k v → ballot_value bs k ≡ None → AllByRecursion (λ b. bytes_eq b.value m ≡ false) bs → IsBallotTally n bs
     → Voted n bs (bs ++ record { value = m; voters = v } ∷ []) k m
 voted_push n [] m v k within more none other tally =
     record {
@@ -245,7 +246,7 @@ no_members = count_none (has_member 0) (range_with_len 0 32) (λ k e. both_ways 
 
 -- at a ballot that was read
 pub voted_at : (n : ℕ) (bs : List Ballot) (i : ℕ) (b : Ballot) (v k : ℕ) (m : List ℕ) → i < length bs → k < n → b ≡ get_or bs i b → b.value ≡ m → ((j : ℕ) → has_member v j ≡ (has_member b.voters j || (j == k)))
-    → vote_in bs k ≡ None → IsTally n bs → Voted n bs (set bs i (record { value = b.value; voters = v })) k m
+    → ballot_value bs k ≡ None → IsBallotTally n bs → Voted n bs (set bs i (record { value = b.value; voters = v })) k m
 unfolding with_voters
 voted_at n bs i b v k m lt within read value more none tally =
     subst (λ (x : List ℕ). Voted n bs (set bs i (record { value = b.value; voters = v })) k x) value
@@ -263,9 +264,9 @@ none_found bs m e =
 
 -- ---- who is awaited
 
-none_is_any : (bs : List Ballot) (k : ℕ) → is_none (vote_in bs k) ≡ not (list_any (λ b. has_member b.voters k) bs)
+none_is_any : (bs : List Ballot) (k : ℕ) → is_none (ballot_value bs k) ≡ not (list_any (λ b. has_member b.voters k) bs)
 none_is_any [] k = refl
-none_is_any (b ∷ bs) k = by_cases (has_member b.voters k) (vote_in bs k) (list_any (λ b. has_member b.voters k) bs) b.value (none_is_any bs k)
+none_is_any (b ∷ bs) k = by_cases (has_member b.voters k) (ballot_value bs k) (list_any (λ b. has_member b.voters k) bs) b.value (none_is_any bs k)
   where
     by_cases : (t : Bool) (o : Option (List ℕ)) (any : Bool) (m : List ℕ) → is_none o ≡ not any → is_none (cond t (Some m) o) ≡ not (t || any)
     by_cases true o any m e = refl
@@ -293,7 +294,7 @@ is_none_is (Some m) e = absurd (cc)
 pub record IsAwaited (n : ℕ) (bs : List Ballot) (k : ℕ) : Type 0 where
   pub within : k < n
   pub fits : k < 32
-  pub none : vote_in bs k ≡ None
+  pub none : ballot_value bs k ≡ None
 
 pub awaited_is : (n : ℕ) (bs : List Ballot) (votes : List (Option (List ℕ))) (k : ℕ) → votes_in n bs ≡ votes → n ≤ 31 → is_awaited votes k ≡ true → IsAwaited n bs k
 awaited_is n bs votes k e small awaited =
@@ -317,21 +318,21 @@ voters_nowhere : (m : List ℕ) (bs : List Ballot) → AllByRecursion (λ b. byt
 voters_nowhere m [] none = refl
 voters_nowhere m (b ∷ bs) none = cond-false (bytes_eq b.value m) b.voters (voters_for m bs) none.0 ∙ voters_nowhere m bs none.1
 
-pub count_found : (n : ℕ) (bs : List Ballot) (m : List ℕ) (i : ℕ) (b : Ballot) → n ≤ 31 → IsTally n bs
+pub count_found : (n : ℕ) (bs : List Ballot) (m : List ℕ) (i : ℕ) (b : Ballot) → n ≤ 31 → IsBallotTally n bs
     → position (λ b. bytes_eq b.value m) bs ≡ Some i → b ≡ get_or bs i b → count_by (is_value m) (votes_in n bs) ≡ member_count 32 b.voters
 count_found n bs m i b small tally found read =
     let at = position-Some (λ (x : Ballot). bytes_eq x.value m) bs i b found in
     tally_count n bs m small tally
     ∙ ap (member_count 32) (voters_at m bs i b at.0 at.1 at.2 ∙ ap (λ (x : Ballot). x.voters) (sym read))
 
-pub count_nowhere : (n : ℕ) (bs : List Ballot) (m : List ℕ) → n ≤ 31 → IsTally n bs
+pub count_nowhere : (n : ℕ) (bs : List Ballot) (m : List ℕ) → n ≤ 31 → IsBallotTally n bs
     → position (λ b. bytes_eq b.value m) bs ≡ None → count_by (is_value m) (votes_in n bs) ≡ 0
 count_nowhere n bs m small tally none =
     tally_count n bs m small tally ∙ (ap (member_count 32) (voters_nowhere m bs (none_found bs m none)) ∙ no_members)
 
 -- ---- those who gave a value
 
-vote_lookup : (n : ℕ) (bs : List Ballot) (m : List ℕ) (k : ℕ) → IsTally n bs
+vote_lookup : (n : ℕ) (bs : List Ballot) (m : List ℕ) (k : ℕ) → IsBallotTally n bs
     → (nat_lt k (length (votes_in n bs)) && is_value m (get_or (votes_in n bs) k None)) ≡ has_member (voters_for m bs) k
 vote_lookup n bs m k tally =
     let len = length-votes_in n bs in
@@ -344,7 +345,7 @@ vote_lookup n bs m k tally =
           ∙ sym (false_from_ne_true (has_member (voters_for m bs) k) (λ t. let lt = within_for n bs m tally k t in omega (arith, lt, ge)))
     ]
 
-pub voters_found : (n : ℕ) (bs : List Ballot) (m : List ℕ) (i : ℕ) (b : Ballot) (votes : List (Option (List ℕ))) → IsTally n bs → votes_in n bs ≡ votes
+pub voters_found : (n : ℕ) (bs : List Ballot) (m : List ℕ) (i : ℕ) (b : Ballot) (votes : List (Option (List ℕ))) → IsBallotTally n bs → votes_in n bs ≡ votes
     → position (λ b. bytes_eq b.value m) bs ≡ Some i → b ≡ get_or bs i b → (k : ℕ) → has_member b.voters k ≡ (nat_lt k (length votes) && is_value m (get_or votes k None))
 voters_found n bs m i b votes tally view found read k =
     let at = position-Some (λ (x : Ballot). bytes_eq x.value m) bs i b found in
@@ -352,7 +353,7 @@ voters_found n bs m i b votes tally view found read k =
     ap (λ (s : ℕ). has_member s k) (sym same)
     ∙ (sym (vote_lookup n bs m k tally) ∙ ap (λ (l : List (Option (List ℕ))). nat_lt k (length l) && is_value m (get_or l k None)) view)
 
-pub voters_not_found : (n : ℕ) (bs : List Ballot) (m : List ℕ) (s : ℕ) (votes : List (Option (List ℕ))) → IsTally n bs → votes_in n bs ≡ votes
+pub voters_not_found : (n : ℕ) (bs : List Ballot) (m : List ℕ) (s : ℕ) (votes : List (Option (List ℕ))) → IsBallotTally n bs → votes_in n bs ≡ votes
     → position (λ b. bytes_eq b.value m) bs ≡ None → ((j : ℕ) → has_member s j ≡ false) → (k : ℕ) → has_member s k ≡ (nat_lt k (length votes) && is_value m (get_or votes k None))
 voters_not_found n bs m s votes tally view none empty k =
     empty k

@@ -32,12 +32,12 @@ abbrev pub ready_value : Numbers → List Call → Option (List ℕ)
 ready_value p h = at_shortest (some_backed p) h
 
 -- the value that is carried, at the shortest prefix with such a value
-abbrev pub out_of : Place → List Call → Option (List ℕ)
-out_of at h = at_shortest (some_carried at.numbers) h
+abbrev pub out_by_value : Place → List Call → Option (List ℕ)
+out_by_value at h = at_shortest (some_carried at.numbers) h
 
 -- the messages that are due: INIT of what was started, ECHO of the origin's first INIT, READY of what is backed
-abbrev pub due_of : Place → List Call → List Msg
-due_of at h =
+abbrev pub due_by_value : Place → List Call → List Msg
+due_by_value at h =
     to_all at.slot Init (started h) ++ to_all at.slot Echo (first h at.slot.origin Init)
     ++ to_all at.slot Ready (ready_value at.numbers h)
 
@@ -49,8 +49,8 @@ is_reliable kind = is_of_form 1 kind
 abbrev pub bracha : BroadcastRules
 bracha = record {
   form = 1;
-  due = λ at tags h. due_of at h;
-  out = λ at tags h. out_of at h;
+  due = λ at tags h. due_by_value at h;
+  out = λ at tags h. out_by_value at h;
   repeats = λ at tags h i. is_some (first h i.from i.kind);
   ready = λ at tags h i. true;
   met = λ at tags h. [];

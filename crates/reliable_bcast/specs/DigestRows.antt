@@ -12,7 +12,7 @@ use Rattle.ritas_base.specs.Messages.{Place, msg_cmp, without, to_all}
 use Rattle.ritas_base.specs.Tags.{Tags}
 use Rattle.layer_api.specs.Broadcast.{news}
 use Rattle.layer_api.specs.Entries.{OfMessage}
-use Rattle.reliable_bcast.specs.Digests.{by_digest, out_of, full_of}
+use Rattle.reliable_bcast.specs.Digests.{by_digest, out_by_digest, full_of}
 
 abbrev numbers : Numbers
 numbers = record { n = 4; f = 1 }
@@ -78,7 +78,7 @@ want_at_three_readies : news by_digest (at 0) tags (hears 1 Ready d ∷ hears 3 
 unfolding without msg_cmp
 want_at_three_readies = refl
 
-nothing_delivered_yet : out_of (at 0) tags carried ≡ None
+nothing_delivered_yet : out_by_digest (at 0) tags carried ≡ None
 nothing_delivered_yet = refl
 
 -- ---- 1 is asked, and 0 delivers its answer
@@ -87,7 +87,7 @@ value_to_who_asks : news by_digest (at 1) tags (hears 2 Echo d ∷ two_echoes) (
 unfolding without msg_cmp
 value_to_who_asks = refl
 
-delivered_with_the_value : out_of (at 0) tags (hears 1 Value a ∷ carried) ≡ Some a
+delivered_with_the_value : out_by_digest (at 0) tags (hears 1 Value a ∷ carried) ≡ Some a
 delivered_with_the_value = refl
 
 met_with_the_value : by_digest.met (at 0) tags (hears 1 Value a ∷ carried) ≡ OfMessage a d ∷ []
@@ -96,14 +96,14 @@ met_with_the_value = refl
 -- ---- other rows
 
 -- a value with another digest isn't delivered, and a second VALUE of one sender doesn't count
-nothing_of_another_value : out_of (at 0) tags (hears 1 Value a ∷ hears 1 Value b ∷ carried) ≡ None
+nothing_of_another_value : out_by_digest (at 0) tags (hears 1 Value a ∷ hears 1 Value b ∷ carried) ≡ None
 nothing_of_another_value = refl
 
 -- nor is one that comes as INIT of another than the origin, or as its second INIT
-nothing_of_another_init : out_of (at 0) tags (hears 1 Init a ∷ carried) ≡ None
+nothing_of_another_init : out_by_digest (at 0) tags (hears 1 Init a ∷ carried) ≡ None
 nothing_of_another_init = refl
 
-nothing_of_a_second_init : out_of (at 0) tags (hears 3 Init a ∷ hears 3 Init b ∷ carried) ≡ None
+nothing_of_a_second_init : out_by_digest (at 0) tags (hears 3 Init a ∷ hears 3 Init b ∷ carried) ≡ None
 nothing_of_a_second_init = refl
 
 -- READYs on two digests are counted apart
@@ -111,7 +111,7 @@ two_digests_apart : full_of (at 0) tags (hears 2 Ready (7 ∷ b) ∷ hears 1 Rea
 two_digests_apart = refl
 
 -- VALUEs of two senders: the one with the digest is delivered
-value_of_another_sender : out_of (at 0) tags (hears 2 Value a ∷ hears 1 Value b ∷ carried) ≡ Some a
+value_of_another_sender : out_by_digest (at 0) tags (hears 2 Value a ∷ hears 1 Value b ∷ carried) ≡ Some a
 value_of_another_sender = refl
 
 -- no WANT where the value is known
@@ -119,7 +119,7 @@ no_want_of_what_is_known : news by_digest (at 0) tags (hears 1 Ready d ∷ hears
 unfolding without msg_cmp
 no_want_of_what_is_known = refl
 
-delivered_at_once : out_of (at 0) tags (carried ++ hears 3 Init a ∷ []) ≡ Some a
+delivered_at_once : out_by_digest (at 0) tags (carried ++ hears 3 Init a ∷ []) ≡ Some a
 delivered_at_once = refl
 
 -- who asked before is answered once the value is known, with the ECHO, and no other value is sent

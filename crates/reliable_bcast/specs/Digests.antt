@@ -36,9 +36,9 @@ cons_if None vs = vs
 cons_if (Some v) vs = v ∷ vs
 
 -- the values that were brought
-abbrev pub brought : Place → List Call → List (List ℕ)
-brought at [] = []
-brought at (c ∷ h) = cons_if (brought_by at h c) (brought at h)
+abbrev pub brought_values : Place → List Call → List (List ℕ)
+brought_values at [] = []
+brought_values at (c ∷ h) = cons_if (brought_by at h c) (brought_values at h)
 
 -- the value, where it has this digest
 abbrev pub if_digest : Tags → List ℕ → Option (List ℕ) → Option (List ℕ)
@@ -82,8 +82,8 @@ digest_in None = None
 digest_in (Some full) = Some full.digest
 
 -- what is delivered: the known value of the digest that is carried
-abbrev pub out_of : Place → Tags → List Call → Option (List ℕ)
-out_of at tags h = known_of at tags h (digest_in (full_of at tags h))
+abbrev pub out_by_digest : Place → Tags → List Call → Option (List ℕ)
+out_by_digest at tags h = known_of at tags h (digest_in (full_of at tags h))
 
 -- ---- what is due
 
@@ -107,8 +107,8 @@ echo_of make (Some m) = Some (make m)
 
 -- INIT of what was started, ECHO of the digest of the origin's first INIT, READY of what is backed, WANT of what is asked for, and
 -- VALUE to those who asked
-abbrev pub due_of : Place → Tags → List Call → List Msg
-due_of at tags h =
+abbrev pub due_by_digest : Place → Tags → List Call → List Msg
+due_by_digest at tags h =
     to_all at.slot Init (started h) ++ to_all at.slot Echo (echo_of tags.digest (first h at.slot.origin Init))
     ++ to_all at.slot Ready (ready_value at.numbers h) ++ to_all at.slot Want (asked_for (full_of at tags h)) ++ values_due at tags h
 
@@ -116,9 +116,9 @@ due_of at tags h =
 abbrev pub by_digest : BroadcastRules
 by_digest = record {
   form = 3;
-  due = due_of;
-  out = out_of;
+  due = due_by_digest;
+  out = out_by_digest;
   repeats = λ at tags h i. is_some (first h i.from i.kind);
   ready = λ at tags h i. true;
-  met = λ at tags h. map (λ m. OfMessage m (tags.digest m)) (brought at h);
+  met = λ at tags h. map (λ m. OfMessage m (tags.digest m)) (brought_values at h);
 }

@@ -15,9 +15,9 @@ use Rattle.ritas_base.specs.MessagesLaws.{message, same_message}
 use Rattle.ritas_base.specs.Tags.{Tags}
 use Rattle.layer_api.specs.Broadcast.{news, is_of_origin, is_for_origin}
 use Rattle.layer_api.specs.Broadcast.{IsPayload}
-use Rattle.layer_api.specs.Runs.{Step, Has, IsEnough}
+use Rattle.layer_api.specs.Runs.{ReplicaStep, Has, IsEnough}
 use Rattle.layer_api.specs.OneValue.{Group, due_at, out_at, IsRun, IsClear, SameDigests}
-use Rattle.reliable_bcast.specs.Bracha.{bracha, is_reliable, due_of, out_of}
+use Rattle.reliable_bcast.specs.Bracha.{bracha, is_reliable, due_by_value, out_by_value}
 
 abbrev numbers : Numbers
 numbers = record { n = 4; f = 1 }
@@ -65,7 +65,7 @@ a_second_init_repeats = refl
 abbrev two_echoes : List Call
 two_echoes = heard 3 Echo a ∷ heard 2 Echo b ∷ heard 0 Echo a ∷ []
 
-no_ready_at_two_echoes : due_of place two_echoes ≡ []
+no_ready_at_two_echoes : due_by_value place two_echoes ≡ []
 no_ready_at_two_echoes = refl
 
 ready_at_three_echoes : news bracha place tags two_echoes (heard 1 Echo a) ≡ to_all slot Ready (Some a)
@@ -73,10 +73,10 @@ unfolding without msg_cmp
 ready_at_three_echoes = refl
 
 -- of one sender the first value of a kind counts
-no_ready_at_a_second_echo : due_of place (heard 2 Echo a ∷ two_echoes) ≡ []
+no_ready_at_a_second_echo : due_by_value place (heard 2 Echo a ∷ two_echoes) ≡ []
 no_ready_at_a_second_echo = refl
 
-no_ready_at_one_ready : due_of place (heard 2 Ready b ∷ []) ≡ []
+no_ready_at_one_ready : due_by_value place (heard 2 Ready b ∷ []) ≡ []
 no_ready_at_one_ready = refl
 
 ready_at_two_readies : news bracha place tags (heard 2 Ready b ∷ []) (heard 3 Ready b) ≡ to_all slot Ready (Some b)
@@ -88,13 +88,13 @@ ready_once : news bracha place tags (heard 3 Ready b ∷ heard 2 Ready b ∷ two
 unfolding without msg_cmp
 ready_once = refl
 
-nothing_at_two_readies : out_of place (heard 3 Ready b ∷ heard 2 Ready b ∷ []) ≡ None
+nothing_at_two_readies : out_by_value place (heard 3 Ready b ∷ heard 2 Ready b ∷ []) ≡ None
 nothing_at_two_readies = refl
 
-nothing_at_a_second_ready : out_of place (heard 2 Ready b ∷ heard 3 Ready b ∷ heard 2 Ready b ∷ []) ≡ None
+nothing_at_a_second_ready : out_by_value place (heard 2 Ready b ∷ heard 3 Ready b ∷ heard 2 Ready b ∷ []) ≡ None
 nothing_at_a_second_ready = refl
 
-delivered_at_three_readies : out_of place (heard 1 Ready b ∷ heard 3 Ready b ∷ heard 2 Ready b ∷ []) ≡ Some b
+delivered_at_three_readies : out_by_value place (heard 1 Ready b ∷ heard 3 Ready b ∷ heard 2 Ready b ∷ []) ≡ Some b
 delivered_at_three_readies = refl
 
 -- ---- a run of the replicas 0, 1 and 2, with replica 3 silent
@@ -102,11 +102,11 @@ delivered_at_three_readies = refl
 abbrev pub group : Group
 group = record { rules = bracha; numbers = numbers; slot = slot; is_correct = λ k. nat_lt k 3; tags = λ k. tags }
 
-abbrev hears : ℕ → ℕ → Kind → Step Call
+abbrev hears : ℕ → ℕ → Kind → ReplicaStep Call
 hears i k kind = record { who = i; call = heard k kind a }
 
 -- 0 starts, all hear INIT, 0 and 1 hear three ECHOs, 2 hears two READYs, 0 hears three
-abbrev pub talk : List (Step Call)
+abbrev pub talk : List (ReplicaStep Call)
 talk =
     hears 0 2 Ready ∷ hears 0 1 Ready ∷ hears 0 0 Ready
     ∷ hears 2 1 Ready ∷ hears 2 0 Ready
@@ -151,7 +151,7 @@ no_payload kinds.Want e v = absurd cc
 no_payload kinds.Value e v = absurd cc
 
 -- the steps are a run
-pub record Told (steps : List (Step Call)) : Type 0 where
+pub record Told (steps : List (ReplicaStep Call)) : Type 0 where
   pub run : IsRun group steps
 
 listed : (ms : List Msg) (m : Msg) → has ms m ≡ true → Has ms m
@@ -160,10 +160,10 @@ listed (x ∷ ms) m e =
     elim (or_cases (msg_eq m x) (has ms m) e) [ inl here ↦ inl (sym (same_message m x here)) | inr later ↦ inr (listed ms m later) ]
 
 -- i is correct, k is a replica, and what i hears of it was due there
-abbrev is_said : List (Step Call) → ℕ → ℕ → Kind → Bool
+abbrev is_said : List (ReplicaStep Call) → ℕ → ℕ → Kind → Bool
 is_said steps i k kind = (nat_lt i 3 && nat_lt k 4) && has (due_at group k steps) (message slot kind a)
 
-hear : {steps : List (Step Call)} → Told steps → (i k : ℕ) (kind : Kind) → is_reliable kind ≡ true → (is_of_origin kind ≡ true → k ≡ 0) → (is_for_origin kind ≡ true → i ≡ 0)
+hear : {steps : List (ReplicaStep Call)} → Told steps → (i k : ℕ) (kind : Kind) → is_reliable kind ≡ true → (is_of_origin kind ≡ true → k ≡ 0) → (is_for_origin kind ≡ true → i ≡ 0)
     → is_said steps i k kind ≡ true → Told (hears i k kind ∷ steps)
 hear {steps} told i k kind reliable origin receiver said =
     let whole = and_parts (nat_lt i 3 && nat_lt k 4) (has (due_at group k steps) (message slot kind a)) said in
@@ -180,13 +180,13 @@ hear {steps} told i k kind reliable origin receiver said =
       );
     }
 
-init : {steps : List (Step Call)} → Told steps → (i : ℕ) → is_said steps i 0 Init ≡ true → Told (hears i 0 Init ∷ steps)
+init : {steps : List (ReplicaStep Call)} → Told steps → (i : ℕ) → is_said steps i 0 Init ≡ true → Told (hears i 0 Init ∷ steps)
 init told i said = hear told i 0 Init refl (λ e. refl) (λ e. absurd (cc)) said
 
-echo : {steps : List (Step Call)} → Told steps → (i k : ℕ) → is_said steps i k Echo ≡ true → Told (hears i k Echo ∷ steps)
+echo : {steps : List (ReplicaStep Call)} → Told steps → (i k : ℕ) → is_said steps i k Echo ≡ true → Told (hears i k Echo ∷ steps)
 echo told i k said = hear told i k Echo refl (λ e. absurd (cc)) (λ e. absurd (cc)) said
 
-ready : {steps : List (Step Call)} → Told steps → (i k : ℕ) → is_said steps i k Ready ≡ true → Told (hears i k Ready ∷ steps)
+ready : {steps : List (ReplicaStep Call)} → Told steps → (i k : ℕ) → is_said steps i k Ready ≡ true → Told (hears i k Ready ∷ steps)
 ready told i k said = hear told i k Ready refl (λ e. absurd (cc)) (λ e. absurd (cc)) said
 
 begun : Told (record { who = 0; call = Start a } ∷ [])

@@ -12,8 +12,8 @@ use Rattle.ritas_base.specs.Messages.{Place, to_all}
 use Rattle.layer_api.specs.declared.broadcast.Heard.{Heard}
 use Rattle.layer_api.specs.declared.broadcast.Heard.TheVariants.{Took, Repeat}
 use Rattle.reliable_bcast.specs.declared.rb.Rb.{Rb}
-use Rattle.reliable_bcast.specs.Bracha.{ready_value, out_of}
-use Rattle.reliable_bcast.specs.Tally.{is_awaited}
+use Rattle.reliable_bcast.specs.Bracha.{ready_value, out_by_value}
+use Rattle.ritas_base.specs.Places.{is_awaited}
 
 -- what is kept at this place after these calls
 abbrev pub state_of : Place → List Call → Rb
@@ -25,7 +25,7 @@ state_of at h =
       readied = is_some (ready_value at.numbers h);
       echoes = firsts at.numbers.n h kinds.Echo;
       readies = firsts at.numbers.n h kinds.Ready;
-      delivered = out_of at h;
+      delivered = out_by_value at h;
       live = true;
     }
 
@@ -37,15 +37,15 @@ abbrev pub has_carriers : Rb → List ℕ → Bool
 has_carriers b m = nat_le (deliver_of b.params) (count_by (is_value m) b.readies)
 
 -- READY m is said where it is due and wasn't said yet
-abbrev pub settled : Rb → List ℕ → Rb
-settled b m = record b { readied = b.readied || has_backing b m }
+abbrev pub settled_by_value : Rb → List ℕ → Rb
+settled_by_value b m = record b { readied = b.readied || has_backing b m }
 
 abbrev pub ready_message : Rb → List ℕ → List Msg
 ready_message b m = to_all b.slot kinds.Ready (if not b.readied && has_backing b m then Some m else None)
 
 -- m is delivered where it is carried and nothing was delivered yet
-abbrev pub carried : Rb → List ℕ → Rb
-carried b m = record b { delivered = option_or b.delivered (if has_carriers b m then Some m else None) }
+abbrev pub carried_by_value : Rb → List ℕ → Rb
+carried_by_value b m = record b { delivered = option_or b.delivered (if has_carriers b m then Some m else None) }
 
 abbrev pub echoed_by : Rb → Item → Rb
 echoed_by b i = record b { echoes = slice_set b.echoes i.from (Some i.value) }
@@ -55,8 +55,8 @@ readied_by b i = record b { readies = slice_set b.readies i.from (Some i.value) 
 
 abbrev pub after_item : Kind → Rb → Item → Rb
 after_item kinds.Init b i = record b { echoed = true }
-after_item kinds.Echo b i = settled (echoed_by b i) i.value
-after_item kinds.Ready b i = settled (carried (readied_by b i) i.value) i.value
+after_item kinds.Echo b i = settled_by_value (echoed_by b i) i.value
+after_item kinds.Ready b i = settled_by_value (carried_by_value (readied_by b i) i.value) i.value
 after_item _ b i = b
 
 abbrev pub says_item : Kind → Rb → Item → List Msg
@@ -89,7 +89,7 @@ pub record HearsHalf (old new : Rb) (i : Item) (before after : List Msg) : Type 
   pub shows : (new.delivered ≡ old.delivered) ⊎ (new.delivered ≡ (after_item i.kind old i).delivered)
 
 -- each outcome of hearing an item
-abbrev pub Hears : Rb → Rb → Item → List Msg → List Msg → Result Heard Mem → Type 0
-Hears old new i before after (Ok Took) = HearsNew old new i before after
-Hears old new i before after (Ok Repeat) = HearsAgain old new i before after
-Hears old new i before after (Err e) = HearsHalf old new i before after
+abbrev pub HearsByValue : Rb → Rb → Item → List Msg → List Msg → Result Heard Mem → Type 0
+HearsByValue old new i before after (Ok Took) = HearsNew old new i before after
+HearsByValue old new i before after (Ok Repeat) = HearsAgain old new i before after
+HearsByValue old new i before after (Err e) = HearsHalf old new i before after

@@ -2,7 +2,7 @@
 
 ghost use Rattle.std.specs.Prelude.{◌≡◌, refl};
 ghost use Rattle.reliable_bcast.specs.Digests.{by_digest};
-ghost use Rattle.reliable_bcast.specs.DigestState.{Keeps, shown_of};
+ghost use Rattle.reliable_bcast.specs.DigestState.{KeepsDigests, digest_shown};
 ghost use Rattle.reliable_bcast.specs.Laws.DigestShown.{shows_cast};
 ghost use Rattle.reliable_bcast.specs.Laws.ByDigest.{value_laws_by_digest, entry_laws_by_digest};
 ghost use Rattle.reliable_bcast.specs.Laws.DigestOneValue.{one_value_by_digest};
@@ -14,7 +14,7 @@ use ritas_base::{Item, Mem, Msg, Params, Slot, Tagger};
 use std::alloc::Global;
 
 impl Broadcast for DigestRb {
-    ghost stands = { λ b at tags h. Keeps b at tags h };
+    ghost stands = { λ b at tags h. KeepsDigests b at tags h };
 
     ghost rules = { by_digest };
 
@@ -22,7 +22,7 @@ impl Broadcast for DigestRb {
 
     ghost live = { λ b. b.live };
 
-    ghost shown = { λ b. shown_of b };
+    ghost shown = { λ b. digest_shown b };
 
     ghost shows = { λ b at tags h keeps. (keeps.live, shows_cast b at tags h keeps) };
 

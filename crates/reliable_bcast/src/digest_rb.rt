@@ -5,7 +5,7 @@ ghost use Rattle.std.specs.Str.{bytes_eq};
 ghost use Rattle.std.specs.Option.{option_copied};
 ghost use Rattle.ritas_base.specs.Members.{has_member};
 ghost use Rattle.reliable_bcast.specs.Digests.{to_one};
-ghost use Rattle.reliable_bcast.specs.DigestState.{value_in, answer_in, answers_to, IsNew, IsSame, Learns, Settles, Carries, HearsInit, HearsEcho, HearsReady, HearsWant, HearsValue, Hears, delivered_of};
+ghost use Rattle.reliable_bcast.specs.DigestState.{value_with_digest, answer_in, answers_to, IsNew, IsSameState, LearnsValue, DigestSettles, Carries, HearsInit, HearsEcho, HearsReady, HearsWant, HearsValue, HearsByDigest, delivered_of};
 
 use crate::saying::{say, say_value};
 use crate::votes::Votes;
@@ -50,7 +50,7 @@ fn place_of(values: &[Known], digest: &Bytes) -> Option<usize>
 
 /// The value with this digest, if it is known.
 fn value_of<'a>(values: &'a [Known], digest: &Bytes) -> Option<&'a Bytes>
-    ensures { option_copied result ≡ value_in values.now digest.now }
+    ensures { option_copied result ≡ value_with_digest values.now digest.now }
 {
     match place_of(values, digest) {
         None => None,
@@ -123,8 +123,8 @@ impl DigestRb {
         value: &Bytes,
         out: &mut Vec<Msg>,
     ) -> Result<(), Mem>
-        ensures ok { OnOk result (Learns self.old self.new digest value.now out.old.items out.new.items) }
-        ensures err { OnErr result (IsSame self.old self.new) }
+        ensures ok { OnOk result (LearnsValue self.old self.new digest value.now out.old.items out.new.items) }
+        ensures err { OnErr result (IsSameState self.old self.new) }
     {
         if value_of(&self.values, &digest).is_some() {
             return Ok(());
@@ -189,7 +189,7 @@ impl DigestRb {
 
     /// Says READY of a digest where it has the votes, once.
     fn settle(&mut self, alloc: Global, digest: &Bytes, out: &mut Vec<Msg>) -> Result<(), Mem>
-        ensures ok { OnOk result (Settles self.old self.new digest.now out.old.items out.new.items) }
+        ensures ok { OnOk result (DigestSettles self.old self.new digest.now out.old.items out.new.items) }
         ensures err { OnErr result ((self.new ≡ self.old) × (out.new.items ≡ out.old.items)) }
     {
         if self.readied {
@@ -274,7 +274,7 @@ impl DigestRb {
         item: &Item,
         out: &mut Vec<Msg>,
     ) -> Result<Heard, Mem>
-        ensures { Hears item.now.kind (record { me = T.me t.now; tags = T.tags t.now }) self.old self.new item.now out.old.items out.new.items result }
+        ensures { HearsByDigest item.now.kind (record { me = T.me t.now; tags = T.tags t.now }) self.old self.new item.now out.old.items out.new.items result }
     {
         match item.kind {
             Kind::Init => self.init(alloc, t, item, out),

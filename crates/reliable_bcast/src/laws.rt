@@ -2,7 +2,7 @@
 
 ghost use Rattle.ritas_base.specs.Numbers.{Numbers};
 ghost use Rattle.ritas_base.specs.Messages.{Place};
-ghost use Rattle.reliable_bcast.specs.Bracha.{bracha, is_backed, is_carried, ready_value, out_of};
+ghost use Rattle.reliable_bcast.specs.Bracha.{bracha, is_backed, is_carried, ready_value, out_by_value};
 ghost use Rattle.reliable_bcast.specs.Digests.{by_digest};
 ghost use Rattle.reliable_bcast.specs.Reading.{IsTheValue};
 ghost use Rattle.layer_api.specs.OneDue.{OneDue};
@@ -37,7 +37,7 @@ pub fn one_backed()
 ///
 /// It does nothing: its contract is the law.
 pub fn one_carried()
-    ensures { (at : Place) → IsTheValue (is_carried at.numbers) (out_of at) }
+    ensures { (at : Place) → IsTheValue (is_carried at.numbers) (out_by_value at) }
 {}
 
 /// Of all INITs that are due at a slot after whatever calls, each has one value; so have all ECHOs, and all READYs. So no later

@@ -2,7 +2,7 @@
 
 ghost use Rattle.std.specs.Prelude.{◌≡◌, ◌++◌, IfOk, OnErr, OnOk, None, Some, replicate, true, false};
 ghost use Rattle.std.specs.Option.{option_copied};
-ghost use Rattle.reliable_bcast.specs.State.{settled, carried, ready_message, Hears};
+ghost use Rattle.reliable_bcast.specs.State.{settled_by_value, carried_by_value, ready_message, HearsByValue};
 
 use crate::saying::say;
 use crate::votes::Votes;
@@ -52,7 +52,7 @@ impl Rb {
 
     /// Says READY of a value where it has the votes, once.
     fn settle(&mut self, alloc: Global, value: &Bytes, out: &mut Vec<Msg>) -> Result<(), Mem>
-        ensures state { OnOk result (self.new ≡ settled self.old value.now) }
+        ensures state { OnOk result (self.new ≡ settled_by_value self.old value.now) }
         ensures said { OnOk result (out.new.items ≡ out.old.items ++ ready_message self.old value.now) }
         ensures err { OnErr result ((self.new ≡ self.old) × (out.new.items ≡ out.old.items)) }
     {
@@ -70,7 +70,7 @@ impl Rb {
 
     /// Delivers a value where it has the votes, once.
     fn carry(&mut self, alloc: Global, value: &Bytes) -> Result<(), Mem>
-        ensures ok { OnOk result (self.new ≡ carried self.old value.now) }
+        ensures ok { OnOk result (self.new ≡ carried_by_value self.old value.now) }
         ensures err { OnErr result (self.new ≡ self.old) }
     {
         if self.delivered.is_some() {
@@ -90,7 +90,7 @@ impl Rb {
         item: &Item,
         out: &mut Vec<Msg>,
     ) -> Result<Heard, Mem>
-        ensures { Hears self.old self.new item.now out.old.items out.new.items result }
+        ensures { HearsByValue self.old self.new item.now out.old.items out.new.items result }
     {
         match item.kind {
             Kind::Init => {

@@ -5,7 +5,7 @@ ghost use Rattle.std.specs.List.{list_any};
 ghost use Rattle.std.specs.Str.{bytes_eq};
 ghost use Rattle.ritas_base.specs.History.{is_value};
 ghost use Rattle.ritas_base.specs.Members.{has_member};
-ghost use Rattle.reliable_bcast.specs.Tally.{is_awaited};
+ghost use Rattle.ritas_base.specs.Places.{is_awaited};
 
 use ritas_base::{Bytes, Mem, SenderSet};
 use std::alloc::Global;
@@ -27,13 +27,13 @@ pub(crate) struct Votes {
 
 impl Model for Votes {
     ghost use Rattle.std.specs.Prelude.{ℕ, List, Option, ◌≤◌};
-    ghost use Rattle.reliable_bcast.specs.Tally.{votes_in, IsTally};
+    ghost use Rattle.reliable_bcast.specs.Tally.{votes_in, IsBallotTally};
 
     ghost Value = { List (Option (List ℕ)) };
 
     ghost view = { λ v. votes_in v.n v.ballots.items };
 
-    ghost invariant = { λ v. (v.n ≤ 31) × IsTally v.n v.ballots.items };
+    ghost invariant = { λ v. (v.n ≤ 31) × IsBallotTally v.n v.ballots.items };
 }
 
 impl Votes {

@@ -9,8 +9,8 @@ use Rattle.ritas_base.specs.declared.id.Id.{Id}
 use Rattle.layer_api.specs.OneValue.{ValueLaws}
 use Rattle.layer_api.specs.Service.{WordLaws, IsPart}
 use Rattle.keyed_channel.specs.KeyRow.{KeyRow}
-use Rattle.command_log.specs.Rows.{Row, entries_of, rows_of, command_rows}
-use Rattle.command_log.specs.Rows.{Entry as Command}
+use Rattle.command_log.specs.Rows.{Row, entries_of_log, rows_of, command_rows}
+use Rattle.command_log.specs.Rows.{CommandEntry as Command}
 use Rattle.command_log.specs.Standing.{Ledger, StandsFor}
 use Rattle.ritas_core.specs.declared.kernel.Core.{Core}
 use Rattle.ritas_core.specs.Rules.{Rules, seat_of}
@@ -22,8 +22,8 @@ use Rattle.ritas_core.specs.Stands.{Meaning, CoreStands}
 use Rattle.ritas_core.specs.StandsLaws.{layer_laws}
 use Rattle.replica.specs.declared.frame.OutFrame.{OutFrame}
 use Rattle.replica.specs.declared.replica.Replica.{Replica}
-use Rattle.replica.specs.CommandRows.{command_of, ids_at, entries_at, rows_at, Follows, LiesBetween, HasCommand}
-use Rattle.replica.specs.Steps.{PutsOut, SameRest, FeedsOnly, FeedsSome, Feeds}
+use Rattle.replica.specs.CommandRows.{command_of, ids_at, entries_at, history_rows, Follows, LiesBetween, HasCommand}
+use Rattle.replica.specs.Steps.{PutsOut, SameRest, FeedsOnly, FeedsSome, FeedsLog}
 use Rattle.replica.proofs.Growing.{Grows, grows, rows_grow, rows_lost, part_itself}
 
 all_append : (P : Id → Type 0) (xs ys : List Id) → AllByRecursion P xs → AllByRecursion P ys → AllByRecursion P (xs ++ ys)
@@ -49,7 +49,7 @@ done_by m core r st stands done is =
     is ∙ ap (λ (q : Rules). reverse (q.service.done (seat_of r) (parts r st.history).words)) stands.rules
 
 -- a log that follows has the rows of the history
-pub rows_are : {r : Rules} {h : List Entry} {log : Ledger} {fed : ℕ} → Follows r h log fed → log.rows ≡ rows_at r h
+pub rows_are : {r : Rules} {h : List Entry} {log : Ledger} {fed : ℕ} → Follows r h log fed → log.rows ≡ history_rows r h
 rows_are {r} {h} {log} follows = follows.stands.rows ∙ ap (λ (f : ℕ). rows_of f (entries_at r h)) follows.f
 
 module _ {S E C : Type 0} (m : Meaning S E C KeyRow) (values : ValueLaws m.cast) (words : WordLaws m.service) (proper : WordsAreProper)
@@ -58,7 +58,7 @@ module _ {S E C : Type 0} (m : Meaning S E C KeyRow) (values : ValueLaws m.cast)
   laws = layer_laws m values words core r st stands
 
   -- what a stop lost only adds rows
-  pub lost_rows : IsPart (rows_at r st.history) (rows_at r (with_lost st))
+  pub lost_rows : IsPart (history_rows r st.history) (history_rows r (with_lost st))
   lost_rows = rows_lost r laws st.lost st.history (proper r laws st.history stands.history) (proper r laws (with_lost st) stands.whole)
 
   module _ (e : Entry) (h : List Entry) (is : st.history ≡ e ∷ h) (done : List Id) (shows : done ≡ reverse (ids_at r st.history))
@@ -84,9 +84,9 @@ module _ {S E C : Type 0} (m : Meaning S E C KeyRow) (values : ValueLaws m.cast)
     all_fed = ap length (shows ∙ ap (λ (x : List Entry). reverse (ids_at r x)) is) ∙ length-reverse (ids_at r (e ∷ h))
 
     -- the log stood for the commands of before, as they are delivered now
-    pub stood : StandsFor log (entries_of (command_of r st.history) (ids_at r h))
+    pub stood : StandsFor log (entries_of_log (command_of r st.history) (ids_at r h))
     stood =
-        subst (λ (x : List Entry). StandsFor log (entries_of (command_of r x) (ids_at r h))) (sym is)
+        subst (λ (x : List Entry). StandsFor log (entries_of_log (command_of r x) (ids_at r h))) (sym is)
         (subst (λ (es : List Command). StandsFor log es) grown.same before.stands)
 
     -- the others are those of the entry
@@ -108,16 +108,16 @@ module _ {S E C : Type 0} (m : Meaning S E C KeyRow) (values : ValueLaws m.cast)
       all_ids : reverse ids ++ ids_at r h ≡ ids_at r (e ∷ h)
       all_ids = ap (λ (l : List Id). l ++ ids_at r h) (ap reverse ids_are ∙ reverse-reverse grown.more) ∙ grown.whole
 
-      all_entries : entries_of (command_of r st.history) (reverse ids ++ ids_at r h) ≡ entries_at r (e ∷ h)
-      all_entries = ap (λ (x : List Entry). entries_of (command_of r x) (reverse ids ++ ids_at r h)) is ∙ ap (entries_of (command_of r (e ∷ h))) all_ids
+      all_entries : entries_of_log (command_of r st.history) (reverse ids ++ ids_at r h) ≡ entries_at r (e ∷ h)
+      all_entries = ap (λ (x : List Entry). entries_of_log (command_of r x) (reverse ids ++ ids_at r h)) is ∙ ap (entries_of_log (command_of r (e ∷ h))) all_ids
 
-      pub follows_now : (now : Ledger) → now.f ≡ log.f → StandsFor now (entries_of (command_of r st.history) (reverse ids ++ ids_at r h)) → Follows r (e ∷ h) now (length done)
+      pub follows_now : (now : Ledger) → now.f ≡ log.f → StandsFor now (entries_of_log (command_of r st.history) (reverse ids ++ ids_at r h)) → Follows r (e ∷ h) now (length done)
       follows_now now same is_now = record { f = same ∙ before.f; stands = subst (λ (es : List Command). StandsFor now es) all_entries is_now; count = all_fed }
 
       pub lies_between : (now : List Row) → IsPart (command_rows log.f (command_of r st.history) (ids_at r h)) now
           × IsPart now (command_rows log.f (command_of r st.history) (reverse ids ++ ids_at r h)) → LiesBetween r h (e ∷ h) now
       lies_between now part = (
-        subst (λ (rows : List Row). IsPart rows now) (ap₂ rows_of before.f (ap (λ (x : List Entry). entries_of (command_of r x) (ids_at r h)) is ∙ sym grown.same)) part.0,
+        subst (λ (rows : List Row). IsPart rows now) (ap₂ rows_of before.f (ap (λ (x : List Entry). entries_of_log (command_of r x) (ids_at r h)) is ∙ sym grown.same)) part.0,
         subst (λ (rows : List Row). IsPart now rows) (ap₂ rows_of before.f all_entries) part.1,
       )
 
@@ -125,7 +125,7 @@ module _ {S E C : Type 0} (m : Meaning S E C KeyRow) (values : ValueLaws m.cast)
     pub follows_between : (now : Ledger) (count : ℕ) → Follows r (e ∷ h) now count → LiesBetween r h (e ∷ h) now.rows
     follows_between now count follows =
         subst (λ (rows : List Row). LiesBetween r h (e ∷ h) rows) (sym (rows_are follows))
-        (rows_grow r laws e h (proper r laws h met.1) (proper r laws (e ∷ h) met), part_itself (rows_at r (e ∷ h)))
+        (rows_grow r laws e h (proper r laws h met.1) (proper r laws (e ∷ h) met), part_itself (history_rows r (e ∷ h)))
 
 -- ---- the log is fed, and then frames are sealed
 module _ {S E C : Type 0} (m : Meaning S E C KeyRow) (old mid new : Replica S E C) (only : FeedsOnly old mid) (same : SameRest mid new) where
@@ -147,7 +147,7 @@ module _ {S E C : Type 0} (m : Meaning S E C KeyRow) (old mid new : Replica S E 
   some_kept some r st e h stands live is before =
       subst (λ (log : Ledger). LiesBetween r h (e ∷ h) log.rows) (sym same.log) (some r st e h stands live is before)
 
-  pub feeds_kept : Feeds m old mid → Feeds m old new
+  pub feeds_kept : FeedsLog m old mid → FeedsLog m old new
   feeds_kept feeds = record {
     follows = λ r st e h stands live is before.
         let now = feeds.follows r st e h stands live is before in

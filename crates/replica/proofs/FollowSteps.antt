@@ -5,7 +5,7 @@ use Rattle.std.proofs.Common.{sym, ◌∙◌, ap, subst, arith, append_assoc}
 use Rattle.std.proofs.lemmas.List.{take_more, take-append-drop, reverse-append, length-reverse, length-append, length-take-le}
 use Rattle.ritas_base.specs.declared.id.Id.{Id}
 use Rattle.layer_api.specs.Service.{IsPart}
-use Rattle.command_log.specs.Rows.{Row, entry_of, entries_of, command_rows, rows_of}
+use Rattle.command_log.specs.Rows.{Row, entry_of_id, entries_of_log, command_rows, rows_of}
 use Rattle.command_log.specs.Standing.{Ledger, StandsFor}
 use Rattle.command_log.specs.Laws.{command_part}
 use Rattle.command_log.specs.Fits.{rows_fit}
@@ -22,7 +22,7 @@ all_at P (x ∷ ids) (suc i) within all = all_at P ids i (omega (arith, within))
 abbrev pub first_ids : List Id → ℕ → List Id → List Id
 first_ids ids i xs = reverse (take i ids) ++ xs
 
-module _ (a : Id → Option (List ℕ)) (ids xs : List Id) (i : ℕ) (now : Ledger) (is : StandsFor now (entries_of a (first_ids ids i xs))) where
+module _ (a : Id → Option (List ℕ)) (ids xs : List Id) (i : ℕ) (now : Ledger) (is : StandsFor now (entries_of_log a (first_ids ids i xs))) where
   -- there is room for one more
   pub fits_at : i < length ids → length xs + length ids < 4294967295 → length now.rows < 4294967295
   fits_at within room =
@@ -33,10 +33,10 @@ module _ (a : Id → Option (List ℕ)) (ids xs : List Id) (i : ℕ) (now : Ledg
       omega (arith, most, whole, len, few, room, within, ap length is.rows)
 
   -- and it is entered
-  pub stands_next : (next : Ledger) → i < length ids → StandsFor next (entry_of a (item_at ids i) ∷ entries_of a (first_ids ids i xs))
-      → StandsFor next (entries_of a (first_ids ids (i + 1) xs))
+  pub stands_next : (next : Ledger) → i < length ids → StandsFor next (entry_of_id a (item_at ids i) ∷ entries_of_log a (first_ids ids i xs))
+      → StandsFor next (entries_of_log a (first_ids ids (i + 1) xs))
   stands_next next within step =
-      subst (λ (l : List Id). StandsFor next (entries_of a (l ++ xs)))
+      subst (λ (l : List Id). StandsFor next (entries_of_log a (l ++ xs)))
       (sym (ap reverse (take_more ids i (record { origin = 0; num = 0 }) within) ∙ reverse-append (take i ids) (item_at ids i ∷ []))) step
 
   -- the rows of the first of them lie between those of none and of all
@@ -48,7 +48,7 @@ module _ (a : Id → Option (List ℕ)) (ids xs : List Id) (i : ℕ) (now : Ledg
   pub first_between : (f : ℕ) (next : List Row) → next ≡ now.rows → now.f ≡ f → IsPart (command_rows f a xs) next × IsPart next (command_rows f a (reverse ids ++ xs))
   first_between f next same faults =
       subst (λ (q : List Row). IsPart (command_rows f a xs) q × IsPart q (command_rows f a (reverse ids ++ xs)))
-      (sym (same ∙ is.rows ∙ ap (λ n. rows_of n (entries_of a (first_ids ids i xs))) faults)) (
+      (sym (same ∙ is.rows ∙ ap (λ n. rows_of n (entries_of_log a (first_ids ids i xs))) faults)) (
         command_part f a a xs (first_ids ids i xs) (reverse (take i ids), refl) (λ x here. refl),
         command_part f a a (first_ids ids i xs) (reverse ids ++ xs) (reverse (drop i ids), whole_is) (λ x here. refl),
       )

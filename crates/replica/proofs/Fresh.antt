@@ -2,7 +2,7 @@
 use Rattle.std.proofs.Common.{◌≡◌, ℕ, zero, suc, ◌%◌, ◌^◌, false, List, [], length, inl, refl, sym, ◌∙◌, ap, subst}
 use Rattle.std.specs.Prelude.{slice_index, replicate}
 use Rattle.keyed_channel.specs.KeyRow.{KeyRow}
-use Rattle.ooc_buffers.specs.Lists.{Kept}
+use Rattle.ooc_buffers.specs.Lists.{HeldItem}
 use Rattle.ritas_core.specs.Rules.{Rules, seat_of}
 use Rattle.ritas_core.specs.Machine.{first_state}
 use Rattle.ritas_core.specs.Shown.{tagger_of}
@@ -11,8 +11,8 @@ use Rattle.replica.specs.declared.replica.Replica.{Replica}
 use Rattle.replica.specs.Stands.{peers}
 use Rattle.replica.specs.Replica.{ReplicaStands}
 use Rattle.replica.specs.CommandRows.{command_of}
-use Rattle.command_log.specs.Rows.{entries_of}
-use Rattle.command_log.specs.Rows.{Entry as Command}
+use Rattle.command_log.specs.Rows.{entries_of_log}
+use Rattle.command_log.specs.Rows.{CommandEntry as Command}
 use Rattle.command_log.specs.Standing.{StandsFor}
 use Rattle.replica.proofs.Counting.{sum_none}
 
@@ -29,7 +29,7 @@ pub record IsFresh {S E C : Type 0} (rep : Replica S E C) : Type 0 where
   pub log : StandsFor rep.log []
   pub fed : rep.fed ≡ 0
 
-pub fresh_stands : {S E C : Type 0} (m : Meaning S E C KeyRow) (rep : Replica S E C) (r : Rules) (k : KeyRow) (held : List (List Kept)) →
+pub fresh_stands : {S E C : Type 0} (m : Meaning S E C KeyRow) (rep : Replica S E C) (r : Rules) (k : KeyRow) (held : List (List HeldItem)) →
     r.service.done (seat_of r) [] ≡ [] → IsFresh rep → rep.log.f ≡ r.casts.numbers.f → tagger_of rep.core ≡ k → k.me ≡ r.casts.me → k.n ≡ r.casts.numbers.n → CoreStands m rep.core r (first_state held)
     → ReplicaStands m rep r k (first_state held)
 fresh_stands m rep r k held none fresh f keys own many stands = record {
@@ -43,6 +43,6 @@ fresh_stands m rep r k held none fresh f keys own many stands = record {
       each = record { each = λ j below. fresh.each j };
       all = fresh.all ∙ sym (ap (λ x. x % 2 ^ 64) (sum_none (peers k)));
     };
-    log = record { f = f; stands = subst (λ (es : List Command). StandsFor rep.log es) (ap (entries_of (command_of r [])) (sym none)) fresh.log; count = fresh.fed ∙ ap length (sym none) };
+    log = record { f = f; stands = subst (λ (es : List Command). StandsFor rep.log es) (ap (entries_of_log (command_of r [])) (sym none)) fresh.log; count = fresh.fed ∙ ap length (sym none) };
   });
 }

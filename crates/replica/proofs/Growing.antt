@@ -15,7 +15,7 @@ use Rattle.layer_api.specs.Words.{Word, Ask, Hear, is_heard, value_at}
 use Rattle.layer_api.specs.Service.{AreProper, AreHeard, AreRecent, MayHear, MayWord, IsPart, is_past}
 use Rattle.layer_api.specs.FedLaws.{heard_met}
 use Rattle.layer_api.specs.PartLaws.{heard_is}
-use Rattle.command_log.specs.Rows.{IsIn, entries_of}
+use Rattle.command_log.specs.Rows.{IsIn, entries_of_log}
 use Rattle.command_log.specs.Laws.{command_part, same_entries}
 use Rattle.command_log.specs.Fits.{command_long}
 use Rattle.ritas_core.specs.Rules.{Rules, seat_of}
@@ -23,7 +23,7 @@ use Rattle.ritas_core.specs.Parts.{Entry, Took, Given, Parts, parts, heard_at, t
 use Rattle.ritas_core.specs.Machine.{with_entry}
 use Rattle.ritas_core.specs.Laws.{LayerLaws}
 use Rattle.ritas_core.specs.HeardLaws.{heard_delivered, delivered_stays}
-use Rattle.replica.specs.CommandRows.{command_of, ids_at, entries_at, rows_at, HasCommand}
+use Rattle.replica.specs.CommandRows.{command_of, ids_at, entries_at, history_rows, HasCommand}
 
 abbrev pub WordsAt : Rules → List Entry → List Word
 WordsAt r h = (parts r h).words
@@ -115,7 +115,7 @@ pub record Grows (r : Rules) (e : Entry) (h : List Entry) : Type 0 where
   pub more : List Id
   pub whole : more ++ ids_at r h ≡ ids_at r (e ∷ h)
   pub have : AllByRecursion (HasCommand r (e ∷ h)) more
-  pub same : entries_at r h ≡ entries_of (command_of r (e ∷ h)) (ids_at r h)
+  pub same : entries_at r h ≡ entries_of_log (command_of r (e ∷ h)) (ids_at r h)
   pub room : length (ids_at r h) + length more < 4294967295
 
 no_front : (more xs : List Id) → more ++ xs ≡ [] → more ≡ []
@@ -156,7 +156,7 @@ module _ (r : Rules) (laws : LayerLaws r) (e : Entry) (h : List Entry) (proper :
       by_root more false high none have = have high
 
   -- so the rows of a history are a part of those with an entry more
-  pub rows_grow : IsPart (rows_at r h) (rows_at r (e ∷ h))
+  pub rows_grow : IsPart (history_rows r h) (history_rows r (e ∷ h))
   rows_grow =
       let a = adds_entry r laws e h now in
       command_part r.casts.numbers.f (command_of r h) (command_of r (e ∷ h)) (ids_at r h) (ids_at r (e ∷ h)) (a.more, a.whole) same_command
@@ -166,6 +166,6 @@ part_itself xs = ([], refl)
 
 -- and of those with what a stop lost
 pub rows_lost : (r : Rules) → LayerLaws r → (o : Option Entry) (h : List Entry) → IsProper r h → IsProper r (with_entry o h)
-    → IsPart (rows_at r h) (rows_at r (with_entry o h))
-rows_lost r laws None h proper now = part_itself (rows_at r h)
+    → IsPart (history_rows r h) (history_rows r (with_entry o h))
+rows_lost r laws None h proper now = part_itself (history_rows r h)
 rows_lost r laws (Some e) h proper now = rows_grow r laws e h proper now

@@ -16,7 +16,7 @@ use Rattle.frame_codec.proofs.Formats.{bind_ok}
 use Rattle.keyed_channel.specs.KeyRow.{KeyRow}
 use Rattle.keyed_channel.specs.Frames.{Opening, opening}
 use Rattle.keyed_channel.specs.declared.frame.OpenFault.{OpenFault}
-use Rattle.ooc_buffers.specs.Lists.{Kept, kept_of}
+use Rattle.ooc_buffers.specs.Lists.{HeldItem, held_of_peer}
 use Rattle.ritas_core.specs.declared.answer.Answer.{Answer}
 use Rattle.ritas_core.specs.declared.answer.Answer.TheVariants as answers
 use Rattle.ritas_core.specs.declared.fault.CoreFault.TheVariants as faults
@@ -27,13 +27,13 @@ use Rattle.ritas_core.specs.Parts.{Parts, Entry, Took, parts}
 use Rattle.ritas_core.specs.Checks.{verdict_on, body_length}
 use Rattle.ritas_core.specs.Order.{new_messages}
 use Rattle.ritas_core.specs.Machine as core
-use Rattle.ritas_core.specs.Machine.{CoreState, gives, stays, given_item, moved}
+use Rattle.ritas_core.specs.Machine.{CoreState, gives_item, stays, given_item, moved}
 use Rattle.replica.specs.declared.frame.OutFrame.{OutFrame}
 use Rattle.replica.specs.declared.refusal.Refusal.{Refusal}
 use Rattle.replica.specs.declared.refusal.Refusal.TheVariants as refusals
 use Rattle.replica.specs.Frames.{frames_of, count_for}
 use Rattle.replica.specs.Handling.{Frame, Handled, framed, given_body, given_frame, handled}
-use Rattle.replica.specs.Stands.{Does, DoesAll, DoesOpened}
+use Rattle.replica.specs.Stands.{ReplicaDoes, ReplicaDoesAll, DoesOpened}
 use Rattle.replica.specs.Isolation.{AreAlike, AreAlikeTo, SameOutcome, Isolates, UnopenedIsNothing, IsConfined, Confines, IsAs, IsIsolated, IsOpenedIsolated}
 
 -- ---- what is read is from the frame's sender
@@ -56,13 +56,13 @@ item_from p mode from bytes item e =
 -- ---- what is answered and put out
 
 -- of what is held the verdict looks at the sender's alone
-same_verdict : (r : Rules) (p : Parts) (a b : List (List Kept)) (item : Item) → kept_of a item.from ≡ kept_of b item.from
+same_verdict : (r : Rules) (p : Parts) (a b : List (List HeldItem)) (item : Item) → held_of_peer a item.from ≡ held_of_peer b item.from
     → verdict_on r p a item ≡ verdict_on r p b item
 unfolding verdict_on
 same_verdict r p a b item e = rw e refl
 
 same_given : (r : Rules) (k : KeyRow) (a b : CoreState) (item : Item) (v : Verdict) → a.history ≡ b.history
-    → SameOutcome (framed r k a (gives r a item a.inbox v)) (framed r k b (gives r b item b.inbox v))
+    → SameOutcome (framed r k a (gives_item r a item a.inbox v)) (framed r k b (gives_item r b item b.inbox v))
 same_given r k a b item (verdicts.Refuse fault) e = record { answer = refl; out = refl }
 same_given r k a b item verdicts.Again e = record { answer = refl; out = refl }
 same_given r k a b item verdicts.Hold e = record { answer = refl; out = refl }
@@ -82,7 +82,7 @@ same_moved r k a b item same = go a.live b.live same.live
         (framed r k a (if x then given_item r a item a.inbox else stays a a.inbox (Err faults.Stopped)))
         (framed r k b (if y then given_item r b item b.inbox else stays b b.inbox (Err faults.Stopped)))
     go true true e =
-        let P : Verdict → Type 0 = λ z. SameOutcome (framed r k a (given_item r a item a.inbox)) (framed r k b (gives r b item b.inbox z)) in
+        let P : Verdict → Type 0 = λ z. SameOutcome (framed r k a (given_item r a item a.inbox)) (framed r k b (gives_item r b item b.inbox z)) in
         subst P v (same_given r k a b item (verdict_on r (parts r a.history) a.held item) same.history)
     go false false e = record { answer = refl; out = refl }
     go true false e = absurd cc
@@ -109,13 +109,13 @@ unopened r k st bytes fault e = ap (given_frame r k st) e
 -- ---- what stays
 
 confined_given : (r : Rules) (k : KeyRow) (st : CoreState) (item : Item) (v : Verdict)
-    → (framed r k st (gives r st item st.inbox v)).answer ≢ Ok answers.Took → IsConfined item.from st (framed r k st (gives r st item st.inbox v)).state
+    → (framed r k st (gives_item r st item st.inbox v)).answer ≢ Ok answers.Took → IsConfined item.from st (framed r k st (gives_item r st item st.inbox v)).state
 confined_given r k st item (verdicts.Refuse fault) but = record { history = refl; inbox = refl; held = λ j apart. refl }
 confined_given r k st item verdicts.Again but = record { history = refl; inbox = refl; held = λ j apart. refl }
 confined_given r k st item verdicts.Hold but = record {
   history = refl;
   inbox = refl;
-  held = λ j apart. get_or-set_other st.held item.from j (kept_of st.held item.from ++ record { item = item; len = body_length item } ∷ []) [] apart;
+  held = λ j apart. get_or-set_other st.held item.from j (held_of_peer st.held item.from ++ record { item = item; len = body_length item } ∷ []) [] apart;
 }
 confined_given r k st item verdicts.Take but = absurd (but refl)
 
@@ -143,7 +143,7 @@ confines r k st bytes o e but =
 
 -- a call that did what the abstract replica does in its state did what that does in each that is alike
 as_alike : {R : Type 0} (Stands : R → Rules → KeyRow → CoreState → Type 0) (new : R) (bytes : List ℕ) (before after : List OutFrame) (result : Result Answer Refusal)
-    (r : Rules) (k : KeyRow) (st other : CoreState) → Does Stands new (Frame bytes) before after result r k st → AreAlikeTo k bytes st other
+    (r : Rules) (k : KeyRow) (st other : CoreState) → ReplicaDoes Stands new (Frame bytes) before after result r k st → AreAlikeTo k bytes st other
     → IsAs (handled r k other (Frame bytes)) before after result
 as_alike Stands new bytes before after (Err (refusals.Core faults.Mem)) r k st other did same = tt
 as_alike Stands new bytes before after (Err (refusals.Body body.Mem)) r k st other did same = tt
@@ -156,7 +156,7 @@ same_opening : (x : Result Opening OpenFault) (a b : Opening) → x ≡ Ok a →
 same_opening x a b e f = cc
 
 pub isolated : {R : Type 0} (Stands : R → Rules → KeyRow → CoreState → Type 0) (old new : R) (bytes : List ℕ) (before after : List OutFrame) (result : Result Answer Refusal)
-    → DoesAll Stands old new (Frame bytes) before after result → IsIsolated Stands old bytes before after result
+    → ReplicaDoesAll Stands old new (Frame bytes) before after result → IsIsolated Stands old bytes before after result
 isolated Stands old new bytes before after result does r k st other stands same =
     as_alike Stands new bytes before after result r k st other (does r k st stands) same
 

@@ -10,7 +10,9 @@ use Rattle.frame_codec.specs.Body.{body_answer, Answers, Spells, IsInGrammar}
 use Rattle.keyed_channel.specs.KeyRow.{KeyRow}
 use Rattle.keyed_channel.specs.declared.frame.OpenFault.{OpenFault}
 use Rattle.keyed_channel.specs.declared.frame.OpenFault.TheVariants.{Short, Long, Version, NotMine, NoSuchReplica, BadTag}
-use Rattle.keyed_channel.specs.Frames.{version_byte, Opening, opening, opening_but, open_fault, parts_of, first_failed, is_tagged, is_peer, version_of, sender_of, receiver_of}
+use Rattle.ritas_base.specs.Bytes.{version_byte}
+use Rattle.ritas_base.specs.Places.{first_failed}
+use Rattle.keyed_channel.specs.Frames.{Opening, opening, opening_but, open_fault, opening_parts, is_tagged, is_peer, version_of, sender_of, receiver_of}
 use Rattle.ritas_core.specs.Rules.{Rules}
 use Rattle.ritas_core.specs.Machine as core
 use Rattle.ritas_core.specs.Machine.{CoreState, moved}
@@ -19,10 +21,10 @@ use Rattle.replica.specs.declared.frame.OutFrame.{OutFrame}
 use Rattle.replica.specs.declared.refusal.Refusal.{Refusal}
 use Rattle.replica.specs.declared.refusal.Refusal.TheVariants as refusals
 use Rattle.replica.specs.declared.replica.Replica.{Replica}
-use Rattle.replica.specs.Handling.{Frame, handled, given_frame, given_body, refused}
-use Rattle.replica.specs.Stands.{Handles, Does, frame_given, body_given}
+use Rattle.replica.specs.Handling.{Frame, handled, given_frame, given_body, refusal_handled}
+use Rattle.replica.specs.Stands.{Handles, ReplicaDoes, frame_given, body_given}
 use Rattle.replica.specs.Replica.{ReplicaStands, revived}
-use Rattle.replica.specs.Steps.{Reads, FindsItem}
+use Rattle.replica.specs.Steps.{ReadsFrame, FindsItem}
 use Rattle.replica.proofs.Passing.{IsCall}
 
 -- ---- opening
@@ -48,7 +50,7 @@ no_fault (Some fault) parts o h = cc
 pub opens_from : (k : KeyRow) (bytes : List ℕ) (o : Opening) → opening k bytes ≡ Ok o → o.from < k.n
 unfolding opening
 opens_from k bytes o h =
-    let fine = no_fault (open_fault k bytes) (parts_of bytes) o h in
+    let fine = no_fault (open_fault k bytes) (opening_parts bytes) o h in
     let peer : is_peer k (sender_of bytes) ≡ true = fifth (nat_le 43 (length bytes)) (nat_le (length bytes) 16384) (version_of bytes == version_byte k.version) (receiver_of bytes == k.me) (is_peer k (sender_of bytes)) (is_tagged k bytes) fine.0 in
     let P : Opening → Type 0 = λ x. x.from < k.n in
     subst P fine.1 (ltb-true _ _ (both_true (nat_lt (sender_of bytes) k.n) (not (sender_of bytes == k.me)) peer))
@@ -63,7 +65,7 @@ found_call r k st bytes item found = record {
 }
 
 refused_handles : {S E C : Type 0} (m : Meaning S E C KeyRow) (rep : Replica S E C) (bytes : List ℕ) (before : List OutFrame) (r : Rules) (k : KeyRow) (st : CoreState) (refusal : Refusal) →
-    ReplicaStands m rep r k st → handled r k st (Frame bytes) ≡ refused st refusal → Handles (ReplicaStands m) rep (Frame bytes) before before (Err refusal) r k st
+    ReplicaStands m rep r k st → handled r k st (Frame bytes) ≡ refusal_handled st refusal → Handles (ReplicaStands m) rep (Frame bytes) before before (Err refusal) r k st
 refused_handles m rep bytes before r k st refusal stands same =
     let P : CoreState → Type 0 = λ x. ReplicaStands m rep r k x in
     record {
@@ -74,7 +76,7 @@ refused_handles m rep bytes before r k st refusal stands same =
 
 -- a frame that brings no item
 pub refuses : {S E C : Type 0} (m : Meaning S E C KeyRow) (rep : Replica S E C) (bytes : List ℕ) (before : List OutFrame) (r : Rules) (k : KeyRow) (st : CoreState) (refusal : Refusal) →
-    ReplicaStands m rep r k st → Reads r k bytes (Err refusal) → Does (ReplicaStands m) rep (Frame bytes) before before (Err refusal) r k st
+    ReplicaStands m rep r k st → ReadsFrame r k bytes (Err refusal) → ReplicaDoes (ReplicaStands m) rep (Frame bytes) before before (Err refusal) r k st
 refuses m rep bytes before r k st (refusals.Core fault) stands read = absurd read
 refuses m rep bytes before r k st (refusals.Open fault) stands read =
     refused_handles m rep bytes before r k st (refusals.Open fault) stands (ap (given_frame r k st) read)
@@ -124,7 +126,7 @@ found_item r k p mode bytes o item is_open spells read =
     }
 
 pub unread : (r : Rules) (k : KeyRow) (p : Numbers) (mode : Mode) (bytes : List ℕ) (o : Opening) (fault : BodyFault) →
-    IsOpened r k p mode bytes o → Answers (Err fault) (body_answer p mode o.from o.body) → Reads r k bytes (Err (refusals.Body fault))
+    IsOpened r k p mode bytes o → Answers (Err fault) (body_answer p mode o.from o.body) → ReadsFrame r k bytes (Err (refusals.Body fault))
 unread r k p mode bytes o body.Mem is_open read = (
   read.0,
   record {

@@ -15,17 +15,17 @@ use Rattle.ritas_core.specs.Machine.{CoreState, What, MayGive, with_entry, moved
 use Rattle.ritas_core.specs.Stands.{Meaning, CoreStands}
 use Rattle.ritas_core.specs.Shown.{tagger_of}
 use Rattle.ritas_core.specs.Calls as calls
-use Rattle.ritas_core.specs.Calls.{IsStep, entry_of, stopped}
+use Rattle.ritas_core.specs.Calls.{IsCoreStep, entry_of_call, stopped}
 use Rattle.replica.specs.declared.frame.OutFrame.{OutFrame}
 use Rattle.replica.specs.declared.refusal.Refusal.{Refusal}
 use Rattle.replica.specs.declared.refusal.Refusal.TheVariants as refusals
 use Rattle.replica.specs.declared.replica.Replica.{Replica}
 use Rattle.replica.specs.Frames.{frames_of, count_for, new_frames}
-use Rattle.replica.specs.Handling.{Call, handled, framed, core_answer}
-use Rattle.replica.specs.Stands.{Handles, RunsOut, Does, core_call, frames_made}
+use Rattle.replica.specs.Handling.{ReplicaCall, handled, framed, core_answer}
+use Rattle.replica.specs.Stands.{Handles, ReplicaRunsOut, ReplicaDoes, core_call, frames_made}
 use Rattle.replica.specs.Sending.{AreCounts}
 use Rattle.replica.specs.Replica.{ReplicaStands, StandsGoing, AreCounted, revived}
-use Rattle.replica.specs.Steps.{Keeps, PutsOut, Stops, Counts, Feeds, Finishes}
+use Rattle.replica.specs.Steps.{KeepsReplica, PutsOut, ReplicaStops, CountsFrames, FeedsLog, ReplicaFinishes}
 use Rattle.replica.specs.CommandRows.{Follows, LiesBetween}
 use Rattle.replica.proofs.Sends.{mod_more}
 use Rattle.replica.proofs.Counting.{made_more}
@@ -36,7 +36,7 @@ abbrev pub with_core : {S E C : Type 0} → Replica S E C → Core S E C KeyRow 
 with_core old core = record { core = core; log = old.log; fed = old.fed; counts = old.counts; sent = old.sent; stopped = old.stopped }
 
 -- what a call is given to the core as, and so does
-pub record IsCall (r : Rules) (k : KeyRow) (st : CoreState) (call : Call) (what : What) : Type 0 where
+pub record IsCall (r : Rules) (k : KeyRow) (st : CoreState) (call : ReplicaCall) (what : What) : Type 0 where
   pub given : core_call r k call ≡ Some what
   pub does : handled r k st call ≡ framed r k st (moved r st what)
 
@@ -69,16 +69,16 @@ NotMem (Err (refusals.Core faults.Mem)) = ⊥
 NotMem (Err (refusals.Body body.Mem)) = ⊥
 NotMem result = Unit {0}
 
-pub does_of : {S E C : Type 0} (m : Meaning S E C KeyRow) (new : Replica S E C) (call : Call) (before after : List OutFrame) (r : Rules) (k : KeyRow) (st : CoreState) (result : Result Answer Refusal) →
-    NotMem result → Handles (ReplicaStands m) new call before after result r k st → Does (ReplicaStands m) new call before after result r k st
+pub does_of : {S E C : Type 0} (m : Meaning S E C KeyRow) (new : Replica S E C) (call : ReplicaCall) (before after : List OutFrame) (r : Rules) (k : KeyRow) (st : CoreState) (result : Result Answer Refusal) →
+    NotMem result → Handles (ReplicaStands m) new call before after result r k st → ReplicaDoes (ReplicaStands m) new call before after result r k st
 does_of m new call before after r k st (Err (refusals.Core faults.Mem)) bad h = absurd bad
 does_of m new call before after r k st (Err (refusals.Body body.Mem)) bad h = absurd bad
 does_of m new call before after r k st result fine h = h
 
 -- nothing went out, and the replica is as before with the core as it is now
-quiet_handles : {S E C : Type 0} (m : Meaning S E C KeyRow) (old new : Replica S E C) (core : Core S E C KeyRow) (what : What) (call : Call) (ms : List Msg) (before after : List OutFrame) (answer : Result Answer CoreFault) (r : Rules) (k : KeyRow) (st : CoreState) →
+quiet_handles : {S E C : Type 0} (m : Meaning S E C KeyRow) (old new : Replica S E C) (core : Core S E C KeyRow) (what : What) (call : ReplicaCall) (ms : List Msg) (before after : List OutFrame) (answer : Result Answer CoreFault) (r : Rules) (k : KeyRow) (st : CoreState) →
     StandsGoing m old r k st → ReplicaStands m old r k st → tagger_of core ≡ k → IsCall r k st call what → calls.Moves m old.core core what [] ms answer r st
-    → (answer ≡ Ok answers.Took → ⊥) → Keeps (with_core old core) new before after → Handles (ReplicaStands m) new call before after (core_answer answer) r k st
+    → (answer ≡ Ok answers.Took → ⊥) → KeepsReplica (with_core old core) new before after → Handles (ReplicaStands m) new call before after (core_answer answer) r k st
 quiet_handles {S = S} {E = E} {C = C} m old new core what call ms before after answer r k st on stands keys call_is did other keeps = elim (moved_view r st what) [
   | inl enters ↦ absurd (other (did.answer ∙ enters.answer))
   | inr quiet ↦ record {
@@ -95,7 +95,7 @@ quiet_handles {S = S} {E = E} {C = C} m old new core what call ms before after a
 
 -- the counts are those with the frames of one entry more
 counted_more : (r : Rules) (k : KeyRow) (h : List Entry) (e : Entry) (xs ys : List ℕ) (sent_before sent : ℕ) (before after : List OutFrame) →
-    AreCounted r k h xs sent_before → Counts k (count_for r h) (new_messages r h e) ys sent_before sent before after → AreCounted r k (e ∷ h) ys sent
+    AreCounted r k h xs sent_before → CountsFrames k (count_for r h) (new_messages r h e) ys sent_before sent before after → AreCounted r k (e ∷ h) ys sent
 counted_more r k h e xs ys sent_before sent before after was now = record {
   each = now.each;
   all =
@@ -106,15 +106,15 @@ counted_more r k h e xs ys sent_before sent before after was now = record {
 -- what went out is counted by the keys that the replica stands for
 counts_by : {S E C : Type 0} (old : Replica S E C) (k : KeyRow) (count : ℕ → ℕ) (ms : List Msg) (ys : List ℕ) (sent : ℕ) (before after : List OutFrame) →
     tagger_of old.core ≡ k → AreCounts k.n old.counts count
-    → (AreCounts (tagger_of old.core).n old.counts count → Counts (tagger_of old.core) count ms ys old.sent sent before after) → Counts k count ms ys old.sent sent before after
+    → (AreCounts (tagger_of old.core).n old.counts count → CountsFrames (tagger_of old.core) count ms ys old.sent sent before after) → CountsFrames k count ms ys old.sent sent before after
 counts_by old k count ms ys sent before after same are counts =
-    let P : KeyRow → Type 0 = λ x. AreCounts x.n old.counts count → Counts x count ms ys old.sent sent before after in
+    let P : KeyRow → Type 0 = λ x. AreCounts x.n old.counts count → CountsFrames x count ms ys old.sent sent before after in
     subst P same counts are
 
 -- the core took an entry, and the frames went out
-took_handles : {S E C : Type 0} (m : Meaning S E C KeyRow) (old new : Replica S E C) (core : Core S E C KeyRow) (what : What) (call : Call) (ms : List Msg) (before after : List OutFrame) (r : Rules) (k : KeyRow) (st : CoreState) →
+took_handles : {S E C : Type 0} (m : Meaning S E C KeyRow) (old new : Replica S E C) (core : Core S E C KeyRow) (what : What) (call : ReplicaCall) (ms : List Msg) (before after : List OutFrame) (r : Rules) (k : KeyRow) (st : CoreState) →
     StandsGoing m old r k st → ReplicaStands m old r k st → tagger_of core ≡ k → IsCall r k st call what → calls.Moves m old.core core what [] ms (Ok answers.Took) r st
-    → PutsOut (with_core old core) new ms before after → Feeds m (with_core old core) new → Handles (ReplicaStands m) new call before after (Ok answers.Took) r k st
+    → PutsOut (with_core old core) new ms before after → FeedsLog m (with_core old core) new → Handles (ReplicaStands m) new call before after (Ok answers.Took) r k st
 took_handles {S = S} {E = E} {C = C} m old new core what call ms before after r k st on stands keys call_is did puts feeds = elim (moved_view r st what) [
   | inl enters ↦
       let was = on.counted in
@@ -127,7 +127,7 @@ took_handles {S = S} {E = E} {C = C} m old new core what call ms before after r 
             let P : CoreState → Type 0 = λ x. ReplicaStands m new r k x in
             let Q : Core S E C KeyRow → Type 0 = λ x. CoreStands m x r (moved r st what).state in
             let R : List Entry → Type 0 = λ h. AreCounted r k h new.counts new.sent in
-            let M : List Msg → Type 0 = λ ms. Counts k (count_for r st.history) ms new.counts old.sent new.sent before after in
+            let M : List Msg → Type 0 = λ ms. CountsFrames k (count_for r st.history) ms new.counts old.sent new.sent before after in
             subst P (ap (λ h. h.state) (sym call_is.does)) (record {
               keys = ap tagger_of puts.core ∙ keys;
               own = stands.own;
@@ -151,9 +151,9 @@ revived_is st what live lost =
     ap (λ (b : Bool). record st { live = b; lost = None }) (sym live) ∙ ap (λ (o : Option Entry). record st { lost = o }) (sym lost)
 
 -- the core took an entry, and the replica is stopped for want of memory
-stops_runs_out : {S E C : Type 0} (m : Meaning S E C KeyRow) (old new : Replica S E C) (core : Core S E C KeyRow) (what : What) (call : Call) (ms : List Msg) (before after : List OutFrame) (r : Rules) (k : KeyRow) (st : CoreState) →
+stops_runs_out : {S E C : Type 0} (m : Meaning S E C KeyRow) (old new : Replica S E C) (core : Core S E C KeyRow) (what : What) (call : ReplicaCall) (ms : List Msg) (before after : List OutFrame) (r : Rules) (k : KeyRow) (st : CoreState) →
     StandsGoing m old r k st → ReplicaStands m old r k st → tagger_of core ≡ k → IsCall r k st call what → calls.Moves m old.core core what [] ms (Ok answers.Took) r st
-    → Stops m (with_core old core) new before after → RunsOut (ReplicaStands m) new call before after r k st
+    → ReplicaStops m (with_core old core) new before after → ReplicaRunsOut (ReplicaStands m) new call before after r k st
 stops_runs_out {S = S} {E = E} {C = C} m old new core what call ms before after r k st on stands keys call_is did stops = elim (moved_view r st what) [
   | inl enters ↦ record {
     out = stops.out;
@@ -174,8 +174,8 @@ stops_runs_out {S = S} {E = E} {C = C} m old new core what call ms before after 
               dead = refl;
               ahead = record {
                 what = what;
-                step = subst (λ (x : CoreState). IsStep r x what) same enters.step;
-                lost = ap (λ (x : CoreState). entry_of x what) same;
+                step = subst (λ (x : CoreState). IsCoreStep r x what) same enters.step;
+                lost = ap (λ (x : CoreState). entry_of_call x what) same;
                 stands = subst (λ (x : CoreState). CoreStands m new.core r (moved r x what).state) same (subst Q (sym stops.core) did.state);
               };
               sent = stops.sent ∙ on.counted.all;
@@ -190,9 +190,9 @@ stops_runs_out {S = S} {E = E} {C = C} m old new core what call ms before after 
 ]
 
 -- the core was without memory
-core_runs_out : {S E C : Type 0} (m : Meaning S E C KeyRow) (old new : Replica S E C) (core : Core S E C KeyRow) (what : What) (call : Call) (ms : List Msg) (before after : List OutFrame) (r : Rules) (k : KeyRow) (st : CoreState) →
+core_runs_out : {S E C : Type 0} (m : Meaning S E C KeyRow) (old new : Replica S E C) (core : Core S E C KeyRow) (what : What) (call : ReplicaCall) (ms : List Msg) (before after : List OutFrame) (r : Rules) (k : KeyRow) (st : CoreState) →
     StandsGoing m old r k st → ReplicaStands m old r k st → tagger_of core ≡ k → IsCall r k st call what → calls.RunsOut m core what [] ms r st
-    → Keeps (with_core old core) new before after → RunsOut (ReplicaStands m) new call before after r k st
+    → KeepsReplica (with_core old core) new before after → ReplicaRunsOut (ReplicaStands m) new call before after r k st
 core_runs_out {S = S} {E = E} {C = C} m old new core what call ms before after r k st on stands keys call_is did keeps = record {
   out = keeps.out;
   live = did.live;
@@ -211,29 +211,29 @@ core_runs_out {S = S} {E = E} {C = C} m old new core what call ms before after r
 }
 
 -- each call on a replica that isn't stopped
-pub passed_on : {S E C : Type 0} (m : Meaning S E C KeyRow) (old new : Replica S E C) (core : Core S E C KeyRow) (what : What) (call : Call) (ms : List Msg) (before after : List OutFrame) (r : Rules) (k : KeyRow) (st : CoreState) (answer : Result Answer CoreFault) (result : Result Answer Refusal) →
+pub passed_on : {S E C : Type 0} (m : Meaning S E C KeyRow) (old new : Replica S E C) (core : Core S E C KeyRow) (what : What) (call : ReplicaCall) (ms : List Msg) (before after : List OutFrame) (r : Rules) (k : KeyRow) (st : CoreState) (answer : Result Answer CoreFault) (result : Result Answer Refusal) →
     StandsGoing m old r k st → ReplicaStands m old r k st → tagger_of core ≡ k → IsCall r k st call what → calls.Does m old.core core what [] ms answer r st
-    → Finishes m (with_core old core) new answer ms before after result → Does (ReplicaStands m) new call before after result r k st
+    → ReplicaFinishes m (with_core old core) new answer ms before after result → ReplicaDoes (ReplicaStands m) new call before after result r k st
 passed_on m old new core what call ms before after r k st (Ok answers.Took) (Ok answer) on stands keys call_is did ends =
-    let P : Answer → Type 0 = λ x. Does (ReplicaStands m) new call before after (Ok x) r k st in
+    let P : Answer → Type 0 = λ x. ReplicaDoes (ReplicaStands m) new call before after (Ok x) r k st in
     subst P (sym ends.0) (took_handles m old new core what call ms before after r k st on stands keys call_is did ends.1 ends.2)
 passed_on m old new core what call ms before after r k st (Ok answers.Took) (Err fault) on stands keys call_is did ends =
-    let P : Refusal → Type 0 = λ x. Does (ReplicaStands m) new call before after (Err x) r k st in
+    let P : Refusal → Type 0 = λ x. ReplicaDoes (ReplicaStands m) new call before after (Err x) r k st in
     subst P (sym ends.0) (stops_runs_out m old new core what call ms before after r k st on stands keys call_is did ends.1)
 passed_on m old new core what call ms before after r k st (Err faults.Mem) result on stands keys call_is did ends =
-    let P : Result Answer Refusal → Type 0 = λ x. Does (ReplicaStands m) new call before after x r k st in
+    let P : Result Answer Refusal → Type 0 = λ x. ReplicaDoes (ReplicaStands m) new call before after x r k st in
     subst P (sym ends.0) (core_runs_out m old new core what call ms before after r k st on stands keys call_is did ends.1)
 passed_on m old new core what call ms before after r k st (Ok answer) result on stands keys call_is did ends =
-    let P : Result Answer Refusal → Type 0 = λ x. Does (ReplicaStands m) new call before after x r k st in
+    let P : Result Answer Refusal → Type 0 = λ x. ReplicaDoes (ReplicaStands m) new call before after x r k st in
     subst P (sym ends.0) (quiet_handles m old new core what call ms before after (Ok answer) r k st on stands keys call_is did (λ e. cc) ends.1)
 passed_on m old new core what call ms before after r k st (Err fault) result on stands keys call_is did ends =
-    let P : Result Answer Refusal → Type 0 = λ x. Does (ReplicaStands m) new call before after x r k st in
+    let P : Result Answer Refusal → Type 0 = λ x. ReplicaDoes (ReplicaStands m) new call before after x r k st in
     subst P (sym ends.0) (quiet_handles m old new core what call ms before after (Err fault) r k st on stands keys call_is did (λ e. cc) ends.1)
 
 -- each call on a replica that isn't stopped
-pub passes : {S E C : Type 0} (m : Meaning S E C KeyRow) (old new : Replica S E C) (core : Core S E C KeyRow) (what : What) (call : Call) (first ms : List Msg) (before after : List OutFrame) (answer : Result Answer CoreFault) (result : Result Answer Refusal) (r : Rules) (k : KeyRow) (st : CoreState) →
+pub passes : {S E C : Type 0} (m : Meaning S E C KeyRow) (old new : Replica S E C) (core : Core S E C KeyRow) (what : What) (call : ReplicaCall) (first ms : List Msg) (before after : List OutFrame) (answer : Result Answer CoreFault) (result : Result Answer Refusal) (r : Rules) (k : KeyRow) (st : CoreState) →
     ReplicaStands m old r k st → old.stopped ≡ false → IsCall r k st call what → MayGive r what → tagger_of core ≡ tagger_of old.core → first ≡ []
-    → calls.DoesAll m old.core core what first ms answer → Finishes m (with_core old core) new answer ms before after result → Does (ReplicaStands m) new call before after result r k st
+    → calls.DoesAll m old.core core what first ms answer → ReplicaFinishes m (with_core old core) new answer ms before after result → ReplicaDoes (ReplicaStands m) new call before after result r k st
 passes m old new core what call first ms before after answer result r k st stands going call_is may same none did ends =
     let on = going_of m old r k st stands going in
     let P : List Msg → Type 0 = λ x. calls.Does m old.core core what x ms answer r st in
@@ -250,7 +250,7 @@ moved_dead : (r : Rules) (st : CoreState) (what : What) → st.live ≡ false �
 moved_dead r st what dead = ap (λ b. if b then moved_live r st what else stays st st.inbox (Err faults.Stopped)) dead
 
 -- a call that is for the core of a replica that is stopped
-pub halted_handles : {S E C : Type 0} (m : Meaning S E C KeyRow) (rep : Replica S E C) (what : What) (call : Call) (before : List OutFrame) (r : Rules) (k : KeyRow) (st : CoreState) →
+pub halted_handles : {S E C : Type 0} (m : Meaning S E C KeyRow) (rep : Replica S E C) (what : What) (call : ReplicaCall) (before : List OutFrame) (r : Rules) (k : KeyRow) (st : CoreState) →
     ReplicaStands m rep r k st → rep.stopped ≡ true → IsCall r k st call what → Handles (ReplicaStands m) rep call before before (Err (refusals.Core faults.Stopped)) r k st
 halted_handles m rep what call before r k st stands halted call_is =
     let same : handled r k st call ≡ framed r k st (stays st st.inbox (Err faults.Stopped)) =

@@ -17,13 +17,13 @@ use Rattle.replica.specs.declared.refusal.Refusal.TheVariants as refusals
 use Rattle.replica.specs.Frames.{frames_of, count_for}
 
 -- what a replica is called with
-pub data Call : Type 0 where
+pub data ReplicaCall : Type 0 where
   -- bytes that came as a frame
-  Frame : List ℕ → Call
+  Frame : List ℕ → ReplicaCall
   -- an input
-  Input : List ℕ → Call
+  Input : List ℕ → ReplicaCall
   -- a turn takes the item at the front of the inbox
-  Turn : Call
+  Turn : ReplicaCall
 
 -- what a call does
 pub record Handled : Type 0 where
@@ -44,19 +44,19 @@ framed r k st did = record {
 }
 
 -- a refusal changes nothing
-abbrev pub refused : CoreState → Refusal → Handled
-refused st refusal = record { state = st; answer = Err refusal; out = [] }
+abbrev pub refusal_handled : CoreState → Refusal → Handled
+refusal_handled st refusal = record { state = st; answer = Err refusal; out = [] }
 
 abbrev pub given_body : Rules → KeyRow → CoreState → Result Item BodyFault → Handled
 given_body r k st (Ok item) = framed r k st (moved r st (core.Frame item))
-given_body r k st (Err fault) = refused st (refusals.Body fault)
+given_body r k st (Err fault) = refusal_handled st (refusals.Body fault)
 
 abbrev pub given_frame : Rules → KeyRow → CoreState → Result Opening OpenFault → Handled
 given_frame r k st (Ok o) = given_body r k st (body_answer r.casts.numbers r.mode o.from o.body)
-given_frame r k st (Err fault) = refused st (refusals.Open fault)
+given_frame r k st (Err fault) = refusal_handled st (refusals.Open fault)
 
 -- a frame is opened, its body read, and its item given to the core
-abbrev pub handled : Rules → KeyRow → CoreState → Call → Handled
+abbrev pub handled : Rules → KeyRow → CoreState → ReplicaCall → Handled
 handled r k st (Frame bytes) = given_frame r k st (opening k bytes)
 handled r k st (Input bytes) = framed r k st (moved r st (core.Input bytes))
 handled r k st Turn = framed r k st (moved r st core.Turn)

@@ -5,7 +5,7 @@ use Rattle.frame_codec.specs.declared.fault.BodyFault.TheVariants as body
 use Rattle.keyed_channel.specs.KeyRow.{KeyRow}
 use Rattle.keyed_channel.specs.Frames.{Opening, opening}
 use Rattle.keyed_channel.specs.declared.frame.OpenFault.{OpenFault}
-use Rattle.ooc_buffers.specs.Lists.{kept_of}
+use Rattle.ooc_buffers.specs.Lists.{held_of_peer}
 use Rattle.ritas_core.specs.declared.answer.Answer.{Answer}
 use Rattle.ritas_core.specs.declared.answer.Answer.TheVariants as answers
 use Rattle.ritas_core.specs.declared.fault.CoreFault.TheVariants as faults
@@ -14,7 +14,7 @@ use Rattle.ritas_core.specs.Machine.{CoreState}
 use Rattle.replica.specs.declared.frame.OutFrame.{OutFrame}
 use Rattle.replica.specs.declared.refusal.Refusal.{Refusal}
 use Rattle.replica.specs.declared.refusal.Refusal.TheVariants as refusals
-use Rattle.replica.specs.Handling.{Frame, Handled, handled, refused}
+use Rattle.replica.specs.Handling.{Frame, Handled, handled, refusal_handled}
 
 -- ---- what a frame does
 
@@ -22,7 +22,7 @@ use Rattle.replica.specs.Handling.{Frame, Handled, handled, refused}
 pub record AreAlike (peer : ℕ) (a b : CoreState) : Type 0 where
   pub live : a.live ≡ b.live
   pub history : a.history ≡ b.history
-  pub held : kept_of a.held peer ≡ kept_of b.held peer
+  pub held : held_of_peer a.held peer ≡ held_of_peer b.held peer
 
 -- to the sender of a frame that opens; one that doesn't open has no sender
 abbrev pub AreAlikeTo : KeyRow → List ℕ → CoreState → CoreState → Type 0
@@ -40,13 +40,13 @@ Isolates = (r : Rules) (k : KeyRow) (a b : CoreState) (bytes : List ℕ) → Are
 -- a frame that doesn't open changes nothing, and makes nothing
 abbrev pub UnopenedIsNothing : Type 0
 UnopenedIsNothing = (r : Rules) (k : KeyRow) (st : CoreState) (bytes : List ℕ) (fault : OpenFault) → opening k bytes ≡ Err fault
-    → handled r k st (Frame bytes) ≡ refused st (refusals.Open fault)
+    → handled r k st (Frame bytes) ≡ refusal_handled st (refusals.Open fault)
 
 -- what a peer's frame that isn't taken leaves: the history, what waits, and what is held for any other peer
 pub record IsConfined (peer : ℕ) (old new : CoreState) : Type 0 where
   pub history : new.history ≡ old.history
   pub inbox : new.inbox ≡ old.inbox
-  pub held : (j : ℕ) → j ≢ peer → kept_of new.held j ≡ kept_of old.held j
+  pub held : (j : ℕ) → j ≢ peer → held_of_peer new.held j ≡ held_of_peer old.held j
 
 abbrev pub Confines : Type 0
 Confines = (r : Rules) (k : KeyRow) (st : CoreState) (bytes : List ℕ) (o : Opening) → opening k bytes ≡ Ok o

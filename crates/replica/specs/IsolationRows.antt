@@ -13,7 +13,7 @@ use Rattle.frame_codec.specs.declared.fault.BodyFault.TheVariants as body
 use Rattle.keyed_channel.specs.KeyRow.{KeyRow}
 use Rattle.keyed_channel.specs.declared.frame.OpenFault.TheVariants.{BadTag}
 use Rattle.layer_api.specs.Service.{ServiceRules, Undecided}
-use Rattle.ooc_buffers.specs.Lists.{Kept, kept_of}
+use Rattle.ooc_buffers.specs.Lists.{HeldItem, held_of_peer}
 use Rattle.reliable_bcast.specs.Bracha.{bracha}
 use Rattle.ritas_core.specs.declared.answer.Answer.{Answer}
 use Rattle.ritas_core.specs.declared.answer.Answer.TheVariants as answers
@@ -25,7 +25,7 @@ use Rattle.ritas_core.specs.Machine.{CoreState}
 use Rattle.replica.specs.declared.frame.OutFrame.{OutFrame}
 use Rattle.replica.specs.declared.refusal.Refusal.{Refusal}
 use Rattle.replica.specs.declared.refusal.Refusal.TheVariants as refusals
-use Rattle.replica.specs.Handling.{Handled, given_body, refused}
+use Rattle.replica.specs.Handling.{Handled, given_body, refusal_handled}
 use Rattle.replica.specs.Isolation.{AreAlike, IsConfined, IsAs}
 
 -- ---- replica 0 of four, at a service that has opened no slot
@@ -82,7 +82,7 @@ alike = record { live = refl; history = refl; held = refl }
 
 -- it can where another length is held for it, where the history is another, and where one is stopped
 own_held : AreAlike 2 (holding 0 20) (holding 0 21) → ⊥
-own_held same = let wrong : 20 ≡ 21 = ap (λ (kept : List Kept). sum_by (λ k. k.len) kept) same.held in omega (arith, wrong)
+own_held same = let wrong : 20 ≡ 21 = ap (λ (kept : List HeldItem). sum_by (λ k. k.len) kept) same.held in omega (arith, wrong)
 
 own_history : AreAlike 2 (holding 0 20) (record (holding 0 20) { history = Given [] ∷ [] }) → ⊥
 own_history same = let wrong : [] ≡ Given [] ∷ [] = same.history in cc
@@ -116,7 +116,7 @@ with_own_most = refl
 sender_held : IsConfined 2 (holding 8 20) (holding 8 21)
 sender_held = record { history = refl; inbox = refl; held = others }
   where
-    others : (j : ℕ) → j ≢ 2 → kept_of (holding 8 21).held j ≡ kept_of (holding 8 20).held j
+    others : (j : ℕ) → j ≢ 2 → held_of_peer (holding 8 21).held j ≡ held_of_peer (holding 8 20).held j
     others zero apart = refl
     others (suc zero) apart = refl
     others (suc (suc zero)) apart = absurd (apart refl)
@@ -125,7 +125,7 @@ sender_held = record { history = refl; inbox = refl; held = others }
 other_held : IsConfined 2 (holding 8 20) (holding 9 20) → ⊥
 other_held left =
     let apart : 1 ≢ 2 = λ e. omega (arith, e) in
-    let wrong : 9 ≡ 8 = ap (λ (kept : List Kept). sum_by (λ k. k.len) kept) (left.held 1 apart) in
+    let wrong : 9 ≡ 8 = ap (λ (kept : List HeldItem). sum_by (λ k. k.len) kept) (left.held 1 apart) in
     omega (arith, wrong)
 
 waiting : IsConfined 2 (holding 8 20) (record (holding 8 20) { inbox = init 0 0 ∷ [] }) → ⊥
@@ -134,7 +134,7 @@ waiting left = let wrong : init 0 0 ∷ [] ≡ [] = left.inbox in cc
 -- ---- what a call did
 
 abbrev bad_tag : Handled
-bad_tag = refused (holding 0 20) (refusals.Open BadTag)
+bad_tag = refusal_handled (holding 0 20) (refusals.Open BadTag)
 
 abbrev frame : OutFrame
 frame = record { to = 1; bytes = 5 ∷ [] }

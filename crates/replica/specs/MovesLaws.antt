@@ -10,32 +10,32 @@ use Rattle.ritas_core.specs.Rules.{Rules}
 use Rattle.ritas_core.specs.Parts.{Entry, Took, Given, parts}
 use Rattle.ritas_core.specs.Order.{new_messages}
 use Rattle.ritas_core.specs.Checks.{verdict_on, input_check}
-use Rattle.ritas_core.specs.Machine.{CoreState, What, Frame, Input, Turn, Moved, moved, moved_live, stays, gives, given_input, turned}
-use Rattle.ritas_core.specs.Calls.{IsStep, TakesFront, entry_of, front_entry}
+use Rattle.ritas_core.specs.Machine.{CoreState, What, Frame, Input, Turn, Moved, moved, moved_live, stays, gives_item, given_input, turned}
+use Rattle.ritas_core.specs.Calls.{IsCoreStep, TakesFront, entry_of_call, front_entry}
 
 -- it took an entry
-pub record Enters (r : Rules) (st : CoreState) (what : What) (did : Moved) : Type 0 where
+pub record TookEntry (r : Rules) (st : CoreState) (what : What) (did : Moved) : Type 0 where
   pub answer : did.answer ≡ Ok answers.Took
   pub live : st.live ≡ true
-  pub step : IsStep r st what
+  pub step : IsCoreStep r st what
   pub entry : Entry
-  pub entered : entry_of st what ≡ Some entry
+  pub entered : entry_of_call st what ≡ Some entry
   pub going : did.state.live ≡ true
   pub history : did.state.history ≡ entry ∷ st.history
   pub out : did.out ≡ new_messages r st.history entry
 
 -- it put nothing out
-pub record IsQuiet (st : CoreState) (did : Moved) : Type 0 where
+pub record PutsNothingOut (st : CoreState) (did : Moved) : Type 0 where
   pub answer : did.answer ≡ Ok answers.Took → ⊥
   pub live : did.state.live ≡ true → st.live ≡ true
   pub history : did.state.history ≡ st.history
   pub out : did.out ≡ []
 
 abbrev pub View : Rules → CoreState → What → Moved → Type 0
-View r st what did = Enters r st what did ⊎ IsQuiet st did
+View r st what did = TookEntry r st what did ⊎ PutsNothingOut st did
 
-item_view : (r : Rules) (st : CoreState) (what : What) (item : Item) (waiting : List Item) (v : Verdict) → st.live ≡ true → entry_of st what ≡ Some (Took item)
-    → (v ≡ verdicts.Take → IsStep r st what) → View r st what (gives r st item waiting v)
+item_view : (r : Rules) (st : CoreState) (what : What) (item : Item) (waiting : List Item) (v : Verdict) → st.live ≡ true → entry_of_call st what ≡ Some (Took item)
+    → (v ≡ verdicts.Take → IsCoreStep r st what) → View r st what (gives_item r st item waiting v)
 item_view r st what item waiting (verdicts.Refuse fault) live entered step = inr (record { answer = λ e. cc; live = λ e. e; history = refl; out = refl })
 item_view r st what item waiting verdicts.Again live entered step = inr (record { answer = λ e. cc; live = λ e. e; history = refl; out = refl })
 item_view r st what item waiting verdicts.Hold live entered step = inr (record { answer = λ e. cc; live = λ e. live; history = refl; out = refl })
@@ -43,7 +43,7 @@ item_view r st what item waiting verdicts.Take live entered step =
     inl (record { answer = refl; live = live; step = step refl; entry = Took item; entered = entered; going = refl; history = refl; out = refl })
 
 input_view : (r : Rules) (st : CoreState) (value : List ℕ) (check : Option CoreFault) → st.live ≡ true
-    → (check ≡ None → IsStep r st (Input value)) → View r st (Input value) (given_input r st value check)
+    → (check ≡ None → IsCoreStep r st (Input value)) → View r st (Input value) (given_input r st value check)
 input_view r st value (Some fault) live step = inr (record { answer = λ e. cc; live = λ e. e; history = refl; out = refl })
 input_view r st value None live step =
     inl (record { answer = refl; live = live; step = step refl; entry = Given value; entered = refl; going = refl; history = refl; out = refl })

@@ -14,7 +14,7 @@ use Rattle.keyed_channel.specs.KeyRow.{KeyRow}
 use Rattle.ritas_core.specs.Rules.{Rules}
 use Rattle.ritas_core.specs.Parts.{Entry}
 use Rattle.ritas_core.specs.Machine.{CoreState, What, with_lost, moved}
-use Rattle.ritas_core.specs.Calls.{IsStep, entry_of}
+use Rattle.ritas_core.specs.Calls.{IsCoreStep, entry_of_call}
 use Rattle.ritas_core.specs.declared.kernel.Core.{Core}
 use Rattle.ritas_core.specs.Shown.{tagger_of}
 use Rattle.ritas_core.specs.Stands.{Meaning, meaning, CoreStands}
@@ -49,8 +49,8 @@ revived st = record st { live = true; lost = None }
 -- the core did what the replica lost: a call on it that took an entry
 pub record StandsAhead {S E C : Type 0} (m : Meaning S E C KeyRow) (core : Core S E C KeyRow) (r : Rules) (st : CoreState) : Type 0 where
   pub what : What
-  pub step : IsStep r (revived st) what
-  pub lost : st.lost ≡ entry_of (revived st) what
+  pub step : IsCoreStep r (revived st) what
+  pub lost : st.lost ≡ entry_of_call (revived st) what
   pub stands : CoreStands m core r (moved r (revived st) what).state
 
 -- it was without memory to feed its log or to seal a frame: it keeps its state and made no frame, its core is ahead of it, and its

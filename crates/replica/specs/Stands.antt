@@ -14,12 +14,12 @@ use Rattle.ritas_core.specs.Rules.{Rules}
 use Rattle.ritas_core.specs.Parts.{Entry}
 use Rattle.ritas_core.specs.Machine as core
 use Rattle.ritas_core.specs.Machine.{CoreState, What}
-use Rattle.ritas_core.specs.Calls.{IsStep, IsHolding, stopped}
+use Rattle.ritas_core.specs.Calls.{IsCoreStep, IsHolding, stopped}
 use Rattle.replica.specs.declared.frame.OutFrame.{OutFrame}
 use Rattle.replica.specs.declared.refusal.Refusal.{Refusal}
 use Rattle.replica.specs.declared.refusal.Refusal.TheVariants as refusals
 use Rattle.replica.specs.Frames.{count_for}
-use Rattle.replica.specs.Handling.{Call, Frame, Input, Turn, handled}
+use Rattle.replica.specs.Handling.{ReplicaCall, Frame, Input, Turn, handled}
 
 -- the replicas but this one
 abbrev pub peers : KeyRow → List ℕ
@@ -38,29 +38,29 @@ abbrev pub frame_given : Rules → Result Opening OpenFault → Option What
 frame_given r (Ok o) = body_given (body_answer r.casts.numbers r.mode o.from o.body)
 frame_given r (Err fault) = None
 
-abbrev pub core_call : Rules → KeyRow → Call → Option What
+abbrev pub core_call : Rules → KeyRow → ReplicaCall → Option What
 core_call r k (Frame bytes) = frame_given r (opening k bytes)
 core_call r k (Input bytes) = Some (core.Input bytes)
 core_call r k Turn = Some core.Turn
 
 -- in what follows, Stands is what a replica's value stands for
 -- the call answered, made and left what the abstract replica does
-pub record Handles {R : Type 0} (Stands : R → Rules → KeyRow → CoreState → Type 0) (new : R) (call : Call) (before after : List OutFrame) (result : Result Answer Refusal) (r : Rules) (k : KeyRow) (st : CoreState) : Type 0 where
+pub record Handles {R : Type 0} (Stands : R → Rules → KeyRow → CoreState → Type 0) (new : R) (call : ReplicaCall) (before after : List OutFrame) (result : Result Answer Refusal) (r : Rules) (k : KeyRow) (st : CoreState) : Type 0 where
   pub answer : result ≡ (handled r k st call).answer
   pub out : after ≡ before ++ (handled r k st call).out
   pub state : Stands new r k (handled r k st call).state
 
 -- For want of memory no frame goes out. It comes only where an item was to be held, which leaves all as before, or in a
 -- step, which stops the replica.
-pub record RunsOut {R : Type 0} (Stands : R → Rules → KeyRow → CoreState → Type 0) (new : R) (call : Call) (before after : List OutFrame) (r : Rules) (k : KeyRow) (st : CoreState) : Type 0 where
+pub record ReplicaRunsOut {R : Type 0} (Stands : R → Rules → KeyRow → CoreState → Type 0) (new : R) (call : ReplicaCall) (before after : List OutFrame) (r : Rules) (k : KeyRow) (st : CoreState) : Type 0 where
   pub out : after ≡ before
   pub live : st.live ≡ true
   pub what : What
   pub given : core_call r k call ≡ Some what
-  pub state : (IsHolding r st what × Stands new r k st) ⊎ (IsStep r st what × Stands new r k (stopped st what))
+  pub state : (IsHolding r st what × Stands new r k st) ⊎ (IsCoreStep r st what × Stands new r k (stopped st what))
 
 -- For want of memory to read a body nothing changed. It comes only where the frame opens, and its body spells an item.
-pub record ReadsNone {R : Type 0} (Stands : R → Rules → KeyRow → CoreState → Type 0) (new : R) (call : Call) (before after : List OutFrame) (r : Rules) (k : KeyRow) (st : CoreState) : Type 0 where
+pub record ReadsNone {R : Type 0} (Stands : R → Rules → KeyRow → CoreState → Type 0) (new : R) (call : ReplicaCall) (before after : List OutFrame) (r : Rules) (k : KeyRow) (st : CoreState) : Type 0 where
   pub out : after ≡ before
   pub state : Stands new r k st
   pub bytes : List ℕ
@@ -71,16 +71,16 @@ pub record ReadsNone {R : Type 0} (Stands : R → Rules → KeyRow → CoreState
   pub spells : body_answer r.casts.numbers r.mode opened.from opened.body ≡ Ok item
 
 -- each outcome of a call
-abbrev pub Does : {R : Type 0} → (R → Rules → KeyRow → CoreState → Type 0) → R → Call → List OutFrame → List OutFrame → Result Answer Refusal → Rules → KeyRow → CoreState → Type 0
-Does Stands new call before after (Err (refusals.Core faults.Mem)) r k st = RunsOut Stands new call before after r k st
-Does Stands new call before after (Err (refusals.Body body.Mem)) r k st = ReadsNone Stands new call before after r k st
-Does Stands new call before after result r k st = Handles Stands new call before after result r k st
+abbrev pub ReplicaDoes : {R : Type 0} → (R → Rules → KeyRow → CoreState → Type 0) → R → ReplicaCall → List OutFrame → List OutFrame → Result Answer Refusal → Rules → KeyRow → CoreState → Type 0
+ReplicaDoes Stands new call before after (Err (refusals.Core faults.Mem)) r k st = ReplicaRunsOut Stands new call before after r k st
+ReplicaDoes Stands new call before after (Err (refusals.Body body.Mem)) r k st = ReadsNone Stands new call before after r k st
+ReplicaDoes Stands new call before after result r k st = Handles Stands new call before after result r k st
 
 -- whatever state the replica stands for
-abbrev pub DoesAll : {R : Type 0} → (R → Rules → KeyRow → CoreState → Type 0) → R → R → Call → List OutFrame → List OutFrame → Result Answer Refusal → Type 0
-DoesAll Stands old new call before after result = (r : Rules) (k : KeyRow) (st : CoreState) → Stands old r k st → Does Stands new call before after result r k st
+abbrev pub ReplicaDoesAll : {R : Type 0} → (R → Rules → KeyRow → CoreState → Type 0) → R → R → ReplicaCall → List OutFrame → List OutFrame → Result Answer Refusal → Type 0
+ReplicaDoesAll Stands old new call before after result = (r : Rules) (k : KeyRow) (st : CoreState) → Stands old r k st → ReplicaDoes Stands new call before after result r k st
 
 -- the same of each frame that opens as from this sender with this body, whatever its number
 abbrev pub DoesOpened : {R : Type 0} → (R → Rules → KeyRow → CoreState → Type 0) → R → R → ℕ → List ℕ → List OutFrame → List OutFrame → Result Answer Refusal → Type 0
 DoesOpened Stands old new from body before after result = (r : Rules) (k : KeyRow) (st : CoreState) → Stands old r k st → (bytes : List ℕ) (seq : ℕ)
-    → opening k bytes ≡ Ok (record { from = from; seq = seq; body = body }) → Does Stands new (Frame bytes) before after result r k st
+    → opening k bytes ≡ Ok (record { from = from; seq = seq; body = body }) → ReplicaDoes Stands new (Frame bytes) before after result r k st

@@ -28,36 +28,36 @@ use Rattle.replica.specs.CommandRows.{Follows, LiesBetween}
 -- ---- reading
 
 -- the frame opens, and its body was given this answer
-pub record IsRead (r : Rules) (k : KeyRow) (bytes : List ℕ) (answer : Result Item BodyFault) : Type 0 where
+pub record IsFrameRead (r : Rules) (k : KeyRow) (bytes : List ℕ) (answer : Result Item BodyFault) : Type 0 where
   pub opened : Opening
   pub opens : opening k bytes ≡ Ok opened
   pub body : body_answer r.casts.numbers r.mode opened.from opened.body ≡ answer
 
 pub record FindsItem (r : Rules) (k : KeyRow) (bytes : List ℕ) (item : Item) : Type 0 where
-  pub read : IsRead r k bytes (Ok item)
+  pub read : IsFrameRead r k bytes (Ok item)
   pub good : IsGood r item
 
 -- each outcome of reading a frame
-abbrev pub Reads : Rules → KeyRow → List ℕ → Result Item Refusal → Type 0
-Reads r k bytes (Ok item) = FindsItem r k bytes item
-Reads r k bytes (Err (refusals.Open fault)) = opening k bytes ≡ Err fault
-Reads r k bytes (Err (refusals.Body body.Mem)) = (item : Item) × IsRead r k bytes (Ok item)
-Reads r k bytes (Err (refusals.Body fault)) = IsRead r k bytes (Err fault)
-Reads r k bytes (Err (refusals.Core fault)) = ⊥
+abbrev pub ReadsFrame : Rules → KeyRow → List ℕ → Result Item Refusal → Type 0
+ReadsFrame r k bytes (Ok item) = FindsItem r k bytes item
+ReadsFrame r k bytes (Err (refusals.Open fault)) = opening k bytes ≡ Err fault
+ReadsFrame r k bytes (Err (refusals.Body body.Mem)) = (item : Item) × IsFrameRead r k bytes (Ok item)
+ReadsFrame r k bytes (Err (refusals.Body fault)) = IsFrameRead r k bytes (Err fault)
+ReadsFrame r k bytes (Err (refusals.Core fault)) = ⊥
 
 -- the same of each frame that opens as from this sender with this body
 abbrev pub ReadsOpened : Rules → KeyRow → ℕ → List ℕ → Result Item Refusal → Type 0
-ReadsOpened r k from body result = (bytes : List ℕ) (seq : ℕ) → opening k bytes ≡ Ok (record { from = from; seq = seq; body = body }) → Reads r k bytes result
+ReadsOpened r k from body result = (bytes : List ℕ) (seq : ℕ) → opening k bytes ≡ Ok (record { from = from; seq = seq; body = body }) → ReadsFrame r k bytes result
 
 -- ---- passing on what the core answered and put out
 
 -- nothing changed
-pub record Keeps {S E C : Type 0} (old new : Replica S E C) (before after : List OutFrame) : Type 0 where
+pub record KeepsReplica {S E C : Type 0} (old new : Replica S E C) (before after : List OutFrame) : Type 0 where
   pub same : new ≡ old
   pub out : after ≡ before
 
 -- the frames of these messages, of which there were as many as count says
-pub record Counts (k : KeyRow) (count : ℕ → ℕ) (ms : List Msg) (xs : List ℕ) (sent_before sent : ℕ) (before after : List OutFrame) : Type 0 where
+pub record CountsFrames (k : KeyRow) (count : ℕ → ℕ) (ms : List Msg) (xs : List ℕ) (sent_before sent : ℕ) (before after : List OutFrame) : Type 0 where
   pub frames : after ≡ before ++ frames_of k count ms
   pub each : AreCounts k.n xs (counts_with count ms)
   pub all : sent ≡ (sent_before + length (frames_of k count ms)) % 2 ^ 64
@@ -66,7 +66,7 @@ pub record Counts (k : KeyRow) (count : ℕ → ℕ) (ms : List Msg) (xs : List 
 pub record PutsOut {S E C : Type 0} (old new : Replica S E C) (ms : List Msg) (before after : List OutFrame) : Type 0 where
   pub core : new.core ≡ old.core
   pub halted : new.stopped ≡ old.stopped
-  pub counts : (count : ℕ → ℕ) → AreCounts (tagger_of old.core).n old.counts count → Counts (tagger_of old.core) count ms new.counts old.sent new.sent before after
+  pub counts : (count : ℕ → ℕ) → AreCounts (tagger_of old.core).n old.counts count → CountsFrames (tagger_of old.core) count ms new.counts old.sent new.sent before after
 
 -- nothing but the log changed, and how many identifiers were entered
 abbrev pub FeedsOnly : {S E C : Type 0} → Replica S E C → Replica S E C → Type 0
@@ -78,13 +78,13 @@ FeedsSome m old new = (r : Rules) (st : CoreState) (e : Entry) (h : List Entry) 
     → Follows r h old.log old.fed → LiesBetween r h (e ∷ h) new.log.rows
 
 -- and it follows
-pub record Feeds {S E C : Type 0} (m : Meaning S E C KeyRow) (old new : Replica S E C) : Type 0 where
+pub record FeedsLog {S E C : Type 0} (m : Meaning S E C KeyRow) (old new : Replica S E C) : Type 0 where
   pub follows : (r : Rules) (st : CoreState) (e : Entry) (h : List Entry) → CoreStands m old.core r st → st.live ≡ true → st.history ≡ e ∷ h
       → Follows r h old.log old.fed → Follows r (e ∷ h) new.log new.fed
   pub some : FeedsSome m old new
 
 -- for want of memory none went out, and the replica is stopped
-pub record Stops {S E C : Type 0} (m : Meaning S E C KeyRow) (old new : Replica S E C) (before after : List OutFrame) : Type 0 where
+pub record ReplicaStops {S E C : Type 0} (m : Meaning S E C KeyRow) (old new : Replica S E C) (before after : List OutFrame) : Type 0 where
   pub core : new.core ≡ old.core
   pub halted : new.stopped ≡ true
   pub sent : new.sent ≡ old.sent
@@ -92,11 +92,11 @@ pub record Stops {S E C : Type 0} (m : Meaning S E C KeyRow) (old new : Replica 
   pub some : FeedsSome m old new
 
 -- each outcome
-abbrev pub Finishes : {S E C : Type 0} → Meaning S E C KeyRow → Replica S E C → Replica S E C → Result Answer CoreFault → List Msg → List OutFrame → List OutFrame → Result Answer Refusal → Type 0
-Finishes m old new (Ok answers.Took) ms before after (Ok answer) = (answer ≡ answers.Took) × PutsOut old new ms before after × Feeds m old new
-Finishes m old new (Ok answers.Took) ms before after (Err fault) = (fault ≡ refusals.Core faults.Mem) × Stops m old new before after
-Finishes m old new (Ok answer) ms before after result = (result ≡ Ok answer) × Keeps old new before after
-Finishes m old new (Err fault) ms before after result = (result ≡ Err (refusals.Core fault)) × Keeps old new before after
+abbrev pub ReplicaFinishes : {S E C : Type 0} → Meaning S E C KeyRow → Replica S E C → Replica S E C → Result Answer CoreFault → List Msg → List OutFrame → List OutFrame → Result Answer Refusal → Type 0
+ReplicaFinishes m old new (Ok answers.Took) ms before after (Ok answer) = (answer ≡ answers.Took) × PutsOut old new ms before after × FeedsLog m old new
+ReplicaFinishes m old new (Ok answers.Took) ms before after (Err fault) = (fault ≡ refusals.Core faults.Mem) × ReplicaStops m old new before after
+ReplicaFinishes m old new (Ok answer) ms before after result = (result ≡ Ok answer) × KeepsReplica old new before after
+ReplicaFinishes m old new (Err fault) ms before after result = (result ≡ Err (refusals.Core fault)) × KeepsReplica old new before after
 
 -- the core is as before, and whether the replica is stopped
 pub record SameCore {S E C : Type 0} (old new : Replica S E C) : Type 0 where

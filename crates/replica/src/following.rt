@@ -7,7 +7,7 @@ ghost use Rattle.ritas_core.specs.Rules.{Rules};
 ghost use Rattle.ritas_core.specs.Machine.{CoreState};
 ghost use Rattle.ritas_core.specs.Stands.{CoreStands};
 ghost use Rattle.ritas_base.specs.declared.id.Id.{Id};
-ghost use Rattle.command_log.specs.Rows.{Entry, entry_of, entries_of, command_rows};
+ghost use Rattle.command_log.specs.Rows.{CommandEntry, entry_of_id, entries_of_log, command_rows};
 ghost use Rattle.command_log.specs.Standing.{StandsFor};
 ghost use Rattle.replica.specs.Replica.{with_keys};
 ghost use Rattle.replica.specs.CommandRows.{command_of, HasCommand};
@@ -29,7 +29,7 @@ fn follow_one<S: Service, E: Broadcast, C: Coin + Drop>(
     ensures ok { let m = with_keys S.stands S.rules S.shown E.stands E.rules E.shown C.bits in
         OnOk result ((r : Rules) (st : CoreState) → CoreStands m core.now r st → st.live ≡ true
         → HasCommand r st.history id → length log.old.rows < 4294967295
-        → (es : List Entry) → StandsFor log.old es → StandsFor log.new (entry_of (command_of r st.history) id ∷ es)) }
+        → (es : List CommandEntry) → StandsFor log.old es → StandsFor log.new (entry_of_id (command_of r st.history) id ∷ es)) }
     ensures err { OnErr result (log.new.rows ≡ log.old.rows) }
     ensures f { log.new.f ≡ log.old.f }
 {
@@ -62,12 +62,12 @@ pub(crate) fn follow<S: Service, E: Broadcast, C: Coin + Drop>(
     ensures ok { let m = with_keys S.stands S.rules S.shown E.stands E.rules E.shown C.bits in
         OnOk result ((r : Rules) (st : CoreState) → CoreStands m core.now r st → st.live ≡ true
         → AllByRecursion (HasCommand r st.history) ids.now → (xs : List Id) → length xs + length ids.now < 4294967295
-        → StandsFor log.old (entries_of (command_of r st.history) xs)
-        → StandsFor log.new (entries_of (command_of r st.history) (reverse ids.now ++ xs))) }
+        → StandsFor log.old (entries_of_log (command_of r st.history) xs)
+        → StandsFor log.new (entries_of_log (command_of r st.history) (reverse ids.now ++ xs))) }
     ensures err { let m = with_keys S.stands S.rules S.shown E.stands E.rules E.shown C.bits in
         OnErr result ((r : Rules) (st : CoreState) → CoreStands m core.now r st → st.live ≡ true
         → AllByRecursion (HasCommand r st.history) ids.now → (xs : List Id) → length xs + length ids.now < 4294967295
-        → StandsFor log.old (entries_of (command_of r st.history) xs)
+        → StandsFor log.old (entries_of_log (command_of r st.history) xs)
         → IsPart (command_rows log.old.f (command_of r st.history) xs) log.new.rows
         × IsPart log.new.rows (command_rows log.old.f (command_of r st.history) (reverse ids.now ++ xs))) }
     ensures f { log.new.f ≡ log.old.f }

@@ -35,12 +35,12 @@ impl<S: Service, E: Broadcast, C: Coin + Drop> Replica<S, E, C> {
     ghost use Rattle.ritas_core.specs.Machine.{CoreState, first_state, with_lost};
     ghost use Rattle.ritas_core.specs.Stands.{CoreStands};
     ghost use Rattle.replica.specs.Handling.{Frame, Input, Turn};
-    ghost use Rattle.replica.specs.Stands.{DoesAll, DoesOpened, frames_made};
+    ghost use Rattle.replica.specs.Stands.{ReplicaDoesAll, DoesOpened, frames_made};
     ghost use Rattle.replica.specs.Replica.{ReplicaStands, StandsAhead, with_keys};
     ghost use Rattle.replica.specs.Isolation.{IsIsolated, IsOpenedIsolated};
-    ghost use Rattle.replica.specs.Steps.{ReadsOpened, PutsOut, SameRest, SameCore, FeedsOnly, FeedsSome, Feeds, Finishes};
+    ghost use Rattle.replica.specs.Steps.{ReadsOpened, PutsOut, SameRest, SameCore, FeedsOnly, FeedsSome, FeedsLog, ReplicaFinishes};
     ghost use Rattle.layer_api.specs.Service.{IsPart};
-    ghost use Rattle.replica.specs.CommandRows.{rows_at};
+    ghost use Rattle.replica.specs.CommandRows.{history_rows};
 
     /// The replica that has these keys, before any call. The one error is want of memory.
     ///
@@ -84,7 +84,7 @@ impl<S: Service, E: Broadcast, C: Coin + Drop> Replica<S, E, C> {
 
     // Gives the log what the service appended to its identifiers.
     fn feed(&mut self, alloc: Global) -> Result<(), Mem>
-        ensures ok { OnOk result (Feeds (with_keys S.stands S.rules S.shown E.stands E.rules E.shown C.bits) self.old self.new) }
+        ensures ok { OnOk result (FeedsLog (with_keys S.stands S.rules S.shown E.stands E.rules E.shown C.bits) self.old self.new) }
         ensures err { OnErr result (FeedsSome (with_keys S.stands S.rules S.shown E.stands E.rules E.shown C.bits) self.old self.new) }
         ensures only { FeedsOnly self.old self.new }
     {
@@ -102,7 +102,7 @@ impl<S: Service, E: Broadcast, C: Coin + Drop> Replica<S, E, C> {
     // Feeds the log, and seals these messages.
     fn pass_on(&mut self, alloc: Global, msgs: Vec<Msg>, out: &mut Vec<OutFrame>) -> Result<(), Mem>
         ensures ok { OnOk result (PutsOut self.old self.new msgs.items out.old.items out.new.items
-            × Feeds (with_keys S.stands S.rules S.shown E.stands E.rules E.shown C.bits) self.old self.new) }
+            × FeedsLog (with_keys S.stands S.rules S.shown E.stands E.rules E.shown C.bits) self.old self.new) }
         ensures err { OnErr result ((out.new.items ≡ out.old.items) × (self.new.sent ≡ self.old.sent)
             × FeedsSome (with_keys S.stands S.rules S.shown E.stands E.rules E.shown C.bits) self.old self.new) }
         ensures same { SameCore self.old self.new }
@@ -119,7 +119,7 @@ impl<S: Service, E: Broadcast, C: Coin + Drop> Replica<S, E, C> {
         msgs: Vec<Msg>,
         out: &mut Vec<OutFrame>,
     ) -> Result<Answer, Refusal>
-        ensures { Finishes (with_keys S.stands S.rules S.shown E.stands E.rules E.shown C.bits)
+        ensures { ReplicaFinishes (with_keys S.stands S.rules S.shown E.stands E.rules E.shown C.bits)
             self.old self.new answer msgs.items out.old.items out.new.items result }
     {
         match answer {
@@ -166,7 +166,7 @@ impl<S: Service, E: Broadcast, C: Coin + Drop> Replica<S, E, C> {
         bytes: &[u8],
         out: &mut Vec<OutFrame>,
     ) -> Result<Answer, Refusal>
-        ensures does { DoesAll (ReplicaStands (with_keys S.stands S.rules S.shown E.stands E.rules E.shown C.bits))
+        ensures does { ReplicaDoesAll (ReplicaStands (with_keys S.stands S.rules S.shown E.stands E.rules E.shown C.bits))
             self.old self.new (Frame bytes.now) out.old.items out.new.items result }
         ensures isolated { IsIsolated (ReplicaStands (with_keys S.stands S.rules S.shown E.stands E.rules E.shown C.bits))
             self.old bytes.now out.old.items out.new.items result }
@@ -216,7 +216,7 @@ impl<S: Service, E: Broadcast, C: Coin + Drop> Replica<S, E, C> {
         bytes: &[u8],
         out: &mut Vec<OutFrame>,
     ) -> Result<Answer, Refusal>
-        ensures { DoesAll (ReplicaStands (with_keys S.stands S.rules S.shown E.stands E.rules E.shown C.bits))
+        ensures { ReplicaDoesAll (ReplicaStands (with_keys S.stands S.rules S.shown E.stands E.rules E.shown C.bits))
             self.old self.new (Input bytes.now) out.old.items out.new.items result }
     {
         if self.stopped {
@@ -233,7 +233,7 @@ impl<S: Service, E: Broadcast, C: Coin + Drop> Replica<S, E, C> {
     /// The one error is `Core`, which leaves `out` as it was, and the replica but that the item has left the inbox.
     /// `Core(Mem)` leaves all as it was where the item was to be held; where it was to be taken, the replica is stopped.
     pub fn on_turn(&mut self, alloc: Global, out: &mut Vec<OutFrame>) -> Result<Answer, Refusal>
-        ensures { DoesAll (ReplicaStands (with_keys S.stands S.rules S.shown E.stands E.rules E.shown C.bits))
+        ensures { ReplicaDoesAll (ReplicaStands (with_keys S.stands S.rules S.shown E.stands E.rules E.shown C.bits))
             self.old self.new Turn out.old.items out.new.items result }
     {
         if self.stopped {
@@ -291,10 +291,10 @@ impl<S: Service, E: Broadcast, C: Coin + Drop> Replica<S, E, C> {
     pub fn log(&self) -> &Log
         ensures live { (r : Rules) (k : KeyRow) (st : CoreState)
             → ReplicaStands (with_keys S.stands S.rules S.shown E.stands E.rules E.shown C.bits) self.now r k st
-            → st.live ≡ true → result.now.rows ≡ rows_at r st.history }
+            → st.live ≡ true → result.now.rows ≡ history_rows r st.history }
         ensures near { (r : Rules) (k : KeyRow) (st : CoreState)
             → ReplicaStands (with_keys S.stands S.rules S.shown E.stands E.rules E.shown C.bits) self.now r k st
-            → IsPart (rows_at r st.history) result.now.rows × IsPart result.now.rows (rows_at r (with_lost st)) }
+            → IsPart (history_rows r st.history) result.now.rows × IsPart result.now.rows (history_rows r (with_lost st)) }
     {
         history_laws();
         &self.log

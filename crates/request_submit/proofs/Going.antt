@@ -13,8 +13,8 @@ use Rattle.outside.specs.FaultsLaws.{rose_after}
 use Rattle.client_port.specs.Votes.{Wanted, Ballots, VotesStand}
 use Rattle.request_submit.specs.declared.end.SubmitEnd.{SubmitEnd}
 use Rattle.request_submit.specs.declared.end.SubmitEnd.TheVariants as ends
-use Rattle.request_submit.specs.Submitting.{handed_in, calls_of, settles, HasCause, EndsSo, Submits}
-use Rattle.request_submit.specs.Waiting.{IsEndOf, Waits}
+use Rattle.request_submit.specs.Submitting.{handed_in, reply_calls, settles, HasSubmitCause, SubmittingEndsSo, Submits}
+use Rattle.request_submit.specs.Waiting.{IsSubmitEndOf, Waits}
 
 same_failed : {a b : FaultCounts} → a ≡ b → a.failed ≡ b.failed
 same_failed e = ap (λ (n : FaultCounts). n.failed) e
@@ -22,12 +22,12 @@ same_failed e = ap (λ (n : FaultCounts). n.failed) e
 -- ---- a fault is an end
 
 fault_so : (w : Wanted) (acts : List LinkAct) (tells : Bool) (old new : List LinkAct) (before after : FaultCounts) (fault : LinkFault) (end : SubmitEnd)
-    → IsEndOf fault end → (tells ≡ true → TookBack old new acts) → (fault ≡ faults.Failed → Rose before.failed after.failed) → (taken : List LinkItem)
-    → EndsSo w taken acts tells old new before after end
+    → IsSubmitEndOf fault end → (tells ≡ true → TookBack old new acts) → (fault ≡ faults.Failed → Rose before.failed after.failed) → (taken : List LinkItem)
+    → SubmittingEndsSo w taken acts tells old new before after end
 fault_so w acts tells old new before after faults.Failed end is part cause taken = rw is (cause refl, part)
 fault_so w acts tells old new before after faults.Mem end is part cause taken = rw is part
 
-cause_so : (A : Type 0) (before after : FaultCounts) (fault : LinkFault) (end : SubmitEnd) → IsEndOf fault end → after ≡ faults_after {A = A} before (Err fault) → HasCause before after end
+cause_so : (A : Type 0) (before after : FaultCounts) (fault : LinkFault) (end : SubmitEnd) → IsSubmitEndOf fault end → after ≡ faults_after {A = A} before (Err fault) → HasSubmitCause before after end
 cause_so A before after faults.Failed end is counts = rw is counts
 cause_so A before after faults.Mem end is counts = rw is (inr counts)
 
@@ -44,7 +44,7 @@ not_prepared w nodes payload tells old before = record {
 
 -- the request wasn't handed in
 pub not_handed_in : (w : Wanted) (nodes : List (List ℕ)) (payload : List ℕ) (tells : Bool) (old new : List LinkAct) (before after : FaultCounts) (fault : LinkFault) (end : SubmitEnd)
-    → LinkDid tells (handed_in w nodes payload) old new before after (Err fault) → IsEndOf fault end → Submits w nodes payload tells old new before after end
+    → LinkDid tells (handed_in w nodes payload) old new before after (Err fault) → IsSubmitEndOf fault end → Submits w nodes payload tells old new before after end
 not_handed_in w nodes payload tells old new before after fault end did is = record {
   items = [];
   on = tt;
@@ -68,7 +68,7 @@ waits_first w nodes payload tells old new before after votes did stands = record
 
 -- it failed
 pub next_fails : (w : Wanted) (nodes : List (List ℕ)) (payload : List ℕ) (tells : Bool) (base old new : List LinkAct) (x y z : FaultCounts) (votes : Ballots) (fault : LinkFault) (end : SubmitEnd)
-    → Waits w nodes payload tells base old x y votes → (tells ≡ true → new ≡ old) → y.failed ≤ z.failed → (fault ≡ faults.Failed → Rose y.failed z.failed) → z ≡ faults_after {A = LinkItem} y (Err fault) → IsEndOf fault end
+    → Waits w nodes payload tells base old x y votes → (tells ≡ true → new ≡ old) → y.failed ≤ z.failed → (fault ≡ faults.Failed → Rose y.failed z.failed) → z ≡ faults_after {A = LinkItem} y (Err fault) → IsSubmitEndOf fault end
     → Submits w nodes payload tells base new x z end
 next_fails w nodes payload tells base old new x y z votes fault end waits same later cause counts is = record {
   items = waits.items;
@@ -110,7 +110,7 @@ item_settles w nodes payload tells base old new x y z votes item position waits 
 -- it settles none
 pub item_passes : (w : Wanted) (nodes : List (List ℕ)) (payload : List ℕ) (tells : Bool) (base old new : List LinkAct) (x y z : FaultCounts) (votes now : Ballots) (item : LinkItem)
     → (waits : Waits w nodes payload tells base old x y votes) → (tells ≡ true → new ≡ Gives item ∷ old) → z ≡ y → None ≡ settles w waits.items item
-    → (item ≡ items.End → ⊥) → VotesStand w (calls_of (item ∷ waits.items)) now
+    → (item ≡ items.End → ⊥) → VotesStand w (reply_calls (item ∷ waits.items)) now
     → Waits w nodes payload tells base new x z now
 item_passes w nodes payload tells base old new x y z votes now item waits told same quiet more stands = record {
   items = item ∷ waits.items;

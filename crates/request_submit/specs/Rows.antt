@@ -9,8 +9,8 @@ use Rattle.outside.specs.Links.{Starts, Sends}
 use Rattle.outside.specs.declared.link.LinkItem.{LinkItem}
 use Rattle.outside.specs.declared.link.LinkItem.TheVariants as items
 use Rattle.outside.specs.declared.link.LinkPlan.TheVariants as plans
-use Rattle.client_port.specs.Messages.{number_at, position_reply, refusal_reply}
-use Rattle.client_port.specs.Votes.{Wanted, fault_of, answer_of}
+use Rattle.client_port.specs.Messages.{four_bytes_at, position_reply, refusal_reply}
+use Rattle.client_port.specs.Votes.{Wanted, reply_fault_of, answer_of}
 use Rattle.request_submit.specs.Submitting.{handed_in, settles, GoesOn, Submits}
 
 abbrev wanted : Wanted
@@ -42,29 +42,29 @@ gives k position = items.Reply k (position_reply 7 1 position)
 
 -- with the first reply alone it goes on
 first_alone : GoesOn wanted (gives 0 5 ∷ [])
-unfolding answer_of fault_of number_at
+unfolding answer_of reply_fault_of four_bytes_at
 first_alone = (record { more = λ e. cc; quiet = refl }, tt)
 
 second_settles : settles wanted (gives 0 5 ∷ []) (gives 2 5) ≡ Some 5
-unfolding answer_of fault_of number_at
+unfolding answer_of reply_fault_of four_bytes_at
 second_settles = refl
 
 other_position : settles wanted (gives 0 5 ∷ []) (gives 2 6) ≡ None
-unfolding answer_of fault_of number_at
+unfolding answer_of reply_fault_of four_bytes_at
 other_position = refl
 
 -- a node's second reply is refused, and so is a refusal
 same_node : settles wanted (gives 0 5 ∷ []) (gives 0 5) ≡ None
-unfolding answer_of fault_of number_at
+unfolding answer_of reply_fault_of four_bytes_at
 same_node = refl
 
 refusal : settles wanted (gives 0 5 ∷ []) (items.Reply 2 (refusal_reply 7 1 5)) ≡ None
-unfolding answer_of fault_of number_at
+unfolding answer_of reply_fault_of four_bytes_at
 refusal = refl
 
 -- other items between two replies change nothing
 others_between : settles wanted (items.Down 0 2 ∷ items.Frame 0 (codes "x") ∷ gives 0 5 ∷ []) (gives 2 5) ≡ Some 5
-unfolding answer_of fault_of number_at
+unfolding answer_of reply_fault_of four_bytes_at
 others_between = refl
 
 other_item : settles wanted (gives 0 5 ∷ []) (items.Client 2 0 (position_reply 7 1 5)) ≡ None
@@ -83,7 +83,7 @@ no_faults = record { failed = 0; short = 0 }
 
 -- node 0 replied it, node 3 another one, and node 2 settled it
 ended : Submits wanted nodes (codes "hi") false [] [] no_faults no_faults (Position 5)
-unfolding answer_of fault_of number_at
+unfolding answer_of reply_fault_of four_bytes_at
 ended = record {
   items = gives 3 9 ∷ gives 0 5 ∷ [];
   on = (record { more = λ e. cc; quiet = refl }, (record { more = λ e. cc; quiet = refl }, tt));
@@ -94,6 +94,6 @@ ended = record {
 
 -- the law asks for n - f correct nodes, which are three of the four here; what the faulty one replied is free
 three_are_enough : OneOfLogs → IsLogged wanted is_correct log 5
-unfolding answer_of fault_of number_at ended
+unfolding answer_of reply_fault_of four_bytes_at ended
 three_are_enough law = law wanted nodes (codes "hi") false [] [] no_faults no_faults 5 is_correct log (lit≤ tt) ended
     ((λ position correct is. is), ((λ position correct is. absurd cc), ((λ position correct is. is), tt)))

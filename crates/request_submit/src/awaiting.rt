@@ -4,8 +4,8 @@ ghost use Rattle.outside.specs.Links.{LinkAct};
 ghost use Rattle.outside.specs.declared.link.FaultCounts.{FaultCounts};
 ghost use Rattle.outside.specs.declared.link.LinkItem.{LinkItem};
 ghost use Rattle.client_port.specs.Votes.{Wanted, VotesStand};
-ghost use Rattle.request_submit.specs.Submitting.{calls_of, settles, Submits};
-ghost use Rattle.request_submit.specs.Waiting.{Waits, Goes};
+ghost use Rattle.request_submit.specs.Submitting.{reply_calls, settles, Submits};
+ghost use Rattle.request_submit.specs.Waiting.{Waits, WaitsOrEnds};
 
 use crate::end::{SubmitEnd, end_of};
 use client_port::Votes;
@@ -16,8 +16,8 @@ use std::sync::Wait;
 
 // Counts an item, where it is a reply, and answers the position that it settles.
 fn count(votes: &mut Votes, item: &LinkItem) -> Option<u32>
-    ensures settled { (w : Wanted) (items : List LinkItem) → VotesStand w (calls_of items) votes.old → result ≡ settles w items item.now }
-    ensures stands { (w : Wanted) (items : List LinkItem) → VotesStand w (calls_of items) votes.old → VotesStand w (calls_of (item.now ∷ items)) votes.new }
+    ensures settled { (w : Wanted) (items : List LinkItem) → VotesStand w (reply_calls items) votes.old → result ≡ settles w items item.now }
+    ensures stands { (w : Wanted) (items : List LinkItem) → VotesStand w (reply_calls items) votes.old → VotesStand w (reply_calls (item.now ∷ items)) votes.new }
 {
     match item {
         LinkItem::Reply { from, bytes } => match votes.reply(*from, bytes.as_slice()) {
@@ -42,7 +42,7 @@ fn take<R: Net + Wait, L: Link>(
 ) -> Result<(), SubmitEnd>
     ensures { (w : Wanted) (nodes : List (List ℕ)) (payload : List ℕ) (base : List LinkAct) (before : FaultCounts)
         → Waits w nodes payload L.tells base (L.told link.old) before (L.faults link.old) votes.old
-        → Goes w nodes payload L.tells base (L.told link.new) before (L.faults link.new) votes.new result }
+        → WaitsOrEnds w nodes payload L.tells base (L.told link.new) before (L.faults link.new) votes.new result }
 {
     let item = match link.next(rt, alloc) {
         Ok(item) => item,

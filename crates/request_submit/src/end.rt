@@ -1,6 +1,6 @@
 //! How handing in a request ends.
 
-ghost use Rattle.request_submit.specs.Waiting.{IsEndOf};
+ghost use Rattle.request_submit.specs.Waiting.{IsSubmitEndOf};
 
 use outside::LinkFault;
 
@@ -19,7 +19,7 @@ pub enum SubmitEnd {
 
 // The end that a fault of the link is.
 pub(crate) fn end_of(fault: LinkFault) -> SubmitEnd
-    ensures { IsEndOf fault result }
+    ensures { IsSubmitEndOf fault result }
 {
     match fault {
         LinkFault::Failed => SubmitEnd::LinkFault,

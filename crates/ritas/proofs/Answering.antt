@@ -24,7 +24,7 @@ use Rattle.cluster_config.specs.Submit.{submit_column}
 use Rattle.key_rows.specs.KeyRows.{key_rows}
 use Rattle.node_loop.specs.Outs.{Outs, Tells}
 use Rattle.node_session.specs.Lives.{DiskSeen}
-use Rattle.ritas.specs.Configs.{AnswersBoth, Idle, Unserved, AnswersSubmit, Unasked, Asked, AnswersConfig, AnswersJob, FitsConfig, IsIdle, RefusesConfig, RefusesText}
+use Rattle.ritas.specs.Configs.{AnswersBoth, Idle, Unserved, RunsSubmit, Unasked, Asked, AnswersConfig, AnswersJob, FitsConfig, IsIdle, RefusesConfig, RefusesText}
 use Rattle.ritas.specs.Drives.{AnswersPlan}
 use Rattle.ritas.specs.Run.{Replies, is_linked}
 use Rattle.request_submit.specs.declared.end.SubmitEnd.{SubmitEnd}
@@ -223,6 +223,6 @@ module _ {K : Type 0} (tells : Tells) (taken : K → List ℕ) (old new : K) (ba
   pub of_payload : (config : SubmitConfig) (end : SubmitEnd) (payload : List ℕ) (untouched : Type 0) → payload ≡ config.request.payload
       → Submits (record { numbers = config.p; client = config.request.client; request = config.request.request }) config.peers payload
       tells.link base.told now.told base.link_faults now.link_faults end
-      → Replies tells.tape taken old new status (submit_status end) (submit_text end) → AnswersSubmit config tells taken old new base now untouched status
+      → Replies tells.tape taken old new status (submit_status end) (submit_text end) → RunsSubmit config tells taken old new base now untouched status
   of_payload config end payload untouched same submits replies =
       Asked end (subst (λ (p : List ℕ). Submits (record { numbers = config.p; client = config.request.client; request = config.request.request }) config.peers p tells.link base.told now.told base.link_faults now.link_faults end) same submits) replies

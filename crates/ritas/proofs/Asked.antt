@@ -9,7 +9,7 @@ use Rattle.schedule_file.specs.declared.fault.FileFault.TheVariants as faults
 use Rattle.schedule_file.specs.ReadHeader.{Heading, heading}
 use Rattle.schedule_file.specs.declared.header.Header.{Header}
 use Rattle.schedule_replay.specs.Replay.{has_text, asked_of}
-use Rattle.ritas.specs.Run.{IsOwn, AnswersFile}
+use Rattle.ritas.specs.Run.{IsOwnStatus, AnswersFile}
 
 abbrev Read : Type 0
 Read = Result (Heading × List Event) FileFault
@@ -25,7 +25,7 @@ asked_there what h es file is there = ap (asked_of what) is ∙ ap (by_root (hea
 pub asked_none : (what : What) (h : Header) (es : List Event) (file : Read) → file ≡ Ok (heading h, es) → has_text what h.mode.root ≡ false → asked_of what file ≡ Err (faults.Header 15)
 asked_none what h es file is none = ap (asked_of what) is ∙ ap (by_root (heading h, es)) none
 
-pub own_low : (status : ℕ) → status ≤ 1 → IsOwn status
+pub own_low : (status : ℕ) → status ≤ 1 → IsOwnStatus status
 own_low status low = (λ e. omega (arith, e, low), λ e. omega (arith, e, low), λ e. omega (arith, e, low))
 
 -- where it ends with 0 or 1, there is one

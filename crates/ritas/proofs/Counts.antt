@@ -3,13 +3,13 @@ use Rattle.std.proofs.Common.{◌≡◌, ◌≢◌, ◌+◌, ◌<◌, ◌≤◌,
 use Rattle.std.specs.Prelude.{◌⊎◌, ◌↔◌, Bool, Result}
 use Rattle.outside.specs.Faults.{count_after}
 use Rattle.outside.specs.Links.{failed_once, short_once}
-use Rattle.outside.specs.Wholes.{faults_after}
+use Rattle.outside.specs.Wholes.{read_faults_after}
 use Rattle.outside.specs.declared.link.FaultCounts.{FaultCounts}
 use Rattle.outside.specs.declared.whole.ReadFault.{ReadFault}
 use Rattle.outside.specs.declared.whole.ReadFault.TheVariants as read_faults
 use Rattle.request_submit.specs.declared.end.SubmitEnd.{SubmitEnd}
 use Rattle.request_submit.specs.declared.end.SubmitEnd.TheVariants as submit_ends
-use Rattle.request_submit.specs.Submitting.{HasCause}
+use Rattle.request_submit.specs.Submitting.{HasSubmitCause}
 use Rattle.schedule_replay.specs.Replay.{CountsIf}
 use Rattle.ritas.specs.Run.{LinkCounts}
 use Rattle.ritas.specs.Configs.{RefusesText, TakesText}
@@ -45,7 +45,7 @@ link_short x y status eight (inr more) = record {
 }
 
 -- those of a request that was handed in
-pub submit_counts : (x y : FaultCounts) (status : ℕ) (end : SubmitEnd) → (status ≡ 6) ↔ (end ≡ submit_ends.LinkFault) → (end ≡ submit_ends.Mem → status ≡ 8) → HasCause x y end
+pub submit_counts : (x y : FaultCounts) (status : ℕ) (end : SubmitEnd) → (status ≡ 6) ↔ (end ≡ submit_ends.LinkFault) → (end ≡ submit_ends.Mem → status ≡ 8) → HasSubmitCause x y end
     → LinkCounts x y status
 submit_counts x y status (submit_ends.Position position) six eight cause = link_stood x y status (λ e. let same = six.0 e in cc) cause
 submit_counts x y status submit_ends.NoPosition six eight cause = link_stood x y status (λ e. let same = six.0 e in cc) cause
@@ -55,7 +55,7 @@ submit_counts x y status submit_ends.Mem six eight cause = link_short x y status
 -- ---- an input that has a text
 
 -- the text wasn't read whole
-pub text_counts : (x y status : ℕ) (fault : ReadFault) → (status ≡ 4) ↔ (fault ≡ read_faults.Failed) → y ≡ faults_after {A = Unit {0}} x (Err fault) → CountsIf x y (status ≡ 4)
+pub text_counts : (x y status : ℕ) (fault : ReadFault) → (status ≡ 4) ↔ (fault ≡ read_faults.Failed) → y ≡ read_faults_after {A = Unit {0}} x (Err fault) → CountsIf x y (status ≡ 4)
 text_counts x y status read_faults.TooLong four is = none_failed x y (λ e. let same = four.0 e in cc) is
 text_counts x y status read_faults.Failed four is = one_failed x y (four.1 refl) is
 text_counts x y status read_faults.Mem four is = none_failed x y (λ e. let same = four.0 e in cc) is

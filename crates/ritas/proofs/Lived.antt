@@ -25,8 +25,8 @@ use Rattle.node_loop.specs.Serving.{Serving, Want, after_from, deeds_from, so_fa
 use Rattle.node_session.specs.Configs.{node_header, node_session}
 use Rattle.node_session.specs.Lives.{DiskBreaks, DiskKeeps, DiskSeen, IsFaultOf, LifeEnds, LifeKept, ServesLife, ServesNode, Unopened, head_in}
 use Rattle.node_session.specs.Session.{ServesSession}
-use Rattle.ritas.specs.Configs.{AnswersBoth, AnswersNode, Idle, Refused, Lived, Served, Unserved, AnswersSession, HasLived, HasServed, IsIdle, RefusesJournal}
-use Rattle.ritas.specs.Run.{IsOwn, LinkCounts, Replies, Runs}
+use Rattle.ritas.specs.Configs.{AnswersBoth, RunsNode, Idle, Refused, Lived, Served, Unserved, AnswersSession, HasLived, HasServed, IsIdle, RefusesJournal}
+use Rattle.ritas.specs.Run.{IsOwnStatus, LinkCounts, Replies, Runs}
 use Rattle.ritas.specs.Statuses.{end_status, journal_status, journal_text}
 use Rattle.ritas.proofs.Counts.{none_failed, link_stood}
 use Rattle.ritas.proofs.Served.{low, no_four, no_two, tape_counts, link_counts, session_runs}
@@ -169,7 +169,7 @@ module _ {K : Type 0} (config : NodeConfig) (tells : Tells) (taken : K → List 
 
   no_own : (own : ℕ) (text : List ℕ) → Replies tells.tape taken old new status own text → own ≢ 0 → ⊥
   no_own own text replies other =
-      let is_own : IsOwn status = (λ e. omega (arith, e, zero), λ e. omega (arith, e, zero), λ e. omega (arith, e, zero)) in
+      let is_own : IsOwnStatus status = (λ e. omega (arith, e, zero), λ e. omega (arith, e, zero), λ e. omega (arith, e, zero)) in
       other (sym (replies.answer is_own) ∙ zero)
 
   no_fault : (fault : JournalFault) → RefusesJournal tells.tape taken old new status fault → ⊥
@@ -235,7 +235,7 @@ module _ {K : Type 0} (config : NodeConfig) (tells : Tells) (taken : K → List 
       by_end ends.DiskFault e life = absurd (omega (arith, e))
       by_end (ends.JournalFull x) e life = absurd (omega (arith, e))
 
-  has_lived_so : AnswersNode config tells taken old new base now d still undisked status → HasLived config tells base now d
+  has_lived_so : RunsNode config tells taken old new base now d still undisked status → HasLived config tells base now d
   has_lived_so (Idle idle same link disk) = absurd (no_idle idle)
   has_lived_so (Refused fault unopened refuses link) = absurd (no_fault fault refuses)
   has_lived_so (Lived end is serves) = lived end (sym is ∙ zero) serves

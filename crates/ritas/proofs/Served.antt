@@ -11,7 +11,7 @@ use Rattle.node_loop.specs.declared.end.ServeEnd.{ServeEnd}
 use Rattle.node_loop.specs.declared.end.ServeEnd.TheVariants as ends
 use Rattle.node_loop.specs.Outs.{Outs, Tells}
 use Rattle.node_loop.specs.Deeds.{Came}
-use Rattle.node_loop.specs.Serving.{Serving, Want, after, deeds_of}
+use Rattle.node_loop.specs.Serving.{Serving, Want, serving_after, deeds_of}
 use Rattle.node_session.specs.declared.session.Session.{Session}
 use Rattle.node_session.specs.Session.{SessionEnds, ServesSession}
 use Rattle.ritas.specs.Configs.{AnswersSession, Unserved, Served, HasServed, IsIdle}
@@ -107,7 +107,7 @@ has_served session first tells base now untouched status (Served end is serves) 
     by_end ends.End e run = record {
       events = _;
       deeds = Came items.End ∷ deeds_of (setting_of session.header) [] first (run.group ++ run.older);
-      acts = Gives items.End ∷ (after (setting_of session.header) [] first (run.group ++ run.older)).acts;
+      acts = Gives items.End ∷ (serving_after (setting_of session.header) [] first (run.group ++ run.older)).acts;
       took = run.so.1;
       true_of = record {
         file = run.true_of.file;

@@ -3,7 +3,7 @@ use Rattle.std.specs.Prelude.{◌≡◌, ◌≢◌, ◌⊎◌, ◌≤◌, ◌<�
 use Rattle.outside.specs.declared.whole.ReadFault.{ReadFault}
 use Rattle.outside.specs.declared.whole.ReadFault.TheVariants as read_faults
 use Rattle.outside.specs.declared.link.LinkItem.{LinkItem}
-use Rattle.outside.specs.Disks.{state_of}
+use Rattle.outside.specs.Disks.{disk_state_of}
 use Rattle.outside.specs.Links.{LinkAct}
 use Rattle.ritas_base.specs.declared.event.Event.{Event}
 use Rattle.ritas_base.specs.declared.plan.Plan.{Plan}
@@ -91,26 +91,26 @@ RefusesJournal tells taken old new status fault = Replies tells taken old new st
 
 -- A node with a journal was served, and the status is that of its end. Or its journal couldn't be opened, which is answered, and the link isn't
 -- touched. Or, where the input failed or memory ran out, nothing was done.
-pub data AnswersNode {K : Type 0} (config : NodeConfig) (tells : Tells) (taken : K → List ℕ) (old new : K) (base now : Outs) (d : DiskSeen) (still undisked : Type 0)
+pub data RunsNode {K : Type 0} (config : NodeConfig) (tells : Tells) (taken : K → List ℕ) (old new : K) (base now : Outs) (d : DiskSeen) (still undisked : Type 0)
     (status : ℕ) : Type 0 where
-  Idle : IsIdle status → new ≡ old → still → undisked → AnswersNode config tells taken old new base now d still undisked status
+  Idle : IsIdle status → new ≡ old → still → undisked → RunsNode config tells taken old new base now d still undisked status
   Refused : (fault : JournalFault) → Unopened config d fault → RefusesJournal tells.tape taken old new status fault → still
-      → AnswersNode config tells taken old new base now d still undisked status
-  Lived : (end : ServeEnd) → status ≡ end_status end → ServesNode config tells base now d end → AnswersNode config tells taken old new base now d still undisked status
+      → RunsNode config tells taken old new base now d still undisked status
+  Lived : (end : ServeEnd) → status ≡ end_status end → ServesNode config tells base now d end → RunsNode config tells taken old new base now d still undisked status
 
 -- with a journal or without one
 abbrev pub AnswersBoth : {K : Type 0} → NodeConfig → Tells → (K → List ℕ) → K → K → Outs → Outs → DiskSeen → Type 0 → Type 0 → ℕ → Bool → Type 0
-AnswersBoth config tells taken old new base now d still undisked status true = AnswersNode config tells taken old new base now d still undisked status
+AnswersBoth config tells taken old new base now d still undisked status true = RunsNode config tells taken old new base now d still undisked status
 AnswersBoth config tells taken old new base now d still undisked status false =
     AnswersSession (node_session config) [] tells base now ((new ≡ old) × still) status × undisked
 
 -- A request was handed in to the nodes, and the line of its end was written. Or nothing was done.
-pub data AnswersSubmit {K : Type 0} (config : SubmitConfig) (tells : Tells) (taken : K → List ℕ) (old new : K) (base now : Outs) (untouched : Type 0) (status : ℕ) : Type 0 where
-  Unasked : IsIdle status → untouched → AnswersSubmit config tells taken old new base now untouched status
+pub data RunsSubmit {K : Type 0} (config : SubmitConfig) (tells : Tells) (taken : K → List ℕ) (old new : K) (base now : Outs) (untouched : Type 0) (status : ℕ) : Type 0 where
+  Unasked : IsIdle status → untouched → RunsSubmit config tells taken old new base now untouched status
   Asked : (end : SubmitEnd)
       → Submits (record { numbers = config.p; client = config.request.client; request = config.request.request }) config.peers config.request.payload
       tells.link base.told now.told base.link_faults now.link_faults end
-      → Replies tells.tape taken old new status (submit_status end) (submit_text end) → AnswersSubmit config tells taken old new base now untouched status
+      → Replies tells.tape taken old new status (submit_status end) (submit_text end) → RunsSubmit config tells taken old new base now untouched status
 
 -- where the status of a session is 0, these events were served, and these calls of the link made, for these reasons, after the earlier ones of
 -- lives before
@@ -126,7 +126,7 @@ pub record HasServed (session : Session) (earlier : List Deed) (tells : Tells) (
 pub record HasLived (config : NodeConfig) (tells : Tells) (base now : Outs) (d : DiskSeen) : Type 0 where
   pub past : List Event
   pub later : List Event
-  pub opened : d.tells ≡ true → OpensAs config.me (head_in config) (state_of d.before).seen past
+  pub opened : d.tells ≡ true → OpensAs config.me (head_in config) (disk_state_of d.before).seen past
   pub served : HasServed (node_session config) (recalled_deeds (setting_of (node_header config)) past) tells base now
   pub all : served.events ≡ later ++ past
   pub kept : DiskKeeps config.me (head_in config) past d (kept_of (setting_of (node_header config)) past later)
@@ -156,7 +156,7 @@ module _ {K : Type 0} (tells : Tells) (taken : K → List ℕ) (old new : K) (ba
   AnswersConfig job (configs.Keys keys) = Replies tells.tape taken old new status 0 (key_rows keys.master keys.session keys.p.n) × still
   AnswersConfig job (configs.Node node) = AnswersBoth node tells taken old new base now d still undisked status node.journal
   AnswersConfig job (configs.Cluster cluster) = AnswersSession (cluster_session cluster) (map first_item cluster.requests) tells base now ((new ≡ old) × still) status
-  AnswersConfig job (configs.Submit submit) = AnswersSubmit submit tells taken old new base now ((new ≡ old) × still) status
+  AnswersConfig job (configs.Submit submit) = RunsSubmit submit tells taken old new base now ((new ≡ old) × still) status
 
   -- a text of these lines is answered by what comes of the configuration that it says
   abbrev pub AnswersLines : {X C : Type 0} → Column X → (C → X) → (C → Config) → List ℕ → Job → Type 0

@@ -41,8 +41,8 @@ abbrev pub IsStatus : ℕ → Type 0
 IsStatus status = status ≤ 9
 
 -- the input didn't fail, nor the output, and memory didn't run out
-abbrev pub IsOwn : ℕ → Type 0
-IsOwn status = (status ≢ 4) × (status ≢ 5) × (status ≢ 8)
+abbrev pub IsOwnStatus : ℕ → Type 0
+IsOwnStatus status = (status ≢ 4) × (status ≢ 5) × (status ≢ 8)
 
 -- The counts of a link before and after a call that ended with this status: one call of it failed just at 6, at most one was without memory,
 -- and that only at 8.
@@ -79,8 +79,8 @@ pub record Replays {S K : Type 0} (input_faults : S → ℕ) (before after : S) 
 -- The call answered its own status and wrote the whole text. Or something failed or memory ran out, and the output took a front
 -- of the text.
 pub record Replies {K : Type 0} (tells : Bool) (taken : K → List ℕ) (old new : K) (status own : ℕ) (reply : List ℕ) : Type 0 where
-  pub answer : IsOwn status → status ≡ own
-  pub whole : tells ≡ true → IsOwn status → taken new ≡ taken old ++ reply
+  pub answer : IsOwnStatus status → status ≡ own
+  pub whole : tells ≡ true → IsOwnStatus status → taken new ≡ taken old ++ reply
   pub front : tells ≡ true → TookFront (taken old) (taken new) reply
 
 -- A file is answered by what is asked for of its world, or by the line of its first fault, where one of which there is no such text has that

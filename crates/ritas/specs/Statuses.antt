@@ -32,17 +32,17 @@ status_of h es = audit_status (audit_of (setting_of h) es)
 abbrev pub usage : List ℕ
 usage = codes "usage: ritas replay report|frames|vectors, drive report|schedule, keys, node, cluster, submit" ++ end_of_line
 
-abbrev pub placed : List ℕ → ℕ → List ℕ
-placed name place = codes "input " ++ (name ++ (codes " at " ++ (decimal place ++ end_of_line)))
+abbrev pub input_line : List ℕ → ℕ → List ℕ
+input_line name place = codes "input " ++ (name ++ (codes " at " ++ (decimal place ++ end_of_line)))
 
 -- the line of a file's fault. A fault of the source or of memory has none
 abbrev pub fault_text : FileFault → List ℕ
-fault_text faults.Magic = placed (codes "magic") 0
-fault_text faults.Version = placed (codes "version") 4
-fault_text (faults.Header p) = placed (codes "header") p
-fault_text (faults.Event p) = placed (codes "event") p
-fault_text (faults.Truncated p) = placed (codes "truncated") p
-fault_text (faults.Trailing p) = placed (codes "trailing") p
+fault_text faults.Magic = input_line (codes "magic") 0
+fault_text faults.Version = input_line (codes "version") 4
+fault_text (faults.Header p) = input_line (codes "header") p
+fault_text (faults.Event p) = input_line (codes "event") p
+fault_text (faults.Truncated p) = input_line (codes "truncated") p
+fault_text (faults.Trailing p) = input_line (codes "trailing") p
 fault_text faults.TooLong = codes "limit 67108864" ++ end_of_line
 fault_text faults.Read = []
 fault_text faults.Mem = []
@@ -93,8 +93,8 @@ journal_status journal_faults.Disk = 9
 journal_status journal_faults.Mem = 8
 
 abbrev pub journal_text : JournalFault → List ℕ
-journal_text (journal_faults.Foreign p) = placed (codes "journal") p
-journal_text (journal_faults.Broken p) = placed (codes "journal") p
+journal_text (journal_faults.Foreign p) = input_line (codes "journal") p
+journal_text (journal_faults.Broken p) = input_line (codes "journal") p
 journal_text (journal_faults.Full x) = limit_text 67108864
 journal_text journal_faults.Disk = []
 journal_text journal_faults.Mem = []

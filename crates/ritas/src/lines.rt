@@ -1,6 +1,6 @@
 //! The statuses of the program, and the lines that it writes where there is no text of a world.
 ghost use Rattle.std.specs.Prelude.{◌≡◌, ◌++◌, IfOk, string_bytes, codes};
-ghost use Rattle.ritas.specs.Statuses.{placed, fault_text, fault_status, audit_status, limit_text, line_text, submit_text, submit_status, end_status};
+ghost use Rattle.ritas.specs.Statuses.{input_line, fault_text, fault_status, audit_status, limit_text, line_text, submit_text, submit_status, end_status};
 
 use schedule_file::FileFault;
 use std::alloc::{AllocError, Global};
@@ -45,14 +45,14 @@ pub(crate) fn fault_status(fault: FileFault) -> u8
 }
 
 fn placed(alloc: Global, name: &str, place: u32) -> Result<String, AllocError>
-    ensures { IfOk result (λ s. string_bytes s ≡ placed name.now place) }
+    ensures { IfOk result (λ s. string_bytes s ≡ input_line name.now place) }
 {
     format!(in alloc; "input {name} at {place}\n")
 }
 
 /// The line that names the place of a journal's fault.
 pub(crate) fn journal_text(alloc: Global, place: u32) -> Result<String, AllocError>
-    ensures { IfOk result (λ s. string_bytes s ≡ placed (codes "journal") place) }
+    ensures { IfOk result (λ s. string_bytes s ≡ input_line (codes "journal") place) }
 {
     placed(alloc, "journal", place)
 }

@@ -2,7 +2,7 @@
 ghost use Rattle.std.specs.Prelude.{◌≡◌, ◌≢◌, ◌↔◌, codes};
 ghost use Rattle.ritas.specs.Run.{Ends, Replies};
 ghost use Rattle.ritas.specs.Configs.{RefusesConfig, RefusesJournal, RefusesText};
-ghost use Rattle.ritas.specs.Statuses.{limit_text, line_text, placed};
+ghost use Rattle.ritas.specs.Statuses.{limit_text, line_text, input_line};
 
 use crate::lines::{journal_text, limit_text, line_text};
 use crate::run::finish;
@@ -55,7 +55,7 @@ pub(crate) fn refuse_config<K: Sink>(alloc: Global, output: &mut K, fault: Confi
 // Writes the line that names the place of a journal's fault.
 fn refuse_place<K: Sink>(alloc: Global, output: &mut K, place: u32) -> u8
     ensures ends { Ends K.faults output.old output.new result }
-    ensures replies { Replies K.tells K.taken output.old output.new result 3 (placed (codes "journal") place) }
+    ensures replies { Replies K.tells K.taken output.old output.new result 3 (input_line (codes "journal") place) }
     ensures others { (result ≢ 0) × (result ≢ 2) × (result ≢ 4) × (result ≢ 6) × (result ≢ 9) }
 {
     match journal_text(alloc, place) {

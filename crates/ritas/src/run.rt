@@ -6,7 +6,7 @@ ghost use Rattle.schedule_file.specs.declared.fault.FileFault.TheVariants.{Read}
 ghost use Rattle.schedule_file.specs.declared.header.Header.{Header};
 ghost use Rattle.schedule_file.specs.FileBytes.{is_outside};
 ghost use Rattle.schedule_file.specs.ReadHeader.{heading};
-ghost use Rattle.schedule_file.specs.Reading.{IsBytes};
+ghost use Rattle.ritas_base.specs.Bytes.{IsBytes};
 ghost use Rattle.schedule_file.specs.Schedule.{file_of};
 ghost use Rattle.schedule_file.specs.Spelling.{IsFile};
 ghost use Rattle.world_model.specs.Agree.{Agree};
@@ -27,12 +27,12 @@ ghost use Rattle.cluster_config.specs.Cluster.{cluster_column, cluster_text};
 ghost use Rattle.cluster_config.specs.Node.{node_column, node_text};
 ghost use Rattle.node_loop.specs.Outs.{outs_of};
 ghost use Rattle.node_session.specs.Configs.{node_session, cluster_session};
-ghost use Rattle.ritas.specs.Run.{Asks, IsReplay, is_linked, IsStatus, IsOwn, LinkCounts, LeavesLink, Ends, Replays, Runs, Replies, AnswersFile, WroteVectors};
+ghost use Rattle.ritas.specs.Run.{Asks, IsReplay, is_linked, IsStatus, IsOwnStatus, LinkCounts, LeavesLink, Ends, Replays, Runs, Replies, AnswersFile, WroteVectors};
 ghost use Rattle.outside.specs.Faults.{HasCause};
 ghost use Rattle.node_session.specs.Lives.{disk_seen};
 ghost use Rattle.ritas.specs.Configs.{AnswersJob, HasLived, HasServed, TakesText};
 ghost use Rattle.ritas.specs.Drives.{AnswersPlan};
-ghost use Rattle.ritas.specs.Statuses.{usage, text_limit, status_of, placed, fault_text, fault_status};
+ghost use Rattle.ritas.specs.Statuses.{usage, text_limit, status_of, input_line, fault_text, fault_status};
 
 use crate::configs::do_read;
 use crate::lines::{audit_status, fault_status, fault_text};
@@ -51,7 +51,7 @@ const USAGE: &[u8] =
 /// Writes a text and gives a status, or 5 where the output failed.
 pub(crate) fn finish<K: Sink>(output: &mut K, text: &[u8], status: u8) -> u8
     requires listed { IsStatus status }
-    requires own { IsOwn status }
+    requires own { IsOwnStatus status }
     ensures ends { Ends K.faults output.old output.new result }
     ensures replies { Replies K.tells K.taken output.old output.new result status text.now }
     ensures either { (result ≡ status) ⊎ (result ≡ 5) }
@@ -253,7 +253,7 @@ pub fn run<R: Net + Wait, S: Source, K: Sink, L: Link, D: Disk>(
         → Replies K.tells K.taken output.old output.new result (status_of h es) (text what h es) }
     ensures without { (what : What) → Asks (map string_bytes words.now.items) what → S.tells ≡ true → (h : Header) (es : List Event)
         → IsFile (S.left input.old) (heading h) es → has_text what h.mode.root ≡ false
-        → Replies K.tells K.taken output.old output.new result 3 (placed (codes "header") 15) }
+        → Replies K.tells K.taken output.old output.new result 3 (input_line (codes "header") 15) }
     ensures only { (what : What) → Asks (map string_bytes words.now.items) what → S.tells ≡ true → IsBytes (S.left input.old) → result ≤ 1
         → (h : Header) × (es : List Event) × IsFile (S.left input.old) (heading h) es × (has_text what h.mode.root ≡ true)
         × (result ≡ status_of h es) }

@@ -1,5 +1,7 @@
 pub mod Numbers
 pub mod Limits
+pub mod Bytes
+pub mod Places
 pub mod Members
 pub mod MemberLaws
 pub mod Slots

@@ -7,7 +7,8 @@ use Rattle.ritas_base.specs.declared.slot.Slot.{Slot}
 use Rattle.ritas_base.specs.declared.slot.SlotFault.{SlotFault}
 use Rattle.ritas_base.specs.declared.mode.Mode.{Mode}
 use Rattle.ritas_base.specs.Numbers.{Numbers}
-use Rattle.ritas_base.specs.Slots.{within, has_class, has_number, has_attempt, has_count, first_failed, slot_tests, slot_fault, command_slot}
+use Rattle.ritas_base.specs.Places.{first_failed}
+use Rattle.ritas_base.specs.Slots.{within, has_class, has_number, has_attempt, has_count, slot_tests, slot_fault, command_slot}
 
 -- where each test passes there is no fault
 pub slot_is_right : (p : Numbers) (mode : Mode) (s : Slot) → within 1 5 s.class ≡ true → has_class mode.root s.class ≡ true → has_number mode.root s.a ≡ true

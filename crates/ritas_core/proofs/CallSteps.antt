@@ -13,7 +13,7 @@ use Rattle.ritas_core.specs.declared.kernel.Core.{Core}
 use Rattle.ritas_core.specs.Rules.{Rules}
 use Rattle.ritas_core.specs.Parts.{Entry, Took, parts}
 use Rattle.ritas_core.specs.Checks.{verdict_on, IsGood, IsTakable}
-use Rattle.ritas_core.specs.Machine.{CoreState, What, Frame, Moved, with_entry, stays, enters, gives, moved_live, moved}
+use Rattle.ritas_core.specs.Machine.{CoreState, What, Frame, Moved, with_entry, stays, enters, gives_item, moved_live, moved}
 use Rattle.ritas_core.specs.Stands.{Meaning, LayersStand, LayersShow, CoreStands}
 use Rattle.ritas_core.specs.LayerCalls.{CanTakeItem, RepeatsOne}
 use Rattle.ritas_core.specs.Calls.{Moves, Does}
@@ -39,8 +39,8 @@ pub moved_when_live : (r : Rules) (st : CoreState) (what : What) → st.live ≡
 moved_when_live r st what live = ap (λ (b : Bool). cond b (moved_live r st what) (stays st st.inbox (Err faults.Stopped))) live
 
 pub frame_moves : (r : Rules) (st : CoreState) (item : Item) (v : Verdict) → st.live ≡ true → verdict_on r (parts r st.history) st.held item ≡ v →
-    moved r st (Frame item) ≡ gives r st item st.inbox v
-frame_moves r st item v live is = moved_when_live r st (Frame item) live ∙ ap (λ (u : Verdict). gives r st item st.inbox u) is
+    moved r st (Frame item) ≡ gives_item r st item st.inbox v
+frame_moves r st item v live is = moved_when_live r st (Frame item) live ∙ ap (λ (u : Verdict). gives_item r st item st.inbox u) is
 
 module _ {S E C T : Type 0} (m : Meaning S E C T) where
   pub moves_by : (old new : Core S E C T) (what : What) (before after_it : List Msg) (result : Result Answer CoreFault) (r : Rules) (st : CoreState) (mv : Moved) →

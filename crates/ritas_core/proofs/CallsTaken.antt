@@ -6,7 +6,7 @@ use Rattle.ritas_base.specs.declared.item.Say.{Say}
 use Rattle.ritas_base.specs.SlotOrder.{is_slot, same_slot}
 use Rattle.ritas_base.specs.History.{Call, Start, Take}
 use Rattle.layer_api.specs.Broadcast.{MayStart, MayTake}
-use Rattle.layer_api.specs.OneValue.{AreTaken, AreFirst}
+use Rattle.layer_api.specs.OneValue.{AreTaken, RepeatNone}
 use Rattle.layer_api.specs.Words.{Ask, Hear}
 use Rattle.ritas_core.specs.Rules.{Rules, CastRules, seat_of, place_at}
 use Rattle.ritas_core.specs.Casts.{called, started_all, MayStartAll}
@@ -57,10 +57,10 @@ calls_taken r laws (Given v ∷ h) met =
 
 -- ---- none repeats an earlier one
 abbrev pub AreFirstAt : CastRules → (Slot → List Call) → Slot → Type 0
-AreFirstAt c h s = AreFirst (c.at_slot s) (place_at c s) c.tags (h s)
+AreFirstAt c h s = RepeatNone (c.at_slot s) (place_at c s) c.tags (h s)
 
 pub start_first_at : (c : CastRules) (h : Slot → List Call) (s : Slot) (v : List ℕ) (b : Bool) → AreFirstAt c h s →
-    AreFirst (c.at_slot s) (place_at c s) c.tags (cond b (Start v ∷ h s) (h s))
+    RepeatNone (c.at_slot s) (place_at c s) c.tags (cond b (Start v ∷ h s) (h s))
 start_first_at c h s v true all = all
 start_first_at c h s v false all = all
 
@@ -70,7 +70,7 @@ starts_first c (say ∷ says) h all =
     starts_first c says (called h say.slot (Start say.value)) (λ s. start_first_at c h s say.value (is_slot say.slot s) (all s))
 
 item_first_at : (r : Rules) (p : Parts) (item : Item) (s : Slot) (b : Bool) → is_slot item.slot s ≡ b → IsTakable r p item → AreFirstAt r.casts p.calls s →
-    AreFirst (r.casts.at_slot s) (place_at r.casts s) r.casts.tags (cond b (Take item ∷ p.calls s) (p.calls s))
+    RepeatNone (r.casts.at_slot s) (place_at r.casts s) r.casts.tags (cond b (Take item ∷ p.calls s) (p.calls s))
 item_first_at r p item s true here may all =
     (subst (λ (q : Slot). (r.casts.at_slot q).repeats (place_at r.casts q) r.casts.tags (p.calls q) item ≡ false) (same_slot item.slot s here) may.first, all)
 item_first_at r p item s false here may all = all

@@ -16,9 +16,9 @@ use Rattle.layer_api.specs.Broadcast.{BroadcastRules, IsTagger, MayStart}
 use Rattle.layer_api.specs.BroadcastCalls.{CastShown, ShowsCast, Starts, Dies}
 use Rattle.ritas_base.specs.declared.mode.Mode.{Mode}
 use Rattle.ritas_core.specs.declared.cast.Cast.{Cast}
-use Rattle.ritas_core.specs.Rules.{rules_by, CastRules, route_of, casts_by, place_at, out_at}
-use Rattle.ritas_core.specs.SlotCast.{CastStands, CastStandsAt, is_live, shown_by}
-use Rattle.ritas_core.specs.Casts.{CastsStand, called, newly}
+use Rattle.ritas_core.specs.Rules.{rules_by, CastRules, route_of, casts_by, place_at, out_at_slot}
+use Rattle.ritas_core.specs.SlotCast.{CastStands, CastStandsAt, is_cast_live, shown_by_cast}
+use Rattle.ritas_core.specs.Casts.{CastsStand, called, newly_there}
 use Rattle.ritas_core.specs.CastCalls.{CanStart, StartsCast, StartsNone, CanTake, HearsItem, CastsFail, CastsHear}
 use Rattle.layer_api.specs.OneValue.{ValueLaws}
 use Rattle.ritas_core.specs.RulesLaws.{laws_at}
@@ -74,7 +74,7 @@ casts_called stands c m n h s call e put stood all =
     (subst (λ (l : List Call). stands e (place_at c s) c.tags l) (sym (called_here h s call)) stood) all
 
 -- what a value newly shows is what its slot newly delivers
-newly_shown : (a b a2 b2 : Option (List ℕ)) → a ≡ a2 → b ≡ b2 → newly a2 b2 ≡ newly a b
+newly_shown : (a b a2 b2 : Option (List ℕ)) → a ≡ a2 → b ≡ b2 → newly_there a2 b2 ≡ newly_there a b
 newly_shown a b a2 b2 p q = cc
 
 -- a value stands for the calls of a slot, whatever calls the map stands for
@@ -108,9 +108,9 @@ module _ {E : Type 0} (mode : Mode) (stands : E → Place → Tags → List Call
   stood_there h can = there h can.stood
 
   pub casts_hear : ValueLaws rules → (before after : List Msg) (r : Result Taken Mem) →
-      HearsItem (CastStands (route_of mode item.slot) stands) (rules_by (route_of mode item.slot) rules) (shown_by shown)
+      HearsItem (CastStands (route_of mode item.slot) stands) (rules_by (route_of mode item.slot) rules) (shown_by_cast shown)
       (record { me = number; tags = tags }) old new item before after r →
-      CastsHear (CastStandsAt mode stands) (shown_by shown) (casts_by mode numbers me tags rules) number m n item before after r
+      CastsHear (CastStandsAt mode stands) (shown_by_cast shown) (casts_by mode numbers me tags rules) number m n item before after r
   casts_hear values before after (Ok (Took d)) hears = record {
     grows = λ h can. casts_called (CastStandsAt mode stands) (casts_by mode numbers me tags rules) m n h item.slot (Take item) new put
         (hears.takes.grows _ tags (h item.slot) (stood_there h can) (tagger_of h can) can.may) can.stood;
@@ -134,7 +134,7 @@ module _ {E : Type 0} (mode : Mode) (stands : E → Place → Tags → List Call
         let c = casts_by mode numbers me tags rules in
         put_either mode stands rules live shown shows values numbers me tags m n h item.slot new
         (stands_shown mode stands rules live shown shows values numbers me tags m h can.stood) put (called h item.slot (Take item))
-        (subst (λ (l : List Call). ((shown_by shown new).out ≡ out_at c item.slot (h item.slot)) ⊎ ((shown_by shown new).out ≡ out_at c item.slot l))
+        (subst (λ (l : List Call). ((shown_by_cast shown new).out ≡ out_at_slot c item.slot (h item.slot)) ⊎ ((shown_by_cast shown new).out ≡ out_at_slot c item.slot l))
         (sym (called_here h item.slot (Take item)))
         (hears.shows (place_at c item.slot) tags (h item.slot) (stood_there h can) (tagger_of h can) can.may));
     counts = λ h can. hears.counts _ tags (h item.slot) (stood_there h can) (tagger_of h can) can.may;
@@ -147,15 +147,15 @@ pub casts_missed : {E : Type 0} (mode : Mode) (stands : E → Place → Tags →
     StandsThere mode stands rules numbers me tags m say.slot old →
     ((q : Slot) → get slot_cmp n q ≡ cond (is_slot say.slot q) (Some new) (get slot_cmp m q)) →
     (value : List ℕ) (before after : List Msg) →
-    Dies (CastStands (route_of mode say.slot) stands) (rules_by (route_of mode say.slot) rules) (is_live live) (shown_by shown)
+    Dies (CastStands (route_of mode say.slot) stands) (rules_by (route_of mode say.slot) rules) (is_cast_live live) (shown_by_cast shown)
     (record { me = number; tags = tags }) old new (Start value) (λ at tags h. MayStart at h) before after →
-    StartsNone (CastStandsAt mode stands) (shown_by shown) (casts_by mode numbers me tags rules) number m n say
+    StartsNone (CastStandsAt mode stands) (shown_by_cast shown) (casts_by mode numbers me tags rules) number m n say
 casts_missed {E} mode stands rules live shown shows values numbers me number tags m n say old new there put value before after dies h can =
     let c = casts_by mode numbers me tags rules in
     let tagger : IsTagger (place_at c say.slot) tags (record { me = number; tags = tags }) =
     record { own = can.is_own.own; alike = record { digest = λ _. refl; entry = λ _ _ _ _ _ _ _. refl } } in
     let near = (dies.shows (place_at c say.slot) tags (h say.slot) (there h can.stood) tagger can.may).out in
-    let shown_there : (shown_by shown new).out ≡ out_at c say.slot (h say.slot) = elim near [
+    let shown_there : (shown_by_cast shown new).out ≡ out_at_slot c say.slot (h say.slot) = elim near [
       | inl e ↦ e
       | inr e ↦ e ∙ (laws_at mode rules values say.slot).out_start (place_at c say.slot) tags (h say.slot) value
     ] in
@@ -195,7 +195,7 @@ pub casts_unmade : {E : Type 0} (mode : Mode) (stands : E → Place → Tags →
     (shows : (e : E) (at : Place) (tags : Tags) (h : List Call) → stands e at tags h → (live e ≡ true) × ShowsCast rules at tags h (shown e)) → ValueLaws rules →
     (numbers : Numbers) (me number : ℕ) (tags : Tags) (m n : BTreeMap Slot (Cast E)) (item : Item) →
     get slot_cmp m item.slot ≡ None → ((s : Slot) → get slot_cmp n s ≡ get slot_cmp m s) →
-    CastsFail (CastStandsAt mode stands) (shown_by shown) (casts_by mode numbers me tags rules) number m n item
+    CastsFail (CastStandsAt mode stands) (shown_by_cast shown) (casts_by mode numbers me tags rules) number m n item
 casts_unmade {E} mode stands rules live shown shows values numbers me number tags m n item none same =
     let c = casts_by mode numbers me tags rules in
     record {
@@ -211,7 +211,7 @@ pub casts_unstarted : {E : Type 0} (mode : Mode) (stands : E → Place → Tags 
     (shows : (e : E) (at : Place) (tags : Tags) (h : List Call) → stands e at tags h → (live e ≡ true) × ShowsCast rules at tags h (shown e)) → ValueLaws rules →
     (numbers : Numbers) (me number : ℕ) (tags : Tags) (m n : BTreeMap Slot (Cast E)) (say : Say) →
     ((s : Slot) → get slot_cmp n s ≡ get slot_cmp m s) →
-    StartsNone (CastStandsAt mode stands) (shown_by shown) (casts_by mode numbers me tags rules) number m n say
+    StartsNone (CastStandsAt mode stands) (shown_by_cast shown) (casts_by mode numbers me tags rules) number m n say
 casts_unstarted mode stands rules live shown shows values numbers me number tags m n say same h can =
     same_shown mode stands rules live shown shows values numbers me tags m n h
     (stands_shown mode stands rules live shown shows values numbers me tags m h can.stood) same

@@ -19,9 +19,9 @@ use Rattle.frame_codec.specs.Grammar.{value}
 use Rattle.layer_api.specs.OneValue.{AreGoodCalls}
 use Rattle.layer_api.specs.Service.{said, MayHear, AreProper, AreNew, AreGoodSays}
 use Rattle.layer_api.specs.Words.{Word, Ask, Hear, is_said, said_value, is_heard}
-use Rattle.ritas_core.specs.Rules.{Rules, seat_of, place_at, out_at}
+use Rattle.ritas_core.specs.Rules.{Rules, seat_of, place_at, out_at_slot}
 use Rattle.ritas_core.specs.Casts.{called, started_all, MayStartAll}
-use Rattle.ritas_core.specs.Parts.{Entry, Took, Given, Parts, parts, told_to, heard_at, taken_at, item_delivers}
+use Rattle.ritas_core.specs.Parts.{Entry, Took, Given, Parts, parts, service_told, heard_at, taken_at, item_delivers}
 use Rattle.ritas_core.specs.PartsLaws.{newly_before, newly_after}
 use Rattle.ritas_core.specs.Checks.{is_item_past, is_item_ahead, IsTakable, IsGivable, IsHistory}
 use Rattle.ritas_core.specs.Laws.{LayerLaws}
@@ -65,7 +65,7 @@ started_test (say ∷ says) h s =
 started_taken : (r : Rules) (item : Item) (p : Parts) → IsStartedWhereSaid r p → IsStartedWhereSaid r (taken_at item p)
 started_taken r item p all s = take_test (is_slot item.slot s) item (p.calls s) ∙ all s
 
-started_told : (r : Rules) (c : Word) (p : Parts) → IsStartedWhereSaid r p → IsStartedWhereSaid r (told_to r c p)
+started_told : (r : Rules) (c : Word) (p : Parts) → IsStartedWhereSaid r p → IsStartedWhereSaid r (service_told r c p)
 started_told r c p all s =
     let new = r.service.says (seat_of r) p.words c in
     let old = said r.service (seat_of r) p.words in
@@ -149,7 +149,7 @@ value_taken r item p all s = take_value (is_slot item.slot s) (p.calls s) ∙ al
     take_value false h = refl
 
 value_told : (r : Rules) → LayerLaws r → (c : Word) (p : Parts) → AreProper r.service (seat_of r) (c ∷ p.words) → StartedIsSaid r p →
-    StartedIsSaid r (told_to r c p)
+    StartedIsSaid r (service_told r c p)
 value_told r laws c p proper all s =
     let new = r.service.says (seat_of r) p.words c in
     let old = said r.service (seat_of r) p.words in
@@ -166,7 +166,7 @@ value_heard r laws s (Some v) p proper all = value_told r laws (Hear s v) p (pro
 
 -- ---- a slot was heard exactly where it has delivered
 abbrev pub IsHeardWhereDelivered : Rules → Parts → Type 0
-IsHeardWhereDelivered r p = (s : Slot) → is_heard p.words s ≡ is_some (out_at r.casts s (p.calls s))
+IsHeardWhereDelivered r p = (s : Slot) → is_heard p.words s ≡ is_some (out_at_slot r.casts s (p.calls s))
 
 pub heard_where_delivered : (r : Rules) → LayerLaws r → (h : List Entry) → IsHeardWhereDelivered r (parts r h)
 heard_where_delivered r laws h s = heard_is (parts r h).words s ∙ ap is_some (heard_delivered r laws h s)
@@ -189,7 +189,7 @@ may_hear_at r laws p all item may v delivers good =
       is_open = left_true (r.service.opens (seat_of r) p.words item.slot) _ opens;
       first =
           all item.slot
-          ∙ ap is_some (newly_before (out_at r.casts item.slot (p.calls item.slot)) (out_at r.casts item.slot (Take item ∷ p.calls item.slot)) v delivers);
+          ∙ ap is_some (newly_before (out_at_slot r.casts item.slot (p.calls item.slot)) (out_at_slot r.casts item.slot (Take item ∷ p.calls item.slot)) v delivers);
     }
 
 -- ---- the calls are in the grammar
@@ -235,7 +235,7 @@ pub good_delivered : (r : Rules) → LayerLaws r → (p : Parts) (item : Item) �
 good_delivered r laws p item may all v delivers =
     (laws.casts item.slot).out_good (place_at r.casts item.slot) r.casts.tags r.mode (Take item ∷ p.calls item.slot) v
     (of_slot r laws item.slot may.good.in_grammar.slot) (refl, may.good.in_grammar, all item.slot)
-    (newly_after (out_at r.casts item.slot (p.calls item.slot)) (out_at r.casts item.slot (Take item ∷ p.calls item.slot)) v delivers)
+    (newly_after (out_at_slot r.casts item.slot (p.calls item.slot)) (out_at_slot r.casts item.slot (Take item ∷ p.calls item.slot)) v delivers)
 
 good_heard : (r : Rules) → LayerLaws r → (p : Parts) (item : Item) (d : Option (List ℕ)) → IsTakable r p item →
     ((v : List ℕ) → d ≡ Some v → MayHear r.service (seat_of r) p.words item.slot v) →

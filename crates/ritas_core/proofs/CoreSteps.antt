@@ -6,18 +6,18 @@ use Rattle.ritas_base.specs.declared.item.Msg.{Msg}
 use Rattle.ritas_base.specs.declared.mode.Mode.{Mode}
 use Rattle.ritas_base.specs.Numbers.{Numbers}
 use Rattle.layer_api.specs.Words.{Ask, Hear}
-use Rattle.ooc_buffers.specs.Lists.{Kept, failing, released, remaining}
+use Rattle.ooc_buffers.specs.Lists.{HeldItem, failing, released, remaining}
 use Rattle.ritas_core.specs.declared.layers.Layers.{Layers}
 use Rattle.ritas_core.specs.declared.kernel.Core.{Core}
 use Rattle.ritas_core.specs.Rules.{Rules, casts_by}
 use Rattle.ritas_core.specs.StandsLaws.{layer_laws}
-use Rattle.ritas_core.specs.Parts.{Parts, Entry, Took, Given, parts, taken_at, item_delivers, after, made_by}
+use Rattle.ritas_core.specs.Parts.{Parts, Entry, Took, Given, parts, taken_at, item_delivers, parts_after, made_by}
 use Rattle.ritas_core.specs.Order.{ordered, own_items, new_messages}
 use Rattle.ritas_core.specs.Checks.{is_open, is_item_past, IsTakable, IsGivable, MayEnter, IsHistory}
-use Rattle.ritas_core.specs.Machine.{CoreState, What, with_entry, entered}
+use Rattle.ritas_core.specs.Machine.{CoreState, What, with_entry, state_after_entry}
 use Rattle.ritas_core.specs.Stands.{Meaning, rules_of, LayersStand, LayersShow, CoreStands}
-use Rattle.ritas_core.specs.LayerCalls.{SameSeat, MayTell, MayFollow, CanTakeItem, CanTell, Tells, TakesItem, is_past_in, is_open_in}
-use Rattle.ritas_core.specs.Calls.{entry_of, stopped}
+use Rattle.ritas_core.specs.LayerCalls.{SameSeat, MayTell, MayFollow, CanTakeItem, CanTell, TellsLayers, TakesItem, is_past_in, is_open_in}
+use Rattle.ritas_core.specs.Calls.{entry_of_call, stopped}
 use Rattle.ritas_core.specs.CoreCalls.{rules_in, IsLive, Finishes, Withdraws, StopsCore, EntersCore}
 use Rattle.ritas_core.specs.Laws.{LayerLaws}
 use Rattle.ritas_core.proofs.GoodSlots.{slot_origin}
@@ -52,7 +52,7 @@ module _ {S E C T : Type 0} (m : Meaning S E C T) where
       ∙ ap (λ (coin : C). rules_from old.params old.mode old.me old.tagger coin) seat.coin
 
   -- a stopped core stands for its last state, stopped
-  pub stops_core : (old new : Core S E C T) (e : Entry) (before after_it : List Msg) (st : CoreState) (what : What) → entry_of st what ≡ Some e →
+  pub stops_core : (old new : Core S E C T) (e : Entry) (before after_it : List Msg) (st : CoreState) (what : What) → entry_of_call st what ≡ Some e →
       StopsCore m old new e before after_it → IsLive m old st → MayEnter (rules_in m old) (parts (rules_in m old) st.history) e →
       CoreStands m (record new { stopped = true }) (rules_in m old) (stopped st what)
   stops_core old new e before after_it st what given stops is may =
@@ -88,33 +88,33 @@ module _ {S E C T : Type 0} (m : Meaning S E C T) (well : MeansWell m) where
       (tagger : mid.tagger ≡ old.layers.tagger)
       (stands : CoreStands m old (rules_of m mid) st) (live : st.live ≡ true)
       (may : MayEnter (rules_of m mid) (parts (rules_of m mid) st.history) e)
-      (stood : LayersStand m mid (after (rules_of m mid) e (parts (rules_of m mid) st.history)))
+      (stood : LayersStand m mid (parts_after (rules_of m mid) e (parts (rules_of m mid) st.history)))
       (made_is : made ≡ made_by (rules_of m mid) e (parts (rules_of m mid) st.history)) where
-    new_inbox : new.inbox.items ≡ (entered (rules_of m mid) st e st.inbox).inbox
+    new_inbox : new.inbox.items ≡ (state_after_entry (rules_of m mid) st e st.inbox).inbox
     new_inbox =
         let r = rules_of m mid in
         let p = parts r (e ∷ st.history) in
         fin.inbox p stood
         ∙ ap (λ (xs : List Item). (xs ++ own_items mid.me (ordered made)) ++ released (is_open_in m mid p) old.held) stands.inbox
         ∙ ap (λ (ms : List Msg). (st.inbox ++ own_items mid.me (ordered ms)) ++ released (is_open_in m mid p) old.held) made_is
-        ∙ ap (λ (hs : List (List Kept)). (st.inbox ++ own_items mid.me (new_messages r st.history e)) ++ released (is_open_in m mid p) hs) stands.held
+        ∙ ap (λ (hs : List (List HeldItem)). (st.inbox ++ own_items mid.me (new_messages r st.history e)) ++ released (is_open_in m mid p) hs) stands.held
         ∙ ap (λ (xs : List Item). (st.inbox ++ own_items mid.me (new_messages r st.history e)) ++ xs)
         (released_same r (is_open_in m mid p) (is_open r p) (open_same m mid (laws_of mid old st stands) p stood) st.held stands.good_held)
 
-    new_held : new.held ≡ (entered (rules_of m mid) st e st.inbox).held
+    new_held : new.held ≡ (state_after_entry (rules_of m mid) st e st.inbox).held
     new_held =
         let r = rules_of m mid in
         let p = parts r (e ∷ st.history) in
         let laws = laws_of mid old st stands in
         fin.held p stood
-        ∙ ap (λ (hs : List (List Kept)). remaining (λ x. is_past_in m mid p x.slot) (remaining (is_open_in m mid p) hs)) stands.held
-        ∙ ap (λ (hs : List (List Kept)). remaining (λ x. is_past_in m mid p x.slot) hs)
+        ∙ ap (λ (hs : List (List HeldItem)). remaining (λ x. is_past_in m mid p x.slot) (remaining (is_open_in m mid p) hs)) stands.held
+        ∙ ap (λ (hs : List (List HeldItem)). remaining (λ x. is_past_in m mid p x.slot) hs)
         (remaining_same r (is_open_in m mid p) (is_open r p) (open_same m mid laws p stood) st.held stands.good_held)
         ∙ remaining_same r (λ x. is_past_in m mid p x.slot) (is_item_past r p) (past_same m mid laws p stood) (remaining (is_open r p) st.held)
         (good_remaining r (is_open r p) st.held stands.good_held)
         ∙ remaining_twice (is_open r p) (is_item_past r p) st.held
 
-    pub enters_at : CoreStands m new (rules_of m mid) (entered (rules_of m mid) st e st.inbox)
+    pub enters_at : CoreStands m new (rules_of m mid) (state_after_entry (rules_of m mid) st e st.inbox)
         × (after_it ≡ before ++ new_messages (rules_of m mid) st.history e)
     enters_at =
         let r = rules_of m mid in
@@ -146,11 +146,11 @@ module _ {S E C T : Type 0} (m : Meaning S E C T) (well : MeansWell m) where
   module _ (old new : Core S E C T) (mid : Layers S E C T) (seat : SameSeat old.layers mid) (e : Entry) (made before after_it : List Msg)
       (fin : Finishes m (record old { layers = mid }) new made before after_it) where
     abbrev Enough : CoreState → Rules → Type 0
-    Enough st r = CoreStands m old r st × MayEnter r (parts r st.history) e × LayersStand m mid (after r e (parts r st.history))
+    Enough st r = CoreStands m old r st × MayEnter r (parts r st.history) e × LayersStand m mid (parts_after r e (parts r st.history))
         × (made ≡ made_by r e (parts r st.history))
 
     abbrev Done : CoreState → Rules → Type 0
-    Done st r = CoreStands m new r (entered r st e st.inbox) × (after_it ≡ before ++ new_messages r st.history e)
+    Done st r = CoreStands m new r (state_after_entry r st e st.inbox) × (after_it ≡ before ++ new_messages r st.history e)
 
     pub enters_from : (st : CoreState) → st.live ≡ true → Enough st (rules_of m old.layers) → Done st (rules_of m old.layers)
     enters_from st live enough =
@@ -212,7 +212,7 @@ module _ {S E C T : Type 0} (m : Meaning S E C T) (well : MeansWell m) where
 
   -- an input that was taken
   pub enters_input : (old new : Core S E C T) (mid : Layers S E C T) (value : List ℕ) (start made before after_it : List Msg) → start ≡ [] →
-      SameSeat old.layers mid → Tells m old.layers mid (Ask value) start made → Finishes m (record old { layers = mid }) new made before after_it →
+      SameSeat old.layers mid → TellsLayers m old.layers mid (Ask value) start made → Finishes m (record old { layers = mid }) new made before after_it →
       EntersCore m old new (Given value) before after_it
   enters_input old new mid value start made before after_it none seat tells fin =
       let r = rules_in m old in

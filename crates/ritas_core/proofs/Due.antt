@@ -15,11 +15,11 @@ use Rattle.ritas_base.specs.SlotOrder.{slot_cmp, slots_total, is_slot, same_slot
 use Rattle.ritas_base.specs.Messages.{kind_rank, to_rank, msg_eq, msg_eq_equiv, has, without}
 use Rattle.ritas_base.specs.History.{Call, Start, Take}
 use Rattle.layer_api.specs.Words.{Ask, Hear}
-use Rattle.ritas_core.specs.Rules.{Rules, seat_of, place_at, due_at}
+use Rattle.ritas_core.specs.Rules.{Rules, seat_of, place_at, due_at_slot}
 use Rattle.ritas_core.specs.Casts.{called, started_all, start_news, news_at}
-use Rattle.ritas_core.specs.Parts.{Parts, Entry, Took, Given, parts, heard_at, heard_news, taken_at, item_delivers, after, made_by}
+use Rattle.ritas_core.specs.Parts.{Parts, Entry, Took, Given, parts, heard_at, heard_news, taken_at, item_delivers, parts_after, made_by}
 use Rattle.ritas_core.specs.Order.{is_before, inserted, ordered_onto, ordered, new_messages}
-use Rattle.ritas_core.specs.Laws.{LayerLaws, is_due, NoneBefore, InOrder}
+use Rattle.ritas_core.specs.Laws.{LayerLaws, is_due, NoneBefore, AreMessagesInOrder}
 use Rattle.ritas_core.proofs.TestLaws.{or_flip}
 
 -- what is there now and was not
@@ -76,29 +76,29 @@ has-without xs (y ∷ ys) m =
 -- ---- one call
 -- whether the message is due, at its slot, after these calls
 abbrev pub is_due_at : Rules → (Slot → List Call) → Msg → Bool
-is_due_at r h m = has (due_at r.casts m.slot (h m.slot)) m
+is_due_at r h m = has (due_at_slot r.casts m.slot (h m.slot)) m
 
 call_news_at : (r : Rules) → LayerLaws r → (h : Slot → List Call) (s : Slot) (c : Call) (m : Msg) (b : Bool) → is_slot s m.slot ≡ b →
-    (has (due_at r.casts s (c ∷ h s)) m && not (has (due_at r.casts s (h s)) m))
-    ≡ is_new (is_due_at r h m) (has (due_at r.casts m.slot (cond b (c ∷ h m.slot) (h m.slot))) m)
+    (has (due_at_slot r.casts s (c ∷ h s)) m && not (has (due_at_slot r.casts s (h s)) m))
+    ≡ is_new (is_due_at r h m) (has (due_at_slot r.casts m.slot (cond b (c ∷ h m.slot) (h m.slot))) m)
 call_news_at r laws h s c m true here =
-    let P : Slot → Type 0 = λ q. (has (due_at r.casts s (c ∷ h s)) m && not (has (due_at r.casts s (h s)) m))
-    ≡ is_new (has (due_at r.casts q (h q)) m) (has (due_at r.casts q (c ∷ h q)) m) in
+    let P : Slot → Type 0 = λ q. (has (due_at_slot r.casts s (c ∷ h s)) m && not (has (due_at_slot r.casts s (h s)) m))
+    ≡ is_new (has (due_at_slot r.casts q (h q)) m) (has (due_at_slot r.casts q (c ∷ h q)) m) in
     subst P (same_slot s m.slot here) refl
 call_news_at r laws h s c m false here =
-    let gone : has (due_at r.casts s (c ∷ h s)) m ≡ false = not_true _ (λ t.
+    let gone : has (due_at_slot r.casts s (c ∷ h s)) m ≡ false = not_true _ (λ t.
     let slot = (laws.casts s).due_slot (place_at r.casts s) r.casts.tags (c ∷ h s) m t in
     let itself : is_slot s m.slot ≡ true = ap (λ (q : Slot). is_slot s q) slot ∙ slot_itself s in
     let clash : true ≡ false = sym itself ∙ here in cc) in
-    ap (λ (x : Bool). x && not (has (due_at r.casts s (h s)) m)) gone ∙ sym (and_not (is_due_at r h m))
+    ap (λ (x : Bool). x && not (has (due_at_slot r.casts s (h s)) m)) gone ∙ sym (and_not (is_due_at r h m))
 
 pub call_news : (r : Rules) → LayerLaws r → (h : Slot → List Call) (s : Slot) (c : Call) (m : Msg) →
     has (news_at r.casts s (h s) c) m ≡ is_new (is_due_at r h m) (is_due_at r (called h s c) m)
 call_news r laws h s c m =
-    has-without (due_at r.casts s (h s)) (due_at r.casts s (c ∷ h s)) m ∙ call_news_at r laws h s c m (is_slot s m.slot) refl
+    has-without (due_at_slot r.casts s (h s)) (due_at_slot r.casts s (c ∷ h s)) m ∙ call_news_at r laws h s c m (is_slot s m.slot) refl
 
 call_stays_at : (r : Rules) → LayerLaws r → (h : Slot → List Call) (c : Call) (m : Msg) (b : Bool) → is_due_at r h m ≡ true →
-    has (due_at r.casts m.slot (cond b (c ∷ h m.slot) (h m.slot))) m ≡ true
+    has (due_at_slot r.casts m.slot (cond b (c ∷ h m.slot) (h m.slot))) m ≡ true
 call_stays_at r laws h c m true due = (laws.casts m.slot).due_stays (place_at r.casts m.slot) r.casts.tags (h m.slot) c m due
 call_stays_at r laws h c m false due = due
 
@@ -136,7 +136,7 @@ heard_new r laws s None p m = sym (and_not (is_due r p m))
 heard_new r laws s (Some v) p m = starts_new r laws (r.service.says (seat_of r) p.words (Hear s v)) p.calls m
 
 -- ---- an entry
-entry_new : (r : Rules) → LayerLaws r → (e : Entry) (p : Parts) (m : Msg) → has (made_by r e p) m ≡ is_new (is_due r p m) (is_due r (after r e p) m)
+entry_new : (r : Rules) → LayerLaws r → (e : Entry) (p : Parts) (m : Msg) → has (made_by r e p) m ≡ is_new (is_due r p m) (is_due r (parts_after r e p) m)
 entry_new r laws (Took item) p m =
     let q : Parts = taken_at item p in
     let d = item_delivers r item p in
@@ -210,24 +210,24 @@ none_before_inserted x m [] apart none = (apart, tt)
 none_before_inserted x m (y ∷ xs) apart none =
     none_before_inserted_at (is_before m y) x y m xs (inserted xs m) apart none.0 none.1 (none_before_inserted x m xs apart none.1)
 
-inserted_in_order_at : (b : Bool) (x m : Msg) (xs : List Msg) → is_before m x ≡ b → InOrder (x ∷ xs) → InOrder (inserted xs m) →
-    InOrder (cond b (m ∷ x ∷ xs) (x ∷ inserted xs m))
+inserted_in_order_at : (b : Bool) (x m : Msg) (xs : List Msg) → is_before m x ≡ b → AreMessagesInOrder (x ∷ xs) → AreMessagesInOrder (inserted xs m) →
+    AreMessagesInOrder (cond b (m ∷ x ∷ xs) (x ∷ inserted xs m))
 inserted_in_order_at true x m xs less sorted rest =
     let apart = weak.one_way m x less in
     ((apart, none_before_more m x xs apart sorted.0), sorted)
 inserted_in_order_at false x m xs less sorted rest = (none_before_inserted x m xs less sorted.0, rest)
 
-inserted_in_order : (xs : List Msg) (m : Msg) → InOrder xs → InOrder (inserted xs m)
+inserted_in_order : (xs : List Msg) (m : Msg) → AreMessagesInOrder xs → AreMessagesInOrder (inserted xs m)
 inserted_in_order [] m sorted = (tt, tt)
 inserted_in_order (x ∷ xs) m sorted = inserted_in_order_at (is_before m x) x m xs refl sorted (inserted_in_order xs m sorted.1)
 
-onto_in_order : (sorted ms : List Msg) → InOrder sorted → InOrder (ordered_onto sorted ms)
+onto_in_order : (sorted ms : List Msg) → AreMessagesInOrder sorted → AreMessagesInOrder (ordered_onto sorted ms)
 onto_in_order sorted [] all = all
 onto_in_order sorted (m ∷ ms) all = onto_in_order (inserted sorted m) ms (inserted_in_order sorted m all)
 
-pub ordered_in_order : (ms : List Msg) → InOrder (ordered ms)
+pub ordered_in_order : (ms : List Msg) → AreMessagesInOrder (ordered ms)
 unfolding ordered
 ordered_in_order ms = onto_in_order [] ms tt
 
-pub new_in_order : (r : Rules) (h : List Entry) (e : Entry) → InOrder (new_messages r h e)
+pub new_in_order : (r : Rules) (h : List Entry) (e : Entry) → AreMessagesInOrder (new_messages r h e)
 new_in_order r h e = ordered_in_order (made_by r e (parts r h))

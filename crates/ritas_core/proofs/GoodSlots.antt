@@ -8,7 +8,8 @@ use Rattle.ritas_base.specs.declared.slot.SlotFault.TheVariants as faults
 use Rattle.ritas_base.specs.declared.mode.Mode.{Mode}
 use Rattle.ritas_base.specs.declared.item.Item.{Item}
 use Rattle.ritas_base.specs.Numbers.{Numbers}
-use Rattle.ritas_base.specs.Slots.{first_failed, slot_fault, form_of, within, has_class, has_number, has_attempt, has_count}
+use Rattle.ritas_base.specs.Places.{first_failed}
+use Rattle.ritas_base.specs.Slots.{slot_fault, form_of, within, has_class, has_number, has_attempt, has_count}
 use Rattle.ritas_base.specs.declared.item.Kind.{Kind}
 use Rattle.ritas_base.specs.declared.item.Kind.TheVariants as kinds
 use Rattle.frame_codec.specs.Format.{Format, Is}

@@ -13,13 +13,13 @@ use Rattle.layer_api.specs.HasLaws.{has_either}
 use Rattle.layer_api.specs.OneValue.{AreGoodCalls}
 use Rattle.layer_api.specs.Service.{AreProper, AreGoodSays}
 use Rattle.layer_api.specs.Words.{Word, Ask, Hear}
-use Rattle.ooc_buffers.specs.Lists.{Kept, kept_of, with_kept, passing, released, remaining}
-use Rattle.ritas_core.specs.Rules.{Rules, seat_of, place_at, due_at}
+use Rattle.ooc_buffers.specs.Lists.{HeldItem, held_of_peer, with_item_held, passing, released, remaining}
+use Rattle.ritas_core.specs.Rules.{Rules, seat_of, place_at, due_at_slot}
 use Rattle.ritas_core.specs.Casts.{called, start_news, news_at}
 use Rattle.ritas_core.specs.Parts.{Entry, Took, Given, Parts, parts, told_news, heard_news, taken_at, item_delivers, made_by}
 use Rattle.ritas_core.specs.Order.{is_before, inserted, ordered_onto, ordered, new_messages, sent_to, own_items}
 use Rattle.ritas_core.specs.Checks.{is_open, is_item_past, IsGood, IsHistory}
-use Rattle.ritas_core.specs.Machine.{CoreState, entered, AreGood}
+use Rattle.ritas_core.specs.Machine.{CoreState, state_after_entry, AreGood}
 use Rattle.ritas_core.specs.Stands.{AreGoodKept, AreGoodLists}
 use Rattle.ritas_core.specs.Laws.{LayerLaws}
 use Rattle.ritas_core.proofs.GoodSlots.{of_slot}
@@ -67,7 +67,7 @@ news_good : (r : Rules) → LayerLaws r → (s : Slot) (calls : List Call) (c : 
     AreGoodCalls r.casts.numbers r.mode s (c ∷ calls) → AreInGrammar r (news_at r.casts s calls c)
 news_good r laws s calls c right good m here =
     (laws.casts s).due_good (place_at r.casts s) r.casts.tags r.mode (c ∷ calls) m laws.kinds.digests (of_slot r laws s right) good
-    (has_without_from (due_at r.casts s calls) (due_at r.casts s (c ∷ calls)) m here)
+    (has_without_from (due_at_slot r.casts s calls) (due_at_slot r.casts s (c ∷ calls)) m here)
 
 append_in_grammar : (r : Rules) (xs ys : List Msg) → AreInGrammar r xs → AreInGrammar r ys → AreInGrammar r (xs ++ ys)
 append_in_grammar r xs ys left right m here = elim (has_either xs ys m here) [ inl a ↦ left m a | inr b ↦ right m b ]
@@ -129,49 +129,49 @@ good_append r [] ys left right = right
 good_append r (x ∷ xs) ys left right = (left.0, good_append r xs ys left.1 right)
 
 -- ---- what is held
-kept_if : (r : Rules) (b : Bool) (k : Kept) (ks : List Kept) → IsGood r k.item → AreGoodKept r ks → AreGoodKept r (cond b (k ∷ ks) ks)
+kept_if : (r : Rules) (b : Bool) (k : HeldItem) (ks : List HeldItem) → IsGood r k.item → AreGoodKept r ks → AreGoodKept r (cond b (k ∷ ks) ks)
 kept_if r true k ks good rest = (good, rest)
 kept_if r false k ks good rest = rest
 
-good_kept_filter : (r : Rules) (test : Kept → Bool) (ks : List Kept) → AreGoodKept r ks → AreGoodKept r (filter test ks)
+good_kept_filter : (r : Rules) (test : HeldItem → Bool) (ks : List HeldItem) → AreGoodKept r ks → AreGoodKept r (filter test ks)
 good_kept_filter r test [] good = tt
 good_kept_filter r test (k ∷ ks) good = kept_if r (test k) k (filter test ks) good.0 (good_kept_filter r test ks good.1)
 
-good_items : (r : Rules) (ks : List Kept) → AreGoodKept r ks → AreGood r (map (λ k. k.item) ks)
+good_items : (r : Rules) (ks : List HeldItem) → AreGoodKept r ks → AreGood r (map (λ k. k.item) ks)
 good_items r [] good = tt
 good_items r (k ∷ ks) good = (good.0, good_items r ks good.1)
 
-pub good_released : (r : Rules) (test : Item → Bool) (held : List (List Kept)) → AreGoodLists r held → AreGood r (released test held)
+pub good_released : (r : Rules) (test : Item → Bool) (held : List (List HeldItem)) → AreGoodLists r held → AreGood r (released test held)
 good_released r test [] good = tt
 good_released r test (kept ∷ held) good =
     good_append r (map (λ k. k.item) (passing test kept)) (released test held)
     (good_items r (passing test kept) (good_kept_filter r (λ k. test k.item) kept good.0)) (good_released r test held good.1)
 
-pub good_remaining : (r : Rules) (test : Item → Bool) (held : List (List Kept)) → AreGoodLists r held → AreGoodLists r (remaining test held)
+pub good_remaining : (r : Rules) (test : Item → Bool) (held : List (List HeldItem)) → AreGoodLists r held → AreGoodLists r (remaining test held)
 good_remaining r test [] good = tt
 good_remaining r test (kept ∷ held) good =
     (good_kept_filter r (λ k. not (test k.item)) kept good.0, good_remaining r test held good.1)
 
-good_kept_of : (r : Rules) (held : List (List Kept)) (peer : ℕ) → AreGoodLists r held → AreGoodKept r (get_or held peer [])
+good_kept_of : (r : Rules) (held : List (List HeldItem)) (peer : ℕ) → AreGoodLists r held → AreGoodKept r (get_or held peer [])
 good_kept_of r [] peer good = tt
 good_kept_of r (kept ∷ held) zero good = good.0
 good_kept_of r (kept ∷ held) (suc peer) good = good_kept_of r held peer good.1
 
-good_set : (r : Rules) (held : List (List Kept)) (peer : ℕ) (kept : List Kept) → AreGoodLists r held → AreGoodKept r kept →
+good_set : (r : Rules) (held : List (List HeldItem)) (peer : ℕ) (kept : List HeldItem) → AreGoodLists r held → AreGoodKept r kept →
     AreGoodLists r (set held peer kept)
 good_set r [] peer kept good new = tt
 good_set r (old ∷ held) zero kept good new = (new, good.1)
 good_set r (old ∷ held) (suc peer) kept good new = (good.0, good_set r held peer kept good.1 new)
 
-good_behind : (r : Rules) (ks : List Kept) (k : Kept) → AreGoodKept r ks → IsGood r k.item → AreGoodKept r (ks ++ k ∷ [])
+good_behind : (r : Rules) (ks : List HeldItem) (k : HeldItem) → AreGoodKept r ks → IsGood r k.item → AreGoodKept r (ks ++ k ∷ [])
 good_behind r [] k all good = (good, tt)
 good_behind r (x ∷ ks) k all good = (all.0, good_behind r ks k all.1 good)
 
-pub good_with_kept : (r : Rules) (held : List (List Kept)) (item : Item) (len : ℕ) → AreGoodLists r held → IsGood r item →
-    AreGoodLists r (with_kept held item len)
+pub good_with_kept : (r : Rules) (held : List (List HeldItem)) (item : Item) (len : ℕ) → AreGoodLists r held → IsGood r item →
+    AreGoodLists r (with_item_held held item len)
 good_with_kept r held item len all good =
-    good_set r held item.from (kept_of held item.from ++ record { item = item; len = len } ∷ []) all
-    (good_behind r (kept_of held item.from) (record { item = item; len = len }) (good_kept_of r held item.from all) good)
+    good_set r held item.from (held_of_peer held item.from ++ record { item = item; len = len } ∷ []) all
+    (good_behind r (held_of_peer held item.from) (record { item = item; len = len }) (good_kept_of r held item.from all) good)
 
 pub good_none_held : (r : Rules) (n : ℕ) → AreGoodLists r (replicate n [])
 good_none_held r zero = tt
@@ -179,13 +179,13 @@ good_none_held r (suc n) = (tt, good_none_held r n)
 
 -- ---- what an entry leaves
 pub entered_inbox_good : (r : Rules) → LayerLaws r → (st : CoreState) (e : Entry) (waiting : List Item) → IsHistory r (e ∷ st.history) →
-    AreGood r waiting → AreGoodLists r st.held → AreGood r (entered r st e waiting).inbox
+    AreGood r waiting → AreGoodLists r st.held → AreGood r (state_after_entry r st e waiting).inbox
 entered_inbox_good r laws st e waiting met good held =
     good_append r (waiting ++ own_items r.casts.me (new_messages r st.history e)) (released (is_open r (parts r (e ∷ st.history))) st.held)
     (good_append r waiting (own_items r.casts.me (new_messages r st.history e)) good (good_own r laws st.history e met))
     (good_released r (is_open r (parts r (e ∷ st.history))) st.held held)
 
 pub entered_held_good : (r : Rules) (st : CoreState) (e : Entry) (waiting : List Item) → AreGoodLists r st.held →
-    AreGoodLists r (entered r st e waiting).held
+    AreGoodLists r (state_after_entry r st e waiting).held
 entered_held_good r st e waiting held =
     good_remaining r (λ x. is_open r (parts r (e ∷ st.history)) x || is_item_past r (parts r (e ∷ st.history)) x) st.held held

@@ -8,7 +8,7 @@ use Rattle.ritas_base.specs.declared.item.Kind.TheVariants.{Column}
 use Rattle.ritas_base.specs.SlotOrder.{slot_cmp}
 use Rattle.ritas_base.specs.Messages.{kind_eq}
 use Rattle.ritas_base.specs.History.{Call}
-use Rattle.ooc_buffers.specs.Lists.{Kept, passing, failing, released, remaining}
+use Rattle.ooc_buffers.specs.Lists.{HeldItem, passing, failing, released, remaining}
 use Rattle.ritas_core.specs.declared.layers.Layers.{Layers}
 use Rattle.ritas_core.specs.Rules.{Rules, seat_of, place_at}
 use Rattle.ritas_core.specs.CastCalls.{is_ready_in}
@@ -23,43 +23,43 @@ use Rattle.ritas_core.proofs.Lookup.{ready_always}
 -- ---- tests that agree on good items
 
 module _ (r : Rules) (s t : Item → Bool) (agree : (x : Item) → IsGood r x → s x ≡ t x) where
-  passing_same : (kept : List Kept) → AreGoodKept r kept → passing s kept ≡ passing t kept
+  passing_same : (kept : List HeldItem) → AreGoodKept r kept → passing s kept ≡ passing t kept
   passing_same [] good = refl
   passing_same (x ∷ kept) good =
       ap (λ (b : Bool). cond b (x ∷ passing s kept) (passing s kept)) (agree x.item good.0)
-      ∙ ap (λ (xs : List Kept). cond (t x.item) (x ∷ xs) xs) (passing_same kept good.1)
+      ∙ ap (λ (xs : List HeldItem). cond (t x.item) (x ∷ xs) xs) (passing_same kept good.1)
 
-  failing_same : (kept : List Kept) → AreGoodKept r kept → failing s kept ≡ failing t kept
+  failing_same : (kept : List HeldItem) → AreGoodKept r kept → failing s kept ≡ failing t kept
   failing_same [] good = refl
   failing_same (x ∷ kept) good =
       ap (λ (b : Bool). cond (not b) (x ∷ failing s kept) (failing s kept)) (agree x.item good.0)
-      ∙ ap (λ (xs : List Kept). cond (not (t x.item)) (x ∷ xs) xs) (failing_same kept good.1)
+      ∙ ap (λ (xs : List HeldItem). cond (not (t x.item)) (x ∷ xs) xs) (failing_same kept good.1)
 
-  pub released_same : (held : List (List Kept)) → AreGoodLists r held → released s held ≡ released t held
+  pub released_same : (held : List (List HeldItem)) → AreGoodLists r held → released s held ≡ released t held
   released_same [] good = refl
   released_same (kept ∷ held) good =
-      ap (λ (xs : List Kept). map (λ k. k.item) xs ++ released s held) (passing_same kept good.0)
+      ap (λ (xs : List HeldItem). map (λ k. k.item) xs ++ released s held) (passing_same kept good.0)
       ∙ ap (λ (xs : List Item). map (λ k. k.item) (passing t kept) ++ xs) (released_same held good.1)
 
-  pub remaining_same : (held : List (List Kept)) → AreGoodLists r held → remaining s held ≡ remaining t held
+  pub remaining_same : (held : List (List HeldItem)) → AreGoodLists r held → remaining s held ≡ remaining t held
   remaining_same [] good = refl
   remaining_same (kept ∷ held) good =
-      ap (λ (xs : List Kept). xs ∷ remaining s held) (failing_same kept good.0)
-      ∙ ap (λ (xs : List (List Kept)). failing t kept ∷ xs) (remaining_same held good.1)
+      ap (λ (xs : List HeldItem). xs ∷ remaining s held) (failing_same kept good.0)
+      ∙ ap (λ (xs : List (List HeldItem)). failing t kept ∷ xs) (remaining_same held good.1)
 
 -- ---- one test after another
-failing_more : (a b : Bool) (x : Kept) (u v w : List Kept) → v ≡ w → u ≡ w →
+failing_more : (a b : Bool) (x : HeldItem) (u v w : List HeldItem) → v ≡ w → u ≡ w →
     cond (not a) (cond (not b) (x ∷ v) v) v ≡ cond (not (a || b)) (x ∷ w) w
 failing_more true b x u v w e f = e
 failing_more false true x u v w e f = e
-failing_more false false x u v w e f = ap (λ (l : List Kept). x ∷ l) e
+failing_more false false x u v w e f = ap (λ (l : List HeldItem). x ∷ l) e
 
-failing_cond : (a : Bool) (s : Item → Bool) (x : Kept) (xs : List Kept) →
+failing_cond : (a : Bool) (s : Item → Bool) (x : HeldItem) (xs : List HeldItem) →
     failing s (cond a (x ∷ xs) xs) ≡ cond a (cond (not (s x.item)) (x ∷ failing s xs) (failing s xs)) (failing s xs)
 failing_cond true s x xs = refl
 failing_cond false s x xs = refl
 
-failing_twice : (first second : Item → Bool) (kept : List Kept) →
+failing_twice : (first second : Item → Bool) (kept : List HeldItem) →
     failing second (failing first kept) ≡ failing (λ x. first x || second x) kept
 failing_twice first second [] = refl
 failing_twice first second (x ∷ kept) =
@@ -67,12 +67,12 @@ failing_twice first second (x ∷ kept) =
     ∙ failing_more (first x.item) (second x.item) x (failing second (failing first kept)) (failing second (failing first kept))
     (failing (λ y. first y || second y) kept) (failing_twice first second kept) (failing_twice first second kept)
 
-pub remaining_twice : (first second : Item → Bool) (held : List (List Kept)) →
+pub remaining_twice : (first second : Item → Bool) (held : List (List HeldItem)) →
     remaining second (remaining first held) ≡ remaining (λ x. first x || second x) held
 remaining_twice first second [] = refl
 remaining_twice first second (kept ∷ held) =
-    ap (λ (xs : List Kept). xs ∷ remaining second (remaining first held)) (failing_twice first second kept)
-    ∙ ap (λ (xs : List (List Kept)). failing (λ x. first x || second x) kept ∷ xs) (remaining_twice first second held)
+    ap (λ (xs : List HeldItem). xs ∷ remaining second (remaining first held)) (failing_twice first second kept)
+    ∙ ap (λ (xs : List (List HeldItem)). failing (λ x. first x || second x) kept ∷ xs) (remaining_twice first second held)
 
 -- ---- the tests of the layers
 and_true : (a b : Bool) → a ≡ true → (a && b) ≡ b

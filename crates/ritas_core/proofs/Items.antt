@@ -3,15 +3,15 @@ use Rattle.std.proofs.Common.{◌≡◌, List, length}
 use Rattle.std.specs.declared.alloc.Global.{Global}
 use Rattle.std.specs.declared.collections.VecDeque.{VecDeque}
 use Rattle.ritas_base.specs.declared.item.Item.{Item}
-use Rattle.ooc_buffers.specs.Lists.{Kept}
+use Rattle.ooc_buffers.specs.Lists.{HeldItem}
 use Rattle.ritas_core.specs.declared.kernel.Core.{Core}
 use Rattle.ritas_core.specs.Rules.{Rules}
 use Rattle.ritas_core.specs.Machine.{CoreState, AreGood}
 use Rattle.ritas_core.specs.Stands.{Meaning, CoreStands, AreGoodLists}
 
 -- a core with these items stands for the state with the same ones
-pub with_items : {S E C T : Type 0} (m : Meaning S E C T) (old : Core S E C T) (q : VecDeque Item Global) (h : List (List Kept)) (r : Rules) (st : CoreState)
-    (inbox : List Item) (held : List (List Kept)) → q.items ≡ inbox → h ≡ held → length held ≡ r.casts.numbers.n → AreGood r inbox → AreGoodLists r held →
+pub with_items : {S E C T : Type 0} (m : Meaning S E C T) (old : Core S E C T) (q : VecDeque Item Global) (h : List (List HeldItem)) (r : Rules) (st : CoreState)
+    (inbox : List Item) (held : List (List HeldItem)) → q.items ≡ inbox → h ≡ held → length held ≡ r.casts.numbers.n → AreGood r inbox → AreGoodLists r held →
     CoreStands m old r st → CoreStands m (record old { inbox = q; held = h }) r (record st { inbox = inbox; held = held })
 with_items m old q h r st inbox held same_inbox same_held peers good_inbox good_held stands = record {
   rules = stands.rules;

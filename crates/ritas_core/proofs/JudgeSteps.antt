@@ -6,7 +6,7 @@ use Rattle.ritas_base.specs.declared.item.Item.{Item}
 use Rattle.ritas_base.specs.declared.item.Kind.TheVariants.{Column}
 use Rattle.ritas_base.specs.Messages.{kind_eq}
 use Rattle.layer_api.specs.Broadcast.{is_of_origin, is_for_origin, MayTake}
-use Rattle.ooc_buffers.specs.Lists.{Kept, is_kept, held_bytes}
+use Rattle.ooc_buffers.specs.Lists.{HeldItem, is_held, held_bytes}
 use Rattle.ritas_core.specs.declared.fault.CoreFault.TheVariants as faults
 use Rattle.ritas_core.specs.declared.verdict.Verdict.{Verdict}
 use Rattle.ritas_core.specs.declared.verdict.Verdict.TheVariants as verdicts
@@ -96,13 +96,13 @@ never_mem false false false false false true room mark bytes h = cc
 never_mem false false false false false false true mark bytes h = cc
 never_mem false false false false false false false mark bytes h = cc
 
-pub verdict_not_mem : (r : Rules) (p : Parts) (held : List (List Kept)) (item : Item) → verdict_on r p held item ≡ verdicts.Refuse faults.Mem → ⊥
+pub verdict_not_mem : (r : Rules) (p : Parts) (held : List (List HeldItem)) (item : Item) → verdict_on r p held item ≡ verdicts.Refuse faults.Mem → ⊥
 verdict_not_mem r p held item h =
     never_mem (is_not_origin item) (is_not_for r.casts.me item) (is_item_past r p item) (is_item_ahead r p item) _ _ _ _ _
     (sym (verdict_by r p held item _ _ _ _ _ _ _ refl refl refl refl refl refl refl) ∙ h)
 
 module _ {S E C T : Type 0} (m : Meaning S E C T) (layers : Layers S E C T) (laws : LayerLaws (rules_of m layers))
-    (p : Parts) (stood : LayersStand m layers p) (held : List (List Kept)) (item : Item) (good : IsGood (rules_of m layers) item)
+    (p : Parts) (stood : LayersStand m layers p) (held : List (List HeldItem)) (item : Item) (good : IsGood (rules_of m layers) item)
     (found : is_item_past (rules_of m layers) p item ≡ false → is_repeat (rules_of m layers) p held item ≡ is_found (rules_of m layers) p held item) where
   open_is : is_open (rules_of m layers) p item
       ≡ opens_by (is_item_past (rules_of m layers) p item) (is_item_ahead (rules_of m layers) p item) (is_let_in m layers p item)
@@ -110,23 +110,23 @@ module _ {S E C T : Type 0} (m : Meaning S E C T) (layers : Layers S E C T) (law
       (sym (let_same m layers laws p stood item good))
 
   verdict_is : verdict_on (rules_of m layers) p held item
-      ≡ settled (judged_in m layers p (is_kept held item) item) (is_taken_again (rules_of m layers) p item) (has_room held item) (held_bytes held item.from)
+      ≡ settled (judged_in m layers p (is_held held item) item) (is_taken_again (rules_of m layers) p item) (has_room held item) (held_bytes held item.from)
   verdict_is =
       let r = rules_of m layers in
       verdict_by r p held item (is_not_origin item) (is_not_for r.casts.me item) (is_item_past r p item) (is_item_ahead r p item) (is_repeat r p held item) _
       (has_room held item) refl refl refl refl refl open_is refl
       ∙ looked_up (is_not_origin item) (is_not_for r.casts.me item) (is_item_past r p item) (is_item_ahead r p item) (is_repeat r p held item) _ _ (has_room held item)
       (mark_of r p item.slot) (held_bytes held item.from)
-      (λ near. found near ∙ is_found_by r p held item _ (is_taken_again r p item) (kind_eq item.kind Column) (is_kept held item) open_is refl refl refl)
+      (λ near. found near ∙ is_found_by r p held item _ (is_taken_again r p item) (kind_eq item.kind Column) (is_held held item) open_is refl refl refl)
       ∙ settles (is_not_origin item) (is_not_for r.casts.me item) (is_item_past r p item) (is_item_ahead r p item) (is_let_in m layers p item)
-      (kind_eq item.kind Column) (is_kept held item) (is_taken_again r p item) (has_room held item) (mark_of r p item.slot) (held_bytes held item.from)
+      (kind_eq item.kind Column) (is_held held item) (is_taken_again r p item) (has_room held item) (mark_of r p item.slot) (held_bytes held item.from)
 
-  may_take : judged_in m layers p (is_kept held item) item ≡ verdicts.Take →
+  may_take : judged_in m layers p (is_held held item) item ≡ verdicts.Take →
       MayTake ((rules_of m layers).casts.at_slot item.slot) (place_at (rules_of m layers).casts item.slot) (rules_of m layers).casts.tags (p.calls item.slot) item
   may_take takes =
       let r = rules_of m layers in
       let told = takes_by (is_not_origin item) (is_not_for r.casts.me item) (is_item_past r p item) (is_item_ahead r p item) (is_let_in m layers p item)
-      (kind_eq item.kind Column) (is_kept held item) (mark_of r p item.slot) takes in
+      (kind_eq item.kind Column) (is_held held item) (mark_of r p item.slot) takes in
       let let_in = right_true (not (is_item_ahead r p item)) _ (right_true (not (is_item_past r p item)) _ told.opened) in
       record {
         here = refl;
@@ -138,22 +138,22 @@ module _ {S E C T : Type 0} (m : Meaning S E C T) (layers : Layers S E C T) (law
         in_time = right_true (m.service.opens (seat_of r) p.words item.slot) _ (sym (let_same m layers laws p stood item good) ∙ let_in);
       }
 
-  to_take : judged_in m layers p (is_kept held item) item ≡ verdicts.Take → IsToTake (rules_of m layers) p held item
+  to_take : judged_in m layers p (is_held held item) item ≡ verdicts.Take → IsToTake (rules_of m layers) p held item
   to_take takes =
       let r = rules_of m layers in
       record {
         may = may_take takes;
         opened = open_is
             ∙ (takes_by (is_not_origin item) (is_not_for r.casts.me item) (is_item_past r p item) (is_item_ahead r p item) (is_let_in m layers p item)
-            (kind_eq item.kind Column) (is_kept held item) (mark_of r p item.slot) takes).opened;
+            (kind_eq item.kind Column) (is_held held item) (mark_of r p item.slot) takes).opened;
         verdict = verdict_is ∙ ap (λ (v : Verdict). settled v (is_taken_again r p item) (has_room held item) (held_bytes held item.from)) takes;
       }
 
-  settled_by : (v : Verdict) → judged_in m layers p (is_kept held item) item ≡ v → verdict_on (rules_of m layers) p held item
+  settled_by : (v : Verdict) → judged_in m layers p (is_held held item) item ≡ v → verdict_on (rules_of m layers) p held item
       ≡ settled v (is_taken_again (rules_of m layers) p item) (has_room held item) (held_bytes held item.from)
   settled_by v is = verdict_is ∙ ap (λ (u : Verdict). settled u (is_taken_again (rules_of m layers) p item) (has_room held item) (held_bytes held item.from)) is
 
-  pub judged_from : (v : Verdict) → v ≡ judged_in m layers p (is_kept held item) item → Judged (rules_of m layers) p held item v
+  pub judged_from : (v : Verdict) → v ≡ judged_in m layers p (is_held held item) item → Judged (rules_of m layers) p held item v
   judged_from (verdicts.Refuse fault) is = settled_by (verdicts.Refuse fault) (sym is)
   judged_from verdicts.Again is = settled_by verdicts.Again (sym is)
   judged_from verdicts.Hold is = settled_by verdicts.Hold (sym is)

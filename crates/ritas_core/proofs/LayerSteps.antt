@@ -13,7 +13,7 @@ use Rattle.ritas_core.specs.Casts.{news_at}
 use Rattle.ritas_core.specs.CastCalls.{CanTake, CastsTake}
 use Rattle.ritas_core.specs.Parts.{Parts, Took, told_news, heard_at, heard_news, taken_at, item_delivers, made_by}
 use Rattle.ritas_core.specs.Stands.{Meaning, rules_of, LayersStand, LayersShow}
-use Rattle.ritas_core.specs.LayerCalls.{MayFollow, CanTakeItem, CanTell, Tells, TellsNone, TakesItem, TakesNone}
+use Rattle.ritas_core.specs.LayerCalls.{MayFollow, CanTakeItem, CanTell, TellsLayers, TellsNoLayer, TakesItem, LayersTakeNone}
 use Rattle.ritas_core.proofs.Starts.{appended_more}
 use Rattle.ritas_core.proofs.ShownLayers.{MeansWell, heard_fails}
 
@@ -35,7 +35,7 @@ module _ {S E C T : Type 0} (m : Meaning S E C T) (old new : Layers S E C T) (ca
     stood = record { service = can.stood.service; casts = takes.grows p.calls (can_take p can) };
   }
 
-  pub heard_item : Tells m (record old { casts = casts }) new (Hear item.slot told_value) between after_it → TakesItem m old new item before after_it
+  pub heard_item : TellsLayers m (record old { casts = casts }) new (Hear item.slot told_value) between after_it → TakesItem m old new item before after_it
   heard_item tells = record {
     grows = λ p can may.
         subst (λ (d : Option (List ℕ)). LayersStand m new (heard_at (rules_of m old) item.slot d (taken_at item p))) (sym (delivers p can))
@@ -52,7 +52,7 @@ module _ {S E C T : Type 0} (m : Meaning S E C T) (old new : Layers S E C T) (ca
   }
 
   -- for want of memory it didn't
-  pub heard_none : MeansWell m → TellsNone m (record old { casts = casts }) new (Hear item.slot told_value) → TakesNone m old new item
+  pub heard_none : MeansWell m → TellsNoLayer m (record old { casts = casts }) new (Hear item.slot told_value) → LayersTakeNone m old new item
   heard_none well tells = record {
     shows = λ p can may proper.
         subst (λ (d : Option (List ℕ)). LayersShow m new (rules_of m old) p (heard_at (rules_of m old) item.slot d (taken_at item p))) (sym (delivers p can))

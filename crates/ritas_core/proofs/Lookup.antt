@@ -20,10 +20,10 @@ use Rattle.layer_api.specs.Broadcast.{BroadcastRules}
 use Rattle.layer_api.specs.OneValue.{ValueLaws}
 use Rattle.layer_api.specs.Service.{ServiceRules, Seat, is_past, is_ahead, AreProper, WordLaws}
 use Rattle.layer_api.specs.Words.{Word, Ask, Hear}
-use Rattle.ooc_buffers.specs.Lists.{Kept, is_kept}
+use Rattle.ooc_buffers.specs.Lists.{HeldItem, is_held}
 use Rattle.ritas_core.specs.Rules.{Rules, seat_of, place_at}
 use Rattle.ritas_core.specs.Casts.{called, started_all}
-use Rattle.ritas_core.specs.Parts.{Entry, Took, Given, Parts, parts, told_to, heard_at, taken_at, item_delivers}
+use Rattle.ritas_core.specs.Parts.{Entry, Took, Given, Parts, parts, service_told, heard_at, taken_at, item_delivers}
 use Rattle.ritas_core.specs.Checks.{is_item_past, is_item_ahead, is_open, is_taken_again, was_taken, is_repeat, is_found, IsGood, IsTakable, IsHistory}
 use Rattle.ritas_core.specs.Laws.{LayerLaws}
 use Rattle.ritas_core.proofs.TestLaws.{left_true, right_true}
@@ -78,7 +78,7 @@ IsOpenWhereTaken r p = (s : Slot) (k : ℕ) (kind : Kind) → is_some (first (p.
     IsStillOpen r.service (seat_of r) p.words s
 
 open_told : (r : Rules) → LayerLaws r → (c : Word) (p : Parts) → AreProper r.service (seat_of r) (c ∷ p.words) → IsOpenWhereTaken r p →
-    IsOpenWhereTaken r (told_to r c p)
+    IsOpenWhereTaken r (service_told r c p)
 open_told r laws c p proper all s k kind taken near =
     let says = r.service.says (seat_of r) p.words c in
     let still = all s k kind (sym (ap is_some (first_starts says p.calls s k kind)) ∙ taken)
@@ -145,10 +145,10 @@ found_by false false again true kept same opens = let wrong = opens refl refl in
 found_by false false again false kept same opens = refl
 
 -- what a core looks up is whether an item repeats another, as long as its window isn't past
-pub found_repeat : (r : Rules) → LayerLaws r → (h : List Entry) → IsHistory r h → (held : List (List Kept)) (item : Item) → IsGood r item →
+pub found_repeat : (r : Rules) → LayerLaws r → (h : List Entry) → IsHistory r h → (held : List (List HeldItem)) (item : Item) → IsGood r item →
     is_item_past r (parts r h) item ≡ false → is_repeat r (parts r h) held item ≡ is_found r (parts r h) held item
 found_repeat r laws h met held item good near =
     let p = parts r h in
-    found_by (kind_eq item.kind Column) (is_open r p item) (is_taken_again r p item) (was_taken p item) (is_kept held item)
+    found_by (kind_eq item.kind Column) (is_open r p item) (is_taken_again r p item) (was_taken p item) (is_held held item)
     ((laws.casts item.slot).repeats_is (place_at r.casts item.slot) r.casts.tags (p.calls item.slot) item)
     (λ other taken. open_if_taken r laws h met item good other taken near)

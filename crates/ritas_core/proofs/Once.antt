@@ -10,10 +10,10 @@ use Rattle.ritas_base.specs.SlotOrder.{is_slot}
 use Rattle.ritas_base.specs.History.{Call, Start, Take}
 use Rattle.layer_api.specs.Runs.{Has}
 use Rattle.layer_api.specs.HasLaws.{has_either}
-use Rattle.layer_api.specs.OneValue.{AreTaken, AreFirst, IsReceiver, IsOnce}
+use Rattle.layer_api.specs.OneValue.{AreTaken, RepeatNone, IsReceiver, IsOnce}
 use Rattle.layer_api.specs.OnceLaws.{once_append}
 use Rattle.layer_api.specs.Words.{Ask, Hear}
-use Rattle.ritas_core.specs.Rules.{Rules, CastRules, seat_of, place_at, due_at}
+use Rattle.ritas_core.specs.Rules.{Rules, CastRules, seat_of, place_at, due_at_slot}
 use Rattle.ritas_core.specs.Casts.{called, start_news, news_at, MayStartAll}
 use Rattle.ritas_core.specs.Parts.{Entry, Took, Given, Parts, parts, heard_news, taken_at, item_delivers, made_by}
 use Rattle.ritas_core.specs.Order.{is_before, inserted, ordered_onto, ordered, new_messages}
@@ -88,9 +88,9 @@ new_apart was true now a b is_a is_b there = is_b ∙ never now
 new_apart was false now a b is_a is_b there = absurd (cc)
 
 news_once : (r : Rules) → LayerLaws r → (s : Slot) (calls : List Call) (c : Call) → AreTaken (r.casts.at_slot s) (place_at r.casts s) r.casts.tags (c ∷ calls) →
-    AreFirst (r.casts.at_slot s) (place_at r.casts s) r.casts.tags (c ∷ calls) → IsOnce (news_at r.casts s calls c)
+    RepeatNone (r.casts.at_slot s) (place_at r.casts s) r.casts.tags (c ∷ calls) → IsOnce (news_at r.casts s calls c)
 news_once r laws s calls c taken first_ones =
-    once_without (due_at r.casts s calls) (due_at r.casts s (c ∷ calls))
+    once_without (due_at_slot r.casts s calls) (due_at_slot r.casts s (c ∷ calls))
     ((laws.casts s).due_once (place_at r.casts s) r.casts.tags (c ∷ calls) taken first_ones)
 
 -- the calls at each slot met their conditions, and none repeats an earlier one
@@ -148,7 +148,7 @@ AreFor r ms = (m : Msg) → Has ms m → IsReceiver r.casts.numbers.n m.to
 news_for : (r : Rules) → LayerLaws r → (s : Slot) (calls : List Call) (c : Call) → s.origin < r.casts.numbers.n → AreFor r (news_at r.casts s calls c)
 news_for r laws s calls c below m there =
     (laws.casts s).due_to (place_at r.casts s) r.casts.tags (c ∷ calls) m below
-    (has_without_from (due_at r.casts s calls) (due_at r.casts s (c ∷ calls)) m there)
+    (has_without_from (due_at_slot r.casts s calls) (due_at_slot r.casts s (c ∷ calls)) m there)
 
 append_for : (r : Rules) (xs ys : List Msg) → AreFor r xs → AreFor r ys → AreFor r (xs ++ ys)
 append_for r xs ys left right m there = elim (has_either xs ys m there) [ inl a ↦ left m a | inr b ↦ right m b ]

@@ -15,14 +15,14 @@ use Rattle.reliable_bcast.specs.Bracha.{bracha}
 use Rattle.reliable_bcast.specs.State.{state_of}
 use Rattle.reliable_bcast.specs.declared.digest_rb.DigestRb.{DigestRb}
 use Rattle.reliable_bcast.specs.Digests.{by_digest}
-use Rattle.reliable_bcast.specs.DigestState.{Keeps, shown_of}
+use Rattle.reliable_bcast.specs.DigestState.{KeepsDigests, digest_shown}
 use Rattle.reliable_bcast.specs.Laws.DigestShown.{shows_cast}
 use Rattle.ritas_core.specs.declared.cast.Cast.{Cast}
 use Rattle.ritas_core.specs.declared.cast.Cast.TheVariants.{Plain, Digest, Other}
 use Rattle.ritas_core.specs.declared.route.Route.{Route}
 use Rattle.ritas_core.specs.declared.route.Route.TheVariants as routes
 use Rattle.ritas_core.specs.Rules.{rules_by}
-use Rattle.ritas_core.specs.SlotCast.{CastStands, is_live, shown_by}
+use Rattle.ritas_core.specs.SlotCast.{CastStands, is_cast_live, shown_by_cast}
 
 -- a value that stands for calls where one inside does, by the same rules
 module _ {A B : Type 0} (stands : A → Place → Tags → List Call → Type 0) (r : BroadcastRules) (live : A → Bool) (shown : A → CastShown)
@@ -119,42 +119,42 @@ module _ {E : Type 0} (stands : E → Place → Tags → List Call → Type 0) (
   -- its getters answer what the rules say of the calls that it stands for
   pub shows_at : ((e : E) (at : Place) (tags : Tags) (h : List Call) → stands e at tags h → (live e ≡ true) × ShowsCast rules at tags h (shown e)) →
       (route : Route) (cast : Cast E) (at : Place) (tags : Tags) (h : List Call) → CastStands route stands cast at tags h →
-      ShowsCast (rules_by route rules) at tags h (shown_by shown cast)
+      ShowsCast (rules_by route rules) at tags h (shown_by_cast shown cast)
   shows_at shows route (Plain b) at tags h stood =
-      subst (λ (x : BroadcastRules). ShowsCast x at tags h (shown_by shown (Plain b))) (route_rules route routes.Values rules stood.0)
+      subst (λ (x : BroadcastRules). ShowsCast x at tags h (shown_by_cast shown (Plain b))) (route_rules route routes.Values rules stood.0)
       (record { out = ap (λ (x : Rb). x.delivered) stood.1; ready = λ i. refl })
   shows_at shows route (Digest b) at tags h stood =
-      subst (λ (x : BroadcastRules). ShowsCast x at tags h (shown_of b)) (route_rules route routes.Digests rules stood.0) (shows_cast b at tags h stood.1)
+      subst (λ (x : BroadcastRules). ShowsCast x at tags h (digest_shown b)) (route_rules route routes.Digests rules stood.0) (shows_cast b at tags h stood.1)
   shows_at shows route (Other e) at tags h stood =
       subst (λ (x : BroadcastRules). ShowsCast x at tags h (shown e)) (route_rules route routes.Other rules stood.0) (shows e at tags h stood.1).1
 
   module _ (route : Route) (t : Tagging) (before after : List Msg) where
     pub plain_takes : (cast : Cast E) (old new : Rb) → cast ≡ Plain old → (item : Item) (result : Result Heard Mem) →
         Takes (λ b at tags h. b ≡ state_of at h) bracha (λ b. b.live) RbShown t old new item before after result →
-        Takes (CastStands route stands) (rules_by route rules) (is_live live) (shown_by shown) t cast (Plain new) item before after result
+        Takes (CastStands route stands) (rules_by route rules) (is_cast_live live) (shown_by_cast shown) t cast (Plain new) item before after result
     plain_takes cast old new is item result does =
-        subst (λ (x : Cast E). Takes (CastStands route stands) (rules_by route rules) (is_live live) (shown_by shown) t x (Plain new) item before after result) (sym is)
+        subst (λ (x : Cast E). Takes (CastStands route stands) (rules_by route rules) (is_cast_live live) (shown_by_cast shown) t x (Plain new) item before after result) (sym is)
         (takes_out (λ (b : Rb) at tags h. b ≡ state_of at h) bracha (λ b. b.live) RbShown
-        (CastStands route stands) (rules_by route rules) (is_live live) (shown_by shown) (λ b. Plain b)
+        (CastStands route stands) (rules_by route rules) (is_cast_live live) (shown_by_cast shown) (λ b. Plain b)
         (route ≡ routes.Values) (route_rules route routes.Values rules) (λ a at tags h stood. stood) (λ a at tags h plain stood. (plain, stood)) (λ a. refl) (λ a. refl)
         t old new before after item result does)
 
     pub digest_takes : (cast : Cast E) (old new : DigestRb) → cast ≡ Digest old → (item : Item) (result : Result Heard Mem) →
-        Takes Keeps by_digest (λ b. b.live) shown_of t old new item before after result →
-        Takes (CastStands route stands) (rules_by route rules) (is_live live) (shown_by shown) t cast (Digest new) item before after result
+        Takes KeepsDigests by_digest (λ b. b.live) digest_shown t old new item before after result →
+        Takes (CastStands route stands) (rules_by route rules) (is_cast_live live) (shown_by_cast shown) t cast (Digest new) item before after result
     digest_takes cast old new is item result does =
-        subst (λ (x : Cast E). Takes (CastStands route stands) (rules_by route rules) (is_live live) (shown_by shown) t x (Digest new) item before after result) (sym is)
-        (takes_out Keeps by_digest (λ b. b.live) shown_of
-        (CastStands route stands) (rules_by route rules) (is_live live) (shown_by shown) (λ b. Digest b)
+        subst (λ (x : Cast E). Takes (CastStands route stands) (rules_by route rules) (is_cast_live live) (shown_by_cast shown) t x (Digest new) item before after result) (sym is)
+        (takes_out KeepsDigests by_digest (λ b. b.live) digest_shown
+        (CastStands route stands) (rules_by route rules) (is_cast_live live) (shown_by_cast shown) (λ b. Digest b)
         (route ≡ routes.Digests) (route_rules route routes.Digests rules) (λ a at tags h stood. stood) (λ a at tags h plain stood. (plain, stood)) (λ a. refl) (λ a. refl)
         t old new before after item result does)
 
     pub digest_starts : (cast : Cast E) (old new : DigestRb) → cast ≡ Digest old → (value : List ℕ) (result : Result (Unit {0}) Mem) →
-        Started Keeps by_digest (λ b. b.live) shown_of t old new value before after result →
-        Started (CastStands route stands) (rules_by route rules) (is_live live) (shown_by shown) t cast (Digest new) value before after result
+        Started KeepsDigests by_digest (λ b. b.live) digest_shown t old new value before after result →
+        Started (CastStands route stands) (rules_by route rules) (is_cast_live live) (shown_by_cast shown) t cast (Digest new) value before after result
     digest_starts cast old new is value result does =
-        subst (λ (x : Cast E). Started (CastStands route stands) (rules_by route rules) (is_live live) (shown_by shown) t x (Digest new) value before after result) (sym is)
-        (starts_out Keeps by_digest (λ b. b.live) shown_of
-        (CastStands route stands) (rules_by route rules) (is_live live) (shown_by shown) (λ b. Digest b)
+        subst (λ (x : Cast E). Started (CastStands route stands) (rules_by route rules) (is_cast_live live) (shown_by_cast shown) t x (Digest new) value before after result) (sym is)
+        (starts_out KeepsDigests by_digest (λ b. b.live) digest_shown
+        (CastStands route stands) (rules_by route rules) (is_cast_live live) (shown_by_cast shown) (λ b. Digest b)
         (route ≡ routes.Digests) (route_rules route routes.Digests rules) (λ a at tags h stood. stood) (λ a at tags h plain stood. (plain, stood)) (λ a. refl) (λ a. refl)
         t old new before after value result does)

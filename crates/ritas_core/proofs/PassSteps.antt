@@ -11,7 +11,7 @@ use Rattle.ritas_core.specs.declared.verdict.Verdict.TheVariants as verdicts
 use Rattle.ritas_core.specs.declared.layers.Layers.{Layers}
 use Rattle.ritas_core.specs.declared.kernel.Core.{Core}
 use Rattle.ritas_core.specs.Stands.{Meaning}
-use Rattle.ritas_core.specs.LayerCalls.{SameSeat, Tells, TellsNone}
+use Rattle.ritas_core.specs.LayerCalls.{SameSeat, TellsLayers, TellsNoLayer}
 use Rattle.ritas_core.specs.CoreCalls.{rules_in, Finishes, Withdraws, StopsCore, GivesLayers, DoesJudged}
 use Rattle.ritas_core.specs.Parts.{Took, Given, parts}
 use Rattle.ritas_core.proofs.Conditions.{words_proper}
@@ -62,7 +62,7 @@ module _ {S E C T : Type 0} (m : Meaning S E C T) (well : MeansWell m) where
 
   -- an input that the layers had no memory for
   pub input_fails : (old : Core S E C T) (mid : Layers S E C T) (value : List ℕ) (sent : List Msg) → SameSeat old.layers mid →
-      TellsNone m old.layers mid (Ask value) → StopsCore m old (record old { layers = mid }) (Given value) sent sent
+      TellsNoLayer m old.layers mid (Ask value) → StopsCore m old (record old { layers = mid }) (Given value) sent sent
   input_fails old mid value sent seat tells =
       let r = rules_in m old in
       record {
@@ -77,7 +77,7 @@ module _ {S E C T : Type 0} (m : Meaning S E C T) (well : MeansWell m) where
 
   -- or there was none for what was made
   pub input_withdraws : (old new : Core S E C T) (mid : Layers S E C T) (value : List ℕ) (start made before after_it : List Msg) → SameSeat old.layers mid →
-      Tells m old.layers mid (Ask value) start made → Withdraws (record old { layers = mid }) new before after_it →
+      TellsLayers m old.layers mid (Ask value) start made → Withdraws (record old { layers = mid }) new before after_it →
       StopsCore m old new (Given value) before after_it
   input_withdraws old new mid value start made before after_it seat tells back =
       stops_after m well old new mid (Given value) before after_it seat back

@@ -13,15 +13,15 @@ use Rattle.layer_api.specs.Words.{Word, Ask, Hear}
 use Rattle.layer_api.specs.ServiceCalls.{ServiceShown, Shows, ShowsBetween}
 use Rattle.ritas_core.specs.declared.layers.Layers.{Layers}
 use Rattle.ritas_core.specs.declared.cast.Cast.{Cast}
-use Rattle.ritas_core.specs.Rules.{Rules, seat_of, out_at}
-use Rattle.ritas_core.specs.SlotCast.{CastStandsAt, shown_by}
+use Rattle.ritas_core.specs.Rules.{Rules, seat_of, out_at_slot}
+use Rattle.ritas_core.specs.SlotCast.{CastStandsAt, shown_by_cast}
 use Rattle.ritas_core.specs.Casts.{CastsShowAt}
 use Rattle.ritas_core.specs.CastCalls.{CanTake, CastsFail}
-use Rattle.ritas_core.specs.Parts.{Parts, Entry, Took, Given, parts, told_to, heard_at, taken_at, item_delivers}
+use Rattle.ritas_core.specs.Parts.{Parts, Entry, Took, Given, parts, service_told, heard_at, taken_at, item_delivers}
 use Rattle.ritas_core.specs.Checks.{IsHistory}
 use Rattle.ritas_core.specs.Laws.{LayerLaws}
 use Rattle.ritas_core.specs.Stands.{Meaning, rules_of, LayersStand, LayersShow}
-use Rattle.ritas_core.specs.LayerCalls.{MayTell, MayFollow, CanTell, TellsNone, CanTakeItem, TakesNone}
+use Rattle.ritas_core.specs.LayerCalls.{MayTell, MayFollow, CanTell, TellsNoLayer, CanTakeItem, LayersTakeNone}
 use Rattle.ritas_core.proofs.Conditions.{words_proper}
 use Rattle.ritas_core.proofs.ShownCasts.{stands_shown, out_started}
 
@@ -92,7 +92,7 @@ proper_heard r s (Some v) p may proper = (may.0, proper)
 
 module _ {S E C T : Type 0} (m : Meaning S E C T) (well : MeansWell m) where
   -- ---- layers that stand for some parts
-  exact : (layers : Layers S E C T) (p : Parts) → LayersStand m layers p → CastsShowAt (shown_by m.cast_shown) (rules_of m layers).casts layers.casts p.calls
+  exact : (layers : Layers S E C T) (p : Parts) → LayersStand m layers p → CastsShowAt (shown_by_cast m.cast_shown) (rules_of m layers).casts layers.casts p.calls
   exact layers p stood =
       stands_shown layers.mode m.cast_stands m.cast well.live m.cast_shown well.cast_shows well.values layers.params layers.me (m.tags layers.tagger) layers.casts p.calls stood.casts
 
@@ -120,13 +120,13 @@ module _ {S E C T : Type 0} (m : Meaning S E C T) (well : MeansWell m) where
   -- ---- a word that the service had no memory for, or what it says to that
   pub service_fails : (old : Layers S E C T) (service : S) (word : Word) →
       ((p : Parts) → CanTell m old word p → ShowsBetween m.service (seat_of (rules_of m old)) p.words (word ∷ p.words) (m.service_shown service)) →
-      TellsNone m old (record old { service = service }) word
+      TellsNoLayer m old (record old { service = service }) word
   service_fails old service word near p can proper = record { service = near p can; casts = λ s. inl (exact old p can.stood s) }
 
   pub starts_fail : (old : Layers S E C T) (service : S) (casts : BTreeMap Slot (Cast E)) (word : Word) →
       ((p : Parts) → CanTell m old word p → m.service_stands service (seat_of (rules_of m old)) (word ∷ p.words)) →
-      ((p : Parts) → CanTell m old word p → CastsShowAt (shown_by m.cast_shown) (rules_of m old).casts casts p.calls) →
-      TellsNone m old (record old { service = service; casts = casts }) word
+      ((p : Parts) → CanTell m old word p → CastsShowAt (shown_by_cast m.cast_shown) (rules_of m old).casts casts p.calls) →
+      TellsNoLayer m old (record old { service = service; casts = casts }) word
   starts_fail old service casts word grows fewer p can proper =
       let seat = seat_of (rules_of m old) in
       record {
@@ -138,15 +138,15 @@ module _ {S E C T : Type 0} (m : Meaning S E C T) (well : MeansWell m) where
 
   -- ---- an item that its broadcast had no memory for
   out_heard : (layers : Layers S E C T) (x : Slot) (d : Option (List ℕ)) (p : Parts) (s : Slot) →
-      out_at (rules_of m layers).casts s ((heard_at (rules_of m layers) x d p).calls s) ≡ out_at (rules_of m layers).casts s (p.calls s)
+      out_at_slot (rules_of m layers).casts s ((heard_at (rules_of m layers) x d p).calls s) ≡ out_at_slot (rules_of m layers).casts s (p.calls s)
   out_heard layers x None p s = refl
   out_heard layers x (Some v) p s =
       out_started layers.mode m.cast_stands m.cast well.live m.cast_shown well.cast_shows well.values layers.params layers.me (m.tags layers.tagger)
       (m.service.says (seat_of (rules_of m layers)) p.words (Hear x v)) p.calls s
 
   pub cast_fails : (old : Layers S E C T) (casts : BTreeMap Slot (Cast E)) (item : Item) →
-      CastsFail (CastStandsAt old.mode m.cast_stands) (shown_by m.cast_shown) (rules_of m old).casts (m.me old.tagger) old.casts casts item →
-      TakesNone m old (record old { casts = casts }) item
+      CastsFail (CastStandsAt old.mode m.cast_stands) (shown_by_cast m.cast_shown) (rules_of m old).casts (m.me old.tagger) old.casts casts item →
+      LayersTakeNone m old (record old { casts = casts }) item
   cast_fails old casts item fails =
       let r = rules_of m old in
       let can_take : (p : Parts) → CanTakeItem m old item p → CanTake (CastStandsAt old.mode m.cast_stands) r.casts (m.me old.tagger) old.casts item p.calls = λ p can.
@@ -166,8 +166,8 @@ module _ {S E C T : Type 0} (m : Meaning S E C T) (well : MeansWell m) where
 
   -- an item that was taken by its broadcast, where the service had no memory for what that delivers, or for what it says
   pub heard_fails : (old new : Layers S E C T) (item : Item) (p : Parts) (v : List ℕ) →
-      LayersShow m new (rules_of m old) (taken_at item p) (told_to (rules_of m old) (Hear item.slot v) (taken_at item p)) →
-      LayersShow m new (rules_of m old) p (told_to (rules_of m old) (Hear item.slot v) (taken_at item p))
+      LayersShow m new (rules_of m old) (taken_at item p) (service_told (rules_of m old) (Hear item.slot v) (taken_at item p)) →
+      LayersShow m new (rules_of m old) p (service_told (rules_of m old) (Hear item.slot v) (taken_at item p))
   heard_fails old new item p v shows = record {
     service = shows.service;
     casts = λ s. elim (shows.casts s) [ inl e ↦ inr (e ∙ sym (out_heard old item.slot (Some v) (taken_at item p) s)) | inr e ↦ inr e ];

@@ -15,7 +15,8 @@ use Rattle.ritas_core.specs.Checks.{IsHistory}
 use Rattle.ritas_core.specs.Laws.{LayerLaws}
 use Rattle.ritas_core.specs.HeardLaws.{heard_delivered}
 use Rattle.ritas_core.specs.Machine.{with_entry}
-use Rattle.ritas_core.specs.LayerCalls.{is_behind, mark_shown, is_past_shown, hides_shown}
+use Rattle.layer_api.specs.Windows.{is_behind}
+use Rattle.ritas_core.specs.LayerCalls.{mark_shown, is_past_shown, hides_shown}
 use Rattle.ritas_core.specs.Shown.{delivered_at, is_hidden, shown_at}
 use Rattle.ritas_core.proofs.Conditions.{words_proper}
 use Rattle.ritas_core.proofs.GoodSlots.{slot_origin}

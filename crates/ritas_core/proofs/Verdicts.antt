@@ -8,7 +8,7 @@ use Rattle.ritas_base.specs.declared.item.Kind.TheVariants.{Column}
 use Rattle.ritas_base.specs.Messages.{kind_eq}
 use Rattle.frame_codec.specs.Inputs.{IsInput, input_fault}
 use Rattle.layer_api.specs.Broadcast.{is_of_origin, is_for_origin}
-use Rattle.ooc_buffers.specs.Lists.{Kept, is_kept, held_bytes}
+use Rattle.ooc_buffers.specs.Lists.{HeldItem, is_held, held_bytes}
 use Rattle.ritas_core.specs.declared.fault.CoreFault.{CoreFault}
 use Rattle.ritas_core.specs.declared.fault.CoreFault.TheVariants as faults
 use Rattle.ritas_core.specs.declared.verdict.Verdict.{Verdict}
@@ -46,7 +46,7 @@ by_tests not_origin not_for past ahead again opened room mark bytes =
     (cond opened verdicts.Take
     (cond room verdicts.Hold (verdicts.Refuse (faults.HeldFull bytes))))))))
 
-pub verdict_by : (r : Rules) (p : Parts) (held : List (List Kept)) (item : Item) (not_origin not_for past ahead again opened room : Bool) →
+pub verdict_by : (r : Rules) (p : Parts) (held : List (List HeldItem)) (item : Item) (not_origin not_for past ahead again opened room : Bool) →
     is_not_origin item ≡ not_origin → is_not_for r.casts.me item ≡ not_for → is_item_past r p item ≡ past → is_item_ahead r p item ≡ ahead →
     is_repeat r p held item ≡ again → is_open r p item ≡ opened → has_room held item ≡ room →
     verdict_on r p held item ≡ by_tests not_origin not_for past ahead again opened room (mark_of r p item.slot) (held_bytes held item.from)
@@ -68,49 +68,49 @@ verdict_by r p held item a b c d e f g is_a is_b is_c is_d is_e is_f is_g =
     ∙ ap (λ (x : Bool). by_tests a b c d e f x mark bytes) is_g
 
 -- ---- the verdict of the first test that decides
-pub verdict_not_origin : (r : Rules) (p : Parts) (held : List (List Kept)) (item : Item) → is_not_origin item ≡ true →
+pub verdict_not_origin : (r : Rules) (p : Parts) (held : List (List HeldItem)) (item : Item) → is_not_origin item ≡ true →
     verdict_on r p held item ≡ verdicts.Refuse faults.NotOrigin
 verdict_not_origin r p held item a = verdict_by r p held item _ _ _ _ _ _ _ a refl refl refl refl refl refl
 
-pub verdict_not_for : (r : Rules) (p : Parts) (held : List (List Kept)) (item : Item) → is_not_origin item ≡ false → is_not_for r.casts.me item ≡ true →
+pub verdict_not_for : (r : Rules) (p : Parts) (held : List (List HeldItem)) (item : Item) → is_not_origin item ≡ false → is_not_for r.casts.me item ≡ true →
     verdict_on r p held item ≡ verdicts.Refuse faults.NotForMe
 verdict_not_for r p held item a b = verdict_by r p held item _ _ _ _ _ _ _ a b refl refl refl refl refl
 
-pub verdict_past : (r : Rules) (p : Parts) (held : List (List Kept)) (item : Item) → is_not_origin item ≡ false → is_not_for r.casts.me item ≡ false →
+pub verdict_past : (r : Rules) (p : Parts) (held : List (List HeldItem)) (item : Item) → is_not_origin item ≡ false → is_not_for r.casts.me item ≡ false →
     is_item_past r p item ≡ true → verdict_on r p held item ≡ verdicts.Refuse (faults.Past (mark_of r p item.slot))
 verdict_past r p held item a b c = verdict_by r p held item _ _ _ _ _ _ _ a b c refl refl refl refl
 
-pub verdict_ahead : (r : Rules) (p : Parts) (held : List (List Kept)) (item : Item) → is_not_origin item ≡ false → is_not_for r.casts.me item ≡ false →
+pub verdict_ahead : (r : Rules) (p : Parts) (held : List (List HeldItem)) (item : Item) → is_not_origin item ≡ false → is_not_for r.casts.me item ≡ false →
     is_item_past r p item ≡ false → is_item_ahead r p item ≡ true → verdict_on r p held item ≡ verdicts.Refuse (faults.Ahead (mark_of r p item.slot))
 verdict_ahead r p held item a b c d = verdict_by r p held item _ _ _ _ _ _ _ a b c d refl refl refl
 
-pub verdict_again : (r : Rules) (p : Parts) (held : List (List Kept)) (item : Item) → is_not_origin item ≡ false → is_not_for r.casts.me item ≡ false →
+pub verdict_again : (r : Rules) (p : Parts) (held : List (List HeldItem)) (item : Item) → is_not_origin item ≡ false → is_not_for r.casts.me item ≡ false →
     is_item_past r p item ≡ false → is_item_ahead r p item ≡ false → is_repeat r p held item ≡ true → verdict_on r p held item ≡ verdicts.Again
 verdict_again r p held item a b c d e = verdict_by r p held item _ _ _ _ _ _ _ a b c d e refl refl
 
-pub verdict_take : (r : Rules) (p : Parts) (held : List (List Kept)) (item : Item) → is_not_origin item ≡ false → is_not_for r.casts.me item ≡ false →
+pub verdict_take : (r : Rules) (p : Parts) (held : List (List HeldItem)) (item : Item) → is_not_origin item ≡ false → is_not_for r.casts.me item ≡ false →
     is_item_past r p item ≡ false → is_item_ahead r p item ≡ false → is_repeat r p held item ≡ false → is_open r p item ≡ true →
     verdict_on r p held item ≡ verdicts.Take
 verdict_take r p held item a b c d e f = verdict_by r p held item _ _ _ _ _ _ _ a b c d e f refl
 
-pub verdict_hold : (r : Rules) (p : Parts) (held : List (List Kept)) (item : Item) → is_not_origin item ≡ false → is_not_for r.casts.me item ≡ false →
+pub verdict_hold : (r : Rules) (p : Parts) (held : List (List HeldItem)) (item : Item) → is_not_origin item ≡ false → is_not_for r.casts.me item ≡ false →
     is_item_past r p item ≡ false → is_item_ahead r p item ≡ false → is_repeat r p held item ≡ false → is_open r p item ≡ false →
     has_room held item ≡ true → verdict_on r p held item ≡ verdicts.Hold
 verdict_hold r p held item a b c d e f g = verdict_by r p held item _ _ _ _ _ _ _ a b c d e f g
 
-pub verdict_full : (r : Rules) (p : Parts) (held : List (List Kept)) (item : Item) → is_not_origin item ≡ false → is_not_for r.casts.me item ≡ false →
+pub verdict_full : (r : Rules) (p : Parts) (held : List (List HeldItem)) (item : Item) → is_not_origin item ≡ false → is_not_for r.casts.me item ≡ false →
     is_item_past r p item ≡ false → is_item_ahead r p item ≡ false → is_repeat r p held item ≡ false → is_open r p item ≡ false →
     has_room held item ≡ false → verdict_on r p held item ≡ verdicts.Refuse (faults.HeldFull (held_bytes held item.from))
 verdict_full r p held item a b c d e f g = verdict_by r p held item _ _ _ _ _ _ _ a b c d e f g
 
 -- the tests of what is looked up, and of what is open
-pub is_found_by : (r : Rules) (p : Parts) (held : List (List Kept)) (item : Item) (opened again column kept : Bool) →
-    is_open r p item ≡ opened → is_taken_again r p item ≡ again → kind_eq item.kind Column ≡ column → is_kept held item ≡ kept →
+pub is_found_by : (r : Rules) (p : Parts) (held : List (List HeldItem)) (item : Item) (opened again column kept : Bool) →
+    is_open r p item ≡ opened → is_taken_again r p item ≡ again → kind_eq item.kind Column ≡ column → is_held held item ≡ kept →
     is_found r p held item ≡ cond opened (again || (not column && kept)) kept
 is_found_by r p held item a b c d is_a is_b is_c is_d =
-    ap (λ (x : Bool). cond x (is_taken_again r p item || (not (kind_eq item.kind Column) && is_kept held item)) (is_kept held item)) is_a
-    ∙ ap (λ (x : Bool). cond a (x || (not (kind_eq item.kind Column) && is_kept held item)) (is_kept held item)) is_b
-    ∙ ap (λ (x : Bool). cond a (b || (not x && is_kept held item)) (is_kept held item)) is_c
+    ap (λ (x : Bool). cond x (is_taken_again r p item || (not (kind_eq item.kind Column) && is_held held item)) (is_held held item)) is_a
+    ∙ ap (λ (x : Bool). cond a (x || (not (kind_eq item.kind Column) && is_held held item)) (is_held held item)) is_b
+    ∙ ap (λ (x : Bool). cond a (b || (not x && is_held held item)) (is_held held item)) is_c
     ∙ ap (λ (x : Bool). cond a (b || (not c && x)) x) is_d
 
 pub is_open_by : (r : Rules) (p : Parts) (item : Item) (past ahead opens ready : Bool) →
@@ -152,7 +152,7 @@ not_again false opened again taken kept e same h = same refl ∙ left_false take
 ready_from : (a b c d : Bool) → (a && (b && (c && d))) ≡ true → d ≡ true
 ready_from a b c d h = right_true c d (right_true b (c && d) (right_true a (b && (c && d)) h))
 
-takable_by : (r : Rules) → LayerLaws r → (p : Parts) (held : List (List Kept)) (item : Item) → IsGood r item →
+takable_by : (r : Rules) → LayerLaws r → (p : Parts) (held : List (List HeldItem)) (item : Item) → IsGood r item →
     Taken (is_not_origin item) (is_not_for r.casts.me item) (is_item_past r p item) (is_item_ahead r p item) (is_repeat r p held item) (is_open r p item) →
     IsTakable r p item
 takable_by r laws p held item good taken = record {
@@ -168,11 +168,11 @@ takable_by r laws p held item good taken = record {
         ((r.casts.at_slot item.slot).ready (place_at r.casts item.slot) r.casts.tags (p.calls item.slot) item) taken.opened;
   };
   is_open = taken.opened;
-  first = not_again (kind_eq item.kind Column) (is_open r p item) (is_taken_again r p item) (was_taken p item) (is_kept held item) taken.opened
+  first = not_again (kind_eq item.kind Column) (is_open r p item) (is_taken_again r p item) (was_taken p item) (is_held held item) taken.opened
       ((laws.casts item.slot).repeats_is (place_at r.casts item.slot) r.casts.tags (p.calls item.slot) item) taken.first;
 }
 
-pub takable_from : (r : Rules) → LayerLaws r → (h : List Entry) → IsHistory r h → (held : List (List Kept)) (item : Item) → IsGood r item →
+pub takable_from : (r : Rules) → LayerLaws r → (h : List Entry) → IsHistory r h → (held : List (List HeldItem)) (item : Item) → IsGood r item →
     verdict_on r (parts r h) held item ≡ verdicts.Take → IsTakable r (parts r h) item
 takable_from r laws h met held item good takes =
     let p = parts r h in

@@ -6,7 +6,7 @@ use Rattle.std.specs.declared.collections.VecDeque.{VecDeque}
 use Rattle.ritas_base.specs.declared.item.Item.{Item}
 use Rattle.ritas_base.specs.declared.item.Msg.{Msg}
 use Rattle.frame_codec.specs.Inputs.{IsInput, input_fault}
-use Rattle.ooc_buffers.specs.Lists.{Kept, is_kept}
+use Rattle.ooc_buffers.specs.Lists.{HeldItem, is_held}
 use Rattle.ritas_core.specs.declared.answer.Answer.{Answer}
 use Rattle.ritas_core.specs.declared.answer.Answer.TheVariants as answers
 use Rattle.ritas_core.specs.declared.fault.CoreFault.{CoreFault}
@@ -17,11 +17,11 @@ use Rattle.ritas_core.specs.declared.kernel.Core.{Core}
 use Rattle.ritas_core.specs.Rules.{Rules, seat_of}
 use Rattle.ritas_core.specs.Parts.{Parts, Given, parts}
 use Rattle.ritas_core.specs.Checks.{verdict_on, input_check, input_fault_or}
-use Rattle.ritas_core.specs.Machine.{CoreState, What, Frame, Input, Turn, Moved, stays, enters, gives, given_input, turned, moved_live, moved, MayGive, AreGood}
+use Rattle.ritas_core.specs.Machine.{CoreState, What, Frame, Input, Turn, Moved, stays, enters, gives_item, given_input, turned, moved_live, moved, MayGive, AreGood}
 use Rattle.ritas_core.specs.Stands.{Meaning, LayersStand, CoreStands}
 use Rattle.ritas_core.specs.Judging.{judged_in}
 use Rattle.ritas_core.specs.Calls.{Moves, RunsOut, HoldsFront, TakesFront, Does, DoesAll, front_entry}
-use Rattle.ritas_core.specs.CoreCalls.{rules_in, IsLive, StopsCore, EntersCore, IsTold, IsToldFront, GivesFront, DoesHere, DoesJudged, is_mem}
+use Rattle.ritas_core.specs.CoreCalls.{rules_in, IsLive, StopsCore, EntersCore, IsVerdictTold, IsToldFront, GivesFront, DoesHere, DoesJudged, is_mem}
 use Rattle.ritas_core.proofs.GoodSlots.{slot_origin}
 use Rattle.ritas_core.proofs.Verdicts.{givable_from, input_check_by}
 use Rattle.ritas_core.proofs.ShownLayers.{MeansWell}
@@ -62,7 +62,7 @@ some_none x xs e = cc
 abbrev with_front : Item → Moved → Moved
 with_front item mv = record mv { state = record mv.state { inbox = item ∷ mv.state.inbox } }
 
-gives_front : (r : Rules) (st : CoreState) (item : Item) (rest : List Item) (v : Verdict) → gives r st item (item ∷ rest) v ≡ with_front item (gives r st item rest v)
+gives_front : (r : Rules) (st : CoreState) (item : Item) (rest : List Item) (v : Verdict) → gives_item r st item (item ∷ rest) v ≡ with_front item (gives_item r st item rest v)
 gives_front r st item rest (verdicts.Refuse fault) = refl
 gives_front r st item rest verdicts.Again = refl
 gives_front r st item rest verdicts.Hold = refl
@@ -97,7 +97,7 @@ module _ {S E C T : Type 0} (m : Meaning S E C T) where
     frame_state : moved r st (Frame item) ≡ with_front item (moved r st Turn)
     frame_state =
         let v = verdict_on r (parts r st.history) st.held item in
-        moved_when_live r st (Frame item) live ∙ ap (λ (xs : List Item). gives r st item xs v) whole ∙ gives_front r st item rest v
+        moved_when_live r st (Frame item) live ∙ ap (λ (xs : List Item). gives_item r st item xs v) whole ∙ gives_front r st item rest v
         ∙ ap (λ (mv : Moved). with_front item mv) (sym (moved_when_live r st Turn live ∙ ap (λ (xs : List Item). turned r st xs) whole))
 
     module _ (q : VecDeque Item Global) (popped : q.items ≡ drop 1 mid.inbox.items) where
@@ -250,7 +250,7 @@ module _ {S E C T : Type 0} (m : Meaning S E C T) where
 module _ {S E C T : Type 0} (m : Meaning S E C T) (well : MeansWell m) where
   -- what is done with an item by what the judge tells
   pub here_from : (old new : Core S E C T) (v : Verdict) (item : Item) (before after_it : List Msg) (result : Result Answer CoreFault) →
-      IsTold m old item v → DoesJudged m old new v item before after_it result → DoesHere m old new (Frame item) before after_it result
+      IsVerdictTold m old item v → DoesJudged m old new v item before after_it result → DoesHere m old new (Frame item) before after_it result
   here_from old new v item before after_it result told does st is good =
       let r = rules_in m old in
       let p = parts r st.history in
@@ -259,7 +259,7 @@ module _ {S E C T : Type 0} (m : Meaning S E C T) (well : MeansWell m) where
       does st is good
       (judged_from m old.layers laws p stood st.held item good (found_repeat r laws st.history is.stands.history st.held item good) v
       (told.judged p stood (slot_origin old.layers.params old.layers.mode item.slot good.in_grammar.slot)
-      ∙ ap (λ (h : List (List Kept)). judged_in m old.layers p (is_kept h item) item) is.stands.held))
+      ∙ ap (λ (h : List (List HeldItem)). judged_in m old.layers p (is_held h item) item) is.stands.held))
 
   -- the same for the item at the front
   pub front_from : (old new : Core S E C T) (v : Verdict) (before after_it : List Msg) (result : Result Answer CoreFault) → IsToldFront m old v →
@@ -268,6 +268,6 @@ module _ {S E C T : Type 0} (m : Meaning S E C T) (well : MeansWell m) where
   front_from old new v before after_it result front does = record {
     given = λ item rest there.
         let same : front.item ≡ item = first_same front.item item front.rest rest (sym front.front ∙ there) in
-        here_from old new v item before after_it result (subst (λ (x : Item). IsTold m old x v) same front.told) (does item rest there);
+        here_from old new v item before after_it result (subst (λ (x : Item). IsVerdictTold m old x v) same front.told) (does item rest there);
     idle = λ none. absurd (some_none front.item front.rest (sym front.front ∙ none));
   }

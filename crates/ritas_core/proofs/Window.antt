@@ -8,7 +8,7 @@ use Rattle.ritas_base.specs.Slots.{slot_fault}
 use Rattle.ritas_base.specs.SlotOrder.{is_slot, same_slot}
 use Rattle.layer_api.specs.Service.{ServiceRules, Seat, MayHear, AreProper, WordLaws}
 use Rattle.layer_api.specs.Words.{Word, Ask, Hear, is_heard}
-use Rattle.ritas_core.specs.Rules.{Rules, seat_of, out_at}
+use Rattle.ritas_core.specs.Rules.{Rules, seat_of, out_at_slot}
 use Rattle.ritas_core.specs.Parts.{Entry, parts}
 use Rattle.ritas_core.specs.Checks.{IsHistory}
 use Rattle.ritas_core.specs.Laws.{LayerLaws}
@@ -43,12 +43,12 @@ heard_within r laws seat =
 
 -- ---- a slot that has delivered
 pub delivered_within : (r : Rules) → LayerLaws r → (h : List Entry) → IsHistory r h → (s : Slot) → s.class ≡ 1 →
-    is_some (out_at r.casts s ((parts r h).calls s)) ≡ true → s.a < r.service.base (seat_of r) (parts r h).words s.origin + 64
+    is_some (out_at_slot r.casts s ((parts r h).calls s)) ≡ true → s.a < r.service.base (seat_of r) (parts r h).words s.origin + 64
 delivered_within r laws h met s one out =
     heard_within r.service laws.words (seat_of r) (parts r h).words s (words_proper r laws h met) (heard_where_delivered r laws h s ∙ out) one
 
 pub delivered_right : (r : Rules) → LayerLaws r → (h : List Entry) → IsHistory r h → (s : Slot) →
-    is_some (out_at r.casts s ((parts r h).calls s)) ≡ true → slot_fault r.casts.numbers r.mode s ≡ None
+    is_some (out_at_slot r.casts s ((parts r h).calls s)) ≡ true → slot_fault r.casts.numbers r.mode s ≡ None
 delivered_right r laws h met s out =
     heard_holds r.service (seat_of r) (λ w q. slot_fault r.casts.numbers r.mode q ≡ None) (λ w q v may. may.right) (λ c w q proper right. right)
     (parts r h).words s (words_proper r laws h met) (heard_where_delivered r laws h s ∙ out)

@@ -24,14 +24,14 @@ abbrev pub front_entry : List Item → Option Entry
 front_entry [] = None
 front_entry (item ∷ waiting) = Some (Took item)
 
-abbrev pub entry_of : CoreState → What → Option Entry
-entry_of st (Frame item) = Some (Took item)
-entry_of st (Input value) = Some (Given value)
-entry_of st Turn = front_entry st.inbox
+abbrev pub entry_of_call : CoreState → What → Option Entry
+entry_of_call st (Frame item) = Some (Took item)
+entry_of_call st (Input value) = Some (Given value)
+entry_of_call st Turn = front_entry st.inbox
 
 -- the call stopped the core: all is as it was, and what it would have taken is lost
 abbrev pub stopped : CoreState → What → CoreState
-stopped st what = record st { live = false; lost = entry_of st what }
+stopped st what = record st { live = false; lost = entry_of_call st what }
 
 -- whether a call would take an item or an input, or would hold an item: only then can it be without memory
 abbrev pub TakesItem : Rules → CoreState → Item → Type 0
@@ -48,10 +48,10 @@ abbrev pub HoldsFront : Rules → CoreState → List Item → Type 0
 HoldsFront r st [] = ⊥
 HoldsFront r st (item ∷ waiting) = HoldsItem r st item
 
-abbrev pub IsStep : Rules → CoreState → What → Type 0
-IsStep r st (Frame item) = TakesItem r st item
-IsStep r st (Input value) = input_check r (parts r st.history) value ≡ None
-IsStep r st Turn = TakesFront r st st.inbox
+abbrev pub IsCoreStep : Rules → CoreState → What → Type 0
+IsCoreStep r st (Frame item) = TakesItem r st item
+IsCoreStep r st (Input value) = input_check r (parts r st.history) value ≡ None
+IsCoreStep r st Turn = TakesFront r st st.inbox
 
 abbrev pub IsHolding : Rules → CoreState → What → Type 0
 IsHolding r st (Frame item) = HoldsItem r st item
@@ -63,7 +63,7 @@ IsHolding r st Turn = HoldsFront r st st.inbox
 pub record RunsOut {S E C T : Type 0} (m : Meaning S E C T) (new : Core S E C T) (what : What) (before after : List Msg) (r : Rules) (st : CoreState) : Type 0 where
   pub out : after ≡ before
   pub live : st.live ≡ true
-  pub state : (IsHolding r st what × CoreStands m new r st) ⊎ (IsStep r st what × CoreStands m new r (stopped st what))
+  pub state : (IsHolding r st what × CoreStands m new r st) ⊎ (IsCoreStep r st what × CoreStands m new r (stopped st what))
 
 -- each outcome of a call
 abbrev pub Does : {S E C T : Type 0} → Meaning S E C T → Core S E C T → Core S E C T → What → List Msg → List Msg → Result Answer CoreFault → Rules → CoreState → Type 0

@@ -17,10 +17,10 @@ use Rattle.layer_api.specs.BroadcastCalls.{CastShown, TakesNew, TakesAgain}
 use Rattle.ritas_core.specs.declared.taken.Taken.{Taken}
 use Rattle.ritas_core.specs.declared.taken.Taken.TheVariants.{Took, Repeat}
 use Rattle.ritas_core.specs.Rules.{CastRules, place_at}
-use Rattle.ritas_core.specs.Casts.{CastsStand, CastsShowAt, CastsShow, MayStartAll, called, started_all, news_at, start_news, newly, delivered_by}
+use Rattle.ritas_core.specs.Casts.{CastsStand, CastsShowAt, CastsShow, MayStartAll, called, started_all, news_at, start_news, newly_there, delivered_by}
 
 -- the tagger of this number is this replica's, which is one of the session's
-pub record IsOwn (c : CastRules) (number : ℕ) : Type 0 where
+pub record IsOwnTagger (c : CastRules) (number : ℕ) : Type 0 where
   pub own : number ≡ c.me
   pub below : c.me < c.numbers.n
 
@@ -30,7 +30,7 @@ StaysSo stands c old new = (h : Slot → List Call) → CastsStand stands c old 
 
 -- a value may be started at its slot
 pub record CanStart {B : Type 0} (stands : B → Place → Tags → List Call → Type 0) (c : CastRules) (number : ℕ) (casts : BTreeMap Slot B) (say : Say) (h : Slot → List Call) : Type 0 where
-  pub is_own : IsOwn c number
+  pub is_own : IsOwnTagger c number
   pub may : MayStart (place_at c say.slot) (h say.slot)
   pub stood : CastsStand stands c casts h
 
@@ -45,7 +45,7 @@ StartsNone stands shown c number old new say = (h : Slot → List Call) → CanS
 
 -- these values may be started, one after another
 pub record CanStartAll {B : Type 0} (stands : B → Place → Tags → List Call → Type 0) (c : CastRules) (number : ℕ) (casts : BTreeMap Slot B) (says : List Say) (h : Slot → List Call) : Type 0 where
-  pub is_own : IsOwn c number
+  pub is_own : IsOwnTagger c number
   pub may : MayStartAll c says h
   pub stood : CastsStand stands c casts h
 
@@ -59,9 +59,9 @@ abbrev pub StartsFewer : {B : Type 0} → (B → Place → Tags → List Call �
 StartsFewer stands shown c number old new says = (h : Slot → List Call) → CanStartAll stands c number old says h → CastsShowAt shown c new h
 
 -- the broadcast took the item, and newly delivers d
-pub record HearsNew {B : Type 0} (stands : B → Place → Tags → List Call → Type 0) (r : BroadcastRules) (shown : B → CastShown) (t : Tagging) (old new : B) (item : Item) (before after : List Msg) (d : Option (List ℕ)) : Type 0 where
+pub record HearsDelivery {B : Type 0} (stands : B → Place → Tags → List Call → Type 0) (r : BroadcastRules) (shown : B → CastShown) (t : Tagging) (old new : B) (item : Item) (before after : List Msg) (d : Option (List ℕ)) : Type 0 where
   pub takes : TakesNew stands r t old new item before after
-  pub delivered : d ≡ newly (shown old).out (shown new).out
+  pub delivered : d ≡ newly_there (shown old).out (shown new).out
 
 -- for want of memory it shows what it delivered, or what it does with the item; and the item doesn't repeat one
 pub record HearsNone {B : Type 0} (stands : B → Place → Tags → List Call → Type 0) (r : BroadcastRules) (shown : B → CastShown) (t : Tagging) (old new : B) (item : Item) : Type 0 where
@@ -71,13 +71,13 @@ pub record HearsNone {B : Type 0} (stands : B → Place → Tags → List Call �
       → r.repeats at tags h item ≡ false
 
 abbrev pub HearsItem : {B : Type 0} → (B → Place → Tags → List Call → Type 0) → BroadcastRules → (B → CastShown) → Tagging → B → B → Item → List Msg → List Msg → Result Taken Mem → Type 0
-HearsItem stands r shown t old new item before after (Ok (Took d)) = HearsNew stands r shown t old new item before after d
+HearsItem stands r shown t old new item before after (Ok (Took d)) = HearsDelivery stands r shown t old new item before after d
 HearsItem stands r shown t old new item before after (Ok Repeat) = TakesAgain stands r t old new item before after
 HearsItem stands r shown t old new item before after (Err e) = HearsNone stands r shown t old new item
 
 -- the broadcast of an item's slot may take it
 pub record CanTake {B : Type 0} (stands : B → Place → Tags → List Call → Type 0) (c : CastRules) (number : ℕ) (casts : BTreeMap Slot B) (item : Item) (h : Slot → List Call) : Type 0 where
-  pub is_own : IsOwn c number
+  pub is_own : IsOwnTagger c number
   pub origin : item.slot.origin < c.numbers.n
   pub may : MayTake (c.at_slot item.slot) (place_at c item.slot) c.tags (h item.slot) item
   pub stood : CastsStand stands c casts h

@@ -10,7 +10,7 @@ use Rattle.ritas_base.specs.Tags.{Tags}
 use Rattle.ritas_base.specs.History.{Call, Start}
 use Rattle.layer_api.specs.Broadcast.{news, MayStart}
 use Rattle.layer_api.specs.BroadcastCalls.{CastShown}
-use Rattle.ritas_core.specs.Rules.{CastRules, place_at, out_at}
+use Rattle.ritas_core.specs.Rules.{CastRules, place_at, out_at_slot}
 
 -- one call more at a slot
 abbrev pub called : (Slot → List Call) → Slot → Call → Slot → List Call
@@ -31,13 +31,13 @@ start_news c [] h = []
 start_news c (say ∷ says) h = news_at c say.slot (h say.slot) (Start say.value) ++ start_news c says (called h say.slot (Start say.value))
 
 -- what is there afterwards, where nothing was there before
-abbrev pub newly : Option (List ℕ) → Option (List ℕ) → Option (List ℕ)
-newly None after = after
-newly (Some v) after = None
+abbrev pub newly_there : Option (List ℕ) → Option (List ℕ) → Option (List ℕ)
+newly_there None after = after
+newly_there (Some v) after = None
 
 -- what a slot delivers by a call and did not before
 abbrev pub delivered_by : CastRules → Slot → List Call → Call → Option (List ℕ)
-delivered_by c s calls call = newly (out_at c s calls) (out_at c s (call ∷ calls))
+delivered_by c s calls call = newly_there (out_at_slot c s calls) (out_at_slot c s (call ∷ calls))
 
 -- the map has at each slot a value that stands for the calls there, or none where there were none
 pub record CastsStand {B : Type 0} (stands : B → Place → Tags → List Call → Type 0) (c : CastRules) (casts : BTreeMap Slot B) (h : Slot → List Call) : Type 0 where
@@ -56,9 +56,9 @@ shown_out shown (Some b) = (shown b).out
 
 -- each slot shows what it delivers by these calls
 abbrev pub CastsShowAt : {B : Type 0} → (B → CastShown) → CastRules → BTreeMap Slot B → (Slot → List Call) → Type 0
-CastsShowAt shown c casts h = (s : Slot) → shown_out shown (get slot_cmp casts s) ≡ out_at c s (h s)
+CastsShowAt shown c casts h = (s : Slot) → shown_out shown (get slot_cmp casts s) ≡ out_at_slot c s (h s)
 
 -- or by these or later ones
 abbrev pub CastsShow : {B : Type 0} → (B → CastShown) → CastRules → BTreeMap Slot B → (Slot → List Call) → (Slot → List Call) → Type 0
 CastsShow shown c casts h later =
-    (s : Slot) → (shown_out shown (get slot_cmp casts s) ≡ out_at c s (h s)) ⊎ (shown_out shown (get slot_cmp casts s) ≡ out_at c s (later s))
+    (s : Slot) → (shown_out shown (get slot_cmp casts s) ≡ out_at_slot c s (h s)) ⊎ (shown_out shown (get slot_cmp casts s) ≡ out_at_slot c s (later s))

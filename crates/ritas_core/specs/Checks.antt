@@ -9,7 +9,7 @@ use Rattle.layer_api.specs.Broadcast.{is_of_origin, is_for_origin, MayTake}
 use Rattle.layer_api.specs.Service.{MayAsk, is_past, is_ahead}
 use Rattle.frame_codec.specs.Body.{IsInGrammar, spelling}
 use Rattle.frame_codec.specs.Inputs.{IsInput, input_fault}
-use Rattle.ooc_buffers.specs.Lists.{Kept, is_kept, held_bytes, most_bytes}
+use Rattle.ooc_buffers.specs.Lists.{HeldItem, is_held, held_bytes, most_held_bytes}
 use Rattle.ritas_core.specs.declared.fault.CoreFault.{CoreFault}
 use Rattle.ritas_core.specs.declared.fault.CoreFault.TheVariants as faults
 use Rattle.ritas_core.specs.declared.verdict.Verdict.{Verdict}
@@ -44,29 +44,29 @@ was_taken p item = is_some (first (p.calls item.slot) item.from item.kind)
 -- whether an item repeats another. A column does, where it is open, exactly where its broadcast says so: it brings no valid
 -- entry of a new echoer; and where it isn't open, exactly where an equal one is held. Any other item does exactly where one
 -- of its kind and sender was taken at its slot, or is held
-abbrev pub is_repeat : Rules → Parts → List (List Kept) → Item → Bool
+abbrev pub is_repeat : Rules → Parts → List (List HeldItem) → Item → Bool
 is_repeat r p held item =
     if kind_eq item.kind Column
-    then (if is_open r p item then is_taken_again r p item else is_kept held item)
-    else (was_taken p item || is_kept held item)
+    then (if is_open r p item then is_taken_again r p item else is_held held item)
+    else (was_taken p item || is_held held item)
 
 -- what a core looks up for that: the broadcast of an open item, and the held items where the item isn't open or isn't a
 -- column
-abbrev pub is_found : Rules → Parts → List (List Kept) → Item → Bool
+abbrev pub is_found : Rules → Parts → List (List HeldItem) → Item → Bool
 is_found r p held item =
     if is_open r p item
-    then is_taken_again r p item || (not (kind_eq item.kind Column) && is_kept held item)
-    else is_kept held item
+    then is_taken_again r p item || (not (kind_eq item.kind Column) && is_held held item)
+    else is_held held item
 
 -- how long an item's body is
 abbrev pub body_length : Item → ℕ
 body_length item = length (spelling item)
 
-abbrev pub has_room : List (List Kept) → Item → Bool
-has_room held item = nat_le (held_bytes held item.from + body_length item) most_bytes
+abbrev pub has_room : List (List HeldItem) → Item → Bool
+has_room held item = nat_le (held_bytes held item.from + body_length item) most_held_bytes
 
 -- what is done with an item: the first check that it doesn't pass, or that it is held or taken
-unfoldable pub verdict_on : Rules → Parts → List (List Kept) → Item → Verdict
+unfoldable pub verdict_on : Rules → Parts → List (List HeldItem) → Item → Verdict
 verdict_on r p held item =
     if is_of_origin item.kind && not (item.from == item.slot.origin) then verdicts.Refuse faults.NotOrigin
     else if is_for_origin item.kind && not (r.casts.me == item.slot.origin) then verdicts.Refuse faults.NotForMe

@@ -5,7 +5,7 @@ use Rattle.ritas_base.specs.declared.item.Item.{Item}
 use Rattle.ritas_base.specs.declared.item.Msg.{Msg}
 use Rattle.layer_api.specs.declared.broadcast.Heard.{Heard}
 use Rattle.layer_api.specs.Broadcast.{MayTake}
-use Rattle.ooc_buffers.specs.Lists.{Kept, is_kept, held_bytes, released, remaining}
+use Rattle.ooc_buffers.specs.Lists.{HeldItem, is_held, held_bytes, released, remaining}
 use Rattle.ritas_core.specs.declared.answer.Answer.{Answer}
 use Rattle.ritas_core.specs.declared.answer.Answer.TheVariants as answers
 use Rattle.ritas_core.specs.declared.fault.CoreFault.{CoreFault}
@@ -17,7 +17,7 @@ use Rattle.ritas_core.specs.Rules.{Rules, place_at}
 use Rattle.ritas_core.specs.Parts.{Parts, Entry, Given, parts}
 use Rattle.ritas_core.specs.Order.{ordered, own_items, new_messages}
 use Rattle.ritas_core.specs.Checks.{is_open, is_taken_again, has_room, verdict_on, MayEnter}
-use Rattle.ritas_core.specs.Machine.{CoreState, What, Frame, entered, MayGive}
+use Rattle.ritas_core.specs.Machine.{CoreState, What, Frame, state_after_entry, MayGive}
 use Rattle.ritas_core.specs.Stands.{Meaning, rules_of, LayersStand, LayersShow, CoreStands}
 use Rattle.ritas_core.specs.LayerCalls.{SameSeat, GivesItem, is_past_in, is_open_in}
 use Rattle.ritas_core.specs.Judging.{judged_in}
@@ -62,7 +62,7 @@ pub record StopsCore {S E C T : Type 0} (m : Meaning S E C T) (old new : Core S 
 -- an entry was taken, where it met its conditions
 pub record EntersCore {S E C T : Type 0} (m : Meaning S E C T) (old new : Core S E C T) (e : Entry) (before after : List Msg) : Type 0 where
   pub state : (st : CoreState) → IsLive m old st → MayEnter (rules_in m old) (parts (rules_in m old) st.history) e
-      → CoreStands m new (rules_in m old) (entered (rules_in m old) st e st.inbox)
+      → CoreStands m new (rules_in m old) (state_after_entry (rules_in m old) st e st.inbox)
   pub out : (st : CoreState) → IsLive m old st → MayEnter (rules_in m old) (parts (rules_in m old) st.history) e
       → after ≡ before ++ new_messages (rules_in m old) st.history e
 
@@ -72,13 +72,13 @@ TriesInput m old new value before after (Ok u) = EntersCore m old new (Given val
 TriesInput m old new value before after (Err e) = StopsCore m old new (Given value) before after
 
 -- what the judge tells of an item that is to be taken, if it doesn't repeat one that its slot took
-pub record IsToTake (r : Rules) (p : Parts) (held : List (List Kept)) (item : Item) : Type 0 where
+pub record IsToTake (r : Rules) (p : Parts) (held : List (List HeldItem)) (item : Item) : Type 0 where
   pub may : MayTake (r.casts.at_slot item.slot) (place_at r.casts item.slot) r.casts.tags (p.calls item.slot) item
   pub opened : is_open r p item ≡ true
   pub verdict : verdict_on r p held item ≡ (if is_taken_again r p item then verdicts.Again else verdicts.Take)
 
 -- of each verdict
-abbrev pub Judged : Rules → Parts → List (List Kept) → Item → Verdict → Type 0
+abbrev pub Judged : Rules → Parts → List (List HeldItem) → Item → Verdict → Type 0
 Judged r p held item (verdicts.Refuse fault) = verdict_on r p held item ≡ verdicts.Refuse fault
 Judged r p held item verdicts.Again = verdict_on r p held item ≡ verdicts.Again
 Judged r p held item verdicts.Hold = verdict_on r p held item ≡ (if has_room held item then verdicts.Hold else verdicts.Refuse (faults.HeldFull (held_bytes held item.from)))
@@ -117,16 +117,16 @@ is_mem (Err faults.Mem) = true
 is_mem result = false
 
 -- what the judge tells of an item
-pub record IsTold {S E C T : Type 0} (m : Meaning S E C T) (core : Core S E C T) (item : Item) (v : Verdict) : Type 0 where
-  pub judged : (p : Parts) → LayersStand m core.layers p → item.slot.origin < core.layers.params.n → v ≡ judged_in m core.layers p (is_kept core.held item) item
-  pub fresh : v ≡ verdicts.Hold → is_kept core.held item ≡ false
+pub record IsVerdictTold {S E C T : Type 0} (m : Meaning S E C T) (core : Core S E C T) (item : Item) (v : Verdict) : Type 0 where
+  pub judged : (p : Parts) → LayersStand m core.layers p → item.slot.origin < core.layers.params.n → v ≡ judged_in m core.layers p (is_held core.held item) item
+  pub fresh : v ≡ verdicts.Hold → is_held core.held item ≡ false
 
 -- and of the item at the front, if there is one
 pub record IsToldFront {S E C T : Type 0} (m : Meaning S E C T) (core : Core S E C T) (v : Verdict) : Type 0 where
   pub item : Item
   pub rest : List Item
   pub front : core.inbox.items ≡ item ∷ rest
-  pub told : IsTold m core item v
+  pub told : IsVerdictTold m core item v
 
 abbrev pub FrontIsTold : {S E C T : Type 0} → Meaning S E C T → Core S E C T → Option Verdict → Type 0
 FrontIsTold m core (Some v) = IsToldFront m core v

@@ -9,12 +9,12 @@ use Rattle.ritas_base.specs.History.{started}
 use Rattle.frame_codec.specs.Body.{IsInGrammar}
 use Rattle.frame_codec.specs.Inputs.{IsInput}
 use Rattle.layer_api.specs.Runs.{Has}
-use Rattle.layer_api.specs.OneValue.{ValueLaws, AreTaken, AreFirst, AreGoodCalls}
+use Rattle.layer_api.specs.OneValue.{ValueLaws, AreTaken, RepeatNone, AreGoodCalls}
 use Rattle.layer_api.specs.Service.{WordLaws, said, MayHear, AreProper}
 use Rattle.layer_api.specs.Words.{Ask, Hear, is_said, said_value, is_heard}
-use Rattle.ooc_buffers.specs.Lists.{Kept}
+use Rattle.ooc_buffers.specs.Lists.{HeldItem}
 use Rattle.ritas_core.specs.declared.verdict.Verdict.TheVariants.{Take}
-use Rattle.ritas_core.specs.Rules.{Rules, seat_of, place_at, out_at, due_at, FormsFit}
+use Rattle.ritas_core.specs.Rules.{Rules, seat_of, place_at, out_at_slot, due_at_slot, FormsFit}
 use Rattle.ritas_core.specs.Casts.{MayStartAll}
 use Rattle.ritas_core.specs.Parts.{Parts, Entry, parts, taken_at, item_delivers}
 use Rattle.ritas_core.specs.Order.{is_before, new_messages}
@@ -31,7 +31,7 @@ pub record LayerLaws (r : Rules) : Type 0 where
 
 -- the message is due, at its slot, after a history
 abbrev pub is_due : Rules → Parts → Msg → Bool
-is_due r p m = has (due_at r.casts m.slot (p.calls m.slot)) m
+is_due r p m = has (due_at_slot r.casts m.slot (p.calls m.slot)) m
 
 -- none of these comes before m
 abbrev pub NoneBefore : Msg → List Msg → Type 0
@@ -39,9 +39,9 @@ NoneBefore m [] = Unit {0}
 NoneBefore m (x ∷ xs) = (is_before x m ≡ false) × NoneBefore m xs
 
 -- the messages are in their order
-abbrev pub InOrder : List Msg → Type 0
-InOrder [] = Unit {0}
-InOrder (m ∷ ms) = NoneBefore m ms × InOrder ms
+abbrev pub AreMessagesInOrder : List Msg → Type 0
+AreMessagesInOrder [] = Unit {0}
+AreMessagesInOrder (m ∷ ms) = NoneBefore m ms × AreMessagesInOrder ms
 
 -- ---- the words and the calls of a history
 
@@ -58,7 +58,7 @@ StartsWhatWasSaid = (r : Rules) → LayerLaws r → (h : List Entry) → IsHisto
 -- a slot was heard exactly where it has delivered
 abbrev pub HearsWhereDelivered : Type 0
 HearsWhereDelivered = (r : Rules) → LayerLaws r → (h : List Entry) (s : Slot) →
-    is_heard (parts r h).words s ≡ is_some (out_at r.casts s ((parts r h).calls s))
+    is_heard (parts r h).words s ≡ is_some (out_at_slot r.casts s ((parts r h).calls s))
 
 -- each word to the service met its conditions, and so is in the grammar
 abbrev pub WordsAreProper : Type 0
@@ -72,7 +72,7 @@ CallsAreTaken = (r : Rules) → LayerLaws r → (h : List Entry) → IsHistory r
 -- none repeats an earlier one
 abbrev pub CallsAreFirst : Type 0
 CallsAreFirst = (r : Rules) (h : List Entry) → IsHistory r h → (s : Slot) →
-    AreFirst (r.casts.at_slot s) (place_at r.casts s) r.casts.tags ((parts r h).calls s)
+    RepeatNone (r.casts.at_slot s) (place_at r.casts s) r.casts.tags ((parts r h).calls s)
 
 -- and each is in the grammar
 abbrev pub CallsAreGood : Type 0
@@ -118,7 +118,7 @@ MayStartHeard = (r : Rules) → LayerLaws r → (h : List Entry) → IsHistory r
 
 -- an item that passes all checks meets the conditions of an entry
 abbrev pub TakenIsTakable : Type 0
-TakenIsTakable = (r : Rules) → LayerLaws r → (h : List Entry) → IsHistory r h → (held : List (List Kept)) (item : Item) → IsGood r item →
+TakenIsTakable = (r : Rules) → LayerLaws r → (h : List Entry) → IsHistory r h → (held : List (List HeldItem)) (item : Item) → IsGood r item →
     verdict_on r (parts r h) held item ≡ Take → IsTakable r (parts r h) item
 
 -- and so does an input
@@ -128,5 +128,5 @@ GivenIsGivable = (r : Rules) (p : Parts) (v : List ℕ) → IsSession r.casts.nu
 
 -- what a core looks up is whether an item repeats another, as long as its window isn't past
 abbrev pub FoundIsRepeat : Type 0
-FoundIsRepeat = (r : Rules) → LayerLaws r → (h : List Entry) → IsHistory r h → (held : List (List Kept)) (item : Item) → IsGood r item →
+FoundIsRepeat = (r : Rules) → LayerLaws r → (h : List Entry) → IsHistory r h → (held : List (List HeldItem)) (item : Item) → IsGood r item →
     is_item_past r (parts r h) item ≡ false → is_repeat r (parts r h) held item ≡ is_found r (parts r h) held item

@@ -1,5 +1,5 @@
 -- What calls on the layers do, for all parts that they stand for. Each list has the newest first.
-use Rattle.std.specs.Prelude.{◌≡◌, ℕ, ◌+◌, ◌<◌, nat_lt, nat_le, ◌==◌, Bool, true, false, not, ◌&&◌, if◌then◌else◌, Option, Some, None, Result, Ok, Err, List, ◌++◌}
+use Rattle.std.specs.Prelude.{◌≡◌, ℕ, ◌<◌, nat_lt, nat_le, ◌==◌, Bool, true, false, not, ◌&&◌, if◌then◌else◌, Option, Some, None, Result, Ok, Err, List, ◌++◌}
 use Rattle.ritas_base.specs.declared.bytes.Mem.{Mem}
 use Rattle.ritas_base.specs.declared.slot.Slot.{Slot}
 use Rattle.ritas_base.specs.declared.item.Item.{Item}
@@ -13,10 +13,11 @@ use Rattle.layer_api.specs.ServiceCalls.{ServiceShown}
 use Rattle.ritas_core.specs.declared.layers.Layers.{Layers}
 use Rattle.ritas_core.specs.Rules.{Rules, seat_of, place_at}
 use Rattle.ritas_core.specs.Casts.{MayStartAll}
-use Rattle.ritas_core.specs.CastCalls.{IsOwn, is_ready_in}
-use Rattle.ritas_core.specs.Parts.{Parts, Took, told_to, told_news, taken_at, item_delivers, after, made_by}
+use Rattle.ritas_core.specs.CastCalls.{IsOwnTagger, is_ready_in}
+use Rattle.ritas_core.specs.Parts.{Parts, Took, service_told, told_news, taken_at, item_delivers, parts_after, made_by}
 use Rattle.ritas_core.specs.Checks.{is_item_past, is_item_ahead, is_taken_again}
 use Rattle.ritas_core.specs.Stands.{Meaning, rules_of, LayersStand, LayersShow}
+use Rattle.layer_api.specs.Windows.{is_behind}
 
 -- what the service newly says by a word may be started
 abbrev pub MayStartSaid : Rules → Word → Parts → Type 0
@@ -42,23 +43,23 @@ pub record SameSeat {S E C T : Type 0} (old new : Layers S E C T) : Type 0 where
 
 -- the service may have a word
 pub record CanTell {S E C T : Type 0} (m : Meaning S E C T) (layers : Layers S E C T) (word : Word) (p : Parts) : Type 0 where
-  pub is_own : IsOwn (rules_of m layers).casts (m.me layers.tagger)
+  pub is_own : IsOwnTagger (rules_of m layers).casts (m.me layers.tagger)
   pub may : MayTell (rules_of m layers) word p
   pub stood : LayersStand m layers p
 
 -- it had the word, and what became due by it is put out
-pub record Tells {S E C T : Type 0} (m : Meaning S E C T) (old new : Layers S E C T) (word : Word) (before after_it : List Msg) : Type 0 where
-  pub grows : (p : Parts) → CanTell m old word p → LayersStand m new (told_to (rules_of m old) word p)
+pub record TellsLayers {S E C T : Type 0} (m : Meaning S E C T) (old new : Layers S E C T) (word : Word) (before after_it : List Msg) : Type 0 where
+  pub grows : (p : Parts) → CanTell m old word p → LayersStand m new (service_told (rules_of m old) word p)
   pub made : (p : Parts) → CanTell m old word p → after_it ≡ before ++ told_news (rules_of m old) word p
 
 -- for want of memory what the layers show lies between what they were called with and that with the word
-abbrev pub TellsNone : {S E C T : Type 0} → Meaning S E C T → Layers S E C T → Layers S E C T → Word → Type 0
-TellsNone m old new word = (p : Parts) → CanTell m old word p → AreProper m.service (seat_of (rules_of m old)) p.words
-    → LayersShow m new (rules_of m old) p (told_to (rules_of m old) word p)
+abbrev pub TellsNoLayer : {S E C T : Type 0} → Meaning S E C T → Layers S E C T → Layers S E C T → Word → Type 0
+TellsNoLayer m old new word = (p : Parts) → CanTell m old word p → AreProper m.service (seat_of (rules_of m old)) p.words
+    → LayersShow m new (rules_of m old) p (service_told (rules_of m old) word p)
 
 -- an item may be taken
 pub record CanTakeItem {S E C T : Type 0} (m : Meaning S E C T) (layers : Layers S E C T) (item : Item) (p : Parts) : Type 0 where
-  pub is_own : IsOwn (rules_of m layers).casts (m.me layers.tagger)
+  pub is_own : IsOwnTagger (rules_of m layers).casts (m.me layers.tagger)
   pub origin : item.slot.origin < layers.params.n
   pub may : MayTake ((rules_of m layers).casts.at_slot item.slot) (place_at (rules_of m layers).casts item.slot) (rules_of m layers).casts.tags (p.calls item.slot) item
   pub stood : LayersStand m layers p
@@ -71,7 +72,7 @@ RepeatsOne m old item b = (p : Parts) → CanTakeItem m old item p → is_taken_
 pub record TakesItem {S E C T : Type 0} (m : Meaning S E C T) (old new : Layers S E C T) (item : Item) (before after_it : List Msg) : Type 0 where
   pub grows : (p : Parts) → CanTakeItem m old item p
       → MayFollow (rules_of m old) item.slot (item_delivers (rules_of m old) item p) (taken_at item p)
-      → LayersStand m new (after (rules_of m old) (Took item) p)
+      → LayersStand m new (parts_after (rules_of m old) (Took item) p)
   pub made : (p : Parts) → CanTakeItem m old item p
       → MayFollow (rules_of m old) item.slot (item_delivers (rules_of m old) item p) (taken_at item p)
       → after_it ≡ before ++ made_by (rules_of m old) (Took item) p
@@ -84,17 +85,17 @@ pub record RepeatsItem {S E C T : Type 0} (m : Meaning S E C T) (old new : Layer
   pub counts : RepeatsOne m old item true
 
 -- for want of memory what the layers show lies between what they were called with and that with the item
-pub record TakesNone {S E C T : Type 0} (m : Meaning S E C T) (old new : Layers S E C T) (item : Item) : Type 0 where
+pub record LayersTakeNone {S E C T : Type 0} (m : Meaning S E C T) (old new : Layers S E C T) (item : Item) : Type 0 where
   pub shows : (p : Parts) → CanTakeItem m old item p
       → MayFollow (rules_of m old) item.slot (item_delivers (rules_of m old) item p) (taken_at item p) → AreProper m.service (seat_of (rules_of m old)) p.words
-      → LayersShow m new (rules_of m old) p (after (rules_of m old) (Took item) p)
+      → LayersShow m new (rules_of m old) p (parts_after (rules_of m old) (Took item) p)
   pub counts : RepeatsOne m old item false
 
 -- each outcome
 abbrev pub GivesItem : {S E C T : Type 0} → Meaning S E C T → Layers S E C T → Layers S E C T → Item → List Msg → List Msg → Result Heard Mem → Type 0
 GivesItem m old new item before after_it (Ok heard.Took) = TakesItem m old new item before after_it
 GivesItem m old new item before after_it (Ok heard.Repeat) = RepeatsItem m old new item before after_it
-GivesItem m old new item before after_it (Err e) = TakesNone m old new item
+GivesItem m old new item before after_it (Err e) = LayersTakeNone m old new item
 
 -- whether a slot is past, and whether an item is open, as the layers tell it of a slot whose origin is a replica
 abbrev pub is_past_in : {S E C T : Type 0} → Meaning S E C T → Layers S E C T → Parts → Slot → Bool
@@ -106,13 +107,6 @@ is_let_in m layers p item = m.service.opens (seat_of (rules_of m layers)) p.word
 abbrev pub is_open_in : {S E C T : Type 0} → Meaning S E C T → Layers S E C T → Parts → Item → Bool
 is_open_in m layers p item =
     nat_lt item.slot.origin layers.params.n && (not (is_item_past (rules_of m layers) p item) && (not (is_item_ahead (rules_of m layers) p item) && is_let_in m layers p item))
-
--- what the slot's window is counted from puts it behind the window, or beyond it
-abbrev pub is_behind : Slot → ℕ → Bool
-is_behind s mark = if s.class == 1 then nat_lt (s.a + 64) mark else nat_lt (s.a + 2) mark
-
-abbrev pub is_beyond : Slot → ℕ → Bool
-is_beyond s mark = if s.class == 1 then nat_le (mark + 64) s.a else nat_lt (mark + 4) s.a
 
 -- what a slot's window is counted from, and whether the slot is past, as the getters of a service answer; and whether what it
 -- delivered is hidden by that, in a root service

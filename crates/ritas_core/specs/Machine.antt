@@ -2,7 +2,7 @@
 use Rattle.std.specs.Prelude.{ℕ, Bool, true, ◌||◌, List, [], ◌∷◌, ◌++◌, Option, Some, None, Result, Ok, Err, if◌then◌else◌}
 use Rattle.ritas_base.specs.declared.item.Item.{Item}
 use Rattle.ritas_base.specs.declared.item.Msg.{Msg}
-use Rattle.ooc_buffers.specs.Lists.{Kept, with_kept, released, remaining}
+use Rattle.ooc_buffers.specs.Lists.{HeldItem, with_item_held, released, remaining}
 use Rattle.ritas_core.specs.declared.answer.Answer.{Answer}
 use Rattle.ritas_core.specs.declared.answer.Answer.TheVariants as answers
 use Rattle.ritas_core.specs.declared.fault.CoreFault.{CoreFault}
@@ -19,7 +19,7 @@ pub record CoreState : Type 0 where
   pub live : Bool
   pub history : List Entry
   pub inbox : List Item
-  pub held : List (List Kept)
+  pub held : List (List HeldItem)
   -- what the call that stopped it would have taken; a live core, and one stopped from outside, has none
   pub lost : Option Entry
 
@@ -53,8 +53,8 @@ stays st waiting answer = record {
 
 -- an entry is taken: what becomes due goes out, what is for oneself joins the inbox, then the held items that are
 -- open do, by peer and in their order, and those that are past are dropped
-abbrev pub entered : Rules → CoreState → Entry → List Item → CoreState
-entered r st e waiting = record st {
+abbrev pub state_after_entry : Rules → CoreState → Entry → List Item → CoreState
+state_after_entry r st e waiting = record st {
   live = true;
   lost = None;
   history = e ∷ st.history;
@@ -63,21 +63,21 @@ entered r st e waiting = record st {
 }
 
 abbrev pub enters : Rules → CoreState → Entry → List Item → Moved
-enters r st e waiting = record { state = entered r st e waiting; answer = Ok answers.Took; out = new_messages r st.history e }
+enters r st e waiting = record { state = state_after_entry r st e waiting; answer = Ok answers.Took; out = new_messages r st.history e }
 
 -- an item is given, while these wait
-abbrev pub gives : Rules → CoreState → Item → List Item → Verdict → Moved
-gives r st item waiting (verdicts.Refuse fault) = stays st waiting (Err fault)
-gives r st item waiting verdicts.Again = stays st waiting (Ok answers.Repeat)
-gives r st item waiting verdicts.Hold = record {
-  state = record st { live = true; lost = None; inbox = waiting; held = with_kept st.held item (body_length item) };
+abbrev pub gives_item : Rules → CoreState → Item → List Item → Verdict → Moved
+gives_item r st item waiting (verdicts.Refuse fault) = stays st waiting (Err fault)
+gives_item r st item waiting verdicts.Again = stays st waiting (Ok answers.Repeat)
+gives_item r st item waiting verdicts.Hold = record {
+  state = record st { live = true; lost = None; inbox = waiting; held = with_item_held st.held item (body_length item) };
   answer = Ok answers.Held;
   out = [];
 }
-gives r st item waiting verdicts.Take = enters r st (Took item) waiting
+gives_item r st item waiting verdicts.Take = enters r st (Took item) waiting
 
 abbrev pub given_item : Rules → CoreState → Item → List Item → Moved
-given_item r st item waiting = gives r st item waiting (verdict_on r (parts r st.history) st.held item)
+given_item r st item waiting = gives_item r st item waiting (verdict_on r (parts r st.history) st.held item)
 
 abbrev pub given_input : Rules → CoreState → List ℕ → Option CoreFault → Moved
 given_input r st value (Some fault) = stays st st.inbox (Err fault)
@@ -98,7 +98,7 @@ abbrev pub moved : Rules → CoreState → What → Moved
 moved r st what = if st.live then moved_live r st what else stays st st.inbox (Err faults.Stopped)
 
 -- the state of a new core, which has a list for each of n peers
-abbrev pub first_state : List (List Kept) → CoreState
+abbrev pub first_state : List (List HeldItem) → CoreState
 first_state held = record { live = true; history = []; inbox = []; held = held; lost = None }
 
 -- what may be given

@@ -18,12 +18,12 @@ pub record Parts : Type 0 where
   pub words : List Word
   pub calls : Slot → List Call
 
-abbrev pub nothing : Parts
-nothing = record { words = []; calls = λ s. [] }
+abbrev pub no_parts : Parts
+no_parts = record { words = []; calls = λ s. [] }
 
 -- the service gets a word, and what it newly says is started
-abbrev pub told_to : Rules → Word → Parts → Parts
-told_to r c p = record { words = c ∷ p.words; calls = started_all (r.service.says (seat_of r) p.words c) p.calls }
+abbrev pub service_told : Rules → Word → Parts → Parts
+service_told r c p = record { words = c ∷ p.words; calls = started_all (r.service.says (seat_of r) p.words c) p.calls }
 
 abbrev pub told_news : Rules → Word → Parts → List Msg
 told_news r c p = start_news r.casts (r.service.says (seat_of r) p.words c) p.calls
@@ -31,7 +31,7 @@ told_news r c p = start_news r.casts (r.service.says (seat_of r) p.words c) p.ca
 -- the service hears what a slot newly delivers, if it does
 abbrev pub heard_at : Rules → Slot → Option (List ℕ) → Parts → Parts
 heard_at r s None p = p
-heard_at r s (Some value) p = told_to r (Hear s value) p
+heard_at r s (Some value) p = service_told r (Hear s value) p
 
 abbrev pub heard_news : Rules → Slot → Option (List ℕ) → Parts → List Msg
 heard_news r s None p = []
@@ -46,9 +46,9 @@ abbrev pub item_delivers : Rules → Item → Parts → Option (List ℕ)
 item_delivers r item p = delivered_by r.casts item.slot (p.calls item.slot) (Take item)
 
 -- the parts after an entry: an item goes to its slot's broadcast, and what that delivers to the service
-abbrev pub after : Rules → Entry → Parts → Parts
-after r (Took item) p = heard_at r item.slot (item_delivers r item p) (taken_at item p)
-after r (Given value) p = told_to r (Ask value) p
+abbrev pub parts_after : Rules → Entry → Parts → Parts
+parts_after r (Took item) p = heard_at r item.slot (item_delivers r item p) (taken_at item p)
+parts_after r (Given value) p = service_told r (Ask value) p
 
 -- what becomes due by an entry, call by call
 abbrev pub made_by : Rules → Entry → Parts → List Msg
@@ -57,5 +57,5 @@ made_by r (Given value) p = told_news r (Ask value) p
 
 -- the parts after a history
 abbrev pub parts : Rules → List Entry → Parts
-parts r [] = nothing
-parts r (e ∷ h) = after r e (parts r h)
+parts r [] = no_parts
+parts r (e ∷ h) = parts_after r e (parts r h)

@@ -19,7 +19,7 @@ use Rattle.ritas_core.specs.declared.fault.CoreFault.TheVariants.{Past, Ahead, H
 use Rattle.ritas_core.specs.declared.verdict.Verdict.{Verdict}
 use Rattle.ritas_core.specs.declared.verdict.Verdict.TheVariants.{Refuse, Again, Hold, Take}
 use Rattle.ritas_core.specs.Rules.{Rules, by_other, casts_by}
-use Rattle.ritas_core.specs.Parts.{nothing}
+use Rattle.ritas_core.specs.Parts.{no_parts}
 use Rattle.ritas_core.specs.Order.{ordered}
 use Rattle.ritas_core.specs.Checks.{verdict_on}
 
@@ -59,7 +59,7 @@ abbrev init : ℕ → Item
 init num = record { from = 1; kind = Init; slot = command_slot 1 num; value = 7 ∷ [] }
 
 abbrev verdict_at : ℕ → Verdict
-verdict_at num = verdict_on (rules_with true) nothing [] (init num)
+verdict_at num = verdict_on (rules_with true) no_parts [] (init num)
 
 last_inside : verdict_at 163 ≡ Take
 unfolding verdict_on by_other
@@ -84,7 +84,7 @@ abbrev round_init : ℕ → Item
 round_init round = record { from = 1; kind = Init; slot = record { class = 2; a = round; attempt = 0; bround = 0; step = 0; origin = 1 }; value = 7 ∷ [] }
 
 abbrev verdict_in : ℕ → Verdict
-verdict_in round = verdict_on (rules_with true) nothing [] (round_init round)
+verdict_in round = verdict_on (rules_with true) no_parts [] (round_init round)
 
 last_round_inside : verdict_in 104 ≡ Take
 unfolding verdict_on by_other
@@ -106,7 +106,7 @@ last_round_past = refl
 
 -- an item of eleven bytes that isn't open, where replica 1 has so many bytes held in another
 abbrev verdict_beside : ℕ → Verdict
-verdict_beside len = verdict_on (rules_with false) nothing ([] ∷ (record { item = init 101; len = len } ∷ []) ∷ [] ∷ [] ∷ []) (init 102)
+verdict_beside len = verdict_on (rules_with false) no_parts ([] ∷ (record { item = init 101; len = len } ∷ []) ∷ [] ∷ [] ∷ []) (init 102)
 
 fits_exactly : verdict_beside 1048565 ≡ Hold
 unfolding verdict_on by_other
@@ -117,7 +117,7 @@ unfolding verdict_on by_other
 one_too_many = refl
 
 -- another item of the kind and slot of a held one repeats it
-held_already : verdict_on (rules_with false) nothing ([] ∷ (record { item = init 102; len = 11 } ∷ []) ∷ []) (record { from = 1; kind = Init; slot = command_slot 1 102; value = 8 ∷ [] }) ≡ Again
+held_already : verdict_on (rules_with false) no_parts ([] ∷ (record { item = init 102; len = 11 } ∷ []) ∷ []) (record { from = 1; kind = Init; slot = command_slot 1 102; value = 8 ∷ [] }) ≡ Again
 unfolding verdict_on by_other
 held_already = refl
 

@@ -5,9 +5,9 @@ use Rattle.ritas_base.specs.declared.slot.Slot.{Slot}
 use Rattle.ritas_base.specs.declared.mode.Mode.{Mode}
 use Rattle.ritas_base.specs.Numbers.{Numbers}
 use Rattle.layer_api.specs.Service.{is_past}
-use Rattle.ooc_buffers.specs.Lists.{Kept}
+use Rattle.ooc_buffers.specs.Lists.{HeldItem}
 use Rattle.ritas_core.specs.declared.kernel.Core.{Core}
-use Rattle.ritas_core.specs.Rules.{Rules, seat_of, out_at}
+use Rattle.ritas_core.specs.Rules.{Rules, seat_of, out_at_slot}
 use Rattle.ritas_core.specs.Parts.{Entry, parts}
 
 -- the numbers of the session, the mode, the replica and its tagger
@@ -24,20 +24,20 @@ abbrev pub tagger_of : {S E C T : Type 0} → Core S E C T → T
 tagger_of core = core.layers.tagger
 
 -- the item that waits first
-abbrev pub front_of : List Item → Option Item
-front_of [] = None
-front_of (item ∷ waiting) = Some item
+abbrev pub first_waiting : List Item → Option Item
+first_waiting [] = None
+first_waiting (item ∷ waiting) = Some item
 
 -- the bytes that are held for one peer, and for all
-abbrev pub bytes_in : List Kept → ℕ
-bytes_in kept = sum_by (λ k. k.len) kept
+abbrev pub held_bytes_in : List HeldItem → ℕ
+held_bytes_in kept = sum_by (λ k. k.len) kept
 
-abbrev pub all_bytes : List (List Kept) → ℕ
-all_bytes held = sum_by bytes_in held
+abbrev pub all_bytes : List (List HeldItem) → ℕ
+all_bytes held = sum_by held_bytes_in held
 
 -- what a slot delivered in a history
 abbrev pub delivered_at : Rules → List Entry → Slot → Option (List ℕ)
-delivered_at r h s = out_at r.casts s ((parts r h).calls s)
+delivered_at r h s = out_at_slot r.casts s ((parts r h).calls s)
 
 -- whether that is hidden: in root services 3 to 6 it is, once the slot is past
 abbrev pub is_hidden : Rules → List Entry → Slot → Bool

@@ -7,7 +7,7 @@ use Rattle.ritas_base.specs.History.{Call}
 use Rattle.ritas_base.specs.Tags.{Tags}
 use Rattle.layer_api.specs.BroadcastCalls.{CastShown}
 use Rattle.reliable_bcast.specs.State.{state_of}
-use Rattle.reliable_bcast.specs.DigestState.{Keeps, shown_of}
+use Rattle.reliable_bcast.specs.DigestState.{KeepsDigests, digest_shown}
 use Rattle.ritas_core.specs.declared.cast.Cast.{Cast}
 use Rattle.ritas_core.specs.declared.cast.Cast.TheVariants.{Plain, Digest, Other}
 use Rattle.ritas_core.specs.declared.route.Route.{Route}
@@ -17,7 +17,7 @@ use Rattle.ritas_core.specs.Rules.{route_of}
 -- the value stands for these calls, where its slot goes so
 abbrev pub CastStands : {E : Type 0} → Route → (E → Place → Tags → List Call → Type 0) → Cast E → Place → Tags → List Call → Type 0
 CastStands route stands (Plain b) at tags h = (route ≡ routes.Values) × (b ≡ state_of at h)
-CastStands route stands (Digest b) at tags h = (route ≡ routes.Digests) × Keeps b at tags h
+CastStands route stands (Digest b) at tags h = (route ≡ routes.Digests) × KeepsDigests b at tags h
 CastStands route stands (Other e) at tags h = (route ≡ routes.Other) × stands e at tags h
 
 -- the same at a place, in a mode
@@ -25,13 +25,13 @@ abbrev pub CastStandsAt : {E : Type 0} → Mode → (E → Place → Tags → Li
 CastStandsAt mode stands cast at tags h = CastStands (route_of mode at.slot) stands cast at tags h
 
 -- no call on it was without memory
-abbrev pub is_live : {E : Type 0} → (E → Bool) → Cast E → Bool
-is_live live (Plain b) = b.live
-is_live live (Digest b) = b.live
-is_live live (Other e) = live e
+abbrev pub is_cast_live : {E : Type 0} → (E → Bool) → Cast E → Bool
+is_cast_live live (Plain b) = b.live
+is_cast_live live (Digest b) = b.live
+is_cast_live live (Other e) = live e
 
 -- what its getters answer: reliable broadcast can take any item
-abbrev pub shown_by : {E : Type 0} → (E → CastShown) → Cast E → CastShown
-shown_by shown (Plain b) = record { out = b.delivered; ready = λ i. true }
-shown_by shown (Digest b) = shown_of b
-shown_by shown (Other e) = shown e
+abbrev pub shown_by_cast : {E : Type 0} → (E → CastShown) → Cast E → CastShown
+shown_by_cast shown (Plain b) = record { out = b.delivered; ready = λ i. true }
+shown_by_cast shown (Digest b) = digest_shown b
+shown_by_cast shown (Other e) = shown e

@@ -10,11 +10,11 @@ use Rattle.layer_api.specs.BroadcastCalls.{CastShown}
 use Rattle.layer_api.specs.Service.{ServiceRules, Seat}
 use Rattle.layer_api.specs.Words.{Word}
 use Rattle.layer_api.specs.ServiceCalls.{ServiceShown, ShowsBetween}
-use Rattle.ooc_buffers.specs.Lists.{Kept}
+use Rattle.ooc_buffers.specs.Lists.{HeldItem}
 use Rattle.ritas_core.specs.declared.layers.Layers.{Layers}
 use Rattle.ritas_core.specs.declared.kernel.Core.{Core}
 use Rattle.ritas_core.specs.Rules.{Rules, casts_by, seat_of, FormsFit}
-use Rattle.ritas_core.specs.SlotCast.{CastStandsAt, shown_by}
+use Rattle.ritas_core.specs.SlotCast.{CastStandsAt, shown_by_cast}
 use Rattle.ritas_core.specs.Casts.{CastsStand, CastsShow}
 use Rattle.ritas_core.specs.Parts.{Parts, parts}
 use Rattle.ritas_core.specs.Checks.{IsHistory, IsGood}
@@ -64,14 +64,14 @@ pub record LayersStand {S E C T : Type 0} (m : Meaning S E C T) (layers : Layers
 -- each slot that it delivered what it did by the calls of the one or of the other
 pub record LayersShow {S E C T : Type 0} (m : Meaning S E C T) (layers : Layers S E C T) (r : Rules) (p later : Parts) : Type 0 where
   pub service : ShowsBetween r.service (seat_of r) p.words later.words (m.service_shown layers.service)
-  pub casts : CastsShow (shown_by m.cast_shown) r.casts layers.casts p.calls later.calls
+  pub casts : CastsShow (shown_by_cast m.cast_shown) r.casts layers.casts p.calls later.calls
 
 -- the held items may be given
-abbrev pub AreGoodKept : Rules → List Kept → Type 0
+abbrev pub AreGoodKept : Rules → List HeldItem → Type 0
 AreGoodKept r [] = Unit {0}
 AreGoodKept r (x ∷ xs) = IsGood r x.item × AreGoodKept r xs
 
-abbrev pub AreGoodLists : Rules → List (List Kept) → Type 0
+abbrev pub AreGoodLists : Rules → List (List HeldItem) → Type 0
 AreGoodLists r [] = Unit {0}
 AreGoodLists r (kept ∷ held) = AreGoodKept r kept × AreGoodLists r held
 

@@ -8,7 +8,7 @@ ghost use Rattle.ritas_base.specs.Tags.{Tags};
 ghost use Rattle.layer_api.specs.BroadcastCalls.{Started, Takes};
 ghost use Rattle.ritas_core.specs.declared.route.Route.{Route};
 ghost use Rattle.ritas_core.specs.Rules.{route_of, rules_by};
-ghost use Rattle.ritas_core.specs.SlotCast.{CastStands, CastStandsAt, is_live, shown_by};
+ghost use Rattle.ritas_core.specs.SlotCast.{CastStands, CastStandsAt, is_cast_live, shown_by_cast};
 
 use crate::route::Route;
 use layer_api::{Broadcast, Heard};
@@ -70,7 +70,7 @@ impl<E: Broadcast> Cast<E> {
         value: &[u8],
         out: &mut Vec<Msg>,
     ) -> Result<(), Mem>
-        ensures { (route : Route) → Started (CastStands route E.stands) (rules_by route E.rules) (is_live E.live) (shown_by E.shown)
+        ensures { (route : Route) → Started (CastStands route E.stands) (rules_by route E.rules) (is_cast_live E.live) (shown_by_cast E.shown)
             (record { me = T.me t.now; tags = T.tags t.now }) self.old self.new value.now out.old.items out.new.items result }
     {
         match self {
@@ -88,7 +88,7 @@ impl<E: Broadcast> Cast<E> {
         item: &Item,
         out: &mut Vec<Msg>,
     ) -> Result<Heard, Mem>
-        ensures { (route : Route) → Takes (CastStands route E.stands) (rules_by route E.rules) (is_live E.live) (shown_by E.shown)
+        ensures { (route : Route) → Takes (CastStands route E.stands) (rules_by route E.rules) (is_cast_live E.live) (shown_by_cast E.shown)
             (record { me = T.me t.now; tags = T.tags t.now }) self.old self.new item.now out.old.items out.new.items result }
     {
         match self {
@@ -100,7 +100,7 @@ impl<E: Broadcast> Cast<E> {
 
     /// Whether an item of this slot and broadcast can be taken yet.
     pub(crate) fn ready_for(&self, item: &Item) -> bool
-        ensures { result ≡ (shown_by E.shown self.now).ready item.now }
+        ensures { result ≡ (shown_by_cast E.shown self.now).ready item.now }
     {
         match self {
             Cast::Plain(cast) => cast.ready_for(item),
@@ -111,7 +111,7 @@ impl<E: Broadcast> Cast<E> {
 
     /// What is delivered, if anything is.
     pub(crate) fn delivered(&self) -> Option<&[u8]>
-        ensures { option_copied result ≡ (shown_by E.shown self.now).out }
+        ensures { option_copied result ≡ (shown_by_cast E.shown self.now).out }
     {
         match self {
             Cast::Plain(cast) => cast.delivered(),

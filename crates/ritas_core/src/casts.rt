@@ -5,7 +5,7 @@ ghost use Rattle.std.specs.BTreeMap.{get};
 ghost use Rattle.ritas_base.specs.SlotOrder.{slot_cmp};
 ghost use Rattle.ritas_base.specs.Tags.{Tags};
 ghost use Rattle.ritas_core.specs.Rules.{casts_by};
-ghost use Rattle.ritas_core.specs.SlotCast.{CastStandsAt, shown_by};
+ghost use Rattle.ritas_core.specs.SlotCast.{CastStandsAt, shown_by_cast};
 ghost use Rattle.ritas_core.specs.CastCalls.{StartsCast, StartsNone, StartsCasts, StartsFewer};
 
 use crate::cast::Cast;
@@ -31,7 +31,7 @@ fn start_first<E: Broadcast, T: Tagger>(
     ensures ok { let c = casts_by mode.now p.now me (T.tags t.now) E.rules in
         OnOk result (StartsCast (CastStandsAt mode.now E.stands) c (T.me t.now) casts.old casts.new say.now made.old.items made.new.items) }
     ensures err { let c = casts_by mode.now p.now me (T.tags t.now) E.rules in
-        OnErr result (StartsNone (CastStandsAt mode.now E.stands) (shown_by E.shown) c (T.me t.now) casts.old casts.new say.now) }
+        OnErr result (StartsNone (CastStandsAt mode.now E.stands) (shown_by_cast E.shown) c (T.me t.now) casts.old casts.new say.now) }
 {
     let mut cast = Cast::make(alloc, p, mode, me, say.slot)?;
     cast.start(alloc, t, say.value.as_slice(), made)?;
@@ -53,7 +53,7 @@ fn start_cast<E: Broadcast, T: Tagger>(
     ensures ok { let c = casts_by mode.now p.now me (T.tags t.now) E.rules in
         OnOk result (StartsCast (CastStandsAt mode.now E.stands) c (T.me t.now) casts.old casts.new say.now made.old.items made.new.items) }
     ensures err { let c = casts_by mode.now p.now me (T.tags t.now) E.rules in
-        OnErr result (StartsNone (CastStandsAt mode.now E.stands) (shown_by E.shown) c (T.me t.now) casts.old casts.new say.now) }
+        OnErr result (StartsNone (CastStandsAt mode.now E.stands) (shown_by_cast E.shown) c (T.me t.now) casts.old casts.new say.now) }
 {
     // No such say comes: a say is at one of the replica's own slots.
     if me >= p.n() || say.slot.origin >= p.n() {
@@ -79,7 +79,7 @@ pub(crate) fn start_casts<E: Broadcast, T: Tagger>(
     ensures ok { let c = casts_by mode.now p.now me (T.tags t.now) E.rules in
         OnOk result (StartsCasts (CastStandsAt mode.now E.stands) c (T.me t.now) casts.old casts.new says.now made.old.items made.new.items) }
     ensures err { let c = casts_by mode.now p.now me (T.tags t.now) E.rules in
-        OnErr result (StartsFewer (CastStandsAt mode.now E.stands) (shown_by E.shown) c (T.me t.now) casts.old casts.new says.now) }
+        OnErr result (StartsFewer (CastStandsAt mode.now E.stands) (shown_by_cast E.shown) c (T.me t.now) casts.old casts.new says.now) }
 {
     for say in says {
         start_cast(alloc, p, mode, me, t, casts, say, made)?;

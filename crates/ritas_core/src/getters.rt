@@ -13,7 +13,7 @@ impl<S: Service, E: Broadcast, C: Coin + Drop, T: Tagger + Drop> Core<S, E, C, T
     ghost use Rattle.ritas_core.specs.Parts.{parts};
     ghost use Rattle.ritas_core.specs.Machine.{CoreState, with_lost};
     ghost use Rattle.ritas_core.specs.Stands.{meaning, CoreStands};
-    ghost use Rattle.ritas_core.specs.Shown.{params_of, mode_of, me_of, tagger_of, front_of, all_bytes, shown_at};
+    ghost use Rattle.ritas_core.specs.Shown.{params_of, mode_of, me_of, tagger_of, first_waiting, all_bytes, shown_at};
 
     /// The numbers of the session.
     pub fn params(&self) -> &Params
@@ -64,7 +64,7 @@ impl<S: Service, E: Broadcast, C: Coin + Drop, T: Tagger + Drop> Core<S, E, C, T
     pub fn inbox_front(&self) -> Option<&Item>
         ensures { let m = meaning S.stands S.rules S.shown E.stands E.rules E.shown C.bits T.me T.tags in
             (r : Rules) (st : CoreState) → CoreStands m self.now r st
-            → option_copied result ≡ front_of st.inbox }
+            → option_copied result ≡ first_waiting st.inbox }
     {
         self.inbox.front()
     }

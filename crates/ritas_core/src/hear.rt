@@ -10,7 +10,7 @@ ghost use Rattle.ritas_base.specs.Numbers.{Numbers};
 ghost use Rattle.ritas_base.specs.Tags.{Tags};
 ghost use Rattle.ritas_core.specs.declared.route.Route.{Route};
 ghost use Rattle.ritas_core.specs.Rules.{casts_by, rules_by};
-ghost use Rattle.ritas_core.specs.SlotCast.{CastStands, CastStandsAt, shown_by};
+ghost use Rattle.ritas_core.specs.SlotCast.{CastStands, CastStandsAt, shown_by_cast};
 ghost use Rattle.ritas_core.specs.Casts.{CastsStand};
 ghost use Rattle.ritas_core.specs.CastCalls.{HearsItem, CastsHear, is_ready_in};
 
@@ -27,7 +27,7 @@ fn newly_delivered<E: Broadcast>(
     had: bool,
     cast: &Cast<E>,
 ) -> Result<Option<Bytes>, Mem>
-    ensures { IfOk result (λ d. d ≡ (if had then None else (shown_by E.shown cast.now).out)) }
+    ensures { IfOk result (λ d. d ≡ (if had then None else (shown_by_cast E.shown cast.now).out)) }
 {
     if had {
         return Ok(None);
@@ -46,7 +46,7 @@ fn hear<E: Broadcast, T: Tagger>(
     item: &Item,
     made: &mut Vec<Msg>,
 ) -> Result<Taken, Mem>
-    ensures { (route : Route) → HearsItem (CastStands route E.stands) (rules_by route E.rules) (shown_by E.shown) (record { me = T.me t.now; tags = T.tags t.now })
+    ensures { (route : Route) → HearsItem (CastStands route E.stands) (rules_by route E.rules) (shown_by_cast E.shown) (record { me = T.me t.now; tags = T.tags t.now })
         cast.old cast.new item.now made.old.items made.new.items result }
 {
     let had = cast.delivered().is_some();
@@ -71,7 +71,7 @@ fn take_first<E: Broadcast, T: Tagger>(
     requires origin_below { item.now.slot.origin < p.now.n }
     requires unmade { get slot_cmp casts.old item.now.slot ≡ None }
     ensures { let c = casts_by mode.now p.now me (T.tags t.now) E.rules in
-        CastsHear (CastStandsAt mode.now E.stands) (shown_by E.shown) c (T.me t.now) casts.old casts.new item.now made.old.items made.new.items result }
+        CastsHear (CastStandsAt mode.now E.stands) (shown_by_cast E.shown) c (T.me t.now) casts.old casts.new item.now made.old.items made.new.items result }
 {
     let mut cast = Cast::make(alloc, p, mode, me, item.slot)?;
     let taken = hear(alloc, t, &mut cast, item, made)?;
@@ -91,7 +91,7 @@ pub(crate) fn take_cast<E: Broadcast, T: Tagger>(
     made: &mut Vec<Msg>,
 ) -> Result<Taken, Mem>
     ensures { let c = casts_by mode.now p.now me (T.tags t.now) E.rules in
-        CastsHear (CastStandsAt mode.now E.stands) (shown_by E.shown) c (T.me t.now) casts.old casts.new item.now made.old.items made.new.items result }
+        CastsHear (CastStandsAt mode.now E.stands) (shown_by_cast E.shown) c (T.me t.now) casts.old casts.new item.now made.old.items made.new.items result }
 {
     // No such item comes: the origin of a slot in the grammar is a replica.
     if me >= p.n() || item.slot.origin >= p.n() {

@@ -45,14 +45,14 @@ impl<S: Service, E: Broadcast, C: Coin + Drop, T: Tagger + Drop> Core<S, E, C, T
     ghost use Rattle.std.specs.Prelude.{◌≡◌, ◌<◌, true, false, List, [], ◌∷◌, IfOk, replicate};
     ghost use Rattle.ritas_base.specs.declared.item.Item.{Item};
     ghost use Rattle.ritas_base.specs.declared.item.Msg.{Msg};
-    ghost use Rattle.ooc_buffers.specs.Lists.{is_kept};
+    ghost use Rattle.ooc_buffers.specs.Lists.{is_held};
     ghost use Rattle.ritas_core.specs.declared.verdict.Verdict.TheVariants as verdicts;
     ghost use Rattle.ritas_core.specs.Rules.{casts_by, other_form};
     ghost use Rattle.ritas_core.specs.Machine.{Frame, Input, Turn, first_state};
     ghost use Rattle.ritas_core.specs.Stands.{meaning, CoreStands};
     ghost use Rattle.ritas_core.specs.Calls.{DoesAll};
     ghost use Rattle.ritas_core.specs.Shown.{tagger_of};
-    ghost use Rattle.ritas_core.specs.CoreCalls.{DoesHere, DoesJudged, GivesFront, CopiesToHold, IsTold, FrontIsTold};
+    ghost use Rattle.ritas_core.specs.CoreCalls.{DoesHere, DoesJudged, GivesFront, CopiesToHold, IsVerdictTold, FrontIsTold};
 
     /// The core of replica `me`, with no history: nothing waits, and nothing is held. The one error is want of memory.
     ///
@@ -93,7 +93,7 @@ impl<S: Service, E: Broadcast, C: Coin + Drop, T: Tagger + Drop> Core<S, E, C, T
 
     // Holds an item, if there is room for it.
     fn hold(&mut self, alloc: Global, item: Item) -> Result<Answer, CoreFault>
-        requires { is_kept self.old.held item ≡ false }
+        requires { is_held self.old.held item ≡ false }
         ensures does { let m = meaning S.stands S.rules S.shown E.stands E.rules E.shown C.bits T.me T.tags in
             (sent : List Msg) → DoesJudged m self.old self.new verdicts.Hold item sent sent result }
         ensures tagger { tagger_of self.new ≡ tagger_of self.old }
@@ -135,7 +135,7 @@ impl<S: Service, E: Broadcast, C: Coin + Drop, T: Tagger + Drop> Core<S, E, C, T
     // What is done with an item.
     fn judged(&self, item: &Item) -> Verdict
         ensures { let m = meaning S.stands S.rules S.shown E.stands E.rules E.shown C.bits T.me T.tags in
-            IsTold m self.now item.now result }
+            IsVerdictTold m self.now item.now result }
     {
         judge(&self.layers, self.held.has(item), item)
     }

@@ -11,12 +11,12 @@ ghost use Rattle.ritas_base.specs.Messages.{has};
 ghost use Rattle.layer_api.specs.Broadcast.{BroadcastRules};
 ghost use Rattle.layer_api.specs.Runs.{Has};
 ghost use Rattle.layer_api.specs.OneValue.{IsReceiver, IsOnce};
-ghost use Rattle.ritas_core.specs.Rules.{Rules, seat_of, out_at, casts_by, FormsFit, HasForm};
+ghost use Rattle.ritas_core.specs.Rules.{Rules, seat_of, out_at_slot, casts_by, FormsFit, HasForm};
 ghost use Rattle.ritas_base.specs.Tags.{Tags, HasDigests};
 ghost use Rattle.ritas_core.specs.Parts.{Entry, parts};
 ghost use Rattle.ritas_core.specs.Order.{new_messages};
 ghost use Rattle.ritas_core.specs.Checks.{IsHistory};
-ghost use Rattle.ritas_core.specs.Laws.{is_due, InOrder};
+ghost use Rattle.ritas_core.specs.Laws.{is_due, AreMessagesInOrder};
 ghost use Rattle.ritas_core.specs.Laws.{StartsWhereSaid, StartsWhatWasSaid, HearsWhereDelivered, WordsAreProper, CallsAreTaken, CallsAreFirst, CallsAreGood};
 ghost use Rattle.ritas_core.specs.Laws.{NewIsDue, DueStays, NewIsGood, MayStartGiven, MayHearTaken, MayStartHeard, TakenIsTakable, GivenIsGivable, FoundIsRepeat};
 ghost use Rattle.ritas_core.specs.CoreOf.{IsCoreOf};
@@ -30,7 +30,7 @@ use layer_api::{Broadcast, Service};
 pub fn new_is_due<S: Service, E: Broadcast>()
     ensures due { (r : Rules) → IsCoreOf S.rules E.rules r → (h : List Entry) (e : Entry) (m : Msg) →
         has (new_messages r h e) m ≡ (is_due r (parts r (e ∷ h)) m && not (is_due r (parts r h) m)) }
-    ensures order { (r : Rules) (h : List Entry) (e : Entry) → InOrder (new_messages r h e) }
+    ensures order { (r : Rules) (h : List Entry) (e : Entry) → AreMessagesInOrder (new_messages r h e) }
     ensures once { (r : Rules) → IsCoreOf S.rules E.rules r → (h : List Entry) (e : Entry) → IsHistory r (e ∷ h) →
         IsOnce (new_messages r h e) }
     ensures receiver { (r : Rules) → IsCoreOf S.rules E.rules r → (h : List Entry) (e : Entry) → IsHistory r (e ∷ h) → (m : Msg) →
@@ -43,9 +43,9 @@ pub fn new_is_due<S: Service, E: Broadcast>()
 /// It does nothing: its contract is the law.
 pub fn delivered_within<S: Service, E: Broadcast>()
     ensures grammar { (r : Rules) → IsCoreOf S.rules E.rules r → (h : List Entry) → IsHistory r h → (s : Slot) →
-        is_some (out_at r.casts s ((parts r h).calls s)) ≡ true → slot_fault r.casts.numbers r.mode s ≡ None }
+        is_some (out_at_slot r.casts s ((parts r h).calls s)) ≡ true → slot_fault r.casts.numbers r.mode s ≡ None }
     ensures window { (r : Rules) → IsCoreOf S.rules E.rules r → (h : List Entry) → IsHistory r h → (s : Slot) → s.class ≡ 1 →
-        is_some (out_at r.casts s ((parts r h).calls s)) ≡ true → s.a < r.service.base (seat_of r) (parts r h).words s.origin + 64 }
+        is_some (out_at_slot r.casts s ((parts r h).calls s)) ≡ true → s.a < r.service.base (seat_of r) (parts r h).words s.origin + 64 }
 {}
 
 /// Every entry of a history, where it met its own conditions, meets those of the layers, whatever they mean, as long as

@@ -31,7 +31,7 @@ impl<S: Service, E: Broadcast, C: Coin + Drop, T: Tagger + Drop> Layers<S, E, C,
     ghost use Rattle.ritas_core.specs.Checks.{mark_of, window_fault, input_check};
     ghost use Rattle.frame_codec.specs.Inputs.{IsInput};
     ghost use Rattle.ritas_core.specs.Stands.{meaning, rules_of, LayersStand};
-    ghost use Rattle.ritas_core.specs.LayerCalls.{SameSeat, Tells, TellsNone, GivesItem, is_past_in, is_let_in, is_open_in, mark_shown, is_past_shown, hides_shown};
+    ghost use Rattle.ritas_core.specs.LayerCalls.{SameSeat, TellsLayers, TellsNoLayer, GivesItem, is_past_in, is_let_in, is_open_in, mark_shown, is_past_shown, hides_shown};
 
     /// Tells the service what a slot delivered, and starts what it says.
     fn hear(
@@ -42,9 +42,9 @@ impl<S: Service, E: Broadcast, C: Coin + Drop, T: Tagger + Drop> Layers<S, E, C,
         made: &mut Vec<Msg>,
     ) -> Result<(), Mem>
         ensures told { let m = meaning S.stands S.rules S.shown E.stands E.rules E.shown C.bits T.me T.tags in
-            OnOk result (Tells m self.old self.new (Hear slot.now value.now) made.old.items made.new.items) }
+            OnOk result (TellsLayers m self.old self.new (Hear slot.now value.now) made.old.items made.new.items) }
         ensures missed { let m = meaning S.stands S.rules S.shown E.stands E.rules E.shown C.bits T.me T.tags in
-            OnErr result (TellsNone m self.old self.new (Hear slot.now value.now)) }
+            OnErr result (TellsNoLayer m self.old self.new (Hear slot.now value.now)) }
         ensures same { SameSeat self.old self.new }
     {
         let mut says = Vec::new(alloc);
@@ -70,9 +70,9 @@ impl<S: Service, E: Broadcast, C: Coin + Drop, T: Tagger + Drop> Layers<S, E, C,
         made: &mut Vec<Msg>,
     ) -> Result<(), Mem>
         ensures told { let m = meaning S.stands S.rules S.shown E.stands E.rules E.shown C.bits T.me T.tags in
-            OnOk result (Tells m self.old self.new (Ask value.now) made.old.items made.new.items) }
+            OnOk result (TellsLayers m self.old self.new (Ask value.now) made.old.items made.new.items) }
         ensures missed { let m = meaning S.stands S.rules S.shown E.stands E.rules E.shown C.bits T.me T.tags in
-            OnErr result (TellsNone m self.old self.new (Ask value.now)) }
+            OnErr result (TellsNoLayer m self.old self.new (Ask value.now)) }
         ensures same { SameSeat self.old self.new }
     {
         let mut says = Vec::new(alloc);

@@ -1,7 +1,7 @@
 //! The bounds of the windows: what lies behind them, and what beyond.
 
 ghost use Rattle.std.specs.Prelude.{◌≡◌};
-ghost use Rattle.ritas_core.specs.LayerCalls.{is_behind, is_beyond};
+ghost use Rattle.layer_api.specs.Windows.{is_behind, is_beyond};
 
 use ritas_base::Slot;
 

@@ -26,7 +26,7 @@ use Rattle.schedule_drive.specs.declared.end.DriveEnd.TheVariants as ends
 use Rattle.schedule_stage.specs.declared.halt.Halt.{Halt}
 use Rattle.schedule_stage.specs.declared.halt.Halt.TheVariants as halts
 use Rattle.schedule_stage.specs.Worlds.{HaltsBy}
-use Rattle.schedule_drive.specs.Drive.{events_in, text_in, end_at, end_of, Ended, ShowsIn}
+use Rattle.schedule_drive.specs.Drive.{events_in, text_in, end_at_halt, drive_end_of, DriveEnded, ShowsIn}
 
 -- nothing in a plan's schedule is forged
 pub record IsUnforged (w : Setting) (p : Plan) : Type 0 where
@@ -49,7 +49,7 @@ no_front taken old new text same = record { front = []; rest = text; parts = ref
 module _ {K : Type 0} (tells : Bool) (taken : K → List ℕ) (old new : K) (w : Setting) (p : Plan) (unforged : IsUnforged w p) where
   pub report_shows : limit_met w p (schedule w p) ≡ None → (end : ReplayEnd) → ((e : FileFault) → end ≢ replay_ends.File e)
       → ShowsWorld tells taken old new whats.Report end (header_of p) w (events_in w p)
-      → ShowsIn tells taken old new drives.Report (end_of end) w p
+      → ShowsIn tells taken old new drives.Report (drive_end_of end) w p
   report_shows none (replay_ends.Done a) own shows = record {
     done = λ b e. (none, sym (same_end a b e) ∙ shows.answer);
     limit = λ x e. absurd cc;
@@ -107,7 +107,7 @@ module _ {K : Type 0} (tells : Bool) (taken : K → List ℕ) (old new : K) (w :
     agree = λ e. absurd cc;
   }
 
-  pub halt_shows : (what : DriveWhat) (halt : Halt) → new ≡ old → HaltsBy w p (schedule w p) halt → ShowsIn tells taken old new what (end_at halt) w p
+  pub halt_shows : (what : DriveWhat) (halt : Halt) → new ≡ old → HaltsBy w p (schedule w p) halt → ShowsIn tells taken old new what (end_at_halt halt) w p
   halt_shows what (halts.Limit x) same met = limit_shows what x same met
   halt_shows what halts.Mem same met = nothing_shows what same
 
@@ -151,7 +151,7 @@ none_failed : {F : Type 0} (x y : ℕ) → (F → ⊥) → y ≡ x → CountsIf 
 none_failed x y not same = record { rises = λ f. absurd (not f); stands = λ _. same }
 
 pub report_ended : {K : Type 0} (faults : K → ℕ) (old new : K) (end : ReplayEnd) → ((e : FileFault) → end ≢ replay_ends.File e)
-    → CountsIf (faults old) (faults new) (end ≡ replay_ends.Write) → (end ≡ replay_ends.Mem → new ≡ old) → Ended faults old new (end_of end)
+    → CountsIf (faults old) (faults new) (end ≡ replay_ends.Write) → (end ≡ replay_ends.Mem → new ≡ old) → DriveEnded faults old new (drive_end_of end)
 report_ended faults old new (replay_ends.Done a) own counts memory = record {
   counts = none_failed (faults old) (faults new) (λ e. cc) (counts.stands (λ e. cc));
   limit = λ x e. absurd cc;
@@ -169,7 +169,7 @@ report_ended faults old new replay_ends.Mem own counts memory = record {
   wanting = λ e. memory refl;
 }
 
-pub halt_ended : {K : Type 0} (faults : K → ℕ) (old new : K) (halt : Halt) → new ≡ old → Ended faults old new (end_at halt)
+pub halt_ended : {K : Type 0} (faults : K → ℕ) (old new : K) (halt : Halt) → new ≡ old → DriveEnded faults old new (end_at_halt halt)
 halt_ended faults old new (halts.Limit x) same = record {
   counts = none_failed (faults old) (faults new) (λ e. cc) (ap faults same);
   limit = λ y e. same;

@@ -16,7 +16,7 @@ use Rattle.world_model.specs.declared.player.Player.{Player}
 use Rattle.world_model.specs.declared.player.Player.TheVariants.{Correct, Face}
 use Rattle.world_model.specs.Players.{Step, Give, IsPlayer}
 use Rattle.schedule_plan.specs.Plans.{correct_of, cast_of, players_of}
-use Rattle.schedule_plan.specs.Inputs.{takes_commands, command_text, value_text, copies_of, copy_at, command_at, value_at, correct_inputs, flip_inputs, given_to, face_inputs, inputs_of}
+use Rattle.schedule_plan.specs.Inputs.{takes_commands, command_text, value_text, copies_of, copy_at, command_at, value_input, correct_inputs, flip_inputs, given_to, face_inputs, inputs_of}
 use Rattle.schedule_plan.proofs.Planned.{IsPlanned, player_is, some_correct}
 use Rattle.schedule_stage.specs.declared.halt.Halt.{Halt}
 use Rattle.schedule_stage.specs.declared.stage.Stage.{Stage}
@@ -35,13 +35,13 @@ copy_is p k behind client at text first is says =
     ap (λ (t : List ℕ). Give (Correct at) t) (says ∙ ap (λ (i : ℕ). command_text p.mode.root i k k) first)
     ∙ ap (λ (i : ℕ). Give (Correct i) (command_text p.mode.root (k % correct_of p) k k)) is
 
-pub value_is : (p : Plan) (i : ℕ) (text : List ℕ) → text ≡ value_text p.mode.root (i % p.commands) → Give (Correct i) text ≡ value_at p i
+pub value_is : (p : Plan) (i : ℕ) (text : List ℕ) → text ≡ value_text p.mode.root (i % p.commands) → Give (Correct i) text ≡ value_input p i
 value_is p i text says = ap (λ (t : List ℕ). Give (Correct i) t) says
 
 -- ---- the correct replicas
 
 abbrev inputs_by : Plan → Bool → Bool → List Step
-inputs_by p a b = if a then flat_map (command_at p) (range_with_len 0 p.commands) else (if b then [] else map (value_at p) (range_with_len 0 (correct_of p)))
+inputs_by p a b = if a then flat_map (command_at p) (range_with_len 0 p.commands) else (if b then [] else map (value_input p) (range_with_len 0 (correct_of p)))
 
 pub commands_in : (p : Plan) → takes_commands p.mode.root ≡ true → correct_inputs p ≡ flat_map (command_at p) (range_with_len 0 p.commands)
 commands_in p takes = ap (λ (a : Bool). inputs_by p a (p.commands == 0)) takes
@@ -49,7 +49,7 @@ commands_in p takes = ap (λ (a : Bool). inputs_by p a (p.commands == 0)) takes
 pub nothing_in : (p : Plan) → takes_commands p.mode.root ≡ false → (p.commands == 0) ≡ true → correct_inputs p ≡ []
 nothing_in p takes none = ap₂ (inputs_by p) takes none
 
-pub values_in : (p : Plan) → takes_commands p.mode.root ≡ false → (p.commands == 0) ≡ false → correct_inputs p ≡ map (value_at p) (range_with_len 0 (correct_of p))
+pub values_in : (p : Plan) → takes_commands p.mode.root ≡ false → (p.commands == 0) ≡ false → correct_inputs p ≡ map (value_input p) (range_with_len 0 (correct_of p))
 values_in p takes some = ap₂ (inputs_by p) takes some
 
 -- ---- the faces
@@ -81,13 +81,13 @@ module _ {S E : Type 0} (m : Meaning S E CoinSeed KeyRow) (p : Plan) (what : Dri
       nears m p what old new (f k) (flat_map f (up_to (k + 1) p.commands)) _ target next toward r (gives toward.steps toward.stands)
 
   pub value_given : (i : ℕ) (text : List ℕ) → i < correct_of p → text ≡ value_text p.mode.root (i % p.commands)
-      → IsToward m p what old (map (value_at p) (up_to i (correct_of p))) target
+      → IsToward m p what old (map (value_input p) (up_to i (correct_of p))) target
       → ((steps : List Step) → IsStage m p what old steps → IsPlayer (world_in m p) (cast_of p.attack) (Correct i) → Reaches m p what new (Give (Correct i) text ∷ steps) r)
-      → Nears m p what new (map (value_at p) (up_to (i + 1) (correct_of p))) target r
+      → Nears m p what new (map (value_input p) (up_to (i + 1) (correct_of p))) target r
   value_given i text below says toward gives =
       let player = first_is (world_in m p) p planned i below in
-      let next = ap (map (value_at p)) (next_up i (correct_of p) below) in
-      nears m p what old new (value_at p i ∷ []) (map (value_at p) (up_to (i + 1) (correct_of p))) _ target next toward r
+      let next = ap (map (value_input p)) (next_up i (correct_of p) below) in
+      nears m p what old new (value_input p i ∷ []) (map (value_input p) (up_to (i + 1) (correct_of p))) _ target next toward r
       (subst (λ (s : Step). Reaches m p what new (s ∷ toward.steps) r) (value_is p i text says) (gives toward.steps toward.stands player))
 
   -- what the player at this place of the list is given as a face

@@ -9,7 +9,7 @@ use Rattle.std.proofs.lemmas.Nat.{mod_below}
 use Rattle.std.proofs.lemmas.Option.{slice_get_read, slice_get_past}
 use Rattle.std.proofs.lemmas.List.Elements.{filter-append}
 use Rattle.schedule_drive.specs.declared.lane.Lane.{Lane}
-use Rattle.schedule_drive.specs.Lanes.{numbers_left, has_left, IsLane, without}
+use Rattle.schedule_drive.specs.Lanes.{numbers_left, has_left, IsLane, without_taken}
 use Rattle.schedule_plan.specs.Picks.{passes_once}
 
 -- ---- ranges
@@ -111,14 +111,14 @@ taken_at left a (suc n) place m is = cases (left a) refl place is (taken_at left
 
 -- the lane without a number of its front
 pub taken_out : (lane new : Lane) (count word place m : ℕ) (left : ℕ → Bool) → IsLane lane count left → slice_get lane.front.items place ≡ Some m → passes_once word ≡ true
-    → new.front.items ≡ remove lane.front.items place → new.next ≡ lane.next → new.count ≡ lane.count → IsLane new count (without word (Some m) left)
+    → new.front.items ≡ remove lane.front.items place → new.next ≡ lane.next → new.count ≡ lane.count → IsLane new count (without_taken word (Some m) left)
 taken_out lane new count word place m left is at passes front next all =
     let taken = taken_at left 0 lane.next place m (ap (λ (xs : List ℕ). slice_get xs place) is.front ∙ at) in
-    let less : (k : ℕ) → without word (Some m) left k ≡ (not (m == k) && left k) = λ k. ap (λ b. if b then not (m == k) && left k else left k) passes in
+    let less : (k : ℕ) → without_taken word (Some m) left k ≡ (not (m == k) && left k) = λ k. ap (λ b. if b then not (m == k) && left k else left k) passes in
     let below = taken.below in
     record {
-      front = ap (λ (k : ℕ). numbers_left k (without word (Some m) left)) next
-          ∙ filter_same (without word (Some m) left) (λ k. not (m == k) && left k) 0 lane.next (λ k _. less k)
+      front = ap (λ (k : ℕ). numbers_left k (without_taken word (Some m) left)) next
+          ∙ filter_same (without_taken word (Some m) left) (λ k. not (m == k) && left k) 0 lane.next (λ k _. less k)
           ∙ taken.taken ∙ ap (λ (xs : List ℕ). remove xs place) is.front ∙ sym front;
       rest = λ k from. less k ∙ other left m k (omega (arith, from, below, next)) ∙ is.rest k (omega (arith, from, next));
       within = let within = is.within in omega (arith, within, next, all);
@@ -126,11 +126,11 @@ taken_out lane new count word place m left is at passes front next all =
     }
 
 -- it stays, where the word says so
-pub kept_in : (lane : Lane) (count word m : ℕ) (left : ℕ → Bool) → IsLane lane count left → passes_once word ≡ false → IsLane lane count (without word (Some m) left)
+pub kept_in : (lane : Lane) (count word m : ℕ) (left : ℕ → Bool) → IsLane lane count left → passes_once word ≡ false → IsLane lane count (without_taken word (Some m) left)
 kept_in lane count word m left is stays =
-    let same : (k : ℕ) → without word (Some m) left k ≡ left k = λ k. ap (λ b. if b then not (m == k) && left k else left k) stays in
+    let same : (k : ℕ) → without_taken word (Some m) left k ≡ left k = λ k. ap (λ b. if b then not (m == k) && left k else left k) stays in
     record {
-      front = filter_same (without word (Some m) left) left 0 lane.next (λ k _. same k) ∙ is.front;
+      front = filter_same (without_taken word (Some m) left) left 0 lane.next (λ k _. same k) ∙ is.front;
       rest = λ k from. same k ∙ is.rest k from;
       within = is.within;
       all = is.all;

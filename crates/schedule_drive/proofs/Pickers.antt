@@ -5,7 +5,7 @@ use Rattle.std.proofs.lemmas.List.Elements.{filter-append}
 use Rattle.ritas_base.specs.declared.plan.Plan.{Plan}
 use Rattle.world_model.specs.declared.player.Player.{Player}
 use Rattle.schedule_plan.specs.Plans.{players_of, linked_from}
-use Rattle.schedule_plan.specs.Sweeps.{Counts}
+use Rattle.schedule_plan.specs.Sweeps.{FrameCounts}
 use Rattle.schedule_plan.specs.Picks as picks
 use Rattle.schedule_plan.specs.Picks.{Passed, Turning, Passing, passings_of, all_choices}
 use Rattle.schedule_drive.specs.declared.picker.Choice.{Choice}
@@ -15,7 +15,7 @@ use Rattle.schedule_drive.specs.declared.sender.Sender.{Sender}
 use Rattle.schedule_drive.specs.declared.sender.Link.{Link}
 use Rattle.schedule_drive.specs.Lanes.{has_left}
 use Rattle.schedule_drive.specs.Choices.{open_in, open_all, IsNth}
-use Rattle.schedule_drive.specs.Pickers.{is_left, IsSender, IsPicker, rows_of, IsFrame, IsChosen, IsChoice}
+use Rattle.schedule_drive.specs.Pickers.{is_left, IsSender, IsPicker, open_rows, IsFrame, IsChosen, IsChoice}
 use Rattle.schedule_drive.proofs.Lists.{from_at, mapped_at, map_from, map_twice}
 use Rattle.schedule_drive.proofs.Choosing.{nth_kept, open_kept}
 
@@ -69,23 +69,23 @@ module _ (test : picks.Choice → Bool) where
 -- ---- the choices of a plan
 
 -- a test of choices, by what waits and what is left
-pub record IsTest (waits : Player → Bool) (counts : Counts) (passed : List Passed) (test : picks.Choice → Bool) : Type 0 where
+pub record IsTest (waits : Player → Bool) (counts : FrameCounts) (passed : List Passed) (test : picks.Choice → Bool) : Type 0 where
   pub turning : (y : Player) → test (Turning y) ≡ waits y
   pub passing : (x y : Player) → test (Passing x y) ≡ has_left (counts x y) (is_left passed x y)
 
-turns_are : (p : Plan) (waits : Player → Bool) (counts : Counts) (passed : List Passed) (picker : Picker) → IsPicker p waits counts passed picker → picker.turns ≡ map waits (players_of p)
+turns_are : (p : Plan) (waits : Player → Bool) (counts : FrameCounts) (passed : List Passed) (picker : Picker) → IsPicker p waits counts passed picker → picker.turns ≡ map waits (players_of p)
 turns_are p waits counts passed picker is =
     map_from (λ (s : Sender). waits s.player) picker.turns picker.senders.items is.many is.turns
     ∙ sym (map_twice (λ (s : Sender). s.player) waits picker.senders.items) ∙ ap (map waits) is.players
 
-row_is : (p : Plan) (counts : Counts) (passed : List Passed) (s : Sender) → IsSender p (counts s.player) passed s
+row_is : (p : Plan) (counts : FrameCounts) (passed : List Passed) (s : Sender) → IsSender p (counts s.player) passed s
     → s.row ≡ map (λ y. has_left (counts s.player y) (is_left passed s.player y)) (linked_from p s.player)
 row_is p counts passed s is =
     map_from (λ (l : Link). has_left (counts s.player l.player) (is_left passed s.player l.player)) s.row s.links.items is.many (λ i link got. (is.each i link got).flag_is)
     ∙ sym (map_twice (λ (l : Link). l.player) (λ y. has_left (counts s.player y) (is_left passed s.player y)) s.links.items)
     ∙ ap (map (λ y. has_left (counts s.player y) (is_left passed s.player y))) is.linked
 
-module _ (p : Plan) (waits : Player → Bool) (counts : Counts) (passed : List Passed) (test : picks.Choice → Bool) (tests : IsTest waits counts passed test) where
+module _ (p : Plan) (waits : Player → Bool) (counts : FrameCounts) (passed : List Passed) (test : picks.Choice → Bool) (tests : IsTest waits counts passed test) where
   row_tests : (x : Player) (ys : List Player) → map (λ y. has_left (counts x y) (is_left passed x y)) ys ≡ map test (map (Passing x) ys)
   row_tests x [] = refl
   row_tests x (y ∷ ys) = ap₂ (λ b bs. b ∷ bs) (sym (tests.passing x y)) (row_tests x ys)
@@ -100,14 +100,14 @@ module _ (p : Plan) (waits : Player → Bool) (counts : Counts) (passed : List P
   rows_from (s ∷ senders) are =
       ap₂ (λ r rs. r ∷ rs) (row_is p counts passed s (are 0 s refl) ∙ row_tests s.player (linked_from p s.player)) (rows_from senders (λ r. are (suc r)))
 
-  rows_are : (picker : Picker) → IsPicker p waits counts passed picker → rows_of picker ≡ map (λ x. map test (passings_of p x)) (players_of p)
+  rows_are : (picker : Picker) → IsPicker p waits counts passed picker → open_rows picker ≡ map (λ x. map test (passings_of p x)) (players_of p)
   rows_are picker is = rows_from picker.senders.items is.senders ∙ ap (map (λ x. map test (passings_of p x))) is.players
 
   split_choices : filter test (all_choices p) ≡ filter test (map Turning (players_of p)) ++ filter test (flat_map (passings_of p) (players_of p))
   split_choices = filter-append test (map Turning (players_of p)) (flat_map (passings_of p) (players_of p))
 
   -- how many choices are open
-  pub choices_many : (picker : Picker) → IsPicker p waits counts passed picker → open_in picker.turns + open_all (rows_of picker) ≡ length (filter test (all_choices p))
+  pub choices_many : (picker : Picker) → IsPicker p waits counts passed picker → open_in picker.turns + open_all (open_rows picker) ≡ length (filter test (all_choices p))
   choices_many picker is =
       let turns = ap open_in (turns_are p waits counts passed picker is ∙ turn_tests (players_of p)) ∙ open_kept test (map Turning (players_of p)) in
       let rows = ap open_all (rows_are picker is) ∙ all_kept test (passings_of p) (players_of p) in
@@ -147,6 +147,6 @@ module _ (p : Plan) (waits : Player → Bool) (counts : Counts) (passed : List P
         is = (x.is, y.is);
         got = ap (λ (cs : List picks.Choice). slice_get cs n) split_choices
             ∙ get_behind (filter test (map Turning (players_of p))) (filter test (flat_map (passings_of p) (players_of p))) n chosen.0 (chosen.1 ∙ ap (λ (k : ℕ). k + chosen.0) turns)
-            ∙ frame_kept test (passings_of p) (players_of p) (rows_of picker) chosen.0 from to x.element (Passing x.element y.element) rows frame x.is
+            ∙ frame_kept test (passings_of p) (players_of p) (open_rows picker) chosen.0 from to x.element (Passing x.element y.element) rows frame x.is
             (mapped_at (Passing x.element) (linked_from p x.element) to y.element y.is);
       }

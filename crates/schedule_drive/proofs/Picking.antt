@@ -27,10 +27,10 @@ use Rattle.world_model.specs.declared.player.Player.TheVariants.{Correct}
 use Rattle.world_model.specs.Players.{Step, Go, Carry, scene_of}
 use Rattle.schedule_plan.specs.Plans.{cast_of, faces_of, is_correct_in, players_at, players_of, are_linked, linked_from}
 use Rattle.schedule_plan.specs.Inputs.{inputs_of}
-use Rattle.schedule_plan.specs.Garbage.{start_of, throws_of}
+use Rattle.schedule_plan.specs.Garbage.{words_start, throws_of}
 use Rattle.schedule_plan.specs.Picks as picks
-use Rattle.schedule_plan.specs.Picks.{Turning, Passing, Picking, has_some, is_open_choice, passings_of, all_choices, choices_of, carried, taken, garbled, pick}
-use Rattle.schedule_plan.specs.Schedule.{step_limit, steps_by, steps_of, schedule, limit_met}
+use Rattle.schedule_plan.specs.Picks.{Turning, Passing, Picking, has_some, is_open_choice, passings_of, all_choices, choices_of, frame_carried, choice_taken, garbled, pick}
+use Rattle.schedule_plan.specs.Schedule.{step_limit, steps_by_order, steps_of, schedule, limit_met}
 use Rattle.schedule_plan.proofs.Limits.{limit_stays}
 use Rattle.schedule_plan.proofs.Whole.{picks_grow}
 use Rattle.schedule_stage.specs.declared.halt.Halt.{Halt}
@@ -41,7 +41,7 @@ use Rattle.schedule_stage.specs.Worlds.{world_in, HaltsBy}
 use Rattle.schedule_drive.specs.declared.picker.Choice.{Choice}
 use Rattle.schedule_drive.specs.declared.picker.Picker.{Picker}
 use Rattle.schedule_drive.specs.Choices.{open_in, open_all}
-use Rattle.schedule_drive.specs.Pickers.{waits_in, counts_in, IsPicker, IsChosen, IsChoice, Stands, rows_of}
+use Rattle.schedule_drive.specs.Pickers.{waits_in, counts_in, IsPicker, IsChosen, IsChoice, PickingStands, open_rows}
 use Rattle.schedule_drive.proofs.Pickers.{IsTest, choices_many, chosen_is}
 use Rattle.schedule_drive.proofs.Scenes.{more_by_steps}
 
@@ -70,11 +70,11 @@ pub record IsOnTop (few many : List Step) : Type 0 where
   pub later : List Step
   pub is : many ≡ later ++ few
 
-carried_on : (q : Picking) (g : Lcg) (u : ℕ) (x y : Player) (o : Option ℕ) → IsOnTop q.steps (carried q g u x y o).steps
+carried_on : (q : Picking) (g : Lcg) (u : ℕ) (x y : Player) (o : Option ℕ) → IsOnTop q.steps (frame_carried q g u x y o).steps
 carried_on q g u x y None = record { later = []; is = refl }
 carried_on q g u x y (Some m) = record { later = Carry x y m ∷ []; is = refl }
 
-pub taken_on : (w : Setting) (p : Plan) (q : Picking) (g : Lcg) (o : Option picks.Choice) → IsOnTop q.steps (taken w p q g o).steps
+pub taken_on : (w : Setting) (p : Plan) (q : Picking) (g : Lcg) (o : Option picks.Choice) → IsOnTop q.steps (choice_taken w p q g o).steps
 taken_on w p q g None = record { later = []; is = refl }
 taken_on w p q g (Some (Turning y)) = record { later = Go y ∷ []; is = refl }
 taken_on w p q g (Some (Passing x y)) = carried_on q _ _ x y _
@@ -149,12 +149,12 @@ module _ (w : Setting) (p : Plan) (q : Picking) where
   tests = record { turning = λ y. refl; passing = λ x y. refl }
 
   -- as many are counted as there are
-  pub open_many : (picker : Picker) → IsPicker p (waits_in w p q.steps) (counts_in w p q.steps) q.passed picker → open_in picker.turns + open_all (rows_of picker) ≡ length choices_at
+  pub open_many : (picker : Picker) → IsPicker p (waits_in w p q.steps) (counts_in w p q.steps) q.passed picker → open_in picker.turns + open_all (open_rows picker) ≡ length choices_at
   open_many picker is =
       choices_many p (waits_in w p q.steps) (counts_in w p q.steps) q.passed (is_open_choice w (cast_of p.attack) (scene_of w (cast_of p.attack) q.steps) q.passed) tests picker is
 
   pub counted : (picker : Picker) → IsSession p.p → IsPicker p (waits_in w p q.steps) (counts_in w p q.steps) q.passed picker → (count : ℕ)
-      → count ≡ min (2 ^ 64 - 1) (open_in picker.turns + open_all (rows_of picker)) → count ≡ length choices_at
+      → count ≡ min (2 ^ 64 - 1) (open_in picker.turns + open_all (open_rows picker)) → count ≡ length choices_at
   counted picker session is count counts =
       let many = open_many picker is in
       let few = few_choices p session (is_open_choice w (cast_of p.attack) (scene_of w (cast_of p.attack) q.steps) q.passed) in
@@ -168,7 +168,7 @@ module _ (w : Setting) (p : Plan) (q : Picking) where
 
   -- so many are open, and one of them is drawn
   pub one_there : (picker : Picker) → IsPicker p (waits_in w p q.steps) (counts_in w p q.steps) q.passed picker → (word count : ℕ) → 0 < count → count ≡ length choices_at
-      → open_in picker.turns + open_all (rows_of picker) ≤ word % count → ⊥
+      → open_in picker.turns + open_all (open_rows picker) ≤ word % count → ⊥
   one_there picker is word count some same above =
       let many = open_many picker is in
       let below = mod_below word count some in
@@ -201,7 +201,7 @@ drawn_of w p number q picker is word count choice drawn same chosen =
 -- ---- the loop
 
 abbrev pub first_of : Plan → Picking
-first_of p = record { steps = reverse (inputs_of p); passed = []; words = start_of p }
+first_of p = record { steps = reverse (inputs_of p); passed = []; words = words_start p }
 
 limit_is : step_limit ≡ 4000000
 unfolding step_limit
@@ -209,11 +209,11 @@ limit_is = refl
 
 schedule_is : (w : Setting) (p : Plan) → p.order ≡ Random → schedule w p ≡ picks.picks (step_limit + 1) w p 0 (first_of p)
 unfolding schedule steps_of
-schedule_is w p random = ap (λ order. steps_by (step_limit + 1) w p order) random
+schedule_is w p random = ap (λ order. steps_by_order (step_limit + 1) w p order) random
 
 pub record IsGoing {S E : Type 0} (m : Meaning S E CoinSeed KeyRow) (p : Plan) (what : DriveWhat) (stage : Stage S E) (picker : Picker) (words : Lcg) (number : ℕ) : Type 0 where
   pub picking : Picking
-  pub stands : Stands m p what stage picker picking
+  pub stands : PickingStands m p what stage picker picking
   pub words_are : words ≡ picking.words
   pub rest : (more : ℕ) → number + more ≡ 4000001 → schedule (world_in m p) p ≡ picks.picks more (world_in m p) p number picking
 

@@ -11,12 +11,12 @@ use Rattle.world_model.specs.World.{Setting}
 use Rattle.world_model.specs.declared.player.Player.{Player}
 use Rattle.world_model.specs.Players.{Step, scene_of}
 use Rattle.schedule_plan.specs.Plans.{cast_of, players_of, linked_from}
-use Rattle.schedule_plan.specs.Sweeps.{Counts, none_yet}
+use Rattle.schedule_plan.specs.Sweeps.{FrameCounts, none_yet}
 use Rattle.schedule_plan.specs.Picks.{Passed, same_player, has_some}
 use Rattle.schedule_drive.specs.declared.picker.Picker.{Picker}
 use Rattle.schedule_drive.specs.declared.sender.Sender.{Sender}
 use Rattle.schedule_drive.specs.declared.sender.Sent.{Sent}
-use Rattle.schedule_drive.specs.Pickers.{waits_in, counts_in, numbers_of, passed_after, IsSent, IsSender, IsPicker, Known, IsUpdate, ComesTo}
+use Rattle.schedule_drive.specs.Pickers.{waits_in, counts_in, open_numbers, passed_after, IsSent, IsSender, IsPicker, KnownFrames, IsUpdate, ComesToPlayer}
 use Rattle.schedule_drive.proofs.Lists.{get_set_same, get_set_other, set_length, set_mapped, got_below, mapped_at, from_at, same_got, got_pushed, get_first, get_last, one_place}
 use Rattle.schedule_drive.proofs.Distinct.{same_itself, same_apart, distinct_players}
 use Rattle.schedule_drive.proofs.Senders.{link_apart}
@@ -24,12 +24,12 @@ use Rattle.schedule_drive.proofs.Scenes.{others_kept, same_counts, more_frames}
 
 -- ---- the player at a place
 
-pub sender_player : (p : Plan) (waits : Player → Bool) (counts : Counts) (passed : List Passed) (picker : Picker) → IsPicker p waits counts passed picker → (at : ℕ) (x : Player) (s : Sender)
+pub sender_player : (p : Plan) (waits : Player → Bool) (counts : FrameCounts) (passed : List Passed) (picker : Picker) → IsPicker p waits counts passed picker → (at : ℕ) (x : Player) (s : Sender)
     → slice_get (players_of p) at ≡ Some x → slice_get picker.senders.items at ≡ Some s → s.player ≡ x
 sender_player p waits counts passed picker is at x s there here =
     same_got (players_of p) at s.player x (ap (λ (xs : List Player). slice_get xs at) (sym is.players) ∙ mapped_at (λ (s : Sender). s.player) picker.senders.items at s here) there
 
-pub sender_there : (p : Plan) (waits : Player → Bool) (counts : Counts) (passed : List Passed) (picker : Picker) → IsPicker p waits counts passed picker → (at : ℕ) (x : Player)
+pub sender_there : (p : Plan) (waits : Player → Bool) (counts : FrameCounts) (passed : List Passed) (picker : Picker) → IsPicker p waits counts passed picker → (at : ℕ) (x : Player)
     → slice_get (players_of p) at ≡ Some x → at < length picker.senders.items
 sender_there p waits counts passed picker is at x there =
     let from = from_at (λ (s : Sender). s.player) picker.senders.items at x (ap (λ (xs : List Player). slice_get xs at) is.players ∙ there) in
@@ -39,7 +39,7 @@ pub sender_at : (picker : Picker) (at : ℕ) (s : Sender) → at < length picker
 sender_at picker at s below read = slice_get_read picker.senders.items (length picker.senders.items) at s refl below read
 
 -- another place has another player
-other_player : (p : Plan) (waits : Player → Bool) (counts : Counts) (passed : List Passed) (picker : Picker) → IsPicker p waits counts passed picker → (at r : ℕ) (x : Player) (s : Sender)
+other_player : (p : Plan) (waits : Player → Bool) (counts : FrameCounts) (passed : List Passed) (picker : Picker) → IsPicker p waits counts passed picker → (at r : ℕ) (x : Player) (s : Sender)
     → slice_get (players_of p) at ≡ Some x → slice_get picker.senders.items r ≡ Some s → r ≢ at → x ≢ s.player
 other_player p waits counts passed picker is at r x s there here apart same =
     let there_r : slice_get (players_of p) r ≡ Some s.player = ap (λ (xs : List Player). slice_get xs r) (sym is.players) ∙ mapped_at (λ (s : Sender). s.player) picker.senders.items r s here in
@@ -55,7 +55,7 @@ sender_apart p count passed u x y number s apart is = record {
   each = λ i link got. link_apart p count passed u x y s.player number link (slice_get s.row i) (ap (λ b. b && same_player y link.player) (same_apart x s.player apart)) (is.each i link got);
 }
 
-pub picker_picked : (p : Plan) (waits : Player → Bool) (counts : Counts) (passed : List Passed) (u : ℕ) (number : Option ℕ) (picker new : Picker) → IsPicker p waits counts passed picker
+pub picker_picked : (p : Plan) (waits : Player → Bool) (counts : FrameCounts) (passed : List Passed) (u : ℕ) (number : Option ℕ) (picker new : Picker) → IsPicker p waits counts passed picker
     → (at : ℕ) (x y : Player) (s picked : Sender) → slice_get (players_of p) at ≡ Some x → slice_get picker.senders.items at ≡ Some s
     → new.senders.items ≡ set picker.senders.items at picked → new.turns ≡ picker.turns → picked.player ≡ s.player
     → IsSender p (counts s.player) (passed_after passed u x y number) picked → IsPicker p waits counts (passed_after passed u x y number) new
@@ -83,7 +83,7 @@ picker_picked p waits counts passed u number picker new is at x y s picked there
 
 -- ---- a player was looked up
 
-pub picker_updated : (w : Setting) (p : Plan) (steps : List Step) (known next : Known) (passed : List Passed) (picker new : Picker) → IsPicker p known.waits known.counts passed picker
+pub picker_updated : (w : Setting) (p : Plan) (steps : List Step) (known next : KnownFrames) (passed : List Passed) (picker new : Picker) → IsPicker p known.waits known.counts passed picker
     → (at : ℕ) (y : Player) (s grown : Sender) → slice_get (players_of p) at ≡ Some y → slice_get picker.senders.items at ≡ Some s → IsUpdate w p steps y known next
     → new.senders.items ≡ set picker.senders.items at grown → new.turns ≡ set picker.turns at (waits_in w p steps y) → grown.player ≡ s.player
     → IsSender p (counts_in w p steps s.player) passed grown → IsPicker p next.waits next.counts passed new
@@ -122,11 +122,11 @@ picker_updated w p steps known next passed picker new is at y s grown there here
     }
 
 -- what is known after some steps
-abbrev pub known_in : Setting → Plan → List Step → Known
+abbrev pub known_in : Setting → Plan → List Step → KnownFrames
 known_in w p steps = record { waits = waits_in w p steps; counts = counts_in w p steps }
 
 -- a step changes what is known of the player that it comes to
-pub step_updates : (w : Setting) (p : Plan) (steps : List Step) (step : Step) (y : Player) → ComesTo step y → IsUpdate w p (step ∷ steps) y (known_in w p steps) (known_in w p (step ∷ steps))
+pub step_updates : (w : Setting) (p : Plan) (steps : List Step) (step : Step) (y : Player) → ComesToPlayer step y → IsUpdate w p (step ∷ steps) y (known_in w p steps) (known_in w p (step ∷ steps))
 step_updates w p steps step y comes =
     let c = cast_of p.attack in
     let s = scene_of w c steps in
@@ -141,17 +141,17 @@ step_updates w p steps step y comes =
 -- ---- all were looked up
 
 pub record IsPartly (w : Setting) (p : Plan) (steps : List Step) (passed : List Passed) (picker : Picker) (at : ℕ) : Type 0 where
-  pub known : Known
+  pub known : KnownFrames
   pub is : IsPicker p known.waits known.counts passed picker
   pub grown : (x z : Player) → known.counts x z ≤ counts_in w p steps x z
   pub done : (r : ℕ) (x : Player) → r < at → slice_get (players_of p) r ≡ Some x → (known.waits x ≡ waits_in w p steps x) × ((z : Player) → known.counts x z ≡ counts_in w p steps x z)
 
-pub partly_none : (w : Setting) (p : Plan) (steps : List Step) (known : Known) (passed : List Passed) (picker : Picker) → IsPicker p known.waits known.counts passed picker
+pub partly_none : (w : Setting) (p : Plan) (steps : List Step) (known : KnownFrames) (passed : List Passed) (picker : Picker) → IsPicker p known.waits known.counts passed picker
     → ((x z : Player) → known.counts x z ≤ counts_in w p steps x z) → IsPartly w p steps passed picker 0
 partly_none w p steps known passed picker is grown = record { known = known; is = is; grown = grown; done = λ r x below. absurd (omega (arith, below)) }
 
 -- with what is so of y
-abbrev with_player : Setting → Plan → List Step → Player → Known → Known
+abbrev with_player : Setting → Plan → List Step → Player → KnownFrames → KnownFrames
 with_player w p steps y known = record {
   waits = λ x. if same_player x y then waits_in w p steps x else known.waits x;
   counts = λ x z. if same_player x y then counts_in w p steps x z else known.counts x z;
@@ -165,7 +165,7 @@ either_most : (b : Bool) (m n : ℕ) → n ≤ m → (if b then m else n) ≤ m
 either_most true m n most = omega arith
 either_most false m n most = most
 
-with_updates : (w : Setting) (p : Plan) (steps : List Step) (y : Player) (known : Known) → ((x z : Player) → known.counts x z ≤ counts_in w p steps x z) → IsUpdate w p steps y known (with_player w p steps y known)
+with_updates : (w : Setting) (p : Plan) (steps : List Step) (y : Player) (known : KnownFrames) → ((x z : Player) → known.counts x z ≤ counts_in w p steps x z) → IsUpdate w p steps y known (with_player w p steps y known)
 with_updates w p steps y known grown = record {
   waits_at = ap (λ b. if b then waits_in w p steps y else known.waits y) (same_itself y);
   counts_at = λ z. ap (λ b. if b then counts_in w p steps y z else known.counts y z) (same_itself y);
@@ -175,10 +175,10 @@ with_updates w p steps y known grown = record {
 }
 
 pub partly_next : (w : Setting) (p : Plan) (steps : List Step) (passed : List Passed) (picker new : Picker) (at : ℕ) (y : Player) → IsPartly w p steps passed picker at → slice_get (players_of p) at ≡ Some y
-    → ((known next : Known) → IsPicker p known.waits known.counts passed picker → IsUpdate w p steps y known next → IsPicker p next.waits next.counts passed new) → IsPartly w p steps passed new (at + 1)
+    → ((known next : KnownFrames) → IsPicker p known.waits known.counts passed picker → IsUpdate w p steps y known next → IsPicker p next.waits next.counts passed new) → IsPartly w p steps passed new (at + 1)
 partly_next w p steps passed picker new at y part there refresh =
     let known = part.known in
-    let next : Known = with_player w p steps y known in
+    let next : KnownFrames = with_player w p steps y known in
     record {
       known = next;
       is = refresh known next part.is (with_updates w p steps y known part.grown);
@@ -245,16 +245,16 @@ pub first_all : (p : Plan) (at : ℕ) (picker : Picker) → length (players_of p
 first_all p at picker most is = record { players = is.players ∙ take_all at (players_of p) most; many = is.many; turns = is.turns_are; senders = is.each }
 
 -- a pick at a sender is one of the picker
-pub pick_at : (p : Plan) (waits : Player → Bool) (counts : Counts) (passed : List Passed) (u : ℕ) (picker new : Picker) → IsPicker p waits counts passed picker
+pub pick_at : (p : Plan) (waits : Player → Bool) (counts : FrameCounts) (passed : List Passed) (u : ℕ) (picker new : Picker) → IsPicker p waits counts passed picker
     → (at to : ℕ) (x y : Player) (s picked : Sender) → slice_get (players_of p) at ≡ Some x → slice_get picker.senders.items at ≡ Some s → slice_get (linked_from p x) to ≡ Some y
     → new.senders.items ≡ set picker.senders.items at picked → new.turns ≡ picker.turns → picked.player ≡ s.player → (result : Result (Option Sent) Mem)
-    → (slice_get (linked_from p s.player) to ≡ Some y → let frames = numbers_of (counts s.player) passed s.player y in let number = slice_get frames (u % min 8 (length frames)) in
+    → (slice_get (linked_from p s.player) to ≡ Some y → let frames = open_numbers (counts s.player) passed s.player y in let number = slice_get frames (u % min 8 (length frames)) in
     IfOk result (λ sent. IsSent p s.player y number sent × IsSender p (counts s.player) (passed_after passed u s.player y number) picked))
-    → let frames = numbers_of (counts x) passed x y in let number = slice_get frames (u % min 8 (length frames)) in
+    → let frames = open_numbers (counts x) passed x y in let number = slice_get frames (u % min 8 (length frames)) in
     IfOk result (λ sent. IsSent p x y number sent × IsPicker p waits counts (passed_after passed u x y number) new)
 pick_at p waits counts passed u picker new is at to x y s picked there here linked senders turns player result does =
     let own : s.player ≡ x = sender_player p waits counts passed picker is at x s there here in
-    let number : Player → Option ℕ = λ z. slice_get (numbers_of (counts z) passed z y) (u % min 8 (length (numbers_of (counts z) passed z y))) in
+    let number : Player → Option ℕ = λ z. slice_get (open_numbers (counts z) passed z y) (u % min 8 (length (open_numbers (counts z) passed z y))) in
     let at_s : slice_get (linked_from p s.player) to ≡ Some y = ap (λ (z : Player). slice_get (linked_from p z) to) own ∙ linked in
     subst (λ (z : Player). IfOk result (λ sent. IsSent p z y (number z) sent × IsPicker p waits counts (passed_after passed u z y (number z)) new)) own
     (both (λ sent. IsSent p s.player y (number s.player) sent) result (does at_s) (picker_picked p waits counts passed u (number s.player) picker new is at s.player y s picked (there ∙ ap (λ (z : Player). Some z) (sym own)) here senders turns player))

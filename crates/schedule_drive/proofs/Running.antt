@@ -19,12 +19,12 @@ use Rattle.world_model.proofs.Anywhere.{among_from, mapped_from}
 use Rattle.world_model.proofs.Members.{has_passing}
 use Rattle.schedule_plan.specs.Plans.{correct_of, cast_of, players_of, linked_to, are_linked}
 use Rattle.schedule_plan.specs.Picks.{has_some}
-use Rattle.schedule_plan.specs.Sweeps.{Counts, none_yet, counts_of, swept_at, sweep_of}
+use Rattle.schedule_plan.specs.Sweeps.{FrameCounts, none_yet, frame_counts, swept_at, sweep_of}
 use Rattle.schedule_plan.proofs.Planned.{IsPlanned, player_is, linked_apart, some_correct}
-use Rattle.schedule_stage.specs.Worlds.{waiting, made_for}
+use Rattle.schedule_stage.specs.Worlds.{waiting, count_made_for}
 use Rattle.schedule_drive.specs.declared.runs.Run.{Run}
 use Rattle.schedule_drive.specs.declared.runs.Run.TheVariants.{Turns, Frames}
-use Rattle.schedule_drive.specs.Runs.{run_steps, has_step, no_wait, first_frames, runs_to, runs_by, renewed, IsRun}
+use Rattle.schedule_drive.specs.Runs.{run_steps, has_step, no_wait, first_frames, runs_to, runs_by, renewed, IsPlayerRun}
 
 -- ---- lists
 
@@ -83,11 +83,11 @@ first_next p all frames_from before pushed now i d below same so_far one more =
     ∙ ap (flat_map f) (sym (take_more all i d below))
 
 -- how many frames each player has made for each other
-abbrev pub made_by : Setting → Plan → List Step → Counts
-made_by w p steps = counts_of w (cast_of p.attack) (scene_of w (cast_of p.attack) steps)
+abbrev pub made_by : Setting → Plan → List Step → FrameCounts
+made_by w p steps = frame_counts w (cast_of p.attack) (scene_of w (cast_of p.attack) steps)
 
 -- runs are renewed
-pub renewed_are : (w : Setting) (p : Plan) (steps : List Step) (was before : Counts) (waits : Player → ℕ)
+pub renewed_are : (w : Setting) (p : Plan) (steps : List Step) (was before : FrameCounts) (waits : Player → ℕ)
     → map (renewed w p steps) (runs_by p was before waits) ≡ runs_by p before (made_by w p steps) (waiting w p steps)
 renewed_are w p steps was before waits =
     map_flat_map (renewed w p steps) (runs_to p was before waits) (players_of p)
@@ -95,14 +95,14 @@ renewed_are w p steps was before waits =
     (λ y. ap (λ l. Turns y (waiting w p steps y) ∷ l) (map-map (renewed w p steps) (λ x. Frames x y (was x y) (before x y)) (linked_to p y)))
 
 -- the frames of one run, renewed
-pub made_is : (w : Setting) (p : Plan) (steps : List Step) (x y : Player) (start end to count : ℕ) → to ≡ number_of (cast_of p.attack) y → IsRun w p (Frames x y start end)
-    → (to < p.p.n → number_of (cast_of p.attack) x ≢ to → count ≡ made_for w p steps x to) → Frames x y end count ≡ renewed w p steps (Frames x y start end)
+pub made_is : (w : Setting) (p : Plan) (steps : List Step) (x y : Player) (start end to count : ℕ) → to ≡ number_of (cast_of p.attack) y → IsPlayerRun w p (Frames x y start end)
+    → (to < p.p.n → number_of (cast_of p.attack) x ≢ to → count ≡ count_made_for w p steps x to) → Frames x y end count ≡ renewed w p steps (Frames x y start end)
 made_is w p steps x y start end to count same is made =
     let c = cast_of p.attack in
-    ap (Frames x y end) (made (subst (λ (j : ℕ). j < p.p.n) (sym same) is.3) (subst (λ (j : ℕ). number_of c x ≢ j) (sym same) is.2) ∙ ap (made_for w p steps x) same)
+    ap (Frames x y end) (made (subst (λ (j : ℕ). j < p.p.n) (sym same) is.3) (subst (λ (j : ℕ). number_of c x ≢ j) (sym same) is.2) ∙ ap (count_made_for w p steps x) same)
 
 -- their steps are those of a sweep
-pub runs_sweep : (w : Setting) (p : Plan) (steps : List Step) (before : Counts)
+pub runs_sweep : (w : Setting) (p : Plan) (steps : List Step) (before : FrameCounts)
     → flat_map run_steps (runs_by p before (made_by w p steps) (waiting w p steps)) ≡ sweep_of w p before (scene_of w (cast_of p.attack) steps)
 runs_sweep w p steps before =
     flat_flat run_steps (runs_to p before now waits) (players_of p)
@@ -114,7 +114,7 @@ runs_sweep w p steps before =
     s : Scene
     s = scene_of w (cast_of p.attack) steps
 
-    now : Counts
+    now : FrameCounts
     now = made_by w p steps
 
     waits : Player → ℕ
@@ -151,17 +151,17 @@ number_is w p planned (Correct i) is =
     omega (arith, below, most)
 number_is w p planned (Face a) is = subst (λ (n : ℕ). number_of (cast_of p.attack) (Face a) < n) planned.n is.1
 
-run_to : (w : Setting) (p : Plan) → IsPlanned w p → (before now : Counts) (waits : Player → ℕ) (y : Player) → Has (players_of p) y
-    → (run : Run) → Has (runs_to p before now waits y) run → IsRun w p run
-run_to w p planned before now waits y there run (inl same) = subst (IsRun w p) same (player_is w p planned y there)
+run_to : (w : Setting) (p : Plan) → IsPlanned w p → (before now : FrameCounts) (waits : Player → ℕ) (y : Player) → Has (players_of p) y
+    → (run : Run) → Has (runs_to p before now waits y) run → IsPlayerRun w p run
+run_to w p planned before now waits y there run (inl same) = subst (IsPlayerRun w p) same (player_is w p planned y there)
 run_to w p planned before now waits y there run (inr frames) =
     let image = mapped_from (λ x. Frames x y (before x y) (now x y)) (linked_to p y) run frames in
     let x = image.element in
     let linked = has_passing (λ z. are_linked p z y) (players_of p) x image.listed in
     let to = player_is w p planned y there in
-    subst (IsRun w p) image.same (player_is w p planned x linked.0, to, linked_apart p x y linked.1, number_is w p planned y to)
+    subst (IsPlayerRun w p) image.same (player_is w p planned x linked.0, to, linked_apart p x y linked.1, number_is w p planned y to)
 
-pub runs_are : (w : Setting) (p : Plan) → IsPlanned w p → (before now : Counts) (waits : Player → ℕ) (run : Run) → Has (runs_by p before now waits) run → IsRun w p run
+pub runs_are : (w : Setting) (p : Plan) → IsPlanned w p → (before now : FrameCounts) (waits : Player → ℕ) (run : Run) → Has (runs_by p before now waits) run → IsPlayerRun w p run
 runs_are w p planned before now waits run there =
     let from = among_from (runs_to p before now waits) (players_of p) run there in
     run_to w p planned before now waits from.element from.listed run from.inside

@@ -13,14 +13,14 @@ use Rattle.ritas_core.specs.Rules.{Rules}
 use Rattle.ritas_core.specs.Parts.{Entry}
 use Rattle.ritas_core.specs.Order.{new_messages, sent_to}
 use Rattle.replica.specs.Frames.{sealed_onto, made_for, body_of}
-use Rattle.replica.specs.Handling.{Call, Frame, Input, Turn, handled}
-use Rattle.world_model.specs.World.{Setting, rules_at, CallAt, call_at, frame_at, passed, call_of, handled_at, after_call, states_of, states_before}
+use Rattle.replica.specs.Handling.{ReplicaCall, Frame, Input, Turn, handled}
+use Rattle.world_model.specs.World.{Setting, rules_at, CallAt, call_at, frame_call, frame_passed, call_of, handled_at, after_call, states_of, states_before}
 use Rattle.world_model.specs.declared.player.Player.{Player}
 use Rattle.world_model.specs.declared.player.Player.TheVariants.{Correct, Face}
-use Rattle.world_model.specs.Players.{Cast, Scene, state_at, frames_of, made_as, Step, Give, Go, Carry, Throw, happened, happened_if, faced, faced_if, after, scene_of, number_of}
+use Rattle.world_model.specs.Players.{Cast, Scene, state_at, player_frames, frames_shown_as, Step, Give, Go, Carry, Throw, happened, happened_if, faced, faced_if, scene_after, scene_of, number_of}
 use Rattle.world_model.proofs.Histories.{Grew, grew}
-use Rattle.schedule_plan.specs.Sweeps.{counts_of}
-use Rattle.schedule_drive.specs.Pickers.{ComesTo}
+use Rattle.schedule_plan.specs.Sweeps.{frame_counts}
+use Rattle.schedule_drive.specs.Pickers.{ComesToPlayer}
 
 -- ---- a state that is as it was
 
@@ -33,14 +33,14 @@ kept_same before after same = record { inbox = ap (λ (st : CoreState). st.inbox
 
 -- ---- what happens to a correct replica
 
-call_stays : (w : Setting) (states : ℕ → CoreState) (j i : ℕ) (call : Call) → j ≢ i → after_call w states (call_at w j call) i ≡ states i
+call_stays : (w : Setting) (states : ℕ → CoreState) (j i : ℕ) (call : ReplicaCall) → j ≢ i → after_call w states (call_at w j call) i ≡ states i
 call_stays w states j i call apart = at (w.is_correct j)
   where
     at : (b : Bool) → after_call w states (if b then Some (record { at = j; call = call }) else None) i ≡ states i
     at true = ap (λ (b : Bool). if b then (handled_at w states (record { at = j; call = call })).state else states i) (ne_eqb j i apart)
     at false = refl
 
-frame_stays : (w : Setting) (states : ℕ → CoreState) (j i : ℕ) (o : Option (List ℕ)) → j ≢ i → after_call w states (frame_at w j o) i ≡ states i
+frame_stays : (w : Setting) (states : ℕ → CoreState) (j i : ℕ) (o : Option (List ℕ)) → j ≢ i → after_call w states (frame_call w j o) i ≡ states i
 frame_stays w states j i None apart = refl
 frame_stays w states j i (Some bytes) apart = call_stays w states j i (Frame bytes) apart
 
@@ -61,7 +61,7 @@ happened_if_grew : (w : Setting) (s : Scene) (j : ℕ) (o : Option (List ℕ)) (
 happened_if_grew w s j None x = inl refl
 happened_if_grew w s j (Some bytes) x = happened_grew w s (events.Frame j bytes) x
 
-faced_grew : (w : Setting) (c : Cast) (s : Scene) (a : ℕ) (call : Call) (x : Player) → Grew (state_at w s x).history (state_at w (faced w c s a call) x).history
+faced_grew : (w : Setting) (c : Cast) (s : Scene) (a : ℕ) (call : ReplicaCall) (x : Player) → Grew (state_at w s x).history (state_at w (faced w c s a call) x).history
 faced_grew w c s a call (Correct i) = inl refl
 faced_grew w c s a call (Face b) = at (a == b) refl
   where
@@ -74,15 +74,15 @@ faced_if_grew w c s a None x = inl refl
 faced_if_grew w c s a (Some bytes) x = faced_grew w c s a (Frame bytes) x
 
 -- a history grows by each step
-pub after_grew : (w : Setting) (c : Cast) (s : Scene) (step : Step) (x : Player) → Grew (state_at w s x).history (state_at w (after w c s step) x).history
+pub after_grew : (w : Setting) (c : Cast) (s : Scene) (step : Step) (x : Player) → Grew (state_at w s x).history (state_at w (scene_after w c s step) x).history
 after_grew w c s (Give (Correct i) value) x = happened_grew w s (events.Input i value) x
 after_grew w c s (Give (Face a) value) x = faced_grew w c s a (Input value) x
 after_grew w c s (Go (Correct i)) x = happened_grew w s (events.Turn i) x
 after_grew w c s (Go (Face a)) x = faced_grew w c s a Turn x
 after_grew w c s (Carry (Correct i) (Correct j) m) x = happened_grew w s (events.Pass i j m) x
-after_grew w c s (Carry (Face a) (Correct j) m) x = happened_if_grew w s j (slice_get (frames_of w c s (Face a) j) m) x
-after_grew w c s (Carry (Correct i) (Face a) m) x = faced_if_grew w c s a (slice_get (frames_of w c s (Correct i) (c.number a)) m) x
-after_grew w c s (Carry (Face b) (Face a) m) x = faced_if_grew w c s a (slice_get (frames_of w c s (Face b) (c.number a)) m) x
+after_grew w c s (Carry (Face a) (Correct j) m) x = happened_if_grew w s j (slice_get (player_frames w c s (Face a) j) m) x
+after_grew w c s (Carry (Correct i) (Face a) m) x = faced_if_grew w c s a (slice_get (player_frames w c s (Correct i) (c.number a)) m) x
+after_grew w c s (Carry (Face b) (Face a) m) x = faced_if_grew w c s a (slice_get (player_frames w c s (Face b) (c.number a)) m) x
 after_grew w c s (Throw from to rest) x = happened_grew w s _ x
 
 -- ---- frames
@@ -100,21 +100,21 @@ more_made r k before after j (inr (e, is)) =
     let more = more_sealed k j (sent_to j (new_messages r before e)) (made_for r k before j) in
     omega (arith, same, old, new, more)
 
-more_shown : (shown : Msg → Msg) (r : Rules) (k : KeyRow) (before after : List Entry) (j : ℕ) → Grew before after → length (reverse (made_as shown r k before j)) ≤ length (reverse (made_as shown r k after j))
-more_shown shown r k before after j (inl same) = let e = ap (λ (h : List Entry). length (reverse (made_as shown r k h j))) same in omega (arith, e)
+more_shown : (shown : Msg → Msg) (r : Rules) (k : KeyRow) (before after : List Entry) (j : ℕ) → Grew before after → length (reverse (frames_shown_as shown r k before j)) ≤ length (reverse (frames_shown_as shown r k after j))
+more_shown shown r k before after j (inl same) = let e = ap (λ (h : List Entry). length (reverse (frames_shown_as shown r k h j))) same in omega (arith, e)
 more_shown shown r k before after j (inr (e, is)) =
-    let same = ap (λ (h : List Entry). length (reverse (made_as shown r k h j))) is in
-    let old = length-reverse (made_as shown r k before j) in
-    let new = length-reverse (made_as shown r k (e ∷ before) j) in
-    let more = more_sealed k j (map shown (sent_to j (new_messages r before e))) (made_as shown r k before j) in
+    let same = ap (λ (h : List Entry). length (reverse (frames_shown_as shown r k h j))) is in
+    let old = length-reverse (frames_shown_as shown r k before j) in
+    let new = length-reverse (frames_shown_as shown r k (e ∷ before) j) in
+    let more = more_sealed k j (map shown (sent_to j (new_messages r before e))) (frames_shown_as shown r k before j) in
     omega (arith, same, old, new, more)
 
 -- no frame is lost by a step
-pub more_frames : (w : Setting) (c : Cast) (s : Scene) (step : Step) (x y : Player) → counts_of w c s x y ≤ counts_of w c (after w c s step) x y
-more_frames w c s step (Correct i) y = more_made (rules_at w i) (w.keys i) (state_at w s (Correct i)).history (state_at w (after w c s step) (Correct i)).history (number_of c y) (after_grew w c s step (Correct i))
-more_frames w c s step (Face a) y = more_shown c.shown (rules_at w (c.number a)) (w.keys (c.number a)) (state_at w s (Face a)).history (state_at w (after w c s step) (Face a)).history (number_of c y) (after_grew w c s step (Face a))
+pub more_frames : (w : Setting) (c : Cast) (s : Scene) (step : Step) (x y : Player) → frame_counts w c s x y ≤ frame_counts w c (scene_after w c s step) x y
+more_frames w c s step (Correct i) y = more_made (rules_at w i) (w.keys i) (state_at w s (Correct i)).history (state_at w (scene_after w c s step) (Correct i)).history (number_of c y) (after_grew w c s step (Correct i))
+more_frames w c s step (Face a) y = more_shown c.shown (rules_at w (c.number a)) (w.keys (c.number a)) (state_at w s (Face a)).history (state_at w (scene_after w c s step) (Face a)).history (number_of c y) (after_grew w c s step (Face a))
 
-pub more_by_steps : (w : Setting) (c : Cast) (more steps : List Step) (x y : Player) → counts_of w c (scene_of w c steps) x y ≤ counts_of w c (scene_of w c (more ++ steps)) x y
+pub more_by_steps : (w : Setting) (c : Cast) (more steps : List Step) (x y : Player) → frame_counts w c (scene_of w c steps) x y ≤ frame_counts w c (scene_of w c (more ++ steps)) x y
 more_by_steps w c [] steps x y = omega arith
 more_by_steps w c (step ∷ more) steps x y =
     let first = more_by_steps w c more steps x y in
@@ -133,7 +133,7 @@ framed_kept : (w : Setting) (s : Scene) (j : ℕ) (o : Option (List ℕ)) (x : P
 framed_kept w s j None x apart = record { inbox = refl; history = refl }
 framed_kept w s j (Some bytes) x apart = happened_kept w s (events.Frame j bytes) j x apart (λ k other. call_stays w (states_before w s.events) j k (Frame bytes) other)
 
-faced_kept : (w : Setting) (c : Cast) (s : Scene) (a : ℕ) (call : Call) (x : Player) → Face a ≢ x → IsKept (state_at w s x) (state_at w (faced w c s a call) x)
+faced_kept : (w : Setting) (c : Cast) (s : Scene) (a : ℕ) (call : ReplicaCall) (x : Player) → Face a ≢ x → IsKept (state_at w s x) (state_at w (faced w c s a call) x)
 faced_kept w c s a call (Correct i) apart = record { inbox = refl; history = refl }
 faced_kept w c s a call (Face b) apart =
     kept_same (s.faces b) _ (ap (λ (t : Bool). if t then (handled (rules_at w (c.number a)) (w.keys (c.number a)) (s.faces a) call).state else s.faces b) (ne_eqb a b (λ same. apart (ap Face same))))
@@ -142,24 +142,24 @@ faced_if_kept : (w : Setting) (c : Cast) (s : Scene) (a : ℕ) (o : Option (List
 faced_if_kept w c s a None x apart = record { inbox = refl; history = refl }
 faced_if_kept w c s a (Some bytes) x apart = faced_kept w c s a (Frame bytes) x apart
 
-go_kept : (w : Setting) (c : Cast) (s : Scene) (y x : Player) → y ≢ x → IsKept (state_at w s x) (state_at w (after w c s (Go y)) x)
+go_kept : (w : Setting) (c : Cast) (s : Scene) (y x : Player) → y ≢ x → IsKept (state_at w s x) (state_at w (scene_after w c s (Go y)) x)
 go_kept w c s (Correct j) x apart = happened_kept w s (events.Turn j) j x apart (λ k other. call_stays w (states_before w s.events) j k Turn other)
 go_kept w c s (Face a) x apart = faced_kept w c s a Turn x apart
 
-carry_kept : (w : Setting) (c : Cast) (s : Scene) (z y : Player) (m : ℕ) (x : Player) → y ≢ x → IsKept (state_at w s x) (state_at w (after w c s (Carry z y m)) x)
+carry_kept : (w : Setting) (c : Cast) (s : Scene) (z y : Player) (m : ℕ) (x : Player) → y ≢ x → IsKept (state_at w s x) (state_at w (scene_after w c s (Carry z y m)) x)
 carry_kept w c s (Correct i) (Correct j) m x apart =
-    happened_kept w s (events.Pass i j m) j x apart (λ k other. frame_stays w (states_before w s.events) j k (passed w (states_before w s.events) i j m) other)
-carry_kept w c s (Face b) (Correct j) m x apart = framed_kept w s j (slice_get (frames_of w c s (Face b) j) m) x apart
-carry_kept w c s (Correct i) (Face a) m x apart = faced_if_kept w c s a (slice_get (frames_of w c s (Correct i) (c.number a)) m) x apart
-carry_kept w c s (Face b) (Face a) m x apart = faced_if_kept w c s a (slice_get (frames_of w c s (Face b) (c.number a)) m) x apart
+    happened_kept w s (events.Pass i j m) j x apart (λ k other. frame_stays w (states_before w s.events) j k (frame_passed w (states_before w s.events) i j m) other)
+carry_kept w c s (Face b) (Correct j) m x apart = framed_kept w s j (slice_get (player_frames w c s (Face b) j) m) x apart
+carry_kept w c s (Correct i) (Face a) m x apart = faced_if_kept w c s a (slice_get (player_frames w c s (Correct i) (c.number a)) m) x apart
+carry_kept w c s (Face b) (Face a) m x apart = faced_if_kept w c s a (slice_get (player_frames w c s (Face b) (c.number a)) m) x apart
 
-pub others_kept : (w : Setting) (c : Cast) (s : Scene) (step : Step) (y x : Player) → ComesTo step y → x ≢ y → IsKept (state_at w s x) (state_at w (after w c s step) x)
+pub others_kept : (w : Setting) (c : Cast) (s : Scene) (step : Step) (y x : Player) → ComesToPlayer step y → x ≢ y → IsKept (state_at w s x) (state_at w (scene_after w c s step) x)
 others_kept w c s (Go v) y x is apart = go_kept w c s v x (λ same. apart (sym same ∙ is))
 others_kept w c s (Carry z v m) y x is apart = carry_kept w c s z v m x (λ same. apart (sym same ∙ is))
 others_kept w c s (Give v value) y x is apart = absurd is
 others_kept w c s (Throw from to rest) y x is apart = absurd is
 
 -- so it made no frame
-pub same_counts : (w : Setting) (c : Cast) (s t : Scene) (x y : Player) → IsKept (state_at w s x) (state_at w t x) → counts_of w c t x y ≡ counts_of w c s x y
+pub same_counts : (w : Setting) (c : Cast) (s t : Scene) (x y : Player) → IsKept (state_at w s x) (state_at w t x) → frame_counts w c t x y ≡ frame_counts w c s x y
 same_counts w c s t (Correct i) y kept = ap (λ (h : List Entry). length (reverse (made_for (rules_at w i) (w.keys i) h (number_of c y)))) kept.history
-same_counts w c s t (Face a) y kept = ap (λ (h : List Entry). length (reverse (made_as c.shown (rules_at w (c.number a)) (w.keys (c.number a)) h (number_of c y)))) kept.history
+same_counts w c s t (Face a) y kept = ap (λ (h : List Entry). length (reverse (frames_shown_as c.shown (rules_at w (c.number a)) (w.keys (c.number a)) h (number_of c y)))) kept.history

@@ -20,7 +20,7 @@ use Rattle.schedule_plan.proofs.Planned.{IsPlanned, player_is, linked_apart, som
 use Rattle.schedule_drive.specs.declared.lane.Lane.{Lane}
 use Rattle.schedule_drive.specs.declared.sender.Link.{Link}
 use Rattle.schedule_drive.specs.declared.sender.Sender.{Sender}
-use Rattle.schedule_drive.specs.Lanes.{IsLane, has_left, without}
+use Rattle.schedule_drive.specs.Lanes.{IsLane, has_left, without_taken}
 use Rattle.schedule_drive.specs.Pickers.{is_left, passed_after, IsLink, IsSender}
 use Rattle.schedule_drive.proofs.Lists.{get_set_same, get_set_other, set_length, set_mapped, got_below, mapped_at, from_at, same_got, got_pushed, get_first, get_last, one_place}
 use Rattle.schedule_drive.proofs.Distinct.{same_itself, same_apart, distinct_linked}
@@ -31,7 +31,7 @@ pub lane_same : (lane : Lane) (count : ℕ) (left other : ℕ → Bool) → ((m 
 lane_same lane count left other same is = let e : left ≡ other = λ t m. same m t in subst (IsLane lane count) e is
 
 -- of the same two players
-pub left_taken : (passed : List Passed) (u : ℕ) (x y : Player) (number : Option ℕ) (m : ℕ) → without u number (is_left passed x y) m ≡ is_left (passed_after passed u x y number) x y m
+pub left_taken : (passed : List Passed) (u : ℕ) (x y : Player) (number : Option ℕ) (m : ℕ) → without_taken u number (is_left passed x y) m ≡ is_left (passed_after passed u x y number) x y m
 left_taken passed u x y None m = refl
 left_taken passed u x y (Some k) m = at (passes_once u)
   where
@@ -84,21 +84,21 @@ link_player p count passed s is at y link there here =
 pub sender_picked : (p : Plan) (count : Player → ℕ) (passed : List Passed) (u : ℕ) (number : Option ℕ) (s new : Sender) → IsSender p count passed s → (at : ℕ) (y : Player) (link picked : Link)
     → slice_get (linked_from p s.player) at ≡ Some y → slice_get s.links.items at ≡ Some link
     → new.player ≡ s.player → new.links.items ≡ set s.links.items at picked → picked.place ≡ link.place → picked.player ≡ link.player
-    → IsLane picked.lane (count y) (without u number (is_left passed s.player y))
-    → length new.row ≡ length s.row → slice_get new.row at ≡ Some (has_left (count y) (without u number (is_left passed s.player y)))
+    → IsLane picked.lane (count y) (without_taken u number (is_left passed s.player y))
+    → length new.row ≡ length s.row → slice_get new.row at ≡ Some (has_left (count y) (without_taken u number (is_left passed s.player y)))
     → ((i : ℕ) → i ≢ at → slice_get new.row i ≡ slice_get s.row i) → IsSender p count (passed_after passed u s.player y number) new
 sender_picked p count passed u number s new is at y link picked there here player links place still lane many flag others =
     let x = s.player in
     let to_y : link.player ≡ y = link_player p count passed s is at y link there here in
     let old = is.each at link here in
-    let e : without u number (is_left passed x y) ≡ is_left (passed_after passed u x y number) x y = λ t m. left_taken passed u x y number m t in
+    let e : without_taken u number (is_left passed x y) ≡ is_left (passed_after passed u x y number) x y = λ t m. left_taken passed u x y number m t in
     let own : (l : Link) → picked ≡ l → IsLink p new.player count (passed_after passed u x y number) l (slice_get new.row at) =
     λ l same. subst (λ (l : Link). IsLink p new.player count (passed_after passed u x y number) l (slice_get new.row at)) same
     (subst (λ (v : Player). IsLink p v count (passed_after passed u x y number) picked (slice_get new.row at)) (sym player)
     (record {
       place = ap (slice_get (players_of p)) place ∙ old.place ∙ ap (λ (z : Player). Some z) (sym still);
       lane = subst (λ (z : Player). IsLane picked.lane (count z) (is_left (passed_after passed u x y number) x z)) (sym (still ∙ to_y)) (subst (IsLane picked.lane (count y)) e lane);
-      flag_is = flag ∙ subst (λ (z : Player). Some (has_left (count y) (without u number (is_left passed x y))) ≡ Some (has_left (count z) (is_left (passed_after passed u x y number) x z))) (sym (still ∙ to_y))
+      flag_is = flag ∙ subst (λ (z : Player). Some (has_left (count y) (without_taken u number (is_left passed x y))) ≡ Some (has_left (count z) (is_left (passed_after passed u x y number) x z))) (sym (still ∙ to_y))
           (ap (λ (left : ℕ → Bool). Some (has_left (count y) left)) e);
     })) in
     record {
@@ -255,9 +255,9 @@ new_all p s at most is = record {
 -- ---- the calls
 
 -- no number is taken out
-pub none_out : (count u : ℕ) (left : ℕ → Bool) (number : Option ℕ) → number ≡ None → has_left count left ≡ has_left count (without u number left)
+pub none_out : (count u : ℕ) (left : ℕ → Bool) (number : Option ℕ) → number ≡ None → has_left count left ≡ has_left count (without_taken u number left)
 none_out count u left number none =
-    subst (λ (o : Option ℕ). has_left count left ≡ has_left count (without u o left)) (sym none) refl
+    subst (λ (o : Option ℕ). has_left count left ≡ has_left count (without_taken u o left)) (sym none) refl
 
 pub link_at : (s : Sender) (at : ℕ) (link : Link) → at < length s.links.items → link ≡ get_or s.links.items at link → slice_get s.links.items at ≡ Some link
 link_at s at link below read = slice_get_read s.links.items (length s.links.items) at link refl below read

@@ -17,10 +17,10 @@ use Rattle.world_model.specs.declared.player.Player.{Player}
 use Rattle.world_model.specs.Players.{Step, scene_of}
 use Rattle.schedule_plan.specs.Plans.{cast_of}
 use Rattle.schedule_plan.specs.Inputs.{inputs_of}
-use Rattle.schedule_plan.specs.Garbage.{start_of, throws_of}
-use Rattle.schedule_plan.specs.Sweeps.{Counts, none_yet, sweep_of, sweeps}
+use Rattle.schedule_plan.specs.Garbage.{words_start, throws_of}
+use Rattle.schedule_plan.specs.Sweeps.{FrameCounts, none_yet, sweep_of, sweeps}
 use Rattle.schedule_plan.specs.Picks.{has_some}
-use Rattle.schedule_plan.specs.Schedule.{step_limit, steps_by, steps_of, schedule}
+use Rattle.schedule_plan.specs.Schedule.{step_limit, steps_by_order, steps_of, schedule}
 use Rattle.schedule_plan.proofs.Planned.{IsPlanned}
 use Rattle.schedule_plan.proofs.Whole.{sweeps_grow}
 use Rattle.schedule_stage.specs.declared.halt.Halt.{Halt}
@@ -28,15 +28,15 @@ use Rattle.schedule_stage.specs.declared.stage.Stage.{Stage}
 use Rattle.schedule_stage.specs.Stage.{IsStage}
 use Rattle.schedule_stage.specs.Worlds.{world_in, waiting, HaltsBy}
 use Rattle.schedule_drive.specs.declared.runs.Run.{Run}
-use Rattle.schedule_drive.specs.Runs.{run_steps, has_step, no_wait, runs_by, renewed, IsRun}
+use Rattle.schedule_drive.specs.Runs.{run_steps, has_step, no_wait, runs_by, renewed, IsPlayerRun}
 use Rattle.schedule_drive.proofs.Toward.{halts_later}
 use Rattle.schedule_drive.proofs.Running.{made_by, renewed_are, runs_sweep, steps_are, runs_are}
 
 -- so many sweeps more make the schedule; the runs are those of the last sweep
 pub record IsSweeping {S E : Type 0} (m : Meaning S E CoinSeed KeyRow) (p : Plan) (what : DriveWhat) (stage : Stage S E) (runs : List Run) (words : Lcg) (more : ℕ) : Type 0 where
   pub steps : List Step
-  pub was : Counts
-  pub before : Counts
+  pub was : FrameCounts
+  pub before : FrameCounts
   pub waits : Player → ℕ
   pub stands : IsStage m p what stage steps
   pub listed : runs ≡ runs_by p was before waits
@@ -57,11 +57,11 @@ most_is : step_limit + 1 ≡ 4000001
 unfolding step_limit
 most_is = refl
 
-from_start : (w : Setting) (p : Plan) (order : Order) → p.order ≡ order → steps_by (step_limit + 1) w p order ≡ schedule w p
+from_start : (w : Setting) (p : Plan) (order : Order) → p.order ≡ order → steps_by_order (step_limit + 1) w p order ≡ schedule w p
 unfolding schedule steps_of
-from_start w p order is = ap (steps_by (step_limit + 1) w p) (sym is)
+from_start w p order is = ap (steps_by_order (step_limit + 1) w p) (sym is)
 
-all_sweeps : (w : Setting) (p : Plan) → p.order ≡ Sweep → (words : Lcg) → words ≡ start_of p → (more : ℕ) → 0 + more ≡ 4000001
+all_sweeps : (w : Setting) (p : Plan) → p.order ≡ Sweep → (words : Lcg) → words ≡ words_start p → (more : ℕ) → 0 + more ≡ 4000001
     → sweeps more w p none_yet words (reverse (inputs_of p)) ≡ schedule w p
 all_sweeps w p sweep words start more all =
     let same : more ≡ step_limit + 1 = (let limit = most_is in omega (arith, all, limit)) in
@@ -69,13 +69,13 @@ all_sweeps w p sweep words start more all =
 
 -- ---- one sweep more
 
-abbrev next_of : Setting → Plan → Counts → List Step → List Step
+abbrev next_of : Setting → Plan → FrameCounts → List Step → List Step
 next_of w p before steps = sweep_of w p before (scene_of w (cast_of p.attack) steps)
 
-abbrev behind : Setting → Plan → Counts → Lcg → List Step → List Step
+abbrev behind : Setting → Plan → FrameCounts → Lcg → List Step → List Step
 behind w p before words steps = reverse (next_of w p before steps) ++ reverse (throws_of p p.attack words).0 ++ steps
 
-ends_if : (w : Setting) (p : Plan) (before : Counts) (words : Lcg) (steps : List Step) (k : ℕ) (b : Bool) → (length (next_of w p before steps) == 0) ≡ b
+ends_if : (w : Setting) (p : Plan) (before : FrameCounts) (words : Lcg) (steps : List Step) (k : ℕ) (b : Bool) → (length (next_of w p before steps) == 0) ≡ b
     → sweeps (suc k) w p before words steps
     ≡ (if b then steps else sweeps k w p (made_by w p steps) (throws_of p p.attack words).1 (behind w p before words steps))
 ends_if w p before words steps k b is =
@@ -87,7 +87,7 @@ not_empty false is = absurd (cc)
 
 module _ {S E : Type 0} (m : Meaning S E CoinSeed KeyRow) (p : Plan) (what : DriveWhat) where
   pub first_sweeping : (stage : Stage S E) (runs : List Run) (words : Lcg) → p.order ≡ Sweep → IsStage m p what stage (reverse (inputs_of p))
-      → runs ≡ runs_by p none_yet none_yet no_wait → words ≡ start_of p → (more : ℕ) → 0 + more ≡ 4000001 → IsSweeping m p what stage runs words more
+      → runs ≡ runs_by p none_yet none_yet no_wait → words ≡ words_start p → (more : ℕ) → 0 + more ≡ 4000001 → IsSweeping m p what stage runs words more
   first_sweeping stage runs words sweep stands listed start more all = record {
     steps = reverse (inputs_of p);
     was = none_yet;
@@ -104,14 +104,14 @@ module _ {S E : Type 0} (m : Meaning S E CoinSeed KeyRow) (p : Plan) (what : Dri
 
   -- the runs of the last sweep are of players
   runs_before : (stage : Stage S E) (runs : List Run) (words : Lcg) (more : ℕ) → IsSweeping m p what stage runs words more → IsPlanned (world_in m p) p
-      → (run : Run) → Has runs run → IsRun (world_in m p) p run
+      → (run : Run) → Has runs run → IsPlayerRun (world_in m p) p run
   runs_before stage runs words more so_far planned run there =
       runs_are (world_in m p) p planned so_far.was so_far.before so_far.waits run (subst (λ (l : List Run). Has l run) so_far.listed there)
 
   -- those of the next are the same made anew, which were written as a slice
   pub same_runs : IsPlanned (world_in m p) p → (old : Stage S E) (last lent new : List Run) (words : Lcg) (more len : ℕ) (so_far : IsSweeping m p what old last words more)
       → len ≡ length last → lent ≡ last
-      → ((steps : List Step) → IsStage m p what old steps → ((run : Run) → Has lent run → IsRun (world_in m p) p run) → new ≡ map (renewed (world_in m p) p steps) lent)
+      → ((steps : List Step) → IsStage m p what old steps → ((run : Run) → Has lent run → IsPlayerRun (world_in m p) p run) → new ≡ map (renewed (world_in m p) p steps) lent)
       → back len last new ≡ map (renewed (world_in m p) p so_far.steps) last
   same_runs planned old last lent new words more len so_far all same renews =
       mapped_back (renewed (world_in m p) p so_far.steps) len last lent new all same
@@ -121,7 +121,7 @@ module _ {S E : Type 0} (m : Meaning S E CoinSeed KeyRow) (p : Plan) (what : Dri
     runs_now : runs ≡ runs_by p so_far.before (made_by (world_in m p) p so_far.steps) (waiting (world_in m p) p so_far.steps)
     runs_now = same ∙ ap (map (renewed (world_in m p) p so_far.steps)) so_far.listed ∙ renewed_are (world_in m p) p so_far.steps so_far.was so_far.before so_far.waits
 
-    pub runs_after : IsPlanned (world_in m p) p → (run : Run) → Has runs run → IsRun (world_in m p) p run
+    pub runs_after : IsPlanned (world_in m p) p → (run : Run) → Has runs run → IsPlayerRun (world_in m p) p run
     runs_after planned run there =
         runs_are (world_in m p) p planned so_far.before (made_by (world_in m p) p so_far.steps) (waiting (world_in m p) p so_far.steps) run (subst (λ (l : List Run). Has l run) runs_now there)
 

@@ -16,7 +16,7 @@ use Rattle.world_model.specs.Players.{Step, Carry, AreSteps, IsPlayer, number_of
 use Rattle.world_model.proofs.Members.{got_listed}
 use Rattle.schedule_plan.specs.Plans.{cast_of, players_of, linked_from}
 use Rattle.schedule_plan.specs.Picks as picks
-use Rattle.schedule_plan.specs.Picks.{Turning, Passing, Picking, carried}
+use Rattle.schedule_plan.specs.Picks.{Turning, Passing, Picking, frame_carried}
 use Rattle.schedule_plan.proofs.Planned.{IsPlanned}
 use Rattle.schedule_stage.specs.declared.halt.Halt.{Halt}
 use Rattle.schedule_stage.specs.declared.stage.Stage.{Stage}
@@ -25,7 +25,7 @@ use Rattle.schedule_stage.specs.Worlds.{world_in, HaltsBy}
 use Rattle.schedule_drive.specs.declared.picker.Choice.TheVariants as choices
 use Rattle.schedule_drive.specs.declared.picker.Picker.{Picker}
 use Rattle.schedule_drive.specs.declared.sender.Sent.{Sent}
-use Rattle.schedule_drive.specs.Pickers.{waits_in, counts_in, numbers_of, passed_after, IsSent, IsPicker, IsChoice, Stands, Goes}
+use Rattle.schedule_drive.specs.Pickers.{waits_in, counts_in, open_numbers, passed_after, IsSent, IsPicker, IsChoice, PickingStands, Goes}
 use Rattle.schedule_drive.proofs.Senders.{AreApart, are_apart}
 
 -- ---- which choice it is
@@ -55,7 +55,7 @@ pass_is p place at (Passing x y) is = record { sender = x; receiver = y; is = re
 -- the number that a word draws, of the frames that haven't passed
 abbrev pub drawn : Setting → Plan → Picking → Player → Player → ℕ → Option ℕ
 drawn w p q x y u =
-    let frames = numbers_of (counts_in w p q.steps x) q.passed x y in
+    let frames = open_numbers (counts_in w p q.steps x) q.passed x y in
     slice_get frames (u % min 8 (length frames))
 
 -- it is one of x for y, which are linked
@@ -95,18 +95,18 @@ module _ {S E : Type 0} (m : Meaning S E CoinSeed KeyRow) (p : Plan) (what : Dri
   -- no frame was there
   pub none_carried : (q : Picking) (g : Lcg) (u : ℕ) (x y : Player) (o : Option ℕ) → o ≡ None → IsStage m p what stage q.steps
       → IsPicker p (waits_in (world_in m p) p q.steps) (counts_in (world_in m p) p q.steps) (passed_after q.passed u x y o) picker
-      → AreSteps (world_in m p) (cast_of p.attack) q.steps → Stands m p what stage picker (carried q g u x y o)
+      → AreSteps (world_in m p) (cast_of p.attack) q.steps → PickingStands m p what stage picker (frame_carried q g u x y o)
   none_carried q g u x y o none stage_is picker_is are =
-      subst (λ (o : Option ℕ). IsPicker p (waits_in (world_in m p) p q.steps) (counts_in (world_in m p) p q.steps) (passed_after q.passed u x y o) picker → Stands m p what stage picker (carried q g u x y o))
+      subst (λ (o : Option ℕ). IsPicker p (waits_in (world_in m p) p q.steps) (counts_in (world_in m p) p q.steps) (passed_after q.passed u x y o) picker → PickingStands m p what stage picker (frame_carried q g u x y o))
       (sym none) (λ is. record { stage_is = stage_is; picker_is = is; steps_are = are }) picker_is
 
   pub one_carried : (q : Picking) (g : Lcg) (u : ℕ) (x y : Player) (o : Option ℕ) (k : ℕ) → o ≡ Some k → IsStage m p what stage (Carry x y k ∷ q.steps)
       → IsPicker p (waits_in (world_in m p) p (Carry x y k ∷ q.steps)) (counts_in (world_in m p) p (Carry x y k ∷ q.steps)) (passed_after q.passed u x y o) picker
-      → AreSteps (world_in m p) (cast_of p.attack) (Carry x y k ∷ q.steps) → Stands m p what stage picker (carried q g u x y o)
+      → AreSteps (world_in m p) (cast_of p.attack) (Carry x y k ∷ q.steps) → PickingStands m p what stage picker (frame_carried q g u x y o)
   one_carried q g u x y o k one stage_is picker_is are =
-      subst (λ (o : Option ℕ). IsPicker p (waits_in (world_in m p) p (Carry x y k ∷ q.steps)) (counts_in (world_in m p) p (Carry x y k ∷ q.steps)) (passed_after q.passed u x y o) picker → Stands m p what stage picker (carried q g u x y o))
+      subst (λ (o : Option ℕ). IsPicker p (waits_in (world_in m p) p (Carry x y k ∷ q.steps)) (counts_in (world_in m p) p (Carry x y k ∷ q.steps)) (passed_after q.passed u x y o) picker → PickingStands m p what stage picker (frame_carried q g u x y o))
       (sym one) (λ is. record { stage_is = stage_is; picker_is = is; steps_are = are }) picker_is
 
 pub carried_halts : (w : Setting) (p : Plan) (q : Picking) (g : Lcg) (u : ℕ) (x y : Player) (o : Option ℕ) (k : ℕ) (halt : Halt) → o ≡ Some k
-    → HaltsBy w p (Carry x y k ∷ q.steps) halt → HaltsBy w p (carried q g u x y o).steps halt
-carried_halts w p q g u x y o k halt one by = subst (λ (o : Option ℕ). HaltsBy w p (carried q g u x y o).steps halt) (sym one) by
+    → HaltsBy w p (Carry x y k ∷ q.steps) halt → HaltsBy w p (frame_carried q g u x y o).steps halt
+carried_halts w p q g u x y o k halt one by = subst (λ (o : Option ℕ). HaltsBy w p (frame_carried q g u x y o).steps halt) (sym one) by

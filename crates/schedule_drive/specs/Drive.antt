@@ -36,24 +36,24 @@ abbrev pub text_in : DriveWhat → Setting → Plan → List Event → List ℕ
 text_in drives.Report w p es = report_on (header_of p) w es
 text_in drives.Schedule w p es = FileOf (heading (header_of p)) es
 
-abbrev pub text_of : DriveWhat → Plan → List Event → List ℕ
-text_of what p es = text_in what (world_of p) p es
+abbrev pub driven_text : DriveWhat → Plan → List Event → List ℕ
+driven_text what p es = text_in what (world_of p) p es
 
 -- the end of a call that wrote a report
-abbrev pub end_of : ReplayEnd → DriveEnd
-end_of (replay_ends.Done a) = ends.Done a
-end_of replay_ends.Write = ends.Write
-end_of replay_ends.Mem = ends.Mem
-end_of (replay_ends.File fault) = ends.Mem
+abbrev pub drive_end_of : ReplayEnd → DriveEnd
+drive_end_of (replay_ends.Done a) = ends.Done a
+drive_end_of replay_ends.Write = ends.Write
+drive_end_of replay_ends.Mem = ends.Mem
+drive_end_of (replay_ends.File fault) = ends.Mem
 
 -- the end where the steps of a plan were halted
-abbrev pub end_at : Halt → DriveEnd
-end_at (halts.Limit x) = ends.Limit x
-end_at halts.Mem = ends.Mem
+abbrev pub end_at_halt : Halt → DriveEnd
+end_at_halt (halts.Limit x) = ends.Limit x
+end_at_halt halts.Mem = ends.Mem
 
 -- For a sink before and after the call, whether or not it tells: one call of it failed just where `Write` is answered. At a limit, and where
 -- memory ran out, nothing was done to it.
-pub record Ended {K : Type 0} (faults : K → ℕ) (old new : K) (end : DriveEnd) : Type 0 where
+pub record DriveEnded {K : Type 0} (faults : K → ℕ) (old new : K) (end : DriveEnd) : Type 0 where
   pub counts : CountsIf (faults old) (faults new) (end ≡ ends.Write)
   pub limit : (x : ℕ) → end ≡ ends.Limit x → new ≡ old
   pub wanting : end ≡ ends.Mem → new ≡ old

@@ -20,6 +20,6 @@ pub record IsLane (lane : Lane) (count : ℕ) (left : ℕ → Bool) : Type 0 whe
   pub all : lane.count ≡ count
 
 -- a number is taken out, where the word lets it
-abbrev pub without : ℕ → Option ℕ → (ℕ → Bool) → ℕ → Bool
-without word None left k = left k
-without word (Some m) left k = if passes_once word then not (m == k) && left k else left k
+abbrev pub without_taken : ℕ → Option ℕ → (ℕ → Bool) → ℕ → Bool
+without_taken word None left k = left k
+without_taken word (Some m) left k = if passes_once word then not (m == k) && left k else left k

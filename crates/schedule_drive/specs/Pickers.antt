@@ -6,7 +6,7 @@ use Rattle.world_model.specs.World.{Setting}
 use Rattle.world_model.specs.declared.player.Player.{Player}
 use Rattle.world_model.specs.Players.{Step, Give, Go, Carry, Throw, AreSteps, state_at, scene_of}
 use Rattle.schedule_plan.specs.Plans.{cast_of, players_of, linked_from}
-use Rattle.schedule_plan.specs.Sweeps.{Counts, counts_of}
+use Rattle.schedule_plan.specs.Sweeps.{FrameCounts, frame_counts}
 use Rattle.schedule_plan.specs.Picks.{Passed, has_some, has_passed, passes_once}
 use Rattle.schedule_plan.specs.Picks as picks
 use Rattle.schedule_plan.specs.Picks.{Picking}
@@ -34,8 +34,8 @@ abbrev pub waits_in : Setting → Plan → List Step → Player → Bool
 waits_in w p steps y = has_some (state_at w (scene_of w (cast_of p.attack) steps) y).inbox
 
 -- how many frames each player has made for each other
-abbrev pub counts_in : Setting → Plan → List Step → Counts
-counts_in w p steps = counts_of w (cast_of p.attack) (scene_of w (cast_of p.attack) steps)
+abbrev pub counts_in : Setting → Plan → List Step → FrameCounts
+counts_in w p steps = frame_counts w (cast_of p.attack) (scene_of w (cast_of p.attack) steps)
 
 -- ---- one player
 
@@ -44,8 +44,8 @@ abbrev pub is_left : List Passed → Player → Player → ℕ → Bool
 is_left passed x y m = not (has_passed passed x y m)
 
 -- the frames of one player for another that haven't passed
-abbrev pub numbers_of : (Player → ℕ) → List Passed → Player → Player → List ℕ
-numbers_of count passed x y = numbers_left (count y) (is_left passed x y)
+abbrev pub open_numbers : (Player → ℕ) → List Passed → Player → Player → List ℕ
+open_numbers count passed x y = numbers_left (count y) (is_left passed x y)
 
 -- what has passed after this frame, if it is one
 abbrev pub passed_after : List Passed → ℕ → Player → Player → Option ℕ → List Passed
@@ -72,15 +72,15 @@ IsSent p x y number (Some sent) = (number ≡ Some sent.number) × (sent.from �
 -- ---- all players
 
 -- what waits, how many frames there are and which have passed
-pub record IsPicker (p : Plan) (waits : Player → Bool) (counts : Counts) (passed : List Passed) (picker : Picker) : Type 0 where
+pub record IsPicker (p : Plan) (waits : Player → Bool) (counts : FrameCounts) (passed : List Passed) (picker : Picker) : Type 0 where
   pub players : map (λ s. s.player) picker.senders.items ≡ players_of p
   pub many : length picker.turns ≡ length picker.senders.items
   pub turns : (r : ℕ) (s : Sender) → slice_get picker.senders.items r ≡ Some s → slice_get picker.turns r ≡ Some (waits s.player)
   pub senders : (r : ℕ) (s : Sender) → slice_get picker.senders.items r ≡ Some s → IsSender p (counts s.player) passed s
 
 -- of each player to which others there is a frame
-abbrev pub rows_of : Picker → List (List Bool)
-rows_of picker = map (λ s. s.row) picker.senders.items
+abbrev pub open_rows : Picker → List (List Bool)
+open_rows picker = map (λ s. s.row) picker.senders.items
 
 -- the open choice of this number, from 0, among the frames
 pub record IsFrame (rows : List (List Bool)) (number from to : ℕ) : Type 0 where
@@ -93,7 +93,7 @@ pub record IsFrame (rows : List (List Bool)) (number from to : ℕ) : Type 0 whe
 -- and among all choices: turns come first
 abbrev pub IsChosen : Picker → ℕ → Choice → Type 0
 IsChosen picker number (choices.Turn place) = IsNth picker.turns number place
-IsChosen picker number (choices.Frame from to) = (k : ℕ) × (number ≡ open_in picker.turns + k) × IsFrame (rows_of picker) k from to
+IsChosen picker number (choices.Frame from to) = (k : ℕ) × (number ≡ open_in picker.turns + k) × IsFrame (open_rows picker) k from to
 
 -- which choice of a plan that is
 abbrev pub IsChoice : Plan → Choice → picks.Choice → Type 0
@@ -104,12 +104,12 @@ IsChoice p _ _ = ⊥
 -- ---- as steps are taken
 
 -- what waits, and how many frames there are
-pub record Known : Type 0 where
+pub record KnownFrames : Type 0 where
   pub waits : Player → Bool
-  pub counts : Counts
+  pub counts : FrameCounts
 
 -- of y it is known what is so after these steps, and of the others what was known before
-pub record IsUpdate (w : Setting) (p : Plan) (steps : List Step) (y : Player) (old new : Known) : Type 0 where
+pub record IsUpdate (w : Setting) (p : Plan) (steps : List Step) (y : Player) (old new : KnownFrames) : Type 0 where
   pub waits_at : new.waits y ≡ waits_in w p steps y
   pub counts_at : (z : Player) → new.counts y z ≡ counts_in w p steps y z
   pub grown : (z : Player) → old.counts y z ≤ counts_in w p steps y z
@@ -117,19 +117,19 @@ pub record IsUpdate (w : Setting) (p : Plan) (steps : List Step) (y : Player) (o
   pub counts_else : (x : Player) → x ≢ y → (z : Player) → new.counts x z ≡ old.counts x z
 
 -- a step that comes to a player
-abbrev pub ComesTo : Step → Player → Type 0
-ComesTo (Go y) z = y ≡ z
-ComesTo (Carry x y m) z = y ≡ z
-ComesTo (Give x value) z = ⊥
-ComesTo (Throw from to rest) z = ⊥
+abbrev pub ComesToPlayer : Step → Player → Type 0
+ComesToPlayer (Go y) z = y ≡ z
+ComesToPlayer (Carry x y m) z = y ≡ z
+ComesToPlayer (Give x value) z = ⊥
+ComesToPlayer (Throw from to rest) z = ⊥
 
 -- the stage and the picker where the picks stand
-pub record Stands {S E : Type 0} (m : Meaning S E CoinSeed KeyRow) (p : Plan) (what : DriveWhat) (stage : Stage S E) (picker : Picker) (q : Picking) : Type 0 where
+pub record PickingStands {S E : Type 0} (m : Meaning S E CoinSeed KeyRow) (p : Plan) (what : DriveWhat) (stage : Stage S E) (picker : Picker) (q : Picking) : Type 0 where
   pub stage_is : IsStage m p what stage q.steps
   pub picker_is : IsPicker p (waits_in (world_in m p) p q.steps) (counts_in (world_in m p) p q.steps) q.passed picker
   pub steps_are : AreSteps (world_in m p) (cast_of p.attack) q.steps
 
 -- they come to stand there, or a limit is passed on the way, or memory ran out
 abbrev pub Goes : {S E : Type 0} → Meaning S E CoinSeed KeyRow → Plan → DriveWhat → Stage S E → Picker → Picking → Result (Unit {0}) Halt → Type 0
-Goes m p what stage picker q (Ok done) = Stands m p what stage picker q
+Goes m p what stage picker q (Ok done) = PickingStands m p what stage picker q
 Goes m p what stage picker q (Err halt) = HaltsBy (world_in m p) p q.steps halt

@@ -6,8 +6,8 @@ use Rattle.world_model.specs.World.{Setting}
 use Rattle.world_model.specs.declared.player.Player.{Player}
 use Rattle.world_model.specs.Players.{Step, Go, Carry, IsPlayer, number_of}
 use Rattle.schedule_plan.specs.Plans.{cast_of, players_of, linked_to}
-use Rattle.schedule_plan.specs.Sweeps.{Counts}
-use Rattle.schedule_stage.specs.Worlds.{waiting, made_for}
+use Rattle.schedule_plan.specs.Sweeps.{FrameCounts}
+use Rattle.schedule_stage.specs.Worlds.{waiting, count_made_for}
 use Rattle.schedule_drive.specs.declared.runs.Run.{Run}
 use Rattle.schedule_drive.specs.declared.runs.Run.TheVariants.{Turns, Frames}
 
@@ -21,10 +21,10 @@ has_step (Turns y count) = not (count == 0)
 has_step (Frames x y start end) = nat_lt start end
 
 -- the runs of a sweep: to each player its turns, and the frames that others made for it since the sweep before
-abbrev pub runs_to : Plan → Counts → Counts → (Player → ℕ) → Player → List Run
+abbrev pub runs_to : Plan → FrameCounts → FrameCounts → (Player → ℕ) → Player → List Run
 runs_to p before now waits y = Turns y (waits y) ∷ map (λ x. Frames x y (before x y) (now x y)) (linked_to p y)
 
-abbrev pub runs_by : Plan → Counts → Counts → (Player → ℕ) → List Run
+abbrev pub runs_by : Plan → FrameCounts → FrameCounts → (Player → ℕ) → List Run
 runs_by p before now waits = flat_map (runs_to p before now waits) (players_of p)
 
 -- before any step
@@ -37,11 +37,11 @@ first_frames y x = Frames x y 0 0
 -- the same run in the next sweep, behind these steps
 abbrev pub renewed : Setting → Plan → List Step → Run → Run
 renewed w p steps (Turns y count) = Turns y (waiting w p steps y)
-renewed w p steps (Frames x y start end) = Frames x y end (made_for w p steps x (number_of (cast_of p.attack) y))
+renewed w p steps (Frames x y start end) = Frames x y end (count_made_for w p steps x (number_of (cast_of p.attack) y))
 
 -- a run of players
-abbrev pub IsRun : Setting → Plan → Run → Type 0
-IsRun w p (Turns y count) = IsPlayer w (cast_of p.attack) y
-IsRun w p (Frames x y start end) =
+abbrev pub IsPlayerRun : Setting → Plan → Run → Type 0
+IsPlayerRun w p (Turns y count) = IsPlayer w (cast_of p.attack) y
+IsPlayerRun w p (Frames x y start end) =
     let c = cast_of p.attack in
     IsPlayer w c x × IsPlayer w c y × (number_of c x ≢ number_of c y) × (number_of c y < p.p.n)

@@ -7,7 +7,7 @@ ghost use Rattle.schedule_replay.specs.Played.{header_in};
 ghost use Rattle.schedule_plan.specs.Plans.{header_of};
 ghost use Rattle.schedule_plan.specs.Schedule.{schedule, world_by};
 ghost use Rattle.schedule_stage.specs.Stage.{IsFinished};
-ghost use Rattle.schedule_drive.specs.Drive.{end_at, end_of, Ended, ShowsIn, ShowsPlan};
+ghost use Rattle.schedule_drive.specs.Drive.{end_at_halt, drive_end_of, DriveEnded, ShowsIn, ShowsPlan};
 
 use crate::end::DriveEnd;
 use crate::laws::has_session;
@@ -38,7 +38,7 @@ fn write_file<K: Sink>(sink: &mut K, file: &Buffer) -> Result<(), Failed>
 
 // How a report that was written ended.
 fn end_of(end: ReplayEnd) -> DriveEnd
-    ensures { result ≡ end_of end }
+    ensures { result ≡ drive_end_of end }
 {
     match end {
         ReplayEnd::Done(audit) => DriveEnd::Done(audit),
@@ -49,7 +49,7 @@ fn end_of(end: ReplayEnd) -> DriveEnd
 
 // The end where the steps of a plan were halted.
 fn end_at(halt: Halt) -> DriveEnd
-    ensures { result ≡ end_at halt }
+    ensures { result ≡ end_at_halt halt }
 {
     match halt {
         Halt::Limit(limit) => DriveEnd::Limit(limit),
@@ -67,7 +67,7 @@ fn write<S: Service, E: Broadcast, K: Sink>(
 ) -> DriveEnd
     requires serves { S.rules.serves (header_in made.now.played).mode.root ≡ true }
     requires form { E.FORM ≡ other_form (header_in made.now.played).mode }
-    ensures ended { Ended K.faults sink.old sink.new result }
+    ensures ended { DriveEnded K.faults sink.old sink.new result }
     ensures shows { let m = layers_by S.stands S.rules S.shown E.stands E.rules E.shown in let w = world_by S.rules E.rules plan.now in
         IsFinished m plan.now what made.now (schedule w plan.now)
         → ShowsIn K.tells K.taken sink.old sink.new what result w plan.now }
@@ -94,7 +94,7 @@ fn drive_as<S: Service, E: Broadcast, K: Sink>(
 ) -> DriveEnd
     requires serves { S.rules.serves plan.now.mode.root ≡ true }
     requires form { E.FORM ≡ other_form plan.now.mode }
-    ensures ended { Ended K.faults sink.old sink.new result }
+    ensures ended { DriveEnded K.faults sink.old sink.new result }
     ensures shows { ShowsIn K.tells K.taken sink.old sink.new what result (world_by S.rules E.rules plan.now) plan.now }
 {
     has_session(plan);
@@ -113,7 +113,7 @@ fn drive_with<S: Service, K: Sink>(
     what: DriveWhat,
 ) -> DriveEnd
     requires serves { S.rules.serves plan.now.mode.root ≡ true }
-    ensures ended { Ended K.faults sink.old sink.new result }
+    ensures ended { DriveEnded K.faults sink.old sink.new result }
     ensures shows { ShowsIn K.tells K.taken sink.old sink.new what result (world_by S.rules (other_of plan.now.mode) plan.now) plan.now }
 {
     let form = other_form(&plan.mode);
@@ -137,7 +137,7 @@ fn drive_with<S: Service, K: Sink>(
 /// at `Mem`. `Write` is answered just where a call of the sink failed.
 pub fn drive<K: Sink>(alloc: Global, plan: &Plan, sink: &mut K, what: DriveWhat) -> DriveEnd
     // For every sink, whether or not it tells what it took.
-    ensures ended { Ended K.faults sink.old sink.new result }
+    ensures ended { DriveEnded K.faults sink.old sink.new result }
 
     // The text of the plan's schedule is written, or the limit is named that it passes first.
     ensures shows { ShowsPlan K.tells K.taken sink.old sink.new what result plan.now }

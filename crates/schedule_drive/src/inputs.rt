@@ -6,7 +6,7 @@ ghost use Rattle.ritas_base.specs.declared.what.DriveWhat.{DriveWhat};
 ghost use Rattle.schedule_replay.specs.Layers.{layers_by};
 ghost use Rattle.world_model.specs.declared.player.Player.TheVariants.{Face};
 ghost use Rattle.world_model.specs.Players.{Step, IsPlayer};
-ghost use Rattle.schedule_plan.specs.Inputs.{number_text, value_text, command_text, takes_commands, copies_of, copy_at, command_at, value_at, correct_inputs, flip_inputs, own_text, given_to, face_inputs, inputs_of};
+ghost use Rattle.schedule_plan.specs.Inputs.{number_text, value_text, command_text, takes_commands, copies_of, copy_at, command_at, value_input, correct_inputs, flip_inputs, own_text, given_to, face_inputs, inputs_of};
 ghost use Rattle.schedule_plan.specs.Plans.{cast_of, correct_of};
 ghost use Rattle.schedule_stage.specs.Stage.{IsStage, Reaches};
 ghost use Rattle.schedule_stage.specs.Worlds.{world_in};
@@ -143,7 +143,7 @@ fn give_values<S: Service, E: Broadcast>(
     requires some { plan.now.commands ≢ 0 }
     ensures { let m = layers_by S.stands S.rules S.shown E.stands E.rules E.shown in
         (what : DriveWhat) (steps : List Step) → IsStage m plan.now what stage.old steps
-        → Reaches m plan.now what stage.new (reverse (map (value_at plan.now) (range_with_len 0 (correct_of plan.now))) ++ steps) result }
+        → Reaches m plan.now what stage.new (reverse (map (value_input plan.now) (range_with_len 0 (correct_of plan.now))) ++ steps) result }
 {
     let root = plan.mode.root;
     for i in 0..correct_of(plan) {

@@ -1,7 +1,7 @@
 //! The frames that one player made for another and that haven't passed.
 ghost use Rattle.std.specs.Prelude.{◌≡◌, ℕ, ◌%◌, ◌≤◌, ◌⊎◌, Bool, filter, length, min, [], true, false, OnOk, IfOk};
 ghost use Rattle.std.specs.List.{range_with_len, slice_get};
-ghost use Rattle.schedule_drive.specs.Lanes.{IsLane, has_left, numbers_left, without};
+ghost use Rattle.schedule_drive.specs.Lanes.{IsLane, has_left, numbers_left, without_taken};
 ghost use Rattle.schedule_plan.specs.Picks.{passes_once};
 
 use std::alloc::{AllocError, Global};
@@ -65,7 +65,7 @@ impl Lane {
         ensures number { (count : ℕ) (left : ℕ → Bool) → IsLane self.old count left
             → IfOk result (λ number. number ≡ slice_get (numbers_left count left) (word % min 8 (length (numbers_left count left)))) }
         ensures lane { (count : ℕ) (left : ℕ → Bool) → IsLane self.old count left
-            → IfOk result (λ number. IsLane self.new count (without word number left)) }
+            → IfOk result (λ number. IsLane self.new count (without_taken word number left)) }
     {
         self.fill()?;
         let many = self.front.len().min(8);

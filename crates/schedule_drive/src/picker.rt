@@ -10,15 +10,15 @@ ghost use Rattle.layer_api.specs.Runs.{Has};
 ghost use Rattle.schedule_replay.specs.Layers.{layers_by};
 ghost use Rattle.world_model.specs.declared.player.Player.{Player};
 ghost use Rattle.world_model.specs.Players.{Step, AreSteps};
-ghost use Rattle.schedule_plan.specs.Picks.{Passed, Picking, Turning, Passing, taken};
+ghost use Rattle.schedule_plan.specs.Picks.{Passed, Picking, Turning, Passing, choice_taken};
 ghost use Rattle.schedule_plan.specs.Plans.{cast_of, players_of, linked_from};
-ghost use Rattle.schedule_plan.specs.Sweeps.{Counts, none_yet};
+ghost use Rattle.schedule_plan.specs.Sweeps.{FrameCounts, none_yet};
 ghost use Rattle.schedule_stage.specs.Stage.{IsStage, Reaches};
 ghost use Rattle.schedule_stage.specs.Worlds.{world_in, all_frames};
 ghost use Rattle.schedule_drive.specs.Choices.{open_in, open_all};
 ghost use Rattle.schedule_plan.specs.Picks as picks;
 ghost use Rattle.world_model.specs.World.{Setting};
-ghost use Rattle.schedule_drive.specs.Pickers.{IsPicker, IsChosen, IsChoice, IsSent, Known, IsUpdate, ComesTo, Stands, Goes, waits_in, counts_in, numbers_of, passed_after, rows_of};
+ghost use Rattle.schedule_drive.specs.Pickers.{IsPicker, IsChosen, IsChoice, IsSent, KnownFrames, IsUpdate, ComesToPlayer, PickingStands, Goes, waits_in, counts_in, open_numbers, passed_after, open_rows};
 
 use crate::players::players;
 use crate::row::Row;
@@ -65,7 +65,7 @@ impl Picker {
 
     /// How many choices are open.
     pub(crate) fn count(&self) -> usize
-        ensures { result ≡ min (2 ^ 64 - 1) (open_in self.now.turns + open_all (rows_of self.now)) }
+        ensures { result ≡ min (2 ^ 64 - 1) (open_in self.now.turns + open_all (open_rows self.now)) }
     {
         let mut count = self.turns.count();
         for sender in &self.senders {
@@ -76,7 +76,7 @@ impl Picker {
 
     // The open choice of a frame of this number, from 0.
     fn choose_frame(&self, number: usize) -> Option<Choice>
-        ensures { MatchOption result (open_all (rows_of self.now) ≤ number) (λ choice. IsChosen self.now (open_in self.now.turns + number) choice) }
+        ensures { MatchOption result (open_all (open_rows self.now) ≤ number) (λ choice. IsChosen self.now (open_in self.now.turns + number) choice) }
     {
         let mut left = number;
         for (place, sender) in self.senders.iter().enumerate() {
@@ -90,7 +90,7 @@ impl Picker {
 
     /// The open choice of this number, from 0.
     pub(crate) fn choose(&self, number: usize) -> Option<Choice>
-        ensures { MatchOption result (open_in self.now.turns + open_all (rows_of self.now) ≤ number) (λ choice. IsChosen self.now number choice) }
+        ensures { MatchOption result (open_in self.now.turns + open_all (open_rows self.now) ≤ number) (λ choice. IsChosen self.now number choice) }
     {
         match self.turns.nth(number) {
             Some(place) => Some(Choice::Turn(place)),
@@ -100,9 +100,9 @@ impl Picker {
 
     // One of the frames of the player at one place for that at another place among those that it is linked to.
     fn pick(&mut self, from: usize, to: usize, word: u32) -> Result<Option<Sent>, Mem>
-        ensures { (p : Plan) (waits : Player → Bool) (counts : Counts) (passed : List Passed) (x y : Player) → IsPicker p waits counts passed self.old
+        ensures { (p : Plan) (waits : Player → Bool) (counts : FrameCounts) (passed : List Passed) (x y : Player) → IsPicker p waits counts passed self.old
             → slice_get (players_of p) from ≡ Some x → slice_get (linked_from p x) to ≡ Some y
-            → let frames = numbers_of (counts x) passed x y in
+            → let frames = open_numbers (counts x) passed x y in
             let number = slice_get frames (word % min 8 (length frames)) in
             IfOk result (λ sent. IsSent p x y number sent × IsPicker p waits counts (passed_after passed word x y number) self.new) }
     {
@@ -116,7 +116,7 @@ impl Picker {
     fn refresh<S: Service, E: Broadcast>(&mut self, place: usize, stage: &Stage<S, E>)
         ensures many { length self.new.senders.items ≡ length self.old.senders.items }
         ensures picker { let m = layers_by S.stands S.rules S.shown E.stands E.rules E.shown in
-            (p : Plan) (what : DriveWhat) (steps : List Step) (old new : Known) (passed : List Passed) (y : Player)
+            (p : Plan) (what : DriveWhat) (steps : List Step) (old new : KnownFrames) (passed : List Passed) (y : Player)
             → IsStage m p what stage.now steps → IsSession p.p → IsPicker p old.waits old.counts passed self.old
             → slice_get (players_of p) place ≡ Some y → IsUpdate (world_in m p) p steps y old new
             → IsPicker p new.waits new.counts passed self.new }
@@ -132,7 +132,7 @@ impl Picker {
     // Looks up what waits at the player at this place, where it has made no frame more.
     fn refresh_turn<S: Service, E: Broadcast>(&mut self, place: usize, stage: &Stage<S, E>)
         ensures { let m = layers_by S.stands S.rules S.shown E.stands E.rules E.shown in
-            (p : Plan) (what : DriveWhat) (steps : List Step) (old new : Known) (passed : List Passed) (y : Player)
+            (p : Plan) (what : DriveWhat) (steps : List Step) (old new : KnownFrames) (passed : List Passed) (y : Player)
             → IsStage m p what stage.now steps → IsSession p.p → IsPicker p old.waits old.counts passed self.old
             → slice_get (players_of p) place ≡ Some y → IsUpdate (world_in m p) p steps y old new
             → ((z : Player) → Has (linked_from p y) z → old.counts y z ≡ counts_in (world_in m p) p steps y z)
@@ -155,7 +155,7 @@ impl Picker {
             (p : Plan) (what : DriveWhat) (steps : List Step) (step : Step) (passed : List Passed) (y : Player)
             → IsStage m p what stage.now (step ∷ steps) → IsSession p.p → AreSteps (world_in m p) (cast_of p.attack) (step ∷ steps)
             → IsPicker p (waits_in (world_in m p) p steps) (counts_in (world_in m p) p steps) passed self.old
-            → slice_get (players_of p) place ≡ Some y → ComesTo step y → before ≡ all_frames (world_in m p) p steps
+            → slice_get (players_of p) place ≡ Some y → ComesToPlayer step y → before ≡ all_frames (world_in m p) p steps
             → IsPicker p (waits_in (world_in m p) p (step ∷ steps)) (counts_in (world_in m p) p (step ∷ steps)) passed self.new }
     {
         quiet();
@@ -170,7 +170,7 @@ impl Picker {
     /// Looks up what waits at each player, and how many frames it has made.
     pub(crate) fn refresh_all<S: Service, E: Broadcast>(&mut self, stage: &Stage<S, E>)
         ensures { let m = layers_by S.stands S.rules S.shown E.stands E.rules E.shown in
-            (p : Plan) (what : DriveWhat) (steps : List Step) (old : Known) (passed : List Passed)
+            (p : Plan) (what : DriveWhat) (steps : List Step) (old : KnownFrames) (passed : List Passed)
             → IsStage m p what stage.now steps → IsSession p.p → IsPicker p old.waits old.counts passed self.old
             → ((x y : Player) → old.counts x y ≤ counts_in (world_in m p) p steps x y)
             → IsPicker p (waits_in (world_in m p) p steps) (counts_in (world_in m p) p steps) passed self.new }
@@ -188,9 +188,9 @@ impl Picker {
         stage: &mut Stage<S, E>,
     ) -> Result<(), Halt>
         ensures { let m = layers_by S.stands S.rules S.shown E.stands E.rules E.shown in
-            (p : Plan) (what : DriveWhat) (q : Picking) (y : Player) → IsSession p.p → Stands m p what stage.old self.old q
+            (p : Plan) (what : DriveWhat) (q : Picking) (y : Player) → IsSession p.p → PickingStands m p what stage.old self.old q
             → slice_get (players_of p) place ≡ Some y
-            → Goes m p what stage.new self.new (taken (world_in m p) p q q.words (Some (Turning y))) result }
+            → Goes m p what stage.new self.new (choice_taken (world_in m p) p q q.words (Some (Turning y))) result }
     {
         if place < self.senders.len() {
             let before = stage.frames();
@@ -210,9 +210,9 @@ impl Picker {
         stage: &mut Stage<S, E>,
     ) -> Result<(), Halt>
         ensures { let m = layers_by S.stands S.rules S.shown E.stands E.rules E.shown in
-            (p : Plan) (what : DriveWhat) (q : Picking) (x y : Player) → IsSession p.p → Stands m p what stage.old self.old q
+            (p : Plan) (what : DriveWhat) (q : Picking) (x y : Player) → IsSession p.p → PickingStands m p what stage.old self.old q
             → slice_get (players_of p) from ≡ Some x → slice_get (linked_from p x) to ≡ Some y → word ≡ (pcg32 q.words).0
-            → Goes m p what stage.new self.new (taken (world_in m p) p q q.words (Some (Passing x y))) result }
+            → Goes m p what stage.new self.new (choice_taken (world_in m p) p q q.words (Some (Passing x y))) result }
     {
         let Some(sent) = self.pick(from, to, word)? else {
             return Ok(());
@@ -232,11 +232,11 @@ impl Picker {
         stage: &mut Stage<S, E>,
     ) -> Result<(), Halt>
         ensures words { (w : Setting) (p : Plan) (q : Picking) (choice_is : picks.Choice) → IsChoice p choice choice_is → words.old ≡ q.words
-            → OnOk result (words.new ≡ (taken w p q q.words (Some choice_is)).words) }
+            → OnOk result (words.new ≡ (choice_taken w p q q.words (Some choice_is)).words) }
         ensures goes { let m = layers_by S.stands S.rules S.shown E.stands E.rules E.shown in
-            (p : Plan) (what : DriveWhat) (q : Picking) (choice_is : picks.Choice) → IsSession p.p → Stands m p what stage.old self.old q
+            (p : Plan) (what : DriveWhat) (q : Picking) (choice_is : picks.Choice) → IsSession p.p → PickingStands m p what stage.old self.old q
             → IsChoice p choice choice_is → words.old ≡ q.words
-            → Goes m p what stage.new self.new (taken (world_in m p) p q q.words (Some choice_is)) result }
+            → Goes m p what stage.new self.new (choice_taken (world_in m p) p q q.words (Some choice_is)) result }
     {
         match choice {
             Choice::Turn(place) => self.take_turn(alloc, place, stage),

@@ -11,7 +11,7 @@ ghost use Rattle.schedule_plan.specs.Plans.{cast_of};
 ghost use Rattle.schedule_plan.specs.Schedule.{schedule};
 ghost use Rattle.schedule_stage.specs.Stage.{IsStage, Reaches};
 ghost use Rattle.schedule_stage.specs.Worlds.{world_in};
-ghost use Rattle.schedule_drive.specs.Pickers.{IsPicker, Stands, Goes, waits_in, counts_in};
+ghost use Rattle.schedule_drive.specs.Pickers.{IsPicker, PickingStands, Goes, waits_in, counts_in};
 
 use crate::garbage::throw_all;
 use crate::laws::has_session;
@@ -73,11 +73,11 @@ fn take_next<S: Service, E: Broadcast>(
 ) -> Result<(), Halt>
     requires { 0 < count }
     ensures words { let m = layers_by S.stands S.rules S.shown E.stands E.rules E.shown in let w = world_in m plan.now in
-        (what : DriveWhat) (q : Picking) → IsSession plan.now.p → Stands m plan.now what stage.old picker.old q → words.old ≡ q.words
+        (what : DriveWhat) (q : Picking) → IsSession plan.now.p → PickingStands m plan.now what stage.old picker.old q → words.old ≡ q.words
         → count ≡ length (choices_of w plan.now (scene_of w (cast_of plan.now.attack) q.steps) q.passed)
         → OnOk result (words.new ≡ (pick w plan.now number q).words) }
     ensures goes { let m = layers_by S.stands S.rules S.shown E.stands E.rules E.shown in let w = world_in m plan.now in
-        (what : DriveWhat) (q : Picking) → IsSession plan.now.p → Stands m plan.now what stage.old picker.old q → words.old ≡ q.words
+        (what : DriveWhat) (q : Picking) → IsSession plan.now.p → PickingStands m plan.now what stage.old picker.old q → words.old ≡ q.words
         → count ≡ length (choices_of w plan.now (scene_of w (cast_of plan.now.attack) q.steps) q.passed)
         → Goes m plan.now what stage.new picker.new (pick w plan.now number q) result }
 {

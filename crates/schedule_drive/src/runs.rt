@@ -10,7 +10,7 @@ ghost use Rattle.schedule_plan.specs.Plans.{are_linked};
 ghost use Rattle.schedule_plan.specs.Sweeps.{none_yet};
 ghost use Rattle.schedule_stage.specs.Stage.{IsStage, Reaches};
 ghost use Rattle.schedule_stage.specs.Worlds.{world_in};
-ghost use Rattle.schedule_drive.specs.Runs.{run_steps, has_step, no_wait, first_frames, runs_by, renewed, IsRun};
+ghost use Rattle.schedule_drive.specs.Runs.{run_steps, has_step, no_wait, first_frames, runs_by, renewed, IsPlayerRun};
 
 use crate::players::{are_linked, number_of, players};
 use layer_api::{Broadcast, Service};
@@ -57,7 +57,7 @@ pub(crate) fn first_runs(alloc: Global, plan: &Plan) -> Result<Vec<Run>, Mem>
 // The same run in the next sweep.
 fn renewed<S: Service, E: Broadcast>(stage: &Stage<S, E>, run: Run) -> Run
     ensures { let m = layers_by S.stands S.rules S.shown E.stands E.rules E.shown in
-        (p : Plan) (what : DriveWhat) (steps : List Step) → IsStage m p what stage.now steps → IsRun (world_in m p) p run
+        (p : Plan) (what : DriveWhat) (steps : List Step) → IsStage m p what stage.now steps → IsPlayerRun (world_in m p) p run
         → result ≡ renewed (world_in m p) p steps run }
 {
     match run {
@@ -70,7 +70,7 @@ fn renewed<S: Service, E: Broadcast>(stage: &Stage<S, E>, run: Run) -> Run
 pub(crate) fn renew<S: Service, E: Broadcast>(runs: &mut [Run], stage: &Stage<S, E>)
     ensures { let m = layers_by S.stands S.rules S.shown E.stands E.rules E.shown in
         (p : Plan) (what : DriveWhat) (steps : List Step) → IsStage m p what stage.now steps
-        → ((run : Run) → Has runs.old run → IsRun (world_in m p) p run)
+        → ((run : Run) → Has runs.old run → IsPlayerRun (world_in m p) p run)
         → runs.new ≡ map (renewed (world_in m p) p steps) runs.old }
 {
     for run in runs.iter_mut() {
@@ -103,7 +103,7 @@ fn take_turns<S: Service, E: Broadcast>(
 ) -> Result<(), Halt>
     ensures { let m = layers_by S.stands S.rules S.shown E.stands E.rules E.shown in
         (p : Plan) (what : DriveWhat) (steps : List Step) → IsStage m p what stage.old steps
-        → IsRun (world_in m p) p (Run.Turns y count)
+        → IsPlayerRun (world_in m p) p (Run.Turns y count)
         → Reaches m p what stage.new (reverse (run_steps (Run.Turns y count)) ++ steps) result }
 {
     for _ in 0..count {
@@ -123,7 +123,7 @@ fn take_frames<S: Service, E: Broadcast>(
 ) -> Result<(), Halt>
     ensures { let m = layers_by S.stands S.rules S.shown E.stands E.rules E.shown in
         (p : Plan) (what : DriveWhat) (steps : List Step) → IsStage m p what stage.old steps
-        → IsRun (world_in m p) p (Run.Frames x y start end)
+        → IsPlayerRun (world_in m p) p (Run.Frames x y start end)
         → Reaches m p what stage.new (reverse (run_steps (Run.Frames x y start end)) ++ steps) result }
 {
     for number in start..end {
@@ -139,7 +139,7 @@ fn take_run<S: Service, E: Broadcast>(
 ) -> Result<(), Halt>
     ensures { let m = layers_by S.stands S.rules S.shown E.stands E.rules E.shown in
         (p : Plan) (what : DriveWhat) (steps : List Step) → IsStage m p what stage.old steps
-        → IsRun (world_in m p) p run
+        → IsPlayerRun (world_in m p) p run
         → Reaches m p what stage.new (reverse (run_steps run) ++ steps) result }
 {
     match run {
@@ -156,7 +156,7 @@ pub(crate) fn take_runs<S: Service, E: Broadcast>(
 ) -> Result<(), Halt>
     ensures { let m = layers_by S.stands S.rules S.shown E.stands E.rules E.shown in
         (p : Plan) (what : DriveWhat) (steps : List Step) → IsStage m p what stage.old steps
-        → ((run : Run) → Has runs.now run → IsRun (world_in m p) p run)
+        → ((run : Run) → Has runs.now run → IsPlayerRun (world_in m p) p run)
         → Reaches m p what stage.new (reverse (flat_map run_steps runs.now) ++ steps) result }
 {
     for run in runs {

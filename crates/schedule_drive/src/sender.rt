@@ -12,7 +12,7 @@ ghost use Rattle.schedule_plan.specs.Plans.{players_of, linked_from};
 ghost use Rattle.schedule_plan.specs.Sweeps.{none_yet};
 ghost use Rattle.schedule_stage.specs.Stage.{IsStage};
 ghost use Rattle.schedule_stage.specs.Worlds.{world_in};
-ghost use Rattle.schedule_drive.specs.Pickers.{IsSender, IsSent, counts_in, numbers_of, passed_after};
+ghost use Rattle.schedule_drive.specs.Pickers.{IsSender, IsSent, counts_in, open_numbers, passed_after};
 ghost use Rattle.layer_api.specs.Runs.{Has};
 
 use crate::lane::Lane;
@@ -99,7 +99,7 @@ impl Sender {
         ensures player { self.new.player ≡ self.old.player }
         ensures sent { (p : Plan) (count : Player → ℕ) (passed : List Passed) (y : Player) → IsSender p count passed self.old
             → slice_get (linked_from p self.old.player) at ≡ Some y
-            → let frames = numbers_of count passed self.old.player y in
+            → let frames = open_numbers count passed self.old.player y in
             let number = slice_get frames (word % min 8 (length frames)) in
             IfOk result (λ sent. IsSent p self.old.player y number sent × IsSender p count (passed_after passed word self.old.player y number) self.new) }
     {

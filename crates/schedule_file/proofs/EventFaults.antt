@@ -7,10 +7,11 @@ use Rattle.ritas_base.specs.declared.event.Event.TheVariants.{Frame, Input, Turn
 use Rattle.schedule_file.specs.declared.fault.FileFault.{FileFault}
 use Rattle.schedule_file.specs.declared.fault.FileFault.TheVariants as faults
 use Rattle.schedule_file.specs.declared.scope.Scope.{Scope}
-use Rattle.schedule_file.specs.Scopes.{is_the_one, has_replica, IsAnother, IsOut}
-use Rattle.schedule_file.specs.Reading.{◌>>=◌, Spot, test, IsBytes}
+use Rattle.schedule_file.specs.Scopes.{is_the_one, has_replica, IsAnother, IsOutOfScope}
+use Rattle.ritas_base.specs.Bytes.{IsBytes}
+use Rattle.schedule_file.specs.Reading.{◌>>=◌, Spot, test}
 use Rattle.schedule_file.specs.FileBytes.{limit, byte_at, end_from, end_at}
-use Rattle.schedule_file.specs.ReadEvents.{replica_at, pair_at, frame_at, input_at, turn_at, pass_at, sealed_at, kind_at, some_event, no_event, event_of, event_at}
+use Rattle.schedule_file.specs.ReadEvents.{replica_at, pair_at, frame_at, input_read_at, turn_at, pass_at, sealed_at, kind_at, some_event, no_event, event_of, event_at}
 use Rattle.schedule_file.specs.Faults.{IsOfTwo, IsNoKind, IsWrongStart}
 use Rattle.schedule_file.proofs.Spells.{back_fits, Took, took_both, Spells}
 use Rattle.schedule_file.proofs.FileSpells.{byte_spells, u32_spells, text_spells}
@@ -44,7 +45,7 @@ no_event_in read names s p low fits e = names.names s (faults.Event p) low fits 
 
 -- a replica that no event of the scope has
 abbrev IsOutOf : Scope → List ℕ → Type 0
-IsOutOf scope text = (i : ℕ) × (text ≡ i ∷ []) × IsOut scope i
+IsOutOf scope text = (i : ℕ) × (text ≡ i ∷ []) × IsOutOfScope scope i
 
 another : (only : Option ℕ) (at : ℕ) → is_the_one only at ≡ false → IsAnother only at
 another None at e = absurd cc
@@ -65,20 +66,20 @@ not_second : (a b : Bool) → b ≡ false → (a && b) ≡ false
 not_second true b e = e
 not_second false b e = refl
 
-out_of : (scope : Scope) (at : ℕ) → has_replica scope at ≡ false → IsOut scope at
+out_of : (scope : Scope) (at : ℕ) → has_replica scope at ≡ false → IsOutOfScope scope at
 out_of scope at e = elim (not_both (nat_lt at scope.n) (is_the_one scope.only at) e) [
   | inl h ↦ inl (ltb-false _ _ h)
   | inr h ↦ inr (another scope.only at h)
 ]
 
-has_none : (scope : Scope) (at : ℕ) → IsOut scope at → has_replica scope at ≡ false
+has_none : (scope : Scope) (at : ℕ) → IsOutOfScope scope at → has_replica scope at ≡ false
 has_none scope at out = elim out [
   | inl h ↦ not_first (nat_lt at scope.n) (is_the_one scope.only at) (le-ltb at scope.n h)
   | inr h ↦ not_second (nat_lt at scope.n) (is_the_one scope.only at) (not_the_one scope.only at h)
 ]
 
 -- where each replica may have events, those that none has are too great
-past : (scope : Scope) (at : ℕ) → scope.only ≡ None → IsOut scope at → scope.n ≤ at
+past : (scope : Scope) (at : ℕ) → scope.only ≡ None → IsOutOfScope scope at → scope.n ≤ at
 past scope at free out = elim out [
   | inl h ↦ h
   | inr h ↦ absurd (subst (λ (o : Option ℕ). IsAnother o at) free h)
@@ -233,8 +234,8 @@ frame_wrong scope q s p low fits e =
     then_wrong (replica_at scope q) _ s p (replica_spells scope q) (replica_wrong scope q s p low fits)
     (λ to. then_names (λ bytes. Ok (Frame to bytes.0, bytes.1)) text_spells text_names (λ bytes. done_names (Frame to bytes))) low fits e
 
-input_wrong : (scope : Scope) (q : ℕ) (s : Spot) (p : ℕ) → s.at ≤ limit → IsBytes s.rest → input_at scope q s ≡ Err (faults.Event p) → Begins (IsOutOf scope) s
-unfolding input_at
+input_wrong : (scope : Scope) (q : ℕ) (s : Spot) (p : ℕ) → s.at ≤ limit → IsBytes s.rest → input_read_at scope q s ≡ Err (faults.Event p) → Begins (IsOutOf scope) s
+unfolding input_read_at
 input_wrong scope q s p low fits e =
     then_wrong (replica_at scope q) _ s p (replica_spells scope q) (replica_wrong scope q s p low fits)
     (λ at. then_names (λ bytes. Ok (Input at bytes.0, bytes.1)) text_spells text_names (λ bytes. done_names (Input at bytes))) low fits e
@@ -261,7 +262,7 @@ unfolding kind_at
 kind_wrong scope q kind s p none low fits e =
     elim (chosen (kind == 1) (frame_at scope q s) _ _ e) [
       | inl h ↦ let is = eqb-true kind 1 h.0 in behind_one scope kind s (omega (arith, is)) (omega (arith, is)) (frame_wrong scope q s p low fits h.1)
-      | inr h1 ↦ elim (chosen (kind == 2) (input_at scope q s) _ _ h1.1) [
+      | inr h1 ↦ elim (chosen (kind == 2) (input_read_at scope q s) _ _ h1.1) [
         | inl h ↦ let is = eqb-true kind 2 h.0 in behind_one scope kind s (omega (arith, is)) (omega (arith, is)) (input_wrong scope q s p low fits h.1)
         | inr h2 ↦ elim (chosen (kind == 3) (turn_at scope q s) _ _ h2.1) [
           | inl h ↦ let is = eqb-true kind 3 h.0 in behind_one scope kind s (omega (arith, is)) (omega (arith, is)) (turn_wrong scope q s p low fits h.1)
@@ -321,7 +322,7 @@ pub first_byte : (scope : Scope) (at kind : ℕ) (rest : List ℕ) → at + 1 �
 unfolding event_at
 first_byte scope at kind rest low = let one = byte_spells.again at kind (kind ∷ []) rest refl low in rw one refl
 
-replica_fails : (scope : Scope) (q at i : ℕ) (rest : List ℕ) → at + 1 ≤ limit → IsOut scope i → replica_at scope q (record { at = at; rest = i ∷ rest }) ≡ Err (faults.Event q)
+replica_fails : (scope : Scope) (q at i : ℕ) (rest : List ℕ) → at + 1 ≤ limit → IsOutOfScope scope i → replica_at scope q (record { at = at; rest = i ∷ rest }) ≡ Err (faults.Event q)
 unfolding replica_at
 replica_fails scope q at i rest low out = let one = byte_spells.again at i (i ∷ []) rest refl low in rw (one, has_none scope i out) refl
 
@@ -362,7 +363,7 @@ first_fails scope q kind s two fine fails =
     two_fails scope q kind s two (pair_fails_first scope q s (free_of scope kind (is_none scope.only) refl two fine) fails)
 
 one_fails : (scope : Scope) (q kind : ℕ) (s : Spot) → 1 ≤ kind → ¬ IsNoKind scope kind → replica_at scope q s ≡ Err (faults.Event q) → kind_at scope q kind s ≡ Err (faults.Event q)
-unfolding kind_at frame_at input_at turn_at
+unfolding kind_at frame_at input_read_at turn_at
 one_fails scope q zero s some fine fails = absurd (omega (arith, some))
 one_fails scope q (suc zero) s some fine fails = rw fails refl
 one_fails scope q (suc (suc zero)) s some fine fails = rw fails refl

@@ -14,7 +14,7 @@ use Rattle.schedule_file.specs.declared.scope.Scope.{Scope}
 use Rattle.schedule_file.specs.Reading.{Spot}
 use Rattle.schedule_file.specs.Scopes.{is_the_one, has_replica, IsTheOne, IsInScope}
 use Rattle.schedule_file.specs.FileBytes.{limit, byte_at, u32_at, text_at}
-use Rattle.schedule_file.specs.ReadEvents.{replica_at, pair_at, frame_at, input_at, turn_at, pass_at, sealed_at, kind_at}
+use Rattle.schedule_file.specs.ReadEvents.{replica_at, pair_at, frame_at, input_read_at, turn_at, pass_at, sealed_at, kind_at}
 use Rattle.schedule_file.specs.Spelling.{sized, event_text}
 use Rattle.schedule_file.proofs.Spells.{Spells, Both, Nothing, as_spells, then_spells, guard_spells, done_spells}
 use Rattle.schedule_file.proofs.FileSpells.{byte_spells, u32_spells, text_spells, IsSized, IsNumber}
@@ -140,8 +140,8 @@ input_from scope (Turn at) text r = absurd (omega (arith, r.is_kind))
 input_from scope (Pass from to m) text r = absurd (omega (arith, r.is_kind))
 input_from scope (Sealed from to body) text r = absurd (omega (arith, r.is_kind))
 
-input_spells : (scope : Scope) (p : ℕ) → Spells limit (input_at scope p) (IsBody scope 2)
-unfolding input_at
+input_spells : (scope : Scope) (p : ℕ) → Spells limit (input_read_at scope p) (IsBody scope 2)
+unfolding input_read_at
 input_spells scope p = as_spells (IsBody scope 2)
     (then_spells (replica_at scope p) _ (replica_spells scope p) (λ at. then_spells text_at (λ bytes. Ok (Input at bytes.0, bytes.1)) text_spells (λ bytes. done_spells (Input at bytes))))
     (λ e text fits r.
@@ -227,7 +227,7 @@ pub kind_spells : (scope : Scope) (p kind : ℕ) → Spells limit (kind_at scope
 unfolding kind_at
 kind_spells scope p kind =
     choose_spells (kind == 1) (frame_at scope p) _ (λ h. at_kind h (frame_spells scope p)) (λ a.
-    choose_spells (kind == 2) (input_at scope p) _ (λ h. at_kind h (input_spells scope p)) (λ b.
+    choose_spells (kind == 2) (input_read_at scope p) _ (λ h. at_kind h (input_spells scope p)) (λ b.
     choose_spells (kind == 3) (turn_at scope p) _ (λ h. at_kind h (turn_spells scope p)) (λ c.
     choose_spells (kind == 4) (pass_at scope p) _ (λ h. at_kind h (pass_spells scope p)) (λ d.
     choose_spells (kind == 5) (sealed_at scope p) (λ s. Err (faults.Event p)) (λ h. at_kind h (sealed_spells scope p)) (λ f. record {

@@ -9,7 +9,8 @@ use Rattle.ritas_base.specs.declared.event.Event.{Event}
 use Rattle.schedule_file.specs.declared.fault.FileFault.{FileFault}
 use Rattle.schedule_file.specs.declared.fault.FileFault.TheVariants as faults
 use Rattle.schedule_file.specs.declared.scope.Scope.{Scope}
-use Rattle.schedule_file.specs.Reading.{◌>>=◌, Spot, start_of, IsBytes}
+use Rattle.ritas_base.specs.Bytes.{IsBytes}
+use Rattle.schedule_file.specs.Reading.{◌>>=◌, Spot, text_start}
 use Rattle.schedule_file.specs.FileBytes.{limit, is_outside, byte_at, end_from, end_at}
 use Rattle.schedule_file.specs.ReadHeader.{Heading, header_at}
 use Rattle.schedule_file.specs.Scopes.{scope_of, IsInScope}
@@ -156,14 +157,14 @@ pub record FileStop (bytes : List ℕ) (f : FileFault) : Type 0 where
   pub fits : IsBytes mid.rest
   pub low : mid.at ≤ limit
 
-pub file_stop : (bytes : List ℕ) (f : FileFault) → IsBytes bytes → file_of bytes ≡ Err f → Named IsOfHeader (start_of bytes) f ⊎ FileStop bytes f
+pub file_stop : (bytes : List ℕ) (f : FileFault) → IsBytes bytes → file_of bytes ≡ Err f → Named IsOfHeader (text_start bytes) f ⊎ FileStop bytes f
 unfolding file_of
 file_stop bytes f fits e =
-    elim (bind_err (header_at (start_of bytes)) (λ header. events_at (limit + 1) (scope_of header.0) header.1 >>= λ events. Ok (header.0, reverse events)) f e) [
-      | inl h ↦ inl (header_names.names (start_of bytes) f (omega arith) fits h)
+    elim (bind_err (header_at (text_start bytes)) (λ header. events_at (limit + 1) (scope_of header.0) header.1 >>= λ events. Ok (header.0, reverse events)) f e) [
+      | inl h ↦ inl (header_names.names (text_start bytes) f (omega arith) fits h)
       | inr h ↦ elim (bind_err (events_at (limit + 1) (scope_of h.0.0) h.0.1) (λ events. Ok (h.0.0, reverse events)) f h.2) [
         | inl k ↦
-            let head = header_spells.takes (start_of bytes) h.0.0 h.0.1 fits h.1 in
+            let head = header_spells.takes (text_start bytes) h.0.0 h.0.1 fits h.1 in
             let more = events_stop (limit + 1) (scope_of h.0.0) h.0.1 f (omega arith) (head.took.below (omega arith)) (back_fits bytes head.text h.0.1.rest fits head.took.bytes) k in
             let back = reverse-reverse more.es in
             inr (record {

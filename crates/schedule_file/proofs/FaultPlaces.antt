@@ -10,10 +10,11 @@ use Rattle.schedule_file.specs.declared.fault.FileFault.TheVariants as faults
 use Rattle.schedule_file.specs.declared.header.HeaderKeys.TheVariants.{Master, Row}
 use Rattle.schedule_file.specs.declared.scope.Scope.{Scope}
 use Rattle.schedule_file.specs.Scopes.{has_replica}
-use Rattle.schedule_file.specs.Reading.{◌>>=◌, Spot, test, IsBytes}
+use Rattle.ritas_base.specs.Bytes.{IsBytes, filled_row}
+use Rattle.schedule_file.specs.Reading.{◌>>=◌, Spot, test}
 use Rattle.schedule_file.specs.FileBytes.{limit, byte_from, byte_at, bytes_at, u16_at, u32_at, u64_at, text_at}
-use Rattle.schedule_file.specs.ReadHeader.{is_root, is_version, version_of, start_at, numbers_at, root_at, vect_of, vect_at, mask_at, filled_row, master_at, me_at, each_key_at, row_at, alone_at, keys_at, header_at}
-use Rattle.schedule_file.specs.ReadEvents.{replica_at, pair_at, frame_at, input_at, turn_at, pass_at, sealed_at, kind_at}
+use Rattle.schedule_file.specs.ReadHeader.{is_root, is_version, version_by_byte, start_at, numbers_at, root_at, vect_by_byte, vect_at, mask_at, master_at, me_at, each_key_at, key_row_at, alone_at, keys_at, header_at}
+use Rattle.schedule_file.specs.ReadEvents.{replica_at, pair_at, frame_at, input_read_at, turn_at, pass_at, sealed_at, kind_at}
 use Rattle.schedule_file.proofs.Spells.{back_fits, Took, Spells}
 use Rattle.schedule_file.proofs.FileSpells.{byte_spells, bytes_spells, u16_spells, u32_spells, u64_spells, text_spells}
 use Rattle.schedule_file.proofs.HeaderSpells.{start_spells, numbers_spells, root_spells, vect_spells, mask_spells, each_spells, row_spells, me_spells, keys_of, keys_spells}
@@ -130,7 +131,7 @@ IsOfHeader faults.Mem = ⊥
 
 start_names : Names IsOfHeader start_at
 unfolding start_at
-start_names = then_names _ u32_spells u32_names (λ m. guard_names (m == 0x52495453) faults.Magic _ (λ s. tt) (then_names _ byte_spells byte_names (λ v. guard_names (is_version v) faults.Version _ (λ s. tt) (then_names (λ session. Ok ((version_of v, session.0), session.1)) u64_spells u64_names (λ session. done_names (version_of v, session))))))
+start_names = then_names _ u32_spells u32_names (λ m. guard_names (m == 0x52495453) faults.Magic _ (λ s. tt) (then_names _ byte_spells byte_names (λ v. guard_names (is_version v) faults.Version _ (λ s. tt) (then_names (λ session. Ok ((version_by_byte v, session.0), session.1)) u64_spells u64_names (λ session. done_names (version_by_byte v, session))))))
 
 numbers_names : Names IsOfHeader numbers_at
 unfolding numbers_at
@@ -142,7 +143,7 @@ root_names = then_names _ byte_spells byte_names (λ root. guard_names (is_root 
 
 vect_names : Names IsOfHeader vect_at
 unfolding vect_at
-vect_names = then_names _ byte_spells byte_names (λ b. guard_names (b == 1 || b == 2) (faults.Header 16) (λ s. Ok (vect_of b, s)) (λ s. tt) (done_names (vect_of b)))
+vect_names = then_names _ byte_spells byte_names (λ b. guard_names (b == 1 || b == 2) (faults.Header 16) (λ s. Ok (vect_by_byte b, s)) (λ s. tt) (done_names (vect_by_byte b)))
 
 mask_names : (n : ℕ) → Names IsOfHeader (mask_at n)
 unfolding mask_at
@@ -153,8 +154,8 @@ unfolding each_key_at
 each_key_names zero = done_names []
 each_key_names (suc n) = then_names (λ key. each_key_at n key.1 >>= λ more. Ok (key.0 ∷ more.0, more.1)) (bytes_spells 32) (bytes_names 32) (λ key. then_names (λ more. Ok (key ∷ more.0, more.1)) (each_spells n) (each_key_names n) (λ more. done_names (key ∷ more)))
 
-row_names : {own : FileFault → Type 0} (n : ℕ) → Names own (row_at n)
-unfolding row_at
+row_names : {own : FileFault → Type 0} (n : ℕ) → Names own (key_row_at n)
+unfolding key_row_at
 row_names n = then_names (λ keys. Ok (filled_row keys.0, keys.1)) (each_spells n) (each_key_names n) (λ keys. done_names (filled_row keys))
 
 pub master_names : {own : FileFault → Type 0} → Names own master_at
@@ -206,8 +207,8 @@ frame_names : (scope : Scope) (p : ℕ) → Names (IsOfEvent p) (frame_at scope 
 unfolding frame_at
 frame_names scope p = then_names _ (replica_spells scope p) (replica_names scope p) (λ to. then_names (λ bytes. Ok (Frame to bytes.0, bytes.1)) text_spells text_names (λ bytes. done_names (Frame to bytes)))
 
-input_names : (scope : Scope) (p : ℕ) → Names (IsOfEvent p) (input_at scope p)
-unfolding input_at
+input_names : (scope : Scope) (p : ℕ) → Names (IsOfEvent p) (input_read_at scope p)
+unfolding input_read_at
 input_names scope p = then_names _ (replica_spells scope p) (replica_names scope p) (λ at. then_names (λ bytes. Ok (Input at bytes.0, bytes.1)) text_spells text_names (λ bytes. done_names (Input at bytes)))
 
 turn_names : (scope : Scope) (p : ℕ) → Names (IsOfEvent p) (turn_at scope p)
@@ -226,7 +227,7 @@ pub kind_names : (scope : Scope) (p kind : ℕ) → Names (IsOfEvent p) (kind_at
 unfolding kind_at
 kind_names scope p kind =
     choose_names (kind == 1) (frame_at scope p) _ (frame_names scope p) (
-    choose_names (kind == 2) (input_at scope p) _ (input_names scope p) (
+    choose_names (kind == 2) (input_read_at scope p) _ (input_names scope p) (
     choose_names (kind == 3) (turn_at scope p) _ (turn_names scope p) (
     choose_names (kind == 4) (pass_at scope p) _ (pass_names scope p) (
     choose_names (kind == 5) (sealed_at scope p) (λ s. Err (faults.Event p)) (sealed_names scope p) (record {

@@ -11,10 +11,11 @@ use Rattle.schedule_file.specs.declared.header.HeaderKeys.{HeaderKeys}
 use Rattle.ritas_base.specs.Numbers.{Numbers}
 use Rattle.ritas_base.specs.declared.mode.FrameVersion.{FrameVersion}
 use Rattle.ritas_base.specs.declared.mode.Vect.{Vect}
-use Rattle.schedule_file.specs.Reading.{◌>>=◌, Spot, test, IsBytes}
+use Rattle.ritas_base.specs.Bytes.{IsBytes}
+use Rattle.schedule_file.specs.Reading.{◌>>=◌, Spot, test}
 use Rattle.schedule_file.specs.FileBytes.{limit, byte_at, bytes_at, u32_at, u64_at}
-use Rattle.schedule_file.specs.ReadHeader.{is_root, is_version, version_of, start_at, numbers_at, root_at, vect_of, vect_at, mask_at, master_at, me_at, alone_at, keys_at}
-use Rattle.schedule_file.specs.Faults.{Field, number_in, magic, version, count, most_faulty, root_service, vect, correct, key_form, me, me_alone, IsFirstWrong}
+use Rattle.schedule_file.specs.ReadHeader.{is_root, is_version, version_by_byte, start_at, numbers_at, root_at, vect_by_byte, vect_at, mask_at, master_at, me_at, alone_at, keys_at}
+use Rattle.schedule_file.specs.Faults.{Field, number_at_offset, magic, version, count, most_faulty, root_service, vect_field, correct, key_form, me, me_alone, IsFirstWrongField}
 use Rattle.schedule_file.proofs.Spells.{back_fits, Spells}
 use Rattle.schedule_file.proofs.HeaderSpells.{master_spells, keys_of, keys_of_spells}
 use Rattle.schedule_file.proofs.FaultPlaces.{Named, Names, bind_err as bind_err_of, keys_of_names, master_names}
@@ -57,7 +58,7 @@ byte_takes bytes k low = record {
       (k, rw none refl);
 }
 
-u32_takes : (bytes : List ℕ) (k : ℕ) → k + 4 ≤ limit → Takes u32_at bytes k 4 (number_in bytes k)
+u32_takes : (bytes : List ℕ) (k : ℕ) → k + 4 ≤ limit → Takes u32_at bytes k 4 (number_at_offset bytes k)
 unfolding u32_at
 u32_takes bytes k low =
     let four = bytes_take bytes k 4 low in
@@ -90,8 +91,8 @@ is_of_field _ = false
 
 -- what is read has the fault of the first wrong field, and else none of a field
 pub record Agrees {X : Type 0} (bytes : List ℕ) (fields : List Field) (r : Result X FileFault) : Type 0 where
-  pub found : (f : FileFault) → is_of_field f ≡ true → r ≡ Err f → (p : ℕ) × IsFirstWrong fields bytes p × (f ≡ field_fault p)
-  pub only : (p : ℕ) → IsFirstWrong fields bytes p → r ≡ Err (field_fault p)
+  pub found : (f : FileFault) → is_of_field f ≡ true → r ≡ Err f → (p : ℕ) × IsFirstWrongField fields bytes p × (f ≡ field_fault p)
+  pub only : (p : ℕ) → IsFirstWrongField fields bytes p → r ≡ Err (field_fault p)
 
 -- no field follows
 pub no_field : {X : Type 0} (bytes : List ℕ) (r : Result X FileFault) → ((f : FileFault) → is_of_field f ≡ true → r ≡ Err f → ⊥) → Agrees bytes [] r
@@ -122,7 +123,7 @@ reach_less from less (x ∷ xs) le all =
     let here : nat_le less (x.offset + x.width) ≡ true = le-leb _ _ (omega (arith, leb-true _ _ cut.0, le)) in
     rw (here, reach_less from less xs le cut.1) refl
 
-reaches : (from : ℕ) (fields : List Field) (bytes : List ℕ) (p : ℕ) → all_reach from fields ≡ true → IsFirstWrong fields bytes p → from ≤ length bytes
+reaches : (from : ℕ) (fields : List Field) (bytes : List ℕ) (p : ℕ) → all_reach from fields ≡ true → IsFirstWrongField fields bytes p → from ≤ length bytes
 reaches from [] bytes p all wrong = absurd wrong
 reaches from (x ∷ xs) bytes p all (inl here) =
     let cut = both_true (nat_le from (x.offset + x.width)) (all_reach from xs) all in
@@ -143,7 +144,7 @@ bind_ok r x c is = rw is refl
 
 -- what comes before the file is cut has no fault of a field
 cut : {A X : Type 0} (bytes : List ℕ) (fields : List Field) (k w : ℕ) (read : Spot → Result (A × Spot) FileFault) (value : A) (c : A × Spot → Result X FileFault)
-    → Takes read bytes k w value → k ≤ length bytes → length bytes < k + w → ((p : ℕ) → IsFirstWrong fields bytes p → k + w ≤ length bytes) → Agrees bytes fields (read (spot_in bytes k) >>= c)
+    → Takes read bytes k w value → k ≤ length bytes → length bytes < k + w → ((p : ℕ) → IsFirstWrongField fields bytes p → k + w ≤ length bytes) → Agrees bytes fields (read (spot_in bytes k) >>= c)
 cut bytes fields k w read value c takes within lt reach =
     let short = takes.missing within lt in
     let is = bind_err (read (spot_in bytes k)) (faults.Truncated short.0) c short.1 in
@@ -211,13 +212,13 @@ abbrev byte : List ℕ → ℕ → ℕ
 byte bytes k = get_or bytes k 0
 
 pub start_agrees : {X : Type 0} (bytes : List ℕ) (fields : List Field) (g : (FrameVersion × ℕ) × Spot → Result X FileFault) → all_reach 13 fields ≡ true
-    → (13 ≤ length bytes → Agrees bytes fields (g ((version_of (byte bytes 4), from_be_bytes w64 (take 8 (drop 5 bytes))), spot_in bytes 13))) → Agrees bytes (magic ∷ version ∷ fields) (start_at (spot_in bytes 0) >>= g)
+    → (13 ≤ length bytes → Agrees bytes fields (g ((version_by_byte (byte bytes 4), from_be_bytes w64 (take 8 (drop 5 bytes))), spot_in bytes 13))) → Agrees bytes (magic ∷ version ∷ fields) (start_at (spot_in bytes 0) >>= g)
 unfolding start_at
 start_agrees bytes fields g all more =
-    one_by_one (u32_at (spot_in bytes 0)) _ g (field bytes magic (version ∷ fields) 0 4 u32_at (number_in bytes 0) _ (number_in bytes 0 == 0x52495453) (u32_takes bytes 0 (omega arith)) refl refl refl refl
+    one_by_one (u32_at (spot_in bytes 0)) _ g (field bytes magic (version ∷ fields) 0 4 u32_at (number_at_offset bytes 0) _ (number_at_offset bytes 0 == 0x52495453) (u32_takes bytes 0 (omega arith)) refl refl refl refl
     (reach_less 13 4 fields (omega arith) all) (omega arith)
-    (λ e. stops (number_in bytes 0 == 0x52495453) faults.Magic _ g e)
-    (λ e le4. passes (number_in bytes 0 == 0x52495453) faults.Magic _ g (one_by_one (byte_at (spot_in bytes 4)) _ g (field bytes version fields 4 1 byte_at (byte bytes 4) _ (is_version (byte bytes 4)) (byte_takes bytes 4 (omega arith)) refl refl refl refl
+    (λ e. stops (number_at_offset bytes 0 == 0x52495453) faults.Magic _ g e)
+    (λ e le4. passes (number_at_offset bytes 0 == 0x52495453) faults.Magic _ g (one_by_one (byte_at (spot_in bytes 4)) _ g (field bytes version fields 4 1 byte_at (byte bytes 4) _ (is_version (byte bytes 4)) (byte_takes bytes 4 (omega arith)) refl refl refl refl
     (reach_less 13 5 fields (omega arith) all) le4
     (λ e. stops (is_version (byte bytes 4)) faults.Version _ g e)
     (λ e le5. passes (is_version (byte bytes 4)) faults.Version _ g (one_by_one (u64_at (spot_in bytes 5)) _ g (skip bytes fields 5 8 u64_at (from_be_bytes w64 (take 8 (drop 5 bytes))) _ (u64_takes bytes 5 (omega arith)) all le5 more)) e))) e))
@@ -245,19 +246,19 @@ root_agrees bytes fields g le15 all more =
     (λ e le16. passes (is_root root) (faults.Header 15) _ g (more le16) e))
 
 pub vect_agrees : {X : Type 0} (bytes : List ℕ) (fields : List Field) (g : Vect × Spot → Result X FileFault) → 16 ≤ length bytes → all_reach 17 fields ≡ true
-    → (17 ≤ length bytes → Agrees bytes fields (g (vect_of (byte bytes 16), spot_in bytes 17))) → Agrees bytes (vect ∷ fields) (vect_at (spot_in bytes 16) >>= g)
+    → (17 ≤ length bytes → Agrees bytes fields (g (vect_by_byte (byte bytes 16), spot_in bytes 17))) → Agrees bytes (vect_field ∷ fields) (vect_at (spot_in bytes 16) >>= g)
 unfolding vect_at
 vect_agrees bytes fields g le16 all more =
     let b = byte bytes 16 in
-    one_by_one (byte_at (spot_in bytes 16)) _ g (field bytes vect fields 16 1 byte_at b _ (b == 1 || b == 2) (byte_takes bytes 16 (omega arith)) refl refl refl refl all le16
+    one_by_one (byte_at (spot_in bytes 16)) _ g (field bytes vect_field fields 16 1 byte_at b _ (b == 1 || b == 2) (byte_takes bytes 16 (omega arith)) refl refl refl refl all le16
     (λ e. stops (b == 1 || b == 2) (faults.Header 16) _ g e)
     (λ e le17. passes (b == 1 || b == 2) (faults.Header 16) _ g (more le17) e))
 
 pub mask_agrees : {X : Type 0} (bytes : List ℕ) (fields : List Field) (g : ℕ × Spot → Result X FileFault) → 17 ≤ length bytes → all_reach 21 fields ≡ true
-    → (21 ≤ length bytes → Agrees bytes fields (g (number_in bytes 17, spot_in bytes 21))) → Agrees bytes (correct ∷ fields) (mask_at (byte bytes 13) (spot_in bytes 17) >>= g)
+    → (21 ≤ length bytes → Agrees bytes fields (g (number_at_offset bytes 17, spot_in bytes 21))) → Agrees bytes (correct ∷ fields) (mask_at (byte bytes 13) (spot_in bytes 17) >>= g)
 unfolding mask_at
 mask_agrees bytes fields g le17 all more =
-    let mask = number_in bytes 17 in
+    let mask = number_at_offset bytes 17 in
     let t = nat_lt mask (2 ^ byte bytes 13) in
     one_by_one (u32_at (spot_in bytes 17)) _ g (field bytes correct fields 17 4 u32_at mask _ t (u32_takes bytes 17 (omega arith)) refl refl refl refl all le17
     (λ e. stops t (faults.Header 17) _ g e)
@@ -309,11 +310,11 @@ spot_fits : (bytes : List ℕ) (k : ℕ) → IsBytes bytes → IsBytes (drop k b
 spot_fits bytes k fits = back_fits bytes (take k bytes) (drop k bytes) fits (sym (take-append-drop k bytes))
 
 alone_agrees : {X : Type 0} (bytes : List ℕ) (g : HeaderKeys × Spot → Result X FileFault) → IsBytes bytes → 22 ≤ length bytes → (byte bytes 21 == 0) ≡ false
-    → ((keys : HeaderKeys) → NoField (λ s. g (keys, s))) → Agrees bytes (me ∷ me_alone ∷ []) (alone_at (byte bytes 13) (number_in bytes 17) (spot_in bytes 22) >>= g)
+    → ((keys : HeaderKeys) → NoField (λ s. g (keys, s))) → Agrees bytes (me ∷ me_alone ∷ []) (alone_at (byte bytes 13) (number_at_offset bytes 17) (spot_in bytes 22) >>= g)
 unfolding alone_at me_at
 alone_agrees bytes g fits le22 one more =
     let n = byte bytes 13 in
-    let mask = number_in bytes 17 in
+    let mask = number_at_offset bytes 17 in
     let i = byte bytes 22 in
     let rest : ℕ × Spot → Result (HeaderKeys × Spot) FileFault = λ me. keys_of n me.0 me.1 in
     one_by_one (me_at n mask (spot_in bytes 22)) rest g (one_by_one (byte_at (spot_in bytes 22)) _ (λ me. rest me >>= g) (field bytes me (me_alone ∷ []) 22 1 byte_at i _ (nat_lt i n) (byte_takes bytes 22 (omega arith)) refl refl refl (rw one refl) refl le22
@@ -323,13 +324,13 @@ alone_agrees bytes g fits le22 one more =
     (λ e. passes (mask == 2 ^ i) (faults.Header 17) _ _ (no_field bytes _ (λ f of e. no_field_then (keys_of n i) g (keys_of_spells n i) (keys_of_names n i) more (spot_in bytes 23) f (omega arith) (spot_fits bytes 23 fits) of e)) e)) e)))
 
 either_agrees : {X : Type 0} (bytes : List ℕ) (g : HeaderKeys × Spot → Result X FileFault) (t : Bool) → IsBytes bytes → 22 ≤ length bytes → (byte bytes 21 == 0) ≡ t
-    → ((keys : HeaderKeys) → NoField (λ s. g (keys, s))) → Agrees bytes (me ∷ me_alone ∷ []) (cond t (master_at (spot_in bytes 22)) (alone_at (byte bytes 13) (number_in bytes 17) (spot_in bytes 22)) >>= g)
+    → ((keys : HeaderKeys) → NoField (λ s. g (keys, s))) → Agrees bytes (me ∷ me_alone ∷ []) (cond t (master_at (spot_in bytes 22)) (alone_at (byte bytes 13) (number_at_offset bytes 17) (spot_in bytes 22)) >>= g)
 either_agrees bytes g true fits le22 is more =
     passed bytes me (me_alone ∷ []) _ (rw is refl) (passed bytes me_alone [] _ (rw is refl) (no_field bytes _ (λ f of e. no_field_then master_at g master_spells master_names more (spot_in bytes 22) f (omega arith) (spot_fits bytes 22 fits) of e)))
 either_agrees bytes g false fits le22 is more = alone_agrees bytes g fits le22 is more
 
 pub keys_agrees : {X : Type 0} (bytes : List ℕ) (g : HeaderKeys × Spot → Result X FileFault) → IsBytes bytes → 21 ≤ length bytes
-    → ((keys : HeaderKeys) → NoField (λ s. g (keys, s))) → Agrees bytes (key_form ∷ me ∷ me_alone ∷ []) (keys_at (byte bytes 13) (number_in bytes 17) (spot_in bytes 21) >>= g)
+    → ((keys : HeaderKeys) → NoField (λ s. g (keys, s))) → Agrees bytes (key_form ∷ me ∷ me_alone ∷ []) (keys_at (byte bytes 13) (number_at_offset bytes 17) (spot_in bytes 21) >>= g)
 unfolding keys_at
 keys_agrees bytes g fits le21 more =
     let form = byte bytes 21 in

@@ -9,14 +9,15 @@ use Rattle.ritas_base.specs.declared.event.Event.{Event}
 use Rattle.schedule_file.specs.declared.fault.FileFault.{FileFault}
 use Rattle.schedule_file.specs.declared.fault.FileFault.TheVariants as faults
 use Rattle.schedule_file.specs.declared.scope.Scope.{Scope}
-use Rattle.schedule_file.specs.Reading.{◌>>=◌, Spot, IsBytes}
+use Rattle.ritas_base.specs.Bytes.{IsBytes}
+use Rattle.schedule_file.specs.Reading.{◌>>=◌, Spot}
 use Rattle.schedule_file.specs.FileBytes.{limit, end_at}
 use Rattle.schedule_file.specs.ReadHeader.{Heading, start_at, numbers_at, root_at, vect_at, mask_at, keys_at, header_at}
 use Rattle.schedule_file.specs.Scopes.{scope_of, IsInScope}
 use Rattle.schedule_file.specs.ReadEvents.{event_at, events_at}
 use Rattle.schedule_file.specs.Schedule.{file_of}
 use Rattle.schedule_file.specs.Spelling.{header_text, event_text, FileOf, FrontOf, IsEvent, IsHeading}
-use Rattle.schedule_file.specs.Faults.{Field, root_service, vect, correct, key_form, me, me_alone, count, most_faulty, header_fields, IsFirstWrong, IsMagicFault, IsVersionFault, IsHeaderFault, IsEventFault, IsTrailingFault, GoesOn, IsTruncated, IsTooLong}
+use Rattle.schedule_file.specs.Faults.{Field, root_service, vect_field, correct, key_form, me, me_alone, count, most_faulty, header_fields, IsFirstWrongField, IsMagicFault, IsVersionFault, IsHeaderFault, IsEventFault, IsTrailingFault, IsUnfinished, IsTruncated, IsTooLong}
 use Rattle.schedule_file.proofs.HeaderSpells.{header_spells}
 use Rattle.schedule_file.proofs.FileLaws.{in_scope, file_takes, file_again, event_again, no_more}
 use Rattle.schedule_file.proofs.FaultPlaces.{bind_err, err_is}
@@ -51,9 +52,9 @@ file_agrees : (bytes : List ℕ) → IsBytes bytes → Agrees bytes header_field
 unfolding file_of header_at
 file_agrees bytes fits =
     let last = key_form ∷ me ∷ me_alone ∷ [] in
-    one_by_one (start_at (spot_in bytes 0)) _ _ (start_agrees bytes (count ∷ most_faulty ∷ root_service ∷ vect ∷ correct ∷ last) _ refl
-    (λ le13. one_by_one (numbers_at (spot_in bytes 13)) _ _ (numbers_agrees bytes (root_service ∷ vect ∷ correct ∷ last) _ le13 refl
-    (λ le15. one_by_one (root_at (spot_in bytes 15)) _ _ (root_agrees bytes (vect ∷ correct ∷ last) _ le15 refl
+    one_by_one (start_at (spot_in bytes 0)) _ _ (start_agrees bytes (count ∷ most_faulty ∷ root_service ∷ vect_field ∷ correct ∷ last) _ refl
+    (λ le13. one_by_one (numbers_at (spot_in bytes 13)) _ _ (numbers_agrees bytes (root_service ∷ vect_field ∷ correct ∷ last) _ le13 refl
+    (λ le15. one_by_one (root_at (spot_in bytes 15)) _ _ (root_agrees bytes (vect_field ∷ correct ∷ last) _ le15 refl
     (λ le16. one_by_one (vect_at (spot_in bytes 16)) _ _ (vect_agrees bytes (correct ∷ last) _ le16 refl
     (λ le17. one_by_one (mask_at _ (spot_in bytes 17)) _ _ (mask_agrees bytes last _ le17 refl
     (λ le21. one_by_one (keys_at _ _ (spot_in bytes 21)) _ _ (keys_agrees bytes _ fits le21 (λ keys. events_no_field _))))))))))))
@@ -73,10 +74,10 @@ by_tests p false false is other = refl
 offset_is : (p : ℕ) → offset_of (field_fault p) ≡ p
 offset_is p = by_tests p (p == 0) (p == 4) refl refl
 
-found_at : (bytes : List ℕ) (f : FileFault) → IsBytes bytes → is_of_field f ≡ true → file_of bytes ≡ Err f → IsFirstWrong header_fields bytes (offset_of f)
+found_at : (bytes : List ℕ) (f : FileFault) → IsBytes bytes → is_of_field f ≡ true → file_of bytes ≡ Err f → IsFirstWrongField header_fields bytes (offset_of f)
 found_at bytes f fits of e =
     let y = (file_agrees bytes fits).found f of e in
-    subst (IsFirstWrong header_fields bytes) (sym (ap offset_of y.2 ∙ offset_is y.0)) y.1
+    subst (IsFirstWrongField header_fields bytes) (sym (ap offset_of y.2 ∙ offset_is y.0)) y.1
 
 pub magic_both : (bytes : List ℕ) → IsBytes bytes → (file_of bytes ≡ Err faults.Magic) ↔ IsMagicFault bytes
 magic_both bytes fits = (λ e. found_at bytes faults.Magic fits refl e, λ wrong. (file_agrees bytes fits).only 0 wrong)
@@ -93,7 +94,7 @@ both_true : (a b : Bool) → (a && b) ≡ true → (a ≡ true) × (b ≡ true)
 both_true true b e = (refl, e)
 both_true false b e = absurd cc
 
-passes : (t : ℕ → Bool) (fields : List Field) (bytes : List ℕ) (p : ℕ) → all_pass t fields ≡ true → IsFirstWrong fields bytes p → t p ≡ true
+passes : (t : ℕ → Bool) (fields : List Field) (bytes : List ℕ) (p : ℕ) → all_pass t fields ≡ true → IsFirstWrongField fields bytes p → t p ≡ true
 passes t [] bytes p all wrong = absurd wrong
 passes t (x ∷ xs) bytes p all (inl here) = subst (λ (q : ℕ). t q ≡ true) here.1 (both_true (t x.offset) (all_pass t xs) all).0
 passes t (x ∷ xs) bytes p all (inr later) = passes t xs bytes p (both_true (t x.offset) (all_pass t xs) all).1 later.1
@@ -232,7 +233,7 @@ is_end _ = false
 differs : {X : Type 0} (r : Result X FileFault) (f g : FileFault) → is_end f ≡ true → is_end g ≡ false → r ≡ Err f → r ≡ Err g → ⊥
 differs r f g ends goes a b = let both : true ≡ false = sym ends ∙ (ap is_end (one_answer r f g a b) ∙ goes) in cc
 
-goes_on : (bytes : List ℕ) (f : FileFault) → IsBytes bytes → is_end f ≡ true → file_of bytes ≡ Err f → GoesOn bytes
+goes_on : (bytes : List ℕ) (f : FileFault) → IsBytes bytes → is_end f ≡ true → file_of bytes ≡ Err f → IsUnfinished bytes
 goes_on bytes f fits end e = record {
   magic_right = λ w. differs (file_of bytes) f faults.Magic end refl e ((magic_both bytes fits).1 w);
   version_right = λ w. differs (file_of bytes) f faults.Version end refl e ((version_both bytes fits).1 w);
@@ -242,7 +243,7 @@ goes_on bytes f fits end e = record {
   not_whole = λ h es w. no_answer (file_of bytes) (h, es) f (ap file_of w.text ∙ file_again h es w.header w.each (rw w.text at w.size)) e;
 }
 
-ends : (bytes : List ℕ) (r : Result (Heading × List Event) FileFault) → IsBytes bytes → GoesOn bytes → file_of bytes ≡ r
+ends : (bytes : List ℕ) (r : Result (Heading × List Event) FileFault) → IsBytes bytes → IsUnfinished bytes → file_of bytes ≡ r
     → ((p : ℕ) × (file_of bytes ≡ Err (faults.Truncated p))) ⊎ (file_of bytes ≡ Err faults.TooLong)
 ends bytes (Ok x) fits goes e = absurd (goes.not_whole x.0 x.1 (file_takes bytes x.0 x.1 fits e))
 ends bytes (Err faults.Magic) fits goes e = absurd (goes.magic_right ((magic_both bytes fits).0 e))

@@ -10,7 +10,8 @@ use Rattle.ritas_base.specs.declared.event.Event.TheVariants.{Frame, Input, Turn
 use Rattle.schedule_file.specs.declared.fault.FileFault.{FileFault}
 use Rattle.schedule_file.specs.declared.fault.FileFault.TheVariants as faults
 use Rattle.schedule_file.specs.declared.scope.Scope.{Scope}
-use Rattle.schedule_file.specs.Reading.{◌>>=◌, Spot, start_of, IsBytes}
+use Rattle.ritas_base.specs.Bytes.{IsBytes}
+use Rattle.schedule_file.specs.Reading.{◌>>=◌, Spot, text_start}
 use Rattle.schedule_file.specs.FileBytes.{limit, byte_at, end_from, end_at}
 use Rattle.schedule_file.specs.ReadHeader.{Heading, header_at}
 use Rattle.schedule_file.specs.ReadEvents.{kind_at, some_event, no_event, event_of, event_at, events_then, events_at}
@@ -160,9 +161,9 @@ in_scope h es each = all_by (IsEvent h) (IsInScope (scope_of h)) (λ e. (of_scop
 pub file_takes : (bytes : List ℕ) (h : Heading) (es : List Event) → IsBytes bytes → file_of bytes ≡ Ok (h, es) → IsFile bytes h es
 unfolding file_of
 file_takes bytes h es fits e =
-    let cut = bind_ok (header_at (start_of bytes)) (λ header. events_at (limit + 1) (scope_of header.0) header.1 >>= λ events. Ok (header.0, reverse events)) (h, es) e in
+    let cut = bind_ok (header_at (text_start bytes)) (λ header. events_at (limit + 1) (scope_of header.0) header.1 >>= λ events. Ok (header.0, reverse events)) (h, es) e in
     let cut2 = bind_ok (events_at (limit + 1) (scope_of cut.0.0) cut.0.1) (λ events. Ok (cut.0.0, reverse events)) (h, es) cut.2 in
-    let head = header_spells.takes (start_of bytes) cut.0.0 cut.0.1 fits cut.1 in
+    let head = header_spells.takes (text_start bytes) cut.0.0 cut.0.1 fits cut.1 in
     let more = events_take (limit + 1) (scope_of cut.0.0) cut.0.1 cut2.0 (head.took.below (omega arith)) (back_fits bytes head.text cut.0.1.rest fits head.took.bytes) cut2.1 in
     let back = reverse-reverse cut2.0 in
     let made : IsFile bytes cut.0.0 (reverse cut2.0) = record {

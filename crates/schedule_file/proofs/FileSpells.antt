@@ -6,7 +6,8 @@ use Rattle.std.proofs.lemmas.Nat.{be_bytes_2, be_bytes_4, be_bytes_8, from_be_by
 use Rattle.std.specs.Int.{Width, w16, w32, w64, byte_len, to_be_bytes, from_be_bytes}
 use Rattle.schedule_file.specs.declared.fault.FileFault.{FileFault}
 use Rattle.schedule_file.specs.declared.fault.FileFault.TheVariants.{TooLong}
-use Rattle.schedule_file.specs.Reading.{◌>>=◌, Spot, IsBytes}
+use Rattle.ritas_base.specs.Bytes.{IsBytes}
+use Rattle.schedule_file.specs.Reading.{◌>>=◌, Spot}
 use Rattle.schedule_file.specs.FileBytes.{limit, byte_from, byte_at, bytes_at, u16_at, u32_at, u64_at, text_at}
 use Rattle.schedule_file.specs.Spelling.{sized}
 use Rattle.schedule_file.proofs.Spells.{Reads, Spells, Both, Nothing, as_spells, then_spells, done_spells}

@@ -18,14 +18,15 @@ use Rattle.schedule_file.specs.declared.header.HeaderKeys.{HeaderKeys}
 use Rattle.schedule_file.specs.declared.header.HeaderKeys.TheVariants.{Master, Row}
 use Rattle.schedule_file.specs.Reading.{◌>>=◌, Spot}
 use Rattle.schedule_file.specs.FileBytes.{limit, byte_at, bytes_at, u32_at, u64_at}
-use Rattle.schedule_file.specs.ReadHeader.{Heading, is_root, is_version, version_of, start_at, numbers_at, root_at, vect_of, vect_at, mask_at, filled_row, master_at, me_at, each_key_at, row_at, alone_at, keys_at, header_at}
-use Rattle.schedule_file.specs.Spelling.{vect_byte, version_byte, keys_text, start_text, header_text, IsKey, IsRow, AreKeys, IsHeading}
+use Rattle.ritas_base.specs.Bytes.{filled_row, version_byte}
+use Rattle.schedule_file.specs.ReadHeader.{Heading, is_root, is_version, version_by_byte, start_at, numbers_at, root_at, vect_by_byte, vect_at, mask_at, master_at, me_at, each_key_at, key_row_at, alone_at, keys_at, header_at}
+use Rattle.schedule_file.specs.Spelling.{vect_byte, keys_text, start_text, header_text, IsKey, IsRow, AreHeaderKeys, IsHeading}
 use Rattle.schedule_file.specs.SpellingLaws.{all_taken}
 use Rattle.schedule_file.proofs.Spells.{Spells, Both, Nothing, as_spells, then_spells, guard_spells, either_spells, done_spells}
 use Rattle.schedule_file.proofs.FileSpells.{IsByte, AreBytes, byte_spells, bytes_spells, u32_spells, u64_spells}
 use Rattle.schedule_file.proofs.KeyRows.{row_is, filled_is}
 
-version_is : (b : ℕ) (one two : Bool) → (b == 1) ≡ one → (b == 2) ≡ two → (one || two) ≡ true → version_byte (version_of b) ≡ b
+version_is : (b : ℕ) (one two : Bool) → (b == 1) ≡ one → (b == 2) ≡ two → (one || two) ≡ true → version_byte (version_by_byte b) ≡ b
 version_is b one true is-one is-two e = rw is-two (sym (eqb-true _ _ is-two))
 version_is b true false is-one is-other e = rw is-other (sym (eqb-true _ _ is-one))
 version_is b false false is-other is-none e = absurd cc
@@ -34,7 +35,7 @@ version_fits : (v : FrameVersion) → is_version (version_byte v) ≡ true
 version_fits One = refl
 version_fits Two = refl
 
-version_again : (v : FrameVersion) → version_of (version_byte v) ≡ v
+version_again : (v : FrameVersion) → version_by_byte (version_byte v) ≡ v
 version_again One = refl
 version_again Two = refl
 
@@ -44,11 +45,11 @@ IsStart start text = (text ≡ start_text start.0 start.1) × (start.1 < 2 ^ 64)
 pub start_spells : Spells limit start_at IsStart
 unfolding start_at
 start_spells = as_spells IsStart
-    (then_spells u32_at _ u32_spells (λ m. guard_spells (m == 0x52495453) Magic _ (then_spells byte_at _ byte_spells (λ v. guard_spells (is_version v) Version _ (then_spells u64_at (λ session. Ok ((version_of v, session.0), session.1)) u64_spells (λ session. done_spells (version_of v, session)))))))
+    (then_spells u32_at _ u32_spells (λ m. guard_spells (m == 0x52495453) Magic _ (then_spells byte_at _ byte_spells (λ v. guard_spells (is_version v) Version _ (then_spells u64_at (λ session. Ok ((version_by_byte v, session.0), session.1)) u64_spells (λ session. done_spells (version_by_byte v, session)))))))
     (λ start text fits r.
     let v = r.second.1 in let s = v.second.1 in
     let same = version_is v.value (v.value == 1) (v.value == 2) refl refl v.second.0 in
-    let made : IsStart (version_of v.value, s.value) text = (rw (r.parts, r.first.0, eqb-true _ _ r.second.0, v.parts, v.first, same, s.parts, s.first.0, s.second.1, append-nil (to_be_bytes w64 s.value)) refl, s.first.1) in
+    let made : IsStart (version_by_byte v.value, s.value) text = (rw (r.parts, r.first.0, eqb-true _ _ r.second.0, v.parts, v.first, same, s.parts, s.first.0, s.second.1, append-nil (to_be_bytes w64 s.value)) refl, s.first.1) in
     subst (λ (y : FrameVersion × ℕ). IsStart y text) s.second.0 made)
     (λ start text r.
     let b = version_byte start.0 in
@@ -114,24 +115,24 @@ root_spells = as_spells IsRoot
     subst (λ (y : ℕ). IsRoot y text) r.second.1.0 made)
     (λ root text r. record { value = root; front = root ∷ []; back = []; first = refl; second = (r.1, (refl, refl)); parts = r.0 })
 
-vect_is : (b : ℕ) (one : Bool) → (b == 1) ≡ one → (one || b == 2) ≡ true → vect_byte (vect_of b) ≡ b
+vect_is : (b : ℕ) (one : Bool) → (b == 1) ≡ one → (one || b == 2) ≡ true → vect_byte (vect_by_byte b) ≡ b
 vect_is b true is-one e = rw is-one (sym (eqb-true _ _ is-one))
 vect_is b false is-other e = rw is-other (sym (eqb-true _ _ e))
 
 abbrev pub IsVect : Vect → List ℕ → Type 0
 IsVect v text = text ≡ vect_byte v ∷ []
 
-vect_from : (v : Vect) (text : List ℕ) → IsVect v text → Both IsByte (λ b v text. ((b == 1 || b == 2) ≡ true) × Nothing (vect_of b) v text) v text
+vect_from : (v : Vect) (text : List ℕ) → IsVect v text → Both IsByte (λ b v text. ((b == 1 || b == 2) ≡ true) × Nothing (vect_by_byte b) v text) v text
 vect_from Echo text r = record { value = 1; front = 1 ∷ []; back = []; first = refl; second = (refl, (refl, refl)); parts = r }
 vect_from Reliable text r = record { value = 2; front = 2 ∷ []; back = []; first = refl; second = (refl, (refl, refl)); parts = r }
 
 pub vect_spells : Spells limit vect_at IsVect
 unfolding vect_at
 vect_spells = as_spells IsVect
-    (then_spells byte_at _ byte_spells (λ b. guard_spells (b == 1 || b == 2) (faults.Header 16) (λ s. Ok (vect_of b, s)) (done_spells (vect_of b))))
+    (then_spells byte_at _ byte_spells (λ b. guard_spells (b == 1 || b == 2) (faults.Header 16) (λ s. Ok (vect_by_byte b, s)) (done_spells (vect_by_byte b))))
     (λ v text fits r.
     let same = vect_is r.value (r.value == 1) refl r.second.0 in
-    let made : IsVect (vect_of r.value) text = rw (r.parts, r.first, r.second.1.1, same) refl in
+    let made : IsVect (vect_by_byte r.value) text = rw (r.parts, r.first, r.second.1.1, same) refl in
     subst (λ (y : Vect). IsVect y text) r.second.1.0 made)
     vect_from
 
@@ -201,8 +202,8 @@ pub record IsRowText (n : ℕ) (row : List (List ℕ)) (text : List ℕ) : Type 
   pub are : AreEach n keys text
   pub filled : row ≡ filled_row keys
 
-pub row_spells : (n : ℕ) → Spells limit (row_at n) (IsRowText n)
-unfolding row_at
+pub row_spells : (n : ℕ) → Spells limit (key_row_at n) (IsRowText n)
+unfolding key_row_at
 row_spells n = as_spells (IsRowText n)
     (then_spells (each_key_at n) (λ keys. Ok (filled_row keys.0, keys.1)) (each_spells n) (λ keys. done_spells (filled_row keys)))
     (λ row text fits r.
@@ -238,14 +239,14 @@ IsKeysText n mask (Row me row coin) text = (rest : List ℕ) × (text ≡ 1 ∷ 
 
 -- what follows the number of the replica whose keys these are
 abbrev pub keys_of : ℕ → ℕ → Spot → Result (HeaderKeys × Spot) FileFault
-keys_of n me s = row_at n s >>= λ row. bytes_at 32 row.1 >>= λ coin. Ok (Row me row.0 coin.0, coin.1)
+keys_of n me s = key_row_at n s >>= λ row. bytes_at 32 row.1 >>= λ coin. Ok (Row me row.0 coin.0, coin.1)
 
 abbrev pub KeysOfParts : ℕ → ℕ → HeaderKeys → List ℕ → Type 0
 KeysOfParts n me = Both (IsRowText n) (λ row. Both (AreBytes 32) (λ coin. Nothing (Row me row coin)))
 
 pub keys_of_spells : (n me : ℕ) → Spells limit (keys_of n me) (KeysOfParts n me)
 keys_of_spells n me =
-    then_spells (row_at n) _ (row_spells n) (λ row. then_spells (bytes_at 32) (λ coin. Ok (Row me row coin.0, coin.1)) (bytes_spells 32) (λ coin. done_spells (Row me row coin)))
+    then_spells (key_row_at n) _ (row_spells n) (λ row. then_spells (bytes_at 32) (λ coin. Ok (Row me row coin.0, coin.1)) (bytes_spells 32) (λ coin. done_spells (Row me row coin)))
 
 abbrev AloneParts : ℕ → ℕ → HeaderKeys → List ℕ → Type 0
 AloneParts n mask = Both (IsMe n mask) (KeysOfParts n)
@@ -331,14 +332,14 @@ row_text n row most is = record {
   filled = sym (row_is n row most is);
 }
 
-pub keys_right : (n mask : ℕ) (keys : HeaderKeys) (text : List ℕ) → n ≤ 31 → IsKeysText n mask keys text → (text ≡ keys_text n keys) × AreKeys n mask keys
+pub keys_right : (n mask : ℕ) (keys : HeaderKeys) (text : List ℕ) → n ≤ 31 → IsKeysText n mask keys text → (text ≡ keys_text n keys) × AreHeaderKeys n mask keys
 keys_right n mask (Master master) text most r = r
 keys_right n mask (Row me row coin) text most r =
     let a = r.2 in
     let is = row_right n row a.front most a.row_is in
     (r.1 ∙ rw (a.text_is, is.0) refl, (a.mine, a.alone, is.1, a.coin_is))
 
-pub keys_back : (n mask : ℕ) (keys : HeaderKeys) → n ≤ 31 → AreKeys n mask keys → IsKeysText n mask keys (keys_text n keys)
+pub keys_back : (n mask : ℕ) (keys : HeaderKeys) → n ≤ 31 → AreHeaderKeys n mask keys → IsKeysText n mask keys (keys_text n keys)
 keys_back n mask (Master master) most are = (refl, are)
 keys_back n mask (Row me row coin) most are = (
   me ∷ [] ++ (concat (take n row) ++ coin),

@@ -7,7 +7,8 @@ use Rattle.std.proofs.lemmas.List.Folds.{concat-append}
 use Rattle.schedule_file.specs.declared.fault.FileFault.{FileFault}
 use Rattle.schedule_file.specs.Reading.{◌>>=◌, Spot}
 use Rattle.schedule_file.specs.FileBytes.{bytes_at}
-use Rattle.schedule_file.specs.ReadHeader.{zero_key, filled_row, each_key_at, row_at}
+use Rattle.ritas_base.specs.Bytes.{zero_key, filled_row}
+use Rattle.schedule_file.specs.ReadHeader.{each_key_at, key_row_at}
 use Rattle.schedule_file.specs.Spelling.{IsKey, IsRow}
 
 all_set : {X : Type 0} (P : X → Type 0) (xs : List X) (i : ℕ) (x : X) → P x → AllByRecursion P xs → AllByRecursion P (set xs i x)
@@ -91,13 +92,13 @@ key_failed n j row s f lt read =
     let left : n - j ≡ suc (n - (j + 1)) = omega arith in
     rw (left, read) refl
 
-pub row_failed : (n : ℕ) (s : Spot) (f : FileFault) → each_key_at n s ≡ Err f → row_at n s ≡ Err f
-unfolding row_at
+pub row_failed : (n : ℕ) (s : Spot) (f : FileFault) → each_key_at n s ≡ Err f → key_row_at n s ≡ Err f
+unfolding key_row_at
 row_failed n s f read = rw read refl
 
 -- all n keys came
-pub row_came : (n j : ℕ) (row : List (List ℕ)) (start s : Spot) → n ≤ 31 → n ≡ j → IsRow j row → from_key n j row s ≡ each_key_at n start → row_at n start ≡ Ok (row, s)
-unfolding row_at each_key_at
+pub row_came : (n j : ℕ) (row : List (List ℕ)) (start s : Spot) → n ≤ 31 → n ≡ j → IsRow j row → from_key n j row s ≡ each_key_at n start → key_row_at n start ≡ Ok (row, s)
+unfolding key_row_at each_key_at
 row_came n j row start s most same is so_far =
     let none : n - j ≡ 0 = omega arith in
     let all : each_key_at n start ≡ Ok (take j row, s) = sym so_far ∙ rw none (ap (λ (t : List (List ℕ)). Ok (t, s)) (append-nil (take j row))) in

@@ -5,15 +5,15 @@ use Rattle.std.specs.Int.{w32, from_be_bytes}
 use Rattle.ritas_base.specs.declared.event.Event.{Event}
 use Rattle.schedule_file.specs.FileBytes.{limit}
 use Rattle.schedule_file.specs.ReadHeader.{Heading, is_root, is_version}
-use Rattle.schedule_file.specs.Spelling.{IsFile, IsFront}
+use Rattle.schedule_file.specs.Spelling.{IsFile, IsFileFront}
 use Rattle.schedule_file.specs.declared.scope.Scope.{Scope}
-use Rattle.schedule_file.specs.Scopes.{scope_of, IsOut}
+use Rattle.schedule_file.specs.Scopes.{scope_of, IsOutOfScope}
 
 -- ---- the header
 
 -- the number of the four bytes from an offset on
-abbrev pub number_in : List ℕ → ℕ → ℕ
-number_in bytes k = from_be_bytes w32 (take 4 (drop k bytes))
+abbrev pub number_at_offset : List ℕ → ℕ → ℕ
+number_at_offset bytes k = from_be_bytes w32 (take 4 (drop k bytes))
 
 -- A field that has a rule: its offset, how many bytes it has, and whether a file keeps the rule, of which the bytes up to
 -- the field's end are looked at.
@@ -24,7 +24,7 @@ pub record Field : Type 0 where
 
 -- the letters RITS
 abbrev pub magic : Field
-magic = record { offset = 0; width = 4; is_right = λ bytes. number_in bytes 0 == 0x52495453 }
+magic = record { offset = 0; width = 4; is_right = λ bytes. number_at_offset bytes 0 == 0x52495453 }
 
 -- the version of the frames
 abbrev pub version : Field
@@ -42,12 +42,12 @@ abbrev pub root_service : Field
 root_service = record { offset = 15; width = 1; is_right = λ bytes. is_root (slice_index bytes 15) }
 
 -- the broadcast of VECT
-abbrev pub vect : Field
-vect = record { offset = 16; width = 1; is_right = λ bytes. slice_index bytes 16 == 1 || slice_index bytes 16 == 2 }
+abbrev pub vect_field : Field
+vect_field = record { offset = 16; width = 1; is_right = λ bytes. slice_index bytes 16 == 1 || slice_index bytes 16 == 2 }
 
 -- the mask of the correct replicas
 abbrev pub correct : Field
-correct = record { offset = 17; width = 4; is_right = λ bytes. nat_lt (number_in bytes 17) (2 ^ slice_index bytes 13) }
+correct = record { offset = 17; width = 4; is_right = λ bytes. nat_lt (number_at_offset bytes 17) (2 ^ slice_index bytes 13) }
 
 -- a master key, or the keys of one replica alone
 abbrev pub key_form : Field
@@ -59,27 +59,27 @@ me = record { offset = 22; width = 1; is_right = λ bytes. slice_index bytes 21 
 
 -- the mask again, of which that replica's number is known now
 abbrev pub me_alone : Field
-me_alone = record { offset = 17; width = 6; is_right = λ bytes. slice_index bytes 21 == 0 || number_in bytes 17 == 2 ^ slice_index bytes 22 }
+me_alone = record { offset = 17; width = 6; is_right = λ bytes. slice_index bytes 21 == 0 || number_at_offset bytes 17 == 2 ^ slice_index bytes 22 }
 
 -- the fields of a header that have rules, in the order in which they are tested
 abbrev pub header_fields : List Field
-header_fields = magic ∷ version ∷ count ∷ most_faulty ∷ root_service ∷ vect ∷ correct ∷ key_form ∷ me ∷ me_alone ∷ []
+header_fields = magic ∷ version ∷ count ∷ most_faulty ∷ root_service ∷ vect_field ∷ correct ∷ key_form ∷ me ∷ me_alone ∷ []
 
 -- the field at offset p is whole and breaks its rule, and those before it keep theirs
-abbrev pub IsFirstWrong : List Field → List ℕ → ℕ → Type 0
-IsFirstWrong [] bytes p = ⊥
-IsFirstWrong (x ∷ xs) bytes p =
-    ((x.is_right bytes ≡ false) × (x.offset ≡ p) × (p + x.width ≤ length bytes)) ⊎ ((x.is_right bytes ≡ true) × IsFirstWrong xs bytes p)
+abbrev pub IsFirstWrongField : List Field → List ℕ → ℕ → Type 0
+IsFirstWrongField [] bytes p = ⊥
+IsFirstWrongField (x ∷ xs) bytes p =
+    ((x.is_right bytes ≡ false) × (x.offset ≡ p) × (p + x.width ≤ length bytes)) ⊎ ((x.is_right bytes ≡ true) × IsFirstWrongField xs bytes p)
 
 abbrev pub IsMagicFault : List ℕ → Type 0
-IsMagicFault bytes = IsFirstWrong header_fields bytes 0
+IsMagicFault bytes = IsFirstWrongField header_fields bytes 0
 
 abbrev pub IsVersionFault : List ℕ → Type 0
-IsVersionFault bytes = IsFirstWrong header_fields bytes 4
+IsVersionFault bytes = IsFirstWrongField header_fields bytes 4
 
 -- one of the fields behind the version is the first wrong one
 abbrev pub IsHeaderFault : List ℕ → ℕ → Type 0
-IsHeaderFault bytes p = (4 < p) × IsFirstWrong header_fields bytes p
+IsHeaderFault bytes p = (4 < p) × IsFirstWrongField header_fields bytes p
 
 -- ---- the events
 
@@ -96,7 +96,7 @@ IsNoKind scope kind = (5 < kind) ⊎ (IsOfTwo kind × (is_none scope.only ≡ fa
 abbrev pub IsWrongStart : Scope → List ℕ → Type 0
 IsWrongStart scope [] = ⊥
 IsWrongStart scope (kind ∷ []) = IsNoKind scope kind
-IsWrongStart scope (kind ∷ i ∷ []) = (1 ≤ kind) × ¬ IsNoKind scope kind × IsOut scope i
+IsWrongStart scope (kind ∷ i ∷ []) = (1 ≤ kind) × ¬ IsNoKind scope kind × IsOutOfScope scope i
 IsWrongStart scope (kind ∷ i ∷ j ∷ []) = IsOfTwo kind × ¬ IsNoKind scope kind × (i < scope.n) × ((scope.n ≤ j) ⊎ (i ≡ j))
 IsWrongStart scope (kind ∷ i ∷ j ∷ k ∷ more) = ⊥
 
@@ -109,7 +109,7 @@ pub record IsEventFault (bytes : List ℕ) (p : ℕ) : Type 0 where
   pub after : List ℕ
   pub parts : bytes ≡ before ++ (start ++ after)
   pub place : length before ≡ p
-  pub front : IsFront before h es
+  pub front : IsFileFront before h es
   pub wrong : IsWrongStart (scope_of h) start
   pub low : p + length start ≤ limit
 
@@ -120,7 +120,7 @@ IsTrailingFault bytes p = (p < length bytes) × (p < limit) × (h : Heading) × 
 -- ---- where the bytes end
 
 -- the bytes are right as far as they go, and no whole file
-pub record GoesOn (bytes : List ℕ) : Type 0 where
+pub record IsUnfinished (bytes : List ℕ) : Type 0 where
   pub magic_right : ¬ IsMagicFault bytes
   pub version_right : ¬ IsVersionFault bytes
   pub header_right : (p : ℕ) → ¬ IsHeaderFault bytes p
@@ -130,8 +130,8 @@ pub record GoesOn (bytes : List ℕ) : Type 0 where
 
 -- they end at length p
 abbrev pub IsTruncated : List ℕ → ℕ → Type 0
-IsTruncated bytes p = (p ≡ length bytes) × (length bytes ≤ limit) × GoesOn bytes
+IsTruncated bytes p = (p ≡ length bytes) × (length bytes ≤ limit) × IsUnfinished bytes
 
 -- there are more than a file may have
 abbrev pub IsTooLong : List ℕ → Type 0
-IsTooLong bytes = (limit < length bytes) × GoesOn bytes
+IsTooLong bytes = (limit < length bytes) × IsUnfinished bytes

@@ -19,8 +19,8 @@ abbrev pub Fails : {Y : Type 0} → FileFault → Result Y FileFault → Type 0
 Fails = FailsBut is_outside
 
 -- what a call answered is what reading the file gives, unless memory ran out or the source failed
-abbrev pub Gives : {X Y : Type 0} → (X → Y) → Result X FileFault → Spot → Result (Y × Spot) FileFault → Type 0
-Gives = GivesBut is_outside
+abbrev pub GivesUnlessFailed : {X Y : Type 0} → (X → Y) → Result X FileFault → Spot → Result (Y × Spot) FileFault → Type 0
+GivesUnlessFailed = GivesBut is_outside
 
 -- the next byte; no byte behind the limit is looked at
 abbrev pub byte_from : ℕ → List ℕ → Result (ℕ × Spot) FileFault

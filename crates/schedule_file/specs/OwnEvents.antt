@@ -6,13 +6,13 @@ use Rattle.ritas_base.specs.declared.event.Event.TheVariants.{Frame, Input, Turn
 use Rattle.schedule_file.specs.Spelling.{event_text, IsAlone, IsSized}
 
 -- an event at this replica: a frame, an input or a turn, whose length fits its field
-pub record IsOwn (me : ℕ) (e : Event) : Type 0 where
+pub record IsOwnEvent (me : ℕ) (e : Event) : Type 0 where
   pub alone : IsAlone me e
   pub fits : IsSized e
 
 -- with this event at this replica, of so many bytes, some bytes begin
-pub record IsRead (me : ℕ) (bytes : List ℕ) (e : Event) (k : ℕ) : Type 0 where
-  pub own : IsOwn me e
+pub record IsEventRead (me : ℕ) (bytes : List ℕ) (e : Event) (k : ℕ) : Type 0 where
+  pub own : IsOwnEvent me e
   pub size : k ≡ length (event_text e)
   pub text : bytes ≡ event_text e ++ drop k bytes
 

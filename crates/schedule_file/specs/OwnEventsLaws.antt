@@ -7,9 +7,9 @@ use Rattle.std.proofs.lemmas.List.{take_at, length-take-le}
 use Rattle.std.proofs.lemmas.Nat.{be_bytes_2, from_be_bytes-to_be_bytes_2}
 use Rattle.ritas_base.specs.declared.event.Event.{Event}
 use Rattle.ritas_base.specs.declared.event.Event.TheVariants.{Frame, Input, Turn, Pass, Sealed}
-use Rattle.schedule_file.specs.Reading.{IsBytes}
+use Rattle.ritas_base.specs.Bytes.{IsBytes}
 use Rattle.schedule_file.specs.Spelling.{event_text, sized}
-use Rattle.schedule_file.specs.OwnEvents.{IsOwn, IsRead, front_in, sized_in, with_text, kind_in, own_event}
+use Rattle.schedule_file.specs.OwnEvents.{IsOwnEvent, IsEventRead, front_in, sized_in, with_text, kind_in, own_event}
 
 -- ---- what is there is read
 
@@ -29,7 +29,7 @@ texts_only make text rest fits =
 at_me : (me at kind : ℕ) (rest : List ℕ) → at ≡ me → own_event me (kind ∷ at ∷ rest) ≡ kind_in me kind rest
 at_me me at kind rest is = ap (λ (b : Bool). if b then kind_in me kind rest else None) (eq-eqb at me is)
 
-pub own_only : (me : ℕ) (e : Event) (rest : List ℕ) → IsOwn me e → own_event me (event_text e ++ rest) ≡ Some (e, length (event_text e))
+pub own_only : (me : ℕ) (e : Event) (rest : List ℕ) → IsOwnEvent me e → own_event me (event_text e ++ rest) ≡ Some (e, length (event_text e))
 own_only me (Frame to bytes) rest own =
     let long : length (sized bytes) + 2 ≡ length (event_text (Frame to bytes)) = omega arith in
     at_me me to 1 (sized bytes ++ rest) own.alone ∙ texts_only (Frame me) bytes rest own.fits
@@ -88,27 +88,27 @@ text_found make (Some text) e k is =
     let same : (make text, length text + 4) ≡ (e, k) = cc is in
     (text, refl, ap (λ (x : Event × ℕ). x.0) (sym same), ap (λ (x : Event × ℕ). x.1) (sym same))
 
-frame_read : (me : ℕ) (rest text : List ℕ) → IsText rest text → IsRead me (1 ∷ me ∷ rest) (Frame me text) (length text + 4)
+frame_read : (me : ℕ) (rest text : List ℕ) → IsText rest text → IsEventRead me (1 ∷ me ∷ rest) (Frame me text) (length text + 4)
 frame_read me rest text is =
     let place : length text + 4 ≡ suc (suc (length text + 2)) = omega arith in
     record { own = record { alone = refl; fits = is.fits }; size = omega arith; text = rw place (ap (λ (x : List ℕ). 1 ∷ me ∷ x) is.parts) }
 
-input_read : (me : ℕ) (rest text : List ℕ) → IsText rest text → IsRead me (2 ∷ me ∷ rest) (Input me text) (length text + 4)
+input_read : (me : ℕ) (rest text : List ℕ) → IsText rest text → IsEventRead me (2 ∷ me ∷ rest) (Input me text) (length text + 4)
 input_read me rest text is =
     let place : length text + 4 ≡ suc (suc (length text + 2)) = omega arith in
     record { own = record { alone = refl; fits = is.fits }; size = omega arith; text = rw place (ap (λ (x : List ℕ). 2 ∷ me ∷ x) is.parts) }
 
-turn_read : (me : ℕ) (rest : List ℕ) → IsRead me (3 ∷ me ∷ rest) (Turn me) 2
+turn_read : (me : ℕ) (rest : List ℕ) → IsEventRead me (3 ∷ me ∷ rest) (Turn me) 2
 turn_read me rest = record { own = record { alone = refl; fits = tt }; size = refl; text = refl }
 
 -- the test of a kind that it isn't
 other : {X : Type 0} (a b : ℕ) (x y : X) → a ≢ b → (if a == b then x else y) ≡ y
 other a b x y not = ap (λ (t : Bool). if t then x else y) (ne_eqb a b not)
 
-moved : (me kind same : ℕ) (rest : List ℕ) (e f : Event) (k j : ℕ) → kind ≡ same → e ≡ f → k ≡ j → IsRead me (same ∷ me ∷ rest) f j → IsRead me (kind ∷ me ∷ rest) e k
+moved : (me kind same : ℕ) (rest : List ℕ) (e f : Event) (k j : ℕ) → kind ≡ same → e ≡ f → k ≡ j → IsEventRead me (same ∷ me ∷ rest) f j → IsEventRead me (kind ∷ me ∷ rest) e k
 moved me kind same rest e f k j a b d read = rw (a, b, d) read
 
-kind_found : (me kind : ℕ) (rest : List ℕ) (e : Event) (k : ℕ) → IsBytes rest → kind_in me kind rest ≡ Some (e, k) → IsRead me (kind ∷ me ∷ rest) e k
+kind_found : (me kind : ℕ) (rest : List ℕ) (e : Event) (k : ℕ) → IsBytes rest → kind_in me kind rest ≡ Some (e, k) → IsEventRead me (kind ∷ me ∷ rest) e k
 kind_found me kind rest e k fits read = elim (cases_eq kind 1) [
   | inl one ↦
       let t = text_found (Frame me) (sized_in rest) e k (sym (ap (λ (x : ℕ). kind_in me x rest) one) ∙ read) in
@@ -130,7 +130,7 @@ kind_found me kind rest e k fits read = elim (cases_eq kind 1) [
   ]
 ]
 
-pub own_found : (me : ℕ) (bytes : List ℕ) (e : Event) (k : ℕ) → IsBytes bytes → own_event me bytes ≡ Some (e, k) → IsRead me bytes e k
+pub own_found : (me : ℕ) (bytes : List ℕ) (e : Event) (k : ℕ) → IsBytes bytes → own_event me bytes ≡ Some (e, k) → IsEventRead me bytes e k
 own_found me [] e k fits read = absurd (cc read)
 own_found me (kind ∷ []) e k fits read = absurd (cc read)
 own_found me (kind ∷ at ∷ rest) e k fits read = elim (cases_eq at me) [

@@ -8,22 +8,22 @@ use Rattle.schedule_file.specs.declared.stage.Stage.TheVariants.{Open, Ended, St
 use Rattle.schedule_file.specs.Reading.{Spot}
 
 -- the place in the file, and the bytes that came from the source and were not read
-pub record Held : Type 0 where
+pub record Unread : Type 0 where
   pub at : ℕ
   pub bytes : List ℕ
 
 -- the place, and the bytes from there on: those that are held, and those that the source has left
-abbrev pub spot : Held → List ℕ → Spot
+abbrev pub spot : Unread → List ℕ → Spot
 spot held left = record { at = held.at; rest = held.bytes ++ left }
 
 -- what a reader holds, the scope of its header, and its stage
 pub record ReaderState : Type 0 where
-  pub held : Held
+  pub held : Unread
   pub scope : Scope
   pub stage : Stage
 
 -- the stage after an event was read, or the end, or a fault
-abbrev pub stage_after : Result (Option Event) FileFault → Stage
-stage_after (Ok (Some event)) = Open
-stage_after (Ok None) = Ended
-stage_after (Err e) = Stopped e
+abbrev pub reading_stage_after : Result (Option Event) FileFault → Stage
+reading_stage_after (Ok (Some event)) = Open
+reading_stage_after (Ok None) = Ended
+reading_stage_after (Err e) = Stopped e

@@ -34,8 +34,8 @@ frame_at scope p s = do
   bytes ← text_at to.1
   Ok (Frame to.0 bytes.0, bytes.1)
 
-unfoldable pub input_at : Scope → ℕ → Spot → Result (Event × Spot) FileFault
-input_at scope p s = do
+unfoldable pub input_read_at : Scope → ℕ → Spot → Result (Event × Spot) FileFault
+input_read_at scope p s = do
   at ← replica_at scope p s
   bytes ← text_at at.1
   Ok (Input at.0 bytes.0, bytes.1)
@@ -61,7 +61,7 @@ sealed_at scope p s = do
 unfoldable pub kind_at : Scope → ℕ → ℕ → Spot → Result (Event × Spot) FileFault
 kind_at scope p kind s =
     if kind == 1 then frame_at scope p s
-    else if kind == 2 then input_at scope p s
+    else if kind == 2 then input_read_at scope p s
     else if kind == 3 then turn_at scope p s
     else if kind == 4 then pass_at scope p s
     else if kind == 5 then sealed_at scope p s

@@ -1,5 +1,5 @@
 -- Reading the header of a schedule.
-use Rattle.std.specs.Prelude.{ℕ, zero, suc, ◌-◌, ◌*◌, ◌^◌, Bool, ◌&&◌, ◌||◌, List, [], ◌∷◌, ◌++◌, length, replicate, Result, Ok, nat_lt, nat_le, ◌==◌, if◌then◌else◌}
+use Rattle.std.specs.Prelude.{ℕ, zero, suc, ◌*◌, ◌^◌, Bool, ◌&&◌, ◌||◌, List, [], ◌∷◌, Result, Ok, nat_lt, nat_le, ◌==◌, if◌then◌else◌}
 use Rattle.ritas_base.specs.Numbers.{Numbers}
 use Rattle.ritas_base.specs.Slots.{within}
 use Rattle.ritas_base.specs.declared.mode.FrameVersion.{FrameVersion}
@@ -14,6 +14,7 @@ use Rattle.schedule_file.specs.declared.header.HeaderKeys.{HeaderKeys}
 use Rattle.schedule_file.specs.declared.header.HeaderKeys.TheVariants.{Master, Row}
 use Rattle.schedule_file.specs.Reading.{Spot, ◌>>=◌, test}
 use Rattle.schedule_file.specs.FileBytes.{byte_at, bytes_at, u32_at, u64_at}
+use Rattle.ritas_base.specs.Bytes.{zero_key, filled_row}
 
 -- What a header says: the session, the version of its frames, n and f, the root service, the broadcast of VECT, the mask of
 -- the correct replicas, and the keys.
@@ -37,8 +38,8 @@ is_root root = within 1 6 root
 abbrev pub is_version : ℕ → Bool
 is_version b = b == 1 || b == 2
 
-abbrev pub version_of : ℕ → FrameVersion
-version_of b = if b == 2 then Two else One
+abbrev pub version_by_byte : ℕ → FrameVersion
+version_by_byte b = if b == 2 then Two else One
 
 -- the magic word, the version, and the session
 unfoldable pub start_at : Spot → Result ((FrameVersion × ℕ) × Spot) FileFault
@@ -48,7 +49,7 @@ start_at s = do
   version ← byte_at magic.1
   _ ← test (is_version version.0) Version
   session ← u64_at version.1
-  Ok ((version_of version.0, session.0), session.1)
+  Ok ((version_by_byte version.0, session.0), session.1)
 
 -- n and f
 unfoldable pub numbers_at : Spot → Result (Numbers × Spot) FileFault
@@ -66,15 +67,15 @@ root_at s = do
   _ ← test (is_root root.0) (faults.Header 15)
   Ok root
 
-abbrev pub vect_of : ℕ → Vect
-vect_of b = if b == 1 then Echo else Reliable
+abbrev pub vect_by_byte : ℕ → Vect
+vect_by_byte b = if b == 1 then Echo else Reliable
 
 -- the broadcast of VECT: 1 is the echo broadcast, 2 the reliable one
 unfoldable pub vect_at : Spot → Result (Vect × Spot) FileFault
 vect_at s = do
   vect ← byte_at s
   _ ← test (vect.0 == 1 || vect.0 == 2) (faults.Header 16)
-  Ok (vect_of vect.0, vect.1)
+  Ok (vect_by_byte vect.0, vect.1)
 
 -- the mask of the correct replicas, of which there are n at most
 unfoldable pub mask_at : ℕ → Spot → Result (ℕ × Spot) FileFault
@@ -107,16 +108,9 @@ each_key_at (suc n) s = do
   more ← each_key_at n key.1
   Ok (key.0 ∷ more.0, more.1)
 
-abbrev pub zero_key : List ℕ
-zero_key = replicate 32 0
-
--- these keys, and zeros up to 31 places
-abbrev pub filled_row : List (List ℕ) → List (List ℕ)
-filled_row keys = keys ++ replicate (31 - length keys) zero_key
-
 -- the key that the replica shares with each of n
-unfoldable pub row_at : ℕ → Spot → Result (List (List ℕ) × Spot) FileFault
-row_at n s = do
+unfoldable pub key_row_at : ℕ → Spot → Result (List (List ℕ) × Spot) FileFault
+key_row_at n s = do
   keys ← each_key_at n s
   Ok (filled_row keys.0, keys.1)
 
@@ -124,7 +118,7 @@ row_at n s = do
 unfoldable pub alone_at : ℕ → ℕ → Spot → Result (HeaderKeys × Spot) FileFault
 alone_at n mask s = do
   me ← me_at n mask s
-  row ← row_at n me.1
+  row ← key_row_at n me.1
   coin ← bytes_at 32 row.1
   Ok (Row me.0 row.0 coin.0, coin.1)
 

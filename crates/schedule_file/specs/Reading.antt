@@ -1,5 +1,5 @@
 -- A language for reading a text from the left, up to its first fault of a type F.
-use Rattle.std.specs.Prelude.{◌≡◌, ℕ, Bool, true, false, ◌<◌, List, slice_index, Result, Ok, Err}
+use Rattle.std.specs.Prelude.{◌≡◌, ℕ, Bool, true, false, List, Result, Ok, Err}
 
 -- a place in a text, and the bytes from there on
 pub record Spot : Type 0 where
@@ -7,8 +7,8 @@ pub record Spot : Type 0 where
   pub rest : List ℕ
 
 -- the start of a text
-abbrev pub start_of : List ℕ → Spot
-start_of bytes = record { at = 0; rest = bytes }
+abbrev pub text_start : List ℕ → Spot
+text_start bytes = record { at = 0; rest = bytes }
 
 -- read, and go on with what was read
 infixl 10 ◌>>=◌
@@ -28,7 +28,3 @@ FailsBut is_other e reading = is_other e ≡ false → reading ≡ Err e
 abbrev pub GivesBut : {X Y F : Type 0} → (F → Bool) → (X → Y) → Result X F → Spot → Result (Y × Spot) F → Type 0
 GivesBut is_other view (Ok x) after reading = reading ≡ Ok (view x, after)
 GivesBut is_other view (Err e) after reading = FailsBut is_other e reading
-
--- each of these numbers is a byte
-abbrev pub IsBytes : List ℕ → Type 0
-IsBytes bytes = (i : ℕ) → slice_index bytes i < 256

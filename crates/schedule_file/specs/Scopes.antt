@@ -37,8 +37,8 @@ IsAnother None at = ⊥
 IsAnother (Some me) at = at ≢ me
 
 -- a number that no event of a scope has
-abbrev pub IsOut : Scope → ℕ → Type 0
-IsOut scope at = (scope.n ≤ at) ⊎ IsAnother scope.only at
+abbrev pub IsOutOfScope : Scope → ℕ → Type 0
+IsOutOfScope scope at = (scope.n ≤ at) ⊎ IsAnother scope.only at
 
 -- the event keeps to the one replica, where there is one; then no frame is passed on or sealed
 abbrev pub KeepsTo : Option ℕ → Event → Type 0

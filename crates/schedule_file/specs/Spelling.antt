@@ -5,7 +5,6 @@ use Rattle.std.specs.Int.{w16, w32, w64, to_be_bytes}
 use Rattle.ritas_base.specs.Events.{MayHappen}
 use Rattle.ritas_base.specs.Numbers.{IsSession}
 use Rattle.ritas_base.specs.declared.mode.FrameVersion.{FrameVersion}
-use Rattle.ritas_base.specs.declared.mode.FrameVersion.TheVariants.{One, Two}
 use Rattle.ritas_base.specs.declared.mode.Vect.{Vect}
 use Rattle.ritas_base.specs.declared.mode.Vect.TheVariants.{Echo, Reliable}
 use Rattle.ritas_base.specs.declared.event.Event.{Event}
@@ -13,7 +12,8 @@ use Rattle.ritas_base.specs.declared.event.Event.TheVariants.{Frame, Input, Turn
 use Rattle.schedule_file.specs.declared.header.HeaderKeys.{HeaderKeys}
 use Rattle.schedule_file.specs.declared.header.HeaderKeys.TheVariants.{Master, Row}
 use Rattle.schedule_file.specs.FileBytes.{limit}
-use Rattle.schedule_file.specs.ReadHeader.{Heading, is_root, zero_key}
+use Rattle.ritas_base.specs.Bytes.{zero_key, version_byte}
+use Rattle.schedule_file.specs.ReadHeader.{Heading, is_root}
 
 -- a text behind its length
 abbrev pub sized : List ℕ → List ℕ
@@ -34,10 +34,6 @@ vect_byte Reliable = 2
 abbrev pub keys_text : ℕ → HeaderKeys → List ℕ
 keys_text n (Master master) = 0 ∷ master
 keys_text n (Row me row coin) = 1 ∷ me ∷ [] ++ (concat (take n row) ++ coin)
-
-abbrev pub version_byte : FrameVersion → ℕ
-version_byte One = 1
-version_byte Two = 2
 
 -- RITS, the version, and the session
 abbrev pub start_text : FrameVersion → ℕ → List ℕ
@@ -98,9 +94,9 @@ pub record IsRow (n : ℕ) (row : List (List ℕ)) : Type 0 where
   pub rest : drop n row ≡ replicate (31 - n) zero_key
 
 -- the keys of n replicas, of which those of the mask are correct
-abbrev pub AreKeys : ℕ → ℕ → HeaderKeys → Type 0
-AreKeys n mask (Master master) = IsKey master
-AreKeys n mask (Row me row coin) = (me < n) × (mask ≡ 2 ^ me) × IsRow n row × IsKey coin
+abbrev pub AreHeaderKeys : ℕ → ℕ → HeaderKeys → Type 0
+AreHeaderKeys n mask (Master master) = IsKey master
+AreHeaderKeys n mask (Row me row coin) = (me < n) × (mask ≡ 2 ^ me) × IsRow n row × IsKey coin
 
 -- what each field of a header may be
 pub record IsHeading (h : Heading) : Type 0 where
@@ -108,7 +104,7 @@ pub record IsHeading (h : Heading) : Type 0 where
   pub numbers : IsSession h.p
   pub root : is_root h.root ≡ true
   pub correct : h.correct < 2 ^ h.p.n
-  pub keys : AreKeys h.p.n h.correct h.keys
+  pub keys : AreHeaderKeys h.p.n h.correct h.keys
 
 -- these bytes are the file of this header and these events
 pub record IsFile (bytes : List ℕ) (h : Heading) (es : List Event) : Type 0 where
@@ -118,7 +114,7 @@ pub record IsFile (bytes : List ℕ) (h : Heading) (es : List Event) : Type 0 wh
   pub size : length bytes ≤ limit
 
 -- these bytes are a header and events, without an end mark
-pub record IsFront (bytes : List ℕ) (h : Heading) (es : List Event) : Type 0 where
+pub record IsFileFront (bytes : List ℕ) (h : Heading) (es : List Event) : Type 0 where
   pub text : bytes ≡ FrontOf h es
   pub header : IsHeading h
   pub each : AllByRecursion (IsEvent h) (reverse es)

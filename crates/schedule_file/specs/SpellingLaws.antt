@@ -9,7 +9,7 @@ use Rattle.ritas_base.specs.declared.event.Event.TheVariants.{Frame, Input, Turn
 use Rattle.schedule_file.specs.declared.header.HeaderKeys.{HeaderKeys}
 use Rattle.schedule_file.specs.declared.header.HeaderKeys.TheVariants.{Master, Row}
 use Rattle.schedule_file.specs.ReadHeader.{Heading}
-use Rattle.schedule_file.specs.Spelling.{IsAlone, MayStand, IsSized, IsEvent, IsKey, AreKeys, IsHeading, size_with, header_size, keys_text, header_text, event_text, FileOf, FrontOf}
+use Rattle.schedule_file.specs.Spelling.{IsAlone, MayStand, IsSized, IsEvent, IsKey, AreHeaderKeys, IsHeading, size_with, header_size, keys_text, header_text, event_text, FileOf, FrontOf}
 use Rattle.schedule_file.specs.Scopes.{only_of, scope_of, KeepsTo, IsInScope}
 
 -- the texts of events, of which the newest is the last
@@ -51,7 +51,7 @@ pub keys_joined : (keys : List (List ℕ)) → AllByRecursion IsKey keys → len
 keys_joined [] all = refl
 keys_joined (key ∷ keys) all = omega (arith, length-append key (concat keys), all.0, keys_joined keys all.1)
 
-keys_length : (n mask : ℕ) (keys : HeaderKeys) → n ≤ 31 → AreKeys n mask keys → 21 + length (keys_text n keys) ≡ size_with keys n
+keys_length : (n mask : ℕ) (keys : HeaderKeys) → n ≤ 31 → AreHeaderKeys n mask keys → 21 + length (keys_text n keys) ≡ size_with keys n
 keys_length n mask (Master master) most are = omega (arith, are)
 keys_length n mask (Row me row coin) most are =
     let long : length (take n row) ≡ n = length-take-le n row (omega (arith, are.2.places)) in

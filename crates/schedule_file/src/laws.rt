@@ -1,9 +1,9 @@
 //! What a file says and which fault it has, for every list of bytes.
 ghost use Rattle.std.specs.Prelude.{◌≡◌, ◌≤◌, ◌+◌, ◌++◌, ◌∷◌, [], ◌↔◌, length, false, Ok, Err, Some};
 ghost use Rattle.std.specs.List.{AllByRecursion};
-ghost use Rattle.schedule_file.specs.Reading.{IsBytes};
+ghost use Rattle.ritas_base.specs.Bytes.{IsBytes};
 ghost use Rattle.schedule_file.specs.FileBytes.{is_outside, limit};
-ghost use Rattle.schedule_file.specs.OwnEvents.{own_event, IsOwn, IsRead};
+ghost use Rattle.schedule_file.specs.OwnEvents.{own_event, IsOwnEvent, IsEventRead};
 ghost use Rattle.schedule_file.specs.Schedule.{file_of};
 ghost use Rattle.schedule_file.specs.Spelling.{event_text, header_size, header_text, FileOf, FrontOf, IsEvent, IsFile, IsHeading};
 ghost use Rattle.schedule_file.specs.Faults.{IsMagicFault, IsVersionFault, IsHeaderFault, IsEventFault, IsTrailingFault, IsTruncated, IsTooLong};
@@ -66,6 +66,6 @@ pub fn writer_laws()
 ///
 /// It does nothing: its contract is the law.
 pub fn own_event_laws()
-    ensures found { (me : _) (bytes : _) (e : _) (k : _) → IsBytes bytes → own_event me bytes ≡ Some (e, k) → IsRead me bytes e k }
-    ensures only { (me : _) (e : _) (rest : _) → IsOwn me e → own_event me (event_text e ++ rest) ≡ Some (e, length (event_text e)) }
+    ensures found { (me : _) (bytes : _) (e : _) (k : _) → IsBytes bytes → own_event me bytes ≡ Some (e, k) → IsEventRead me bytes e k }
+    ensures only { (me : _) (e : _) (rest : _) → IsOwnEvent me e → own_event me (event_text e ++ rest) ≡ Some (e, length (event_text e)) }
 {}

@@ -5,9 +5,9 @@ ghost use Rattle.std.specs.Prelude.{◌^◌, ◌≡◌, ◌<◌, ◌≤◌, ◌+
 ghost use Rattle.std.specs.Bool.{OnTrue, OnFalse};
 ghost use Rattle.outside.specs.Faults.{HasCause, counted};
 ghost use Rattle.schedule_file.specs.declared.fault.FileFault.TheVariants.{Read};
-ghost use Rattle.schedule_file.specs.SourceFaults.{faults_after};
+ghost use Rattle.schedule_file.specs.SourceFaults.{file_faults_after};
 ghost use Rattle.schedule_file.specs.Reading.{test};
-ghost use Rattle.schedule_file.specs.FileBytes.{Gives, Fails, byte_at, end_at, bytes_at, u16_at, u32_at, u64_at, text_at, limit};
+ghost use Rattle.schedule_file.specs.FileBytes.{GivesUnlessFailed, Fails, byte_at, end_at, bytes_at, u16_at, u32_at, u64_at, text_at, limit};
 ghost use Rattle.schedule_file.specs.Place.{spot};
 
 use crate::fault::FileFault;
@@ -31,9 +31,9 @@ pub struct Pieces {
 
 impl Model for Pieces {
     ghost use Rattle.std.specs.Prelude.{take, drop, ◌≤◌};
-    ghost use Rattle.schedule_file.specs.Place.{Held};
+    ghost use Rattle.schedule_file.specs.Place.{Unread};
 
-    ghost Value = { Held };
+    ghost Value = { Unread };
 
     ghost view = { λ p. record { at = p.at; bytes = drop p.from (take p.to p.piece) } };
 
@@ -163,7 +163,7 @@ impl Pieces {
         ensures at { self.new.at ≡ self.old.at }
         ensures memory { result ≢ Err FileFault.Mem }
         ensures cause { HasCause (S.faults source.old) (S.faults source.new) (result ≡ Err Read) }
-        ensures counts { S.faults source.new ≡ faults_after (S.faults source.old) result }
+        ensures counts { S.faults source.new ≡ file_faults_after (S.faults source.old) result }
     {
         if !self.refill(source)? {
             return Ok(false);
@@ -177,10 +177,10 @@ impl Pieces {
     /// The next byte.
     #[tactic(auto, unfolding(crate::specs::FileBytes::byte_at))]
     pub fn byte<S: Source>(&mut self, source: &mut S) -> Result<u8, FileFault>
-        ensures exact { S.tells ≡ true → Gives (λ b. b) result (spot self.new (S.left source.new)) (byte_at (spot self.old (S.left source.old))) }
+        ensures exact { S.tells ≡ true → GivesUnlessFailed (λ b. b) result (spot self.new (S.left source.new)) (byte_at (spot self.old (S.left source.old))) }
         ensures memory { result ≢ Err FileFault.Mem }
         ensures cause { HasCause (S.faults source.old) (S.faults source.new) (result ≡ Err Read) }
-        ensures counts { S.faults source.new ≡ faults_after (S.faults source.old) result }
+        ensures counts { S.faults source.new ≡ file_faults_after (S.faults source.old) result }
     {
         if !self.has_more(source)? {
             return Err(FileFault::Truncated(self.at));
@@ -194,10 +194,10 @@ impl Pieces {
     /// The end of the file.
     #[tactic(auto, using(crate::proofs::Chunks::trailing_at), unfolding(crate::specs::FileBytes::end_at))]
     pub fn end<S: Source>(&mut self, source: &mut S) -> Result<(), FileFault>
-        ensures exact { S.tells ≡ true → Gives (λ b. b) result (spot self.new (S.left source.new)) (end_at (spot self.old (S.left source.old))) }
+        ensures exact { S.tells ≡ true → GivesUnlessFailed (λ b. b) result (spot self.new (S.left source.new)) (end_at (spot self.old (S.left source.old))) }
         ensures memory { result ≢ Err FileFault.Mem }
         ensures cause { HasCause (S.faults source.old) (S.faults source.new) (result ≡ Err Read) }
-        ensures counts { S.faults source.new ≡ faults_after (S.faults source.old) result }
+        ensures counts { S.faults source.new ≡ file_faults_after (S.faults source.old) result }
     {
         if self.has_more(source)? {
             return Err(FileFault::Trailing(self.at));
@@ -214,7 +214,7 @@ impl Pieces {
         ensures err { S.tells ≡ true → IfErr result (λ e. Fails e (bytes_at len (spot self.old (S.left source.old)))) }
         ensures memory { result ≢ Err FileFault.Mem }
         ensures cause { HasCause (S.faults source.old) (S.faults source.new) (result ≡ Err Read) }
-        ensures counts { S.faults source.new ≡ faults_after (S.faults source.old) result }
+        ensures counts { S.faults source.new ≡ file_faults_after (S.faults source.old) result }
     {
         self.gather(source, len)?;
         let have = self.len().min(len);
@@ -231,11 +231,11 @@ impl Pieces {
     #[tactic(auto, using(crate::proofs::Chunks::held_read))]
     pub fn fill<S: Source>(&mut self, source: &mut S, out: &mut [u8]) -> Result<(), FileFault>
         requires { length out.old ≤ 65536 }
-        ensures exact { S.tells ≡ true → Gives (λ _. out.new) result (spot self.new (S.left source.new))
+        ensures exact { S.tells ≡ true → GivesUnlessFailed (λ _. out.new) result (spot self.new (S.left source.new))
             (bytes_at (length out.old) (spot self.old (S.left source.old))) }
         ensures memory { result ≢ Err FileFault.Mem }
         ensures cause { HasCause (S.faults source.old) (S.faults source.new) (result ≡ Err Read) }
-        ensures counts { S.faults source.new ≡ faults_after (S.faults source.old) result }
+        ensures counts { S.faults source.new ≡ file_faults_after (S.faults source.old) result }
     {
         self.hold(source, out.len())?;
         out.copy_from_slice(self.front(out.len()));
@@ -245,10 +245,10 @@ impl Pieces {
 
     #[tactic(auto, unfolding(crate::specs::FileBytes::u16_at))]
     pub fn number16<S: Source>(&mut self, source: &mut S) -> Result<u16, FileFault>
-        ensures exact { S.tells ≡ true → Gives (λ b. b) result (spot self.new (S.left source.new)) (u16_at (spot self.old (S.left source.old))) }
+        ensures exact { S.tells ≡ true → GivesUnlessFailed (λ b. b) result (spot self.new (S.left source.new)) (u16_at (spot self.old (S.left source.old))) }
         ensures memory { result ≢ Err FileFault.Mem }
         ensures cause { HasCause (S.faults source.old) (S.faults source.new) (result ≡ Err Read) }
-        ensures counts { S.faults source.new ≡ faults_after (S.faults source.old) result }
+        ensures counts { S.faults source.new ≡ file_faults_after (S.faults source.old) result }
     {
         let mut bytes = [0; 2];
         self.fill(source, &mut bytes)?;
@@ -257,10 +257,10 @@ impl Pieces {
 
     #[tactic(auto, unfolding(crate::specs::FileBytes::u32_at))]
     pub fn number32<S: Source>(&mut self, source: &mut S) -> Result<u32, FileFault>
-        ensures exact { S.tells ≡ true → Gives (λ b. b) result (spot self.new (S.left source.new)) (u32_at (spot self.old (S.left source.old))) }
+        ensures exact { S.tells ≡ true → GivesUnlessFailed (λ b. b) result (spot self.new (S.left source.new)) (u32_at (spot self.old (S.left source.old))) }
         ensures memory { result ≢ Err FileFault.Mem }
         ensures cause { HasCause (S.faults source.old) (S.faults source.new) (result ≡ Err Read) }
-        ensures counts { S.faults source.new ≡ faults_after (S.faults source.old) result }
+        ensures counts { S.faults source.new ≡ file_faults_after (S.faults source.old) result }
     {
         let mut bytes = [0; 4];
         self.fill(source, &mut bytes)?;
@@ -269,10 +269,10 @@ impl Pieces {
 
     #[tactic(auto, unfolding(crate::specs::FileBytes::u64_at))]
     pub fn number64<S: Source>(&mut self, source: &mut S) -> Result<u64, FileFault>
-        ensures exact { S.tells ≡ true → Gives (λ b. b) result (spot self.new (S.left source.new)) (u64_at (spot self.old (S.left source.old))) }
+        ensures exact { S.tells ≡ true → GivesUnlessFailed (λ b. b) result (spot self.new (S.left source.new)) (u64_at (spot self.old (S.left source.old))) }
         ensures memory { result ≢ Err FileFault.Mem }
         ensures cause { HasCause (S.faults source.old) (S.faults source.new) (result ≡ Err Read) }
-        ensures counts { S.faults source.new ≡ faults_after (S.faults source.old) result }
+        ensures counts { S.faults source.new ≡ file_faults_after (S.faults source.old) result }
     {
         let mut bytes = [0; 8];
         self.fill(source, &mut bytes)?;
@@ -287,11 +287,11 @@ impl Pieces {
         source: &mut S,
         len: u16,
     ) -> Result<Bytes, FileFault>
-        ensures exact { S.tells ≡ true → Gives (λ v. v) result (spot self.new (S.left source.new)) (bytes_at len (spot self.old (S.left source.old))) }
+        ensures exact { S.tells ≡ true → GivesUnlessFailed (λ v. v) result (spot self.new (S.left source.new)) (bytes_at len (spot self.old (S.left source.old))) }
         ensures len { IfOk result (λ v. length v ≡ len) }
         ensures memory { S.tells ≡ true → result ≡ Err FileFault.Mem → IsOk (bytes_at len (spot self.old (S.left source.old))) }
         ensures cause { HasCause (S.faults source.old) (S.faults source.new) (result ≡ Err Read) }
-        ensures counts { S.faults source.new ≡ faults_after (S.faults source.old) result }
+        ensures counts { S.faults source.new ≡ file_faults_after (S.faults source.old) result }
     {
         self.hold(source, len as usize)?;
         let bytes = Bytes::from_slice(alloc, self.front(len as usize))?;
@@ -302,11 +302,11 @@ impl Pieces {
     /// A text behind its length, of two bytes.
     #[tactic(auto, using(outside::specs::FaultsLaws::rose_after), unfolding(crate::specs::FileBytes::text_at))]
     pub fn text<S: Source>(&mut self, alloc: Global, source: &mut S) -> Result<Bytes, FileFault>
-        ensures exact { S.tells ≡ true → Gives (λ v. v) result (spot self.new (S.left source.new)) (text_at (spot self.old (S.left source.old))) }
+        ensures exact { S.tells ≡ true → GivesUnlessFailed (λ v. v) result (spot self.new (S.left source.new)) (text_at (spot self.old (S.left source.old))) }
         ensures len { IfOk result (λ v. length v < 2 ^ 16) }
         ensures memory { S.tells ≡ true → result ≡ Err FileFault.Mem → IsOk (text_at (spot self.old (S.left source.old))) }
         ensures cause { HasCause (S.faults source.old) (S.faults source.new) (result ≡ Err Read) }
-        ensures counts { S.faults source.new ≡ faults_after (S.faults source.old) result }
+        ensures counts { S.faults source.new ≡ file_faults_after (S.faults source.old) result }
     {
         let len = self.number16(source)?;
         self.bytes(alloc, source, len)

@@ -3,11 +3,11 @@
 ghost use Rattle.std.specs.Prelude.{◌<◌, IfOk, IfSome, IsOk, ◌≡◌, ◌≢◌, true, Err, None};
 ghost use Rattle.outside.specs.Faults.{HasCause};
 ghost use Rattle.schedule_file.specs.declared.fault.FileFault.TheVariants.{Read};
-ghost use Rattle.schedule_file.specs.SourceFaults.{faults_after};
-ghost use Rattle.schedule_file.specs.FileBytes.{Gives};
+ghost use Rattle.schedule_file.specs.SourceFaults.{file_faults_after};
+ghost use Rattle.schedule_file.specs.FileBytes.{GivesUnlessFailed};
 ghost use Rattle.schedule_file.specs.Place.{spot};
 ghost use Rattle.schedule_file.specs.Scopes.{IsTheOne, IsInScope};
-ghost use Rattle.schedule_file.specs.ReadEvents.{replica_at, pair_at, frame_at, input_at, turn_at, pass_at, sealed_at, kind_at, event_at};
+ghost use Rattle.schedule_file.specs.ReadEvents.{replica_at, pair_at, frame_at, input_read_at, turn_at, pass_at, sealed_at, kind_at, event_at};
 
 use crate::fault::FileFault;
 use crate::pieces::{Pieces, test};
@@ -23,12 +23,12 @@ fn read_replica<S: Source>(
     scope: Scope,
     begin: u32,
 ) -> Result<u8, FileFault>
-    ensures exact { S.tells ≡ true → Gives (λ x. x) result (spot pieces.new (S.left source.new)) (replica_at scope begin (spot pieces.old (S.left source.old))) }
+    ensures exact { S.tells ≡ true → GivesUnlessFailed (λ x. x) result (spot pieces.new (S.left source.new)) (replica_at scope begin (spot pieces.old (S.left source.old))) }
     ensures below { IfOk result (λ at. at < scope.n) }
     ensures one { IfOk result (IsTheOne scope.only) }
     ensures memory { result ≢ Err FileFault.Mem }
     ensures cause { HasCause (S.faults source.old) (S.faults source.new) (result ≡ Err Read) }
-    ensures counts { S.faults source.new ≡ faults_after (S.faults source.old) result }
+    ensures counts { S.faults source.new ≡ file_faults_after (S.faults source.old) result }
 {
     let at = pieces.byte(source)?;
     test(scope.has(at), FileFault::Event(begin))?;
@@ -42,12 +42,12 @@ fn read_pair<S: Source>(
     scope: Scope,
     begin: u32,
 ) -> Result<(u8, u8), FileFault>
-    ensures exact { S.tells ≡ true → Gives (λ x. (x.0, x.1)) result (spot pieces.new (S.left source.new)) (pair_at scope begin (spot pieces.old (S.left source.old))) }
+    ensures exact { S.tells ≡ true → GivesUnlessFailed (λ x. (x.0, x.1)) result (spot pieces.new (S.left source.new)) (pair_at scope begin (spot pieces.old (S.left source.old))) }
     ensures free { IfOk result (λ _. scope.only ≡ None) }
     ensures pair { IfOk result (λ x. (x.0 < scope.n) × (x.1 < scope.n) × (x.0 ≢ x.1)) }
     ensures memory { result ≢ Err FileFault.Mem }
     ensures cause { HasCause (S.faults source.old) (S.faults source.new) (result ≡ Err Read) }
-    ensures counts { S.faults source.new ≡ faults_after (S.faults source.old) result }
+    ensures counts { S.faults source.new ≡ file_faults_after (S.faults source.old) result }
 {
     test(scope.only.is_none(), FileFault::Event(begin))?;
     let from = read_replica(pieces, source, scope, begin)?;
@@ -64,18 +64,18 @@ fn read_frame<S: Source>(
     scope: Scope,
     begin: u32,
 ) -> Result<Event, FileFault>
-    ensures exact { S.tells ≡ true → Gives (λ x. x) result (spot pieces.new (S.left source.new)) (frame_at scope begin (spot pieces.old (S.left source.old))) }
+    ensures exact { S.tells ≡ true → GivesUnlessFailed (λ x. x) result (spot pieces.new (S.left source.new)) (frame_at scope begin (spot pieces.old (S.left source.old))) }
     ensures event { IfOk result (IsInScope scope) }
     ensures memory { S.tells ≡ true → result ≡ Err FileFault.Mem → IsOk (frame_at scope begin (spot pieces.old (S.left source.old))) }
     ensures cause { HasCause (S.faults source.old) (S.faults source.new) (result ≡ Err Read) }
-    ensures counts { S.faults source.new ≡ faults_after (S.faults source.old) result }
+    ensures counts { S.faults source.new ≡ file_faults_after (S.faults source.old) result }
 {
     let to = read_replica(pieces, source, scope, begin)?;
     let bytes = pieces.text(alloc, source)?;
     Ok(Event::Frame { to, bytes })
 }
 
-#[tactic(auto, using(outside::specs::FaultsLaws::rose_after), unfolding(crate::specs::ReadEvents::input_at))]
+#[tactic(auto, using(outside::specs::FaultsLaws::rose_after), unfolding(crate::specs::ReadEvents::input_read_at))]
 fn read_input<S: Source>(
     alloc: Global,
     pieces: &mut Pieces,
@@ -83,11 +83,11 @@ fn read_input<S: Source>(
     scope: Scope,
     begin: u32,
 ) -> Result<Event, FileFault>
-    ensures exact { S.tells ≡ true → Gives (λ x. x) result (spot pieces.new (S.left source.new)) (input_at scope begin (spot pieces.old (S.left source.old))) }
+    ensures exact { S.tells ≡ true → GivesUnlessFailed (λ x. x) result (spot pieces.new (S.left source.new)) (input_read_at scope begin (spot pieces.old (S.left source.old))) }
     ensures event { IfOk result (IsInScope scope) }
-    ensures memory { S.tells ≡ true → result ≡ Err FileFault.Mem → IsOk (input_at scope begin (spot pieces.old (S.left source.old))) }
+    ensures memory { S.tells ≡ true → result ≡ Err FileFault.Mem → IsOk (input_read_at scope begin (spot pieces.old (S.left source.old))) }
     ensures cause { HasCause (S.faults source.old) (S.faults source.new) (result ≡ Err Read) }
-    ensures counts { S.faults source.new ≡ faults_after (S.faults source.old) result }
+    ensures counts { S.faults source.new ≡ file_faults_after (S.faults source.old) result }
 {
     let at = read_replica(pieces, source, scope, begin)?;
     let bytes = pieces.text(alloc, source)?;
@@ -101,11 +101,11 @@ fn read_turn<S: Source>(
     scope: Scope,
     begin: u32,
 ) -> Result<Event, FileFault>
-    ensures exact { S.tells ≡ true → Gives (λ x. x) result (spot pieces.new (S.left source.new)) (turn_at scope begin (spot pieces.old (S.left source.old))) }
+    ensures exact { S.tells ≡ true → GivesUnlessFailed (λ x. x) result (spot pieces.new (S.left source.new)) (turn_at scope begin (spot pieces.old (S.left source.old))) }
     ensures event { IfOk result (IsInScope scope) }
     ensures memory { result ≢ Err FileFault.Mem }
     ensures cause { HasCause (S.faults source.old) (S.faults source.new) (result ≡ Err Read) }
-    ensures counts { S.faults source.new ≡ faults_after (S.faults source.old) result }
+    ensures counts { S.faults source.new ≡ file_faults_after (S.faults source.old) result }
 {
     let at = read_replica(pieces, source, scope, begin)?;
     Ok(Event::Turn { at })
@@ -118,11 +118,11 @@ fn read_pass<S: Source>(
     scope: Scope,
     begin: u32,
 ) -> Result<Event, FileFault>
-    ensures exact { S.tells ≡ true → Gives (λ x. x) result (spot pieces.new (S.left source.new)) (pass_at scope begin (spot pieces.old (S.left source.old))) }
+    ensures exact { S.tells ≡ true → GivesUnlessFailed (λ x. x) result (spot pieces.new (S.left source.new)) (pass_at scope begin (spot pieces.old (S.left source.old))) }
     ensures event { IfOk result (IsInScope scope) }
     ensures memory { result ≢ Err FileFault.Mem }
     ensures cause { HasCause (S.faults source.old) (S.faults source.new) (result ≡ Err Read) }
-    ensures counts { S.faults source.new ≡ faults_after (S.faults source.old) result }
+    ensures counts { S.faults source.new ≡ file_faults_after (S.faults source.old) result }
 {
     let (from, to) = read_pair(pieces, source, scope, begin)?;
     let m = pieces.number32(source)?;
@@ -137,11 +137,11 @@ fn read_sealed<S: Source>(
     scope: Scope,
     begin: u32,
 ) -> Result<Event, FileFault>
-    ensures exact { S.tells ≡ true → Gives (λ x. x) result (spot pieces.new (S.left source.new)) (sealed_at scope begin (spot pieces.old (S.left source.old))) }
+    ensures exact { S.tells ≡ true → GivesUnlessFailed (λ x. x) result (spot pieces.new (S.left source.new)) (sealed_at scope begin (spot pieces.old (S.left source.old))) }
     ensures event { IfOk result (IsInScope scope) }
     ensures memory { S.tells ≡ true → result ≡ Err FileFault.Mem → IsOk (sealed_at scope begin (spot pieces.old (S.left source.old))) }
     ensures cause { HasCause (S.faults source.old) (S.faults source.new) (result ≡ Err Read) }
-    ensures counts { S.faults source.new ≡ faults_after (S.faults source.old) result }
+    ensures counts { S.faults source.new ≡ file_faults_after (S.faults source.old) result }
 {
     let (from, to) = read_pair(pieces, source, scope, begin)?;
     let body = pieces.text(alloc, source)?;
@@ -157,11 +157,11 @@ fn read_kind<S: Source>(
     begin: u32,
     kind: u8,
 ) -> Result<Event, FileFault>
-    ensures exact { S.tells ≡ true → Gives (λ x. x) result (spot pieces.new (S.left source.new)) (kind_at scope begin kind (spot pieces.old (S.left source.old))) }
+    ensures exact { S.tells ≡ true → GivesUnlessFailed (λ x. x) result (spot pieces.new (S.left source.new)) (kind_at scope begin kind (spot pieces.old (S.left source.old))) }
     ensures event { IfOk result (IsInScope scope) }
     ensures memory { S.tells ≡ true → result ≡ Err FileFault.Mem → IsOk (kind_at scope begin kind (spot pieces.old (S.left source.old))) }
     ensures cause { HasCause (S.faults source.old) (S.faults source.new) (result ≡ Err Read) }
-    ensures counts { S.faults source.new ≡ faults_after (S.faults source.old) result }
+    ensures counts { S.faults source.new ≡ file_faults_after (S.faults source.old) result }
 {
     match kind {
         1 => read_frame(alloc, pieces, source, scope, begin),
@@ -181,11 +181,11 @@ pub fn read_event<S: Source>(
     source: &mut S,
     scope: Scope,
 ) -> Result<Option<Event>, FileFault>
-    ensures exact { S.tells ≡ true → Gives (λ x. x) result (spot pieces.new (S.left source.new)) (event_at scope (spot pieces.old (S.left source.old))) }
+    ensures exact { S.tells ≡ true → GivesUnlessFailed (λ x. x) result (spot pieces.new (S.left source.new)) (event_at scope (spot pieces.old (S.left source.old))) }
     ensures event { IfOk result (λ o. IfSome o (IsInScope scope)) }
     ensures memory { S.tells ≡ true → result ≡ Err FileFault.Mem → IsOk (event_at scope (spot pieces.old (S.left source.old))) }
     ensures cause { HasCause (S.faults source.old) (S.faults source.new) (result ≡ Err Read) }
-    ensures counts { S.faults source.new ≡ faults_after (S.faults source.old) result }
+    ensures counts { S.faults source.new ≡ file_faults_after (S.faults source.old) result }
 {
     let begin = pieces.at();
     let kind = pieces.byte(source)?;

@@ -3,11 +3,11 @@
 ghost use Rattle.std.specs.Prelude.{◌≡◌, ◌≢◌, true, Ok, Err, None, IfOk, IfSome, IsOk, MatchResult};
 ghost use Rattle.outside.specs.Faults.{HasCause};
 ghost use Rattle.schedule_file.specs.declared.fault.FileFault.TheVariants.{Read};
-ghost use Rattle.schedule_file.specs.SourceFaults.{faults_after};
+ghost use Rattle.schedule_file.specs.SourceFaults.{file_faults_after};
 ghost use Rattle.schedule_file.specs.declared.stage.Stage.TheVariants.{Open, Ended, Stopped};
-ghost use Rattle.schedule_file.specs.Reading.{start_of};
-ghost use Rattle.schedule_file.specs.FileBytes.{Gives, Fails};
-ghost use Rattle.schedule_file.specs.Place.{spot, stage_after};
+ghost use Rattle.schedule_file.specs.Reading.{text_start};
+ghost use Rattle.schedule_file.specs.FileBytes.{GivesUnlessFailed, Fails};
+ghost use Rattle.schedule_file.specs.Place.{spot, reading_stage_after};
 ghost use Rattle.schedule_file.specs.ReadHeader.{heading, header_at};
 ghost use Rattle.schedule_file.specs.ReadEvents.{event_at};
 ghost use Rattle.schedule_file.specs.Scopes.{scope_of, IsInScope};
@@ -49,13 +49,13 @@ impl Reader {
     /// `Read` is answered only where the source failed.
     pub fn start<S: Source>(_alloc: Global, src: &mut S) -> Result<(Header, Reader), FileFault>
         ensures exact { S.tells ≡ true → MatchResult result
-            (λ x. header_at (start_of (S.left src.old)) ≡ Ok (heading x.0, spot x.1.held (S.left src.new)))
-            (λ e. Fails e (header_at (start_of (S.left src.old)))) }
+            (λ x. header_at (text_start (S.left src.old)) ≡ Ok (heading x.0, spot x.1.held (S.left src.new)))
+            (λ e. Fails e (header_at (text_start (S.left src.old)))) }
         ensures ready { IfOk result (λ x. (x.1.stage ≡ Open) × (x.1.scope ≡ scope_of (heading x.0))) }
         ensures header { IfOk result (λ x. IsHeading (heading x.0)) }
         ensures memory { result ≢ Err FileFault.Mem }
         ensures cause { HasCause (S.faults src.old) (S.faults src.new) (result ≡ Err Read) }
-        ensures counts { S.faults src.new ≡ faults_after (S.faults src.old) result }
+        ensures counts { S.faults src.new ≡ file_faults_after (S.faults src.old) result }
     {
         let mut pieces = Pieces::new();
         let header = read_header(&mut pieces, src)?;
@@ -78,9 +78,9 @@ impl Reader {
         alloc: Global,
         src: &mut S,
     ) -> Result<Option<Event>, FileFault>
-        ensures exact { self.old.stage ≡ Open → S.tells ≡ true → Gives (λ x. x) result (spot self.new.held (S.left src.new))
+        ensures exact { self.old.stage ≡ Open → S.tells ≡ true → GivesUnlessFailed (λ x. x) result (spot self.new.held (S.left src.new))
             (event_at self.old.scope (spot self.old.held (S.left src.old))) }
-        ensures stage { self.old.stage ≡ Open → self.new.stage ≡ stage_after result }
+        ensures stage { self.old.stage ≡ Open → self.new.stage ≡ reading_stage_after result }
         ensures event { IfOk result (λ o. IfSome o (IsInScope self.old.scope)) }
         ensures scope { self.new.scope ≡ self.old.scope }
 
@@ -94,7 +94,7 @@ impl Reader {
         ensures same { self.old.stage ≢ Open → (self.new ≡ self.old) × (src.new ≡ src.old) }
 
         ensures cause { HasCause (S.faults src.old) (S.faults src.new) ((self.old.stage ≡ Open) × (result ≡ Err Read)) }
-        ensures counts { self.old.stage ≡ Open → S.faults src.new ≡ faults_after (S.faults src.old) result }
+        ensures counts { self.old.stage ≡ Open → S.faults src.new ≡ file_faults_after (S.faults src.old) result }
     {
         match self.stage {
             Stage::Open => {}

@@ -5,7 +5,8 @@ ghost use Rattle.std.specs.List.{concat};
 ghost use Rattle.std.specs.Int.{w32, to_be_bytes};
 ghost use Rattle.outside.specs.Writing.{Writes};
 ghost use Rattle.schedule_file.specs.ReadHeader.{heading};
-ghost use Rattle.schedule_file.specs.Spelling.{event_text, header_text, keys_text, sized, start_text, vect_byte, version_byte, IsSized};
+ghost use Rattle.ritas_base.specs.Bytes.{version_byte};
+ghost use Rattle.schedule_file.specs.Spelling.{event_text, header_text, keys_text, sized, start_text, vect_byte, IsSized};
 
 use crate::header::{Header, HeaderKeys};
 use outside::{Failed, Sink, write_all};

@@ -29,11 +29,11 @@ use Rattle.world_model.specs.Players.{Cast, Scene, Step, Give, Go, Carry, IsPlay
 use Rattle.world_model.proofs.Anywhere.{among_from, number_below, mapped_from}
 use Rattle.world_model.proofs.Members.{has_passing, got_listed}
 use Rattle.schedule_plan.specs.Plans.{is_absent, correct_of, is_correct_in, faces_of, face_a, face_b, cast_of, players_at, players_of, are_linked, is_two_faced, same_letter, linked_to, linked_from}
-use Rattle.schedule_plan.specs.Inputs.{value_text, takes_commands, copies_of, copy_at, command_at, value_at, correct_inputs, flip_inputs, two_inputs, given_to, face_inputs, inputs_of}
-use Rattle.schedule_plan.specs.Garbage.{start_of, after_filler, throws_to, throws_by, faulty_of, throws_of}
-use Rattle.schedule_plan.specs.Sweeps.{Counts, none_yet, counts_of, carries, turns_at, swept_at, sweep_of, sweeps}
-use Rattle.schedule_plan.specs.Picks.{Choice, Turning, Passing, has_some, passings_of, is_open_choice, all_choices, choices_of, Picking, carried, taken, garbled, pick, picks}
-use Rattle.schedule_plan.specs.Schedule.{world_by, steps_by, steps_of}
+use Rattle.schedule_plan.specs.Inputs.{value_text, takes_commands, copies_of, copy_at, command_at, value_input, correct_inputs, flip_inputs, two_inputs, given_to, face_inputs, inputs_of}
+use Rattle.schedule_plan.specs.Garbage.{words_start, after_filler, throws_to, throws_by, faulty_of, throws_of}
+use Rattle.schedule_plan.specs.Sweeps.{FrameCounts, none_yet, frame_counts, carries, turns_at, swept_at, sweep_of, sweeps}
+use Rattle.schedule_plan.specs.Picks.{Choice, Turning, Passing, has_some, passings_of, is_open_choice, all_choices, choices_of, Picking, frame_carried, choice_taken, garbled, pick, picks}
+use Rattle.schedule_plan.specs.Schedule.{world_by, steps_by_order, steps_of}
 
 -- ---- lists of steps
 
@@ -130,14 +130,14 @@ correct_steps : (w : Setting) (p : Plan) → IsPlanned w p → AreSteps w (cast_
 correct_steps w p planned = go (takes_commands p.mode.root) (p.commands == 0)
   where
     go : (a b : Bool) → AreSteps w (cast_of p.attack)
-        (if a then flat_map (command_at p) (range_with_len 0 p.commands) else (if b then [] else map (value_at p) (range_with_len 0 (correct_of p))))
+        (if a then flat_map (command_at p) (range_with_len 0 p.commands) else (if b then [] else map (value_input p) (range_with_len 0 (correct_of p))))
     go true b =
         are_among w (cast_of p.attack) (command_at p) (range_with_len 0 p.commands)
         (λ k _. are_map w (cast_of p.attack) (copy_at p k) (range_with_len 0 (copies_of p))
         (λ t _. correct_below w p planned ((k + t) % correct_of p) (mod_below (k + t) (correct_of p) (some_correct p planned.session).0)))
     go false true = tt
     go false false =
-        are_map w (cast_of p.attack) (value_at p) (range_with_len 0 (correct_of p))
+        are_map w (cast_of p.attack) (value_input p) (range_with_len 0 (correct_of p))
         (λ i there. correct_below w p planned i (let below = number_below 0 (correct_of p) i there in omega (arith, below)))
 
 flip_steps : (w : Setting) (p : Plan) → IsPlanned w p → (x : Player) → Has (players_of p) x → AreSteps w (cast_of p.attack) (flip_inputs p x)
@@ -190,21 +190,21 @@ throw_steps w p planned c Garbage g =
 
 -- ---- sweeps
 
-swept_steps : (w : Setting) (p : Plan) → IsPlanned w p → (before : Counts) (s : Scene) (y : Player) → Has (players_of p) y
+swept_steps : (w : Setting) (p : Plan) → IsPlanned w p → (before : FrameCounts) (s : Scene) (y : Player) → Has (players_of p) y
     → AreSteps w (cast_of p.attack) (swept_at w p before s y)
 swept_steps w p planned before s y there =
     let c = cast_of p.attack in
-    are_append w c (turns_at w s y) (flat_map (λ x. carries before (counts_of w c s) x y) (linked_to p y))
+    are_append w c (turns_at w s y) (flat_map (λ x. carries before (frame_counts w c s) x y) (linked_to p y))
     (are_map w c (λ _. Go y) (state_at w s y).inbox (λ _ _. player_is w p planned y there))
-    (are_among w c (λ x. carries before (counts_of w c s) x y) (linked_to p y) (λ x linked.
+    (are_among w c (λ x. carries before (frame_counts w c s) x y) (linked_to p y) (λ x linked.
     let passing = has_passing (λ z. are_linked p z y) (players_of p) x linked in
-    are_map w c (Carry x y) (range_with_len (before x y) (counts_of w c s x y - before x y))
+    are_map w c (Carry x y) (range_with_len (before x y) (frame_counts w c s x y - before x y))
     (λ m _. carry_is w p planned x y passing.0 there passing.1 m)))
 
-pub sweep_steps : (w : Setting) (p : Plan) → IsPlanned w p → (before : Counts) (s : Scene) → AreSteps w (cast_of p.attack) (sweep_of w p before s)
+pub sweep_steps : (w : Setting) (p : Plan) → IsPlanned w p → (before : FrameCounts) (s : Scene) → AreSteps w (cast_of p.attack) (sweep_of w p before s)
 sweep_steps w p planned before s = are_among w (cast_of p.attack) (swept_at w p before s) (players_of p) (swept_steps w p planned before s)
 
-sweeps_steps : (w : Setting) (p : Plan) → IsPlanned w p → (k : ℕ) (before : Counts) (g : Lcg) (steps : List Step) → AreSteps w (cast_of p.attack) steps
+sweeps_steps : (w : Setting) (p : Plan) → IsPlanned w p → (k : ℕ) (before : FrameCounts) (g : Lcg) (steps : List Step) → AreSteps w (cast_of p.attack) steps
     → AreSteps w (cast_of p.attack) (sweeps k w p before g steps)
 sweeps_steps w p planned zero before g steps all = all
 sweeps_steps w p planned (suc k) before g steps all =
@@ -212,8 +212,8 @@ sweeps_steps w p planned (suc k) before g steps all =
     let s = scene_of w c steps in
     let next = sweep_of w p before s in
     let thrown = throws_of p p.attack g in
-    either (length next == 0) (sweeps k w p (counts_of w c s) thrown.1 (reverse next ++ reverse thrown.0 ++ steps)) all
-    (sweeps_steps w p planned k (counts_of w c s) thrown.1 (reverse next ++ reverse thrown.0 ++ steps)
+    either (length next == 0) (sweeps k w p (frame_counts w c s) thrown.1 (reverse next ++ reverse thrown.0 ++ steps)) all
+    (sweeps_steps w p planned k (frame_counts w c s) thrown.1 (reverse next ++ reverse thrown.0 ++ steps)
     (are_append w c (reverse next ++ reverse thrown.0) steps
     (are_append w c (reverse next) (reverse thrown.0) (are_reverse w c next (sweep_steps w p planned before s)) (are_reverse w c thrown.0 (throw_steps w p planned c p.attack g))) all))
   where
@@ -243,12 +243,12 @@ choice_is w p planned choice there =
     ]
 
 carried_steps : (w : Setting) (c : Cast) (q : Picking) (g : Lcg) (u : ℕ) (x y : Player) (o : Option ℕ) → ((m : ℕ) → IsStep w c (Carry x y m))
-    → AreSteps w c q.steps → AreSteps w c (carried q g u x y o).steps
+    → AreSteps w c q.steps → AreSteps w c (frame_carried q g u x y o).steps
 carried_steps w c q g u x y None is all = all
 carried_steps w c q g u x y (Some m) is all = (is m, all)
 
 taken_steps : (w : Setting) (p : Plan) → (q : Picking) (g : Lcg) (o : Option Choice) → ((choice : Choice) → o ≡ Some choice → IsFairChoice w p choice)
-    → AreSteps w (cast_of p.attack) q.steps → AreSteps w (cast_of p.attack) (taken w p q g o).steps
+    → AreSteps w (cast_of p.attack) q.steps → AreSteps w (cast_of p.attack) (choice_taken w p q g o).steps
 taken_steps w p q g None fair all = all
 taken_steps w p q g (Some (Turning y)) fair all = (fair (Turning y) refl, all)
 taken_steps w p q g (Some (Passing x y)) fair all = carried_steps w (cast_of p.attack) q _ _ x y _ (fair (Passing x y) refl) all
@@ -283,8 +283,8 @@ picks_steps w p planned (suc k) number q all =
 
 -- ---- the steps of a plan
 
-ordered_steps : (w : Setting) (p : Plan) → IsPlanned w p → (most : ℕ) (order : Order) → AreSteps w (cast_of p.attack) (steps_by most w p order)
-ordered_steps w p planned most Sweep = sweeps_steps w p planned most none_yet (start_of p) (reverse (inputs_of p)) (input_steps w p planned)
+ordered_steps : (w : Setting) (p : Plan) → IsPlanned w p → (most : ℕ) (order : Order) → AreSteps w (cast_of p.attack) (steps_by_order most w p order)
+ordered_steps w p planned most Sweep = sweeps_steps w p planned most none_yet (words_start p) (reverse (inputs_of p)) (input_steps w p planned)
 ordered_steps w p planned most Random = picks_steps w p planned most 0 _ (input_steps w p planned)
 
 pub plan_steps : (w : Setting) (p : Plan) → IsPlanned w p → (most : ℕ) → AreSteps w (cast_of p.attack) (steps_of most w p)

@@ -18,8 +18,8 @@ use Rattle.world_model.specs.World.{Setting}
 use Rattle.ritas_base.specs.declared.plan.Attack.{Attack}
 use Rattle.ritas_base.specs.declared.plan.Attack.TheVariants.{Absent, Silent, TwoFace, Flip, Garbage}
 use Rattle.schedule_plan.specs.Flips.{other_bit, flipped}
-use Rattle.schedule_plan.specs.Plans.{shown_of}
-use Rattle.world_model.specs.Forging.{Shows}
+use Rattle.schedule_plan.specs.Plans.{face_shown}
+use Rattle.world_model.specs.Forging.{IsFaceView}
 
 either_bit : (b : Bool) → (nat_lt 0 (if b then 3 else 2) ≡ true) × (nat_lt 1 (if b then 3 else 2) ≡ true)
 either_bit true = (refl, refl)
@@ -66,7 +66,7 @@ pub same_if : {X : Type 0} (b : Bool) (P : Msg → X) (m : Msg) → P (with_othe
 same_if true P m e = e
 same_if false P m e = refl
 
-pub flips_show : (w : Setting) → Shows w flipped
+pub flips_show : (w : Setting) → IsFaceView w flipped
 flips_show w = record {
   to = λ m. same_if (kind_eq m.kind Init && m.slot.class == 5) (λ x. x.to) m refl;
   kind = λ m. same_if (kind_eq m.kind Init && m.slot.class == 5) (λ x. x.kind) m refl;
@@ -92,12 +92,12 @@ flips_show w = record {
     good_if i m good false e = good
 
 -- a face that changes nothing
-pub plain_show : (w : Setting) → Shows w (λ m. m)
+pub plain_show : (w : Setting) → IsFaceView w (λ m. m)
 plain_show w = record { to = λ m. refl; kind = λ m. refl; slot = λ m. refl; others = λ m not_init. refl; good = λ i m good. good }
 
 -- ---- every attack
 
-pub attacks_show : (w : Setting) (attack : Attack) → Shows w (shown_of attack)
+pub attacks_show : (w : Setting) (attack : Attack) → IsFaceView w (face_shown attack)
 attacks_show w Absent = plain_show w
 attacks_show w Silent = plain_show w
 attacks_show w TwoFace = plain_show w
@@ -105,7 +105,7 @@ attacks_show w Flip = flips_show w
 attacks_show w Garbage = plain_show w
 
 -- a face shows its messages as they are, where the attack isn't to exchange bits
-pub plainly : (attack : Attack) → attack ≢ Flip → (m : Msg) → shown_of attack m ≡ m
+pub plainly : (attack : Attack) → attack ≢ Flip → (m : Msg) → face_shown attack m ≡ m
 plainly Absent other m = refl
 plainly Silent other m = refl
 plainly TwoFace other m = refl

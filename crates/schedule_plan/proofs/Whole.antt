@@ -17,10 +17,10 @@ use Rattle.world_model.specs.Players.{Step, Go, Carry, scene_of}
 use Rattle.world_model.proofs.Members.{has_passing, got_listed}
 use Rattle.schedule_plan.specs.Plans.{cast_of}
 use Rattle.schedule_plan.specs.Inputs.{inputs_of}
-use Rattle.schedule_plan.specs.Garbage.{start_of, throws_of}
-use Rattle.schedule_plan.specs.Sweeps.{Counts, none_yet, counts_of, sweep_of, sweeps}
-use Rattle.schedule_plan.specs.Picks.{Choice, Turning, Passing, has_some, unpassed, is_open_choice, all_choices, choices_of, Picking, carried, taken, garbled, pick, picks}
-use Rattle.schedule_plan.specs.Schedule.{step_limit, steps_by, steps_of, schedule, limit_met}
+use Rattle.schedule_plan.specs.Garbage.{words_start, throws_of}
+use Rattle.schedule_plan.specs.Sweeps.{FrameCounts, none_yet, frame_counts, sweep_of, sweeps}
+use Rattle.schedule_plan.specs.Picks.{Choice, Turning, Passing, has_some, unpassed, is_open_choice, all_choices, choices_of, Picking, frame_carried, choice_taken, garbled, pick, picks}
+use Rattle.schedule_plan.specs.Schedule.{step_limit, steps_by_order, steps_of, schedule, limit_met}
 use Rattle.schedule_plan.specs.Laws.{WholeLaw}
 use Rattle.schedule_plan.proofs.Limits.{limit_stays, within_steps}
 
@@ -96,7 +96,7 @@ sweep_grows next thrown steps some =
     let turned = length-reverse next in
     record { later = reverse next ++ reverse thrown; is = refl; least = omega (arith, apart, many, turned) }
 
-pub sweeps_grow : (w : Setting) (p : Plan) (k : ℕ) (before : Counts) (g : Lcg) (steps : List Step) → Grows 0 steps (sweeps k w p before g steps)
+pub sweeps_grow : (w : Setting) (p : Plan) (k : ℕ) (before : FrameCounts) (g : Lcg) (steps : List Step) → Grows 0 steps (sweeps k w p before g steps)
 sweeps_grow w p zero before g steps = grows_none steps
 sweeps_grow w p (suc k) before g steps =
     let c = cast_of p.attack in
@@ -104,10 +104,10 @@ sweeps_grow w p (suc k) before g steps =
     let next = sweep_of w p before s in
     let thrown = throws_of p p.attack g in
     let more = reverse next ++ reverse thrown.0 ++ steps in
-    stay_if (length next == 0) steps (sweeps k w p (counts_of w c s) thrown.1 more) (λ some.
-    grows_before steps more (sweeps k w p (counts_of w c s) thrown.1 more) (sweep_grows next thrown.0 steps some) (sweeps_grow w p k (counts_of w c s) thrown.1 more))
+    stay_if (length next == 0) steps (sweeps k w p (frame_counts w c s) thrown.1 more) (λ some.
+    grows_before steps more (sweeps k w p (frame_counts w c s) thrown.1 more) (sweep_grows next thrown.0 steps some) (sweeps_grow w p k (frame_counts w c s) thrown.1 more))
 
-pub sweeps_on : (w : Setting) (p : Plan) (k far : ℕ) → k ≤ far → (before : Counts) (g : Lcg) (steps : List Step)
+pub sweeps_on : (w : Setting) (p : Plan) (k far : ℕ) → k ≤ far → (before : FrameCounts) (g : Lcg) (steps : List Step)
     → GoesOn k steps (sweeps k w p before g steps) (sweeps far w p before g steps)
 sweeps_on w p zero far within before g steps = inr (grows_none steps, sweeps_grow w p far before g steps)
 sweeps_on w p (suc k) zero within before g steps = absurd (omega (arith, within))
@@ -117,10 +117,10 @@ sweeps_on w p (suc k) (suc far) within before g steps =
     let next = sweep_of w p before s in
     let thrown = throws_of p p.attack g in
     let more = reverse next ++ reverse thrown.0 ++ steps in
-    let few = sweeps k w p (counts_of w c s) thrown.1 more in
-    let many = sweeps far w p (counts_of w c s) thrown.1 more in
+    let few = sweeps k w p (frame_counts w c s) thrown.1 more in
+    let many = sweeps far w p (frame_counts w c s) thrown.1 more in
     end_if (length next == 0) (suc k) steps few many (λ some.
-    goes_before k steps more few many (sweep_grows next thrown.0 steps some) (sweeps_on w p k far (omega (arith, within)) (counts_of w c s) thrown.1 more))
+    goes_before k steps more few many (sweep_grows next thrown.0 steps some) (sweeps_on w p k far (omega (arith, within)) (frame_counts w c s) thrown.1 more))
 
 -- ---- picks
 
@@ -137,18 +137,18 @@ element_at (x ∷ xs) (suc m) below = let rest = element_at xs m (omega (arith, 
 some_left : {X : Type 0} (xs : List X) → has_some xs ≡ true → 0 < length xs
 some_left xs some = let apart : length xs ≢ 0 = eqb-false (length xs) 0 (not-true (length xs == 0) some) in omega (arith, apart)
 
-carried_grows : (q : Picking) (g : Lcg) (u : ℕ) (x y : Player) (o : Option ℕ) → Grows 0 q.steps (carried q g u x y o).steps
+carried_grows : (q : Picking) (g : Lcg) (u : ℕ) (x y : Player) (o : Option ℕ) → Grows 0 q.steps (frame_carried q g u x y o).steps
 carried_grows q g u x y None = grows_none q.steps
 carried_grows q g u x y (Some m) = grows_less 1 0 q.steps (Carry x y m ∷ q.steps) (omega arith) (grows_one (Carry x y m) q.steps)
 
-taken_grows : (w : Setting) (p : Plan) (q : Picking) (g : Lcg) (o : Option Choice) → Grows 0 q.steps (taken w p q g o).steps
+taken_grows : (w : Setting) (p : Plan) (q : Picking) (g : Lcg) (o : Option Choice) → Grows 0 q.steps (choice_taken w p q g o).steps
 taken_grows w p q g None = grows_none q.steps
 taken_grows w p q g (Some (Turning y)) = grows_less 1 0 q.steps (Go y ∷ q.steps) (omega arith) (grows_one (Go y) q.steps)
 taken_grows w p q g (Some (Passing x y)) = carried_grows q _ _ x y _
 
 -- a choice that is open has a step
 open_grows : (w : Setting) (p : Plan) (q : Picking) (g : Lcg) (choice : Choice) → is_open_choice w (cast_of p.attack) (scene_of w (cast_of p.attack) q.steps) q.passed choice ≡ true
-    → Grows 1 q.steps (taken w p q g (Some choice)).steps
+    → Grows 1 q.steps (choice_taken w p q g (Some choice)).steps
 open_grows w p q g (Turning y) is = grows_one (Go y) q.steps
 open_grows w p q g (Passing x y) is =
     let frames = unpassed w (cast_of p.attack) (scene_of w (cast_of p.attack) q.steps) q.passed x y in
@@ -157,17 +157,17 @@ open_grows w p q g (Passing x y) is =
     let below = mod_below u.0 (min 8 (length frames)) some in
     let most = min-le_right 8 (length frames) in
     let at = element_at frames (u.0 % min 8 (length frames)) (omega (arith, below, most)) in
-    subst (λ (o : Option ℕ). Grows 1 q.steps (carried q u.1 u.0 x y o).steps) (sym at.is) (grows_one (Carry x y at.element) q.steps)
+    subst (λ (o : Option ℕ). Grows 1 q.steps (frame_carried q u.1 u.0 x y o).steps) (sym at.is) (grows_one (Carry x y at.element) q.steps)
 
 -- behind garbage, too
 garbled_grows : (w : Setting) (p : Plan) (q : Picking) (thrown : List Step) (words g : Lcg) (choice : Choice)
     → is_open_choice w (cast_of p.attack) (scene_of w (cast_of p.attack) q.steps) q.passed choice ≡ true
-    → Grows 1 q.steps (taken w p (record { steps = reverse thrown ++ q.steps; passed = q.passed; words = words }) g (Some choice)).steps
+    → Grows 1 q.steps (choice_taken w p (record { steps = reverse thrown ++ q.steps; passed = q.passed; words = words }) g (Some choice)).steps
 garbled_grows w p q [] words g choice is = open_grows w p (record { steps = q.steps; passed = q.passed; words = words }) g choice is
 garbled_grows w p q (step ∷ thrown) words g choice is =
     let behind : Picking = record { steps = reverse (step ∷ thrown) ++ q.steps; passed = q.passed; words = words } in
     let many = length-reverse (step ∷ thrown) in
-    grows_on 1 0 q.steps behind.steps (taken w p behind g (Some choice)).steps
+    grows_on 1 0 q.steps behind.steps (choice_taken w p behind g (Some choice)).steps
     (grows_less (length (reverse (step ∷ thrown))) 1 q.steps behind.steps (omega (arith, many)) (grows_by (reverse (step ∷ thrown)) q.steps))
     (taken_grows w p behind g (Some choice))
 
@@ -182,7 +182,7 @@ pick_grows w p number q some =
     let word = pcg32 g.words in
     let at = element_at choices (word.0 % length choices) (mod_below word.0 (length choices) (some_left choices some)) in
     let is = has_passing (is_open_choice w c s q.passed) (all_choices p) at.element (got_listed choices (word.0 % length choices) at.element at.is) in
-    subst (λ (o : Option Choice). Grows 1 q.steps (taken w p (record g { words = word.1 }) word.1 o).steps) (sym at.is)
+    subst (λ (o : Option Choice). Grows 1 q.steps (choice_taken w p (record g { words = word.1 }) word.1 o).steps) (sym at.is)
     (garbled_grows w p q thrown.0 word.1 word.1 at.element is.1)
 
 pub picks_grow : (w : Setting) (p : Plan) (k number : ℕ) (q : Picking) → Grows 0 q.steps (picks k w p number q)
@@ -205,9 +205,9 @@ picks_on w p (suc k) (suc far) within number q =
 -- ---- the schedule of a plan
 
 -- in either order
-pub order_goes_on : (w : Setting) (p : Plan) (k far : ℕ) → k ≤ far → (order : Order) → GoesOn k (reverse (inputs_of p)) (steps_by k w p order) (steps_by far w p order)
-order_goes_on w p k far within Sweep = sweeps_on w p k far within none_yet (start_of p) (reverse (inputs_of p))
-order_goes_on w p k far within Random = picks_on w p k far within 0 (record { steps = reverse (inputs_of p); passed = []; words = start_of p })
+pub order_goes_on : (w : Setting) (p : Plan) (k far : ℕ) → k ≤ far → (order : Order) → GoesOn k (reverse (inputs_of p)) (steps_by_order k w p order) (steps_by_order far w p order)
+order_goes_on w p k far within Sweep = sweeps_on w p k far within none_yet (words_start p) (reverse (inputs_of p))
+order_goes_on w p k far within Random = picks_on w p k far within 0 (record { steps = reverse (inputs_of p); passed = []; words = words_start p })
 
 -- with so many rounds a limit is met before there are more
 same_within : (w : Setting) (p : Plan) (steps few many : List Step) → GoesOn (step_limit + 1) steps few many → limit_met w p few ≡ None → many ≡ few
@@ -221,7 +221,7 @@ same_limit w p k x steps few many (inr grown) met = subst (λ (s : List Step). l
 pub whole_law : WholeLaw
 unfolding schedule steps_of
 whole_law w p more =
-    let few = steps_by (step_limit + 1) w p p.order in
-    let many = steps_by (more + (step_limit + 1)) w p p.order in
+    let few = steps_by_order (step_limit + 1) w p p.order in
+    let many = steps_by_order (more + (step_limit + 1)) w p p.order in
     let on = order_goes_on w p (step_limit + 1) (more + (step_limit + 1)) (omega arith) p.order in
     (same_within w p (reverse (inputs_of p)) few many on, λ x met. same_limit w p (step_limit + 1) x (reverse (inputs_of p)) few many on met)

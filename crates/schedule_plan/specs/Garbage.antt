@@ -12,8 +12,8 @@ use Rattle.schedule_plan.specs.Plans.{correct_of, is_correct_in}
 use Rattle.schedule_plan.specs.Inputs.{number_text}
 
 -- where the words of a plan start
-abbrev pub start_of : Plan → Lcg
-start_of p = pcg32_of_seed (pcg32_seed 16 p.start_number)
+abbrev pub words_start : Plan → Lcg
+words_start p = pcg32_of_seed (pcg32_seed 16 p.start_number)
 
 -- the next two words, and 32 zero bytes
 abbrev pub filler : Lcg → List ℕ

@@ -36,13 +36,13 @@ abbrev pub command_at : Plan → ℕ → List Step
 command_at p k = map (copy_at p k) (range_with_len 0 (copies_of p))
 
 -- each correct replica gets one value, of so many different ones
-abbrev pub value_at : Plan → ℕ → Step
-value_at p i = Give (Correct i) (value_text p.mode.root (i % p.commands))
+abbrev pub value_input : Plan → ℕ → Step
+value_input p i = Give (Correct i) (value_text p.mode.root (i % p.commands))
 
 abbrev pub correct_inputs : Plan → List Step
 correct_inputs p =
     if takes_commands p.mode.root then flat_map (command_at p) (range_with_len 0 p.commands)
-    else (if p.commands == 0 then [] else map (value_at p) (range_with_len 0 (correct_of p)))
+    else (if p.commands == 0 then [] else map (value_input p) (range_with_len 0 (correct_of p)))
 
 -- a face that exchanges bits gets the value of its replica, and each of two faces one of its own
 abbrev pub flip_inputs : Plan → Player → List Step

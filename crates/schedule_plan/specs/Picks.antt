@@ -10,7 +10,7 @@ use Rattle.world_model.specs.declared.player.Player.TheVariants.{Correct, Face}
 use Rattle.world_model.specs.Players.{Cast, Scene, state_at, Step, Go, Carry, scene_of}
 use Rattle.schedule_plan.specs.Plans.{cast_of, players_of, linked_from}
 use Rattle.schedule_plan.specs.Garbage.{throws_of}
-use Rattle.schedule_plan.specs.Sweeps.{counts_of}
+use Rattle.schedule_plan.specs.Sweeps.{frame_counts}
 
 pub data Choice : Type 0 where
   -- a player takes the item at the front of its inbox
@@ -34,7 +34,7 @@ has_passed passed x y m = list_any (λ q. same_player q.from x && (same_player q
 
 -- the numbers of the frames that x made for y and that weren't passed, the oldest first
 abbrev pub unpassed : Setting → Cast → Scene → List Passed → Player → Player → List ℕ
-unpassed w c s passed x y = filter (λ m. not (has_passed passed x y m)) (range_with_len 0 (counts_of w c s x y))
+unpassed w c s passed x y = filter (λ m. not (has_passed passed x y m)) (range_with_len 0 (frame_counts w c s x y))
 
 abbrev pub has_some : {X : Type 0} → List X → Bool
 has_some xs = not (length xs == 0)
@@ -64,23 +64,23 @@ pub record Picking : Type 0 where
 abbrev pub passes_once : ℕ → Bool
 passes_once u = not (u / 256 % 16 == 0)
 
-abbrev pub carried : Picking → Lcg → ℕ → Player → Player → Option ℕ → Picking
-carried q g u x y None = record q { words = g }
-carried q g u x y (Some m) = record {
+abbrev pub frame_carried : Picking → Lcg → ℕ → Player → Player → Option ℕ → Picking
+frame_carried q g u x y None = record q { words = g }
+frame_carried q g u x y (Some m) = record {
   steps = Carry x y m ∷ q.steps;
   passed = if passes_once u then record { from = x; to = y; number = m } ∷ q.passed else q.passed;
   words = g;
 }
 
 -- a choice is taken: of the frames of a pair one of the eight oldest
-abbrev pub taken : Setting → Plan → Picking → Lcg → Option Choice → Picking
-taken w p q g None = q
-taken w p q g (Some (Turning y)) = record { steps = Go y ∷ q.steps; passed = q.passed; words = g }
-taken w p q g (Some (Passing x y)) =
+abbrev pub choice_taken : Setting → Plan → Picking → Lcg → Option Choice → Picking
+choice_taken w p q g None = q
+choice_taken w p q g (Some (Turning y)) = record { steps = Go y ∷ q.steps; passed = q.passed; words = g }
+choice_taken w p q g (Some (Passing x y)) =
     let c = cast_of p.attack in
     let frames = unpassed w c (scene_of w c q.steps) q.passed x y in
     let u = pcg32 g in
-    carried q u.1 u.0 x y (slice_get frames (u.0 % min 8 (length frames)))
+    frame_carried q u.1 u.0 x y (slice_get frames (u.0 % min 8 (length frames)))
 
 -- before each 256th pick garbage comes
 abbrev pub garbled : Plan → ℕ → Picking → Picking
@@ -94,7 +94,7 @@ pick w p number q =
     let choices = choices_of w p (scene_of w (cast_of p.attack) q.steps) q.passed in
     let g = garbled p number q in
     let word = pcg32 g.words in
-    taken w p (record g { words = word.1 }) word.1 (slice_get choices (word.0 % length choices))
+    choice_taken w p (record g { words = word.1 }) word.1 (slice_get choices (word.0 % length choices))
 
 -- picks follow one another while something is open
 abbrev pub picks : ℕ → Setting → Plan → ℕ → Picking → List Step

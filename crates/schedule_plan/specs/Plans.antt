@@ -43,12 +43,12 @@ faces_of TwoFace i = Face (face_a i) ∷ Face (face_b i) ∷ []
 faces_of _ i = []
 
 -- what a face shows of a message that its replica sends
-abbrev pub shown_of : Attack → Msg → Msg
-shown_of Flip m = flipped m
-shown_of _ m = m
+abbrev pub face_shown : Attack → Msg → Msg
+face_shown Flip m = flipped m
+face_shown _ m = m
 
 abbrev pub cast_of : Attack → Cast
-cast_of attack = record { number = λ a. a / 2; shown = shown_of attack }
+cast_of attack = record { number = λ a. a / 2; shown = face_shown attack }
 
 abbrev pub players_at : Plan → ℕ → List Player
 players_at p i = if is_correct_in p i then Correct i ∷ [] else faces_of p.attack i

@@ -32,7 +32,7 @@ use Rattle.world_model.specs.Players.{Give, Go, Carry, Throw}
 use Rattle.schedule_plan.specs.Flips.{other_bit, flipped, flip_body}
 use Rattle.schedule_plan.specs.Plans.{correct_of, header_of, players_of, are_linked, linked_to, linked_from}
 use Rattle.schedule_plan.specs.Inputs.{number_text, inputs_of}
-use Rattle.schedule_plan.specs.Garbage.{start_of, throws_of}
+use Rattle.schedule_plan.specs.Garbage.{words_start, throws_of}
 use Rattle.schedule_plan.specs.Sweeps.{none_yet, carries}
 use Rattle.schedule_plan.specs.Picks.{Turning, Passing, has_passed, passes_once, all_choices}
 use Rattle.schedule_plan.specs.Schedule.{world_by, steps_of, step_limit, limit_met}
@@ -243,7 +243,7 @@ body_left = refl
 
 -- ---- drawn numbers, and garbage of them
 
-first_word : (pcg32 (start_of (of_four mode_1 Garbage 1))).0 ≡ 866585574
+first_word : (pcg32 (words_start (of_four mode_1 Garbage 1))).0 ≡ 866585574
 unfolding pcg32_seed word_bytes u32_at
 first_word = refl
 
@@ -251,12 +251,12 @@ abbrev garbage_of : ℕ → ℕ → List ℕ
 garbage_of first second = number_text first ++ number_text second ++ replicate 32 0
 
 -- replica 3 throws a frame to each of the three others
-three_thrown : (throws_of (of_four mode_1 Garbage 1) Garbage (start_of (of_four mode_1 Garbage 1))).0
+three_thrown : (throws_of (of_four mode_1 Garbage 1) Garbage (words_start (of_four mode_1 Garbage 1))).0
     ≡ Throw 3 0 (garbage_of 866585574 2109535214) ∷ Throw 3 1 (garbage_of 3403630417 296513984) ∷ Throw 3 2 (garbage_of 4177522235 689909480) ∷ []
 unfolding pcg32_seed word_bytes u32_at
 three_thrown = refl
 
-none_thrown : (throws_of (of_four mode_1 Silent 1) Silent (start_of (of_four mode_1 Silent 1))).0 ≡ []
+none_thrown : (throws_of (of_four mode_1 Silent 1) Silent (words_start (of_four mode_1 Silent 1))).0 ≡ []
 none_thrown = refl
 
 -- ---- sweeps and picks

@@ -15,7 +15,7 @@ use Rattle.world_model.specs.World.{Setting}
 use Rattle.world_model.specs.Players.{Step, events_of}
 use Rattle.schedule_plan.specs.Plans.{cast_of, header_of}
 use Rattle.schedule_plan.specs.Inputs.{inputs_of}
-use Rattle.schedule_plan.specs.Garbage.{start_of}
+use Rattle.schedule_plan.specs.Garbage.{words_start}
 use Rattle.schedule_plan.specs.Sweeps.{none_yet, sweeps}
 use Rattle.schedule_plan.specs.Picks.{picks}
 
@@ -28,13 +28,13 @@ world_of p = setting_of (header_of p)
 
 -- ---- steps
 
-abbrev pub steps_by : ℕ → Setting → Plan → Order → List Step
-steps_by most w p Sweep = sweeps most w p none_yet (start_of p) (reverse (inputs_of p))
-steps_by most w p Random = picks most w p 0 (record { steps = reverse (inputs_of p); passed = []; words = start_of p })
+abbrev pub steps_by_order : ℕ → Setting → Plan → Order → List Step
+steps_by_order most w p Sweep = sweeps most w p none_yet (words_start p) (reverse (inputs_of p))
+steps_by_order most w p Random = picks most w p 0 (record { steps = reverse (inputs_of p); passed = []; words = words_start p })
 
 -- the steps of a plan with at most so many sweeps or picks
 unfoldable pub steps_of : ℕ → Setting → Plan → List Step
-steps_of most w p = steps_by most w p p.order
+steps_of most w p = steps_by_order most w p p.order
 
 -- a schedule has at most so many steps
 unfoldable pub step_limit : ℕ

@@ -6,53 +6,53 @@ use Rattle.ritas_base.specs.declared.event.Event.{Event}
 use Rattle.schedule_file.specs.declared.fault.FileFault.{FileFault}
 use Rattle.schedule_file.specs.declared.fault.FileFault.TheVariants.{TooLong, Trailing}
 use Rattle.schedule_file.specs.declared.scope.Scope.{Scope}
-use Rattle.schedule_file.specs.Reading.{◌>>=◌, Spot, start_of}
+use Rattle.schedule_file.specs.Reading.{◌>>=◌, Spot, text_start}
 use Rattle.schedule_file.specs.FileBytes.{limit, Fails, byte_at, end_at, end_from}
-use Rattle.schedule_file.specs.Place.{Held, spot}
+use Rattle.schedule_file.specs.Place.{Unread, spot}
 use Rattle.schedule_file.specs.ReadHeader.{Heading, header_at}
 use Rattle.schedule_file.specs.ReadEvents.{event_at, event_of, events_at, kind_at, no_event, some_event}
 use Rattle.schedule_file.specs.Schedule.{file_of}
 use Rattle.schedule_file.specs.Scopes.{scope_of}
-use Rattle.schedule_replay.specs.Onto.{onto}
+use Rattle.schedule_replay.specs.Onto.{read_onto}
 use Rattle.schedule_replay.proofs.Files.{heading_in, events_in}
 
-regroup : (h : List Event) (e : Event) (read : Result (List Event) FileFault) → onto h (read >>= λ es. Ok (e ∷ es)) ≡ onto (e ∷ h) read
+regroup : (h : List Event) (e : Event) (read : Result (List Event) FileFault) → read_onto h (read >>= λ es. Ok (e ∷ es)) ≡ read_onto (e ∷ h) read
 regroup h e (Ok es) = ap (λ (l : List Event). Ok l) (ap (λ (l : List Event). l ++ h) (reverse-append (e ∷ []) es) ∙ append_assoc (reverse es) (e ∷ []) h)
 regroup h e (Err f) = refl
 
 -- an event was taken
 pub goes_on : (h : List Event) (most i : ℕ) (scope : Scope) (s : Spot) (e : Event) (next : Spot) (total : Result (List Event) FileFault) → i < most → event_at scope s ≡ Ok (Some e, next)
-    → onto h (events_at (most - i) scope s) ≡ total → onto (e ∷ h) (events_at (most - (i + 1)) scope next) ≡ total
+    → read_onto h (events_at (most - i) scope s) ≡ total → read_onto (e ∷ h) (events_at (most - (i + 1)) scope next) ≡ total
 unfolding events_at
 goes_on h most i scope s e next total lt read so_far =
     let k : most - i ≡ suc (most - (i + 1)) = omega arith in
-    let one : onto h (events_at (most - i) scope s) ≡ onto (e ∷ h) (events_at (most - (i + 1)) scope next) = rw (k, read) (regroup h e (events_at (most - (i + 1)) scope next)) in
+    let one : read_onto h (events_at (most - i) scope s) ≡ read_onto (e ∷ h) (events_at (most - (i + 1)) scope next) = rw (k, read) (regroup h e (events_at (most - (i + 1)) scope next)) in
     sym one ∙ so_far
 
 -- a fault was met
 pub fails : (x : FileFault) (h : List Event) (most i : ℕ) (scope : Scope) (s : Spot) (total : Result (List Event) FileFault) → i < most → Fails x (event_at scope s)
-    → onto h (events_at (most - i) scope s) ≡ total → Fails x total
+    → read_onto h (events_at (most - i) scope s) ≡ total → Fails x total
 unfolding events_at
 fails x h most i scope s total lt read so_far = λ own.
     let k : most - i ≡ suc (most - (i + 1)) = omega arith in
-    let one : onto h (events_at (most - i) scope s) ≡ Err x = rw (k, read own) refl in
+    let one : read_onto h (events_at (most - i) scope s) ≡ Err x = rw (k, read own) refl in
     sym so_far ∙ one
 
 -- the end was met
 pub ends : (h : List Event) (most i : ℕ) (scope : Scope) (s next : Spot) (total : Result (List Event) FileFault) → i < most → event_at scope s ≡ Ok (None, next)
-    → onto h (events_at (most - i) scope s) ≡ total → total ≡ Ok h
+    → read_onto h (events_at (most - i) scope s) ≡ total → total ≡ Ok h
 unfolding events_at
 ends h most i scope s next total lt read so_far =
     let k : most - i ≡ suc (most - (i + 1)) = omega arith in
-    let one : onto h (events_at (most - i) scope s) ≡ Ok h = rw (k, read) refl in
+    let one : read_onto h (events_at (most - i) scope s) ≡ Ok h = rw (k, read) refl in
     sym so_far ∙ one
 
 -- as many events were taken as no file has
-pub too_many : (h : List Event) (most i : ℕ) (scope : Scope) (s : Spot) (total : Result (List Event) FileFault) → most ≤ i → onto h (events_at (most - i) scope s) ≡ total → total ≡ Err TooLong
+pub too_many : (h : List Event) (most i : ℕ) (scope : Scope) (s : Spot) (total : Result (List Event) FileFault) → most ≤ i → read_onto h (events_at (most - i) scope s) ≡ total → total ≡ Err TooLong
 unfolding events_at
 too_many h most i scope s total le so_far =
     let k : most - i ≡ 0 = omega arith in
-    let one : onto h (events_at (most - i) scope s) ≡ Err TooLong = rw k refl in
+    let one : read_onto h (events_at (most - i) scope s) ≡ Err TooLong = rw k refl in
     sym so_far ∙ one
 
 -- ---- the end
@@ -97,7 +97,7 @@ tail_none [] ys e = e
 tail_none (x ∷ xs) ys e = absurd cc
 
 -- so the source has none left
-pub all_read : (scope : Scope) (s : Spot) (held : Held) (left : List ℕ) → event_at scope s ≡ Ok (None, spot held left) → left ≡ []
+pub all_read : (scope : Scope) (s : Spot) (held : Unread) (left : List ℕ) → event_at scope s ≡ Ok (None, spot held left) → left ≡ []
 all_read scope s held left e = tail_none held.bytes left (at_end scope s (spot held left) e)
 
 -- ---- the file
@@ -109,17 +109,17 @@ behind h read = read >>= λ es. Ok (h, es)
 abbrev reversed : Heading → Result (List Event) FileFault → Result (Heading × List Event) FileFault
 reversed h read = read >>= λ es. Ok (h, reverse es)
 
-all_onto : (h : Heading) (read : Result (List Event) FileFault) → reversed h read ≡ behind h (onto [] read)
+all_onto : (h : Heading) (read : Result (List Event) FileFault) → reversed h read ≡ behind h (read_onto [] read)
 all_onto h (Ok es) = ap (λ (l : List Event). Ok (h, l)) (sym (append-nil (reverse es)))
 all_onto h (Err f) = refl
 
 -- what a file says, once its header was read
-pub file_from : (bytes : List ℕ) (h : Heading) (next : Spot) → header_at (start_of bytes) ≡ Ok (h, next) → file_of bytes ≡ behind h (onto [] (events_at (limit + 1) (scope_of h) next))
+pub file_from : (bytes : List ℕ) (h : Heading) (next : Spot) → header_at (text_start bytes) ≡ Ok (h, next) → file_of bytes ≡ behind h (read_onto [] (events_at (limit + 1) (scope_of h) next))
 unfolding file_of
 file_from bytes h next read = rw read (all_onto h (events_at (limit + 1) (scope_of h) next))
 
 -- a fault of the header is one of the file
-pub file_fails : (bytes : List ℕ) (x : FileFault) → Fails x (header_at (start_of bytes)) → Fails x (file_of bytes)
+pub file_fails : (bytes : List ℕ) (x : FileFault) → Fails x (header_at (text_start bytes)) → Fails x (file_of bytes)
 unfolding file_of
 file_fails bytes x read = λ own. rw (read own) refl
 

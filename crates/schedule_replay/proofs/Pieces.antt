@@ -7,10 +7,10 @@ use Rattle.std.proofs.lemmas.Option.{slice_get_within, get_or_from_slice_get, sl
 use Rattle.std.proofs.Math.Seq.{take-suc}
 use Rattle.outside.specs.Faults.{count_after, Rose}
 use Rattle.outside.specs.Writing.{TookFront, Writes}
-use Rattle.schedule_replay.specs.Frames.{Held}
+use Rattle.schedule_replay.specs.Frames.{HoldsRest}
 
 -- a line goes onto what is held
-pub held_more : (old now held line lines : List ℕ) → Held old now held lines → Held old now (held ++ line) (lines ++ line)
+pub held_more : (old now held line lines : List ℕ) → HoldsRest old now held lines → HoldsRest old now (held ++ line) (lines ++ line)
 held_more old now held line lines h = record {
   front = h.front;
   parts = ap (λ (l : List ℕ). l ++ line) h.parts ∙ append_assoc h.front held line;
@@ -18,12 +18,12 @@ held_more old now held line lines h = record {
 }
 
 -- what is held was written
-pub all_written : (old now after held lines : List ℕ) → Held old now held lines → after ≡ now ++ held → after ≡ old ++ lines
+pub all_written : (old now after held lines : List ℕ) → HoldsRest old now held lines → after ≡ now ++ held → after ≡ old ++ lines
 all_written old now after held lines h wrote =
     wrote ∙ (ap (λ (l : List ℕ). l ++ held) h.taken ∙ (append_assoc old h.front held ∙ ap (λ (l : List ℕ). old ++ l) (sym h.parts)))
 
 -- a front of what is held was written
-pub held_cut : (old now after held lines : List ℕ) → Held old now held lines → TookFront now after held → TookFront old after lines
+pub held_cut : (old now after held lines : List ℕ) → HoldsRest old now held lines → TookFront now after held → TookFront old after lines
 held_cut old now after held lines h t = record {
   front = h.front ++ t.front;
   rest = t.rest;
@@ -32,7 +32,7 @@ held_cut old now after held lines h t = record {
 }
 
 -- what is held is lost
-pub held_lost : (old now held lines : List ℕ) → Held old now held lines → TookFront old now lines
+pub held_lost : (old now held lines : List ℕ) → HoldsRest old now held lines → TookFront old now lines
 held_lost old now held lines h = record { front = h.front; rest = held; parts = h.parts; taken = h.taken }
 
 -- a front of some lines is one of more

@@ -6,10 +6,10 @@ use Rattle.replica.specs.declared.refusal.Refusal.TheVariants as refusals
 use Rattle.world_model.specs.declared.counts.Counts.{Counts}
 use Rattle.world_model.specs.declared.seen.Seen.{Seen}
 use Rattle.world_model.specs.declared.seen.Seen.TheVariants as seen_as
-use Rattle.world_model.specs.Counts.{counted, counts_of, total}
+use Rattle.world_model.specs.Counts.{counted_event, counts_of, total}
 use Rattle.world_model.specs.World.{Setting, seen_of}
 
-one_more : (seen : Seen) (c : Counts) → total (counted seen c) ≡ total c + 1
+one_more : (seen : Seen) (c : Counts) → total (counted_event seen c) ≡ total c + 1
 one_more (seen_as.Answered answers.Took) c = omega arith
 one_more (seen_as.Answered answers.Held) c = omega arith
 one_more (seen_as.Answered answers.Repeat) c = omega arith

@@ -5,13 +5,13 @@ use Rattle.ritas_base.specs.declared.event.Event.{Event}
 use Rattle.layer_api.specs.Service.{LastVector, Decision, Bit, Nothing, Value, Spent, Ending, Undecided, Over, Decided}
 use Rattle.world_model.specs.declared.audit.Audit.{Audit}
 use Rattle.world_model.specs.declared.audit.Audit.TheVariants.{Holds}
-use Rattle.world_model.specs.Agree.{Agree, outcome_of, last_of}
+use Rattle.world_model.specs.Agree.{Agree, outcome_of, last_vector_at}
 use Rattle.world_model.specs.Audit.{audit_of}
 use Rattle.world_model.specs.World.{Setting}
 use Rattle.schedule_replay.specs.Report.{audit_line}
-use Rattle.schedule_replay.specs.Vectors.{SaysSpent, SaysVector, last_says, says_of, says_at, vector_lines, vectors_on, VectorsAgree}
+use Rattle.schedule_replay.specs.Vectors.{SaysSpent, SaysVector, last_says, line_says, says_at, vector_lines, vectors_on, VectorsAgree}
 
-unspent_says : (e : Ending) (o : Option LastVector) → e ≢ Decided Spent → says_of e o ≡ last_says o
+unspent_says : (e : Ending) (o : Option LastVector) → e ≢ Decided Spent → line_says e o ≡ last_says o
 unspent_says (Decided Spent) o never = absurd (never refl)
 unspent_says (Decided (Bit b)) o never = refl
 unspent_says (Decided Nothing) o never = refl
@@ -32,10 +32,10 @@ unfolding vectors_on
 vectors_agree w es holds agree = record {
   says = says_at w es;
   lines = ap (λ (a : Audit). vector_lines w.is_correct w.numbers.n (says_at w es) ++ audit_line a) holds;
-  unspent = λ i correct spent. not_spent (last_of w es i) (sym (unspent_says (outcome_of w es i) (last_of w es i) (agree.unspent i correct)) ∙ spent);
+  unspent = λ i correct spent. not_spent (last_vector_at w es i) (sym (unspent_says (outcome_of w es i) (last_vector_at w es i) (agree.unspent i correct)) ∙ spent);
   alike = λ i j x y left right p q same.
-      let one = unspent_says (outcome_of w es i) (last_of w es i) (agree.unspent i left) in
-      let two = unspent_says (outcome_of w es j) (last_of w es j) (agree.unspent j right) in
-      let equal = agree.last_vectors i j x y left right (is_last (last_of w es i) x (sym one ∙ p)) (is_last (last_of w es j) y (sym two ∙ q)) same in
+      let one = unspent_says (outcome_of w es i) (last_vector_at w es i) (agree.unspent i left) in
+      let two = unspent_says (outcome_of w es j) (last_vector_at w es j) (agree.unspent j right) in
+      let equal = agree.last_vectors i j x y left right (is_last (last_vector_at w es i) x (sym one ∙ p)) (is_last (last_vector_at w es j) y (sym two ∙ q)) same in
       p ∙ (ap SaysVector equal ∙ sym q);
 }

@@ -24,7 +24,7 @@ abbrev pub frames_text : Header → List Event → List ℕ
 frames_text h es = frames_on (setting_of h) es
 
 -- a sink went from old to now: of these lines it took a front, and the rest is held
-pub record Held (old now held lines : List ℕ) : Type 0 where
+pub record HoldsRest (old now held lines : List ℕ) : Type 0 where
   pub front : List ℕ
   pub parts : lines ≡ front ++ held
   pub taken : now ≡ old ++ front

@@ -7,7 +7,8 @@ use Rattle.ritas_base.specs.Messages.{Place}
 use Rattle.ritas_base.specs.Tags.{Tags}
 use Rattle.ritas_base.specs.Members.{has_member}
 use Rattle.keyed_channel.specs.Keyed.{CoinSeed, dealt_for, coin_key_of, coin_bit, tags_of}
-use Rattle.keyed_channel.specs.KeyRow.{KeyRow, filled_row}
+use Rattle.ritas_base.specs.Bytes.{filled_row}
+use Rattle.keyed_channel.specs.KeyRow.{KeyRow}
 use Rattle.reliable_bcast.specs.Bracha.{bracha}
 use Rattle.reliable_bcast.specs.Digests.{by_digest}
 use Rattle.echo_bcast.specs.Matrix.{echo}

@@ -6,9 +6,9 @@ use Rattle.schedule_file.specs.Place.{ReaderState, spot}
 use Rattle.schedule_file.specs.Reading.{◌>>=◌}
 use Rattle.schedule_file.specs.ReadEvents.{events_at}
 
-abbrev pub onto : List Event → Result (List Event) FileFault → Result (List Event) FileFault
-onto h read = read >>= λ es. Ok (reverse es ++ h)
+abbrev pub read_onto : List Event → Result (List Event) FileFault → Result (List Event) FileFault
+read_onto h read = read >>= λ es. Ok (reverse es ++ h)
 
 -- the events of a file that a reader holds bytes of and a source has the others of, behind those that were taken
 abbrev pub more_events : List Event → ReaderState → List ℕ → Result (List Event) FileFault
-more_events h reader left = onto h (events_at 67108865 reader.scope (spot reader.held left))
+more_events h reader left = read_onto h (events_at 67108865 reader.scope (spot reader.held left))

@@ -21,7 +21,7 @@ abbrev pub answered : {S E : Type 0} → Played S E → ℕ
 answered x = total x.counts
 
 -- it stands for these events of its header's world, with these layers
-pub record StandsFor {S E : Type 0} (m : Meaning S E CoinSeed KeyRow) (x : Played S E) (es : List Event) : Type 0 where
+pub record PlayedStandsFor {S E : Type 0} (m : Meaning S E CoinSeed KeyRow) (x : Played S E) (es : List Event) : Type 0 where
   pub header : IsHeading (heading x.header)
   pub world : WorldStands m x.world (setting_by m.service m.cast x.header) es
   pub counts : x.counts ≡ counts_of (setting_by m.service m.cast x.header) es

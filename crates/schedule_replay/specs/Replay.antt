@@ -56,16 +56,16 @@ asked_behind what root events = events >>= unless_none what root
 -- ---- ends
 
 -- the end where reading met a fault: want of memory is none of the file
-abbrev pub end_at : FileFault → ReplayEnd
-end_at faults.Mem = ends.Mem
-end_at fault = ends.File fault
+abbrev pub end_at_fault : FileFault → ReplayEnd
+end_at_fault faults.Mem = ends.Mem
+end_at_fault fault = ends.File fault
 
 -- a world's end is its audit, unless the source or the sink failed or memory ran out
-abbrev pub IsEndOf : Audit → ReplayEnd → Type 0
-IsEndOf audit (ends.Done a) = a ≡ audit
-IsEndOf audit (ends.File e) = e ≡ faults.Read
-IsEndOf audit ends.Write = Unit {0}
-IsEndOf audit ends.Mem = Unit {0}
+abbrev pub IsReplayEndOf : Audit → ReplayEnd → Type 0
+IsReplayEndOf audit (ends.Done a) = a ≡ audit
+IsReplayEndOf audit (ends.File e) = e ≡ faults.Read
+IsReplayEndOf audit ends.Write = Unit {0}
+IsReplayEndOf audit ends.Mem = Unit {0}
 
 -- the end of bytes that aren't a file is their fault, unless the source failed or memory ran out
 abbrev pub IsEndAt : FileFault → ReplayEnd → Type 0
@@ -82,7 +82,7 @@ pub record CountsIf (before now : ℕ) (failed : Type 0) : Type 0 where
 -- How a call ended, for a source and a sink before and after it, whether or not these tell: one call of the sink failed just where it is
 -- `Write`, and one of the source just where it is `File(Read)`. Want of memory is no fault of the file. At a fault of the file nothing was
 -- done to the sink, nor where memory ran out, unless frames are asked for.
-pub record Ended {S K : Type 0} (source_faults : S → ℕ) (before after : S) (sink_faults : K → ℕ) (old new : K) (what : What) (end : ReplayEnd) : Type 0 where
+pub record ReplayEnded {S K : Type 0} (source_faults : S → ℕ) (before after : S) (sink_faults : K → ℕ) (old new : K) (what : What) (end : ReplayEnd) : Type 0 where
   pub source : CountsIf (source_faults before) (source_faults after) (end ≡ ends.File faults.Read)
   pub sink : CountsIf (sink_faults old) (sink_faults new) (end ≡ ends.Write)
   pub own : end ≢ ends.File faults.Mem
@@ -94,7 +94,7 @@ pub record Ended {S K : Type 0} (source_faults : S → ℕ) (before after : S) (
 -- A world was answered by its audit: then the sink took its whole text, and in any case a front of it. Where that audit holds,
 -- its replicas agree, and so do the lines of a text of their vectors.
 pub record ShowsWorld {K : Type 0} (tells : Bool) (taken : K → List ℕ) (old new : K) (what : What) (end : ReplayEnd) (h : Header) (w : Setting) (es : List Event) : Type 0 where
-  pub answer : IsEndOf (audit_of w es) end
+  pub answer : IsReplayEndOf (audit_of w es) end
   pub whole : tells ≡ true → (a : Audit) → end ≡ ends.Done a → taken new ≡ taken old ++ text_on what h w es
   pub front : tells ≡ true → TookFront (taken old) (taken new) (text_on what h w es)
   pub agree : end ≡ ends.Done Holds → Agree w es

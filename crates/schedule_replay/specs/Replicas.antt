@@ -9,13 +9,13 @@ use Rattle.world_model.specs.Audit.{audit_of}
 use Rattle.world_model.specs.World.{Setting, rules_at, states_of}
 use Rattle.schedule_replay.specs.declared.replicas.Lines.{Lines}
 use Rattle.schedule_replay.specs.declared.replicas.Lines.TheVariants as lines_of_each
-use Rattle.schedule_replay.specs.Report.{lines_of, audit_line}
-use Rattle.schedule_replay.specs.Vectors.{vector_of}
+use Rattle.schedule_replay.specs.Report.{standing_lines, audit_line}
+use Rattle.schedule_replay.specs.Vectors.{vector_line_of}
 
 -- the lines of a replica that is in this state
 abbrev pub lines_by : Lines → ℕ → Rules → KeyRow → CoreState → List ℕ
-lines_by lines_of_each.Report i r k st = lines_of i r k st
-lines_by lines_of_each.Vectors i r k st = vector_of i r st.history
+lines_by lines_of_each.Report i r k st = standing_lines i r k st
+lines_by lines_of_each.Vectors i r k st = vector_line_of i r st.history
 
 abbrev pub lines_at : Lines → Setting → List Event → ℕ → List ℕ
 lines_at lines w es i = lines_by lines i (rules_at w i) (w.keys i) (states_of w es i)

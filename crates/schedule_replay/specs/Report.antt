@@ -16,7 +16,7 @@ use Rattle.ritas_core.specs.Shown.{all_bytes, delivered_at}
 use Rattle.command_log.specs.Rows.{row_at}
 use Rattle.command_log.specs.declared.row.LogRow.{LogRow}
 use Rattle.replica.specs.Stands.{frames_made}
-use Rattle.replica.specs.CommandRows.{rows_at}
+use Rattle.replica.specs.CommandRows.{history_rows}
 use Rattle.schedule_file.specs.declared.header.Header.{Header}
 use Rattle.world_model.specs.declared.audit.Audit.{Audit}
 use Rattle.world_model.specs.declared.audit.Audit.TheVariants as audits
@@ -69,20 +69,20 @@ out_line origin num (Some value) =
     codes "out " ++ (decimal origin ++ (codes "." ++ (decimal num ++ (codes " " ++ (encode_lower value ++ end_of_line)))))
 
 -- how many command numbers there are
-unfoldable pub number_limit : ℕ
-number_limit = 1000000
+unfoldable pub command_numbers : ℕ
+command_numbers = 1000000
 
 -- the commands of an origin that a replica delivered, by number
 abbrev pub origin_lines : (ℕ → Option (List ℕ)) → ℕ → List ℕ
-origin_lines outs origin = flat_map (λ num. out_line origin num (outs num)) (range_with_len 0 number_limit)
+origin_lines outs origin = flat_map (λ num. out_line origin num (outs num)) (range_with_len 0 command_numbers)
 
 -- what was delivered in a history of an origin's commands
-abbrev pub outs_of : Rules → List Entry → ℕ → ℕ → Option (List ℕ)
-outs_of r h origin num = delivered_at r h (command_slot origin num)
+abbrev pub commands_delivered : Rules → List Entry → ℕ → ℕ → Option (List ℕ)
+commands_delivered r h origin num = delivered_at r h (command_slot origin num)
 
 -- all commands that were delivered in a history, by origin and number
 abbrev pub out_lines : Rules → List Entry → List ℕ
-out_lines r h = flat_map (λ origin. origin_lines (outs_of r h origin) origin) (range_with_len 0 r.casts.numbers.n)
+out_lines r h = flat_map (λ origin. origin_lines (commands_delivered r h origin) origin) (range_with_len 0 r.casts.numbers.n)
 
 -- what became of the one instance of a root service
 abbrev pub ending_line : Ending → List ℕ
@@ -120,7 +120,7 @@ abbrev pub rounds_line : ℕ → ℕ → List ℕ
 rounds_line completed rows = codes "rounds " ++ (decimal completed ++ (codes " rows " ++ (decimal rows ++ end_of_line)))
 
 abbrev pub log_lines : Rules → List Entry → List ℕ
-log_lines r h = rounds_line (r.service.completed (seat_of r) (parts r h).words) (length (rows_at r h)) ++ row_lines (rows_at r h)
+log_lines r h = rounds_line (r.service.completed (seat_of r) (parts r h).words) (length (history_rows r h)) ++ row_lines (history_rows r h)
 
 -- root services 1 and 2 show what they delivered, root service 6 its command log, and those with one instance what became of it
 abbrev pub service_lines : Rules → List Entry → List ℕ
@@ -130,11 +130,11 @@ service_lines r h =
     else ending_line (r.service.outcome (seat_of r) (parts r h).words)
 
 -- how a replica stands that is in this state, and what its service shows
-abbrev pub lines_of : ℕ → Rules → KeyRow → CoreState → List ℕ
-lines_of i r k st = replica_line i (frames_made r k st.history % 2 ^ 64) st ++ service_lines r st.history
+abbrev pub standing_lines : ℕ → Rules → KeyRow → CoreState → List ℕ
+standing_lines i r k st = replica_line i (frames_made r k st.history % 2 ^ 64) st ++ service_lines r st.history
 
 abbrev pub replica_lines : Setting → List Event → ℕ → List ℕ
-replica_lines w es i = lines_of i (rules_at w i) (w.keys i) (states_of w es i)
+replica_lines w es i = standing_lines i (rules_at w i) (w.keys i) (states_of w es i)
 
 abbrev pub audit_line : Audit → List ℕ
 audit_line audits.Holds = codes "audit holds" ++ end_of_line

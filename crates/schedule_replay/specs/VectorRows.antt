@@ -11,7 +11,7 @@ use Rattle.world_model.specs.Audit.{first_broken}
 use Rattle.world_model.specs.World.{Setting, states_of}
 use Rattle.ritas_base.specs.declared.what.What.TheVariants as what_of
 use Rattle.schedule_replay.specs.Replay.{has_text}
-use Rattle.schedule_replay.specs.Vectors.{SaysSpent, SaysVector, SaysUndecided, says_of, vector_line, vectors_on}
+use Rattle.schedule_replay.specs.Vectors.{SaysSpent, SaysVector, SaysUndecided, line_says, vector_line, vectors_on}
 
 -- ---- the three kinds of line
 
@@ -30,17 +30,17 @@ undecided = refl
 -- ---- what a replica's line says
 
 -- attempts that are spent come before a vector of an earlier round
-spent_first : (x : LastVector) → says_of (Decided Spent) (Some x) ≡ SaysSpent
+spent_first : (x : LastVector) → line_says (Decided Spent) (Some x) ≡ SaysSpent
 spent_first x = refl
 
 -- root service 5 has its vector as its outcome too, and root service 6 has none
-decided_here : (x : LastVector) → says_of (Decided (Value x.value)) (Some x) ≡ SaysVector x
+decided_here : (x : LastVector) → line_says (Decided (Value x.value)) (Some x) ≡ SaysVector x
 decided_here x = refl
 
-decided_there : (x : LastVector) → says_of Undecided (Some x) ≡ SaysVector x
+decided_there : (x : LastVector) → line_says Undecided (Some x) ≡ SaysVector x
 decided_there x = refl
 
-not_yet : says_of Undecided None ≡ SaysUndecided
+not_yet : line_says Undecided None ≡ SaysUndecided
 not_yet = refl
 
 -- ---- a text: of four replicas the first isn't correct, one is spent, one has a vector and one has none

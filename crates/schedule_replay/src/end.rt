@@ -1,7 +1,7 @@
 //! How replaying a schedule ends.
 
 ghost use Rattle.std.specs.Prelude.{◌≡◌};
-ghost use Rattle.schedule_replay.specs.Replay.{end_at};
+ghost use Rattle.schedule_replay.specs.Replay.{end_at_fault};
 
 use schedule_file::FileFault;
 use world_model::Audit;
@@ -22,7 +22,7 @@ pub enum ReplayEnd {
 
 /// The end where reading met a fault.
 pub(crate) fn end_at(fault: FileFault) -> ReplayEnd
-    ensures { result ≡ end_at fault }
+    ensures { result ≡ end_at_fault fault }
 {
     match fault {
         FileFault::Mem => ReplayEnd::Mem,

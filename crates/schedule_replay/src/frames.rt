@@ -2,7 +2,7 @@
 ghost use Rattle.std.specs.Prelude.{◌≡◌, ◌≢◌, ◌++◌, List, ℕ, [], true, OnOk, MatchResult, string_bytes};
 ghost use Rattle.std.specs.List.{flat_map};
 ghost use Rattle.outside.specs.Faults.{HasCause};
-ghost use Rattle.outside.specs.Writing.{Counts, TookFront, Writes};
+ghost use Rattle.outside.specs.Writing.{CountsFault, TookFront, Writes};
 ghost use Rattle.ritas_base.specs.declared.event.Event.{Event};
 ghost use Rattle.keyed_channel.specs.Keyed.{tags_of};
 ghost use Rattle.ritas_core.specs.Stands.{meaning};
@@ -10,7 +10,7 @@ ghost use Rattle.world_model.specs.Audit.{audit_of};
 ghost use Rattle.world_model.specs.MadeOrder.{made_of, all_made};
 ghost use Rattle.world_model.specs.Stands.{WorldStands};
 ghost use Rattle.world_model.specs.World.{Setting};
-ghost use Rattle.schedule_replay.specs.Frames.{frame_line, frames_on, Held};
+ghost use Rattle.schedule_replay.specs.Frames.{frame_line, frames_on, HoldsRest};
 
 use crate::cut::{Cut, put};
 use crate::lines::audit_line;
@@ -54,11 +54,11 @@ fn write_frame<K: Sink>(
     text: &mut String,
     made: Made<'_>,
 ) -> Result<(), Cut>
-    ensures lines { K.tells ≡ true → (old lines : List ℕ) → Held old (K.taken sink.old) (string_bytes text.old) lines → MatchResult result
-        (λ _. Held old (K.taken sink.new) (string_bytes text.new) (lines ++ frame_line (made_of made.entry)))
+    ensures lines { K.tells ≡ true → (old lines : List ℕ) → HoldsRest old (K.taken sink.old) (string_bytes text.old) lines → MatchResult result
+        (λ _. HoldsRest old (K.taken sink.new) (string_bytes text.new) (lines ++ frame_line (made_of made.entry)))
         (λ _. TookFront old (K.taken sink.new) (lines ++ frame_line (made_of made.entry))) }
     ensures cause { HasCause (K.faults sink.old) (K.faults sink.new) (result ≡ Err Cut.Write) }
-    ensures counts { Counts (K.faults sink.old) (K.faults sink.new) result (result ≡ Err Cut.Write) }
+    ensures counts { CountsFault (K.faults sink.old) (K.faults sink.new) result (result ≡ Err Cut.Write) }
 {
     add_frame(alloc, text, made)?;
     if text.len() >= PIECE {
@@ -76,10 +76,10 @@ fn write_lines<S: Service, E: Broadcast, C: Coin + Drop, K: Sink>(
 ) -> Result<(), Cut>
     ensures lines { let m = meaning S.stands S.rules S.shown E.stands E.rules E.shown C.bits (λ k. k.me) tags_of in
         K.tells ≡ true → (w : Setting) (es : List Event) → WorldStands m world.now w es → string_bytes text.old ≡ [] → MatchResult result
-        (λ _. Held (K.taken sink.old) (K.taken sink.new) (string_bytes text.new) (flat_map frame_line (all_made w es)))
+        (λ _. HoldsRest (K.taken sink.old) (K.taken sink.new) (string_bytes text.new) (flat_map frame_line (all_made w es)))
         (λ _. TookFront (K.taken sink.old) (K.taken sink.new) (flat_map frame_line (all_made w es))) }
     ensures cause { HasCause (K.faults sink.old) (K.faults sink.new) (result ≡ Err Cut.Write) }
-    ensures counts { Counts (K.faults sink.old) (K.faults sink.new) result (result ≡ Err Cut.Write) }
+    ensures counts { CountsFault (K.faults sink.old) (K.faults sink.new) result (result ≡ Err Cut.Write) }
 {
     for at in 0..world.made_count() {
         match world.made(at) {
@@ -101,7 +101,7 @@ pub(crate) fn write_frames<S: Service, E: Broadcast, C: Coin + Drop, K: Sink>(
         (w : Setting) (es : List Event) → WorldStands m world.now w es → audit ≡ audit_of w es
         → Writes (frames_on w es) K.tells (K.taken sink.old) (K.taken sink.new) (K.faults sink.old) (K.faults sink.new)
         result (result ≡ Err Cut.Write) }
-    ensures counts { Counts (K.faults sink.old) (K.faults sink.new) result (result ≡ Err Cut.Write) }
+    ensures counts { CountsFault (K.faults sink.old) (K.faults sink.new) result (result ≡ Err Cut.Write) }
 {
     let mut text = String::new(alloc);
     write_lines(alloc, sink, &mut text, world)?;

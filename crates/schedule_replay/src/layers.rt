@@ -9,7 +9,7 @@ ghost use Rattle.schedule_file.specs.Spelling.{IsHeading};
 ghost use Rattle.world_model.specs.declared.audit.Audit.{Audit};
 ghost use Rattle.schedule_replay.specs.Layers.{setting_by, setting_of, other_of};
 ghost use Rattle.schedule_replay.specs.Onto.{more_events};
-ghost use Rattle.schedule_replay.specs.Replay.{Ended, ShowsEvents, ShowsFile, has_text, asked_behind, asked_of};
+ghost use Rattle.schedule_replay.specs.Replay.{ReplayEnded, ShowsEvents, ShowsFile, has_text, asked_behind, asked_of};
 
 use crate::end::{ReplayEnd, end_at};
 use crate::played::load;
@@ -51,7 +51,7 @@ fn replay_as<S: Service, E: Broadcast, I: Source, K: Sink>(
     requires form { E.FORM ≡ other_form header.mode }
     requires open { reader.old.stage ≡ Open }
     requires scope { reader.old.scope ≡ scope_of (heading header) }
-    ensures ended { Ended I.faults src.old src.new K.faults sink.old sink.new what result }
+    ensures ended { ReplayEnded I.faults src.old src.new K.faults sink.old sink.new what result }
     ensures to_its_end { I.tells ≡ true → (a : Audit) → result ≡ ReplayEnd.Done a → I.left src.new ≡ [] }
     ensures shows { I.tells ≡ true → ShowsEvents K.tells K.taken sink.old sink.new what result header
         (setting_by S.rules E.rules header) (asked_behind what header.mode.root (more_events [] reader.old (I.left src.old))) }
@@ -92,7 +92,7 @@ fn replay_with<S: Service, I: Source, K: Sink>(
     requires serves { S.rules.serves header.mode.root ≡ true }
     requires open { reader.old.stage ≡ Open }
     requires scope { reader.old.scope ≡ scope_of (heading header) }
-    ensures ended { Ended I.faults src.old src.new K.faults sink.old sink.new what result }
+    ensures ended { ReplayEnded I.faults src.old src.new K.faults sink.old sink.new what result }
     ensures to_its_end { I.tells ≡ true → (a : Audit) → result ≡ ReplayEnd.Done a → I.left src.new ≡ [] }
     ensures shows { I.tells ≡ true → ShowsEvents K.tells K.taken sink.old sink.new what result header
         (setting_by S.rules (other_of header.mode) header) (asked_behind what header.mode.root (more_events [] reader.old (I.left src.old))) }
@@ -119,7 +119,7 @@ fn replay_events<I: Source, K: Sink>(
     requires heading { IsHeading (heading header) }
     requires open { reader.old.stage ≡ Open }
     requires scope { reader.old.scope ≡ scope_of (heading header) }
-    ensures ended { Ended I.faults src.old src.new K.faults sink.old sink.new what result }
+    ensures ended { ReplayEnded I.faults src.old src.new K.faults sink.old sink.new what result }
     ensures to_its_end { I.tells ≡ true → (a : Audit) → result ≡ ReplayEnd.Done a → I.left src.new ≡ [] }
     ensures shows { I.tells ≡ true → ShowsEvents K.tells K.taken sink.old sink.new what result header
         (setting_of header) (asked_behind what header.mode.root (more_events [] reader.old (I.left src.old))) }
@@ -145,7 +145,7 @@ fn replay_events<I: Source, K: Sink>(
 /// and `Write` just where one of the sink did. `File(Mem)` is never answered: `Mem` is, where there was not enough memory.
 pub fn replay<S: Source, K: Sink>(alloc: Global, src: &mut S, sink: &mut K, what: What) -> ReplayEnd
     // For every source and sink, whether or not they tell what they hold.
-    ensures ended { Ended S.faults src.old src.new K.faults sink.old sink.new what result }
+    ensures ended { ReplayEnded S.faults src.old src.new K.faults sink.old sink.new what result }
 
     // The text of the file's world is written, or the file's first fault is answered, where a file of which there is no such text
     // has that of its root service last. At `Done` the source was read to its end.

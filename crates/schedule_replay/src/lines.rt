@@ -3,7 +3,7 @@ ghost use Rattle.std.specs.Prelude.{◌≡◌, ◌++◌, ◌%◌, ◌^◌, IfOk,
 ghost use Rattle.layer_api.specs.Service.{LastVector, Decided, Value};
 ghost use Rattle.layer_api.specs.ServiceCalls.{ending_of};
 ghost use Rattle.schedule_replay.specs.Report.{head_line, answered_part, refused_part, count_line, vect_name, out_line, hex_or_dash, id_part, command_part, row_line, rounds_line, ending_line, audit_line, numbers_line};
-ghost use Rattle.schedule_replay.specs.Vectors.{SaysVector, last_says, says_of, vector_line};
+ghost use Rattle.schedule_replay.specs.Vectors.{SaysVector, last_says, line_says, vector_line};
 
 use command_log::LogRow;
 use layer_api::Outcome;
@@ -170,7 +170,7 @@ pub(crate) fn vector_line(
     last: Option<(u32, u8, &[u8])>,
 ) -> Result<String, AllocError>
     ensures { let vector = option_map (λ x. record { round = x.0; attempt = x.1; value = x.2.now }) last.entry in
-        IfOk result (λ s. string_bytes s ≡ vector_line i (says_of (ending_of outcome.entry) vector)) }
+        IfOk result (λ s. string_bytes s ≡ vector_line i (line_says (ending_of outcome.entry) vector)) }
 {
     match outcome {
         Outcome::Spent => format!(in alloc; "vector {i} spent\n"),

@@ -1,6 +1,6 @@
 //! Reading a schedule, and replaying it as it is read.
 ghost use Rattle.std.specs.Prelude.{◌≡◌, List, [], true, Ok, Err, IfOk, MatchResult};
-ghost use Rattle.schedule_file.specs.SourceFaults.{faults_after};
+ghost use Rattle.schedule_file.specs.SourceFaults.{file_faults_after};
 ghost use Rattle.ritas_base.specs.declared.event.Event.{Event};
 ghost use Rattle.ritas_core.specs.Rules.{other_form};
 ghost use Rattle.schedule_file.specs.declared.stage.Stage.TheVariants.{Open};
@@ -10,7 +10,7 @@ ghost use Rattle.schedule_file.specs.Scopes.{scope_of};
 ghost use Rattle.schedule_file.specs.Spelling.{IsHeading};
 ghost use Rattle.schedule_replay.specs.Layers.{layers_by};
 ghost use Rattle.schedule_replay.specs.Onto.{more_events};
-ghost use Rattle.schedule_replay.specs.Played.{StandsFor};
+ghost use Rattle.schedule_replay.specs.Played.{PlayedStandsFor};
 
 use crate::first::first_world;
 use keyed_channel::SeedCoin;
@@ -31,7 +31,7 @@ pub struct Played<S: Service, E: Broadcast> {
 
 impl<S: Service, E: Broadcast> Played<S, E> {
     ghost use Rattle.std.specs.Prelude.{◌≡◌, ◌<◌, ◌≤◌, ◌+◌, ◌-◌, ◌^◌, List, [], ◌∷◌, true, Ok, Err, OnOk, IfOk, MatchResult};
-    ghost use Rattle.schedule_file.specs.SourceFaults.{faults_after};
+    ghost use Rattle.schedule_file.specs.SourceFaults.{file_faults_after};
     ghost use Rattle.ritas_base.specs.declared.event.Event.{Event};
     ghost use Rattle.ritas_core.specs.Rules.{other_form};
     ghost use Rattle.schedule_file.specs.declared.stage.Stage.TheVariants.{Open};
@@ -44,14 +44,14 @@ impl<S: Service, E: Broadcast> Played<S, E> {
     ghost use Rattle.world_model.specs.Stands.{WorldStands};
     ghost use Rattle.schedule_replay.specs.Layers.{layers_by, setting_by};
     ghost use Rattle.schedule_replay.specs.Onto.{more_events};
-    ghost use Rattle.schedule_replay.specs.Played.{StandsFor, answered, header_in};
+    ghost use Rattle.schedule_replay.specs.Played.{PlayedStandsFor, answered, header_in};
 
     /// The world of a header, before any event, with the header's keys and coins. The one error is want of memory.
     pub fn new(alloc: Global, header: Header) -> Result<Played<S, E>, Mem>
         requires heading { IsHeading (heading header) }
         requires serves { S.rules.serves header.mode.root ≡ true }
         requires form { E.FORM ≡ other_form header.mode }
-        ensures stands { let m = layers_by S.stands S.rules S.shown E.stands E.rules E.shown in IfOk result (λ x. StandsFor m x []) }
+        ensures stands { let m = layers_by S.stands S.rules S.shown E.stands E.rules E.shown in IfOk result (λ x. PlayedStandsFor m x []) }
         ensures header { IfOk result (λ x. header_in x ≡ header) }
         ensures none { IfOk result (λ x. answered x ≡ 0) }
     {
@@ -66,7 +66,7 @@ impl<S: Service, E: Broadcast> Played<S, E> {
     /// A header with its world after some events, and how these were answered.
     pub fn of(header: Header, world: World<S, E, SeedCoin>, counts: Counts) -> Played<S, E>
         ensures stands { let m = layers_by S.stands S.rules S.shown E.stands E.rules E.shown in let w = setting_by S.rules E.rules header in
-            (es : List Event) → IsHeading (heading header) → WorldStands m world w es → counts ≡ counts_of w es → StandsFor m result es }
+            (es : List Event) → IsHeading (heading header) → WorldStands m world w es → counts ≡ counts_of w es → PlayedStandsFor m result es }
         ensures header { header_in result ≡ header }
     {
         Played {
@@ -81,8 +81,8 @@ impl<S: Service, E: Broadcast> Played<S, E> {
     pub fn event(&mut self, alloc: Global, event: &Event) -> Result<(), Mem>
         requires { answered self.old < 2 ^ 64 - 1 }
         ensures stands { let m = layers_by S.stands S.rules S.shown E.stands E.rules E.shown in
-            (es : List Event) → StandsFor m self.old es → MayHappen (header_in self.old).p.n event.now
-            → OnOk result (StandsFor m self.new (event.now ∷ es)) }
+            (es : List Event) → PlayedStandsFor m self.old es → MayHappen (header_in self.old).p.n event.now
+            → OnOk result (PlayedStandsFor m self.new (event.now ∷ es)) }
         ensures header { header_in self.new ≡ header_in self.old }
         ensures one { answered self.new ≤ answered self.old + 1 }
     {
@@ -94,7 +94,7 @@ impl<S: Service, E: Broadcast> Played<S, E> {
     /// The world after these events.
     pub fn world(&self) -> &World<S, E, SeedCoin>
         ensures { let m = layers_by S.stands S.rules S.shown E.stands E.rules E.shown in
-            (es : List Event) → StandsFor m self.now es → WorldStands m result.now (setting_by S.rules E.rules (header_in self.now)) es }
+            (es : List Event) → PlayedStandsFor m self.now es → WorldStands m result.now (setting_by S.rules E.rules (header_in self.now)) es }
     {
         &self.world
     }
@@ -110,13 +110,13 @@ impl<S: Service, E: Broadcast> Played<S, E> {
         requires scope { reader.old.scope ≡ scope_of (heading self.old.header) }
         requires none { answered self.old ≡ 0 }
         ensures exact { let m = layers_by S.stands S.rules S.shown E.stands E.rules E.shown in
-            I.tells ≡ true → (before : List Event) → StandsFor m self.old before → MatchResult result
-            (λ _. (es : List Event) × StandsFor m self.new es
+            I.tells ≡ true → (before : List Event) → PlayedStandsFor m self.old before → MatchResult result
+            (λ _. (es : List Event) × PlayedStandsFor m self.new es
             × (more_events before reader.old (I.left input.old) ≡ Ok es))
             (λ e. Fails e (more_events before reader.old (I.left input.old))) }
         ensures end { I.tells ≡ true → IfOk result (λ _. I.left input.new ≡ []) }
         ensures header { self.new.header ≡ self.old.header }
-        ensures counts { I.faults input.new ≡ faults_after (I.faults input.old) result }
+        ensures counts { I.faults input.new ≡ file_faults_after (I.faults input.old) result }
     {
         for _ in 0..67_108_865u32 {
             match reader.next(alloc, input)? {
@@ -144,12 +144,12 @@ pub(crate) fn load<S: Service, E: Broadcast, I: Source>(
     requires scope { reader.old.scope ≡ scope_of (heading header) }
     ensures exact { let m = layers_by S.stands S.rules S.shown E.stands E.rules E.shown in
         I.tells ≡ true → MatchResult result
-        (λ x. (es : List Event) × StandsFor m x es
+        (λ x. (es : List Event) × PlayedStandsFor m x es
         × (more_events [] reader.old (I.left input.old) ≡ Ok es))
         (λ e. Fails e (more_events [] reader.old (I.left input.old))) }
     ensures end { I.tells ≡ true → IfOk result (λ _. I.left input.new ≡ []) }
     ensures header { IfOk result (λ x. x.header ≡ header) }
-    ensures counts { I.faults input.new ≡ faults_after (I.faults input.old) result }
+    ensures counts { I.faults input.new ≡ file_faults_after (I.faults input.old) result }
 {
     let mut played = Played::new(alloc, header)?;
     played.play(alloc, reader, input)?;

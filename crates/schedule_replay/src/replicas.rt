@@ -13,7 +13,7 @@ ghost use Rattle.world_model.specs.Audit.{audit_of};
 ghost use Rattle.world_model.specs.Stands.{WorldStands};
 ghost use Rattle.world_model.specs.World.{Setting};
 ghost use Rattle.schedule_replay.specs.Layers.{setting_by, layers_by, AreCoresOf};
-ghost use Rattle.schedule_replay.specs.Played.{StandsFor};
+ghost use Rattle.schedule_replay.specs.Played.{PlayedStandsFor};
 ghost use Rattle.schedule_replay.specs.Replicas.{lines_by, lines_at, rest_on};
 
 use crate::lines::audit_line;
@@ -86,7 +86,7 @@ pub(crate) fn add_rest<S: Service, E: Broadcast>(
     requires serves { S.rules.serves x.now.header.mode.root ≡ true }
     requires form { E.FORM ≡ other_form x.now.header.mode }
     ensures { let m = layers_by S.stands S.rules S.shown E.stands E.rules E.shown in let w = setting_by S.rules E.rules x.now.header in
-        (es : List Event) → StandsFor m x.now es → audit ≡ audit_of w es
+        (es : List Event) → PlayedStandsFor m x.now es → audit ≡ audit_of w es
         → OnOk result (string_bytes text.new ≡ string_bytes text.old ++ rest_on lines w es) }
 {
     add_replicas(alloc, text, lines, &x.world, x.header.p.n())?;

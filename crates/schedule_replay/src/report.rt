@@ -14,8 +14,8 @@ ghost use Rattle.ritas_core.specs.Shown.{delivered_at};
 ghost use Rattle.ritas_core.specs.Stands.{meaning, CoreStands};
 ghost use Rattle.world_model.specs.Audit.{audit_of};
 ghost use Rattle.schedule_replay.specs.Layers.{setting_by, layers_by};
-ghost use Rattle.schedule_replay.specs.Played.{StandsFor};
-ghost use Rattle.schedule_replay.specs.Report.{out_line, origin_lines, outs_of, out_lines, ending_line, row_line, row_lines, log_lines, service_lines, lines_of, report_on};
+ghost use Rattle.schedule_replay.specs.Played.{PlayedStandsFor};
+ghost use Rattle.schedule_replay.specs.Report.{out_line, origin_lines, commands_delivered, out_lines, ending_line, row_line, row_lines, log_lines, service_lines, standing_lines, report_on};
 
 use crate::lines::{
     count_line, ending_line, head_line, out_line, replica_line, rounds_line, row_line,
@@ -87,7 +87,7 @@ fn add_origin<S: Service, E: Broadcast, C: Coin + Drop>(
 ) -> Result<(), AllocError>
     ensures { let m = meaning S.stands S.rules S.shown E.stands E.rules E.shown C.bits (λ k. k.me) tags_of in
         (r : Rules) (st : CoreState) → CoreStands m core.now r st → st.live ≡ true → IsCoreOf S.rules E.rules r → r.mode.root ≤ 2 → origin < r.casts.numbers.n
-        → OnOk result (string_bytes text.new ≡ string_bytes text.old ++ origin_lines (outs_of r st.history origin) origin) }
+        → OnOk result (string_bytes text.new ≡ string_bytes text.old ++ origin_lines (commands_delivered r st.history origin) origin) }
 {
     delivered_within::<S, E>();
     let end = core
@@ -201,7 +201,7 @@ pub(crate) fn add_replica<S: Service, E: Broadcast, C: Coin + Drop>(
 ) -> Result<(), AllocError>
     ensures { let m = meaning S.stands S.rules S.shown E.stands E.rules E.shown C.bits (λ k. k.me) tags_of in
         (r : Rules) (k : KeyRow) (st : CoreState) → ReplicaStands m replica.now r k st → st.live ≡ true → IsCoreOf S.rules E.rules r
-        → OnOk result (string_bytes text.new ≡ string_bytes text.old ++ lines_of i r k st) }
+        → OnOk result (string_bytes text.new ≡ string_bytes text.old ++ standing_lines i r k st) }
 {
     let core = replica.core();
     let line = replica_line(alloc, i, replica.sent(), core.inbox_len(), core.held())?;
@@ -219,7 +219,7 @@ pub(crate) fn report_text<S: Service, E: Broadcast>(
     requires serves { S.rules.serves x.now.header.mode.root ≡ true }
     requires form { E.FORM ≡ other_form x.now.header.mode }
     ensures { let m = layers_by S.stands S.rules S.shown E.stands E.rules E.shown in
-        (es : List Event) → StandsFor m x.now es → audit ≡ audit_of (setting_by S.rules E.rules x.now.header) es
+        (es : List Event) → PlayedStandsFor m x.now es → audit ≡ audit_of (setting_by S.rules E.rules x.now.header) es
         → IfOk result (λ s. string_bytes s ≡ report_on x.now.header (setting_by S.rules E.rules x.now.header) es) }
 {
     let mut text = head_line(alloc, &x.header)?;

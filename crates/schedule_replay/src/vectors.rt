@@ -10,8 +10,8 @@ ghost use Rattle.ritas_core.specs.Rules.{Rules, other_form};
 ghost use Rattle.ritas_core.specs.Stands.{meaning};
 ghost use Rattle.world_model.specs.Audit.{audit_of};
 ghost use Rattle.schedule_replay.specs.Layers.{setting_by, layers_by};
-ghost use Rattle.schedule_replay.specs.Played.{StandsFor};
-ghost use Rattle.schedule_replay.specs.Vectors.{vector_of, vectors_on};
+ghost use Rattle.schedule_replay.specs.Played.{PlayedStandsFor};
+ghost use Rattle.schedule_replay.specs.Vectors.{vector_line_of, vectors_on};
 
 use crate::lines::vector_line;
 use crate::played::Played;
@@ -31,7 +31,7 @@ pub(crate) fn add_vector<S: Service, E: Broadcast, C: Coin + Drop>(
 ) -> Result<(), AllocError>
     ensures { let m = meaning S.stands S.rules S.shown E.stands E.rules E.shown C.bits (λ k. k.me) tags_of in
         (r : Rules) (k : KeyRow) (st : CoreState) → ReplicaStands m replica.now r k st → st.live ≡ true → IsCoreOf S.rules E.rules r
-        → OnOk result (string_bytes text.new ≡ string_bytes text.old ++ vector_of i r st.history) }
+        → OnOk result (string_bytes text.new ≡ string_bytes text.old ++ vector_line_of i r st.history) }
 {
     let service = replica.core().service();
     let line = vector_line(alloc, i, service.outcome(), service.last_vector())?;
@@ -48,7 +48,7 @@ pub(crate) fn vectors_text<S: Service, E: Broadcast>(
     requires serves { S.rules.serves x.now.header.mode.root ≡ true }
     requires form { E.FORM ≡ other_form x.now.header.mode }
     ensures { let m = layers_by S.stands S.rules S.shown E.stands E.rules E.shown in
-        (es : List Event) → StandsFor m x.now es → audit ≡ audit_of (setting_by S.rules E.rules x.now.header) es
+        (es : List Event) → PlayedStandsFor m x.now es → audit ≡ audit_of (setting_by S.rules E.rules x.now.header) es
         → IfOk result (λ s. string_bytes s ≡ vectors_on (setting_by S.rules E.rules x.now.header) es) }
 {
     let mut text = String::new(alloc);

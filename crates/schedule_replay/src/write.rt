@@ -1,12 +1,12 @@
 //! Writing what is asked for of a world.
 ghost use Rattle.std.specs.Prelude.{◌≡◌, ◌≢◌, List, ℕ, true, IfOk, string_bytes};
-ghost use Rattle.outside.specs.Writing.{Counts, Writes};
+ghost use Rattle.outside.specs.Writing.{CountsFault, Writes};
 ghost use Rattle.ritas_base.specs.declared.event.Event.{Event};
 ghost use Rattle.ritas_core.specs.Rules.{other_form};
 ghost use Rattle.schedule_file.specs.declared.fault.FileFault.{FileFault};
 ghost use Rattle.schedule_replay.specs.Layers.{setting_by, layers_by};
 ghost use Rattle.schedule_replay.specs.Replay.{CountsIf, ShowsWorld};
-ghost use Rattle.schedule_replay.specs.Played.{StandsFor, header_in};
+ghost use Rattle.schedule_replay.specs.Played.{PlayedStandsFor, header_in};
 
 use crate::cut::{Cut, put};
 use crate::end::ReplayEnd;
@@ -25,7 +25,7 @@ fn write_whole<K: Sink>(sink: &mut K, text: Result<String, AllocError>) -> Resul
     ensures writes { (lines : List ℕ) → IfOk text (λ s. string_bytes s ≡ lines)
         → Writes lines K.tells (K.taken sink.old) (K.taken sink.new) (K.faults sink.old) (K.faults sink.new)
         result (result ≡ Err Cut.Write) }
-    ensures counts { Counts (K.faults sink.old) (K.faults sink.new) result (result ≡ Err Cut.Write) }
+    ensures counts { CountsFault (K.faults sink.old) (K.faults sink.new) result (result ≡ Err Cut.Write) }
     ensures memory { result ≡ Err Cut.Mem → sink.new ≡ sink.old }
 {
     match text {
@@ -45,7 +45,7 @@ pub fn show<S: Service, E: Broadcast, K: Sink>(
 ) -> ReplayEnd
     requires serves { S.rules.serves (header_in x.now).mode.root ≡ true }
     requires form { E.FORM ≡ other_form (header_in x.now).mode }
-    ensures shows { (es : List Event) → StandsFor (layers_by S.stands S.rules S.shown E.stands E.rules E.shown) x.now es
+    ensures shows { (es : List Event) → PlayedStandsFor (layers_by S.stands S.rules S.shown E.stands E.rules E.shown) x.now es
         → ShowsWorld K.tells K.taken sink.old sink.new what result (header_in x.now) (setting_by S.rules E.rules (header_in x.now)) es }
     ensures counts { CountsIf (K.faults sink.old) (K.faults sink.new) (result ≡ ReplayEnd.Write) }
     ensures own { (e : FileFault) → result ≢ ReplayEnd.File e }

@@ -16,24 +16,24 @@ use Rattle.world_model.specs.Counts.{counts_of}
 use Rattle.world_model.specs.Stands.{WorldStands}
 use Rattle.schedule_replay.specs.declared.played.Played.{Played}
 use Rattle.schedule_replay.specs.Layers.{setting_by}
-use Rattle.schedule_replay.specs.Played.{StandsFor}
+use Rattle.schedule_replay.specs.Played.{PlayedStandsFor}
 use Rattle.schedule_plan.specs.Plans.{header_of}
-use Rattle.schedule_stage.specs.Stage.{IsKept}
+use Rattle.schedule_stage.specs.Stage.{IsKeptFile}
 use Rattle.schedule_stage.specs.Worlds.{world_in}
 
 -- the file is kept where it is wanted
-pub kept_so : (what : DriveWhat) (file front : List ℕ) → (what ≡ drives.Schedule → file ≡ front) → IsKept what file front
+pub kept_so : (what : DriveWhat) (file front : List ℕ) → (what ≡ drives.Schedule → file ≡ front) → IsKeptFile what file front
 kept_so drives.Report file front kept = tt
 kept_so drives.Schedule file front kept = kept refl
 
 -- what stands for the events of a header's world does so for those of the plan that has this header
 pub played_so : {S E : Type 0} (m : Meaning S E CoinSeed KeyRow) (p : Plan) (world : World S E CoinSeed) (counts : Counts) (played : Played S E) (h : Header) (es : List Event)
     → h ≡ header_of p
-    → (IsHeading (heading h) → WorldStands m world (setting_by m.service m.cast h) es → counts ≡ counts_of (setting_by m.service m.cast h) es → StandsFor m played es)
-    → IsHeading (heading (header_of p)) → WorldStands m world (world_in m p) es → counts ≡ counts_of (world_in m p) es → StandsFor m played es
+    → (IsHeading (heading h) → WorldStands m world (setting_by m.service m.cast h) es → counts ≡ counts_of (setting_by m.service m.cast h) es → PlayedStandsFor m played es)
+    → IsHeading (heading (header_of p)) → WorldStands m world (world_in m p) es → counts ≡ counts_of (world_in m p) es → PlayedStandsFor m played es
 played_so m p world counts played h es same =
     subst
     (λ (x : Header).
-    (IsHeading (heading x) → WorldStands m world (setting_by m.service m.cast x) es → counts ≡ counts_of (setting_by m.service m.cast x) es → StandsFor m played es)
-    → IsHeading (heading (header_of p)) → WorldStands m world (world_in m p) es → counts ≡ counts_of (world_in m p) es → StandsFor m played es)
+    (IsHeading (heading x) → WorldStands m world (setting_by m.service m.cast x) es → counts ≡ counts_of (setting_by m.service m.cast x) es → PlayedStandsFor m played es)
+    → IsHeading (heading (header_of p)) → WorldStands m world (world_in m p) es → counts ≡ counts_of (world_in m p) es → PlayedStandsFor m played es)
     (sym same) (λ stands. stands)

@@ -12,9 +12,9 @@ use Rattle.keyed_channel.specs.KeyRow.{KeyRow}
 use Rattle.schedule_file.specs.declared.header.Header.{Header}
 use Rattle.schedule_replay.specs.Layers.{dealt_to}
 use Rattle.world_model.specs.World.{Setting, states_of}
-use Rattle.world_model.specs.FaceWorlds.{faces_world, IsLetter, is_of, only_if, frame_if, told_by, told_to, FaceLaw}
+use Rattle.world_model.specs.FaceWorlds.{faces_world, IsLetter, is_face_number, only_if, frame_if, told_by, told_to, FaceLaw}
 use Rattle.world_model.specs.declared.player.Player.TheVariants.{Correct, Face}
-use Rattle.world_model.specs.Players.{Cast, Scene, Step, Give, Go, Carry, Throw, AreSteps, frames_of, scene_of}
+use Rattle.world_model.specs.Players.{Cast, Scene, Step, Give, Go, Carry, Throw, AreSteps, player_frames, scene_of}
 use Rattle.schedule_plan.specs.Plans.{cast_of, face_a, face_b}
 
 -- ---- the two letters
@@ -40,12 +40,12 @@ not_a a odd = λ same. absurd (odd (omega (arith, same)))
 -- ---- what comes to the world of a letter
 
 pub told_here : (w : Setting) (c : Cast) (face : ℕ → ℕ) (steps : List Step) (step : Step) (a : ℕ) (e : Event)
-    → told_by w c face (scene_of w c steps) step ≡ only_if (is_of c face a) e → face (c.number a) ≡ a → told_to w c face (step ∷ steps) ≡ e ∷ told_to w c face steps
+    → told_by w c face (scene_of w c steps) step ≡ only_if (is_face_number c face a) e → face (c.number a) ≡ a → told_to w c face (step ∷ steps) ≡ e ∷ told_to w c face steps
 told_here w c face steps step a e told here =
     ap (λ (es : List Event). es ++ told_to w c face steps) (told ∙ ap (λ (b : Bool). only_if b e) (eq-eqb (face (c.number a)) a here))
 
 pub told_else : (w : Setting) (c : Cast) (face : ℕ → ℕ) (steps : List Step) (step : Step) (a : ℕ) (e : Event)
-    → told_by w c face (scene_of w c steps) step ≡ only_if (is_of c face a) e → face (c.number a) ≢ a → told_to w c face (step ∷ steps) ≡ told_to w c face steps
+    → told_by w c face (scene_of w c steps) step ≡ only_if (is_face_number c face a) e → face (c.number a) ≢ a → told_to w c face (step ∷ steps) ≡ told_to w c face steps
 told_else w c face steps step a e told other =
     ap (λ (es : List Event). es ++ told_to w c face steps) (told ∙ ap (λ (b : Bool). only_if b e) (ne_eqb (face (c.number a)) a other))
 
@@ -60,11 +60,11 @@ one_frame b j (Some bytes) = one_if b (events.Frame j bytes)
 -- a step tells a letter one event at most
 one_told : (w : Setting) (c : Cast) (face : ℕ → ℕ) (s : Scene) (step : Step) → length (told_by w c face s step) ≤ 1
 one_told w c face s (Give (Correct i) value) = omega arith
-one_told w c face s (Give (Face a) value) = one_if (is_of c face a) (events.Input (c.number a) value)
+one_told w c face s (Give (Face a) value) = one_if (is_face_number c face a) (events.Input (c.number a) value)
 one_told w c face s (Go (Correct i)) = omega arith
-one_told w c face s (Go (Face a)) = one_if (is_of c face a) (events.Turn (c.number a))
+one_told w c face s (Go (Face a)) = one_if (is_face_number c face a) (events.Turn (c.number a))
 one_told w c face s (Carry x (Correct j) m) = omega arith
-one_told w c face s (Carry x (Face a) m) = one_frame (is_of c face a) (c.number a) (slice_get (frames_of w c s x (c.number a)) m)
+one_told w c face s (Carry x (Face a) m) = one_frame (is_face_number c face a) (c.number a) (slice_get (player_frames w c s x (c.number a)) m)
 one_told w c face s (Throw from to rest) = omega arith
 
 -- so no more events come to it than there are steps

@@ -22,9 +22,9 @@ use Rattle.world_model.specs.World.{Setting, states_of}
 use Rattle.world_model.specs.Stands.{frames_from}
 use Rattle.world_model.specs.FaceWorlds.{faces_world, told_to, IsShownAs, AreShownAs, ShownLaw}
 use Rattle.world_model.specs.Forging.{IsPlay}
-use Rattle.world_model.specs.Players.{Cast, Step, frames_of, scene_of}
+use Rattle.world_model.specs.Players.{Cast, Step, player_frames, scene_of}
 use Rattle.schedule_plan.specs.Flips.{flip_body}
-use Rattle.schedule_plan.specs.Plans.{cast_of, shown_of}
+use Rattle.schedule_plan.specs.Plans.{cast_of, face_shown}
 use Rattle.schedule_plan.proofs.Showing.{plainly}
 use Rattle.schedule_stage.specs.Letters.{IsLetterOf}
 use Rattle.schedule_stage.specs.Worlds.{world_in}
@@ -51,7 +51,7 @@ flipped_is w attack i j number made shown flip small is =
       made_is = is.made_is ∙ ap (λ (seq : ℕ). said seq is.message) same;
       shown_is =
           is.shown_is
-          ∙ ap₂ (λ (seq : ℕ) (x : Attack). said seq (shown_of x is.message)) same flip
+          ∙ ap₂ (λ (seq : ℕ) (x : Attack). said seq (face_shown x is.message)) same flip
           ∙ ap (sealed (w.keys i) j number) (sym (flipped_spelling i is.message));
     }
 
@@ -61,11 +61,11 @@ flipped_is w attack i j number made shown flip small is =
 pub face_shows : {S E : Type 0} (m : Meaning S E CoinSeed KeyRow) (service : ServiceRules) (other : BroadcastRules) → ShownLaw service other → (p : Plan) (world : World S E CoinSeed) (steps : List Step) (a to : ℕ)
     → IsPlay service other (world_in m p) (cast_of p.attack) steps → (l : IsLetterOf m p world steps a) → (world_in m p).is_correct (a / 2) ≡ false → a / 2 < p.p.n → to < p.p.n → a / 2 ≢ to → (list : List (List ℕ))
     → list ≡ frames_from (faces_world (world_in m p)) (states_of (faces_world (world_in m p)) (told_to (world_in m p) (cast_of p.attack) l.face steps)) (a / 2) to
-    → AreShownAs (world_in m p) (cast_of p.attack) (a / 2) to list (frames_of (world_in m p) (cast_of p.attack) (scene_of (world_in m p) (cast_of p.attack) steps) (Face a) to)
+    → AreShownAs (world_in m p) (cast_of p.attack) (a / 2) to list (player_frames (world_in m p) (cast_of p.attack) (scene_of (world_in m p) (cast_of p.attack) steps) (Face a) to)
 face_shows m service other law p world steps a to play l faulty below to_below differ list is =
     let w = world_in m p in
     let c = cast_of p.attack in
-    let shown : ℕ → List (List ℕ) = λ b. frames_of w c (scene_of w c steps) (Face b) to in
+    let shown : ℕ → List (List ℕ) = λ b. player_frames w c (scene_of w c steps) (Face b) to in
     subst (λ (b : ℕ). AreShownAs w c (a / 2) to list (shown b)) l.here
     (subst (λ (xs : List (List ℕ)). AreShownAs w c (a / 2) to xs (shown (l.face (a / 2)))) (sym is) (law w c l.face steps play l.letter (a / 2) to faulty below to_below differ))
 

@@ -10,9 +10,9 @@ use Rattle.ritas_core.specs.Stands.{Meaning}
 use Rattle.replica.specs.Frames.{made_for}
 use Rattle.world_model.specs.declared.seen.Seen.{Seen}
 use Rattle.world_model.specs.declared.player.Player.TheVariants.{Correct}
-use Rattle.world_model.specs.Counts.{counted, counts_of, total}
+use Rattle.world_model.specs.Counts.{counted_event, counts_of, total}
 use Rattle.world_model.specs.Forging.{IsPlay}
-use Rattle.world_model.specs.Players.{Cast, Scene, Step, IsStep, frames_of}
+use Rattle.world_model.specs.Players.{Cast, Scene, Step, IsStep, player_frames}
 use Rattle.world_model.specs.Stands.{frames_from, WorldStands}
 use Rattle.world_model.specs.World.{Setting, rules_at, states_of, seen_of}
 use Rattle.schedule_replay.proofs.Totals.{all_counted}
@@ -22,9 +22,9 @@ use Rattle.schedule_plan.proofs.Showing.{attacks_show}
 use Rattle.schedule_stage.specs.declared.halt.Halt.{Halt}
 use Rattle.schedule_stage.specs.declared.halt.Halt.TheVariants as halts
 use Rattle.schedule_stage.specs.declared.stage.Stage.{Stage}
-use Rattle.schedule_stage.specs.Faces.{IsFaces, Tells}
+use Rattle.schedule_stage.specs.Faces.{IsFaces, TellsFace}
 use Rattle.schedule_stage.specs.Stage.{IsStage, Reaches}
-use Rattle.schedule_stage.specs.Stepping.{Happens, Comes, Rests}
+use Rattle.schedule_stage.specs.Stepping.{Happens, ComesToFace, Rests}
 use Rattle.schedule_stage.specs.Tape.{IsTape, Tapes}
 use Rattle.schedule_stage.specs.Worlds.{world_in, HaltsBy}
 use Rattle.schedule_stage.proofs.Taping.{few_steps}
@@ -56,7 +56,7 @@ module _ {S E : Type 0} (m : Meaning S E CoinSeed KeyRow) (p : Plan) (what : Dri
   -- an event happened
   pub goes_on : (old new : Stage S E) (step : Step) (steps : List Step) (e : Event) (seen : Seen) → IsStage m p what old steps → Happens (world_in m p) p steps step e
       → WorldStands m new.world (world_in m p) (e ∷ events_by (world_in m p) p steps) → seen ≡ seen_of (world_in m p) (events_by (world_in m p) p steps) e
-      → new.tape.counts ≡ counted seen old.tape.counts → IsFaces m p new.faces steps → IsTape (world_in m p) p what new.tape (step ∷ steps)
+      → new.tape.counts ≡ counted_event seen old.tape.counts → IsFaces m p new.faces steps → IsTape (world_in m p) p what new.tape (step ∷ steps)
       → IsStage m p what new (step ∷ steps)
   unfolding counts_of
   goes_on old new step steps e seen stands happens world is counts faces tape =
@@ -64,7 +64,7 @@ module _ {S E : Type 0} (m : Meaning S E CoinSeed KeyRow) (p : Plan) (what : Dri
       record {
         header = stands.header;
         world = subst (WorldStands m new.world w) (sym happens.events) world;
-        counts = counts ∙ ap₂ counted is stands.counts ∙ ap (counts_of w) (sym happens.events);
+        counts = counts ∙ ap₂ counted_event is stands.counts ∙ ap (counts_of w) (sym happens.events);
         faces = untold m p new.faces step steps faces happens.untold;
         tape = tape;
         are_steps = (happens.is, stands.are_steps);
@@ -94,8 +94,8 @@ module _ {S E : Type 0} (m : Meaning S E CoinSeed KeyRow) (p : Plan) (what : Dri
       stays old new step steps r stands rests.is rests.events world counts (untold m p new.faces step steps faces rests.untold) tape
 
   -- what the faces are told where something comes to one
-  pub tells_of : (stage : Stage S E) (step : Step) (steps : List Step) (a : ℕ) (e : Event) → IsStage m p what stage steps → Comes (world_in m p) p steps step a e
-      → Tells (world_in m p) p steps step a e
+  pub tells_of : (stage : Stage S E) (step : Step) (steps : List Step) (a : ℕ) (e : Event) → IsStage m p what stage steps → ComesToFace (world_in m p) p steps step a e
+      → TellsFace (world_in m p) p steps step a e
   tells_of stage step steps a e stands comes = record {
     to_a = comes.told face_a;
     to_b = comes.told face_b;
@@ -120,7 +120,7 @@ both_pass a b e f = ap₂ (λ (x y : Bool). x && not y) e f
 
 -- those that a correct replica made for another one are its own as a player
 pub own_frames : (w : Setting) (c : Cast) (s : Scene) (i j : ℕ) → w.is_correct i ≡ true → i ≢ j
-    → frames_from w (states_of w s.events) i j ≡ frames_of w c s (Correct i) j
+    → frames_from w (states_of w s.events) i j ≡ player_frames w c s (Correct i) j
 own_frames w c s i j correct apart =
     ap (λ (b : Bool). if b then reverse (made_for (rules_at w i) (w.keys i) (states_of w s.events i).history j) else [])
     (both_pass (w.is_correct i) (i == j) correct (ne_eqb i j apart))

@@ -11,12 +11,12 @@ use Rattle.world_model.specs.Stands.{WorldStands}
 use Rattle.schedule_plan.specs.Plans.{cast_of, face_a, face_b}
 use Rattle.schedule_stage.specs.declared.faces.Faces.{Faces}
 use Rattle.schedule_stage.specs.Faces.{IsFaces}
-use Rattle.schedule_stage.specs.Stepping.{TellsNone}
+use Rattle.schedule_stage.specs.Stepping.{TellsNoFace}
 use Rattle.schedule_stage.specs.Worlds.{world_in}
 
 -- the faces stand for it too
 pub untold : {S E : Type 0} (m : Meaning S E CoinSeed KeyRow) (p : Plan) (faces : Faces S E) (step : Step) (steps : List Step) → IsFaces m p faces steps
-    → TellsNone (world_in m p) p steps step → IsFaces m p faces (step ∷ steps)
+    → TellsNoFace (world_in m p) p steps step → IsFaces m p faces (step ∷ steps)
 untold m p faces step steps stands none =
     let w = world_in m p in
     let c = cast_of p.attack in

@@ -10,7 +10,7 @@ use Rattle.ritas_core.specs.Stands.{Meaning}
 use Rattle.schedule_replay.specs.Layers.{dealt_to}
 use Rattle.world_model.specs.World.{Setting}
 use Rattle.world_model.specs.Stands.{WorldStands}
-use Rattle.world_model.specs.FaceWorlds.{faces_world, told_by, told_to, is_of, only_if}
+use Rattle.world_model.specs.FaceWorlds.{faces_world, told_by, told_to, is_face_number, only_if}
 use Rattle.world_model.specs.Players.{Step, scene_of}
 use Rattle.schedule_plan.specs.Plans.{cast_of, header_of, face_a, face_b}
 use Rattle.schedule_stage.specs.declared.faces.Faces.{Faces}
@@ -24,8 +24,8 @@ pub record IsFaces {S E : Type 0} (m : Meaning S E CoinSeed KeyRow) (p : Plan) (
   pub b : WorldStands m faces.b (faces_world (world_in m p)) (told_to (world_in m p) (cast_of p.attack) face_b steps)
 
 -- a step after these tells face a this event, and no other face anything
-pub record Tells (w : Setting) (p : Plan) (steps : List Step) (step : Step) (a : ℕ) (e : Event) : Type 0 where
-  pub to_a : told_by w (cast_of p.attack) face_a (scene_of w (cast_of p.attack) steps) step ≡ only_if (is_of (cast_of p.attack) face_a a) e
-  pub to_b : told_by w (cast_of p.attack) face_b (scene_of w (cast_of p.attack) steps) step ≡ only_if (is_of (cast_of p.attack) face_b a) e
+pub record TellsFace (w : Setting) (p : Plan) (steps : List Step) (step : Step) (a : ℕ) (e : Event) : Type 0 where
+  pub to_a : told_by w (cast_of p.attack) face_a (scene_of w (cast_of p.attack) steps) step ≡ only_if (is_face_number (cast_of p.attack) face_a a) e
+  pub to_b : told_by w (cast_of p.attack) face_b (scene_of w (cast_of p.attack) steps) step ≡ only_if (is_face_number (cast_of p.attack) face_b a) e
   pub may : MayHappen w.numbers.n e
   pub few : length steps < 2 ^ 64 - 1

@@ -8,7 +8,7 @@ use Rattle.keyed_channel.specs.KeyRow.{KeyRow}
 use Rattle.ritas_core.specs.Stands.{Meaning}
 use Rattle.schedule_file.specs.ReadHeader.{heading}
 use Rattle.schedule_file.specs.Spelling.{FrontOf, IsHeading}
-use Rattle.schedule_replay.specs.Played.{StandsFor, header_in}
+use Rattle.schedule_replay.specs.Played.{PlayedStandsFor, header_in}
 use Rattle.world_model.specs.Counts.{counts_of}
 use Rattle.world_model.specs.Players.{Step, AreSteps}
 use Rattle.world_model.specs.Stands.{WorldStands}
@@ -36,13 +36,13 @@ Reaches m p what stage steps (Ok done) = IsStage m p what stage steps
 Reaches m p what stage steps (Err halt) = HaltsBy (world_in m p) p steps halt
 
 -- the file that was kept, without its end mark: none is, where a report is wanted
-abbrev pub IsKept : DriveWhat → List ℕ → List ℕ → Type 0
-IsKept drives.Report file front = Unit {0}
-IsKept drives.Schedule file front = file ≡ front
+abbrev pub IsKeptFile : DriveWhat → List ℕ → List ℕ → Type 0
+IsKeptFile drives.Report file front = Unit {0}
+IsKeptFile drives.Schedule file front = file ≡ front
 
 -- a world whose events are those of these steps, which pass no limit, and the front of their file
 pub record IsFinished {S E : Type 0} (m : Meaning S E CoinSeed KeyRow) (p : Plan) (what : DriveWhat) (x : Finished S E) (steps : List Step) : Type 0 where
   pub header : header_in x.played ≡ header_of p
-  pub played : StandsFor m x.played (events_by (world_in m p) p steps)
+  pub played : PlayedStandsFor m x.played (events_by (world_in m p) p steps)
   pub none : limit_met (world_in m p) p steps ≡ None
-  pub kept : IsKept what x.file.taken (FrontOf (heading (header_of p)) (events_by (world_in m p) p steps))
+  pub kept : IsKeptFile what x.file.taken (FrontOf (heading (header_of p)) (events_by (world_in m p) p steps))

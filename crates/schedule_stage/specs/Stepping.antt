@@ -4,31 +4,31 @@ use Rattle.ritas_base.specs.declared.event.Event.{Event}
 use Rattle.ritas_base.specs.declared.plan.Plan.{Plan}
 use Rattle.ritas_base.specs.Events.{MayHappen}
 use Rattle.world_model.specs.World.{Setting}
-use Rattle.world_model.specs.FaceWorlds.{told_by, is_of, only_if}
+use Rattle.world_model.specs.FaceWorlds.{told_by, is_face_number, only_if}
 use Rattle.world_model.specs.Players.{Step, IsStep, scene_of}
 use Rattle.schedule_plan.specs.Plans.{cast_of}
 use Rattle.schedule_plan.specs.Schedule.{events_by}
 
 -- no face is told anything by this step after these
-abbrev pub TellsNone : Setting → Plan → List Step → Step → Type 0
-TellsNone w p steps step = (face : ℕ → ℕ) → told_by w (cast_of p.attack) face (scene_of w (cast_of p.attack) steps) step ≡ []
+abbrev pub TellsNoFace : Setting → Plan → List Step → Step → Type 0
+TellsNoFace w p steps step = (face : ℕ → ℕ) → told_by w (cast_of p.attack) face (scene_of w (cast_of p.attack) steps) step ≡ []
 
 -- this event happens
 pub record Happens (w : Setting) (p : Plan) (steps : List Step) (step : Step) (e : Event) : Type 0 where
   pub is : IsStep w (cast_of p.attack) step
   pub events : events_by w p (step ∷ steps) ≡ e ∷ events_by w p steps
   pub may : MayHappen w.numbers.n e
-  pub untold : TellsNone w p steps step
+  pub untold : TellsNoFace w p steps step
 
 -- this comes to face a
-pub record Comes (w : Setting) (p : Plan) (steps : List Step) (step : Step) (a : ℕ) (e : Event) : Type 0 where
+pub record ComesToFace (w : Setting) (p : Plan) (steps : List Step) (step : Step) (a : ℕ) (e : Event) : Type 0 where
   pub is : IsStep w (cast_of p.attack) step
   pub events : events_by w p (step ∷ steps) ≡ events_by w p steps
   pub may : MayHappen w.numbers.n e
-  pub told : (face : ℕ → ℕ) → told_by w (cast_of p.attack) face (scene_of w (cast_of p.attack) steps) step ≡ only_if (is_of (cast_of p.attack) face a) e
+  pub told : (face : ℕ → ℕ) → told_by w (cast_of p.attack) face (scene_of w (cast_of p.attack) steps) step ≡ only_if (is_face_number (cast_of p.attack) face a) e
 
 -- nothing comes to anyone
 pub record Rests (w : Setting) (p : Plan) (steps : List Step) (step : Step) : Type 0 where
   pub is : IsStep w (cast_of p.attack) step
   pub events : events_by w p (step ∷ steps) ≡ events_by w p steps
-  pub untold : TellsNone w p steps step
+  pub untold : TellsNoFace w p steps step

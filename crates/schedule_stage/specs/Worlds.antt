@@ -8,7 +8,7 @@ use Rattle.world_model.specs.World.{Setting}
 use Rattle.world_model.specs.MadeOrder.{all_made}
 use Rattle.world_model.specs.FaceWorlds.{faces_world, told_to}
 use Rattle.world_model.specs.declared.player.Player.{Player}
-use Rattle.world_model.specs.Players.{Step, state_at, frames_of, scene_of}
+use Rattle.world_model.specs.Players.{Step, state_at, player_frames, scene_of}
 use Rattle.schedule_plan.specs.Plans.{cast_of, face_a, face_b}
 use Rattle.schedule_plan.specs.Schedule.{world_by, events_by, limit_met}
 use Rattle.schedule_stage.specs.declared.halt.Halt.{Halt}
@@ -23,8 +23,8 @@ abbrev pub waiting : Setting → Plan → List Step → Player → ℕ
 waiting w p steps x = length (state_at w (scene_of w (cast_of p.attack) steps) x).inbox
 
 -- how many frames a player has made for replica j
-abbrev pub made_for : Setting → Plan → List Step → Player → ℕ → ℕ
-made_for w p steps x j = length (frames_of w (cast_of p.attack) (scene_of w (cast_of p.attack) steps) x j)
+abbrev pub count_made_for : Setting → Plan → List Step → Player → ℕ → ℕ
+count_made_for w p steps x j = length (player_frames w (cast_of p.attack) (scene_of w (cast_of p.attack) steps) x j)
 
 -- how many frames the faces of each letter have made
 abbrev pub face_frames : Setting → Plan → List Step → List ℕ

@@ -28,11 +28,11 @@ impl<S: Service, E: Broadcast> Faces<S, E> {
     ghost use Rattle.world_model.specs.FaceWorlds.{IsShownAs};
     ghost use Rattle.world_model.specs.Forging.{IsPlay};
     ghost use Rattle.world_model.specs.declared.player.Player.TheVariants.{Face};
-    ghost use Rattle.world_model.specs.Players.{Step, frames_of, scene_of};
+    ghost use Rattle.world_model.specs.Players.{Step, player_frames, scene_of};
     ghost use Rattle.schedule_plan.specs.Flips.{flip_body};
     ghost use Rattle.schedule_plan.specs.Plans.{cast_of};
-    ghost use Rattle.schedule_stage.specs.Worlds.{world_in, waiting, made_for, face_frames};
-    ghost use Rattle.schedule_stage.specs.Faces.{IsFaces, Tells};
+    ghost use Rattle.schedule_stage.specs.Worlds.{world_in, waiting, count_made_for, face_frames};
+    ghost use Rattle.schedule_stage.specs.Faces.{IsFaces, TellsFace};
     ghost use Rattle.schedule_stage.specs.Letters.{IsLetterOf};
 
     /// The faces of a plan, before any step. The one error is want of memory.
@@ -64,7 +64,7 @@ impl<S: Service, E: Broadcast> Faces<S, E> {
     /// This comes to a face. The one error is want of memory.
     pub(crate) fn tell(&mut self, alloc: Global, a: u8, event: &Event) -> Result<(), Mem>
         ensures { let m = layers_by S.stands S.rules S.shown E.stands E.rules E.shown in
-            (p : Plan) (steps : List Step) (step : Step) → IsFaces m p self.old steps → Tells (world_in m p) p steps step a event.now
+            (p : Plan) (steps : List Step) (step : Step) → IsFaces m p self.old steps → TellsFace (world_in m p) p steps step a event.now
             → OnOk result (IsFaces m p self.new (step ∷ steps)) }
     {
         if a % 2 == 0 {
@@ -94,7 +94,7 @@ impl<S: Service, E: Broadcast> Faces<S, E> {
         ensures { let m = layers_by S.stands S.rules S.shown E.stands E.rules E.shown in
             (p : Plan) (steps : List Step) → IsFaces m p self.now steps → IsPlay S.rules E.rules (world_in m p) (cast_of p.attack) steps
             → (world_in m p).is_correct (a / 2) ≡ false → a / 2 < p.p.n → to < p.p.n → a / 2 ≢ to
-            → result ≡ made_for (world_in m p) p steps (Face a) to }
+            → result ≡ count_made_for (world_in m p) p steps (Face a) to }
     {
         faces_are_replicas::<S, E>();
         self.letter(a).frames_made(a / 2, to).len()
@@ -154,7 +154,7 @@ impl<S: Service, E: Broadcast> Faces<S, E> {
         ensures { let m = layers_by S.stands S.rules S.shown E.stands E.rules E.shown in
             (p : Plan) (steps : List Step) → IsFaces m p self.now steps → IsPlay S.rules E.rules (world_in m p) (cast_of p.attack) steps
             → (world_in m p).is_correct (a / 2) ≡ false → a / 2 < p.p.n → to < p.p.n → a / 2 ≢ to
-            → IfOk result (λ frame. frame ≡ slice_get (frames_of (world_in m p) (cast_of p.attack)
+            → IfOk result (λ frame. frame ≡ slice_get (player_frames (world_in m p) (cast_of p.attack)
             (scene_of (world_in m p) (cast_of p.attack) steps) (Face a) to) number) }
     {
         faces_are_replicas::<S, E>();

@@ -2,7 +2,7 @@
 ghost use Rattle.std.specs.Prelude.{◌≡◌, ◌≤◌, ◌<◌, ◌^◌, length, IfOk};
 ghost use Rattle.std.specs.List.{slice_get};
 ghost use Rattle.ritas_base.specs.declared.event.Event.TheVariants as events;
-ghost use Rattle.keyed_channel.specs.Frames.{version_byte};
+ghost use Rattle.ritas_base.specs.Bytes.{version_byte};
 ghost use Rattle.schedule_file.specs.Spelling.{IsSized};
 ghost use Rattle.world_model.specs.Players.{thrown};
 

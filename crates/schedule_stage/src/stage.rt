@@ -40,11 +40,11 @@ impl<S: Service, E: Broadcast> Stage<S, E> {
     ghost use Rattle.ritas_core.specs.Rules.{other_form};
     ghost use Rattle.schedule_file.specs.Spelling.{IsSized};
     ghost use Rattle.schedule_replay.specs.Layers.{layers_by};
-    ghost use Rattle.world_model.specs.Players.{Step, Give, Go, Carry, Throw, IsPlayer, number_of, frames_of, scene_of};
+    ghost use Rattle.world_model.specs.Players.{Step, Give, Go, Carry, Throw, IsPlayer, number_of, player_frames, scene_of};
     ghost use Rattle.schedule_plan.specs.Plans.{cast_of};
     ghost use Rattle.schedule_stage.specs.Stage.{IsStage, Reaches, IsFinished};
-    ghost use Rattle.schedule_stage.specs.Stepping.{Happens, Comes, Rests};
-    ghost use Rattle.schedule_stage.specs.Worlds.{world_in, waiting, made_for, all_frames};
+    ghost use Rattle.schedule_stage.specs.Stepping.{Happens, ComesToFace, Rests};
+    ghost use Rattle.schedule_stage.specs.Worlds.{world_in, waiting, count_made_for, all_frames};
 
     /// The players of a plan, before any step. The schedule's file is kept where it is what is wanted. The one error is want of
     /// memory.
@@ -77,7 +77,7 @@ impl<S: Service, E: Broadcast> Stage<S, E> {
     fn tell(&mut self, alloc: Global, a: u8, event: &Event) -> Result<(), Halt>
         ensures { let m = layers_by S.stands S.rules S.shown E.stands E.rules E.shown in
             (p : Plan) (what : DriveWhat) (steps : List Step) (step : Step) → IsStage m p what self.old steps
-            → Comes (world_in m p) p steps step a event.now → Reaches m p what self.new (step ∷ steps) result }
+            → ComesToFace (world_in m p) p steps step a event.now → Reaches m p what self.new (step ∷ steps) result }
     {
         self.tape.pass()?;
         self.faces.tell(alloc, a, event)?;
@@ -98,7 +98,7 @@ impl<S: Service, E: Broadcast> Stage<S, E> {
         ensures { let m = layers_by S.stands S.rules S.shown E.stands E.rules E.shown in
             (p : Plan) (what : DriveWhat) (steps : List Step) → IsStage m p what self.now steps
             → IsPlayer (world_in m p) (cast_of p.attack) x → to < p.p.n → number_of (cast_of p.attack) x ≢ to
-            → IfOk result (λ frame. frame ≡ slice_get (frames_of (world_in m p) (cast_of p.attack)
+            → IfOk result (λ frame. frame ≡ slice_get (player_frames (world_in m p) (cast_of p.attack)
             (scene_of (world_in m p) (cast_of p.attack) steps) x to) number) }
     {
         match x {
@@ -246,7 +246,7 @@ impl<S: Service, E: Broadcast> Stage<S, E> {
         ensures { let m = layers_by S.stands S.rules S.shown E.stands E.rules E.shown in
             (p : Plan) (what : DriveWhat) (steps : List Step) → IsStage m p what self.now steps
             → IsPlayer (world_in m p) (cast_of p.attack) x → to < p.p.n → number_of (cast_of p.attack) x ≢ to
-            → result ≡ made_for (world_in m p) p steps x to }
+            → result ≡ count_made_for (world_in m p) p steps x to }
     {
         match x {
             Player::Correct(i) => self.world.frames_made(i, to).len(),

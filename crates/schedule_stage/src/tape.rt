@@ -35,7 +35,7 @@ impl Tape {
     ghost use Rattle.ritas_base.specs.declared.what.DriveWhat.{DriveWhat};
     ghost use Rattle.schedule_file.specs.ReadHeader.{heading};
     ghost use Rattle.schedule_file.specs.Spelling.{event_text, FrontOf, IsHeading, IsSized};
-    ghost use Rattle.world_model.specs.Counts.{counted, no_counts, total};
+    ghost use Rattle.world_model.specs.Counts.{counted_event, no_counts, total};
     ghost use Rattle.world_model.specs.World.{Setting};
     ghost use Rattle.world_model.specs.Players.{Step};
     ghost use Rattle.schedule_plan.specs.Plans.{header_of};
@@ -138,7 +138,7 @@ impl Tape {
     /// The event of the newest step was answered so.
     pub(crate) fn count(&mut self, seen: &Seen)
         requires { total self.old.counts < self.old.steps }
-        ensures counts { self.new.counts ≡ counted seen.now self.old.counts }
+        ensures counts { self.new.counts ≡ counted_event seen.now self.old.counts }
         ensures same { SameTape self.old self.new }
     {
         self.counts.count(seen);

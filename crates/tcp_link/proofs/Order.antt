@@ -4,7 +4,7 @@ use Rattle.std.specs.List.{flat_map}
 use Rattle.std.proofs.lemmas.Bool.Decides.{nat_tests}
 use Rattle.tcp_link.specs.declared.news.News.{News}
 use Rattle.tcp_link.specs.declared.agenda.Next.TheVariants as next
-use Rattle.tcp_link.specs.Queues.{Queue, next_in, without, Given, IsTold, Piece, pieces_of, piece_of, all_given, came_but, after_frame, after_message, IsNoneOf, NewsFirst, FramesInOrder, MessagesInOrder}
+use Rattle.tcp_link.specs.Queues.{Queue, next_in, without_next, Given, IsTold, Piece, pieces_of, piece_of, all_given, came_but, after_frame, after_message, IsNoneOf, NewsFirst, FramesInOrder, MessagesInOrder}
 
 same_number : (t : ℕ) → nat_eq t t ≡ true
 same_number t = grind (arith, nat_tests)
@@ -26,7 +26,7 @@ abbrev queue : List News → List ℕ → List ℕ → List ℕ → Queue
 queue news frames due later = record { news = news; frames = frames; due = due; later = later }
 
 news_lists : (came : ℕ → List (List ℕ)) (news : List News) (frames due later : List ℕ) (d : News) → next_in news frames due ≡ Some (next.Told d)
-    → all_given came (queue news frames due later) ≡ IsTold d ∷ all_given came (without (queue news frames due later) (next_in news frames due))
+    → all_given came (queue news frames due later) ≡ IsTold d ∷ all_given came (without_next (queue news frames due later) (next_in news frames due))
 news_lists came (x ∷ news) frames due later d is =
     let same : x ≡ d = cc in
     rw same refl
@@ -45,7 +45,7 @@ frames_left came frames due later t (p ∷ pieces) apart apart_due =
 frame_lists : (came : ℕ → List (List ℕ)) (news : List News) (frames due later : List ℕ) (t : ℕ) (piece : List ℕ) (pieces : List (List ℕ))
     → next_in news frames due ≡ Some (next.Frame t) → came t ≡ piece ∷ pieces → IsNoneOf (drop 1 frames) t → IsNoneOf due t
     → all_given came (queue news frames due later)
-    ≡ Piece t piece ∷ all_given (came_but came t pieces) (after_frame (without (queue news frames due later) (next_in news frames due)) t pieces)
+    ≡ Piece t piece ∷ all_given (came_but came t pieces) (after_frame (without_next (queue news frames due later) (next_in news frames due)) t pieces)
 frame_lists came (x ∷ news) frames due later t piece pieces is here apart apart_due = cc
 frame_lists came [] (u ∷ frames) due later t piece pieces is here apart apart_due =
     let same : u ≡ t = cc in
@@ -61,7 +61,7 @@ messages_left came due later t (p ∷ pieces) apart = rw (others_one came t (p �
 message_lists : (came : ℕ → List (List ℕ)) (news : List News) (frames due later : List ℕ) (t : ℕ) (piece : List ℕ) (pieces : List (List ℕ))
     → next_in news frames due ≡ Some (next.Message t) → came t ≡ piece ∷ pieces → IsNoneOf (drop 1 due) t
     → all_given came (queue news frames due later)
-    ≡ Piece t piece ∷ all_given (came_but came t pieces) (after_message (without (queue news frames due later) (next_in news frames due)) t pieces)
+    ≡ Piece t piece ∷ all_given (came_but came t pieces) (after_message (without_next (queue news frames due later) (next_in news frames due)) t pieces)
 message_lists came (x ∷ news) frames due later t piece pieces is here apart = cc
 message_lists came [] (u ∷ frames) due later t piece pieces is here apart = cc
 message_lists came [] [] (u ∷ due) later t piece pieces is here apart =

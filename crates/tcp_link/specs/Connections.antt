@@ -2,7 +2,7 @@
 use Rattle.std.specs.Prelude.{ℕ, Bool, false, ◌==◌, List, Option, Some, None, slice_set, slice_index_or, if◌then◌else◌}
 use Rattle.slab.specs.Slab.{Slab, get}
 use Rattle.tcp_link.specs.Stages.{is_up}
-use Rattle.tcp_link.specs.Tokens.{place_in, place_of}
+use Rattle.tcp_link.specs.Tokens.{token_place, connection_place}
 use Rattle.tcp_link.specs.declared.whom.Whom.{Whom}
 use Rattle.tcp_link.specs.declared.whom.Whom.TheVariants.{Unnamed, Peer, Client, Node}
 use Rattle.tcp_link.specs.declared.conn.Conn.{Conn}
@@ -14,7 +14,7 @@ if_token token (Some c) = if c.token == token then Some c else None
 
 -- the connection of a token: one that stands at its place, and has this very token
 abbrev pub conn_at : Slab Conn → ℕ → Option Conn
-conn_at places token = if_token token (get places (place_in token))
+conn_at places token = if_token token (get places (token_place token))
 
 -- a connection stands
 abbrev pub is_up_conn : Option Conn → Bool
@@ -32,15 +32,15 @@ noted_at peers None = None
 noted_at peers (Some place) = slice_index_or peers place None
 
 -- the token of the newest connection of a replica with a peer
-abbrev pub newest : List (Option ℕ) → ℕ → ℕ → Option ℕ
-newest peers at peer = noted_at peers (place_of at peer)
+abbrev pub newest_connection : List (Option ℕ) → ℕ → ℕ → Option ℕ
+newest_connection peers at peer = noted_at peers (connection_place at peer)
 
 -- where a new connection is noted: one that was begun, by its peer or node; one that came in only once it has its name
 abbrev pub place_noted : Whom → Option ℕ
 place_noted (Unnamed at) = None
-place_noted (Peer at peer) = place_of at peer
+place_noted (Peer at peer) = connection_place at peer
 place_noted (Client at conn) = None
-place_noted (Node from) = place_of 0 from
+place_noted (Node from) = connection_place 0 from
 
 -- it is noted at a place
 abbrev pub noting : List (Option ℕ) → Option ℕ → ℕ → List (Option ℕ)

@@ -38,9 +38,9 @@ abbrev pub most_clients : ℕ
 most_clients = 4294967295
 
 -- whether one more may come in, where so many clients were numbered: peers always may
-abbrev pub admits : Entry → ℕ → Bool
-admits (entries.Replicas at) numbered = true
-admits (entries.Clients at) numbered = nat_lt numbered most_clients
+abbrev pub admits_one_more : Entry → ℕ → Bool
+admits_one_more (entries.Replicas at) numbered = true
+admits_one_more (entries.Clients at) numbered = nat_lt numbered most_clients
 
 -- at most so many clients are there at a time
 abbrev pub most_at_once : ℕ
@@ -48,9 +48,9 @@ most_at_once = 768
 
 -- whether there is room for one that came in, where so many clients are there and all spare descriptors or not: a client takes none that
 -- a peer may need
-abbrev pub has_room : Entry → ℕ → Bool → Bool
-has_room (entries.Replicas at) there has_spares = true
-has_room (entries.Clients at) there has_spares = nat_lt there most_at_once && has_spares
+abbrev pub has_client_room : Entry → ℕ → Bool → Bool
+has_client_room (entries.Replicas at) there has_spares = true
+has_client_room (entries.Clients at) there has_spares = nat_lt there most_at_once && has_spares
 
 -- whom a connection is with that came in, where so many clients were numbered
 abbrev pub whom_at : Entry → ℕ → Whom
@@ -79,11 +79,11 @@ most_kept (Client at conn) = 131072
 most_kept (Node from) = 16777216
 
 -- the item that a piece is
-abbrev pub item_of : Whom → List ℕ → Option LinkItem
-item_of (Unnamed at) bytes = None
-item_of (Peer at peer) bytes = Some (Frame at bytes)
-item_of (Client at conn) bytes = Some (Message at conn bytes)
-item_of (Node from) bytes = Some (Reply from bytes)
+abbrev pub link_item_of : Whom → List ℕ → Option LinkItem
+link_item_of (Unnamed at) bytes = None
+link_item_of (Peer at peer) bytes = Some (Frame at bytes)
+link_item_of (Client at conn) bytes = Some (Message at conn bytes)
+link_item_of (Node from) bytes = Some (Reply from bytes)
 
 -- it is with a client
 abbrev pub is_client : Whom → Bool
@@ -100,11 +100,11 @@ is_node (Client at conn) = false
 is_node (Node from) = true
 
 -- it is with a peer
-abbrev pub is_peer : Whom → Bool
-is_peer (Unnamed at) = false
-is_peer (Peer at peer) = true
-is_peer (Client at conn) = false
-is_peer (Node from) = false
+abbrev pub is_with_peer : Whom → Bool
+is_with_peer (Unnamed at) = false
+is_with_peer (Peer at peer) = true
+is_with_peer (Client at conn) = false
+is_with_peer (Node from) = false
 
 -- it is a client's connection to this replica
 abbrev pub is_client_of : ℕ → Whom → Bool

@@ -66,10 +66,10 @@ is_well_by (Ok (Some e)) = false
 is_well_by (Err e) = false
 
 -- whether the addresses of both sides are one, if both are known
-abbrev pub IsOwn : Result SocketAddr Error → Result SocketAddr Error → Option Bool → Type 0
-IsOwn (Ok peer) (Ok own) same = IsSomeAnd same (λ b. IsTrue b ↔ (peer ≡ own))
-IsOwn (Ok peer) (Err e) same = same ≡ None
-IsOwn (Err e) own same = same ≡ None
+abbrev pub IsOwnAddress : Result SocketAddr Error → Result SocketAddr Error → Option Bool → Type 0
+IsOwnAddress (Ok peer) (Ok own) same = IsSomeAnd same (λ b. IsTrue b ↔ (peer ≡ own))
+IsOwnAddress (Ok peer) (Err e) same = same ≡ None
+IsOwnAddress (Err e) own same = same ≡ None
 
 -- a connection that was begun is looked at: an error ends it, and so does having reached its own address; with the addresses of
 -- both sides known it stands
@@ -89,8 +89,8 @@ nobody_at _ = nobody.Closed
 -- ---- events
 
 -- an event tells that the other side sends or takes no more, or failed: it is broken where nothing can go out any more
-abbrev pub seen_of : Event → Seen
-seen_of e = record {
+abbrev pub event_seen : Event → Seen
+event_seen e = record {
   is_readable = is_readable e;
   is_writable = is_writable e;
   is_closed = is_read_closed e || is_error e || is_write_closed e;
@@ -107,6 +107,6 @@ may_write s = s.is_writable || s.is_closed
 -- ---- calls of a link
 
 -- what a call answers where something went wrong in it
-abbrev pub fault_of : Trouble → LinkFault
-fault_of troubles.System = faults.Failed
-fault_of troubles.Mem = faults.Mem
+abbrev pub link_fault_of : Trouble → LinkFault
+link_fault_of troubles.System = faults.Failed
+link_fault_of troubles.Mem = faults.Mem

@@ -13,11 +13,11 @@ abbrev pub length_told : List ℕ → ℕ
 length_told bytes = from_be_bytes w16 (take 2 bytes)
 
 -- what stands at the front of bytes, where pieces have at most so many: of a whole piece, the bytes after the length
-abbrev pub IsFront : List ℕ → ℕ → Front → Type 0
-IsFront bytes most (front.Piece p) =
+abbrev pub IsPieceFront : List ℕ → ℕ → Front → Type 0
+IsPieceFront bytes most (front.Piece p) =
     (2 + length_told bytes ≤ length bytes) × (length_told bytes ≤ most) × (p.now ≡ take (length_told bytes) (drop 2 bytes))
-IsFront bytes most front.Part = (length bytes < 2) ⊎ ((length_told bytes ≤ most) × (length bytes < 2 + length_told bytes))
-IsFront bytes most front.TooLong = (2 ≤ length bytes) × (most < length_told bytes)
+IsPieceFront bytes most front.Part = (length bytes < 2) ⊎ ((length_told bytes ≤ most) × (length bytes < 2 + length_told bytes))
+IsPieceFront bytes most front.TooLong = (2 ≤ length bytes) × (most < length_told bytes)
 
 -- a piece at the front lies in the bytes, and has at most so many
 abbrev pub FitsIn : List ℕ → ℕ → Front → Type 0

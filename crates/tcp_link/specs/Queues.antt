@@ -13,8 +13,8 @@ pub record Queue : Type 0 where
   pub due : List ℕ
   pub later : List ℕ
 
-abbrev pub nothing : Queue
-nothing = record { news = []; frames = []; due = []; later = [] }
+abbrev pub empty_queue : Queue
+empty_queue = record { news = []; frames = []; due = []; later = [] }
 
 -- ---- what comes next: news, then frames, then the messages of this turn
 
@@ -27,11 +27,11 @@ next_in [] [] [] = None
 abbrev pub next_of : Queue → Option Next
 next_of q = next_in q.news q.frames q.due
 
-abbrev pub without : Queue → Option Next → Queue
-without q (Some (next.Told one)) = record q { news = drop 1 q.news }
-without q (Some (next.Frame t)) = record q { frames = drop 1 q.frames }
-without q (Some (next.Message t)) = record q { due = drop 1 q.due }
-without q None = q
+abbrev pub without_next : Queue → Option Next → Queue
+without_next q (Some (next.Told one)) = record q { news = drop 1 q.news }
+without_next q (Some (next.Frame t)) = record q { frames = drop 1 q.frames }
+without_next q (Some (next.Message t)) = record q { due = drop 1 q.due }
+without_next q None = q
 
 -- ---- what is put where
 
@@ -43,8 +43,8 @@ with_told q None = q
 with_told q (Some one) = with_news q one
 
 -- a connection of a peer or a node that has pieces is the last of them
-abbrev pub with_frame : Queue → ℕ → Queue
-with_frame q t = record q { frames = q.frames ++ t ∷ [] }
+abbrev pub with_frame_last : Queue → ℕ → Queue
+with_frame_last q t = record q { frames = q.frames ++ t ∷ [] }
 
 -- one from which a piece was given, and which has more, is the first: so all of one come one after the other
 abbrev pub with_frame_first : Queue → ℕ → Queue
@@ -102,16 +102,16 @@ IsNoneOf (u ∷ us) t = (nat_eq u t ≡ false) × IsNoneOf us t
 -- news comes first
 abbrev pub NewsFirst : Type 0
 NewsFirst = (came : ℕ → List (List ℕ)) (q : Queue) (one : News) → next_of q ≡ Some (next.Told one)
-    → all_given came q ≡ IsTold one ∷ all_given came (without q (next_of q))
+    → all_given came q ≡ IsTold one ∷ all_given came (without_next q (next_of q))
 
 -- a frame that comes next is the first of all that is given, and then the rest is, in the same order
 abbrev pub FramesInOrder : Type 0
 FramesInOrder = (came : ℕ → List (List ℕ)) (q : Queue) (t : ℕ) (piece : List ℕ) (pieces : List (List ℕ)) → next_of q ≡ Some (next.Frame t)
     → came t ≡ piece ∷ pieces → IsNoneOf (drop 1 q.frames) t → IsNoneOf q.due t
-    → all_given came q ≡ Piece t piece ∷ all_given (came_but came t pieces) (after_frame (without q (next_of q)) t pieces)
+    → all_given came q ≡ Piece t piece ∷ all_given (came_but came t pieces) (after_frame (without_next q (next_of q)) t pieces)
 
 -- and so is a message
 abbrev pub MessagesInOrder : Type 0
 MessagesInOrder = (came : ℕ → List (List ℕ)) (q : Queue) (t : ℕ) (piece : List ℕ) (pieces : List (List ℕ)) → next_of q ≡ Some (next.Message t)
     → came t ≡ piece ∷ pieces → IsNoneOf (drop 1 q.due) t
-    → all_given came q ≡ Piece t piece ∷ all_given (came_but came t pieces) (after_message (without q (next_of q)) t pieces)
+    → all_given came q ≡ Piece t piece ∷ all_given (came_but came t pieces) (after_message (without_next q (next_of q)) t pieces)

@@ -1,13 +1,13 @@
 -- Worked rows, each of which fails where a definition is turned.
 use Rattle.std.specs.Prelude.{◌≡◌, true, false, [], ◌∷◌, replicate, Some, None, refl}
 use Rattle.std.specs.Fn.{iterate}
-use Rattle.tcp_link.specs.Names.{naming, admits, has_room, item_of, whom_at, numbered_after, most_of, most_kept, sent_through, up_of, told_at_end, dial_again, told_first}
+use Rattle.tcp_link.specs.Names.{naming, admits_one_more, has_client_room, link_item_of, whom_at, numbered_after, most_of, most_kept, sent_through, up_of, told_at_end, dial_again, told_first}
 use Rattle.tcp_link.specs.Outcomes.{moved_at, reads_on, change_seen, nobody_at}
-use Rattle.tcp_link.specs.Queues.{Queue, nothing, next_of, without, with_frame, with_frame_first, with_message, in_turn}
+use Rattle.tcp_link.specs.Queues.{Queue, empty_queue, next_of, without_next, with_frame_last, with_frame_first, with_message, in_turn}
 use Rattle.tcp_link.specs.Stages.{first_stage, stage_after, is_read, is_written}
-use Rattle.tcp_link.specs.Tokens.{token_of, serial_after, place_of, ends_of_all, spares_for, count_of}
-use Rattle.tcp_link.specs.Waits.{first_clock, after_waits, after_work, due_at, look_at}
-use Rattle.tcp_link.specs.Sides.{most_looks, looked, kept, read}
+use Rattle.tcp_link.specs.Tokens.{token_of, serial_after, connection_place, ends_of_all, spares_for, replica_count}
+use Rattle.tcp_link.specs.Waits.{first_clock, after_waits, after_work, retried_at, look_at}
+use Rattle.tcp_link.specs.Sides.{most_looks, looked, piece_kept, side_read}
 use Rattle.outside.specs.declared.link.LinkItem.TheVariants.{Frame}
 use Rattle.std.specs.declared.io.ErrorKind.TheVariants.{WouldBlock, Interrupted, ConnectionAborted, ConnectionReset}
 use Rattle.tcp_link.specs.declared.agenda.Next.TheVariants as next
@@ -110,13 +110,13 @@ tells = refl
 
 -- ---- clients
 
-last_client : admits (Clients 0) 4294967294 ≡ true
+last_client : admits_one_more (Clients 0) 4294967294 ≡ true
 last_client = refl
 
-one_too_many : admits (Clients 0) 4294967295 ≡ false
+one_too_many : admits_one_more (Clients 0) 4294967295 ≡ false
 one_too_many = refl
 
-peers_always : admits (Replicas 0) 4294967295 ≡ true
+peers_always : admits_one_more (Replicas 0) 4294967295 ≡ true
 peers_always = refl
 
 first_client : whom_at (Clients 2) 0 ≡ Client 2 0
@@ -228,7 +228,7 @@ was_gone = refl
 -- ---- pauses
 
 -- what is added at first is due after 100,000 microseconds
-due_at_first : due_at first_clock ≡ 100000
+due_at_first : retried_at first_clock ≡ 100000
 due_at_first = refl
 
 -- quiet waits have 1, 2, 4, 8, 16, 32 and 32 milliseconds: seven are too few, and the eighth is enough
@@ -294,17 +294,17 @@ not_asked : iterate looked 100 new_peer ≡ new_peer
 not_asked = refl
 
 -- one that is sent something and says nothing ends at the 12th look from then on, also where nothing more is sent
-asked_for_55_seconds : (iterate looked 11 (kept (iterate looked 30 new_peer) (7 ∷ []))).stage ≡ Up
+asked_for_55_seconds : (iterate looked 11 (piece_kept (iterate looked 30 new_peer) (7 ∷ []))).stage ≡ Up
 asked_for_55_seconds = refl
 
-asked_for_a_minute : (iterate looked 12 (kept (iterate looked 30 new_peer) (7 ∷ []))).stage ≡ Over
+asked_for_a_minute : (iterate looked 12 (piece_kept (iterate looked 30 new_peer) (7 ∷ []))).stage ≡ Over
 asked_for_a_minute = refl
 
 -- what comes begins the count anew, and then no answer is due
-answered : (looked (read (iterate looked 11 (kept new_peer (7 ∷ []))) (moved.Bytes 1) (9 ∷ []))).looks ≡ 0
+answered : (looked (side_read (iterate looked 11 (piece_kept new_peer (7 ∷ []))) (moved.Bytes 1) (9 ∷ []))).looks ≡ 0
 answered = refl
 
-answered_at_last : (iterate looked 100 (read (iterate looked 11 (kept new_peer (7 ∷ []))) (moved.Bytes 1) (9 ∷ []))).stage ≡ Up
+answered_at_last : (iterate looked 100 (side_read (iterate looked 11 (piece_kept new_peer (7 ∷ []))) (moved.Bytes 1) (9 ∷ []))).stage ≡ Up
 answered_at_last = refl
 
 -- one that told no number ends at the first look
@@ -313,16 +313,16 @@ stranger_ends = refl
 
 -- ---- who has room
 
-last_place : has_room (Clients 0) 767 true ≡ true
+last_place : has_client_room (Clients 0) 767 true ≡ true
 last_place = refl
 
-no_place : has_room (Clients 0) 768 true ≡ false
+no_place : has_client_room (Clients 0) 768 true ≡ false
 no_place = refl
 
-no_spares : has_room (Clients 0) 0 false ≡ false
+no_spares : has_client_room (Clients 0) 0 false ≡ false
 no_spares = refl
 
-peers_have_room : has_room (Replicas 0) 768 false ≡ true
+peers_have_room : has_client_room (Replicas 0) 768 false ≡ true
 peers_have_room = refl
 
 spares_of_four : spares_for 4 ≡ 16
@@ -330,10 +330,10 @@ spares_of_four = refl
 
 -- ---- pieces between replicas
 
-empty_frame : item_of (Peer 0 1) [] ≡ Some (Frame 0 [])
+empty_frame : link_item_of (Peer 0 1) [] ≡ Some (Frame 0 [])
 empty_frame = refl
 
-frame_of_a_byte : item_of (Peer 0 1) (7 ∷ []) ≡ Some (Frame 0 (7 ∷ []))
+frame_of_a_byte : link_item_of (Peer 0 1) (7 ∷ []) ≡ Some (Frame 0 (7 ∷ []))
 frame_of_a_byte = refl
 
 -- ---- what is given
@@ -344,10 +344,10 @@ both = record { news = []; frames = 5 ∷ 6 ∷ []; due = 7 ∷ []; later = 8 �
 frames_first : next_of both ≡ Some (next.Frame 5)
 frames_first = refl
 
-same_again : with_frame_first (without both (Some (next.Frame 5))) 5 ≡ both
+same_again : with_frame_first (without_next both (Some (next.Frame 5))) 5 ≡ both
 same_again = refl
 
-newer_is_last : (with_frame both 9).frames ≡ 5 ∷ 6 ∷ 9 ∷ []
+newer_is_last : (with_frame_last both 9).frames ≡ 5 ∷ 6 ∷ 9 ∷ []
 newer_is_last = refl
 
 client_waits : (with_message both 9).later ≡ 8 ∷ 9 ∷ []
@@ -357,10 +357,10 @@ next_turn : in_turn both ≡ record { news = []; frames = 5 ∷ 6 ∷ []; due = 
 next_turn = refl
 
 -- of 20 clients 16 give in one turn
-many : (in_turn (record nothing { later = replicate 20 3 })).due ≡ replicate 16 3
+many : (in_turn (record empty_queue { later = replicate 20 3 })).due ≡ replicate 16 3
 many = refl
 
-left_for_later : (in_turn (record nothing { later = replicate 20 3 })).later ≡ replicate 4 3
+left_for_later : (in_turn (record empty_queue { later = replicate 20 3 })).later ≡ replicate 4 3
 left_for_later = refl
 
 -- ---- numbers
@@ -371,14 +371,14 @@ first_token = refl
 begins_anew : serial_after 1000000000000 ≡ 1
 begins_anew = refl
 
-last_pair : place_of 30 30 ≡ Some 960
+last_pair : connection_place 30 30 ≡ Some 960
 last_pair = refl
 
-no_pair : place_of 0 31 ≡ None
+no_pair : connection_place 0 31 ≡ None
 no_pair = refl
 
 ends_of_four : ends_of_all 4 ≡ 12
 ends_of_four = refl
 
-most_replicas : count_of 32 ≡ 31
+most_replicas : replica_count 32 ≡ 31
 most_replicas = refl

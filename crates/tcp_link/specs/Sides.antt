@@ -1,10 +1,10 @@
 -- What is known of a connection without its stream, and what becomes of it.
 use Rattle.std.specs.Prelude.{◌≡◌, ◌⊎◌, ℕ, ◌+◌, ◌-◌, ◌≤◌, nat_eq, is_none, is_some, Bool, true, false, not, ◌&&◌, ◌||◌, nat_lt, nat_le, List, [], ◌++◌, length, take, drop, Option, Some, None, if◌then◌else◌}
 use Rattle.outside.specs.declared.link.LinkItem.{LinkItem}
-use Rattle.tcp_link.specs.Queues.{Queue, with_frame, with_frame_first, with_message}
-use Rattle.tcp_link.specs.Pieces.{piece, length_told, IsFront}
+use Rattle.tcp_link.specs.Queues.{Queue, with_frame_last, with_frame_first, with_message}
+use Rattle.tcp_link.specs.Pieces.{piece, length_told, IsPieceFront}
 use Rattle.tcp_link.specs.Stages.{stage_after, is_up, is_begun, is_half, is_draining, is_read, is_written, is_over}
-use Rattle.tcp_link.specs.Names.{most_of, most_kept, item_of, is_client, is_node, is_peer}
+use Rattle.tcp_link.specs.Names.{most_of, most_kept, link_item_of, is_client, is_node, is_with_peer}
 use Rattle.tcp_link.specs.Waits.{capped_64}
 use Rattle.tcp_link.specs.Outcomes.{may_write}
 use Rattle.tcp_link.specs.declared.pieces.Front.{Front}
@@ -42,8 +42,8 @@ abbrev pub is_replied : Side → Bool
 is_replied s = is_half s.stage && nat_eq s.owed 0 && nat_eq (length s.output) 0
 
 -- it is over or was replied all, and no piece is to be given from it
-abbrev pub is_done : Side → Bool
-is_done s = (is_over s.stage || is_replied s) && not s.listed.gives
+abbrev pub is_side_done : Side → Bool
+is_side_done s = (is_over s.stage || is_replied s) && not s.listed.gives
 
 -- one that takes no bytes is read to its end: what was to go out is let go of, and the time is counted from then on
 abbrev pub is_drain_due : Side → Bool
@@ -89,7 +89,7 @@ most_looks Replaced whom = None
 
 -- a peer's connection that stands, to which nothing was sent since the last look, and of which no look was counted yet: no answer is due
 abbrev pub is_at_rest : Side → Bool
-is_at_rest s = is_up s.stage && is_peer s.whom && not s.has_sent && nat_eq s.looks 0
+is_at_rest s = is_up s.stage && is_with_peer s.whom && not s.has_sent && nat_eq s.looks 0
 
 -- so many looks were in a row without anything that came: those of a peer are counted from the first before which something was sent to it
 abbrev pub quiet_looks : Side → ℕ
@@ -108,8 +108,8 @@ looked s = looked_at s (most_looks s.stage s.whom)
 -- ---- bytes that go out
 
 -- it takes bytes as far as is known
-abbrev pub is_ready : Side → Bool
-is_ready s = is_written s.stage && not s.is_blocked
+abbrev pub is_side_ready : Side → Bool
+is_side_ready s = is_written s.stage && not s.is_blocked
 
 -- a piece may be kept for it: it takes bytes, or is with a node and yet to stand. What is for a peer whose connection is being made is
 -- dropped
@@ -117,12 +117,12 @@ abbrev pub takes : Side → Bool
 takes s = is_written s.stage || (is_begun s.stage && is_node s.whom)
 
 -- a piece is kept behind what is kept, and is one reply less that is owed
-abbrev pub kept : Side → List ℕ → Side
-kept s bytes = record s { output = s.output ++ piece bytes; owed = s.owed - 1; has_sent = true }
+abbrev pub piece_kept : Side → List ℕ → Side
+piece_kept s bytes = record s { output = s.output ++ piece bytes; owed = s.owed - 1; has_sent = true }
 
 -- with 65,536 kept bytes they are written at once, if they are taken
 abbrev pub has_much : Side → Bool
-has_much s = is_ready s && nat_le 65536 (length s.output)
+has_much s = is_side_ready s && nat_le 65536 (length s.output)
 
 -- with more kept bytes than may be it takes no more
 abbrev pub capped : Side → Side
@@ -133,12 +133,12 @@ abbrev pub IsCapped : Side → Type 0
 IsCapped s = (length s.output ≤ most_kept s.whom) ⊎ (takes s ≡ false)
 
 -- after a write: what went out is kept no more, and after one that failed no byte goes out any more
-abbrev pub written : Side → Moved → Side
-written s (Bytes n) = record s { output = drop n s.output }
-written s Later = record s { is_blocked = true }
-written s Again = s
-written s Closed = broken s
-written s Failed = broken s
+abbrev pub side_written : Side → Moved → Side
+side_written s (Bytes n) = record s { output = drop n s.output }
+side_written s Later = record s { is_blocked = true }
+side_written s Again = s
+side_written s Closed = broken s
+side_written s Failed = broken s
 
 -- ---- bytes that come
 
@@ -158,12 +158,12 @@ abbrev pub closed : Side → Side
 closed s = changed s (if is_client s.whom then Closes else Ends)
 
 -- after a read: what came stands behind what had come
-abbrev pub read : Side → Moved → List ℕ → Side
-read s (Bytes n) buffer = record s { input = s.input ++ take n buffer; idle = 0; has_come = true }
-read s Later buffer = s
-read s Again buffer = s
-read s Closed buffer = closed s
-read s Failed buffer = ended s
+abbrev pub side_read : Side → Moved → List ℕ → Side
+side_read s (Bytes n) buffer = record s { input = s.input ++ take n buffer; idle = 0; has_come = true }
+side_read s Later buffer = s
+side_read s Again buffer = s
+side_read s Closed buffer = closed s
+side_read s Failed buffer = ended s
 
 -- the first byte is taken where it is asked for
 abbrev pub named : Side → Naming → Side
@@ -176,7 +176,7 @@ named s Closes = ended (record s { input = drop 1 s.input })
 -- what stands at the front of what came; nothing of one that has no name yet
 abbrev pub IsFrontAt : Option ℕ → List ℕ → Front → Type 0
 IsFrontAt None bytes f = f ≡ front.Part
-IsFrontAt (Some most) bytes f = IsFront bytes most f
+IsFrontAt (Some most) bytes f = IsPieceFront bytes most f
 
 -- a whole piece stands at the front, of at most so many bytes
 abbrev pub is_whole_at : Option ℕ → List ℕ → Bool
@@ -209,17 +209,17 @@ abbrev pub behind_piece : List ℕ → List ℕ
 behind_piece bytes = drop (2 + length_told bytes) bytes
 
 -- the item that is taken, and what stays; it is noted that something was given, and that one reply more is owed
-abbrev pub item_taken : Side → Option LinkItem
-item_taken s = if is_whole s then item_of s.whom (front_piece s.input) else None
+abbrev pub side_item_taken : Side → Option LinkItem
+side_item_taken s = if is_whole s then link_item_of s.whom (front_piece s.input) else None
 
-abbrev pub taken : Side → Side
-taken s = if is_whole s then record s { input = behind_piece s.input; has_given = true; owed = capped_64 (s.owed + 1) } else s
+abbrev pub side_taken : Side → Side
+side_taken s = if is_whole s then record s { input = behind_piece s.input; has_given = true; owed = capped_64 (s.owed + 1) } else s
 
 -- ---- events
 
 -- after an event: a client that sent no more is gone where nothing can go out any more
-abbrev pub noted : Side → Seen → Side
-noted s e = record s {
+abbrev pub side_noted : Side → Seen → Side
+side_noted s e = record s {
   is_hung_up = s.is_hung_up || e.is_closed;
   is_blocked = s.is_blocked && not (may_write e);
   stage = if is_half s.stage && e.is_broken then stage_after s.stage Ends else s.stage;
@@ -252,7 +252,7 @@ side_listed s gives.TooLong = ended s
 
 abbrev pub queue_listed : Queue → Bool → ℕ → Gives → Queue
 queue_listed q true token gives = q
-queue_listed q false token gives.Frame = with_frame q token
+queue_listed q false token gives.Frame = with_frame_last q token
 queue_listed q false token gives.Message = with_message q token
 queue_listed q false token gives.Nothing = q
 queue_listed q false token gives.TooLong = q
@@ -260,7 +260,7 @@ queue_listed q false token gives.TooLong = q
 -- from a connection that comes next a piece is taken; where it has one more it is put among those that have: one of a peer or a node
 -- as the first of them
 abbrev pub off_given : Side → Side
-off_given s = taken (with_gives s false)
+off_given s = side_taken (with_gives s false)
 
 abbrev pub queue_given : Queue → ℕ → Gives → Queue
 queue_given q token gives.Frame = with_frame_first q token

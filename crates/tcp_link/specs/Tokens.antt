@@ -18,23 +18,23 @@ abbrev pub serial_after : ℕ → ℕ
 serial_after serial = serial % most_serials + 1
 
 -- where the connection of a token stands
-abbrev pub place_in : ℕ → ℕ
-place_in token = token % most_conns
+abbrev pub token_place : ℕ → ℕ
+token_place token = token % most_conns
 
 -- two connections have one token only if their places and serial numbers are the same; and none has the number of a door
 abbrev pub TokenLaw : Type 0
 TokenLaw = (serial place serial' place' : ℕ) → place < most_conns → place' < most_conns
-    → (place_in (token_of serial place) ≡ place)
+    → (token_place (token_of serial place) ≡ place)
     × (token_of serial place ≡ token_of serial' place' → (serial ≡ serial') × (place ≡ place'))
     × (most_conns ≤ token_of (serial_after serial) place)
 
 -- where the connection of replica `at` with `peer` is noted, if both numbers are below 31
-abbrev pub place_of : ℕ → ℕ → Option ℕ
-place_of at peer = if nat_lt at 31 && nat_lt peer 31 then Some (at * 31 + peer) else None
+abbrev pub connection_place : ℕ → ℕ → Option ℕ
+connection_place at peer = if nat_lt at 31 && nat_lt peer 31 then Some (at * 31 + peer) else None
 
 -- no two pairs are noted at one place
 abbrev pub PairLaw : Type 0
-PairLaw = (at peer at' peer' place : ℕ) → place_of at peer ≡ Some place → place_of at' peer' ≡ Some place → (at ≡ at') × (peer ≡ peer')
+PairLaw = (at peer at' peer' place : ℕ) → connection_place at peer ≡ Some place → connection_place at' peer' ≡ Some place → (at ≡ at') × (peer ≡ peer')
 
 -- each of n replicas has a connection with each other one, and both know of it
 abbrev pub ends_of_all : ℕ → ℕ
@@ -45,5 +45,5 @@ abbrev pub spares_for : ℕ → ℕ
 spares_for n = 2 * n + 8
 
 -- the replicas of a list of addresses: at most 31
-abbrev pub count_of : ℕ → ℕ
-count_of length = min length 31
+abbrev pub replica_count : ℕ → ℕ
+replica_count length = min length 31

@@ -38,13 +38,13 @@ abbrev pub look_at : Clock → ℕ
 look_at c = capped_64 (c.counted_micros + 5000000)
 
 -- what is tried again is due after a tenth of a second
-abbrev pub due_at : Clock → ℕ
-due_at c = capped_64 (c.counted_micros + 100000)
+abbrev pub retried_at : Clock → ℕ
+retried_at c = capped_64 (c.counted_micros + 100000)
 
 -- a dial that comes again
 abbrev pub redial : Clock → Option ℕ → List Waiting
 redial c None = []
-redial c (Some dial) = (record { due_micros = due_at c; retry = Dial dial }) ∷ []
+redial c (Some dial) = (record { due_micros = retried_at c; retry = Dial dial }) ∷ []
 
 -- the first that waits, if it is due
 abbrev pub due_in : Clock → List Waiting → Option Retry
@@ -57,20 +57,20 @@ left_in c [] = []
 left_in c (w ∷ ws) = if nat_le w.due_micros c.counted_micros then ws else w ∷ ws
 
 -- the first that is due of two lists: what is tried again comes before what is looked at
-abbrev pub due_of : Clock → List Waiting → List Waiting → Option Retry
-due_of c soon late = if is_some (due_in c soon) then due_in c soon else due_in c late
+abbrev pub first_retry : Clock → List Waiting → List Waiting → Option Retry
+first_retry c soon late = if is_some (due_in c soon) then due_in c soon else due_in c late
 
 -- and what waits to be looked at then
 abbrev pub late_of : Clock → List Waiting → List Waiting → List Waiting
 late_of c soon late = if is_some (due_in c soon) then late else left_in c late
 
 -- how long to wait: without end where nothing is to be tried again or to be looked at
-abbrev pub wait_of : Clock → List Waiting → List Waiting → Option ℕ
-wait_of c [] [] = None
-wait_of c (w ∷ ws) late = Some c.wait_millis
-wait_of c [] (w ∷ ws) = Some c.wait_millis
+abbrev pub time_to_wait : Clock → List Waiting → List Waiting → Option ℕ
+time_to_wait c [] [] = None
+time_to_wait c (w ∷ ws) late = Some c.wait_millis
+time_to_wait c [] (w ∷ ws) = Some c.wait_millis
 
 -- a pause ends: what is added is due after 2,000 waits at the latest, however they end
 abbrev pub PauseEnds : Type 0
 PauseEnds = (c : Clock) (waits : List Bool) → 0 < c.wait_millis
-    → 2000 ≤ length waits → due_at c ≤ (after_waits c waits).counted_micros
+    → 2000 ≤ length waits → retried_at c ≤ (after_waits c waits).counted_micros

@@ -1,7 +1,7 @@
 //! What a link is to give, in the order in which it is given.
 
 ghost use Rattle.std.specs.Prelude.{◌≡◌, ◌++◌, ◌∷◌, [], OnOk, length, drop, nat_lt, slice_get};
-ghost use Rattle.tcp_link.specs.Queues.{Queue, nothing, next_of, without, with_news, with_told, with_frame, with_frame_first, with_message, in_turn};
+ghost use Rattle.tcp_link.specs.Queues.{Queue, empty_queue, next_of, without_next, with_news, with_told, with_frame_last, with_frame_first, with_message, in_turn};
 
 use crate::news::News;
 use ritas_base::Mem;
@@ -53,7 +53,7 @@ impl Model for Agenda {
 impl Agenda {
     /// Nothing is to be given.
     pub(crate) fn new(alloc: Global) -> Agenda
-        ensures { result ≡ nothing }
+        ensures { result ≡ empty_queue }
     {
         Agenda {
             news: VecDeque::new(alloc),
@@ -96,7 +96,7 @@ impl Agenda {
 
     /// A connection of a peer or a node has a piece. The one error is want of memory.
     pub(crate) fn add_frame(&mut self, token: usize) -> Result<(), Mem>
-        ensures { OnOk result (self.new ≡ with_frame self.old token) }
+        ensures { OnOk result (self.new ≡ with_frame_last self.old token) }
     {
         self.frames.push_back(token)?;
         Ok(())
@@ -141,7 +141,7 @@ impl Agenda {
     /// Takes what comes next.
     pub(crate) fn next(&mut self) -> Option<Next>
         ensures next { result ≡ next_of self.old }
-        ensures rest { self.new ≡ without self.old result }
+        ensures rest { self.new ≡ without_next self.old result }
     {
         if let Some(news) = self.news.pop_front() {
             return Some(Next::Told(news));

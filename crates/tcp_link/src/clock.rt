@@ -1,7 +1,7 @@
 //! The time that passes, counted by waits.
 
 ghost use Rattle.std.specs.Prelude.{◌≡◌};
-ghost use Rattle.tcp_link.specs.Waits.{first_clock, after_wait, after_work, due_at, look_at};
+ghost use Rattle.tcp_link.specs.Waits.{first_clock, after_wait, after_work, retried_at, look_at};
 
 // What is tried again is due after so long.
 const PAUSE_MICROS: u64 = 100_000;
@@ -80,7 +80,7 @@ impl Clock {
 
     /// When something is due that is to be tried again, in microseconds that are counted.
     pub(crate) fn due(self) -> u64
-        ensures { result ≡ due_at self }
+        ensures { result ≡ retried_at self }
     {
         self.counted_micros.saturating_add(PAUSE_MICROS)
     }

@@ -5,8 +5,8 @@ ghost use Rattle.std.specs.Option.{SomeIff};
 ghost use Rattle.std.specs.Ordering.{nat_cmp};
 ghost use Rattle.std.specs.BTreeMap.{get as get_client};
 ghost use Rattle.slab.specs.Slab.{slab_len};
-ghost use Rattle.tcp_link.specs.Connections.{conn_at, is_up_at, newest, noting, place_noted};
-ghost use Rattle.tcp_link.specs.Tokens.{most_conns, token_of, serial_after, place_of};
+ghost use Rattle.tcp_link.specs.Connections.{conn_at, is_up_at, newest_connection, noting, place_noted};
+ghost use Rattle.tcp_link.specs.Tokens.{most_conns, token_of, serial_after, connection_place};
 
 use crate::conn::Conn;
 use crate::tokens::{MOST_REPLICAS, Tokens, place_in, place_of};
@@ -111,7 +111,7 @@ impl Conns {
 
     /// The token of the newest connection of a replica with a peer.
     pub(crate) fn peer(&self, at: u8, peer: u8) -> Option<usize>
-        ensures { result ≡ newest self.now.peers.items at peer }
+        ensures { result ≡ newest_connection self.now.peers.items at peer }
     {
         match self.peers.get(place_of(at, peer)?) {
             Some(token) => *token,
@@ -121,7 +121,7 @@ impl Conns {
 
     /// This is the newest connection of a replica with a peer from now on.
     pub(crate) fn set_peer(&mut self, at: u8, peer: u8, token: usize)
-        ensures { self.new.peers.items ≡ noting self.old.peers.items (place_of at peer) token }
+        ensures { self.new.peers.items ≡ noting self.old.peers.items (connection_place at peer) token }
     {
         if let Some(place) = place_of(at, peer) {
             if let Some(newest) = self.peers.get_mut(place) {

@@ -1,7 +1,7 @@
 //! Who comes in by a door.
 
 ghost use Rattle.std.specs.Prelude.{◌≡◌, true};
-ghost use Rattle.tcp_link.specs.Names.{admits, has_room, whom_at, numbered_after};
+ghost use Rattle.tcp_link.specs.Names.{admits_one_more, has_client_room, whom_at, numbered_after};
 
 use crate::whom::Whom;
 
@@ -28,7 +28,7 @@ pub(crate) enum Entry {
 impl Entry {
     /// Whether one more may come in, where so many clients were numbered.
     pub(crate) fn admits(self, numbered: u32) -> bool
-        ensures { result ≡ admits self numbered }
+        ensures { result ≡ admits_one_more self numbered }
     {
         match self {
             Entry::Replicas { at: _ } => true,
@@ -46,7 +46,7 @@ impl Entry {
 
     /// Whether there is room for one that came in, where so many clients are there, and all spare descriptors or not.
     pub(crate) fn has_room(self, there: usize, has_spares: bool) -> bool
-        ensures { result ≡ has_room self there has_spares }
+        ensures { result ≡ has_client_room self there has_spares }
     {
         match self {
             Entry::Replicas { at: _ } => true,
@@ -74,7 +74,7 @@ impl Entry {
 
     /// How many clients are numbered then.
     pub(crate) fn numbered_after(self, numbered: u32) -> u32
-        requires { admits self numbered ≡ true }
+        requires { admits_one_more self numbered ≡ true }
         ensures { result ≡ numbered_after self numbered }
     {
         match self {

@@ -2,7 +2,7 @@
 
 ghost use Rattle.std.specs.Prelude.{◌≡◌, ◌<◌, ◌^◌, IfOk, IfSome, OnOk, length};
 ghost use Rattle.outside.specs.Links.{bytes_of};
-ghost use Rattle.tcp_link.specs.Sides.{gives_of, item_taken, with_gives, off_given, side_listed, queue_listed, side_given, queue_given};
+ghost use Rattle.tcp_link.specs.Sides.{gives_of, side_item_taken, with_gives, off_given, side_listed, queue_listed, side_given, queue_given};
 
 use crate::agenda::Agenda;
 use crate::side::{Gives, Side};
@@ -44,7 +44,7 @@ impl Side {
     // Takes the piece of a connection that came next.
     fn take_listed(&mut self, alloc: Global) -> Result<Option<LinkItem>, Mem>
         ensures size { IfOk result (λ item. IfSome item (λ x. length (bytes_of x) < 2 ^ 16)) }
-        ensures item { IfOk result (λ item. item ≡ item_taken self.old) }
+        ensures item { IfOk result (λ item. item ≡ side_item_taken self.old) }
         ensures side { OnOk result (self.new ≡ off_given self.old) }
     {
         self.listed.gives = false;
@@ -60,7 +60,7 @@ impl Side {
         token: usize,
     ) -> Result<Option<LinkItem>, Mem>
         ensures size { IfOk result (λ item. IfSome item (λ x. length (bytes_of x) < 2 ^ 16)) }
-        ensures item { IfOk result (λ item. item ≡ item_taken self.old) }
+        ensures item { IfOk result (λ item. item ≡ side_item_taken self.old) }
         ensures side { OnOk result (self.new ≡ side_given self.old) }
         ensures agenda { OnOk result (agenda.new ≡ queue_given agenda.old token (gives_of (off_given self.old))) }
     {

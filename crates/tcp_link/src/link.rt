@@ -3,7 +3,7 @@
 ghost use Rattle.std.specs.Prelude.{◌≡◌, ◌<◌, ◌^◌, [], false, IfOk, IfSome, length, Err};
 ghost use Rattle.outside.specs.Faults.{HasCause};
 ghost use Rattle.outside.specs.Links.{bytes_of, faults_after};
-ghost use Rattle.tcp_link.specs.Outcomes.{fault_of};
+ghost use Rattle.tcp_link.specs.Outcomes.{link_fault_of};
 
 use crate::pieces::MOST_BYTES;
 use crate::running::Running;
@@ -47,7 +47,7 @@ impl TcpLink {
 
     // The fault that a trouble is, which is counted.
     fn fault(&mut self, trouble: Trouble) -> LinkFault
-        ensures is { result ≡ fault_of trouble }
+        ensures is { result ≡ link_fault_of trouble }
         ensures cause { HasCause self.old.faults.failed self.new.faults.failed (result ≡ LinkFault.Failed) }
         ensures count { self.new.faults ≡ faults_after {A = Unit {0}} self.old.faults (Err result) }
     {

@@ -1,7 +1,7 @@
 //! What came of a call at a socket, and of an event.
 
 ghost use Rattle.std.specs.Prelude.{◌≡◌};
-ghost use Rattle.tcp_link.specs.Outcomes.{moved_at, moved_of, reads_on, writes_on, is_well_by, IsOwn, change_seen, nobody_at, seen_of, may_read, may_write};
+ghost use Rattle.tcp_link.specs.Outcomes.{moved_at, moved_of, reads_on, writes_on, is_well_by, IsOwnAddress, change_seen, nobody_at, event_seen, may_read, may_write};
 
 use crate::stage::Change;
 use mio::event::Event;
@@ -92,7 +92,7 @@ pub(crate) fn is_well(pending: io::Result<Option<io::Error>>) -> bool
 
 /// Whether a connection reached its own address, if the addresses of both sides are known.
 pub(crate) fn is_own(peer: io::Result<SocketAddr>, own: io::Result<SocketAddr>) -> Option<bool>
-    ensures { IsOwn peer own result }
+    ensures { IsOwnAddress peer own result }
 {
     match (peer, own) {
         (Ok(peer), Ok(own)) => Some(peer == own),
@@ -114,7 +114,7 @@ pub(crate) fn change_seen(is_well: bool, is_own: Option<bool>) -> Option<Change>
 
 /// What an event tells.
 pub(crate) fn told_by(event: &Event) -> Seen
-    ensures { result ≡ seen_of event.now }
+    ensures { result ≡ event_seen event.now }
 {
     Seen {
         is_readable: event.is_readable(),

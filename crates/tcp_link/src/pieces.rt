@@ -1,7 +1,7 @@
 //! Pieces of a stream: a length of two bytes, the greater first, and so many bytes.
 
 ghost use Rattle.std.specs.Prelude.{◌≡◌, ◌<◌, ◌≤◌, ◌++◌, ◌^◌, OnOk, length, vec_len};
-ghost use Rattle.tcp_link.specs.Pieces.{piece, IsFront, FitsIn};
+ghost use Rattle.tcp_link.specs.Pieces.{piece, IsPieceFront, FitsIn};
 
 use ritas_base::Mem;
 
@@ -25,7 +25,7 @@ pub(crate) enum Front<'a> {
 /// What stands at the front of these bytes, where pieces have at most so many.
 pub(crate) fn front_of(bytes: &[u8], most: usize) -> Front<'_>
     requires { most < 2 ^ 16 }
-    ensures exact { IsFront bytes.now most result }
+    ensures exact { IsPieceFront bytes.now most result }
     ensures fits { FitsIn bytes.now most result }
 {
     let [high, low, rest @ ..] = bytes else {

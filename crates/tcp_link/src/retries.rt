@@ -1,7 +1,7 @@
 //! What is tried again after a pause.
 
 ghost use Rattle.std.specs.Prelude.{◌≡◌, ◌++◌, ◌∷◌, [], OnOk, if◌then◌else◌};
-ghost use Rattle.tcp_link.specs.Waits.{first_clock, after_wait, after_work, due_at, look_at, due_in, left_in, due_of, late_of, wait_of};
+ghost use Rattle.tcp_link.specs.Waits.{first_clock, after_wait, after_work, retried_at, look_at, due_in, left_in, first_retry, late_of, time_to_wait};
 
 use crate::clock::Clock;
 use ritas_base::Mem;
@@ -65,7 +65,7 @@ impl Retries {
 
     /// Has this tried again after a pause. The one error is want of memory.
     pub(crate) fn add(&mut self, retry: Retry) -> Result<(), Mem>
-        ensures last { OnOk result (self.new.waiting.items ≡ self.old.waiting.items ++ (record { due_micros = due_at self.old.clock; retry = retry }) ∷ []) }
+        ensures last { OnOk result (self.new.waiting.items ≡ self.old.waiting.items ++ (record { due_micros = retried_at self.old.clock; retry = retry }) ∷ []) }
         ensures looks { self.new.looks ≡ self.old.looks }
         ensures clock { self.new.clock ≡ self.old.clock }
     {
@@ -96,7 +96,7 @@ impl Retries {
     /// How many milliseconds to wait for an event at most: none where something is to be done before, and without end where nothing
     /// is to be tried again or looked at.
     pub(crate) fn wait_millis(&self, is_busy: bool) -> Option<u64>
-        ensures { result ≡ (if is_busy then Some 0 else wait_of self.now.clock self.now.waiting.items self.now.looks.items) }
+        ensures { result ≡ (if is_busy then Some 0 else time_to_wait self.now.clock self.now.waiting.items self.now.looks.items) }
     {
         if is_busy {
             Some(0)
@@ -127,7 +127,7 @@ impl Retries {
 
     /// Takes the next that is due by now.
     pub(crate) fn next(&mut self) -> Option<Retry>
-        ensures first { result ≡ due_of self.old.clock self.old.waiting.items self.old.looks.items }
+        ensures first { result ≡ first_retry self.old.clock self.old.waiting.items self.old.looks.items }
         ensures waiting { self.new.waiting.items ≡ left_in self.old.clock self.old.waiting.items }
         ensures looks { self.new.looks.items ≡ late_of self.old.clock self.old.waiting.items self.old.looks.items }
         ensures clock { self.new.clock ≡ self.old.clock }

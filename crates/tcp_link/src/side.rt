@@ -6,7 +6,7 @@ ghost use Rattle.tcp_link.specs.Names.{naming, most_of};
 ghost use Rattle.tcp_link.specs.Outcomes.{IsWithin};
 ghost use Rattle.tcp_link.specs.Pieces.{FitsIn};
 ghost use Rattle.tcp_link.specs.Stages.{first_stage, is_begun};
-ghost use Rattle.tcp_link.specs.Sides.{changed, ended, is_done, is_replied, is_drain_due, draining, ticked, is_ready, is_reading, takes, kept, has_much, capped, IsCapped, written, is_fed, read, named, IsFrontAt, gives_of, item_taken, taken, noted, is_write_due, off_readers, off_writers};
+ghost use Rattle.tcp_link.specs.Sides.{changed, ended, is_side_done, is_replied, is_drain_due, draining, ticked, is_side_ready, is_reading, takes, piece_kept, has_much, capped, IsCapped, side_written, is_fed, side_read, named, IsFrontAt, gives_of, side_item_taken, side_taken, side_noted, is_write_due, off_readers, off_writers};
 
 use crate::input::Input;
 use crate::outcome::{Moved, Seen};
@@ -141,7 +141,7 @@ impl Side {
 
     /// Whether it is over or was replied all, and no piece is to be given from it.
     pub(crate) fn is_done(&self) -> bool
-        ensures { result ≡ is_done self.now }
+        ensures { result ≡ is_side_done self.now }
     {
         (self.stage.is_over() || self.is_replied()) && !self.listed.gives
     }
@@ -178,7 +178,7 @@ impl Side {
 
     /// Whether it takes bytes as far as is known.
     pub(crate) fn is_ready(&self) -> bool
-        ensures { result ≡ is_ready self.now }
+        ensures { result ≡ is_side_ready self.now }
     {
         self.stage.is_written() && !self.is_blocked
     }
@@ -217,7 +217,7 @@ impl Side {
 
     /// Takes note of an event.
     pub(crate) fn note(&mut self, seen: Seen)
-        ensures { self.new ≡ noted self.old seen }
+        ensures { self.new ≡ side_noted self.old seen }
     {
         self.is_hung_up = self.is_hung_up || seen.is_closed;
         self.is_blocked = self.is_blocked && !seen.may_write();
@@ -243,7 +243,7 @@ impl Side {
     /// One read came out so, into a buffer. The one error is want of memory.
     pub(crate) fn read(&mut self, moved: Moved, buffer: &[u8]) -> Result<(), Mem>
         requires { IsWithin (length buffer.now) moved }
-        ensures { OnOk result (self.new ≡ read self.old moved buffer.now) }
+        ensures { OnOk result (self.new ≡ side_read self.old moved buffer.now) }
     {
         match moved {
             Moved::Bytes(count) => {
@@ -261,7 +261,7 @@ impl Side {
     /// One write of what is kept came out so.
     pub(crate) fn wrote(&mut self, moved: Moved)
         requires { IsWithin (length self.old.output) moved }
-        ensures { self.new ≡ written self.old moved }
+        ensures { self.new ≡ side_written self.old moved }
     {
         match moved {
             Moved::Bytes(count) => self.output.wrote(count),
@@ -281,7 +281,7 @@ impl Side {
     /// Keeps a piece to go out. The one error is want of memory.
     pub(crate) fn keep(&mut self, bytes: &[u8]) -> Result<(), Mem>
         requires { length bytes.now < 2 ^ 16 }
-        ensures { OnOk result (self.new ≡ kept self.old bytes.now) }
+        ensures { OnOk result (self.new ≡ piece_kept self.old bytes.now) }
     {
         self.output.put(bytes)?;
         self.owed = self.owed.saturating_sub(1);
@@ -372,8 +372,8 @@ impl Side {
     /// Takes the piece at the front, if it is whole. The one error is want of memory.
     pub(crate) fn take(&mut self, alloc: Global) -> Result<Option<LinkItem>, Mem>
         ensures size { IfOk result (λ item. IfSome item (λ x. length (bytes_of x) < 2 ^ 16)) }
-        ensures item { IfOk result (λ item. item ≡ item_taken self.old) }
-        ensures rest { OnOk result (self.new ≡ taken self.old) }
+        ensures item { IfOk result (λ item. item ≡ side_item_taken self.old) }
+        ensures rest { OnOk result (self.new ≡ side_taken self.old) }
     {
         let bytes = match self.front() {
             Front::Piece(bytes) => Bytes::from_slice(alloc, bytes)?,

@@ -2,7 +2,7 @@
 
 ghost use Rattle.std.specs.Prelude.{◌≡◌, ◌<◌, ◌≤◌, Some, IfSome, IfNone};
 ghost use Rattle.std.specs.Option.{SomeIff};
-ghost use Rattle.tcp_link.specs.Tokens.{most_conns, token_of, serial_after, place_in, place_of, ends_of_all, spares_for, count_of};
+ghost use Rattle.tcp_link.specs.Tokens.{most_conns, token_of, serial_after, token_place, connection_place, ends_of_all, spares_for, replica_count};
 
 /// The most replicas of a session.
 pub(crate) const MOST_REPLICAS: usize = 31;
@@ -43,7 +43,7 @@ impl Tokens {
 
 /// Where the connection of a token stands.
 pub(crate) fn place_in(token: usize) -> usize
-    ensures { result ≡ place_in token }
+    ensures { result ≡ token_place token }
 {
     token % MOST_CONNS
 }
@@ -61,7 +61,7 @@ pub(crate) fn door_of(token: usize) -> Option<usize>
 
 /// Where the connection of replica `at` with `peer` is noted, if both numbers are below 31.
 pub(crate) fn place_of(at: u8, peer: u8) -> Option<usize>
-    ensures { result ≡ place_of at peer }
+    ensures { result ≡ connection_place at peer }
 {
     let (at, peer) = (usize::from(at), usize::from(peer));
     if at < MOST_REPLICAS && peer < MOST_REPLICAS {
@@ -88,7 +88,7 @@ pub(crate) fn spares_for(n: u8) -> usize
 
 /// How many replicas so many addresses are of: more than 31 aren't reached.
 pub(crate) fn count_of(addresses: usize) -> u8
-    ensures { result ≡ count_of addresses }
+    ensures { result ≡ replica_count addresses }
 {
     addresses.min(MOST_REPLICAS) as u8
 }

@@ -3,7 +3,7 @@
 ghost use Rattle.std.specs.Prelude.{◌≡◌, ◌<◌, ◌^◌, IfSome, length};
 ghost use Rattle.std.specs.Option.{SomeIff};
 ghost use Rattle.outside.specs.Links.{bytes_of};
-ghost use Rattle.tcp_link.specs.Names.{IsName, most_of, item_of, is_client, is_client_of, is_node, is_peer, most_kept, sent_through, dial_again, told_first};
+ghost use Rattle.tcp_link.specs.Names.{IsName, most_of, link_item_of, is_client, is_client_of, is_node, is_with_peer, most_kept, sent_through, dial_again, told_first};
 
 use crate::pieces::MOST_BYTES;
 use outside::LinkItem;
@@ -88,7 +88,7 @@ impl Whom {
     /// The item that a piece is.
     pub(crate) fn item(self, bytes: Bytes) -> Option<LinkItem>
         requires { length bytes < 2 ^ 16 }
-        ensures is { result ≡ item_of self bytes }
+        ensures is { result ≡ link_item_of self bytes }
         ensures size { IfSome result (λ item. length (bytes_of item) < 2 ^ 16) }
     {
         match self {
@@ -131,7 +131,7 @@ impl Whom {
 
     /// Whether it is a peer.
     pub(crate) fn is_peer(self) -> bool
-        ensures { result ≡ is_peer self }
+        ensures { result ≡ is_with_peer self }
     {
         match self {
             Whom::Peer { at: _, peer: _ } => true,

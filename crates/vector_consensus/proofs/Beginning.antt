@@ -15,9 +15,9 @@ use Rattle.layer_api.specs.Vectors.{HasVectors}
 use Rattle.vector_consensus.specs.Consensus.{props, vector_of, is_of_try, try_desk, failed_below, try_words, try_ask}
 use Rattle.vector_consensus.specs.Laws.Tries.{feeds, ask_stays}
 use Rattle.vector_consensus.specs.Laws.Box.{failed_stays}
-use Rattle.vector_consensus.specs.Kept.{Kept}
-use Rattle.vector_consensus.specs.Begun.{all_failed, is_due, progress_of, IsBegun, Each}
-use Rattle.vector_consensus.specs.Going.{Began, Begins, Extends, mid, asks_below, Mid, Went}
+use Rattle.vector_consensus.specs.Kept.{KeptProposals}
+use Rattle.vector_consensus.specs.Begun.{all_failed, is_attempt_due, attempts_progress, IsBegun, Each}
+use Rattle.vector_consensus.specs.Going.{AttemptBegan, AttemptBegins, KeepsAttempts, mid, asks_below, AreMidway, Went}
 use Rattle.vector_consensus.specs.declared.part.Part.{Part}
 use Rattle.vector_consensus.specs.declared.going.Progress.{Progress}
 use Rattle.vector_consensus.proofs.KeptLaws.{kept_count}
@@ -39,7 +39,7 @@ one_longer : {X : Type 0} (xs : List X) (y : X) → length (xs ++ y ∷ []) ≡ 
 one_longer [] y = refl
 one_longer (x ∷ xs) y = ap suc (one_longer xs y)
 
-pub extends_more : {X : Type 0} (xs ys zs : List X) (y : X) → Extends xs ys → zs ≡ ys ++ y ∷ [] → Extends xs zs
+pub extends_more : {X : Type 0} (xs ys zs : List X) (y : X) → KeepsAttempts xs ys → zs ≡ ys ++ y ∷ [] → KeepsAttempts xs zs
 extends_more xs ys zs y more e k x is =
     let there = more k x is in
     ap (λ (us : List _). slice_get us k) e ∙ (get_before ys y k (slice_get_within ys k x there) ∙ there)
@@ -47,12 +47,12 @@ extends_more xs ys zs y more e k x is =
 -- ---- tests
 
 -- what the code's test of what is due answered
-pub due_as : {M : Type 0} (shown : M → MultiShown) (part : Part) (own : Bool) (table : Kept) (xs ts : List M) (count : ℕ) (found is : Bool)
-    → count ≡ length table.entries → xs ≡ ts → found ≡ is_due shown part own count xs → found ≡ is → is_due shown part own (length table.entries) ts ≡ is
-due_as shown part own table xs ts count found is many same e answer = ap₂ (λ n us. is_due shown part own n us) (sym many) (sym same) ∙ (sym e ∙ answer)
+pub due_as : {M : Type 0} (shown : M → MultiShown) (part : Part) (own : Bool) (table : KeptProposals) (xs ts : List M) (count : ℕ) (found is : Bool)
+    → count ≡ length table.entries → xs ≡ ts → found ≡ is_attempt_due shown part own count xs → found ≡ is → is_attempt_due shown part own (length table.entries) ts ≡ is
+due_as shown part own table xs ts count found is many same e answer = ap₂ (λ n us. is_attempt_due shown part own n us) (sym many) (sym same) ∙ (sym e ∙ answer)
 
-pub progress_as : {M : Type 0} (shown : M → MultiShown) (part : Part) (own : Bool) (xs ts : List M) (next : Progress) → xs ≡ ts → next ≡ progress_of shown part own xs → next ≡ progress_of shown part own ts
-progress_as shown part own xs ts next same e = e ∙ ap (λ us. progress_of shown part own us) same
+pub progress_as : {M : Type 0} (shown : M → MultiShown) (part : Part) (own : Bool) (xs ts : List M) (next : Progress) → xs ≡ ts → next ≡ attempts_progress shown part own xs → next ≡ attempts_progress shown part own ts
+progress_as shown part own xs ts next same e = e ∙ ap (λ us. attempts_progress shown part own us) same
 
 -- what is due by the code's order of tests is due by the rules'
 due_parts : (a l e f : Bool) → (a && (l && (e && f))) ≡ true → (a ≡ true) × (l ≡ true) × (e ≡ true) × (f ≡ true)
@@ -82,7 +82,7 @@ module _ {M : Type 0} (stands : M → Desk → List Word → Type 0) (m : MultiR
     pub made : after ≡ before ++ asks_below m at (length ts) w c
 
 module _ {M : Type 0} (stands : M → Desk → List Word → Type 0) (m : MultiRules) (laws : MultiLaws m) (live : M → Bool) (shown : M → MultiShown) (shows : Shows stands m live shown)
-    (at : Desk) (w : List Word) (c : Word) (part : Part) (own : Bool) (table : Kept) (old : List M) (here : Mid stands m at w c part own table old) where
+    (at : Desk) (w : List Word) (c : Word) (part : Part) (own : Bool) (table : KeptProposals) (old : List M) (here : AreMidway stands m at w c part own table old) where
   -- the numbers are a session's, and the values of class 3 are vectors
   abbrev session : IsSession at.scope.numbers
   session = here.part_is.session
@@ -138,7 +138,7 @@ module _ {M : Type 0} (stands : M → Desk → List Word → Type 0) (m : MultiR
     enough_is : nat_le (part.wait + k) (length table.entries) ≡ nat_le (wait_of at.scope.numbers + k) (count_by is_some (props at.scope (c ∷ w)))
     enough_is = ap₂ (λ (x y : ℕ). nat_le (x + k) y) here.part_is.wait (kept_count (props at.scope (c ∷ w)) table here.kept)
 
-    module _ (due : is_due shown part own (length table.entries) ts ≡ true) where
+    module _ (due : is_attempt_due shown part own (length table.entries) ts ≡ true) where
       low : k ≤ at.scope.numbers.f
       low =
           let parts = due_parts own (nat_le k part.last) (nat_le (part.wait + k) (length table.entries)) (all_failed shown ts) due in
@@ -175,7 +175,7 @@ module _ {M : Type 0} (stands : M → Desk → List Word → Type 0) (m : MultiR
           subst (λ (u : List Word). MayMulti m (try_desk at k) u (Ask vector)) empty
           ((feeds m laws at.scope session has (λ i. at.coin) k).asks at.me c w vector here.met none asks)
 
-      step : (b : M) (new : List M) (after : List Say) → new ≡ ts ++ b ∷ [] → Began stands m (try_desk at k) vector b now after → BegunTo stands m at w c old new before after
+      step : (b : M) (new : List M) (after : List Say) → new ≡ ts ++ b ∷ [] → AttemptBegan stands m (try_desk at k) vector b now after → BegunTo stands m at w c old new before after
       step b new after is began =
           subst (λ (xs : List M). BegunTo stands m at w c old xs before after) (sym is) (record {
             each = λ j x q. each j x q;
@@ -205,12 +205,12 @@ module _ {M : Type 0} (stands : M → Desk → List Word → Type 0) (m : MultiR
                     (subst (λ (u : List Word). stands x (try_desk at k) u) (sym words) (subst (λ (y : M). stands y (try_desk at k) (Ask vector ∷ [])) here_is began.grows))
               ]
 
-      pub begins : (new : List M) (after : List Say) → Begins stands m part table ts new now after → BegunTo stands m at w c old new before after
+      pub begins : (new : List M) (after : List Say) → AttemptBegins stands m part table ts new now after → BegunTo stands m at w c old new before after
       begins new after b = step b.0 new after b.1 (b.2 at (c ∷ w) here.part_is here.kept may)
 
     -- ---- where none is due
 
-    module _ (due : is_due shown part own (length table.entries) ts ≡ false) where
+    module _ (due : is_attempt_due shown part own (length table.entries) ts ≡ false) where
       next_unasked : k ≤ at.scope.numbers.f → try_ask m at k (c ∷ w) ≡ None
       next_unasked l =
           let last = here.part_is.last in
@@ -246,7 +246,7 @@ module _ {M : Type 0} (stands : M → Desk → List Word → Type 0) (m : MultiR
                 ∙ append-nil (asks_below m at k w c)
           ]
 
-      pub ended : (next : Progress) → next ≡ progress_of shown part own ts → Went stands m at w c own next ts before now
+      pub ended : (next : Progress) → next ≡ attempts_progress shown part own ts → Went stands m at w c own next ts before now
       ended next e = record {
         each = to.each;
         begun = begun;

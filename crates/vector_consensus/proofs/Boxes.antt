@@ -16,15 +16,16 @@ use Rattle.layer_api.specs.Multi.{Desk, MultiRules, MultiLaws}
 use Rattle.layer_api.specs.MultiCalls.{MultiShown}
 use Rattle.layer_api.specs.Vectors.{MayVector, is_slot_in, is_vector_slot}
 use Rattle.layer_api.specs.VectorCalls.{ShowsVectorNear, VectorProposes, VectorHears}
-use Rattle.vector_consensus.specs.Consensus.{props, try_desk, value_of, try_words, opens_at, vectors}
+use Rattle.std.specs.Option.{option_flatten}
+use Rattle.vector_consensus.specs.Consensus.{props, try_desk, try_words, vector_opens, vectors}
 use Rattle.vector_consensus.specs.Laws.Box.{decision_first, spent_first, try_stays}
-use Rattle.vector_consensus.specs.Kept.{Kept, IsKept}
-use Rattle.vector_consensus.specs.Parts.{IsPart}
-use Rattle.vector_consensus.specs.Begun.{there_is, value_in, IsDecided}
-use Rattle.vector_consensus.specs.Going.{Extends}
-use Rattle.vector_consensus.specs.Holding.{Holds, Heard, Starts, AreNear}
-use Rattle.vector_consensus.specs.Opening.{opens_in, is_allowed, opens_by, attempt_few}
-use Rattle.vector_consensus.specs.Stands.{Stands, HearsSlot, NearSlot, Keeps, Ends, vector_in, shown_by, shown_is, nothing_open, shows_vector, as_byte, attempt_at}
+use Rattle.vector_consensus.specs.Kept.{KeptProposals, AreKeptProposals}
+use Rattle.vector_consensus.specs.Parts.{IsVectorPart}
+use Rattle.vector_consensus.specs.Begun.{there_is, vector_of_attempt, IsDecidingAttempt}
+use Rattle.vector_consensus.specs.Going.{KeepsAttempts}
+use Rattle.vector_consensus.specs.Holding.{AttemptsHold, AttemptsHeard, StartsAttempts, AreNear}
+use Rattle.vector_consensus.specs.Opening.{attempt_opens, is_slot_allowed, attempts_open, attempt_few}
+use Rattle.vector_consensus.specs.Stands.{VectorStands, HearsSlot, NearSlot, KeepsCopies, VectorEnds, vector_in, vector_shown, shown_is, nothing_open, shows_vector, as_byte, attempt_at}
 use Rattle.vector_consensus.specs.declared.part.Part.{Part}
 use Rattle.vector_consensus.specs.declared.going.Progress.{Progress}
 use Rattle.vector_consensus.specs.declared.vc.Vc.{Vc}
@@ -41,8 +42,8 @@ none_there [] = refl
 none_there (k ∷ ks) = count_no is_some no_value (map (λ k. no_value) ks) refl ∙ none_there ks
 
 module _ {M : Type 0} (stands : M → Desk → List Word → Type 0) (m : MultiRules) (laws : MultiLaws m) where
-  pub begins : (x : Vc M) (at : Desk) → IsPart x.part at → ((os : List (Option (List ℕ))) → length os ≤ 32 → count_by is_some os ≡ 0 → IsKept os x.table) → x.tries.items ≡ []
-      → x.place ≡ record { own = false; begun = 0; decided = None; spent = false } → x.live ≡ true → Stands stands m x at []
+  pub begins : (x : Vc M) (at : Desk) → IsVectorPart x.part at → ((os : List (Option (List ℕ))) → length os ≤ 32 → count_by is_some os ≡ 0 → AreKeptProposals os x.table) → x.tries.items ≡ []
+      → x.place ≡ record { own = false; begun = 0; decided = None; spent = false } → x.live ≡ true → VectorStands stands m x at []
   begins x at is kept empty start live =
       let most = is.session.most in
       let size = props_length at.scope [] in
@@ -64,7 +65,7 @@ module _ {M : Type 0} (stands : M → Desk → List Word → Type 0) (m : MultiR
         reached = record {
           owns = refl;
           begun = ap (λ (p : Progress). p.begun) start ∙ sym none;
-          decided = subst (λ (o : Option ℕ). IsDecided m at [] (length x.tries.items) o) (sym (ap (λ (p : Progress). p.decided) start)) (decision_first m laws at (suc at.scope.numbers.f));
+          decided = subst (λ (o : Option ℕ). IsDecidingAttempt m at [] (length x.tries.items) o) (sym (ap (λ (p : Progress). p.decided) start)) (decision_first m laws at (suc at.scope.numbers.f));
           spent = ap (λ (p : Progress). p.spent) start ∙ sym (spent_first m laws at at.scope.numbers.f);
         };
         live = live;
@@ -83,33 +84,33 @@ near_if false o p q a b d e near = near refl
 module _ {M : Type 0} (stands : M → Desk → List Word → Type 0) (m : MultiRules) (laws : MultiLaws m) (live : M → Bool) (shown : M → MultiShown) (shows : Shows stands m live shown) where
   -- ---- the getters
 
-  pub open_answers : (x : Vc M) (at : Desk) (w : List Word) (s : Slot) (ts : List M) (found : Bool) → Stands stands m x at w → ts ≡ x.tries.items
-      → found ≡ opens_by shown x.part x.place ts s → found ≡ opens_at m at w s
+  pub open_answers : (x : Vc M) (at : Desk) (w : List Word) (s : Slot) (ts : List M) (found : Bool) → VectorStands stands m x at w → ts ≡ x.tries.items
+      → found ≡ attempts_open shown x.part x.place ts s → found ≡ vector_opens m at w s
   open_answers x at w s ts found h same e =
-      e ∙ (ap (λ (us : List M). opens_by shown x.part x.place us s) same ∙ (shows_vector stands m laws live shown shows x at w h).1.opens s)
+      e ∙ (ap (λ (us : List M). attempts_open shown x.part x.place us s) same ∙ (shows_vector stands m laws live shown shows x at w h).1.opens s)
 
-  pub decision_answers : (x : Vc M) (at : Desk) (w : List Word) (ts : List M) (found : Option (List ℕ)) → Stands stands m x at w → ts ≡ x.tries.items
+  pub decision_answers : (x : Vc M) (at : Desk) (w : List Word) (ts : List M) (found : Option (List ℕ)) → VectorStands stands m x at w → ts ≡ x.tries.items
       → found ≡ vector_in shown x.place.decided ts → found ≡ (vectors m).decision at w
   decision_answers x at w ts found h same e =
       e ∙ (ap (λ (us : List M). vector_in shown x.place.decided us) same ∙ (shows_vector stands m laws live shown shows x at w h).1.decision)
 
-  pub attempt_answers : (x : Vc M) (at : Desk) (w : List Word) (found : Option ℕ) → Stands stands m x at w
+  pub attempt_answers : (x : Vc M) (at : Desk) (w : List Word) (found : Option ℕ) → VectorStands stands m x at w
       → found ≡ as_byte x.place.decided → found ≡ (vectors m).attempt at w
   attempt_answers x at w found h e = e ∙ (shows_vector stands m laws live shown shows x at w h).1.attempt
 
   -- ---- after want of memory
 
   -- those that stay show what they showed
-  pub near_still : (x : Vc M) (at : Desk) (w : List Word) (c : Word) (new : List M) → Stands stands m x at w → Extends x.tries.items new → AreNear shown m at w c x.tries.items new
+  pub near_still : (x : Vc M) (at : Desk) (w : List Word) (c : Word) (new : List M) → VectorStands stands m x at w → KeepsAttempts x.tries.items new → AreNear shown m at w c x.tries.items new
   near_still x at w c new h more k b is =
       let s = shown_is stands m laws live shown shows x at w h k b is in
       (b, more k b is, record { opens = λ q. inl (s.opens q); decision = inl s.decision })
 
-  module _ (x new : Vc M) (at : Desk) (w : List Word) (c : Word) (h : Stands stands m x at w) (may : MayVector (vectors m) at w c) (keeps : Keeps x new)
+  module _ (x new : Vc M) (at : Desk) (w : List Word) (c : Word) (h : VectorStands stands m x at w) (may : MayVector (vectors m) at w c) (keeps : KeepsCopies x new)
       (near : AreNear shown m at w c x.tries.items new.tries.items) where
     -- what a slot of an attempt shows
     abbrev shown_there : Slot → Bool
-    shown_there s = nat_lt s.attempt x.place.begun && opens_in shown (slice_get new.tries.items s.attempt) s
+    shown_there s = nat_lt s.attempt x.place.begun && attempt_opens shown (slice_get new.tries.items s.attempt) s
 
     try_near : (s : Slot) → s.attempt ≤ at.scope.numbers.f
         → (shown_there s ≡ m.opens (try_desk at s.attempt) (try_words m at s.attempt w) s) ⊎ (shown_there s ≡ m.opens (try_desk at s.attempt) (try_words m at s.attempt (c ∷ w)) s)
@@ -119,32 +120,32 @@ module _ {M : Type 0} (stands : M → Desk → List Word → Type 0) (m : MultiR
               let b = there_is x.tries.items s.attempt less in
               let n = near s.attempt b.0 b.1 in
               let is : shown_there s ≡ (shown n.0).opens s =
-              ap (λ (k : ℕ). nat_lt s.attempt k && opens_in shown (slice_get new.tries.items s.attempt) s) h.reached.begun
-              ∙ ap₂ (λ (t : Bool) (o : Option M). t && opens_in shown o s) (lt-ltb s.attempt (length x.tries.items) less) n.1 in
+              ap (λ (k : ℕ). nat_lt s.attempt k && attempt_opens shown (slice_get new.tries.items s.attempt) s) h.reached.begun
+              ∙ ap₂ (λ (t : Bool) (o : Option M). t && attempt_opens shown o s) (lt-ltb s.attempt (length x.tries.items) less) n.1 in
               elim (n.2.opens s) [ inl o ↦ inl (is ∙ o) | inr o ↦ inr (is ∙ o) ]
           | inr past ↦
-              inl (ap (λ (k : ℕ). nat_lt s.attempt k && opens_in shown (slice_get new.tries.items s.attempt) s) h.reached.begun
-              ∙ (ap (λ (t : Bool). t && opens_in shown (slice_get new.tries.items s.attempt) s) (le-ltb s.attempt (length x.tries.items) past)
+              inl (ap (λ (k : ℕ). nat_lt s.attempt k && attempt_opens shown (slice_get new.tries.items s.attempt) s) h.reached.begun
+              ∙ (ap (λ (t : Bool). t && attempt_opens shown (slice_get new.tries.items s.attempt) s) (le-ltb s.attempt (length x.tries.items) past)
               ∙ sym (nothing_open stands m laws live shown shows x at w h s.attempt past most s)))
         ]
 
     allowed_near : (s : Slot) → is_vector_slot at.scope s ≡ true
-        → (is_allowed shown x.place new.tries.items s ≡ (if s.class == 2 then is_some (proposed w) else m.opens (try_desk at s.attempt) (try_words m at s.attempt w) s))
-        ⊎ (is_allowed shown x.place new.tries.items s ≡ (if s.class == 2 then is_some (proposed (c ∷ w)) else m.opens (try_desk at s.attempt) (try_words m at s.attempt (c ∷ w)) s))
+        → (is_slot_allowed shown x.place new.tries.items s ≡ (if s.class == 2 then is_some (proposed w) else m.opens (try_desk at s.attempt) (try_words m at s.attempt w) s))
+        ⊎ (is_slot_allowed shown x.place new.tries.items s ≡ (if s.class == 2 then is_some (proposed (c ∷ w)) else m.opens (try_desk at s.attempt) (try_words m at s.attempt (c ∷ w)) s))
     allowed_near s of = near_if (s.class == 2) _ _ _ _ _ _ h.holds.owns (λ other. try_near s (attempt_few at.scope s of other))
 
-    opens_near : (s : Slot) → (opens_by shown new.part new.place new.tries.items s ≡ opens_at m at w s) ⊎ (opens_by shown new.part new.place new.tries.items s ≡ opens_at m at (c ∷ w) s)
+    opens_near : (s : Slot) → (attempts_open shown new.part new.place new.tries.items s ≡ vector_opens m at w s) ⊎ (attempts_open shown new.part new.place new.tries.items s ≡ vector_opens m at (c ∷ w) s)
     opens_near s =
-        let is : opens_by shown new.part new.place new.tries.items s ≡ (is_vector_slot at.scope s && is_allowed shown x.place new.tries.items s) =
-        ap₂ (λ (p : Part) (n : Progress). opens_by shown p n new.tries.items s) keeps.part keeps.place
-        ∙ ap₂ (λ (l a : ℕ). is_slot_in l a s && is_allowed shown x.place new.tries.items s) h.holds.part_is.last h.holds.part_is.a in
+        let is : attempts_open shown new.part new.place new.tries.items s ≡ (is_vector_slot at.scope s && is_slot_allowed shown x.place new.tries.items s) =
+        ap₂ (λ (p : Part) (n : Progress). attempts_open shown p n new.tries.items s) keeps.part keeps.place
+        ∙ ap₂ (λ (l a : ℕ). is_slot_in l a s && is_slot_allowed shown x.place new.tries.items s) h.holds.part_is.last h.holds.part_is.a in
         elim (near_where (is_vector_slot at.scope s) _ _ _ (λ of. allowed_near s of)) [ inl o ↦ inl (is ∙ o) | inr o ↦ inr (is ∙ o) ]
 
     -- what was decided stays
     decision_near : vector_in shown new.place.decided new.tries.items ≡ (vectors m).decision at w
     decision_near = ap (λ (p : Progress). vector_in shown p.decided new.tries.items) keeps.place ∙ go x.place.decided h.reached.decided
       where
-        go : (o : Option ℕ) → IsDecided m at w (length x.tries.items) o → vector_in shown o new.tries.items ≡ (vectors m).decision at w
+        go : (o : Option ℕ) → IsDecidingAttempt m at w (length x.tries.items) o → vector_in shown o new.tries.items ≡ (vectors m).decision at w
         go None d = sym d
         go (Some k) d =
             let b = there_is x.tries.items k d.0 in
@@ -152,9 +153,9 @@ module _ {M : Type 0} (stands : M → Desk → List Word → Type 0) (m : MultiR
             let v = d.1.0 in
             let later = try_stays m laws at h.holds.part_is.session (has_vectors m at w c may) k c w (Some v) (may, h.holds.met) d.1.1 in
             let is : (shown n.0).decision ≡ Some (Some v) = elim n.2.decision [ inl e ↦ e ∙ d.1.1 | inr e ↦ e ∙ later ] in
-            ap (value_in shown) n.1 ∙ (ap value_of is ∙ sym d.1.2)
+            ap (vector_of_attempt shown) n.1 ∙ (ap option_flatten is ∙ sym d.1.2)
 
-    shows_near : ShowsVectorNear (vectors m) at w c (shown_by shown new)
+    shows_near : ShowsVectorNear (vectors m) at w c (vector_shown shown new)
     shows_near =
         let d = decision_near in
         let s = ap (λ (p : Progress). p.spent) keeps.place ∙ h.reached.spent in
@@ -166,16 +167,16 @@ module _ {M : Type 0} (stands : M → Desk → List Word → Type 0) (m : MultiR
   -- so far the box has come by the word, on the way to what is put out
   abbrev Hears : Vc M → Vc M → Word → (Desk → List Word → Type 0) → Progress → List Say → Type 0
   Hears x mid c may place made =
-      (at : Desk) (w : List Word) → Stands stands m x at w → may at w → Heard stands m x.part at w c place mid.table mid.tries.items [] made
+      (at : Desk) (w : List Word) → VectorStands stands m x at w → may at w → AttemptsHeard stands m x.part at w c place mid.table mid.tries.items [] made
 
   -- and what attempts show, for want of memory too
   abbrev IsClose : Vc M → Vc M → Word → (Desk → List Word → Type 0) → Type 0
-  IsClose x mid c may = (at : Desk) (w : List Word) → Stands stands m x at w → may at w → AreNear shown m at w c x.tries.items mid.tries.items
+  IsClose x mid c may = (at : Desk) (w : List Word) → VectorStands stands m x at w → may at w → AreNear shown m at w c x.tries.items mid.tries.items
 
   word_done : (x mid new : Vc M) (c : Word) (may : Desk → List Word → Type 0) (next : Result Progress Mem) (made before after : List Say) (result : Result (Unit {0}) Mem)
-      → ((at : Desk) (w : List Word) → may at w → MayVector (vectors m) at w c) → Keeps x mid → mid.live ≡ x.live → IsClose x mid c may → IfOk next (λ place. Hears x mid c may place made)
-      → Ends mid new next made before after result
-      → WordDone (Stands stands m) (vectors m).says (λ at w d y. ShowsVectorNear (vectors m) at w d (shown_by shown y)) (λ y. y.live) x new c may before after result
+      → ((at : Desk) (w : List Word) → may at w → MayVector (vectors m) at w c) → KeepsCopies x mid → mid.live ≡ x.live → IsClose x mid c may → IfOk next (λ place. Hears x mid c may place made)
+      → VectorEnds mid new next made before after result
+      → WordDone (VectorStands stands m) (vectors m).says (λ at w d y. ShowsVectorNear (vectors m) at w d (vector_shown shown y)) (λ y. y.live) x new c may before after result
   word_done x mid new c may next made before after (Err e) meets keeps alive near hears ends = record {
     out = ends.1;
     dead = ap (λ (y : Vc M). y.live) ends.0;
@@ -188,8 +189,8 @@ module _ {M : Type 0} (stands : M → Desk → List Word → Type 0) (m : MultiR
       let place = ends.0 in
       let heard = IfOk-at_ok (λ (n : Progress). Hears x mid c may n made) ends.1 hears in
       record {
-        grows = λ at w s may_now. subst (λ (y : Vc M). Stands stands m y at (c ∷ w)) (sym ends.2) (record {
-          holds = subst (λ (p : Part). Holds stands m p at (c ∷ w) place.own mid.table mid.tries.items) (sym keeps.part) (heard at w s may_now).holds;
+        grows = λ at w s may_now. subst (λ (y : Vc M). VectorStands stands m y at (c ∷ w)) (sym ends.2) (record {
+          holds = subst (λ (p : Part). AttemptsHold stands m p at (c ∷ w) place.own mid.table mid.tries.items) (sym keeps.part) (heard at w s may_now).holds;
           reached = (heard at w s may_now).reached;
           live = alive ∙ s.live;
         });
@@ -198,27 +199,27 @@ module _ {M : Type 0} (stands : M → Desk → List Word → Type 0) (m : MultiR
 
   -- a proposal
   pub proposes : (x mid new : Vc M) (v : List ℕ) (next : Result Progress Mem) (none made before after : List Say) (result : Result (Unit {0}) Mem) → none ≡ []
-      → Keeps x mid → mid.live ≡ x.live → mid.table ≡ x.table → Extends x.tries.items mid.tries.items
-      → IfOk next (λ place. Starts stands m x.part x.table x.tries.items mid.tries.items none made place v) → Ends mid new next made before after result
-      → VectorProposes (Stands stands m) (vectors m) (λ y. y.live) (shown_by shown) x new v before after result
+      → KeepsCopies x mid → mid.live ≡ x.live → mid.table ≡ x.table → KeepsAttempts x.tries.items mid.tries.items
+      → IfOk next (λ place. StartsAttempts stands m x.part x.table x.tries.items mid.tries.items none made place v) → VectorEnds mid new next made before after result
+      → VectorProposes (VectorStands stands m) (vectors m) (λ y. y.live) (vector_shown shown) x new v before after result
   proposes x mid new v next none made before after result empty keeps alive table more starts ends =
       let may : Desk → List Word → Type 0 = λ at w. MayVector (vectors m) at w (Ask v) in
       word_done x mid new (Ask v) may next made before after result (λ at w now. now) keeps alive (λ at w h now. near_still x at w (Ask v) mid.tries.items h more)
-      (IfOk-weaker next (λ place. Starts stands m x.part x.table x.tries.items mid.tries.items none made place v) (λ place. Hears x mid (Ask v) may place made)
+      (IfOk-weaker next (λ place. StartsAttempts stands m x.part x.table x.tries.items mid.tries.items none made place v) (λ place. Hears x mid (Ask v) may place made)
       (λ place s at w h now.
-      subst (λ (t : Kept). Heard stands m x.part at w (Ask v) place t mid.tries.items [] made) (sym table)
-      (subst (λ (ys : List Say). Heard stands m x.part at w (Ask v) place x.table mid.tries.items ys made) empty (s at w x.place.own h.holds now))) starts)
+      subst (λ (t : KeptProposals). AttemptsHeard stands m x.part at w (Ask v) place t mid.tries.items [] made) (sym table)
+      (subst (λ (ys : List Say). AttemptsHeard stands m x.part at w (Ask v) place x.table mid.tries.items ys made) empty (s at w x.place.own h.holds now))) starts)
       ends
 
   -- and what a slot delivered
   pub hears_slot : (bits : Slot → Bool) (x mid new : Vc M) (s : Slot) (v : List ℕ) (next : Result Progress Mem) (none made before after : List Say) (result : Result (Unit {0}) Mem) → none ≡ []
-      → IfOk next (λ place. HearsSlot stands m bits x s v mid.table mid.tries.items place none made) → NearSlot stands m shown bits x s v mid.tries.items → Keeps x mid → mid.live ≡ x.live
-      → Ends mid new next made before after result
-      → VectorHears (Stands stands m) (vectors m) (λ y. y.live) (shown_by shown) bits x new s v before after result
+      → IfOk next (λ place. HearsSlot stands m bits x s v mid.table mid.tries.items place none made) → NearSlot stands m shown bits x s v mid.tries.items → KeepsCopies x mid → mid.live ≡ x.live
+      → VectorEnds mid new next made before after result
+      → VectorHears (VectorStands stands m) (vectors m) (λ y. y.live) (vector_shown shown) bits x new s v before after result
   hears_slot bits x mid new s v next none made before after result empty hears near keeps alive ends =
       let may : Desk → List Word → Type 0 = λ at w. IsCoin at.coin bits × MayVector (vectors m) at w (Hear s v) in
       word_done x mid new (Hear s v) may next made before after result (λ at w now. now.1) keeps alive (λ at w h now. near at w h now.0 now.1)
       (IfOk-weaker next (λ place. HearsSlot stands m bits x s v mid.table mid.tries.items place none made) (λ place. Hears x mid (Hear s v) may place made)
       (λ place f at w h now.
-      subst (λ (ys : List Say). Heard stands m x.part at w (Hear s v) place mid.table mid.tries.items ys made) empty (f at w h now.0 now.1)) hears)
+      subst (λ (ys : List Say). AttemptsHeard stands m x.part at w (Hear s v) place mid.table mid.tries.items ys made) empty (f at w h now.0 now.1)) hears)
       ends

@@ -16,13 +16,13 @@ use Rattle.layer_api.specs.FedLaws.{unasked}
 use Rattle.layer_api.specs.Multi.{Desk, MultiRules, MultiLaws, MayMulti}
 use Rattle.layer_api.specs.MultiCalls.{MultiShown, MultiHears}
 use Rattle.layer_api.specs.Vectors.{MayVectorHear, AreVector}
-use Rattle.vector_consensus.specs.Consensus.{prop_slot, props, is_of_try, try_desk, try_words, says_below, vectors}
+use Rattle.vector_consensus.specs.Consensus.{prop_slot, props, is_of_try, try_desk, try_words, attempts_say_below, vectors}
 use Rattle.vector_consensus.specs.Laws.Tries.{feeds, opens_try, untold_words}
-use Rattle.vector_consensus.specs.Kept.{Kept, IsKept, Proposes}
-use Rattle.vector_consensus.specs.Parts.{IsPart, own_slot}
+use Rattle.vector_consensus.specs.Kept.{KeptProposals, AreKeptProposals, KeepsProposal}
+use Rattle.vector_consensus.specs.Parts.{IsVectorPart, own_proposal_slot}
 use Rattle.vector_consensus.specs.Begun.{there_is, IsBegun, Each}
-use Rattle.vector_consensus.specs.Going.{Extends, mid, asks_below, Mid, Went, GoesOn}
-use Rattle.vector_consensus.specs.Holding.{Holds, Heard, Starts, FollowsProposal, FollowsTry, HearsIn, IsNear, AreNear, NearTries}
+use Rattle.vector_consensus.specs.Going.{KeepsAttempts, mid, asks_below, AreMidway, Went, AttemptsGoOn}
+use Rattle.vector_consensus.specs.Holding.{AttemptsHold, AttemptsHeard, StartsAttempts, FollowsProposal, FollowsTry, HearsIn, IsAttemptNear, AreNear, NearTries}
 use Rattle.vector_consensus.specs.Opening.{attempt_few}
 use Rattle.vector_consensus.specs.declared.part.Part.{Part}
 use Rattle.vector_consensus.specs.declared.going.Progress.{Progress}
@@ -37,9 +37,9 @@ newly_same s (Some v) = refl
 module _ {M : Type 0} (stands : M → Desk → List Word → Type 0) (m : MultiRules) (laws : MultiLaws m) (part : Part) where
   -- ---- what was said before the pass, and in it
 
-  closes : (at : Desk) (w : List Word) (c : Word) (own : Bool) (table : Kept) (old new : List M) (before middle after said : List Say) (now : Progress)
-      → Mid stands m at w c part own table old → Went stands m at w c own now new middle after → middle ≡ before ++ said
-      → (vectors m).says at w c ≡ said ++ asks_below m at (suc at.scope.numbers.f) w c → Heard stands m part at w c now table new before after
+  closes : (at : Desk) (w : List Word) (c : Word) (own : Bool) (table : KeptProposals) (old new : List M) (before middle after said : List Say) (now : Progress)
+      → AreMidway stands m at w c part own table old → Went stands m at w c own now new middle after → middle ≡ before ++ said
+      → (vectors m).says at w c ≡ said ++ asks_below m at (suc at.scope.numbers.f) w c → AttemptsHeard stands m part at w c now table new before after
   closes at w c own table old new before middle after said now here went e says = record {
     holds = record { met = here.met; part_is = here.part_is; owns = went.reached.owns ∙ here.owns; kept = here.kept; each = went.each; begun = went.begun };
     reached = record { owns = refl; begun = went.reached.begun; decided = went.reached.decided; spent = went.reached.spent };
@@ -51,24 +51,24 @@ module _ {M : Type 0} (stands : M → Desk → List Word → Type 0) (m : MultiR
 
   -- where no attempt hears the word
   quiet_says : (at : Desk) (w : List Word) (c : Word) (n : ℕ) → AreVector (vectors m) at (c ∷ w) → IsBegun m at w n → ((k : ℕ) → passed (is_of_try k) c ≡ [])
-      → says_below m at (suc at.scope.numbers.f) w c ≡ asks_below m at (suc at.scope.numbers.f) w c
+      → attempts_say_below m at (suc at.scope.numbers.f) w c ≡ asks_below m at (suc at.scope.numbers.f) w c
   quiet_says at w c n met begun none =
       say_order m at w c laws met n begun (suc at.scope.numbers.f) (omega arith)
       ∙ ap (λ (ys : List Say). ys ++ asks_below m at (suc at.scope.numbers.f) w c) (quiet m at w c (suc at.scope.numbers.f) none)
 
   -- ---- a proposal of one's own
 
-  own_is : (at : Desk) → IsPart part at → own_slot part ≡ prop_slot at.scope at.me
+  own_is : (at : Desk) → IsVectorPart part at → own_proposal_slot part ≡ prop_slot at.scope at.me
   own_is at is = ap₂ (λ (a k : ℕ). record { class = 2; a = a; attempt = 0; bround = 0; step = 0; origin = k }) is.a is.me
 
-  pub starts : (table : Kept) (old new : List M) (before middle after : List Say) (now : Progress) (v u : List ℕ) (slot : Slot)
-      → middle ≡ before ++ record { slot = slot; value = u } ∷ [] → slot ≡ own_slot part → u ≡ v → GoesOn stands m part true table old new middle after now
-      → Starts stands m part table old new before after now v
+  pub starts : (table : KeptProposals) (old new : List M) (before middle after : List Say) (now : Progress) (v u : List ℕ) (slot : Slot)
+      → middle ≡ before ++ record { slot = slot; value = u } ∷ [] → slot ≡ own_proposal_slot part → u ≡ v → AttemptsGoOn stands m part true table old new middle after now
+      → StartsAttempts stands m part table old new before after now v
   starts table old new before middle after now v u slot pushed own_one same goes = λ at w own h may.
       let none = unasked w may.0 in
       let first : proposed (Ask v ∷ w) ≡ Some v = ap (λ (o : Option (List ℕ)). option_or o (Some v)) none in
       let say : Say = record { slot = prop_slot at.scope at.me; value = v } in
-      let here : Mid stands m at w (Ask v) part true table old = record {
+      let here : AreMidway stands m at w (Ask v) part true table old = record {
         met = (may, h.met);
         part_is = h.part_is;
         owns = sym (ap is_some first);
@@ -82,17 +82,17 @@ module _ {M : Type 0} (stands : M → Desk → List Word → Type 0) (m : MultiR
 
   -- ---- what a slot delivered
 
-  pub follows_proposal : (own : Bool) (table kept : Kept) (old new : List M) (before after : List Say) (now : Progress) (k : ℕ) (v : List ℕ)
-      → Proposes k v table kept → GoesOn stands m part own kept old new before after now → FollowsProposal stands m part own table kept old new before after now k v
+  pub follows_proposal : (own : Bool) (table kept : KeptProposals) (old new : List M) (before after : List Say) (now : Progress) (k : ℕ) (v : List ℕ)
+      → KeepsProposal k v table kept → AttemptsGoOn stands m part own kept old new before after now → FollowsProposal stands m part own table kept old new before after now k v
   follows_proposal own table kept old new before after now k v puts goes = λ at w s h may two origin.
       let is = is_proposal (vectors m) at w s v may two in
       let there : slice_get (props at.scope w) k ≡ Some None = ap (slice_get (props at.scope w)) (sym origin) ∙ is.none in
       let off : (j : ℕ) → passed (is_of_try j) (Hear s v) ≡ [] = λ j. ap (λ (b : Bool). if not b && (s.attempt == j) then Hear s v ∷ [] else []) (eq-eqb s.class 2 two) in
-      let here : Mid stands m at w (Hear s v) part own kept old = record {
+      let here : AreMidway stands m at w (Hear s v) part own kept old = record {
         met = (may, h.met);
         part_is = h.part_is;
         owns = h.owns;
-        kept = subst (λ (os : List (Option (List ℕ))). IsKept os kept) (sym (is.more ∙ ap (λ (i : ℕ). slice_set (props at.scope w) i (Some v)) origin)) (puts (props at.scope w) h.kept there is.short);
+        kept = subst (λ (os : List (Option (List ℕ))). AreKeptProposals os kept) (sym (is.more ∙ ap (λ (i : ℕ). slice_set (props at.scope w) i (Some v)) origin)) (puts (props at.scope w) h.kept there is.short);
         each = λ j b q. subst (λ (xs : List Word). stands b (try_desk at j) (xs ++ try_words m at j w)) (sym (off j)) (h.each j b q);
         begun = h.begun;
       } in
@@ -114,8 +114,8 @@ set_elsewhere xs k j y other =
     ]
 
 module _ {M : Type 0} (stands : M → Desk → List Word → Type 0) (m : MultiRules) (laws : MultiLaws m) (live : M → Bool) (shown : M → MultiShown) (shows : Shows stands m live shown)
-    (part : Part) (bits : Slot → Bool) (own : Bool) (table : Kept) (old middle : List M) (s : Slot) (v : List ℕ) where
-  module _ (at : Desk) (w : List Word) (h : Holds stands m part at w own table old) (coin : IsCoin at.coin bits) (may : MayVectorHear (vectors m) at w s v) (other : (s.class == 2) ≡ false) where
+    (part : Part) (bits : Slot → Bool) (own : Bool) (table : KeptProposals) (old middle : List M) (s : Slot) (v : List ℕ) where
+  module _ (at : Desk) (w : List Word) (h : AttemptsHold stands m part at w own table old) (coin : IsCoin at.coin bits) (may : MayVectorHear (vectors m) at w s v) (other : (s.class == 2) ≡ false) where
     met : AreVector (vectors m) at (Hear s v ∷ w)
     met = (may, h.met)
 
@@ -177,16 +177,16 @@ module _ {M : Type 0} (stands : M → Desk → List Word → Type 0) (m : MultiR
 
       -- ---- what is shown
 
-      near_here : IsNear m at w (Hear s v) s.attempt (shown next) → AreNear shown m at w (Hear s v) old middle
+      near_here : IsAttemptNear m at w (Hear s v) s.attempt (shown next) → AreNear shown m at w (Hear s v) old middle
       near_here here j b q =
           elim (cases_eq j s.attempt) [
-            | inl same ↦ (next, ap (λ (i : ℕ). slice_get middle i) same ∙ now_there, subst (λ (i : ℕ). IsNear m at w (Hear s v) i (shown next)) (sym same) here)
+            | inl same ↦ (next, ap (λ (i : ℕ). slice_get middle i) same ∙ now_there, subst (λ (i : ℕ). IsAttemptNear m at w (Hear s v) i (shown next)) (sym same) here)
             | inr ne ↦
                 let still = (shows b (try_desk at j) (try_words m at j w) (h.each j b q)).1 in
                 (b, elsewhere j ne ∙ q, record { opens = λ r. inl (still.opens r); decision = inl still.decision })
           ]
 
-      near_heard : stands next (try_desk at s.attempt) (Hear s v ∷ try_words m at s.attempt w) → IsNear m at w (Hear s v) s.attempt (shown next)
+      near_heard : stands next (try_desk at s.attempt) (Hear s v ∷ try_words m at s.attempt w) → IsAttemptNear m at w (Hear s v) s.attempt (shown next)
       near_heard heard =
           let now = (shows next (try_desk at s.attempt) (Hear s v ∷ try_words m at s.attempt w) heard).1 in
           record {
@@ -194,7 +194,7 @@ module _ {M : Type 0} (stands : M → Desk → List Word → Type 0) (m : MultiR
             decision = inr (now.decision ∙ ap (m.decision (try_desk at s.attempt)) (sym words_mine));
           }
 
-      near_by : (before after : List Say) (result : Result (Unit {0}) Mem) → MultiHears stands m live shown bits one next s v before after result → IsNear m at w (Hear s v) s.attempt (shown next)
+      near_by : (before after : List Say) (result : Result (Unit {0}) Mem) → MultiHears stands m live shown bits one next s v before after result → IsAttemptNear m at w (Hear s v) s.attempt (shown next)
       near_by before after (Ok u) hears = near_heard (hears.grows (try_desk at s.attempt) (try_words m at s.attempt w) stood (coin, may_inner))
       near_by before after (Err e) hears =
           let near = hears.shows (try_desk at s.attempt) (try_words m at s.attempt w) stood (coin, may_inner) in
@@ -210,16 +210,16 @@ module _ {M : Type 0} (stands : M → Desk → List Word → Type 0) (m : MultiR
         near_here one.0 x.0 one.1 x.1 (near_by one.0 x.0 one.1 x.1 before after result x.2)
 
     follows : (before now after : List Say) (new : List M) (next : Progress) → HearsIn stands m live shown bits old middle s v before now (Ok tt)
-        → GoesOn stands m part own table middle new now after next → Heard stands m part at w (Hear s v) next table new before after
+        → AttemptsGoOn stands m part own table middle new now after next → AttemptsHeard stands m part at w (Hear s v) next table new before after
     follows before now after new next hears goes =
         let one = there_is old s.attempt inside in
         let x = hears one.0 one.1 in
         let grown = x.2.grows (try_desk at s.attempt) (try_words m at s.attempt w) (stood one.0 x.0 one.1 x.1) (coin, may_inner) in
-        let here : Mid stands m at w (Hear s v) part own table middle = record {
+        let here : AreMidway stands m at w (Hear s v) part own table middle = record {
           met = met;
           part_is = h.part_is;
           owns = h.owns;
-          kept = subst (λ (os : List (Option (List ℕ))). IsKept os table) (sym (same_props at.scope w s v other)) h.kept;
+          kept = subst (λ (os : List (Option (List ℕ))). AreKeptProposals os table) (sym (same_props at.scope w s v other)) h.kept;
           each = each_heard one.0 x.0 one.1 x.1 grown;
           begun = subst (λ (n : ℕ). IsBegun m at w n) (sym (size one.0 x.0 one.1 x.1)) h.begun;
         } in
@@ -239,12 +239,12 @@ module _ {M : Type 0} (stands : M → Desk → List Word → Type 0) (m : MultiR
       → NearTries stands m part shown bits own table old middle s v
   near_lost before after result hears = λ at w h coin may other. near_in at w h coin may other before after result hears
 
-  pub near_after : (before now : List Say) (result : Result (Unit {0}) Mem) (new : List M) → HearsIn stands m live shown bits old middle s v before now result → Extends middle new
+  pub near_after : (before now : List Say) (result : Result (Unit {0}) Mem) (new : List M) → HearsIn stands m live shown bits old middle s v before now result → KeepsAttempts middle new
       → NearTries stands m part shown bits own table old new s v
   near_after before now result new hears more = λ at w h coin may other k b is.
       let x = near_in at w h coin may other before now result hears k b is in
       (x.0, more k x.0 x.1, x.2)
 
   pub follows_try : (before now after : List Say) (new : List M) (next : Progress) → HearsIn stands m live shown bits old middle s v before now (Ok tt)
-      → GoesOn stands m part own table middle new now after next → FollowsTry stands m part bits own table old new before after next s v
+      → AttemptsGoOn stands m part own table middle new now after next → FollowsTry stands m part bits own table old new before after next s v
   follows_try before now after new next hears goes = λ at w h coin may other. follows at w h coin may other before now after new next hears goes

@@ -17,7 +17,7 @@ use Rattle.ritas_base.specs.Quorums.{count_yes, count_no}
 use Rattle.ritas_base.specs.Shortest.{not_there}
 use Rattle.vector_consensus.specs.Consensus.{present}
 use Rattle.vector_consensus.specs.Laws.Proposals.{present_length}
-use Rattle.vector_consensus.specs.Kept.{Kept, IsKept, AreSome}
+use Rattle.vector_consensus.specs.Kept.{KeptProposals, AreKeptProposals, AreSome}
 
 abbrev there : List (Option (List ℕ)) → ℕ → Bool
 there os k = is_some (get_or os k None)
@@ -30,7 +30,7 @@ none_present (None ∷ os) e = none_present os (sym (count_no is_some None os re
 none_present (Some v ∷ os) e = absurd (let y = count_yes is_some (Some v) os refl in omega (arith, y, e))
 
 -- where nothing is there, nothing is kept
-pub kept_nothing : (os : List (Option (List ℕ))) (t : Kept) → length os ≤ 32 → count_by is_some os ≡ 0 → t.places ≡ 0 → t.entries ≡ [] → IsKept os t
+pub kept_nothing : (os : List (Option (List ℕ))) (t : KeptProposals) → length os ≤ 32 → count_by is_some os ≡ 0 → t.places ≡ 0 → t.entries ≡ [] → AreKeptProposals os t
 kept_nothing os t most none empty e = record {
   most = most;
   places = empty ∙ sym (zero_from_ones (mask_l (map is_some os)) (ones-mask_l is_some os ∙ none));
@@ -70,12 +70,12 @@ there_more os k j v l =
     or_false false = refl
 
 -- the new proposal, as the code keeps it
-pub record IsPut (k : ℕ) (v : List ℕ) (old new : Kept) : Type 0 where
+pub record IsPut (k : ℕ) (v : List ℕ) (old new : KeptProposals) : Type 0 where
   pub places : (j : ℕ) → has_member new.places j ≡ (has_member old.places j || (j == k))
   pub entries : new.entries ≡ insert old.entries (member_count k old.places) v
 
-pub kept_more : (os : List (Option (List ℕ))) (k : ℕ) (v : List ℕ) (old new : Kept) → IsKept os old → slice_get os k ≡ Some None → IsPut k v old new
-    → IsKept (slice_set os k (Some v)) new
+pub kept_more : (os : List (Option (List ℕ))) (k : ℕ) (v : List ℕ) (old new : KeptProposals) → AreKeptProposals os old → slice_get os k ≡ Some None → IsPut k v old new
+    → AreKeptProposals (slice_set os k (Some v)) new
 kept_more os k v old new kept none put =
     let within : k < length os = slice_get_within os k None none in
     let most = kept.most in
@@ -98,7 +98,7 @@ no_value = None
 abbrev nobody : ℕ → List (Option (List ℕ))
 nobody n = replicate n no_value
 
-pub some_more : (k : ℕ) (v : List ℕ) (old new : Kept) → AreSome old → k < 32 → has_member old.places k ≡ false → length v < 2 ^ 16 → IsPut k v old new → AreSome new
+pub some_more : (k : ℕ) (v : List ℕ) (old new : KeptProposals) → AreSome old → k < 32 → has_member old.places k ≡ false → length v < 2 ^ 16 → IsPut k v old new → AreSome new
 some_more k v old new some l none short put =
     let os = some.proposed in
     let all = some.all in
@@ -123,10 +123,10 @@ count_take (None ∷ os) (suc k) = let ih = count_take os k in let a = count_no 
 count_take (Some v ∷ os) (suc k) =
     let ih = count_take os k in let a = count_yes is_some (Some v) (take k os) refl in let b = count_yes is_some (Some v) os refl in omega (arith, ih, a, b)
 
-pub kept_count : (os : List (Option (List ℕ))) (t : Kept) → IsKept os t → length t.entries ≡ count_by is_some os
+pub kept_count : (os : List (Option (List ℕ))) (t : KeptProposals) → AreKeptProposals os t → length t.entries ≡ count_by is_some os
 kept_count os t kept = ap length kept.entries ∙ present_length os
 
-module _ (t : Kept) (some : AreSome t) where
+module _ (t : KeptProposals) (some : AreSome t) where
   pub few : length t.entries ≤ 32
   few =
       let e = kept_count some.proposed t some.kept in
@@ -146,18 +146,18 @@ module _ (t : Kept) (some : AreSome t) where
       omega (arith, rank, less, e)
 
 -- of whom something is there, not nothing is
-pub kept_there : (os : List (Option (List ℕ))) (t : Kept) (k : ℕ) → IsKept os t → has_member t.places k ≡ true → slice_get os k ≡ Some None → ⊥
+pub kept_there : (os : List (Option (List ℕ))) (t : KeptProposals) (k : ℕ) → AreKeptProposals os t → has_member t.places k ≡ true → slice_get os k ≡ Some None → ⊥
 kept_there os t k kept has none =
     let x : there os k ≡ true = sym (places_there os k) ∙ (ap (λ (m : ℕ). has_member m k) (sym kept.places) ∙ has) in
     let y : there os k ≡ false = ap is_some (get_or_from_slice_get os k None None none) in
     both_ways (there os k) y x
 
-pub kept_within : (os : List (Option (List ℕ))) (t : Kept) (k : ℕ) → IsKept os t → slice_get os k ≡ Some None → k < 32
+pub kept_within : (os : List (Option (List ℕ))) (t : KeptProposals) (k : ℕ) → AreKeptProposals os t → slice_get os k ≡ Some None → k < 32
 kept_within os t k kept none = let l = slice_get_within os k None none in let m = kept.most in omega (arith, l, m)
 
 -- ---- a new table
 
-pub nothing_kept : (t : Kept) → t.places ≡ 0 → t.entries ≡ [] → AreSome t
+pub nothing_kept : (t : KeptProposals) → t.places ≡ 0 → t.entries ≡ [] → AreSome t
 nothing_kept t empty e = record {
   proposed = nobody 32;
   all = length-replicate 32 no_value;

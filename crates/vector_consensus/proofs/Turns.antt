@@ -7,7 +7,7 @@ use Rattle.layer_api.specs.Words.{Word, Ask, Hear}
 use Rattle.layer_api.specs.Part.{newly_asked, passed, part_of, says_in}
 use Rattle.layer_api.specs.Multi.{Desk, MultiRules, MultiLaws}
 use Rattle.layer_api.specs.Vectors.{MayVector, AreVector}
-use Rattle.vector_consensus.specs.Consensus.{is_of_try, try_desk, try_words, try_ask, says_below, vectors}
+use Rattle.vector_consensus.specs.Consensus.{is_of_try, try_desk, try_words, try_ask, attempts_say_below, vectors}
 use Rattle.vector_consensus.specs.Laws.Tries.{opens_try, untold_words}
 use Rattle.vector_consensus.specs.Begun.{IsBegun}
 use Rattle.vector_consensus.specs.Going.{mid, asks_below}
@@ -102,7 +102,7 @@ module _ (m : MultiRules) (at : Desk) (w : List Word) (c : Word) where
     asked_early (suc k) l = ap₂ (λ (xs ys : List Say). xs ++ ys) (asked_early k (omega (arith, l))) (asked_nothing k (not_newly k (omega (arith, l))))
 
     -- what attempts say as they hear comes first
-    pub say_order : (k : ℕ) → k ≤ suc at.scope.numbers.f → says_below m at k w c ≡ hears_below k ++ asks_below m at k w c
+    pub say_order : (k : ℕ) → k ≤ suc at.scope.numbers.f → attempts_say_below m at k w c ≡ hears_below k ++ asks_below m at k w c
     say_order zero l = refl
     say_order (suc k) l =
         ap₂ (λ (xs ys : List Say). xs ++ ys) (say_order k (omega (arith, l))) (says_turn k)

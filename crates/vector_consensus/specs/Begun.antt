@@ -5,7 +5,8 @@ use Rattle.std.specs.List.{slice_get}
 use Rattle.layer_api.specs.Words.{Word}
 use Rattle.layer_api.specs.Multi.{Desk, MultiRules}
 use Rattle.layer_api.specs.MultiCalls.{MultiShown}
-use Rattle.vector_consensus.specs.Consensus.{try_desk, is_none, value_of, failed_below, try_decides, try_ask, vectors}
+use Rattle.std.specs.Option.{option_flatten}
+use Rattle.vector_consensus.specs.Consensus.{try_desk, is_none, failed_below, try_decides, try_ask, vectors}
 use Rattle.vector_consensus.specs.declared.part.Part.{Part}
 use Rattle.vector_consensus.specs.declared.going.Progress.{Progress}
 
@@ -18,8 +19,8 @@ there_is (b ∷ ts) (suc k) l = there_is ts k (omega (arith, l))
 -- ---- by what they show
 
 -- the last of them
-abbrev pub last_of : {M : Type 0} → List M → Option M
-last_of ts = slice_get ts (length ts - 1)
+abbrev pub last_attempt : {M : Type 0} → List M → Option M
+last_attempt ts = slice_get ts (length ts - 1)
 
 -- whether it decided that no value is, where there is one
 abbrev pub has_failed : {M : Type 0} → (M → MultiShown) → Option M → Bool
@@ -28,24 +29,24 @@ has_failed shown (Some b) = is_none (shown b).decision
 
 -- whether all failed: those before the last did
 abbrev pub all_failed : {M : Type 0} → (M → MultiShown) → List M → Bool
-all_failed shown ts = has_failed shown (last_of ts)
+all_failed shown ts = has_failed shown (last_attempt ts)
 
 -- the vector that an attempt decided
-abbrev pub value_in : {M : Type 0} → (M → MultiShown) → Option M → Option (List ℕ)
-value_in shown None = None
-value_in shown (Some b) = value_of (shown b).decision
+abbrev pub vector_of_attempt : {M : Type 0} → (M → MultiShown) → Option M → Option (List ℕ)
+vector_of_attempt shown None = None
+vector_of_attempt shown (Some b) = option_flatten (shown b).decision
 
 -- whether the next one is due: something is proposed, one is left, enough proposals are there, and all failed
-abbrev pub is_due : {M : Type 0} → (M → MultiShown) → Part → Bool → ℕ → List M → Bool
-is_due shown part own count ts = own && (nat_le (length ts) part.last && (nat_le (part.wait + length ts) count && all_failed shown ts))
+abbrev pub is_attempt_due : {M : Type 0} → (M → MultiShown) → Part → Bool → ℕ → List M → Bool
+is_attempt_due shown part own count ts = own && (nat_le (length ts) part.last && (nat_le (part.wait + length ts) count && all_failed shown ts))
 
 -- which attempt decided a vector: the last, if one did
 abbrev pub decided_at : {M : Type 0} → (M → MultiShown) → List M → Option ℕ
-decided_at shown ts = if is_some (value_in shown (last_of ts)) then Some (length ts - 1) else None
+decided_at shown ts = if is_some (vector_of_attempt shown (last_attempt ts)) then Some (length ts - 1) else None
 
 -- so far they have come
-abbrev pub progress_of : {M : Type 0} → (M → MultiShown) → Part → Bool → List M → Progress
-progress_of shown part own ts =
+abbrev pub attempts_progress : {M : Type 0} → (M → MultiShown) → Part → Bool → List M → Progress
+attempts_progress shown part own ts =
     record { own = own; begun = length ts; decided = decided_at shown ts; spent = nat_lt part.last (length ts) && all_failed shown ts }
 
 -- ---- by the words
@@ -62,13 +63,13 @@ abbrev pub Each : {M : Type 0} → (M → Desk → List Word → Type 0) → Des
 Each {M} stands at words ts = (k : ℕ) (b : M) → slice_get ts k ≡ Some b → stands b (try_desk at k) (words k)
 
 -- the attempt there is the one that decided a vector, or none did
-abbrev pub IsDecided : MultiRules → Desk → List Word → ℕ → Option ℕ → Type 0
-IsDecided m at w n None = (vectors m).decision at w ≡ None
-IsDecided m at w n (Some k) = (k < n) × ((v : List ℕ) × (try_decides m at k w ≡ Some (Some v)) × ((vectors m).decision at w ≡ Some v))
+abbrev pub IsDecidingAttempt : MultiRules → Desk → List Word → ℕ → Option ℕ → Type 0
+IsDecidingAttempt m at w n None = (vectors m).decision at w ≡ None
+IsDecidingAttempt m at w n (Some k) = (k < n) × ((v : List ℕ) × (try_decides m at k w ≡ Some (Some v)) × ((vectors m).decision at w ≡ Some v))
 
 -- so far the attempts have come
-pub record IsReached (m : MultiRules) (at : Desk) (w : List Word) (n : ℕ) (own : Bool) (now : Progress) : Type 0 where
+pub record AreAttemptsReached (m : MultiRules) (at : Desk) (w : List Word) (n : ℕ) (own : Bool) (now : Progress) : Type 0 where
   pub owns : now.own ≡ own
   pub begun : now.begun ≡ n
-  pub decided : IsDecided m at w n now.decided
+  pub decided : IsDecidingAttempt m at w n now.decided
   pub spent : now.spent ≡ (vectors m).spent at w

@@ -7,31 +7,31 @@ use Rattle.layer_api.specs.Part.{proposed, newly_asked, passed, says_in}
 use Rattle.layer_api.specs.Multi.{Desk, MultiRules, MayMulti}
 use Rattle.layer_api.specs.Vectors.{AreVector}
 use Rattle.vector_consensus.specs.Consensus.{props, vector_of, is_of_try, try_desk, try_words, try_ask, vectors}
-use Rattle.vector_consensus.specs.Begun.{IsBegun, Each, IsReached}
-use Rattle.vector_consensus.specs.Kept.{Kept, IsKept}
-use Rattle.vector_consensus.specs.Parts.{IsPart}
+use Rattle.vector_consensus.specs.Begun.{IsBegun, Each, AreAttemptsReached}
+use Rattle.vector_consensus.specs.Kept.{KeptProposals, AreKeptProposals}
+use Rattle.vector_consensus.specs.Parts.{IsVectorPart}
 use Rattle.vector_consensus.specs.declared.part.Part.{Part}
 use Rattle.vector_consensus.specs.declared.going.Progress.{Progress}
 
 -- ---- one attempt more
 
 -- the box was made for an attempt, and was proposed a value
-pub record Began {M : Type 0} (stands : M → Desk → List Word → Type 0) (m : MultiRules) (at : Desk) (v : List ℕ) (b : M) (before after : List Say) : Type 0 where
+pub record AttemptBegan {M : Type 0} (stands : M → Desk → List Word → Type 0) (m : MultiRules) (at : Desk) (v : List ℕ) (b : M) (before after : List Say) : Type 0 where
   pub grows : stands b at (Ask v ∷ [])
   pub made : after ≡ before ++ m.says at [] (Ask v)
 
 -- the next attempt began with the vector of the proposals
-abbrev pub Begins : {M : Type 0} → (M → Desk → List Word → Type 0) → MultiRules → Part → Kept → List M → List M → List Say → List Say → Type 0
-Begins {M} stands m part table old new before after =
+abbrev pub AttemptBegins : {M : Type 0} → (M → Desk → List Word → Type 0) → MultiRules → Part → KeptProposals → List M → List M → List Say → List Say → Type 0
+AttemptBegins {M} stands m part table old new before after =
     (b : M) × (new ≡ old ++ b ∷ [])
-    × ((at : Desk) (h : List Word) → IsPart part at → IsKept (props at.scope h) table → MayMulti m (try_desk at (length old)) [] (Ask (vector_of at.scope h))
-    → Began stands m (try_desk at (length old)) (vector_of at.scope h) b before after)
+    × ((at : Desk) (h : List Word) → IsVectorPart part at → AreKeptProposals (props at.scope h) table → MayMulti m (try_desk at (length old)) [] (Ask (vector_of at.scope h))
+    → AttemptBegan stands m (try_desk at (length old)) (vector_of at.scope h) b before after)
 
 -- ---- all that are due
 
 -- those that were there are there still
-abbrev pub Extends : {M : Type 0} → List M → List M → Type 0
-Extends {M} old new = (k : ℕ) (b : M) → slice_get old k ≡ Some b → slice_get new k ≡ Some b
+abbrev pub KeepsAttempts : {M : Type 0} → List M → List M → Type 0
+KeepsAttempts {M} old new = (k : ℕ) (b : M) → slice_get old k ≡ Some b → slice_get new k ≡ Some b
 
 -- an attempt's words as it has heard the word, and isn't asked yet
 abbrev pub mid : MultiRules → Desk → List Word → Word → ℕ → List Word
@@ -45,11 +45,11 @@ asks_below m at (suc k) w c =
 
 module _ {M : Type 0} (stands : M → Desk → List Word → Type 0) (m : MultiRules) (at : Desk) (w : List Word) (c : Word) where
   -- the attempts that began before the word heard it, and what else is known
-  pub record Mid (part : Part) (own : Bool) (table : Kept) (ts : List M) : Type 0 where
+  pub record AreMidway (part : Part) (own : Bool) (table : KeptProposals) (ts : List M) : Type 0 where
     pub met : AreVector (vectors m) at (c ∷ w)
-    pub part_is : IsPart part at
+    pub part_is : IsVectorPart part at
     pub owns : own ≡ is_some (proposed (c ∷ w))
-    pub kept : IsKept (props at.scope (c ∷ w)) table
+    pub kept : AreKeptProposals (props at.scope (c ∷ w)) table
     pub each : Each stands at (mid m at w c) ts
     pub begun : IsBegun m at w (length ts)
 
@@ -57,10 +57,10 @@ module _ {M : Type 0} (stands : M → Desk → List Word → Type 0) (m : MultiR
   pub record Went (own : Bool) (now : Progress) (new : List M) (before after : List Say) : Type 0 where
     pub each : Each stands at (λ k. try_words m at k (c ∷ w)) new
     pub begun : IsBegun m at (c ∷ w) (length new)
-    pub reached : IsReached m at (c ∷ w) (length new) own now
+    pub reached : AreAttemptsReached m at (c ∷ w) (length new) own now
     pub made : after ≡ before ++ asks_below m at (suc at.scope.numbers.f) w c
 
 -- each attempt that is due begins
-abbrev pub GoesOn : {M : Type 0} → (M → Desk → List Word → Type 0) → MultiRules → Part → Bool → Kept → List M → List M → List Say → List Say → Progress → Type 0
-GoesOn stands m part own table old new before after now =
-    (at : Desk) (w : List Word) (c : Word) → Mid stands m at w c part own table old → Went stands m at w c own now new before after
+abbrev pub AttemptsGoOn : {M : Type 0} → (M → Desk → List Word → Type 0) → MultiRules → Part → Bool → KeptProposals → List M → List M → List Say → List Say → Progress → Type 0
+AttemptsGoOn stands m part own table old new before after now =
+    (at : Desk) (w : List Word) (c : Word) → AreMidway stands m at w c part own table old → Went stands m at w c own now new before after

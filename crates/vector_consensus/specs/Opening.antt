@@ -12,17 +12,17 @@ use Rattle.vector_consensus.specs.declared.part.Part.{Part}
 use Rattle.vector_consensus.specs.declared.going.Progress.{Progress}
 
 -- an attempt takes items of a slot, if it is there
-abbrev pub opens_in : {M : Type 0} → (M → MultiShown) → Option M → Slot → Bool
-opens_in shown None s = false
-opens_in shown (Some b) s = (shown b).opens s
+abbrev pub attempt_opens : {M : Type 0} → (M → MultiShown) → Option M → Slot → Bool
+attempt_opens shown None s = false
+attempt_opens shown (Some b) s = (shown b).opens s
 
 -- items of it may be taken: of a proposal once something is proposed, and of an attempt that began where that takes them
-abbrev pub is_allowed : {M : Type 0} → (M → MultiShown) → Progress → List M → Slot → Bool
-is_allowed shown now ts s = if s.class == 2 then now.own else nat_lt s.attempt now.begun && opens_in shown (slice_get ts s.attempt) s
+abbrev pub is_slot_allowed : {M : Type 0} → (M → MultiShown) → Progress → List M → Slot → Bool
+is_slot_allowed shown now ts s = if s.class == 2 then now.own else nat_lt s.attempt now.begun && attempt_opens shown (slice_get ts s.attempt) s
 
 -- whether items of the slot may be taken
-abbrev pub opens_by : {M : Type 0} → (M → MultiShown) → Part → Progress → List M → Slot → Bool
-opens_by shown part now ts s = is_slot_in part.last part.a s && is_allowed shown now ts s
+abbrev pub attempts_open : {M : Type 0} → (M → MultiShown) → Part → Progress → List M → Slot → Bool
+attempts_open shown part now ts s = is_slot_in part.last part.a s && is_slot_allowed shown now ts s
 
 -- a slot of the instance that isn't of a proposal is of an attempt
 pub attempt_few : (at : Scope) (s : Slot) → is_vector_slot at s ≡ true → (s.class == 2) ≡ false → s.attempt ≤ at.numbers.f

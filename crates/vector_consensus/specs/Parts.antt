@@ -6,7 +6,7 @@ use Rattle.layer_api.specs.Multi.{Desk}
 use Rattle.vector_consensus.specs.declared.part.Part.{Part}
 
 -- the part is of this desk
-pub record IsPart (x : Part) (at : Desk) : Type 0 where
+pub record IsVectorPart (x : Part) (at : Desk) : Type 0 where
   pub numbers : x.params ≡ at.scope.numbers
   pub me : x.me ≡ at.me
   pub a : x.a ≡ at.scope.a
@@ -15,5 +15,5 @@ pub record IsPart (x : Part) (at : Desk) : Type 0 where
   pub session : IsSession at.scope.numbers
 
 -- the slot of its proposal
-abbrev pub own_slot : Part → Slot
-own_slot x = record { class = 2; a = x.a; attempt = 0; bround = 0; step = 0; origin = x.me }
+abbrev pub own_proposal_slot : Part → Slot
+own_proposal_slot x = record { class = 2; a = x.a; attempt = 0; bround = 0; step = 0; origin = x.me }

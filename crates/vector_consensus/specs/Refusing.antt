@@ -10,7 +10,7 @@ use Rattle.ritas_base.specs.declared.item.Say.{Say}
 use Rattle.ritas_base.specs.History.{replicas}
 use Rattle.ritas_base.specs.SlotOrder.{is_slot}
 use Rattle.ritas_base.specs.Quorums.{count_first, meet_two}
-use Rattle.layer_api.specs.Runs.{Step, calls_of, IsEnough}
+use Rattle.layer_api.specs.Runs.{ReplicaStep, calls_of, IsEnough}
 use Rattle.layer_api.specs.Service.{Instance, OfBit, OfValue, OfVector, Decision, Bit, Nothing, value_decision}
 use Rattle.layer_api.specs.DecisionLaws.{if_so}
 use Rattle.layer_api.specs.Words.{Word, Ask, Hear, asked, is_heard, HasSay, all_said}
@@ -23,66 +23,66 @@ abbrev pub init_at : Scope → ℕ → Slot
 init_at at k = record { class = 3; a = at.a; attempt = at.attempt; bround = 0; step = 0; origin = k }
 
 -- how many replicas' proposals came in order: that of replica 0, then that of replica 1, and so on
-abbrev pub in_order : Scope → List Word → ℕ
-in_order at [] = 0
-in_order at (Ask v ∷ w) = in_order at w
-in_order at (Hear s v ∷ w) = if nat_lt (in_order at w) 32 && is_slot s (init_at at (in_order at w)) then in_order at w + 1 else in_order at w
+abbrev pub proposed_in_order : Scope → List Word → ℕ
+proposed_in_order at [] = 0
+proposed_in_order at (Ask v ∷ w) = proposed_in_order at w
+proposed_in_order at (Hear s v ∷ w) = if nat_lt (proposed_in_order at w) 32 && is_slot s (init_at at (proposed_in_order at w)) then proposed_in_order at w + 1 else proposed_in_order at w
 
 abbrev pub refuses : Scope → List Word → Bool
-refuses at w = nat_lt at.numbers.f (in_order at w)
+refuses at w = nat_lt at.numbers.f (proposed_in_order at w)
 
 -- it refuses by the bit 0
-abbrev pub inside_of : Scope → Bool → Instance → Option Decision
-inside_of at b (OfBit a k) = if a == at.a && k == at.attempt then (if b then Some (Bit false) else None) else None
-inside_of at b (OfValue a k) = if a == at.a && k == at.attempt then (if b then Some Nothing else None) else None
-inside_of at b (OfVector a) = None
+abbrev pub refusing_inside : Scope → Bool → Instance → Option Decision
+refusing_inside at b (OfBit a k) = if a == at.a && k == at.attempt then (if b then Some (Bit false) else None) else None
+refusing_inside at b (OfValue a k) = if a == at.a && k == at.attempt then (if b then Some Nothing else None) else None
+refusing_inside at b (OfVector a) = None
 
 abbrev pub refusing : MultiRules
 refusing = record {
   says = λ at w c. [];
   opens = λ at w s. nat_lt 0 (asked w);
   decision = λ at w. if refuses at.scope w then Some None else None;
-  inside = λ at w x. inside_of at.scope (refuses at.scope w) x;
+  inside = λ at w x. refusing_inside at.scope (refuses at.scope w) x;
 }
 
 still_asked : (c : Word) (w : List Word) → nat_lt 0 (asked w) ≡ true → nat_lt 0 (asked (c ∷ w)) ≡ true
 still_asked (Ask v) w q = lt-ltb 0 (asked w + 1) (omega arith)
 still_asked (Hear s v) w q = q
 
-order_stays : (at : Scope) (c : Word) (w : List Word) → in_order at w ≤ in_order at (c ∷ w)
+order_stays : (at : Scope) (c : Word) (w : List Word) → proposed_in_order at w ≤ proposed_in_order at (c ∷ w)
 order_stays at (Ask v) w = omega arith
-order_stays at (Hear s v) w = go (nat_lt (in_order at w) 32 && is_slot s (init_at at (in_order at w)))
+order_stays at (Hear s v) w = go (nat_lt (proposed_in_order at w) 32 && is_slot s (init_at at (proposed_in_order at w)))
   where
-    go : (b : Bool) → in_order at w ≤ (if b then in_order at w + 1 else in_order at w)
+    go : (b : Bool) → proposed_in_order at w ≤ (if b then proposed_in_order at w + 1 else proposed_in_order at w)
     go true = omega arith
     go false = omega arith
 
 still_refuses : (at : Scope) (c : Word) (w : List Word) → refuses at w ≡ true → refuses at (c ∷ w) ≡ true
 still_refuses at c w q =
-    let l = ltb-true at.numbers.f (in_order at w) q in
+    let l = ltb-true at.numbers.f (proposed_in_order at w) q in
     let m = order_stays at c w in
-    lt-ltb at.numbers.f (in_order at (c ∷ w)) (omega (arith, l, m))
+    lt-ltb at.numbers.f (proposed_in_order at (c ∷ w)) (omega (arith, l, m))
 
 -- each of them was heard
-order_heard : (at : Scope) (w : List Word) (k : ℕ) → k < in_order at w → is_heard w (init_at at k) ≡ true
+order_heard : (at : Scope) (w : List Word) (k : ℕ) → k < proposed_in_order at w → is_heard w (init_at at k) ≡ true
 order_heard at [] k l = absurd (omega (arith, l))
 order_heard at (Ask v ∷ w) k l = order_heard at w k l
-order_heard at (Hear s v ∷ w) k l = go (nat_lt (in_order at w) 32 && is_slot s (init_at at (in_order at w))) refl l (λ less. order_heard at w k less)
+order_heard at (Hear s v ∷ w) k l = go (nat_lt (proposed_in_order at w) 32 && is_slot s (init_at at (proposed_in_order at w))) refl l (λ less. order_heard at w k less)
   where
-    go : (b : Bool) → (nat_lt (in_order at w) 32 && is_slot s (init_at at (in_order at w))) ≡ b → k < (if b then in_order at w + 1 else in_order at w) → (k < in_order at w → is_heard w (init_at at k) ≡ true)
+    go : (b : Bool) → (nat_lt (proposed_in_order at w) 32 && is_slot s (init_at at (proposed_in_order at w))) ≡ b → k < (if b then proposed_in_order at w + 1 else proposed_in_order at w) → (k < proposed_in_order at w → is_heard w (init_at at k) ≡ true)
         → (is_slot s (init_at at k) || is_heard w (init_at at k)) ≡ true
     go false e l before = or_right (is_slot s (init_at at k)) _ (before l)
     go true e l before =
-        elim (cases_order k (in_order at w)) [
+        elim (cases_order k (proposed_in_order at w)) [
           | inl same ↦
               or_left (is_slot s (init_at at k)) (is_heard w (init_at at k))
-              (ap (λ (j : ℕ). is_slot s (init_at at j)) same ∙ (and_parts (nat_lt (in_order at w) 32) (is_slot s (init_at at (in_order at w))) e).1)
+              (ap (λ (j : ℕ). is_slot s (init_at at j)) same ∙ (and_parts (nat_lt (proposed_in_order at w) 32) (is_slot s (init_at at (proposed_in_order at w))) e).1)
           | inr (inl less) ↦ or_right (is_slot s (init_at at k)) _ (before less)
           | inr (inr more) ↦ absurd (omega (arith, l, more))
         ]
 
 -- where it doesn't, nothing is decided inside
-nothing_inside : (at : Scope) (x : Instance) (d : Decision) → inside_of at false x ≡ Some d → ⊥
+nothing_inside : (at : Scope) (x : Instance) (d : Decision) → refusing_inside at false x ≡ Some d → ⊥
 nothing_inside at (OfBit a k) d q = none-some d (if_so (a == at.a && k == at.attempt) None d q)
 nothing_inside at (OfValue a k) d q = none-some d (if_so (a == at.a && k == at.attempt) None d q)
 nothing_inside at (OfVector a) d q = none-some d q
@@ -101,8 +101,8 @@ by_bit true false o q = absurd cc
 by_bit true true None q = refl
 by_bit true true (Some v) q = absurd cc
 
-inside_stays : (at : Scope) (b t : Bool) (x : Instance) (d : Decision) → (b ≡ true → t ≡ true) → inside_of at b x ≡ Some d → inside_of at t x ≡ Some d
-inside_stays at true t x d stays q = ap (λ (y : Bool). inside_of at y x) (stays refl) ∙ q
+inside_stays : (at : Scope) (b t : Bool) (x : Instance) (d : Decision) → (b ≡ true → t ≡ true) → refusing_inside at b x ≡ Some d → refusing_inside at t x ≡ Some d
+inside_stays at true t x d stays q = ap (λ (y : Bool). refusing_inside at y x) (stays refl) ∙ q
 inside_stays at false t x d stays q = absurd (nothing_inside at x d q)
 
 pub refusing_laws : MultiLaws refusing
@@ -130,11 +130,11 @@ is_there : {X : Type 0} (o : Option X) → is_some o ≡ true → (v : X) × (o 
 is_there None q = absurd cc
 is_there (Some v) q = (v, refl)
 
-module _ (at : Scope) (is_correct : ℕ → Bool) (coins : ℕ → Slot → Bool) (xs : List (Step Word)) (enough : IsEnough at.numbers is_correct)
+module _ (at : Scope) (is_correct : ℕ → Bool) (coins : ℕ → Slot → Bool) (xs : List (ReplicaStep Word)) (enough : IsEnough at.numbers is_correct)
     (fed : IsFedRun (multi_play refusing at coins) is_correct xs) where
   never : (i : ℕ) → refuses at (calls_of i xs) ≡ true → ⊥
   never i q =
-      let l = ltb-true at.numbers.f (in_order at (calls_of i xs)) q in
+      let l = ltb-true at.numbers.f (proposed_in_order at (calls_of i xs)) q in
       let many = enough.many in
       let session = enough.session.enough in
       let size : length (replicas at.numbers.n) ≡ at.numbers.n = length-range_with_len 0 at.numbers.n in
@@ -145,10 +145,10 @@ module _ (at : Scope) (is_correct : ℕ → Bool) (coins : ℕ → Slot → Bool
       nothing_said (calls_of k.member xs) _
       (heard_said (multi_play refusing at coins) is_correct (λ j c w y h. h) xs fed i (init_at at k.member) v.0 v.1 k.second)
 
-  inside_never : (i : ℕ) (x : Instance) (d : Decision) → inside_of at (refuses at (calls_of i xs)) x ≡ Some d → ⊥
+  inside_never : (i : ℕ) (x : Instance) (d : Decision) → refusing_inside at (refuses at (calls_of i xs)) x ≡ Some d → ⊥
   inside_never i x d q = go (refuses at (calls_of i xs)) refl q
     where
-      go : (b : Bool) → refuses at (calls_of i xs) ≡ b → inside_of at b x ≡ Some d → ⊥
+      go : (b : Bool) → refuses at (calls_of i xs) ≡ b → refusing_inside at b x ≡ Some d → ⊥
       go true e q = never i e
       go false e q = nothing_inside at x d q
 

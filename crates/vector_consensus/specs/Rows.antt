@@ -7,8 +7,8 @@ use Rattle.layer_api.specs.Multi.{Scope, Desk, MultiRules}
 use Rattle.ritas_base.specs.declared.mode.Vect.TheVariants.{Echo}
 use Rattle.ritas_base.specs.declared.mode.FrameVersion.TheVariants.{One}
 use Rattle.std.proofs.Common.{lit≤}
-use Rattle.vector_consensus.specs.Consensus.{prop_slot, try_words, failed_below, decided_below, inside_at, vectors}
-use Rattle.vector_consensus.specs.Root.{decided_in, vector_root}
+use Rattle.vector_consensus.specs.Consensus.{prop_slot, try_words, failed_below, vector_decided_below, inside_at, vectors}
+use Rattle.vector_consensus.specs.Root.{vector_decided_in, vector_root}
 
 abbrev start : ℕ → Slot
 start k = record { class = 3; a = 0; attempt = k; bround = 0; step = 0; origin = 0 }
@@ -74,11 +74,11 @@ not_spent = refl
 spent : failed_below none_box four 2 (Hear (start 1) (7 ∷ []) ∷ second) ≡ true
 spent = refl
 
-nothing_decided : decided_below none_box four 2 (Hear (start 1) (7 ∷ []) ∷ second) ≡ None
+nothing_decided : vector_decided_below none_box four 2 (Hear (start 1) (7 ∷ []) ∷ second) ≡ None
 nothing_decided = refl
 
 -- where the first attempt decides a value, that is the decision
-decided : decided_below one_box four 2 failed ≡ Some (7 ∷ [])
+decided : vector_decided_below one_box four 2 failed ≡ Some (7 ∷ [])
 decided = refl
 
 -- by the first attempt
@@ -145,13 +145,13 @@ inside_undecided = refl
 abbrev seat : Seat
 seat = record { numbers = record { n = 4; f = 1 }; mode = record { root = 5; vect = Echo; version = One; low = lit≤ tt; high = lit≤ tt }; me = 0; coin = λ s. false }
 
-root_failed : decided_in (vectors none_box) seat failed (OfValue 0 0) ≡ Some Nothing
+root_failed : vector_decided_in (vectors none_box) seat failed (OfValue 0 0) ≡ Some Nothing
 root_failed = refl
 
-root_bit : decided_in (vectors none_box) seat failed (OfBit 0 0) ≡ Some (Bit false)
+root_bit : vector_decided_in (vectors none_box) seat failed (OfBit 0 0) ≡ Some (Bit false)
 root_bit = refl
 
-root_spent : decided_in (vectors none_box) seat (Hear (start 1) (7 ∷ []) ∷ second) (OfVector 0) ≡ Some Spent
+root_spent : vector_decided_in (vectors none_box) seat (Hear (start 1) (7 ∷ []) ∷ second) (OfVector 0) ≡ Some Spent
 root_spent = refl
 
 -- the vector as the last one
@@ -161,5 +161,5 @@ root_last = refl
 root_no_last : (vector_root (vectors second_box)).last seat second ≡ None
 root_no_last = refl
 
-root_decided : decided_in (vectors one_box) seat failed (OfVector 0) ≡ Some (Value (7 ∷ []))
+root_decided : vector_decided_in (vectors one_box) seat failed (OfVector 0) ≡ Some (Value (7 ∷ []))
 root_decided = refl

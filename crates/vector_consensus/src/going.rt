@@ -2,9 +2,10 @@
 
 ghost use Rattle.std.specs.Prelude.{◌≡◌, ◌<◌, length, is_some, IfOk, OnErr};
 ghost use Rattle.layer_api.specs.MultiCalls.{decided_of};
-ghost use Rattle.vector_consensus.specs.Consensus.{is_none, value_of};
-ghost use Rattle.vector_consensus.specs.Begun.{all_failed, decided_at, is_due, progress_of};
-ghost use Rattle.vector_consensus.specs.Going.{Begins, Extends, GoesOn};
+ghost use Rattle.std.specs.Option.{option_flatten};
+ghost use Rattle.vector_consensus.specs.Consensus.{is_none};
+ghost use Rattle.vector_consensus.specs.Begun.{all_failed, decided_at, is_attempt_due, attempts_progress};
+ghost use Rattle.vector_consensus.specs.Going.{AttemptBegins, KeepsAttempts, AttemptsGoOn};
 
 use crate::part::Part;
 use crate::proposals::Proposals;
@@ -34,7 +35,7 @@ fn is_nothing(decision: Decided<'_>) -> bool
 
 // Whether a value is decided.
 fn is_value(decision: Decided<'_>) -> bool
-    ensures { result ≡ is_some (value_of (decided_of decision.entry)) }
+    ensures { result ≡ is_some (option_flatten (decided_of decision.entry)) }
 {
     matches!(decision, Decided::Value(_))
 }
@@ -62,7 +63,7 @@ fn decided_at<M: MultiBox>(tries: &[M]) -> Option<usize>
 /// Whether the next attempt is due: something is proposed, one is left, enough proposals are there, and all attempts that
 /// began failed.
 fn is_due<M: MultiBox>(part: &Part, own: bool, count: u8, tries: &[M]) -> bool
-    ensures { result ≡ is_due M.shown part.now own count tries.now }
+    ensures { result ≡ is_attempt_due M.shown part.now own count tries.now }
 {
     let k = tries.len();
     own && k <= usize::from(part.last)
@@ -79,7 +80,7 @@ fn begin<M: MultiBox>(
     made: &mut Vec<Say>,
 ) -> Result<(), Mem>
     requires { length tries.old.items < 256 }
-    ensures ok { IfOk result (λ u. Begins M.stands M.rules part.now table.now tries.old.items tries.new.items made.old.items made.new.items) }
+    ensures ok { IfOk result (λ u. AttemptBegins M.stands M.rules part.now table.now tries.old.items tries.new.items made.old.items made.new.items) }
     ensures err { OnErr result (tries.new.items ≡ tries.old.items) }
 {
     let vector = table.vector(alloc)?;
@@ -91,7 +92,7 @@ fn begin<M: MultiBox>(
 
 /// How far the attempts have come.
 fn progress_of<M: MultiBox>(part: &Part, own: bool, tries: &[M]) -> Progress
-    ensures { result ≡ progress_of M.shown part.now own tries.now }
+    ensures { result ≡ attempts_progress M.shown part.now own tries.now }
 {
     Progress {
         own,
@@ -110,8 +111,8 @@ pub(crate) fn go_on<M: MultiBox>(
     tries: &mut Vec<M>,
     made: &mut Vec<Say>,
 ) -> Result<Progress, Mem>
-    ensures ok { IfOk result (λ now. GoesOn M.stands M.rules part.now own table.now tries.old.items tries.new.items made.old.items made.new.items now) }
-    ensures keeps { Extends tries.old.items tries.new.items }
+    ensures ok { IfOk result (λ now. AttemptsGoOn M.stands M.rules part.now own table.now tries.old.items tries.new.items made.old.items made.new.items now) }
+    ensures keeps { KeepsAttempts tries.old.items tries.new.items }
 {
     let count = table.count();
     while is_due(part, own, count, tries) {

@@ -1,8 +1,8 @@
 //! What a call does: a proposal of one's own, or what a slot delivered.
 
 ghost use Rattle.std.specs.Prelude.{◌≡◌, IfOk};
-ghost use Rattle.vector_consensus.specs.Going.{Extends};
-ghost use Rattle.vector_consensus.specs.Holding.{Starts, FollowsProposal, FollowsTry, HearsIn, NearTries};
+ghost use Rattle.vector_consensus.specs.Going.{KeepsAttempts};
+ghost use Rattle.vector_consensus.specs.Holding.{StartsAttempts, FollowsProposal, FollowsTry, HearsIn, NearTries};
 
 use crate::going::{Progress, go_on};
 use crate::part::Part;
@@ -20,8 +20,8 @@ pub(crate) fn start<M: MultiBox>(
     tries: &mut Vec<M>,
     made: &mut Vec<Say>,
 ) -> Result<Progress, Mem>
-    ensures ok { IfOk result (λ now. Starts M.stands M.rules part.now table.now tries.old.items tries.new.items made.old.items made.new.items now value.now) }
-    ensures keeps { Extends tries.old.items tries.new.items }
+    ensures ok { IfOk result (λ now. StartsAttempts M.stands M.rules part.now table.now tries.old.items tries.new.items made.old.items made.new.items now value.now) }
+    ensures keeps { KeepsAttempts tries.old.items tries.new.items }
 {
     let value = Bytes::from_slice(alloc, value)?;
     made.push(Say {
@@ -43,7 +43,7 @@ pub(crate) fn hear_proposal<M: MultiBox>(
     made: &mut Vec<Say>,
 ) -> Result<Progress, Mem>
     ensures ok { IfOk result (λ now. FollowsProposal M.stands M.rules part.now own table.old table.new tries.old.items tries.new.items made.old.items made.new.items now k value.now) }
-    ensures keeps { Extends tries.old.items tries.new.items }
+    ensures keeps { KeepsAttempts tries.old.items tries.new.items }
 {
     table.hear(alloc, k, value)?;
     go_on(alloc, part, own, table, tries, made)

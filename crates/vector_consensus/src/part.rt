@@ -19,12 +19,12 @@ pub(crate) struct Part {
 
 impl Part {
     ghost use Rattle.layer_api.specs.Multi.{Desk};
-    ghost use Rattle.vector_consensus.specs.Parts.{IsPart, own_slot};
+    ghost use Rattle.vector_consensus.specs.Parts.{IsVectorPart, own_proposal_slot};
 
     /// The part of a replica in a session of these numbers, in the instance of a round.
     pub(crate) fn new(p: &Params, me: u8, a: u32) -> Part
         requires { me < p.now.n }
-        ensures { (at : Desk) → at.scope.numbers ≡ p.now → at.me ≡ me → at.scope.a ≡ a → IsPart result at }
+        ensures { (at : Desk) → at.scope.numbers ≡ p.now → at.me ≡ me → at.scope.a ≡ a → IsVectorPart result at }
     {
         Part {
             params: *p,
@@ -37,7 +37,7 @@ impl Part {
 
     /// The slot of this replica's proposal.
     pub(crate) fn slot(&self) -> Slot
-        ensures { result ≡ own_slot self.now }
+        ensures { result ≡ own_proposal_slot self.now }
     {
         Slot {
             class: 2,

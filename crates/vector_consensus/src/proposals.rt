@@ -4,7 +4,7 @@ ghost use Rattle.std.specs.Prelude.{◌≡◌, ℕ, ◌≤◌, List, length, map
 ghost use Rattle.std.specs.Simd.Lanes.{mask_l};
 ghost use Rattle.frame_codec.specs.Values.{vector_bytes};
 ghost use Rattle.vector_consensus.specs.Consensus.{present};
-ghost use Rattle.vector_consensus.specs.Kept.{IsKept, Proposes};
+ghost use Rattle.vector_consensus.specs.Kept.{AreKeptProposals, KeepsProposal};
 
 use frame_codec::write_vector;
 use ritas_base::{Bytes, Mem, SenderSet};
@@ -19,9 +19,9 @@ pub(crate) struct Proposals {
 }
 
 impl Model for Proposals {
-    ghost use Rattle.vector_consensus.specs.Kept.{Kept, AreSome};
+    ghost use Rattle.vector_consensus.specs.Kept.{KeptProposals, AreSome};
 
-    ghost Value = { Kept };
+    ghost Value = { KeptProposals };
 
     ghost view = { λ t. record { places = t.places; entries = t.entries.items } };
 
@@ -31,7 +31,7 @@ impl Model for Proposals {
 impl Proposals {
     /// Nothing is there yet.
     pub(crate) fn new(alloc: Global) -> Proposals
-        ensures { (os : List (Option (List ℕ))) → length os ≤ 32 → count_by is_some os ≡ 0 → IsKept os result }
+        ensures { (os : List (Option (List ℕ))) → length os ≤ 32 → count_by is_some os ≡ 0 → AreKeptProposals os result }
     {
         Proposals {
             places: 0,
@@ -48,7 +48,7 @@ impl Proposals {
 
     /// Hears what a replica proposes, of which nothing is there.
     pub(crate) fn hear(&mut self, alloc: Global, k: u8, value: &[u8]) -> Result<(), Mem>
-        ensures { IfOk result (λ u. Proposes k value.now self.old self.new) }
+        ensures { IfOk result (λ u. KeepsProposal k value.now self.old self.new) }
     {
         let places = SenderSet::from_mask(self.places);
         if k >= 32 || places.has(k) || value.len() > 65535 {
@@ -62,7 +62,7 @@ impl Proposals {
 
     /// The vector of all that are there. The one error is want of memory.
     pub(crate) fn vector(&self, alloc: Global) -> Result<Bytes, Mem>
-        ensures { IfOk result (λ bytes. (os : List (Option (List ℕ))) → IsKept os self.now → bytes ≡ vector_bytes (mask_l (map is_some os)) (present os)) }
+        ensures { IfOk result (λ bytes. (os : List (Option (List ℕ))) → AreKeptProposals os self.now → bytes ≡ vector_bytes (mask_l (map is_some os)) (present os)) }
     {
         write_vector(alloc, SenderSet::from_mask(self.places), &self.entries)
     }

@@ -51,10 +51,10 @@ impl MultiBox for Refuses {
     ghost use Rattle.std.specs.Prelude.{◌≡◌, ℕ, true, nat_lt, if◌then◌else◌, Some, None, refl};
     ghost use Rattle.std.proofs.Common.{ap₂};
     ghost use Rattle.layer_api.specs.Words.{asked};
-    ghost use Rattle.vector_consensus.specs.Refusing.{in_order, refusing, refusing_laws, refusing_agrees};
+    ghost use Rattle.vector_consensus.specs.Refusing.{proposed_in_order, refusing, refusing_laws, refusing_agrees};
 
     ghost stands = { λ b at w. (b.a ≡ at.scope.a) × (b.attempt ≡ at.scope.attempt) × (b.f ≡ at.scope.numbers.f)
-        × (b.next ≡ in_order at.scope w) × (b.asked ≡ nat_lt 0 (asked w)) };
+        × (b.next ≡ proposed_in_order at.scope w) × (b.asked ≡ nat_lt 0 (asked w)) };
 
     ghost rules = { refusing };
 

@@ -2,7 +2,7 @@
 
 ghost use Rattle.std.specs.Prelude.{◌≡◌, IfOk};
 ghost use Rattle.std.specs.Option.{option_copied};
-ghost use Rattle.vector_consensus.specs.Stands.{HearsSlot, NearSlot, Keeps, Ends, vector_in, as_byte};
+ghost use Rattle.vector_consensus.specs.Stands.{HearsSlot, NearSlot, KeepsCopies, VectorEnds, vector_in, as_byte};
 
 use crate::going::Progress;
 use crate::hearing::{hear_proposal, hear_try, start};
@@ -60,7 +60,7 @@ impl<M: MultiBox> Vc<M> {
     ) -> Result<Progress, Mem>
         ensures ok { IfOk result (λ next. HearsSlot M.stands M.rules (C.bits coin.now) self.old slot.now value.now self.new.table self.new.tries.items next made.old.items made.new.items) }
         ensures near { NearSlot M.stands M.rules M.shown (C.bits coin.now) self.old slot.now value.now self.new.tries.items }
-        ensures keeps { Keeps self.old self.new }
+        ensures keeps { KeepsCopies self.old self.new }
         ensures live { self.new.live ≡ self.old.live }
     {
         match slot.class {
@@ -95,7 +95,7 @@ impl<M: MultiBox> Vc<M> {
         made: &mut Vec<Say>,
         says: &mut Vec<Say>,
     ) -> Result<(), Mem>
-        ensures { Ends self.old self.new next made.old.items says.old.items says.new.items result }
+        ensures { VectorEnds self.old self.new next made.old.items says.old.items says.new.items result }
     {
         match put_out(next, made, says) {
             Ok(place) => {
@@ -114,15 +114,15 @@ impl<M: MultiBox> VectorBox for Vc<M> {
     ghost use Rattle.vector_consensus.specs.Consensus.{vectors};
     ghost use Rattle.vector_consensus.specs.Laws.Box.{vector_laws_law};
     ghost use Rattle.vector_consensus.specs.Laws.OneVector.{one_vector_law};
-    ghost use Rattle.vector_consensus.specs.Stands.{Stands, shown_by, shows_vector};
+    ghost use Rattle.vector_consensus.specs.Stands.{VectorStands, vector_shown, shows_vector};
 
-    ghost stands = { Stands M.stands M.rules };
+    ghost stands = { VectorStands M.stands M.rules };
 
     ghost rules = { vectors M.rules };
 
     ghost live = { λ x. x.live };
 
-    ghost shown = { shown_by M.shown };
+    ghost shown = { vector_shown M.shown };
 
     fn new(alloc: Global, p: &Params, me: u8, a: u32) -> Result<Vc<M>, Mem> {
         Ok(Vc {

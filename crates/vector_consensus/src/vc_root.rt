@@ -17,18 +17,18 @@ pub struct VcRoot<V: VectorBox> {
 
 impl<V: VectorBox> Service for VcRoot<V> {
     ghost use Rattle.std.specs.Prelude.{◌≡◌};
-    ghost use Rattle.vector_consensus.specs.Root.{desk_of, vector_root};
+    ghost use Rattle.vector_consensus.specs.Root.{vector_root_desk, vector_root};
     ghost use Rattle.vector_consensus.specs.Laws.RootWords.{root_word_laws};
     ghost use Rattle.vector_consensus.specs.Laws.RootLog.{root_log};
-    ghost use Rattle.vector_consensus.specs.RootStands.{RootStands, root_shown, root_shows};
+    ghost use Rattle.vector_consensus.specs.RootStands.{VectorRootStands, vector_root_shown, root_shows};
 
-    ghost stands = { RootStands V.stands };
+    ghost stands = { VectorRootStands V.stands };
 
     ghost rules = { vector_root V.rules };
 
     ghost live = { λ s. V.live s.inner };
 
-    ghost shown = { λ s. root_shown s.f (V.shown s.inner) s.given };
+    ghost shown = { λ s. vector_root_shown s.f (V.shown s.inner) s.given };
 
     fn serves(root: u8) -> bool {
         root == 5
@@ -101,9 +101,9 @@ impl<V: VectorBox> Service for VcRoot<V> {
         self.inner.live()
     }
 
-    ghost lives = { λ s seat w stands. (V.shows s.inner (desk_of seat) w stands.inner).0 };
+    ghost lives = { λ s seat w stands. (V.shows s.inner (vector_root_desk seat) w stands.inner).0 };
 
-    ghost shows = { λ s seat w stands. root_shows V.rules seat w (V.shown s.inner) s.f s.given stands.f stands.given (V.shows s.inner (desk_of seat) w stands.inner).1 };
+    ghost shows = { λ s seat w stands. root_shows V.rules seat w (V.shown s.inner) s.f s.given stands.f stands.given (V.shows s.inner (vector_root_desk seat) w stands.inner).1 };
 
     ghost word_laws = { root_word_laws V.rules V.vector_laws };
 

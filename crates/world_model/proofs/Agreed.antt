@@ -3,7 +3,7 @@ use Rattle.std.proofs.Common.{◌≡◌, ℕ, true, List, [], ◌∷◌, ◌∙�
 use Rattle.layer_api.specs.Runs.{calls_of, Has}
 use Rattle.layer_api.specs.Words.{Word, Ask, bit_byte}
 use Rattle.layer_api.specs.OneLog.{OneLog, IsRunOf}
-use Rattle.command_log.specs.Rows.{entries_of}
+use Rattle.command_log.specs.Rows.{entries_of_log}
 use Rattle.command_log.specs.Laws.{rows_once}
 use Rattle.ritas_core.specs.Rules.{seat_of}
 use Rattle.ritas_base.specs.declared.event.Event.{Event}
@@ -12,7 +12,7 @@ use Rattle.world_model.specs.declared.audit.Audit.TheVariants.{Holds}
 use Rattle.world_model.specs.World.{Setting, rules_at, states_of}
 use Rattle.world_model.specs.Audit.{has_too_many, first_broken, audit_of}
 use Rattle.world_model.specs.OneValueEach.{history_of}
-use Rattle.world_model.specs.Agree.{log_of, command_of, OneIsPart, Agree, AgreeLaw}
+use Rattle.world_model.specs.Agree.{identifier_log, command_delivered, OneIsPart, Agree, AgreeLaw}
 use Rattle.world_model.proofs.Law.{audit_parts, enough_of, law_of}
 use Rattle.world_model.proofs.Said.{asked_given}
 use Rattle.world_model.proofs.Logged.{ids_distinct, rows_one, row_submitted, row_confirmed_at}
@@ -22,10 +22,10 @@ use Rattle.world_model.proofs.Below.{IsSoundOver}
 
 -- of the identifier logs of two replicas one is a part of the other, as of the words of the run
 ids_one : (w : Setting) (es : List Event) → OneLog w.service → (x : WordsAt w (states_of w es)) → IsRunOf (session_of w) x.steps
-    → (i j : ℕ) → w.is_correct i ≡ true → w.is_correct j ≡ true → OneIsPart (log_of w es i) (log_of w es j)
+    → (i j : ℕ) → w.is_correct i ≡ true → w.is_correct j ≡ true → OneIsPart (identifier_log w es i) (identifier_log w es j)
 ids_one w es one x run i j left right =
     let done : ℕ → List Word → List Id = λ k words. w.service.done (seat_of (rules_at w k)) words in
-    subst (λ (words : List Word). OneIsPart (done i words) (log_of w es j)) (x.same i left)
+    subst (λ (words : List Word). OneIsPart (done i words) (identifier_log w es j)) (x.same i left)
     (subst (λ (words : List Word). OneIsPart (done i (calls_of i x.steps)) (done j words)) (x.same j right)
     (one.logs w.numbers w.mode w.is_correct w.coin x.steps run i j left right))
 
@@ -39,7 +39,7 @@ agree_of w es sound one holds =
     let ids = ids_one w es one x run in
     record {
       logs = λ i j left right. rows_one w es sound holds values i j left right (ids i j left right);
-      once = λ i. rows_once w.numbers.f (entries_of (command_of w es i) (log_of w es i));
+      once = λ i. rows_once w.numbers.f (entries_of_log (command_delivered w es i) (identifier_log w es i));
       submitted = λ i r correct good here. row_submitted w es sound holds values i r correct good here;
       confirmed = row_confirmed_at w es sound holds values;
       identifiers = ids;

@@ -2,7 +2,7 @@
 use Rattle.std.proofs.Common.{◌≡◌, List, [], ◌∷◌, ◌++◌, length, sym, inl, inr, arith}
 use Rattle.std.proofs.lemmas.List.{length-append}
 use Rattle.layer_api.specs.Service.{IsPart}
-use Rattle.world_model.specs.Agree.{rows_at, log_of}
+use Rattle.world_model.specs.Agree.{rows_at, identifier_log}
 use Rattle.world_model.specs.Apart.{NoTwoValues, NoTwoRows, NoTwoIdentifierLogs, NoTwoOutcomes, NoTwoDecisions, NoTwoVectors}
 use Rattle.world_model.proofs.Positions.{one_row}
 
@@ -25,8 +25,8 @@ no_two_rows w es agree i j two position r q here there =
 
 pub no_two_identifier_logs : NoTwoIdentifierLogs
 no_two_identifier_logs w es agree i j two long = elim (agree.identifiers i j two.first two.second) [
-  | inl part ↦ whole_part (log_of w es i) (log_of w es j) part long
-  | inr part ↦ sym (whole_part (log_of w es j) (log_of w es i) part (sym long))
+  | inl part ↦ whole_part (identifier_log w es i) (identifier_log w es j) part long
+  | inr part ↦ sym (whole_part (identifier_log w es j) (identifier_log w es i) part (sym long))
 ]
 
 pub no_two_outcomes : NoTwoOutcomes

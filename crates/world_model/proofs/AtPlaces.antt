@@ -22,28 +22,28 @@ use Rattle.ritas_core.specs.Rules.{Rules}
 use Rattle.ritas_core.specs.Parts.{parts}
 use Rattle.ritas_core.specs.Checks.{verdict_on, input_check}
 use Rattle.ritas_core.specs.Machine as core
-use Rattle.ritas_core.specs.Machine.{CoreState, What, moved, moved_live, stays, gives, given_item, given_input, turned}
+use Rattle.ritas_core.specs.Machine.{CoreState, What, moved, moved_live, stays, gives_item, given_item, given_input, turned}
 use Rattle.ritas_core.specs.Stands.{Meaning}
 use Rattle.ritas_core.specs.Shown.{tagger_of}
 use Rattle.replica.specs.declared.frame.OutFrame.{OutFrame}
 use Rattle.replica.specs.declared.refusal.Refusal.{Refusal}
 use Rattle.replica.specs.declared.refusal.Refusal.TheVariants as refusals
 use Rattle.replica.specs.declared.replica.Replica.{Replica}
-use Rattle.replica.specs.Handling.{Call, Frame, Input, Turn, handled, given_frame, given_body}
-use Rattle.replica.specs.Stands.{Handles, RunsOut, ReadsNone, DoesAll, DoesOpened, body_given, frame_given, core_call}
+use Rattle.replica.specs.Handling.{ReplicaCall, Frame, Input, Turn, handled, given_frame, given_body}
+use Rattle.replica.specs.Stands.{Handles, ReplicaRunsOut, ReadsNone, ReplicaDoesAll, DoesOpened, body_given, frame_given, core_call}
 use Rattle.replica.specs.Replica.{ReplicaStands}
 use Rattle.world_model.specs.declared.seen.Seen.{Seen}
 use Rattle.world_model.specs.declared.seen.Seen.TheVariants as seen_as
 use Rattle.world_model.specs.World.{Setting, rules_at, CallAt, call_at, handled_at, after_call, seen_answer}
 use Rattle.world_model.specs.Stands.{StandsAt, IsReplica, IsLeft, ReplicasStand}
-use Rattle.world_model.specs.Steps.{Calls, CallsOr, Sees, IsWant}
+use Rattle.world_model.specs.Steps.{CallAnswered, CallsOr, Sees, IsWant}
 use Rattle.world_model.specs.Needs.{CoreNeeds, CallNeeds}
 use Rattle.world_model.proofs.Needs.{core_needed}
 use Rattle.world_model.proofs.Left.{none_past, get_set_same, get_set_other, left_called}
 
 -- ---- what isn't stopped goes on
 
-gives_live : (r : Rules) (st : CoreState) (item : Item) (waiting : List Item) (v : Verdict) → st.live ≡ true → (gives r st item waiting v).state.live ≡ true
+gives_live : (r : Rules) (st : CoreState) (item : Item) (waiting : List Item) (v : Verdict) → st.live ≡ true → (gives_item r st item waiting v).state.live ≡ true
 gives_live r st item waiting (verdicts.Refuse fault) live = live
 gives_live r st item waiting verdicts.Again live = live
 gives_live r st item waiting verdicts.Hold live = refl
@@ -78,24 +78,24 @@ frame_live : (r : Rules) (k : KeyRow) (st : CoreState) (opened : Result Opening 
 frame_live r k st (Ok o) live = body_live r k st (body_answer r.casts.numbers r.mode o.from o.body) live
 frame_live r k st (Err fault) live = live
 
-pub handled_live : (r : Rules) (k : KeyRow) (st : CoreState) (call : Call) → st.live ≡ true → (handled r k st call).state.live ≡ true
+pub handled_live : (r : Rules) (k : KeyRow) (st : CoreState) (call : ReplicaCall) → st.live ≡ true → (handled r k st call).state.live ≡ true
 handled_live r k st (Frame bytes) live = frame_live r k st (opening k bytes) live
 handled_live r k st (Input bytes) live = moved_goes_on r st (core.Input bytes) live
 handled_live r k st Turn live = moved_goes_on r st core.Turn live
 
 -- ---- a call at a place
 
-pub faulty_call : (w : Setting) (at : ℕ) (call : Call) → w.is_correct at ≡ false → call_at w at call ≡ None
+pub faulty_call : (w : Setting) (at : ℕ) (call : ReplicaCall) → w.is_correct at ≡ false → call_at w at call ≡ None
 faulty_call w at call faulty = ap (λ b. if b then Some (record { at = at; call = call }) else None) faulty
 
-pub correct_call : (w : Setting) (at : ℕ) (call : Call) → w.is_correct at ≡ true → call_at w at call ≡ Some (record { at = at; call = call })
+pub correct_call : (w : Setting) (at : ℕ) (call : ReplicaCall) → w.is_correct at ≡ true → call_at w at call ≡ Some (record { at = at; call = call })
 correct_call w at call right = ap (λ b. if b then Some (record { at = at; call = call }) else None) right
 
 -- nothing happens where no correct replica is
-pub missed_call : {S E C : Type 0} (m : Meaning S E C KeyRow) (w : Setting) (states : ℕ → CoreState) (at : ℕ) (call : Call) (replicas : List (Option (Replica S E C))) (before : List OutFrame) →
-    ReplicasStand m w states replicas → w.is_correct at ≡ false → Calls m w states (call_at w at call) replicas before before seen_as.Missed
+pub missed_call : {S E C : Type 0} (m : Meaning S E C KeyRow) (w : Setting) (states : ℕ → CoreState) (at : ℕ) (call : ReplicaCall) (replicas : List (Option (Replica S E C))) (before : List OutFrame) →
+    ReplicasStand m w states replicas → w.is_correct at ≡ false → CallAnswered m w states (call_at w at call) replicas before before seen_as.Missed
 missed_call m w states at call replicas before stand faulty =
-    let P : Option CallAt → Type 0 = λ c. Calls m w states c replicas before before seen_as.Missed in
+    let P : Option CallAt → Type 0 = λ c. CallAnswered m w states c replicas before before seen_as.Missed in
     subst P (sym (faulty_call w at call faulty)) (record { seen = refl; out = sym (append-nil before); replicas = stand })
 
 pub past_is_faulty : {S E C : Type 0} (m : Meaning S E C KeyRow) (w : Setting) (states : ℕ → CoreState) (at : ℕ) (replicas : List (Option (Replica S E C))) →
@@ -103,7 +103,7 @@ pub past_is_faulty : {S E C : Type 0} (m : Meaning S E C KeyRow) (w : Setting) (
 past_is_faulty m w states at replicas stand past = let many = stand.many in none_past w at stand.within (omega arith)
 
 -- a correct replica is as after a call
-called_place : {S E C : Type 0} (m : Meaning S E C KeyRow) (w : Setting) (states : ℕ → CoreState) (at : ℕ) (call : Call) (new : Replica S E C) →
+called_place : {S E C : Type 0} (m : Meaning S E C KeyRow) (w : Setting) (states : ℕ → CoreState) (at : ℕ) (call : ReplicaCall) (new : Replica S E C) →
     w.is_correct at ≡ true → ReplicaStands m new (rules_at w at) (w.keys at) (handled_at w states (record { at = at; call = call })).state → (states at).live ≡ true
     → IsReplica m w (after_call w states (Some (record { at = at; call = call }))) at new
 called_place m w states at call new right stands live =
@@ -127,7 +127,7 @@ other_place m w states c i (Some rep) other is =
       live = ap (λ st. st.live) same ∙ is.live;
     }
 
-called_replicas : {S E C : Type 0} (m : Meaning S E C KeyRow) (w : Setting) (states : ℕ → CoreState) (at : ℕ) (call : Call) (replicas : List (Option (Replica S E C))) (old new : Replica S E C) →
+called_replicas : {S E C : Type 0} (m : Meaning S E C KeyRow) (w : Setting) (states : ℕ → CoreState) (at : ℕ) (call : ReplicaCall) (replicas : List (Option (Replica S E C))) (old new : Replica S E C) →
     ReplicasStand m w states replicas → slice_get replicas at ≡ Some (Some old) → w.is_correct at ≡ true
     → ReplicaStands m new (rules_at w at) (w.keys at) (handled_at w states (record { at = at; call = call })).state → (states at).live ≡ true
     → ReplicasStand m w (after_call w states (Some (record { at = at; call = call }))) (slice_set replicas at (Some new))
@@ -149,7 +149,7 @@ called_replicas {S = S} {E = E} {C = C} m w states at call replicas old new stan
     }
 
 -- the replica answered
-answered : {S E C : Type 0} (m : Meaning S E C KeyRow) (w : Setting) (states : ℕ → CoreState) (at : ℕ) (call : Call) (replicas : List (Option (Replica S E C))) (old new : Replica S E C) (before after : List OutFrame) (answer : Result Answer Refusal) (result : Result Seen Mem) →
+answered : {S E C : Type 0} (m : Meaning S E C KeyRow) (w : Setting) (states : ℕ → CoreState) (at : ℕ) (call : ReplicaCall) (replicas : List (Option (Replica S E C))) (old new : Replica S E C) (before after : List OutFrame) (answer : Result Answer Refusal) (result : Result Seen Mem) →
     ReplicasStand m w states replicas → slice_get replicas at ≡ Some (Some old)
     → ((r : Rules) (k : KeyRow) (st : CoreState) → ReplicaStands m old r k st → Handles (ReplicaStands m) new call before after answer r k st)
     → result ≡ Ok (seen_answer answer) → CallsOr m w states (call_at w at call) (slice_set replicas at (Some new)) before after result
@@ -157,7 +157,7 @@ answered {S = S} {E = E} {C = C} m w states at call replicas old new before afte
     let is : IsReplica m w states at old = stand.each at (Some old) there in
     let did = does (rules_at w at) (w.keys at) (states at) is.stands in
     let P : Result Seen Mem → Type 0 = λ x. CallsOr m w states (call_at w at call) (slice_set replicas at (Some new)) before after x in
-    let Q : Option CallAt → Type 0 = λ c. Calls m w states c (slice_set replicas at (Some new)) before after (seen_answer answer) in
+    let Q : Option CallAt → Type 0 = λ c. CallAnswered m w states c (slice_set replicas at (Some new)) before after (seen_answer answer) in
     subst P (sym saw) (subst Q (sym (correct_call w at call is.correct)) (record {
       seen = ap seen_answer did.answer;
       out = did.out;
@@ -165,7 +165,7 @@ answered {S = S} {E = E} {C = C} m w states at call replicas old new before afte
     }))
 
 -- it was without memory, and is as it was, or stopped
-wants : {S E C : Type 0} (m : Meaning S E C KeyRow) (w : Setting) (states : ℕ → CoreState) (at : ℕ) (call : Call) (replicas : List (Option (Replica S E C))) (old new : Replica S E C) (before after : List OutFrame) (result : Result Seen Mem) →
+wants : {S E C : Type 0} (m : Meaning S E C KeyRow) (w : Setting) (states : ℕ → CoreState) (at : ℕ) (call : ReplicaCall) (replicas : List (Option (Replica S E C))) (old new : Replica S E C) (before after : List OutFrame) (result : Result Seen Mem) →
     ReplicasStand m w states replicas → slice_get replicas at ≡ Some (Some old)
     → IsLeft m w states (after_call w states (call_at w at call)) (call_at w at call) at new → CoreNeeds (rules_at w at) (states at) (core_call (rules_at w at) (w.keys at) call) → IsWant result
     → CallsOr m w states (call_at w at call) (slice_set replicas at (Some new)) before after result
@@ -176,19 +176,19 @@ wants m w states at call replicas old new before after (Err mem) stand there lef
 )
 
 -- it needed memory
-step_needs : {S E C : Type 0} (m : Meaning S E C KeyRow) (new : Replica S E C) (call : Call) (before after : List OutFrame) (r : Rules) (k : KeyRow) (st : CoreState) →
-    RunsOut (ReplicaStands m) new call before after r k st → CoreNeeds r st (core_call r k call)
+step_needs : {S E C : Type 0} (m : Meaning S E C KeyRow) (new : Replica S E C) (call : ReplicaCall) (before after : List OutFrame) (r : Rules) (k : KeyRow) (st : CoreState) →
+    ReplicaRunsOut (ReplicaStands m) new call before after r k st → CoreNeeds r st (core_call r k call)
 step_needs m new call before after r k st did =
     subst (CoreNeeds r st) (sym did.given) (core_needed r st did.what (elim did.state [ inl held ↦ inl held.0 | inr step ↦ inr step.0 ]))
 
-read_needs : {S E C : Type 0} (m : Meaning S E C KeyRow) (new : Replica S E C) (call : Call) (before after : List OutFrame) (r : Rules) (k : KeyRow) (st : CoreState) →
+read_needs : {S E C : Type 0} (m : Meaning S E C KeyRow) (new : Replica S E C) (call : ReplicaCall) (before after : List OutFrame) (r : Rules) (k : KeyRow) (st : CoreState) →
     ReadsNone (ReplicaStands m) new call before after r k st → CoreNeeds r st (core_call r k call)
 read_needs m new call before after r k st did =
     let given : core_call r k call ≡ Some (core.Frame did.item) = ap (core_call r k) did.frame ∙ ap (frame_given r) did.opens ∙ ap body_given did.spells in
     subst (CoreNeeds r st) (sym given) tt
 
-ran_out : {S E C : Type 0} (m : Meaning S E C KeyRow) (w : Setting) (states : ℕ → CoreState) (at : ℕ) (call : Call) (old new : Replica S E C) (before after : List OutFrame) →
-    IsReplica m w states at old → RunsOut (ReplicaStands m) new call before after (rules_at w at) (w.keys at) (states at)
+ran_out : {S E C : Type 0} (m : Meaning S E C KeyRow) (w : Setting) (states : ℕ → CoreState) (at : ℕ) (call : ReplicaCall) (old new : Replica S E C) (before after : List OutFrame) →
+    IsReplica m w states at old → ReplicaRunsOut (ReplicaStands m) new call before after (rules_at w at) (w.keys at) (states at)
     → IsLeft m w states (after_call w states (call_at w at call)) (call_at w at call) at new
 ran_out m w states at call old new before after is did = elim did.state [
   | inl held ↦ inl (record { correct = is.correct; stands = held.1; live = is.live })
@@ -207,12 +207,12 @@ ran_out m w states at call old new before after is did = elim did.state [
 ]
 
 -- each call on the replica at a place
-called : {S E C : Type 0} (m : Meaning S E C KeyRow) (w : Setting) (states : ℕ → CoreState) (at : ℕ) (call : Call) (replicas : List (Option (Replica S E C))) (old new : Replica S E C) (before after : List OutFrame) (answer : Result Answer Refusal) (result : Result Seen Mem) →
-    ReplicasStand m w states replicas → slice_get replicas at ≡ Some (Some old) → DoesAll (ReplicaStands m) old new call before after answer
+called : {S E C : Type 0} (m : Meaning S E C KeyRow) (w : Setting) (states : ℕ → CoreState) (at : ℕ) (call : ReplicaCall) (replicas : List (Option (Replica S E C))) (old new : Replica S E C) (before after : List OutFrame) (answer : Result Answer Refusal) (result : Result Seen Mem) →
+    ReplicasStand m w states replicas → slice_get replicas at ≡ Some (Some old) → ReplicaDoesAll (ReplicaStands m) old new call before after answer
     → Sees answer result → CallsOr m w states (call_at w at call) (slice_set replicas at (Some new)) before after result
 called m w states at call replicas old new before after (Err (refusals.Core faults.Mem)) result stand there does saw =
     let is : IsReplica m w states at old = stand.each at (Some old) there in
-    let did : RunsOut (ReplicaStands m) new call before after (rules_at w at) (w.keys at) (states at) = does (rules_at w at) (w.keys at) (states at) is.stands in
+    let did : ReplicaRunsOut (ReplicaStands m) new call before after (rules_at w at) (w.keys at) (states at) = does (rules_at w at) (w.keys at) (states at) is.stands in
     wants m w states at call replicas old new before after result stand there (ran_out m w states at call old new before after is did)
     (step_needs m new call before after (rules_at w at) (w.keys at) (states at) did) saw
 called m w states at call replicas old new before after (Err (refusals.Body body.Mem)) result stand there does saw =
@@ -226,9 +226,9 @@ called m w states at call replicas old new before after answer result stand ther
 -- ---- as the code has it
 
 -- a call where a replica is
-pub called_at : {S E C : Type 0} (m : Meaning S E C KeyRow) (w : Setting) (states : ℕ → CoreState) (at place : ℕ) (call : Call) (replicas : List (Option (Replica S E C))) (here : Option (Replica S E C)) (old new : Replica S E C) (before after : List OutFrame) (answer : Result Answer Refusal) (result : Result Seen Mem) →
+pub called_at : {S E C : Type 0} (m : Meaning S E C KeyRow) (w : Setting) (states : ℕ → CoreState) (at place : ℕ) (call : ReplicaCall) (replicas : List (Option (Replica S E C))) (here : Option (Replica S E C)) (old new : Replica S E C) (before after : List OutFrame) (answer : Result Answer Refusal) (result : Result Seen Mem) →
     ReplicasStand m w states replicas → place ≡ at → place < length replicas → slice_index_or replicas place here ≡ Some old
-    → DoesAll (ReplicaStands m) old new call before after answer → Sees answer result
+    → ReplicaDoesAll (ReplicaStands m) old new call before after answer → Sees answer result
     → CallsOr m w states (call_at w at call) (slice_set replicas place (Some new)) before after result
 called_at m w states at place call replicas here old new before after answer result stand e within old_is does saw =
     let there : slice_get replicas place ≡ Some (Some old) = slice_get-get_or replicas place here within ∙ ap (λ x. Some x) old_is in
@@ -249,17 +249,17 @@ opened_at m w states at place from seq said bytes replicas here old new before a
     (λ r k st stands. does r k st stands bytes seq (ap (λ (x : KeyRow). opening x bytes) (sym stands.keys ∙ own) ∙ opens)) saw
 
 -- a call where no replica is
-pub none_at : {S E C : Type 0} (m : Meaning S E C KeyRow) (w : Setting) (states : ℕ → CoreState) (at place : ℕ) (call : Call) (replicas : List (Option (Replica S E C))) (here : Option (Replica S E C)) (before : List OutFrame) →
+pub none_at : {S E C : Type 0} (m : Meaning S E C KeyRow) (w : Setting) (states : ℕ → CoreState) (at place : ℕ) (call : ReplicaCall) (replicas : List (Option (Replica S E C))) (here : Option (Replica S E C)) (before : List OutFrame) →
     ReplicasStand m w states replicas → place ≡ at → place < length replicas → slice_index_or replicas place here ≡ None
-    → Calls m w states (call_at w at call) (slice_set replicas place (slice_index_or replicas place here)) before before seen_as.Missed
+    → CallAnswered m w states (call_at w at call) (slice_set replicas place (slice_index_or replicas place here)) before before seen_as.Missed
 none_at {S = S} {E = E} {C = C} m w states at place call replicas here before stand e within none =
     let there : slice_get replicas place ≡ Some None = slice_get-get_or replicas place here within ∙ ap (λ x. Some x) none in
     let faulty : w.is_correct place ≡ false = stand.each place None there in
-    let P : List (Option (Replica S E C)) → Type 0 = λ xs. Calls m w states (call_at w at call) xs before before seen_as.Missed in
+    let P : List (Option (Replica S E C)) → Type 0 = λ xs. CallAnswered m w states (call_at w at call) xs before before seen_as.Missed in
     subst P (sym (set-get_or replicas place here)) (missed_call m w states at call replicas before stand (subst (λ k. w.is_correct k ≡ false) e faulty))
 
 -- a call past all replicas
-pub past_at : {S E C : Type 0} (m : Meaning S E C KeyRow) (w : Setting) (states : ℕ → CoreState) (at place : ℕ) (call : Call) (replicas : List (Option (Replica S E C))) (before : List OutFrame) →
-    ReplicasStand m w states replicas → place ≡ at → length replicas ≤ place → Calls m w states (call_at w at call) replicas before before seen_as.Missed
+pub past_at : {S E C : Type 0} (m : Meaning S E C KeyRow) (w : Setting) (states : ℕ → CoreState) (at place : ℕ) (call : ReplicaCall) (replicas : List (Option (Replica S E C))) (before : List OutFrame) →
+    ReplicasStand m w states replicas → place ≡ at → length replicas ≤ place → CallAnswered m w states (call_at w at call) replicas before before seen_as.Missed
 past_at m w states at place call replicas before stand e past =
     missed_call m w states at call replicas before stand (past_is_faulty m w states at replicas stand (subst (λ k. length replicas ≤ k) e past))

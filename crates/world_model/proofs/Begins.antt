@@ -22,17 +22,17 @@ use Rattle.world_model.specs.World.{Setting, rules_at, states_of}
 use Rattle.world_model.specs.declared.audit.Audit.TheVariants as audits
 use Rattle.world_model.specs.declared.watch.Watch.{Watch}
 use Rattle.world_model.specs.Audit.{first_broken, prints_at}
-use Rattle.world_model.specs.Hashed.{met_at, HashedStand}
+use Rattle.world_model.specs.Hashed.{entries_met_at, HashedStand}
 use Rattle.world_model.specs.Watch.{WatchStands}
 use Rattle.world_model.proofs.Prints.{nothing_there}
 use Rattle.world_model.proofs.Meeting.{stand_within}
 use Rattle.world_model.specs.MadeOrder.{all_made}
-use Rattle.world_model.specs.FramesMade.{MadeTable, made_in, placed}
+use Rattle.world_model.specs.FramesMade.{MadeTable, made_in, frame_placed}
 use Rattle.world_model.specs.declared.world.World.{World}
 use Rattle.world_model.proofs.Tables.{place_within}
 use Rattle.world_model.specs.EveryWorld.{IsWorld}
 use Rattle.world_model.specs.Stands.{IsWorldOf, AreKeys, SeatsStand, StandsAt, ReplicasStand, FramesStand, WorldStands}
-use Rattle.world_model.specs.Steps.{IsFirst, AreFirst, rules_with}
+use Rattle.world_model.specs.Steps.{IsFirstReplica, AreFirstReplicas, rules_with}
 
 get_there : {X : Type 0} (xs : List X) (i : ℕ) → i < length xs → (x : X) × (slice_get xs i ≡ Some x)
 get_there [] i within = absurd (omega arith)
@@ -71,7 +71,7 @@ first_rules m p root members rows coins w i k coin tags is own row_is coin_is =
 
 first_place : {S E C : Type 0} (m : Meaning S E C KeyRow) (p : Numbers) (root : Mode) (members : ℕ) (rows : List KeyRow) (coins : List C) (w : Setting) (i : ℕ) (k : KeyRow) (coin : C) (place : Option (Replica S E C)) →
     ((x : KeyRow) → m.tags x ≡ tags_of x) → IsWorldOf m p root members rows coins w → k.me ≡ i → slice_get rows i ≡ Some k → slice_get coins i ≡ Some coin
-    → IsFirst m p root members k coin place → StandsAt m w (states_of w []) i place
+    → IsFirstReplica m p root members k coin place → StandsAt m w (states_of w []) i place
 unfolding states_of
 first_place m p root members rows coins w i k coin None tags is own row_is coin_is first = is.correct i ∙ ap (has_member members) (sym own) ∙ first
 first_place m p root members rows coins w i k coin (Some rep) tags is own row_is coin_is first =
@@ -120,7 +120,7 @@ begins_kind m p root members rows coins w seats is given serves form stand = rec
 }
 
 pub begins_replicas : {S E C : Type 0} (m : Meaning S E C KeyRow) (p : Numbers) (root : Mode) (members : ℕ) (rows : List KeyRow) (coins : List C) (w : Setting) (places : List (Option (Replica S E C))) →
-    ((x : KeyRow) → m.tags x ≡ tags_of x) → IsWorldOf m p root members rows coins w → IsGiven C p members rows coins → AreFirst m p root members rows coins places
+    ((x : KeyRow) → m.tags x ≡ tags_of x) → IsWorldOf m p root members rows coins w → IsGiven C p members rows coins → AreFirstReplicas m p root members rows coins places
     → ReplicasStand m w (states_of w []) places
 begins_replicas m p root members rows coins w places tags is given are =
     let many : w.numbers.n ≡ p.n = ap (λ x. x.n) is.numbers in
@@ -157,7 +157,7 @@ begins_frames w n t many is = record {
 -- a watch before any event
 pub record IsFresh (watch : Watch) : Type 0 where
   pub verdict : watch.verdict ≡ audits.Holds
-  pub sent : (s : Slot) (i : ℕ) → met_at watch.sent.table s i ≡ None
+  pub sent : (s : Slot) (i : ℕ) → entries_met_at watch.sent.table s i ≡ None
   pub hashed : HashedStand watch.hashed []
 
 begins_watch : (w : Setting) (watch : Watch) → IsFresh watch → WatchStands w (states_of w []) (first_broken w []) watch
@@ -171,7 +171,7 @@ begins_watch w watch fresh = record {
 }
 
 pub begins : {S E C : Type 0} (m : Meaning S E C KeyRow) (p : Numbers) (root : Mode) (members : ℕ) (rows : List KeyRow) (coins : List C) (world : World S E C) (w : Setting) →
-    ((x : KeyRow) → m.tags x ≡ tags_of x) → IsGiven C p members rows coins → m.service.serves root.root ≡ true → HasForm root m.cast → AreFirst m p root members rows coins world.replicas.items
+    ((x : KeyRow) → m.tags x ≡ tags_of x) → IsGiven C p members rows coins → m.service.serves root.root ≡ true → HasForm root m.cast → AreFirstReplicas m p root members rows coins world.replicas.items
     → world.seats.params ≡ p → world.seats.mode ≡ root → world.seats.correct ≡ members → world.seats.keys.items ≡ rows → world.made ≡ record { n = p.n; lists = replicate (p.n * p.n) []; order = [] }
     → world.events ≡ 0 → IsFresh world.watch → world.live ≡ true → IsWorldOf m p root members rows coins w → WorldStands m world w []
 unfolding first_broken all_made
@@ -182,7 +182,7 @@ begins m p root members rows coins world w tags given serves form are same_p sam
       seats = seats;
       replicas = begins_replicas m p root members rows coins w world.replicas.items tags is given are;
       made = begins_frames w p.n world.made (ap (λ x. x.n) is.numbers) made;
-      order = ap (λ (t : MadeTable). map (placed t) t.order) made;
+      order = ap (λ (t : MadeTable). map (frame_placed t) t.order) made;
       events = events;
       watch = begins_watch w world.watch fresh;
       live = live;
@@ -191,9 +191,9 @@ begins m p root members rows coins world w tags given serves form are same_p sam
 -- ---- as the code has it
 
 pub same_keys : {S E C : Type 0} (m : Meaning S E C KeyRow) (p : Numbers) (root : Mode) (members : ℕ) (rows all : List KeyRow) (coins : List C) (places : List (Option (Replica S E C))) →
-    rows ≡ all → AreFirst m p root members rows coins places → AreFirst m p root members all coins places
+    rows ≡ all → AreFirstReplicas m p root members rows coins places → AreFirstReplicas m p root members all coins places
 same_keys m p root members rows all coins places same are =
-    let P : List KeyRow → Type 0 = λ xs. AreFirst m p root members xs coins places in
+    let P : List KeyRow → Type 0 = λ xs. AreFirstReplicas m p root members xs coins places in
     subst P same are
 
 pub first_table : (count n : ℕ) (t : MadeTable) → count ≡ n → t ≡ record { n = count; lists = replicate (count * count) []; order = [] } → t ≡ record { n = n; lists = replicate (n * n) []; order = [] }

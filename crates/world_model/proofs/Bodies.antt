@@ -13,17 +13,17 @@ use Rattle.ritas_base.specs.declared.slot.Slot.{Slot}
 use Rattle.ritas_base.specs.Slots.{by_echo, reliable_form, form_of}
 use Rattle.ritas_base.specs.Numbers.{Numbers, IsSession}
 use Rattle.frame_codec.specs.Body.{kind_byte, spelling, body_answer, is_of_form}
-use Rattle.frame_codec.specs.Values.{IsBytes}
+use Rattle.ritas_base.specs.Bytes.{IsBytes}
 use Rattle.frame_codec.specs.Laws.{AnswersSpelled, AnswersGood}
 use Rattle.keyed_channel.specs.KeyRow.{KeyRow}
-use Rattle.ritas_core.specs.Shown.{front_of}
+use Rattle.ritas_core.specs.Shown.{first_waiting}
 use Rattle.ritas_core.specs.Machine.{CoreState, AreGood}
 use Rattle.ritas_core.specs.Stands.{Meaning}
 use Rattle.replica.specs.declared.replica.Replica.{Replica}
 use Rattle.world_model.specs.World.{Setting, rules_at}
 use Rattle.world_model.specs.Stands.{IsReplica, ReplicasStand}
 use Rattle.world_model.specs.Watch.{is_watched, watched, is_watched_byte, IsGoodIf}
-use Rattle.world_model.specs.Steps.{IsFront}
+use Rattle.world_model.specs.Steps.{IsInboxFront}
 
 -- ---- bodies
 
@@ -90,16 +90,16 @@ no_body spelled p mode from body item session fits reads none =
 
 -- ---- the front of an inbox
 
-good_front : (w : Setting) (at : ℕ) (inbox : List Item) → AreGood (rules_at w at) inbox → IsGoodIf w (front_of inbox)
+good_front : (w : Setting) (at : ℕ) (inbox : List Item) → AreGood (rules_at w at) inbox → IsGoodIf w (first_waiting inbox)
 good_front w at [] good = tt
 good_front w at (x ∷ xs) good = good.0.in_grammar
 
-pub front_is : (w : Setting) (states : ℕ → CoreState) (at : ℕ) (mode : Mode) (front found : Option Item) → mode ≡ w.mode → AreGood (rules_at w at) (states at).inbox → found ≡ front_of (states at).inbox → front ≡ watched mode found →
-    IsFront w states at front
+pub front_is : (w : Setting) (states : ℕ → CoreState) (at : ℕ) (mode : Mode) (front found : Option Item) → mode ≡ w.mode → AreGood (rules_at w at) (states at).inbox → found ≡ first_waiting (states at).inbox → front ≡ watched mode found →
+    IsInboxFront w states at front
 front_is w states at mode front found here good is looked =
     record { is = looked ∙ ap₂ (λ (x : Mode) (o : Option Item). watched x o) here is; good = good_front w at (states at).inbox good }
 
-pub front_waits : (waiting : List Item) → is_some (front_of waiting) ≡ true → waiting ≢ []
+pub front_waits : (waiting : List Item) → is_some (first_waiting waiting) ≡ true → waiting ≢ []
 front_waits [] some = absurd cc
 front_waits (item ∷ waiting) some = λ e. cc
 

@@ -27,8 +27,8 @@ use Rattle.replica.specs.Frames.{body_of, made_for}
 use Rattle.replica.specs.Handling.{Frame}
 use Rattle.world_model.specs.World.{Setting, rules_at}
 use Rattle.world_model.specs.Audit.{has_made, is_forged_opening, is_forged_call}
-use Rattle.world_model.specs.Players.{Cast, made_as, thrown}
-use Rattle.world_model.specs.Forging.{Shows}
+use Rattle.world_model.specs.Players.{Cast, frames_shown_as, thrown}
+use Rattle.world_model.specs.Forging.{IsFaceView}
 use Rattle.world_model.proofs.Anywhere.{any_of, mapped_from}
 use Rattle.world_model.proofs.Forging.{what_opened}
 use Rattle.world_model.proofs.HashedSteps.{bytes_itself}
@@ -82,10 +82,10 @@ pub record IsShownFrame (shown : Msg → Msg) (r : Rules) (k : KeyRow) (h : List
   pub good : IsInGrammar r.casts.numbers r.mode (item_of r.casts.me message)
   pub is_seal : bytes ≡ sealed k j seq (body_of k.me (shown message))
 
-pub shown_sent : (shown : Msg → Msg) (r : Rules) → IsFounded r → (k : KeyRow) (h : List Entry) → IsHistory r h → (j : ℕ) (bytes : List ℕ) → Has (made_as shown r k h j) bytes →
+pub shown_sent : (shown : Msg → Msg) (r : Rules) → IsFounded r → (k : KeyRow) (h : List Entry) → IsHistory r h → (j : ℕ) (bytes : List ℕ) → Has (frames_shown_as shown r k h j) bytes →
     IsShownFrame shown r k h j bytes
 shown_sent shown r laws k [] met j bytes here = elim here [ ]
-shown_sent shown r laws k (e ∷ h) met j bytes here = elim (sealed_from k j (map shown (sent_to j (new_messages r h e))) (made_as shown r k h j) bytes here) [
+shown_sent shown r laws k (e ∷ h) met j bytes here = elim (sealed_from k j (map shown (sent_to j (new_messages r h e))) (frames_shown_as shown r k h j) bytes here) [
   | inl a ↦
       let f = shown_sent shown r laws k h met.1 j bytes a in
       record { message = f.message; seq = f.seq; fits = f.fits; due = laws.core.due_stays r laws.layers h e f.message f.due; good = f.good; is_seal = f.is_seal }
@@ -103,7 +103,7 @@ shown_sent shown r laws k (e ∷ h) met j bytes here = elim (sealed_from k j (ma
 ]
 
 -- what a face shows of an honest message is honest
-shown_honest : (w : Setting) (shown : Msg → Msg) → Shows w shown → (hist : ℕ → List Entry) (i : ℕ) (m : Msg) → IsHonest w hist (item_of i m) → IsHonest w hist (item_of i (shown m))
+shown_honest : (w : Setting) (shown : Msg → Msg) → IsFaceView w shown → (hist : ℕ → List Entry) (i : ℕ) (m : Msg) → IsHonest w hist (item_of i m) → IsHonest w hist (item_of i (shown m))
 shown_honest w shown shows hist i m honest = go (kind_eq m.kind Init) refl
   where
     go : (b : Bool) → kind_eq m.kind Init ≡ b → IsHonest w hist (item_of i (shown m))
@@ -119,8 +119,8 @@ shown_honest w shown shows hist i m honest = go (kind_eq m.kind Init) refl
         let none : m.kind ≢ Init = λ e. absurd (let t : kind_eq m.kind Init ≡ true = ap (λ (k : Kind). kind_eq k Init) e in cc) in
         subst (λ (x : Msg). IsHonest w hist (item_of i x)) (sym (shows.others m none)) honest
 
-pub shown_comes : (w : Setting) → IsFair w → (c : Cast) → Shows w c.shown → (hist : ℕ → List Entry) (i j : ℕ) (st : CoreState) → w.is_correct i ≡ false → i < w.numbers.n → j < w.numbers.n → i ≢ j
-    → IsPlaying w hist i st → (bytes : List ℕ) → Has (made_as c.shown (rules_at w i) (w.keys i) st.history j) bytes → ComesFrom w hist i j bytes
+pub shown_comes : (w : Setting) → IsFair w → (c : Cast) → IsFaceView w c.shown → (hist : ℕ → List Entry) (i j : ℕ) (st : CoreState) → w.is_correct i ≡ false → i < w.numbers.n → j < w.numbers.n → i ≢ j
+    → IsPlaying w hist i st → (bytes : List ℕ) → Has (frames_shown_as c.shown (rules_at w i) (w.keys i) st.history j) bytes → ComesFrom w hist i j bytes
 shown_comes w fair c shows hist i j st faulty below there other plays bytes made =
     let laws = founded_at w fair.sound i below in
     let f = shown_sent c.shown (rules_at w i) laws (w.keys i) st.history plays.met j bytes made in

@@ -17,8 +17,8 @@ use Rattle.ritas_core.specs.Parts.{Entry, Took, Given, parts}
 use Rattle.ritas_core.specs.Order.{new_messages, own_items}
 use Rattle.ritas_core.specs.Checks.{is_open, is_item_past, body_length, verdict_on, input_check, IsGood, IsHistory, MayEnter}
 use Rattle.ritas_core.specs.Machine as core
-use Rattle.ritas_core.specs.Machine.{CoreState, What, MayGive, entered, gives, given_input, turned, moved_live, moved}
-use Rattle.replica.specs.Handling.{Call, Frame, Input, Turn, given_body, given_frame, handled}
+use Rattle.ritas_core.specs.Machine.{CoreState, What, MayGive, state_after_entry, gives_item, given_input, turned, moved_live, moved}
+use Rattle.replica.specs.Handling.{ReplicaCall, Frame, Input, Turn, given_body, given_frame, handled}
 use Rattle.world_model.specs.World.{Setting, rules_at, CallAt, call_of, handled_at, after_call, states_of, states_before}
 use Rattle.world_model.specs.OneValueEach.{Codec}
 use Rattle.world_model.proofs.Below.{IsFounded}
@@ -34,7 +34,7 @@ pub record IsWell (r : Rules) (st : CoreState) : Type 0 where
 
 -- an entry more
 well_enters : (r : Rules) → IsFounded r → (st : CoreState) → IsWell r st → (e : Entry) (waiting : List Item) → MayEnter r (parts r st.history) e → AreAll (IsGood r) waiting
-    → IsWell r (entered r st e waiting)
+    → IsWell r (state_after_entry r st e waiting)
 well_enters r laws st well e waiting may all =
     let me = r.casts.me in
     let new = new_messages r st.history e in
@@ -51,7 +51,7 @@ well_enters r laws st well e waiting may all =
     }
 
 well_item : (r : Rules) → IsFounded r → (st : CoreState) → IsWell r st → (item : Item) (waiting : List Item) → IsGood r item → AreAll (IsGood r) waiting → (v : Verdict)
-    → verdict_on r (parts r st.history) st.held item ≡ v → IsWell r (gives r st item waiting v).state
+    → verdict_on r (parts r st.history) st.held item ≡ v → IsWell r (gives_item r st item waiting v).state
 well_item r laws st well item waiting good all (verdicts.Refuse fault) is = record { met = well.met; waiting = all; held = well.held }
 well_item r laws st well item waiting good all verdicts.Again is = record { met = well.met; waiting = all; held = well.held }
 well_item r laws st well item waiting good all verdicts.Hold is =
@@ -110,7 +110,7 @@ well_frame w laid i below st well bytes = opened (opening (w.keys i) bytes) refl
     opened (Ok o) opens = read o opens (body_answer w.numbers w.mode o.from o.body) refl
     opened (Err fault) opens = well
 
-well_handled : (w : Setting) → IsLaid w → (i : ℕ) → i < w.numbers.n → (st : CoreState) → IsWell (rules_at w i) st → (call : Call)
+well_handled : (w : Setting) → IsLaid w → (i : ℕ) → i < w.numbers.n → (st : CoreState) → IsWell (rules_at w i) st → (call : ReplicaCall)
     → IsWell (rules_at w i) (handled (rules_at w i) (w.keys i) st call).state
 well_handled w laid i below st well (Frame bytes) = well_frame w laid i below st well bytes
 well_handled w laid i below st well (Input v) = well_moved (rules_at w i) (laid.founded i below) st well (core.Input v) tt

@@ -20,12 +20,12 @@ use Rattle.world_model.specs.declared.watch.Watch.{Watch}
 use Rattle.world_model.specs.World.{Setting, CallAt, call_of, handled_at, states_of, states_before, after_call}
 use Rattle.world_model.specs.declared.audit.Audit.{Audit}
 use Rattle.world_model.specs.Audit.{first_broken}
-use Rattle.world_model.specs.MadeOrder.{frames_in, all_made}
+use Rattle.world_model.specs.MadeOrder.{frames_of_call, all_made}
 use Rattle.world_model.specs.FramesMade.{MadeTable, IsOrderOf, with_frames}
 use Rattle.world_model.specs.Stands.{EventDoes, NoneStops, SeatsStand, StandsAt, IsReplica, ReplicasStand, ReplicasLeft, FramesStand, WorldStands, WorldStopped, Seeing}
 use Rattle.world_model.specs.Watch.{IsAt, IsTold, WatchStands, verdict_after}
 use Rattle.world_model.specs.Needs.{EventNeeds}
-use Rattle.world_model.specs.Steps.{frames_out, Happens}
+use Rattle.world_model.specs.Steps.{frames_out, CallHappened}
 use Rattle.world_model.proofs.AtPlaces.{past_is_faulty}
 use Rattle.world_model.proofs.TableAfter.{table_after}
 use Rattle.world_model.proofs.Ordered.{order_next}
@@ -84,7 +84,7 @@ pub record IsNext {S E C : Type 0} (old new : World S E C) (happened : Happened)
   pub live : new.live ≡ true
 
 pub continues : {S E C : Type 0} → MadeByEntry → (m : Meaning S E C KeyRow) (old new : World S E C) (w : Setting) (es : List Event) (e : Event) (places : List (Option (Replica S E C))) (happened : Happened) →
-    WorldStands m old w es → length es < 2 ^ 64 - 1 → Happens m w (states_before w es) (call_of w (states_before w es) e) places happened
+    WorldStands m old w es → length es < 2 ^ 64 - 1 → CallHappened m w (states_before w es) (call_of w (states_before w es) e) places happened
     → (length places ≡ length old.replicas.items → new.replicas.items ≡ places) → IsNext old new happened → Seeing m new w es e happened.seen
 unfolding states_of first_broken all_made
 continues {S = S} {E = E} {C = C} made_by m old new w es e places happened stand few happens same next =
@@ -104,7 +104,7 @@ continues {S = S} {E = E} {C = C} made_by m old new w es e places happened stand
         made = subst Q (sym next.made)
             (table_next made_by w old.seats before call old.made old.events happened.at happened.out.items stand.seats (frames_before w es old.made stand.going stand.made) stand.replicas.within happens.told.place happens.out);
         order = subst (λ (t : MadeTable). IsOrderOf t (all_made w (e ∷ es))) (sym next.made)
-            (subst (λ (k : ℕ). IsOrderOf (with_frames old.made old.events happened.at happened.out.items) (all_made w es ++ frames_in k w before call)) stand.events
+            (subst (λ (k : ℕ). IsOrderOf (with_frames old.made old.events happened.at happened.out.items) (all_made w es ++ frames_of_call k w before call)) stand.events
             (order_next made_by w old.seats before call old.made old.events happened.at happened.out.items (all_made w es) stand.seats
             (frames_before w es old.made stand.going stand.made) stand.replicas.within happens.told.place happens.out stand.order));
         events = next.events ∙ omega arith;

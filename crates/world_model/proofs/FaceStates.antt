@@ -5,10 +5,10 @@ use Rattle.std.proofs.lemmas.Bool.{eq-eqb, eqb-true, ne_eqb, lt-ltb, false≢tru
 use Rattle.ritas_base.specs.declared.event.Event.{Event}
 use Rattle.ritas_base.specs.declared.event.Event.TheVariants as events
 use Rattle.ritas_core.specs.Machine.{CoreState}
-use Rattle.replica.specs.Handling.{Call, Frame, Input, Turn, handled}
+use Rattle.replica.specs.Handling.{ReplicaCall, Frame, Input, Turn, handled}
 use Rattle.world_model.specs.World.{Setting, rules_at, CallAt, call_at, call_of, after_call, states_of, states_before}
-use Rattle.world_model.specs.Players.{Cast, Scene, Correct, Face, Step, Give, Go, Carry, Throw, IsPlayer, AreSteps, frames_of, happened_if, faced, faced_if, scene_of}
-use Rattle.world_model.specs.FaceWorlds.{faces_world, IsLetter, is_of, only_if, frame_if, told_to, FaceLaw}
+use Rattle.world_model.specs.Players.{Cast, Scene, Correct, Face, Step, Give, Go, Carry, Throw, IsPlayer, AreSteps, player_frames, happened_if, faced, faced_if, scene_of}
+use Rattle.world_model.specs.FaceWorlds.{faces_world, IsLetter, is_face_number, only_if, frame_if, told_to, FaceLaw}
 use Rattle.world_model.proofs.Continues.{found_as_left}
 
 -- each face of the letter is in the state of its replica
@@ -23,7 +23,7 @@ same_face c face letter a i here true is = eq-eqb a (face i) (sym here ∙ ap fa
 same_face c face letter a i here false is = ne_eqb a (face i) (λ e. false≢true (sym is ∙ eq-eqb (c.number a) i (ap c.number e ∙ letter.number i)))
 
 -- any other face is none of the letter's
-other_face : (c : Cast) (face : ℕ → ℕ) → IsLetter c face → (a i : ℕ) → is_of c face a ≡ false → (a == face i) ≡ false
+other_face : (c : Cast) (face : ℕ → ℕ) → IsLetter c face → (a i : ℕ) → is_face_number c face a ≡ false → (a == face i) ≡ false
 other_face c face letter a i not_of =
     ne_eqb a (face i) (λ e. false≢true (sym not_of ∙ eq-eqb (face (c.number a)) a (ap (λ (b : ℕ). face (c.number b)) e ∙ ap face (letter.number i) ∙ sym e)))
 
@@ -33,18 +33,18 @@ other_face c face letter a i not_of =
 pub replica_there : (w : Setting) (i : ℕ) → w.is_correct i ≡ false → i < w.numbers.n → (faces_world w).is_correct i ≡ true
 replica_there w i faulty below = ap₂ (λ (x y : Bool). x && y) (lt-ltb i w.numbers.n below) (ap not faulty)
 
-called_there : (w : Setting) (states : ℕ → CoreState) (j : ℕ) (call : Call) (i : ℕ) → w.is_correct j ≡ true
+called_there : (w : Setting) (states : ℕ → CoreState) (j : ℕ) (call : ReplicaCall) (i : ℕ) → w.is_correct j ≡ true
     → after_call w states (call_at w j call) i ≡ (if j == i then (handled (rules_at w j) (w.keys j) (states j) call).state else states i)
 called_there w states j call i right = ap (λ (b : Bool). after_call w states (if b then Some (record { at = j; call = call }) else None) i) right
 
 -- a call on a face is told to the world of its letter
 faced_alike : (w : Setting) (c : Cast) (face : ℕ → ℕ) → IsLetter c face → (s : Scene) (es : List Event) → AreAlike face s.faces (states_of (faces_world w) es) → (a : ℕ)
-    → IsPlayer w c (Face a) → (call : Call) (e : Event) → call_of (faces_world w) (states_before (faces_world w) es) e ≡ call_at (faces_world w) (c.number a) call
-    → AreAlike face (faced w c s a call).faces (states_of (faces_world w) (only_if (is_of c face a) e ++ es))
+    → IsPlayer w c (Face a) → (call : ReplicaCall) (e : Event) → call_of (faces_world w) (states_before (faces_world w) es) e ≡ call_at (faces_world w) (c.number a) call
+    → AreAlike face (faced w c s a call).faces (states_of (faces_world w) (only_if (is_face_number c face a) e ++ es))
 unfolding states_of
-faced_alike w c face letter s es alike a player call e is i = told (is_of c face a) refl
+faced_alike w c face letter s es alike a player call e is i = told (is_face_number c face a) refl
   where
-    told : (b : Bool) → is_of c face a ≡ b → (faced w c s a call).faces (face i) ≡ states_of (faces_world w) (only_if b e ++ es) i
+    told : (b : Bool) → is_face_number c face a ≡ b → (faced w c s a call).faces (face i) ≡ states_of (faces_world w) (only_if b e ++ es) i
     told false not_of =
         ap (λ (t : Bool). if t then (handled (rules_at w (c.number a)) (w.keys (c.number a)) (s.faces a) call).state else s.faces (face i)) (other_face c face letter a i not_of) ∙ alike i
     told true of_it =
@@ -61,7 +61,7 @@ faced_alike w c face letter s es alike a player call e is i = told (is_of c face
 
 -- so is a frame, if there is one
 carried_alike : (w : Setting) (c : Cast) (face : ℕ → ℕ) → IsLetter c face → (s : Scene) (es : List Event) → AreAlike face s.faces (states_of (faces_world w) es) → (a : ℕ)
-    → IsPlayer w c (Face a) → (o : Option (List ℕ)) → AreAlike face (faced_if w c s a o).faces (states_of (faces_world w) (frame_if (is_of c face a) (c.number a) o ++ es))
+    → IsPlayer w c (Face a) → (o : Option (List ℕ)) → AreAlike face (faced_if w c s a o).faces (states_of (faces_world w) (frame_if (is_face_number c face a) (c.number a) o ++ es))
 carried_alike w c face letter s es alike a player None = alike
 carried_alike w c face letter s es alike a player (Some bytes) = faced_alike w c face letter s es alike a player (Frame bytes) (events.Frame (c.number a) bytes) refl
 
@@ -85,13 +85,13 @@ steps_alike w c face (Go (Face a) ∷ steps) letter are i =
 steps_alike w c face (Carry (Correct k) (Correct j) m ∷ steps) letter are i = steps_alike w c face steps letter are.1 i
 steps_alike w c face (Carry (Face b) (Correct j) m ∷ steps) letter are i =
     let s = scene_of w c steps in
-    happened_alike face s (states_of (faces_world w) (told_to w c face steps)) j (slice_get (frames_of w c s (Face b) j) m) (steps_alike w c face steps letter are.1) i
+    happened_alike face s (states_of (faces_world w) (told_to w c face steps)) j (slice_get (player_frames w c s (Face b) j) m) (steps_alike w c face steps letter are.1) i
 steps_alike w c face (Carry (Correct k) (Face a) m ∷ steps) letter are i =
     let s = scene_of w c steps in
-    carried_alike w c face letter s (told_to w c face steps) (steps_alike w c face steps letter are.1) a are.0.1 (slice_get (frames_of w c s (Correct k) (c.number a)) m) i
+    carried_alike w c face letter s (told_to w c face steps) (steps_alike w c face steps letter are.1) a are.0.1 (slice_get (player_frames w c s (Correct k) (c.number a)) m) i
 steps_alike w c face (Carry (Face b) (Face a) m ∷ steps) letter are i =
     let s = scene_of w c steps in
-    carried_alike w c face letter s (told_to w c face steps) (steps_alike w c face steps letter are.1) a are.0.1 (slice_get (frames_of w c s (Face b) (c.number a)) m) i
+    carried_alike w c face letter s (told_to w c face steps) (steps_alike w c face steps letter are.1) a are.0.1 (slice_get (player_frames w c s (Face b) (c.number a)) m) i
 steps_alike w c face (Throw from to rest ∷ steps) letter are i = steps_alike w c face steps letter are.1 i
 
 pub face_law : FaceLaw

@@ -7,13 +7,13 @@ use Rattle.ritas_base.specs.declared.mode.Mode.{Mode}
 use Rattle.ritas_base.specs.Numbers.{Numbers}
 use Rattle.frame_codec.specs.Body.{IsInGrammar, spelling}
 use Rattle.layer_api.specs.Broadcast.{BroadcastRules}
-use Rattle.layer_api.specs.EntryLaws.{EntryLaws, HasEntries}
+use Rattle.layer_api.specs.EntryLaws.{EntryLaws, HasWholeEntries}
 use Rattle.layer_api.specs.OneValue.{ValueLaws, OneValue}
 use Rattle.layer_api.specs.Service.{ServiceRules, WordLaws}
 use Rattle.reliable_bcast.specs.Bracha.{bracha}
 use Rattle.keyed_channel.specs.Hmac.{hmac_of, pad}
 use Rattle.keyed_channel.specs.KeyRow.{KeyRow, key_with}
-use Rattle.keyed_channel.specs.Keyed.{tags_of, other_of, entry_string}
+use Rattle.keyed_channel.specs.Keyed.{tags_of, other_of_two, entry_string}
 use Rattle.keyed_channel.specs.Laws.{OpensAsSealed, OpenedFromPeer, SealedLength}
 use Rattle.world_model.specs.World.{Setting}
 use Rattle.world_model.specs.OneValueEach.{Codec}
@@ -26,7 +26,7 @@ use Rattle.world_model.proofs.EveryWorld.{world_sound}
 -- what a world keeps to: beside what it does for agreement, entries have 32 bytes
 pub record IsFair (w : Setting) : Type 0 where
   pub sound : IsSoundOver w
-  pub whole : (i : ℕ) → HasEntries (tags_of (w.keys i))
+  pub whole : (i : ℕ) → HasWholeEntries (tags_of (w.keys i))
   pub going : NoneStops w
 
 -- the spelling of an item is short
@@ -48,10 +48,10 @@ pub record AreLayers (service : ServiceRules) (other : BroadcastRules) : Type 0 
   pub core : CoreLaws
 
 -- an entry is an HMAC over SHA-256
-whole_entries : (k : KeyRow) → HasEntries (tags_of k)
+whole_entries : (k : KeyRow) → HasWholeEntries (tags_of k)
 unfolding hmac_of
 whole_entries k s echoer verifier digest =
-    let key : List ℕ = key_with k (other_of k.me echoer verifier) in
+    let key : List ℕ = key_with k (other_of_two k.me echoer verifier) in
     length-sha256 (pad 0x5c key ++ sha256 (pad 0x36 key ++ entry_string k.session s echoer verifier digest))
 
 pub world_fair : (service : ServiceRules) (other : BroadcastRules) → AreLayers service other → (w : Setting) → IsWorld service other w → NoneStops w → IsFair w

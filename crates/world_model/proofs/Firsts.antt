@@ -10,7 +10,7 @@ use Rattle.keyed_channel.specs.KeyRow.{KeyRow}
 use Rattle.ritas_core.specs.Stands.{Meaning}
 use Rattle.replica.specs.declared.replica.Replica.{Replica}
 use Rattle.world_model.specs.Stands.{AreKeys, AreOfVersion}
-use Rattle.world_model.specs.Steps.{IsFirst, AreFirst}
+use Rattle.world_model.specs.Steps.{IsFirstReplica, AreFirstReplicas}
 
 -- an element of a list with one more at its back
 pub get_more : {X : Type 0} (xs : List X) (x : X) (i : ℕ) (y : X) → slice_get (xs ++ x ∷ []) i ≡ Some y → ((i < length xs) × (slice_get xs i ≡ Some y)) ⊎ ((i ≡ length xs) × (x ≡ y))
@@ -24,8 +24,8 @@ get_more (z ∷ zs) x (suc i) y e = elim (get_more zs x i y e) [
 
 -- one place more
 pub first_more : {S E C : Type 0} (m : Meaning S E C KeyRow) (p : Numbers) (root : Mode) (members : ℕ) (rows : List KeyRow) (coins : List C) (places : List (Option (Replica S E C))) (keys : KeyRow) (coin : C) (place : Option (Replica S E C)) →
-    AreFirst m p root members rows coins places → length places < length rows → keys ≡ slice_index_or rows (length places) keys → IsFirst m p root members keys coin place
-    → AreFirst m p root members rows (coins ++ coin ∷ []) (places ++ place ∷ [])
+    AreFirstReplicas m p root members rows coins places → length places < length rows → keys ≡ slice_index_or rows (length places) keys → IsFirstReplica m p root members keys coin place
+    → AreFirstReplicas m p root members rows (coins ++ coin ∷ []) (places ++ place ∷ [])
 first_more {S = S} {E = E} {C = C} m p root members rows coins places keys coin place are within read is =
     let many = are.many in
     let there : slice_get rows (length places) ≡ Some keys = slice_get-get_or rows (length places) keys within ∙ ap (λ k. Some k) (sym read) in
@@ -40,9 +40,9 @@ first_more {S = S} {E = E} {C = C} m p root members rows coins places keys coin 
           | inl here ↦ absurd (omega (arith, here.0, last.0))
           | inr end ↦
               let same_row : keys ≡ k = same_Some keys k (sym there ∙ ap (slice_get rows) (sym end.0) ∙ row_is) in
-              let P : KeyRow → Type 0 = λ z. IsFirst m p root members z c x in
-              let Q : C → Type 0 = λ z. IsFirst m p root members keys z x in
-              let R : Option (Replica S E C) → Type 0 = λ z. IsFirst m p root members keys coin z in
+              let P : KeyRow → Type 0 = λ z. IsFirstReplica m p root members z c x in
+              let Q : C → Type 0 = λ z. IsFirstReplica m p root members keys z x in
+              let R : Option (Replica S E C) → Type 0 = λ z. IsFirstReplica m p root members keys coin z in
               subst P same_row (subst Q last.1 (subst R end.1 is))
         ]
       ];
@@ -51,25 +51,25 @@ first_more {S = S} {E = E} {C = C} m p root members rows coins places keys coin 
 -- ---- as the code has it
 
 pub none_first : {S E C : Type 0} (m : Meaning S E C KeyRow) (p : Numbers) (root : Mode) (members : ℕ) (rows : List KeyRow) (places : List (Option (Replica S E C))) →
-    places ≡ [] → AreFirst m p root members rows [] places
+    places ≡ [] → AreFirstReplicas m p root members rows [] places
 none_first m p root members rows places none = record { many = ap length none; each = λ i k coin place row_is coin_is place_is. absurd (cc) }
 
 pub first_by : {S E C : Type 0} (m : Meaning S E C KeyRow) (p : Numbers) (root : Mode) (members : ℕ) (rows : List KeyRow) (coins : List C) (places new : List (Option (Replica S E C))) (at : ℕ) (keys : KeyRow) (coin : C) (place : Option (Replica S E C)) →
-    AreFirst m p root members rows coins places → at ≡ length places → at < length rows → keys ≡ slice_index_or rows at keys → IsFirst m p root members keys coin place
-    → new ≡ places ++ place ∷ [] → AreFirst m p root members rows (coins ++ coin ∷ []) new
+    AreFirstReplicas m p root members rows coins places → at ≡ length places → at < length rows → keys ≡ slice_index_or rows at keys → IsFirstReplica m p root members keys coin place
+    → new ≡ places ++ place ∷ [] → AreFirstReplicas m p root members rows (coins ++ coin ∷ []) new
 first_by {S = S} {E = E} {C = C} m p root members rows coins places new at keys coin place are number within read is pushed =
-    let P : List (Option (Replica S E C)) → Type 0 = λ xs. AreFirst m p root members rows (coins ++ coin ∷ []) xs in
-    let Q : ℕ → Type 0 = λ k. k < length rows → keys ≡ slice_index_or rows k keys → AreFirst m p root members rows (coins ++ coin ∷ []) (places ++ place ∷ []) in
+    let P : List (Option (Replica S E C)) → Type 0 = λ xs. AreFirstReplicas m p root members rows (coins ++ coin ∷ []) xs in
+    let Q : ℕ → Type 0 = λ k. k < length rows → keys ≡ slice_index_or rows k keys → AreFirstReplicas m p root members rows (coins ++ coin ∷ []) (places ++ place ∷ []) in
     subst P (sym pushed) (subst Q (sym number) (λ here row. first_more m p root members rows coins places keys coin place are here row is) within read)
 
 pub same_first : {S E C : Type 0} (m : Meaning S E C KeyRow) (p : Numbers) (root : Mode) (members : ℕ) (rows : List KeyRow) (coins all : List C) (places : List (Option (Replica S E C))) →
-    coins ≡ all → AreFirst m p root members rows coins places → AreFirst m p root members rows all places
+    coins ≡ all → AreFirstReplicas m p root members rows coins places → AreFirstReplicas m p root members rows all places
 same_first {C = C} m p root members rows coins all places same are =
-    let P : List C → Type 0 = λ xs. AreFirst m p root members rows xs places in
+    let P : List C → Type 0 = λ xs. AreFirstReplicas m p root members rows xs places in
     subst P same are
 
 pub within_rows : {S E C : Type 0} (m : Meaning S E C KeyRow) (p : Numbers) (root : Mode) (members : ℕ) (rows : List KeyRow) (coins so_far : List C) (places : List (Option (Replica S E C))) (at : ℕ) →
-    at ≡ length places → AreFirst m p root members rows so_far places → length rows ≡ length coins → length so_far < length coins → at < length rows
+    at ≡ length places → AreFirstReplicas m p root members rows so_far places → length rows ≡ length coins → length so_far < length coins → at < length rows
 within_rows m p root members rows coins so_far places at number are same less = let many = are.many in omega arith
 
 -- the keys at a place were made for as many replicas

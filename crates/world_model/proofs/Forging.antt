@@ -10,7 +10,9 @@ use Rattle.frame_codec.specs.Body.{body_answer}
 use Rattle.keyed_channel.specs.KeyRow.{KeyRow}
 use Rattle.keyed_channel.specs.declared.frame.OpenFault.{OpenFault}
 use Rattle.keyed_channel.specs.declared.frame.OpenFault.TheVariants.{Short, Long, Version, NotMine, NoSuchReplica, BadTag}
-use Rattle.keyed_channel.specs.Frames.{version_byte, Opening, opening, opening_but, open_fault, parts_of, first_failed, is_tagged, is_peer, version_of, sender_of, receiver_of, seq_of}
+use Rattle.ritas_base.specs.Bytes.{version_byte}
+use Rattle.ritas_base.specs.Places.{first_failed}
+use Rattle.keyed_channel.specs.Frames.{Opening, opening, opening_but, open_fault, opening_parts, is_tagged, is_peer, version_of, sender_of, receiver_of, seq_of}
 use Rattle.ritas_core.specs.declared.answer.Answer.{Answer}
 use Rattle.ritas_core.specs.declared.fault.CoreFault.{CoreFault}
 use Rattle.ritas_core.specs.Rules.{Rules}
@@ -25,7 +27,7 @@ use Rattle.world_model.specs.Audit.{is_forged_opening}
 use Rattle.world_model.specs.Watch.{is_forged_frame}
 use Rattle.world_model.specs.FramesMade.{MadeTable, made_in}
 use Rattle.world_model.specs.Stands.{SeatsStand, FramesStand, frames_from}
-use Rattle.world_model.specs.Steps.{is_numbered, is_unmade, is_opened}
+use Rattle.world_model.specs.Steps.{is_numbered, is_unmade, is_seen_opened}
 use Rattle.world_model.proofs.Numbered.{made_by_number}
 
 -- ---- what opens
@@ -50,14 +52,14 @@ no_fault (Some fault) parts o h = cc
 pub record IsOpened (k : KeyRow) (bytes : List ℕ) (o : Opening) : Type 0 where
   pub whole : 43 ≤ length bytes
   pub long : 11 ≤ length bytes
-  pub parts : parts_of bytes ≡ o
+  pub parts : opening_parts bytes ≡ o
   pub below : sender_of bytes < k.n
   pub other : sender_of bytes ≢ k.me
 
 pub what_opened : (k : KeyRow) (bytes : List ℕ) (o : Opening) → opening k bytes ≡ Ok o → IsOpened k bytes o
 unfolding opening
 what_opened k bytes o h =
-    let fine = no_fault (open_fault k bytes) (parts_of bytes) o h in
+    let fine = no_fault (open_fault k bytes) (opening_parts bytes) o h in
     let passed = first_and_fifth (nat_le 43 (length bytes)) (nat_le (length bytes) 16384) (version_of bytes == version_byte k.version) (receiver_of bytes == k.me) (is_peer k (sender_of bytes)) (is_tagged k bytes) fine.0 in
     let long : 43 ≤ length bytes = leb-true _ _ passed.0 in
     let peer = both (nat_lt (sender_of bytes) k.n) (not (sender_of bytes == k.me)) passed.1 in
@@ -96,11 +98,11 @@ unmade_is_forged w seats states t j bytes o seats_stand stand below opened few =
 
 -- ---- as the code tests it
 
-core_opened : (answer : Result Answer CoreFault) → is_opened (seen_answer (core_answer answer)) ≡ true
+core_opened : (answer : Result Answer CoreFault) → is_seen_opened (seen_answer (core_answer answer)) ≡ true
 core_opened (Ok answer) = refl
 core_opened (Err fault) = refl
 
-body_opened : (r : Rules) (k : KeyRow) (st : CoreState) (read : Result Item BodyFault) → is_opened (seen_answer (given_body r k st read).answer) ≡ true
+body_opened : (r : Rules) (k : KeyRow) (st : CoreState) (read : Result Item BodyFault) → is_seen_opened (seen_answer (given_body r k st read).answer) ≡ true
 body_opened r k st (Ok item) = core_opened (moved r st (core.Frame item)).answer
 body_opened r k st (Err fault) = refl
 
@@ -111,7 +113,7 @@ pub record IsFound (correct : ℕ) (t : MadeTable) (j : ℕ) (bytes : List ℕ) 
 
 forged_either : (w : Setting) (seats : Seats) (states : ℕ → CoreState) (t : MadeTable) (j : ℕ) (bytes : List ℕ) (unmade : Bool) (opened : Result Opening OpenFault) →
     SeatsStand w seats → FramesStand w states t → j < w.numbers.n → IsFound seats.correct t j bytes unmade → opening (w.keys j) bytes ≡ opened
-    → (is_opened (seen_answer (given_frame (rules_at w j) (w.keys j) (states j) opened).answer) && unmade) ≡ is_forged_opening w states j bytes opened
+    → (is_seen_opened (seen_answer (given_frame (rules_at w j) (w.keys j) (states j) opened).answer) && unmade) ≡ is_forged_opening w states j bytes opened
 forged_either w seats states t j bytes unmade (Err fault) seats_stand stand below found e = refl
 forged_either w seats states t j bytes unmade (Ok o) seats_stand stand below found e =
     let was = what_opened (w.keys j) bytes o e in
@@ -120,7 +122,7 @@ forged_either w seats states t j bytes unmade (Ok o) seats_stand stand below fou
 
 at_correct : (w : Setting) (seats : Seats) (states : ℕ → CoreState) (t : MadeTable) (j : ℕ) (bytes : List ℕ) (unmade b : Bool) →
     SeatsStand w seats → FramesStand w states t → (w.is_correct j ≡ true → j < w.numbers.n) → IsFound seats.correct t j bytes unmade → w.is_correct j ≡ b
-    → (is_opened (seen_call w states (if b then Some (record { at = j; call = Frame bytes }) else None)) && unmade)
+    → (is_seen_opened (seen_call w states (if b then Some (record { at = j; call = Frame bytes }) else None)) && unmade)
     ≡ is_forged_frame w states (if b then Some (record { at = j; call = Frame bytes }) else None)
 at_correct w seats states t j bytes unmade true seats_stand stand within found e =
     forged_either w seats states t j bytes unmade (opening (w.keys j) bytes) seats_stand stand (within e) found refl
@@ -129,6 +131,6 @@ at_correct w seats states t j bytes unmade false seats_stand stand within found 
 -- a frame that came forges where it opened, and the table hasn't it
 pub forged_is : (w : Setting) (seats : Seats) (states : ℕ → CoreState) (t : MadeTable) (j : ℕ) (bytes : List ℕ) (unmade : Bool) (seen : Seen) →
     SeatsStand w seats → FramesStand w states t → (w.is_correct j ≡ true → j < w.numbers.n) → IsFound seats.correct t j bytes unmade
-    → seen ≡ seen_call w states (call_at w j (Frame bytes)) → (is_opened seen && unmade) ≡ is_forged_frame w states (call_at w j (Frame bytes))
+    → seen ≡ seen_call w states (call_at w j (Frame bytes)) → (is_seen_opened seen && unmade) ≡ is_forged_frame w states (call_at w j (Frame bytes))
 forged_is w seats states t j bytes unmade seen seats_stand stand within found saw =
-    ap (λ x. is_opened x && unmade) saw ∙ at_correct w seats states t j bytes unmade (w.is_correct j) seats_stand stand within found refl
+    ap (λ x. is_seen_opened x && unmade) saw ∙ at_correct w seats states t j bytes unmade (w.is_correct j) seats_stand stand within found refl

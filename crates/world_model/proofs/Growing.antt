@@ -66,13 +66,13 @@ called_other w states (Some c) i correct faulty = here (c.at == i) refl
     here true same = absurd (both_ways (w.is_correct i) faulty (subst (λ (k : ℕ). w.is_correct k ≡ true) (eqb-true c.at i same) correct))
     here false other = refl
 
-rows_grew : (r : Rules) → IsFounded r → (h now : List Entry) → IsHistory r h → IsHistory r now → Grew h now → IsPart (replica.rows_at r h) (replica.rows_at r now)
+rows_grew : (r : Rules) → IsFounded r → (h now : List Entry) → IsHistory r h → IsHistory r now → Grew h now → IsPart (replica.history_rows r h) (replica.history_rows r now)
 rows_grew r laws h now met later (inl same) =
-    subst (λ (x : List Entry). IsPart (replica.rows_at r h) (replica.rows_at r x)) (sym same) (part_itself (replica.rows_at r h))
+    subst (λ (x : List Entry). IsPart (replica.history_rows r h) (replica.history_rows r x)) (sym same) (part_itself (replica.history_rows r h))
 rows_grew r laws h now met later (inr more) =
     let proper = laws.core.proper r laws.layers h met in
     let after = laws.core.proper r laws.layers (more.0 ∷ h) (subst (λ (x : List Entry). IsHistory r x) more.1 later) in
-    subst (λ (x : List Entry). IsPart (replica.rows_at r h) (replica.rows_at r x)) (sym more.1) (rows_grow r laws.layers more.0 h proper after)
+    subst (λ (x : List Entry). IsPart (replica.history_rows r h) (replica.history_rows r x)) (sym more.1) (rows_grow r laws.layers more.0 h proper after)
 
 -- ---- logs
 
@@ -89,7 +89,7 @@ module _ (w : Setting) (founds : IsLaid w) (within : (i : ℕ) → w.is_correct 
           (called_grew w (states_before w es) (call_of w (states_before w es) e) i)
       here false faulty =
           let same : history_of w (e ∷ es) i ≡ history_of w es i = called_other w (states_before w es) (call_of w (states_before w es) e) i (event_at w (states_before w es) e) faulty in
-          subst (λ (h : List Entry). IsPart (rows_at w es i) (replica.rows_at (rules_at w i) h)) (sym same) (part_itself (rows_at w es i))
+          subst (λ (h : List Entry). IsPart (rows_at w es i) (replica.history_rows (rules_at w i) h)) (sym same) (part_itself (rows_at w es i))
 
   rows_later : (more es : List Event) (i : ℕ) → IsPart (rows_at w es i) (rows_at w (more ++ es) i)
   rows_later [] es i = part_itself (rows_at w es i)

@@ -15,17 +15,17 @@ use Rattle.ritas_core.specs.Stands.{Meaning}
 use Rattle.replica.specs.declared.frame.OutFrame.{OutFrame}
 use Rattle.replica.specs.declared.replica.Replica.{Replica}
 use Rattle.replica.specs.Frames.{made_for}
-use Rattle.replica.specs.Handling.{Call, Frame, Input, Turn}
+use Rattle.replica.specs.Handling.{ReplicaCall, Frame, Input, Turn}
 use Rattle.world_model.specs.declared.happened.Happened.{Happened}
 use Rattle.world_model.specs.declared.seats.Seats.{Seats}
 use Rattle.world_model.specs.declared.seen.Seen.TheVariants as seen_as
-use Rattle.world_model.specs.World.{Setting, rules_at, CallAt, call_at, frame_at, passed, call_of}
+use Rattle.world_model.specs.World.{Setting, rules_at, CallAt, call_at, frame_call, frame_passed, call_of}
 use Rattle.world_model.specs.Audit.{is_forged_call}
 use Rattle.world_model.specs.Watch.{IsAt, is_forged_frame}
 use Rattle.world_model.specs.FramesMade.{MadeTable, made_in}
 use Rattle.world_model.specs.Stands.{SeatsStand, ReplicasStand, FramesStand, frames_from}
 use Rattle.ritas_base.specs.Events.{MayHappen}
-use Rattle.world_model.specs.Steps.{Calls, frames_out, is_took, IsFront, IsFrameItem, Happens, CallHappens, EventHappens, is_opened}
+use Rattle.world_model.specs.Steps.{CallAnswered, frames_out, is_took, IsInboxFront, IsFrameItem, CallHappened, CallHappens, EventHappens, is_seen_opened}
 use Rattle.keyed_channel.specs.Frames.{sealed}
 use Rattle.world_model.proofs.AtPlaces.{faulty_call}
 use Rattle.world_model.proofs.Forging.{IsFound, forged_is}
@@ -33,16 +33,16 @@ use Rattle.world_model.proofs.Members.{got_listed}
 use Rattle.world_model.proofs.Needs.{event_needs}
 use Rattle.world_model.proofs.Takings.{IsItemOf, frame_item_is, input_item_is, turn_item_is}
 
-at_either : (w : Setting) (at : ℕ) (call : Call) (b : Bool) → w.is_correct at ≡ b → IsAt w (if b then Some (record { at = at; call = call }) else None) at
+at_either : (w : Setting) (at : ℕ) (call : ReplicaCall) (b : Bool) → w.is_correct at ≡ b → IsAt w (if b then Some (record { at = at; call = call }) else None) at
 at_either w at call true e = (refl, e)
 at_either w at call false e = tt
 
-pub at_call : (w : Setting) (at : ℕ) (call : Call) → IsAt w (call_at w at call) at
+pub at_call : (w : Setting) (at : ℕ) (call : ReplicaCall) → IsAt w (call_at w at call) at
 at_call w at call = at_either w at call (w.is_correct at) refl
 
-happens : {S E C : Type 0} (m : Meaning S E C KeyRow) (w : Setting) (states : ℕ → CoreState) (at : ℕ) (call : Call) (places : List (Option (Replica S E C))) (happened : Happened) (before : List OutFrame) →
-    before ≡ [] → Calls m w states (call_at w at call) places before happened.out.items happened.seen → happened.at ≡ at → happened.forged ≡ is_forged_frame w states (call_at w at call)
-    → IsItemOf w states (call_at w at call) happened.taken → Happens m w states (call_at w at call) places happened
+happens : {S E C : Type 0} (m : Meaning S E C KeyRow) (w : Setting) (states : ℕ → CoreState) (at : ℕ) (call : ReplicaCall) (places : List (Option (Replica S E C))) (happened : Happened) (before : List OutFrame) →
+    before ≡ [] → CallAnswered m w states (call_at w at call) places before happened.out.items happened.seen → happened.at ≡ at → happened.forged ≡ is_forged_frame w states (call_at w at call)
+    → IsItemOf w states (call_at w at call) happened.taken → CallHappened m w states (call_at w at call) places happened
 happens m w states at call places happened before none calls e forged taken = record {
   told = record { place = subst (IsAt w (call_at w at call)) (sym e) (at_call w at call); frame = forged; item = taken.is; good = taken.good };
   seen = calls.seen;
@@ -52,9 +52,9 @@ happens m w states at call places happened before none calls e forged taken = re
 
 -- a frame
 pub frame_happens : {S E C : Type 0} → AnswersGood → (m : Meaning S E C KeyRow) (w : Setting) (seats : Seats) (states : ℕ → CoreState) (t : MadeTable) (at : ℕ) (bytes : List ℕ) (old places : List (Option (Replica S E C))) (happened : Happened) (before : List OutFrame) (unmade : Bool) →
-    SeatsStand w seats → FramesStand w states t → ReplicasStand m w states old → before ≡ [] → Calls m w states (call_at w at (Frame bytes)) places before happened.out.items happened.seen
-    → happened.at ≡ at → IsFound seats.correct t at bytes unmade → happened.forged ≡ (is_opened happened.seen && unmade)
-    → IsFrameItem seats.params seats.mode happened.seen bytes happened.taken → Happens m w states (call_at w at (Frame bytes)) places happened
+    SeatsStand w seats → FramesStand w states t → ReplicasStand m w states old → before ≡ [] → CallAnswered m w states (call_at w at (Frame bytes)) places before happened.out.items happened.seen
+    → happened.at ≡ at → IsFound seats.correct t at bytes unmade → happened.forged ≡ (is_seen_opened happened.seen && unmade)
+    → IsFrameItem seats.params seats.mode happened.seen bytes happened.taken → CallHappened m w states (call_at w at (Frame bytes)) places happened
 frame_happens good m w seats states t at bytes old places happened before unmade seats_stand stand replicas none calls e found forged item =
     happens m w states at (Frame bytes) places happened before none calls e
     (forged ∙ forged_is w seats states t at bytes unmade happened.seen seats_stand stand (replicas.within at) found calls.seen)
@@ -67,9 +67,9 @@ fair_frame w states at bytes true fair = fair
 fair_frame w states at bytes false fair = refl
 
 pub opened_happens : {S E C : Type 0} → AnswersGood → (m : Meaning S E C KeyRow) (w : Setting) (seats : Seats) (states : ℕ → CoreState) (at : ℕ) (bytes : List ℕ) (places : List (Option (Replica S E C))) (happened : Happened) (before : List OutFrame) →
-    SeatsStand w seats → before ≡ [] → Calls m w states (call_at w at (Frame bytes)) places before happened.out.items happened.seen
+    SeatsStand w seats → before ≡ [] → CallAnswered m w states (call_at w at (Frame bytes)) places before happened.out.items happened.seen
     → happened.at ≡ at → happened.forged ≡ false → is_forged_call w states at (Frame bytes) ≡ false
-    → IsFrameItem seats.params seats.mode happened.seen bytes happened.taken → Happens m w states (call_at w at (Frame bytes)) places happened
+    → IsFrameItem seats.params seats.mode happened.seen bytes happened.taken → CallHappened m w states (call_at w at (Frame bytes)) places happened
 opened_happens good m w seats states at bytes places happened before seats_stand none calls e forged fair item =
     happens m w states at (Frame bytes) places happened before none calls e
     (forged ∙ sym (fair_frame w states at bytes (w.is_correct at) fair))
@@ -85,14 +85,14 @@ turn_forges w states at true = refl
 turn_forges w states at false = refl
 
 pub input_happens : {S E C : Type 0} (m : Meaning S E C KeyRow) (w : Setting) (states : ℕ → CoreState) (at : ℕ) (bytes : List ℕ) (places : List (Option (Replica S E C))) (happened : Happened) (before : List OutFrame) →
-    before ≡ [] → Calls m w states (call_at w at (Input bytes)) places before happened.out.items happened.seen → happened.at ≡ at → happened.forged ≡ false → happened.taken ≡ None
-    → Happens m w states (call_at w at (Input bytes)) places happened
+    before ≡ [] → CallAnswered m w states (call_at w at (Input bytes)) places before happened.out.items happened.seen → happened.at ≡ at → happened.forged ≡ false → happened.taken ≡ None
+    → CallHappened m w states (call_at w at (Input bytes)) places happened
 input_happens m w states at bytes places happened before none calls e forged taken =
     happens m w states at (Input bytes) places happened before none calls e (forged ∙ input_forges w states at bytes (w.is_correct at)) (input_item_is w states at bytes happened.taken taken)
 
 pub turn_happens : {S E C : Type 0} (m : Meaning S E C KeyRow) (w : Setting) (states : ℕ → CoreState) (at : ℕ) (places : List (Option (Replica S E C))) (happened : Happened) (before : List OutFrame) (front : Option Item) →
-    before ≡ [] → Calls m w states (call_at w at Turn) places before happened.out.items happened.seen → happened.at ≡ at → happened.forged ≡ false
-    → (w.is_correct at ≡ true → IsFront w states at front) → happened.taken ≡ (if is_took happened.seen then front else None) → Happens m w states (call_at w at Turn) places happened
+    before ≡ [] → CallAnswered m w states (call_at w at Turn) places before happened.out.items happened.seen → happened.at ≡ at → happened.forged ≡ false
+    → (w.is_correct at ≡ true → IsInboxFront w states at front) → happened.taken ≡ (if is_took happened.seen then front else None) → CallHappened m w states (call_at w at Turn) places happened
 turn_happens m w states at places happened before front none calls e forged first taken =
     happens m w states at Turn places happened before none calls e (forged ∙ turn_forges w states at (w.is_correct at)) (turn_item_is w states at happened.taken front happened.seen first taken calls.seen)
 
@@ -103,7 +103,7 @@ from_either true made k = refl
 from_either false made k = refl
 
 passed_is : (w : Setting) (states : ℕ → CoreState) (t : MadeTable) (from to k : ℕ) → FramesStand w states t → from < w.numbers.n → to < w.numbers.n → from ≢ to
-    → slice_get (made_in t from to) k ≡ passed w states from to k
+    → slice_get (made_in t from to) k ≡ frame_passed w states from to k
 passed_is w states t from to k stand from_below to_below other =
     let made = made_for (rules_at w from) (w.keys from) (states from).history to in
     ap (λ xs. slice_get xs k) (stand.each from to from_below to_below)
@@ -113,11 +113,11 @@ passed_is w states t from to k stand from_below to_below other =
 -- the one of this number is the frame
 pub frame_passes_is : {S E C : Type 0} (m : Meaning S E C KeyRow) (w : Setting) (states : ℕ → CoreState) (t : MadeTable) (from to k : ℕ) (list : List (List ℕ)) (frame bytes : List ℕ) (places : List (Option (Replica S E C))) (result : Result Happened Mem) →
     FramesStand w states t → from < w.numbers.n → to < w.numbers.n → from ≢ to → list ≡ made_in t from to → k < length list → frame ≡ slice_index_or list k frame → bytes ≡ frame
-    → CallHappens m w states (call_at w to (Frame bytes)) places result → CallHappens m w states (frame_at w to (passed w states from to k)) places result
+    → CallHappens m w states (call_at w to (Frame bytes)) places result → CallHappens m w states (frame_call w to (frame_passed w states from to k)) places result
 frame_passes_is m w states t from to k list frame bytes places result stand from_below to_below other is within read same does =
-    let there : Some bytes ≡ passed w states from to k =
+    let there : Some bytes ≡ frame_passed w states from to k =
     ap (λ x. Some x) (same ∙ read) ∙ sym (slice_get-get_or list k frame within) ∙ ap (λ xs. slice_get xs k) is ∙ passed_is w states t from to k stand from_below to_below other in
-    let P : Option (List ℕ) → Type 0 = λ x. CallHappens m w states (frame_at w to x) places result in
+    let P : Option (List ℕ) → Type 0 = λ x. CallHappens m w states (frame_call w to x) places result in
     subst P there does
 
 -- it is among those that the sender made
@@ -132,19 +132,19 @@ frame_listed w states t from to k list frame bytes stand from_below to_below is 
 -- nothing happens
 nothing_happens : {S E C : Type 0} (m : Meaning S E C KeyRow) (w : Setting) (states : ℕ → CoreState) (places : List (Option (Replica S E C))) (happened : Happened) (c : Option CallAt) →
     ReplicasStand m w states places → happened.seen ≡ seen_as.Missed → happened.forged ≡ false → happened.taken ≡ None → happened.out.items ≡ [] → c ≡ None
-    → Happens m w states c places happened
+    → CallHappened m w states c places happened
 nothing_happens m w states places happened c replicas seen forged taken out none =
-    let P : Option CallAt → Type 0 = λ x. Happens m w states x places happened in
+    let P : Option CallAt → Type 0 = λ x. CallHappened m w states x places happened in
     subst P (sym none) (record { told = record { place = tt; frame = forged; item = taken; good = tt }; seen = seen; out = out; replicas = replicas })
 
 pub none_passes : {S E C : Type 0} (m : Meaning S E C KeyRow) (w : Setting) (states : ℕ → CoreState) (t : MadeTable) (from to k : ℕ) (list : List (List ℕ)) (places : List (Option (Replica S E C))) (happened : Happened) →
     ReplicasStand m w states places → FramesStand w states t → from < w.numbers.n → to < w.numbers.n → from ≢ to → list ≡ made_in t from to → length list ≤ k
     → happened.seen ≡ seen_as.Missed → happened.forged ≡ false → happened.taken ≡ None → happened.out.items ≡ []
-    → Happens m w states (frame_at w to (passed w states from to k)) places happened
+    → CallHappened m w states (frame_call w to (frame_passed w states from to k)) places happened
 none_passes m w states t from to k list places happened replicas stand from_below to_below other is past seen forged taken out =
-    let none : passed w states from to k ≡ None =
+    let none : frame_passed w states from to k ≡ None =
     sym (passed_is w states t from to k stand from_below to_below other) ∙ ap (λ xs. slice_get xs k) (sym is) ∙ slice_get_past list k past in
-    nothing_happens m w states places happened (frame_at w to (passed w states from to k)) replicas seen forged taken out (ap (frame_at w to) none)
+    nothing_happens m w states places happened (frame_call w to (frame_passed w states from to k)) replicas seen forged taken out (ap (frame_call w to) none)
 
 -- ---- a frame that is sealed
 
@@ -169,7 +169,7 @@ sealed_happens m w states from to body frame places result same does =
 -- nothing is sealed for a faulty receiver
 pub none_sealed : {S E C : Type 0} (m : Meaning S E C KeyRow) (w : Setting) (states : ℕ → CoreState) (from to : ℕ) (body : List ℕ) (places : List (Option (Replica S E C))) (happened : Happened) →
     ReplicasStand m w states places → w.is_correct to ≡ false → happened.seen ≡ seen_as.Missed → happened.forged ≡ false → happened.taken ≡ None → happened.out.items ≡ []
-    → Happens m w states (call_of w states (events.Sealed from to body)) places happened
+    → CallHappened m w states (call_of w states (events.Sealed from to body)) places happened
 none_sealed m w states from to body places happened replicas faulty seen forged taken out =
     nothing_happens m w states places happened (call_of w states (events.Sealed from to body)) replicas seen forged taken out
     (faulty_call w to (Frame (sealed (w.keys from) to 0 body)) faulty)

@@ -23,7 +23,7 @@ use Rattle.world_model.specs.declared.met.SlotAt.{SlotAt}
 use Rattle.world_model.specs.declared.hashed.HashedEntry.{HashedEntry}
 use Rattle.world_model.specs.declared.hashed.Hashed.{Hashed}
 use Rattle.world_model.specs.Met.{MetEntries}
-use Rattle.world_model.specs.Hashed.{at_cmp, met_at, is_same_at, image_cmp, input_of, input_in, digest_at, has_digest, input_at, HashedStand, IsDigestOf, Clash, Adds}
+use Rattle.world_model.specs.Hashed.{at_cmp, entries_met_at, is_same_at, image_cmp, input_of, input_in, digest_at, has_digest, entry_input_at, HashedStand, IsDigestOf, Clash, Adds}
 use Rattle.world_model.specs.Audit.{is_same_input, clashes, collide}
 use Rattle.world_model.proofs.Prints.{same_input}
 use Rattle.world_model.proofs.Anywhere.{all_fail, any_of}
@@ -64,28 +64,28 @@ none_then None d h = refl
 none_then (Some x) d h = absurd (cc)
 
 -- where there is one, it stays
-kept_at : (m : BTreeMap SlotAt MetEntries) (s : Slot) (i : ℕ) (d : MetEntries) (q : Slot) (j : ℕ) (b : Bool) → is_some (met_at m s i) ≡ true → is_same_at s i q j ≡ b →
-    met_at m q j ≡ (if b then option_or (met_at m q j) (Some d) else met_at m q j)
+kept_at : (m : BTreeMap SlotAt MetEntries) (s : Slot) (i : ℕ) (d : MetEntries) (q : Slot) (j : ℕ) (b : Bool) → is_some (entries_met_at m s i) ≡ true → is_same_at s i q j ≡ b →
+    entries_met_at m q j ≡ (if b then option_or (entries_met_at m q j) (Some d) else entries_met_at m q j)
 kept_at m s i d q j true there here =
     let same = same_at s i q j here in
-    some_stays (met_at m q j) d (ap₂ (λ (x : Slot) (y : ℕ). is_some (met_at m x y)) (sym same.0) (sym same.1) ∙ there)
+    some_stays (entries_met_at m q j) d (ap₂ (λ (x : Slot) (y : ℕ). is_some (entries_met_at m x y)) (sym same.0) (sym same.1) ∙ there)
 kept_at m s i d q j false there here = refl
 
-pub met_kept : (m : BTreeMap SlotAt MetEntries) (s : Slot) (i : ℕ) (d : MetEntries) → is_some (met_at m s i) ≡ true → (q : Slot) (j : ℕ) →
-    met_at m q j ≡ (if is_same_at s i q j then option_or (met_at m q j) (Some d) else met_at m q j)
+pub met_kept : (m : BTreeMap SlotAt MetEntries) (s : Slot) (i : ℕ) (d : MetEntries) → is_some (entries_met_at m s i) ≡ true → (q : Slot) (j : ℕ) →
+    entries_met_at m q j ≡ (if is_same_at s i q j then option_or (entries_met_at m q j) (Some d) else entries_met_at m q j)
 met_kept m s i d there q j = kept_at m s i d q j (is_same_at s i q j) there refl
 
 -- where there is none, there is this one
-put_at : (m n : BTreeMap SlotAt MetEntries) (s : Slot) (i : ℕ) (d : MetEntries) (q : Slot) (j : ℕ) (b : Bool) → is_some (met_at m s i) ≡ false → is_same_at s i q j ≡ b →
-    met_at n q j ≡ cond b (Some d) (met_at m q j) → met_at n q j ≡ (if b then option_or (met_at m q j) (Some d) else met_at m q j)
+put_at : (m n : BTreeMap SlotAt MetEntries) (s : Slot) (i : ℕ) (d : MetEntries) (q : Slot) (j : ℕ) (b : Bool) → is_some (entries_met_at m s i) ≡ false → is_same_at s i q j ≡ b →
+    entries_met_at n q j ≡ cond b (Some d) (entries_met_at m q j) → entries_met_at n q j ≡ (if b then option_or (entries_met_at m q j) (Some d) else entries_met_at m q j)
 put_at m n s i d q j true none here put =
     let same = same_at s i q j here in
-    put ∙ none_then (met_at m q j) d (ap₂ (λ (x : Slot) (y : ℕ). is_some (met_at m x y)) (sym same.0) (sym same.1) ∙ none)
+    put ∙ none_then (entries_met_at m q j) d (ap₂ (λ (x : Slot) (y : ℕ). is_some (entries_met_at m x y)) (sym same.0) (sym same.1) ∙ none)
 put_at m n s i d q j false none here put = put
 
-pub met_put : (m n : BTreeMap SlotAt MetEntries) (s : Slot) (i : ℕ) (d : MetEntries) → is_some (met_at m s i) ≡ false →
+pub met_put : (m n : BTreeMap SlotAt MetEntries) (s : Slot) (i : ℕ) (d : MetEntries) → is_some (entries_met_at m s i) ≡ false →
     ((x : SlotAt) → get at_cmp n x ≡ cond (is_at (at_cmp (record { slot = s; replica = i })) x) (Some d) (get at_cmp m x)) → (q : Slot) (j : ℕ) →
-    met_at n q j ≡ (if is_same_at s i q j then option_or (met_at m q j) (Some d) else met_at m q j)
+    entries_met_at n q j ≡ (if is_same_at s i q j then option_or (entries_met_at m q j) (Some d) else entries_met_at m q j)
 met_put m n s i d none put q j = put_at m n s i d q j (is_same_at s i q j) none refl (put (record { slot = q; replica = j }))
 
 -- ---- a print more
@@ -125,7 +125,7 @@ apart_entries : (h : Hashed) (prints : List Print) → HashedStand h prints → 
     (b && not (is_same_input x y)) ≡ false
 apart_entries h prints stand x y d e one other true same =
     let image = same_bytes d e same in
-    let alike = one_input x y (input_at h e) (ap (input_at h) (sym image) ∙ stand.entries x d one) (stand.entries y e other) in
+    let alike = one_input x y (entry_input_at h e) (ap (entry_input_at h) (sym image) ∙ stand.entries x d one) (stand.entries y e other) in
     ap not (ap (is_same_input x) (sym alike) ∙ input_itself x)
 apart_entries h prints stand x y d e one other false same = refl
 
@@ -295,7 +295,7 @@ module _ (h n : Hashed) (k : KeyRow) (m d : List ℕ) (none : digest_at h m ≡ 
     message_put = (digest, message_stands)
 
 -- an entry that is there
-entry_again : (h : Hashed) (prints : List Print) → HashedStand h prints → (x : EntryInput) (d : List ℕ) → input_at h d ≡ Some x → HashedStand h (OfEntry x d ∷ prints)
+entry_again : (h : Hashed) (prints : List Print) → HashedStand h prints → (x : EntryInput) (d : List ℕ) → entry_input_at h d ≡ Some x → HashedStand h (OfEntry x d ∷ prints)
 entry_again h prints stand x d found = record {
   messages = λ v e here. elim here [
     | inl same ↦ absurd (cc)
@@ -310,7 +310,7 @@ entry_again h prints stand x d found = record {
     | inl same ↦
         let value : x ≡ y = cc in
         let image : d ≡ e = cc in
-        ap (input_at h) (sym image) ∙ found ∙ ap (λ (z : EntryInput). Some z) value
+        ap (entry_input_at h) (sym image) ∙ found ∙ ap (λ (z : EntryInput). Some z) value
     | inr there ↦ stand.entries y e there
   ];
   no_other_entry = λ y e is. inr (stand.no_other_entry y e is);
@@ -320,7 +320,7 @@ apart_inputs : (x y : EntryInput) (b : Bool) → is_same_input x y ≡ b → (x 
 apart_inputs x y true same apart = absurd (apart (same_input x y same))
 apart_inputs x y false same apart = same
 
-entry_either : (h : Hashed) (prints : List Print) (x : EntryInput) (d : List ℕ) (other : EntryInput) (clash : Bool) → input_at h d ≡ Some other →
+entry_either : (h : Hashed) (prints : List Print) (x : EntryInput) (d : List ℕ) (other : EntryInput) (clash : Bool) → entry_input_at h d ≡ Some other →
     (clash ≡ false → other ≡ x) → (clash ≡ true → other ≡ x → ⊥) → HashedStand h prints → Adds h (OfEntry x d) prints clash
 entry_either h prints x d other false found same apart stand = entry_again h prints stand x d (found ∙ ap (λ (z : EntryInput). Some z) (same refl))
 entry_either h prints x d other true found same apart stand = record {
@@ -345,19 +345,19 @@ input_cond : (b : Bool) (x : HashedEntry) (o : Option HashedEntry) → input_in 
 input_cond true x o = refl
 input_cond false x o = refl
 
-module _ (h n : Hashed) (x : EntryInput) (d : List ℕ) (none : input_at h d ≡ None) (same : (v : List ℕ) → digest_at n v ≡ digest_at h v)
+module _ (h n : Hashed) (x : EntryInput) (d : List ℕ) (none : entry_input_at h d ≡ None) (same : (v : List ℕ) → digest_at n v ≡ digest_at h v)
     (same_digests : (e : List ℕ) → has_digest n e ≡ has_digest h e)
-    (put : (e : List ℕ) → input_at n e ≡ cond (is_at (image_cmp d) e) (Some x) (input_at h e)) where
-  entry_kept : (y : EntryInput) (e : List ℕ) (b : Bool) → is_at (image_cmp d) e ≡ b → input_at n e ≡ cond b (Some x) (input_at h e) → input_at h e ≡ Some y → input_at n e ≡ Some y
+    (put : (e : List ℕ) → entry_input_at n e ≡ cond (is_at (image_cmp d) e) (Some x) (entry_input_at h e)) where
+  entry_kept : (y : EntryInput) (e : List ℕ) (b : Bool) → is_at (image_cmp d) e ≡ b → entry_input_at n e ≡ cond b (Some x) (entry_input_at h e) → entry_input_at h e ≡ Some y → entry_input_at n e ≡ Some y
   entry_kept y e true here now there =
       let image = one_image d e here in
-      let missing : None ≡ Some y = sym none ∙ (ap (input_at h) image ∙ there) in
+      let missing : None ≡ Some y = sym none ∙ (ap (entry_input_at h) image ∙ there) in
       absurd (cc)
   entry_kept y e false here now there = now ∙ there
 
-  entry_new : (prints : List Print) → HashedStand h prints → (y : EntryInput) (e : List ℕ) (b : Bool) → is_at (image_cmp d) e ≡ b → input_at n e ≡ cond b (Some x) (input_at h e) → input_at n e ≡ Some y →
+  entry_new : (prints : List Print) → HashedStand h prints → (y : EntryInput) (e : List ℕ) (b : Bool) → is_at (image_cmp d) e ≡ b → entry_input_at n e ≡ cond b (Some x) (entry_input_at h e) → entry_input_at n e ≡ Some y →
       Has (OfEntry x d ∷ prints) (OfEntry y e)
-  entry_new prints stand y e true here now is = inl (ap₂ (λ (z : EntryInput) (i : List ℕ). OfEntry z i) (one_input x y (input_at n e) now is) (one_image d e here))
+  entry_new prints stand y e true here now is = inl (ap₂ (λ (z : EntryInput) (i : List ℕ). OfEntry z i) (one_input x y (entry_input_at n e) now is) (one_image d e here))
   entry_new prints stand y e false here now is = inr (stand.no_other_entry y e (sym now ∙ is))
 
   pub entry_put : (prints : List Print) → HashedStand h prints → HashedStand n (OfEntry x d ∷ prints)
@@ -375,7 +375,7 @@ module _ (h n : Hashed) (x : EntryInput) (d : List ℕ) (none : input_at h d ≡
       | inl one ↦
           let value : x ≡ y = cc in
           let image : d ≡ e = cc in
-          ap (input_at n) (sym image) ∙ put d ∙ ap (λ b. cond b (Some x) (input_at h d)) (image_itself d) ∙ ap (λ (z : EntryInput). Some z) value
+          ap (entry_input_at n) (sym image) ∙ put d ∙ ap (λ b. cond b (Some x) (entry_input_at h d)) (image_itself d) ∙ ap (λ (z : EntryInput). Some z) value
       | inr there ↦ entry_kept y e (is_at (image_cmp d) e) refl (put e) (stand.entries y e there)
     ];
     no_other_entry = λ y e is. entry_new prints stand y e (is_at (image_cmp d) e) refl (put e) is;

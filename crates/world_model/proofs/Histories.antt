@@ -10,9 +10,9 @@ use Rattle.keyed_channel.specs.Frames.{Opening, opening}
 use Rattle.ritas_core.specs.Rules.{Rules}
 use Rattle.ritas_core.specs.Parts.{Entry, Took, Given}
 use Rattle.ritas_core.specs.Machine as core
-use Rattle.ritas_core.specs.Machine.{CoreState, What, stays, gives, given_input, turned, moved_live, moved}
+use Rattle.ritas_core.specs.Machine.{CoreState, What, stays, gives_item, given_input, turned, moved_live, moved}
 use Rattle.replica.specs.MovesLaws.{moved_view}
-use Rattle.replica.specs.Handling.{Call, Frame, Input, Turn, given_body, given_frame, handled}
+use Rattle.replica.specs.Handling.{ReplicaCall, Frame, Input, Turn, given_body, given_frame, handled}
 use Rattle.world_model.specs.Audit.{newest_item}
 
 -- the history is the same, or has one entry more
@@ -30,7 +30,7 @@ grew_frame : (r : Rules) (k : KeyRow) (st : CoreState) (opened : Result Opening 
 grew_frame r k st (Ok o) = grew_body r k st (body_answer r.casts.numbers r.mode o.from o.body)
 grew_frame r k st (Err fault) = inl refl
 
-pub grew : (r : Rules) (k : KeyRow) (st : CoreState) (call : Call) → Grew st.history (handled r k st call).state.history
+pub grew : (r : Rules) (k : KeyRow) (st : CoreState) (call : ReplicaCall) → Grew st.history (handled r k st call).state.history
 grew r k st (Frame bytes) = grew_frame r k st (opening k bytes)
 grew r k st (Input v) = grew_moved r st (core.Input v)
 grew r k st Turn = grew_moved r st core.Turn

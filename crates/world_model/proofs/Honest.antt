@@ -9,13 +9,13 @@ use Rattle.ritas_base.specs.HistoryLaws.{first_stays}
 use Rattle.ritas_base.specs.SlotOrder.{is_slot}
 use Rattle.ritas_base.specs.Messages.{Place, item_of}
 use Rattle.frame_codec.specs.Body.{IsInGrammar}
-use Rattle.frame_codec.specs.Values.{row_of}
+use Rattle.frame_codec.specs.Values.{column_row}
 use Rattle.layer_api.specs.Entries.{given, entries_for, entry_in, sent}
 use Rattle.layer_api.specs.HasLaws.{has_listed}
 use Rattle.layer_api.specs.OneValue.{AreGoodCalls, IsOfSlot}
 use Rattle.layer_api.specs.Runs.{Has}
 use Rattle.keyed_channel.specs.Keyed.{tags_of}
-use Rattle.ritas_core.specs.Rules.{Rules, due_at}
+use Rattle.ritas_core.specs.Rules.{Rules, due_at_slot}
 use Rattle.ritas_core.specs.Parts.{Entry, Took, Given, parts}
 use Rattle.ritas_core.specs.Checks.{IsHistory}
 use Rattle.ritas_core.specs.Laws.{is_due}
@@ -36,7 +36,7 @@ pub record IsHonest (w : Setting) (hist : ℕ → List Entry) (x : Item) : Type 
   pub grammar : IsInGrammar w.numbers w.mode x
   pub sender : x.from < w.numbers.n
   pub hashes : x.kind ≡ Hashes → w.is_correct x.from ≡ true → (k : ℕ) → k < w.numbers.n → Has (given_in w x.from (hist x.from) x.slot) (entry_in k x.value)
-  pub column : x.kind ≡ Column → (echoer : ℕ) (entry : List ℕ) → w.is_correct echoer ≡ true → row_of x.value echoer ≡ Some entry
+  pub column : x.kind ≡ Column → (echoer : ℕ) (entry : List ℕ) → w.is_correct echoer ≡ true → column_row x.value echoer ≡ Some entry
       → Has (given_in w echoer (hist echoer) x.slot) entry
 
 -- what was given stays given
@@ -79,7 +79,7 @@ pub due_honest : (w : Setting) → IsFair w → (i : ℕ) → IsFounded (rules_a
 due_honest w fair i laws hist h met took own m due grammar =
     let r = rules_at w i in
     let calls = (parts r h).calls m.slot in
-    let listed : Has (due_at r.casts m.slot calls) m = has_listed (due_at r.casts m.slot calls) m due in
+    let listed : Has (due_at_slot r.casts m.slot calls) m = has_listed (due_at_slot r.casts m.slot calls) m due in
     let good : AreGoodCalls w.numbers w.mode m.slot calls = laws.core.calls r laws.layers h met m.slot in
     let of_slot : IsOfSlot (w.at_slot m.slot) w.numbers w.mode m.slot =
     record { session = laws.layers.session; slot = grammar.slot; form = laws.layers.kinds.forms m.slot grammar.slot } in

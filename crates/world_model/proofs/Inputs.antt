@@ -15,7 +15,7 @@ use Rattle.ritas_core.specs.Rules.{Rules, seat_of}
 use Rattle.ritas_core.specs.Casts.{called, started_all}
 use Rattle.ritas_core.specs.Parts.{Parts, Entry, Took, Given, parts, heard_at, taken_at, item_delivers}
 use Rattle.ritas_core.specs.Checks.{IsHistory}
-use Rattle.world_model.specs.OneValueEach.{inputs_of, input_at}
+use Rattle.world_model.specs.OneValueEach.{count_inputs, input_at}
 use Rattle.world_model.proofs.Below.{IsFounded}
 
 -- ---- the value that was started
@@ -63,7 +63,7 @@ asked_heard : (r : Rules) (s : Slot) (d : Option (List ℕ)) (p : Parts) → ask
 asked_heard r s None p = refl
 asked_heard r s (Some v) p = refl
 
-asked_inputs : (r : Rules) (h : List Entry) → asked (parts r h).words ≡ inputs_of h
+asked_inputs : (r : Rules) (h : List Entry) → asked (parts r h).words ≡ count_inputs h
 asked_inputs r [] = refl
 asked_inputs r (Took item ∷ h) =
     let p = parts r h in
@@ -75,24 +75,24 @@ number_below : (last num : ℕ) (u v : List ℕ) (older : Option (List ℕ)) (b 
 number_below last num u v older true here e before = let same = eqb-true last num here in omega arith
 number_below last num u v older false here e before = let less = before e in omega arith
 
-input_below : (h : List Entry) (num : ℕ) (v : List ℕ) → input_at h num ≡ Some v → num < inputs_of h
+input_below : (h : List Entry) (num : ℕ) (v : List ℕ) → input_at h num ≡ Some v → num < count_inputs h
 input_below [] num v e = absurd (cc)
 input_below (Took item ∷ h) num v e = input_below h num v e
 input_below (Given u ∷ h) num v e =
-    number_below (inputs_of h) num u v (input_at h num) (eqb (inputs_of h) num) refl e (λ older. input_below h num v older)
+    number_below (count_inputs h) num u v (input_at h num) (eqb (count_inputs h) num) refl e (λ older. input_below h num v older)
 
 -- ---- a history
 -- of an input that was said
 given_said : (r : Rules) (h : List Entry) (num : ℕ) (u v : List ℕ) →
     IsInputSaid (seat_of r) (parts r h).words (Ask u) (say_of (command_slot r.casts.me num) v) → input_at (Given u ∷ h) num ≡ Some v
 given_said r h num u v input =
-    let number : num ≡ inputs_of h = ap (λ (s : Slot). s.a) input.0 ∙ asked_inputs r h in
-    cond-true (eqb (inputs_of h) num) (Some u) (input_at h num) (eq-eqb (inputs_of h) num (sym number)) ∙ ap (λ (y : List ℕ). Some y) input.1
+    let number : num ≡ count_inputs h = ap (λ (s : Slot). s.a) input.0 ∙ asked_inputs r h in
+    cond-true (eqb (count_inputs h) num) (Some u) (input_at h num) (eq-eqb (count_inputs h) num (sym number)) ∙ ap (λ (y : List ℕ). Some y) input.1
 
 given_older : (h : List Entry) (num : ℕ) (u v : List ℕ) → input_at h num ≡ Some v → input_at (Given u ∷ h) num ≡ Some v
 given_older h num u v older =
     let less = input_below h num v older in
-    cond-false (eqb (inputs_of h) num) (Some u) (input_at h num) (ne_eqb (inputs_of h) num (λ same. absurd (omega arith))) ∙ older
+    cond-false (eqb (count_inputs h) num) (Some u) (input_at h num) (ne_eqb (count_inputs h) num (λ same. absurd (omega arith))) ∙ older
 
 -- a heard value is no input
 heard_older : (r : Rules) → IsFounded r → (h : List Entry) → IsHistory r h → (item : Item) (d : Option (List ℕ)) (num : ℕ) (v : List ℕ) →

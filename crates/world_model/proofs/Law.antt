@@ -11,7 +11,7 @@ use Rattle.layer_api.specs.Runs.{calls_of, Has, IsEnough}
 use Rattle.layer_api.specs.OneValue.{SameDigests, IsClear}
 use Rattle.ritas_base.specs.Slots.{command_slot}
 use Rattle.keyed_channel.specs.Keyed.{tags_of}
-use Rattle.ritas_core.specs.Rules.{place_at, out_at}
+use Rattle.ritas_core.specs.Rules.{place_at, out_at_slot}
 use Rattle.ritas_core.specs.Machine.{CoreState}
 use Rattle.world_model.specs.declared.audit.Audit.{Audit}
 use Rattle.world_model.specs.declared.audit.Audit.TheVariants as audits
@@ -53,24 +53,24 @@ clear_at w sound es holds none s x i j a c left right here there =
 
 -- what was delivered is what the run's calls deliver
 run_delivers : (w : Setting) (es : List Event) (s : Slot) (x : RunAt w (calls_after w (histories_of (states_of w es))) s) (i : ℕ) (v : List ℕ) →
-    w.is_correct i ≡ true → delivered w es i s ≡ Some v → out_at (rules_at w i).casts s (calls_of i x.steps) ≡ Some v
-run_delivers w es s x i v correct out = ap (out_at (rules_at w i).casts s) (x.same i correct) ∙ out
+    w.is_correct i ≡ true → delivered w es i s ≡ Some v → out_at_slot (rules_at w i).casts s (calls_of i x.steps) ≡ Some v
+run_delivers w es s x i v correct out = ap (out_at_slot (rules_at w i).casts s) (x.same i correct) ∙ out
 
 -- ---- after events
 -- what correct replicas deliver at a slot is one value, and a correct origin started it, before it delivered it itself
 pub record AgreeAt (w : Setting) (states : ℕ → CoreState) : Type 0 where
   pub agree : (s : Slot) (i j : ℕ) (v u : List ℕ) → w.is_correct i ≡ true → w.is_correct j ≡ true
-      → out_at (rules_at w i).casts s (calls_at w states i s) ≡ Some v → out_at (rules_at w j).casts s (calls_at w states j s) ≡ Some u → v ≡ u
+      → out_at_slot (rules_at w i).casts s (calls_at w states i s) ≡ Some v → out_at_slot (rules_at w j).casts s (calls_at w states j s) ≡ Some u → v ≡ u
   pub genuine : (s : Slot) (i : ℕ) (v : List ℕ) → w.is_correct i ≡ true → w.is_correct s.origin ≡ true
-      → out_at (rules_at w i).casts s (calls_at w states i s) ≡ Some v → started (calls_at w states s.origin s) ≡ Some v
+      → out_at_slot (rules_at w i).casts s (calls_at w states i s) ≡ Some v → started (calls_at w states s.origin s) ≡ Some v
   pub own : (s : Slot) (i : ℕ) (later calls : List Call) (v : List ℕ) → w.is_correct i ≡ true → i ≡ s.origin
-      → calls_at w states i s ≡ later ++ calls → out_at (rules_at w i).casts s calls ≡ Some v → started calls ≡ Some v
+      → calls_at w states i s ≡ later ++ calls → out_at_slot (rules_at w i).casts s calls ≡ Some v → started calls ≡ Some v
 
 run_own : (w : Setting) (sound : IsSoundOver w) → IsEnough w.numbers w.is_correct → (s : Slot) (i : ℕ) (calls : List Call) (v : List ℕ) → w.is_correct i ≡ true →
-    i ≡ s.origin → (x : RunTo (group_at w s) i calls) → out_at (rules_at w i).casts s calls ≡ Some v → started calls ≡ Some v
+    i ≡ s.origin → (x : RunTo (group_at w s) i calls) → out_at_slot (rules_at w i).casts s calls ≡ Some v → started calls ≡ Some v
 run_own w sound enough s i calls v correct is x out =
     let start = (sound.world.one_value s).genuine w.numbers s w.is_correct (λ k. tags_of (w.keys k)) x.steps enough (λ j k m. refl) x.run x.clear i v correct
-    (subst (λ (k : ℕ). w.is_correct k ≡ true) is correct) (ap (out_at (rules_at w i).casts s) x.mine ∙ out) in
+    (subst (λ (k : ℕ). w.is_correct k ≡ true) is correct) (ap (out_at_slot (rules_at w i).casts s) x.mine ∙ out) in
     ap started (sym x.mine) ∙ (subst (λ (k : ℕ). started (calls_of k x.steps) ≡ Some v) (sym is) start)
 
 pub agree_at : (w : Setting) → IsSoundOver w → has_too_many w ≡ false → (es : List Event) → first_broken w es ≡ audits.Holds → AgreeAt w (states_of w es)

@@ -16,7 +16,7 @@ use Rattle.layer_api.specs.Service.{AreHeard, AreProper, AreDistinct, MayHear, M
 use Rattle.layer_api.specs.Words.{Word, is_heard, value_at}
 use Rattle.layer_api.specs.FedLaws.{heard_met}
 use Rattle.layer_api.specs.PartLaws.{heard_is}
-use Rattle.command_log.specs.Rows.{Row, row_of, is_same, is_origin, origins, entry_of, entries_of, IsIn, HasRow}
+use Rattle.command_log.specs.Rows.{Row, row_of, is_same_command, is_origin, origins, entry_of_id, entries_of_log, IsIn, HasRow}
 use Rattle.command_log.specs.Laws.{command_part, row_is, row_confirmed, AreOne, one_from, IsOriginOf, origin_is}
 use Rattle.ritas_core.specs.Rules.{seat_of}
 use Rattle.ritas_core.specs.HeardLaws.{heard_delivered}
@@ -24,8 +24,8 @@ use Rattle.world_model.specs.declared.audit.Audit.TheVariants.{Holds}
 use Rattle.world_model.specs.World.{Setting, rules_at}
 use Rattle.world_model.specs.Audit.{has_too_many, first_broken, audit_of}
 use Rattle.ritas_core.specs.Parts.{Entry, Took, Given}
-use Rattle.world_model.specs.OneValueEach.{inputs_of, input_at, history_of, OneValueEach}
-use Rattle.world_model.specs.Agree.{words_of, log_of, command_of, rows_at, OneIsPart, HasInput, IsSubmitted, IsConfirmed}
+use Rattle.world_model.specs.OneValueEach.{count_inputs, input_at, history_of, OneValueEach}
+use Rattle.world_model.specs.Agree.{words_of, identifier_log, command_delivered, rows_at, OneIsPart, HasInput, IsSubmitted, IsConfirmed}
 use Rattle.world_model.proofs.Worlds.{layer_laws, world_after}
 use Rattle.world_model.proofs.Law.{audit_parts, enough_of}
 use Rattle.world_model.proofs.Below.{IsSoundOver}
@@ -49,7 +49,7 @@ some_is (Some v) is = (v, refl)
 -- an input of a number is an input
 input_has : (h : List Entry) (k : ℕ) (v : List ℕ) → input_at h k ≡ Some v → HasInput h v
 input_has [] k v is = absurd (cc)
-input_has (Given u ∷ h) k v is = go (λ e. input_has h k v e) (inputs_of h == k) is
+input_has (Given u ∷ h) k v is = go (λ e. input_has h k v e) (count_inputs h == k) is
   where
     some : Some u ≡ Some v → u ≡ v
     some e = cc
@@ -78,34 +78,34 @@ module _ (w : Setting) (es : List Event) (sound : IsSoundOver w) (holds : audit_
       let audit = audit_parts (has_too_many w) (first_broken w es) holds in
       sound.core.proper (rules_at w i) (layer_laws w sound i correct).layers (history_of w es i) ((world_after w sound es audit.1).met i correct)
 
-  pub ids_distinct : (i : ℕ) → w.is_correct i ≡ true → AreDistinct (log_of w es i)
+  pub ids_distinct : (i : ℕ) → w.is_correct i ≡ true → AreDistinct (identifier_log w es i)
   ids_distinct i correct = sound.world.words.done_once (seat_of (rules_at w i)) (words_of w es i) (proper i correct)
 
   -- the command of an identifier in the log was delivered
-  has_command : (i : ℕ) → w.is_correct i ≡ true → (x : Id) → IsIn x (log_of w es i) → (v : List ℕ) × (command_of w es i x ≡ Some v)
+  has_command : (i : ℕ) → w.is_correct i ≡ true → (x : Id) → IsIn x (identifier_log w es i) → (v : List ℕ) × (command_delivered w es i x ≡ Some v)
   has_command i correct x here =
       let s = command_slot x.origin x.num in
       let all = sound.world.words.done_heard (seat_of (rules_at w i)) (words_of w es i) (proper i correct) in
-      let heard = heard_in (words_of w es i) x (log_of w es i) all here in
+      let heard = heard_in (words_of w es i) x (identifier_log w es i) all here in
       let v = some_is (value_at (words_of w es i) s) (sym (heard_is (words_of w es i) s) ∙ heard) in
       (v.0, sym (heard_delivered (rules_at w i) (layer_laws w sound i correct).layers (history_of w es i) s) ∙ v.1)
 
   -- and is the same at each replica
-  same_command : (i j : ℕ) → w.is_correct i ≡ true → w.is_correct j ≡ true → (x : Id) → IsIn x (log_of w es i) → IsIn x (log_of w es j)
-      → command_of w es i x ≡ command_of w es j x
+  same_command : (i j : ℕ) → w.is_correct i ≡ true → w.is_correct j ≡ true → (x : Id) → IsIn x (identifier_log w es i) → IsIn x (identifier_log w es j)
+      → command_delivered w es i x ≡ command_delivered w es j x
   same_command i j left right x here there =
       let v = has_command i left x here in
       let u = has_command j right x there in
       v.1 ∙ (ap (λ (c : List ℕ). Some c) (values.agree (command_slot x.origin x.num) i j v.0 u.0 left right v.1 u.1) ∙ sym u.1)
 
-  rows_part : (i j : ℕ) → w.is_correct i ≡ true → w.is_correct j ≡ true → IsPart (log_of w es i) (log_of w es j)
+  rows_part : (i j : ℕ) → w.is_correct i ≡ true → w.is_correct j ≡ true → IsPart (identifier_log w es i) (identifier_log w es j)
       → IsPart (rows_at w es i) (rows_at w es j)
   rows_part i j left right part =
-      command_part w.numbers.f (command_of w es i) (command_of w es j) (log_of w es i) (log_of w es j) part
-      (λ x here. same_command i j left right x here (in_part x (log_of w es i) (log_of w es j) part here))
+      command_part w.numbers.f (command_delivered w es i) (command_delivered w es j) (identifier_log w es i) (identifier_log w es j) part
+      (λ x here. same_command i j left right x here (in_part x (identifier_log w es i) (identifier_log w es j) part here))
 
   -- of two replicas' rows one is a part of the other, as of their identifier logs
-  pub rows_one : (i j : ℕ) → w.is_correct i ≡ true → w.is_correct j ≡ true → OneIsPart (log_of w es i) (log_of w es j)
+  pub rows_one : (i j : ℕ) → w.is_correct i ≡ true → w.is_correct j ≡ true → OneIsPart (identifier_log w es i) (identifier_log w es j)
       → OneIsPart (rows_at w es i) (rows_at w es j)
   rows_one i j left right (inl part) = inl (rows_part i j left right part)
   rows_one i j left right (inr part) = inr (rows_part j i right left part)
@@ -114,10 +114,10 @@ module _ (w : Setting) (es : List Event) (sound : IsSoundOver w) (holds : audit_
   pub row_submitted : (i : ℕ) (r : Row) → w.is_correct i ≡ true → w.is_correct r.id.origin ≡ true → HasRow (rows_at w es i) r
       → IsSubmitted w es r
   row_submitted i r correct good here =
-      let x = row_is w.numbers.f (command_of w es i) (log_of w es i) r here in
+      let x = row_is w.numbers.f (command_delivered w es i) (identifier_log w es i) r here in
       let same : x.id ≡ r.id = ap (λ (q : Row). q.id) x.row in
       let v = has_command i correct x.id x.listed in
-      let of : command_of w es i r.id ≡ Some v.0 = ap (command_of w es i) (sym same) ∙ v.1 in
+      let of : command_delivered w es i r.id ≡ Some v.0 = ap (command_delivered w es i) (sym same) ∙ v.1 in
       let row : row_of (record { id = x.id; command = v.0 }) ≡ r =
       ap (λ o. row_of (record { id = x.id; command = unwrap_or o [] })) (sym v.1) ∙ x.row in
       record {
@@ -127,22 +127,22 @@ module _ (w : Setting) (es : List Event) (sound : IsSoundOver w) (holds : audit_
       }
 
   -- an identifier in the log is of a replica
-  of_replica : (i : ℕ) → w.is_correct i ≡ true → (x : Id) → IsIn x (log_of w es i) → x.origin < w.numbers.n
+  of_replica : (i : ℕ) → w.is_correct i ≡ true → (x : Id) → IsIn x (identifier_log w es i) → x.origin < w.numbers.n
   of_replica i correct x here =
       let s = command_slot x.origin x.num in
       let all = sound.world.words.done_heard (seat_of (rules_at w i)) (words_of w es i) (proper i correct) in
-      let heard = heard_in (words_of w es i) x (log_of w es i) all here in
+      let heard = heard_in (words_of w es i) x (identifier_log w es i) all here in
       let v = some_is (value_at (words_of w es i) s) (sym (heard_is (words_of w es i) s) ∙ heard) in
       let met : MayHear w.service (seat_of (rules_at w i)) _ s v.0 = (heard_met (MayWord w.service (seat_of (rules_at w i))) (words_of w es i) s v.0 (proper i correct) v.1).1 in
       ltb-true x.origin w.numbers.n (right_is w.numbers w.mode s met.right).origin
 
   -- an origin of a command that is correct had it as an input
-  origin_given : (i : ℕ) (r : Row) → w.is_correct i ≡ true → (k : ℕ) → w.is_correct k ≡ true → IsOriginOf (command_of w es i) (log_of w es i) r k → IsConfirmed w es r
+  origin_given : (i : ℕ) (r : Row) → w.is_correct i ≡ true → (k : ℕ) → w.is_correct k ≡ true → IsOriginOf (command_delivered w es i) (identifier_log w es i) r k → IsConfirmed w es r
   origin_given i r correct k good origin =
       let v = has_command i correct origin.id origin.listed in
       let there : w.is_correct origin.id.origin ≡ true = ap w.is_correct origin.origin ∙ good in
-      let same : is_same (row_of (record { id = origin.id; command = v.0 })) r ≡ true =
-      ap (λ o. is_same (row_of (record { id = origin.id; command = unwrap_or o [] })) r) (sym v.1) ∙ origin.same in
+      let same : is_same_command (row_of (record { id = origin.id; command = v.0 })) r ≡ true =
+      ap (λ o. is_same_command (row_of (record { id = origin.id; command = unwrap_or o [] })) r) (sym v.1) ∙ origin.same in
       let one = one_from (row_of (record { id = origin.id; command = v.0 })) r same in
       record {
         at = origin.id.origin;
@@ -158,10 +158,10 @@ module _ (w : Setting) (es : List Event) (sound : IsSoundOver w) (holds : audit_
   pub row_confirmed_at : (i : ℕ) (r : Row) → w.is_correct i ≡ true → HasRow (rows_at w es i) r → IsConfirmed w es r
   row_confirmed_at i r correct here =
       let n = w.numbers.n in
-      let entries = entries_of (command_of w es i) (log_of w es i) in
+      let entries = entries_of_log (command_delivered w es i) (identifier_log w es i) in
       let enough = enough_of w sound (audit_parts (has_too_many w) (first_broken w es) holds).0 in
       let many = row_confirmed w.numbers.f entries r here in
-      let from : (k : ℕ) → is_origin entries r k ≡ true → IsOriginOf (command_of w es i) (log_of w es i) r k = origin_is (command_of w es i) (log_of w es i) r in
+      let from : (k : ℕ) → is_origin entries r k ≡ true → IsOriginOf (command_delivered w es i) (identifier_log w es i) r k = origin_is (command_delivered w es i) (identifier_log w es i) r in
       let below : (k : ℕ) → n ≤ k → is_origin entries r k ≡ false =
       λ k far. false_from_ne_true (is_origin entries r k) (λ is.
       let o = from k is in let small = of_replica i correct o.id o.listed in absurd (omega (arith, far, small, o.origin))) in

@@ -21,9 +21,9 @@ use Rattle.ritas_core.specs.Parts.{parts}
 use Rattle.ritas_core.specs.Checks.{input_check}
 use Rattle.ritas_core.specs.Machine as core
 use Rattle.ritas_core.specs.Machine.{CoreState, What, given_input, turned, stays, moved}
-use Rattle.ritas_core.specs.Calls.{IsStep, IsHolding, HoldsFront, TakesFront}
+use Rattle.ritas_core.specs.Calls.{IsCoreStep, IsHolding, HoldsFront, TakesFront}
 use Rattle.replica.specs.declared.refusal.Refusal.{Refusal}
-use Rattle.replica.specs.Handling.{Call, Frame, Input, Turn, Handled, framed, given_body, given_frame, handled}
+use Rattle.replica.specs.Handling.{ReplicaCall, Frame, Input, Turn, Handled, framed, given_body, given_frame, handled}
 use Rattle.replica.specs.Stands.{body_given, frame_given, core_call}
 use Rattle.world_model.specs.World.{Setting, rules_at, CallAt, call_of, handled_at, seen_answer, seen_call}
 use Rattle.world_model.specs.Audit.{newest_item, taken_by}
@@ -65,7 +65,7 @@ turn_either r k st true [] e = inr (record { answer = λ e. cc; history = refl; 
 turn_either r k st false [] e = inr (record { answer = λ e. cc; history = refl; out = refl })
 
 -- a call needs memory, or nothing is kept of it
-call_either : (r : Rules) (k : KeyRow) (st : CoreState) (call : Call) → CoreNeeds r st (core_call r k call) ⊎ IsIdle st (handled r k st call)
+call_either : (r : Rules) (k : KeyRow) (st : CoreState) (call : ReplicaCall) → CoreNeeds r st (core_call r k call) ⊎ IsIdle st (handled r k st call)
 call_either r k st (Frame bytes) = frame_either r k st (opening k bytes)
 call_either r k st (Input bytes) = input_either r k st bytes st.live (input_check r (parts r st.history) bytes) refl
 call_either r k st Turn = turn_either r k st st.live st.inbox refl
@@ -117,7 +117,7 @@ front_there r st [] (inl none) = absurd none
 front_there r st [] (inr none) = absurd none
 front_there r st (item ∷ waiting) is = λ e. cc
 
-pub core_needed : (r : Rules) (st : CoreState) (what : What) → IsHolding r st what ⊎ IsStep r st what → CoreNeeds r st (Some what)
+pub core_needed : (r : Rules) (st : CoreState) (what : What) → IsHolding r st what ⊎ IsCoreStep r st what → CoreNeeds r st (Some what)
 core_needed r st (core.Frame item) is = tt
 core_needed r st (core.Input value) (inl none) = absurd none
 core_needed r st (core.Input value) (inr step) = step

@@ -13,8 +13,8 @@ use Rattle.replica.specs.declared.frame.OutFrame.{OutFrame}
 use Rattle.world_model.specs.declared.order.Place.{Place}
 use Rattle.world_model.specs.declared.seats.Seats.{Seats}
 use Rattle.world_model.specs.World.{Setting, CallAt, handled_at}
-use Rattle.world_model.specs.MadeOrder.{MadeFrame, frames_in}
-use Rattle.world_model.specs.FramesMade.{MadeTable, IsSquare, IsOrderOf, made_in, made_at, placed, placed_if, next_place, with_frame, with_frames}
+use Rattle.world_model.specs.MadeOrder.{MadeFrame, frames_of_call}
+use Rattle.world_model.specs.FramesMade.{MadeTable, IsSquare, IsOrderOf, made_in, made_at, frame_placed, placed_if, next_place, with_frame, with_frames}
 use Rattle.world_model.specs.Stands.{SeatsStand, FramesStand}
 use Rattle.world_model.specs.Steps.{frames_out}
 use Rattle.world_model.specs.Watch.{IsAt}
@@ -47,16 +47,16 @@ still_there lists p k m x y there =
 abbrev as_placed : Place → List ℕ → MadeFrame
 as_placed p bytes = record { event = p.event; from = p.from; to = p.to; bytes = bytes }
 
-still_placed : (t : MadeTable) (event from : ℕ) (frame : OutFrame) (p : Place) (x : MadeFrame) → placed t p ≡ Some x → placed (with_frame t event from frame) p ≡ Some x
+still_placed : (t : MadeTable) (event from : ℕ) (frame : OutFrame) (p : Place) (x : MadeFrame) → frame_placed t p ≡ Some x → frame_placed (with_frame t event from frame) p ≡ Some x
 still_placed t event from frame p x is =
-    elim (slice_get (made_in t p.from p.to) p.at) as (λ o. slice_get (made_in t p.from p.to) p.at ≡ o → option_map (as_placed p) o ≡ Some x → placed (with_frame t event from frame) p ≡ Some x) [
+    elim (slice_get (made_in t p.from p.to) p.at) as (λ o. slice_get (made_in t p.from p.to) p.at ≡ o → option_map (as_placed p) o ≡ Some x → frame_placed (with_frame t event from frame) p ≡ Some x) [
       | None ↦ λ there none. absurd (cc)
       | Some y ↦ λ there some.
           ap (option_map (as_placed p)) (still_there t.lists (from * t.n + frame.to) (p.from * t.n + p.to) p.at frame.bytes y there) ∙ some
     ] refl is
 
-still_ordered : (t : MadeTable) (event from : ℕ) (frame : OutFrame) (places : List Place) (frames : List MadeFrame) → map (placed t) places ≡ map Some frames →
-    map (placed (with_frame t event from frame)) places ≡ map Some frames
+still_ordered : (t : MadeTable) (event from : ℕ) (frame : OutFrame) (places : List Place) (frames : List MadeFrame) → map (frame_placed t) places ≡ map Some frames →
+    map (frame_placed (with_frame t event from frame)) places ≡ map Some frames
 still_ordered t event from frame [] frames are = are
 still_ordered t event from frame (p ∷ places) [] are = absurd (cc)
 still_ordered t event from frame (p ∷ places) (x ∷ frames) are =
@@ -69,7 +69,7 @@ abbrev made_as : ℕ → ℕ → OutFrame → MadeFrame
 made_as event from o = record { event = event; from = from; to = o.to; bytes = o.bytes }
 
 newest_placed : (t : MadeTable) (event from : ℕ) (frame : OutFrame) → from * t.n + frame.to < length t.lists →
-    placed (with_frame t event from frame) (next_place t event from frame.to) ≡ Some (made_as event from frame)
+    frame_placed (with_frame t event from frame) (next_place t event from frame.to) ≡ Some (made_as event from frame)
 newest_placed t event from frame within =
     let list = made_in t from frame.to in
     ap (λ (xs : List (List ℕ)). option_map (as_placed (next_place t event from frame.to)) (slice_get xs (length list)))
@@ -79,7 +79,7 @@ newest_placed t event from frame within =
 one_ordered : (t : MadeTable) (event from : ℕ) (frame : OutFrame) (frames : List MadeFrame) → from * t.n + frame.to < length t.lists → IsOrderOf t frames →
     IsOrderOf (with_frame t event from frame) (frames ++ made_as event from frame ∷ [])
 one_ordered t event from frame frames within are =
-    let look : Place → Option MadeFrame = placed (with_frame t event from frame) in
+    let look : Place → Option MadeFrame = frame_placed (with_frame t event from frame) in
     map-append look t.order (next_place t event from frame.to ∷ [])
     ∙ ap₂ (λ os o. os ++ o ∷ []) (still_ordered t event from frame t.order frames are) (newest_placed t event from frame within)
     ∙ sym (map-append Some frames (made_as event from frame ∷ []))
@@ -99,19 +99,19 @@ all_ordered t n event from (frame ∷ out) frames is from_below below are =
 
 pub order_next : MadeByEntry → (w : Setting) (seats : Seats) (states : ℕ → CoreState) (c : Option CallAt) (t : MadeTable) (event at : ℕ) (out : List OutFrame) (frames : List MadeFrame) →
     SeatsStand w seats → FramesStand w states t → ((i : ℕ) → w.is_correct i ≡ true → i < w.numbers.n) → IsAt w c at → out ≡ frames_out w states c → IsOrderOf t frames →
-    IsOrderOf (with_frames t event at out) (frames ++ frames_in event w states c)
+    IsOrderOf (with_frames t event at out) (frames ++ frames_of_call event w states c)
 order_next made_by w seats states None t event at out frames seats_stand stand within is none are =
     subst (λ (fs : List OutFrame). IsOrderOf (with_frames t event at fs) (frames ++ [])) (sym none) (subst (IsOrderOf t) (sym (append-nil frames)) are)
 order_next made_by w seats states (Some c) t event at out frames seats_stand stand within is made are =
     let below : c.at < w.numbers.n = within c.at (ap w.is_correct is.0 ∙ is.1) in
-    let after = frames ++ frames_in event w states (Some c) in
+    let after = frames ++ frames_of_call event w states (Some c) in
     subst (λ (fs : List OutFrame). IsOrderOf (with_frames t event at fs) after) (sym made)
     (subst (λ (i : ℕ). IsOrderOf (with_frames t event i (handled_at w states c).out) after) is.0
     (all_ordered t w.numbers.n event c.at (handled_at w states c).out frames stand.square below (out_below made_by w seats states c seats_stand below) are))
 
 -- ---- by number
 
-joined : (t : MadeTable) (p : Option Place) (x : Option MadeFrame) → option_map (placed t) p ≡ option_map Some x → placed_if t p ≡ x
+joined : (t : MadeTable) (p : Option Place) (x : Option MadeFrame) → option_map (frame_placed t) p ≡ option_map Some x → placed_if t p ≡ x
 joined t None None e = refl
 joined t None (Some x) e = absurd (cc)
 joined t (Some p) None e = absurd (cc)
@@ -121,4 +121,4 @@ joined t (Some p) (Some x) e = cc
 pub made_is : (t : MadeTable) (frames : List MadeFrame) (k : ℕ) → IsOrderOf t frames → made_at t k ≡ slice_get frames k
 made_is t frames k are =
     joined t (slice_get t.order k) (slice_get frames k)
-    (sym (slice_get-map (placed t) t.order k) ∙ ap (λ (os : List (Option MadeFrame)). slice_get os k) are ∙ slice_get-map Some frames k)
+    (sym (slice_get-map (frame_placed t) t.order k) ∙ ap (λ (os : List (Option MadeFrame)). slice_get os k) are ∙ slice_get-map Some frames k)

@@ -13,10 +13,10 @@ use Rattle.ritas_base.specs.History.{replicas}
 use Rattle.ritas_base.specs.Messages.{Place}
 use Rattle.layer_api.specs.Entries as entries
 use Rattle.keyed_channel.specs.KeyRow.{KeyRow, key_with, shares_key}
-use Rattle.keyed_channel.specs.Keyed.{entry_of, other_of, tags_of}
+use Rattle.keyed_channel.specs.Keyed.{keyed_entry, other_of_two, tags_of}
 use Rattle.world_model.specs.declared.met.EntryPair.{EntryPair}
 use Rattle.world_model.specs.Audit.{is_among}
-use Rattle.world_model.specs.Met.{MetEntries, pair_of, turned, met_with, met_for, given_in}
+use Rattle.world_model.specs.Met.{MetEntries, pair_of, turned_pair, met_with, met_for, entries_given}
 
 -- ---- the entries with one replica
 
@@ -51,42 +51,42 @@ met_pair_there k s d met other below is none =
 
 -- ---- two that have one key
 
-other_of_mine : (me other : ℕ) → other_of me me other ≡ other
+other_of_mine : (me other : ℕ) → other_of_two me me other ≡ other
 other_of_mine me other = ap (λ (b : Bool). if b then other else me) (eq-eqb me me refl)
 
 other_of_theirs_at : (me other : ℕ) (b : Bool) → (other == me) ≡ b → (if b then me else other) ≡ other
 other_of_theirs_at me other true same = sym (eqb-true other me same)
 other_of_theirs_at me other false apart = refl
 
-other_of_theirs : (me other : ℕ) → other_of me other me ≡ other
+other_of_theirs : (me other : ℕ) → other_of_two me other me ≡ other
 other_of_theirs me other = other_of_theirs_at me other (other == me) refl
 
-entry_by : (k : KeyRow) (s : Slot) (echoer verifier other : ℕ) (d : List ℕ) → other_of k.me echoer verifier ≡ other →
-    (tags_of k).entry s echoer verifier d ≡ entry_of (key_with k other) k.session s echoer verifier d
-entry_by k s echoer verifier other d is = ap (λ (i : ℕ). entry_of (key_with k i) k.session s echoer verifier d) is
+entry_by : (k : KeyRow) (s : Slot) (echoer verifier other : ℕ) (d : List ℕ) → other_of_two k.me echoer verifier ≡ other →
+    (tags_of k).entry s echoer verifier d ≡ keyed_entry (key_with k other) k.session s echoer verifier d
+entry_by k s echoer verifier other d is = ap (λ (i : ℕ). keyed_entry (key_with k i) k.session s echoer verifier d) is
 
-same_entry : (a b : KeyRow) (s : Slot) (echoer verifier : ℕ) (d : List ℕ) → shares_key a b ≡ true → other_of a.me echoer verifier ≡ b.me → other_of b.me echoer verifier ≡ a.me →
+same_entry : (a b : KeyRow) (s : Slot) (echoer verifier : ℕ) (d : List ℕ) → shares_key a b ≡ true → other_of_two a.me echoer verifier ≡ b.me → other_of_two b.me echoer verifier ≡ a.me →
     (tags_of b).entry s echoer verifier d ≡ (tags_of a).entry s echoer verifier d
 same_entry a b s echoer verifier d shares by_a by_b =
     let parts = and_parts (a.session == b.session) (bytes_eq (key_with a b.me) (key_with b a.me)) shares in
     let session = eqb-true a.session b.session parts.0 in
     let key = (bytes_eq-Decides (key_with a b.me) (key_with b a.me)).0 parts.1 in
     entry_by b s echoer verifier a.me d by_b
-    ∙ ap₂ (λ (x : List ℕ) (y : ℕ). entry_of x y s echoer verifier d) (sym key) (sym session)
+    ∙ ap₂ (λ (x : List ℕ) (y : ℕ). keyed_entry x y s echoer verifier d) (sym key) (sym session)
     ∙ sym (entry_by a s echoer verifier b.me d by_a)
 
 -- what one gives is what the other expects
-shared : (a b : KeyRow) (s : Slot) (d : List ℕ) → shares_key a b ≡ true → turned (pair_of b s d a.me) ≡ pair_of a s d b.me
+shared : (a b : KeyRow) (s : Slot) (d : List ℕ) → shares_key a b ≡ true → turned_pair (pair_of b s d a.me) ≡ pair_of a s d b.me
 shared a b s d shares =
     ap₂ (λ (x y : List ℕ). record { given = x; expected = y })
     (same_entry a b s a.me b.me d shares (other_of_mine a.me b.me) (other_of_theirs b.me a.me))
     (same_entry a b s b.me a.me d shares (other_of_theirs a.me b.me) (other_of_mine b.me a.me))
 
 pub pair_shared : (a b : KeyRow) (s : Slot) (d : List ℕ) (met : MetEntries) (pair : EntryPair) → shares_key a b ≡ true → met.digest ≡ d → met ≡ met_with b s met.digest →
-    slice_get met.pairs a.me ≡ Some pair → turned pair ≡ pair_of a s d b.me
+    slice_get met.pairs a.me ≡ Some pair → turned_pair pair ≡ pair_of a s d b.me
 pair_shared a b s d met pair shares same is there =
     let found : slice_get (met_with b s met.digest).pairs a.me ≡ Some pair = sym (ap (λ (x : MetEntries). slice_get x.pairs a.me) is) ∙ there in
-    ap turned (pair_is b s met.digest a.me pair found) ∙ shared a b s met.digest shares ∙ ap (λ (x : List ℕ). pair_of a s x b.me) same
+    ap turned_pair (pair_is b s met.digest a.me pair found) ∙ shared a b s met.digest shares ∙ ap (λ (x : List ℕ). pair_of a s x b.me) same
 
 -- ---- what was given
 
@@ -96,19 +96,19 @@ any_mapped test f (x ∷ xs) = ap (λ b. test (f x) || b) (any_mapped test f xs)
 
 -- the entry for one verifier
 pub gives_one : (met : MetEntries) (other : ℕ) (pair : EntryPair) (entry : List ℕ) → slice_get met.pairs other ≡ Some pair → bytes_eq entry pair.given ≡ true →
-    is_among (given_in (Some met)) (Some entry) ≡ true
+    is_among (entries_given (Some met)) (Some entry) ≡ true
 gives_one met other pair entry there same =
     any_mapped (bytes_eq entry) (λ (x : EntryPair). x.given) met.pairs
     ∙ list_any_at (λ (x : EntryPair). bytes_eq entry x.given) met.pairs other pair (slice_get_within met.pairs other pair there)
     (ap (λ (x : EntryPair). bytes_eq entry x.given) (get_or_from_slice_get met.pairs other pair pair there) ∙ same)
 
 pub gives_some : (met : MetEntries) (pairs : List EntryPair) (entry : List ℕ) → pairs ≡ met.pairs →
-    list_any (λ (x : EntryPair). bytes_eq entry x.given) pairs ≡ is_among (given_in (Some met)) (Some entry)
+    list_any (λ (x : EntryPair). bytes_eq entry x.given) pairs ≡ is_among (entries_given (Some met)) (Some entry)
 gives_some met pairs entry is =
     ap (list_any (λ (x : EntryPair). bytes_eq entry x.given)) is ∙ sym (any_mapped (bytes_eq entry) (λ (x : EntryPair). x.given) met.pairs)
 
 -- the entries that were met are those that the replica gives
-pub given_same : (k : KeyRow) (at : Place) → at.me ≡ k.me → at.numbers.n ≡ k.n → (o : Option (List ℕ)) → given_in (met_for k at.slot o) ≡ entries.entries_for at (tags_of k) o
+pub given_same : (k : KeyRow) (at : Place) → at.me ≡ k.me → at.numbers.n ≡ k.n → (o : Option (List ℕ)) → entries_given (met_for k at.slot o) ≡ entries.entries_for at (tags_of k) o
 given_same k at me n None = refl
 given_same k at me n (Some m) =
     map-map (λ (pair : EntryPair). pair.given) (pair_of k at.slot ((tags_of k).digest m)) (replicas k.n)

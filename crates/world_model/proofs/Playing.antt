@@ -16,8 +16,8 @@ use Rattle.ritas_core.specs.Parts.{Entry, Took, Given, parts}
 use Rattle.ritas_core.specs.Order.{new_messages, own_items}
 use Rattle.ritas_core.specs.Checks.{is_open, is_item_past, body_length, verdict_on, input_check, IsGood, IsHistory, MayEnter}
 use Rattle.ritas_core.specs.Machine as core
-use Rattle.ritas_core.specs.Machine.{CoreState, What, stays, entered, gives, given_item, given_input, turned, moved_live, moved}
-use Rattle.replica.specs.Handling.{Call, Frame, Input, Turn, given_body, given_frame, handled}
+use Rattle.ritas_core.specs.Machine.{CoreState, What, stays, state_after_entry, gives_item, given_item, given_input, turned, moved_live, moved}
+use Rattle.replica.specs.Handling.{ReplicaCall, Frame, Input, Turn, given_body, given_frame, handled}
 use Rattle.world_model.specs.World.{Setting, rules_at}
 use Rattle.world_model.proofs.Stored.{AreAll, AreAllHeld, all_map, all_held_map, all_append, all_own, all_released, all_remaining, all_with_kept}
 use Rattle.world_model.proofs.Sent.{new_due}
@@ -68,7 +68,7 @@ next_stays w hist i st new p same waiting held = record {
 
 enters_as : (w : Setting) → IsFair w → (i : ℕ) → IsFounded (rules_at w i) → (hist : ℕ → List Entry) (st : CoreState) → IsPlaying w hist i st → (e : Entry) (waiting : List Item)
     → MayEnter (rules_at w i) (parts (rules_at w i) st.history) e → AllTook (IsHonest w hist) (e ∷ st.history) → AreAll (IsHonest w hist) waiting
-    → (later : ℕ → List Entry) → Grows w hist later → IsOwn w later i (e ∷ st.history) → IsPlaying w later i (entered (rules_at w i) st e waiting)
+    → (later : ℕ → List Entry) → Grows w hist later → IsOwn w later i (e ∷ st.history) → IsPlaying w later i (state_after_entry (rules_at w i) st e waiting)
 enters_as w fair i laws hist st p e waiting may took all later grows own =
     let r = rules_at w i in
     let h = st.history in
@@ -94,13 +94,13 @@ good_of w hist i x honest = record { in_grammar = honest.grammar; sender = hones
 
 next_item : (w : Setting) → IsFair w → (i : ℕ) → IsFounded (rules_at w i) → (hist : ℕ → List Entry) (st : CoreState) → IsPlaying w hist i st → (x : Item) (waiting : List Item)
     → IsHonest w hist x → AreAll (IsHonest w hist) waiting → (v : Verdict) → verdict_on (rules_at w i) (parts (rules_at w i) st.history) st.held x ≡ v
-    → IsNext w hist i st (gives (rules_at w i) st x waiting v).state
+    → IsNext w hist i st (gives_item (rules_at w i) st x waiting v).state
 next_item w fair i laws hist st p x waiting honest all (verdicts.Refuse fault) is =
-    next_stays w hist i st (gives (rules_at w i) st x waiting (verdicts.Refuse fault)).state p refl all p.held
+    next_stays w hist i st (gives_item (rules_at w i) st x waiting (verdicts.Refuse fault)).state p refl all p.held
 next_item w fair i laws hist st p x waiting honest all verdicts.Again is =
-    next_stays w hist i st (gives (rules_at w i) st x waiting verdicts.Again).state p refl all p.held
+    next_stays w hist i st (gives_item (rules_at w i) st x waiting verdicts.Again).state p refl all p.held
 next_item w fair i laws hist st p x waiting honest all verdicts.Hold is =
-    next_stays w hist i st (gives (rules_at w i) st x waiting verdicts.Hold).state p refl all (all_with_kept (IsHonest w hist) st.held x (body_length x) p.held honest)
+    next_stays w hist i st (gives_item (rules_at w i) st x waiting verdicts.Hold).state p refl all (all_with_kept (IsHonest w hist) st.held x (body_length x) p.held honest)
 next_item w fair i laws hist st p x waiting honest all verdicts.Take is = record {
   grew = ByItem x honest refl;
   plays = enters_as w fair i laws hist st p (Took x) waiting
@@ -147,7 +147,7 @@ next_if w fair i laws hist st p what false honest = next_stays w hist i st (stay
 abbrev pub IsHonestFrame : Setting → (ℕ → List Entry) → ℕ → List ℕ → Type 0
 IsHonestFrame w hist j bytes = (o : Opening) (x : Item) → opening (w.keys j) bytes ≡ Ok o → body_answer w.numbers w.mode o.from o.body ≡ Ok x → IsHonest w hist x
 
-abbrev pub IsHonestCall : Setting → (ℕ → List Entry) → ℕ → Call → Type 0
+abbrev pub IsHonestCall : Setting → (ℕ → List Entry) → ℕ → ReplicaCall → Type 0
 IsHonestCall w hist j (Frame bytes) = IsHonestFrame w hist j bytes
 IsHonestCall w hist j (Input v) = Unit {0}
 IsHonestCall w hist j Turn = Unit {0}
@@ -166,7 +166,7 @@ next_frame : (w : Setting) → IsFair w → (i : ℕ) → IsFounded (rules_at w 
 next_frame w fair i laws hist st p (Ok o) honest = next_body w fair i laws hist st p (body_answer w.numbers w.mode o.from o.body) (λ x e. honest o x refl e)
 next_frame w fair i laws hist st p (Err fault) honest = next_refused w hist i st p
 
-pub next_call : (w : Setting) → IsFair w → (i : ℕ) → IsFounded (rules_at w i) → (hist : ℕ → List Entry) (st : CoreState) → IsPlaying w hist i st → (call : Call)
+pub next_call : (w : Setting) → IsFair w → (i : ℕ) → IsFounded (rules_at w i) → (hist : ℕ → List Entry) (st : CoreState) → IsPlaying w hist i st → (call : ReplicaCall)
     → IsHonestCall w hist i call → IsNext w hist i st (handled (rules_at w i) (w.keys i) st call).state
 next_call w fair i laws hist st p (Frame bytes) honest = next_frame w fair i laws hist st p (opening (w.keys i) bytes) honest
 next_call w fair i laws hist st p (Input v) honest = next_if w fair i laws hist st p (core.Input v) st.live tt

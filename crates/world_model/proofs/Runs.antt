@@ -9,12 +9,12 @@ use Rattle.ritas_base.specs.SlotOrder.{is_slot, same_slot}
 use Rattle.ritas_base.specs.History.{Call, Start, Take}
 use Rattle.layer_api.specs.Broadcast.{MayStart, MayTake}
 use Rattle.layer_api.specs.Entries.{given, is_claim}
-use Rattle.frame_codec.specs.Values.{row_of}
-use Rattle.layer_api.specs.Runs.{Step, calls_of, Has}
+use Rattle.frame_codec.specs.Values.{column_row}
+use Rattle.layer_api.specs.Runs.{ReplicaStep, calls_of, Has}
 use Rattle.layer_api.specs.OneValue.{IsDueTo, Group, IsFed, IsRun}
 use Rattle.layer_api.specs.Words.{Ask, Hear}
 use Rattle.keyed_channel.specs.Keyed.{tags_of}
-use Rattle.ritas_core.specs.Rules.{seat_of, place_at, due_at}
+use Rattle.ritas_core.specs.Rules.{seat_of, place_at, due_at_slot}
 use Rattle.ritas_core.specs.Casts.{called, started_all, MayStartAll}
 use Rattle.ritas_core.specs.Parts.{Entry, Took, Given, parts, heard_at, taken_at, item_delivers}
 use Rattle.ritas_core.specs.Checks.{IsHistory, MayEnter}
@@ -27,25 +27,25 @@ group_at w s = record { rules = w.at_slot s; numbers = w.numbers; slot = s; is_c
 
 -- the calls that correct replicas had at a slot are those of a run
 pub record RunAt (w : Setting) (calls : ℕ → Slot → List Call) (s : Slot) : Type 0 where
-  pub steps : List (Step Call)
+  pub steps : List (ReplicaStep Call)
   pub run : IsRun (group_at w s) steps
   pub same : (k : ℕ) → w.is_correct k ≡ true → calls_of k steps ≡ calls k s
 
 -- so are these calls of replica i, with those that the others had
 pub record RunWith (w : Setting) (i : ℕ) (own : List Call) (others : ℕ → Slot → List Call) (s : Slot) : Type 0 where
-  pub steps : List (Step Call)
+  pub steps : List (ReplicaStep Call)
   pub run : IsRun (group_at w s) steps
   pub mine : calls_of i steps ≡ own
   pub rest : (k : ℕ) → w.is_correct k ≡ true → eqb i k ≡ false → calls_of k steps ≡ others k s
 
 -- ---- one step more
-abbrev step_of : ℕ → Call → Step Call
+abbrev step_of : ℕ → Call → ReplicaStep Call
 step_of i c = record { who = i; call = c }
 
-step_mine : (i : ℕ) (c : Call) (xs : List (Step Call)) → calls_of i (step_of i c ∷ xs) ≡ c ∷ calls_of i xs
+step_mine : (i : ℕ) (c : Call) (xs : List (ReplicaStep Call)) → calls_of i (step_of i c ∷ xs) ≡ c ∷ calls_of i xs
 step_mine i c xs = cond-true (eqb i i) (c ∷ calls_of i xs) (calls_of i xs) (eq-eqb i i refl)
 
-step_other : (i k : ℕ) (c : Call) (xs : List (Step Call)) → eqb i k ≡ false → calls_of k (step_of i c ∷ xs) ≡ calls_of k xs
+step_other : (i k : ℕ) (c : Call) (xs : List (ReplicaStep Call)) → eqb i k ≡ false → calls_of k (step_of i c ∷ xs) ≡ calls_of k xs
 step_other i k c xs apart = cond-false (eqb i k) (c ∷ calls_of k xs) (calls_of k xs) apart
 
 run_step : (w : Setting) (i : ℕ) → w.is_correct i ≡ true → (own : List Call) (others : ℕ → Slot → List Call) (s : Slot) (c : Call) →
@@ -81,9 +81,9 @@ run_starts w i correct (say ∷ says) own others may run =
 -- ---- an item
 -- what the item's sender, if it is correct, has due; and each valid entry of a correct echoer was given by it
 pub record IsBacked (w : Setting) (calls : ℕ → Slot → List Call) (i : ℕ) (x : Item) : Type 0 where
-  pub due : w.is_correct x.from ≡ true → IsDueTo (due_at (rules_at w x.from).casts x.slot (calls x.from x.slot)) i x
+  pub due : w.is_correct x.from ≡ true → IsDueTo (due_at_slot (rules_at w x.from).casts x.slot (calls x.from x.slot)) i x
   pub given : (echoer : ℕ) (entry : List ℕ) → w.is_correct echoer ≡ true
-      → is_claim (place_at (rules_at w i).casts x.slot) (tags_of (w.keys i)) (calls i x.slot) x echoer ≡ true → row_of x.value echoer ≡ Some entry
+      → is_claim (place_at (rules_at w i).casts x.slot) (tags_of (w.keys i)) (calls i x.slot) x echoer ≡ true → column_row x.value echoer ≡ Some entry
       → Has (given (place_at (rules_at w echoer).casts x.slot) (tags_of (w.keys echoer)) (calls echoer x.slot)) entry
 
 fed_take : (w : Setting) (i : ℕ) → w.is_correct i ≡ true → (calls : ℕ → Slot → List Call) (item : Item) (s : Slot) → item.slot ≡ s →
@@ -92,16 +92,16 @@ fed_take : (w : Setting) (i : ℕ) → w.is_correct i ≡ true → (calls : ℕ 
 fed_take w i correct calls item s here may backed x =
     let at : MayTake (w.at_slot s) (place_at (rules_at w i).casts s) (tags_of (w.keys i)) (calls i s) item =
     subst (λ (t : Slot). MayTake (w.at_slot t) (place_at (rules_at w i).casts t) (tags_of (w.keys i)) (calls i t) item) here may in
-    let due : w.is_correct item.from ≡ true → IsDueTo (due_at (rules_at w item.from).casts s (calls item.from s)) i item =
-    λ good. subst (λ (t : Slot). IsDueTo (due_at (rules_at w item.from).casts t (calls item.from t)) i item) here (backed.due good) in
+    let due : w.is_correct item.from ≡ true → IsDueTo (due_at_slot (rules_at w item.from).casts s (calls item.from s)) i item =
+    λ good. subst (λ (t : Slot). IsDueTo (due_at_slot (rules_at w item.from).casts t (calls item.from t)) i item) here (backed.due good) in
     let gave : (echoer : ℕ) (entry : List ℕ) → w.is_correct echoer ≡ true
-    → is_claim (place_at (rules_at w i).casts s) (tags_of (w.keys i)) (calls i s) item echoer ≡ true → row_of item.value echoer ≡ Some entry
+    → is_claim (place_at (rules_at w i).casts s) (tags_of (w.keys i)) (calls i s) item echoer ≡ true → column_row item.value echoer ≡ Some entry
     → Has (given (place_at (rules_at w echoer).casts s) (tags_of (w.keys echoer)) (calls echoer s)) entry =
     subst (λ (t : Slot). (echoer : ℕ) (entry : List ℕ) → w.is_correct echoer ≡ true
-    → is_claim (place_at (rules_at w i).casts t) (tags_of (w.keys i)) (calls i t) item echoer ≡ true → row_of item.value echoer ≡ Some entry
+    → is_claim (place_at (rules_at w i).casts t) (tags_of (w.keys i)) (calls i t) item echoer ≡ true → column_row item.value echoer ≡ Some entry
     → Has (given (place_at (rules_at w echoer).casts t) (tags_of (w.keys echoer)) (calls echoer t)) entry) here backed.given in (
       subst (λ (cs : List Call). MayTake (w.at_slot s) (place_at (rules_at w i).casts s) (tags_of (w.keys i)) cs item) (sym (x.same i correct)) at,
-      λ good. subst (λ (cs : List Call). IsDueTo (due_at (rules_at w item.from).casts s cs) i item) (sym (x.same item.from good)) (due good),
+      λ good. subst (λ (cs : List Call). IsDueTo (due_at_slot (rules_at w item.from).casts s cs) i item) (sym (x.same item.from good)) (due good),
       λ echoer entry good claimed row.
           subst (λ (cs : List Call). Has (given (place_at (rules_at w echoer).casts s) (tags_of (w.keys echoer)) cs) entry) (sym (x.same echoer good))
           (gave echoer entry good (subst (λ (cs : List Call). is_claim (place_at (rules_at w i).casts s) (tags_of (w.keys i)) cs item echoer ≡ true) (x.same i correct) claimed) row),

@@ -8,7 +8,7 @@ use Rattle.ritas_base.specs.declared.item.Kind.TheVariants.{Column}
 use Rattle.ritas_base.specs.History.{replicas}
 use Rattle.ritas_base.specs.HistoryLaws.{is_value_is, kind_eq_is}
 use Rattle.ritas_base.specs.Messages.{kind_eq}
-use Rattle.frame_codec.specs.Values.{row_of}
+use Rattle.frame_codec.specs.Values.{column_row}
 use Rattle.layer_api.specs.Entries.{is_claim, is_valid_for, sent}
 use Rattle.layer_api.specs.Runs.{Has}
 use Rattle.keyed_channel.specs.Keyed.{tags_of}
@@ -71,14 +71,14 @@ among_given entries o entry is there =
     ap (is_among entries) is ∙ any_of (bytes_eq entry) entries entry there (bytes_itself entry)
 
 claimed_row : (w : Setting) (states : ℕ → CoreState) (j : ℕ) (x : Item) (echoer : ℕ) → is_claim (place_in w j x.slot) (tags_of (w.keys j)) (calls_at w states j x.slot) x echoer ≡ true
-    → (x.kind ≡ Column) × ((entry : List ℕ) × (row_of x.value echoer ≡ Some entry))
+    → (x.kind ≡ Column) × ((entry : List ℕ) × (column_row x.value echoer ≡ Some entry))
 claimed_row w states j x echoer e = go (kind_eq x.kind Column) refl (sent (place_in w j x.slot) (calls_at w states j x.slot)) e
   where
     go : (b : Bool) → kind_eq x.kind Column ≡ b → (o : Option (List ℕ)) → (b && is_valid_for (place_in w j x.slot) (tags_of (w.keys j)) o x.value echoer) ≡ true
-        → (x.kind ≡ Column) × ((entry : List ℕ) × (row_of x.value echoer ≡ Some entry))
+        → (x.kind ≡ Column) × ((entry : List ℕ) × (column_row x.value echoer ≡ Some entry))
     go false is o f = absurd cc
     go true is None f = absurd cc
-    go true is (Some m) f = (kind_eq_is x.kind Column is, (_, is_value_is _ (row_of x.value echoer) f))
+    go true is (Some m) f = (kind_eq_is x.kind Column is, (_, is_value_is _ (column_row x.value echoer) f))
 
 not_made : (a b d : Bool) → (a ≡ true → b ≡ true → d ≡ true) → (a && (b && not d)) ≡ false
 not_made true true true f = refl
@@ -89,10 +89,10 @@ not_made false b d f = refl
 pub not_made_up : (w : Setting) (states : ℕ → CoreState) (j : ℕ) (x : Item) → IsHonest w (histories_of states) x → (echoer : ℕ) → is_made_up w states j x echoer ≡ false
 not_made_up w states j x honest echoer =
     not_made (w.is_correct echoer) (is_claim (place_in w j x.slot) (tags_of (w.keys j)) (calls_at w states j x.slot) x echoer)
-    (is_among (given_by w states echoer x.slot) (row_of x.value echoer))
+    (is_among (given_by w states echoer x.slot) (column_row x.value echoer))
     (λ correct claim.
     let row = claimed_row w states j x echoer claim in
-    among_given (given_by w states echoer x.slot) (row_of x.value echoer) row.1.0 row.1.1 (honest.column row.0 echoer row.1.0 correct row.1.1))
+    among_given (given_by w states echoer x.slot) (column_row x.value echoer) row.1.0 row.1.1 (honest.column row.0 echoer row.1.0 correct row.1.1))
 
 item_honest : (w : Setting) (states : ℕ → CoreState) (j : ℕ) (before after : List Entry) → GrewBy w (histories_of states) before after → is_forged_item w states j (newest_item before after) ≡ false
 item_honest w states j before after (AsBefore e) = ap (λ (h : List Entry). is_forged_item w states j (newest_item before h)) e ∙ ap (is_forged_item w states j) (newest_none before)

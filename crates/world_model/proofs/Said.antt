@@ -10,7 +10,7 @@ use Rattle.layer_api.specs.Runs.{Has}
 use Rattle.layer_api.specs.Service.{said}
 use Rattle.layer_api.specs.Words.{Word, Ask, Hear, HasSay}
 use Rattle.layer_api.specs.FedLaws.{say_earlier, say_later}
-use Rattle.ritas_core.specs.Rules.{Rules, seat_of, out_at}
+use Rattle.ritas_core.specs.Rules.{Rules, seat_of, out_at_slot}
 use Rattle.ritas_core.specs.Casts.{called, started_all}
 use Rattle.ritas_core.specs.Parts.{Parts, Entry, Took, Given, parts, heard_at, taken_at, item_delivers}
 use Rattle.ritas_core.specs.PartsLaws.{newly_after}
@@ -30,13 +30,13 @@ delivers_calls r h item v delivers = ap (λ (d : Option (List ℕ)). (heard_at r
 
 -- the slot delivers it afterwards
 pub delivers_now : (r : Rules) → IsFounded r → (h : List Entry) (item : Item) (v : List ℕ) → item_delivers r item (parts r h) ≡ Some v →
-    out_at r.casts item.slot ((parts r (Took item ∷ h)).calls item.slot) ≡ Some v
+    out_at_slot r.casts item.slot ((parts r (Took item ∷ h)).calls item.slot) ≡ Some v
 delivers_now r laws h item v delivers =
     let p = parts r h in
-    ap (out_at r.casts item.slot) (delivers_calls r h item v delivers)
+    ap (out_at_slot r.casts item.slot) (delivers_calls r h item v delivers)
     ∙ starts_deliver r laws.layers (r.service.says (seat_of r) p.words (Hear item.slot v)) (taken_at item p).calls item.slot
-    ∙ ap (out_at r.casts item.slot) (called_there p.calls item.slot (Take item))
-    ∙ newly_after (out_at r.casts item.slot (p.calls item.slot)) (out_at r.casts item.slot (Take item ∷ p.calls item.slot)) v delivers
+    ∙ ap (out_at_slot r.casts item.slot) (called_there p.calls item.slot (Take item))
+    ∙ newly_after (out_at_slot r.casts item.slot (p.calls item.slot)) (out_at_slot r.casts item.slot (Take item ∷ p.calls item.slot)) v delivers
 
 -- these calls, and later ones
 abbrev pub GrowsTo : List Call → List Call → Type 0

@@ -11,7 +11,7 @@ use Rattle.layer_api.specs.HasLaws.{has_listed, listed_has}
 use Rattle.frame_codec.specs.Body.{IsInGrammar}
 use Rattle.keyed_channel.specs.KeyRow.{KeyRow}
 use Rattle.keyed_channel.specs.Frames.{sealed}
-use Rattle.ritas_core.specs.Rules.{Rules, due_at}
+use Rattle.ritas_core.specs.Rules.{Rules, due_at_slot}
 use Rattle.ritas_core.specs.Parts.{Entry, parts}
 use Rattle.ritas_core.specs.Order.{new_messages, sent_to}
 use Rattle.ritas_core.specs.Checks.{IsHistory}
@@ -37,11 +37,11 @@ sent_later r laws h e j x sent = record {
 
 -- it is due at its slot
 pub sent_is_due : (r : Rules) (h : List Entry) (j : ℕ) (x : Item) → r.casts.me ≡ x.from → IsSent r h j x →
-    IsDueTo (due_at r.casts x.slot ((parts r h).calls x.slot)) j x
+    IsDueTo (due_at_slot r.casts x.slot ((parts r h).calls x.slot)) j x
 sent_is_due r h j x own sent = record {
   message = sent.message;
-  listed = subst (λ (s : Slot). Has (due_at r.casts s ((parts r h).calls s)) sent.message) (ap (λ (y : Item). y.slot) sent.same)
-      (has_listed (due_at r.casts sent.message.slot ((parts r h).calls sent.message.slot)) sent.message sent.due);
+  listed = subst (λ (s : Slot). Has (due_at_slot r.casts s ((parts r h).calls s)) sent.message) (ap (λ (y : Item). y.slot) sent.same)
+      (has_listed (due_at_slot r.casts sent.message.slot ((parts r h).calls sent.message.slot)) sent.message sent.due);
   reached = sent.reached;
   same = subst (λ (k : ℕ). item_of k sent.message ≡ x) own sent.same;
 }

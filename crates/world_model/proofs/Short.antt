@@ -9,8 +9,8 @@ use Rattle.layer_api.specs.Service.{ServiceRules}
 use Rattle.keyed_channel.specs.Frames.{sealed}
 use Rattle.replica.specs.Frames.{body_of, made_for}
 use Rattle.world_model.specs.World.{Setting, rules_at, states_of}
-use Rattle.world_model.specs.Players.{Cast, Scene, Player, Correct, Face, IsPlayer, made_as, scene_of, frames_of}
-use Rattle.world_model.specs.Forging.{Shows, ShortLaw}
+use Rattle.world_model.specs.Players.{Cast, Scene, Player, Correct, Face, IsPlayer, frames_shown_as, scene_of, player_frames}
+use Rattle.world_model.specs.Forging.{IsFaceView, ShortLaw}
 use Rattle.world_model.proofs.Below.{founded_at}
 use Rattle.world_model.proofs.Carrying.{shown_sent}
 use Rattle.world_model.proofs.Fair.{IsFair, AreLayers}
@@ -28,8 +28,8 @@ seal_short service other layers w fair i j seq m bytes me good is =
     let whole : length bytes ≡ length (sealed (w.keys i) j seq (body_of (w.keys i).me m)) = ap length is in
     omega (arith, own, more, most, whole)
 
-frames_short : (service : ServiceRules) (other : BroadcastRules) → AreLayers service other → (w : Setting) (c : Cast) (s : Scene) → IsFair w → Shows w c.shown → IsSafe w c s
-    → (x : Player) → IsPlayer w c x → (j : ℕ) (bytes : List ℕ) → Has (frames_of w c s x j) bytes → length bytes ≤ 16384
+frames_short : (service : ServiceRules) (other : BroadcastRules) → AreLayers service other → (w : Setting) (c : Cast) (s : Scene) → IsFair w → IsFaceView w c.shown → IsSafe w c s
+    → (x : Player) → IsPlayer w c x → (j : ℕ) (bytes : List ℕ) → Has (player_frames w c s x j) bytes → length bytes ≤ 16384
 frames_short service other layers w c s fair shows safe (Correct i) plays j bytes there =
     let below = fair.sound.world.within i plays in
     let h = (states_of w s.events i).history in
@@ -40,7 +40,7 @@ frames_short service other layers w c s fair shows safe (Face a) plays j bytes t
     let i = c.number a in
     let h = (s.faces a).history in
     let f = shown_sent c.shown (rules_at w i) (founded_at w fair.sound i plays.1) (w.keys i) h (safe.players.face a plays).met j bytes
-    (reverse_listed (made_as c.shown (rules_at w i) (w.keys i) h j) bytes there) in
+    (reverse_listed (frames_shown_as c.shown (rules_at w i) (w.keys i) h j) bytes there) in
     seal_short service other layers w fair i j f.seq (c.shown f.message) bytes (fair.sound.world.channel.own i plays.1).0 (shows.good i f.message f.good) f.is_seal
 
 pub short_law : (service : ServiceRules) (other : BroadcastRules) → AreLayers service other → ShortLaw service other

@@ -26,7 +26,7 @@ use Rattle.world_model.specs.OneValueEach.{Codec}
 use Rattle.world_model.specs.CoreLaws.{CoreLaws}
 use Rattle.world_model.specs.EveryWorld.{IsWorld}
 use Rattle.world_model.specs.Stands.{frames_from}
-use Rattle.world_model.specs.Players.{Cast, Face, Step, AreSteps, made_as, frames_of, scene_of}
+use Rattle.world_model.specs.Players.{Cast, Face, Step, AreSteps, frames_shown_as, player_frames, scene_of}
 use Rattle.world_model.specs.FaceWorlds.{faces_world, IsLetter, told_to, IsShownAs, AreShownAs, ShownLaw, PlainLaw}
 use Rattle.world_model.proofs.Below.{IsFounded}
 use Rattle.world_model.proofs.Members.{has_passing}
@@ -38,12 +38,12 @@ use Rattle.world_model.proofs.FaceStates.{replica_there, face_law}
 -- ---- the frames of a face, and those of its replica, are made of one history
 
 face_frames : (w : Setting) (c : Cast) (face : ℕ → ℕ) (steps : List Step) → IsLetter c face → AreSteps w c steps → (i j : ℕ) → w.is_correct i ≡ false → i < w.numbers.n
-    → frames_of w c (scene_of w c steps) (Face (face i)) j
-    ≡ reverse (made_as c.shown (rules_at w i) (w.keys i) (states_of (faces_world w) (told_to w c face steps) i).history j)
+    → player_frames w c (scene_of w c steps) (Face (face i)) j
+    ≡ reverse (frames_shown_as c.shown (rules_at w i) (w.keys i) (states_of (faces_world w) (told_to w c face steps) i).history j)
 face_frames w c face steps letter are i j faulty below =
     let s = scene_of w c steps in
-    ap (λ (k : ℕ). reverse (made_as c.shown (rules_at w k) (w.keys k) (s.faces (face i)).history j)) (letter.number i)
-    ∙ ap (λ (st : CoreState). reverse (made_as c.shown (rules_at w i) (w.keys i) st.history j)) (face_law w c face steps letter are i faulty below)
+    ap (λ (k : ℕ). reverse (frames_shown_as c.shown (rules_at w k) (w.keys k) (s.faces (face i)).history j)) (letter.number i)
+    ∙ ap (λ (st : CoreState). reverse (frames_shown_as c.shown (rules_at w i) (w.keys i) st.history j)) (face_law w c face steps letter are i faulty below)
 
 frames_there : (w : Setting) (states : ℕ → CoreState) (i j : ℕ) → w.is_correct i ≡ true → i ≢ j
     → frames_from w states i j ≡ reverse (made_for (rules_at w i) (w.keys i) (states i).history j)
@@ -53,7 +53,7 @@ frames_there w states i j right differ =
 
 -- ---- where each message is shown as it is
 
-plain_made : (shown : Msg → Msg) → ((m : Msg) → shown m ≡ m) → (r : Rules) (k : KeyRow) (h : List Entry) (j : ℕ) → made_as shown r k h j ≡ made_for r k h j
+plain_made : (shown : Msg → Msg) → ((m : Msg) → shown m ≡ m) → (r : Rules) (k : KeyRow) (h : List Entry) (j : ℕ) → frames_shown_as shown r k h j ≡ made_for r k h j
 plain_made shown plain r k [] j = refl
 plain_made shown plain r k (e ∷ h) j =
     let ms = sent_to j (new_messages r h e) in
@@ -114,13 +114,13 @@ onto_shown w c i j own (m ∷ ms) good made shown are =
 
 -- the frames of a history
 made_shown : (w : Setting) (c : Cast) (i j : ℕ) → IsFounded (rules_at w i) → (w.keys i).me ≡ i → (h : List Entry) → IsHistory (rules_at w i) h
-    → AreShownAs w c i j (reverse (made_for (rules_at w i) (w.keys i) h j)) (reverse (made_as c.shown (rules_at w i) (w.keys i) h j))
+    → AreShownAs w c i j (reverse (made_for (rules_at w i) (w.keys i) h j)) (reverse (frames_shown_as c.shown (rules_at w i) (w.keys i) h j))
 made_shown w c i j laws own [] met = record { many = refl; each = λ m bytes there. absurd (cc) }
 made_shown w c i j laws own (e ∷ h) met =
     let r = rules_at w i in
     onto_shown w c i j own (sent_to j (new_messages r h e))
     (λ m there. laws.core.sent r laws.layers h e met m (has_passing (λ (x : Msg). reaches x.to j) (new_messages r h e) m there).0)
-    (made_for r (w.keys i) h j) (made_as c.shown r (w.keys i) h j) (made_shown w c i j laws own h met.1)
+    (made_for r (w.keys i) h j) (frames_shown_as c.shown r (w.keys i) h j) (made_shown w c i j laws own h met.1)
 
 -- ---- every world
 
@@ -159,5 +159,5 @@ shown_law service other values words opened codec core w c face steps play lette
     let P : List (List ℕ) → List (List ℕ) → Type 0 = AreShownAs w c i j in
     let h = (states i).history in
     subst (P (frames_from (faces_world w) states i j)) (sym (face_frames w c face steps letter play.steps_are i j faulty below))
-    (subst (λ xs. P xs (reverse (made_as c.shown (rules_at w i) (w.keys i) h j))) (sym (frames_there (faces_world w) states i j (replica_there w i faulty below) differ))
+    (subst (λ xs. P xs (reverse (frames_shown_as c.shown (rules_at w i) (w.keys i) h j))) (sym (frames_there (faces_world w) states i j (replica_there w i faulty below) differ))
     (made_shown w c i j (all.founded i below) (play.kind.own i below).0 h (well_after (faces_world w) (laid_there w all) es i below).met))

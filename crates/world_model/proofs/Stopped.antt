@@ -14,9 +14,9 @@ use Rattle.ritas_core.specs.declared.fault.CoreFault.TheVariants as faults
 use Rattle.ritas_core.specs.declared.verdict.Verdict.{Verdict}
 use Rattle.ritas_core.specs.Rules.{Rules}
 use Rattle.ritas_core.specs.Machine as core
-use Rattle.ritas_core.specs.Machine.{CoreState, What, Moved, stays, gives, given_input, turned, moved_live, moved, with_entry, with_lost}
-use Rattle.ritas_core.specs.Calls.{IsStep, TakesFront, front_entry, entry_of}
-use Rattle.replica.specs.Handling.{Call, Frame, Input, Turn, given_body, given_frame, handled}
+use Rattle.ritas_core.specs.Machine.{CoreState, What, Moved, stays, gives_item, given_input, turned, moved_live, moved, with_entry, with_lost}
+use Rattle.ritas_core.specs.Calls.{IsCoreStep, TakesFront, front_entry, entry_of_call}
+use Rattle.replica.specs.Handling.{ReplicaCall, Frame, Input, Turn, given_body, given_frame, handled}
 use Rattle.replica.specs.Stands.{body_given, frame_given, core_call}
 use Rattle.world_model.specs.World.{Setting, rules_at, CallAt, call_of, after_call, states_of}
 use Rattle.world_model.specs.Agree.{rows_at}
@@ -29,16 +29,16 @@ use Rattle.world_model.proofs.Positions.{row_in_part, one_row, has_row_at, part_
 turn_takes : (r : Rules) (st : CoreState) (waiting : List Item) → TakesFront r st waiting
     → (turned r st waiting).state.history ≡ with_entry (front_entry waiting) st.history
 turn_takes r st [] step = absurd (step)
-turn_takes r st (item ∷ waiting) step = ap (λ (v : Verdict). (gives r st item waiting v).state.history) step
+turn_takes r st (item ∷ waiting) step = ap (λ (v : Verdict). (gives_item r st item waiting v).state.history) step
 
-live_takes : (r : Rules) (st : CoreState) (what : What) → IsStep r st what
-    → (moved_live r st what).state.history ≡ with_entry (entry_of st what) st.history
-live_takes r st (core.Frame item) step = ap (λ (v : Verdict). (gives r st item st.inbox v).state.history) step
+live_takes : (r : Rules) (st : CoreState) (what : What) → IsCoreStep r st what
+    → (moved_live r st what).state.history ≡ with_entry (entry_of_call st what) st.history
+live_takes r st (core.Frame item) step = ap (λ (v : Verdict). (gives_item r st item st.inbox v).state.history) step
 live_takes r st (core.Input value) step = ap (λ (check : Option CoreFault). (given_input r st value check).state.history) step
 live_takes r st core.Turn step = turn_takes r st st.inbox step
 
-moved_takes : (r : Rules) (st : CoreState) (what : What) → st.live ≡ true → IsStep r st what
-    → (moved r st what).state.history ≡ with_entry (entry_of st what) st.history
+moved_takes : (r : Rules) (st : CoreState) (what : What) → st.live ≡ true → IsCoreStep r st what
+    → (moved r st what).state.history ≡ with_entry (entry_of_call st what) st.history
 moved_takes r st what live step =
     ap (λ (did : Moved). did.state.history) (cond-true st.live (moved_live r st what) (stays st st.inbox (Err faults.Stopped)) live)
     ∙ live_takes r st what step
@@ -55,14 +55,14 @@ frame_takes : (r : Rules) (k : KeyRow) (st : CoreState) (opened : Result Opening
 frame_takes r k st (Ok o) what is = body_takes r k st (body_answer r.casts.numbers r.mode o.from o.body) what is
 frame_takes r k st (Err fault) what is = absurd (cc)
 
-call_takes : (r : Rules) (k : KeyRow) (st : CoreState) (call : Call) (what : What) → core_call r k call ≡ Some what
+call_takes : (r : Rules) (k : KeyRow) (st : CoreState) (call : ReplicaCall) (what : What) → core_call r k call ≡ Some what
     → (handled r k st call).state ≡ (moved r st what).state
 call_takes r k st (Frame bytes) what is = frame_takes r k st (opening k bytes) what is
 call_takes r k st (Input bytes) what is = ap (λ (x : What). (moved r st x).state) (same_Some (core.Input bytes) what is)
 call_takes r k st Turn what is = ap (λ (x : What). (moved r st x).state) (same_Some core.Turn what is)
 
 -- the state of the replica that is called
-state_called : (w : Setting) (states : ℕ → CoreState) (i : ℕ) (call : Call) (c : Option CallAt) → c ≡ Some (record { at = i; call = call })
+state_called : (w : Setting) (states : ℕ → CoreState) (i : ℕ) (call : ReplicaCall) (c : Option CallAt) → c ≡ Some (record { at = i; call = call })
     → after_call w states c i ≡ (handled (rules_at w i) (w.keys i) (states i) call).state
 state_called w states i call c is =
     ap (λ (x : Option CallAt). after_call w states x i) is

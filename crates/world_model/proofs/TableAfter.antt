@@ -19,7 +19,7 @@ use Rattle.ritas_core.specs.Machine as core
 use Rattle.ritas_core.specs.Machine.{CoreState, What, moved}
 use Rattle.replica.specs.declared.frame.OutFrame.{OutFrame}
 use Rattle.replica.specs.Frames.{frames_of, frame_for, receivers, count_for, made_for}
-use Rattle.replica.specs.Handling.{Call, Frame, Input, Turn, handled, given_frame, given_body}
+use Rattle.replica.specs.Handling.{ReplicaCall, Frame, Input, Turn, handled, given_frame, given_body}
 use Rattle.replica.specs.MovesLaws.{moved_view}
 use Rattle.replica.specs.Laws.{MadeByEntry}
 use Rattle.world_model.specs.declared.seats.Seats.{Seats}
@@ -64,7 +64,7 @@ frame_makes : MadeByEntry → (r : Rules) (k : KeyRow) (st : CoreState) (opened 
 frame_makes made r k st (Ok o) = body_makes made r k st (body_answer r.casts.numbers r.mode o.from o.body)
 frame_makes made r k st (Err fault) = none_made r k st st [] refl refl
 
-pub handled_makes : MadeByEntry → (r : Rules) (k : KeyRow) (st : CoreState) (call : Call) → Makes r k st (handled r k st call).state (handled r k st call).out
+pub handled_makes : MadeByEntry → (r : Rules) (k : KeyRow) (st : CoreState) (call : ReplicaCall) → Makes r k st (handled r k st call).state (handled r k st call).out
 handled_makes made r k st (Frame bytes) = frame_makes made r k st (opening k bytes)
 handled_makes made r k st (Input bytes) = moved_makes made r k st (core.Input bytes)
 handled_makes made r k st Turn = moved_makes made r k st core.Turn

@@ -16,9 +16,9 @@ use Rattle.ritas_core.specs.declared.verdict.Verdict.TheVariants as verdicts
 use Rattle.ritas_core.specs.Rules.{Rules}
 use Rattle.ritas_core.specs.Parts.{parts}
 use Rattle.ritas_core.specs.Checks.{verdict_on, input_check}
-use Rattle.ritas_core.specs.Shown.{front_of}
+use Rattle.ritas_core.specs.Shown.{first_waiting}
 use Rattle.ritas_core.specs.Machine as core
-use Rattle.ritas_core.specs.Machine.{CoreState, What, Moved, stays, gives, given_input, turned, moved_live, moved}
+use Rattle.ritas_core.specs.Machine.{CoreState, What, Moved, stays, gives_item, given_input, turned, moved_live, moved}
 use Rattle.replica.specs.Handling.{Frame, Input, Turn, Handled, core_answer, given_body, given_frame, handled}
 use Rattle.world_model.specs.declared.seats.Seats.{Seats}
 use Rattle.world_model.specs.declared.seen.Seen.{Seen}
@@ -26,7 +26,7 @@ use Rattle.world_model.specs.World.{Setting, rules_at, CallAt, call_at, seen_ans
 use Rattle.world_model.specs.Audit.{newest_item}
 use Rattle.world_model.specs.Stands.{SeatsStand}
 use Rattle.world_model.specs.Watch.{item_taken, watched, IsGoodIf}
-use Rattle.world_model.specs.Steps.{is_took, IsFront, IsFrameItem}
+use Rattle.world_model.specs.Steps.{is_took, IsInboxFront, IsFrameItem}
 use Rattle.world_model.proofs.Forging.{IsOpened, what_opened}
 use Rattle.world_model.proofs.Histories.{newest_taken, newest_none}
 
@@ -36,13 +36,13 @@ use Rattle.world_model.proofs.Histories.{newest_taken, newest_none}
 abbrev pub offered : CoreState → What → Option Item
 offered st (core.Frame item) = Some item
 offered st (core.Input v) = None
-offered st core.Turn = front_of st.inbox
+offered st core.Turn = first_waiting st.inbox
 
 -- a move takes what was offered, where it was taken
 abbrev pub Takes : CoreState → Option Item → Moved → Type 0
 Takes st item did = newest_item st.history did.state.history ≡ (if is_took (seen_answer (core_answer did.answer)) then item else None)
 
-gives_takes : (r : Rules) (st : CoreState) (item : Item) (waiting : List Item) (v : Verdict) → Takes st (Some item) (gives r st item waiting v)
+gives_takes : (r : Rules) (st : CoreState) (item : Item) (waiting : List Item) (v : Verdict) → Takes st (Some item) (gives_item r st item waiting v)
 gives_takes r st item waiting (verdicts.Refuse fault) = newest_none st.history
 gives_takes r st item waiting verdicts.Again = newest_none st.history
 gives_takes r st item waiting verdicts.Hold = newest_none st.history
@@ -52,7 +52,7 @@ input_takes : (r : Rules) (st : CoreState) (v : List ℕ) (check : Option CoreFa
 input_takes r st v (Some fault) = newest_none st.history
 input_takes r st v None = refl
 
-turn_takes : (r : Rules) (st : CoreState) (waiting : List Item) → Takes st (front_of waiting) (turned r st waiting)
+turn_takes : (r : Rules) (st : CoreState) (waiting : List Item) → Takes st (first_waiting waiting) (turned r st waiting)
 turn_takes r st [] = newest_none st.history
 turn_takes r st (item ∷ waiting) = gives_takes r st item waiting (verdict_on r (parts r st.history) st.held item)
 
@@ -180,27 +180,27 @@ input_item_is w states at bytes taken none = input_either w states at bytes take
 
 -- ---- a turn
 
-front_either : (w : Setting) (states : ℕ → CoreState) (c : Option CallAt) (at : ℕ) (taken front : Option Item) (seen : Seen) (b : Bool) → is_took seen ≡ b → IsFront w states at front →
-    taken ≡ (if is_took seen then front else None) → item_taken w states c ≡ (if is_took seen then front_of (states at).inbox else None) → IsItemOf w states c taken
+front_either : (w : Setting) (states : ℕ → CoreState) (c : Option CallAt) (at : ℕ) (taken front : Option Item) (seen : Seen) (b : Bool) → is_took seen ≡ b → IsInboxFront w states at front →
+    taken ≡ (if is_took seen then front else None) → item_taken w states c ≡ (if is_took seen then first_waiting (states at).inbox else None) → IsItemOf w states c taken
 front_either w states c at taken front seen true took first is takes =
     let here : taken ≡ front = is ∙ ap (λ x. if x then front else None) took in
-    let there = takes ∙ ap (λ x. if x then front_of (states at).inbox else None) took in
+    let there = takes ∙ ap (λ x. if x then first_waiting (states at).inbox else None) took in
     record {
       is = here ∙ first.is ∙ sym (ap (watched w.mode) there);
       good = subst (λ (o : Option Item). IsGoodIf w o) (sym there) first.good;
     }
 front_either w states c at taken front seen false took first is takes =
-    no_item w states c taken (is ∙ none_either (is_took seen) front took) (takes ∙ none_either (is_took seen) (front_of (states at).inbox) took)
+    no_item w states c taken (is ∙ none_either (is_took seen) front took) (takes ∙ none_either (is_took seen) (first_waiting (states at).inbox) took)
 
-turn_either : (w : Setting) (states : ℕ → CoreState) (at : ℕ) (taken front : Option Item) (seen : Seen) (b : Bool) → (b ≡ true → IsFront w states at front) →
+turn_either : (w : Setting) (states : ℕ → CoreState) (at : ℕ) (taken front : Option Item) (seen : Seen) (b : Bool) → (b ≡ true → IsInboxFront w states at front) →
     taken ≡ (if is_took seen then front else None) → seen ≡ seen_call w states (if b then Some (record { at = at; call = Turn }) else None) →
     IsItemOf w states (if b then Some (record { at = at; call = Turn }) else None) taken
 turn_either w states at taken front seen true first is saw =
     front_either w states (Some (record { at = at; call = Turn })) at taken front seen (is_took seen) refl (first refl) is
-    (moved_takes (rules_at w at) (states at) core.Turn ∙ ap (λ s. if is_took s then front_of (states at).inbox else None) (sym saw))
+    (moved_takes (rules_at w at) (states at) core.Turn ∙ ap (λ s. if is_took s then first_waiting (states at).inbox else None) (sym saw))
 turn_either w states at taken front seen false first is saw =
     no_item w states None taken (is ∙ none_either (is_took seen) front (ap is_took saw)) refl
 
-pub turn_item_is : (w : Setting) (states : ℕ → CoreState) (at : ℕ) (taken front : Option Item) (seen : Seen) → (w.is_correct at ≡ true → IsFront w states at front) →
+pub turn_item_is : (w : Setting) (states : ℕ → CoreState) (at : ℕ) (taken front : Option Item) (seen : Seen) → (w.is_correct at ≡ true → IsInboxFront w states at front) →
     taken ≡ (if is_took seen then front else None) → seen ≡ seen_call w states (call_at w at Turn) → IsItemOf w states (call_at w at Turn) taken
 turn_item_is w states at taken front seen first is saw = turn_either w states at taken front seen (w.is_correct at) first is saw

@@ -9,13 +9,13 @@ use Rattle.layer_api.specs.Service.{ServiceRules}
 use Rattle.ritas_core.specs.Parts.{Entry}
 use Rattle.ritas_core.specs.Machine.{CoreState, first_state}
 use Rattle.replica.specs.Frames.{made_for}
-use Rattle.replica.specs.Handling.{Call, Frame, Input, Turn, handled}
+use Rattle.replica.specs.Handling.{ReplicaCall, Frame, Input, Turn, handled}
 use Rattle.world_model.specs.declared.audit.Audit.{Audit}
 use Rattle.world_model.specs.declared.audit.Audit.TheVariants as audits
-use Rattle.world_model.specs.World.{Setting, rules_at, CallAt, frame_at, passed, call_of, after_call, states_of}
+use Rattle.world_model.specs.World.{Setting, rules_at, CallAt, frame_call, frame_passed, call_of, after_call, states_of}
 use Rattle.world_model.specs.Audit.{is_forged_call, is_forged_at, is_forged, is_colliding, broken_by, judged, first_broken}
-use Rattle.world_model.specs.Players.{Cast, Scene, Player, Correct, Face, Step, Give, Go, Carry, Throw, IsPlayer, IsStep, AreSteps, number_of, made_as, frames_of, happened, happened_if, faced, faced_if, after, first_scene, scene_of, events_of, thrown}
-use Rattle.world_model.specs.Forging.{Shows, ForgesNothing, IsPlay, ForgingLaw, PlayedAudit}
+use Rattle.world_model.specs.Players.{Cast, Scene, Player, Correct, Face, Step, Give, Go, Carry, Throw, IsPlayer, IsStep, AreSteps, number_of, frames_shown_as, player_frames, happened, happened_if, faced, faced_if, scene_after, first_scene, scene_of, events_of, thrown}
+use Rattle.world_model.specs.Forging.{IsFaceView, ForgesNothing, IsPlay, ForgingLaw, PlayedAudit}
 use Rattle.world_model.proofs.Members.{reverse_listed, got_listed}
 use Rattle.world_model.proofs.Stored.{none_held}
 use Rattle.world_model.proofs.Worlds.{histories_of}
@@ -67,22 +67,22 @@ event_safe w c s fair safe e calls =
     }
 
 -- what a call at a replica is
-call_if : (w : Setting) (states : ℕ → CoreState) (j : ℕ) (call : Call) (b : Bool) → w.is_correct j ≡ b
+call_if : (w : Setting) (states : ℕ → CoreState) (j : ℕ) (call : ReplicaCall) (b : Bool) → w.is_correct j ≡ b
     → (w.is_correct j ≡ true → IsFairCall w states (record { at = j; call = call }))
     → (x : CallAt) → (if b then Some (record { at = j; call = call }) else None) ≡ Some x → IsFairCall w states x
 call_if w states j call true is fair x e = subst (λ (y : CallAt). IsFairCall w states y) (let same : record { at = j; call = call } ≡ x = cc in same) (fair is)
 call_if w states j call false is fair x e = absurd cc
 
 -- ---- the frames of players
-comes_to : (w : Setting) (c : Cast) (s : Scene) → IsFair w → Shows w c.shown → IsSafe w c s → (x : Player) (j m : ℕ) (bytes : List ℕ) → IsPlayer w c x → j < w.numbers.n → number_of c x ≢ j
-    → slice_get (frames_of w c s x j) m ≡ Some bytes → ComesFrom w (hist_of w s) (number_of c x) j bytes
+comes_to : (w : Setting) (c : Cast) (s : Scene) → IsFair w → IsFaceView w c.shown → IsSafe w c s → (x : Player) (j m : ℕ) (bytes : List ℕ) → IsPlayer w c x → j < w.numbers.n → number_of c x ≢ j
+    → slice_get (player_frames w c s x j) m ≡ Some bytes → ComesFrom w (hist_of w s) (number_of c x) j bytes
 comes_to w c s fair shows safe (Correct i) j m bytes plays below other got =
     let states = states_of w s.events in
     made_comes w fair (hist_of w s) i j (states i) (fair.sound.world.within i plays) below other (safe.players.correct i plays) (λ good slot entry there. there) bytes
     (reverse_listed (made_for (rules_at w i) (w.keys i) (states i).history j) bytes (got_listed _ m bytes got))
 comes_to w c s fair shows safe (Face a) j m bytes plays below other got =
     shown_comes w fair c shows (hist_of w s) (c.number a) j (s.faces a) plays.0 plays.1 below other (safe.players.face a plays) bytes
-    (reverse_listed (made_as c.shown (rules_at w (c.number a)) (w.keys (c.number a)) (s.faces a).history j) bytes (got_listed _ m bytes got))
+    (reverse_listed (frames_shown_as c.shown (rules_at w (c.number a)) (w.keys (c.number a)) (s.faces a).history j) bytes (got_listed _ m bytes got))
 
 -- ---- a call on a face
 faces_at : (w : Setting) (c : Cast) (hist : ℕ → List Entry) (faces : ℕ → CoreState) (a : ℕ) (new : CoreState) → IsPlaying w hist (c.number a) new → (b : ℕ) (t : Bool) → (a == b) ≡ t
@@ -90,7 +90,7 @@ faces_at : (w : Setting) (c : Cast) (hist : ℕ → List Entry) (faces : ℕ →
 faces_at w c hist faces a new plays b true here old = subst (λ (q : ℕ). IsPlaying w hist (c.number q) new) (eqb-true a b here) plays
 faces_at w c hist faces a new plays b false here old = old
 
-faced_safe : (w : Setting) (c : Cast) (s : Scene) → IsFair w → IsSafe w c s → (a : ℕ) → IsPlayer w c (Face a) → (call : Call) → IsHonestCall w (hist_of w s) (c.number a) call
+faced_safe : (w : Setting) (c : Cast) (s : Scene) → IsFair w → IsSafe w c s → (a : ℕ) → IsPlayer w c (Face a) → (call : ReplicaCall) → IsHonestCall w (hist_of w s) (c.number a) call
     → IsSafe w c (faced w c s a call)
 faced_safe w c s fair safe a plays call honest =
     let i = c.number a in
@@ -126,8 +126,8 @@ framed_got : (w : Setting) (c : Cast) (s : Scene) → IsFair w → IsSafe w c s 
 framed_got w c s fair safe i j faulty None comes = safe
 framed_got w c s fair safe i j faulty (Some bytes) comes = framed w c s fair safe i j bytes faulty (λ good. comes bytes refl)
 
-passed_call : (w : Setting) (c : Cast) (s : Scene) → IsFair w → Shows w c.shown → IsSafe w c s → (i j m : ℕ) → w.is_correct i ≡ true → w.is_correct j ≡ true → i ≢ j
-    → (o : Option (List ℕ)) → slice_get (frames_of w c s (Correct i) j) m ≡ o → (x : CallAt) → frame_at w j o ≡ Some x → IsFairCall w (states_of w s.events) x
+passed_call : (w : Setting) (c : Cast) (s : Scene) → IsFair w → IsFaceView w c.shown → IsSafe w c s → (i j m : ℕ) → w.is_correct i ≡ true → w.is_correct j ≡ true → i ≢ j
+    → (o : Option (List ℕ)) → slice_get (player_frames w c s (Correct i) j) m ≡ o → (x : CallAt) → frame_call w j o ≡ Some x → IsFairCall w (states_of w s.events) x
 passed_call w c s fair shows safe i j m correct good other None got x e = absurd cc
 passed_call w c s fair shows safe i j m correct good other (Some bytes) got x e =
     let states = states_of w s.events in
@@ -139,10 +139,10 @@ passed_call w c s fair shows safe i j m correct good other (Some bytes) got x e 
       made = unforged_made w states i j bytes (reverse_listed (made_for (rules_at w i) (w.keys i) (states i).history j) bytes (got_listed _ m bytes got)) comes.sender;
     }) x e
 
-passed_is : (w : Setting) (states : ℕ → CoreState) (i j m : ℕ) → w.is_correct i ≡ true → passed w states i j m ≡ slice_get (reverse (made_for (rules_at w i) (w.keys i) (states i).history j)) m
+passed_is : (w : Setting) (states : ℕ → CoreState) (i j m : ℕ) → w.is_correct i ≡ true → frame_passed w states i j m ≡ slice_get (reverse (made_for (rules_at w i) (w.keys i) (states i).history j)) m
 passed_is w states i j m correct = ap (λ (b : Bool). if b then slice_get (reverse (made_for (rules_at w i) (w.keys i) (states i).history j)) m else None) correct
 
-step_safe : (w : Setting) (c : Cast) → IsFair w → Shows w c.shown → (s : Scene) → IsSafe w c s → (step : Step) → IsStep w c step → IsSafe w c (after w c s step)
+step_safe : (w : Setting) (c : Cast) → IsFair w → IsFaceView w c.shown → (s : Scene) → IsSafe w c s → (step : Step) → IsStep w c step → IsSafe w c (scene_after w c s step)
 step_safe w c fair shows s safe (Give (Correct i) v) is =
     let states = states_of w s.events in
     event_safe w c s fair safe (events.Input i v) (call_if w states i (Input v) (w.is_correct i) refl (λ good. record { correct = good; honest = tt; made = refl }))
@@ -154,15 +154,15 @@ step_safe w c fair shows s safe (Go (Face a)) is = faced_safe w c s fair safe a 
 step_safe w c fair shows s safe (Carry (Correct i) (Correct j) m) is =
     let states = states_of w s.events in
     event_safe w c s fair safe (events.Pass i j m)
-    (λ x e. passed_call w c s fair shows safe i j m is.0 is.1 is.2 (passed w states i j m) (sym (passed_is w states i j m is.0)) x e)
+    (λ x e. passed_call w c s fair shows safe i j m is.0 is.1 is.2 (frame_passed w states i j m) (sym (passed_is w states i j m is.0)) x e)
 step_safe w c fair shows s safe (Carry (Face a) (Correct j) m) is =
-    framed_got w c s fair safe (c.number a) j is.0.0 (slice_get (frames_of w c s (Face a) j) m)
+    framed_got w c s fair safe (c.number a) j is.0.0 (slice_get (player_frames w c s (Face a) j) m)
     (λ bytes got. comes_to w c s fair shows safe (Face a) j m bytes is.0 (fair.sound.world.within j is.1) is.2 got)
 step_safe w c fair shows s safe (Carry (Correct i) (Face b) m) is =
-    faced_got w c s fair safe b is.1 (slice_get (frames_of w c s (Correct i) (c.number b)) m)
+    faced_got w c s fair safe b is.1 (slice_get (player_frames w c s (Correct i) (c.number b)) m)
     (λ bytes got. (comes_to w c s fair shows safe (Correct i) (c.number b) m bytes is.0 is.1.1 is.2 got).honest)
 step_safe w c fair shows s safe (Carry (Face a) (Face b) m) is =
-    faced_got w c s fair safe b is.1 (slice_get (frames_of w c s (Face a) (c.number b)) m)
+    faced_got w c s fair safe b is.1 (slice_get (player_frames w c s (Face a) (c.number b)) m)
     (λ bytes got. (comes_to w c s fair shows safe (Face a) (c.number b) m bytes is.0 is.1.1 is.2 got).honest)
 step_safe w c fair shows s safe (Throw from j rest) is =
     framed w c s fair safe from j (thrown w.mode.version from j rest) is (λ good. thrown_comes w (hist_of w s) w.mode.version from j rest)
@@ -180,7 +180,7 @@ first_safe w c = record {
   clean = tt;
 }
 
-all_safe : (w : Setting) (c : Cast) → IsFair w → Shows w c.shown → (steps : List Step) → AreSteps w c steps → IsSafe w c (scene_of w c steps)
+all_safe : (w : Setting) (c : Cast) → IsFair w → IsFaceView w c.shown → (steps : List Step) → AreSteps w c steps → IsSafe w c (scene_of w c steps)
 all_safe w c fair shows [] are = first_safe w c
 all_safe w c fair shows (step ∷ steps) are = step_safe w c fair shows (scene_of w c steps) (all_safe w c fair shows steps are.1) step are.0
 

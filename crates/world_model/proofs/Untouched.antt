@@ -10,10 +10,10 @@ use Rattle.ritas_core.specs.Machine.{CoreState}
 use Rattle.replica.specs.Frames.{made_for}
 use Rattle.replica.specs.Laws.{MadeByEntry}
 use Rattle.replica.specs.Handling.{Frame, Input, Turn}
-use Rattle.world_model.specs.World.{Setting, rules_at, CallAt, frame_at, passed, call_of, handled_at, after_call, states_of, states_before}
+use Rattle.world_model.specs.World.{Setting, rules_at, CallAt, frame_call, frame_passed, call_of, handled_at, after_call, states_of, states_before}
 use Rattle.world_model.specs.Watch.{IsAt}
 use Rattle.world_model.specs.FramesMade.{frames_to}
-use Rattle.world_model.specs.MadeOrder.{MadeFrame, all_made, frames_in}
+use Rattle.world_model.specs.MadeOrder.{MadeFrame, all_made, frames_of_call}
 use Rattle.world_model.specs.Quiet.{comes_to, QuietLaw, OthersLaw}
 use Rattle.world_model.specs.Stands.{frames_from}
 use Rattle.world_model.proofs.Happening.{at_call}
@@ -22,7 +22,7 @@ use Rattle.world_model.proofs.Worlds.{IsAtCorrect, event_at}
 
 -- ---- the replica that an event comes to
 
-at_frame : (w : Setting) (j : ℕ) (frame : Option (List ℕ)) → IsAt w (frame_at w j frame) j
+at_frame : (w : Setting) (j : ℕ) (frame : Option (List ℕ)) → IsAt w (frame_call w j frame) j
 at_frame w j None = tt
 at_frame w j (Some bytes) = at_call w j (Frame bytes)
 
@@ -30,7 +30,7 @@ at_event : (w : Setting) (states : ℕ → CoreState) (e : Event) → IsAt w (ca
 at_event w states (events.Frame to bytes) = at_call w to (Frame bytes)
 at_event w states (events.Input at bytes) = at_call w at (Input bytes)
 at_event w states (events.Turn at) = at_call w at Turn
-at_event w states (events.Pass from to m) = at_frame w to (passed w states from to m)
+at_event w states (events.Pass from to m) = at_frame w to (frame_passed w states from to m)
 at_event w states (events.Sealed from to body) = at_call w to (Frame (sealed (w.keys from) to 0 body))
 
 -- every other one stays as it is
@@ -55,7 +55,7 @@ none_of_none f [] none = refl
 none_of_none f (x ∷ xs) none = absurd (cc)
 
 -- no replica's frames are more
-quiet_called : MadeByEntry → (w : Setting) (states : ℕ → CoreState) (c : Option CallAt) → IsAtCorrect w c → (event : ℕ) → frames_in event w states c ≡ []
+quiet_called : MadeByEntry → (w : Setting) (states : ℕ → CoreState) (c : Option CallAt) → IsAtCorrect w c → (event : ℕ) → frames_of_call event w states c ≡ []
     → (i j : ℕ) → (w.keys i).me ≡ i → j < (w.keys i).n → frames_from w (after_call w states c) i j ≡ frames_from w states i j
 quiet_called made w states None correct event none i j own below = refl
 quiet_called made w states (Some c) correct event none i j own below = elim (eqb_tells c.at i) [
@@ -77,4 +77,4 @@ unfolding states_of all_made
 quiet_law made w es e same i j own below =
     let found = states_before w es in
     let c = call_of w found e in
-    quiet_called made w found c (event_at w found e) (length es) (none_more (all_made w es) (frames_in (length es) w found c) same) i j own below
+    quiet_called made w found c (event_at w found e) (length es) (none_more (all_made w es) (frames_of_call (length es) w found c) same) i j own below

@@ -21,7 +21,7 @@ use Rattle.frame_codec.specs.Body.{IsInGrammar, is_of_form}
 use Rattle.layer_api.specs.Runs.{Has}
 use Rattle.layer_api.specs.HasLaws.{has_either, has_left, has_right}
 use Rattle.layer_api.specs.Entries.{sent, is_claim, is_valid_for, Print, OfMessage, prints_of, is_hashed, prints_at_kind}
-use Rattle.frame_codec.specs.Values.{row_of}
+use Rattle.frame_codec.specs.Values.{column_row}
 use Rattle.keyed_channel.specs.KeyRow.{KeyRow}
 use Rattle.keyed_channel.specs.Keyed.{tags_of}
 use Rattle.ritas_core.specs.Rules.{Rules, place_at}
@@ -36,8 +36,8 @@ use Rattle.world_model.specs.World.{Setting, rules_at, CallAt, handled_at, after
 use Rattle.world_model.specs.Audit.{newest_item, taken_by, calls_at, place_in, given_by, is_among, is_made_up, is_forged_item, is_forged_at, prints_in, prints_by, prints_at, collide, broken_by}
 use Rattle.std.specs.BTreeMap.{BTreeMap}
 use Rattle.world_model.specs.declared.met.SlotAt.{SlotAt}
-use Rattle.world_model.specs.Met.{MetEntries, pair_of, met_with, met_for, given_in, is_expected, is_unknown}
-use Rattle.world_model.specs.Hashed.{met_at, is_same_at, HashedStand, IsDigestOf, prints_with, prints_by_kind, print_of, AreMet, Meets}
+use Rattle.world_model.specs.Met.{MetEntries, pair_of, met_with, met_for, entries_given, is_expected, is_unknown}
+use Rattle.world_model.specs.Hashed.{entries_met_at, is_same_at, HashedStand, IsDigestOf, prints_with, prints_by_kind, print_of, AreMet, Meets}
 use Rattle.world_model.specs.Stands.{SeatsStand}
 use Rattle.world_model.specs.Watch.{IsAt, item_taken, is_watched, watched, IsGoodIf, is_forged_frame, IsTold, TablesStand, WatchStands, verdict_after, met_said, MeetsItem}
 use Rattle.world_model.proofs.Anywhere.{all_fail, any_of, has_among, among_from, has_number}
@@ -157,7 +157,7 @@ tables_stay w states c watch other stand = record {
 -- what the table has of correct replicas is what their keys give
 pub are_met : (w : Setting) (states : ℕ → CoreState) (watch : Watch) → TablesStand w states watch → AreMet w watch.sent.table
 are_met w states watch stand i s met right there =
-    met_as_made (w.keys i) s (sent (place_in w i s) (calls_at w states i s)) (met_at watch.sent.table s i) met (stand.sent i s right) there
+    met_as_made (w.keys i) s (sent (place_in w i s) (calls_at w states i s)) (entries_met_at watch.sent.table s i) met (stand.sent i s right) there
 
 -- ---- columns
 
@@ -169,26 +169,26 @@ expected_at w at echoer s m met many below is =
 
 -- the entries that the table has of an echoer are those that it gave
 listed_at : (w : Setting) (states : ℕ → CoreState) (watch : Watch) (echoer : ℕ) (s : Slot) (echoers : Option MetEntries) → ((w.keys echoer).me ≡ echoer) × ((w.keys echoer).n ≡ w.numbers.n) →
-    TablesStand w states watch → w.is_correct echoer ≡ true → echoers ≡ met_at watch.sent.table s echoer → given_in echoers ≡ given_by w states echoer s
+    TablesStand w states watch → w.is_correct echoer ≡ true → echoers ≡ entries_met_at watch.sent.table s echoer → entries_given echoers ≡ given_by w states echoer s
 listed_at w states watch echoer s echoers own stand right is =
-    ap given_in (is ∙ stand.sent echoer s right)
+    ap entries_given (is ∙ stand.sent echoer s right)
     ∙ given_same (w.keys echoer) (place_in w echoer s) (sym own.0) (sym own.1) (sent (place_in w echoer s) (calls_at w states echoer s))
 
 valid_same : (w : Setting) (states : ℕ → CoreState) (at echoer : ℕ) (m : List ℕ) (x : Item) → (w.keys at).me ≡ at → sent (place_in w at x.slot) (calls_at w states at x.slot) ≡ Some m →
-    is_value ((tags_of (w.keys at)).entry x.slot echoer (w.keys at).me ((tags_of (w.keys at)).digest m)) (row_of x.value echoer)
+    is_value ((tags_of (w.keys at)).entry x.slot echoer (w.keys at).me ((tags_of (w.keys at)).digest m)) (column_row x.value echoer)
     ≡ is_valid_for (place_in w at x.slot) (tags_of (w.keys at)) (sent (place_in w at x.slot) (calls_at w states at x.slot)) x.value echoer
 valid_same w states at echoer m x me said =
-    ap (λ (j : ℕ). is_value ((tags_of (w.keys at)).entry x.slot echoer j ((tags_of (w.keys at)).digest m)) (row_of x.value echoer)) me
+    ap (λ (j : ℕ). is_value ((tags_of (w.keys at)).entry x.slot echoer j ((tags_of (w.keys at)).digest m)) (column_row x.value echoer)) me
     ∙ ap (λ o. is_valid_for (place_in w at x.slot) (tags_of (w.keys at)) o x.value echoer) (sym said)
 
 -- what the tables say of an echoer is what the events say
 pub unknown_is : (w : Setting) (states : ℕ → CoreState) (watch : Watch) (at echoer : ℕ) (m : List ℕ) (x : Item) (met : MetEntries) (echoers : Option MetEntries) →
     ((w.keys at).me ≡ at) × ((w.keys at).n ≡ w.numbers.n) → ((w.keys echoer).me ≡ echoer) × ((w.keys echoer).n ≡ w.numbers.n) → echoer < w.numbers.n →
-    TablesStand w states watch → w.is_correct echoer ≡ true → echoers ≡ met_at watch.sent.table x.slot echoer →
+    TablesStand w states watch → w.is_correct echoer ≡ true → echoers ≡ entries_met_at watch.sent.table x.slot echoer →
     sent (place_in w at x.slot) (calls_at w states at x.slot) ≡ Some m → met ≡ met_with (w.keys at) x.slot ((tags_of (w.keys at)).digest m) → kind_eq x.kind Column ≡ true →
     is_unknown met echoers echoer x.value ≡ is_made_up w states at x echoer
 unknown_is w states watch at echoer m x met echoers own other below stand right found said is column =
-    let row = row_of x.value echoer in
+    let row = column_row x.value echoer in
     ap₂ (λ pair entries. is_expected pair row && not (is_among entries row)) (expected_at w at echoer x.slot m met own.1 below is) (listed_at w states watch echoer x.slot echoers other stand right found)
     ∙ ap (λ v. v && not (is_among (given_by w states echoer x.slot) row)) (valid_same w states at echoer m x own.0 said)
     ∙ ap₂ (λ a b. a && ((b && is_valid_for (place_in w at x.slot) (tags_of (w.keys at)) (sent (place_in w at x.slot) (calls_at w states at x.slot)) x.value echoer)
@@ -197,7 +197,7 @@ unknown_is w states watch at echoer m x met echoers own other below stand right 
 -- no column forges as of an echoer that isn't correct
 pub faulty_fair : (w : Setting) (states : ℕ → CoreState) (at : ℕ) (x : Item) (echoer : ℕ) → w.is_correct echoer ≡ false → false ≡ is_made_up w states at x echoer
 faulty_fair w states at x echoer faulty =
-    ap (λ b. b && (is_claim (place_in w at x.slot) (tags_of (w.keys at)) (calls_at w states at x.slot) x echoer && not (is_among (given_by w states echoer x.slot) (row_of x.value echoer)))) (sym faulty)
+    ap (λ b. b && (is_claim (place_in w at x.slot) (tags_of (w.keys at)) (calls_at w states at x.slot) x echoer && not (is_among (given_by w states echoer x.slot) (column_row x.value echoer)))) (sym faulty)
 
 -- of no message that was sent no entry is valid
 claims_none : (at : Place) (tags : Tags) (o : Option (List ℕ)) (column : List ℕ) (echoer : ℕ) (b : Bool) → o ≡ None → (b && is_valid_for at tags o column echoer) ≡ false
@@ -214,7 +214,7 @@ pub unsent_fair : (w : Setting) (states : ℕ → CoreState) (at : ℕ) (x : Ite
 unsent_fair w states at x none =
     all_fail (is_made_up w states at x) (replicas w.numbers.n)
     (λ echoer here. both_false (w.is_correct echoer) (is_claim (place_in w at x.slot) (tags_of (w.keys at)) (calls_at w states at x.slot) x echoer)
-    (not (is_among (given_by w states echoer x.slot) (row_of x.value echoer)))
+    (not (is_among (given_by w states echoer x.slot) (column_row x.value echoer)))
     (claims_none (place_in w at x.slot) (tags_of (w.keys at)) (sent (place_in w at x.slot) (calls_at w states at x.slot)) x.value echoer (kind_eq x.kind Column) none))
 
 -- no other item than a column forges
@@ -222,7 +222,7 @@ pub other_fair : (w : Setting) (states : ℕ → CoreState) (at : ℕ) (x : Item
 other_fair w states at x other =
     all_fail (is_made_up w states at x) (replicas w.numbers.n)
     (λ echoer here. both_false (w.is_correct echoer) (is_claim (place_in w at x.slot) (tags_of (w.keys at)) (calls_at w states at x.slot) x echoer)
-    (not (is_among (given_by w states echoer x.slot) (row_of x.value echoer)))
+    (not (is_among (given_by w states echoer x.slot) (column_row x.value echoer)))
     (ap (λ b. b && is_valid_for (place_in w at x.slot) (tags_of (w.keys at)) (sent (place_in w at x.slot) (calls_at w states at x.slot)) x.value echoer) other))
 
 -- ---- what the audit looks at
@@ -361,13 +361,13 @@ said_some k s None met e = absurd (cc)
 said_some k s (Some m) met e = record { message = m; said = refl; same = sym (same_Some (met_with k s ((tags_of k).digest m)) met e) }
 
 pub unmet_fair : (w : Setting) (states : ℕ → CoreState) (watch : Watch) (at : ℕ) (x : Item) (found : Option MetEntries) → TablesStand w states watch → w.is_correct at ≡ true →
-    found ≡ met_at watch.sent.table x.slot at → found ≡ None → false ≡ is_forged_item w states at (Some x)
+    found ≡ entries_met_at watch.sent.table x.slot at → found ≡ None → false ≡ is_forged_item w states at (Some x)
 unmet_fair w states watch at x found stand right is none =
     sym (unsent_fair w states at x
     (met_none (w.keys at) x.slot (sent (place_in w at x.slot) (calls_at w states at x.slot)) (sym (stand.sent at x.slot right) ∙ (sym is ∙ none))))
 
 pub said_is : (w : Setting) (states : ℕ → CoreState) (watch : Watch) (at : ℕ) (x : Item) (found : Option MetEntries) (met : MetEntries) → TablesStand w states watch → w.is_correct at ≡ true →
-    found ≡ met_at watch.sent.table x.slot at → found ≡ Some met → IsSaid (w.keys at) x.slot (sent (place_in w at x.slot) (calls_at w states at x.slot)) met
+    found ≡ entries_met_at watch.sent.table x.slot at → found ≡ Some met → IsSaid (w.keys at) x.slot (sent (place_in w at x.slot) (calls_at w states at x.slot)) met
 said_is w states watch at x found met stand right is some =
     said_some (w.keys at) x.slot (sent (place_in w at x.slot) (calls_at w states at x.slot)) met (sym (stand.sent at x.slot right) ∙ (sym is ∙ some))
 
@@ -524,8 +524,8 @@ at_parts s q i j false apart = differ (i == j && is_slot s q) refl
         absurd (false≢true (sym apart ∙ same))
 
 pub sent_after : (w : Setting) (states : ℕ → CoreState) (c : CallAt) (x : Item) (old new : Watch) (k : KeyRow) → TakesItem w states c x → TablesStand w states old → k ≡ w.keys c.at →
-    ((s : Slot) (i : ℕ) → met_at new.sent.table s i ≡ (if is_same_at x.slot c.at s i then option_or (met_at old.sent.table s i) (met_said k x) else met_at old.sent.table s i)) →
-    (i : ℕ) (s : Slot) → w.is_correct i ≡ true → met_at new.sent.table s i ≡ met_for (w.keys i) s (sent (place_in w i s) (calls_at w (after_call w states (Some c)) i s))
+    ((s : Slot) (i : ℕ) → entries_met_at new.sent.table s i ≡ (if is_same_at x.slot c.at s i then option_or (entries_met_at old.sent.table s i) (met_said k x) else entries_met_at old.sent.table s i)) →
+    (i : ℕ) (s : Slot) → w.is_correct i ≡ true → entries_met_at new.sent.table s i ≡ met_for (w.keys i) s (sent (place_in w i s) (calls_at w (after_call w states (Some c)) i s))
 sent_after w states c x old new k takes stand keys put i s right =
     put s i
     ∙ ap₂ (λ b d. if b then option_or d (met_said k x) else d) (sym (at_parts x.slot s c.at i (is_same_at x.slot c.at s i) refl)) (stand.sent i s right)
@@ -542,17 +542,17 @@ met_said_is k x met origin kind is =
 
 -- what is added is what the item brings
 pub said_added : (old new : BTreeMap SlotAt MetEntries) (k : KeyRow) (at : ℕ) (x : Item) (met : MetEntries) → x.from ≡ x.slot.origin → x.kind ≡ Send → met ≡ met_with k x.slot ((tags_of k).digest x.value) →
-    ((s : Slot) (i : ℕ) → met_at new s i ≡ (if is_same_at x.slot at s i then option_or (met_at old s i) (Some met) else met_at old s i)) →
-    (s : Slot) (i : ℕ) → met_at new s i ≡ (if is_same_at x.slot at s i then option_or (met_at old s i) (met_said k x) else met_at old s i)
+    ((s : Slot) (i : ℕ) → entries_met_at new s i ≡ (if is_same_at x.slot at s i then option_or (entries_met_at old s i) (Some met) else entries_met_at old s i)) →
+    (s : Slot) (i : ℕ) → entries_met_at new s i ≡ (if is_same_at x.slot at s i then option_or (entries_met_at old s i) (met_said k x) else entries_met_at old s i)
 said_added old new k at x met origin kind is put s i =
-    put s i ∙ ap (λ o. if is_same_at x.slot at s i then option_or (met_at old s i) o else met_at old s i) (met_said_is k x met origin kind is)
+    put s i ∙ ap (λ o. if is_same_at x.slot at s i then option_or (entries_met_at old s i) o else entries_met_at old s i) (met_said_is k x met origin kind is)
 
 -- nothing is added where it brings nothing
 pub nothing_said : (table : BTreeMap SlotAt MetEntries) (k : KeyRow) (at : ℕ) (x : Item) → (x.from == x.slot.origin && kind_eq x.kind Send) ≡ false → (s : Slot) (i : ℕ) →
-    met_at table s i ≡ (if is_same_at x.slot at s i then option_or (met_at table s i) (met_said k x) else met_at table s i)
+    entries_met_at table s i ≡ (if is_same_at x.slot at s i then option_or (entries_met_at table s i) (met_said k x) else entries_met_at table s i)
 nothing_said table k at x none s i =
-    stays (is_same_at x.slot at s i) (met_at table s i)
-    ∙ ap (λ b. if is_same_at x.slot at s i then option_or (met_at table s i) (if b then Some (met_with k x.slot ((tags_of k).digest x.value)) else None) else met_at table s i) (sym none)
+    stays (is_same_at x.slot at s i) (entries_met_at table s i)
+    ∙ ap (λ b. if is_same_at x.slot at s i then option_or (entries_met_at table s i) (if b then Some (met_with k x.slot ((tags_of k).digest x.value)) else None) else entries_met_at table s i) (sym none)
   where
     stays : (b : Bool) (o : Option MetEntries) → o ≡ (if b then option_or o None else o)
     stays true o = sym (option_or_none o)
@@ -744,7 +744,7 @@ item_tables w states c at x old new seats clash seats_stand is other meets apart
     subst (λ (i : ℕ). HashedStand new.hashed (prints_at_kind (place_in w i x.slot) (tags_of (w.keys i)) x.kind x.value ++ prints_at w states)) (sym is.taking.place) here in
     record {
       sent = sent_after w states call x old new (w.keys at) takes is.tables (ap w.keys (sym is.taking.place))
-          (subst (λ (j : ℕ). (s : Slot) (i : ℕ) → met_at new.sent.table s i ≡ (if is_same_at x.slot j s i then option_or (met_at old.sent.table s i) (met_said (w.keys at) x) else met_at old.sent.table s i))
+          (subst (λ (j : ℕ). (s : Slot) (i : ℕ) → entries_met_at new.sent.table s i ≡ (if is_same_at x.slot j s i then option_or (entries_met_at old.sent.table s i) (met_said (w.keys at) x) else entries_met_at old.sent.table s i))
           (sym is.taking.place) (meets.sent apart));
       hashed = stand_within new.hashed (prints_at_kind (place_in w call.at x.slot) (tags_of (w.keys call.at)) x.kind x.value ++ prints_at w states) (prints_at w (after_call w states (Some call)))
           (within_after w states call x takes) (after_within w states call x takes) there;

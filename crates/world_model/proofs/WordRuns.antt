@@ -6,12 +6,12 @@ use Rattle.ritas_base.specs.declared.event.Event.{Event}
 use Rattle.ritas_base.specs.declared.slot.Slot.{Slot}
 use Rattle.ritas_base.specs.declared.item.Item.{Item}
 use Rattle.ritas_base.specs.History.{Take, started}
-use Rattle.layer_api.specs.Runs.{Step, calls_of}
+use Rattle.layer_api.specs.Runs.{ReplicaStep, calls_of}
 use Rattle.layer_api.specs.Service.{said, MayAsk, MayHear, AreProper}
 use Rattle.layer_api.specs.Words.{Word, Ask, Hear, HasSay, value_at}
 use Rattle.layer_api.specs.Fed.{Play, IsFed, IsFedRun}
 use Rattle.layer_api.specs.OneLog.{Session, service_play}
-use Rattle.ritas_core.specs.Rules.{seat_of, out_at}
+use Rattle.ritas_core.specs.Rules.{seat_of, out_at_slot}
 use Rattle.ritas_core.specs.Parts.{Entry, Took, Given, Parts, parts, heard_at, taken_at, item_delivers}
 use Rattle.ritas_core.specs.Checks.{IsHistory}
 use Rattle.ritas_core.specs.Machine.{CoreState}
@@ -40,7 +40,7 @@ play_of w = service_play (session_of w)
 
 -- the words that correct replicas had are those of a run
 pub record WordsAt (w : Setting) (states : ℕ → CoreState) : Type 0 where
-  pub steps : List (Step Word)
+  pub steps : List (ReplicaStep Word)
   pub fed : IsFedRun (play_of w) w.is_correct steps
   pub same : (k : ℕ) → w.is_correct k ≡ true → calls_of k steps ≡ words_at w states k
 
@@ -75,20 +75,20 @@ word_more w before now i correct e c more is x fed = record {
 -- ---- what is heard
 -- what others heard there is the same
 heard_same : (w : Setting) → IsSoundOver w → (before now : ℕ → CoreState) → AgreeAt w now → (i : ℕ) → w.is_correct i ≡ true → (e : Entry) → IsOneMore before now i e →
-    (s : Slot) (v : List ℕ) → out_at (rules_at w i).casts s (calls_at w before i s) ≡ None → out_at (rules_at w i).casts s (calls_at w now i s) ≡ Some v →
-    (j : ℕ) (u : List ℕ) → w.is_correct j ≡ true → out_at (rules_at w j).casts s (calls_at w before j s) ≡ Some u → (b : Bool) → eqb i j ≡ b → u ≡ v
+    (s : Slot) (v : List ℕ) → out_at_slot (rules_at w i).casts s (calls_at w before i s) ≡ None → out_at_slot (rules_at w i).casts s (calls_at w now i s) ≡ Some v →
+    (j : ℕ) (u : List ℕ) → w.is_correct j ≡ true → out_at_slot (rules_at w j).casts s (calls_at w before j s) ≡ Some u → (b : Bool) → eqb i j ≡ b → u ≡ v
 heard_same w sound before now all i correct e more s v none out j u good out_j true here =
-    let there : out_at (rules_at w j).casts s (calls_at w before j s) ≡ None =
-    subst (λ (k : ℕ). out_at (rules_at w k).casts s (calls_at w before k s) ≡ None) (eqb-true i j here) none in
+    let there : out_at_slot (rules_at w j).casts s (calls_at w before j s) ≡ None =
+    subst (λ (k : ℕ). out_at_slot (rules_at w k).casts s (calls_at w before k s) ≡ None) (eqb-true i j here) none in
     absurd (cc)
 heard_same w sound before now all i correct e more s v none out j u good out_j false here =
-    all.agree s j i u v good correct (ap (λ (h : List Entry). out_at (rules_at w j).casts s ((parts (rules_at w j) h).calls s)) (more.rest j here) ∙ out_j) out
+    all.agree s j i u v good correct (ap (λ (h : List Entry). out_at_slot (rules_at w j).casts s ((parts (rules_at w j) h).calls s)) (more.rest j here) ∙ out_j) out
 
 -- and a correct origin started it before
 heard_started : (w : Setting) (before now : ℕ → CoreState) → AgreeAt w now → (i : ℕ) → w.is_correct i ≡ true → (item : Item) → IsOneMore before now i (Took item) →
     (v : List ℕ) → w.is_correct item.slot.origin ≡ true →
-    out_at (rules_at w i).casts item.slot (Take item ∷ calls_at w before i item.slot) ≡ Some v →
-    out_at (rules_at w i).casts item.slot (calls_at w now i item.slot) ≡ Some v →
+    out_at_slot (rules_at w i).casts item.slot (Take item ∷ calls_at w before i item.slot) ≡ Some v →
+    out_at_slot (rules_at w i).casts item.slot (calls_at w now i item.slot) ≡ Some v →
     GrowsTo (Take item ∷ calls_at w before i item.slot) (calls_at w now i item.slot) →
     (b : Bool) → eqb i item.slot.origin ≡ b → started (calls_at w before item.slot.origin item.slot) ≡ Some v
 heard_started w before now all i correct item more v good taken out grows true here =
@@ -134,10 +134,10 @@ heard_more w sound before now all i correct item more (Some v) delivers proper x
     let laws = layer_laws w sound i correct in
     let h = (before i).history in
     let p = parts r h in
-    let none = newly_before (out_at r.casts s (p.calls s)) (out_at r.casts s (Take item ∷ p.calls s)) v delivers in
-    let taken = newly_after (out_at r.casts s (p.calls s)) (out_at r.casts s (Take item ∷ p.calls s)) v delivers in
-    let out : out_at r.casts s (calls_at w now i s) ≡ Some v =
-    ap (λ (h : List Entry). out_at r.casts s ((parts r h).calls s)) more.mine ∙ delivers_now r laws h item v delivers in
+    let none = newly_before (out_at_slot r.casts s (p.calls s)) (out_at_slot r.casts s (Take item ∷ p.calls s)) v delivers in
+    let taken = newly_after (out_at_slot r.casts s (p.calls s)) (out_at_slot r.casts s (Take item ∷ p.calls s)) v delivers in
+    let out : out_at_slot r.casts s (calls_at w now i s) ≡ Some v =
+    ap (λ (h : List Entry). out_at_slot r.casts s ((parts r h).calls s)) more.mine ∙ delivers_now r laws h item v delivers in
     let grows : GrowsTo (Take item ∷ calls_at w before i s) (calls_at w now i s) =
     subst (λ (h : List Entry). GrowsTo (Take item ∷ calls_at w before i s) ((parts r h).calls s)) (sym more.mine) (delivers_after r h item v delivers) in
     word_more w before now i correct (Took item) (Hear s v) more

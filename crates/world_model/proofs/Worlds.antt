@@ -12,7 +12,7 @@ use Rattle.ritas_base.specs.Messages.{reaches, item_of}
 use Rattle.ritas_base.specs.History.{replicas}
 use Rattle.layer_api.specs.Runs.{Has}
 use Rattle.layer_api.specs.Entries.{is_claim}
-use Rattle.frame_codec.specs.Values.{row_of}
+use Rattle.frame_codec.specs.Values.{column_row}
 use Rattle.frame_codec.specs.declared.fault.BodyFault.{BodyFault}
 use Rattle.frame_codec.specs.Body.{spelling, body_answer}
 use Rattle.frame_codec.specs.Inputs.{IsInput, input_fault}
@@ -29,11 +29,11 @@ use Rattle.ritas_core.specs.Parts.{Parts, Entry, Took, Given, parts}
 use Rattle.ritas_core.specs.Order.{new_messages, own_items}
 use Rattle.ritas_core.specs.Checks.{is_open, is_item_past, body_length, verdict_on, window_fault, input_fault_or, input_check, IsGood, IsHistory, MayEnter}
 use Rattle.ritas_core.specs.Machine as core
-use Rattle.ritas_core.specs.Machine.{CoreState, What, entered, gives, given_item, given_input, turned, moved_live, moved}
+use Rattle.ritas_core.specs.Machine.{CoreState, What, state_after_entry, gives_item, given_item, given_input, turned, moved_live, moved}
 use Rattle.ooc_buffers.specs.Lists.{released}
 use Rattle.replica.specs.Frames.{made_for}
-use Rattle.replica.specs.Handling.{Call, Frame, Input, Turn, given_body, given_frame, handled}
-use Rattle.world_model.specs.World.{Setting, rules_at, CallAt, call_at, frame_at, passed, call_of, handled_at, after_call, halted_at, states_of, states_before}
+use Rattle.replica.specs.Handling.{ReplicaCall, Frame, Input, Turn, given_body, given_frame, handled}
+use Rattle.world_model.specs.World.{Setting, rules_at, CallAt, call_at, frame_call, frame_passed, call_of, handled_at, after_call, halted_at, states_of, states_before}
 use Rattle.world_model.specs.declared.audit.Audit.{Audit}
 use Rattle.world_model.specs.declared.audit.Audit.TheVariants as audits
 use Rattle.world_model.specs.Audit.{has_made, is_forged_opening, is_forged_call, newest_item, calls_at, place_in, given_by, is_among, is_made_up, is_forged_item, taken_by, is_forged_at, is_forged, is_colliding, broken_by, judged, first_broken}
@@ -192,7 +192,7 @@ own_fine w sound histories i correct e met m here reached =
 -- an entry more
 next_enters : (w : Setting) → IsSoundOver w → (states : ℕ → CoreState) → IsWorldAt w states → (i : ℕ) → w.is_correct i ≡ true → (e : Entry) (waiting : List Item) →
     MayEnter (rules_at w i) (parts (rules_at w i) (states i).history) e → IsBackedEntry w (calls_after w (histories_of states)) i e →
-    AreAll (IsFine w (histories_of states) i) waiting → IsNext w states i (entered (rules_at w i) (states i) e waiting)
+    AreAll (IsFine w (histories_of states) i) waiting → IsNext w states i (state_after_entry (rules_at w i) (states i) e waiting)
 next_enters w sound states world i correct e waiting may backed all =
     let r = rules_at w i in
     let old : ℕ → List Entry = histories_of states in
@@ -237,14 +237,14 @@ row_given entries (Some found) entry among is =
 -- no valid entry of a correct echoer in an item is made up
 unforged_given : (w : Setting) → IsSoundOver w → (states : ℕ → CoreState) (i : ℕ) (item : Item) → is_forged_item w states i (Some item) ≡ false →
     (echoer : ℕ) (entry : List ℕ) → w.is_correct echoer ≡ true →
-    is_claim (place_in w i item.slot) (tags_of (w.keys i)) (calls_at w states i item.slot) item echoer ≡ true → row_of item.value echoer ≡ Some entry →
+    is_claim (place_in w i item.slot) (tags_of (w.keys i)) (calls_at w states i item.slot) item echoer ≡ true → column_row item.value echoer ≡ Some entry →
     Has (given_by w states echoer item.slot) entry
 unforged_given w sound states i item honest echoer entry good claimed row =
     let claim = is_claim (place_in w i item.slot) (tags_of (w.keys i)) (calls_at w states i item.slot) item echoer in
-    let among = is_among (given_by w states echoer item.slot) (row_of item.value echoer) in
+    let among = is_among (given_by w states echoer item.slot) (column_row item.value echoer) in
     let fair : is_made_up w states i item echoer ≡ false =
     none_of (is_made_up w states i item) (replicas w.numbers.n) honest echoer (has_number 0 w.numbers.n echoer (omega arith) (let below = sound.world.within echoer good in omega arith)) in
-    row_given (given_by w states echoer item.slot) (row_of item.value echoer) entry
+    row_given (given_by w states echoer item.slot) (column_row item.value echoer) entry
     (made_so claim among (first_fails (w.is_correct echoer) (claim && not among) fair good) claimed) row
 
 -- the item that a state's history has more than that of replica i isn't forged
@@ -262,13 +262,13 @@ taken_backed w sound states i item fine honest = record {
 next_item : (w : Setting) → IsSoundOver w → (states : ℕ → CoreState) → IsWorldAt w states → (i : ℕ) → w.is_correct i ≡ true → (item : Item) (waiting : List Item) →
     IsFine w (histories_of states) i item → AreAll (IsFine w (histories_of states) i) waiting → (v : Verdict) →
     verdict_on (rules_at w i) (parts (rules_at w i) (states i).history) (states i).held item ≡ v →
-    IsHonest w states i (gives (rules_at w i) (states i) item waiting v).state → IsNext w states i (gives (rules_at w i) (states i) item waiting v).state
+    IsHonest w states i (gives_item (rules_at w i) (states i) item waiting v).state → IsNext w states i (gives_item (rules_at w i) (states i) item waiting v).state
 next_item w sound states world i correct item waiting fine all (verdicts.Refuse fault) is honest =
-    next_stays w states world i correct (gives (rules_at w i) (states i) item waiting (verdicts.Refuse fault)).state refl all (world.held i correct)
+    next_stays w states world i correct (gives_item (rules_at w i) (states i) item waiting (verdicts.Refuse fault)).state refl all (world.held i correct)
 next_item w sound states world i correct item waiting fine all verdicts.Again is honest =
-    next_stays w states world i correct (gives (rules_at w i) (states i) item waiting verdicts.Again).state refl all (world.held i correct)
+    next_stays w states world i correct (gives_item (rules_at w i) (states i) item waiting verdicts.Again).state refl all (world.held i correct)
 next_item w sound states world i correct item waiting fine all verdicts.Hold is honest =
-    next_stays w states world i correct (gives (rules_at w i) (states i) item waiting verdicts.Hold).state refl all
+    next_stays w states world i correct (gives_item (rules_at w i) (states i) item waiting verdicts.Hold).state refl all
     (all_with_kept (IsFine w (histories_of states) i) (states i).held item (body_length item) (world.held i correct) fine)
 next_item w sound states world i correct item waiting fine all verdicts.Take is honest =
     next_enters w sound states world i correct (Took item) waiting
@@ -391,7 +391,7 @@ next_frame w sound states world i correct bytes (Ok o) is made honest =
 next_frame w sound states world i correct bytes (Err fault) is made honest = next_same w states world i correct
 
 -- ---- a call on a replica
-next_handled : (w : Setting) → IsSoundOver w → (states : ℕ → CoreState) → IsWorldAt w states → (i : ℕ) → w.is_correct i ≡ true → (call : Call) →
+next_handled : (w : Setting) → IsSoundOver w → (states : ℕ → CoreState) → IsWorldAt w states → (i : ℕ) → w.is_correct i ≡ true → (call : ReplicaCall) →
     is_forged_call w states i call ≡ false → IsHonest w states i (handled (rules_at w i) (w.keys i) (states i) call).state →
     IsNext w states i (handled (rules_at w i) (w.keys i) (states i) call).state
 next_handled w sound states world i correct (Frame bytes) made honest =
@@ -404,14 +404,14 @@ abbrev pub IsAtCorrect : Setting → Option CallAt → Type 0
 IsAtCorrect w None = Unit {0}
 IsAtCorrect w (Some c) = w.is_correct c.at ≡ true
 
-called_if : (w : Setting) (j : ℕ) (call : Call) (b : Bool) → w.is_correct j ≡ b → IsAtCorrect w (cond b (Some (record { at = j; call = call })) None)
+called_if : (w : Setting) (j : ℕ) (call : ReplicaCall) (b : Bool) → w.is_correct j ≡ b → IsAtCorrect w (cond b (Some (record { at = j; call = call })) None)
 called_if w j call true is = is
 called_if w j call false is = tt
 
-called_at : (w : Setting) (j : ℕ) (call : Call) → IsAtCorrect w (call_at w j call)
+called_at : (w : Setting) (j : ℕ) (call : ReplicaCall) → IsAtCorrect w (call_at w j call)
 called_at w j call = called_if w j call (w.is_correct j) refl
 
-passed_at : (w : Setting) (j : ℕ) (frame : Option (List ℕ)) → IsAtCorrect w (frame_at w j frame)
+passed_at : (w : Setting) (j : ℕ) (frame : Option (List ℕ)) → IsAtCorrect w (frame_call w j frame)
 passed_at w j None = tt
 passed_at w j (Some bytes) = called_at w j (Frame bytes)
 
@@ -419,7 +419,7 @@ pub event_at : (w : Setting) (states : ℕ → CoreState) (e : Event) → IsAtCo
 event_at w states (events.Frame to bytes) = called_at w to (Frame bytes)
 event_at w states (events.Input at bytes) = called_at w at (Input bytes)
 event_at w states (events.Turn at) = called_at w at Turn
-event_at w states (events.Pass from to m) = passed_at w to (passed w states from to m)
+event_at w states (events.Pass from to m) = passed_at w to (frame_passed w states from to m)
 event_at w states (events.Sealed from to body) = called_at w to (Frame (sealed (w.keys from) to 0 body))
 
 world_called : (w : Setting) → IsSoundOver w → (states : ℕ → CoreState) → IsWorldAt w states → (c : Option CallAt) → IsAtCorrect w c →

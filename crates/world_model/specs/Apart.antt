@@ -6,7 +6,7 @@ use Rattle.layer_api.specs.Service.{Instance, LastVector, Decision, Decided}
 use Rattle.command_log.specs.Rows.{Row, row_at}
 use Rattle.world_model.specs.World.{Setting}
 use Rattle.world_model.specs.OneValueEach.{delivered}
-use Rattle.world_model.specs.Agree.{rows_at, log_of, outcome_of, decision_of, last_of, Agree}
+use Rattle.world_model.specs.Agree.{rows_at, identifier_log, outcome_of, decision_of, last_vector_at, Agree}
 
 -- two different replicas, both correct
 pub record AreTwo (w : Setting) (i j : ℕ) : Type 0 where
@@ -27,7 +27,7 @@ NoTwoRows = (w : Setting) (es : List Event) → Agree w es → (i j : ℕ) → A
 -- their identifier logs are equal where they are equally long
 abbrev pub NoTwoIdentifierLogs : Type 0
 NoTwoIdentifierLogs = (w : Setting) (es : List Event) → Agree w es → (i j : ℕ) → AreTwo w i j
-    → length (log_of w es i) ≡ length (log_of w es j) → log_of w es i ≡ log_of w es j
+    → length (identifier_log w es i) ≡ length (identifier_log w es j) → identifier_log w es i ≡ identifier_log w es j
 
 -- of their one instance no two things become, once it is decided
 abbrev pub NoTwoOutcomes : Type 0
@@ -42,4 +42,4 @@ NoTwoDecisions = (w : Setting) (es : List Event) → Agree w es → (i j : ℕ) 
 -- their last vectors are no two of one round
 abbrev pub NoTwoVectors : Type 0
 NoTwoVectors = (w : Setting) (es : List Event) → Agree w es → (i j : ℕ) → AreTwo w i j → (x y : LastVector) → x ≢ y → x.round ≡ y.round
-    → last_of w es i ≡ Some x → last_of w es j ≡ Some y → ⊥
+    → last_vector_at w es i ≡ Some x → last_vector_at w es j ≡ Some y → ⊥

@@ -11,7 +11,7 @@ use Rattle.ritas_base.specs.Messages.{Place}
 use Rattle.ritas_base.specs.Slots.{form_of}
 use Rattle.ritas_base.specs.SlotOrder.{is_slot}
 use Rattle.layer_api.specs.Entries.{given, is_claim, EntryInput, Print, OfMessage, OfEntry, is_hashed, prints_at_kind}
-use Rattle.frame_codec.specs.Values.{row_of}
+use Rattle.frame_codec.specs.Values.{column_row}
 use Rattle.keyed_channel.specs.Keyed.{tags_of}
 use Rattle.keyed_channel.specs.Frames.{Opening, opening}
 use Rattle.keyed_channel.specs.declared.frame.OpenFault.{OpenFault}
@@ -19,7 +19,7 @@ use Rattle.ritas_core.specs.Machine.{CoreState}
 use Rattle.ritas_core.specs.Rules.{Rules, place_at}
 use Rattle.ritas_core.specs.Parts.{Entry, Took, Given, parts}
 use Rattle.replica.specs.Frames.{made_for}
-use Rattle.replica.specs.Handling.{Call, Frame, Input, Turn}
+use Rattle.replica.specs.Handling.{ReplicaCall, Frame, Input, Turn}
 use Rattle.world_model.specs.declared.audit.Audit.{Audit}
 use Rattle.world_model.specs.declared.audit.Audit.TheVariants as audits
 use Rattle.world_model.specs.World.{Setting, rules_at, CallAt, call_of, handled_at, states_of, states_before}
@@ -33,7 +33,7 @@ abbrev pub is_forged_opening : Setting → (ℕ → CoreState) → ℕ → List 
 is_forged_opening w states j bytes (Err fault) = false
 is_forged_opening w states j bytes (Ok o) = w.is_correct o.from && not (has_made w states o.from j bytes)
 
-abbrev pub is_forged_call : Setting → (ℕ → CoreState) → ℕ → Call → Bool
+abbrev pub is_forged_call : Setting → (ℕ → CoreState) → ℕ → ReplicaCall → Bool
 is_forged_call w states j (Frame bytes) = is_forged_opening w states j bytes (opening (w.keys j) bytes)
 is_forged_call w states j (Input bytes) = false
 is_forged_call w states j Turn = false
@@ -67,7 +67,7 @@ abbrev pub is_made_up : Setting → (ℕ → CoreState) → ℕ → Item → ℕ
 is_made_up w states j x echoer =
     w.is_correct echoer
     && (is_claim (place_in w j x.slot) (tags_of (w.keys j)) (calls_at w states j x.slot) x echoer
-    && not (is_among (given_by w states echoer x.slot) (row_of x.value echoer)))
+    && not (is_among (given_by w states echoer x.slot) (column_row x.value echoer)))
 
 abbrev pub is_forged_item : Setting → (ℕ → CoreState) → ℕ → Option Item → Bool
 is_forged_item w states j None = false

@@ -13,7 +13,7 @@ use Rattle.layer_api.specs.Service.{ServiceRules}
 use Rattle.world_model.specs.World.{Setting, states_of}
 use Rattle.world_model.specs.Stands.{frames_from}
 use Rattle.world_model.specs.Forging.{IsPlay}
-use Rattle.world_model.specs.Players.{Cast, Scene, Correct, Face, Step, Give, Go, Carry, Throw, frames_of, scene_of, AreSteps}
+use Rattle.world_model.specs.Players.{Cast, Scene, Correct, Face, Step, Give, Go, Carry, Throw, player_frames, scene_of, AreSteps}
 
 abbrev pub faces_world : Setting → Setting
 faces_world w = record {
@@ -31,8 +31,8 @@ faces_world w = record {
 pub record IsLetter (c : Cast) (face : ℕ → ℕ) : Type 0 where
   pub number : (i : ℕ) → c.number (face i) ≡ i
 
-abbrev pub is_of : Cast → (ℕ → ℕ) → ℕ → Bool
-is_of c face a = face (c.number a) == a
+abbrev pub is_face_number : Cast → (ℕ → ℕ) → ℕ → Bool
+is_face_number c face a = face (c.number a) == a
 
 abbrev pub only_if : Bool → Event → List Event
 only_if b e = if b then e ∷ [] else []
@@ -43,9 +43,9 @@ frame_if b j (Some bytes) = only_if b (events.Frame j bytes)
 
 -- what a step tells the world of a letter
 abbrev pub told_by : Setting → Cast → (ℕ → ℕ) → Scene → Step → List Event
-told_by w c face s (Give (Face a) value) = only_if (is_of c face a) (events.Input (c.number a) value)
-told_by w c face s (Go (Face a)) = only_if (is_of c face a) (events.Turn (c.number a))
-told_by w c face s (Carry x (Face a) m) = frame_if (is_of c face a) (c.number a) (slice_get (frames_of w c s x (c.number a)) m)
+told_by w c face s (Give (Face a) value) = only_if (is_face_number c face a) (events.Input (c.number a) value)
+told_by w c face s (Go (Face a)) = only_if (is_face_number c face a) (events.Turn (c.number a))
+told_by w c face s (Carry x (Face a) m) = frame_if (is_face_number c face a) (c.number a) (slice_get (player_frames w c s x (c.number a)) m)
 told_by w c face s (Give (Correct i) value) = []
 told_by w c face s (Go (Correct i)) = []
 told_by w c face s (Carry x (Correct j) m) = []
@@ -78,10 +78,10 @@ abbrev pub ShownLaw : ServiceRules → BroadcastRules → Type 0
 ShownLaw service other = (w : Setting) (c : Cast) (face : ℕ → ℕ) (steps : List Step) → IsPlay service other w c steps → IsLetter c face
     → (i j : ℕ) → w.is_correct i ≡ false → i < w.numbers.n → j < w.numbers.n → i ≢ j
     → AreShownAs w c i j (frames_from (faces_world w) (states_of (faces_world w) (told_to w c face steps)) i j)
-    (frames_of w c (scene_of w c steps) (Face (face i)) j)
+    (player_frames w c (scene_of w c steps) (Face (face i)) j)
 
 -- where a face shows each message as it is, its frames are those of its replica
 abbrev pub PlainLaw : Type 0
 PlainLaw = (w : Setting) (c : Cast) (face : ℕ → ℕ) (steps : List Step) → AreSteps w c steps → IsLetter c face → ((m : Msg) → c.shown m ≡ m)
     → (i j : ℕ) → w.is_correct i ≡ false → i < w.numbers.n → i ≢ j
-    → frames_of w c (scene_of w c steps) (Face (face i)) j ≡ frames_from (faces_world w) (states_of (faces_world w) (told_to w c face steps)) i j
+    → player_frames w c (scene_of w c steps) (Face (face i)) j ≡ frames_from (faces_world w) (states_of (faces_world w) (told_to w c face steps)) i j

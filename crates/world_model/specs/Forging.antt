@@ -13,7 +13,7 @@ use Rattle.world_model.specs.World.{Setting}
 use Rattle.world_model.specs.Audit.{is_forged, has_too_many, audit_of}
 use Rattle.world_model.specs.EveryWorld.{IsWorld}
 use Rattle.world_model.specs.Stands.{NoneStops}
-use Rattle.world_model.specs.Players.{Cast, Player, Step, IsPlayer, AreSteps, scene_of, events_of, frames_of}
+use Rattle.world_model.specs.Players.{Cast, Player, Step, IsPlayer, AreSteps, scene_of, events_of, player_frames}
 
 -- no event forges
 abbrev pub ForgesNothing : Setting → List Event → Type 0
@@ -22,7 +22,7 @@ ForgesNothing w (e ∷ es) = (is_forged w es e ≡ false) × ForgesNothing w es
 
 -- what a face shows of a message keeps its receiver, kind and slot, is in the grammar where the message is, and is the
 -- message itself but for INIT
-pub record Shows (w : Setting) (shown : Msg → Msg) : Type 0 where
+pub record IsFaceView (w : Setting) (shown : Msg → Msg) : Type 0 where
   pub to : (m : Msg) → (shown m).to ≡ m.to
   pub kind : (m : Msg) → (shown m).kind ≡ m.kind
   pub slot : (m : Msg) → (shown m).slot ≡ m.slot
@@ -33,7 +33,7 @@ pub record Shows (w : Setting) (shown : Msg → Msg) : Type 0 where
 pub record IsPlay (service : ServiceRules) (other : BroadcastRules) (w : Setting) (c : Cast) (steps : List Step) : Type 0 where
   pub kind : IsWorld service other w
   pub going : NoneStops w
-  pub shows : Shows w c.shown
+  pub shows : IsFaceView w c.shown
   pub steps_are : AreSteps w c steps
 
 -- the law: for every world with this service and this broadcast beside the reliable one, every faces and every steps of players
@@ -48,4 +48,4 @@ PlayedAudit service other = (w : Setting) (c : Cast) (steps : List Step) → IsP
 -- each frame that a player made has at most so many bytes as a frame may have
 abbrev pub ShortLaw : ServiceRules → BroadcastRules → Type 0
 ShortLaw service other = (w : Setting) (c : Cast) (steps : List Step) → IsPlay service other w c steps → (x : Player) → IsPlayer w c x → (j : ℕ) → j < w.numbers.n
-    → (bytes : List ℕ) → Has (frames_of w c (scene_of w c steps) x j) bytes → length bytes ≤ 16384
+    → (bytes : List ℕ) → Has (player_frames w c (scene_of w c steps) x j) bytes → length bytes ≤ 16384

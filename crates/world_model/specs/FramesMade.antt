@@ -28,14 +28,14 @@ frames_to j frames = map (λ f. f.bytes) (filter (λ f. f.to == j) frames)
 -- ---- the order
 
 -- the frame at a place
-abbrev pub placed : MadeTable → Place → Option MadeFrame
-placed t p =
+abbrev pub frame_placed : MadeTable → Place → Option MadeFrame
+frame_placed t p =
     option_map (λ bytes. record { event = p.event; from = p.from; to = p.to; bytes = bytes })
     (slice_get (made_in t p.from p.to) p.at)
 
 abbrev pub placed_if : MadeTable → Option Place → Option MadeFrame
 placed_if t None = None
-placed_if t (Some p) = placed t p
+placed_if t (Some p) = frame_placed t p
 
 -- the frame of this number, from 0
 abbrev pub made_at : MadeTable → ℕ → Option MadeFrame
@@ -43,7 +43,7 @@ made_at t k = placed_if t (slice_get t.order k)
 
 -- the places of the order are those of these frames
 abbrev pub IsOrderOf : MadeTable → List MadeFrame → Type 0
-IsOrderOf t frames = map (placed t) t.order ≡ map Some frames
+IsOrderOf t frames = map (frame_placed t) t.order ≡ map Some frames
 
 -- ---- more frames
 

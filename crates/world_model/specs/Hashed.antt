@@ -27,8 +27,8 @@ use Rattle.world_model.specs.declared.hashed.Hashed.{Hashed}
 abbrev pub at_cmp : SlotAt → SlotAt → Ordering
 at_cmp = then_cmp (on (λ x. x.slot) slot_cmp) (on (λ x. x.replica) nat_cmp)
 
-abbrev pub met_at : BTreeMap SlotAt MetEntries → Slot → ℕ → Option MetEntries
-met_at table s i = get at_cmp table (record { slot = s; replica = i })
+abbrev pub entries_met_at : BTreeMap SlotAt MetEntries → Slot → ℕ → Option MetEntries
+entries_met_at table s i = get at_cmp table (record { slot = s; replica = i })
 
 -- what replica i met at a slot, if it is correct and did, is what its keys give
 abbrev pub IsMetAt : Setting → ℕ → Slot → Option MetEntries → Type 0
@@ -36,7 +36,7 @@ IsMetAt w i s found = (met : MetEntries) → w.is_correct i ≡ true → found �
 
 -- so it is of all that the table has
 abbrev pub AreMet : Setting → BTreeMap SlotAt MetEntries → Type 0
-AreMet w table = (i : ℕ) (s : Slot) → IsMetAt w i s (met_at table s i)
+AreMet w table = (i : ℕ) (s : Slot) → IsMetAt w i s (entries_met_at table s i)
 
 -- the two are one slot at one replica
 abbrev pub is_same_at : Slot → ℕ → Slot → ℕ → Bool
@@ -61,8 +61,8 @@ digest_at hashed message = get_by (λ k. image_cmp message k.items) hashed.messa
 abbrev pub has_digest : Hashed → List ℕ → Bool
 has_digest hashed digest = contains image_cmp hashed.digests digest
 
-abbrev pub input_at : Hashed → List ℕ → Option EntryInput
-input_at hashed entry = input_in (get image_cmp hashed.entries entry)
+abbrev pub entry_input_at : Hashed → List ℕ → Option EntryInput
+entry_input_at hashed entry = input_in (get image_cmp hashed.entries entry)
 
 -- the maps have these prints, and no others; the set has just the digests of the messages, and each is of one message
 pub record HashedStand (hashed : Hashed) (prints : List Print) : Type 0 where
@@ -72,8 +72,8 @@ pub record HashedStand (hashed : Hashed) (prints : List Print) : Type 0 where
   pub digests : (m d : List ℕ) → digest_at hashed m ≡ Some d → has_digest hashed d ≡ true
   pub no_other_digest : (d : List ℕ) → has_digest hashed d ≡ true → (m : List ℕ) × (digest_at hashed m ≡ Some d)
   pub one_message : (m v d : List ℕ) → digest_at hashed m ≡ Some d → digest_at hashed v ≡ Some d → m ≡ v
-  pub entries : (x : EntryInput) (e : List ℕ) → Has prints (OfEntry x e) → input_at hashed e ≡ Some x
-  pub no_other_entry : (x : EntryInput) (e : List ℕ) → input_at hashed e ≡ Some x → Has prints (OfEntry x e)
+  pub entries : (x : EntryInput) (e : List ℕ) → Has prints (OfEntry x e) → entry_input_at hashed e ≡ Some x
+  pub no_other_entry : (x : EntryInput) (e : List ℕ) → entry_input_at hashed e ≡ Some x → Has prints (OfEntry x e)
 
 -- another of these prints clashes with this one
 pub record Clash (p : Print) (prints : List Print) : Type 0 where

@@ -17,13 +17,13 @@ abbrev pub made_of : Made → MadeFrame
 made_of m = record { event = m.event; from = m.from; to = m.to; bytes = m.bytes.now }
 
 -- those that a call of a replica made, in the event of this number
-abbrev pub frames_in : ℕ → Setting → (ℕ → CoreState) → Option CallAt → List MadeFrame
-frames_in k w states None = []
-frames_in k w states (Some c) =
+abbrev pub frames_of_call : ℕ → Setting → (ℕ → CoreState) → Option CallAt → List MadeFrame
+frames_of_call k w states None = []
+frames_of_call k w states (Some c) =
     map (λ o. record { event = k; from = c.at; to = o.to; bytes = o.bytes }) (handled_at w states c).out
 
 -- all that were made in these events, the oldest first
 unfoldable pub all_made : Setting → List Event → List MadeFrame
 all_made w [] = []
 all_made w (e ∷ es) =
-    all_made w es ++ frames_in (length es) w (states_before w es) (call_of w (states_before w es) e)
+    all_made w es ++ frames_of_call (length es) w (states_before w es) (call_of w (states_before w es) e)

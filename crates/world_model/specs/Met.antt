@@ -2,7 +2,7 @@
 use Rattle.std.specs.Prelude.{ℕ, Bool, false, not, ◌&&◌, List, [], map, Option, Some, None, slice_get}
 use Rattle.ritas_base.specs.declared.slot.Slot.{Slot}
 use Rattle.ritas_base.specs.History.{replicas, is_value}
-use Rattle.frame_codec.specs.Values.{row_of}
+use Rattle.frame_codec.specs.Values.{column_row}
 use Rattle.keyed_channel.specs.KeyRow.{KeyRow}
 use Rattle.keyed_channel.specs.Keyed.{tags_of}
 use Rattle.world_model.specs.declared.met.EntryPair.{EntryPair}
@@ -21,8 +21,8 @@ pair_of k s digest other = record {
 }
 
 -- the same entries, as the other has them
-abbrev pub turned : EntryPair → EntryPair
-turned pair = record { given = pair.expected; expected = pair.given }
+abbrev pub turned_pair : EntryPair → EntryPair
+turned_pair pair = record { given = pair.expected; expected = pair.given }
 
 -- what the replica with these keys meets at a message with this digest
 abbrev pub met_with : KeyRow → Slot → List ℕ → MetEntries
@@ -36,9 +36,9 @@ met_for k s (Some m) = Some (met_with k s ((tags_of k).digest m))
 -- ---- rows of columns
 
 -- the entries that a replica gives of what it met
-abbrev pub given_in : Option MetEntries → List (List ℕ)
-given_in None = []
-given_in (Some met) = map (λ pair. pair.given) met.pairs
+abbrev pub entries_given : Option MetEntries → List (List ℕ)
+entries_given None = []
+entries_given (Some met) = map (λ pair. pair.given) met.pairs
 
 -- whether a row is the entry that is expected, if one is
 abbrev pub is_expected : Option EntryPair → Option (List ℕ) → Bool
@@ -49,4 +49,4 @@ is_expected (Some pair) row = is_value pair.expected row
 -- hadn't given it
 abbrev pub is_unknown : MetEntries → Option MetEntries → ℕ → List ℕ → Bool
 is_unknown met echoers echoer column =
-    is_expected (slice_get met.pairs echoer) (row_of column echoer) && not (is_among (given_in echoers) (row_of column echoer))
+    is_expected (slice_get met.pairs echoer) (column_row column echoer) && not (is_among (entries_given echoers) (column_row column echoer))

@@ -6,7 +6,7 @@ use Rattle.ritas_base.specs.declared.event.Event.TheVariants as events
 use Rattle.ritas_core.specs.Rules.{Rules}
 use Rattle.ritas_core.specs.Machine as core
 use Rattle.ritas_core.specs.Machine.{CoreState, What}
-use Rattle.ritas_core.specs.Calls.{IsStep}
+use Rattle.ritas_core.specs.Calls.{IsCoreStep}
 use Rattle.replica.specs.Stands.{core_call}
 use Rattle.world_model.specs.World.{Setting, rules_at, CallAt, call_of}
 
@@ -15,7 +15,7 @@ use Rattle.world_model.specs.World.{Setting, rules_at, CallAt, call_of}
 abbrev pub CoreNeeds : Rules → CoreState → Option What → Type 0
 CoreNeeds r st None = ⊥
 CoreNeeds r st (Some (core.Frame item)) = ⊤
-CoreNeeds r st (Some (core.Input value)) = IsStep r st (core.Input value)
+CoreNeeds r st (Some (core.Input value)) = IsCoreStep r st (core.Input value)
 CoreNeeds r st (Some core.Turn) = st.inbox ≢ []
 
 -- a call on a correct replica

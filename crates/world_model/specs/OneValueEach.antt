@@ -12,7 +12,7 @@ use Rattle.layer_api.specs.Words.{said_value}
 use Rattle.ritas_base.specs.Slots.{command_slot}
 use Rattle.frame_codec.specs.Body.{IsInGrammar, spelling, body_answer}
 use Rattle.keyed_channel.specs.Frames.{Opening, opening, sealed}
-use Rattle.ritas_core.specs.Rules.{FormsFit, seat_of, out_at}
+use Rattle.ritas_core.specs.Rules.{FormsFit, seat_of, out_at_slot}
 use Rattle.ritas_core.specs.Parts.{Entry, Took, Given, parts}
 use Rattle.world_model.specs.declared.audit.Audit.TheVariants.{Holds}
 use Rattle.world_model.specs.World.{Setting, rules_at, states_of}
@@ -24,7 +24,7 @@ history_of w es i = (states_of w es i).history
 
 -- what a slot delivered at replica i
 abbrev pub delivered : Setting → List Event → ℕ → Slot → Option (List ℕ)
-delivered w es i s = out_at (rules_at w i).casts s ((parts (rules_at w i) (history_of w es i)).calls s)
+delivered w es i s = out_at_slot (rules_at w i).casts s ((parts (rules_at w i) (history_of w es i)).calls s)
 
 -- what replica i started at a slot
 abbrev pub started_at : Setting → List Event → ℕ → Slot → Option (List ℕ)
@@ -35,14 +35,14 @@ abbrev pub said_at : Setting → List Event → ℕ → Slot → Option (List �
 said_at w es i s = let p = parts (rules_at w i) (history_of w es i) in said_value (said w.service (seat_of (rules_at w i)) p.words) s
 
 -- how many inputs a history has, and its input of a number, from 0
-abbrev pub inputs_of : List Entry → ℕ
-inputs_of [] = 0
-inputs_of (Given v ∷ h) = inputs_of h + 1
-inputs_of (Took x ∷ h) = inputs_of h
+abbrev pub count_inputs : List Entry → ℕ
+count_inputs [] = 0
+count_inputs (Given v ∷ h) = count_inputs h + 1
+count_inputs (Took x ∷ h) = count_inputs h
 
 abbrev pub input_at : List Entry → ℕ → Option (List ℕ)
 input_at [] k = None
-input_at (Given v ∷ h) k = if inputs_of h == k then Some v else input_at h k
+input_at (Given v ∷ h) k = if count_inputs h == k then Some v else input_at h k
 input_at (Took x ∷ h) k = input_at h k
 
 -- the channel between the replicas: where what one sealed for another opens, it says what was sealed, and what opens is of another replica

@@ -34,7 +34,7 @@ use Rattle.world_model.specs.World.{Setting, rules_at, call_of, states_of, seen_
 use Rattle.world_model.specs.Audit.{newest_item, prints_in, clashes, broken_by, judged, has_too_many, audit_of}
 use Rattle.world_model.specs.OneValueEach.{input_at}
 use Rattle.world_model.specs.Agree.{OneIsPart}
-use Rattle.world_model.specs.Counts.{no_counts, counted}
+use Rattle.world_model.specs.Counts.{no_counts, counted_event}
 use Rattle.world_model.specs.FramesMade.{MadeTable, made_in, made_at, with_frames}
 
 -- ---- a world of four replicas, of which the first few are correct; replica 1 is stopped before event 0
@@ -246,10 +246,10 @@ not_prefix (r ∷ q ∷ more, e) = cc
 
 -- ---- counts
 
-took : (counted (seen_as.Answered answers.Took) no_counts).took ≡ 1
+took : (counted_event (seen_as.Answered answers.Took) no_counts).took ≡ 1
 took = refl
 
-open_fault : counted (seen_as.Refused (refusals.Open Short)) no_counts ≡ record no_counts { open_faults = 1 }
+open_fault : counted_event (seen_as.Refused (refusals.Open Short)) no_counts ≡ record no_counts { open_faults = 1 }
 open_fault = refl
 
 -- ---- frames made, of two replicas

@@ -10,12 +10,12 @@ use Rattle.ritas_base.specs.Members.{has_member}
 use Rattle.ritas_base.specs.Numbers.{Numbers, IsSession}
 use Rattle.keyed_channel.specs.KeyRow.{KeyRow}
 use Rattle.ritas_core.specs.Machine.{CoreState, What}
-use Rattle.ritas_core.specs.Calls.{IsStep, stopped}
+use Rattle.ritas_core.specs.Calls.{IsCoreStep, stopped}
 use Rattle.ritas_core.specs.Rules.{at_slot_of}
 use Rattle.ritas_core.specs.Stands.{Meaning}
 use Rattle.replica.specs.declared.replica.Replica.{Replica}
 use Rattle.replica.specs.Frames.{made_for}
-use Rattle.replica.specs.Handling.{Call}
+use Rattle.replica.specs.Handling.{ReplicaCall}
 use Rattle.replica.specs.Stands.{core_call}
 use Rattle.replica.specs.Replica.{ReplicaStands}
 use Rattle.world_model.specs.declared.seats.Seats.{Seats}
@@ -123,11 +123,11 @@ pub record WorldStands {S E C : Type 0} (m : Meaning S E C KeyRow) (world : Worl
 -- a call on replica i that takes an entry in this state
 pub record IsTaking (w : Setting) (state : CoreState) (c : Option CallAt) (i : ℕ) : Type 0 where
   pub live : state.live ≡ true
-  pub call : Call
+  pub call : ReplicaCall
   pub called : c ≡ Some (record { at = i; call = call })
   pub what : What
   pub given : core_call (rules_at w i) (w.keys i) call ≡ Some what
-  pub step : IsStep (rules_at w i) state what
+  pub step : IsCoreStep (rules_at w i) state what
 
 -- a correct replica, which such a call stopped for want of memory
 pub record IsStoppedBy {S E C : Type 0} (m : Meaning S E C KeyRow) (w : Setting) (state : CoreState) (c : Option CallAt) (i : ℕ)
@@ -170,8 +170,8 @@ pub record WorldStopped {S E C : Type 0} (m : Meaning S E C KeyRow) (world : Wor
   pub needs : EventNeeds w (states_of w es) e
 
 -- whether a world isn't stopped
-abbrev pub is_live : {S E C : Type 0} → World S E C → Bool
-is_live world = world.live
+abbrev pub is_world_live : {S E C : Type 0} → World S E C → Bool
+is_world_live world = world.live
 
 -- ---- what an event does
 

@@ -11,13 +11,13 @@ use Rattle.ritas_base.specs.Numbers.{Numbers, IsSession}
 use Rattle.frame_codec.specs.declared.fault.BodyFault.TheVariants as body
 use Rattle.keyed_channel.specs.KeyRow.{KeyRow}
 use Rattle.frame_codec.specs.Body.{body_answer}
-use Rattle.keyed_channel.specs.Frames.{sender_of, seq_of, body_of}
+use Rattle.keyed_channel.specs.Frames.{sender_of, seq_of, frame_body}
 use Rattle.ritas_core.specs.declared.answer.Answer.{Answer}
 use Rattle.ritas_core.specs.declared.answer.Answer.TheVariants as answers
 use Rattle.ritas_core.specs.declared.fault.CoreFault.TheVariants as faults
 use Rattle.ritas_core.specs.Machine.{CoreState, first_state}
 use Rattle.ritas_core.specs.Rules.{Rules, casts_by}
-use Rattle.ritas_core.specs.Shown.{front_of}
+use Rattle.ritas_core.specs.Shown.{first_waiting}
 use Rattle.ritas_core.specs.Stands.{Meaning}
 use Rattle.replica.specs.declared.frame.OutFrame.{OutFrame}
 use Rattle.replica.specs.declared.refusal.Refusal.{Refusal}
@@ -41,17 +41,17 @@ rules_with m p root k coin =
     record { mode = root; casts = casts_by root p k.me (m.tags k) m.cast; coin = m.bits coin; service = m.service }
 
 -- the replica with these keys and this coin before any call, where it is correct
-abbrev pub IsFirst : {S E C : Type 0} → Meaning S E C KeyRow → Numbers → Mode → ℕ → KeyRow → C → Option (Replica S E C) → Type 0
-IsFirst m p root members k coin None = has_member members k.me ≡ false
-IsFirst m p root members k coin (Some rep) =
+abbrev pub IsFirstReplica : {S E C : Type 0} → Meaning S E C KeyRow → Numbers → Mode → ℕ → KeyRow → C → Option (Replica S E C) → Type 0
+IsFirstReplica m p root members k coin None = has_member members k.me ≡ false
+IsFirstReplica m p root members k coin (Some rep) =
     (has_member members k.me ≡ true) × ReplicaStands m rep (rules_with m p root k coin) k (first_state (replicate p.n []))
 
 -- there is a place for each of these coins, with the keys and the coin of its number
-pub record AreFirst {S E C : Type 0} (m : Meaning S E C KeyRow) (p : Numbers) (root : Mode) (members : ℕ)
+pub record AreFirstReplicas {S E C : Type 0} (m : Meaning S E C KeyRow) (p : Numbers) (root : Mode) (members : ℕ)
     (rows : List KeyRow) (all_coins : List C) (places : List (Option (Replica S E C))) : Type 0 where
   pub many : length places ≡ length all_coins
   pub each : (i : ℕ) (k : KeyRow) (coin : C) (place : Option (Replica S E C)) → slice_get rows i ≡ Some k
-      → slice_get all_coins i ≡ Some coin → slice_get places i ≡ Some place → IsFirst m p root members k coin place
+      → slice_get all_coins i ≡ Some coin → slice_get places i ≡ Some place → IsFirstReplica m p root members k coin place
 
 -- ---- a call
 
@@ -61,7 +61,7 @@ frames_out w states None = []
 frames_out w states (Some c) = (handled_at w states c).out
 
 -- a call was answered so, made these frames behind those before, and left these replicas
-pub record Calls {S E C : Type 0} (m : Meaning S E C KeyRow) (w : Setting) (states : ℕ → CoreState) (c : Option CallAt)
+pub record CallAnswered {S E C : Type 0} (m : Meaning S E C KeyRow) (w : Setting) (states : ℕ → CoreState) (c : Option CallAt)
     (places : List (Option (Replica S E C))) (before after : List OutFrame) (answer : Seen) : Type 0 where
   pub seen : answer ≡ seen_call w states c
   pub out : after ≡ before ++ frames_out w states c
@@ -70,7 +70,7 @@ pub record Calls {S E C : Type 0} (m : Meaning S E C KeyRow) (w : Setting) (stat
 -- each outcome of a call
 abbrev pub CallsOr : {S E C : Type 0} → Meaning S E C KeyRow → Setting → (ℕ → CoreState) → Option CallAt
     → List (Option (Replica S E C)) → List OutFrame → List OutFrame → Result Seen Mem → Type 0
-CallsOr m w states c places before after (Ok seen) = Calls m w states c places before after seen
+CallsOr m w states c places before after (Ok seen) = CallAnswered m w states c places before after seen
 CallsOr m w states c places before after (Err mem) = ReplicasLeft m w states (after_call w states c) c places × CallNeeds w states c
 
 abbrev pub IsWant : Result Seen Mem → Type 0
@@ -99,10 +99,10 @@ is_unmade correct t j bytes =
     has_member correct (sender_of bytes) && not (is_numbered (made_in t (sender_of bytes) j) (seq_of bytes) bytes)
 
 -- whether a frame came that opened
-abbrev pub is_opened : Seen → Bool
-is_opened seen_as.Missed = false
-is_opened (seen_as.Refused (refusals.Open fault)) = false
-is_opened seen = true
+abbrev pub is_seen_opened : Seen → Bool
+is_seen_opened seen_as.Missed = false
+is_seen_opened (seen_as.Refused (refusals.Open fault)) = false
+is_seen_opened seen = true
 
 -- ---- the item that was taken
 
@@ -112,19 +112,19 @@ is_took (seen_as.Answered answers.Took) = true
 is_took seen = false
 
 -- the item at the front of a replica's inbox, where the audit looks at it; what stands there is in the grammar
-pub record IsFront (w : Setting) (states : ℕ → CoreState) (at : ℕ) (front : Option Item) : Type 0 where
-  pub is : front ≡ watched w.mode (front_of (states at).inbox)
-  pub good : IsGoodIf w (front_of (states at).inbox)
+pub record IsInboxFront (w : Setting) (states : ℕ → CoreState) (at : ℕ) (front : Option Item) : Type 0 where
+  pub is : front ≡ watched w.mode (first_waiting (states at).inbox)
+  pub good : IsGoodIf w (first_waiting (states at).inbox)
 
 -- the item of a frame's body, where the frame was taken and the audit looks at the item
 pub record IsFrameItem (p : Numbers) (mode : Mode) (seen : Seen) (bytes : List ℕ) (found : Option Item) : Type 0 where
   pub missed : is_took seen ≡ false → found ≡ None
   pub took : (item : Item) → is_took seen ≡ true → IsSession p → 43 ≤ length bytes
-      → body_answer p mode (sender_of bytes) (body_of bytes) ≡ Ok item → found ≡ watched mode (Some item)
+      → body_answer p mode (sender_of bytes) (frame_body bytes) ≡ Ok item → found ≡ watched mode (Some item)
 
 -- ---- an event
 
-pub record Happens {S E C : Type 0} (m : Meaning S E C KeyRow) (w : Setting) (states : ℕ → CoreState) (c : Option CallAt)
+pub record CallHappened {S E C : Type 0} (m : Meaning S E C KeyRow) (w : Setting) (states : ℕ → CoreState) (c : Option CallAt)
     (places : List (Option (Replica S E C))) (happened : Happened) : Type 0 where
   pub told : IsTold w states c happened.at happened.forged happened.taken
   pub seen : happened.seen ≡ seen_call w states c
@@ -134,7 +134,7 @@ pub record Happens {S E C : Type 0} (m : Meaning S E C KeyRow) (w : Setting) (st
 -- each outcome, where this needs memory
 abbrev pub HappensOr : {S E C : Type 0} → Meaning S E C KeyRow → Setting → (ℕ → CoreState) → Option CallAt → Type 0
     → List (Option (Replica S E C)) → Result Happened Mem → Type 0
-HappensOr m w states c Needing places (Ok happened) = Happens m w states c places happened
+HappensOr m w states c Needing places (Ok happened) = CallHappened m w states c places happened
 HappensOr m w states c Needing places (Err mem) = ReplicasLeft m w states (after_call w states c) c places × Needing
 
 -- of a call, and of an event

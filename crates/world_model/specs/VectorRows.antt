@@ -8,7 +8,7 @@ use Rattle.frame_codec.specs.Grammar as grammar
 use Rattle.layer_api.specs.Service.{ServiceRules, LastVector, Undecided, Decided, Spent}
 use Rattle.ritas_core.specs.Checks.{input_check}
 use Rattle.world_model.specs.World.{Setting, states_of}
-use Rattle.world_model.specs.Agree.{last_of, Agree}
+use Rattle.world_model.specs.Agree.{last_vector_at, Agree}
 use Rattle.world_model.specs.Rows.{silent, world_of}
 
 -- ---- what a replica shows
@@ -20,7 +20,7 @@ telling = record silent { last = λ seat w. Some (record { round = length w; att
 abbrev with_service : ServiceRules → Setting
 with_service service = record (world_of 3) { service = service }
 
-vector_of_seat : last_of (with_service telling) [] 2 ≡ Some (record { round = 0; attempt = 1; value = 2 ∷ [] })
+vector_of_seat : last_vector_at (with_service telling) [] 2 ≡ Some (record { round = 0; attempt = 1; value = 2 ∷ [] })
 unfolding states_of
 vector_of_seat = refl
 
@@ -28,15 +28,15 @@ vector_of_seat = refl
 abbrev one_input : List Event
 one_input = events.Input 0 (5 ∷ []) ∷ []
 
-vector_after_input : last_of (with_service telling) one_input 0 ≡ Some (record { round = 1; attempt = 1; value = 0 ∷ [] })
+vector_after_input : last_vector_at (with_service telling) one_input 0 ≡ Some (record { round = 1; attempt = 1; value = 0 ∷ [] })
 unfolding states_of input_check inputs.input_format grammar.class1
 vector_after_input = refl
 
-vector_of_other : last_of (with_service telling) one_input 2 ≡ Some (record { round = 0; attempt = 1; value = 2 ∷ [] })
+vector_of_other : last_vector_at (with_service telling) one_input 2 ≡ Some (record { round = 0; attempt = 1; value = 2 ∷ [] })
 unfolding states_of input_check
 vector_of_other = refl
 
-no_vector : last_of (world_of 3) [] 2 ≡ None
+no_vector : last_vector_at (world_of 3) [] 2 ≡ None
 unfolding states_of
 no_vector = refl
 

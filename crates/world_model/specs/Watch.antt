@@ -21,7 +21,7 @@ use Rattle.world_model.specs.declared.watch.Watch.{Watch}
 use Rattle.world_model.specs.World.{Setting, CallAt, after_call}
 use Rattle.world_model.specs.Audit.{is_forged_call, taken_by, calls_at, place_in, is_forged_at, prints_at, collide, broken_by, judged}
 use Rattle.world_model.specs.Met.{MetEntries, met_with, met_for}
-use Rattle.world_model.specs.Hashed.{met_at, is_same_at, HashedStand, prints_by_kind, Meets}
+use Rattle.world_model.specs.Hashed.{entries_met_at, is_same_at, HashedStand, prints_by_kind, Meets}
 
 -- ---- what a call made a replica take
 
@@ -69,7 +69,7 @@ pub record IsTold (w : Setting) (states : ℕ → CoreState) (c : Option CallAt)
 -- the tables have what each correct replica met at the message that was sent to it at each slot, and all that they hashed
 pub record TablesStand (w : Setting) (states : ℕ → CoreState) (watch : Watch) : Type 0 where
   pub sent : (i : ℕ) (s : Slot) → w.is_correct i ≡ true
-      → met_at watch.sent.table s i ≡ met_for (w.keys i) s (sent (place_in w i s) (calls_at w states i s))
+      → entries_met_at watch.sent.table s i ≡ met_for (w.keys i) s (sent (place_in w i s) (calls_at w states i s))
   pub hashed : HashedStand watch.hashed (prints_at w states)
 
 -- this is the verdict, and the tables are kept up while the premises hold
@@ -93,5 +93,5 @@ met_said k x =
 pub record MeetsItem (old new : Watch) (k : KeyRow) (at : ℕ) (x : Item) (clash : Bool) : Type 0 where
   pub verdict : new.verdict ≡ old.verdict
   pub hashed : (prints : List Print) → HashedStand old.hashed prints → Meets new.hashed (prints_by_kind k x.slot x.kind x.value) prints clash
-  pub sent : clash ≡ false → (s : Slot) (i : ℕ) → met_at new.sent.table s i
-      ≡ (if is_same_at x.slot at s i then option_or (met_at old.sent.table s i) (met_said k x) else met_at old.sent.table s i)
+  pub sent : clash ≡ false → (s : Slot) (i : ℕ) → entries_met_at new.sent.table s i
+      ≡ (if is_same_at x.slot at s i then option_or (entries_met_at old.sent.table s i) (met_said k x) else entries_met_at old.sent.table s i)

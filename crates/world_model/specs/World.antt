@@ -17,7 +17,7 @@ use Rattle.ritas_core.specs.Parts.{Entry}
 use Rattle.ritas_core.specs.Machine.{CoreState, first_state}
 use Rattle.replica.specs.declared.refusal.Refusal.{Refusal}
 use Rattle.replica.specs.Frames.{made_for}
-use Rattle.replica.specs.Handling.{Call, Frame, Input, Turn, Handled, handled}
+use Rattle.replica.specs.Handling.{ReplicaCall, Frame, Input, Turn, Handled, handled}
 use Rattle.world_model.specs.declared.seen.Seen.{Seen}
 use Rattle.world_model.specs.declared.seen.Seen.TheVariants as seen_as
 
@@ -45,31 +45,31 @@ rules_at w i = record {
 -- a call on a replica
 pub record CallAt : Type 0 where
   pub at : ℕ
-  pub call : Call
+  pub call : ReplicaCall
 
 -- a call on a replica, if it is correct
-abbrev pub call_at : Setting → ℕ → Call → Option CallAt
+abbrev pub call_at : Setting → ℕ → ReplicaCall → Option CallAt
 call_at w j call = if w.is_correct j then Some (record { at = j; call = call }) else None
 
 -- the frame, if there is one
-abbrev pub frame_at : Setting → ℕ → Option (List ℕ) → Option CallAt
-frame_at w j None = None
-frame_at w j (Some bytes) = call_at w j (Frame bytes)
+abbrev pub frame_call : Setting → ℕ → Option (List ℕ) → Option CallAt
+frame_call w j None = None
+frame_call w j (Some bytes) = call_at w j (Frame bytes)
 
 -- the m-th frame, from 0, that a replica with this history made for j: made frames have the newest first
 abbrev pub made_frame : Rules → KeyRow → List Entry → ℕ → ℕ → Option (List ℕ)
 made_frame r k h j m = slice_get (reverse (made_for r k h j)) m
 
 -- the frame that passes from one replica to another, which a correct one made
-abbrev pub passed : Setting → (ℕ → CoreState) → ℕ → ℕ → ℕ → Option (List ℕ)
-passed w states from to m = if w.is_correct from then made_frame (rules_at w from) (w.keys from) (states from).history to m else None
+abbrev pub frame_passed : Setting → (ℕ → CoreState) → ℕ → ℕ → ℕ → Option (List ℕ)
+frame_passed w states from to m = if w.is_correct from then made_frame (rules_at w from) (w.keys from) (states from).history to m else None
 
 -- the call that an event is on a correct replica, where the replicas are in these states
 abbrev pub call_of : Setting → (ℕ → CoreState) → Event → Option CallAt
 call_of w states (events.Frame to bytes) = call_at w to (Frame bytes)
 call_of w states (events.Input at bytes) = call_at w at (Input bytes)
 call_of w states (events.Turn at) = call_at w at Turn
-call_of w states (events.Pass from to m) = frame_at w to (passed w states from to m)
+call_of w states (events.Pass from to m) = frame_call w to (frame_passed w states from to m)
 call_of w states (events.Sealed from to body) = call_at w to (Frame (sealed (w.keys from) to 0 body))
 
 -- what a call on a replica does

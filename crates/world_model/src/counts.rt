@@ -27,7 +27,7 @@ pub struct Counts {
 
 impl Counts {
     ghost use Rattle.std.specs.Prelude.{◌≡◌, ◌+◌, ◌-◌, ◌^◌, ◌<◌};
-    ghost use Rattle.world_model.specs.Counts.{no_counts, counted, total};
+    ghost use Rattle.world_model.specs.Counts.{no_counts, counted_event, total};
 
     /// Of no events.
     pub fn new() -> Counts
@@ -48,7 +48,7 @@ impl Counts {
     /// Counts one event more.
     pub fn count(&mut self, seen: &Seen)
         requires { total self.old < 2 ^ 64 - 1 }
-        ensures one { self.new ≡ counted seen.now self.old }
+        ensures one { self.new ≡ counted_event seen.now self.old }
         ensures all { total self.new ≡ total self.old + 1 }
     {
         match seen {

@@ -11,7 +11,7 @@ ghost use Rattle.world_model.specs.World.{Setting, call_at};
 ghost use Rattle.world_model.specs.Audit.{is_forged_call};
 ghost use Rattle.world_model.specs.Stands.{SeatsStand, ReplicasStand, FramesStand, frames_from};
 ghost use Rattle.ritas_base.specs.Events.{MayHappen};
-ghost use Rattle.world_model.specs.Steps.{CallHappens, EventHappens, is_opened};
+ghost use Rattle.world_model.specs.Steps.{CallHappens, EventHappens, is_seen_opened};
 
 use crate::calls::{give_frame, give_input, give_opened, give_turn};
 use crate::happened::Happened;
@@ -28,7 +28,7 @@ use std::alloc::Global;
 
 // Whether a frame that was seen so opened, and this holds.
 fn is_opened_and(seen: &Seen, is_unmade: bool) -> bool
-    ensures { result ≡ (is_opened seen.now && is_unmade) }
+    ensures { result ≡ (is_seen_opened seen.now && is_unmade) }
 {
     match seen {
         Seen::Missed => false,

@@ -5,7 +5,7 @@ ghost use Rattle.keyed_channel.specs.Keyed.{tags_of};
 ghost use Rattle.ritas_core.specs.Rules.{other_form};
 ghost use Rattle.ritas_core.specs.Stands.{meaning};
 ghost use Rattle.world_model.specs.Stands.{AreKeys, AreOfVersion};
-ghost use Rattle.world_model.specs.Steps.{IsFirst, AreFirst};
+ghost use Rattle.world_model.specs.Steps.{IsFirstReplica, AreFirstReplicas};
 
 use keyed_channel::Keys;
 use layer_api::{Broadcast, Service};
@@ -27,7 +27,7 @@ fn first_replica<S: Service, E: Broadcast, C: Coin + Drop>(
     requires form { E.FORM ≡ other_form mode }
     requires served { S.rules.serves mode.root ≡ true }
     ensures { IfOk result (λ place.
-        IsFirst (meaning S.stands S.rules S.shown E.stands E.rules E.shown C.bits (λ k. k.me) tags_of) p mode correct keys coin place) }
+        IsFirstReplica (meaning S.stands S.rules S.shown E.stands E.rules E.shown C.bits (λ k. k.me) tags_of) p mode correct keys coin place) }
 {
     if correct.has(keys.me()) {
         Ok(Some(Replica::new(alloc, p, mode, keys, coin)?))
@@ -52,7 +52,7 @@ pub(crate) fn first_replicas<S: Service, E: Broadcast, C: Coin + Drop>(
     requires form { E.FORM ≡ other_form mode }
     requires served { S.rules.serves mode.root ≡ true }
     ensures { IfOk result (λ places.
-        AreFirst (meaning S.stands S.rules S.shown E.stands E.rules E.shown C.bits (λ k. k.me) tags_of)
+        AreFirstReplicas (meaning S.stands S.rules S.shown E.stands E.rules E.shown C.bits (λ k. k.me) tags_of)
         p mode correct keys.now coins.items places.items) }
 {
     let mut places = Vec::new(alloc);

@@ -7,7 +7,7 @@ ghost use Rattle.std.specs.Str.{bytes_eq};
 ghost use Rattle.ritas_base.specs.declared.slot.Slot.{Slot};
 ghost use Rattle.world_model.specs.World.{Setting};
 ghost use Rattle.world_model.specs.Stands.{SeatsStand};
-ghost use Rattle.world_model.specs.Met.{pair_of, met_with, turned};
+ghost use Rattle.world_model.specs.Met.{pair_of, met_with, turned_pair};
 ghost use Rattle.world_model.specs.Hashed.{AreMet, IsMetAt};
 
 use crate::seats::Seats;
@@ -62,7 +62,7 @@ fn some_gives(pairs: &[EntryPair], entry: &[u8]) -> bool
 impl Met {
     ghost use Rattle.std.specs.Prelude.{◌≡◌, true, slice_get, Some};
     ghost use Rattle.std.specs.Option.{option_copied};
-    ghost use Rattle.world_model.specs.Met.{given_in};
+    ghost use Rattle.world_model.specs.Met.{entries_given};
     ghost use Rattle.world_model.specs.Audit.{is_among};
 
     /// The digest.
@@ -81,7 +81,7 @@ impl Met {
 
     // Whether this is the entry that the replica gives another.
     fn gives_to(&self, other: u8, entry: &[u8]) -> bool
-        ensures { result ≡ true → is_among (given_in (Some self.now)) (Some entry.now) ≡ true }
+        ensures { result ≡ true → is_among (entries_given (Some self.now)) (Some entry.now) ≡ true }
     {
         match self.pair(other) {
             Some(pair) => entry == pair.given.as_slice(),
@@ -91,7 +91,7 @@ impl Met {
 
     /// Whether this is one of the entries that the replica gives. The one for the likely verifier is looked at first.
     pub(crate) fn gives(&self, likely: u8, entry: &[u8]) -> bool
-        ensures { result ≡ is_among (given_in (Some self.now)) (Some entry.now) }
+        ensures { result ≡ is_among (entries_given (Some self.now)) (Some entry.now) }
     {
         if self.gives_to(likely, entry) {
             return true;
@@ -102,7 +102,7 @@ impl Met {
 
 // The same entries, as the other of the two has them.
 fn turned(pair: &EntryPair) -> EntryPair
-    ensures { result ≡ turned pair.now }
+    ensures { result ≡ turned_pair pair.now }
 {
     EntryPair {
         given: pair.expected,
@@ -199,11 +199,11 @@ impl MetSends {
     ghost use Rattle.std.specs.Prelude.{◌≡◌, ℕ, Some, None, OnOk, if◌then◌else◌};
     ghost use Rattle.std.specs.Option.{option_copied, option_or};
     ghost use Rattle.ritas_base.specs.declared.slot.Slot.{Slot};
-    ghost use Rattle.world_model.specs.Hashed.{met_at, is_same_at};
+    ghost use Rattle.world_model.specs.Hashed.{entries_met_at, is_same_at};
 
     /// None.
     pub(crate) fn new(alloc: Global) -> MetSends
-        ensures { (s : Slot) (i : ℕ) → met_at result.table s i ≡ None }
+        ensures { (s : Slot) (i : ℕ) → entries_met_at result.table s i ≡ None }
     {
         MetSends {
             table: BTreeMap::new(alloc),
@@ -212,15 +212,15 @@ impl MetSends {
 
     /// What a replica met at a slot, if it did.
     pub(crate) fn at(&self, slot: Slot, replica: u8) -> Option<&Met>
-        ensures { option_copied result ≡ met_at self.now.table slot replica }
+        ensures { option_copied result ≡ entries_met_at self.now.table slot replica }
     {
         self.table.get(&SlotAt { slot, replica })
     }
 
     /// What a replica met at a slot, where it met nothing yet.
     pub(crate) fn add(&mut self, slot: Slot, replica: u8, met: Met) -> Result<(), Mem>
-        ensures { OnOk result ((s : Slot) (i : ℕ) → met_at self.new.table s i
-            ≡ (if is_same_at slot replica s i then option_or (met_at self.old.table s i) (Some met) else met_at self.old.table s i)) }
+        ensures { OnOk result ((s : Slot) (i : ℕ) → entries_met_at self.new.table s i
+            ≡ (if is_same_at slot replica s i then option_or (entries_met_at self.old.table s i) (Some met) else entries_met_at self.old.table s i)) }
     {
         let at = SlotAt { slot, replica };
         if !self.table.contains_key(&at) {

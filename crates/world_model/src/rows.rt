@@ -3,7 +3,7 @@
 ghost use Rattle.std.specs.Prelude.{◌≡◌, Some};
 ghost use Rattle.std.specs.Option.{option_copied};
 ghost use Rattle.world_model.specs.Audit.{is_among};
-ghost use Rattle.world_model.specs.Met.{given_in, is_expected, is_unknown};
+ghost use Rattle.world_model.specs.Met.{entries_given, is_expected, is_unknown};
 
 use crate::met::{EntryPair, Met};
 use frame_codec::column_entry;
@@ -20,7 +20,7 @@ fn is_expected(pair: Option<&EntryPair>, row: &[u8]) -> bool
 
 // Whether a row is one of the entries that a replica gave, if it met anything.
 fn was_given(met: Option<&Met>, likely: u8, row: &[u8]) -> bool
-    ensures { result ≡ is_among (given_in (option_copied met.entry)) (Some row.now) }
+    ensures { result ≡ is_among (entries_given (option_copied met.entry)) (Some row.now) }
 {
     match met {
         Some(met) => met.gives(likely, row),

@@ -14,7 +14,7 @@ ghost use Rattle.ritas_core.specs.Stands.{meaning};
 ghost use Rattle.world_model.specs.World.{Setting};
 ghost use Rattle.world_model.specs.Watch.{is_watched, watched, is_watched_byte};
 ghost use Rattle.world_model.specs.Stands.{ReplicasStand};
-ghost use Rattle.world_model.specs.Steps.{is_took, IsFront, IsFrameItem};
+ghost use Rattle.world_model.specs.Steps.{is_took, IsInboxFront, IsFrameItem};
 
 use crate::seen::Seen;
 use frame_codec::{BodyFault, read_body, spelled};
@@ -85,7 +85,7 @@ pub(crate) fn front_item<S: Service, E: Broadcast, C: Coin + Drop>(
 ) -> Result<Option<Item>, Mem>
     ensures is { IfOk result (λ front. (w : Setting) (states : ℕ → CoreState) → mode.now ≡ w.mode
         → ReplicasStand (meaning S.stands S.rules S.shown E.stands E.rules E.shown C.bits (λ k. k.me) tags_of) w states replicas.now
-        → w.is_correct at ≡ true → IsFront w states at front) }
+        → w.is_correct at ≡ true → IsInboxFront w states at front) }
     ensures only { OnErr result ((w : Setting) (states : ℕ → CoreState)
         → ReplicasStand (meaning S.stands S.rules S.shown E.stands E.rules E.shown C.bits (λ k. k.me) tags_of) w states replicas.now
         → (w.is_correct at ≡ true) × ((states at).inbox ≢ [])) }

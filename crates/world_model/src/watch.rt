@@ -30,14 +30,14 @@ impl Watch {
     ghost use Rattle.world_model.specs.World.{Setting, CallAt, after_call};
     ghost use Rattle.world_model.specs.Audit.{calls_at, place_in, is_made_up, is_forged_item};
     ghost use Rattle.world_model.specs.Met.{met_with};
-    ghost use Rattle.world_model.specs.Hashed.{met_at, HashedStand};
+    ghost use Rattle.world_model.specs.Hashed.{entries_met_at, HashedStand};
     ghost use Rattle.world_model.specs.Stands.{SeatsStand};
     ghost use Rattle.world_model.specs.Watch.{TablesStand, MeetsItem, IsTold, WatchStands, verdict_after};
 
     /// Before any event.
     pub(crate) fn new(alloc: Global) -> Watch
         ensures verdict { result.verdict ≡ Audit.Holds }
-        ensures sent { (s : Slot) (i : ℕ) → met_at result.sent.table s i ≡ None }
+        ensures sent { (s : Slot) (i : ℕ) → entries_met_at result.sent.table s i ≡ None }
         ensures hashed { HashedStand result.hashed [] }
     {
         Watch {

@@ -42,7 +42,7 @@ impl<S: Service, E: Broadcast, C: Coin + Drop> World<S, E, C> {
     ghost use Rattle.world_model.specs.Audit.{audit_of};
     ghost use Rattle.world_model.specs.Agree.{Agree};
     ghost use Rattle.world_model.specs.Needs.{EventNeeds};
-    ghost use Rattle.world_model.specs.Stands.{AreKeys, AreOfVersion, IsWorldOf, IsReplica, AreMembers, AreMembersLeft, frames_from, WorldStands, IsLeft, WorldStopped, is_live, EventDoes};
+    ghost use Rattle.world_model.specs.Stands.{AreKeys, AreOfVersion, IsWorldOf, IsReplica, AreMembers, AreMembersLeft, frames_from, WorldStands, IsLeft, WorldStopped, is_world_live, EventDoes};
     ghost use Rattle.ritas_base.specs.Events.{MayHappen};
 
     /// The world of these numbers, mode, correct replicas, and keys and coins of each replica, before any event. The keys
@@ -106,8 +106,8 @@ impl<S: Service, E: Broadcast, C: Coin + Drop> World<S, E, C> {
         ensures after { (w : Setting) (es : List Event) (e : Event)
             → WorldStopped (meaning S.stands S.rules S.shown E.stands E.rules E.shown C.bits (λ k. k.me) tags_of) self.old w es e
             → IsErr result × WorldStopped (meaning S.stands S.rules S.shown E.stands E.rules E.shown C.bits (λ k. k.me) tags_of) self.new w es e }
-        ensures stops { OnErr result (is_live self.new ≡ false) }
-        ensures stopped { OnOk result (is_live self.old ≡ true) }
+        ensures stops { OnErr result (is_world_live self.new ≡ false) }
+        ensures stopped { OnOk result (is_world_live self.old ≡ true) }
     {
         made_by_entry();
         if !self.live {
@@ -138,7 +138,7 @@ impl<S: Service, E: Broadcast, C: Coin + Drop> World<S, E, C> {
 
     /// Whether no event was without memory.
     pub fn live(&self) -> bool
-        ensures { result ≡ is_live self.now }
+        ensures { result ≡ is_world_live self.now }
     {
         self.live
     }

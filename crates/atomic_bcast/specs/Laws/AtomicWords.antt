@@ -10,7 +10,7 @@ use Rattle.layer_api.specs.Words.{Word, Hear, asked}
 use Rattle.layer_api.specs.Service.{Seat, Instance, Decision, Spent, Undecided, Decided, AreProper, IsEnding, Meanings, has_id, has_instance, is_finished, is_past, WordLaws}
 use Rattle.layer_api.specs.LogLengthLaws.{ids_fit}
 use Rattle.layer_api.specs.Vectors.{VectorRules, VectorLaws, is_vector_slot}
-use Rattle.atomic_bcast.specs.Rounds.{round_scope, round_desk, log_below, complete_of, round_words, round_decides, round_opens, inside_of, rounds, atomic, round_of}
+use Rattle.atomic_bcast.specs.Rounds.{round_scope, round_desk, log_below, complete_of, round_words, round_decides, round_opens, inside_of, rounds, atomic, instance_round}
 use Rattle.atomic_bcast.specs.Laws.WordsMeet.{session_of, round_met, round_opened}
 use Rattle.atomic_bcast.specs.Laws.LogsByRound.{complete_stays, log_complete, log_earlier, done_distinct}
 use Rattle.atomic_bcast.specs.Laws.RoundsStay.{spent_stay, inside_stay, opens_stay}
@@ -123,7 +123,7 @@ module _ (v : VectorRules) (laws : VectorLaws v) (seat : Seat) where
 
   -- what an instance decided stays
   decided_stays : (c : Word) (w : List Word) (x : Instance) (d : Decision) → AreProper (atomic v) seat (c ∷ w) → inside_of v seat w x ≡ Some d → inside_of v seat (c ∷ w) x ≡ Some d
-  decided_stays c w x d proper q = inside_stay v laws seat (round_of x) c w proper x d q
+  decided_stays c w x d proper q = inside_stay v laws seat (instance_round x) c w proper x d q
 
   -- ---- a round that is spent is never complete
 

@@ -16,12 +16,12 @@ use Rattle.frame_codec.specs.Inputs.{IsInput, input_format}
 use Rattle.layer_api.specs.Service.{Seat, said, is_past, is_ahead, MayHear, AreProper, AreNew, AreGoodSays, WordLaws, AreInputs, IsBase, is_finished, has_instance, Meanings}
 use Rattle.layer_api.specs.Words.{Word, Ask, Hear, is_heard, asked, is_said}
 use Rattle.layer_api.specs.OneLog.{OneLog}
-use Rattle.atomic_bcast.specs.Commands.{is_heard_from, is_missing, base_of, says_of, commands}
+use Rattle.atomic_bcast.specs.Commands.{is_heard_from, is_missing, base_of, says_input, commands}
 
 -- ---- the least number that was not heard
 
 -- b is the least number from a on that passes
-pub record IsFirst (p : ℕ → Bool) (a b : ℕ) : Type 0 where
+pub record IsLeastFrom (p : ℕ → Bool) (a b : ℕ) : Type 0 where
   pub passes : p b ≡ true
   pub «from» : a ≤ b
   pub none_before : (k : ℕ) → a ≤ k → k < b → p k ≡ false
@@ -38,8 +38,8 @@ at_or_after p a k fails here later =
       | inr (inr more) ↦ absurd (omega arith)
     ]
 
-find_later : (p : ℕ → Bool) (a n : ℕ) (o : Option ℕ) → p a ≡ false → MatchOption o (NonePasses p (a + 1) n) (IsFirst p (a + 1))
-    → MatchOption o (NonePasses p a (suc n)) (IsFirst p a)
+find_later : (p : ℕ → Bool) (a n : ℕ) (o : Option ℕ) → p a ≡ false → MatchOption o (NonePasses p (a + 1) n) (IsLeastFrom p (a + 1))
+    → MatchOption o (NonePasses p a (suc n)) (IsLeastFrom p a)
 find_later p a n None fails later = λ k here within. at_or_after p a k fails here (λ after. later k after (omega arith))
 find_later p a n (Some b) fails later = record {
   passes = later.passes;
@@ -47,7 +47,7 @@ find_later p a n (Some b) fails later = record {
   none_before = λ k here before. at_or_after p a k fails here (λ after. later.none_before k after before);
 }
 
-pub find_is : (p : ℕ → Bool) (a n : ℕ) → MatchOption (find p (range_with_len a n)) (NonePasses p a n) (IsFirst p a)
+pub find_is : (p : ℕ → Bool) (a n : ℕ) → MatchOption (find p (range_with_len a n)) (NonePasses p a n) (IsLeastFrom p a)
 find_is p a zero = λ k here within. absurd (omega arith)
 find_is p a (suc n) =
     elim (cases_Bool (p a)) [
@@ -87,7 +87,7 @@ not_all_heard w o n all =
     omega (arith, few, fewer_numbers w)
 
 found_base : (w : List Word) (o : ℕ) (found : Option ℕ)
-    → MatchOption found (NonePasses (is_missing w o) 0 (length w + 1)) (IsFirst (is_missing w o) 0)
+    → MatchOption found (NonePasses (is_missing w o) 0 (length w + 1)) (IsLeastFrom (is_missing w o) 0)
     → IsBase (is_heard_from w o) (unwrap_or found (length w))
 found_base w o None none =
     let all = not_all_heard w o (length w + 1) (λ k within. not-false (is_heard w (command_slot o k)) (none k (omega arith) (omega arith))) in
@@ -177,7 +177,7 @@ said_below seat (Ask v ∷ w) k after =
     or_from _ _ (other_number seat.me (asked w) k (λ same. omega (arith, after, same))) (said_below seat w k (omega (arith, after)))
 said_below seat (Hear s v ∷ w) k after = said_below seat w k after
 
-pub says_new : (seat : Seat) (c : Word) (w : List Word) → AreProper commands seat (c ∷ w) → AreNew commands seat w (says_of seat w c)
+pub says_new : (seat : Seat) (c : Word) (w : List Word) → AreProper commands seat (c ∷ w) → AreNew commands seat w (says_input seat w c)
 says_new seat (Ask v) w proper = (refl, said_below seat w (asked w) (omega arith), refl, tt)
 says_new seat (Hear s v) w proper = tt
 
@@ -222,7 +222,7 @@ is_command p mode origin num v serves good =
     in_both P (λ h. h) (λ h. h) mode.root serves good
 
 pub says_good : (seat : Seat) (c : Word) (w : List Word) → seat.me < seat.numbers.n → AreProper commands seat (c ∷ w)
-    → AreGoodSays seat.numbers seat.mode (says_of seat w c)
+    → AreGoodSays seat.numbers seat.mode (says_input seat w c)
 says_good seat (Ask v) w below proper = (
   slot_right seat.numbers seat.mode seat.me (asked w) proper.0.served below proper.0.number,
   is_command seat.numbers seat.mode seat.me (asked w) v proper.0.served proper.0.good,
@@ -230,7 +230,7 @@ says_good seat (Ask v) w below proper = (
 )
 says_good seat (Hear s v) w below proper = tt
 
-commands_said : (seat : Seat) (c : Word) (w : List Word) → AreInputs seat w c (says_of seat w c)
+commands_said : (seat : Seat) (c : Word) (w : List Word) → AreInputs seat w c (says_input seat w c)
 commands_said seat (Ask v) w = (λ command. (refl, refl), tt)
 commands_said seat (Hear s v) w = tt
 

@@ -14,7 +14,7 @@ use Rattle.layer_api.specs.Service.{Seat, AreProper}
 use Rattle.layer_api.specs.Part.{newly_asked}
 use Rattle.layer_api.specs.Vectors.{VectorRules, VectorLaws, MayVector}
 use Rattle.atomic_bcast.specs.Rounds.{pending, proposal, round_desk, is_of_round, begins_with, completes_with, completes_at, log_below, round_ask, round_words, complete_of, rounds, atomic}
-use Rattle.atomic_bcast.specs.Stepping.{current, log_now, heard_words, asked_now, words_now, completes_now, ComesTo}
+use Rattle.atomic_bcast.specs.Stepping.{current, log_now, heard_words, asked_now, words_now, completes_now, ComesToRound}
 use Rattle.atomic_bcast.specs.Laws.WordsMeet.{AreOfSession, first_good, pending_good, round_opened, round_hears}
 use Rattle.atomic_bcast.specs.Laws.AskedFirst.{words_more, unheard, unasked, complete_asked, unasked_ahead, none_over}
 use Rattle.atomic_bcast.specs.Laws.CompleteRounds.{complete_none, complete_there}
@@ -63,7 +63,7 @@ module _ (v : VectorRules) (laws : VectorLaws v) (seat : Seat) (session : IsSess
           let none = unheard v laws seat session s.a (Hear s x) w proper.0 (unasked v laws seat session s.a w proper.1 e) in
           absurd (let z : Hear s x ∷ [] ≡ [] = sym (ap (λ (b : Bool). if b then Hear s x ∷ [] else []) (own_round s other)) ∙ none in cc)
 
-  pub comes_to : (s : Slot) (x : List ℕ) (w : List Word) → AreProper (atomic v) seat (Hear s x ∷ w) → (s.class == 1) ≡ false → ComesTo v seat w s x
+  pub comes_to : (s : Slot) (x : List ℕ) (w : List Word) → AreProper (atomic v) seat (Hear s x ∷ w) → (s.class == 1) ≡ false → ComesToRound v seat w s x
   comes_to s x w proper other =
       let o = and_parts (nat_lt s.a rounds) _ (round_opened v seat w s other proper.0.is_open) in
       let t = and_parts (nat_le (complete_of v seat rounds w) (s.a + 2)) _ o.1 in

@@ -19,9 +19,9 @@ use Rattle.atomic_bcast.specs.Laws.Stepping.{not_ahead, full_is}
 use Rattle.atomic_bcast.specs.Early.{has_early}
 use Rattle.atomic_bcast.specs.Ledger.{LedgerStands}
 use Rattle.atomic_bcast.specs.Laws.LeastNumber.{least_from}
-use Rattle.atomic_bcast.specs.Boxes.{box_at, opens_in, spent_in, Stood, BoxesStand, vector_in, last_in}
-use Rattle.atomic_bcast.specs.AbcGetters.{opens_round, base_in, shown_by}
-use Rattle.atomic_bcast.specs.Abc.{has_begun, Stands}
+use Rattle.atomic_bcast.specs.Boxes.{box_at, opens_in, spent_in, Stood, BoxesStand, vector_by_box, last_in}
+use Rattle.atomic_bcast.specs.AbcGetters.{opens_round, base_in, atomic_shown}
+use Rattle.atomic_bcast.specs.Abc.{has_begun, AtomicStands}
 use Rattle.atomic_bcast.specs.declared.ledger.Ledger.{Ledger}
 use Rattle.atomic_bcast.specs.declared.boxes.Boxes.{Boxes}
 use Rattle.atomic_bcast.specs.declared.abc.Abc.{Abc}
@@ -31,19 +31,19 @@ use Rattle.atomic_bcast.specs.Laws.LogsByRound.{complete_small}
 -- ---- whether a slot of a round is open, by what the box of its round takes
 
 -- as a value tells it, and as the rules do
-abbrev pub told : ℕ → ℕ → Slot → Bool → Bool
-told f completed s takes = nat_lt s.a 1000000 && (nat_le s.a completed && (is_slot_in f s.a s && takes))
+abbrev pub slot_told : ℕ → ℕ → Slot → Bool → Bool
+slot_told f completed s takes = nat_lt s.a 1000000 && (nat_le s.a completed && (is_slot_in f s.a s && takes))
 
 abbrev pub ruled : ℕ → ℕ → Slot → Bool → Bool
 ruled f completed s takes = nat_lt s.a rounds && (nat_le completed (s.a + 2) && (is_slot_in f s.a s && takes))
 
 -- there is no such round
-pub none_beyond : (f n m : ℕ) (s : Slot) (t u : Bool) → rounds ≤ s.a → told f n s t ≡ ruled f m s u
+pub none_beyond : (f n m : ℕ) (s : Slot) (t u : Bool) → rounds ≤ s.a → slot_told f n s t ≡ ruled f m s u
 unfolding rounds
 none_beyond f n m s t u far = and_left (nat_lt s.a 1000000) _ (le-ltb s.a 1000000 far) ∙ sym (and_left (nat_lt s.a 1000000) _ (le-ltb s.a 1000000 far))
 
 -- the round began and isn't past
-pub same_inside : (f n m : ℕ) (s : Slot) (t u : Bool) → s.a < rounds → s.a ≤ n → m ≤ s.a + 2 → t ≡ u → told f n s t ≡ ruled f m s u
+pub same_inside : (f n m : ℕ) (s : Slot) (t u : Bool) → s.a < rounds → s.a ≤ n → m ≤ s.a + 2 → t ≡ u → slot_told f n s t ≡ ruled f m s u
 unfolding rounds
 same_inside f n m s t u small begun recent same =
     ap₂ (λ (x y : Bool). nat_lt s.a 1000000 && (x && (is_slot_in f s.a s && y))) (le-leb s.a n begun) same
@@ -59,10 +59,10 @@ ruled_nothing f m s u none = and_nothing (nat_lt s.a rounds) (nat_le m (s.a + 2)
 pub ruled_past : (f m : ℕ) (s : Slot) (u : Bool) → s.a + 2 < m → ruled f m s u ≡ false
 ruled_past f m s u past = and_right (nat_lt s.a rounds) _ (and_left (nat_le m (s.a + 2)) _ (lt-leb m (s.a + 2) past))
 
-pub told_nothing : (f n : ℕ) (s : Slot) (t : Bool) → t ≡ false → told f n s t ≡ false
+pub told_nothing : (f n : ℕ) (s : Slot) (t : Bool) → t ≡ false → slot_told f n s t ≡ false
 told_nothing f n s t none = and_nothing (nat_lt s.a 1000000) (nat_le s.a n) (is_slot_in f s.a s) t none
 
-pub told_ahead : (f n : ℕ) (s : Slot) (t : Bool) → n < s.a → told f n s t ≡ false
+pub told_ahead : (f n : ℕ) (s : Slot) (t : Bool) → n < s.a → slot_told f n s t ≡ false
 told_ahead f n s t ahead = and_right (nat_lt s.a 1000000) _ (and_left (nat_le s.a n) _ (lt-leb s.a n ahead))
 
 -- there is no box of a round that is past
@@ -147,7 +147,7 @@ module _ {V : Type 0} (stands : V → Desk → List Word → Type 0) (v : Vector
   stood_spent (Some x) at u stood = (shows x at u stood).1.spent
 
   -- and its vector
-  pub stood_vector : (one : Option V) (a : ℕ) (at : Desk) (u : List Word) → Stood stands one at u → vector_in shown a one ≡ vector_with a (v.attempt at u) (v.decision at u)
+  pub stood_vector : (one : Option V) (a : ℕ) (at : Desk) (u : List Word) → Stood stands one at u → vector_by_box shown a one ≡ vector_with a (v.attempt at u) (v.decision at u)
   stood_vector None a at u none =
       sym (ap (vector_with a (v.attempt at u)) (ap (v.decision at) none ∙ laws.decision_first at) ∙ no_vector a (v.attempt at u))
   stood_vector (Some x) a at u stood =
@@ -200,7 +200,7 @@ module _ {V : Type 0} (stands : V → Desk → List Word → Type 0) (v : Vector
     -- the last vector is that of the current round, or of the one before it
     pub now_vector : (w : List Word) (b : Boxes V) → AreProper (atomic v) seat w → is_some b.current ≡ has_begun v seat w
         → BoxesStand stands seat (current v seat w) (λ a. round_words v seat a w) b
-        → vector_in shown (current v seat w) b.current ≡ vector_of_round v seat (current v seat w) w
+        → vector_by_box shown (current v seat w) b.current ≡ vector_of_round v seat (current v seat w) w
     now_vector w b m begun boxes =
         elim (cases_lt (current v seat w) rounds) [
           | inl small ↦
@@ -215,19 +215,19 @@ module _ {V : Type 0} (stands : V → Desk → List Word → Type 0) (v : Vector
               ∙ no_vector rounds (v.attempt (round_desk seat rounds) (round_words v seat rounds w))))
         ]
       where
-        none_there : (o : Option V) → is_some o ≡ false → vector_in shown (current v seat w) o ≡ None
+        none_there : (o : Option V) → is_some o ≡ false → vector_by_box shown (current v seat w) o ≡ None
         none_there None q = refl
         none_there (Some x) q = absurd cc
 
     pub before_vector : (w : List Word) (b : Boxes V) (n : ℕ) → n ≡ current v seat w
         → BoxesStand stands seat (current v seat w) (λ a. round_words v seat a w) b
-        → (if nat_lt 0 n then vector_in shown (n - 1) b.last else None) ≡ last_complete v seat n w
+        → (if nat_lt 0 n then vector_by_box shown (n - 1) b.last else None) ≡ last_complete v seat n w
     before_vector w b zero same boxes = refl
     before_vector w b (suc n) same boxes =
         let few = complete_small v seat rounds w in
         let less : suc n - 1 ≡ n = omega arith in
-        ap (λ (t : Bool). if t then vector_in shown (suc n - 1) b.last else None) (lt-ltb 0 (suc n) (omega arith))
-        ∙ (ap (λ (k : ℕ). vector_in shown k b.last) less
+        ap (λ (t : Bool). if t then vector_by_box shown (suc n - 1) b.last else None) (lt-ltb 0 (suc n) (omega arith))
+        ∙ (ap (λ (k : ℕ). vector_by_box shown k b.last) less
         ∙ stood_vector b.last n (round_desk seat n) (round_words v seat n w) (boxes n 1 (omega (arith, same)) (omega arith) (omega (arith, same, few))))
 
     pub last_is : (w : List Word) (b : Boxes V) → AreProper (atomic v) seat w → is_some b.current ≡ has_begun v seat w
@@ -235,7 +235,7 @@ module _ {V : Type 0} (stands : V → Desk → List Word → Type 0) (v : Vector
     last_is w b m begun boxes =
         ap₂ (λ (o u : Option LastVector). option_or o u) (now_vector w b m begun boxes) (before_vector w b (current v seat w) refl boxes)
 
-  pub shows_rules : (x : Abc V) (seat : Seat) (w : List Word) → Stands stands v shown x seat w → Shows (atomic v) seat w (shown_by shown x)
+  pub shows_rules : (x : Abc V) (seat : Seat) (w : List Word) → AtomicStands stands v shown x seat w → Shows (atomic v) seat w (atomic_shown shown x)
   shows_rules x seat w h =
       let seated = h.seated in
       let session = seated.session in

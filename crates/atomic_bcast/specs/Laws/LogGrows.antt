@@ -14,8 +14,8 @@ use Rattle.layer_api.specs.Words.{Word, Ask, Hear, is_heard}
 use Rattle.layer_api.specs.Service.{Seat, is_past, is_ahead, MayHear, AreProper, AreDistinct, AreHeard, AreRecent, Appends, IsPart, IsBase, has_id}
 use Rattle.layer_api.specs.FedLaws.{some_if, shortest_at}
 use Rattle.layer_api.specs.Vectors.{VectorRules}
-use Rattle.atomic_bcast.specs.Laws.Commands.{IsFirst, NonePasses, find_is, heard_stays}
-use Rattle.atomic_bcast.specs.Identifiers.{kept, is_without, all_pass, append_ids}
+use Rattle.atomic_bcast.specs.Laws.Commands.{IsLeastFrom, NonePasses, find_is, heard_stays}
+use Rattle.atomic_bcast.specs.Identifiers.{passing_ids, is_without, all_pass, append_ids}
 use Rattle.atomic_bcast.specs.Rounds.{wanted, has_command, appended, completes_with, completes_at, log_below, complete_of, round_decides, least_without, rounds, atomic}
 use Rattle.atomic_bcast.specs.Laws.LogsByRound.{log_complete, log_grows, done_distinct}
 
@@ -56,7 +56,7 @@ not_all_in xs o n all =
 
 -- what the search for the least number gives
 found_least : (xs : List Id) (o : ℕ) (found : Option ℕ)
-    → MatchOption found (NonePasses (λ k. is_without xs (id o k)) 0 (length xs + 1)) (IsFirst (λ k. is_without xs (id o k)) 0)
+    → MatchOption found (NonePasses (λ k. is_without xs (id o k)) 0 (length xs + 1)) (IsLeastFrom (λ k. is_without xs (id o k)) 0)
     → IsBase (is_in xs o) (unwrap_or found (length xs))
 found_least xs o None none =
     let all = not_all_in xs o (length xs + 1) (λ k within. not-false (is_in xs o k) (none k (omega arith) (omega arith))) in
@@ -92,11 +92,11 @@ least_stays xs ys o part =
 -- ---- what is appended was delivered
 
 -- where each command that is wanted is delivered, each one of those kept was heard
-heard_each : (w : List Word) (test : Id → Bool) (xs : List Id) → all_pass (has_command w) xs ≡ true → AreHeard w (kept test xs)
+heard_each : (w : List Word) (test : Id → Bool) (xs : List Id) → all_pass (has_command w) xs ≡ true → AreHeard w (passing_ids test xs)
 heard_each w test [] h = tt
 heard_each w test (x ∷ xs) h = let p = and_parts (has_command w x) _ h in go (test x) p.0 (heard_each w test xs p.1)
   where
-    go : (b : Bool) → has_command w x ≡ true → AreHeard w (kept test xs) → AreHeard w (if b then x ∷ kept test xs else kept test xs)
+    go : (b : Bool) → has_command w x ≡ true → AreHeard w (passing_ids test xs) → AreHeard w (if b then x ∷ passing_ids test xs else passing_ids test xs)
     go true here rest = (here, rest)
     go false here rest = rest
 
@@ -118,7 +118,7 @@ heard_completes seat (Some x) None h log old q = absurd cc
 heard_completes seat (Some x) (Some vector) h log old q =
     let i = some_if (all_pass (has_command h) (wanted seat.numbers vector)) (appended seat.numbers vector x) log q in
     let new = heard_each h (is_without x) (wanted seat.numbers vector) i.0 in
-    subst (AreHeard h) i.1 (heard_appended h (kept (is_without x) (wanted seat.numbers vector)) x new (old x refl))
+    subst (AreHeard h) i.1 (heard_appended h (passing_ids (is_without x) (wanted seat.numbers vector)) x new (old x refl))
 
 -- before any word nothing is appended: an identifier that is wanted waits for its command
 none_wanted : (xs : List Id) → all_pass (has_command []) xs ≡ true → xs ≡ []
@@ -126,8 +126,8 @@ none_wanted [] h = refl
 none_wanted (x ∷ xs) h = absurd cc
 
 -- where nothing is wanted the log stays
-nothing_appended : (log xs : List Id) → xs ≡ [] → append_ids (kept (is_without log) xs) log ≡ log
-nothing_appended log xs e = subst (λ (ys : List Id). append_ids (kept (is_without log) ys) log ≡ log) (sym e) refl
+nothing_appended : (log xs : List Id) → xs ≡ [] → append_ids (passing_ids (is_without log) xs) log ≡ log
+nothing_appended log xs e = subst (λ (ys : List Id). append_ids (passing_ids (is_without log) ys) log ≡ log) (sym e) refl
 
 nothing_completes : (seat : Seat) (before : Option (List Id)) (decision : Option (List ℕ)) (log : List Id)
     → ((old : List Id) → before ≡ Some old → old ≡ []) → completes_with seat before decision [] ≡ Some log → log ≡ []

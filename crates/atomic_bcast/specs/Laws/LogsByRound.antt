@@ -9,10 +9,10 @@ use Rattle.layer_api.specs.Words.{Word}
 use Rattle.layer_api.specs.Service.{Seat, AreDistinct, IsPart}
 use Rattle.layer_api.specs.FedLaws.{some_if, shortest_at}
 use Rattle.layer_api.specs.Vectors.{VectorRules}
-use Rattle.atomic_bcast.specs.Identifiers.{in_order, kept, is_without, all_pass}
+use Rattle.atomic_bcast.specs.Identifiers.{in_order, passing_ids, is_without, all_pass}
 use Rattle.atomic_bcast.specs.Rounds.{entry_ids, wanted, has_command, appended, completes_with, completes_at, log_below, log_of, complete_of, round_decides, rounds, atomic}
 use Rattle.atomic_bcast.specs.Laws.Ordered.{in_order_sorted, kept_sorted, append_new, append_part}
-use Rattle.frame_codec.specs.Values.{entries_of}
+use Rattle.frame_codec.specs.Values.{vector_entries}
 
 -- ---- lists
 
@@ -54,7 +54,7 @@ module _ (v : VectorRules) (seat : Seat) where
   log_distinct (suc a) w log q =
       let t = shortest_at (λ (h : List Word). Unit {0}) (λ c h u. u) (completes_at v seat a (log_below v seat a)) w log tt q in
       let x = completes_is seat (log_below v seat a t.0) (round_decides v seat a t.0) t.0 log t.2 in
-      let ids = entry_ids (entries_of x.vector) in
+      let ids = entry_ids (vector_entries x.vector) in
       subst AreDistinct x.whole
       (append_new (wanted seat.numbers x.vector) x.old (kept_sorted _ (in_order ids) (in_order_sorted ids)) (log_distinct a t.0 x.old x.there))
 
@@ -75,7 +75,7 @@ module _ (v : VectorRules) (seat : Seat) where
       record {
         old = x.old;
         there = t.1 x.old x.there;
-        part = subst (λ (ys : List Id). IsPart x.old ys) x.whole (append_part (kept (is_without x.old) (wanted seat.numbers x.vector)) x.old);
+        part = subst (λ (ys : List Id). IsPart x.old ys) x.whole (append_part (passing_ids (is_without x.old) (wanted seat.numbers x.vector)) x.old);
       }
 
   -- with so many more rounds

@@ -11,7 +11,7 @@ use Rattle.layer_api.specs.Words.{Word, Ask, Hear}
 use Rattle.layer_api.specs.Service.{Seat, AreProper}
 use Rattle.layer_api.specs.Part.{newly_asked, passed, part_of, says_in}
 use Rattle.layer_api.specs.Vectors.{VectorRules, VectorLaws}
-use Rattle.atomic_bcast.specs.Rounds.{round_desk, is_of_round, round_ask, round_words, says_below, rounds, atomic}
+use Rattle.atomic_bcast.specs.Rounds.{round_desk, is_of_round, round_ask, round_words, rounds_say_below, rounds, atomic}
 use Rattle.atomic_bcast.specs.Stepping.{heard_says, current, next_ask, next_says}
 use Rattle.atomic_bcast.specs.Laws.AskedFirst.{ask_stays, unasked_before, unheard, unasked}
 use Rattle.atomic_bcast.specs.Laws.CurrentRound.{heard_asked, comes_to}
@@ -22,8 +22,8 @@ module _ (v : VectorRules) (seat : Seat) (c : Word) (w : List Word) where
   round_says a = says_in (v.says (round_desk seat a)) (part_of (round_ask v seat a) (is_of_round a) w c) (round_words v seat a w)
 
   -- the word doesn't ask the round
-  abbrev pub IsQuiet : ℕ → Type 0
-  IsQuiet a = newly_asked (round_ask v seat a w) (round_ask v seat a (c ∷ w)) ≡ []
+  abbrev pub IsRoundQuiet : ℕ → Type 0
+  IsRoundQuiet a = newly_asked (round_ask v seat a w) (round_ask v seat a (c ∷ w)) ≡ []
 
   -- what the rounds below one say to what they hear
   abbrev pub heard_below : ℕ → Word → List Say
@@ -31,7 +31,7 @@ module _ (v : VectorRules) (seat : Seat) (c : Word) (w : List Word) where
   heard_below n (Hear s x) = if nat_lt s.a n then heard_says v seat w (Hear s x) else []
 
   -- what such a round says is what it says to what it hears
-  quiet_round : (a : ℕ) → IsQuiet a → round_says a ≡ says_in (v.says (round_desk seat a)) (passed (is_of_round a) c) (round_words v seat a w)
+  quiet_round : (a : ℕ) → IsRoundQuiet a → round_says a ≡ says_in (v.says (round_desk seat a)) (passed (is_of_round a) c) (round_words v seat a w)
   quiet_round a quiet = ap (λ (ds : List Word). says_in (v.says (round_desk seat a)) (ds ++ passed (is_of_round a) c) (round_words v seat a w)) quiet
 
   abbrev heard_here : Slot → List ℕ → ℕ → List Say
@@ -61,7 +61,7 @@ module _ (v : VectorRules) (seat : Seat) (c : Word) (w : List Word) where
       above false = refl
 
   -- where none of them is asked, they say what they say to what they hear
-  pub quiet_says : (n : ℕ) → ((a : ℕ) → a < n → IsQuiet a) → says_below v seat n w c ≡ heard_below n c
+  pub quiet_says : (n : ℕ) → ((a : ℕ) → a < n → IsRoundQuiet a) → rounds_say_below v seat n w c ≡ heard_below n c
   quiet_says zero quiet = sym (nothing_below c)
     where
       nothing_below : (d : Word) → heard_below zero d ≡ []
@@ -72,14 +72,14 @@ module _ (v : VectorRules) (seat : Seat) (c : Word) (w : List Word) where
       ∙ heard_one n c
 
   -- rounds that say nothing may be left out
-  pub says_only : (k n : ℕ) → k ≤ n → ((a : ℕ) → k ≤ a → a < n → round_says a ≡ []) → says_below v seat n w c ≡ says_below v seat k w c
-  says_only k zero few none = let e : zero ≡ k = omega (arith, few) in ap (λ (j : ℕ). says_below v seat j w c) e
+  pub says_only : (k n : ℕ) → k ≤ n → ((a : ℕ) → k ≤ a → a < n → round_says a ≡ []) → rounds_say_below v seat n w c ≡ rounds_say_below v seat k w c
+  says_only k zero few none = let e : zero ≡ k = omega (arith, few) in ap (λ (j : ℕ). rounds_say_below v seat j w c) e
   says_only k (suc n) few none =
       elim (cases_order k (suc n)) [
-        | inl same ↦ ap (λ (j : ℕ). says_below v seat j w c) (sym same)
+        | inl same ↦ ap (λ (j : ℕ). rounds_say_below v seat j w c) (sym same)
         | inr (inl less) ↦
-            ap (λ (ys : List Say). says_below v seat n w c ++ ys) (none n (omega (arith, less)) (omega arith))
-            ∙ (append-nil (says_below v seat n w c) ∙ says_only k n (omega (arith, less)) (λ a l m. none a l (omega (arith, m))))
+            ap (λ (ys : List Say). rounds_say_below v seat n w c ++ ys) (none n (omega (arith, less)) (omega arith))
+            ∙ (append-nil (rounds_say_below v seat n w c) ∙ says_only k n (omega (arith, less)) (λ a l m. none a l (omega (arith, m))))
         | inr (inr more) ↦ absurd (omega (arith, few, more))
       ]
 
@@ -118,15 +118,15 @@ module _ (v : VectorRules) (laws : VectorLaws v) (seat : Seat) (session : IsSess
       ]
 
   -- a round isn't asked anew that was asked, nor is one that isn't asked now
-  pub quiet_asked : (a : ℕ) (c : Word) (w : List Word) (u : List ℕ) → round_ask v seat a w ≡ Some u → IsQuiet v seat c w a
+  pub quiet_asked : (a : ℕ) (c : Word) (w : List Word) (u : List ℕ) → round_ask v seat a w ≡ Some u → IsRoundQuiet v seat c w a
   quiet_asked a c w u q = ap₂ (λ (o p : Option (List ℕ)). newly_asked o p) q (ask_stays v laws seat session a c w u q)
 
-  pub quiet_unasked : (a : ℕ) (c : Word) (w : List Word) → round_ask v seat a (c ∷ w) ≡ None → IsQuiet v seat c w a
+  pub quiet_unasked : (a : ℕ) (c : Word) (w : List Word) → round_ask v seat a (c ∷ w) ≡ None → IsRoundQuiet v seat c w a
   quiet_unasked a c w none = ap (λ (p : Option (List ℕ)). newly_asked (round_ask v seat a w) p) none
 
   -- where no round is asked, the round of the word alone says something
-  pub says_quiet : (c : Word) (w : List Word) → AreProper (atomic v) seat (c ∷ w) → ((a : ℕ) → a < rounds → IsQuiet v seat c w a)
-      → says_below v seat rounds w c ≡ heard_says v seat w c
+  pub says_quiet : (c : Word) (w : List Word) → AreProper (atomic v) seat (c ∷ w) → ((a : ℕ) → a < rounds → IsRoundQuiet v seat c w a)
+      → rounds_say_below v seat rounds w c ≡ heard_says v seat w c
   says_quiet c w proper quiet = quiet_says v seat c w rounds quiet ∙ heard_all rounds c w (of_rounds c w proper)
 
   -- what a round says that wasn't asked before
@@ -140,9 +140,9 @@ module _ (v : VectorRules) (laws : VectorLaws v) (seat : Seat) (session : IsSess
       words
 
   -- where one round may be asked, what it says comes after that
-  says_one : (n : ℕ) (c : Word) (w : List Word) → AreProper (atomic v) seat (c ∷ w) → current v seat w ≤ n → n < rounds → ((a : ℕ) → a < n → IsQuiet v seat c w a)
+  says_one : (n : ℕ) (c : Word) (w : List Word) → AreProper (atomic v) seat (c ∷ w) → current v seat w ≤ n → n < rounds → ((a : ℕ) → a < n → IsRoundQuiet v seat c w a)
       → round_ask v seat n w ≡ None → ((a : ℕ) → n < a → a < rounds → round_ask v seat a (c ∷ w) ≡ None)
-      → says_below v seat rounds w c ≡ heard_says v seat w c ++ says_in (v.says (round_desk seat n)) (newly_asked None (round_ask v seat n (c ∷ w))) []
+      → rounds_say_below v seat rounds w c ≡ heard_says v seat w c ++ says_in (v.says (round_desk seat n)) (newly_asked None (round_ask v seat n (c ∷ w))) []
   says_one n c w proper l m quiet none above =
       says_only v seat c w (suc n) rounds (omega (arith, m)) (λ a more less. silent a (above a (omega (arith, more)) less))
       ∙ ap₂ (λ (xs ys : List Say). xs ++ ys) (quiet_says v seat c w n quiet ∙ heard_all n c w (of_below n c w proper l none)) (says_new n c w proper none)
@@ -161,12 +161,12 @@ module _ (v : VectorRules) (laws : VectorLaws v) (seat : Seat) (session : IsSess
   next_over n h log l = ap (λ (b : Bool). if b then says_in (v.says (round_desk seat n)) (newly_asked None (next_ask v seat h log)) [] else []) (le-ltb n rounds l)
 
   -- where a round may begin by the word, or none has such a number
-  pub says_next : (n : ℕ) (c : Word) (w : List Word) (log : List Id) → AreProper (atomic v) seat (c ∷ w) → current v seat w ≤ n → ((a : ℕ) → a < n → IsQuiet v seat c w a)
+  pub says_next : (n : ℕ) (c : Word) (w : List Word) (log : List Id) → AreProper (atomic v) seat (c ∷ w) → current v seat w ≤ n → ((a : ℕ) → a < n → IsRoundQuiet v seat c w a)
       → round_ask v seat n w ≡ None → ((a : ℕ) → n < a → a < rounds → round_ask v seat a (c ∷ w) ≡ None) → round_ask v seat n (c ∷ w) ≡ next_ask v seat (c ∷ w) log
-      → says_below v seat rounds w c ≡ heard_says v seat w c ++ next_says v seat n (c ∷ w) log
+      → rounds_say_below v seat rounds w c ≡ heard_says v seat w c ++ next_says v seat n (c ∷ w) log
   says_next n c w log proper l quiet none above asks = go (cases_lt n rounds)
     where
-      go : (n < rounds) ⊎ (rounds ≤ n) → says_below v seat rounds w c ≡ heard_says v seat w c ++ next_says v seat n (c ∷ w) log
+      go : (n < rounds) ⊎ (rounds ≤ n) → rounds_say_below v seat rounds w c ≡ heard_says v seat w c ++ next_says v seat n (c ∷ w) log
       go (inl m) =
           says_one n c w proper l m quiet none above
           ∙ ap (λ (ys : List Say). heard_says v seat w c ++ ys)

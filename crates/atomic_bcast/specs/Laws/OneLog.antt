@@ -6,7 +6,7 @@ use Rattle.ritas_base.specs.declared.slot.Slot.{Slot}
 use Rattle.ritas_base.specs.declared.id.Id.{Id}
 use Rattle.ritas_base.specs.declared.mode.Mode.{Mode}
 use Rattle.ritas_base.specs.Numbers.{Numbers, IsSession}
-use Rattle.layer_api.specs.Runs.{Step, calls_of, IsEnough}
+use Rattle.layer_api.specs.Runs.{ReplicaStep, calls_of, IsEnough}
 use Rattle.layer_api.specs.Words.{Word}
 use Rattle.layer_api.specs.Service.{Seat, Instance, Decision, Bit, Spent, Undecided, Decided, IsPart, LastVector}
 use Rattle.layer_api.specs.OneLog.{seat_at, service_play, OneLog}
@@ -14,11 +14,11 @@ use Rattle.layer_api.specs.Fed.{IsFedRun}
 use Rattle.layer_api.specs.FedLaws.{met}
 use Rattle.layer_api.specs.Multi.{desk_at}
 use Rattle.layer_api.specs.Vectors.{VectorRules, VectorLaws, vector_play, OneVector}
-use Rattle.atomic_bcast.specs.Rounds.{appended, round_scope, round_desk, log_below, complete_of, round_words, round_decides, rounds, atomic, vector_of_round, last_complete, round_of}
-use Rattle.atomic_bcast.specs.VectorsAgree.{VectorsAgree}
+use Rattle.atomic_bcast.specs.Rounds.{appended, round_scope, round_desk, log_below, complete_of, round_words, round_decides, rounds, atomic, vector_of_round, last_complete, instance_round}
+use Rattle.atomic_bcast.specs.VectorsAgree.{RoundVectorsAgree}
 use Rattle.layer_api.specs.DecisionLaws.{vector_parts}
 use Rattle.atomic_bcast.specs.Laws.RoundVectors.{completes_by}
-use Rattle.atomic_bcast.specs.Laws.VectorRuns.{play, round_run, round_fed, round_calls}
+use Rattle.atomic_bcast.specs.Laws.VectorRuns.{session_play, round_run, round_fed, round_calls}
 use Rattle.atomic_bcast.specs.Laws.LogsByRound.{Completes, log_earlier, log_complete}
 use Rattle.std.specs.Option.{option_or}
 use Rattle.ritas_base.specs.Shortest.{option_or_some}
@@ -31,7 +31,7 @@ same_last x y e f g =
 -- ---- a run
 
 module _ (v : VectorRules) (laws : VectorLaws v) (one : OneVector v) (p : Numbers) (mode : Mode) (is_correct : ℕ → Bool) (coins : ℕ → Slot → Bool)
-    (enough : IsEnough p is_correct) (xs : List (Step Word))
+    (enough : IsEnough p is_correct) (xs : List (ReplicaStep Word))
     (fed : IsFedRun (service_play (record { rules = atomic v; numbers = p; mode = mode; is_correct = is_correct; coins = coins })) is_correct xs) where
   abbrev session : IsSession p
   session = enough.session
@@ -43,7 +43,7 @@ module _ (v : VectorRules) (laws : VectorLaws v) (one : OneVector v) (p : Number
   words i = calls_of i xs
 
   -- the run of a round, which is one of its boxes, and its words, which are the round's
-  abbrev run : ℕ → List (Step Word)
+  abbrev run : ℕ → List (ReplicaStep Word)
   run a = round_run v laws p mode is_correct coins session a xs
 
   run_fed : (a : ℕ) → IsFedRun (vector_play v (round_scope p a) coins) is_correct (run a)
@@ -67,7 +67,7 @@ module _ (v : VectorRules) (laws : VectorLaws v) (one : OneVector v) (p : Number
   -- a complete round's log is that before it, with what its vector wants
   pub completed_by : (a i : ℕ) (log : List Id) → log_below v (seat i) (suc a) (words i) ≡ Some log
       → Completes p (log_below v (seat i) a (words i)) (round_decides v (seat i) a (words i)) log
-  completed_by a i log q = completes_by v laws (seat i) a (words i) log (met (play v laws p mode is_correct coins session) is_correct xs fed i) q
+  completed_by a i log q = completes_by v laws (seat i) a (words i) log (met (session_play v laws p mode is_correct coins session) is_correct xs fed i) q
 
   -- logs after as many rounds are equal
   same_log : (a i j : ℕ) (l m : List Id) → is_correct i ≡ true → is_correct j ≡ true
@@ -121,7 +121,7 @@ module _ (v : VectorRules) (laws : VectorLaws v) (one : OneVector v) (p : Number
   -- what each instance decided is equal
   pub decisions : (i j : ℕ) (x : Instance) (d e : Decision) → is_correct i ≡ true → is_correct j ≡ true
       → (atomic v).decided (seat i) (words i) x ≡ Some d → (atomic v).decided (seat j) (words j) x ≡ Some e → d ≡ e
-  decisions i j x d e ci cj q r = same_inner (round_of x) i j x d e ci cj q r
+  decisions i j x d e ci cj q r = same_inner (instance_round x) i j x d e ci cj q r
 
   -- ---- the last vectors
 
@@ -198,6 +198,6 @@ one_log_law v laws one = record {
 }
 
 -- vectors of one round are equal, over every run, by the laws of their boxes
-pub vectors_agree : (v : VectorRules) → VectorLaws v → OneVector v → VectorsAgree v
+pub vectors_agree : (v : VectorRules) → VectorLaws v → OneVector v → RoundVectorsAgree v
 vectors_agree v laws one p mode is_correct coins steps run a i j x y ci cj q r =
     same_vector v laws one p mode is_correct coins run.enough steps run.fed a i j x y ci cj q r

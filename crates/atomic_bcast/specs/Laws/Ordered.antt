@@ -8,7 +8,7 @@ use Rattle.ritas_base.specs.declared.id.Id.{Id}
 use Rattle.ritas_base.specs.Quorums.{count_yes, count_no}
 use Rattle.frame_codec.specs.Ids.{IsBelow, Ascends, of_origin, AreIds}
 use Rattle.layer_api.specs.Service.{has_id, AreDistinct, IsPart}
-use Rattle.atomic_bcast.specs.Identifiers.{is_below, IsSorted, insert_id, in_order, kept, is_without, first_of_each, append_ids}
+use Rattle.atomic_bcast.specs.Identifiers.{is_below, IsSorted, insert_id, in_order, passing_ids, is_without, first_of_each, append_ids}
 use Rattle.atomic_bcast.specs.Rounds.{proposal}
 
 -- ---- the order
@@ -87,29 +87,29 @@ in_order_all P [] all = tt
 in_order_all P (x ∷ xs) all = insert_all P x (in_order xs) all.0 (in_order_all P xs all.1)
 
 -- what holds of each holds of those that are kept
-pub kept_all : (P : Id → Type 0) (test : Id → Bool) (xs : List Id) → AllByRecursion P xs → AllByRecursion P (kept test xs)
+pub kept_all : (P : Id → Type 0) (test : Id → Bool) (xs : List Id) → AllByRecursion P xs → AllByRecursion P (passing_ids test xs)
 kept_all P test [] all = tt
 kept_all P test (x ∷ xs) all = go (test x) (kept_all P test xs all.1)
   where
-    go : (b : Bool) → AllByRecursion P (kept test xs) → AllByRecursion P (if b then x ∷ kept test xs else kept test xs)
+    go : (b : Bool) → AllByRecursion P (passing_ids test xs) → AllByRecursion P (if b then x ∷ passing_ids test xs else passing_ids test xs)
     go true ih = (all.0, ih)
     go false ih = ih
 
 -- those that are kept of a list in order are in order
-pub kept_sorted : (test : Id → Bool) (xs : List Id) → IsSorted xs → IsSorted (kept test xs)
+pub kept_sorted : (test : Id → Bool) (xs : List Id) → IsSorted xs → IsSorted (passing_ids test xs)
 kept_sorted test [] s = tt
 kept_sorted test (x ∷ xs) s = go (test x) (kept_sorted test xs s.1)
   where
-    go : (b : Bool) → IsSorted (kept test xs) → IsSorted (if b then x ∷ kept test xs else kept test xs)
+    go : (b : Bool) → IsSorted (passing_ids test xs) → IsSorted (if b then x ∷ passing_ids test xs else passing_ids test xs)
     go true ih = (kept_all (IsBelow x) test xs s.0, ih)
     go false ih = ih
 
 -- each that is kept passes
-pub kept_pass : (test : Id → Bool) (xs : List Id) → AllByRecursion (λ x. test x ≡ true) (kept test xs)
+pub kept_pass : (test : Id → Bool) (xs : List Id) → AllByRecursion (λ x. test x ≡ true) (passing_ids test xs)
 kept_pass test [] = tt
 kept_pass test (x ∷ xs) = go (test x) refl (kept_pass test xs)
   where
-    go : (b : Bool) → test x ≡ b → AllByRecursion (λ y. test y ≡ true) (kept test xs) → AllByRecursion (λ y. test y ≡ true) (if b then x ∷ kept test xs else kept test xs)
+    go : (b : Bool) → test x ≡ b → AllByRecursion (λ y. test y ≡ true) (passing_ids test xs) → AllByRecursion (λ y. test y ≡ true) (if b then x ∷ passing_ids test xs else passing_ids test xs)
     go true e ih = (e, ih)
     go false e ih = ih
 
@@ -296,9 +296,9 @@ without_each log [] all = tt
 without_each log (x ∷ xs) all = (not-true (has_id log x) all.0, without_each log xs all.1)
 
 -- identifiers in order, those alone that the log hasn't
-pub append_new : (xs log : List Id) → IsSorted xs → AreDistinct log → AreDistinct (append_ids (kept (is_without log) xs) log)
+pub append_new : (xs log : List Id) → IsSorted xs → AreDistinct log → AreDistinct (append_ids (passing_ids (is_without log) xs) log)
 append_new xs log s d =
-    append_distinct (kept (is_without log) xs) log (kept_sorted (is_without log) xs s) (without_each log (kept (is_without log) xs) (kept_pass (is_without log) xs)) d
+    append_distinct (passing_ids (is_without log) xs) log (kept_sorted (is_without log) xs s) (without_each log (passing_ids (is_without log) xs) (kept_pass (is_without log) xs)) d
 
 -- a log is a part of what it is a part of after one more
 part_more : (x : Id) (log ys : List Id) → IsPart (x ∷ log) ys → IsPart log ys

@@ -11,7 +11,7 @@ use Rattle.ritas_base.specs.Slots.{command_slot}
 use Rattle.layer_api.specs.Words.{Word, Hear}
 use Rattle.layer_api.specs.Service.{Seat}
 use Rattle.layer_api.specs.Vectors.{VectorRules}
-use Rattle.atomic_bcast.specs.Identifiers.{kept, is_without, all_pass}
+use Rattle.atomic_bcast.specs.Identifiers.{passing_ids, is_without, all_pass}
 use Rattle.atomic_bcast.specs.Rounds.{delivered_ids, wanted, has_command, appended, first_ids, begins_with, completes_with, completes_at, round_desk, log_below, log_of, complete_of, round_ask, round_words}
 
 -- what is nothing new at this prefix changes nothing
@@ -29,7 +29,7 @@ pass_same f g (x ∷ xs) same = ap₂ (λ (a b : Bool). a && b) (same x) (pass_s
 
 begins_same : (seat : Seat) (before : Option (List Id)) (h k : List Word) → delivered_ids h ≡ delivered_ids k → begins_with seat before h ≡ begins_with seat before k
 begins_same seat None h k same = refl
-begins_same seat (Some log) h k same = ap (λ (xs : List Id). first_ids seat.numbers.n (kept (is_without log) xs)) same
+begins_same seat (Some log) h k same = ap (λ (xs : List Id). first_ids seat.numbers.n (passing_ids (is_without log) xs)) same
 
 completes_same : (seat : Seat) (before : Option (List Id)) (decision : Option (List ℕ)) (h k : List Word) → ((x : Id) → has_command h x ≡ has_command k x)
     → completes_with seat before decision h ≡ completes_with seat before decision k

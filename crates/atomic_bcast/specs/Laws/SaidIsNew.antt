@@ -18,8 +18,8 @@ use Rattle.layer_api.specs.FedLaws.{say_append}
 use Rattle.layer_api.specs.FreshLaws.{unsaid, has_said, fresh_append, fresh_other, fresh_in, fresh_each}
 use Rattle.layer_api.specs.Vectors.{VectorRules, VectorLaws, is_vector_slot, MayVector, IsVectorSaid}
 use Rattle.layer_api.specs.VectorSlotLaws.{vector_slot_right}
-use Rattle.atomic_bcast.specs.Commands.{says_of}
-use Rattle.atomic_bcast.specs.Rounds.{round_scope, round_desk, is_of_round, round_ask, round_words, says_below, rounds, atomic}
+use Rattle.atomic_bcast.specs.Commands.{says_input}
+use Rattle.atomic_bcast.specs.Rounds.{round_scope, round_desk, is_of_round, round_ask, round_words, rounds_say_below, rounds, atomic}
 use Rattle.atomic_bcast.specs.Laws.WordsMeet.{root_of, round_met}
 use Rattle.atomic_bcast.specs.Laws.VectorRuns.{IsOfRound, of_round_is, command_class, says_of_round, said_in_round, below_said, round_said}
 
@@ -101,7 +101,7 @@ module _ (v : VectorRules) (laws : VectorLaws v) (seat : Seat) (session : IsSess
     at : IsOfRound round y.slot
 
   -- a broadcast of the rounds below one is one of a round
-  below_is : (n : ℕ) (w : List Word) (c : Word) (y : Say) → AreProper (atomic v) seat (c ∷ w) → HasSay (says_below v seat n w c) y → IsBelow n y
+  below_is : (n : ℕ) (w : List Word) (c : Word) (y : Say) → AreProper (atomic v) seat (c ∷ w) → HasSay (rounds_say_below v seat n w c) y → IsBelow n y
   below_is n w c y proper h =
       let b = below_said v laws seat session n w c y h in
       let s = round_say b.0 w c y proper b.2 in
@@ -114,18 +114,18 @@ module _ (v : VectorRules) (laws : VectorLaws v) (seat : Seat) (session : IsSess
   said_number [] s x one proper h = absurd h
   said_number (Ask u ∷ w) s x one proper (inl e) = let same = ap (λ (y : Say). y.slot.a) e in omega (arith, same)
   said_number (Ask u ∷ w) s x one proper (inr h) =
-      elim (say_append (says_below v seat rounds w (Ask u)) (said (atomic v) seat w) _ h) [
+      elim (say_append (rounds_say_below v seat rounds w (Ask u)) (said (atomic v) seat w) _ h) [
         | inl b ↦ absurd (let l = (below_is rounds w (Ask u) _ proper b).at.class in omega (arith, l, one))
         | inr b ↦ let ih = said_number w s x one proper.1 b in omega (arith, ih)
       ]
   said_number (Hear q u ∷ w) s x one proper h =
-      elim (say_append (says_below v seat rounds w (Hear q u)) (said (atomic v) seat w) _ h) [
+      elim (say_append (rounds_say_below v seat rounds w (Hear q u)) (said (atomic v) seat w) _ h) [
         | inl b ↦ absurd (let l = (below_is rounds w (Hear q u) _ proper b).at.class in omega (arith, l, one))
         | inr b ↦ said_number w s x one proper.1 b
       ]
 
   -- so an input is said at a new slot
-  command_fresh : (c : Word) (w : List Word) → AreProper (atomic v) seat (c ∷ w) → AreFresh IsMine (said (atomic v) seat w) (says_of seat w c)
+  command_fresh : (c : Word) (w : List Word) → AreProper (atomic v) seat (c ∷ w) → AreFresh IsMine (said (atomic v) seat w) (says_input seat w c)
   command_fresh (Hear s x) w proper = tt
   command_fresh (Ask x) w proper = (
     refl,
@@ -158,17 +158,17 @@ module _ (v : VectorRules) (laws : VectorLaws v) (seat : Seat) (session : IsSess
       let f = o.number in omega (arith, e, f, l))
 
   -- so is what is newly said in the rounds below one
-  below_fresh : (n : ℕ) (w : List Word) (c : Word) → AreProper (atomic v) seat (c ∷ w) → AreFresh IsMine (said (atomic v) seat w) (says_below v seat n w c)
+  below_fresh : (n : ℕ) (w : List Word) (c : Word) → AreProper (atomic v) seat (c ∷ w) → AreFresh IsMine (said (atomic v) seat w) (rounds_say_below v seat n w c)
   below_fresh zero w c proper = tt
   below_fresh (suc n) w c proper =
-      fresh_append IsMine (said (atomic v) seat w) (says_below v seat n w c) (new_says n w c) (below_fresh n w c proper) (round_fresh n w c proper)
+      fresh_append IsMine (said (atomic v) seat w) (rounds_say_below v seat n w c) (new_says n w c) (below_fresh n w c proper) (round_fresh n w c proper)
       (λ y h. let b = below_is n w c y proper h in not_again n b.round w c y.slot proper b.at b.low)
 
   -- what is said is at new slots of this replica
   pub says_new : (c : Word) (w : List Word) → AreProper (atomic v) seat (c ∷ w) → AreNew (atomic v) seat w ((atomic v).says seat w c)
   says_new c w proper =
-      fresh_append IsMine (said (atomic v) seat w) (says_of seat w c) (says_below v seat rounds w c) (command_fresh c w proper) (below_fresh rounds w c proper)
-      (λ y h. unsaid (says_below v seat rounds w c) y.slot (λ x k.
+      fresh_append IsMine (said (atomic v) seat w) (says_input seat w c) (rounds_say_below v seat rounds w c) (command_fresh c w proper) (below_fresh rounds w c proper)
+      (λ y h. unsaid (rounds_say_below v seat rounds w c) y.slot (λ x k.
       let l = (below_is rounds w c (record { slot = y.slot; value = x }) proper k).at.class in let e = command_class seat w c y h in omega (arith, l, e)))
 
   -- ---- and in the grammar
@@ -178,7 +178,7 @@ module _ (v : VectorRules) (laws : VectorLaws v) (seat : Seat) (session : IsSess
   IsGoodSay y = (slot_fault seat.numbers seat.mode y.slot ≡ None) × Is (value seat.numbers seat.mode.root y.slot) y.value
 
   -- an input is said as it must be
-  command_good : (c : Word) (w : List Word) (y : Say) → seat.me < seat.numbers.n → AreProper (atomic v) seat (c ∷ w) → HasSay (says_of seat w c) y → IsGoodSay y
+  command_good : (c : Word) (w : List Word) (y : Say) → seat.me < seat.numbers.n → AreProper (atomic v) seat (c ∷ w) → HasSay (says_input seat w c) y → IsGoodSay y
   command_good (Hear s x) w y below proper h = absurd h
   command_good (Ask x) w y below proper (inr h) = absurd h
   command_good (Ask x) w y below proper (inl e) =
@@ -189,7 +189,7 @@ module _ (v : VectorRules) (laws : VectorLaws v) (seat : Seat) (session : IsSess
       )
 
   -- and so is what a round says
-  round_good_say : (c : Word) (w : List Word) (y : Say) → seat.me < seat.numbers.n → AreProper (atomic v) seat (c ∷ w) → HasSay (says_below v seat rounds w c) y → IsGoodSay y
+  round_good_say : (c : Word) (w : List Word) (y : Say) → seat.me < seat.numbers.n → AreProper (atomic v) seat (c ∷ w) → HasSay (rounds_say_below v seat rounds w c) y → IsGoodSay y
   round_good_say c w y below proper h =
       let six = root_of v seat w c proper.0 in
       let b = below_is rounds w c y proper h in (
@@ -201,7 +201,7 @@ module _ (v : VectorRules) (laws : VectorLaws v) (seat : Seat) (session : IsSess
   pub says_good : (c : Word) (w : List Word) → seat.me < seat.numbers.n → AreProper (atomic v) seat (c ∷ w) → AreGoodSays seat.numbers seat.mode ((atomic v).says seat w c)
   says_good c w below proper =
       good_of seat.numbers seat.mode ((atomic v).says seat w c) (λ y h.
-      elim (say_append (says_of seat w c) (says_below v seat rounds w c) y h) [
+      elim (say_append (says_input seat w c) (rounds_say_below v seat rounds w c) y h) [
         | inl x ↦ command_good c w y below proper x
         | inr x ↦ round_good_say c w y below proper x
       ])
@@ -209,7 +209,7 @@ module _ (v : VectorRules) (laws : VectorLaws v) (seat : Seat) (session : IsSess
   -- ---- and at command slots the inputs
 
   -- what is said of commands is the input, at the next number
-  command_input : (c : Word) (w : List Word) (y : Say) → HasSay (says_of seat w c) y → IsInputSaid seat w c y
+  command_input : (c : Word) (w : List Word) (y : Say) → HasSay (says_input seat w c) y → IsInputSaid seat w c y
   command_input (Hear s x) w y h = absurd h
   command_input (Ask x) w y (inr h) = absurd h
   command_input (Ask x) w y (inl e) = subst (λ (z : Say). IsInputSaid seat w (Ask x) z) e (refl, refl)
@@ -218,7 +218,7 @@ module _ (v : VectorRules) (laws : VectorLaws v) (seat : Seat) (session : IsSess
   pub commands_said : (c : Word) (w : List Word) → AreProper (atomic v) seat (c ∷ w) → AreInputs seat w c ((atomic v).says seat w c)
   commands_said c w proper =
       inputs_of seat w c ((atomic v).says seat w c) (λ y h one.
-      elim (say_append (says_of seat w c) (says_below v seat rounds w c) y h) [
+      elim (say_append (says_input seat w c) (rounds_say_below v seat rounds w c) y h) [
         | inl x ↦ command_input c w y x
         | inr x ↦ absurd (let l = (below_is rounds w c y proper x).at.class in omega (arith, l, one))
       ])

@@ -11,11 +11,11 @@ use Rattle.layer_api.specs.Words.{Word, Ask, Hear}
 use Rattle.layer_api.specs.Service.{Seat, AreProper}
 use Rattle.layer_api.specs.Part.{newly_asked}
 use Rattle.layer_api.specs.Vectors.{VectorRules, VectorLaws}
-use Rattle.atomic_bcast.specs.Rounds.{begins_with, completes_with, completes_at, log_below, round_ask, round_words, says_below, rounds, atomic}
-use Rattle.atomic_bcast.specs.Stepping.{current, log_now, heard_says, heard_words, next_ask, next_says, completes_now, Steps, Remains, Advances}
+use Rattle.atomic_bcast.specs.Rounds.{begins_with, completes_with, completes_at, log_below, round_ask, round_words, rounds_say_below, rounds, atomic}
+use Rattle.atomic_bcast.specs.Stepping.{current, log_now, heard_says, heard_words, next_ask, next_says, completes_now, RoundSteps, Remains, Advances}
 use Rattle.atomic_bcast.specs.Laws.AskedFirst.{newly_same, words_more, ask_stays, words_asked, words_new, undecided_new}
 use Rattle.atomic_bcast.specs.Laws.CompleteRounds.{complete_is, complete_all}
-use Rattle.atomic_bcast.specs.Laws.NewlySaid.{IsQuiet, quiet_says, quiet_asked, quiet_unasked, says_quiet, says_next}
+use Rattle.atomic_bcast.specs.Laws.NewlySaid.{IsRoundQuiet, quiet_says, quiet_asked, quiet_unasked, says_quiet, says_next}
 use Rattle.atomic_bcast.specs.Laws.QuietRounds.{no_command, none_delivered, ask_same, log_same, count_same, last_same}
 use Rattle.atomic_bcast.specs.Laws.LogsByRound.{log_complete, complete_small}
 use Rattle.atomic_bcast.specs.Laws.CurrentRound.{log_here, asks_here, words_here, completes_here, log_next}
@@ -28,7 +28,7 @@ pub record IsStill (v : VectorRules) (seat : Seat) (c : Word) (w : List Word) : 
   pub log : log_now v seat (c ∷ w) ≡ log_now v seat w
   pub asks : (a : ℕ) → round_ask v seat a (c ∷ w) ≡ round_ask v seat a w
   pub words : (a : ℕ) → round_words v seat a (c ∷ w) ≡ heard_words v seat c w a
-  pub says : says_below v seat rounds w c ≡ heard_says v seat w c
+  pub says : rounds_say_below v seat rounds w c ≡ heard_says v seat w c
 
 -- nothing completes a round that decided nothing
 undecided_completes : (seat : Seat) (before : Option (List Id)) (h : List Word) → completes_with seat before None h ≡ None
@@ -37,7 +37,7 @@ undecided_completes seat (Some log) h = refl
 
 module _ (v : VectorRules) (laws : VectorLaws v) (seat : Seat) (session : IsSession seat.numbers) where
   -- what holds by every word
-  pub steps : (c : Word) (w : List Word) → AreProper (atomic v) seat (c ∷ w) → Steps v seat c w
+  pub steps : (c : Word) (w : List Word) → AreProper (atomic v) seat (c ∷ w) → RoundSteps v seat c w
   steps c w proper = record {
     below = λ a l. let u = asked_below v laws seat session a w proper.1 l in words_asked v laws seat session a c w u.0 u.1;
     asks = λ l. asks_here v laws seat session c w;
@@ -47,14 +47,14 @@ module _ (v : VectorRules) (laws : VectorLaws v) (seat : Seat) (session : IsSess
   -- ---- the current round remains
 
   -- rounds that were asked aren't asked anew
-  quiet_below : (c : Word) (w : List Word) → AreProper (atomic v) seat w → (a : ℕ) → a < current v seat w → IsQuiet v seat c w a
+  quiet_below : (c : Word) (w : List Word) → AreProper (atomic v) seat w → (a : ℕ) → a < current v seat w → IsRoundQuiet v seat c w a
   quiet_below c w proper a l = let u = asked_below v laws seat session a w proper l in quiet_asked v laws seat session a c w u.0 u.1
 
   quiet_to : (c : Word) (w : List Word) (u : List ℕ) → AreProper (atomic v) seat w → round_ask v seat (current v seat w) w ≡ Some u
-      → (a : ℕ) → a ≤ current v seat w → IsQuiet v seat c w a
+      → (a : ℕ) → a ≤ current v seat w → IsRoundQuiet v seat c w a
   quiet_to c w u proper q a l =
       elim (cases_order a (current v seat w)) [
-        | inl same ↦ subst (λ (k : ℕ). IsQuiet v seat c w k) (sym same) (quiet_asked v laws seat session (current v seat w) c w u q)
+        | inl same ↦ subst (λ (k : ℕ). IsRoundQuiet v seat c w k) (sym same) (quiet_asked v laws seat session (current v seat w) c w u q)
         | inr (inl less) ↦ quiet_below c w proper a less
         | inr (inr more) ↦ absurd (omega (arith, l, more))
       ]
@@ -75,7 +75,7 @@ module _ (v : VectorRules) (laws : VectorLaws v) (seat : Seat) (session : IsSess
       unasked_above : (a : ℕ) → current v seat w < a → round_ask v seat a (c ∷ w) ≡ None
       unasked_above a l = (not_ahead v laws seat session a (c ∷ w) proper (omega (arith, same, l))).0
 
-      old : (u : List ℕ) → round_ask v seat (current v seat w) w ≡ Some u → (a : ℕ) → (current v seat w < a) ⊎ (a ≤ current v seat w) → IsQuiet v seat c w a
+      old : (u : List ℕ) → round_ask v seat (current v seat w) w ≡ Some u → (a : ℕ) → (current v seat w < a) ⊎ (a ≤ current v seat w) → IsRoundQuiet v seat c w a
       old u q a (inl more) = quiet_unasked v laws seat session a c w (unasked_above a more)
       old u q a (inr l) = quiet_to c w u proper.1 q a l
 
@@ -131,7 +131,7 @@ module _ (v : VectorRules) (laws : VectorLaws v) (seat : Seat) (session : IsSess
     above_next : current v seat (c ∷ w) ≡ next → (a : ℕ) → next < a → (round_ask v seat a (c ∷ w) ≡ None) × (round_words v seat a (c ∷ w) ≡ [])
     above_next same a more = not_ahead v laws seat session a (c ∷ w) proper (omega (arith, same, more))
 
-    says_then : current v seat (c ∷ w) ≡ next → says_below v seat rounds w c ≡ heard_says v seat w c ++ next_says v seat next (c ∷ w) log
+    says_then : current v seat (c ∷ w) ≡ next → rounds_say_below v seat rounds w c ≡ heard_says v seat w c ++ next_says v seat next (c ∷ w) log
     says_then same =
         let u = asked_before c w log proper q in
         says_next v laws seat session next c w log proper (omega arith) (λ a l. quiet_to c w u.0 proper.1 u.1 a (omega (arith, l))) unasked_next
@@ -167,7 +167,7 @@ module _ (v : VectorRules) (laws : VectorLaws v) (seat : Seat) (session : IsSess
   -- ---- no round is asked, and none becomes complete
 
   -- a round that is asked nothing new, hears its slots alone
-  still_quiet : (a : ℕ) (c : Word) (w : List Word) → round_ask v seat a (c ∷ w) ≡ round_ask v seat a w → IsQuiet v seat c w a
+  still_quiet : (a : ℕ) (c : Word) (w : List Word) → round_ask v seat a (c ∷ w) ≡ round_ask v seat a w → IsRoundQuiet v seat c w a
   still_quiet a c w same = ap (λ (o : Option (List ℕ)). newly_asked (round_ask v seat a w) o) same ∙ newly_same (round_ask v seat a w)
 
   still_words : (a : ℕ) (c : Word) (w : List Word) → round_ask v seat a (c ∷ w) ≡ round_ask v seat a w → round_words v seat a (c ∷ w) ≡ heard_words v seat c w a

@@ -7,7 +7,7 @@ use Rattle.ritas_base.specs.declared.item.Say.{Say}
 use Rattle.ritas_base.specs.declared.mode.Mode.{Mode}
 use Rattle.ritas_base.specs.Numbers.{Numbers, IsSession}
 use Rattle.ritas_base.specs.Slots.{within}
-use Rattle.layer_api.specs.Runs.{Step, calls_of, inner_run}
+use Rattle.layer_api.specs.Runs.{ReplicaStep, calls_of, inner_run}
 use Rattle.layer_api.specs.Words.{Word, Ask, Hear, HasSay, all_said}
 use Rattle.layer_api.specs.Service.{Seat, said, AreProper}
 use Rattle.layer_api.specs.OneLog.{Session, seat_at, service_play}
@@ -17,8 +17,8 @@ use Rattle.layer_api.specs.FedLaws.{say_append}
 use Rattle.layer_api.specs.PartLaws.{says_in_all, all_said_later, Feeds, Passes, part_inner, part_calls, part_fed}
 use Rattle.layer_api.specs.FreshLaws.{said_each}
 use Rattle.layer_api.specs.Vectors.{VectorRules, VectorLaws, is_vector_slot, MayVector, IsVectorSaid, vector_play}
-use Rattle.atomic_bcast.specs.Commands.{says_of}
-use Rattle.atomic_bcast.specs.Rounds.{round_scope, round_desk, is_of_round, round_ask, round_words, says_below, rounds, atomic}
+use Rattle.atomic_bcast.specs.Commands.{says_input}
+use Rattle.atomic_bcast.specs.Rounds.{round_scope, round_desk, is_of_round, round_ask, round_words, rounds_say_below, rounds, atomic}
 use Rattle.atomic_bcast.specs.Laws.WordsMeet.{round_asks, round_hears, round_met}
 
 -- ---- slots of a round
@@ -42,7 +42,7 @@ of_round_is p a s e =
     }
 
 -- a command is said at a slot of class 1
-pub command_class : (seat : Seat) (w : List Word) (c : Word) (y : Say) → HasSay (says_of seat w c) y → y.slot.class ≡ 1
+pub command_class : (seat : Seat) (w : List Word) (c : Word) (y : Say) → HasSay (says_input seat w c) y → y.slot.class ≡ 1
 command_class seat w (Ask x) y (inl e) = sym (ap (λ (z : Say). z.slot.class) e)
 command_class seat w (Ask x) y (inr h) = absurd h
 command_class seat w (Hear s x) y h = absurd h
@@ -58,10 +58,10 @@ module _ (v : VectorRules) (laws : VectorLaws v) (seat : Seat) (session : IsSess
   said_in_round a w = all_said (v.says (round_desk seat a)) (round_words v seat a w)
 
   -- what a word newly says in the rounds below one, one of these says
-  pub below_said : (n : ℕ) (w : List Word) (c : Word) (y : Say) → HasSay (says_below v seat n w c) y → (a : ℕ) × (a < n) × HasSay (says_of_round a w c) y
+  pub below_said : (n : ℕ) (w : List Word) (c : Word) (y : Say) → HasSay (rounds_say_below v seat n w c) y → (a : ℕ) × (a < n) × HasSay (says_of_round a w c) y
   below_said zero w c y h = absurd h
   below_said (suc n) w c y h =
-      elim (say_append (says_below v seat n w c) _ y h) [
+      elim (say_append (rounds_say_below v seat n w c) _ y h) [
         | inl x ↦ let b = below_said n w c y x in let l = b.1 in (b.0, omega (arith, l), b.2)
         | inr x ↦ (n, omega arith, x)
       ]
@@ -79,7 +79,7 @@ module _ (v : VectorRules) (laws : VectorLaws v) (seat : Seat) (session : IsSess
   round_said a (c ∷ w) s x proper of h =
       let u = and_parts (not (s.class == 1)) _ of in
       elim (say_append ((atomic v).says seat w c) _ _ h) [
-        | inl y ↦ elim (say_append (says_of seat w c) _ _ y) [
+        | inl y ↦ elim (say_append (says_input seat w c) _ _ y) [
           | inl z ↦
               absurd (both_ways (s.class == 1) (not-true (s.class == 1) u.0) (eq-eqb s.class 1 (command_class seat w c (record { slot = s; value = x }) z)))
           | inr z ↦
@@ -97,40 +97,40 @@ module _ (v : VectorRules) (laws : VectorLaws v) (seat : Seat) (session : IsSess
 
 module _ (v : VectorRules) (laws : VectorLaws v) (p : Numbers) (mode : Mode) (is_correct : ℕ → Bool) (coins : ℕ → Slot → Bool) (session : IsSession p) where
   -- a session's services and their values, and the values of a round inside
-  abbrev pub group : Session
-  group = record { rules = atomic v; numbers = p; mode = mode; is_correct = is_correct; coins = coins }
+  abbrev pub round_session : Session
+  round_session = record { rules = atomic v; numbers = p; mode = mode; is_correct = is_correct; coins = coins }
 
-  abbrev pub play : Play
-  play = service_play group
+  abbrev pub session_play : Play
+  session_play = service_play round_session
 
   abbrev pub seat : ℕ → Seat
-  seat i = seat_at group i
+  seat i = seat_at round_session i
 
-  abbrev pub ask : ℕ → ℕ → List Word → Option (List ℕ)
-  ask a i = round_ask v (seat i) a
+  abbrev pub ask_round : ℕ → ℕ → List Word → Option (List ℕ)
+  ask_round a i = round_ask v (seat i) a
 
-  abbrev pub inner_play : ℕ → Play
-  inner_play a = vector_play v (round_scope p a) coins
+  abbrev pub round_play : ℕ → Play
+  round_play a = vector_play v (round_scope p a) coins
 
   -- the services' words feed those of the round
-  pub feeds : (a : ℕ) → Feeds play (inner_play a) (ask a) (is_of_round a)
+  pub feeds : (a : ℕ) → Feeds session_play (round_play a) (ask_round a) (is_of_round a)
   feeds a = record {
     asks = λ i c w x m none now. round_asks v (seat i) a c w x m none now;
     hears = λ i s x w m of. round_hears v (seat i) a s x w m.0 of;
   }
 
   -- and what they say at its slots, it says
-  pub passes : (a : ℕ) → Passes play (inner_play a) (ask a) (is_of_round a)
+  pub passes : (a : ℕ) → Passes session_play (round_play a) (ask_round a) (is_of_round a)
   passes a = record { feeds = feeds a; says = λ i s x w m of mine h. round_said v laws (seat i) session a w s x m of h }
 
   -- the run that the steps of the services make of a round
-  abbrev pub round_run : ℕ → List (Step Word) → List (Step Word)
-  round_run a xs = inner_run (part_inner (ask a) (is_of_round a)) xs
+  abbrev pub round_run : ℕ → List (ReplicaStep Word) → List (ReplicaStep Word)
+  round_run a xs = inner_run (part_inner (ask_round a) (is_of_round a)) xs
 
   -- it is a run of its boxes
-  pub round_fed : (a : ℕ) (xs : List (Step Word)) → IsFedRun play is_correct xs → IsFedRun (inner_play a) is_correct (round_run a xs)
-  round_fed a xs fed = part_fed play (inner_play a) is_correct (ask a) (is_of_round a) (passes a) xs fed
+  pub round_fed : (a : ℕ) (xs : List (ReplicaStep Word)) → IsFedRun session_play is_correct xs → IsFedRun (round_play a) is_correct (round_run a xs)
+  round_fed a xs fed = part_fed session_play (round_play a) is_correct (ask_round a) (is_of_round a) (passes a) xs fed
 
   -- each replica's words in it are those of its round
-  pub round_calls : (a i : ℕ) (xs : List (Step Word)) → calls_of i (round_run a xs) ≡ round_words v (seat i) a (calls_of i xs)
-  round_calls a i xs = part_calls (ask a) (is_of_round a) i xs
+  pub round_calls : (a i : ℕ) (xs : List (ReplicaStep Word)) → calls_of i (round_run a xs) ≡ round_words v (seat i) a (calls_of i xs)
+  round_calls a i xs = part_calls (ask_round a) (is_of_round a) i xs

@@ -9,46 +9,47 @@ use Rattle.layer_api.specs.Words.{bit_byte}
 use Rattle.bracha_validation.specs.Votes.{votes, gives}
 use Rattle.bracha_validation.specs.PickLaws.{picked, one_more, fewer}
 use Rattle.bracha_validation.specs.RuleLaws.{FirstSays, SecondSays, ThirdSays, first_gives, second_gives, third_gives}
-use Rattle.binary_consensus.specs.Steps.{step_of, passed, push, listed, accepts}
+use Rattle.ritas_base.specs.Places.{push, listed}
+use Rattle.binary_consensus.specs.Steps.{step_of, passed_vote, accepts}
 
 -- a vote that passes is there
-abbrev pub holds : (ℕ → Bool) → Option ℕ → Bool
-holds test None = false
-holds test (Some v) = test v
+abbrev pub has_passing_vote : (ℕ → Bool) → Option ℕ → Bool
+has_passing_vote test None = false
+has_passing_vote test (Some v) = test v
 
 -- how many of these origins have an accepted vote at a step that passes
-abbrev pub count_of : Numbers → (ℕ → Bool) → (ℕ → ℕ → Option ℕ) → ℕ → ℕ
-count_of p test votes t = count_by (λ k. holds test (accepts p votes t k)) (replicas p.n)
+abbrev pub count_accepted : Numbers → (ℕ → Bool) → (ℕ → ℕ → Option ℕ) → ℕ → ℕ
+count_accepted p test votes t = count_by (λ k. has_passing_vote test (accepts p votes t k)) (replicas p.n)
 
 abbrev pub is : ℕ → ℕ → Bool
 is v x = x == v
 
-pub count_listed : (test : ℕ → Bool) (a : ℕ → Option ℕ) (ks : List ℕ) → count_by test (listed a ks) ≡ count_by (λ k. holds test (a k)) ks
+pub count_listed : (test : ℕ → Bool) (a : ℕ → Option ℕ) (ks : List ℕ) → count_by test (listed a ks) ≡ count_by (λ k. has_passing_vote test (a k)) ks
 count_listed test a [] = refl
 count_listed test a (k ∷ ks) = go (a k) refl (count_listed test a ks)
   where
-    go : (o : Option ℕ) → a k ≡ o → count_by test (listed a ks) ≡ count_by (λ k. holds test (a k)) ks
-        → count_by test (push o (listed a ks)) ≡ count_by (λ k. holds test (a k)) (k ∷ ks)
-    go None e ih = ih ∙ sym (count_no (λ k. holds test (a k)) k ks (ap (holds test) e))
+    go : (o : Option ℕ) → a k ≡ o → count_by test (listed a ks) ≡ count_by (λ k. has_passing_vote test (a k)) ks
+        → count_by test (push o (listed a ks)) ≡ count_by (λ k. has_passing_vote test (a k)) (k ∷ ks)
+    go None e ih = ih ∙ sym (count_no (λ k. has_passing_vote test (a k)) k ks (ap (has_passing_vote test) e))
     go (Some v) e ih =
-        let here : holds test (a k) ≡ test v = ap (holds test) e in
+        let here : has_passing_vote test (a k) ≡ test v = ap (has_passing_vote test) e in
         let left = one_more test v (listed a ks) in
         more (test v) here left
       where
-        more : (b : Bool) → holds test (a k) ≡ b → count_by test (v ∷ listed a ks) ≡ cond b 1 0 + count_by test (listed a ks)
-            → count_by test (v ∷ listed a ks) ≡ count_by (λ k. holds test (a k)) (k ∷ ks)
-        more true h l = let r = count_yes (λ k. holds test (a k)) k ks h in omega (arith, l, r, ih)
-        more false h l = let r = count_no (λ k. holds test (a k)) k ks h in omega (arith, l, r, ih)
+        more : (b : Bool) → has_passing_vote test (a k) ≡ b → count_by test (v ∷ listed a ks) ≡ cond b 1 0 + count_by test (listed a ks)
+            → count_by test (v ∷ listed a ks) ≡ count_by (λ k. has_passing_vote test (a k)) (k ∷ ks)
+        more true h l = let r = count_yes (λ k. has_passing_vote test (a k)) k ks h in omega (arith, l, r, ih)
+        more false h l = let r = count_no (λ k. has_passing_vote test (a k)) k ks h in omega (arith, l, r, ih)
 
-pub holds_some : (test : ℕ → Bool) (o : Option ℕ) → holds test o ≡ true → (v : ℕ) × (o ≡ Some v) × (test v ≡ true)
+pub holds_some : (test : ℕ → Bool) (o : Option ℕ) → has_passing_vote test o ≡ true → (v : ℕ) × (o ≡ Some v) × (test v ≡ true)
 holds_some test None q = absurd cc
 holds_some test (Some v) q = (v, refl, q)
 
-pub holds_is : (o : Option ℕ) (v : ℕ) → holds (is v) o ≡ true → o ≡ Some v
+pub holds_is : (o : Option ℕ) (v : ℕ) → has_passing_vote (is v) o ≡ true → o ≡ Some v
 holds_is None v q = absurd cc
 holds_is (Some u) v q = ap Some (eqb-true u v q)
 
-pub passed_some : (test : ℕ → Bool) (o : Option ℕ) (v : ℕ) → passed test o ≡ Some v → (o ≡ Some v) × (test v ≡ true)
+pub passed_some : (test : ℕ → Bool) (o : Option ℕ) (v : ℕ) → passed_vote test o ≡ Some v → (o ≡ Some v) × (test v ≡ true)
 passed_some test None v q = absurd cc
 passed_some test (Some u) v q = go (test u) refl q
   where
@@ -62,13 +63,13 @@ accepts_heard p votes zero k v q = q
 accepts_heard p votes (suc t) k v q = (passed_some _ (votes (suc t) k) v q).0
 
 -- an accepted vote follows from a set of exactly n - f of those of the step before
-pub record Follows (p : Numbers) (heard : ℕ → ℕ → Option ℕ) (t v : ℕ) : Type 0 where
+pub record FollowsVotes (p : Numbers) (heard : ℕ → ℕ → Option ℕ) (t v : ℕ) : Type 0 where
   pub set : List ℕ
   pub size : length set ≡ wait_of p
   pub given : gives p (step_of t) set v ≡ true
-  pub within : (test : ℕ → Bool) → count_by test set ≤ count_of p test heard t
+  pub within : (test : ℕ → Bool) → count_by test set ≤ count_accepted p test heard t
 
-pub accepts_follows : (p : Numbers) (heard : ℕ → ℕ → Option ℕ) (t k v : ℕ) → accepts p heard (suc t) k ≡ Some v → Follows p heard t v
+pub accepts_follows : (p : Numbers) (heard : ℕ → ℕ → Option ℕ) (t k v : ℕ) → accepts p heard (suc t) k ≡ Some v → FollowsVotes p heard t v
 accepts_follows p heard t k v q =
     let h = (passed_some _ (heard (suc t) k) v q).1 in
     let g = picked (λ ys. gives p (step_of t) ys v) (wait_of p) (listed (accepts p heard t) (replicas p.n)) h in

@@ -12,7 +12,7 @@ use Rattle.bracha_validation.specs.Votes.{votes, gives}
 use Rattle.bracha_validation.specs.PickLaws.{one_more}
 use Rattle.bracha_validation.specs.RuleLaws.{ThirdSays, second_gives, third_gives}
 use Rattle.binary_consensus.specs.Steps.{step_of, accepts}
-use Rattle.binary_consensus.specs.Laws.Acceptance.{holds, holds_some, holds_is, is, count_of, accepts_heard, accepts_follows, third_follows_second, all_give}
+use Rattle.binary_consensus.specs.Laws.Acceptance.{has_passing_vote, holds_some, holds_is, is, count_accepted, accepts_heard, accepts_follows, third_follows_second, all_give}
 
 -- votes that pass a test, and those that don't
 pub count_split : (test : ℕ → Bool) (vs : List ℕ) → length vs ≡ count_by test vs + count_by (λ x. not (test x)) vs
@@ -58,12 +58,12 @@ module _ (p : Numbers) (few : 3 * p.f < p.n) (View : HeardVotes → Type 0)
 
   -- tests that no vote passes both have at most n origins in sum, also in two views
   meet : (g h : HeardVotes) → View g → View h → (t : ℕ) (s r : ℕ → Bool) → ((v : ℕ) → s v ≡ true → r v ≡ true → ⊥)
-      → count_of p s g t + count_of p r h t ≤ p.n
+      → count_accepted p s g t + count_accepted p r h t ≤ p.n
   meet g h vg vh t s r none =
-      elim (cases_lt p.n (count_of p s g t + count_of p r h t)) [
+      elim (cases_lt p.n (count_accepted p s g t + count_accepted p r h t)) [
         | inl more ↦
             let size = length-range_with_len 0 p.n in
-            let m = meet_two (λ k. holds s (accepts p g t k)) (λ k. holds r (accepts p h t k)) (replicas p.n) (omega (arith, more, size)) in
+            let m = meet_two (λ k. has_passing_vote s (accepts p g t k)) (λ k. has_passing_vote r (accepts p h t k)) (replicas p.n) (omega (arith, more, size)) in
             let x = holds_some s (accepts p g t m.member) m.first in
             let y = holds_some r (accepts p h t m.member) m.second in
             let same : x.0 ≡ y.0 = one g h vg vh t m.member x.0 y.0 (accepts_heard p g t m.member x.0 x.1) (accepts_heard p h t m.member y.0 y.1) in
@@ -92,9 +92,9 @@ module _ (p : Numbers) (few : 3 * p.f < p.n) (View : HeardVotes → Type 0)
   locked_next : (t : ℕ) (b : Bool) → IsLocked t (bit_byte b) → IsLocked (suc t) (bit_byte b)
   locked_next t b locked g vg k w q =
       let y = accepts_follows p g t k w q in
-      let none = count_none (λ k. holds (is (bit_byte (not b))) (accepts p g t k)) (replicas p.n)
+      let none = count_none (λ k. has_passing_vote (is (bit_byte (not b))) (accepts p g t k)) (replicas p.n)
       (λ l h. apart_bits b (locked g vg l (bit_byte (not b)) (holds_is (accepts p g t l) (bit_byte (not b)) h))) in
-      let others = count_none (λ k. holds (is_not (bit_byte b)) (accepts p g t k)) (replicas p.n)
+      let others = count_none (λ k. has_passing_vote (is_not (bit_byte b)) (accepts p g t k)) (replicas p.n)
       (λ l h. let x = holds_some (is_not (bit_byte b)) (accepts p g t l) h in
       not_both (bit_byte b) x.0 (eq-eqb x.0 (bit_byte b) (locked g vg l x.0 x.1)) x.2) in
       let z = y.within (is (bit_byte (not b))) in
@@ -115,7 +115,7 @@ module _ (p : Numbers) (few : 3 * p.f < p.n) (View : HeardVotes → Type 0)
   pub record IsDecision (b : Bool) (t : ℕ) (g : HeardVotes) : Type 0 where
     pub third : step_of t ≡ 3
     pub view : View g
-    pub many : 2 * p.f + 1 ≤ count_of p (is (bit_byte b)) g t
+    pub many : 2 * p.f + 1 ≤ count_accepted p (is (bit_byte b)) g t
 
   -- they lock it
   decision_locks : (t : ℕ) (b : Bool) (g : HeardVotes) → IsDecision b t g → IsLocked (suc t) (bit_byte b)
@@ -124,8 +124,8 @@ module _ (p : Numbers) (few : 3 * p.f < p.n) (View : HeardVotes → Type 0)
       let m = d.many in
       let e : step_of t ≡ 2 = third_follows_second t d.third in
       let y = accepts_follows p h (suc t) k w q in
-      let some = some_member (λ k. holds (is (bit_byte b)) (accepts p g (suc t) k)) (replicas p.n) (omega (arith, m)) in
-      let none = count_none (λ k. holds (is (bit_byte (not b))) (accepts p h (suc t) k)) (replicas p.n)
+      let some = some_member (λ k. has_passing_vote (is (bit_byte b)) (accepts p g (suc t) k)) (replicas p.n) (omega (arith, m)) in
+      let none = count_none (λ k. has_passing_vote (is (bit_byte (not b))) (accepts p h (suc t) k)) (replicas p.n)
       (λ l x. one_bit t e g h d.view vh some.0 l b (holds_is _ (bit_byte b) some.1) (holds_is _ (bit_byte (not b)) x)) in
       let both = meet g h d.view vh (suc t) (is (bit_byte b)) (is_not (bit_byte b)) (λ v x y. not_both (bit_byte b) v x y) in
       let z = y.within (is (bit_byte (not b))) in
@@ -142,7 +142,7 @@ module _ (p : Numbers) (few : 3 * p.f < p.n) (View : HeardVotes → Type 0)
   pub locked_decides : (t s : ℕ) (b d : Bool) (h : HeardVotes) → IsLocked t (bit_byte b) → t ≤ s → IsDecision d s h → bit_byte d ≡ bit_byte b
   locked_decides t s b d h locked l x =
       let m = x.many in
-      let some = some_member (λ k. holds (is (bit_byte d)) (accepts p h s k)) (replicas p.n) (omega (arith, m)) in
+      let some = some_member (λ k. has_passing_vote (is (bit_byte d)) (accepts p h s k)) (replicas p.n) (omega (arith, m)) in
       locked_later t b locked s l h x.view some.0 (bit_byte d) (holds_is _ (bit_byte d) some.1)
 
   same_bits : (t : ℕ) → step_of t ≡ 2 → (g h : HeardVotes) → View g → View h → (k l : ℕ) (b d : Bool)
@@ -157,8 +157,8 @@ module _ (p : Numbers) (few : 3 * p.f < p.n) (View : HeardVotes → Type 0)
   same_round (suc t) b d g h x y =
       let l = x.many in
       let m = y.many in
-      let u = some_member (λ k. holds (is (bit_byte b)) (accepts p g (suc t) k)) (replicas p.n) (omega (arith, l)) in
-      let v = some_member (λ k. holds (is (bit_byte d)) (accepts p h (suc t) k)) (replicas p.n) (omega (arith, m)) in
+      let u = some_member (λ k. has_passing_vote (is (bit_byte b)) (accepts p g (suc t) k)) (replicas p.n) (omega (arith, l)) in
+      let v = some_member (λ k. has_passing_vote (is (bit_byte d)) (accepts p h (suc t) k)) (replicas p.n) (omega (arith, m)) in
       same_bits t (third_follows_second t x.third) g h x.view y.view u.0 v.0 b d (holds_is _ (bit_byte b) u.1) (holds_is _ (bit_byte d) v.1)
 
   pub agree : (t s : ℕ) (b d : Bool) (g h : HeardVotes) → IsDecision b t g → IsDecision d s h → b ≡ d

@@ -6,22 +6,22 @@ use Rattle.std.proofs.lemmas.Bool.{eqb-true}
 use Rattle.ritas_base.specs.declared.slot.Slot.{Slot}
 use Rattle.ritas_base.specs.declared.mode.Mode.{Mode}
 use Rattle.ritas_base.specs.Numbers.{Numbers}
-use Rattle.layer_api.specs.Runs.{Step, calls_of, Has}
+use Rattle.layer_api.specs.Runs.{ReplicaStep, calls_of, Has}
 use Rattle.layer_api.specs.Service.{Instance, OfBit, OfValue, OfVector, Decision, Bit, Decided, Spent}
 use Rattle.layer_api.specs.Words.{Word, Ask, bit_byte}
 use Rattle.layer_api.specs.Fed.{IsFedRun}
 use Rattle.layer_api.specs.FedLaws.{same_fed}
 use Rattle.layer_api.specs.OneLog.{Session, seat_at, service_play, IsRunOf, OneLog}
 use Rattle.layer_api.specs.Binary.{BinaryRules, Bench, bench_at, binary_play, OneBit}
-use Rattle.binary_consensus.specs.Root.{ending, decided_in, binary_root}
+use Rattle.binary_consensus.specs.Root.{binary_ending, binary_decided_in, binary_root}
 use Rattle.binary_consensus.specs.Laws.RootWords.{are_votes}
 
-ending_is : (o : Option Bool) (over : Bool) (d : Decision) → ending o over ≡ Decided d → (x : Bool) × (o ≡ Some x) × (d ≡ Bit x)
+ending_is : (o : Option Bool) (over : Bool) (d : Decision) → binary_ending o over ≡ Decided d → (x : Bool) × (o ≡ Some x) × (d ≡ Bit x)
 ending_is None true d e = absurd cc
 ending_is None false d e = absurd cc
 ending_is (Some x) over d e = (x, refl, cc)
 
-decided_is : (o : Option Bool) (x : Instance) (d : Decision) → decided_in o x ≡ Some d → (y : Bool) × (o ≡ Some y) × (d ≡ Bit y)
+decided_is : (o : Option Bool) (x : Instance) (d : Decision) → binary_decided_in o x ≡ Some d → (y : Bool) × (o ≡ Some y) × (d ≡ Bit y)
 decided_is o (OfBit a attempt) d e = go (a == 0 && attempt == 0) o e
   where
     go : (c : Bool) (z : Option Bool) → (if c then option_map Bit z else None) ≡ Some d → (y : Bool) × (z ≡ Some y) × (d ≡ Bit y)
@@ -34,7 +34,7 @@ decided_is o (OfVector a) d e = absurd cc
 bit_same : (x y : Bool) → Bit x ≡ Bit y → x ≡ y
 bit_same x y e = cc
 
-module _ (b : BinaryRules) (one : OneBit b) (p : Numbers) (mode : Mode) (is_correct : ℕ → Bool) (coins : ℕ → Slot → Bool) (steps : List (Step Word))
+module _ (b : BinaryRules) (one : OneBit b) (p : Numbers) (mode : Mode) (is_correct : ℕ → Bool) (coins : ℕ → Slot → Bool) (steps : List (ReplicaStep Word))
     (run : IsRunOf (record { rules = binary_root b; numbers = p; mode = mode; is_correct = is_correct; coins = coins }) steps) where
   abbrev session : Session
   session = record { rules = binary_root b; numbers = p; mode = mode; is_correct = is_correct; coins = coins }

@@ -14,7 +14,7 @@ use Rattle.layer_api.specs.FreshLaws.{fresh_other}
 use Rattle.layer_api.specs.OneInstance.{is_given, not_given, given_some, given_stays, HasOneInstance, IsInstanceSaid, served, asked_once, instance_word_laws}
 use Rattle.layer_api.specs.Binary.{BinaryRules, IsStepSlot, IsVote, MayVote, AreVotes, IsVoteSaid, BoxLaws}
 use Rattle.layer_api.specs.VoteLaws.{value_vote, vote_value, input_bit}
-use Rattle.binary_consensus.specs.Root.{bench_of, is_step, ending, decided_in, binary_root}
+use Rattle.binary_consensus.specs.Root.{root_bench, is_root_step, binary_ending, binary_decided_in, binary_root}
 
 module _ (b : BinaryRules) where
   abbrev r : ServiceRules
@@ -37,13 +37,13 @@ module _ (b : BinaryRules) where
 
   pub record IsOpen (seat : Seat) (w : List Word) (s : Slot) : Type 0 where
     pub given : is_given w ≡ true
-    pub slot : IsStepSlot (bench_of seat) s
-    pub near : s.bround ≤ b.round (bench_of seat) w + 1
+    pub slot : IsStepSlot (root_bench seat) s
+    pub near : s.bround ≤ b.round (root_bench seat) w + 1
 
   open_is : (seat : Seat) (w : List Word) (s : Slot) → r.opens seat w s ≡ true → IsOpen seat w s
   open_is seat w s e =
       let x = and_parts (is_given w) _ e in
-      let y = and_parts (is_step s) _ x.1 in
+      let y = and_parts (is_root_step s) _ x.1 in
       let c = and_parts (s.class == 5) _ y.0 in
       let n = and_parts (s.a == 0) _ c.1 in
       let t = and_parts (s.attempt == 0) _ n.1 in
@@ -69,7 +69,7 @@ module _ (b : BinaryRules) where
   hears_vote seat w s v may = value_vote seat.numbers seat.mode.root s v (open_is seat w s may.is_open).slot.class may.good
 
   pub may_vote : (seat : Seat) (w : List Word) (s : Slot) (v : List ℕ) (vote : ℕ) → asked w ≤ 1 → MayHear r seat w s v → v ≡ vote ∷ []
-      → MayVote b (bench_of seat) w s vote
+      → MayVote b (root_bench seat) w s vote
   may_vote seat w s v vote once may whole =
       let is = open_is seat w s may.is_open in
       let some = given_some w is.given in
@@ -93,7 +93,7 @@ module _ (b : BinaryRules) where
   pub may_propose : (seat : Seat) (w : List Word) (v : List ℕ) → MayAsk r seat w v → asked w ≡ 0
   may_propose seat w v may = not_given w may.first
 
-  pub are_votes : (seat : Seat) (w : List Word) → AreProper r seat w → AreVotes b (bench_of seat) w
+  pub are_votes : (seat : Seat) (w : List Word) → AreProper r seat w → AreVotes b (root_bench seat) w
   are_votes seat [] proper = tt
   are_votes seat (Ask v ∷ w) proper =
       ((may_propose seat w v proper.0, (bytes_eq v (1 ∷ []), asks_bit seat w v proper.0)), are_votes seat w proper.1)
@@ -102,13 +102,13 @@ module _ (b : BinaryRules) where
       ((vote.vote, vote.whole, may_vote seat w s v vote.vote (asked_once r one seat w proper.1) proper.0 vote.whole), are_votes seat w proper.1)
 
 -- the slot of a step is one of root service 3
-step_right : (p : Numbers) (mode : Mode) (seat : Seat) (s : Slot) → mode.root ≡ 3 → IsStepSlot (bench_of seat) s → s.origin < p.n → slot_fault p mode s ≡ None
+step_right : (p : Numbers) (mode : Mode) (seat : Seat) (s : Slot) → mode.root ≡ 3 → IsStepSlot (root_bench seat) s → s.origin < p.n → slot_fault p mode s ≡ None
 unfolding slot_fault has_class
 step_right p mode seat s root is within-n =
     rw (root, is.class, is.number, is.attempt, le-leb 1 s.bround is.first_round, le-leb s.bround 200 is.last_round, le-leb 1 s.step is.first_step, le-leb s.step 3 is.last_step, lt-ltb s.origin p.n within-n) refl
 
 -- what the box says is right
-vote_right : (seat : Seat) (y : Say) → seat.mode.root ≡ 3 → IsVoteSaid (bench_of seat) y → IsInstanceSaid seat y
+vote_right : (seat : Seat) (y : Say) → seat.mode.root ≡ 3 → IsVoteSaid (root_bench seat) y → IsInstanceSaid seat y
 vote_right seat y three said = record {
   origin = said.origin;
   no_command = ap (λ (k : ℕ). k == 1) said.slot.class;
@@ -118,12 +118,12 @@ vote_right seat y three said = record {
 
 -- ---- what is decided
 
-ending_stays : (o u : Option Bool) (p q : Bool) (d : Decision) → ((x : Bool) → o ≡ Some x → u ≡ Some x) → ending o p ≡ Decided d → ending u q ≡ Decided d
+ending_stays : (o u : Option Bool) (p q : Bool) (d : Decision) → ((x : Bool) → o ≡ Some x → u ≡ Some x) → binary_ending o p ≡ Decided d → binary_ending u q ≡ Decided d
 ending_stays None u true q d stays e = absurd cc
 ending_stays None u false q d stays e = absurd cc
-ending_stays (Some x) u p q d stays e = ap (λ (y : Option Bool). ending y q) (stays x refl) ∙ e
+ending_stays (Some x) u p q d stays e = ap (λ (y : Option Bool). binary_ending y q) (stays x refl) ∙ e
 
-decided_stay : (o u : Option Bool) (x : Instance) (d : Decision) → ((y : Bool) → o ≡ Some y → u ≡ Some y) → decided_in o x ≡ Some d → decided_in u x ≡ Some d
+decided_stay : (o u : Option Bool) (x : Instance) (d : Decision) → ((y : Bool) → o ≡ Some y → u ≡ Some y) → binary_decided_in o x ≡ Some d → binary_decided_in u x ≡ Some d
 decided_stay o u (OfBit a attempt) d stays e = go (a == 0 && attempt == 0) o refl e
   where
     go : (c : Bool) (z : Option Bool) → o ≡ z → (if c then option_map Bit z else None) ≡ Some d → (if c then option_map Bit u else None) ≡ Some d
@@ -134,13 +134,13 @@ decided_stay o u (OfValue a attempt) d stays e = absurd cc
 decided_stay o u (OfVector a) d stays e = absurd cc
 
 -- the bit is the outcome
-own_decided : (o : Option Bool) (is_over : Bool) → decided_in o (OfBit 0 0) ≡ ending_decision (ending o is_over)
+own_decided : (o : Option Bool) (is_over : Bool) → binary_decided_in o (OfBit 0 0) ≡ ending_decision (binary_ending o is_over)
 own_decided (Some bit) is_over = refl
 own_decided None true = refl
 own_decided None false = refl
 
 -- an instance of one bit ends by a bit, or with its rounds
-is_ending : (root : ℕ) (o : Option Bool) (is_over : Bool) → root ≡ 3 → IsEnding root (ending o is_over)
+is_ending : (root : ℕ) (o : Option Bool) (is_over : Bool) → root ≡ 3 → IsEnding root (binary_ending o is_over)
 is_ending root (Some bit) is_over three = three
 is_ending root None true three = three
 is_ending root None false three = tt
@@ -151,23 +151,23 @@ module _ (b : BinaryRules) where
         → (binary_root b).opens seat w s ≡ true → (binary_root b).opens seat (c ∷ w) s ≡ true
     opens_stays seat c w s proper opens =
         let x = and_parts (is_given w) _ opens in
-        let y = and_parts (is_step s) _ x.1 in
+        let y = and_parts (is_root_step s) _ x.1 in
         let near = leb-true _ _ y.1 in
-        let later = laws.round_stays (bench_of seat) c w (are_votes b seat (c ∷ w) proper) in
+        let later = laws.round_stays (root_bench seat) c w (are_votes b seat (c ∷ w) proper) in
         and_from (is_given (c ∷ w)) _ (given_stays c w x.0)
-        (and_from (is_step s) _ y.0 (le-leb s.bround (b.round (bench_of seat) (c ∷ w) + 1) (omega (arith, near, later))))
+        (and_from (is_root_step s) _ y.0 (le-leb s.bround (b.round (root_bench seat) (c ∷ w) + 1) (omega (arith, near, later))))
 
     stays : (seat : Seat) (c : Word) (w : List Word) (x : Bool) → AreProper (binary_root b) seat (c ∷ w)
-        → b.decision (bench_of seat) w ≡ Some x → b.decision (bench_of seat) (c ∷ w) ≡ Some x
-    stays seat c w x proper q = laws.decision_stays (bench_of seat) c w x (are_votes b seat (c ∷ w) proper) q
+        → b.decision (root_bench seat) w ≡ Some x → b.decision (root_bench seat) (c ∷ w) ≡ Some x
+    stays seat c w x proper q = laws.decision_stays (root_bench seat) c w x (are_votes b seat (c ∷ w) proper) q
 
     insides : (seat : Seat) (w : List Word) → seat.mode.root ≡ 3 → Insides (binary_root b) seat w
     insides seat w three = record {
       own = λ x q.
-          let o = b.decision (bench_of seat) w in
-          let is_over = b.over (bench_of seat) w in
+          let o = b.decision (root_bench seat) w in
+          let is_over = b.over (root_bench seat) w in
           let e : OfBit 0 0 ≡ x = let p = ap own_instance (sym three) ∙ q in cc in
-          subst (λ (y : Instance). decided_in o y ≡ ending_decision (ending o is_over)) e (own_decided o is_over);
+          subst (λ (y : Instance). binary_decided_in o y ≡ ending_decision (binary_ending o is_over)) e (own_decided o is_over);
       last = λ x q. absurd cc;
       latest = λ a v q. absurd cc;
       bit = λ a k o q. absurd cc;
@@ -175,11 +175,11 @@ module _ (b : BinaryRules) where
 
     pub root_word_laws : WordLaws (binary_root b)
     root_word_laws = instance_word_laws (binary_root b) (one b) (record {
-      ending = λ seat w serves. is_ending seat.mode.root (b.decision (bench_of seat) w) (b.over (bench_of seat) w) (root_three b seat serves);
+      ending = λ seat w serves. is_ending seat.mode.root (b.decision (root_bench seat) w) (b.over (root_bench seat) w) (root_three b seat serves);
       says = λ seat c w proper.
-          fresh_other (IsVoteSaid (bench_of seat)) (IsInstanceSaid seat) _ _ _
+          fresh_other (IsVoteSaid (root_bench seat)) (IsInstanceSaid seat) _ _ _
           (λ y h. vote_right seat y (root_three b seat (served (binary_root b) seat c w proper)) h) (λ y h none. none)
-          (laws.says_new (bench_of seat) c w (are_votes b seat (c ∷ w) proper));
+          (laws.says_new (root_bench seat) c w (are_votes b seat (c ∷ w) proper));
       opens_stays = opens_stays;
       outcome_stays = λ seat c w d proper e. ending_stays _ _ _ _ d (λ x q. stays seat c w x proper q) e;
       insides = λ seat w session serves proper. insides seat w (root_three b seat serves);

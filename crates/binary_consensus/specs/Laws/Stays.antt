@@ -8,11 +8,11 @@ use Rattle.ritas_base.specs.Shortest.{option_or_some, option_or_older}
 use Rattle.layer_api.specs.Words.{Word, Ask, Hear}
 use Rattle.layer_api.specs.Binary.{Bench}
 use Rattle.binary_consensus.specs.Steps.{step_of, vote_in, heard, accepted}
-use Rattle.binary_consensus.specs.Consensus.{proposal, enough_at, left_by, left, next_vote, next_said, decides, said, decided_below, rounds, steps, last_step, round_below}
+use Rattle.binary_consensus.specs.Consensus.{proposed_vote, enough_at, step_left_by, left, next_vote, next_said, decides, vote_said, decided_below, binary_rounds, steps, last_step, round_below}
 use Rattle.layer_api.specs.FedLaws.{some_if}
 
-pub rounds_are : rounds ≡ 200
-unfolding rounds
+pub rounds_are : binary_rounds ≡ 200
+unfolding binary_rounds
 rounds_are = refl
 
 pub steps_are : steps ≡ 600
@@ -27,18 +27,18 @@ is_there : {X : Type 0} (o : Option X) → is_some o ≡ true → (v : X) × (o 
 is_there None q = absurd cc
 is_there (Some v) q = (v, refl)
 
-proposal_stays : (c : Word) (w : List Word) (v : ℕ) → proposal w ≡ Some v → proposal (c ∷ w) ≡ Some v
-proposal_stays (Ask value) w v q = option_or_older (proposal w) (vote_in value) v q
+proposal_stays : (c : Word) (w : List Word) (v : ℕ) → proposed_vote w ≡ Some v → proposed_vote (c ∷ w) ≡ Some v
+proposal_stays (Ask value) w v q = option_or_older (proposed_vote w) (vote_in value) v q
 proposal_stays (Hear s value) w v q = q
 
 -- a step that is left is said
 pub left_said : (at : Bench) (t : ℕ) (f : List Word → Option ℕ) → ((c : Word) (w : List Word) (v : ℕ) → f w ≡ Some v → f (c ∷ w) ≡ Some v)
-    → (w : List Word) (vs : List ℕ) → left_by at t f w ≡ Some vs → (v : ℕ) × (f w ≡ Some v)
+    → (w : List Word) (vs : List ℕ) → step_left_by at t f w ≡ Some vs → (v : ℕ) × (f w ≡ Some v)
 left_said at t f stay [] vs q =
     let i = some_if (is_some (f []) && nat_le (wait_of at.numbers) (length (accepted at.numbers (heard at []) t))) (accepted at.numbers (heard at []) t) vs q in
     is_there (f []) (and_parts (is_some (f [])) _ i.0).0
 left_said at t f stay (c ∷ w) vs q =
-    elim (option_or_some (left_by at t f w) (enough_at at t f (c ∷ w)) vs q) [
+    elim (option_or_some (step_left_by at t f w) (enough_at at t f (c ∷ w)) vs q) [
       | inl a ↦ let h = left_said at t f stay w vs a in (h.0, stay c w h.0 h.1)
       | inr a ↦
           let i = some_if (is_some (f (c ∷ w)) && nat_le (wait_of at.numbers) (length (accepted at.numbers (heard at (c ∷ w)) t))) (accepted at.numbers (heard at (c ∷ w)) t) vs a.1 in
@@ -55,19 +55,19 @@ module _ (at : Bench) where
   next_left t d (Some vs) v q = (vs, refl)
 
   -- what is said stays, and what the steps before it decide is then settled
-  pub stays : (t : ℕ) (c : Word) (w : List Word) (v : ℕ) → said at t w ≡ Some v
-      → (said at t (c ∷ w) ≡ Some v) × (decided_below at t (c ∷ w) ≡ decided_below at t w)
+  pub stays : (t : ℕ) (c : Word) (w : List Word) (v : ℕ) → vote_said at t w ≡ Some v
+      → (vote_said at t (c ∷ w) ≡ Some v) × (decided_below at t (c ∷ w) ≡ decided_below at t w)
   stays zero c w v q = (proposal_stays c w v q, refl)
   stays (suc t) c w v q =
       let l = next_left t (decided_below at t w) (left at t w) v q in
-      let s = left_said at t (said at t) (λ c w v r. (stays t c w v r).0) w l.0 l.1 in
+      let s = left_said at t (vote_said at t) (λ c w v r. (stays t c w v r).0) w l.0 l.1 in
       let d = (stays t c w s.0 s.1).1 in
       let e : left at t (c ∷ w) ≡ left at t w = option_or_older (left at t w) _ l.0 l.1 ∙ sym l.1 in
       (ap₂ (next_said at t) d e ∙ q, ap₂ (λ (d : Option Bool) (l : Option (List ℕ)). option_or d (decides at.numbers t l)) d e)
 
   -- a step that is left is said
-  pub left_is_said : (t : ℕ) (w : List Word) (vs : List ℕ) → left at t w ≡ Some vs → (v : ℕ) × (said at t w ≡ Some v)
-  left_is_said t w vs q = left_said at t (said at t) (λ c w v r. (stays t c w v r).0) w vs q
+  pub left_is_said : (t : ℕ) (w : List Word) (vs : List ℕ) → left at t w ≡ Some vs → (v : ℕ) × (vote_said at t w ≡ Some v)
+  left_is_said t w vs q = left_said at t (vote_said at t) (λ c w v r. (stays t c w v r).0) w vs q
 
   decides_left : (t : ℕ) (l : Option (List ℕ)) (b : Bool) → decides at.numbers t l ≡ Some b → (vs : List ℕ) × (l ≡ Some vs)
   decides_left t None b q = absurd cc
@@ -97,34 +97,34 @@ module _ (at : Bench) where
   clash (Some u) v a b = absurd cc
 
   -- a step that is not left is followed by none, and one that is not said is not left
-  pub next_none : (t : ℕ) (w : List Word) → left at t w ≡ None → said at (suc t) w ≡ None
+  pub next_none : (t : ℕ) (w : List Word) → left at t w ≡ None → vote_said at (suc t) w ≡ None
   next_none t w e =
-      none_of (said at (suc t) w) (λ v q. let l = next_left t (decided_below at t w) (left at t w) v q in clash (left at t w) l.0 e l.1)
+      none_of (vote_said at (suc t) w) (λ v q. let l = next_left t (decided_below at t w) (left at t w) v q in clash (left at t w) l.0 e l.1)
 
-  pub unleft : (t : ℕ) (w : List Word) → said at t w ≡ None → left at t w ≡ None
-  unleft t w e = none_of (left at t w) (λ vs q. let s = left_is_said t w vs q in clash (said at t w) s.0 e s.1)
+  pub unleft : (t : ℕ) (w : List Word) → vote_said at t w ≡ None → left at t w ≡ None
+  unleft t w e = none_of (left at t w) (λ vs q. let s = left_is_said t w vs q in clash (vote_said at t w) s.0 e s.1)
 
   -- a step that is said follows one that is said
-  pub said_down : (t : ℕ) (w : List Word) (v : ℕ) → said at (suc t) w ≡ Some v → (u : ℕ) × (said at t w ≡ Some u)
+  pub said_down : (t : ℕ) (w : List Word) (v : ℕ) → vote_said at (suc t) w ≡ Some v → (u : ℕ) × (vote_said at t w ≡ Some u)
   said_down t w v q = let l = next_left t (decided_below at t w) (left at t w) v q in left_is_said t w l.0 l.1
 
   -- the steps above one that isn't said are not said either
-  pub silent_above : (t s : ℕ) (w : List Word) → said at t w ≡ None → t ≤ s → said at s w ≡ None
-  silent_above t zero w e l = let z : t ≡ 0 = omega arith in subst (λ (m : ℕ). said at m w ≡ None) z e
+  pub silent_above : (t s : ℕ) (w : List Word) → vote_said at t w ≡ None → t ≤ s → vote_said at s w ≡ None
+  silent_above t zero w e l = let z : t ≡ 0 = omega arith in subst (λ (m : ℕ). vote_said at m w ≡ None) z e
   silent_above t (suc s) w e l =
       elim (eq-or-lt_of_le l) [
-        | inl z ↦ subst (λ (m : ℕ). said at m w ≡ None) z e
+        | inl z ↦ subst (λ (m : ℕ). vote_said at m w ≡ None) z e
         | inr m ↦ next_none s w (unleft s w (silent_above t s w e (omega arith)))
       ]
 
   -- nor is any step said before a word
-  pub silent : (t : ℕ) → said at t [] ≡ None
+  pub silent : (t : ℕ) → vote_said at t [] ≡ None
   silent zero = refl
   silent (suc t) = next_none t [] (unleft t [] (silent t))
 
   round_small : (r : ℕ) (w : List Word) → round_below at r w ≤ r
   round_small zero w = omega arith
-  round_small (suc r) w = go (is_some (said at (3 * r) w)) (round_small r w)
+  round_small (suc r) w = go (is_some (vote_said at (3 * r) w)) (round_small r w)
     where
       go : (b : Bool) → round_below at r w ≤ r → (if b then suc r else round_below at r w) ≤ suc r
       go true l = omega arith
@@ -132,18 +132,18 @@ module _ (at : Bench) where
 
   pub round_stays : (r : ℕ) (c : Word) (w : List Word) → round_below at r w ≤ round_below at r (c ∷ w)
   round_stays zero c w = omega arith
-  round_stays (suc r) c w = go (said at (3 * r) w) (said at (3 * r) (c ∷ w)) refl refl (round_stays r c w)
+  round_stays (suc r) c w = go (vote_said at (3 * r) w) (vote_said at (3 * r) (c ∷ w)) refl refl (round_stays r c w)
     where
-      go : (o u : Option ℕ) → said at (3 * r) w ≡ o → said at (3 * r) (c ∷ w) ≡ u → round_below at r w ≤ round_below at r (c ∷ w)
+      go : (o u : Option ℕ) → vote_said at (3 * r) w ≡ o → vote_said at (3 * r) (c ∷ w) ≡ u → round_below at r w ≤ round_below at r (c ∷ w)
           → (if is_some o then suc r else round_below at r w) ≤ (if is_some u then suc r else round_below at r (c ∷ w))
       go None None e f ih = ih
       go None (Some v) e f ih = let l = round_small r w in omega arith
       go (Some v) (Some u) e f ih = omega arith
-      go (Some v) None e f ih = absurd (clash (said at (3 * r) (c ∷ w)) v f (stays (3 * r) c w v e).0)
+      go (Some v) None e f ih = absurd (clash (vote_said at (3 * r) (c ∷ w)) v f (stays (3 * r) c w v e).0)
 
 -- ---- before any word
 
-left_first : (at : Bench) (t : ℕ) → said at t [] ≡ None → left at t [] ≡ None
+left_first : (at : Bench) (t : ℕ) → vote_said at t [] ≡ None → left at t [] ≡ None
 left_first at t q =
     let vs = accepted at.numbers (heard at []) t in
     ap (λ (o : Option ℕ). if is_some o && nat_le (wait_of at.numbers) (length vs) then Some vs else None) q
@@ -153,7 +153,7 @@ none_either true o q = refl
 none_either false o q = q
 
 -- nothing is said at any step, and nothing is decided
-nothing_first : (at : Bench) (t : ℕ) → (said at t [] ≡ None) × (decided_below at t [] ≡ None)
+nothing_first : (at : Bench) (t : ℕ) → (vote_said at t [] ≡ None) × (decided_below at t [] ≡ None)
 nothing_first at zero = (refl, refl)
 nothing_first at (suc t) =
     let before = nothing_first at t in

@@ -20,17 +20,17 @@ use Rattle.ritas_base.specs.Members.{has_member, member_count}
 use Rattle.ritas_base.specs.Messages.{Place}
 use Rattle.ritas_base.specs.Quorums.{count_yes, count_no, count_same}
 use Rattle.ritas_base.specs.Tags.{Tags}
-use Rattle.frame_codec.specs.Values.{at_place, rows_in, if_whole, row_of, column_bytes}
+use Rattle.frame_codec.specs.Values.{at_place, rows_in, if_whole, column_row, column_bytes}
 use Rattle.frame_codec.specs.RowLaws.{whole_place}
 use Rattle.layer_api.specs.Entries.{sent, given, entries_for, entries_of, entry_in, entry_of, Print, prints_of, prints_for, is_hashed, prints_at_kind}
-use Rattle.layer_api.specs.EntryLaws.{IsHashedBy, IsMetOf, HasEntries, EntryLaws}
+use Rattle.layer_api.specs.EntryLaws.{IsHashedBy, IsMetOf, HasWholeEntries, EntryLaws}
 use Rattle.layer_api.specs.OneValue.{AreGoodCalls, IsOfSlot}
 use Rattle.layer_api.specs.Runs.{Has}
 use Rattle.layer_api.specs.HasLaws.{has_right}
 use Rattle.echo_bcast.specs.Matrix.{echo, as_entry, hashes_bytes, hashes_in, senders_of, rows_for}
 use Rattle.echo_bcast.specs.Laws.Columns.{as_entry_is, AreLong, senders_ones, senders_have, column_mask}
 use Rattle.layer_api.specs.ReplicaLaws.{replica_below}
-use Rattle.echo_bcast.specs.Due.{IsDue, OfSend, OfHashes, OfColumn, IsHashes, IsColumnOf, due_is}
+use Rattle.echo_bcast.specs.Due.{IsMatrixDue, OfSend, OfHashes, OfColumn, IsHashes, IsColumnOf, due_is}
 use Rattle.echo_bcast.specs.Laws.Good.{columns_long}
 
 -- ---- entries of HASHES
@@ -54,7 +54,7 @@ all_mapped : (f : ℕ → List ℕ) → ((k : ℕ) → length (f k) ≡ 32) → 
 all_mapped f each [] = tt
 all_mapped f each (k ∷ ks) = (each k, all_mapped f each ks)
 
-hashes_given : (at : Place) (tags : Tags) (h : List Call) (m : Msg) → HasEntries tags → IsHashes at tags h m
+hashes_given : (at : Place) (tags : Tags) (h : List Call) (m : Msg) → HasWholeEntries tags → IsHashes at tags h m
     → (k : ℕ) → k < at.numbers.n → Has (given at tags h) (entry_in k m.value)
 hashes_given at tags h m whole s k lt =
     let f : ℕ → List ℕ = λ j. entry_of at tags at.me j s.sent_here in
@@ -84,7 +84,7 @@ count_behind x hs from (suc n) =
     count_from (is_there (x ∷ hs)) (suc from) n ∙ ap (λ (c : ℕ). cond (is_there hs from) 1 0 + c) rest ∙ sym (count_from (is_there hs) from n)
 
 -- a row is an entry of HASHES that are there
-pub record IsRowOf (k : ℕ) (o : Option (List ℕ)) (entry : List ℕ) : Type 0 where
+pub record IsHashesRow (k : ℕ) (o : Option (List ℕ)) (entry : List ℕ) : Type 0 where
   pub value : List ℕ
   pub is : o ≡ Some value
   pub entry_is : entry ≡ entry_in k value
@@ -93,7 +93,7 @@ some_is : (x y : List ℕ) → Some x ≡ Some y → x ≡ y
 some_is x y e = cc
 
 row_at : (k : ℕ) (hs : List (Option (List ℕ))) (e : ℕ) (entry : List ℕ) → is_there hs e ≡ true
-    → slice_get (rows_for k hs) (count_by (is_there hs) (range_with_len 0 e)) ≡ Some entry → IsRowOf k (get_or hs e None) entry
+    → slice_get (rows_for k hs) (count_by (is_there hs) (range_with_len 0 e)) ≡ Some entry → IsHashesRow k (get_or hs e None) entry
 row_at k [] e entry there is = absurd (cc)
 row_at k (None ∷ hs) zero entry there is = absurd (cc)
 row_at k (None ∷ hs) (suc e) entry there is =
@@ -111,7 +111,7 @@ if_there true o entry e = (refl, e)
 if_there false o entry e = absurd (cc)
 
 -- the row that the senders' mask has for a replica
-pub placed_row : (k : ℕ) (hs : List (Option (List ℕ))) (e : ℕ) (entry : List ℕ) → at_place (senders_of hs) (rows_for k hs) e ≡ Some entry → IsRowOf k (get_or hs e None) entry
+pub placed_row : (k : ℕ) (hs : List (Option (List ℕ))) (e : ℕ) (entry : List ℕ) → at_place (senders_of hs) (rows_for k hs) e ≡ Some entry → IsHashesRow k (get_or hs e None) entry
 unfolding at_place member_count
 placed_row k hs e entry is =
     let there = if_there (has_member (senders_of hs) e) _ entry is in
@@ -140,7 +140,7 @@ rows_back (row ∷ rows) all =
     ∙ rw (take_at row others 32 all.0, drop_at row others 32 all.0, rows_back rows all.1) refl
 
 pub row_written : (n k e : ℕ) (hs : List (Option (List ℕ))) → length hs ≡ n → n ≤ 31 → k < n → AreLong n hs
-    → row_of (column_bytes (senders_of hs) (rows_for k hs)) e ≡ at_place (senders_of hs) (rows_for k hs) e
+    → column_row (column_bytes (senders_of hs) (rows_for k hs)) e ≡ at_place (senders_of hs) (rows_for k hs) e
 row_written n k e hs len most lt long =
     let mask = senders_of hs in
     let rows = rows_for k hs in
@@ -173,7 +173,7 @@ there_below : (hs : List (Option (List ℕ))) (e : ℕ) (v : List ℕ) → get_o
 there_below hs e v is = elim (cases_lt e (length hs)) [ inl lt ↦ lt | inr le ↦ absurd (let none = get_or_past hs e None le in cc) ]
 
 column_hashed : (at : Place) (mode : Mode) (h : List Call) (m : Msg) → IsOfSlot echo at.numbers mode at.slot → AreGoodCalls at.numbers mode at.slot h
-    → IsColumnOf at h m → (echoer : ℕ) (entry : List ℕ) → row_of m.value echoer ≡ Some entry → IsHashedBy at.numbers.n h echoer entry
+    → IsColumnOf at h m → (echoer : ℕ) (entry : List ℕ) → column_row m.value echoer ≡ Some entry → IsHashedBy at.numbers.n h echoer entry
 column_hashed at mode h m of_slot good s echoer entry row =
     let n = at.numbers.n in
     let k = s.receiver in
@@ -182,7 +182,7 @@ column_hashed at mode h m of_slot good s echoer entry row =
     let many = length-firsts n s.prefix Hashes in
     let value : m.value ≡ column_bytes (senders_of hs) (rows_for k hs) = ap (λ (x : Msg). x.value) s.whole in
     let written = row_written n k echoer hs many of_slot.session.most lt (columns_long at mode h m good s) in
-    let at_row = placed_row k hs echoer entry (sym written ∙ ap (λ (v : List ℕ). row_of v echoer) (sym value) ∙ row) in
+    let at_row = placed_row k hs echoer entry (sym written ∙ ap (λ (v : List ℕ). column_row v echoer) (sym value) ∙ row) in
     let below : echoer < n = let b = there_below hs echoer at_row.value at_row.is in omega (arith, b, many) in
     let was = first_item s.prefix echoer Hashes at_row.value (sym (firsts_at n s.prefix Hashes echoer below) ∙ at_row.is) in
     record {
@@ -197,12 +197,12 @@ column_hashed at mode h m of_slot good s echoer entry row =
 
 -- ---- a message of each kind
 
-pub hashes_alone : (at : Place) (tags : Tags) (h : List Call) (m : Msg) → m.kind ≡ Hashes → IsDue at tags h m → IsHashes at tags h m
+pub hashes_alone : (at : Place) (tags : Tags) (h : List Call) (m : Msg) → m.kind ≡ Hashes → IsMatrixDue at tags h m → IsHashes at tags h m
 hashes_alone at tags h m kind (OfSend s) = absurd (let other : m.kind ≡ Send = ap (λ (x : Msg). x.kind) s.whole in cc)
 hashes_alone at tags h m kind (OfHashes s) = s
 hashes_alone at tags h m kind (OfColumn s) = absurd (let other : m.kind ≡ Column = ap (λ (x : Msg). x.kind) s.whole in cc)
 
-pub column_alone : (at : Place) (tags : Tags) (h : List Call) (m : Msg) → m.kind ≡ Column → IsDue at tags h m → IsColumnOf at h m
+pub column_alone : (at : Place) (tags : Tags) (h : List Call) (m : Msg) → m.kind ≡ Column → IsMatrixDue at tags h m → IsColumnOf at h m
 column_alone at tags h m kind (OfSend s) = absurd (let other : m.kind ≡ Send = ap (λ (x : Msg). x.kind) s.whole in cc)
 column_alone at tags h m kind (OfHashes s) = absurd (let other : m.kind ≡ Hashes = ap (λ (x : Msg). x.kind) s.whole in cc)
 column_alone at tags h m kind (OfColumn s) = s

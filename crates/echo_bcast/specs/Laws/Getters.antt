@@ -14,8 +14,8 @@ use Rattle.ritas_base.specs.Tags.{Tags}
 use Rattle.layer_api.specs.BroadcastCalls.{ShowsCast}
 use Rattle.layer_api.specs.Entries.{sent}
 use Rattle.echo_bcast.specs.declared.eb.Eb.{Eb}
-use Rattle.echo_bcast.specs.Matrix.{echo, is_good, out_of, is_ready}
-use Rattle.echo_bcast.specs.State.{Keeps, sent_as, value_of, delivered_of, is_ready_at, shown_of}
+use Rattle.echo_bcast.specs.Matrix.{echo, is_good, matrix_out, is_ready}
+use Rattle.echo_bcast.specs.State.{KeepsMatrix, sent_kept_as, sent_value, matrix_delivered, is_ready_at, matrix_shown}
 
 -- none from n on
 none_above : (p : ℕ → Bool) (n from count : ℕ) → n ≤ from → count_by (λ k. nat_lt k n && p k) (range_with_len from count) ≡ 0
@@ -47,26 +47,26 @@ members_are n mask p most same =
     count_same (has_member mask) (λ k. nat_lt k n && p k) same (range_with_len 0 32)
     ∙ (ap (λ (m : ℕ). count_by (λ k. nat_lt k n && p k) (range_with_len 0 m)) (sym all) ∙ below_alone p n (32 - n) 0 n (omega arith))
 
-pub value_is : (tags : Tags) (o : Option (List ℕ)) → value_of (sent_as tags o) ≡ o
+pub value_is : (tags : Tags) (o : Option (List ℕ)) → sent_value (sent_kept_as tags o) ≡ o
 value_is tags None = refl
 value_is tags (Some m) = refl
 
-shows_out : (b : Eb) (at : Place) (tags : Tags) (h : List Call) → Keeps b at tags h → delivered_of b ≡ out_of at tags h
+shows_out : (b : Eb) (at : Place) (tags : Tags) (h : List Call) → KeepsMatrix b at tags h → matrix_delivered b ≡ matrix_out at tags h
 shows_out b at tags h keeps =
     let session = keeps.session in
     let good = is_good at tags h in
     let many : member_count 32 b.good ≡ count_by good (replicas at.numbers.n) = members_are at.numbers.n b.good good (omega (arith, session.most)) keeps.good in
-    ap (λ (p : Numbers). if nat_le (quorum_of p) (member_count 32 b.good) then value_of b.sent else None) keeps.params
-    ∙ (ap (λ (m : ℕ). if nat_le (quorum_of at.numbers) m then value_of b.sent else None) many
-    ∙ ap (λ (o : Option (List ℕ)). if nat_le (quorum_of at.numbers) (count_by good (replicas at.numbers.n)) then o else None) (ap value_of keeps.sent_is ∙ value_is tags (sent at h)))
+    ap (λ (p : Numbers). if nat_le (quorum_of p) (member_count 32 b.good) then sent_value b.sent else None) keeps.params
+    ∙ (ap (λ (m : ℕ). if nat_le (quorum_of at.numbers) m then sent_value b.sent else None) many
+    ∙ ap (λ (o : Option (List ℕ)). if nat_le (quorum_of at.numbers) (count_by good (replicas at.numbers.n)) then o else None) (ap sent_value keeps.sent_is ∙ value_is tags (sent at h)))
 
-pub some_as : (tags : Tags) (o : Option (List ℕ)) → is_some (sent_as tags o) ≡ is_some o
+pub some_as : (tags : Tags) (o : Option (List ℕ)) → is_some (sent_kept_as tags o) ≡ is_some o
 some_as tags None = refl
 some_as tags (Some m) = refl
 
-shows_ready : (b : Eb) (at : Place) (tags : Tags) (h : List Call) (x : Item) → Keeps b at tags h → is_ready_at b x ≡ is_ready at h x
+shows_ready : (b : Eb) (at : Place) (tags : Tags) (h : List Call) (x : Item) → KeepsMatrix b at tags h → is_ready_at b x ≡ is_ready at h x
 shows_ready b at tags h x keeps =
     ap (λ (there : Bool). not (kind_eq x.kind Column) || there) (ap is_some keeps.sent_is ∙ some_as tags (sent at h))
 
-pub shows_cast : (b : Eb) (at : Place) (tags : Tags) (h : List Call) → Keeps b at tags h → ShowsCast echo at tags h (shown_of b)
+pub shows_cast : (b : Eb) (at : Place) (tags : Tags) (h : List Call) → KeepsMatrix b at tags h → ShowsCast echo at tags h (matrix_shown b)
 shows_cast b at tags h keeps = record { out = shows_out b at tags h keeps; ready = λ x. shows_ready b at tags h x keeps }

@@ -25,7 +25,7 @@ use Rattle.frame_codec.specs.Body.{IsInGrammar, is_of_form}
 use Rattle.layer_api.specs.Entries.{sent, entries_of, entry_of}
 use Rattle.layer_api.specs.OneValue.{AreGoodCalls, IsOfSlot}
 use Rattle.echo_bcast.specs.Matrix.{echo, hashes_in, hashes_bytes, column_for}
-use Rattle.echo_bcast.specs.Due.{IsDue, OfSend, OfHashes, OfColumn, IsColumnOf}
+use Rattle.echo_bcast.specs.Due.{IsMatrixDue, OfSend, OfHashes, OfColumn, IsColumnOf}
 use Rattle.layer_api.specs.ReplicaLaws.{replica_below}
 use Rattle.echo_bcast.specs.Laws.Columns.{hashes_good, hashes_long, AreLong, are_long, column_good}
 
@@ -107,7 +107,7 @@ columns_long at mode h m good s =
     (λ k v e. hashes_long n v (of_hashes p mode at.slot v (first_good p mode at.slot s.prefix k Hashes v before e))) (replicas n)
 
 pub due_good : (at : Place) (tags : Tags) (mode : Mode) (h : List Call) (m : Msg) → IsOfSlot echo at.numbers mode at.slot → AreGoodCalls at.numbers mode at.slot h
-    → IsDue at tags h m → IsInGrammar at.numbers mode (item_of at.me m)
+    → IsMatrixDue at tags h m → IsInGrammar at.numbers mode (item_of at.me m)
 due_good at tags mode h m of_slot good (OfSend s) =
     let made = message at.slot Send m.value in
     subst (λ (x : Msg). IsInGrammar at.numbers mode (item_of at.me x)) (sym s.whole)

@@ -16,9 +16,9 @@ use Rattle.layer_api.specs.Entries.{sent, is_claim}
 use Rattle.layer_api.specs.Runs.{Has}
 use Rattle.layer_api.specs.HasLaws.{has_either, has_left, has_listed, has_right, listed_has}
 use Rattle.layer_api.specs.OneValue.{ValueLaws, IsReceiver}
-use Rattle.echo_bcast.specs.Matrix.{echo, hashes_for, columns_at, columns_due, due_of, is_good, out_of, is_of_echo}
+use Rattle.echo_bcast.specs.Matrix.{echo, hashes_for, columns_at, columns_due, matrix_due, is_good, matrix_out, is_of_echo}
 use Rattle.layer_api.specs.ReplicaLaws.{replica_below}
-use Rattle.echo_bcast.specs.Due.{IsDue, OfSend, OfHashes, OfColumn, due_is}
+use Rattle.echo_bcast.specs.Due.{IsMatrixDue, OfSend, OfHashes, OfColumn, due_is}
 use Rattle.echo_bcast.specs.Laws.OneValue.{out_is}
 use Rattle.echo_bcast.specs.Laws.Once.{repeats_other, stays_there, due_once}
 use Rattle.echo_bcast.specs.Laws.Good.{due_good, out_good}
@@ -38,7 +38,7 @@ columns_stay : (at : Place) (c : Call) (h : List Call) (m : Msg) (b : Bool) → 
 columns_stay at c h m true there = has_right _ (columns_at at h) m there
 columns_stay at c h m false there = absurd there
 
-pub due_stays : (at : Place) (tags : Tags) (h : List Call) (c : Call) (m : Msg) → Has (due_of at tags h) m → Has (due_of at tags (c ∷ h)) m
+pub due_stays : (at : Place) (tags : Tags) (h : List Call) (c : Call) (m : Msg) → Has (matrix_due at tags h) m → Has (matrix_due at tags (c ∷ h)) m
 due_stays at tags h c m there =
     let sends = to_all at.slot Send (started (c ∷ h)) in
     let hashes = hashes_for at tags (sent at (c ∷ h)) in
@@ -51,12 +51,12 @@ due_stays at tags h c m there =
       | inr late ↦ has_right (sends ++ hashes) columns m (columns_stay at c h m (at.me == at.slot.origin) late)
     ]
 
-due_slot : (at : Place) (tags : Tags) (h : List Call) (m : Msg) → IsDue at tags h m → m.slot ≡ at.slot
+due_slot : (at : Place) (tags : Tags) (h : List Call) (m : Msg) → IsMatrixDue at tags h m → m.slot ≡ at.slot
 due_slot at tags h m (OfSend s) = ap (λ (x : Msg). x.slot) s.whole
 due_slot at tags h m (OfHashes s) = ap (λ (x : Msg). x.slot) s.whole
 due_slot at tags h m (OfColumn s) = ap (λ (x : Msg). x.slot) s.whole
 
-due_kind : (at : Place) (tags : Tags) (h : List Call) (m : Msg) → IsDue at tags h m → is_of_echo m.kind ≡ true
+due_kind : (at : Place) (tags : Tags) (h : List Call) (m : Msg) → IsMatrixDue at tags h m → is_of_echo m.kind ≡ true
 due_kind at tags h m (OfSend s) = ap (λ (x : Msg). is_of_echo x.kind) s.whole
 due_kind at tags h m (OfHashes s) = ap (λ (x : Msg). is_of_echo x.kind) s.whole
 due_kind at tags h m (OfColumn s) = ap (λ (x : Msg). is_of_echo x.kind) s.whole
@@ -65,7 +65,7 @@ no_columns_yet : (b : Bool) → ◌≡◌ {A = List Msg} (if b then [] else []) 
 no_columns_yet true = refl
 no_columns_yet false = refl
 
-due_to : (at : Place) (tags : Tags) (h : List Call) (m : Msg) → at.slot.origin < at.numbers.n → IsDue at tags h m → IsReceiver at.numbers.n m.to
+due_to : (at : Place) (tags : Tags) (h : List Call) (m : Msg) → at.slot.origin < at.numbers.n → IsMatrixDue at tags h m → IsReceiver at.numbers.n m.to
 due_to at tags h m origin (OfSend s) = subst (λ (to : To). IsReceiver at.numbers.n to) (ap (λ (x : Msg). x.to) (sym s.whole)) tt
 due_to at tags h m origin (OfHashes s) = subst (λ (to : To). IsReceiver at.numbers.n to) (ap (λ (x : Msg). x.to) (sym s.whole)) origin
 due_to at tags h m origin (OfColumn s) =
@@ -77,7 +77,7 @@ pub good_stays : (at : Place) (tags : Tags) (c : Call) (h : List Call) (echoer :
 good_stays at tags (Start v) h echoer e = e
 good_stays at tags (Take x) h echoer e = or_right (is_claim at tags h x echoer) (is_good at tags h echoer) e
 
-out_stays : (at : Place) (tags : Tags) (h : List Call) (c : Call) (v : List ℕ) → out_of at tags h ≡ Some v → out_of at tags (c ∷ h) ≡ Some v
+out_stays : (at : Place) (tags : Tags) (h : List Call) (c : Call) (v : List ℕ) → matrix_out at tags h ≡ Some v → matrix_out at tags (c ∷ h) ≡ Some v
 out_stays at tags h c v e =
     let is = out_is at tags h v e in
     let many = is.0 in
@@ -111,8 +111,8 @@ value_laws_of_echo =
       out_start = λ at tags h v. ap (λ (o : Option (List ℕ)). if nat_le (quorum_of at.numbers) (count_by (is_good at tags h) (replicas at.numbers.n)) then o else None) (option_or_none (sent at h));
       out_stays = λ at tags h c v e. out_stays at tags h c v e;
       due_nothing = λ at tags. no_columns_yet (at.me == at.slot.origin);
-      due_stays = λ at tags h c m e. listed_has (due_of at tags (c ∷ h)) m (due_stays at tags h c m (has_listed (due_of at tags h) m e));
-      due_slot = λ at tags h m e. due_slot at tags h m (due_is at tags h m (has_listed (due_of at tags h) m e));
+      due_stays = λ at tags h c m e. listed_has (matrix_due at tags (c ∷ h)) m (due_stays at tags h c m (has_listed (matrix_due at tags h) m e));
+      due_slot = λ at tags h m e. due_slot at tags h m (due_is at tags h m (has_listed (matrix_due at tags h) m e));
       due_kind = λ at tags h m there. due_kind at tags h m (due_is at tags h m there);
       due_to = λ at tags h m origin there. due_to at tags h m origin (due_is at tags h m there);
       due_once = λ at tags h taken first_ones. due_once at tags h taken first_ones;

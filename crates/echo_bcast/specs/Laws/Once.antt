@@ -23,11 +23,11 @@ use Rattle.ritas_base.specs.Shortest.{option_or_some, not_there}
 use Rattle.ritas_base.specs.Tags.{Tags}
 use Rattle.layer_api.specs.Broadcast.{IsPayload}
 use Rattle.layer_api.specs.Entries.{sent}
-use Rattle.layer_api.specs.OneValue.{AreTaken, AreFirst, IsOnce}
+use Rattle.layer_api.specs.OneValue.{AreTaken, RepeatNone, IsOnce}
 use Rattle.layer_api.specs.OnceLaws.{once_append, once_to_all}
 use Rattle.layer_api.specs.Runs.{Has}
 use Rattle.layer_api.specs.HasLaws.{has_listed}
-use Rattle.echo_bcast.specs.Matrix.{echo, hashes_for, hashes_in, senders_of, rows_for, column_for, columns_of, columns_at, columns_due, due_of, has_news, repeats_one}
+use Rattle.echo_bcast.specs.Matrix.{echo, hashes_for, hashes_in, senders_of, rows_for, column_for, columns_of, columns_at, columns_due, matrix_due, has_news, repeats_one}
 use Rattle.echo_bcast.specs.Laws.Columns.{hashes_long, are_long, rows_length}
 use Rattle.echo_bcast.specs.Due.{send_is, hashes_is, columns_of_is, column_is, column_due}
 use Rattle.layer_api.specs.ReplicaLaws.{replica_below}
@@ -145,7 +145,7 @@ column_new at tags h x m kind new taken now was =
     let short = columns_short at tags h m taken.1 was in
     omega (arith, long, more, short)
 
-columns_once : (at : Place) (tags : Tags) (h : List Call) → AreTaken echo at tags h → AreFirst echo at tags h → IsOnce (columns_at at h)
+columns_once : (at : Place) (tags : Tags) (h : List Call) → AreTaken echo at tags h → RepeatNone echo at tags h → IsOnce (columns_at at h)
 columns_once at tags [] taken first_ones = tt
 columns_once at tags (Start v ∷ h) taken first_ones = columns_once at tags h taken.1 first_ones
 columns_once at tags (Take x ∷ h) taken first_ones = go (kind_eq x.kind Hashes) refl (columns_once at tags h taken.1 first_ones.1)
@@ -182,7 +182,7 @@ apart_by_kind : (kind other : Kind) (xs ys : List Msg) → (kind ≡ other → �
 apart_by_kind kind other xs ys differ of_xs of_ys m e =
     false_from_ne_true (has ys m) (λ t. differ (sym (of_xs m (has_listed xs m e)) ∙ of_ys m (has_listed ys m t)))
 
-pub due_once : (at : Place) (tags : Tags) (h : List Call) → AreTaken echo at tags h → AreFirst echo at tags h → IsOnce (due_of at tags h)
+pub due_once : (at : Place) (tags : Tags) (h : List Call) → AreTaken echo at tags h → RepeatNone echo at tags h → IsOnce (matrix_due at tags h)
 due_once at tags h taken first_ones =
     let sends = to_all at.slot Send (started h) in
     let hashes = hashes_for at tags (sent at h) in

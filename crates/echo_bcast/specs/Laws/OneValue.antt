@@ -15,16 +15,16 @@ use Rattle.ritas_base.specs.Messages.{Place, kind_eq}
 use Rattle.ritas_base.specs.Quorums.{meet_three}
 use Rattle.ritas_base.specs.Tags.{Tags}
 use Rattle.layer_api.specs.Entries.{sent, given, entries_for, entry_of, is_valid_for, is_claim, prints_for, entry_print, EntryInput, Print, OfMessage}
-use Rattle.frame_codec.specs.Values.{row_of}
-use Rattle.layer_api.specs.Runs.{Step, Has, calls_of, IsEnough}
+use Rattle.frame_codec.specs.Values.{column_row}
+use Rattle.layer_api.specs.Runs.{ReplicaStep, Has, calls_of, IsEnough}
 use Rattle.layer_api.specs.HasLaws.{has_left, has_map, has_right, map_has}
 use Rattle.layer_api.specs.OneValue.{Group, place_of, met_at, IsFed, IsRun, IsClear, OneValue}
-use Rattle.echo_bcast.specs.Matrix.{echo, is_good, out_of}
+use Rattle.echo_bcast.specs.Matrix.{echo, is_good, matrix_out}
 use Rattle.layer_api.specs.ReplicaLaws.{has_replica}
 use Rattle.echo_bcast.specs.Due.{send_due}
 
 -- what is delivered was sent here, and an echo quorum is good
-pub out_is : (at : Place) (tags : Tags) (h : List Call) (v : List ℕ) → out_of at tags h ≡ Some v
+pub out_is : (at : Place) (tags : Tags) (h : List Call) (v : List ℕ) → matrix_out at tags h ≡ Some v
     → (quorum_of at.numbers ≤ count_by (is_good at tags h) (replicas at.numbers.n)) × (sent at h ≡ Some v)
 out_is at tags h v e = go (nat_le (quorum_of at.numbers) (count_by (is_good at tags h) (replicas at.numbers.n))) refl e
   where
@@ -37,14 +37,14 @@ out_is at tags h v e = go (nat_le (quorum_of at.numbers) (count_by (is_good at t
 record IsClaimed (at : Place) (tags : Tags) (h : List Call) (x : Item) (echoer : ℕ) : Type 0 where
   message : List ℕ
   was_sent : sent at h ≡ Some message
-  row : row_of x.value echoer ≡ Some (entry_of at tags echoer at.me message)
+  row : column_row x.value echoer ≡ Some (entry_of at tags echoer at.me message)
 
 claimed : (at : Place) (tags : Tags) (h : List Call) (x : Item) (echoer : ℕ) → is_claim at tags h x echoer ≡ true → IsClaimed at tags h x echoer
 claimed at tags h x echoer e = go (sent at h) refl (and_parts (kind_eq x.kind Column) (is_valid_for at tags (sent at h) x.value echoer) e).1
   where
     go : (o : Option (List ℕ)) → sent at h ≡ o → is_valid_for at tags o x.value echoer ≡ true → IsClaimed at tags h x echoer
     go None s q = absurd (cc)
-    go (Some m) s q = record { message = m; was_sent = s; row = is_value_is (entry_of at tags echoer at.me m) (row_of x.value echoer) q }
+    go (Some m) s q = record { message = m; was_sent = s; row = is_value_is (entry_of at tags echoer at.me m) (column_row x.value echoer) q }
 
 -- an entry that was given is that of the message that was sent, for some verifier
 record WasGiven (at : Place) (tags : Tags) (h : List Call) (entry : List ℕ) : Type 0 where
@@ -67,20 +67,20 @@ module _ (p : Numbers) (s : Slot) (is_correct : ℕ → Bool) (tags : ℕ → Ta
   abbrev group : Group
   group = record { rules = echo; numbers = p; slot = s; is_correct = is_correct; tags = tags }
 
-  abbrev Run : List (Step Call) → Type 0
+  abbrev Run : List (ReplicaStep Call) → Type 0
   Run xs = IsRun group xs
 
   -- the message that was sent to a replica
-  abbrev sent_to : ℕ → List (Step Call) → Option (List ℕ)
+  abbrev sent_to : ℕ → List (ReplicaStep Call) → Option (List ℕ)
   sent_to k xs = sent (place_of group k) (calls_of k xs)
 
-  sent_step : (k : ℕ) (x : Step Call) (xs : List (Step Call)) (v : List ℕ) → sent_to k xs ≡ Some v → sent_to k (x ∷ xs) ≡ Some v
+  sent_step : (k : ℕ) (x : ReplicaStep Call) (xs : List (ReplicaStep Call)) (v : List ℕ) → sent_to k xs ≡ Some v → sent_to k (x ∷ xs) ≡ Some v
   sent_step k x xs v q =
       cond_both (x.who == k) (x.call ∷ calls_of k xs) (calls_of k xs) (λ h. sent (place_of group k) h ≡ Some v)
       (λ t. first_stays (told s.origin Send) x.call (calls_of k xs) v q) (λ t. q)
 
   -- an echoer that is good at i gave, for some verifier, the entry that i waits for
-  record IsEchoer (i e : ℕ) (xs : List (Step Call)) : Type 0 where
+  record IsEchoer (i e : ℕ) (xs : List (ReplicaStep Call)) : Type 0 where
     here : List ℕ
     sent_here : sent_to i xs ≡ Some here
     there : List ℕ
@@ -89,7 +89,7 @@ module _ (p : Numbers) (s : Slot) (is_correct : ℕ → Bool) (tags : ℕ → Ta
     within : Has (replicas p.n) verifier
     alike : entry_of (place_of group e) (tags e) e verifier there ≡ entry_of (place_of group i) (tags i) e i here
 
-  echoer_step : (i e : ℕ) (x : Step Call) (xs : List (Step Call)) → IsEchoer i e xs → IsEchoer i e (x ∷ xs)
+  echoer_step : (i e : ℕ) (x : ReplicaStep Call) (xs : List (ReplicaStep Call)) → IsEchoer i e xs → IsEchoer i e (x ∷ xs)
   echoer_step i e x xs t =
       record {
         here = t.here;
@@ -102,7 +102,7 @@ module _ (p : Numbers) (s : Slot) (is_correct : ℕ → Bool) (tags : ℕ → Ta
       }
 
   -- by a column that i takes now
-  echoer_now : (i e : ℕ) (y : Item) (xs : List (Step Call)) → is_correct e ≡ true → IsFed group xs i (Take y)
+  echoer_now : (i e : ℕ) (y : Item) (xs : List (ReplicaStep Call)) → is_correct e ≡ true → IsFed group xs i (Take y)
       → is_claim (place_of group i) (tags i) (calls_of i xs) y e ≡ true → IsEchoer i e xs
   echoer_now i e y xs correct fed claim =
       let c = claimed (place_of group i) (tags i) (calls_of i xs) y e claim in
@@ -110,7 +110,7 @@ module _ (p : Numbers) (s : Slot) (is_correct : ℕ → Bool) (tags : ℕ → Ta
       let g = was_given (place_of group e) (tags e) (calls_of e xs) entry (fed.2 e entry correct claim c.row) in
       record { here = c.message; sent_here = c.was_sent; there = g.message; sent_there = g.was_sent; verifier = g.verifier; within = g.within; alike = g.same }
 
-  good_echoer : (i e : ℕ) → is_correct e ≡ true → (xs : List (Step Call)) → Run xs → is_good (place_of group i) (tags i) (calls_of i xs) e ≡ true → IsEchoer i e xs
+  good_echoer : (i e : ℕ) → is_correct e ≡ true → (xs : List (ReplicaStep Call)) → Run xs → is_good (place_of group i) (tags i) (calls_of i xs) e ≡ true → IsEchoer i e xs
   good_echoer i e correct [] run q = absurd (cc)
   good_echoer i e correct (x ∷ xs) run q = go (x.who == i) refl q (λ t. echoer_step i e x xs (good_echoer i e correct xs run.2 t))
     where
@@ -128,11 +128,11 @@ module _ (p : Numbers) (s : Slot) (is_correct : ℕ → Bool) (tags : ℕ → Ta
       go true t q older = call x.call (subst (λ (k : ℕ). IsFed group xs k x.call) (eqb-true x.who i t) run.1) q older
       go false t q older = older q
 
-  prints_at : (k : ℕ) (xs : List (Step Call)) (m : List ℕ) (a : Print) → sent_to k xs ≡ Some m → Has (prints_for (place_of group k) (tags k) (Some m)) a → Has (met_at group k xs) a
+  prints_at : (k : ℕ) (xs : List (ReplicaStep Call)) (m : List ℕ) (a : Print) → sent_to k xs ≡ Some m → Has (prints_for (place_of group k) (tags k) (Some m)) a → Has (met_at group k xs) a
   prints_at k xs m a e there = subst (λ (o : Option (List ℕ)). Has (prints_for (place_of group k) (tags k) o) a) (sym e) there
 
   -- where nothing collides, that echoer's message is i's
-  same_message : (xs : List (Step Call)) → IsClear group xs → (i e : ℕ) → is_correct i ≡ true → is_correct e ≡ true → (t : IsEchoer i e xs) → t.there ≡ t.here
+  same_message : (xs : List (ReplicaStep Call)) → IsClear group xs → (i e : ℕ) → is_correct i ≡ true → is_correct e ≡ true → (t : IsEchoer i e xs) → t.there ≡ t.here
   same_message xs clear i e ci ce t =
       let gave : ℕ → Print = λ k. entry_print (place_of group e) (tags e) t.there e k in
       let met_by_echoer = map (λ k. entry_print (place_of group e) (tags e) t.there k e) (replicas p.n) in
@@ -147,15 +147,15 @@ module _ (p : Numbers) (s : Slot) (is_correct : ℕ → Bool) (tags : ℕ → Ta
       clear e i (OfMessage t.there ((tags e).digest t.there)) (OfMessage t.here ((tags i).digest t.here)) ce ci
       (prints_at e xs t.there _ t.sent_there (inl refl)) (prints_at i xs t.here _ t.sent_here (inl refl)) digests
 
-  good_sent : (xs : List (Step Call)) → Run xs → IsClear group xs → (i e : ℕ) (v : List ℕ) → is_correct i ≡ true → is_correct e ≡ true → sent_to i xs ≡ Some v
+  good_sent : (xs : List (ReplicaStep Call)) → Run xs → IsClear group xs → (i e : ℕ) (v : List ℕ) → is_correct i ≡ true → is_correct e ≡ true → sent_to i xs ≡ Some v
       → is_good (place_of group i) (tags i) (calls_of i xs) e ≡ true → sent_to e xs ≡ Some v
   good_sent xs run clear i e v ci ce q good =
       let t = good_echoer i e ce xs run good in
       let here : t.here ≡ v = same_Some t.here v (sym t.sent_here ∙ q) in
       t.sent_there ∙ ap Some (same_message xs clear i e ci ce t ∙ here)
 
-  agree : (xs : List (Step Call)) → Run xs → IsClear group xs → (i j : ℕ) (v u : List ℕ) → is_correct i ≡ true → is_correct j ≡ true
-      → out_of (place_of group i) (tags i) (calls_of i xs) ≡ Some v → out_of (place_of group j) (tags j) (calls_of j xs) ≡ Some u → v ≡ u
+  agree : (xs : List (ReplicaStep Call)) → Run xs → IsClear group xs → (i j : ℕ) (v u : List ℕ) → is_correct i ≡ true → is_correct j ≡ true
+      → matrix_out (place_of group i) (tags i) (calls_of i xs) ≡ Some v → matrix_out (place_of group j) (tags j) (calls_of j xs) ≡ Some u → v ≡ u
   agree xs run clear i j v u ci cj a b =
       let at_i = out_is (place_of group i) (tags i) (calls_of i xs) v a in
       let at_j = out_is (place_of group j) (tags j) (calls_of j xs) u b in
@@ -172,13 +172,13 @@ module _ (p : Numbers) (s : Slot) (is_correct : ℕ → Bool) (tags : ℕ → Ta
       let as_j = good_sent xs run clear j shared.member u cj shared.third at_j.1 shared.second in
       same_Some v u (sym as_i ∙ as_j)
 
-  started_step : (x : Step Call) (xs : List (Step Call)) (v : List ℕ) → started (calls_of s.origin xs) ≡ Some v → started (calls_of s.origin (x ∷ xs)) ≡ Some v
+  started_step : (x : ReplicaStep Call) (xs : List (ReplicaStep Call)) (v : List ℕ) → started (calls_of s.origin xs) ≡ Some v → started (calls_of s.origin (x ∷ xs)) ≡ Some v
   started_step x xs v q =
       cond_both (x.who == s.origin) (x.call ∷ calls_of s.origin xs) (calls_of s.origin xs) (λ h. started h ≡ Some v)
       (λ t. first_stays start_of x.call (calls_of s.origin xs) v q) (λ t. q)
 
   -- what a correct origin sent it started
-  sent_started : (i : ℕ) (v : List ℕ) → is_correct s.origin ≡ true → (xs : List (Step Call)) → Run xs → sent_to i xs ≡ Some v → started (calls_of s.origin xs) ≡ Some v
+  sent_started : (i : ℕ) (v : List ℕ) → is_correct s.origin ≡ true → (xs : List (ReplicaStep Call)) → Run xs → sent_to i xs ≡ Some v → started (calls_of s.origin xs) ≡ Some v
   sent_started i v correct [] run q = absurd (cc)
   sent_started i v correct (x ∷ xs) run q = go (x.who == i) q (λ t. started_step x xs v (sent_started i v correct xs run.2 t))
     where

@@ -16,7 +16,7 @@ use Rattle.ritas_base.specs.HistoryLaws.{is_value_is}
 use Rattle.ritas_base.specs.Members.{has_member}
 use Rattle.ritas_base.specs.Quorums.{meet_two, some_member, count_without}
 use Rattle.frame_codec.specs.Values.{mask_of}
-use Rattle.layer_api.specs.Runs.{Step, calls_of, Has, IsEnough}
+use Rattle.layer_api.specs.Runs.{ReplicaStep, calls_of, Has, IsEnough}
 use Rattle.layer_api.specs.Service.{Instance, OfBit, OfValue, OfVector, Decision, Bit, value_decision}
 use Rattle.layer_api.specs.Words.{Word, Ask, HasSay, value_at, bit_byte}
 use Rattle.layer_api.specs.Binary.{BinaryRules, BoxLaws, OneBit}
@@ -25,8 +25,8 @@ use Rattle.layer_api.specs.Part.{proposed}
 use Rattle.layer_api.specs.FedLaws.{some_if, say_later, shortest_at, proposed_has, proposed_stays, value_stays, one_value, heard_said, met}
 use Rattle.layer_api.specs.PartLaws.{part_has}
 use Rattle.layer_api.specs.Multi.{Scope, multi_play}
-use Rattle.multivalued.specs.Consensus.{init_slot, vect_slot, init, has_init, members, lesser, least, backed, valid_of, valid, is_of, is_other, backers, candidates, is_clear, vect, bit_at, bit, bench_of, is_step, bit_asked, bit_words, supported, verdict, decision_at, multivalued}
-use Rattle.multivalued.specs.Laws.Inside.{bit_stays, bit_nothing, bit_of, play, desk, bit_run, bit_fed, bit_calls, init_said, decided_still}
+use Rattle.multivalued.specs.Consensus.{init_slot, vect_slot, init, has_init, count_passing, lesser, least, backed_vect, valid_of, valid, is_of, is_other, vect_backers, candidates, is_clear, own_vect, bit_at, proposed_bit, bench_of, is_step, bit_asked, bit_words, supported, multi_verdict, decision_at, multivalued}
+use Rattle.multivalued.specs.Laws.Inside.{bit_stays, bit_nothing, bit_of, multi_box_play, multi_desk, bit_run, bit_fed, bit_calls, init_said, decided_still}
 
 -- ---- values
 
@@ -67,7 +67,7 @@ any_found test [] q = absurd cc
 any_found test (x ∷ xs) q = elim (or_cases (test x) (list_any test xs) q) [ inl a ↦ (x, a) | inr b ↦ any_found test xs b ]
 
 -- a verdict is none by 0, and by 1 the supported value
-pub verdict_is : (o : Option Bool) (s : Option (List ℕ)) (d : Option (List ℕ)) → verdict o s ≡ Some d
+pub verdict_is : (o : Option Bool) (s : Option (List ℕ)) (d : Option (List ℕ)) → multi_verdict o s ≡ Some d
     → ((o ≡ Some false) × (d ≡ None)) ⊎ ((v : List ℕ) × (o ≡ Some true) × (s ≡ Some v) × (d ≡ Some v))
 verdict_is None s d q = absurd cc
 verdict_is (Some false) s d q = inl (refl, cc)
@@ -83,54 +83,54 @@ mapped_in f true (Some y) d e = (y, refl, cc)
 -- ---- one replica
 
 -- the value that is read from a VECT
-abbrev pub value_in : List ℕ → Option (List ℕ)
-value_in [] = None
-value_in (b ∷ bs) = Some (drop 4 (b ∷ bs))
+abbrev pub value_in_vect : List ℕ → Option (List ℕ)
+value_in_vect [] = None
+value_in_vect (b ∷ bs) = Some (drop 4 (b ∷ bs))
 
 -- a backed VECT has its value and the proposals for it
-backed_is : (at : Scope) (h : List Word) (mask : ℕ) (v : List ℕ) (w : Option (List ℕ)) → backed at h mask v ≡ Some w
-    → (support_of at.numbers ≤ members at (λ k. has_member mask k && has_init at h v k)) × (w ≡ Some v)
+backed_is : (at : Scope) (h : List Word) (mask : ℕ) (v : List ℕ) (w : Option (List ℕ)) → backed_vect at h mask v ≡ Some w
+    → (support_of at.numbers ≤ count_passing at (λ k. has_member mask k && has_init at h v k)) × (w ≡ Some v)
 backed_is at h mask v w q =
-    let i = some_if (nat_le (support_of at.numbers) (members at (λ k. has_member mask k && has_init at h v k))) (Some v) w q in
+    let i = some_if (nat_le (support_of at.numbers) (count_passing at (λ k. has_member mask k && has_init at h v k))) (Some v) w q in
     (leb-true _ _ i.0, sym i.1)
 
 -- a valid VECT has the value that is read from it
-pub valid_reads : (at : Scope) (h : List Word) (o : Option (List ℕ)) (w : Option (List ℕ)) → valid_of at h o ≡ Some w → (x : List ℕ) × (o ≡ Some x) × (w ≡ value_in x)
+pub valid_reads : (at : Scope) (h : List Word) (o : Option (List ℕ)) (w : Option (List ℕ)) → valid_of at h o ≡ Some w → (x : List ℕ) × (o ≡ Some x) × (w ≡ value_in_vect x)
 valid_reads at h None w q = absurd cc
 valid_reads at h (Some []) w q = ([], refl, cc)
 valid_reads at h (Some (b ∷ bs)) w q = (b ∷ bs, refl, (backed_is at h (mask_of (b ∷ bs)) (drop 4 (b ∷ bs)) w q).1)
 
 -- and with a value the proposals for it
 pub valid_inits : (at : Scope) (h : List Word) (o : Option (List ℕ)) (v : List ℕ) → valid_of at h o ≡ Some (Some v)
-    → (mask : ℕ) × (support_of at.numbers ≤ members at (λ k. has_member mask k && has_init at h v k))
+    → (mask : ℕ) × (support_of at.numbers ≤ count_passing at (λ k. has_member mask k && has_init at h v k))
 valid_inits at h None v q = absurd cc
 valid_inits at h (Some []) v q = absurd cc
 valid_inits at h (Some (b ∷ bs)) v q =
     let x = backed_is at h (mask_of (b ∷ bs)) (drop 4 (b ∷ bs)) (Some v) q in
     let same : drop 4 (b ∷ bs) ≡ v = let e = x.1 in cc in
-    (mask_of (b ∷ bs), subst (λ (u : List ℕ). support_of at.numbers ≤ members at (λ k. has_member (mask_of (b ∷ bs)) k && has_init at h u k)) same x.0)
+    (mask_of (b ∷ bs), subst (λ (u : List ℕ). support_of at.numbers ≤ count_passing at (λ k. has_member (mask_of (b ∷ bs)) k && has_init at h u k)) same x.0)
 
 -- ---- a run
 
-module _ (b : BinaryRules) (laws : BoxLaws b) (one : OneBit b) (at : Scope) (is_correct : ℕ → Bool) (coins : ℕ → Slot → Bool) (xs : List (Step Word))
+module _ (b : BinaryRules) (laws : BoxLaws b) (one : OneBit b) (at : Scope) (is_correct : ℕ → Bool) (coins : ℕ → Slot → Bool) (xs : List (ReplicaStep Word))
     (enough : IsEnough at.numbers is_correct) (fed : IsFedRun (multi_play (multivalued b) at coins) is_correct xs) where
-  abbrev pub words : ℕ → List Word
-  words i = calls_of i xs
+  abbrev pub words_of_replica : ℕ → List Word
+  words_of_replica i = calls_of i xs
 
   -- what the binary instance of replica i decided in some words
   abbrev pub bit_decided : ℕ → List Word → Option Bool
-  bit_decided i w = b.decision (bench_of (desk b at coins i)) (bit_words at w)
+  bit_decided i w = b.decision (bench_of (multi_desk b at coins i)) (bit_words at w)
 
   -- part of the words of replica i: what it proposed in it and the values heard in it are what it proposed and heard, and a bit decided in it is the one that it decided
   pub record IsPast (i : ℕ) (g : List Word) : Type 0 where
-    pub met : Met (play b at coins) i g
-    pub asked : (v : List ℕ) → proposed g ≡ Some v → proposed (words i) ≡ Some v
-    pub value : (s : Slot) (v : List ℕ) → value_at g s ≡ Some v → value_at (words i) s ≡ Some v
-    pub bit : (x : Bool) → bit_decided i g ≡ Some x → bit_decided i (words i) ≡ Some x
+    pub met : Met (multi_box_play b at coins) i g
+    pub asked : (v : List ℕ) → proposed g ≡ Some v → proposed (words_of_replica i) ≡ Some v
+    pub value : (s : Slot) (v : List ℕ) → value_at g s ≡ Some v → value_at (words_of_replica i) s ≡ Some v
+    pub bit : (x : Bool) → bit_decided i g ≡ Some x → bit_decided i (words_of_replica i) ≡ Some x
 
   -- all its words are part of them, and a shorter part of a part is one
-  pub whole : (i : ℕ) → IsPast i (words i)
-  whole i = record { met = met (play b at coins) is_correct xs fed i; asked = λ v q. q; value = λ s v q. q; bit = λ x q. q }
+  pub whole : (i : ℕ) → IsPast i (words_of_replica i)
+  whole i = record { met = met (multi_box_play b at coins) is_correct xs fed i; asked = λ v q. q; value = λ s v q. q; bit = λ x q. q }
 
   pub less : (i : ℕ) (c : Word) (w : List Word) → IsPast i (c ∷ w) → IsPast i w
   less i c w p = record {
@@ -149,8 +149,8 @@ module _ (b : BinaryRules) (laws : BoxLaws b) (one : OneBit b) (at : Scope) (is_
   same_valid i j g h ci cj pg ph k w u q r =
       let x = valid_reads at g (value_at g (vect_slot at k)) w q in
       let y = valid_reads at h (value_at h (vect_slot at k)) u r in
-      let e = one_value (play b at coins) is_correct xs fed i j (vect_slot at k) x.0 y.0 ci cj (pg.value _ x.0 x.1) (ph.value _ y.0 y.1) in
-      x.2 ∙ (ap value_in e ∙ sym y.2)
+      let e = one_value (multi_box_play b at coins) is_correct xs fed i j (vect_slot at k) x.0 y.0 ci cj (pg.value _ x.0 x.1) (ph.value _ y.0 y.1) in
+      x.2 ∙ (ap value_in_vect e ∙ sym y.2)
 
   -- n - 2f valid VECTs have v, in part of what a correct replica has heard
   record IsBacked (v : List ℕ) : Type 0 where
@@ -158,7 +158,7 @@ module _ (b : BinaryRules) (laws : BoxLaws b) (one : OneBit b) (at : Scope) (is_
     prefix : List Word
     correct : is_correct who ≡ true
     past : IsPast who prefix
-    many : support_of at.numbers ≤ backers at prefix v
+    many : support_of at.numbers ≤ vect_backers at prefix v
 
   -- n - f VECTs are valid there, and each has v or is none
   record IsClear (v : List ℕ) : Type 0 where
@@ -166,8 +166,8 @@ module _ (b : BinaryRules) (laws : BoxLaws b) (one : OneBit b) (at : Scope) (is_
     prefix : List Word
     correct : is_correct who ≡ true
     past : IsPast who prefix
-    many : wait_of at.numbers ≤ members at (λ k. is_some (valid at prefix k))
-    no_other : members at (λ k. is_other v (valid at prefix k)) ≡ 0
+    many : wait_of at.numbers ≤ count_passing at (λ k. is_some (valid at prefix k))
+    no_other : count_passing at (λ k. is_other v (valid at prefix k)) ≡ 0
 
   -- a sender whose VECT has v in the one, and no other value than u in the other
   shared : (v u : List ℕ) (a : IsClear u) (d : IsBacked v) (k : ℕ) → (is_some (valid at a.prefix k) && not (is_other u (valid at a.prefix k))) ≡ true
@@ -193,23 +193,23 @@ module _ (b : BinaryRules) (laws : BoxLaws b) (one : OneBit b) (at : Scope) (is_
       shared v u a d m.member m.first m.second
 
   -- where 1 was proposed, some value is clear
-  cleared : (i : ℕ) → is_correct i ≡ true → bit at (words i) ≡ Some true → (u : List ℕ) × IsClear u
+  cleared : (i : ℕ) → is_correct i ≡ true → proposed_bit at (words_of_replica i) ≡ Some true → (u : List ℕ) × IsClear u
   cleared i ci q =
-      let t = shortest_at (IsPast i) (less i) (bit_at at) (words i) true (whole i) q in
-      let s = some_if (is_some (vect at t.0) && nat_le (wait_of at.numbers) (members at (λ k. is_some (valid at t.0 k)))) (list_any (is_clear at t.0) (candidates at t.0)) true t.2 in
-      let l = and_parts (is_some (vect at t.0)) _ s.0 in
+      let t = shortest_at (IsPast i) (less i) (bit_at at) (words_of_replica i) true (whole i) q in
+      let s = some_if (is_some (own_vect at t.0) && nat_le (wait_of at.numbers) (count_passing at (λ k. is_some (valid at t.0 k)))) (list_any (is_clear at t.0) (candidates at t.0)) true t.2 in
+      let l = and_parts (is_some (own_vect at t.0)) _ s.0 in
       let u = any_found (is_clear at t.0) (candidates at t.0) s.1 in
-      let n = and_parts (nat_le (support_of at.numbers) (backers at t.0 u.0)) _ u.1 in
+      let n = and_parts (nat_le (support_of at.numbers) (vect_backers at t.0 u.0)) _ u.1 in
       (u.0, record { who = i; prefix = t.0; correct = ci; past = t.1; many = leb-true _ _ l.1; no_other = eqb-true _ 0 n.1 })
 
   -- ---- the bit
 
   -- it is what the box decided in its run
-  pub inner_decided : (i : ℕ) (d : Bool) → bit_decided i (words i) ≡ Some d → b.decision (bench_of (desk b at coins i)) (calls_of i (bit_run b at coins xs)) ≡ Some d
-  inner_decided i d q = subst (λ (w : List Word). b.decision (bench_of (desk b at coins i)) w ≡ Some d) (sym (bit_calls b at coins i xs)) q
+  pub inner_decided : (i : ℕ) (d : Bool) → bit_decided i (words_of_replica i) ≡ Some d → b.decision (bench_of (multi_desk b at coins i)) (calls_of i (bit_run b at coins xs)) ≡ Some d
+  inner_decided i d q = subst (λ (w : List Word). b.decision (bench_of (multi_desk b at coins i)) w ≡ Some d) (sym (bit_calls b at coins i xs)) q
 
   -- the bits that two correct replicas decided are equal
-  same_bit : (i j : ℕ) (d e : Bool) → is_correct i ≡ true → is_correct j ≡ true → bit_decided i (words i) ≡ Some d → bit_decided j (words j) ≡ Some e → d ≡ e
+  same_bit : (i j : ℕ) (d e : Bool) → is_correct i ≡ true → is_correct j ≡ true → bit_decided i (words_of_replica i) ≡ Some d → bit_decided j (words_of_replica j) ≡ Some e → d ≡ e
   same_bit i j d e ci cj q r =
       one.agree at.numbers at.a at.attempt is_correct coins (bit_run b at coins xs) enough (bit_fed b at coins is_correct xs fed) i j d e ci cj
       (inner_decided i d q) (inner_decided j e r)
@@ -219,40 +219,40 @@ module _ (b : BinaryRules) (laws : BoxLaws b) (one : OneBit b) (at : Scope) (is_
   bit_byte_one false e = absurd (let z : bit_byte false ≡ bit_byte true = cc in omega (arith, z))
 
   -- a decision 1 of the binary instance has a clear value
-  one_clear : (i : ℕ) → is_correct i ≡ true → bit_decided i (words i) ≡ Some true → (u : List ℕ) × IsClear u
+  one_clear : (i : ℕ) → is_correct i ≡ true → bit_decided i (words_of_replica i) ≡ Some true → (u : List ℕ) × IsClear u
   one_clear i ci q =
       let k = one.valid at.numbers at.a at.attempt is_correct coins (bit_run b at coins xs) enough (bit_fed b at coins is_correct xs fed) i true ci (inner_decided i true q) in
-      let h = part_has (bit_asked at) is_step (bit_stays at) (bit_nothing at) (words k.0) (bit_byte true ∷ [])
+      let h = part_has (bit_asked at) is_step (bit_stays at) (bit_nothing at) (words_of_replica k.0) (bit_byte true ∷ [])
       (subst (λ (w : List Word). Has w (Ask (bit_byte true ∷ []))) (bit_calls b at coins k.0 xs) k.2) in
-      let d = bit_of at (words k.0) (bit_byte true ∷ []) h in
+      let d = bit_of at (words_of_replica k.0) (bit_byte true ∷ []) h in
       cleared k.0 k.1 (d.1 ∙ ap Some (bit_byte_one d.0 (sym d.2)))
 
   -- ---- agreement
 
   abbrev decided : ℕ → Option (Option (List ℕ))
-  decided i = (multivalued b).decision (desk b at coins i) (words i)
+  decided i = (multivalued b).decision (multi_desk b at coins i) (words_of_replica i)
 
   -- what is decided goes by the bit: none by 0, and by 1 a backed value
   data ByBit (i : ℕ) (d : Option (List ℕ)) : Type 0 where
-    Zero : bit_decided i (words i) ≡ Some false → d ≡ None → ByBit i d
-    One : (v : List ℕ) → bit_decided i (words i) ≡ Some true → IsBacked v → d ≡ Some v → ByBit i d
+    Zero : bit_decided i (words_of_replica i) ≡ Some false → d ≡ None → ByBit i d
+    One : (v : List ℕ) → bit_decided i (words_of_replica i) ≡ Some true → IsBacked v → d ≡ Some v → ByBit i d
 
   by_bit : (i : ℕ) (d : Option (List ℕ)) → is_correct i ≡ true → decided i ≡ Some d → ByBit i d
   by_bit i d ci q =
-      let t = shortest_at (IsPast i) (less i) (decision_at b (desk b at coins i)) (words i) d (whole i) q in
+      let t = shortest_at (IsPast i) (less i) (decision_at b (multi_desk b at coins i)) (words_of_replica i) d (whole i) q in
       elim (verdict_is (bit_decided i t.0) (supported at t.0) d t.2) [
         | inl x ↦ Zero (t.1.bit false x.0) x.1
         | inr x ↦
-            let many = leb-true _ _ (least_passes (λ v. nat_le (support_of at.numbers) (backers at t.0 v)) (candidates at t.0) x.0 x.2) in
+            let many = leb-true _ _ (least_passes (λ v. nat_le (support_of at.numbers) (vect_backers at t.0 v)) (candidates at t.0) x.0 x.2) in
             One x.0 (t.1.bit true x.1) (record { who = i; prefix = t.0; correct = ci; past = t.1; many = many }) x.3
       ]
 
-  none_by : (i : ℕ) → ByBit i None → bit_decided i (words i) ≡ Some false
+  none_by : (i : ℕ) → ByBit i None → bit_decided i (words_of_replica i) ≡ Some false
   none_by i (Zero p q) = p
   none_by i (One v p k q) = absurd cc
 
   -- none goes by 0
-  pub none_is_zero : (i : ℕ) → is_correct i ≡ true → decided i ≡ Some None → bit_decided i (words i) ≡ Some false
+  pub none_is_zero : (i : ℕ) → is_correct i ≡ true → decided i ≡ Some None → bit_decided i (words_of_replica i) ≡ Some false
   none_is_zero i ci q = none_by i (by_bit i None ci q)
 
   agree_by : (i j : ℕ) (d e : Option (List ℕ)) → is_correct i ≡ true → is_correct j ≡ true → ByBit i d → ByBit j e → d ≡ e
@@ -268,18 +268,18 @@ module _ (b : BinaryRules) (laws : BoxLaws b) (one : OneBit b) (at : Scope) (is_
 
   -- ---- validity
 
-  pub said_more : (k : ℕ) (c : Word) (w : List Word) (y : Say) → HasSay ((play b at coins).said k w) y → HasSay ((play b at coins).said k (c ∷ w)) y
-  said_more k c w y h = say_later ((multivalued b).says (desk b at coins k) w c) _ y h
+  pub said_more : (k : ℕ) (c : Word) (w : List Word) (y : Say) → HasSay ((multi_box_play b at coins).said k w) y → HasSay ((multi_box_play b at coins).said k (c ∷ w)) y
+  said_more k c w y h = say_later ((multivalued b).says (multi_desk b at coins k) w c) _ y h
 
   -- a correct replica whose INIT was heard with v proposed v
-  asked_there : (v : List ℕ) (d : IsBacked v) (mask k : ℕ) → (has_member mask k && has_init at d.prefix v k) ≡ true → is_correct k ≡ true → Has (words k) (Ask v)
+  asked_there : (v : List ℕ) (d : IsBacked v) (mask k : ℕ) → (has_member mask k && has_init at d.prefix v k) ≡ true → is_correct k ≡ true → Has (words_of_replica k) (Ask v)
   asked_there v d mask k p ck =
       let h = is_value_is v (init at d.prefix k) (and_parts (has_member mask k) (has_init at d.prefix v k) p).1 in
-      let s = heard_said (play b at coins) is_correct said_more xs fed d.who (init_slot at k) v (d.past.value (init_slot at k) v h) ck in
-      proposed_has (words k) v (init_said b at coins laws k (words k) v (whole k).met s)
+      let s = heard_said (multi_box_play b at coins) is_correct said_more xs fed d.who (init_slot at k) v (d.past.value (init_slot at k) v h) ck in
+      proposed_has (words_of_replica k) v (init_said b at coins laws k (words_of_replica k) v (whole k).met s)
 
   -- a backed value was proposed by a correct replica
-  backed_asked : (v : List ℕ) → IsBacked v → (k : ℕ) × (is_correct k ≡ true) × Has (words k) (Ask v)
+  backed_asked : (v : List ℕ) → IsBacked v → (k : ℕ) × (is_correct k ≡ true) × Has (words_of_replica k) (Ask v)
   backed_asked v d =
       let few = enough.session.enough in
       let many = enough.many in
@@ -291,17 +291,17 @@ module _ (b : BinaryRules) (laws : BoxLaws b) (one : OneBit b) (at : Scope) (is_
       let t = meet_two (λ k. has_member x.0 k && has_init at d.prefix v k) is_correct (replicas at.numbers.n) (omega (arith, few, many, y, z)) in
       (t.member, t.second, asked_there v d x.0 t.member t.first t.second)
 
-  valid_by : (i : ℕ) (v : List ℕ) → ByBit i (Some v) → (k : ℕ) × (is_correct k ≡ true) × Has (words k) (Ask v)
+  valid_by : (i : ℕ) (v : List ℕ) → ByBit i (Some v) → (k : ℕ) × (is_correct k ≡ true) × Has (words_of_replica k) (Ask v)
   valid_by i v (Zero p q) = absurd cc
   valid_by i v (One u p k q) = backed_asked v (let e : u ≡ v = cc in subst IsBacked e k)
 
-  pub valid_value : (i : ℕ) (v : List ℕ) → is_correct i ≡ true → decided i ≡ Some (Some v) → (k : ℕ) × (is_correct k ≡ true) × Has (words k) (Ask v)
+  pub valid_value : (i : ℕ) (v : List ℕ) → is_correct i ≡ true → decided i ≡ Some (Some v) → (k : ℕ) × (is_correct k ≡ true) × Has (words_of_replica k) (Ask v)
   valid_value i v ci q = valid_by i v (by_bit i (Some v) ci q)
 
   -- ---- the binary instance
 
   pub same_inside : (i j : ℕ) (x : Instance) (d e : Decision) → is_correct i ≡ true → is_correct j ≡ true
-      → (multivalued b).inside (desk b at coins i) (words i) x ≡ Some d → (multivalued b).inside (desk b at coins j) (words j) x ≡ Some e → d ≡ e
+      → (multivalued b).inside (multi_desk b at coins i) (words_of_replica i) x ≡ Some d → (multivalued b).inside (multi_desk b at coins j) (words_of_replica j) x ≡ Some e → d ≡ e
   same_inside i j (OfVector a) d e ci cj q r = absurd cc
   same_inside i j (OfValue a t) d e ci cj q r =
       let x = mapped_in value_decision (a == at.a && t == at.attempt) _ d q in

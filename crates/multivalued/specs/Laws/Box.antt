@@ -31,14 +31,15 @@ use Rattle.layer_api.specs.FedLaws.{some_if, say_append, shortest_at, newly_said
 use Rattle.layer_api.specs.PartLaws.{says_in_all}
 use Rattle.layer_api.specs.FreshLaws.{unsaid, has_said, fresh_append, fresh_other, fresh_newly, fresh_in}
 use Rattle.layer_api.specs.Multi.{Scope, Desk, MultiRules, is_multi_slot, MayMulti, AreMulti, IsMultiSaid, MultiLaws}
-use Rattle.multivalued.specs.Consensus.{init_slot, vect_slot, init, has_init, members, listed, common, told, vect_at, vect, valid, is_of, backers, candidates, bench_of, is_step, bit_asked, bit_words, supported, verdict, decision_at, decision, multivalued}
+use Rattle.ritas_base.specs.Places.{listed}
+use Rattle.multivalued.specs.Consensus.{init_slot, vect_slot, init, has_init, count_passing, common, vect_told, vect_now, own_vect, valid, is_of, vect_backers, candidates, bench_of, is_step, bit_asked, bit_words, supported, multi_verdict, decision_at, multi_decision, multivalued}
 use Rattle.multivalued.specs.Laws.Inside.{bit_stays, some_value, votes_said, init_said, vect_said, step_said, bits_met, decided_still, round_still}
 use Rattle.multivalued.specs.Laws.Agreement.{of_true, least_passes, verdict_is, valid_inits}
 
 -- ---- decisions
 
 -- that no value is goes by the bit 0, and a value by 1
-verdict_bit : (bit : Option Bool) (v : Option (List ℕ)) (o : Option (List ℕ)) → verdict bit v ≡ Some o → bit ≡ Some (is_some o)
+verdict_bit : (bit : Option Bool) (v : Option (List ℕ)) (o : Option (List ℕ)) → multi_verdict bit v ≡ Some o → bit ≡ Some (is_some o)
 verdict_bit None v o q = absurd cc
 verdict_bit (Some false) v o q = let e : None ≡ o = cc in ap (λ (x : Option (List ℕ)). Some (is_some x)) e
 verdict_bit (Some true) None o q = absurd cc
@@ -109,8 +110,8 @@ module _ (b : BinaryRules) (laws : BoxLaws b) (at : Desk) where
       (heard_met (MayMulti r at) h (init_slot scope k) v m (is_value_is v (init scope h k) q)).1.good
 
   -- what is told is a VECT
-  told_good : IsSession scope.numbers → (h : List Word) → AreMulti r at h → (o : Option (List ℕ)) → ((v : List ℕ) → o ≡ Some v → support_of scope.numbers ≤ members scope (has_init scope h v))
-      → Is (grammar.vect scope.numbers scope.root) (told scope h o)
+  told_good : IsSession scope.numbers → (h : List Word) → AreMulti r at h → (o : Option (List ℕ)) → ((v : List ℕ) → o ≡ Some v → support_of scope.numbers ≤ count_passing scope (has_init scope h v))
+      → Is (grammar.vect scope.numbers scope.root) (vect_told scope h o)
   told_good session h m None many = vect_none scope.numbers scope.root
   told_good session h m (Some v) many =
       let test = has_init scope h v in
@@ -122,7 +123,7 @@ module _ (b : BinaryRules) (laws : BoxLaws b) (at : Desk) where
       let below : mask < 2 ^ scope.numbers.n = subst (λ (k : ℕ). mask < 2 ^ k) size (mask_l-lt (map test (replicas scope.numbers.n))) in
       let under : scope.numbers.n < 32 = omega (arith, most) in
       let more : 2 ^ scope.numbers.n < 2 ^ 32 = pow-lt under in
-      let ones : count_ones mask ≡ members scope test = ones-mask_l test (replicas scope.numbers.n) in
+      let ones : count_ones mask ≡ count_passing scope test = ones-mask_l test (replicas scope.numbers.n) in
       let support : support_of scope.numbers ≤ count_ones mask = omega (arith, l, ones) in
       let places : is_places scope.numbers.n (support_of scope.numbers) mask ≡ true =
       and_from (nat_lt mask (2 ^ scope.numbers.n)) _ (lt-ltb mask (2 ^ scope.numbers.n) below) (le-leb (support_of scope.numbers) (count_ones mask) support) in
@@ -130,12 +131,12 @@ module _ (b : BinaryRules) (laws : BoxLaws b) (at : Desk) where
       vect_written scope.numbers scope.root mask v (omega (arith, below, more)) places (init_good h v m k.0 k.1)
 
   -- and so is what is said
-  vect_good : IsSession scope.numbers → (w : List Word) (v : List ℕ) → AreMulti r at w → vect scope w ≡ Some v → Is (grammar.vect scope.numbers scope.root) v
+  vect_good : IsSession scope.numbers → (w : List Word) (v : List ℕ) → AreMulti r at w → own_vect scope w ≡ Some v → Is (grammar.vect scope.numbers scope.root) v
   vect_good session w v m q =
-      let t = shortest_at (AreMulti r at) (λ c h g. g.1) (vect_at scope) w v m q in
-      let i = some_if (is_some (proposed t.0) && nat_le (wait_of scope.numbers) (members scope (λ k. is_some (init scope t.0 k)))) (told scope t.0 (common scope t.0)) v t.2 in
+      let t = shortest_at (AreMulti r at) (λ c h g. g.1) (vect_now scope) w v m q in
+      let i = some_if (is_some (proposed t.0) && nat_le (wait_of scope.numbers) (count_passing scope (λ k. is_some (init scope t.0 k)))) (vect_told scope t.0 (common scope t.0)) v t.2 in
       subst (λ (x : List ℕ). Is (grammar.vect scope.numbers scope.root) x) i.1
-      (told_good session t.0 t.1 (common scope t.0) (λ u e. leb-true _ _ (least_passes (λ x. nat_le (support_of scope.numbers) (members scope (has_init scope t.0 x))) (listed (init scope t.0) (replicas scope.numbers.n)) u e)))
+      (told_good session t.0 t.1 (common scope t.0) (λ u e. leb-true _ _ (least_passes (λ x. nat_le (support_of scope.numbers) (count_passing scope (has_init scope t.0 x))) (listed (init scope t.0) (replicas scope.numbers.n)) u e)))
 
   -- ---- what is said, and where
 
@@ -153,7 +154,7 @@ module _ (b : BinaryRules) (laws : BoxLaws b) (at : Desk) where
   init_unsaid : (w : List Word) → AreMulti r at w → proposed w ≡ None → is_said (all_said (r.says at) w) (init_slot scope at.me) ≡ false
   init_unsaid w m none = unsaid (all_said (r.says at) w) (init_slot scope at.me) (λ v h. none-some v (sym none ∙ init_said b scope coins laws at.me w v m h))
 
-  vect_unsaid : (w : List Word) → AreMulti r at w → vect scope w ≡ None → is_said (all_said (r.says at) w) (vect_slot scope at.me) ≡ false
+  vect_unsaid : (w : List Word) → AreMulti r at w → own_vect scope w ≡ None → is_said (all_said (r.says at) w) (vect_slot scope at.me) ≡ false
   vect_unsaid w m none = unsaid (all_said (r.says at) w) (vect_slot scope at.me) (λ v h. none-some v (sym none ∙ vect_said b scope coins laws at.me w v m h))
 
   -- what is newly said at a slot is apart from what is never said there
@@ -166,10 +167,10 @@ module _ (b : BinaryRules) (laws : BoxLaws b) (at : Desk) where
   vect_apart w c m v h = let e = inner_class w c (record { slot = vect_slot scope at.me; value = v }) m h in omega (arith, e)
 
   init_apart : (w : List Word) (c : Word) → AreMulti r at (c ∷ w) → (v : List ℕ)
-      → HasSay (newly (vect_slot scope at.me) (vect scope w) (vect scope (c ∷ w)) ++ says_in bit_says (new_words w c) (bit_words scope w)) (record { slot = init_slot scope at.me; value = v })
+      → HasSay (newly (vect_slot scope at.me) (own_vect scope w) (own_vect scope (c ∷ w)) ++ says_in bit_says (new_words w c) (bit_words scope w)) (record { slot = init_slot scope at.me; value = v })
       → ⊥
   init_apart w c m v h =
-      elim (say_append (newly (vect_slot scope at.me) (vect scope w) (vect scope (c ∷ w))) _ _ h) [
+      elim (say_append (newly (vect_slot scope at.me) (own_vect scope w) (own_vect scope (c ∷ w))) _ _ h) [
         | inl x ↦ let e = ap (λ (q : Slot). q.class) (newly_said _ _ _ (init_slot scope at.me) v x).0 in omega (arith, e)
         | inr x ↦ let e = inner_class w c (record { slot = init_slot scope at.me; value = v }) m x in omega (arith, e)
       ]
@@ -188,8 +189,8 @@ module _ (b : BinaryRules) (laws : BoxLaws b) (at : Desk) where
   ))
 
   vect_fresh : IsSession scope.numbers → (w : List Word) (c : Word) → AreMulti r at (c ∷ w)
-      → AreFresh (IsMultiSaid at) (all_said (r.says at) w) (newly (vect_slot scope at.me) (vect scope w) (vect scope (c ∷ w)))
-  vect_fresh session w c m = fresh_newly (IsMultiSaid at) (all_said (r.says at) w) (vect_slot scope at.me) (vect scope w) (vect scope (c ∷ w)) (λ v none now. (
+      → AreFresh (IsMultiSaid at) (all_said (r.says at) w) (newly (vect_slot scope at.me) (own_vect scope w) (own_vect scope (c ∷ w)))
+  vect_fresh session w c m = fresh_newly (IsMultiSaid at) (all_said (r.says at) w) (vect_slot scope at.me) (own_vect scope w) (own_vect scope (c ∷ w)) (λ v none now. (
     record {
       slot = own_slot scope 4 at.me refl refl refl;
       origin = refl;
@@ -225,11 +226,11 @@ module _ (b : BinaryRules) (laws : BoxLaws b) (at : Desk) where
   pub says_new : IsSession scope.numbers → (c : Word) (w : List Word) → AreMulti r at (c ∷ w) → AreFresh (IsMultiSaid at) (all_said (r.says at) w) (r.says at w c)
   says_new session c w m =
       let i = newly (init_slot scope at.me) (proposed w) (proposed (c ∷ w)) in
-      let v = newly (vect_slot scope at.me) (vect scope w) (vect scope (c ∷ w)) in
+      let v = newly (vect_slot scope at.me) (own_vect scope w) (own_vect scope (c ∷ w)) in
       let s = says_in bit_says (new_words w c) (bit_words scope w) in
       fresh_append (IsMultiSaid at) (all_said (r.says at) w) i (v ++ s) (init_fresh w c m)
       (fresh_append (IsMultiSaid at) (all_said (r.says at) w) v s (vect_fresh session w c m) (inner_fresh w c m)
-      (newly_apart (vect_slot scope at.me) (vect scope w) (vect scope (c ∷ w)) s (vect_apart w c m)))
+      (newly_apart (vect_slot scope at.me) (own_vect scope w) (own_vect scope (c ∷ w)) s (vect_apart w c m)))
       (newly_apart (init_slot scope at.me) (proposed w) (proposed (c ∷ w)) (v ++ s) (init_apart w c m))
 
   -- ---- what is open
@@ -260,12 +261,12 @@ module _ (b : BinaryRules) (laws : BoxLaws b) (at : Desk) where
   -- ---- the decision
 
   pub decision_stays : (c : Word) (w : List Word) (d : Option (List ℕ)) → r.decision at w ≡ Some d → r.decision at (c ∷ w) ≡ Some d
-  decision_stays c w d q = option_or_older (decision b at w) (decision_at b at (c ∷ w)) d q
+  decision_stays c w d q = option_or_older (multi_decision b at w) (decision_at b at (c ∷ w)) d q
 
   pub inside_stays : (c : Word) (w : List Word) (x : Instance) (d : Decision) → AreMulti r at (c ∷ w) → r.inside at w x ≡ Some d → r.inside at (c ∷ w) x ≡ Some d
   inside_stays c w (OfVector a) d m q = absurd cc
   inside_stays c w (OfValue a t) d m q =
-      if_stays value_decision (a == scope.a && t == scope.attempt) (decision b at w) (decision b at (c ∷ w)) d (λ x e. decision_stays c w x e) q
+      if_stays value_decision (a == scope.a && t == scope.attempt) (multi_decision b at w) (multi_decision b at (c ∷ w)) d (λ x e. decision_stays c w x e) q
   inside_stays c w (OfBit a t) d m q =
       if_stays Bit (a == scope.a && t == scope.attempt) (b.decision (bench_of at) (bit_words scope w)) (b.decision (bench_of at) (bit_words scope (c ∷ w))) d
       (λ x e. decided_still b scope coins laws at.me c w m x e) q
@@ -276,31 +277,31 @@ module _ (b : BinaryRules) (laws : BoxLaws b) (at : Desk) where
     bit : (x : Bool) → b.decision (bench_of at) (bit_words scope h) ≡ Some x → b.decision (bench_of at) (bit_words scope w) ≡ Some x
 
   -- it is decided by the bit
-  bit_by : (w : List Word) (o : Option (List ℕ)) → AreMulti r at w → decision b at w ≡ Some o → b.decision (bench_of at) (bit_words scope w) ≡ Some (is_some o)
+  bit_by : (w : List Word) (o : Option (List ℕ)) → AreMulti r at w → multi_decision b at w ≡ Some o → b.decision (bench_of at) (bit_words scope w) ≡ Some (is_some o)
   bit_by w o m q =
       let t = shortest_at (IsBefore w)
       (λ c h g. record { met = g.met.1; bit = λ x e. g.bit x (decided_still b scope coins laws at.me c h g.met x e) })
       (decision_at b at) w o (record { met = m; bit = λ x e. e }) q in
       t.1.bit (is_some o) (verdict_bit (b.decision (bench_of at) (bit_words scope t.0)) (supported scope t.0) o t.2)
 
-  pub inside_own : (w : List Word) → r.inside at w (OfValue scope.a scope.attempt) ≡ option_map value_decision (decision b at w)
-  inside_own w = ap (λ (k : Bool). if k then option_map value_decision (decision b at w) else None) (is_own scope)
+  pub inside_own : (w : List Word) → r.inside at w (OfValue scope.a scope.attempt) ≡ option_map value_decision (multi_decision b at w)
+  inside_own w = ap (λ (k : Bool). if k then option_map value_decision (multi_decision b at w) else None) (is_own scope)
 
   pub inside_bit : (w : List Word) (a t : ℕ) → AreMulti r at w → GoesByBit (r.inside at w) a t
   inside_bit w a t m o q = go (a == scope.a && t == scope.attempt) q
     where
-      go : (k : Bool) → (if k then option_map value_decision (decision b at w) else None) ≡ Some (value_decision o)
+      go : (k : Bool) → (if k then option_map value_decision (multi_decision b at w) else None) ≡ Some (value_decision o)
           → (if k then option_map Bit (b.decision (bench_of at) (bit_words scope w)) else None) ≡ Some (Bit (is_some o))
       go false e = absurd cc
       go true e =
-          let x = decided_value (decision b at w) (value_decision o) e in
+          let x = decided_value (multi_decision b at w) (value_decision o) e in
           ap (option_map Bit) (bit_by w o m (x.1 ∙ ap Some (sym (same_value o x.0 x.2))))
 
   -- a value that enough valid VECTs have is of class 3
   supported_good : IsSession scope.numbers → (h : List Word) (v : List ℕ) → AreMulti r at h → supported scope h ≡ Some v → Is (class3 scope.numbers scope.root) v
   supported_good session h v m q =
       let enough = session.enough in
-      let l = leb-true _ _ (least_passes (λ x. nat_le (support_of scope.numbers) (backers scope h x)) (candidates scope h) v q) in
+      let l = leb-true _ _ (least_passes (λ x. nat_le (support_of scope.numbers) (vect_backers scope h x)) (candidates scope h) v q) in
       let k = some_member (λ k. is_of v (valid scope h k)) (replicas scope.numbers.n) (omega (arith, l, enough)) in
       let x = valid_inits scope h (value_at h (vect_slot scope k.0)) v (of_true v _ k.1) in
       let y = x.1 in
@@ -329,7 +330,7 @@ multi_laws_law b laws = record {
   says_new = λ at c w session m. says_new b laws at session c w m;
   opens_stays = λ at c w s m q. opens_stays b laws at c w s m q;
   opens_first = λ at s. none_open (is_multi_slot at.scope s) (is_step s);
-  decision_first = λ at. ap (λ (o : Option Bool). verdict o (supported at.scope [])) (laws.decision_first (bench_of at));
+  decision_first = λ at. ap (λ (o : Option Bool). multi_verdict o (supported at.scope [])) (laws.decision_first (bench_of at));
   decision_stays = λ at c w d m q. decision_stays b laws at c w d q;
   decision_good = λ at w v session m q. decision_good b laws at session w v m q;
   inside_own = λ at w. inside_own b laws at w;

@@ -13,7 +13,7 @@ use Rattle.ritas_base.specs.HistoryLaws.{is_value_is, is_value_at}
 use Rattle.ritas_base.specs.Members.{has_member}
 use Rattle.ritas_base.specs.Quorums.{count_no, count_none, count_more, count_meet, meet_two}
 use Rattle.frame_codec.specs.Values.{vect_bytes}
-use Rattle.layer_api.specs.Runs.{Step, calls_of, Has, IsEnough}
+use Rattle.layer_api.specs.Runs.{ReplicaStep, calls_of, Has, IsEnough}
 use Rattle.layer_api.specs.Words.{Word, Ask, value_at, bit_byte}
 use Rattle.layer_api.specs.Binary.{BinaryRules, BoxLaws, OneBit}
 use Rattle.layer_api.specs.Part.{proposed}
@@ -21,9 +21,11 @@ use Rattle.layer_api.specs.Fed.{Met, IsFedRun, ProposeOne}
 use Rattle.layer_api.specs.FedLaws.{some_if, shortest_at, proposed_has, heard_said}
 use Rattle.layer_api.specs.PartLaws.{part_has}
 use Rattle.layer_api.specs.Multi.{Scope, multi_play}
-use Rattle.multivalued.specs.Consensus.{push, listed, lesser, least, init_slot, vect_slot, init, has_init, members, common, told, vect_at, vect, valid, valued, is_of, is_other, backers, candidates, is_clear, bit_at, bit, is_step, bit_asked, multivalued}
-use Rattle.multivalued.specs.Laws.Inside.{bit_stays, bit_nothing, bit_of, some_value, play, desk, bit_run, bit_fed, bit_calls, init_said, vect_said}
-use Rattle.multivalued.specs.Laws.Agreement.{IsPast, whole, less, said_more, least_passes, valid_reads, valid_inits, value_in, none_is_zero, inner_decided, bit_decided, size}
+use Rattle.ritas_base.specs.Places.{push, listed}
+use Rattle.std.specs.Option.{option_flatten}
+use Rattle.multivalued.specs.Consensus.{lesser, least, init_slot, vect_slot, init, has_init, count_passing, common, vect_told, vect_now, own_vect, valid, is_of, is_other, vect_backers, candidates, is_clear, bit_at, proposed_bit, is_step, bit_asked, multivalued}
+use Rattle.multivalued.specs.Laws.Inside.{bit_stays, bit_nothing, bit_of, some_value, multi_box_play, multi_desk, bit_run, bit_fed, bit_calls, init_said, vect_said}
+use Rattle.multivalued.specs.Laws.Agreement.{IsPast, whole, less, said_more, least_passes, valid_reads, valid_inits, value_in_vect, none_is_zero, inner_decided, bit_decided, size}
 
 -- ---- values that are there
 
@@ -56,18 +58,18 @@ any_least test (x ∷ xs) e = go (test x) e (λ h. any_least test xs h)
 
 -- ---- a run
 
-module _ (b : BinaryRules) (laws : BoxLaws b) (one : OneBit b) (at : Scope) (is_correct : ℕ → Bool) (coins : ℕ → Slot → Bool) (xs : List (Step Word))
+module _ (b : BinaryRules) (laws : BoxLaws b) (one : OneBit b) (at : Scope) (is_correct : ℕ → Bool) (coins : ℕ → Slot → Bool) (xs : List (ReplicaStep Word))
     (enough : IsEnough at.numbers is_correct) (fed : IsFedRun (multi_play (multivalued b) at coins) is_correct xs) (alone : ProposeOne is_correct xs) where
   abbrev Past : ℕ → List Word → Type 0
   Past i g = IsPast b laws one at is_correct coins xs enough fed i g
 
-  abbrev met_all : (i : ℕ) → Met (play b at coins) i (calls_of i xs)
+  abbrev met_all : (i : ℕ) → Met (multi_box_play b at coins) i (calls_of i xs)
   met_all i = (whole b laws one at is_correct coins xs enough fed i).met
 
   -- what was heard from a correct replica it proposed
   init_asked : (i k : ℕ) (g : List Word) (u : List ℕ) → Past i g → is_correct k ≡ true → init at g k ≡ Some u → Has (calls_of k xs) (Ask u)
   init_asked i k g u past ck h =
-      let s = heard_said (play b at coins) is_correct (said_more b laws one at is_correct coins xs enough fed) xs fed i (init_slot at k) u
+      let s = heard_said (multi_box_play b at coins) is_correct (said_more b laws one at is_correct coins xs enough fed) xs fed i (init_slot at k) u
       (past.value (init_slot at k) u h) ck in
       proposed_has (calls_of k xs) u (init_said b at coins laws k (calls_of k xs) u (met_all k) s)
 
@@ -79,7 +81,7 @@ module _ (b : BinaryRules) (laws : BoxLaws b) (one : OneBit b) (at : Scope) (is_
 
     -- no other value has support
     supported_is : (i : ℕ) (g : List Word) (u : List ℕ) (test : ℕ → Bool) → Past i g → ((k : ℕ) → test k ≡ true → has_init at g u k ≡ true)
-        → support_of at.numbers ≤ members at test → u ≡ v
+        → support_of at.numbers ≤ count_passing at test → u ≡ v
     supported_is i g u test past narrow l =
         let few = enough.session.enough in
         let many = enough.many in
@@ -88,7 +90,7 @@ module _ (b : BinaryRules) (laws : BoxLaws b) (one : OneBit b) (at : Scope) (is_
         init_is i m.member g u past m.second (is_value_is u (init at g m.member) (narrow m.member m.first))
 
     -- of n - f that are there, so many are of correct replicas
-    correct_part : (test : ℕ → Bool) → wait_of at.numbers ≤ members at test → support_of at.numbers ≤ members at (λ k. test k && is_correct k)
+    correct_part : (test : ℕ → Bool) → wait_of at.numbers ≤ count_passing at test → support_of at.numbers ≤ count_passing at (λ k. test k && is_correct k)
     correct_part test l =
         let few = enough.session.enough in
         let many = enough.many in
@@ -104,14 +106,14 @@ module _ (b : BinaryRules) (laws : BoxLaws b) (one : OneBit b) (at : Scope) (is_
         let u = some_value (init at g k) p.0 in
         is_value_at v (init at g k) (u.1 ∙ ap Some (init_is i k g u.0 past p.1 u.1))
 
-    common_is : (i : ℕ) (g : List Word) → Past i g → wait_of at.numbers ≤ members at (λ k. is_some (init at g k)) → common at g ≡ Some v
+    common_is : (i : ℕ) (g : List Word) → Past i g → wait_of at.numbers ≤ count_passing at (λ k. is_some (init at g k)) → common at g ≡ Some v
     common_is i g past l =
         let few = enough.session.enough in
         let part = correct_part (λ k. is_some (init at g k)) l in
         let more = count_more (λ k. is_some (init at g k) && is_correct k) (has_init at g v) (λ k t. init_there i k g past t) (replicas at.numbers.n) in
-        let have : support_of at.numbers ≤ members at (has_init at g v) = omega (arith, part, more) in
-        let test : List ℕ → Bool = λ u. nat_le (support_of at.numbers) (members at (has_init at g u)) in
-        let passes : test v ≡ true = le-leb (support_of at.numbers) (members at (has_init at g v)) have in
+        let have : support_of at.numbers ≤ count_passing at (has_init at g v) = omega (arith, part, more) in
+        let test : List ℕ → Bool = λ u. nat_le (support_of at.numbers) (count_passing at (has_init at g u)) in
+        let passes : test v ≡ true = le-leb (support_of at.numbers) (count_passing at (has_init at g v)) have in
         let found = any_least test (listed (init at g) (replicas at.numbers.n))
         (any_listed test (init at g) v (replicas at.numbers.n) (omega (arith, have, few)) passes) in
         let p = leb-true _ _ (least_passes test (listed (init at g) (replicas at.numbers.n)) found.0 found.1) in
@@ -121,17 +123,17 @@ module _ (b : BinaryRules) (laws : BoxLaws b) (one : OneBit b) (at : Scope) (is_
     abbrev HasValue : List ℕ → Type 0
     HasValue x = (mask : ℕ) × (x ≡ vect_bytes mask v)
 
-    vect_has : (k : ℕ) (x : List ℕ) → is_correct k ≡ true → vect at (calls_of k xs) ≡ Some x → HasValue x
+    vect_has : (k : ℕ) (x : List ℕ) → is_correct k ≡ true → own_vect at (calls_of k xs) ≡ Some x → HasValue x
     vect_has k x ck q =
-        let t = shortest_at (Past k) (less b laws one at is_correct coins xs enough fed k) (vect_at at) (calls_of k xs) x
+        let t = shortest_at (Past k) (less b laws one at is_correct coins xs enough fed k) (vect_now at) (calls_of k xs) x
         (whole b laws one at is_correct coins xs enough fed k) q in
-        let s = some_if (is_some (proposed t.0) && nat_le (wait_of at.numbers) (members at (λ j. is_some (init at t.0 j)))) (told at t.0 (common at t.0)) x t.2 in
+        let s = some_if (is_some (proposed t.0) && nat_le (wait_of at.numbers) (count_passing at (λ j. is_some (init at t.0 j)))) (vect_told at t.0 (common at t.0)) x t.2 in
         let l = leb-true _ _ (and_parts (is_some (proposed t.0)) _ s.0).1 in
         let c = common_is k t.0 t.1 l in
-        (_, sym s.1 ∙ ap (told at t.0) c)
+        (_, sym s.1 ∙ ap (vect_told at t.0) c)
 
-    value_has : (x : List ℕ) → HasValue x → value_in x ≡ Some v
-    value_has x h = subst (λ (y : List ℕ). value_in y ≡ Some v) (sym h.1) refl
+    value_has : (x : List ℕ) → HasValue x → value_in_vect x ≡ Some v
+    value_has x h = subst (λ (y : List ℕ). value_in_vect y ≡ Some v) (sym h.1) refl
 
     -- so where it is valid it backs it
     valid_has : (i k : ℕ) (g : List Word) → Past i g → (is_some (valid at g k) && is_correct k) ≡ true → is_of v (valid at g k) ≡ true
@@ -139,7 +141,7 @@ module _ (b : BinaryRules) (laws : BoxLaws b) (one : OneBit b) (at : Scope) (is_
         let p = and_parts (is_some (valid at g k)) (is_correct k) t in
         let w = some_value (valid at g k) p.0 in
         let x = valid_reads at g (value_at g (vect_slot at k)) w.0 w.1 in
-        let s = heard_said (play b at coins) is_correct (said_more b laws one at is_correct coins xs enough fed) xs fed i (vect_slot at k) x.0
+        let s = heard_said (multi_box_play b at coins) is_correct (said_more b laws one at is_correct coins xs enough fed) xs fed i (vect_slot at k) x.0
         (past.value (vect_slot at k) x.0 x.1) p.1 in
         let q = vect_said b at coins laws k (calls_of k xs) x.0 (met_all k) s in
         let e = value_has x.0 (vect_has k x.0 p.1 q) in
@@ -159,44 +161,44 @@ module _ (b : BinaryRules) (laws : BoxLaws b) (one : OneBit b) (at : Scope) (is_
             both_ways (not (bytes_eq u v)) (ap not ((bytes_eq-Decides u v).1 same)) t
 
     -- so it is clear
-    clear_is : (i : ℕ) (g : List Word) → Past i g → wait_of at.numbers ≤ members at (λ k. is_some (valid at g k)) → list_any (is_clear at g) (candidates at g) ≡ true
+    clear_is : (i : ℕ) (g : List Word) → Past i g → wait_of at.numbers ≤ count_passing at (λ k. is_some (valid at g k)) → list_any (is_clear at g) (candidates at g) ≡ true
     clear_is i g past l =
         let few = enough.session.enough in
         let part = correct_part (λ k. is_some (valid at g k)) l in
         let more = count_more (λ k. is_some (valid at g k) && is_correct k) (λ k. is_of v (valid at g k)) (λ k t. valid_has i k g past t) (replicas at.numbers.n) in
-        let have : support_of at.numbers ≤ backers at g v = omega (arith, part, more) in
+        let have : support_of at.numbers ≤ vect_backers at g v = omega (arith, part, more) in
         let none = count_none (λ k. is_other v (valid at g k)) (replicas at.numbers.n) (λ k t. none_other i k g past t) in
         let clear : is_clear at g v ≡ true =
-        and_from (nat_le (support_of at.numbers) (backers at g v)) _ (le-leb (support_of at.numbers) (backers at g v) have) (eq-eqb _ 0 none) in
-        let there = count_more (λ k. is_of v (valid at g k)) (λ k. is_value v (valued (valid at g k))) (λ k t. of_valued (valid at g k) t) (replicas at.numbers.n) in
-        any_listed (is_clear at g) (λ k. valued (valid at g k)) v (replicas at.numbers.n) (omega (arith, have, there, few)) clear
+        and_from (nat_le (support_of at.numbers) (vect_backers at g v)) _ (le-leb (support_of at.numbers) (vect_backers at g v) have) (eq-eqb _ 0 none) in
+        let there = count_more (λ k. is_of v (valid at g k)) (λ k. is_value v (option_flatten (valid at g k))) (λ k t. of_valued (valid at g k) t) (replicas at.numbers.n) in
+        any_listed (is_clear at g) (λ k. option_flatten (valid at g k)) v (replicas at.numbers.n) (omega (arith, have, there, few)) clear
       where
-        of_valued : (o : Option (Option (List ℕ))) → is_of v o ≡ true → is_value v (valued o) ≡ true
+        of_valued : (o : Option (Option (List ℕ))) → is_of v o ≡ true → is_value v (option_flatten o) ≡ true
         of_valued None t = absurd cc
         of_valued (Some o) t = t
 
   -- ---- the bit
 
   -- a correct replica that proposed a bit proposed a value
-  bit_proposed : (k : ℕ) (d : Bool) → bit at (calls_of k xs) ≡ Some d → (v : List ℕ) × (proposed (calls_of k xs) ≡ Some v)
+  bit_proposed : (k : ℕ) (d : Bool) → proposed_bit at (calls_of k xs) ≡ Some d → (v : List ℕ) × (proposed (calls_of k xs) ≡ Some v)
   bit_proposed k d q =
       let t = shortest_at (Past k) (less b laws one at is_correct coins xs enough fed k) (bit_at at) (calls_of k xs) d
       (whole b laws one at is_correct coins xs enough fed k) q in
-      let s = some_if (is_some (vect at t.0) && nat_le (wait_of at.numbers) (members at (λ j. is_some (valid at t.0 j)))) (list_any (is_clear at t.0) (candidates at t.0)) d t.2 in
-      let x = some_value (vect at t.0) (and_parts (is_some (vect at t.0)) _ s.0).0 in
-      let y = shortest_at (Past k) (less b laws one at is_correct coins xs enough fed k) (vect_at at) t.0 x.0 t.1 x.1 in
-      let z = some_if (is_some (proposed y.0) && nat_le (wait_of at.numbers) (members at (λ j. is_some (init at y.0 j)))) (told at y.0 (common at y.0)) x.0 y.2 in
+      let s = some_if (is_some (own_vect at t.0) && nat_le (wait_of at.numbers) (count_passing at (λ j. is_some (valid at t.0 j)))) (list_any (is_clear at t.0) (candidates at t.0)) d t.2 in
+      let x = some_value (own_vect at t.0) (and_parts (is_some (own_vect at t.0)) _ s.0).0 in
+      let y = shortest_at (Past k) (less b laws one at is_correct coins xs enough fed k) (vect_now at) t.0 x.0 t.1 x.1 in
+      let z = some_if (is_some (proposed y.0) && nat_le (wait_of at.numbers) (count_passing at (λ j. is_some (init at y.0 j)))) (vect_told at y.0 (common at y.0)) x.0 y.2 in
       let u = some_value (proposed y.0) (and_parts (is_some (proposed y.0)) _ z.0).0 in
       (u.0, y.1.asked u.0 u.1)
 
   -- it is never 0
-  bit_is : (k : ℕ) → is_correct k ≡ true → bit at (calls_of k xs) ≡ Some false → ⊥
+  bit_is : (k : ℕ) → is_correct k ≡ true → proposed_bit at (calls_of k xs) ≡ Some false → ⊥
   bit_is k ck q =
       let v = bit_proposed k false q in
       let t = shortest_at (Past k) (less b laws one at is_correct coins xs enough fed k) (bit_at at) (calls_of k xs) false
       (whole b laws one at is_correct coins xs enough fed k) q in
-      let s = some_if (is_some (vect at t.0) && nat_le (wait_of at.numbers) (members at (λ j. is_some (valid at t.0 j)))) (list_any (is_clear at t.0) (candidates at t.0)) false t.2 in
-      let l = leb-true _ _ (and_parts (is_some (vect at t.0)) _ s.0).1 in
+      let s = some_if (is_some (own_vect at t.0) && nat_le (wait_of at.numbers) (count_passing at (λ j. is_some (valid at t.0 j)))) (list_any (is_clear at t.0) (candidates at t.0)) false t.2 in
+      let l = leb-true _ _ (and_parts (is_some (own_vect at t.0)) _ s.0).1 in
       both_ways (list_any (is_clear at t.0) (candidates at t.0)) s.1 (clear_is v.0 k ck (proposed_has (calls_of k xs) v.0 v.1) k t.0 t.1 l)
 
   bit_byte_zero : (d : Bool) → bit_byte d ∷ [] ≡ bit_byte false ∷ [] → d ≡ false
@@ -214,5 +216,5 @@ module _ (b : BinaryRules) (laws : BoxLaws b) (one : OneBit b) (at : Scope) (is_
       bit_is k.0 k.1 (d.1 ∙ ap Some (bit_byte_zero d.0 (sym d.2)))
 
   -- and a value is what is decided
-  pub decides_value : (i : ℕ) → is_correct i ≡ true → (multivalued b).decision (desk b at coins i) (calls_of i xs) ≡ Some None → ⊥
+  pub decides_value : (i : ℕ) → is_correct i ≡ true → (multivalued b).decision (multi_desk b at coins i) (calls_of i xs) ≡ Some None → ⊥
   decides_value i ci q = zero_not i ci (none_is_zero b laws one at is_correct coins xs enough fed i ci q)

@@ -15,7 +15,7 @@ use Rattle.layer_api.specs.FreshLaws.{fresh_other}
 use Rattle.layer_api.specs.OneInstance.{three_to_five, HasOneInstance, IsInstanceSaid, served, instance_word_laws}
 use Rattle.layer_api.specs.Words.{Word, Ask, Hear}
 use Rattle.layer_api.specs.Multi.{MultiRules, is_multi_slot, AreMulti, IsMultiSaid, MultiLaws}
-use Rattle.multivalued.specs.Root.{desk_of, ending, decided_in, multi_root}
+use Rattle.multivalued.specs.Root.{multi_root_desk, multi_ending, multi_decided_in, multi_root}
 use Rattle.multivalued.specs.Laws.RootLog.{may_word}
 
 -- ---- slots of the root service
@@ -26,7 +26,7 @@ class_is c (inl e) = (ap (within 1 5) e, ap (has_class 4) e)
 class_is c (inr (inl e)) = (ap (within 1 5) e, ap (has_class 4) e)
 class_is c (inr (inr e)) = (ap (within 1 5) e, ap (has_class 4) e)
 
-root_right : (p : Numbers) (mode : Mode) (seat : Seat) (s : Slot) → mode.root ≡ 4 → is_multi_slot (desk_of seat).scope s ≡ true → s.origin < p.n → slot_fault p mode s ≡ None
+root_right : (p : Numbers) (mode : Mode) (seat : Seat) (s : Slot) → mode.root ≡ 4 → is_multi_slot (multi_root_desk seat).scope s ≡ true → s.origin < p.n → slot_fault p mode s ≡ None
 root_right p mode seat s four e below =
     let x = and_parts (within 3 5 s.class) _ e in
     let y = and_parts (s.a == 0) _ x.1 in
@@ -42,7 +42,7 @@ no_class_one c e =
     elim (three_to_five c e) [ inl q ↦ ap (λ (k : ℕ). k == 1) q | inr (inl q) ↦ ap (λ (k : ℕ). k == 1) q | inr (inr q) ↦ ap (λ (k : ℕ). k == 1) q ]
 
 -- an instance of one value ends by a value, or by none
-is_ending : (root : ℕ) (o : Option (Option (List ℕ))) → root ≡ 4 → IsEnding root (ending o)
+is_ending : (root : ℕ) (o : Option (Option (List ℕ))) → root ≡ 4 → IsEnding root (multi_ending o)
 is_ending root None four = tt
 is_ending root (Some None) four = four
 is_ending root (Some (Some v)) four = inl four
@@ -53,7 +53,7 @@ module _ (m : MultiRules) where
   abbrev r : ServiceRules
   r = multi_root m
 
-  pub are_multi : (seat : Seat) (w : List Word) → AreProper r seat w → AreMulti m (desk_of seat) w
+  pub are_multi : (seat : Seat) (w : List Word) → AreProper r seat w → AreMulti m (multi_root_desk seat) w
   are_multi seat [] proper = tt
   are_multi seat (c ∷ w) proper = (may_word m seat w c proper.0, are_multi seat w proper.1)
 
@@ -62,7 +62,7 @@ module _ (m : MultiRules) where
   session_of seat (Hear s v) w proper = proper.0.session
 
   -- what the box says is right
-  multi_right : (seat : Seat) (y : Say) → seat.mode.root ≡ 4 → IsMultiSaid (desk_of seat) y → IsInstanceSaid seat y
+  multi_right : (seat : Seat) (y : Say) → seat.mode.root ≡ 4 → IsMultiSaid (multi_root_desk seat) y → IsInstanceSaid seat y
   multi_right seat y four said = record {
     origin = said.origin;
     no_command = no_class_one y.slot.class (and_parts (within 3 5 y.slot.class) _ said.slot).0;
@@ -71,23 +71,23 @@ module _ (m : MultiRules) where
   }
 
   module _ (laws : MultiLaws m) where
-    ending_stays : (o u : Option (Option (List ℕ))) (d : Decision) → ((x : Option (List ℕ)) → o ≡ Some x → u ≡ Some x) → ending o ≡ Decided d → ending u ≡ Decided d
+    ending_stays : (o u : Option (Option (List ℕ))) (d : Decision) → ((x : Option (List ℕ)) → o ≡ Some x → u ≡ Some x) → multi_ending o ≡ Decided d → multi_ending u ≡ Decided d
     ending_stays None u d stays e = absurd cc
-    ending_stays (Some x) u d stays e = ap ending (stays x refl) ∙ e
+    ending_stays (Some x) u d stays e = ap multi_ending (stays x refl) ∙ e
 
-    decided_stays : (seat : Seat) (c : Word) (w : List Word) (x : Instance) (d : Decision) → AreProper r seat (c ∷ w) → decided_in m seat w x ≡ Some d → decided_in m seat (c ∷ w) x ≡ Some d
-    decided_stays seat c w (OfBit a k) d proper e = laws.inside_stays (desk_of seat) c w (OfBit a k) d (are_multi seat (c ∷ w) proper) e
-    decided_stays seat c w (OfValue a k) d proper e = laws.inside_stays (desk_of seat) c w (OfValue a k) d (are_multi seat (c ∷ w) proper) e
+    decided_stays : (seat : Seat) (c : Word) (w : List Word) (x : Instance) (d : Decision) → AreProper r seat (c ∷ w) → multi_decided_in m seat w x ≡ Some d → multi_decided_in m seat (c ∷ w) x ≡ Some d
+    decided_stays seat c w (OfBit a k) d proper e = laws.inside_stays (multi_root_desk seat) c w (OfBit a k) d (are_multi seat (c ∷ w) proper) e
+    decided_stays seat c w (OfValue a k) d proper e = laws.inside_stays (multi_root_desk seat) c w (OfValue a k) d (are_multi seat (c ∷ w) proper) e
     decided_stays seat c w (OfVector a) d proper e = absurd cc
 
     own_decided : (seat : Seat) (w : List Word) (x : Instance) → seat.mode.root ≡ 4 → own_instance seat.mode.root ≡ Some x
-        → decided_in m seat w x ≡ ending_decision (ending (m.decision (desk_of seat) w))
+        → multi_decided_in m seat w x ≡ ending_decision (multi_ending (m.decision (multi_root_desk seat) w))
     own_decided seat w x four q =
         let e : OfValue 0 0 ≡ x = let p = ap own_instance (sym four) ∙ q in cc in
-        subst (λ (y : Instance). decided_in m seat w y ≡ ending_decision (ending (m.decision (desk_of seat) w))) e
-        (laws.inside_own (desk_of seat) w ∙ go (m.decision (desk_of seat) w))
+        subst (λ (y : Instance). multi_decided_in m seat w y ≡ ending_decision (multi_ending (m.decision (multi_root_desk seat) w))) e
+        (laws.inside_own (multi_root_desk seat) w ∙ go (m.decision (multi_root_desk seat) w))
       where
-        go : (o : Option (Option (List ℕ))) → option_map value_decision o ≡ ending_decision (ending o)
+        go : (o : Option (Option (List ℕ))) → option_map value_decision o ≡ ending_decision (multi_ending o)
         go None = refl
         go (Some d) = refl
 
@@ -96,7 +96,7 @@ module _ (m : MultiRules) where
       own = λ x q. own_decided seat w x four q;
       last = λ x q. absurd cc;
       latest = λ a v q. absurd cc;
-      bit = λ a k o q. laws.inside_bit (desk_of seat) w a k (are_multi seat w proper) o q;
+      bit = λ a k o q. laws.inside_bit (multi_root_desk seat) w a k (are_multi seat w proper) o q;
     }
 
   one : HasOneInstance r
@@ -111,19 +111,19 @@ module _ (m : MultiRules) where
 
   opens_stays : MultiLaws m → (seat : Seat) (c : Word) (w : List Word) (s : Slot) → AreProper r seat (c ∷ w) → r.opens seat w s ≡ true → r.opens seat (c ∷ w) s ≡ true
   opens_stays laws seat c w s proper opens =
-      let x = and_parts (is_multi_slot (desk_of seat).scope s) _ opens in
-      and_from (is_multi_slot (desk_of seat).scope s) _ x.0 (laws.opens_stays (desk_of seat) c w s (are_multi seat (c ∷ w) proper) x.1)
+      let x = and_parts (is_multi_slot (multi_root_desk seat).scope s) _ opens in
+      and_from (is_multi_slot (multi_root_desk seat).scope s) _ x.0 (laws.opens_stays (multi_root_desk seat) c w s (are_multi seat (c ∷ w) proper) x.1)
 
   pub root_word_laws : MultiLaws m → WordLaws (multi_root m)
   root_word_laws laws = instance_word_laws (multi_root m) one (record {
-    ending = λ seat w serves. is_ending seat.mode.root (m.decision (desk_of seat) w) (eqb-true seat.mode.root 4 serves);
+    ending = λ seat w serves. is_ending seat.mode.root (m.decision (multi_root_desk seat) w) (eqb-true seat.mode.root 4 serves);
     says = λ seat c w proper.
-        fresh_other (IsMultiSaid (desk_of seat)) (IsInstanceSaid seat) _ _ _
+        fresh_other (IsMultiSaid (multi_root_desk seat)) (IsInstanceSaid seat) _ _ _
         (λ y h. multi_right seat y (eqb-true seat.mode.root 4 (served r seat c w proper)) h) (λ y h none. none)
-        (laws.says_new (desk_of seat) c w (session_of seat c w proper) (are_multi seat (c ∷ w) proper));
+        (laws.says_new (multi_root_desk seat) c w (session_of seat c w proper) (are_multi seat (c ∷ w) proper));
     opens_stays = opens_stays laws;
     outcome_stays = λ seat c w d proper e.
-        ending_stays laws (m.decision (desk_of seat) w) (m.decision (desk_of seat) (c ∷ w)) d (λ x q. laws.decision_stays (desk_of seat) c w x (are_multi seat (c ∷ w) proper) q) e;
+        ending_stays laws (m.decision (multi_root_desk seat) w) (m.decision (multi_root_desk seat) (c ∷ w)) d (λ x q. laws.decision_stays (multi_root_desk seat) c w x (are_multi seat (c ∷ w) proper) q) e;
     insides = λ seat w session serves proper. insides laws seat w (eqb-true seat.mode.root 4 serves) proper;
     decided_stays = λ seat c w x d proper e. decided_stays laws seat c w x d proper e;
   })

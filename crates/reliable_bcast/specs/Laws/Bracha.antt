@@ -16,7 +16,7 @@ use Rattle.layer_api.specs.OneValue.{ValueLaws, IsOnce, IsReceiver}
 use Rattle.layer_api.specs.OnceLaws.{once_append, once_to_all, kinds_apart}
 use Rattle.layer_api.specs.EntryLaws.{EntryLaws}
 use Rattle.layer_api.specs.Runs.{Has}
-use Rattle.reliable_bcast.specs.Bracha.{bracha, is_reliable, some_carried, ready_value, due_of}
+use Rattle.reliable_bcast.specs.Bracha.{bracha, is_reliable, some_carried, ready_value, due_by_value}
 use Rattle.reliable_bcast.specs.Laws.Steps.{out_quiet}
 use Rattle.reliable_bcast.specs.Laws.Due.{due_more, due_is, listed_has}
 use Rattle.reliable_bcast.specs.Laws.Good.{due_good, out_good}
@@ -32,7 +32,7 @@ at_first kinds.Want e = absurd (cc)
 at_first kinds.Value e = absurd (cc)
 
 -- what is due is of three kinds, each to all and of one value
-due_once : (at : Place) (h : List Call) → IsOnce (due_of at h)
+due_once : (at : Place) (h : List Call) → IsOnce (due_by_value at h)
 due_once at h =
     let s = at.slot in
     let inits = to_all s Init (started h) in
@@ -57,10 +57,10 @@ value_laws_of_bracha =
       due_nothing = λ at tags. refl;
       due_stays = λ at tags h c m e. due_more at h c m e;
       due_slot = λ at tags h m e. ap (λ (x : Msg). x.slot) (due_is at h m e).whole;
-      due_kind = λ at tags h m there. (due_is at h m (listed_has (due_of at h) m there)).reliable;
-      due_to = λ at tags h m origin there. subst (λ (to : To). IsReceiver at.numbers.n to) (ap (λ (x : Msg). x.to) (sym (due_is at h m (listed_has (due_of at h) m there)).whole)) tt;
+      due_kind = λ at tags h m there. (due_is at h m (listed_has (due_by_value at h) m there)).reliable;
+      due_to = λ at tags h m origin there. subst (λ (to : To). IsReceiver at.numbers.n to) (ap (λ (x : Msg). x.to) (sym (due_is at h m (listed_has (due_by_value at h) m there)).whole)) tt;
       due_once = λ at tags h taken first_ones. due_once at h;
-      due_good = λ at tags mode h m digests of_slot good there. due_good at mode h m of_slot good (due_is at h m (listed_has (due_of at h) m there));
+      due_good = λ at tags mode h m digests of_slot good there. due_good at mode h m of_slot good (due_is at h m (listed_has (due_by_value at h) m there));
       out_good = λ at tags mode h v of_slot good e. out_good at mode h v of_slot good e;
       repeats_nothing = λ at tags i. refl;
       repeats_is = λ at tags h i other. refl;
@@ -80,8 +80,8 @@ reliable_only kinds.Want e = absurd (cc)
 reliable_only kinds.Value e = absurd (cc)
 
 -- nothing that is due is HASHES or a column
-only_values : (at : Place) (h : List Call) (m : Msg) → Has (due_of at h) m → (m.kind ≡ Hashes → ⊥) × (m.kind ≡ Column → ⊥)
-only_values at h m there = reliable_only m.kind (due_is at h m (listed_has (due_of at h) m there)).reliable
+only_values : (at : Place) (h : List Call) (m : Msg) → Has (due_by_value at h) m → (m.kind ≡ Hashes → ⊥) × (m.kind ≡ Column → ⊥)
+only_values at h m there = reliable_only m.kind (due_is at h m (listed_has (due_by_value at h) m there)).reliable
 
 pub entry_laws_of_bracha : EntryLaws bracha
 entry_laws_of_bracha =

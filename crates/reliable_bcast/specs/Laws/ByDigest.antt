@@ -25,30 +25,30 @@ use Rattle.layer_api.specs.HasLaws.{has_listed, listed_has, has_map, map_has}
 use Rattle.layer_api.specs.OneValue.{ValueLaws, IsOnce, IsReceiver}
 use Rattle.layer_api.specs.OnceLaws.{once_append, once_to_all, kinds_apart}
 use Rattle.layer_api.specs.EntryLaws.{EntryLaws, IsMetOf}
-use Rattle.reliable_bcast.specs.Bracha.{some_carried, ready_value, out_of as carried_of}
+use Rattle.reliable_bcast.specs.Bracha.{some_carried, ready_value, out_by_value as carried_of}
 use Rattle.reliable_bcast.specs.Laws.Steps.{out_quiet}
-use Rattle.reliable_bcast.specs.Digests.{brings, brought_by, cons_if, brought, known, full_of, asked_for, known_of, to_one, value_for, values_due, due_of, out_of, by_digest, echo_of}
+use Rattle.reliable_bcast.specs.Digests.{brings, brought_by, cons_if, brought_values, known, full_of, asked_for, known_of, to_one, value_for, values_due, due_by_digest, out_by_digest, by_digest, echo_of}
 use Rattle.reliable_bcast.specs.Laws.DigestOneValue.{full_is, out_is}
-use Rattle.reliable_bcast.specs.Laws.DigestDue.{one_message, same_one, IsDue, ToAll, ToOne, ones_is, due_is, due_all, due_one, value_stays, value_for_stays, known_stays}
+use Rattle.reliable_bcast.specs.Laws.DigestDue.{one_message, same_one, IsDigestDue, ToAll, ToOne, ones_is, due_is, due_all, due_one, value_stays, value_for_stays, known_stays}
 use Rattle.reliable_bcast.specs.Laws.DigestGood.{due_good, out_good}
 use Rattle.reliable_bcast.specs.Laws.DigestNews.{no_ones}
 
 -- ---- what is delivered
 
 -- the known value of the digest that is carried
-pub out_by : (at : Place) (tags : Tags) (h : List Call) → out_of at tags h ≡ known_of at tags h (carried_of at h)
+pub out_by : (at : Place) (tags : Tags) (h : List Call) → out_by_digest at tags h ≡ known_of at tags h (carried_of at h)
 out_by at tags h = ap (known_of at tags h) (full_is at tags h)
 
 known_start : (at : Place) (tags : Tags) (h : List Call) (m : List ℕ) (o : Option (List ℕ)) → known_of at tags (Start m ∷ h) o ≡ known_of at tags h o
 known_start at tags h m None = refl
 known_start at tags h m (Some d) = option_or_none (known at tags h d)
 
-out_start : (at : Place) (tags : Tags) (h : List Call) (m : List ℕ) → out_of at tags (Start m ∷ h) ≡ out_of at tags h
+out_start : (at : Place) (tags : Tags) (h : List Call) (m : List ℕ) → out_by_digest at tags (Start m ∷ h) ≡ out_by_digest at tags h
 out_start at tags h m =
     out_by at tags (Start m ∷ h)
     ∙ (ap (known_of at tags (Start m ∷ h)) (out_quiet at h (Start m) (λ k. refl)) ∙ (known_start at tags h m (carried_of at h) ∙ sym (out_by at tags h)))
 
-out_stays : (at : Place) (tags : Tags) (h : List Call) (c : Call) (v : List ℕ) → out_of at tags h ≡ Some v → out_of at tags (c ∷ h) ≡ Some v
+out_stays : (at : Place) (tags : Tags) (h : List Call) (c : Call) (v : List ℕ) → out_by_digest at tags h ≡ Some v → out_by_digest at tags (c ∷ h) ≡ Some v
 out_stays at tags h c v e =
     let a = out_is at tags h v e in
     out_by at tags (c ∷ h)
@@ -63,21 +63,21 @@ nobody at tags k = go (k == at.me)
     go true = refl
     go false = refl
 
-stays : (at : Place) (tags : Tags) (h : List Call) (c : Call) (m : Msg) → IsDue at tags h m → Has (due_of at tags (c ∷ h)) m
+stays : (at : Place) (tags : Tags) (h : List Call) (c : Call) (m : Msg) → IsDigestDue at tags h m → Has (due_by_digest at tags (c ∷ h)) m
 stays at tags h c m (ToAll kind v whole value_is of_form) =
-    subst (λ (x : Msg). Has (due_of at tags (c ∷ h)) x) (sym whole) (due_all at tags (c ∷ h) kind v (value_stays at tags c h kind v value_is))
+    subst (λ (x : Msg). Has (due_by_digest at tags (c ∷ h)) x) (sym whole) (due_all at tags (c ∷ h) kind v (value_stays at tags c h kind v value_is))
 stays at tags h c m (ToOne k v there whole value_is) =
-    subst (λ (x : Msg). Has (due_of at tags (c ∷ h)) x) (sym whole) (due_one at tags (c ∷ h) k v there (value_for_stays at tags c h k v value_is))
+    subst (λ (x : Msg). Has (due_by_digest at tags (c ∷ h)) x) (sym whole) (due_one at tags (c ∷ h) k v there (value_for_stays at tags c h k v value_is))
 
-slot_is : (at : Place) (tags : Tags) (h : List Call) (m : Msg) → IsDue at tags h m → m.slot ≡ at.slot
+slot_is : (at : Place) (tags : Tags) (h : List Call) (m : Msg) → IsDigestDue at tags h m → m.slot ≡ at.slot
 slot_is at tags h m (ToAll kind v whole value_is of_form) = ap (λ (x : Msg). x.slot) whole
 slot_is at tags h m (ToOne k v there whole value_is) = ap (λ (x : Msg). x.slot) whole
 
-kind_is : (at : Place) (tags : Tags) (h : List Call) (m : Msg) → IsDue at tags h m → is_of_form 3 m.kind ≡ true
+kind_is : (at : Place) (tags : Tags) (h : List Call) (m : Msg) → IsDigestDue at tags h m → is_of_form 3 m.kind ≡ true
 kind_is at tags h m (ToAll kind v whole value_is of_form) = ap (λ (x : Msg). is_of_form 3 x.kind) whole ∙ of_form
 kind_is at tags h m (ToOne k v there whole value_is) = ap (λ (x : Msg). is_of_form 3 x.kind) whole
 
-receiver_is : (at : Place) (tags : Tags) (h : List Call) (m : Msg) → IsDue at tags h m → IsReceiver at.numbers.n m.to
+receiver_is : (at : Place) (tags : Tags) (h : List Call) (m : Msg) → IsDigestDue at tags h m → IsReceiver at.numbers.n m.to
 receiver_is at tags h m (ToAll kind v whole value_is of_form) = subst (λ (to : To). IsReceiver at.numbers.n to) (ap (λ (x : Msg). x.to) (sym whole)) tt
 receiver_is at tags h m (ToOne k v there whole value_is) =
     subst (λ (to : To). IsReceiver at.numbers.n to) (ap (λ (x : Msg). x.to) (sym whole)) (replica_below at.numbers.n k there)
@@ -110,7 +110,7 @@ to_all_apart s o ks m all =
     let other : All ≡ One x.0 = sym all ∙ ap (λ (y : Msg). y.to) x.3 in
     absurd (cc))
 
-due_once : (at : Place) (tags : Tags) (h : List Call) → IsOnce (due_of at tags h)
+due_once : (at : Place) (tags : Tags) (h : List Call) → IsOnce (due_by_digest at tags h)
 due_once at tags h =
     let s = at.slot in
     let a = started h in
@@ -166,8 +166,8 @@ value_laws_by_digest =
       out_start = λ at tags h v. out_start at tags h v;
       out_stays = λ at tags h c v e. out_stays at tags h c v e;
       due_nothing = λ at tags. no_ones at.slot (value_for at tags []) (replicas at.numbers.n) (nobody at tags);
-      due_stays = λ at tags h c m e. listed_has (due_of at tags (c ∷ h)) m (stays at tags h c m (due_is at tags h m (has_listed (due_of at tags h) m e)));
-      due_slot = λ at tags h m e. slot_is at tags h m (due_is at tags h m (has_listed (due_of at tags h) m e));
+      due_stays = λ at tags h c m e. listed_has (due_by_digest at tags (c ∷ h)) m (stays at tags h c m (due_is at tags h m (has_listed (due_by_digest at tags h) m e)));
+      due_slot = λ at tags h m e. slot_is at tags h m (due_is at tags h m (has_listed (due_by_digest at tags h) m e));
       due_kind = λ at tags h m there. kind_is at tags h m (due_is at tags h m there);
       due_to = λ at tags h m origin there. receiver_is at tags h m (due_is at tags h m there);
       due_once = λ at tags h taken first_ones. due_once at tags h;
@@ -198,7 +198,7 @@ pub record IsBrought (h : List Call) (v : List ℕ) : Type 0 where
   pub kind : (item.kind ≡ Init) ⊎ (item.kind ≡ Value)
   pub value : item.value ≡ v
 
-pub brought_is : (at : Place) (h : List Call) (v : List ℕ) → Has (brought at h) v → IsBrought h v
+pub brought_is : (at : Place) (h : List Call) (v : List ℕ) → Has (brought_values at h) v → IsBrought h v
 brought_is at [] v there = absurd there
 brought_is at (Start m ∷ h) v there = let g = brought_is at h v there in record { item = g.item; taken = inr g.taken; kind = g.kind; value = g.value }
 brought_is at (Take x ∷ h) v there =
@@ -211,7 +211,7 @@ brought_is at (Take x ∷ h) v there =
           | inr b ↦ inr (kind_eq_is x.kind Value (and_parts (kind_eq x.kind Value) _ b).0)
         ]
 
-    go : (b : Bool) → brings at h x ≡ b → Has (cons_if (if b then Some x.value else None) (brought at h)) v → (Has (brought at h) v → IsBrought (Take x ∷ h) v) → IsBrought (Take x ∷ h) v
+    go : (b : Bool) → brings at h x ≡ b → Has (cons_if (if b then Some x.value else None) (brought_values at h)) v → (Has (brought_values at h) v → IsBrought (Take x ∷ h) v) → IsBrought (Take x ∷ h) v
     go true e (inl same) older = record { item = x; taken = inl refl; kind = of_kind e; value = same }
     go true e (inr later) older = older later
     go false e later older = older later
@@ -225,7 +225,7 @@ hashed_print at tags kind m a (inr is) same =
 
 met_taken : (at : Place) (tags : Tags) (h : List Call) (a : Print) → Has (by_digest.met at tags h) a → IsMetOf by_digest at tags h a
 met_taken at tags h a there =
-    let x = has_map (λ m. OfMessage m (tags.digest m)) (brought at h) a there in
+    let x = has_map (λ m. OfMessage m (tags.digest m)) (brought_values at h) a there in
     let g = brought_is at h x.0 x.1 in
     let p = hashed_print at tags g.item.kind g.item.value a g.kind (ap (λ (m : List ℕ). OfMessage m (tags.digest m)) g.value ∙ x.2) in
     record { item = g.item; taken = g.taken; kind = p.0; print = p.1 }
@@ -236,9 +236,9 @@ brought_stays (Some m) vs v there = inr there
 
 met_stays : (at : Place) (tags : Tags) (h : List Call) (c : Call) (a : Print) → Has (by_digest.met at tags h) a → Has (by_digest.met at tags (c ∷ h)) a
 met_stays at tags h c a there =
-    let x = has_map (λ m. OfMessage m (tags.digest m)) (brought at h) a there in
+    let x = has_map (λ m. OfMessage m (tags.digest m)) (brought_values at h) a there in
     subst (λ (y : Print). Has (by_digest.met at tags (c ∷ h)) y) x.2
-    (map_has (λ m. OfMessage m (tags.digest m)) (brought at (c ∷ h)) x.0 (brought_stays (brought_by at h c) (brought at h) x.0 x.1))
+    (map_has (λ m. OfMessage m (tags.digest m)) (brought_values at (c ∷ h)) x.0 (brought_stays (brought_by at h c) (brought_values at h) x.0 x.1))
 
 pub entry_laws_by_digest : EntryLaws by_digest
 entry_laws_by_digest =

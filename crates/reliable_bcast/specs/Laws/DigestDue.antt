@@ -20,7 +20,7 @@ use Rattle.layer_api.specs.Runs.{Has}
 use Rattle.layer_api.specs.HasLaws.{has_either, has_left, has_right}
 use Rattle.reliable_bcast.specs.Bracha.{some_backed, some_carried, ready_value}
 use Rattle.reliable_bcast.specs.Laws.Voted.{echo_stays}
-use Rattle.reliable_bcast.specs.Digests.{if_digest, brought_by, known, Full, full_if, full_of, asked_for, known_of, to_one, value_for, values_due, due_of, echo_of}
+use Rattle.reliable_bcast.specs.Digests.{if_digest, brought_by, known, Full, full_if, full_of, asked_for, known_of, to_one, value_for, values_due, due_by_digest, echo_of}
 
 abbrev pub one_message : Slot → ℕ → List ℕ → Msg
 one_message s k m = record { to = One k; kind = Value; slot = s; value = m }
@@ -34,9 +34,9 @@ due_value at tags h kinds.Want = asked_for (full_of at tags h)
 due_value at tags h _ = None
 
 -- a message that is due is to all, or VALUE to one who asked
-pub data IsDue (at : Place) (tags : Tags) (h : List Call) (m : Msg) : Type 0 where
-  ToAll : (kind : Kind) → (v : List ℕ) → m ≡ message at.slot kind v → due_value at tags h kind ≡ Some v → is_of_form 3 kind ≡ true → IsDue at tags h m
-  ToOne : (k : ℕ) → (v : List ℕ) → Has (replicas at.numbers.n) k → m ≡ one_message at.slot k v → value_for at tags h k ≡ Some v → IsDue at tags h m
+pub data IsDigestDue (at : Place) (tags : Tags) (h : List Call) (m : Msg) : Type 0 where
+  ToAll : (kind : Kind) → (v : List ℕ) → m ≡ message at.slot kind v → due_value at tags h kind ≡ Some v → is_of_form 3 kind ≡ true → IsDigestDue at tags h m
+  ToOne : (k : ℕ) → (v : List ℕ) → Has (replicas at.numbers.n) k → m ≡ one_message at.slot k v → value_for at tags h k ≡ Some v → IsDigestDue at tags h m
 
 pub same_one : (j k : ℕ) → One j ≡ One k → j ≡ k
 same_one j k e = cc
@@ -72,7 +72,7 @@ ones_has s o (j ∷ ks) k v (inl same) e =
 ones_has s o (j ∷ ks) k v (inr later) e =
     has_right (to_one s j (o j)) (flat_map (λ i. to_one s i (o i)) ks) (one_message s k v) (ones_has s o ks k v later e)
 
-pub due_is : (at : Place) (tags : Tags) (h : List Call) (m : Msg) → Has (due_of at tags h) m → IsDue at tags h m
+pub due_is : (at : Place) (tags : Tags) (h : List Call) (m : Msg) → Has (due_by_digest at tags h) m → IsDigestDue at tags h m
 due_is at tags h m there =
     let inits = to_all at.slot Init (started h) in
     let echoes = to_all at.slot Echo (echo_of tags.digest (first h at.slot.origin Init)) in
@@ -92,7 +92,7 @@ due_is at tags h m there =
       | inr a ↦ let x = ones_is at.slot (value_for at tags h) (replicas at.numbers.n) m a in ToOne x.0 x.2 x.1 x.3 x.4
     ]
 
-pub due_all : (at : Place) (tags : Tags) (h : List Call) (kind : Kind) (v : List ℕ) → due_value at tags h kind ≡ Some v → Has (due_of at tags h) (message at.slot kind v)
+pub due_all : (at : Place) (tags : Tags) (h : List Call) (kind : Kind) (v : List ℕ) → due_value at tags h kind ≡ Some v → Has (due_by_digest at tags h) (message at.slot kind v)
 due_all at tags h kind v e = go kind e
   where
     inits : List Msg
@@ -107,7 +107,7 @@ due_all at tags h kind v e = go kind e
     wants : List Msg
     wants = to_all at.slot Want (asked_for (full_of at tags h))
 
-    go : (k : Kind) → due_value at tags h k ≡ Some v → Has (due_of at tags h) (message at.slot k v)
+    go : (k : Kind) → due_value at tags h k ≡ Some v → Has (due_by_digest at tags h) (message at.slot k v)
     go kinds.Init e =
         has_left (inits ++ echoes ++ readies ++ wants) (values_due at tags h) (message at.slot Init v)
         (has_left (inits ++ echoes ++ readies) wants (message at.slot Init v)
@@ -131,7 +131,7 @@ due_all at tags h kind v e = go kind e
     go kinds.Value e = absurd (cc)
 
 pub due_one : (at : Place) (tags : Tags) (h : List Call) (k : ℕ) (v : List ℕ) → Has (replicas at.numbers.n) k → value_for at tags h k ≡ Some v
-    → Has (due_of at tags h) (one_message at.slot k v)
+    → Has (due_by_digest at tags h) (one_message at.slot k v)
 due_one at tags h k v there e =
     has_right
     (to_all at.slot Init (started h) ++ to_all at.slot Echo (echo_of tags.digest (first h at.slot.origin Init))

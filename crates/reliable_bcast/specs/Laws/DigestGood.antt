@@ -23,11 +23,11 @@ use Rattle.frame_codec.specs.Grammar.{payload, value, digest, is_of_digest}
 use Rattle.frame_codec.specs.Body.{IsInGrammar, is_of_form}
 use Rattle.layer_api.specs.Runs.{Has}
 use Rattle.layer_api.specs.OneValue.{AreGoodCalls, IsOfSlot}
-use Rattle.reliable_bcast.specs.Bracha.{is_backed, is_carried, some_backed, some_carried, ready_value, out_of as carried_of}
+use Rattle.reliable_bcast.specs.Bracha.{is_backed, is_carried, some_backed, some_carried, ready_value, out_by_value as carried_of}
 use Rattle.reliable_bcast.specs.Laws.Good.{good_prefix, started_good}
-use Rattle.reliable_bcast.specs.Digests.{brings, cons_if, brought, Full, full_of, digest_in, asked_for, known_of, value_for, out_of, by_digest, echo_of}
+use Rattle.reliable_bcast.specs.Digests.{brings, cons_if, brought_values, Full, full_of, digest_in, asked_for, known_of, value_for, out_by_digest, by_digest, echo_of}
 use Rattle.reliable_bcast.specs.Laws.DigestOneValue.{known_is, full_is, out_is}
-use Rattle.reliable_bcast.specs.Laws.DigestDue.{due_value, IsDue, ToAll, ToOne}
+use Rattle.reliable_bcast.specs.Laws.DigestDue.{due_value, IsDigestDue, ToAll, ToOne}
 
 -- the format of a kind's payload in form 3
 abbrev format_of : Numbers → Mode → Kind → Slot → Format
@@ -111,7 +111,7 @@ asked_is (Some full) v e = go full.was_known e
     go false e = e
 
 -- what was brought is a value
-pub brought_good : (at : Place) (mode : Mode) (h : List Call) (v : List ℕ) → IsOfSlot by_digest at.numbers mode at.slot → AreGoodCalls at.numbers mode at.slot h → Has (brought at h) v
+pub brought_good : (at : Place) (mode : Mode) (h : List Call) (v : List ℕ) → IsOfSlot by_digest at.numbers mode at.slot → AreGoodCalls at.numbers mode at.slot h → Has (brought_values at h) v
     → Is (value at.numbers mode.root at.slot) v
 brought_good at mode [] v of_slot good there = absurd there
 brought_good at mode (Start u ∷ h) v of_slot good there = brought_good at mode h v of_slot good.1 there
@@ -124,7 +124,7 @@ brought_good at mode (Take x ∷ h) v of_slot good there = go (brings at h x) re
           | inr b ↦ item_good at.numbers mode at.slot x Value of_slot good.0 good.1 (kind_eq_is x.kind Value (and_parts (kind_eq x.kind Value) _ b).0) refl
         ]
 
-    go : (b : Bool) → brings at h x ≡ b → Has (cons_if (if b then Some x.value else None) (brought at h)) v → (Has (brought at h) v → Is (value at.numbers mode.root at.slot) v)
+    go : (b : Bool) → brings at h x ≡ b → Has (cons_if (if b then Some x.value else None) (brought_values at h)) v → (Has (brought_values at h) v → Is (value at.numbers mode.root at.slot) v)
         → Is (value at.numbers mode.root at.slot) v
     go true e (inl same) older = subst (λ (w : List ℕ). Is (value at.numbers mode.root at.slot) w) same (by_kind e)
     go true e (inr later) older = older later
@@ -161,19 +161,19 @@ made_good at mode m of_slot is here good =
           (subst (λ (f : Format). Is f m.value) (sym (payload_is at.numbers mode m.kind at.slot of_slot is)) good);
     }
 
-value_for_is : (at : Place) (tags : Tags) (h : List Call) (k : ℕ) (v : List ℕ) → value_for at tags h k ≡ Some v → Has (brought at h) v
+value_for_is : (at : Place) (tags : Tags) (h : List Call) (k : ℕ) (v : List ℕ) → value_for at tags h k ≡ Some v → Has (brought_values at h) v
 value_for_is at tags h k v e = go (k == at.me) e
   where
-    of : (o : Option (List ℕ)) → known_of at tags h o ≡ Some v → Has (brought at h) v
+    of : (o : Option (List ℕ)) → known_of at tags h o ≡ Some v → Has (brought_values at h) v
     of None e = absurd (cc)
     of (Some d) e = (known_is at tags h d v e).0
 
-    go : (b : Bool) → (if b then None else known_of at tags h (first h k Want)) ≡ Some v → Has (brought at h) v
+    go : (b : Bool) → (if b then None else known_of at tags h (first h k Want)) ≡ Some v → Has (brought_values at h) v
     go true e = absurd (cc)
     go false e = of (first h k Want) e
 
 pub due_good : (at : Place) (tags : Tags) (mode : Mode) (h : List Call) (m : Msg) → HasDigests tags → IsOfSlot by_digest at.numbers mode at.slot → AreGoodCalls at.numbers mode at.slot h
-    → IsDue at tags h m → IsInGrammar at.numbers mode (item_of at.me m)
+    → IsDigestDue at tags h m → IsInGrammar at.numbers mode (item_of at.me m)
 due_good at tags mode h m digests of_slot good (ToAll kind v whole value_is of_form) =
     let k : m.kind ≡ kind = ap (λ (x : Msg). x.kind) whole in
     let w : m.value ≡ v = ap (λ (x : Msg). x.value) whole in
@@ -188,7 +188,7 @@ due_good at tags mode h m digests of_slot good (ToOne j v there whole value_is) 
     (subst (λ (y : List ℕ). Is (value at.numbers mode.root at.slot) y) (sym w) (brought_good at mode h v of_slot good (value_for_is at tags h j v value_is))))
 
 pub out_good : (at : Place) (tags : Tags) (mode : Mode) (h : List Call) (v : List ℕ) → IsOfSlot by_digest at.numbers mode at.slot → AreGoodCalls at.numbers mode at.slot h
-    → out_of at tags h ≡ Some v → Is (value at.numbers mode.root at.slot) v
+    → out_by_digest at tags h ≡ Some v → Is (value at.numbers mode.root at.slot) v
 out_good at tags mode h v of_slot good e =
     let a = out_is at tags h v e in
     brought_good at mode h v of_slot good (known_is at tags h a.digest v a.known_so).0

@@ -16,8 +16,8 @@ use Rattle.ritas_base.specs.Tags.{Tags}
 use Rattle.layer_api.specs.Broadcast.{news}
 use Rattle.layer_api.specs.Runs.{Has}
 use Rattle.layer_api.specs.HasLaws.{has_listed, listed_has}
-use Rattle.reliable_bcast.specs.Digests.{to_one, value_for, values_due, due_of, by_digest, echo_of}
-use Rattle.reliable_bcast.specs.Laws.DigestDue.{one_message, same_one, due_value, IsDue, ToAll, ToOne, due_is, due_all, due_one, value_stays, value_for_stays}
+use Rattle.reliable_bcast.specs.Digests.{to_one, value_for, values_due, due_by_digest, by_digest, echo_of}
+use Rattle.reliable_bcast.specs.Laws.DigestDue.{one_message, same_one, due_value, IsDigestDue, ToAll, ToOne, due_is, due_all, due_one, value_stays, value_for_stays}
 
 -- messages to some, each to one
 abbrev pub ones : Slot → (ℕ → Option (List ℕ)) → List ℕ → List Msg
@@ -70,8 +70,8 @@ gain at tags h c kind = gained (due_value at tags h kind) (due_value at tags (c 
 abbrev pub gain_for : Place → Tags → List Call → Call → ℕ → Option (List ℕ)
 gain_for at tags h c k = gained (value_for at tags h k) (value_for at tags (c ∷ h) k)
 
-abbrev pub parts : Slot → Option (List ℕ) → Option (List ℕ) → Option (List ℕ) → Option (List ℕ) → List Msg → List Msg
-parts s a b c d vs = to_all s Init a ++ to_all s Echo b ++ to_all s Ready c ++ to_all s Want d ++ vs
+abbrev pub digest_parts : Slot → Option (List ℕ) → Option (List ℕ) → Option (List ℕ) → Option (List ℕ) → List Msg → List Msg
+digest_parts s a b c d vs = to_all s Init a ++ to_all s Echo b ++ to_all s Ready c ++ to_all s Want d ++ vs
 
 same_some : (o : Option (List ℕ)) (v : List ℕ) → o ≡ None → o ≡ Some v → ⊥
 same_some o v a b = let wrong : None ≡ Some v = sym a ∙ b in cc
@@ -79,23 +79,23 @@ same_some o v a b = let wrong : None ≡ Some v = sym a ∙ b in cc
 to_all_differs : (s : Slot) (kind : Kind) (m v : List ℕ) (k : ℕ) → message s kind m ≡ one_message s k v → ⊥
 to_all_differs s kind m v k e = let wrong : All ≡ One k = ap (λ (x : Msg). x.to) e in cc
 
-due_missing : (at : Place) (tags : Tags) (h : List Call) (kind : Kind) (m : List ℕ) → due_value at tags h kind ≡ None → has (due_of at tags h) (message at.slot kind m) ≡ false
+due_missing : (at : Place) (tags : Tags) (h : List Call) (kind : Kind) (m : List ℕ) → due_value at tags h kind ≡ None → has (due_by_digest at tags h) (message at.slot kind m) ≡ false
 due_missing at tags h kind m none =
-    false_from_ne_true (has (due_of at tags h) (message at.slot kind m))
-    (λ t. wrong (due_is at tags h (message at.slot kind m) (has_listed (due_of at tags h) (message at.slot kind m) t)))
+    false_from_ne_true (has (due_by_digest at tags h) (message at.slot kind m))
+    (λ t. wrong (due_is at tags h (message at.slot kind m) (has_listed (due_by_digest at tags h) (message at.slot kind m) t)))
   where
-    wrong : IsDue at tags h (message at.slot kind m) → ⊥
+    wrong : IsDigestDue at tags h (message at.slot kind m) → ⊥
     wrong (ToAll k v whole is of_form) =
         let same : kind ≡ k = ap (λ (x : Msg). x.kind) whole in
         same_some (due_value at tags h kind) v none (ap (due_value at tags h) same ∙ is)
     wrong (ToOne k v there whole is) = to_all_differs at.slot kind m v k whole
 
-one_missing : (at : Place) (tags : Tags) (h : List Call) (k : ℕ) (m : List ℕ) → value_for at tags h k ≡ None → has (due_of at tags h) (one_message at.slot k m) ≡ false
+one_missing : (at : Place) (tags : Tags) (h : List Call) (k : ℕ) (m : List ℕ) → value_for at tags h k ≡ None → has (due_by_digest at tags h) (one_message at.slot k m) ≡ false
 one_missing at tags h k m none =
-    false_from_ne_true (has (due_of at tags h) (one_message at.slot k m))
-    (λ t. wrong (due_is at tags h (one_message at.slot k m) (has_listed (due_of at tags h) (one_message at.slot k m) t)))
+    false_from_ne_true (has (due_by_digest at tags h) (one_message at.slot k m))
+    (λ t. wrong (due_is at tags h (one_message at.slot k m) (has_listed (due_by_digest at tags h) (one_message at.slot k m) t)))
   where
-    wrong : IsDue at tags h (one_message at.slot k m) → ⊥
+    wrong : IsDigestDue at tags h (one_message at.slot k m) → ⊥
     wrong (ToAll kind v whole is of_form) = to_all_differs at.slot kind v m k (sym whole)
     wrong (ToOne j v there whole is) =
         let same = same_one k j (ap (λ (x : Msg). x.to) whole) in
@@ -115,9 +115,9 @@ without_five before x y z w v =
 
 pub news_is : (at : Place) (tags : Tags) (h : List Call) (c : Call)
     → news by_digest at tags h c
-    ≡ parts at.slot (gain at tags h c Init) (gain at tags h c Echo) (gain at tags h c Ready) (gain at tags h c Want) (ones at.slot (gain_for at tags h c) (replicas at.numbers.n))
+    ≡ digest_parts at.slot (gain at tags h c Init) (gain at tags h c Echo) (gain at tags h c Ready) (gain at tags h c Want) (ones at.slot (gain_for at tags h c) (replicas at.numbers.n))
 news_is at tags h c =
-    let before = due_of at tags h in
+    let before = due_by_digest at tags h in
     let of_kind : (kind : Kind) → without before (to_all at.slot kind (due_value at tags (c ∷ h) kind)) ≡ to_all at.slot kind (gain at tags h c kind) =
     λ kind. without_kind at.slot kind before (due_value at tags h kind) (due_value at tags (c ∷ h) kind) (λ v e. value_stays at tags c h kind v e)
     (λ m e. listed_has before (message at.slot kind m) (due_all at tags h kind m e)) (λ m e. due_missing at tags h kind m e) in
@@ -151,5 +151,5 @@ ones_alike s o u [] same = refl
 ones_alike s o u (k ∷ ks) same =
     ap (λ (x : Option (List ℕ)). to_one s k x ++ ones s o ks) (same k (inl refl)) ∙ ap (λ (l : List Msg). to_one s k (u k) ++ l) (ones_alike s o u ks (λ j there. same j (inr there)))
 
-pub same_parts : (s : Slot) (a a' b b' c c' d d' : Option (List ℕ)) (v v' : List Msg) → a ≡ a' → b ≡ b' → c ≡ c' → d ≡ d' → v ≡ v' → parts s a b c d v ≡ parts s a' b' c' d' v'
+pub same_parts : (s : Slot) (a a' b b' c c' d d' : Option (List ℕ)) (v v' : List Msg) → a ≡ a' → b ≡ b' → c ≡ c' → d ≡ d' → v ≡ v' → digest_parts s a b c d v ≡ digest_parts s a' b' c' d' v'
 same_parts s a a' b b' c c' d d' v v' p q r t u = cc

@@ -19,13 +19,13 @@ use Rattle.ritas_base.specs.HistoryLaws.{told_item}
 use Rattle.ritas_base.specs.Messages.{Place, kind_eq}
 use Rattle.ritas_base.specs.Tags.{Tags}
 use Rattle.layer_api.specs.Entries.{OfMessage}
-use Rattle.layer_api.specs.Runs.{Step, Has, calls_of, IsEnough}
+use Rattle.layer_api.specs.Runs.{ReplicaStep, Has, calls_of, IsEnough}
 use Rattle.layer_api.specs.HasLaws.{map_has}
 use Rattle.layer_api.specs.OneValue.{Group, place_of, met_at, IsRun, IsClear, SameDigests, OneValue}
-use Rattle.reliable_bcast.specs.Bracha.{some_carried, out_of as carried_of}
+use Rattle.reliable_bcast.specs.Bracha.{some_carried, out_by_value as carried_of}
 use Rattle.reliable_bcast.specs.Laws.Voted.{IsVotedAt, IsVoted, out_echoed, echoed_same, echoed_started}
-use Rattle.reliable_bcast.specs.Laws.DigestDue.{due_value, IsDue, ToAll, ToOne, due_is}
-use Rattle.reliable_bcast.specs.Digests.{brings, brought_by, cons_if, brought, if_digest, known, Full, full_if, full_of, digest_in, known_of, out_of, by_digest}
+use Rattle.reliable_bcast.specs.Laws.DigestDue.{due_value, IsDigestDue, ToAll, ToOne, due_is}
+use Rattle.reliable_bcast.specs.Digests.{brings, brought_by, cons_if, brought_values, if_digest, known, Full, full_if, full_of, digest_in, known_of, out_by_digest, by_digest}
 
 -- ---- what is due
 
@@ -42,7 +42,7 @@ as_voted at tags h kinds.Column v e = tt
 as_voted at tags h kinds.Want v e = tt
 as_voted at tags h kinds.Value v e = tt
 
-voted : (at : Place) (tags : Tags) (h : List Call) (m : Msg) → IsDue at tags h m → IsVotedAt hashed at tags h m.kind m.value
+voted : (at : Place) (tags : Tags) (h : List Call) (m : Msg) → IsDigestDue at tags h m → IsVotedAt hashed at tags h m.kind m.value
 voted at tags h m (ToAll kind v whole value_is of_form) =
     subst (λ (x : Msg). IsVotedAt hashed at tags h x.kind x.value) (sym whole) (as_voted at tags h kind v value_is)
 voted at tags h m (ToOne k v there whole value_is) = subst (λ (x : Msg). IsVotedAt hashed at tags h x.kind x.value) (sym whole) tt
@@ -53,7 +53,7 @@ votes = record { due = λ at tags h m there. voted at tags h m (due_is at tags h
 -- ---- what is known
 
 -- a known value was brought, and has the digest
-pub known_is : (at : Place) (tags : Tags) (h : List Call) (d v : List ℕ) → known at tags h d ≡ Some v → Has (brought at h) v × (tags.digest v ≡ d)
+pub known_is : (at : Place) (tags : Tags) (h : List Call) (d v : List ℕ) → known at tags h d ≡ Some v → Has (brought_values at h) v × (tags.digest v ≡ d)
 known_is at tags [] d v e = absurd (cc)
 known_is at tags (c ∷ h) d v e =
     elim (option_or_some (known at tags h d) (if_digest tags d (brought_by at h c)) v e) [
@@ -61,7 +61,7 @@ known_is at tags (c ∷ h) d v e =
       | inr now ↦ here (brought_by at h c) now.1
     ]
   where
-    later : (o : Option (List ℕ)) → Has (brought at h) v → Has (cons_if o (brought at h)) v
+    later : (o : Option (List ℕ)) → Has (brought_values at h) v → Has (cons_if o (brought_values at h)) v
     later None there = there
     later (Some m) there = inr there
 
@@ -71,12 +71,12 @@ known_is at tags (c ∷ h) d v e =
         (one, ap tags.digest (sym one) ∙ (bytes_eq-Decides (tags.digest m) d).0 same)
     chosen m false other e = absurd (cc)
 
-    here : (o : Option (List ℕ)) → if_digest tags d o ≡ Some v → Has (cons_if o (brought at h)) v × (tags.digest v ≡ d)
+    here : (o : Option (List ℕ)) → if_digest tags d o ≡ Some v → Has (cons_if o (brought_values at h)) v × (tags.digest v ≡ d)
     here None e = absurd (cc)
     here (Some m) e = let x = chosen m (bytes_eq (tags.digest m) d) refl e in (inl x.0, x.1)
 
 pub known_met : (at : Place) (tags : Tags) (h : List Call) (d v : List ℕ) → known at tags h d ≡ Some v → Has (by_digest.met at tags h) (OfMessage v (tags.digest v))
-known_met at tags h d v e = map_has (λ m. OfMessage m (tags.digest m)) (brought at h) v (known_is at tags h d v e).0
+known_met at tags h d v e = map_has (λ m. OfMessage m (tags.digest m)) (brought_values at h) v (known_is at tags h d v e).0
 
 -- the digest that is full is the one that is carried
 pub full_is : (at : Place) (tags : Tags) (h : List Call) → digest_in (full_of at tags h) ≡ carried_of at h
@@ -94,20 +94,20 @@ full_is at tags (c ∷ h) =
     both (Some full) now = refl
 
 -- what is delivered is known, and its digest is carried
-pub record IsOut (at : Place) (tags : Tags) (h : List Call) (v : List ℕ) : Type 0 where
+pub record IsDigestOut (at : Place) (tags : Tags) (h : List Call) (v : List ℕ) : Type 0 where
   pub digest : List ℕ
   pub carried : carried_of at h ≡ Some digest
   pub known_so : known at tags h digest ≡ Some v
 
-pub out_is : (at : Place) (tags : Tags) (h : List Call) (v : List ℕ) → out_of at tags h ≡ Some v → IsOut at tags h v
+pub out_is : (at : Place) (tags : Tags) (h : List Call) (v : List ℕ) → out_by_digest at tags h ≡ Some v → IsDigestOut at tags h v
 out_is at tags h v e = go (digest_in (full_of at tags h)) (full_is at tags h) e
   where
-    go : (o : Option (List ℕ)) → o ≡ carried_of at h → known_of at tags h o ≡ Some v → IsOut at tags h v
+    go : (o : Option (List ℕ)) → o ≡ carried_of at h → known_of at tags h o ≡ Some v → IsDigestOut at tags h v
     go None q e = absurd (cc)
     go (Some d) q e = record { digest = d; carried = sym q; known_so = e }
 
 -- the origin's first INIT was brought
-pub init_brought : (at : Place) (h : List Call) (v : List ℕ) → first h at.slot.origin Init ≡ Some v → Has (brought at h) v
+pub init_brought : (at : Place) (h : List Call) (v : List ℕ) → first h at.slot.origin Init ≡ Some v → Has (brought_values at h) v
 init_brought at [] v e = absurd (cc)
 init_brought at (Start m ∷ h) v e =
     elim (option_or_some (first h at.slot.origin Init) None v e) [ inl was ↦ init_brought at h v was | inr now ↦ absurd (let wrong = now.1 in cc) ]
@@ -117,10 +117,10 @@ init_brought at (Take x ∷ h) v e =
       | inr now ↦
           let is = told_item at.slot.origin Init x v now.1 in
           let new : brings at h x ≡ true = first_now x.from x.kind is.0 is.1 now.0 in
-          subst (λ (b : Bool). Has (cons_if (if b then Some x.value else None) (brought at h)) v) (sym new) (inl is.2)
+          subst (λ (b : Bool). Has (cons_if (if b then Some x.value else None) (brought_values at h)) v) (sym new) (inl is.2)
     ]
   where
-    later : (b : Bool) → Has (brought at h) v → Has (cons_if (if b then Some x.value else None) (brought at h)) v
+    later : (b : Bool) → Has (brought_values at h) v → Has (cons_if (if b then Some x.value else None) (brought_values at h)) v
     later true there = inr there
     later false there = there
 
@@ -138,13 +138,13 @@ module _ (p : Numbers) (s : Slot) (is_correct : ℕ → Bool) (tags : ℕ → Ta
   group = record { rules = by_digest; numbers = p; slot = s; is_correct = is_correct; tags = tags }
 
   -- two values that correct replicas took, and that have one digest, are one
-  same_value : (xs : List (Step Call)) → IsClear group xs → (i j : ℕ) (v u : List ℕ) → is_correct i ≡ true → is_correct j ≡ true
+  same_value : (xs : List (ReplicaStep Call)) → IsClear group xs → (i j : ℕ) (v u : List ℕ) → is_correct i ≡ true → is_correct j ≡ true
       → Has (met_at group i xs) (OfMessage v ((tags i).digest v)) → Has (met_at group j xs) (OfMessage u ((tags j).digest u))
       → (tags i).digest v ≡ (tags j).digest u → v ≡ u
   same_value xs clear i j v u ci cj a b e = clear i j (OfMessage v ((tags i).digest v)) (OfMessage u ((tags j).digest u)) ci cj a b e
 
-  agree : (xs : List (Step Call)) → IsRun group xs → IsClear group xs → (i j : ℕ) (v u : List ℕ) → is_correct i ≡ true → is_correct j ≡ true
-      → out_of (place_of group i) (tags i) (calls_of i xs) ≡ Some v → out_of (place_of group j) (tags j) (calls_of j xs) ≡ Some u → v ≡ u
+  agree : (xs : List (ReplicaStep Call)) → IsRun group xs → IsClear group xs → (i j : ℕ) (v u : List ℕ) → is_correct i ≡ true → is_correct j ≡ true
+      → out_by_digest (place_of group i) (tags i) (calls_of i xs) ≡ Some v → out_by_digest (place_of group j) (tags j) (calls_of j xs) ≡ Some u → v ≡ u
   agree xs run clear i j v u ci cj e d =
       let a = out_is (place_of group i) (tags i) (calls_of i xs) v e in
       let b = out_is (place_of group j) (tags j) (calls_of j xs) u d in
@@ -157,14 +157,14 @@ module _ (p : Numbers) (s : Slot) (is_correct : ℕ → Bool) (tags : ℕ → Ta
       ((known_is (place_of group i) (tags i) (calls_of i xs) a.digest v a.known_so).1
       ∙ one ∙ sym (known_is (place_of group j) (tags j) (calls_of j xs) b.digest u b.known_so).1)
 
-  genuine : (xs : List (Step Call)) → IsRun group xs → IsClear group xs → (i : ℕ) (v : List ℕ) → is_correct i ≡ true → is_correct s.origin ≡ true
-      → out_of (place_of group i) (tags i) (calls_of i xs) ≡ Some v → started (calls_of s.origin xs) ≡ Some v
+  genuine : (xs : List (ReplicaStep Call)) → IsRun group xs → IsClear group xs → (i : ℕ) (v : List ℕ) → is_correct i ≡ true → is_correct s.origin ≡ true
+      → out_by_digest (place_of group i) (tags i) (calls_of i xs) ≡ Some v → started (calls_of s.origin xs) ≡ Some v
   genuine xs run clear i v ci co e =
       let a = out_is (place_of group i) (tags i) (calls_of i xs) v e in
       let of = echoed_started hashed by_digest votes p s is_correct tags enough xs run a.digest co
       (out_echoed hashed by_digest votes p s is_correct tags enough xs run i a.digest a.carried) in
       let one : of.message ≡ v = same_value xs clear of.voter i of.message v of.correct ci
-      (map_has (λ m. OfMessage m ((tags of.voter).digest m)) (brought (place_of group of.voter) (calls_of of.voter xs)) of.message
+      (map_has (λ m. OfMessage m ((tags of.voter).digest m)) (brought_values (place_of group of.voter) (calls_of of.voter xs)) of.message
       (init_brought (place_of group of.voter) (calls_of of.voter xs) of.message of.heard))
       (known_met (place_of group i) (tags i) (calls_of i xs) a.digest v a.known_so)
       (of.made ∙ sym (known_is (place_of group i) (tags i) (calls_of i xs) a.digest v a.known_so).1) in

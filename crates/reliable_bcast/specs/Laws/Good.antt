@@ -19,8 +19,8 @@ use Rattle.frame_codec.specs.Format.{Format, Is}
 use Rattle.frame_codec.specs.Grammar.{payload, value}
 use Rattle.frame_codec.specs.Body.{IsInGrammar, is_of_form}
 use Rattle.layer_api.specs.OneValue.{AreGoodCalls, IsOfSlot}
-use Rattle.reliable_bcast.specs.Bracha.{bracha, is_reliable, is_backed, is_carried, out_of}
-use Rattle.reliable_bcast.specs.Laws.Due.{value_due, IsDue}
+use Rattle.reliable_bcast.specs.Bracha.{bracha, is_reliable, is_backed, is_carried, out_by_value}
+use Rattle.reliable_bcast.specs.Laws.Due.{value_due, IsValueDue}
 
 -- in form 1 the payload of a reliable kind is the slot's value
 plain_at : (p : Numbers) (mode : Mode) (form : ℕ) (kind : Kind) (s : Slot) → form ≡ 1 → form_of mode s ≡ form → is_reliable kind ≡ true → payload p mode kind s ≡ value p mode.root s
@@ -120,7 +120,7 @@ value_good at mode h kinds.Want v of_slot good e = absurd (cc)
 value_good at mode h kinds.Value v of_slot good e = absurd (cc)
 
 pub due_good : (at : Place) (mode : Mode) (h : List Call) (m : Msg)
-    → IsOfSlot bracha at.numbers mode at.slot → AreGoodCalls at.numbers mode at.slot h → IsDue at h m → IsInGrammar at.numbers mode (item_of at.me m)
+    → IsOfSlot bracha at.numbers mode at.slot → AreGoodCalls at.numbers mode at.slot h → IsValueDue at h m → IsInGrammar at.numbers mode (item_of at.me m)
 due_good at mode h m of_slot good due =
     let here : at.slot ≡ m.slot = ap (λ (x : Msg). x.slot) (sym due.whole) in
     let plain_kind : is_of_form (form_of mode m.slot) m.kind ≡ true =
@@ -135,5 +135,5 @@ due_good at mode h m of_slot good due =
     }
 
 pub out_good : (at : Place) (mode : Mode) (h : List Call) (v : List ℕ)
-    → IsOfSlot bracha at.numbers mode at.slot → AreGoodCalls at.numbers mode at.slot h → out_of at h ≡ Some v → Is (value at.numbers mode.root at.slot) v
+    → IsOfSlot bracha at.numbers mode at.slot → AreGoodCalls at.numbers mode at.slot h → out_by_value at h ≡ Some v → Is (value at.numbers mode.root at.slot) v
 out_good at mode h v of_slot good e = shortest_good at.numbers mode at.slot (is_carried at.numbers) h v of_slot good e

@@ -8,7 +8,7 @@ use Rattle.ritas_base.specs.History.{Call, first}
 use Rattle.ritas_base.specs.Messages.{Place}
 use Rattle.ritas_base.specs.Tags.{Tags}
 use Rattle.layer_api.specs.OneValue.{OneValue}
-use Rattle.reliable_bcast.specs.Bracha.{bracha, due_of}
+use Rattle.reliable_bcast.specs.Bracha.{bracha, due_by_value}
 use Rattle.reliable_bcast.specs.Laws.Due.{value_due, due_is, listed_has}
 use Rattle.reliable_bcast.specs.Laws.Voted.{IsVotedAt, IsVoted, out_echoed, echoed_same, echoed_started}
 use Rattle.reliable_bcast.specs.Digests.{echo_of}
@@ -32,7 +32,7 @@ as_voted at tags h kinds.Want v e = tt
 as_voted at tags h kinds.Value v e = tt
 
 votes : IsVoted itself bracha
-votes = record { due = λ at tags h m there. as_voted at tags h m.kind m.value (due_is at h m (listed_has (due_of at h) m there)).value }
+votes = record { due = λ at tags h m there. as_voted at tags h m.kind m.value (due_is at h m (listed_has (due_by_value at h) m there)).value }
 
 pub one_value_of_bracha : OneValue bracha
 one_value_of_bracha =

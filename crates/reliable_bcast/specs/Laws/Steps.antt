@@ -21,9 +21,9 @@ use Rattle.ritas_base.specs.MessagesLaws.{gained, gained_none, gained_if, messag
 use Rattle.ritas_base.specs.Tags.{Tags}
 use Rattle.layer_api.specs.Broadcast.{MayTake, news, is_of_origin}
 use Rattle.reliable_bcast.specs.declared.rb.Rb.{Rb}
-use Rattle.reliable_bcast.specs.Bracha.{bracha, is_reliable, is_backed, is_carried, some_backed, some_carried, ready_value, out_of, due_of}
+use Rattle.reliable_bcast.specs.Bracha.{bracha, is_reliable, is_backed, is_carried, some_backed, some_carried, ready_value, out_by_value, due_by_value}
 use Rattle.reliable_bcast.specs.State.{state_of, after_item, says_item, counts_item}
-use Rattle.reliable_bcast.specs.Tally.{is_awaited}
+use Rattle.ritas_base.specs.Places.{is_awaited}
 
 -- ---- the value at the shortest prefix with one that passes
 
@@ -104,7 +104,7 @@ pub ready_quiet : (p : Numbers) (h : List Call) (c : Call) → ((k : ℕ) → to
     → ready_value p (c ∷ h) ≡ ready_value p h
 ready_quiet p h c echo ready = shortest_quiet (is_backed p) h c (backed_same p h c echo ready) (unvoted_backed p h)
 
-pub out_quiet : (at : Place) (h : List Call) (c : Call) → ((k : ℕ) → told k Ready c ≡ None) → out_of at (c ∷ h) ≡ out_of at h
+pub out_quiet : (at : Place) (h : List Call) (c : Call) → ((k : ℕ) → told k Ready c ≡ None) → out_by_value at (c ∷ h) ≡ out_by_value at h
 out_quiet at h c ready = shortest_quiet (is_carried at.numbers) h c (carried_same at.numbers h c ready) (unvoted_carried at.numbers h)
 
 -- an ECHO that is the first of its sender
@@ -127,12 +127,12 @@ ready_ready p h i kind new within =
     ∙ ap (λ x. option_or (ready_value p h) (cond (backing p (firsts p.n h Echo) x i.value) (Some i.value) None)) rs)
 
 pub out_ready : (at : Place) (h : List Call) (i : Item) → i.kind ≡ Ready → first h i.from Ready ≡ None → i.from < at.numbers.n
-    → out_of at (Take i ∷ h) ≡ option_or (out_of at h) (cond (carrying at.numbers (set (firsts at.numbers.n h Ready) i.from (Some i.value)) i.value) (Some i.value) None)
+    → out_by_value at (Take i ∷ h) ≡ option_or (out_by_value at h) (cond (carrying at.numbers (set (firsts at.numbers.n h Ready) i.from (Some i.value)) i.value) (Some i.value) None)
 out_ready at h i kind new within =
     let p = at.numbers in
     let rs = firsts_vote p.n h Ready i (ap (λ k. kind_eq k Ready) kind) new within in
     shortest_vote (is_carried p) h i (carried_kept p h i)
-    ∙ ap (λ x. option_or (out_of at h) (cond (carrying p x i.value) (Some i.value) None)) rs
+    ∙ ap (λ x. option_or (out_by_value at h) (cond (carrying p x i.value) (Some i.value) None)) rs
 
 -- ---- what is newly due
 
@@ -179,13 +179,13 @@ same_parts s a a' b b' c c' p q r = cc
 due_more : (at : Place) (tags : Tags) (h : List Call) (c : Call) (r : Option (List ℕ)) → ready_value at.numbers (c ∷ h) ≡ option_or (ready_value at.numbers h) r
     → news bracha at tags h c ≡ parts at.slot (gained (started h) (start_of c)) (gained (first h at.slot.origin Init) (told at.slot.origin Init c)) (gained (ready_value at.numbers h) r)
 due_more at tags h c r e =
-    ap (without (due_of at h)) (same_parts at.slot _ _ _ _ _ _ refl refl e)
+    ap (without (due_by_value at h)) (same_parts at.slot _ _ _ _ _ _ refl refl e)
     ∙ without_parts at.slot (started h) (start_of c) (first h at.slot.origin Init) (told at.slot.origin Init c) (ready_value at.numbers h) r
 
 -- ---- one call
 
 -- the state after a call, and what is put out by it
-pub record IsStep (at : Place) (tags : Tags) (h : List Call) (c : Call) (after : Rb) (put : List Msg) : Type 0 where
+pub record IsValueStep (at : Place) (tags : Tags) (h : List Call) (c : Call) (after : Rb) (put : List Msg) : Type 0 where
   pub state : after ≡ state_of at (c ∷ h)
   pub said : put ≡ news bracha at tags h c
 
@@ -205,7 +205,7 @@ is_some_or_some None m = refl
 is_some_or_some (Some x) m = refl
 
 step_init : (at : Place) (tags : Tags) (h : List Call) (i : Item) → i.kind ≡ Init → i.from ≡ at.slot.origin → first h i.from Init ≡ None
-    → IsStep at tags h (Take i) (after_item Init (state_of at h) i) (says_item Init (state_of at h) i)
+    → IsValueStep at tags h (Take i) (after_item Init (state_of at h) i) (says_item Init (state_of at h) i)
 step_init at tags h i kind mine new =
     let p = at.numbers in
     let quiet : (k : Kind) → kind_eq i.kind k ≡ false → (j : ℕ) → told j k (Take i) ≡ None = λ k e j. told_not_this j k i e in
@@ -227,7 +227,7 @@ step_init at tags h i kind mine new =
     }
 
 step_echo : (at : Place) (tags : Tags) (h : List Call) (i : Item) → i.kind ≡ Echo → i.from < at.numbers.n → first h i.from Echo ≡ None
-    → IsStep at tags h (Take i) (after_item Echo (state_of at h) i) (says_item Echo (state_of at h) i)
+    → IsValueStep at tags h (Take i) (after_item Echo (state_of at h) i) (says_item Echo (state_of at h) i)
 step_echo at tags h i kind within new =
     let p = at.numbers in
     let init : told at.slot.origin Init (Take i) ≡ None = told_not_this at.slot.origin Init i (ap (λ k. kind_eq k Init) kind) in
@@ -246,7 +246,7 @@ step_echo at tags h i kind within new =
     }
 
 step_ready : (at : Place) (tags : Tags) (h : List Call) (i : Item) → i.kind ≡ Ready → i.from < at.numbers.n → first h i.from Ready ≡ None
-    → IsStep at tags h (Take i) (after_item Ready (state_of at h) i) (says_item Ready (state_of at h) i)
+    → IsValueStep at tags h (Take i) (after_item Ready (state_of at h) i) (says_item Ready (state_of at h) i)
 step_ready at tags h i kind within new =
     let p = at.numbers in
     let init : told at.slot.origin Init (Take i) ≡ None = told_not_this at.slot.origin Init i (ap (λ k. kind_eq k Init) kind) in
@@ -265,7 +265,7 @@ step_ready at tags h i kind within new =
     }
 
 -- a start that is the first changes nothing that is kept, and INIT is new
-pub step_start : (at : Place) (tags : Tags) (h : List Call) (m : List ℕ) → started h ≡ None → IsStep at tags h (Start m) (state_of at h) (to_all at.slot Init (Some m))
+pub step_start : (at : Place) (tags : Tags) (h : List Call) (m : List ℕ) → started h ≡ None → IsValueStep at tags h (Start m) (state_of at h) (to_all at.slot Init (Some m))
 step_start at tags h m new =
     let p = at.numbers in
     let none : ready_value p (Start m ∷ h) ≡ ready_value p h = ready_quiet p h (Start m) (λ j. refl) (λ j. refl) in
@@ -312,7 +312,7 @@ pub counts_is : (at : Place) (tags : Tags) (h : List Call) (i : Item) → MayTak
 counts_is at tags h i may = counts_kind at h i.kind i.from may.kind may.sender (from_origin at tags h i may)
 
 step_kind : (at : Place) (tags : Tags) (h : List Call) (i : Item) (kind : Kind) → i.kind ≡ kind → is_reliable kind ≡ true → MayTake bracha at tags h i → first h i.from kind ≡ None
-    → IsStep at tags h (Take i) (after_item kind (state_of at h) i) (says_item kind (state_of at h) i)
+    → IsValueStep at tags h (Take i) (after_item kind (state_of at h) i) (says_item kind (state_of at h) i)
 step_kind at tags h i kinds.Init e reliable may new = step_init at tags h i e (from_origin at tags h i may e) new
 step_kind at tags h i kinds.Echo e reliable may new = step_echo at tags h i e may.sender new
 step_kind at tags h i kinds.Ready e reliable may new = step_ready at tags h i e may.sender new
@@ -328,7 +328,7 @@ from_not (Some x) b e t = absurd (both_ways b e t)
 
 -- an item that counts
 pub step_take : (at : Place) (tags : Tags) (h : List Call) (i : Item) → MayTake bracha at tags h i → counts_item i.kind (state_of at h) i.from ≡ true
-    → IsStep at tags h (Take i) (after_item i.kind (state_of at h) i) (says_item i.kind (state_of at h) i)
+    → IsValueStep at tags h (Take i) (after_item i.kind (state_of at h) i) (says_item i.kind (state_of at h) i)
 step_take at tags h i may counts =
     step_kind at tags h i i.kind refl may.kind may (from_not (first h i.from i.kind) _ (counts_is at tags h i may) counts)
 

@@ -20,10 +20,10 @@ use Rattle.ritas_base.specs.Quorums.{meet_two, meet_three}
 use Rattle.ritas_base.specs.Tags.{Tags}
 use Rattle.std.specs.Option.{option_or}
 use Rattle.layer_api.specs.Broadcast.{BroadcastRules}
-use Rattle.layer_api.specs.Runs.{Step, Has, calls_of, IsEnough}
+use Rattle.layer_api.specs.Runs.{ReplicaStep, Has, calls_of, IsEnough}
 use Rattle.layer_api.specs.OneValue.{Group, place_of, IsFed, IsRun}
 use Rattle.reliable_bcast.specs.Digests.{echo_of}
-use Rattle.reliable_bcast.specs.Bracha.{is_backed, is_carried, some_backed, some_carried, ready_value, out_of}
+use Rattle.reliable_bcast.specs.Bracha.{is_backed, is_carried, some_backed, some_carried, ready_value, out_by_value}
 
 -- how a message of a kind comes to be due
 abbrev pub IsVotedAt : (Tags → List ℕ → List ℕ) → Place → Tags → List Call → Kind → List ℕ → Type 0
@@ -59,10 +59,10 @@ echoed_is make None v e = absurd (cc)
 echoed_is make (Some m) v e = (m, refl, same_Some (make m) v e)
 
 -- what is delivered has enough READY voters
-out_voted : (at : Place) (h : List Call) (v : List ℕ) → out_of at h ≡ Some v → deliver_of at.numbers ≤ voters at.numbers.n h Ready v
+out_voted : (at : Place) (h : List Call) (v : List ℕ) → out_by_value at h ≡ Some v → deliver_of at.numbers ≤ voters at.numbers.n h Ready v
 out_voted at [] v e = absurd (cc)
 out_voted at (c ∷ h) v e =
-    elim (option_or_some (out_of at h) (some_carried at.numbers (c ∷ h)) v e) [
+    elim (option_or_some (out_by_value at h) (some_carried at.numbers (c ∷ h)) v e) [
       | inl older ↦ let l = out_voted at h v older in let more = voters_stay at.numbers.n c h Ready v in omega (arith, l, more)
       | inr now ↦ leb-true (deliver_of at.numbers) (voters at.numbers.n (c ∷ h) Ready v) (find_passes (is_carried at.numbers (c ∷ h)) (values (c ∷ h)) v now.1)
     ]
@@ -72,30 +72,30 @@ module _ (make : Tags → List ℕ → List ℕ) (r : BroadcastRules) (votes : I
   abbrev pub group : Group
   group = record { rules = r; numbers = p; slot = s; is_correct = is_correct; tags = tags }
 
-  abbrev pub Run : List (Step Call) → Type 0
+  abbrev pub Run : List (ReplicaStep Call) → Type 0
   Run xs = IsRun group xs
 
-  abbrev IsDueAt : ℕ → List (Step Call) → Kind → List ℕ → Type 0
+  abbrev IsDueAt : ℕ → List (ReplicaStep Call) → Kind → List ℕ → Type 0
   IsDueAt k xs kind v = IsVotedAt make (place_of group k) (tags k) (calls_of k xs) kind v
 
   -- a fact that each call keeps is kept by a step
-  kept_by : (P : List Call → Type 0) → ((c : Call) (h : List Call) → P h → P (c ∷ h)) → (i : ℕ) (x : Step Call) (xs : List (Step Call))
+  kept_by : (P : List Call → Type 0) → ((c : Call) (h : List Call) → P h → P (c ∷ h)) → (i : ℕ) (x : ReplicaStep Call) (xs : List (ReplicaStep Call))
       → P (calls_of i xs) → P (calls_of i (x ∷ xs))
   kept_by P more i x xs h = cond_both (x.who == i) (x.call ∷ calls_of i xs) (calls_of i xs) P (λ q. more x.call (calls_of i xs) h) (λ q. h)
 
-  due_step : (k : ℕ) (x : Step Call) (xs : List (Step Call)) (kind : Kind) (v : List ℕ) → IsDueAt k xs kind v → IsDueAt k (x ∷ xs) kind v
+  due_step : (k : ℕ) (x : ReplicaStep Call) (xs : List (ReplicaStep Call)) (kind : Kind) (v : List ℕ) → IsDueAt k xs kind v → IsDueAt k (x ∷ xs) kind v
   due_step k x xs kind v = kept_by (λ h. IsVotedAt make (place_of group k) (tags k) h kind v) (λ c h. voted_stays make (place_of group k) (tags k) c h kind v) k x xs
 
-  abbrev before : List (Step Call) → List (Step Call)
+  abbrev before : List (ReplicaStep Call) → List (ReplicaStep Call)
   before [] = []
   before (x ∷ xs) = xs
 
-  due_before : (k : ℕ) (xs : List (Step Call)) (kind : Kind) (v : List ℕ) → IsDueAt k (before xs) kind v → IsDueAt k xs kind v
+  due_before : (k : ℕ) (xs : List (ReplicaStep Call)) (kind : Kind) (v : List ℕ) → IsDueAt k (before xs) kind v → IsDueAt k xs kind v
   due_before k [] kind v e = e
   due_before k (x ∷ xs) kind v e = due_step k x xs kind v e
 
   -- an item of a correct replica was due there
-  item_due : (xs : List (Step Call)) (i k : ℕ) (y : Item) (kind : Kind) (v : List ℕ) → is_correct k ≡ true → IsFed group xs i (Take y)
+  item_due : (xs : List (ReplicaStep Call)) (i k : ℕ) (y : Item) (kind : Kind) (v : List ℕ) → is_correct k ≡ true → IsFed group xs i (Take y)
       → (y.from ≡ k) × (y.kind ≡ kind) × (y.value ≡ v) → IsDueAt k xs kind v
   item_due xs i k y kind v correct fed told =
       let d = fed.1 (ap is_correct told.0 ∙ correct) in
@@ -105,7 +105,7 @@ module _ (make : Tags → List ℕ → List ℕ) (r : BroadcastRules) (votes : I
       (subst (λ (l : Kind). IsDueAt y.from xs l d.message.value) (ap (λ (z : Item). z.kind) d.same ∙ told.1) due))
 
   -- what a correct replica has as the first of a kind from a correct one was due there before
-  first_due : (i k : ℕ) (kind : Kind) (v : List ℕ) → is_correct k ≡ true → (xs : List (Step Call)) → Run xs
+  first_due : (i k : ℕ) (kind : Kind) (v : List ℕ) → is_correct k ≡ true → (xs : List (ReplicaStep Call)) → Run xs
       → first (calls_of i xs) k kind ≡ Some v → IsDueAt k (before xs) kind v
   first_due i k kind v correct [] run e = absurd (cc)
   first_due i k kind v correct (x ∷ xs) run e = go (x.who == i) refl e (λ q. due_before k xs kind v (first_due i k kind v correct xs run.2 q))
@@ -122,12 +122,12 @@ module _ (make : Tags → List ℕ → List ℕ) (r : BroadcastRules) (votes : I
       go false e q older = older q
 
   -- some correct replica has a quorum of ECHO voters for v
-  pub record IsEchoed (xs : List (Step Call)) (v : List ℕ) : Type 0 where
+  pub record IsEchoed (xs : List (ReplicaStep Call)) (v : List ℕ) : Type 0 where
     pub at : ℕ
     pub correct : is_correct at ≡ true
     pub many : quorum_of p ≤ voters p.n (calls_of at xs) Echo v
 
-  echoed_step : (x : Step Call) (xs : List (Step Call)) (v : List ℕ) → IsEchoed xs v → IsEchoed (x ∷ xs) v
+  echoed_step : (x : ReplicaStep Call) (xs : List (ReplicaStep Call)) (v : List ℕ) → IsEchoed xs v → IsEchoed (x ∷ xs) v
   echoed_step x xs v t =
       record {
         at = t.at;
@@ -153,7 +153,7 @@ module _ (make : Tags → List ℕ → List ℕ) (r : BroadcastRules) (votes : I
       record { voter = met.member; correct = met.second; voted = is_value_is v (first h met.member kind) met.first }
 
   -- a value for which READY is due at a correct replica is echoed
-  ready_echoed : (xs : List (Step Call)) → Run xs → (i : ℕ) (v : List ℕ) → is_correct i ≡ true → ready_value p (calls_of i xs) ≡ Some v → IsEchoed xs v
+  ready_echoed : (xs : List (ReplicaStep Call)) → Run xs → (i : ℕ) (v : List ℕ) → is_correct i ≡ true → ready_value p (calls_of i xs) ≡ Some v → IsEchoed xs v
   ready_echoed [] run i v correct e = absurd (cc)
   ready_echoed (x ∷ xs) run i v correct e = go (x.who == i) refl e (λ k ck q. echoed_step x xs v (ready_echoed xs run.2 k v ck q))
     where
@@ -179,14 +179,14 @@ module _ (make : Tags → List ℕ → List ℕ) (r : BroadcastRules) (votes : I
       go false t q ih = ih i correct q
 
   -- what is delivered is echoed
-  pub out_echoed : (xs : List (Step Call)) → Run xs → (i : ℕ) (v : List ℕ) → out_of (place_of group i) (calls_of i xs) ≡ Some v → IsEchoed xs v
+  pub out_echoed : (xs : List (ReplicaStep Call)) → Run xs → (i : ℕ) (v : List ℕ) → out_by_value (place_of group i) (calls_of i xs) ≡ Some v → IsEchoed xs v
   out_echoed xs run i v e =
       let many = out_voted (place_of group i) (calls_of i xs) v e in
       let one = correct_voter Ready v (calls_of i xs) (omega (arith, many)) in
       ready_echoed xs run one.voter v one.correct (due_before one.voter xs Ready v (first_due i one.voter Ready v one.correct xs run one.voted))
 
   -- two quorums of ECHO voters share a correct one, whose first INIT both are for
-  pub echoed_same : (xs : List (Step Call)) → Run xs → (v u : List ℕ) → IsEchoed xs v → IsEchoed xs u → v ≡ u
+  pub echoed_same : (xs : List (ReplicaStep Call)) → Run xs → (v u : List ℕ) → IsEchoed xs v → IsEchoed xs u → v ≡ u
   echoed_same xs run v u a b =
       let all = enough.many in
       let many_v = a.many in
@@ -204,7 +204,7 @@ module _ (make : Tags → List ℕ → List ℕ) (r : BroadcastRules) (votes : I
       one_of (echo_of (make (tags met.member)) (first (calls_of met.member xs) s.origin Init)) v u init_v init_u
 
   -- where the origin is correct, it started what is echoed, and a correct replica has it as its first INIT
-  pub record IsOfOrigin (xs : List (Step Call)) (v : List ℕ) : Type 0 where
+  pub record IsOfOrigin (xs : List (ReplicaStep Call)) (v : List ℕ) : Type 0 where
     pub voter : ℕ
     pub correct : is_correct voter ≡ true
     pub message : List ℕ
@@ -212,7 +212,7 @@ module _ (make : Tags → List ℕ → List ℕ) (r : BroadcastRules) (votes : I
     pub made : make (tags voter) message ≡ v
     pub was_started : started (calls_of s.origin xs) ≡ Some message
 
-  pub echoed_started : (xs : List (Step Call)) → Run xs → (v : List ℕ) → is_correct s.origin ≡ true → IsEchoed xs v → IsOfOrigin xs v
+  pub echoed_started : (xs : List (ReplicaStep Call)) → Run xs → (v : List ℕ) → is_correct s.origin ≡ true → IsEchoed xs v → IsOfOrigin xs v
   echoed_started xs run v correct a =
       let many = a.many in
       let session = enough.session.enough in

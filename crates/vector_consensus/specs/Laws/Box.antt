@@ -1,6 +1,6 @@
 -- The laws of a single value of vector consensus, from those of its multi-valued consensus.
 use Rattle.std.specs.Prelude.{◌≡◌, ℕ, zero, suc, ◌+◌, ◌<◌, ◌≤◌, Bool, true, false, ◌==◌, ◌&&◌, nat_le, if◌then◌else◌, List, [], ◌∷◌, ◌++◌, count_by, Option, Some, None, is_some, option_map, refl}
-use Rattle.std.specs.Option.{option_or}
+use Rattle.std.specs.Option.{option_or, option_flatten}
 use Rattle.std.proofs.Common.{sym, ◌∙◌, ap, ap₂, subst, inl, inr, arith}
 use Rattle.std.proofs.lemmas.Bool.{and_parts, and_from, and_right, both_ways, lt-leb, le-leb, eq-eqb, cases_order}
 use Rattle.std.proofs.lemmas.Option.{none-some}
@@ -21,24 +21,24 @@ use Rattle.layer_api.specs.PartLaws.{says_in_all}
 use Rattle.layer_api.specs.FreshLaws.{unsaid, has_said, fresh_append, fresh_other, fresh_newly, fresh_in}
 use Rattle.layer_api.specs.Multi.{Scope, Desk, MultiRules, MayMulti, AreMulti, IsMultiSaid, MultiLaws}
 use Rattle.layer_api.specs.Vectors.{HasVectors, is_vector_slot, AreVector, IsVectorSaid, VectorLaws}
-use Rattle.vector_consensus.specs.Consensus.{prop_slot, props, vector_of, is_of_try, try_desk, is_none, value_of, failed_below, decided_below, attempt_below, try_words, try_decides, try_ask, says_below, try_inside, inside_at, opens_at, vectors}
+use Rattle.vector_consensus.specs.Consensus.{prop_slot, props, vector_of, is_of_try, try_desk, is_none, failed_below, vector_decided_below, attempt_below, try_words, try_decides, try_ask, attempts_say_below, try_inside, inside_at, vector_opens, vectors}
 use Rattle.vector_consensus.specs.Laws.Proposals.{prop_value, vector_class}
 use Rattle.vector_consensus.specs.Laws.Tries.{IsOfTry, of_try, outer_slot, words_met, tried_good, below_said, try_said, prop_said}
 use Rattle.vector_consensus.specs.Laws.Agreement.{none_is, value_is, if_true, failed_each, decided_by, attempt_by}
 
 -- where all attempts below one failed, none of them decided a value
-pub failed_nothing : (m : MultiRules) (at : Desk) (n : ℕ) (w : List Word) → failed_below m at n w ≡ true → decided_below m at n w ≡ None
+pub failed_nothing : (m : MultiRules) (at : Desk) (n : ℕ) (w : List Word) → failed_below m at n w ≡ true → vector_decided_below m at n w ≡ None
 failed_nothing m at zero w q = refl
 failed_nothing m at (suc n) w q =
     let x = and_parts (failed_below m at n w) _ q in
     let d = none_is (try_decides m at n w) x.1 in
-    ap₂ (λ (o : Option (List ℕ)) (b : Bool). option_or o (if b then value_of (try_decides m at n w) else None)) (failed_nothing m at n w x.0) x.0
-    ∙ ap value_of d
+    ap₂ (λ (o : Option (List ℕ)) (b : Bool). option_or o (if b then option_flatten (try_decides m at n w) else None)) (failed_nothing m at n w x.0) x.0
+    ∙ ap option_flatten d
 
 -- an attempt decided where something is decided
-pub attempt_there : (m : MultiRules) (at : Desk) (n : ℕ) (w : List Word) → is_some (attempt_below m at n w) ≡ is_some (decided_below m at n w)
+pub attempt_there : (m : MultiRules) (at : Desk) (n : ℕ) (w : List Word) → is_some (attempt_below m at n w) ≡ is_some (vector_decided_below m at n w)
 attempt_there m at zero w = refl
-attempt_there m at (suc n) w = go (attempt_below m at n w) (decided_below m at n w) (failed_below m at n w) (value_of (try_decides m at n w)) (attempt_there m at n w)
+attempt_there m at (suc n) w = go (attempt_below m at n w) (vector_decided_below m at n w) (failed_below m at n w) (option_flatten (try_decides m at n w)) (attempt_there m at n w)
   where
     go : (o : Option ℕ) (u : Option (List ℕ)) (b : Bool) (d : Option (List ℕ)) → is_some o ≡ is_some u
         → is_some (option_or o (if b then option_map (λ v. n) d else None)) ≡ is_some (option_or u (if b then d else None))
@@ -57,9 +57,9 @@ attempt_is m at (suc n) k w v l f d =
     elim (cases_order k n) [
       | inl same ↦
           let none : attempt_below m at k w ≡ None = not_there (attempt_below m at k w) (attempt_there m at k w ∙ ap is_some (failed_nothing m at k w f)) in
-          subst (λ (j : ℕ). option_or (attempt_below m at j w) (if failed_below m at j w then option_map (λ x. j) (value_of (try_decides m at j w)) else None) ≡ Some k) same
-          (ap₂ (λ (o : Option ℕ) (b : Bool). option_or o (if b then option_map (λ x. k) (value_of (try_decides m at k w)) else None)) none f
-          ∙ ap (λ (o : Option (Option (List ℕ))). option_map (λ x. k) (value_of o)) d)
+          subst (λ (j : ℕ). option_or (attempt_below m at j w) (if failed_below m at j w then option_map (λ x. j) (option_flatten (try_decides m at j w)) else None) ≡ Some k) same
+          (ap₂ (λ (o : Option ℕ) (b : Bool). option_or o (if b then option_map (λ x. k) (option_flatten (try_decides m at k w)) else None)) none f
+          ∙ ap (λ (o : Option (Option (List ℕ))). option_map (λ x. k) (option_flatten o)) d)
       | inr (inl less) ↦ option_or_older (attempt_below m at n w) _ k (attempt_is m at n k w v less f d)
       | inr (inr more) ↦ absurd (omega (arith, l, more))
     ]
@@ -68,7 +68,7 @@ attempt_is m at (suc n) k w v l f d =
 
 module _ (m : MultiRules) (laws : MultiLaws m) (at : Desk) where
   -- nothing is open, nothing is decided, and it is not spent
-  pub opens_first : (s : Slot) → opens_at m at [] s ≡ false
+  pub opens_first : (s : Slot) → vector_opens m at [] s ≡ false
   opens_first s = and_right (is_vector_slot at.scope s) _ (go (s.class == 2))
     where
       go : (b : Bool) → (if b then false else m.opens (try_desk at s.attempt) [] s) ≡ false
@@ -76,18 +76,18 @@ module _ (m : MultiRules) (laws : MultiLaws m) (at : Desk) where
       go false = laws.opens_first (try_desk at s.attempt) s
 
   -- where no attempt has a word, nothing is decided
-  nothing_yet : (n : ℕ) (w : List Word) → ((k : ℕ) → try_words m at k w ≡ []) → decided_below m at n w ≡ None
+  nothing_yet : (n : ℕ) (w : List Word) → ((k : ℕ) → try_words m at k w ≡ []) → vector_decided_below m at n w ≡ None
   nothing_yet zero w quiet = refl
   nothing_yet (suc n) w quiet =
-      ap₂ (λ (o : Option (List ℕ)) (d : Option (Option (List ℕ))). option_or o (if failed_below m at n w then value_of d else None)) (nothing_yet n w quiet)
+      ap₂ (λ (o : Option (List ℕ)) (d : Option (Option (List ℕ))). option_or o (if failed_below m at n w then option_flatten d else None)) (nothing_yet n w quiet)
       (ap (m.decision (try_desk at n)) (quiet n) ∙ laws.decision_first (try_desk at n))
       ∙ nothing (failed_below m at n w)
     where
-      nothing : (b : Bool) → (if b then value_of None else None) ≡ None
+      nothing : (b : Bool) → (if b then option_flatten {T = List ℕ} None else None) ≡ None
       nothing true = refl
       nothing false = refl
 
-  pub decision_first : (n : ℕ) → decided_below m at n [] ≡ None
+  pub decision_first : (n : ℕ) → vector_decided_below m at n [] ≡ None
   decision_first n = nothing_yet n [] (λ k. refl)
 
   pub spent_first : (n : ℕ) → failed_below m at (suc n) [] ≡ false
@@ -114,7 +114,7 @@ module _ (m : MultiRules) (laws : MultiLaws m) (at : Desk) where
   quiet : (v : List ℕ) → IsSession at.scope.numbers → (k : ℕ) → try_words m at k (Ask v ∷ []) ≡ []
   quiet v session k = ap (λ (o : Option (List ℕ)). (newly_asked None o ++ []) ++ []) (not_asked v session k)
 
-  pub decision_asked : (v : List ℕ) → IsSession at.scope.numbers → (n : ℕ) → decided_below m at n (Ask v ∷ []) ≡ None
+  pub decision_asked : (v : List ℕ) → IsSession at.scope.numbers → (n : ℕ) → vector_decided_below m at n (Ask v ∷ []) ≡ None
   decision_asked v session n = nothing_yet n (Ask v ∷ []) (quiet v session)
 
   pub spent_asked : (v : List ℕ) → IsSession at.scope.numbers → (n : ℕ) → failed_below m at (suc n) (Ask v ∷ []) ≡ false
@@ -128,8 +128,8 @@ module _ (m : MultiRules) (laws : MultiLaws m) (at : Desk) where
   abbrev attempts : ℕ
   attempts = suc at.scope.numbers.f
 
-  pub inside_own : (w : List Word) → inside_at m at w (OfVector at.scope.a) ≡ vector_decision (decided_below m at attempts w) (failed_below m at attempts w)
-  inside_own w = ap (λ (b : Bool). if b then vector_decision (decided_below m at attempts w) (failed_below m at attempts w) else None) (eq-eqb at.scope.a at.scope.a refl)
+  pub inside_own : (w : List Word) → inside_at m at w (OfVector at.scope.a) ≡ vector_decision (vector_decided_below m at attempts w) (failed_below m at attempts w)
+  inside_own w = ap (λ (b : Bool). if b then vector_decision (vector_decided_below m at attempts w) (failed_below m at attempts w) else None) (eq-eqb at.scope.a at.scope.a refl)
 
   -- an attempt's own instance has its decision
   inside_value : (w : List Word) (k : ℕ) → k ≤ at.scope.numbers.f → inside_at m at w (OfValue at.scope.a k) ≡ option_map value_decision (try_decides m at k w)
@@ -141,7 +141,7 @@ module _ (m : MultiRules) (laws : MultiLaws m) (at : Desk) where
   inside_failed : (w : List Word) (n k : ℕ) → failed_below m at n w ≡ true → k < n → n ≤ attempts → inside_at m at w (OfValue at.scope.a k) ≡ Some Nothing
   inside_failed w n k q l few = inside_value w k (omega (arith, l, few)) ∙ ap (option_map value_decision) (failed_each m at n w q k l)
 
-  pub inside_attempt : (w : List Word) (k : ℕ) (v : List ℕ) → attempt_below m at attempts w ≡ Some k → decided_below m at attempts w ≡ Some v → IsAttemptOf (inside_at m at w) at.scope.a k v
+  pub inside_attempt : (w : List Word) (k : ℕ) (v : List ℕ) → attempt_below m at attempts w ≡ Some k → vector_decided_below m at attempts w ≡ Some v → IsAttemptOf (inside_at m at w) at.scope.a k v
   inside_attempt w k v q d =
       let x = decided_by m at attempts w v d in
       let below = x.below in
@@ -195,17 +195,17 @@ module _ (m : MultiRules) (laws : MultiLaws m) (at : Desk) (session : IsSession 
       and_from (failed_below m at n (c ∷ w)) _ (failed_stays n c w met x.0) (ap is_none (try_stays n c w None met (none_is (try_decides m at n w) x.1)))
 
   pub decided_stays : (n : ℕ) (c : Word) (w : List Word) (v : List ℕ) → AreVector (vectors m) at (c ∷ w)
-      → decided_below m at n w ≡ Some v → decided_below m at n (c ∷ w) ≡ Some v
+      → vector_decided_below m at n w ≡ Some v → vector_decided_below m at n (c ∷ w) ≡ Some v
   decided_stays zero c w v met q = absurd cc
   decided_stays (suc n) c w v met q =
-      elim (option_or_some (decided_below m at n w) (if failed_below m at n w then value_of (try_decides m at n w) else None) v q) [
-        | inl a ↦ option_or_older (decided_below m at n (c ∷ w)) _ v (decided_stays n c w v met a)
+      elim (option_or_some (vector_decided_below m at n w) (if failed_below m at n w then option_flatten (try_decides m at n w) else None) v q) [
+        | inl a ↦ option_or_older (vector_decided_below m at n (c ∷ w)) _ v (decided_stays n c w v met a)
         | inr b ↦
-            let x = if_true (failed_below m at n w) (value_of (try_decides m at n w)) v b.1 in
+            let x = if_true (failed_below m at n w) (option_flatten (try_decides m at n w)) v b.1 in
             let f = failed_stays n c w met x.0 in
             let d = try_stays n c w (Some v) met (value_is (try_decides m at n w) v x.1) in
-            ap₂ (λ (o : Option (List ℕ)) (k : Bool). option_or o (if k then value_of (try_decides m at n (c ∷ w)) else None)) (failed_nothing m at n (c ∷ w) f) f
-            ∙ ap value_of d
+            ap₂ (λ (o : Option (List ℕ)) (k : Bool). option_or o (if k then option_flatten (try_decides m at n (c ∷ w)) else None)) (failed_nothing m at n (c ∷ w) f) f
+            ∙ ap option_flatten d
       ]
 
   -- and so does the attempt that decided it
@@ -232,8 +232,8 @@ module _ (m : MultiRules) (laws : MultiLaws m) (at : Desk) (session : IsSession 
   inside_stays c w (OfValue a k) d met q = tried a k (OfValue a k) c w d met q
   inside_stays c w (OfVector a) d met q =
       let all : ℕ = suc scope.numbers.f in
-      if_stays (a == scope.a) (vector_decision (decided_below m at all w) (failed_below m at all w)) (vector_decision (decided_below m at all (c ∷ w)) (failed_below m at all (c ∷ w))) d
-      (λ e r. vector_stays (decided_below m at all w) (decided_below m at all (c ∷ w)) (failed_below m at all w) (failed_below m at all (c ∷ w)) e
+      if_stays (a == scope.a) (vector_decision (vector_decided_below m at all w) (failed_below m at all w)) (vector_decision (vector_decided_below m at all (c ∷ w)) (failed_below m at all (c ∷ w))) d
+      (λ e r. vector_stays (vector_decided_below m at all w) (vector_decided_below m at all (c ∷ w)) (failed_below m at all w) (failed_below m at all (c ∷ w)) e
       (λ v s. decided_stays all c w v met s) (λ s. let t = failed_stays all c w met s in (t, failed_nothing m at all (c ∷ w) t)) r) q
 
   -- and each multi-valued consensus went by its bit
@@ -246,7 +246,7 @@ module _ (m : MultiRules) (laws : MultiLaws m) (at : Desk) (session : IsSession 
       go true e = laws.inside_bit (try_desk at k) (try_words m at k w) a k (tries_met k w met) o e
 
   -- what is open stays open
-  pub opens_stays : (c : Word) (w : List Word) (s : Slot) → AreVector (vectors m) at (c ∷ w) → opens_at m at w s ≡ true → opens_at m at (c ∷ w) s ≡ true
+  pub opens_stays : (c : Word) (w : List Word) (s : Slot) → AreVector (vectors m) at (c ∷ w) → vector_opens m at w s ≡ true → vector_opens m at (c ∷ w) s ≡ true
   opens_stays c w s met q =
       let x = and_parts (is_vector_slot scope s) _ q in
       and_from (is_vector_slot scope s) _ x.0 (go (s.class == 2) x.1)
@@ -283,7 +283,7 @@ module _ (m : MultiRules) (laws : MultiLaws m) (at : Desk) (session : IsSession 
       (tried_good m laws scope session has coins k at.me (c ∷ w) y met (says_in_all (try_says k) (new_words k w c) (try_words m at k w) y h)).slot
 
   -- and below an attempt, of one of these
-  below_tried : (n : ℕ) (w : List Word) (c : Word) (y : Say) → AreVector (vectors m) at (c ∷ w) → HasSay (says_below m at n w c) y
+  below_tried : (n : ℕ) (w : List Word) (c : Word) (y : Say) → AreVector (vectors m) at (c ∷ w) → HasSay (attempts_say_below m at n w c) y
       → (j : ℕ) × (j < n) × IsOfTry j y.slot
   below_tried n w c y met h =
       let x = below_said m laws scope session has coins n at.me w c y h in
@@ -346,17 +346,17 @@ module _ (m : MultiRules) (laws : MultiLaws m) (at : Desk) (session : IsSession 
       omega (arith, a, b, l))
 
   -- so all that they newly say is new
-  below_fresh : (n : ℕ) → n ≤ suc scope.numbers.f → (w : List Word) (c : Word) → AreVector (vectors m) at (c ∷ w) → AreFresh (IsVectorSaid at) (before w) (says_below m at n w c)
+  below_fresh : (n : ℕ) → n ≤ suc scope.numbers.f → (w : List Word) (c : Word) → AreVector (vectors m) at (c ∷ w) → AreFresh (IsVectorSaid at) (before w) (attempts_say_below m at n w c)
   below_fresh zero few w c met = tt
   below_fresh (suc n) few w c met =
-      fresh_append (IsVectorSaid at) (before w) (says_below m at n w c) (says_of_try n w c) (below_fresh n (omega (arith, few)) w c met) (try_fresh n (omega (arith, few)) w c met)
+      fresh_append (IsVectorSaid at) (before w) (attempts_say_below m at n w c) (says_of_try n w c) (below_fresh n (omega (arith, few)) w c met) (try_fresh n (omega (arith, few)) w c met)
       (λ y h. let x = below_tried n w c y met h in not_again n w c y.slot x.0 met x.2 x.1)
 
   -- nor is anything that the attempts say at the slot of the proposal
   own_apart : (w : List Word) (c : Word) → AreVector (vectors m) at (c ∷ w) → (y : Say) → HasSay (newly (prop_slot scope at.me) (proposed w) (proposed (c ∷ w))) y
-      → is_said (says_below m at (suc scope.numbers.f) w c) y.slot ≡ false
+      → is_said (attempts_say_below m at (suc scope.numbers.f) w c) y.slot ≡ false
   own_apart w c met y h =
-      let below = says_below m at (suc scope.numbers.f) w c in
+      let below = attempts_say_below m at (suc scope.numbers.f) w c in
       subst (λ (s : Slot). is_said below s ≡ false) (newly_said (prop_slot scope at.me) (proposed w) (proposed (c ∷ w)) y.slot y.value h).0
       (unsaid below (prop_slot scope at.me) (λ v s.
       let l = (below_tried (suc scope.numbers.f) w c (record { slot = prop_slot scope at.me; value = v }) met s).2.class in
@@ -365,7 +365,7 @@ module _ (m : MultiRules) (laws : MultiLaws m) (at : Desk) (session : IsSession 
   -- and all that a word newly says
   pub says_new : (c : Word) (w : List Word) → AreVector (vectors m) at (c ∷ w) → AreFresh (IsVectorSaid at) (before w) ((vectors m).says at w c)
   says_new c w met =
-      fresh_append (IsVectorSaid at) (before w) (newly (prop_slot scope at.me) (proposed w) (proposed (c ∷ w))) (says_below m at (suc scope.numbers.f) w c)
+      fresh_append (IsVectorSaid at) (before w) (newly (prop_slot scope at.me) (proposed w) (proposed (c ∷ w))) (attempts_say_below m at (suc scope.numbers.f) w c)
       (own_fresh w c met) (below_fresh (suc scope.numbers.f) (omega arith) w c met) (own_apart w c met)
 
 -- the laws of a single value

@@ -16,10 +16,10 @@ use Rattle.ritas_base.specs.Numbers.{IsSession, wait_of}
 use Rattle.ritas_base.specs.History.{replicas}
 use Rattle.ritas_base.specs.Quorums.{count_yes, count_no}
 use Rattle.frame_codec.specs.Format.{Format, Is}
-use Rattle.frame_codec.specs.Values.{at_place, entries_in, entry_of}
+use Rattle.frame_codec.specs.Values.{at_place, entries_in, entry_at_place}
 use Rattle.frame_codec.specs.VectorLaws.{class2_short}
 use Rattle.frame_codec.specs.ColumnLaws.{vector_again}
-use Rattle.layer_api.specs.Runs.{Step, calls_of, Has, IsEnough}
+use Rattle.layer_api.specs.Runs.{ReplicaStep, calls_of, Has, IsEnough}
 use Rattle.layer_api.specs.Words.{Word, Ask, value_at}
 use Rattle.layer_api.specs.Part.{proposed}
 use Rattle.layer_api.specs.Fed.{Play, IsFedRun}
@@ -29,7 +29,7 @@ use Rattle.layer_api.specs.Multi.{Scope, MultiRules, MultiLaws, OneDecision}
 use Rattle.layer_api.specs.Vectors.{HasVectors, MayVector, AreVector, vector_play}
 use Rattle.vector_consensus.specs.Consensus.{prop_slot, props, present, vector_of, try_at, is_of_try, try_scope, failed_below, vectors}
 use Rattle.vector_consensus.specs.Laws.Proposals.{present_length, present_all, prop_value}
-use Rattle.vector_consensus.specs.Laws.Tries.{play, desk, ask, ask_stays, ask_nothing, try_run, try_fed, try_calls, prop_said}
+use Rattle.vector_consensus.specs.Laws.Tries.{vector_box_play, vector_desk, ask_attempt, ask_stays, ask_nothing, try_run, try_fed, try_calls, prop_said}
 use Rattle.vector_consensus.specs.Laws.Agreement.{decided_by, to_run}
 
 -- ---- what stands at a place
@@ -74,7 +74,7 @@ abbrev pub AreShort : Scope → List Word → Type 0
 AreShort at h = (k : ℕ) (v : List ℕ) → value_at h (prop_slot at k) ≡ Some v → length v < 2 ^ 16
 
 -- its entries are those proposals
-pub entry_is : (at : Scope) → IsSession at.numbers → (h : List Word) → AreShort at h → (k : ℕ) (e : List ℕ) → entry_of (vector_of at h) k ≡ Some e
+pub entry_is : (at : Scope) → IsSession at.numbers → (h : List Word) → AreShort at h → (k : ℕ) (e : List ℕ) → entry_at_place (vector_of at h) k ≡ Some e
     → value_at h (prop_slot at k) ≡ Some e
 entry_is at session h short k e q =
     let hs = props at h in
@@ -99,13 +99,13 @@ entry_is at session h short k e q =
 
 -- ---- a run
 
-module _ (m : MultiRules) (laws : MultiLaws m) (one : OneDecision m) (at : Scope) (is_correct : ℕ → Bool) (coins : ℕ → Slot → Bool) (xs : List (Step Word))
+module _ (m : MultiRules) (laws : MultiLaws m) (one : OneDecision m) (at : Scope) (is_correct : ℕ → Bool) (coins : ℕ → Slot → Bool) (xs : List (ReplicaStep Word))
     (enough : IsEnough at.numbers is_correct) (has : HasVectors at) (fed : IsFedRun (vector_play (vectors m) at coins) is_correct xs) where
   abbrev here_play : Play
-  here_play = play m laws at enough.session has coins
+  here_play = vector_box_play m laws at enough.session has coins
 
   record IsOlder (i : ℕ) (g : List Word) : Type 0 where
-    met : AreVector (vectors m) (desk m laws at enough.session has coins i) g
+    met : AreVector (vectors m) (vector_desk m laws at enough.session has coins i) g
     value : (s : Slot) (v : List ℕ) → value_at g s ≡ Some v → value_at (calls_of i xs) s ≡ Some v
 
   older_less : (i : ℕ) (c : Word) (h : List Word) → IsOlder i (c ∷ h) → IsOlder i h
@@ -117,7 +117,7 @@ module _ (m : MultiRules) (laws : MultiLaws m) (one : OneDecision m) (at : Scope
   -- proposals are of class 2, so they are short
   older_short : (i : ℕ) (g : List Word) → IsOlder i g → AreShort at g
   older_short i g o k v q =
-      let may = (heard_met (MayVector (vectors m) (desk m laws at enough.session has coins i)) g (prop_slot at k) v o.met q).1 in
+      let may = (heard_met (MayVector (vectors m) (vector_desk m laws at enough.session has coins i)) g (prop_slot at k) v o.met q).1 in
       let l = (class2_short at.numbers at.root v (subst (λ (f : Format). Is f v) (prop_value at.numbers at.root at k) may.good)).1 in
       let big : 512 < 2 ^ 16 = lit≤ tt in
       omega (arith, l, big)
@@ -125,29 +125,29 @@ module _ (m : MultiRules) (laws : MultiLaws m) (one : OneDecision m) (at : Scope
   -- what was heard of a correct replica's proposal it proposed
   heard_asked : (i k : ℕ) (v : List ℕ) → is_correct k ≡ true → value_at (calls_of i xs) (prop_slot at k) ≡ Some v → Has (calls_of k xs) (Ask v)
   heard_asked i k v ck q =
-      let s = heard_said here_play is_correct (λ j c w y h. say_later ((vectors m).says (desk m laws at enough.session has coins j) w c) _ y h) xs fed i (prop_slot at k) v q ck in
+      let s = heard_said here_play is_correct (λ j c w y h. say_later ((vectors m).says (vector_desk m laws at enough.session has coins j) w c) _ y h) xs fed i (prop_slot at k) v q ck in
       proposed_has (calls_of k xs) v (prop_said m laws at enough.session has coins k (calls_of k xs) v (older_all k).met s)
 
   -- an attempt is asked a vector whose entries are what correct replicas proposed
-  asked_entry : (t j : ℕ) (v : List ℕ) → ask m laws at enough.session has coins t j (calls_of j xs) ≡ Some v → (k : ℕ) (e : List ℕ) → is_correct k ≡ true
-      → entry_of v k ≡ Some e → Has (calls_of k xs) (Ask e)
+  asked_entry : (t j : ℕ) (v : List ℕ) → ask_attempt m laws at enough.session has coins t j (calls_of j xs) ≡ Some v → (k : ℕ) (e : List ℕ) → is_correct k ≡ true
+      → entry_at_place v k ≡ Some e → Has (calls_of k xs) (Ask e)
   asked_entry t j v q k e ck r =
-      let failed = failed_below m (desk m laws at enough.session has coins j) t in
+      let failed = failed_below m (vector_desk m laws at enough.session has coins j) t in
       let g = shortest_at (IsOlder j) (older_less j) (try_at at t failed) (calls_of j xs) v (older_all j) q in
       let s = some_if (is_some (proposed g.0) && (failed g.0 && nat_le (wait_of at.numbers + t) (count_by is_some (props at g.0)))) (vector_of at g.0) v g.2 in
-      let e_is = entry_is at enough.session g.0 (older_short j g.0 g.1) k e (ap (λ (x : List ℕ). entry_of x k) s.1 ∙ r) in
+      let e_is = entry_is at enough.session g.0 (older_short j g.0 g.1) k e (ap (λ (x : List ℕ). entry_at_place x k) s.1 ∙ r) in
       heard_asked j k e ck (g.1.value (prop_slot at k) e e_is)
 
   -- in a decided vector the entry of a correct replica is what it proposed
   pub entry_asked : (i k : ℕ) (v e : List ℕ) → is_correct i ≡ true → is_correct k ≡ true
-      → (vectors m).decision (desk m laws at enough.session has coins i) (calls_of i xs) ≡ Some v → entry_of v k ≡ Some e → Has (calls_of k xs) (Ask e)
+      → (vectors m).decision (vector_desk m laws at enough.session has coins i) (calls_of i xs) ≡ Some v → entry_at_place v k ≡ Some e → Has (calls_of k xs) (Ask e)
   entry_asked i k v e ci ck q r =
-      let d = decided_by m (desk m laws at enough.session has coins i) (suc at.numbers.f) (calls_of i xs) v q in
+      let d = decided_by m (vector_desk m laws at enough.session has coins i) (suc at.numbers.f) (calls_of i xs) v q in
       let t : ℕ = d.attempt in
       let j = one.valid (try_scope at t) is_correct coins (try_run m laws at enough.session has coins t xs) enough
       (try_fed m laws at enough.session has coins is_correct t xs fed) i v ci
       (to_run m laws one at is_correct coins xs enough has fed t i (Some v) d.decides) in
-      let failed = failed_below m (desk m laws at enough.session has coins j.0) t in
-      let a = part_has (ask m laws at enough.session has coins t j.0) (is_of_try t) (ask_stays at t failed) (ask_nothing at t failed) (calls_of j.0 xs) v
+      let failed = failed_below m (vector_desk m laws at enough.session has coins j.0) t in
+      let a = part_has (ask_attempt m laws at enough.session has coins t j.0) (is_of_try t) (ask_stays at t failed) (ask_nothing at t failed) (calls_of j.0 xs) v
       (subst (λ (w : List Word). Has w (Ask v)) (try_calls m laws at enough.session has coins t j.0 xs) j.2) in
       asked_entry t j.0 v a k e ck r

@@ -12,7 +12,7 @@ use Rattle.ritas_base.specs.Numbers.{wait_of}
 use Rattle.ritas_base.specs.History.{replicas}
 use Rattle.ritas_base.specs.Quorums.{count_yes, count_no}
 use Rattle.frame_codec.specs.Values.{vector_bytes}
-use Rattle.layer_api.specs.Runs.{Step, calls_of, Has, IsEnough}
+use Rattle.layer_api.specs.Runs.{ReplicaStep, calls_of, Has, IsEnough}
 use Rattle.layer_api.specs.Words.{Word, Ask, value_at}
 use Rattle.layer_api.specs.Part.{proposed}
 use Rattle.layer_api.specs.Fed.{IsFedRun, ProposeOne}
@@ -21,7 +21,7 @@ use Rattle.layer_api.specs.PartLaws.{part_has}
 use Rattle.layer_api.specs.Multi.{Scope, MultiRules, MultiLaws, OneDecision}
 use Rattle.layer_api.specs.Vectors.{HasVectors, vector_play}
 use Rattle.vector_consensus.specs.Consensus.{prop_slot, props, present, vector_of, try_at, is_of_try, try_scope, failed_below, vectors}
-use Rattle.vector_consensus.specs.Laws.Tries.{play, desk, ask, ask_stays, ask_nothing, try_run, try_fed, try_calls}
+use Rattle.vector_consensus.specs.Laws.Tries.{vector_box_play, vector_desk, ask_attempt, ask_stays, ask_nothing, try_run, try_fed, try_calls}
 use Rattle.vector_consensus.specs.Laws.Agreement.{failed_each, to_run}
 
 -- two lists in which something stands at each place, and nothing else in the one than in the other
@@ -51,7 +51,7 @@ same_full {X} f g (k ∷ ks) same l m =
     head (Some a) None p q l m = absurd (full g q m)
     head (Some a) (Some b) p q l m = p ∙ (ap Some (same k a b p q) ∙ sym q)
 
-module _ (m : MultiRules) (laws : MultiLaws m) (one : OneDecision m) (at : Scope) (is_correct : ℕ → Bool) (coins : ℕ → Slot → Bool) (xs : List (Step Word))
+module _ (m : MultiRules) (laws : MultiLaws m) (one : OneDecision m) (at : Scope) (is_correct : ℕ → Bool) (coins : ℕ → Slot → Bool) (xs : List (ReplicaStep Word))
     (enough : IsEnough at.numbers is_correct) (has : HasVectors at) (fed : IsFedRun (vector_play (vectors m) at coins) is_correct xs) where
   abbrev last : ℕ
   last = at.numbers.f
@@ -68,9 +68,9 @@ module _ (m : MultiRules) (laws : MultiLaws m) (one : OneDecision m) (at : Scope
     whole : vector_of at prefix ≡ v
 
   -- that is what a replica proposes in the last attempt
-  full_asked : (i : ℕ) (v : List ℕ) → ask m laws at enough.session has coins last i (calls_of i xs) ≡ Some v → IsFull i v
+  full_asked : (i : ℕ) (v : List ℕ) → ask_attempt m laws at enough.session has coins last i (calls_of i xs) ≡ Some v → IsFull i v
   full_asked i v q =
-      let failed = failed_below m (desk m laws at enough.session has coins i) last in
+      let failed = failed_below m (vector_desk m laws at enough.session has coins i) last in
       let t = shortest_at (Older i) (λ c h older s v q. older s v (value_stays c h s v q)) (try_at at last failed) (calls_of i xs) v (λ s v q. q) q in
       let s = some_if (is_some (proposed t.0) && (failed t.0 && nat_le (wait_of at.numbers + last) (count_by is_some (props at t.0)))) (vector_of at t.0) v t.2 in
       let x = and_parts (is_some (proposed t.0)) _ s.0 in
@@ -83,22 +83,22 @@ module _ (m : MultiRules) (laws : MultiLaws m) (one : OneDecision m) (at : Scope
   same_vector : (i j : ℕ) (v u : List ℕ) → is_correct i ≡ true → is_correct j ≡ true → IsFull i v → IsFull j u → v ≡ u
   same_vector i j v u ci cj x y =
       let same = same_full (λ k. value_at x.prefix (prop_slot at k)) (λ k. value_at y.prefix (prop_slot at k)) (replicas at.numbers.n)
-      (λ k a b p q. one_value (play m laws at enough.session has coins) is_correct xs fed i j (prop_slot at k) a b ci cj (x.older _ a p) (y.older _ b q)) x.all y.all in
+      (λ k a b p q. one_value (vector_box_play m laws at enough.session has coins) is_correct xs fed i j (prop_slot at k) a b ci cj (x.older _ a p) (y.older _ b q)) x.all y.all in
       sym x.whole ∙ (ap (λ (os : List (Option (List ℕ))). vector_bytes (mask_l (map is_some os)) (present os)) same ∙ y.whole)
 
   asked_in : (i : ℕ) (v : List ℕ) → Has (calls_of i (try_run m laws at enough.session has coins last xs)) (Ask v)
-      → ask m laws at enough.session has coins last i (calls_of i xs) ≡ Some v
+      → ask_attempt m laws at enough.session has coins last i (calls_of i xs) ≡ Some v
   asked_in i v h =
-      let failed = failed_below m (desk m laws at enough.session has coins i) last in
-      part_has (ask m laws at enough.session has coins last i) (is_of_try last) (ask_stays at last failed) (ask_nothing at last failed) (calls_of i xs) v
+      let failed = failed_below m (vector_desk m laws at enough.session has coins i) last in
+      part_has (ask_attempt m laws at enough.session has coins last i) (is_of_try last) (ask_stays at last failed) (ask_nothing at last failed) (calls_of i xs) v
       (subst (λ (w : List Word). Has w (Ask v)) (try_calls m laws at enough.session has coins last i xs) h)
 
   all_one : ProposeOne is_correct (try_run m laws at enough.session has coins last xs)
   all_one i j v u ci cj p q = same_vector i j v u ci cj (full_asked i v (asked_in i v p)) (full_asked j u (asked_in j u q))
 
   -- so the attempts are never spent
-  pub unspent : (i : ℕ) → is_correct i ≡ true → (vectors m).spent (desk m laws at enough.session has coins i) (calls_of i xs) ≡ true → ⊥
+  pub unspent : (i : ℕ) → is_correct i ≡ true → (vectors m).spent (vector_desk m laws at enough.session has coins i) (calls_of i xs) ≡ true → ⊥
   unspent i ci q =
       one.decides (try_scope at last) is_correct coins (try_run m laws at enough.session has coins last xs) enough
       (try_fed m laws at enough.session has coins is_correct last xs fed) all_one i ci
-      (to_run m laws one at is_correct coins xs enough has fed last i None (failed_each m (desk m laws at enough.session has coins i) (suc last) (calls_of i xs) q last (omega arith)))
+      (to_run m laws one at is_correct coins xs enough has fed last i None (failed_each m (vector_desk m laws at enough.session has coins i) (suc last) (calls_of i xs) q last (omega arith)))

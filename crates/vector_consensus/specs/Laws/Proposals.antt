@@ -45,11 +45,11 @@ unfolding class3
 vector_class at has = rw has refl
 
 -- the proposals there are in the grammar
-abbrev pub AreGood : Scope → List Word → Type 0
-AreGood at h = (k : ℕ) (v : List ℕ) → value_at h (prop_slot at k) ≡ Some v → Is (value at.numbers at.root (prop_slot at k)) v
+abbrev pub AreGoodProposals : Scope → List Word → Type 0
+AreGoodProposals at h = (k : ℕ) (v : List ℕ) → value_at h (prop_slot at k) ≡ Some v → Is (value at.numbers at.root (prop_slot at k)) v
 
 -- enough of them make a vector
-pub vector_is_good : (at : Scope) → IsSession at.numbers → HasVectors at → (h : List Word) → AreGood at h → wait_of at.numbers ≤ count_by is_some (props at h)
+pub vector_is_good : (at : Scope) → IsSession at.numbers → HasVectors at → (h : List Word) → AreGoodProposals at h → wait_of at.numbers ≤ count_by is_some (props at h)
     → Is (class3 at.numbers at.root) (vector_of at h)
 vector_is_good at session has h good many =
     let hs = props at h in

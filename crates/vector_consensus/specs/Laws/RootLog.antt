@@ -8,7 +8,7 @@ use Rattle.ritas_base.specs.Numbers.{Numbers}
 use Rattle.frame_codec.specs.Format.{Format, Is}
 use Rattle.frame_codec.specs.Grammar.{class2, value}
 use Rattle.frame_codec.specs.Inputs.{input_format}
-use Rattle.layer_api.specs.Runs.{Step, calls_of}
+use Rattle.layer_api.specs.Runs.{ReplicaStep, calls_of}
 use Rattle.layer_api.specs.Service.{Seat, MayAsk, MayHear, MayWord, Instance, OfBit, OfValue, OfVector, Decision, Value, Bit, Spent, Decided, LastVector, vector_decision, vector_with}
 use Rattle.layer_api.specs.DecisionLaws.{decided_vector, vector_parts, if_so}
 use Rattle.layer_api.specs.Words.{Word, Ask, Hear}
@@ -18,14 +18,14 @@ use Rattle.layer_api.specs.FedLaws.{same_fed}
 use Rattle.layer_api.specs.OneInstance.{not_given}
 use Rattle.layer_api.specs.Multi.{Scope, desk_at}
 use Rattle.layer_api.specs.Vectors.{VectorRules, is_vector_slot, MayVector, vector_play, OneVector}
-use Rattle.vector_consensus.specs.Root.{desk_of, ending, decided_in, vector_root}
+use Rattle.vector_consensus.specs.Root.{vector_root_desk, vector_ending, vector_decided_in, vector_root}
 
 pub input_class : (p : Numbers) → input_format p 5 ≡ class2 p 5
 unfolding input_format
 input_class p = refl
 
 -- a word of the service is one of its box
-pub may_ask : (m : VectorRules) (seat : Seat) (w : List Word) (v : List ℕ) → MayAsk (vector_root m) seat w v → MayVector m (desk_of seat) w (Ask v)
+pub may_ask : (m : VectorRules) (seat : Seat) (w : List Word) (v : List ℕ) → MayAsk (vector_root m) seat w v → MayVector m (vector_root_desk seat) w (Ask v)
 may_ask m seat w v may =
     let five = eqb-true seat.mode.root 5 may.served in (
       not_given w may.first,
@@ -33,10 +33,10 @@ may_ask m seat w v may =
       refl,
     )
 
-pub may_hear : (m : VectorRules) (seat : Seat) (w : List Word) (s : Slot) (v : List ℕ) → MayHear (vector_root m) seat w s v → MayVector m (desk_of seat) w (Hear s v)
+pub may_hear : (m : VectorRules) (seat : Seat) (w : List Word) (s : Slot) (v : List ℕ) → MayHear (vector_root m) seat w s v → MayVector m (vector_root_desk seat) w (Hear s v)
 may_hear m seat w s v may =
     let five = eqb-true seat.mode.root 5 may.served in
-    let o = and_parts (is_vector_slot (desk_of seat).scope s) (m.opens (desk_of seat) w s) may.is_open in
+    let o = and_parts (is_vector_slot (vector_root_desk seat).scope s) (m.opens (vector_root_desk seat) w s) may.is_open in
     record {
       slot = o.0;
       origin = may.origin;
@@ -46,11 +46,11 @@ may_hear m seat w s v may =
       has = refl;
     }
 
-pub may_word : (m : VectorRules) (seat : Seat) (w : List Word) (c : Word) → MayWord (vector_root m) seat w c → MayVector m (desk_of seat) w c
+pub may_word : (m : VectorRules) (seat : Seat) (w : List Word) (c : Word) → MayWord (vector_root m) seat w c → MayVector m (vector_root_desk seat) w c
 may_word m seat w (Ask v) may = may_ask m seat w v may
 may_word m seat w (Hear s v) may = may_hear m seat w s v may
 
-ending_is : (o : Option Decision) (d : Decision) → ending o ≡ Decided d → o ≡ Some d
+ending_is : (o : Option Decision) (d : Decision) → vector_ending o ≡ Decided d → o ≡ Some d
 ending_is None d q = absurd cc
 ending_is (Some x) d q = cc
 
@@ -63,7 +63,7 @@ value_spent x e = cc
 bit_spent : (b : Bool) → Bit b ≡ Spent → ⊥
 bit_spent b e = cc
 
-module _ (v : VectorRules) (one : OneVector v) (p : Numbers) (mode : Mode) (is_correct : ℕ → Bool) (coins : ℕ → Slot → Bool) (xs : List (Step Word))
+module _ (v : VectorRules) (one : OneVector v) (p : Numbers) (mode : Mode) (is_correct : ℕ → Bool) (coins : ℕ → Slot → Bool) (xs : List (ReplicaStep Word))
     (run : IsRunOf (record { rules = vector_root v; numbers = p; mode = mode; is_correct = is_correct; coins = coins }) xs) where
   abbrev session : Session
   session = record { rules = vector_root v; numbers = p; mode = mode; is_correct = is_correct; coins = coins }
@@ -90,18 +90,18 @@ module _ (v : VectorRules) (one : OneVector v) (p : Numbers) (mode : Mode) (is_c
         | inr x ↦ absurd (one.unspent at is_correct coins xs run.enough refl fed i ci x.0)
       ]
 
-  pub outcomes : (i j : ℕ) (d e : Decision) → is_correct i ≡ true → is_correct j ≡ true → ending (decided i) ≡ Decided d → ending (decided j) ≡ Decided e → d ≡ e
+  pub outcomes : (i j : ℕ) (d e : Decision) → is_correct i ≡ true → is_correct j ≡ true → vector_ending (decided i) ≡ Decided d → vector_ending (decided j) ≡ Decided e → d ≡ e
   outcomes i j d e ci cj q r = same i j d e ci cj (ending_is (decided i) d q) (ending_is (decided j) e r)
 
   pub decisions : (i j : ℕ) (x : Instance) (d e : Decision) → is_correct i ≡ true → is_correct j ≡ true
-      → decided_in v (record { numbers = p; mode = mode; me = i; coin = coins i }) (calls_of i xs) x ≡ Some d
-      → decided_in v (record { numbers = p; mode = mode; me = j; coin = coins j }) (calls_of j xs) x ≡ Some e → d ≡ e
+      → vector_decided_in v (record { numbers = p; mode = mode; me = i; coin = coins i }) (calls_of i xs) x ≡ Some d
+      → vector_decided_in v (record { numbers = p; mode = mode; me = j; coin = coins j }) (calls_of j xs) x ≡ Some e → d ≡ e
   decisions i j (OfBit a k) d e ci cj q r = one.insides at is_correct coins xs run.enough refl fed i j (OfBit a k) d e ci cj q r
   decisions i j (OfValue a k) d e ci cj q r = one.insides at is_correct coins xs run.enough refl fed i j (OfValue a k) d e ci cj q r
   decisions i j (OfVector a) d e ci cj q r =
       one.insides at is_correct coins xs run.enough refl fed i j (OfVector 0) d e ci cj (if_so (a == 0) _ d q) (if_so (a == 0) _ e r)
 
-  pub not_spent : (i : ℕ) → is_correct i ≡ true → ending (decided i) ≡ Decided Spent → ⊥
+  pub not_spent : (i : ℕ) → is_correct i ≡ true → vector_ending (decided i) ≡ Decided Spent → ⊥
   not_spent i ci q =
       elim (decided_vector (v.decision (desk_at at coins i) (calls_of i xs)) (v.spent (desk_at at coins i) (calls_of i xs)) Spent (ending_is (decided i) Spent q)) [
         | inl x ↦ value_spent x.0 x.2
@@ -118,7 +118,7 @@ module _ (v : VectorRules) (one : OneVector v) (p : Numbers) (mode : Mode) (is_c
       (one.attempts at is_correct coins xs run.enough refl fed i j a.0 b.0 ci cj a.2 b.2)
       (one.agree at is_correct coins xs run.enough refl fed i j a.1 b.1 ci cj a.3 b.3) ∙ sym b.4)
 
-  pub no_bits : (i : ℕ) (b : Bool) → ending (decided i) ≡ Decided (Bit b) → ⊥
+  pub no_bits : (i : ℕ) (b : Bool) → vector_ending (decided i) ≡ Decided (Bit b) → ⊥
   no_bits i b q =
       elim (decided_vector (v.decision (desk_at at coins i) (calls_of i xs)) (v.spent (desk_at at coins i) (calls_of i xs)) (Bit b) (ending_is (decided i) (Bit b) q)) [
         | inl x ↦ bit_value b x.0 x.2

@@ -2,19 +2,19 @@
 use Rattle.std.specs.Prelude.{◌≡◌, ℕ, suc, Bool, true, ◌==◌, ◌&&◌, nat_le, List, Some}
 use Rattle.std.proofs.Common.{sym, ◌∙◌, ap, subst, inl, inr}
 use Rattle.ritas_base.specs.declared.slot.Slot.{Slot}
-use Rattle.layer_api.specs.Runs.{Step, calls_of, IsEnough}
+use Rattle.layer_api.specs.Runs.{ReplicaStep, calls_of, IsEnough}
 use Rattle.layer_api.specs.Service.{Instance, OfBit, OfValue, OfVector, Decision, Value}
 use Rattle.layer_api.specs.DecisionLaws.{if_so, decided_vector}
 use Rattle.layer_api.specs.Words.{Word}
 use Rattle.layer_api.specs.Fed.{IsFedRun}
 use Rattle.layer_api.specs.Multi.{Scope, Desk, desk_at, MultiRules, MultiLaws, OneDecision}
 use Rattle.layer_api.specs.Vectors.{HasVectors, vector_play}
-use Rattle.vector_consensus.specs.Consensus.{try_scope, try_desk, failed_below, decided_below, try_words, try_inside, vectors}
+use Rattle.vector_consensus.specs.Consensus.{try_scope, try_desk, failed_below, vector_decided_below, try_words, try_inside, vectors}
 use Rattle.vector_consensus.specs.Laws.Tries.{try_run, try_fed, try_calls}
 use Rattle.vector_consensus.specs.Laws.Agreement.{agree}
 use Rattle.vector_consensus.specs.Laws.LastAttempt.{unspent}
 
-module _ (m : MultiRules) (laws : MultiLaws m) (one : OneDecision m) (at : Scope) (is_correct : ℕ → Bool) (coins : ℕ → Slot → Bool) (xs : List (Step Word))
+module _ (m : MultiRules) (laws : MultiLaws m) (one : OneDecision m) (at : Scope) (is_correct : ℕ → Bool) (coins : ℕ → Slot → Bool) (xs : List (ReplicaStep Word))
     (enough : IsEnough at.numbers is_correct) (has : HasVectors at) (fed : IsFedRun (vector_play (vectors m) at coins) is_correct xs) where
   abbrev here : ℕ → Desk
   here i = desk_at at coins i
@@ -37,7 +37,7 @@ module _ (m : MultiRules) (laws : MultiLaws m) (one : OneDecision m) (at : Scope
       → (v : List ℕ) × ((vectors m).decision (here i) (calls_of i xs) ≡ Some v) × (d ≡ Value v)
   is_vector i a d ci q =
       let last : ℕ = suc at.numbers.f in
-      elim (decided_vector (decided_below m (here i) last (calls_of i xs)) (failed_below m (here i) last (calls_of i xs)) d (if_so (a == at.a) _ d q)) [
+      elim (decided_vector (vector_decided_below m (here i) last (calls_of i xs)) (failed_below m (here i) last (calls_of i xs)) d (if_so (a == at.a) _ d q)) [
         | inl x ↦ x
         | inr x ↦ absurd (unspent m laws one at is_correct coins xs enough has fed i ci x.0)
       ]

@@ -9,7 +9,7 @@ use Rattle.ritas_base.specs.Shortest.{option_or_older}
 use Rattle.ritas_base.specs.Slots.{within}
 use Rattle.frame_codec.specs.Format.{Is}
 use Rattle.frame_codec.specs.Grammar.{class3}
-use Rattle.layer_api.specs.Runs.{Step, calls_of, inner_run}
+use Rattle.layer_api.specs.Runs.{ReplicaStep, calls_of, inner_run}
 use Rattle.layer_api.specs.Words.{Word, Ask, Hear, HasSay, all_said}
 use Rattle.layer_api.specs.Part.{proposed, newly, newly_asked, passed, part_of, says_in}
 use Rattle.layer_api.specs.Fed.{Play, Met, IsFedRun}
@@ -18,7 +18,7 @@ use Rattle.layer_api.specs.PartLaws.{part_heard, part_asked_still, says_in_all, 
 use Rattle.layer_api.specs.FreshLaws.{said_each}
 use Rattle.layer_api.specs.Multi.{Scope, Desk, desk_at, MultiRules, MultiLaws, is_multi_slot, MayMulti, AreMulti, IsMultiSaid, multi_play}
 use Rattle.layer_api.specs.Vectors.{HasVectors, is_vector_slot, MayVector, AreVector, vector_play}
-use Rattle.vector_consensus.specs.Consensus.{prop_slot, props, vector_of, try_at, try_asked, is_of_try, try_scope, try_desk, failed_below, try_words, try_ask, says_below, vectors}
+use Rattle.vector_consensus.specs.Consensus.{prop_slot, props, vector_of, try_at, try_asked, is_of_try, try_scope, try_desk, failed_below, try_words, try_ask, attempts_say_below, vectors}
 use Rattle.vector_consensus.specs.Laws.Proposals.{vector_is_good}
 
 -- ---- slots
@@ -127,111 +127,111 @@ untold_words m laws at k (c ∷ w) met q =
             (subst (λ (u : List Word). m.opens (try_desk at k) u s ≡ true) none (opens_try m at k w s e may.is_open)))
 
 module _ (m : MultiRules) (laws : MultiLaws m) (at : Scope) (session : IsSession at.numbers) (has : HasVectors at) (coins : ℕ → Slot → Bool) where
-  abbrev pub play : Play
-  play = vector_play (vectors m) at coins
+  abbrev pub vector_box_play : Play
+  vector_box_play = vector_play (vectors m) at coins
 
-  abbrev pub desk : ℕ → Desk
-  desk i = desk_at at coins i
+  abbrev pub vector_desk : ℕ → Desk
+  vector_desk i = desk_at at coins i
 
-  abbrev pub ask : ℕ → ℕ → List Word → Option (List ℕ)
-  ask k i = try_ask m (desk i) k
+  abbrev pub ask_attempt : ℕ → ℕ → List Word → Option (List ℕ)
+  ask_attempt k i = try_ask m (vector_desk i) k
 
-  abbrev pub words : ℕ → ℕ → List Word → List Word
-  words k i = try_words m (desk i) k
+  abbrev pub attempt_words : ℕ → ℕ → List Word → List Word
+  attempt_words k i = try_words m (vector_desk i) k
 
-  abbrev pub inner_play : ℕ → Play
-  inner_play k = multi_play m (try_scope at k) coins
+  abbrev pub attempt_play : ℕ → Play
+  attempt_play k = multi_play m (try_scope at k) coins
 
   -- the newest words of an attempt, and all that it says
   abbrev new_words : ℕ → ℕ → List Word → Word → List Word
-  new_words k i w c = part_of (ask k i) (is_of_try k) w c
+  new_words k i w c = part_of (ask_attempt k i) (is_of_try k) w c
 
   abbrev pub tried : ℕ → ℕ → List Word → List Say
-  tried k i w = all_said (m.says (try_desk (desk i) k)) (words k i w)
+  tried k i w = all_said (m.says (try_desk (vector_desk i) k)) (attempt_words k i w)
 
   -- it is asked a vector
-  asked_good : (k i : ℕ) (w : List Word) (v : List ℕ) → Met play i w → ask k i w ≡ Some v → Is (class3 at.numbers at.root) v
+  asked_good : (k i : ℕ) (w : List Word) (v : List ℕ) → Met vector_box_play i w → ask_attempt k i w ≡ Some v → Is (class3 at.numbers at.root) v
   asked_good k i w v met q =
-      let t = shortest_at (AreVector (vectors m) (desk i)) (λ c h g. g.1) (try_at at k (failed_below m (desk i) k)) w v met q in
-      let s = some_if (is_some (proposed t.0) && (failed_below m (desk i) k t.0 && nat_le (wait_of at.numbers + k) (count_by is_some (props at t.0)))) (vector_of at t.0) v t.2 in
+      let t = shortest_at (AreVector (vectors m) (vector_desk i)) (λ c h g. g.1) (try_at at k (failed_below m (vector_desk i) k)) w v met q in
+      let s = some_if (is_some (proposed t.0) && (failed_below m (vector_desk i) k t.0 && nat_le (wait_of at.numbers + k) (count_by is_some (props at t.0)))) (vector_of at t.0) v t.2 in
       let x = and_parts (is_some (proposed t.0)) _ s.0 in
-      let y = and_parts (failed_below m (desk i) k t.0) _ x.1 in
+      let y = and_parts (failed_below m (vector_desk i) k t.0) _ x.1 in
       let l = leb-true (wait_of at.numbers + k) (count_by is_some (props at t.0)) y.1 in
       subst (λ (u : List ℕ). Is (class3 at.numbers at.root) u) s.1
       (vector_is_good at session has t.0
-      (λ j u r. (heard_met (MayVector (vectors m) (desk i)) t.0 (prop_slot at j) u t.1 r).1.good) (omega (arith, l)))
+      (λ j u r. (heard_met (MayVector (vectors m) (vector_desk i)) t.0 (prop_slot at j) u t.1 r).1.good) (omega (arith, l)))
 
   -- its proposals and what it hears meet its conditions
-  asks : (k i : ℕ) (c : Word) (w : List Word) (v : List ℕ) → Met play i (c ∷ w) → ask k i w ≡ None → ask k i (c ∷ w) ≡ Some v
-      → MayMulti m (try_desk (desk i) k) (passed (is_of_try k) c ++ words k i w) (Ask v)
+  asks : (k i : ℕ) (c : Word) (w : List Word) (v : List ℕ) → Met vector_box_play i (c ∷ w) → ask_attempt k i w ≡ None → ask_attempt k i (c ∷ w) ≡ Some v
+      → MayMulti m (try_desk (vector_desk i) k) (passed (is_of_try k) c ++ attempt_words k i w) (Ask v)
   asks k i c w v met none now = (
-    part_asked_still (ask k i) (is_of_try k) (ask_stays at k (failed_below m (desk i) k)) (ask_nothing at k (failed_below m (desk i) k)) c w none,
+    part_asked_still (ask_attempt k i) (is_of_try k) (ask_stays at k (failed_below m (vector_desk i) k)) (ask_nothing at k (failed_below m (vector_desk i) k)) c w none,
     asked_good k i (c ∷ w) v met now,
   )
 
-  hears : (k i : ℕ) (s : Slot) (v : List ℕ) (w : List Word) → Met play i (Hear s v ∷ w) → is_of_try k s ≡ true
-      → MayMulti m (try_desk (desk i) k) (words k i w) (Hear s v)
+  hears : (k i : ℕ) (s : Slot) (v : List ℕ) (w : List Word) → Met vector_box_play i (Hear s v ∷ w) → is_of_try k s ≡ true
+      → MayMulti m (try_desk (vector_desk i) k) (attempt_words k i w) (Hear s v)
   hears k i s v w met of =
       let h = met.0 in
       record {
         slot = try_slot at k s h.slot of;
         origin = h.origin;
-        is_open = opens_try m (desk i) k w s of h.is_open;
-        first = part_heard (ask k i) (is_of_try k) w s h.first;
+        is_open = opens_try m (vector_desk i) k w s of h.is_open;
+        first = part_heard (ask_attempt k i) (is_of_try k) w s h.first;
         good = h.good;
       }
 
-  pub feeds : (k : ℕ) → Feeds play (inner_play k) (ask k) (is_of_try k)
+  pub feeds : (k : ℕ) → Feeds vector_box_play (attempt_play k) (ask_attempt k) (is_of_try k)
   feeds k = record { asks = asks k; hears = hears k }
 
   -- an attempt's words met their conditions
-  pub words_met : (k i : ℕ) (w : List Word) → Met play i w → AreMulti m (try_desk (desk i) k) (words k i w)
-  words_met k i w met = part_met play (inner_play k) (ask k) (is_of_try k) (feeds k) i w met
+  pub words_met : (k i : ℕ) (w : List Word) → Met vector_box_play i w → AreMulti m (try_desk (vector_desk i) k) (attempt_words k i w)
+  words_met k i w met = part_met vector_box_play (attempt_play k) (ask_attempt k) (is_of_try k) (feeds k) i w met
 
   -- ---- what is said
 
   -- what an attempt says is as it must be
-  pub tried_good : (k i : ℕ) (w : List Word) (y : Say) → Met play i w → HasSay (tried k i w) y → IsMultiSaid (try_desk (desk i) k) y
+  pub tried_good : (k i : ℕ) (w : List Word) (y : Say) → Met vector_box_play i w → HasSay (tried k i w) y → IsMultiSaid (try_desk (vector_desk i) k) y
   tried_good k i w y met h =
-      said_each (m.says (try_desk (desk i) k)) (MayMulti m (try_desk (desk i) k)) (IsMultiSaid (try_desk (desk i) k))
-      (λ c u n. laws.says_new (try_desk (desk i) k) c u session n) (words k i w) y (words_met k i w met) h
+      said_each (m.says (try_desk (vector_desk i) k)) (MayMulti m (try_desk (vector_desk i) k)) (IsMultiSaid (try_desk (vector_desk i) k))
+      (λ c u n. laws.says_new (try_desk (vector_desk i) k) c u session n) (attempt_words k i w) y (words_met k i w met) h
 
   -- what a word newly says below an attempt is what one of these newly says
-  abbrev pub IsBelow : ℕ → ℕ → List Word → Word → Say → Type 0
-  IsBelow n i w c y = (j : ℕ) × (j < n) × HasSay (says_in (m.says (try_desk (desk i) j)) (new_words j i w c) (words j i w)) y
+  abbrev pub IsSaidBelow : ℕ → ℕ → List Word → Word → Say → Type 0
+  IsSaidBelow n i w c y = (j : ℕ) × (j < n) × HasSay (says_in (m.says (try_desk (vector_desk i) j)) (new_words j i w c) (attempt_words j i w)) y
 
-  pub below_said : (n i : ℕ) (w : List Word) (c : Word) (y : Say) → HasSay (says_below m (desk i) n w c) y → IsBelow n i w c y
+  pub below_said : (n i : ℕ) (w : List Word) (c : Word) (y : Say) → HasSay (attempts_say_below m (vector_desk i) n w c) y → IsSaidBelow n i w c y
   below_said zero i w c y h = absurd h
   below_said (suc n) i w c y h =
-      elim (say_append (says_below m (desk i) n w c) _ y h) [
+      elim (say_append (attempts_say_below m (vector_desk i) n w c) _ y h) [
         | inl a ↦ let x = below_said n i w c y a in let l = x.1 in (x.0, omega (arith, l), x.2)
         | inr b ↦ (n, omega arith, b)
       ]
 
   -- what replica i said is its proposal, or what one of its attempts said
-  abbrev pub IsOneOf : ℕ → List Word → Slot → List ℕ → Type 0
-  IsOneOf i w s v = ((prop_slot at i ≡ s) × (proposed w ≡ Some v)) ⊎ ((k : ℕ) × HasSay (tried k i w) (record { slot = s; value = v }))
+  abbrev pub IsSaidByAttempts : ℕ → List Word → Slot → List ℕ → Type 0
+  IsSaidByAttempts i w s v = ((prop_slot at i ≡ s) × (proposed w ≡ Some v)) ⊎ ((k : ℕ) × HasSay (tried k i w) (record { slot = s; value = v }))
 
   -- it is still so after a word more
-  one_later : (i : ℕ) (c : Word) (w : List Word) (s : Slot) (v : List ℕ) → IsOneOf i w s v → IsOneOf i (c ∷ w) s v
+  one_later : (i : ℕ) (c : Word) (w : List Word) (s : Slot) (v : List ℕ) → IsSaidByAttempts i w s v → IsSaidByAttempts i (c ∷ w) s v
   one_later i c w s v (inl x) = inl (x.0, proposed_stays c w v x.1)
-  one_later i c w s v (inr x) = inr (x.0, all_said_later (m.says (try_desk (desk i) x.0)) (new_words x.0 i w c) (words x.0 i w) _ x.1)
+  one_later i c w s v (inr x) = inr (x.0, all_said_later (m.says (try_desk (vector_desk i) x.0)) (new_words x.0 i w c) (attempt_words x.0 i w) _ x.1)
 
-  pub said_is : (i : ℕ) (w : List Word) (s : Slot) (v : List ℕ) → HasSay (play.said i w) (record { slot = s; value = v }) → IsOneOf i w s v
+  pub said_is : (i : ℕ) (w : List Word) (s : Slot) (v : List ℕ) → HasSay (vector_box_play.said i w) (record { slot = s; value = v }) → IsSaidByAttempts i w s v
   said_is i [] s v h = absurd h
   said_is i (c ∷ w) s v h =
-      elim (say_append ((vectors m).says (desk i) w c) _ _ h) [
+      elim (say_append ((vectors m).says (vector_desk i) w c) _ _ h) [
         | inl a ↦ elim (say_append (newly (prop_slot at i) (proposed w) (proposed (c ∷ w))) _ _ a) [
           | inl x ↦ inl (newly_said _ _ _ s v x)
           | inr x ↦
               let b = below_said (suc at.numbers.f) i w c _ x in
-              inr (b.0, says_in_all (m.says (try_desk (desk i) b.0)) (new_words b.0 i w c) (words b.0 i w) _ b.2)
+              inr (b.0, says_in_all (m.says (try_desk (vector_desk i) b.0)) (new_words b.0 i w c) (attempt_words b.0 i w) _ b.2)
         ]
         | inr a ↦ one_later i c w s v (said_is i w s v a)
       ]
 
   -- what the layer says in an attempt, the attempt says
-  pub try_said : (k i : ℕ) (w : List Word) (s : Slot) (v : List ℕ) → Met play i w → is_of_try k s ≡ true → HasSay (play.said i w) (record { slot = s; value = v })
+  pub try_said : (k i : ℕ) (w : List Word) (s : Slot) (v : List ℕ) → Met vector_box_play i w → is_of_try k s ≡ true → HasSay (vector_box_play.said i w) (record { slot = s; value = v })
       → HasSay (tried k i w) (record { slot = s; value = v })
   try_said k i w s v met of h =
       let u = and_parts (not (s.class == 2)) _ of in
@@ -245,7 +245,7 @@ module _ (m : MultiRules) (laws : MultiLaws m) (at : Scope) (session : IsSession
       ]
 
   -- and what it says at the slot of the proposal is the proposal
-  pub prop_said : (i : ℕ) (w : List Word) (v : List ℕ) → Met play i w → HasSay (play.said i w) (record { slot = prop_slot at i; value = v }) → proposed w ≡ Some v
+  pub prop_said : (i : ℕ) (w : List Word) (v : List ℕ) → Met vector_box_play i w → HasSay (vector_box_play.said i w) (record { slot = prop_slot at i; value = v }) → proposed w ≡ Some v
   prop_said i w v met h =
       elim (said_is i w (prop_slot at i) v h) [
         | inl x ↦ x.1
@@ -254,15 +254,15 @@ module _ (m : MultiRules) (laws : MultiLaws m) (at : Scope) (session : IsSession
 
   -- ---- the run of an attempt
 
-  pub passes : (k : ℕ) → Passes play (inner_play k) (ask k) (is_of_try k)
+  pub passes : (k : ℕ) → Passes vector_box_play (attempt_play k) (ask_attempt k) (is_of_try k)
   passes k = record { feeds = feeds k; says = λ i s v w met of mine h. try_said k i w s v met of h }
 
-  abbrev pub try_run : ℕ → List (Step Word) → List (Step Word)
-  try_run k xs = inner_run (part_inner (ask k) (is_of_try k)) xs
+  abbrev pub try_run : ℕ → List (ReplicaStep Word) → List (ReplicaStep Word)
+  try_run k xs = inner_run (part_inner (ask_attempt k) (is_of_try k)) xs
 
   -- it is a run of the attempt's boxes, in which each replica has the attempt's words
-  pub try_fed : (is_correct : ℕ → Bool) (k : ℕ) (xs : List (Step Word)) → IsFedRun play is_correct xs → IsFedRun (inner_play k) is_correct (try_run k xs)
-  try_fed is_correct k xs fed = part_fed play (inner_play k) is_correct (ask k) (is_of_try k) (passes k) xs fed
+  pub try_fed : (is_correct : ℕ → Bool) (k : ℕ) (xs : List (ReplicaStep Word)) → IsFedRun vector_box_play is_correct xs → IsFedRun (attempt_play k) is_correct (try_run k xs)
+  try_fed is_correct k xs fed = part_fed vector_box_play (attempt_play k) is_correct (ask_attempt k) (is_of_try k) (passes k) xs fed
 
-  pub try_calls : (k i : ℕ) (xs : List (Step Word)) → calls_of i (try_run k xs) ≡ words k i (calls_of i xs)
-  try_calls k i xs = part_calls (ask k) (is_of_try k) i xs
+  pub try_calls : (k i : ℕ) (xs : List (ReplicaStep Word)) → calls_of i (try_run k xs) ≡ attempt_words k i (calls_of i xs)
+  try_calls k i xs = part_calls (ask_attempt k) (is_of_try k) i xs

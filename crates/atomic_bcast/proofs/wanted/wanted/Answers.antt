@@ -1,15 +1,15 @@
 use Rattle.std.proofs.Common.{◌≡◌, ◌∙◌, ◌+◌, ap, ℕ, nat_le}
 use Rattle.std.proofs.lemmas.Result.{IfOk-weaker}
-use Rattle.atomic_bcast.specs.Identifiers.{kept, in_order}
+use Rattle.atomic_bcast.specs.Identifiers.{passing_ids, in_order}
 use Rattle.atomic_bcast.specs.Rounds.{backers, entry_ids, wanted}
 use Rattle.atomic_bcast.proofs.wanted.wanted.Goals as goal
-use Rattle.frame_codec.specs.Values.{entries_of}
+use Rattle.frame_codec.specs.Values.{vector_entries}
 
 pub returns : goal.returns
 returns c =
     let vector = c.args.vector.now in
-    let lists = entries_of vector in
+    let lists = vector_entries vector in
     IfOk-weaker c.with_backers.result _ (λ ids. ids.items ≡ wanted c.args.p.now vector)
     (λ ids had.
-    had lists c.in_ok-noted.ensures ∙ ap (λ (f : ℕ). kept (λ x. nat_le (f + 1) (backers lists x)) (in_order (entry_ids lists))) c.f.ensures.value)
+    had lists c.in_ok-noted.ensures ∙ ap (λ (f : ℕ). passing_ids (λ x. nat_le (f + 1) (backers lists x)) (in_order (entry_ids lists))) c.f.ensures.value)
     c.with_backers.ensures

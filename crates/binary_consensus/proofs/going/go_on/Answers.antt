@@ -1,8 +1,8 @@
 use Rattle.std.proofs.Common.{◌≡◌, suc, ◌+◌, ◌<◌, ◌∷◌, ◌++◌, List, [], Some, None, refl, sym, subst, arith, ap, ◌∙◌, add-one}
 use Rattle.ritas_base.specs.declared.item.Say.{Say}
 use Rattle.ritas_base.specs.declared.slot.Slot.{Slot}
-use Rattle.binary_consensus.specs.Steps.{step_slot, heard, accepted}
-use Rattle.binary_consensus.specs.Going.{own_slot, Gone}
+use Rattle.binary_consensus.specs.Steps.{line_slot, heard, accepted}
+use Rattle.binary_consensus.specs.Going.{own_step_slot, Gone}
 use Rattle.binary_consensus.proofs.Turning.{stay, move, stop}
 use Rattle.binary_consensus.proofs.Moves.{own_is, tally_now, wait_is, leaves_at, next_at}
 use Rattle.binary_consensus.proofs.going.go_on.Goals as goal
@@ -53,9 +53,9 @@ loop-t-preserved g c =
           let next = next_at at t c.loop-t.decided (accepted at.numbers (heard at (x ∷ w)) t) c.in-Some.next more (sym c.in-Some.is ∙ leaves.1) in
           let m = move at start c.args.says.now.items x w c.loop-t.says.items c.loop-t.decided c.leave-left.result.decided t c.in-Some.next more
           (c.loop-t.invariant.gone at x w start part tosses are said-is below passing known) (omega (arith, wait, all, many)) leaves.0 next in
-          let slot : own_slot c.args.part.now (t + 1) ≡ step_slot at (suc t) at.me =
-          ap (own_slot c.args.part.now) (add-one t) ∙ own_is c.args.part.now c.args.line.now.numbers at (suc t) part in
-          let items : c.say.new.says.items ≡ c.loop-t.says.items ++ record { slot = step_slot at (suc t) at.me; value = c.in-Some.next ∷ [] } ∷ [] =
+          let slot : own_step_slot c.args.part.now (t + 1) ≡ line_slot at (suc t) at.me =
+          ap (own_step_slot c.args.part.now) (add-one t) ∙ own_is c.args.part.now c.args.line.now.numbers at (suc t) part in
+          let items : c.say.new.says.items ≡ c.loop-t.says.items ++ record { slot = line_slot at (suc t) at.me; value = c.in-Some.next ∷ [] } ∷ [] =
           c.in_ok-say.ensures.said ∙ ap (λ (s : Slot). let y : Say = record { slot = s; value = c.in-Some.next ∷ [] } in c.loop-t.says.items ++ y ∷ []) slot in
           rw (add-one t) (subst (λ (xs : List Say). Gone at start (suc t) c.args.says.now.items xs c.leave-left.result.decided x w) (sym items) m);
     }

@@ -13,13 +13,13 @@ use Rattle.ritas_base.specs.History.{Call, first, started, told, replicas}
 use Rattle.ritas_base.specs.HistoryLaws.{length-firsts}
 use Rattle.ritas_base.specs.Quorums.{count_same}
 use Rattle.ritas_base.specs.Shortest.{option_or_older}
-use Rattle.frame_codec.specs.Values.{at_place, row_of, column_bytes}
+use Rattle.frame_codec.specs.Values.{at_place, column_row, column_bytes}
 use Rattle.layer_api.specs.Entries.{sent, entry_in, entries_of}
 use Rattle.layer_api.specs.OneDue.{HasEntriesOf}
 use Rattle.layer_api.specs.OneValue.{AreGoodCalls, IsOfSlot}
 use Rattle.layer_api.specs.ReplicaLaws.{replica_below}
 use Rattle.echo_bcast.specs.Laws.Columns.{AreLong, senders_have}
-use Rattle.echo_bcast.specs.Due.{IsDue, OfSend, OfHashes, OfColumn, IsColumnOf, due_is}
+use Rattle.echo_bcast.specs.Due.{IsMatrixDue, OfSend, OfHashes, OfColumn, IsColumnOf, due_is}
 use Rattle.echo_bcast.specs.Laws.Entries.{is_there, count_from, count_behind, placed_row, row_written, column_alone}
 use Rattle.echo_bcast.specs.Laws.Good.{columns_long}
 use Rattle.echo_bcast.specs.Matrix.{echo, hashes_bytes, hashes_in, rows_for, senders_of}
@@ -34,7 +34,7 @@ same_value o v w is also = let both : Some v ≡ Some w = sym is ∙ also in cc 
 kind_of : {m n : Msg} → m ≡ n → m.kind ≡ n.kind
 kind_of e = ap (λ (x : Msg). x.kind) e
 
-one : (at : Place) (tags : Tags) (h : List Call) (m o : Msg) → IsDue at tags h m → IsDue at tags h o → m.kind ≡ o.kind → (m.kind ≡ Column → ⊥) → m.value ≡ o.value
+one : (at : Place) (tags : Tags) (h : List Call) (m o : Msg) → IsMatrixDue at tags h m → IsMatrixDue at tags h o → m.kind ≡ o.kind → (m.kind ≡ Column → ⊥) → m.value ≡ o.value
 one at tags h m o (OfSend a) (OfSend b) same not = same_value (started h) m.value o.value a.value b.value
 one at tags h m o (OfHashes a) (OfHashes b) same not =
     let sent_same = same_value (sent at h) a.sent_here b.sent_here a.was_sent b.was_sent in
@@ -124,8 +124,8 @@ grown at mode h m o a b slot good same all = λ echoer entry row.
     let of_o : o.value ≡ column_bytes (senders_of more) (rows_for b.receiver more) = ap (λ (x : Msg). x.value) b.whole in
     let first : AreWhole n hs = record { many = length-firsts n a.prefix Hashes; long = columns_long at mode h m good a } in
     let second : AreWhole n more = record { many = length-firsts n b.prefix Hashes; long = columns_long at mode h o good b } in
-    ap (λ (v : List ℕ). row_of v echoer) of_o
-    ∙ more_entries n b.receiver hs more slot.session.most lt first second all echoer entry (ap (λ (v : List ℕ). row_of v echoer) (sym of_m) ∙ row)
+    ap (λ (v : List ℕ). column_row v echoer) of_o
+    ∙ more_entries n b.receiver hs more slot.session.most lt first second all echoer entry (ap (λ (v : List ℕ). column_row v echoer) (sym of_m) ∙ row)
 
 receives : (at : Place) (h : List Call) (m : Msg) (k : ℕ) (a : IsColumnOf at h m) → reaches m.to k ≡ true → a.receiver ≡ k
 receives at h m k a to = eqb-true a.receiver k (sym (ap (λ (x : Msg). reaches x.to k) a.whole) ∙ to)

@@ -1,6 +1,6 @@
 use Rattle.std.proofs.Common.{◌≡◌, ◌≤◌, ℕ, ◌+◌, List, [], ◌∷◌, ◌++◌, length, drop, subst, ap, ◌∙◌}
 use Rattle.std.proofs.lemmas.Result.{IfOk-from_err}
-use Rattle.outside.specs.Disks.{LeavesOnly, LeavesTorn, state_of, at_rest, written}
+use Rattle.outside.specs.Disks.{LeavesOnly, LeavesTorn, disk_state_of, at_rest, bytes_written}
 use Rattle.schedule_file.specs.FileBytes.{limit}
 use Rattle.event_journal.specs.Journal.{records}
 use Rattle.event_journal.proofs.Images.{first_since, kept, records_tail}
@@ -9,7 +9,7 @@ use Rattle.event_journal.proofs.journal.keep.Goals as goal
 pub returns-in_err-put-clause-kept : goal.returns-in_err-put-clause-kept
 returns-in_err-put-clause-kept g c = λ tells me head es more some all place text low were.
     let told = g.D.Disk.told in
-    let s = state_of (told c.args.disk.now) in
+    let s = disk_state_of (told c.args.disk.now) in
     let tail = drop 1 (records more) in
     let tail_is = records_tail more some in
     let text_is : c.args.text.now ≡ tail ++ 0 ∷ [] = text ∙ ap (λ (x : List ℕ). drop 1 (x ++ 0 ∷ [])) tail_is in
@@ -26,11 +26,11 @@ returns-clause-kept g c = λ tells me head es more some all place text low were.
     let old = told c.args.disk.now in
     let mid = told c.put.new.disk in
     let new = told c.put-2.new.disk in
-    let s = state_of old in
+    let s = disk_state_of old in
     let tail = drop 1 (records more) in
     let tail_is = records_tail more some in
     let text_is : c.args.text.now ≡ tail ++ 0 ∷ [] = text ∙ ap (λ (x : List ℕ). drop 1 (x ++ 0 ∷ [])) tail_is in
     let low' = subst (λ (x : List ℕ). c.args.gate + 1 + length x ≤ limit) text_is low in
     let since = subst (λ (x : List ℕ). LeavesOnly (LeavesTorn (record { at = c.args.gate + 1; count = length x }) s) old mid) text_is (c.in_ok-put.ensures.since tells) in
-    let whole = subst (λ (x : List ℕ). state_of mid ≡ at_rest (written (c.args.gate + 1) x s.seen)) text_is (c.in_ok-put.ensures.whole tells) in
+    let whole = subst (λ (x : List ℕ). disk_state_of mid ≡ at_rest (bytes_written (c.args.gate + 1) x s.seen)) text_is (c.in_ok-put.ensures.whole tells) in
     kept me head es more tail tail_is all c.args.gate place low' c.put-2.result old mid new were whole since (c.put-2.ensures.whole tells) (c.put-2.ensures.since tells)

@@ -1,6 +1,6 @@
 use Rattle.std.proofs.Common.{◌≡◌, ℕ, List, [], ◌∷◌, length, ap, subst, arith, length-append}
 use Rattle.std.proofs.lemmas.Result.{IfOk-from_err}
-use Rattle.outside.specs.Disks.{LeavesOnly, LeavesTorn, at_rest, state_of, written}
+use Rattle.outside.specs.Disks.{LeavesOnly, LeavesTorn, at_rest, disk_state_of, bytes_written}
 use Rattle.event_journal.proofs.Making.{head_since, makes}
 use Rattle.event_journal.proofs.opening.write_head.Goals as goal
 
@@ -10,7 +10,7 @@ returns-in_err-put-clause-made g c = λ tells me head text clear.
     let old = told c.args.disk.now in
     let new = told c.put.new.disk in
     let long : length head ≡ 51 = omega (arith, c.fits-text, ap length text, length-append head (0 ∷ [])) in
-    let since = subst (λ (x : List ℕ). LeavesOnly (LeavesTorn (record { at = 1; count = length x }) (state_of old)) old new) text (c.in_err-put.ensures.since tells) in
+    let since = subst (λ (x : List ℕ). LeavesOnly (LeavesTorn (record { at = 1; count = length x }) (disk_state_of old)) old new) text (c.in_err-put.ensures.since tells) in
     record {
       images = IfOk-from_err c.from_residual.result _ c.from_residual.ensures.0;
       since = head_since me head long old new clear since;
@@ -23,6 +23,6 @@ returns-clause-made g c = λ tells me head text clear.
     let mid = told c.put.new.disk in
     let new = told c.put-2.new.disk in
     let long : length head ≡ 51 = omega (arith, c.fits-text, ap length text, length-append head (0 ∷ [])) in
-    let whole = subst (λ (x : List ℕ). state_of mid ≡ at_rest (written 1 x (state_of old).seen)) text (c.in_ok-put.ensures.whole tells) in
-    let since = subst (λ (x : List ℕ). LeavesOnly (LeavesTorn (record { at = 1; count = length x }) (state_of old)) old mid) text (c.in_ok-put.ensures.since tells) in
+    let whole = subst (λ (x : List ℕ). disk_state_of mid ≡ at_rest (bytes_written 1 x (disk_state_of old).seen)) text (c.in_ok-put.ensures.whole tells) in
+    let since = subst (λ (x : List ℕ). LeavesOnly (LeavesTorn (record { at = 1; count = length x }) (disk_state_of old)) old mid) text (c.in_ok-put.ensures.since tells) in
     makes me head long c.put-2.result old mid new clear whole since (c.put-2.ensures.whole tells) (c.put-2.ensures.since tells)

@@ -1,6 +1,6 @@
 use Rattle.std.proofs.Common.{◌≡◌, ◌≤◌, ℕ, ◌+◌, List, ◌++◌, length, take, drop, sym, ap, ◌∙◌, arith, rules, length-append, length-take}
 use Rattle.std.proofs.Math.Seq.{take-add}
-use Rattle.outside.specs.Disks.{state_of}
+use Rattle.outside.specs.Disks.{disk_state_of}
 use Rattle.event_journal.proofs.reading.read_file.Goals as goal
 
 read_on : (seen file piece new : List ℕ) (at k : ℕ) → at ≡ length file → file ≡ take (length file) seen → take k piece ≡ take k (drop at seen) → k ≤ length piece → new ≡ file ++ take k piece
@@ -17,7 +17,7 @@ loop-piece-preserved g c =
       same = λ tells. c.in_ok-came.ensures.same tells ∙ inv.same tells;
       later = omega (arith, c.in_ok-came.ensures.cause.later, inv.later);
       front = λ tells.
-          let seen = (state_of (g.D.Disk.told c.args.disk.now)).seen in
+          let seen = (disk_state_of (g.D.Disk.told c.args.disk.now)).seen in
           read_on seen c.loop-piece.file.items c.read.new.buf _ _ c.in_ok-came.came (search rules) (inv.front tells)
           (rw (inv.same tells) at (c.in_ok-came.ensures.bytes tells)) (omega (arith, c.in_ok-came.ensures.count)) (search rules);
     }

@@ -1,12 +1,12 @@
 use Rattle.std.proofs.Common.{◌≡◌, ◌≤◌, ◌+◌, ◌-◌, length, take, true}
-use Rattle.outside.specs.Disks.{state_of}
+use Rattle.outside.specs.Disks.{disk_state_of}
 use Rattle.event_journal.proofs.reading.read_file.Given as goal
 
 abbrev pub invariant-loop-piece : goal.invariant-loop-piece
 invariant-loop-piece g l = record {
   same : g.D.Disk.tells ≡ true → g.D.Disk.told l.disk ≡ g.D.Disk.told l.initial.disk;
   later : g.D.Disk.faults l.initial.disk ≤ g.D.Disk.faults l.disk;
-  front : g.D.Disk.tells ≡ true → l.file.items ≡ take (length l.file.items) (state_of (g.D.Disk.told l.initial.disk)).seen;
+  front : g.D.Disk.tells ≡ true → l.file.items ≡ take (length l.file.items) (disk_state_of (g.D.Disk.told l.initial.disk)).seen;
 }
 
 abbrev pub decreases-loop-piece : goal.decreases-loop-piece

@@ -1,7 +1,7 @@
 use Rattle.std.proofs.Common.{◌≡◌, ◌<◌, ℕ, ◌+◌, List, [], ◌∷◌, ◌++◌, drop, reverse, get_or, Some, None, sym, ap, ◌∙◌, subst, arith, rules}
 use Rattle.std.proofs.lemmas.List.{take_rest, get_or-drop, reverse-append}
 use Rattle.ritas_base.specs.declared.event.Event.{Event}
-use Rattle.schedule_file.specs.Reading.{IsBytes}
+use Rattle.ritas_base.specs.Bytes.{IsBytes}
 use Rattle.event_journal.specs.Reading.{record_in}
 use Rattle.event_journal.proofs.Records.{at_first, at_next, record_found, record_none}
 use Rattle.event_journal.proofs.reading.read_records.Goals as goal

@@ -4,14 +4,14 @@ use Rattle.std.specs.List.{slice_get}
 use Rattle.std.specs.Int.RustNames.{count_ones}
 use Rattle.std.proofs.lemmas.List.{length-drop, length-take-le}
 use Rattle.ritas_base.specs.Members.{has_member, member_count}
-use Rattle.frame_codec.specs.Values.{mask_of, at_place, rows_in, if_whole, row_of}
+use Rattle.frame_codec.specs.Values.{mask_of, at_place, rows_in, if_whole, column_row}
 use Rattle.frame_codec.proofs.Found.{found, found_small}
 use Rattle.frame_codec.specs.RowLaws.{whole_row}
 use Rattle.frame_codec.specs.ColumnLaws.{rows_get, short_row}
 use Rattle.frame_codec.proofs.values.column_entry.Goals as goal
 
 -- no row is given where it isn't whole
-short_at : (value : List ℕ) (k : ℕ) → length (drop 4 value) < 32 * member_count k (mask_of value) + 32 → row_of value k ≡ None
+short_at : (value : List ℕ) (k : ℕ) → length (drop 4 value) < 32 * member_count k (mask_of value) + 32 → column_row value k ≡ None
 unfolding at_place
 short_at value k short =
     let mask = mask_of value in

@@ -1,5 +1,5 @@
 use Rattle.std.proofs.Common.{◌≡◌, ◌-◌, ◌++◌, replicate}
-use Rattle.keyed_channel.specs.KeyRow.{zero_key}
+use Rattle.ritas_base.specs.Bytes.{zero_key}
 use Rattle.keyed_channel.specs.Keyed.{dealt_keys}
 use Rattle.keyed_channel.proofs.keys.dealt_row.Given as goal
 

@@ -1,6 +1,6 @@
 use Rattle.std.proofs.Common.{◌++◌, length, ap}
 use Rattle.std.proofs.lemmas.List.{drop-replicate}
-use Rattle.keyed_channel.specs.KeyRow.{zero_key}
+use Rattle.ritas_base.specs.Bytes.{zero_key}
 use Rattle.keyed_channel.proofs.keys.filled_row.Goals as goal
 
 pub returns : goal.returns

@@ -1,7 +1,7 @@
 use Rattle.std.proofs.Common.{ℕ, sym, ◌∙◌, ap, subst, List, length}
 use Rattle.std.specs.Prelude.{position}
 use Rattle.std.specs.Str.{bytes_eq}
-use Rattle.multivalued.specs.Entries.{HasPlace, KeepsValues}
+use Rattle.multivalued.specs.Entries.{HasEntryPlace, KeepsValues}
 use Rattle.multivalued.proofs.TableLaws.{keeps_same}
 use Rattle.multivalued.specs.declared.entry.Entry.{Entry}
 use Rattle.multivalued.proofs.Placing.{is_none, place_found, made, none_found}
@@ -17,8 +17,8 @@ returns-clause-ok c =
     let es = c.args.entries.now.items in
     let v = c.args.value.now in
     let fresh = none_found es v (ap (λ (l : List Entry). position (λ (e : Entry). bytes_eq e.value v) l) (sym c.deref.ensures.value) ∙ (sym c.place_of.ensures ∙ is_none c.place_of.result c.in_default.not-Some)) in
-    subst (λ (i : ℕ). HasPlace v i es c.push.new.self.items) (sym (c.len-at.ensures ∙ c.args.entries.now.ok.0))
-    (subst (λ (l : List Entry). HasPlace v (length es) es l) (sym c.in_ok-push.ensures.items)
+    subst (λ (i : ℕ). HasEntryPlace v i es c.push.new.self.items) (sym (c.len-at.ensures ∙ c.args.entries.now.ok.0))
+    (subst (λ (l : List Entry). HasEntryPlace v (length es) es l) (sym c.in_ok-push.ensures.items)
     (made es _ v c.in_ok-from_slice.ensures c.empty.ensures c.new.ensures.items c.empty-2.ensures fresh))
 
 pub returns-in_err-push-clause-keeps : goal.returns-in_err-push-clause-keeps

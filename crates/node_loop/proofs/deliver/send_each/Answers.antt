@@ -2,7 +2,7 @@ use Rattle.std.proofs.Common.{sym, subst, take_all}
 use Rattle.std.proofs.lemmas.List.Elements.{All-from_recursion}
 use Rattle.outside.specs.LinkCallsLaws.{did_none}
 use Rattle.node_loop.specs.declared.output.Output.{Output}
-use Rattle.node_loop.specs.Groups.{Fits, acts_by}
+use Rattle.node_loop.specs.Groups.{FitsPeers, acts_by}
 use Rattle.node_loop.proofs.Grouping.{acts_go, acts_fail}
 use Rattle.node_loop.proofs.deliver.send_each.Goals as goal
 
@@ -13,8 +13,8 @@ pub loop-output-preserved : goal.loop-output-preserved
 loop-output-preserved g c = λ w es numbers ws p stands fit.
     let outputs = c.args.outputs.now in
     let output : Output = c.output-item.result in
-    let fits = subst (λ (o : Output). Fits w p.keeping o.at o.more) (sym c.output-item.is)
-    (All-from_recursion (λ o. Fits w p.keeping o.at o.more) outputs fit c.loop-output.output-index output c.loop-output-test.true) in
+    let fits = subst (λ (o : Output). FitsPeers w p.keeping o.at o.more) (sym c.output-item.is)
+    (All-from_recursion (λ o. FitsPeers w p.keeping o.at o.more) outputs fit c.loop-output.output-index output c.loop-output-test.true) in
     acts_go (acts_by p.keeping) outputs c.loop-output.output-index output output _ _ _ _ _ _ _ c.loop-output-test.true c.output-item.is
     (c.loop-output.invariant w es numbers ws p stands fit) (c.in-Ok.ensures w es numbers ws p stands fits)
 
@@ -22,8 +22,8 @@ pub returns-in-Err : goal.returns-in-Err
 returns-in-Err g c = λ w es numbers ws p stands fit.
     let outputs = c.args.outputs.now in
     let output : Output = c.output-item.result in
-    let fits = subst (λ (o : Output). Fits w p.keeping o.at o.more) (sym c.output-item.is)
-    (All-from_recursion (λ o. Fits w p.keeping o.at o.more) outputs fit c.loop-output.output-index output c.loop-output-test.true) in
+    let fits = subst (λ (o : Output). FitsPeers w p.keeping o.at o.more) (sym c.output-item.is)
+    (All-from_recursion (λ o. FitsPeers w p.keeping o.at o.more) outputs fit c.loop-output.output-index output c.loop-output-test.true) in
     acts_fail (acts_by p.keeping) outputs c.loop-output.output-index output output _ _ _ _ _ _ _ _ c.loop-output-test.true c.output-item.is
     (c.loop-output.invariant w es numbers ws p stands fit) (c.in-Err.ensures w es numbers ws p stands fits)
 

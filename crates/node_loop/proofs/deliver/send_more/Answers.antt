@@ -2,7 +2,7 @@ use Rattle.std.proofs.Common.{refl, subst}
 use Rattle.outside.specs.LinkCallsLaws.{did_none, did_one}
 use Rattle.node_loop.specs.declared.output.More.{More}
 use Rattle.node_loop.specs.Deeds.{sends}
-use Rattle.node_loop.specs.Groups.{Fits}
+use Rattle.node_loop.specs.Groups.{FitsPeers}
 use Rattle.node_loop.proofs.deliver.send_more.Goals as goal
 
 pub returns-in-Nothing : goal.returns-in-Nothing
@@ -15,4 +15,4 @@ returns-in-Note g c = λ w es numbers ws p stands fits.
 
 pub returns-in-Kept : goal.returns-in-Kept
 returns-in-Kept g c = λ w es numbers ws p stands fits.
-    rw c.in-Kept.is (c.send_again.ensures w es numbers ws p stands (subst (λ (more : More). Fits w p.keeping c.args.at more) c.in-Kept.is fits))
+    rw c.in-Kept.is (c.send_again.ensures w es numbers ws p stands (subst (λ (more : More). FitsPeers w p.keeping c.args.at more) c.in-Kept.is fits))

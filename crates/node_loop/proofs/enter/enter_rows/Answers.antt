@@ -1,8 +1,8 @@
 use Rattle.std.proofs.Common.{◌++◌, map, sym, ap, ◌∙◌, subst, arith}
 use Rattle.std.specs.Option.{option_copied}
 use Rattle.node_loop.specs.declared.waiting.Waiters.{Waiters}
-use Rattle.node_loop.specs.Waiting.{Waiting, without}
-use Rattle.node_loop.specs.Calls.{asked_by, left_by, replies_by}
+use Rattle.node_loop.specs.Waiting.{Waiting, without_asked}
+use Rattle.node_loop.specs.Calls.{asked_by, waiting_left_by, replies_by}
 use Rattle.node_loop.specs.Standing.{IsWaiting, reply_by}
 use Rattle.node_loop.proofs.Rows.{first, starts, enters_more, no_row, all_first}
 use Rattle.node_loop.proofs.enter.enter_rows.Goals as goal
@@ -15,9 +15,9 @@ pub loop-position-preserved : goal.loop-position-preserved
 loop-position-preserved c = λ ws is. elim c.match-row.branch [
   | in-Some+in_ok-enter_row w ↦
       let before = c.loop-position.invariant ws is in
-      let left = left_by c.args.at c.args.count (first c.args.log.now.rows c.loop-position.position) ws in
+      let left = waiting_left_by c.args.at c.args.count (first c.args.log.now.rows c.loop-position.position) ws in
       let entered = w.in_ok-enter_row.ensures left before.waits in
-      let P : Waiters → Type 0 = λ x. IsWaiting x (without (asked_by c.args.at w.in-Some.row.now) left) in
+      let P : Waiters → Type 0 = λ x. IsWaiting x (without_asked (asked_by c.args.at w.in-Some.row.now) left) in
       enters_more c.args.at c.args.count c.args.log.now.rows c.loop-position.position w.in-Some.row.now c.loop-position.waiting c.match-row.waiting _
       (map (reply_by c.args.at) c.loop-position.replies.items) (map (reply_by c.args.at) c.match-row.replies.items) ws before c.loop-position.auto.position
       (sym c.row.ensures ∙ ap option_copied w.in-Some.is)
@@ -32,6 +32,6 @@ returns c = λ ws is.
     let done = c.loop-position.invariant ws is in
     let all = all_first c.args.log.now.rows c.loop-position.position (let past = c.loop-position-test.false in let long = c.len-position-end.ensures in omega arith) in
     let P : Waiting → Type 0 = λ x. IsWaiting c.loop-position.waiting x in (
-      subst P (ap (λ rows. left_by c.args.at c.args.count rows ws) all) done.waits,
+      subst P (ap (λ rows. waiting_left_by c.args.at c.args.count rows ws) all) done.waits,
       done.replies ∙ ap (λ rows. map (reply_by c.args.at) c.args.replies.now.items ++ replies_by c.args.at c.args.count rows ws) all,
     )

@@ -1,14 +1,14 @@
 use Rattle.std.proofs.Common.{ap, Err, ◌+◌, ◌<◌, ◌≤◌, inl, inr, length, refl, arith}
 use Rattle.std.proofs.lemmas.Bool.{cases_lt}
-use Rattle.link_resume.specs.Lists.{kept_for, bytes_in, most_bytes}
+use Rattle.link_resume.specs.Lists.{kept_for, bytes_in, most_kept_bytes}
 use Rattle.node_loop.proofs.Keeping.{kept_more, kept_full}
 use Rattle.node_loop.proofs.peers.keep.Goals as goal
 
 pub returns-in-Ok : goal.returns-in-Ok
 returns-in-Ok c = λ n i p long kept.
     let here : c.args.peer < n = omega (arith, c.if-from-peers.false, c.peers.ensures, c.from.ensures, kept.many) in
-    let room : bytes_in (kept_for c.args.resume.now c.args.peer) + length c.args.frame.now ≤ most_bytes =
-    elim (cases_lt most_bytes (bytes_in (kept_for c.args.resume.now c.args.peer) + length c.args.frame.now)) [
+    let room : bytes_in (kept_for c.args.resume.now c.args.peer) + length c.args.frame.now ≤ most_kept_bytes =
+    elim (cases_lt most_kept_bytes (bytes_in (kept_for c.args.resume.now c.args.peer) + length c.args.frame.now)) [
       | inl over ↦ absurd (let e = (c.in-Ok.ensures.full (bytes_in (kept_for c.args.resume.now c.args.peer))).1 (refl, over) in cc)
       | inr fits ↦ fits
     ] in

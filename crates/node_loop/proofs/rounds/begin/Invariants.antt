@@ -2,7 +2,7 @@ use Rattle.std.proofs.Common.{ℕ, List, [], drop}
 use Rattle.ritas_base.specs.declared.event.Event.{Event}
 use Rattle.replica.specs.Replica.{with_keys}
 use Rattle.world_model.specs.World.{Setting}
-use Rattle.node_loop.specs.Archives.{IsSame, moment_of}
+use Rattle.node_loop.specs.Archives.{AreSameOutlets, moment_of}
 use Rattle.node_loop.specs.Groups.{IsEmpty}
 use Rattle.node_loop.specs.Waiting.{nobody}
 use Rattle.node_loop.specs.Peers.{no_peers}
@@ -14,7 +14,7 @@ use Rattle.node_loop.proofs.rounds.begin.Given as goal
 
 abbrev pub invariant-loop-item : goal.invariant-loop-item
 invariant-loop-item g l = record {
-  same : IsSame l.initial.out l.out;
+  same : AreSameOutlets l.initial.out l.out;
   empty : IsEmpty l.group;
   runs : (let m = with_keys g.S.Service.stands g.S.Service.rules g.S.Service.shown g.E.Broadcast.stands g.E.Broadcast.rules g.E.Broadcast.shown g.C.Coin.bits in
       (head : List ℕ) (before : _) (w : Setting) (past : List Event) (numbers : List ℕ) (base : Outs) (until limit : ℕ)

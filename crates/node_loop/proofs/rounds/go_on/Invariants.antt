@@ -3,7 +3,7 @@ use Rattle.ritas_base.specs.declared.event.Event.{Event}
 use Rattle.node_loop.specs.Serving.{Serving}
 use Rattle.replica.specs.Replica.{with_keys}
 use Rattle.world_model.specs.World.{Setting}
-use Rattle.node_loop.specs.Archives.{IsSame, moment_of}
+use Rattle.node_loop.specs.Archives.{AreSameOutlets, moment_of}
 use Rattle.node_loop.specs.Groups.{IsEmpty}
 use Rattle.node_loop.specs.Outs.{Outs}
 use Rattle.node_loop.specs.Running.{Running}
@@ -13,7 +13,7 @@ abbrev pub invariant-loop : goal.invariant-loop
 invariant-loop g l = record {
   next : (goal.iterator-loop g).can_next l.iterator';
   finite : (goal.iterator-loop g).is_finite l.iterator';
-  same : IsSame l.initial.out l.out;
+  same : AreSameOutlets l.initial.out l.out;
   empty : IsEmpty l.group;
   runs : (head : List ℕ) (before : _) (w : Setting) (past : List Event) (numbers : List ℕ) (base : Outs) (start : Serving)
       → Running (with_keys g.S.Service.stands g.S.Service.rules g.S.Service.shown g.E.Broadcast.stands g.E.Broadcast.rules g.E.Broadcast.shown g.C.Coin.bits) w past numbers l.initial.house

@@ -4,7 +4,7 @@ use Rattle.outside.specs.declared.link.LinkItem.{LinkItem}
 use Rattle.schedule_file.specs.ReadHeader.{heading}
 use Rattle.schedule_file.specs.Spelling.{IsHeading}
 use Rattle.schedule_file.specs.declared.header.Header.{Header}
-use Rattle.node_loop.specs.Served.{IsFirst}
+use Rattle.node_loop.specs.Served.{MayBegin}
 use Rattle.node_session.proofs.Headings.{cluster_heading, are_first}
 use Rattle.node_session.proofs.configs.serve_cluster.Goals as goal
 
@@ -13,5 +13,5 @@ serve_session-requires g c = record {
   heading = subst (λ (h : Header). IsHeading (heading h)) (sym c.cluster_header.ensures)
       (cluster_heading c.args.config (search rules) (search rules) (search rules) c.requires);
   atomic = rw c.cluster_header.ensures c.requires.root;
-  firsts = subst (λ (items : List LinkItem). All IsFirst items) (sym c.in_ok-first.ensures) (are_first c.args.config.requests c.requires.short);
+  firsts = subst (λ (items : List LinkItem). All MayBegin items) (sym c.in_ok-first.ensures) (are_first c.args.config.requests c.requires.short);
 }

@@ -1,10 +1,10 @@
 use Rattle.std.proofs.Common.{rules, ◌≡◌, ℕ, List, [], refl, sym, subst, reverse}
-use Rattle.outside.specs.Disks.{LeavesOnly, state_of}
+use Rattle.outside.specs.Disks.{LeavesOnly, disk_state_of}
 use Rattle.event_journal.specs.Appending.{AllOpen}
-use Rattle.event_journal.specs.Reading.{IsKept}
+use Rattle.event_journal.specs.Reading.{OpensAsKept}
 use Rattle.event_journal.specs.declared.fault.JournalFault.TheVariants as faults
 use Rattle.std.proofs.lemmas.List.Elements.{All-from_recursion}
-use Rattle.node_loop.specs.Served.{IsFirst}
+use Rattle.node_loop.specs.Served.{MayBegin}
 use Rattle.node_session.specs.Session.{IsServable}
 use Rattle.node_session.specs.declared.session.Session.{Session}
 use Rattle.node_session.specs.Lives.{Unopened, disk_seen}
@@ -16,7 +16,7 @@ use Rattle.node_session.proofs.configs.serve_journal.Goals as goal
 pub serve_life-requires-clause-servable : goal.serve_life-requires-clause-servable
 serve_life-requires-clause-servable g c =
     subst (λ (s : Session). IsServable s []) (sym c.session_of-session.ensures)
-    (node_servable c.args.config [] (search rules) (search rules) (search rules) c.requires.keys (search rules) c.requires (All-from_recursion IsFirst [] tt))
+    (node_servable c.args.config [] (search rules) (search rules) (search rules) c.requires.keys (search rules) c.requires (All-from_recursion MayBegin [] tt))
 
 pub serve_life-requires-clause-member : goal.serve_life-requires-clause-member
 serve_life-requires-clause-member g c =
@@ -43,7 +43,7 @@ returns-in-Ok-serve_life-clause-served g c =
     c.session_of-session.result _ _ _ c.in-Ok-serve_life.end c.session_of-session.ensures e.gives
     (c.in-Ok-serve_life.ensures.served head (λ t. (
       (e.opened t).0,
-      subst (λ (i : ℕ). AllOpen i head (reverse c.in-Ok.opened.1.items) (state_of (told c.open_journal.new.disk))) (sym e.live.0) (e.opened t).1,
+      subst (λ (i : ℕ). AllOpen i head (reverse c.in-Ok.opened.1.items) (disk_state_of (told c.open_journal.new.disk))) (sym e.live.0) (e.opened t).1,
     )))
 
 pub returns-clause-unserved : goal.returns-clause-unserved
@@ -53,7 +53,7 @@ returns-clause-unserved g c =
     let d = disk_seen g.D.Disk.tells g.D.Disk.told g.D.Disk.faults c.args.disk.now c.open_journal.new.disk in
     let short : Unopened c.args.config d faults.Mem = record {
       cause = tt;
-      since = λ t. subst (λ (h : List ℕ). LeavesOnly (IsKept c.args.config.me h (state_of d.before)) d.before d.now) c.journal_head-head.ensures.exact (e.since t);
+      since = λ t. subst (λ (h : List ℕ). LeavesOnly (OpensAsKept c.args.config.me h (disk_state_of d.before)) d.before d.now) c.journal_head-head.ensures.exact (e.since t);
       later = e.cause.later;
     } in
     (subst (λ disk. Unopened c.args.config (disk_seen g.D.Disk.tells g.D.Disk.told g.D.Disk.faults c.args.disk.now disk) faults.Mem) (sym same.2) short, same.0, same.1)

@@ -6,7 +6,7 @@ use Rattle.node_session.specs.Session.{IsServable}
 use Rattle.node_session.specs.declared.session.Session.{Session}
 use Rattle.std.specs.Prelude.{[]}
 use Rattle.std.proofs.lemmas.List.Elements.{All-from_recursion}
-use Rattle.node_loop.specs.Served.{IsFirst}
+use Rattle.node_loop.specs.Served.{MayBegin}
 use Rattle.node_session.proofs.configs.serve_node.Goals as goal
 
 pub serve_session-requires : goal.serve_session-requires

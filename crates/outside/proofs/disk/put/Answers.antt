@@ -1,18 +1,19 @@
 use Rattle.std.proofs.Common.{◌≡◌, true, List, Result, Ok, Err, OnOk, OnErr, arith, ◌∙◌, refl, length}
 use Rattle.std.proofs.lemmas.Result.{IfOk-from_err}
 use Rattle.outside.specs.FaultsLaws.{rose_after}
-use Rattle.outside.specs.Disks.{DiskState, IsBytes, LeavesOnly, LeavesTorn, state_of, at_rest, written, after_write, after_sync}
+use Rattle.ritas_base.specs.Bytes.{IsBytes}
+use Rattle.outside.specs.Disks.{DiskState, LeavesOnly, LeavesTorn, disk_state_of, at_rest, bytes_written, after_write, after_sync}
 use Rattle.outside.specs.DisksLaws.{failed_leaves, wrote_leaves, synced_leaves, synced_state}
 use Rattle.outside.specs.declared.source.Failed.{Failed}
 use Rattle.outside.proofs.disk.put.Goals as goal
 
 whole : (r : Result (Unit {0}) Failed) (at : _) (bytes : _) (old mid new : List DiskState) → mid ≡ after_write at bytes old
-    → OnOk r (new ≡ after_sync mid) → OnOk r (state_of new ≡ at_rest (written at bytes (state_of old).seen))
+    → OnOk r (new ≡ after_sync mid) → OnOk r (disk_state_of new ≡ at_rest (bytes_written at bytes (disk_state_of old).seen))
 whole (Ok x) at bytes old mid new wrote synced = synced_state at bytes old mid new wrote synced
 whole (Err e) at bytes old mid new wrote synced = tt
 
 since : (r : Result (Unit {0}) Failed) (at : _) (bytes : _) (old mid new : List DiskState) → IsBytes bytes → mid ≡ after_write at bytes old
-    → OnOk r (new ≡ after_sync mid) → OnErr r (new ≡ mid) → LeavesOnly (LeavesTorn (record { at = at; count = length bytes }) (state_of old)) old new
+    → OnOk r (new ≡ after_sync mid) → OnErr r (new ≡ mid) → LeavesOnly (LeavesTorn (record { at = at; count = length bytes }) (disk_state_of old)) old new
 since (Ok x) at bytes old mid new fits wrote synced same = synced_leaves at bytes old mid new fits wrote synced
 since (Err e) at bytes old mid new fits wrote synced same = wrote_leaves at bytes old new fits (same ∙ wrote)
 

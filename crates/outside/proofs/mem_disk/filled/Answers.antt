@@ -1,8 +1,8 @@
 use Rattle.std.proofs.Common.{arith, ◌≡◌, ◌≤◌, ◌-◌, ◌++◌, List, ℕ, [], zero, suc, refl, replicate, take, take_all, length, get_or, ◌∙◌, ap}
 use Rattle.std.proofs.lemmas.List.{length-replicate}
-use Rattle.outside.specs.Disks.{written}
+use Rattle.outside.specs.Disks.{bytes_written}
 use Rattle.outside.specs.DisksLaws.{length-written}
-use Rattle.outside.specs.MemoryDisk.{IsWithin, ranges_of}
+use Rattle.outside.specs.MemoryDisk.{IsSpanWithin, ranges_of}
 use Rattle.outside.specs.Stops.{fills}
 use Rattle.outside.specs.declared.mem_disk.Span.{Span}
 use Rattle.outside.proofs.DiskSteps.{within_at, fills_more, no_ranges}
@@ -29,7 +29,7 @@ overwrite-requires c =
     let span : Span = get_or c.args.spans.now c.loop-span.span-index d in
     let bytes : c.deref.result.now ≡ replicate span.count c.args.byte =
     c.deref.ensures.value ∙ grown span.count c.args.byte _ c.new-bytes.result.items c.resize.new.self.items c.new-bytes.ensures.items c.new-bytes.ensures.len c.in_ok-resize.ensures.items in
-    let within : IsWithin c.args.room span = within_at c.args.room c.args.spans.now c.loop-span.span-index d c.loop-span-test.true c.requires.within in
+    let within : IsSpanWithin c.args.room span = within_at c.args.room c.args.spans.now c.loop-span.span-index d c.loop-span-test.true c.requires.within in
     rw bytes (omega (arith, within, c.loop-span.invariant.2, length-replicate {A = ℕ} span.count c.args.byte))
 
 pub loop-span-preserved : goal.loop-span-preserved
@@ -38,8 +38,8 @@ loop-span-preserved c =
     let span : Span = get_or c.args.spans.now c.loop-span.span-index d in
     let bytes : c.deref.result.now ≡ replicate span.count c.args.byte =
     c.deref.ensures.value ∙ grown span.count c.args.byte _ c.new-bytes.result.items c.resize.new.self.items c.new-bytes.ensures.items c.new-bytes.ensures.len c.in_ok-resize.ensures.items in
-    let within : IsWithin c.args.room span = within_at c.args.room c.args.spans.now c.loop-span.span-index d c.loop-span-test.true c.requires.within in
-    let is : c.overwrite.new.file.items ≡ written span.at (replicate span.count c.args.byte) c.loop-span.file.items = c.overwrite.ensures.value ∙ ap (λ (x : List ℕ). written span.at x c.loop-span.file.items) bytes in (
+    let within : IsSpanWithin c.args.room span = within_at c.args.room c.args.spans.now c.loop-span.span-index d c.loop-span-test.true c.requires.within in
+    let is : c.overwrite.new.file.items ≡ bytes_written span.at (replicate span.count c.args.byte) c.loop-span.file.items = c.overwrite.ensures.value ∙ ap (λ (x : List ℕ). bytes_written span.at x c.loop-span.file.items) bytes in (
       fills_more c.args.byte c.args.synced.now c.loop-span.file.items c.overwrite.new.file.items c.args.spans.now c.loop-span.span-index d c.loop-span-test.true c.loop-span.invariant.0 is,
       rw is (omega (arith, within, c.loop-span.invariant.1, length-replicate {A = ℕ} span.count c.args.byte, length-written span.at (replicate span.count c.args.byte) c.loop-span.file.items)),
       omega (arith, c.loop-span.invariant.2, c.overwrite.ensures.room),

@@ -5,18 +5,18 @@ use Rattle.ritas_base.specs.declared.item.Msg.{Msg}
 use Rattle.ritas_base.specs.Messages.{Place}
 use Rattle.ritas_base.specs.History.{Call}
 use Rattle.layer_api.specs.Runs.{Has}
-use Rattle.reliable_bcast.specs.Bracha.{due_of, is_reliable}
-use Rattle.reliable_bcast.specs.Laws.Due.{IsDue, value_due, due_is, listed_has}
+use Rattle.reliable_bcast.specs.Bracha.{due_by_value, is_reliable}
+use Rattle.reliable_bcast.specs.Laws.Due.{IsValueDue, value_due, due_is, listed_has}
 use Rattle.reliable_bcast.proofs.laws.one_due.Goals as goal
 
-due : (at : Place) (h : List Call) (m : Msg) → Has (due_of at h) m → IsDue at h m
-due at h m there = due_is at h m (listed_has (due_of at h) m there)
+due : (at : Place) (h : List Call) (m : Msg) → Has (due_by_value at h) m → IsValueDue at h m
+due at h m there = due_is at h m (listed_has (due_by_value at h) m there)
 
-one : (at : Place) (h : List Call) (m o : Msg) → IsDue at h m → IsDue at h o → m.kind ≡ o.kind → m.value ≡ o.value
+one : (at : Place) (h : List Call) (m o : Msg) → IsValueDue at h m → IsValueDue at h o → m.kind ≡ o.kind → m.value ≡ o.value
 one at h m o a b same =
     let both : Some m.value ≡ Some o.value = sym a.value ∙ ap (value_due at h) same ∙ b.value in cc both
 
-no_column : (at : Place) (h : List Call) (m : Msg) → IsDue at h m → m.kind ≡ Column → ⊥
+no_column : (at : Place) (h : List Call) (m : Msg) → IsValueDue at h m → m.kind ≡ Column → ⊥
 no_column at h m a is = let clash : false ≡ true = sym (ap is_reliable is) ∙ a.reliable in cc clash
 
 pub returns : goal.returns

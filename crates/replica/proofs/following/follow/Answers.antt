@@ -2,7 +2,7 @@ use Rattle.std.proofs.Common.{◌<◌, ◌≤◌, ◌++◌, ◌∙◌, ap, subst
 use Rattle.std.proofs.lemmas.List.{take_all}
 use Rattle.std.proofs.lemmas.Result.{err_from_is_err_and}
 use Rattle.ritas_base.specs.declared.id.Id.{Id}
-use Rattle.command_log.specs.Rows.{entries_of}
+use Rattle.command_log.specs.Rows.{entries_of_log}
 use Rattle.command_log.specs.Standing.{StandsFor}
 use Rattle.replica.specs.CommandRows.{command_of, HasCommand}
 use Rattle.replica.proofs.FollowSteps.{all_at, fits_at, first_ids, stands_next, first_between}
@@ -19,13 +19,13 @@ loop-id-preserved g c = record {
       let before = c.loop-id.invariant.stands r st stands live all xs room old in
       stands_next a ids xs i c.loop-id.log before c.follow_one.new.log within
       (c.in_ok-follow_one.ensures.ok r st stands live (all_at (HasCommand r st.history) ids i within all) (fits_at a ids xs i c.loop-id.log before within room)
-      (entries_of a (first_ids ids i xs)) before);
+      (entries_of_log a (first_ids ids i xs)) before);
 }
 
 pub returns-clause-ok : goal.returns-clause-ok
 returns-clause-ok g c = λ r st stands live all xs room old.
     let past : length c.args.ids.now ≤ c.loop-id.id-index = omega arith in
-    subst (λ (l : List Id). StandsFor c.loop-id.log (entries_of (command_of r st.history) (reverse l ++ xs))) (take_all c.loop-id.id-index c.args.ids.now past)
+    subst (λ (l : List Id). StandsFor c.loop-id.log (entries_of_log (command_of r st.history) (reverse l ++ xs))) (take_all c.loop-id.id-index c.args.ids.now past)
     (c.loop-id.invariant.stands r st stands live all xs room old)
 
 pub returns-in_err-follow_one-clause-err : goal.returns-in_err-follow_one-clause-err

@@ -15,7 +15,7 @@ use Rattle.schedule_file.specs.ReadHeader.{heading}
 use Rattle.schedule_file.specs.declared.fault.FileFault.TheVariants.{Header}
 use Rattle.ritas.proofs.Asked.{asked_there, asked_none, asked_low, own_low}
 use Rattle.ritas.proofs.Headers.{header_of}
-use Rattle.ritas.specs.Statuses.{status_of, text_limit, placed}
+use Rattle.ritas.specs.Statuses.{status_of, text_limit, input_line}
 use Rattle.ritas.proofs.Jobs.{one_job, only_memory, named_none}
 use Rattle.ritas.proofs.Texts.{untouched}
 use Rattle.schedule_replay.specs.Replay.{text, asked_of}
@@ -137,7 +137,7 @@ returns-in-Err-clause-every g c = λ what asks tells h es is there.
 pub returns-in-Err-clause-without : goal.returns-in-Err-clause-without
 returns-in-Err-clause-without g c = λ what asks tells h es is none.
     let short = c.refuse_words.ensures.memory (only_memory c.in-Err.fault (λ usage. named_none (map string_bytes c.args.words.now.items) (Replay what) (c.in-Err.ensures.usage (ap Err usage)) asks)) in
-    untouched g.K.Sink.tells g.K.Sink.taken c.args.output.now c.refuse_words.new.output c.refuse_words.result 3 (placed (codes "header") 15) short.0 short.1
+    untouched g.K.Sink.tells g.K.Sink.taken c.args.output.now c.refuse_words.new.output c.refuse_words.result 3 (input_line (codes "header") 15) short.0 short.1
 
 pub returns-in-Err-clause-taken : goal.returns-in-Err-clause-taken
 unfolding text_limit

@@ -6,7 +6,7 @@ use Rattle.schedule_file.specs.ReadHeader.{heading}
 use Rattle.schedule_file.specs.Spelling.{FrontOf}
 use Rattle.world_model.specs.Stands.{WorldStands}
 use Rattle.schedule_plan.specs.Plans.{header_of}
-use Rattle.schedule_stage.specs.Stage.{IsKept}
+use Rattle.schedule_stage.specs.Stage.{IsKeptFile}
 use Rattle.schedule_replay.specs.Layers.{layers_by, setting_by}
 use Rattle.schedule_replay.specs.Replay.{ShowsWorld}
 use Rattle.schedule_plan.specs.Schedule.{schedule, world_by}
@@ -44,7 +44,7 @@ returns-in-Ok-clause-shows g c = λ finished.
     let unforged = made_unforged m c.drive_forges_nothing.ensures p c.args.what c.args.made.now (schedule w p) finished in
     let world = subst (λ (h : Header). WorldStands m c.world.result.now (setting_by service other h) es) finished.header (c.world.ensures es finished.played) in
     let file = c.args.made.now.file.taken in
-    let kept = subst (λ (what : DriveWhat). IsKept what file (FrontOf (heading (header_of p)) es)) c.in-Schedule.is finished.kept in
+    let kept = subst (λ (what : DriveWhat). IsKeptFile what file (FrontOf (heading (header_of p)) es)) c.in-Schedule.is finished.kept in
     let text = is_file g.K.Sink.tells g.K.Sink.taken c.args.sink.now c.write_file.new.sink w p unforged file kept in
     rw c.in-Schedule.is (file_shows g.K.Sink.tells g.K.Sink.taken c.args.sink.now c.write_file.new.sink w p unforged finished.none c.audit-audit.result
     (c.audit-audit.ensures.is w es world) (c.audit-audit.ensures.agree w es world)
@@ -60,6 +60,6 @@ returns-in-Err-clause-shows g c = λ finished.
     let es = events_in w p in
     let unforged = made_unforged m c.drive_forges_nothing.ensures p c.args.what c.args.made.now (schedule w p) finished in
     let file = c.args.made.now.file.taken in
-    let kept = subst (λ (what : DriveWhat). IsKept what file (FrontOf (heading (header_of p)) es)) c.in-Schedule.is finished.kept in
+    let kept = subst (λ (what : DriveWhat). IsKeptFile what file (FrontOf (heading (header_of p)) es)) c.in-Schedule.is finished.kept in
     let text = is_file g.K.Sink.tells g.K.Sink.taken c.args.sink.now c.write_file.new.sink w p unforged file kept in
     rw c.in-Schedule.is (file_cut g.K.Sink.tells g.K.Sink.taken c.args.sink.now c.write_file.new.sink w p unforged finished.none (λ told. rw text at (c.in-Err.ensures.front told)))

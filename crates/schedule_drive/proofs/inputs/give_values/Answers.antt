@@ -2,7 +2,7 @@ use Rattle.std.proofs.Common.{◌%◌, ◌<◌, ℕ, map, Ok, Err, ◌∙◌, ap
 use Rattle.std.proofs.lemmas.Result.{err_from_is_err_and}
 use Rattle.schedule_replay.specs.Layers.{layers_by}
 use Rattle.schedule_plan.specs.Plans.{correct_of}
-use Rattle.schedule_plan.specs.Inputs.{value_text, value_at}
+use Rattle.schedule_plan.specs.Inputs.{value_text, value_input}
 use Rattle.schedule_plan.proofs.Planned.{is_planned}
 use Rattle.schedule_drive.proofs.Toward.{none_up, all_up, sets_out, arrives}
 use Rattle.schedule_drive.proofs.Giving.{value_given}
@@ -12,7 +12,7 @@ pub loop-i-init : goal.loop-i-init
 loop-i-init g c = λ what steps stands.
     let m = layers_by g.S.Service.stands g.S.Service.rules g.S.Service.shown g.E.Broadcast.stands g.E.Broadcast.rules g.E.Broadcast.shown in
     let p = c.args.plan.now in
-    sets_out m p what c.args.stage.now _ _ steps (ap (map (value_at p)) (all_up (correct_of p))) stands
+    sets_out m p what c.args.stage.now _ _ steps (ap (map (value_input p)) (all_up (correct_of p))) stands
 
 pub loop-i-preserved : goal.loop-i-preserved
 loop-i-preserved g c = λ what steps stands.
@@ -37,4 +37,4 @@ pub returns : goal.returns
 returns g c = λ what steps stands.
     let m = layers_by g.S.Service.stands g.S.Service.rules g.S.Service.shown g.E.Broadcast.stands g.E.Broadcast.rules g.E.Broadcast.shown in
     let p = c.args.plan.now in
-    arrives m p what c.loop-i.stage _ _ (ap (map (value_at p)) (none_up c.loop-i.i (correct_of p) (omega (arith, c.loop-i-test.false, c.correct_of-i-end.ensures.count)))) (c.loop-i.invariant what steps stands)
+    arrives m p what c.loop-i.stage _ _ (ap (map (value_input p)) (none_up c.loop-i.i (correct_of p) (omega (arith, c.loop-i-test.false, c.correct_of-i-end.ensures.count)))) (c.loop-i.invariant what steps stands)

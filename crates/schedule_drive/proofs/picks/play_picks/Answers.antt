@@ -8,7 +8,7 @@ use Rattle.schedule_plan.specs.Schedule.{schedule}
 use Rattle.schedule_plan.proofs.Planned.{is_planned, input_steps}
 use Rattle.schedule_stage.specs.Stage.{IsStage}
 use Rattle.schedule_stage.specs.Worlds.{world_in}
-use Rattle.schedule_drive.specs.Pickers.{Known}
+use Rattle.schedule_drive.specs.Pickers.{KnownFrames}
 use Rattle.schedule_drive.proofs.Picking.{first_of, first_rest, next_rest, none_open, none_left, schedule_halts, reaches_halt, counted}
 use Rattle.schedule_drive.proofs.picks.play_picks.Goals as goal
 
@@ -18,7 +18,7 @@ loop-number-init g c = λ what stands.
     let p = c.args.plan.now in
     let w = world_in m p in
     let session = c.has_session.ensures in
-    let known : Known = record { waits = λ y. false; counts = none_yet } in
+    let known : KnownFrames = record { waits = λ y. false; counts = none_yet } in
     record {
       picking = first_of p;
       stands = record {

@@ -5,7 +5,7 @@ use Rattle.schedule_stage.specs.Worlds.{world_in}
 use Rattle.world_model.specs.declared.player.Player.TheVariants.{Correct}
 use Rattle.schedule_drive.specs.declared.runs.Run.{Run}
 use Rattle.schedule_drive.specs.declared.runs.Run.TheVariants.{Turns}
-use Rattle.schedule_drive.specs.Runs.{renewed, IsRun}
+use Rattle.schedule_drive.specs.Runs.{renewed, IsPlayerRun}
 use Rattle.schedule_drive.proofs.Running.{listed_at, still_at, changed_next}
 use Rattle.schedule_drive.proofs.runs.renew.Goals as goal
 
@@ -19,7 +19,7 @@ loop-run-preserved g c = λ p what steps stands are.
     let i = c.loop-run.run-index in
     let nobody = Turns (Correct 0) 0 in
     let same = ap (λ (l : List Run). get_or l i nobody) so_far ∙ still_at (renewed w p steps) c.args.runs.now i nobody in
-    let player = subst (IsRun w p) (sym same) (are (get_or c.args.runs.now i nobody) (listed_at c.args.runs.now i nobody c.loop-run-test.true)) in
+    let player = subst (IsPlayerRun w p) (sym same) (are (get_or c.args.runs.now i nobody) (listed_at c.args.runs.now i nobody c.loop-run-test.true)) in
     changed_next (renewed w p steps) c.args.runs.now c.loop-run.runs i c.renewed.result nobody c.loop-run-test.true c.loop-run.auto.runs so_far (c.renewed.ensures p what steps stands player)
 
 pub returns : goal.returns

@@ -6,7 +6,7 @@ use Rattle.ritas_core.specs.Stands.{meaning}
 use Rattle.world_model.specs.MadeOrder.{all_made}
 use Rattle.world_model.specs.Stands.{WorldStands}
 use Rattle.world_model.specs.World.{Setting}
-use Rattle.schedule_replay.specs.Frames.{frame_line, Held}
+use Rattle.schedule_replay.specs.Frames.{frame_line, HoldsRest}
 use Rattle.schedule_replay.proofs.frames.write_lines.Given as goal
 
 abbrev pub invariant-loop-at : goal.invariant-loop-at
@@ -15,5 +15,5 @@ invariant-loop-at g l =
     record {
       same : g.K.Sink.faults l.sink ≡ g.K.Sink.faults l.initial.sink;
       lines : g.K.Sink.tells ≡ true → (w : Setting) (es : List Event) → WorldStands m l.world w es → string_bytes l.initial.text ≡ []
-          → Held (g.K.Sink.taken l.initial.sink) (g.K.Sink.taken l.sink) (string_bytes l.text) (flat_map frame_line (take l.at (all_made w es)));
+          → HoldsRest (g.K.Sink.taken l.initial.sink) (g.K.Sink.taken l.sink) (string_bytes l.text) (flat_map frame_line (take l.at (all_made w es)));
     }

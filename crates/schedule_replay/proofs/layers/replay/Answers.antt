@@ -8,7 +8,7 @@ use Rattle.schedule_file.specs.Schedule.{file_of}
 use Rattle.schedule_file.specs.Scopes.{scope_of}
 use Rattle.schedule_file.specs.declared.scope.Scope.{Scope}
 use Rattle.schedule_replay.specs.Layers.{setting_of}
-use Rattle.schedule_replay.specs.Onto.{onto}
+use Rattle.schedule_replay.specs.Onto.{read_onto}
 use Rattle.schedule_replay.specs.Replay.{asked_of, asked_behind}
 use Rattle.schedule_replay.proofs.Asking.{asked_from, asked_fails}
 use Rattle.schedule_replay.proofs.Feeding.{behind, file_from, file_fails, events_behind, fault_behind}
@@ -22,10 +22,10 @@ returns-in-Ok-clause-shows g c = λ tells.
     let k = c.in-Ok.header in
     let next = spot c.in-Ok.reader.held (g.S.Source.left c.start.new.src) in
     let what = c.args.what in
-    let read : Scope → Result (List Event) FileFault = λ scope. asked_behind what k.mode.root (onto [] (events_at 67108865 scope next)) in
+    let read : Scope → Result (List Event) FileFault = λ scope. asked_behind what k.mode.root (read_onto [] (events_at 67108865 scope next)) in
     let scope = scope_of (heading k) in
     let from_header : asked_of what (file_of bytes) ≡ behind (heading k) (read scope) =
-    ap (asked_of what) (file_from bytes (heading k) next (c.in-Ok.ensures.exact tells)) ∙ asked_from what (heading k) (onto [] (events_at 67108865 scope next)) in
+    ap (asked_of what) (file_from bytes (heading k) next (c.in-Ok.ensures.exact tells)) ∙ asked_from what (heading k) (read_onto [] (events_at 67108865 scope next)) in
     record {
       shown = λ h es file.
           let events : read scope ≡ Ok es = events_behind (heading k) (heading h) (read scope) es (sym from_header ∙ file) in

@@ -2,7 +2,7 @@ use Rattle.std.proofs.Common.{ℕ, List, ◌++◌, sym, ◌∙◌, ap, ap₂, st
 use Rattle.layer_api.specs.Service.{ServiceRules}
 use Rattle.ritas_core.specs.Rules.{seat_of}
 use Rattle.ritas_core.specs.Parts.{parts}
-use Rattle.schedule_replay.specs.Vectors.{says_of, vector_line}
+use Rattle.schedule_replay.specs.Vectors.{line_says, vector_line}
 use Rattle.schedule_replay.proofs.vectors.add_vector.Goals as goal
 
 pub returns : goal.returns
@@ -13,4 +13,4 @@ returns g c = λ r k st stands live core.
     let last = c.last_vector.ensures.rules (seat_of r) words stood ∙ ap (λ (s : ServiceRules). s.last (seat_of r) words) (sym core.words) in
     c.in_ok-push_str.ensures.bytes
     ∙ ap (λ (l : List ℕ). string_bytes c.args.text.now ++ l)
-    (c.as_str.ensures.value ∙ (c.in_ok-line.ensures ∙ ap (vector_line c.args.i) (ap₂ says_of outcome last)))
+    (c.as_str.ensures.value ∙ (c.in_ok-line.ensures ∙ ap (vector_line c.args.i) (ap₂ line_says outcome last)))

@@ -1,5 +1,5 @@
 use Rattle.std.proofs.lemmas.Result.{IfOk-weaker}
-use Rattle.vector_consensus.specs.Going.{GoesOn}
+use Rattle.vector_consensus.specs.Going.{AttemptsGoOn}
 use Rattle.vector_consensus.specs.Holding.{FollowsProposal}
 use Rattle.vector_consensus.proofs.Calls.{follows_proposal}
 use Rattle.vector_consensus.proofs.hearing.hear_proposal.Goals as goal
@@ -18,5 +18,5 @@ returns-clause-ok g c =
     let after = c.go_on.new.made.items in
     let k = c.args.k in
     let v = c.args.value.now in
-    IfOk-weaker c.go_on.result (λ now. GoesOn stands rules part own kept old new before after now) (λ now. FollowsProposal stands rules part own table kept old new before after now k v)
+    IfOk-weaker c.go_on.result (λ now. AttemptsGoOn stands rules part own kept old new before after now) (λ now. FollowsProposal stands rules part own table kept old new before after now k v)
     (λ now goes. follows_proposal stands rules g.met.M.MultiBox.multi_laws part own table kept old new before after now k v c.in_ok-hear.ensures goes) c.go_on.ensures.ok

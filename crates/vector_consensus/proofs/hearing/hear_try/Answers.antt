@@ -1,5 +1,5 @@
 use Rattle.std.proofs.lemmas.Result.{IfOk-weaker}
-use Rattle.vector_consensus.specs.Going.{GoesOn}
+use Rattle.vector_consensus.specs.Going.{AttemptsGoOn}
 use Rattle.vector_consensus.specs.Holding.{FollowsTry}
 use Rattle.vector_consensus.proofs.Calls.{near_lost, near_after, follows_try}
 use Rattle.vector_consensus.proofs.hearing.hear_try.Goals as goal
@@ -31,7 +31,7 @@ returns-clause-ok g c =
     let after = c.go_on.new.made.items in
     let s = c.args.slot.now in
     let v = c.args.value.now in
-    IfOk-weaker c.go_on.result (λ next. GoesOn stands rules part own table middle new now after next) (λ next. FollowsTry stands rules part bits own table old new before after next s v)
+    IfOk-weaker c.go_on.result (λ next. AttemptsGoOn stands rules part own table middle new now after next) (λ next. FollowsTry stands rules part bits own table old new before after next s v)
     (λ next goes.
     follows_try stands rules g.met.M.MultiBox.multi_laws g.M.MultiBox.live g.M.MultiBox.shown g.met.M.MultiBox.shows part bits own table old middle s v before now after new next
     c.in_ok-hear_in.ensures goes) c.go_on.ensures.ok

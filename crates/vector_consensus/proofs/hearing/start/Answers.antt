@@ -1,7 +1,7 @@
 use Rattle.std.proofs.Common.{true}
 use Rattle.std.proofs.lemmas.Result.{IfOk-weaker}
-use Rattle.vector_consensus.specs.Going.{GoesOn}
-use Rattle.vector_consensus.specs.Holding.{Starts}
+use Rattle.vector_consensus.specs.Going.{AttemptsGoOn}
+use Rattle.vector_consensus.specs.Holding.{StartsAttempts}
 use Rattle.vector_consensus.proofs.Calls.{starts}
 use Rattle.vector_consensus.proofs.hearing.start.Goals as goal
 
@@ -17,7 +17,7 @@ returns-clause-ok g c =
     let middle = c.push.new.self.items in
     let after = c.go_on.new.made.items in
     let v = c.args.value.now in
-    IfOk-weaker c.go_on.result (λ now. GoesOn stands rules part true table old new middle after now) (λ now. Starts stands rules part table old new before after now v)
+    IfOk-weaker c.go_on.result (λ now. AttemptsGoOn stands rules part true table old new middle after now) (λ now. StartsAttempts stands rules part table old new before after now v)
     (λ now goes.
     starts stands rules g.met.M.MultiBox.multi_laws part table old new before middle after now v c.in_ok-value.value c.slot.result
     c.in_ok-push.ensures.items c.slot.ensures c.in_ok-value.ensures goes)

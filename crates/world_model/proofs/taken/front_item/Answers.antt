@@ -8,7 +8,7 @@ use Rattle.ritas_core.specs.Stands.{meaning}
 use Rattle.world_model.specs.World.{Setting, rules_at}
 use Rattle.world_model.specs.Stands.{ReplicasStand}
 use Rattle.world_model.specs.Watch.{watched}
-use Rattle.world_model.specs.Steps.{IsFront}
+use Rattle.world_model.specs.Steps.{IsInboxFront}
 use Rattle.world_model.proofs.Meeting.{if_ok}
 use Rattle.world_model.proofs.Bodies.{front_is, front_waits, replica_there, none_there}
 use Rattle.world_model.proofs.taken.front_item.Goals as goal
@@ -19,7 +19,7 @@ returns-in-Some-clause-is g c =
     (λ found. found ≡ watched c.args.mode.now (option_copied c.inbox_front.result))
     (λ front. (w : Setting) (states : ℕ → CoreState) → c.args.mode.now ≡ w.mode
     → ReplicasStand (meaning g.S.Service.stands g.S.Service.rules g.S.Service.shown g.E.Broadcast.stands g.E.Broadcast.rules g.E.Broadcast.shown g.C.Coin.bits (λ k. k.me) tags_of) w states c.args.replicas.now
-    → w.is_correct c.args.at ≡ true → IsFront w states c.args.at front)
+    → w.is_correct c.args.at ≡ true → IsInboxFront w states c.args.at front)
     (λ front found. λ w states mode stand right.
     let there = replica_there _ w states c.args.at c.from-place.result c.args.replicas.now c.index-replicas-place.result c.in-Some.replica stand c.from-place.ensures
     (omega (arith, c.if-place-replicas.false)) (sym c.index-replicas-place.is ∙ c.in-Some.is) in

@@ -1,6 +1,6 @@
 use Rattle.std.proofs.Common.{refl, ◌≡◌, sym, subst}
 use Rattle.layer_api.specs.Words.{Hear}
-use Rattle.atomic_bcast.specs.Turning.{IsNear, Begins}
+use Rattle.atomic_bcast.specs.Turning.{IsNear, RoundBegins}
 use Rattle.atomic_bcast.specs.declared.abc.Abc.{Abc}
 use Rattle.atomic_bcast.proofs.Completing.{on_err_any}
 use Rattle.atomic_bcast.proofs.Near.{near_before, mid_before, poised_near}
@@ -34,7 +34,7 @@ returns-clause-err g c =
 
 pub returns-clause-ok : goal.returns-clause-ok
 returns-clause-ok g c =
-    on_ok_weaker {P = Begins g.V.VectorBox.stands g.V.VectorBox.rules g.V.VectorBox.shown c.complete.new.self c.begin.new.self c.args.made.now.items c.begin.new.made.items} c.begin.result
+    on_ok_weaker {P = RoundBegins g.V.VectorBox.stands g.V.VectorBox.rules g.V.VectorBox.shown c.complete.new.self c.begin.new.self c.args.made.now.items c.begin.new.made.items} c.begin.result
     (λ begins seat w d m.
     begins seat w d (c.in_ok-complete.ensures.ok seat w d
     (learned g.V.VectorBox.stands g.V.VectorBox.rules g.met.V.VectorBox.vector_laws g.V.VectorBox.live g.V.VectorBox.shown g.met.V.VectorBox.shows

@@ -3,7 +3,7 @@ use Rattle.ritas_base.specs.declared.item.Say.{Say}
 use Rattle.layer_api.specs.Words.{Hear}
 use Rattle.atomic_bcast.specs.Rounds.{delivered_ids}
 use Rattle.atomic_bcast.specs.Stepping.{log_now}
-use Rattle.atomic_bcast.specs.Turning.{Settles, SettlesNot}
+use Rattle.atomic_bcast.specs.Turning.{RoundSettles, SettlesNot}
 use Rattle.atomic_bcast.proofs.Completing.{on_err_any}
 use Rattle.atomic_bcast.proofs.Hearing.{is_new, mid_command, command_says, lost_command, within}
 use Rattle.std.proofs.lemmas.Result.{on_ok_weaker, on_err_weaker}
@@ -18,7 +18,7 @@ returns-in_err-note_command-clause-err g c = on_err_any c.from_residual.result _
 
 pub returns-clause-ok : goal.returns-clause-ok
 returns-clause-ok g c =
-    on_ok_weaker {P = Settles g.V.VectorBox.stands g.V.VectorBox.rules g.V.VectorBox.shown (record c.args.self.now { ledger = c.note_command.new.ledger }) c.settle.new.self c.args.made.now.items c.settle.new.made.items} c.settle.result
+    on_ok_weaker {P = RoundSettles g.V.VectorBox.stands g.V.VectorBox.rules g.V.VectorBox.shown (record c.args.self.now { ledger = c.note_command.new.ledger }) c.settle.new.self c.args.made.now.items c.settle.new.made.items} c.settle.result
     (λ settles seat w u h may one.
     let x = c.args.self.now in
     let s = c.args.slot.now in

@@ -1,5 +1,5 @@
 use Rattle.layer_api.specs.Words.{Hear}
-use Rattle.atomic_bcast.specs.Turning.{Settles, SettlesNot}
+use Rattle.atomic_bcast.specs.Turning.{RoundSettles, SettlesNot}
 use Rattle.atomic_bcast.proofs.Completing.{on_err_any}
 use Rattle.atomic_bcast.proofs.RoundHearing.{mid_heard, made_heard, took_other, near_heard}
 use Rattle.std.proofs.lemmas.Result.{on_ok_weaker, on_err_weaker}
@@ -20,7 +20,7 @@ returns-then-before-ne0-clause-ok g c = λ seat w h coin may other.
 
 pub returns-clause-ok : goal.returns-clause-ok
 returns-clause-ok g c =
-    on_ok_weaker {P = Settles g.V.VectorBox.stands g.V.VectorBox.rules g.V.VectorBox.shown (record c.args.self.now { boxes = c.heard.new.self }) c.settle.new.self c.heard.new.made.items c.settle.new.made.items} c.settle.result
+    on_ok_weaker {P = RoundSettles g.V.VectorBox.stands g.V.VectorBox.rules g.V.VectorBox.shown (record c.args.self.now { boxes = c.heard.new.self }) c.settle.new.self c.heard.new.made.items c.settle.new.made.items} c.settle.result
     (λ settles seat w h coin may other.
     let x = c.args.self.now in
     let s = c.args.slot.now in

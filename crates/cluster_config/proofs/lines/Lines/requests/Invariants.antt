@@ -1,12 +1,12 @@
 use Rattle.std.proofs.Common.{◌≡◌, ◌+◌, ◌-◌, ◌≤◌, length}
 use Rattle.cluster_config.specs.Lines.{fields_up_to}
-use Rattle.cluster_config.specs.Values.{request_in}
+use Rattle.cluster_config.specs.Values.{request_of_line}
 use Rattle.cluster_config.proofs.Loops.{with_more}
 use Rattle.cluster_config.proofs.lines.Lines.requests.Given as goal
 
 abbrev pub invariant-loop-self : goal.invariant-loop-self
 invariant-loop-self l = record {
-  reads : fields_up_to l.name (request_in l.n) 64 l.fn.self ≡ with_more l.requests (fields_up_to l.name (request_in l.n) (64 - length l.requests) l.self);
+  reads : fields_up_to l.name (request_of_line l.n) 64 l.fn.self ≡ with_more l.requests (fields_up_to l.name (request_of_line l.n) (64 - length l.requests) l.self);
   number : l.self.number ≡ l.fn.self.number + length l.requests;
   within : length l.requests ≤ 64;
 }

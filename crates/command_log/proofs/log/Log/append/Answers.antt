@@ -1,7 +1,7 @@
 use Rattle.std.proofs.Common.{rules, ◌≡◌, ◌<◌, ◌≤◌, ◌∙◌, sym, ap, subst, ℕ, true, false, List, ◌∷◌, length, drop, inl, inr, refl, ◌⊎◌}
 use Rattle.std.specs.Option.{is_some}
 use Rattle.ritas_base.specs.Members.{has_member, member_count}
-use Rattle.command_log.specs.Rows.{Entry, Row, row_of, client_of, request_of}
+use Rattle.command_log.specs.Rows.{CommandEntry, Row, row_of, client_of, request_of}
 use Rattle.command_log.specs.Standing.{Ledger, StandsFor}
 use Rattle.command_log.proofs.Places.{found_has, row_from, on_err}
 use Rattle.command_log.proofs.Confirming.{Found, Joined, Settles, found_from, knows, is_first, answer_none, nothing_again, stays_again, settled_position, settled_ok, settled_err}
@@ -14,7 +14,7 @@ pub returns-then-is_some-clause-position : goal.returns-then-is_some-clause-posi
 returns-then-is_some-clause-position c = λ es stands.
     let some : is_some c.find.result ≡ true = search rules in
     let has = found_has _ _ _ _ _ _ true c.number-client.ensures c.number-request.ensures c.find.ensures.value some in
-    let e : Entry = record { id = c.args.id; command = c.args.command.now } in
+    let e : CommandEntry = record { id = c.args.id; command = c.args.command.now } in
     answer_none c.args.self.now e es stands (nothing_again c.args.self.now.f e es c.args.self.now.rows has)
 
 pub returns-then-is_some-clause-ok : goal.returns-then-is_some-clause-ok

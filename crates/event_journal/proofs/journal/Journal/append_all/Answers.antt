@@ -2,7 +2,7 @@ use Rattle.std.proofs.Common.{◌≡◌, ◌<◌, [], ◌∷◌, ◌++◌, ◌-�
 use Rattle.std.proofs.lemmas.Result.{IfOk-from_err}
 use Rattle.std.proofs.lemmas.List.{take_rest}
 use Rattle.std.specs.List.{flat_map}
-use Rattle.event_journal.specs.Journal.{front_of, record_text}
+use Rattle.event_journal.specs.Journal.{closed_front, record_text}
 use Rattle.event_journal.specs.Appending.{JournalState}
 use Rattle.event_journal.proofs.Groups.{all_reverse, some_more, text_behind, fits_limit, ends_behind}
 use Rattle.event_journal.proofs.journal.Journal.append_all.Goals as goal
@@ -12,7 +12,7 @@ returns-in_err-keep-clause-kept g c = λ tells head es stands all.
     let events = c.args.events.now in
     let text_is : c.taken.result.now ≡ flat_map record_text events ++ 0 ∷ [] = search rules in
     let end_is : c.self.inside.end ≡ c.args.self.now.end = ap (λ (j : JournalState). j.end) c.self.view_is in
-    let place : c.self.inside.end ≡ length (front_of head es) = end_is ∙ stands in
+    let place : c.self.inside.end ≡ length (closed_front head es) = end_is ∙ stands in
     let me_is : c.self.inside.me ≡ c.args.self.now.me = ap (λ (j : JournalState). j.me) c.self.view_is in
     let some : 0 < length events = search rules in
     let cut : take (length c.taken.result.now - 1) (drop 1 c.taken.result.now) ≡ drop 1 c.taken.result.now = take_rest c.taken.result.now 1 in
@@ -29,7 +29,7 @@ returns-clause-kept g c = λ tells head es stands all.
     let events = c.args.events.now in
     let text_is : c.taken.result.now ≡ flat_map record_text events ++ 0 ∷ [] = search rules in
     let end_is : c.self.inside.end ≡ c.args.self.now.end = ap (λ (j : JournalState). j.end) c.self.view_is in
-    let place : c.self.inside.end ≡ length (front_of head es) = end_is ∙ stands in
+    let place : c.self.inside.end ≡ length (closed_front head es) = end_is ∙ stands in
     let me_is : c.self.inside.me ≡ c.args.self.now.me = ap (λ (j : JournalState). j.me) c.self.view_is in
     let some : 0 < length events = search rules in
     let cut : take (length c.taken.result.now - 1) (drop 1 c.taken.result.now) ≡ drop 1 c.taken.result.now = take_rest c.taken.result.now 1 in

@@ -1,5 +1,5 @@
 use Rattle.std.proofs.Common.{◌≡◌, arith, ap, sym, length, refl, rules, subst}
-use Rattle.link_resume.specs.Lanes.{IsLane}
+use Rattle.link_resume.specs.Lanes.{IsPeerLane}
 use Rattle.link_resume.proofs.Places.{lane_more}
 use Rattle.link_resume.proofs.lane.Lane.add.Goals as goal
 

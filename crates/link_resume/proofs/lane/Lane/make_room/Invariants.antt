@@ -1,10 +1,10 @@
 use Rattle.std.proofs.Common.{◌≡◌, length}
-use Rattle.link_resume.specs.Lanes.{IsLane}
+use Rattle.link_resume.specs.Lanes.{IsPeerLane}
 use Rattle.link_resume.specs.Lists.{room_for}
 use Rattle.link_resume.proofs.lane.Lane.make_room.Given as goal
 
 abbrev pub invariant-loop-self : goal.invariant-loop-self
-invariant-loop-self l = IsLane l.self-inside.bytes l.self-inside.ascends l.self-inside.kept.items
+invariant-loop-self l = IsPeerLane l.self-inside.bytes l.self-inside.ascends l.self-inside.kept.items
     × (room_for l.size l.self-inside.kept.items ≡ room_for l.size l.initial.self-inside.kept.items)
 
 abbrev pub decreases-loop-self : goal.decreases-loop-self

@@ -1,7 +1,7 @@
 use Rattle.std.proofs.Common.{refl}
 use Rattle.layer_api.specs.Words.{Hear}
 use Rattle.multivalued.specs.Consensus.{init_slot}
-use Rattle.multivalued.specs.Settling.{Settles}
+use Rattle.multivalued.specs.Settling.{BoxSettles}
 use Rattle.multivalued.specs.Holding.{FollowsInit}
 use Rattle.multivalued.proofs.KnownLaws.{known_init}
 use Rattle.multivalued.proofs.HoldingLaws.{if_ok, follows}
@@ -19,7 +19,7 @@ returns-clause-ok g c =
     let before = c.args.made.now.items in
     let after = c.settle.new.made.items in
     if_ok c.settle.result
-    (λ next. Settles stands rules x.part x.place u x.inner inner before after next)
+    (λ next. BoxSettles stands rules x.part x.place u x.inner inner before after next)
     (λ next. FollowsInit stands rules x (record x { table = u; inner = inner }) next before after k v)
     (λ next settles at w h within none.
     follows stands rules x at w (Hear (init_slot at.scope k) v) u inner next before after refl refl c.hear_init.ensures.keeps

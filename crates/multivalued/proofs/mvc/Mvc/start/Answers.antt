@@ -1,8 +1,8 @@
 use Rattle.std.proofs.Common.{◌∙◌, ap₂, List, ℕ, ◌∷◌, ◌++◌, []}
 use Rattle.ritas_base.specs.declared.slot.Slot.{Slot}
 use Rattle.ritas_base.specs.declared.item.Say.{Say}
-use Rattle.multivalued.specs.Settling.{Settles}
-use Rattle.multivalued.specs.Holding.{Starts}
+use Rattle.multivalued.specs.Settling.{BoxSettles}
+use Rattle.multivalued.specs.Holding.{StartsProposal}
 use Rattle.multivalued.proofs.HoldingLaws.{if_ok, proposing, starts}
 use Rattle.multivalued.proofs.mvc.Mvc.start.Goals as goal
 
@@ -18,7 +18,7 @@ returns-clause-ok g c =
     let said = c.in_ok-push.ensures.items
     ∙ ap₂ (λ (s : Slot) (v : List ℕ). let y : Say = record { slot = s; value = v } in c.args.made.now.items ++ y ∷ []) c.slot-slot.ensures c.in_ok-value.ensures in
     if_ok c.settle.result
-    (λ next. Settles stands rules x.part (proposing x.place) x.table x.inner inner mid after next)
-    (λ next. Starts stands rules x (record x { inner = inner }) next before after c.args.value.now)
+    (λ next. BoxSettles stands rules x.part (proposing x.place) x.table x.inner inner mid after next)
+    (λ next. StartsProposal stands rules x (record x { inner = inner }) next before after c.args.value.now)
     (λ next settles at w h none. starts stands rules x at w inner next before mid after c.args.value.now said settles h none)
     c.settle.ensures

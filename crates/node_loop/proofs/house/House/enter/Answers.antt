@@ -2,7 +2,7 @@ use Rattle.std.proofs.Common.{◌≡◌, ◌++◌, List, map, refl, subst, ap, �
 use Rattle.std.proofs.lemmas.Result.{on_ok_weaker}
 use Rattle.command_log.specs.Rows.{Row}
 use Rattle.world_model.specs.Agree.{rows_at}
-use Rattle.node_loop.specs.Calls.{left_by, replies_by}
+use Rattle.node_loop.specs.Calls.{waiting_left_by, replies_by}
 use Rattle.node_loop.specs.Standing.{IsWaiting, reply_by}
 use Rattle.node_loop.proofs.Heres.{as_here, nowhere, read_at, log_at}
 use Rattle.node_loop.proofs.Comings.{wait_else}
@@ -15,8 +15,8 @@ returns-in-Some-clause-enters g c = λ w es numbers ws p stand number.
     let rows : c.log.result.now.rows ≡ rows_at w es at = log_at _ w es at c.in-Some.replica.now c.log.result.now.rows is c.log.ensures.live in
     on_ok_weaker c.enter_rows.result
     (λ entered. (
-      wait_else _ w es numbers c.args.self.now (record { replicas = c.args.self.now.replicas; waiting = c.enter_rows.new.waiting; keepers = c.args.self.now.keepers }) ws (left_by at c.args.count (rows_at w es at) ws) p stand refl refl
-          (let P : List Row → Type 0 = λ x. IsWaiting c.enter_rows.new.waiting (left_by at c.args.count x ws) in subst P rows entered.0),
+      wait_else _ w es numbers c.args.self.now (record { replicas = c.args.self.now.replicas; waiting = c.enter_rows.new.waiting; keepers = c.args.self.now.keepers }) ws (waiting_left_by at c.args.count (rows_at w es at) ws) p stand refl refl
+          (let P : List Row → Type 0 = λ x. IsWaiting c.enter_rows.new.waiting (waiting_left_by at c.args.count x ws) in subst P rows entered.0),
       entered.1 ∙ ap (λ x. map (reply_by at) c.args.output.now.replies.items ++ replies_by at c.args.count x ws) rows,
     ))
     (c.enter_rows.ensures ws stand.waiting)

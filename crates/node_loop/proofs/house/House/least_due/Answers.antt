@@ -1,5 +1,5 @@
 use Rattle.std.proofs.lemmas.Bool.{both_ways}
-use Rattle.node_loop.specs.Resending.{due_at}
+use Rattle.node_loop.specs.Resending.{peers_due}
 use Rattle.node_loop.proofs.Wishing.{due_first, not_none}
 use Rattle.node_loop.proofs.house.House.least_due.Goals as goal
 
@@ -15,7 +15,7 @@ pub returns-in_err-peer : goal.returns-in_err-peer
 returns-in_err-peer g c = λ w es numbers ws p stands.
     let found = c.in_ok-at.ensures w es numbers ws p stands in
     let place = c.in_ok-place_of.ensures w es numbers stands.here in
-    absurd (not_none (due_at w es p c.in_ok-at.at) found.2 (c.in_err-peer.ensures w es numbers ws p c.in_ok-at.at stands place.1))
+    absurd (not_none (peers_due w es p c.in_ok-at.at) found.2 (c.in_err-peer.ensures w es numbers ws p c.in_ok-at.at stands place.1))
 
 pub returns : goal.returns
 returns g c = λ w es numbers ws p stands.

@@ -6,7 +6,7 @@ use Rattle.client_port.specs.Messages.{refusal_reply}
 use Rattle.world_model.specs.World.{seen_of}
 use Rattle.node_loop.specs.declared.waiting.Asked.{Asked}
 use Rattle.node_loop.specs.Waiting.{with_waiter}
-use Rattle.node_loop.specs.Calls.{called, asked_in, refusal_in, reply, refused, taken, submitted, submitted_so}
+use Rattle.node_loop.specs.Calls.{event_called, asked_in, refusal_in, reply, refusal_replied, request_taken, submitted, submitted_so}
 use Rattle.node_loop.specs.Standing.{IsWaiting, reply_by}
 use Rattle.node_loop.specs.Keeping.{is_kept_so}
 use Rattle.node_loop.proofs.Comings.{right_at, given_stands, wait_else, quietly, came_quietly, replied_too, comes_as}
@@ -30,9 +30,9 @@ returns-in_ok-enter-in-Some-clause-comes g c = λ w es numbers ws p stand number
     let said = c.write_refusal-refusal.ensures ∙ ap (λ (a : Asked). refusal_reply a.client a.request c.in-Some.code) asked in
     let more = reply at (refusal_reply (asked_in at bytes).client (asked_in at bytes).request c.in-Some.code) c.args.conn in
     on_ok_weaker c.reply.result
-    (λ replied. comes_as _ w es numbers c.enter.new.self c.reply.new.output (refused w es at c.args.conn bytes c.in-Some.code ws) (submitted w es at c.args.conn bytes ws) (quietly w es p)
+    (λ replied. comes_as _ w es numbers c.enter.new.self c.reply.new.output (refusal_replied w es at c.args.conn bytes c.in-Some.code ws) (submitted w es at c.args.conn bytes ws) (quietly w es p)
     (sym (ap (submitted_so w es at c.args.conn bytes ws) code))
-    (replied_too _ w es numbers c.enter.new.self c.enter.new.output c.reply.new.output at (called w es at e ws) more (quietly w es p (called w es at e ws)) comes c.enter.ensures.same.0
+    (replied_too _ w es numbers c.enter.new.self c.enter.new.output c.reply.new.output at (event_called w es at e ws) more (quietly w es p (event_called w es at e ws)) comes c.enter.ensures.same.0
     c.reply.ensures.same.0 c.reply.ensures.same.1 c.reply.ensures.same.4 c.reply.ensures.same.2 c.reply.ensures.same.3
     (replied ∙ ap (λ b. map (reply_by at) c.enter.new.output.replies.items ++ reply at b c.args.conn) said)))
     (c.reply.ensures.replies at)
@@ -52,7 +52,7 @@ returns-in_ok-push-in-None-clause-comes g c = λ w es numbers ws p stand number 
     let code : refusal_in (seen_of w es e) ≡ None = ap refusal_in (sym seen) ∙ sym c.refusal_in.ensures ∙ c.in-None.is in
     let right = right_at _ w es numbers c.args.self.now.replicas.items c.args.place at stand.here number in
     on_ok_weaker c.enter-in-None.result
-    (λ x. comes_as _ w es numbers c.enter-in-None.new.self c.enter-in-None.new.output (taken w es at c.args.conn bytes ws) (submitted w es at c.args.conn bytes ws) (quietly w es p)
+    (λ x. comes_as _ w es numbers c.enter-in-None.new.self c.enter-in-None.new.output (request_taken w es at c.args.conn bytes ws) (submitted w es at c.args.conn bytes ws) (quietly w es p)
     (sym (ap (submitted_so w es at c.args.conn bytes ws) code))
     (came_quietly _ w es numbers c.enter-in-None.new.self c.enter-in-None.new.output at c.rows_at-count.result e c.args.output.now.frames.items c.give.new.frames.items c.args.output.now.replies.items us p
     (c.rows_at-count.ensures w es numbers at stand.here number) clear.frames did.1 clear.replies right (c.enter-in-None.ensures.same.3 ∙ clear.more)

@@ -2,10 +2,10 @@ use Rattle.std.proofs.Common.{Some, sym, ap, ◌∙◌}
 use Rattle.std.proofs.lemmas.Bool.{both_ways}
 use Rattle.std.proofs.lemmas.Result.{on_ok_weaker}
 use Rattle.ritas_base.specs.declared.event.Event.TheVariants.{Turn}
-use Rattle.node_loop.specs.Calls.{called}
+use Rattle.node_loop.specs.Calls.{event_called}
 use Rattle.node_loop.specs.Peers.{keep_all}
 use Rattle.node_loop.specs.Resending.{nothing_more}
-use Rattle.node_loop.specs.Serving.{made_by}
+use Rattle.node_loop.specs.Serving.{frames_made_by}
 use Rattle.node_loop.proofs.Comings.{cleared, comes_at}
 use Rattle.node_loop.proofs.house.House.turn.Goals as goal
 
@@ -14,7 +14,7 @@ returns-in-Some-clause-comes g c = λ w es numbers ws p stand right.
     let placed = c.in-Some.ensures w es numbers stand.here in
     let at_is = c.clear.ensures.at in
     on_ok_weaker c.call.result
-    (comes_at _ w es numbers c.call.new.self c.call.new.output (λ k. called w es k (Turn c.args.at) ws) (λ k. nothing_more (keep_all (made_by w es (Some (Turn c.args.at))) p)) c.clear.new.self.at c.args.at at_is)
+    (comes_at _ w es numbers c.call.new.self c.call.new.output (λ k. event_called w es k (Turn c.args.at) ws) (λ k. nothing_more (keep_all (frames_made_by w es (Some (Turn c.args.at))) p)) c.clear.new.self.at c.args.at at_is)
     (c.call.ensures.comes w es numbers ws p stand (placed.1 ∙ ap (λ x. Some x) (sym at_is)) (sym at_is) (cleared c.clear.new.self c.clear.ensures.none))
 
 pub returns-in-None-clause-comes : goal.returns-in-None-clause-comes

@@ -1,7 +1,7 @@
 use Rattle.std.proofs.Common.{◌≡◌, ◌++◌, sym, ◌∙◌, ap, length, List}
 use Rattle.std.proofs.lemmas.List.{append-nil}
 use Rattle.ritas_base.specs.declared.item.Item.{Item}
-use Rattle.ooc_buffers.specs.Lists.{Kept, released, busy_peers}
+use Rattle.ooc_buffers.specs.Lists.{HeldItem, released, busy_peers}
 use Rattle.ooc_buffers.proofs.Peers.{none_released, idle_released, idle_remaining}
 use Rattle.ooc_buffers.proofs.held.Held.release.Goals as goal
 
@@ -18,5 +18,5 @@ pub returns-then-room-eq0-clause-kept : goal.returns-then-room-eq0-clause-kept
 returns-then-room-eq0-clause-kept g c = λ t computes.
     let here : c.as_slice.result.now ≡ c.args.self.now = c.as_slice.ensures.value ∙ c.self.view_is in
     let none : length (released t c.args.self.now) ≡ 0 =
-    sym (ap (λ (l : List (List Kept)). length (released t l)) here) ∙ (sym (c.in_ok-room.ensures t computes) ∙ c.if-room-eq0.true) in
+    sym (ap (λ (l : List (List HeldItem)). length (released t l)) here) ∙ (sym (c.in_ok-room.ensures t computes) ∙ c.if-room-eq0.true) in
     sym (none_released t c.args.self.now none)

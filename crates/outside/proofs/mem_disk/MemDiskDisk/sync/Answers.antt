@@ -1,5 +1,5 @@
 use Rattle.std.proofs.Common.{◌≡◌, ◌+◌, [], ◌∷◌, ◌++◌, refl, sym, ap, ◌∙◌, arith, rules}
-use Rattle.outside.specs.Memory.{Calls}
+use Rattle.outside.specs.Memory.{FailingCalls}
 use Rattle.outside.specs.MemoryDisk.{MemDiskState, Syncs, IsRefused, acts_of}
 use Rattle.outside.specs.declared.mem_disk.DiskDid.TheVariants.{Synced}
 use Rattle.outside.proofs.DiskSteps.{fits_sync, keeps_sync, acts_synced, going, count_up, refuted}
@@ -13,7 +13,7 @@ invariant_of-self-2 c =
     let lt = going c.args.self.now not in
     let number : c.args.self.now.calls.number ≡ c.self.inside.calls.number = ap (λ (s : MemDiskState). s.calls.number) (sym c.self.view_is) in
     let most : c.args.self.now.most ≡ c.self.inside.most = ap (λ (s : MemDiskState). s.most) (sym c.self.view_is) in
-    let up : c.pass.new.self.number ≡ c.self.inside.calls.number + 1 = ap (λ (s : Calls). s.number) c.pass.ensures ∙ count_up c.self.inside.calls.number c.self.inside.most (omega (arith, lt, number, most)) (omega (arith, c.self.ranges)) in
+    let up : c.pass.new.self.number ≡ c.self.inside.calls.number + 1 = ap (λ (s : FailingCalls). s.number) c.pass.ensures ∙ count_up c.self.inside.calls.number c.self.inside.most (omega (arith, lt, number, most)) (omega (arith, c.self.ranges)) in
     let kept : c.extend_from_slice.new.self.items ≡ c.self.inside.bytes.items = search rules in
     let none : c.clear-2.new.self.items ≡ [] = search rules in (
       rw pushed (fits_sync _ _ _ _ _ _ _ inv.0 (omega (arith, up, inv.0.counted))),

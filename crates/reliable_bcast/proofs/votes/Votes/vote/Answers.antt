@@ -4,7 +4,7 @@ use Rattle.std.specs.Str.{bytes_eq}
 use Rattle.std.proofs.lemmas.List.Quantifiers.{position-Some}
 use Rattle.std.proofs.lemmas.Slice.Eq.{bytes_eq-Decides}
 use Rattle.reliable_bcast.specs.declared.votes.Ballot.{Ballot}
-use Rattle.reliable_bcast.specs.Tally.{votes_in, IsTally}
+use Rattle.reliable_bcast.specs.Tally.{votes_in, IsBallotTally}
 use Rattle.reliable_bcast.proofs.TallyLaws.{awaited_is, voted_at, voted_push, votes_changed, none_found, member_of_none, Voted}
 use Rattle.reliable_bcast.proofs.votes.Votes.vote.Goals as goal
 
@@ -56,7 +56,7 @@ pushed c =
     c.in_ok-push.ensures.items ∙ ap (λ (m : List ℕ). let b : Ballot = record { value = m; voters = c.with.result } in c.self.inside.ballots.items ++ b ∷ []) c.in_ok-value.ensures
 
 pub invariant_of-self-2 : goal.invariant_of-self-2
-invariant_of-self-2 c = (c.self.invariant.0, subst (λ (l : List Ballot). IsTally c.self.inside.n l) (sym (pushed c)) (push_one c).tally)
+invariant_of-self-2 c = (c.self.invariant.0, subst (λ (l : List Ballot). IsBallotTally c.self.inside.n l) (sym (pushed c)) (push_one c).tally)
 
 pub returns-clause-ok : goal.returns-clause-ok
 returns-clause-ok c =

@@ -4,7 +4,7 @@ use Rattle.layer_api.specs.Service.{IsPart}
 use Rattle.command_log.specs.Rows.{Row}
 use Rattle.ritas_core.specs.Machine.{with_lost}
 use Rattle.ritas_core.specs.Stands.{Meaning}
-use Rattle.replica.specs.CommandRows.{rows_at}
+use Rattle.replica.specs.CommandRows.{history_rows}
 use Rattle.replica.specs.Replica.{with_keys}
 use Rattle.replica.proofs.Feeding.{rows_are, lost_rows}
 use Rattle.replica.proofs.Growing.{part_itself}
@@ -16,8 +16,8 @@ returns-clause-near g c =
     let m : Meaning g.row.S.Denot g.row.E.Denot g.row.C.Denot KeyRow = with_keys g.S.Service.stands g.S.Service.rules g.S.Service.shown b.stands b.rules b.shown g.C.Coin.bits in
     λ r k st stands. elim stands.state [
       | inl on ↦
-          subst (λ (log : List Row). IsPart (rows_at r st.history) log × IsPart log (rows_at r (with_lost st))) (sym (rows_are on.log)) (
-            part_itself (rows_at r st.history),
+          subst (λ (log : List Row). IsPart (history_rows r st.history) log × IsPart log (history_rows r (with_lost st))) (sym (rows_are on.log)) (
+            part_itself (history_rows r st.history),
             lost_rows m g.met.E.Broadcast.value_laws g.met.S.Service.word_laws c.history_laws.ensures.proper c.args.self.now.core r st on.core,
           )
       | inr off ↦ off.log

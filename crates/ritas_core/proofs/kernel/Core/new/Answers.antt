@@ -1,7 +1,7 @@
 use Rattle.std.proofs.Common.{◌∙◌, ap, refl, rules, replicate, []}
 use Rattle.std.proofs.lemmas.List.{length-replicate}
 use Rattle.ritas_core.specs.declared.layers.Layers.{Layers}
-use Rattle.ritas_core.specs.Parts.{nothing}
+use Rattle.ritas_core.specs.Parts.{no_parts}
 use Rattle.ritas_core.specs.Stands.{Meaning, meaning, rules_of, LayersStand}
 use Rattle.ritas_core.proofs.Means.{means_well}
 use Rattle.ritas_core.proofs.ShownLayers.{layers_show}
@@ -24,7 +24,7 @@ returns-clause-stands g c =
       service = c.in_ok-service.service;
       casts = c.new-3.result;
     } in
-    let stood : LayersStand m layers nothing = search rules in
+    let stood : LayersStand m layers no_parts = search rules in
     record {
       rules = refl;
       own = c.requires.own;
@@ -37,7 +37,7 @@ returns-clause-stands g c =
       whole = tt;
       layers = λ _. stood;
       lost = λ _. refl;
-      shows = layers_show m well layers (rules_of m layers) refl nothing stood;
+      shows = layers_show m well layers (rules_of m layers) refl no_parts stood;
       inbox = c.new-4.ensures.items;
       held = c.in_ok-held.ensures ∙ ap (λ n. replicate n []) c.n.ensures.value;
       peers = length-replicate _ _;

@@ -5,7 +5,7 @@ use Rattle.layer_api.specs.declared.broadcast.Heard.{Heard}
 use Rattle.ritas_core.specs.declared.taken.Taken.{Taken}
 use Rattle.ritas_core.specs.declared.taken.Taken.TheVariants.{Took}
 use Rattle.ritas_core.specs.Rules.{casts_by}
-use Rattle.ritas_core.specs.SlotCast.{CastStandsAt, shown_by}
+use Rattle.ritas_core.specs.SlotCast.{CastStandsAt, shown_by_cast}
 use Rattle.ritas_core.specs.CastCalls.{CastsTake, CastsHear}
 use Rattle.ritas_core.specs.Stands.{Meaning, meaning}
 use Rattle.ritas_core.specs.LayerCalls.{GivesItem}
@@ -23,7 +23,7 @@ returns-in_ok-hear-in-Took-Some-clause-given g c =
     let rules = casts_by old.mode old.params old.me (m.tags old.tagger) m.cast in
     let is_taken : c.in_ok-take_cast.field-0 ≡ Took (Some c.in-Took-Some.value) = c.in-Took-Some.is ∙ ap Took c.in-Took-Some.field-0-is in
     let takes : CastsTake (CastStandsAt old.mode m.cast_stands) rules (m.me old.tagger) old.casts c.take_cast.new.casts c.args.item.now c.args.made.now.items c.take_cast.new.made.items (Some c.in-Took-Some.value) =
-    subst (λ (t : Taken). CastsHear (CastStandsAt old.mode m.cast_stands) (shown_by m.cast_shown) rules (m.me old.tagger) old.casts c.take_cast.new.casts
+    subst (λ (t : Taken). CastsHear (CastStandsAt old.mode m.cast_stands) (shown_by_cast m.cast_shown) rules (m.me old.tagger) old.casts c.take_cast.new.casts
     c.args.item.now c.args.made.now.items c.take_cast.new.made.items (Ok t)) is_taken c.in_ok-take_cast.ensures in
     heard_item m old c.hear.new.self c.take_cast.new.casts c.args.item.now _ _ _ c.in-Took-Some.value c.as_slice.result.now takes c.as_slice.ensures c.in_ok-hear-in-Took-Some.ensures.told
 
@@ -37,7 +37,7 @@ returns-in_err-hear-in-Took-Some-clause-given g c =
     let rules = casts_by old.mode old.params old.me (m.tags old.tagger) m.cast in
     let is_taken : c.in_ok-take_cast.field-0 ≡ Took (Some c.in-Took-Some.value) = c.in-Took-Some.is ∙ ap Took c.in-Took-Some.field-0-is in
     let takes : CastsTake (CastStandsAt old.mode m.cast_stands) rules (m.me old.tagger) old.casts c.take_cast.new.casts c.args.item.now c.args.made.now.items c.take_cast.new.made.items (Some c.in-Took-Some.value) =
-    subst (λ (t : Taken). CastsHear (CastStandsAt old.mode m.cast_stands) (shown_by m.cast_shown) rules (m.me old.tagger) old.casts c.take_cast.new.casts
+    subst (λ (t : Taken). CastsHear (CastStandsAt old.mode m.cast_stands) (shown_by_cast m.cast_shown) rules (m.me old.tagger) old.casts c.take_cast.new.casts
     c.args.item.now c.args.made.now.items c.take_cast.new.made.items (Ok t)) is_taken c.in_ok-take_cast.ensures in
     let p = err_from_is_err_and c.from_residual-in_err-hear-in-Took-Some.result c.from_residual-in_err-hear-in-Took-Some.ensures.1 in
     subst (λ (r : Result Heard Mem). GivesItem m old c.hear.new.self c.args.item.now c.args.made.now.items c.hear.new.made.items r) (sym p.1)

@@ -4,7 +4,7 @@ use Rattle.schedule_replay.specs.Layers.{layers_by}
 use Rattle.world_model.specs.declared.player.Player.{Player}
 use Rattle.schedule_plan.specs.Plans.{players_of}
 use Rattle.schedule_plan.proofs.Planned.{is_planned}
-use Rattle.schedule_stage.specs.Worlds.{world_in, made_for}
+use Rattle.schedule_stage.specs.Worlds.{world_in, count_made_for}
 use Rattle.schedule_drive.specs.Pickers.{is_left, counts_in}
 use Rattle.schedule_drive.specs.Lanes.{IsLane}
 use Rattle.schedule_drive.proofs.Lists.{set_length}
@@ -39,7 +39,7 @@ loop-at-preserved g c =
           let number = c.number_of.ensures p.attack in
           let made : c.made.result ≡ now link.player =
           c.made.ensures p what steps stands apart.from (subst (λ (j : ℕ). j < p.p.n) (sym number) apart.below) (λ same. apart.differ (same ∙ number))
-          ∙ ap₂ (λ (v : Player) (j : ℕ). made_for w p steps v j) own number in
+          ∙ ap₂ (λ (v : Player) (j : ℕ). count_made_for w p steps v j) own number in
           let lane = c.grow.ensures (count link.player) (is_left passed x link.player) (part.rest at link (omega arith) here).lane (subst (λ (k : ℕ). count link.player ≤ k) (sym made) (grown link.player)) in
           let lane_now = subst (λ (k : ℕ). IsLane c.grow.new.self k (is_left passed x link.player)) made lane in
           let flag = c.is_open-is_open.ensures (now link.player) (is_left passed x link.player) lane_now in

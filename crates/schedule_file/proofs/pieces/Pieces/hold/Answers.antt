@@ -1,6 +1,6 @@
 use Rattle.std.proofs.Common.{◌≡◌, ◌<◌, ◌≤◌, ◌+◌, ◌++◌, length, arith, ap, sym, ◌∙◌, length-append}
 use Rattle.schedule_file.specs.FileBytes.{limit}
-use Rattle.schedule_file.specs.Place.{Held}
+use Rattle.schedule_file.specs.Place.{Unread}
 use Rattle.schedule_file.proofs.Chunks.{past_limit, cut_short}
 use Rattle.schedule_file.proofs.pieces.Pieces.hold.Goals as goal
 
@@ -10,7 +10,7 @@ returns-then-have-self-clause-err g c = λ tells own.
     let now = c.gather.new.self.bytes in
     let left = g.S.Source.left c.gather.new.source in
     let rest = c.args.self.now.bytes ++ g.S.Source.left c.args.source.now in
-    let place : c.self.inside.at ≡ at = ap (λ (h : Held). h.at) c.self.view_is ∙ c.in_ok-gather.ensures.at in
+    let place : c.self.inside.at ≡ at = ap (λ (h : Unread). h.at) c.self.view_is ∙ c.in_ok-gather.ensures.at in
     let long : length rest ≡ length now + length left = ap length (sym (c.in_ok-gather.ensures.same tells)) ∙ length-append now left in
     let far : limit < at + c.min-have.result = omega arith in
     past_limit c.args.len at rest (omega arith) (omega arith) (omega arith)
@@ -21,7 +21,7 @@ returns-then-have-len-clause-err g c = λ tells own.
     let now = c.gather.new.self.bytes in
     let left = g.S.Source.left c.gather.new.source in
     let rest = c.args.self.now.bytes ++ g.S.Source.left c.args.source.now in
-    let place : c.self.inside.at ≡ at = ap (λ (h : Held). h.at) c.self.view_is ∙ c.in_ok-gather.ensures.at in
+    let place : c.self.inside.at ≡ at = ap (λ (h : Unread). h.at) c.self.view_is ∙ c.in_ok-gather.ensures.at in
     let few : length now < c.args.len = omega arith in
     let none : length left ≡ 0 = ap length (c.in_ok-gather.ensures.enough tells few) in
     let long : length rest ≡ length now + length left = ap length (sym (c.in_ok-gather.ensures.same tells)) ∙ length-append now left in

@@ -1,6 +1,6 @@
 use Rattle.std.proofs.Common.{◌≡◌, ◌≤◌, ◌+◌, ◌-◌, List, ℕ, ◌++◌, length, take, arith, ap, sym, ◌∙◌, append_assoc}
 use borrow.Rule.Slice.PartMut.{put_mid, post_of}
-use Rattle.schedule_file.specs.Place.{Held}
+use Rattle.schedule_file.specs.Place.{Unread}
 use Rattle.schedule_file.proofs.Chunks.{filled}
 use Rattle.schedule_file.proofs.pieces.Pieces.read_on.Goals as goal
 
@@ -12,7 +12,7 @@ returns-clause-same g c = λ tells.
     let moved = c.move_to_front-self-inside.new.piece in
     let k = c.in_ok-count.count in
     let came = c.read.new.buf in
-    let held : take r moved ≡ bytes = c.move_to_front-self-inside.ensures.part ∙ ap (λ (h : Held). h.bytes) c.self.view_is in
+    let held : take r moved ≡ bytes = c.move_to_front-self-inside.ensures.part ∙ ap (λ (h : Unread). h.bytes) c.self.view_is in
     let within : r ≤ length moved = omega arith in
     let fits : k ≤ length came = omega (arith, c.read.auto.buf, c.in_ok-count.ensures.count) in
     let whole : take (r + k) (put_mid r (65536 - r) moved came) ≡ take r moved ++ take k came = filled r k moved came (post_of r (65536 - r) moved) within fits in

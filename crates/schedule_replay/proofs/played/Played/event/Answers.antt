@@ -1,5 +1,5 @@
 use Rattle.std.proofs.Common.{◌<◌, ◌-◌, ◌^◌, length, ◌∙◌, ap, ap₂, arith}
-use Rattle.world_model.specs.Counts.{counts_of, counted, total}
+use Rattle.world_model.specs.Counts.{counts_of, counted_event, total}
 use Rattle.schedule_replay.specs.Layers.{setting_by}
 use Rattle.schedule_replay.proofs.Totals.{all_counted}
 use Rattle.schedule_replay.proofs.played.Played.event.Goals as goal
@@ -13,5 +13,5 @@ returns-clause-stands g c = λ es stands may.
     record {
       header = stands.header;
       world = does.stands;
-      counts = c.count.ensures.one ∙ ap₂ counted does.seen stands.counts;
+      counts = c.count.ensures.one ∙ ap₂ counted_event does.seen stands.counts;
     }

@@ -1,7 +1,7 @@
 use Rattle.std.proofs.Common.{◌≡◌, ℕ, Err, ◌∷◌, arith, refl, ap, ◌∙◌, subst}
 use Rattle.std.proofs.lemmas.Result.{err_from_is_err_and}
 use Rattle.schedule_file.specs.Place.{spot}
-use Rattle.schedule_file.specs.SourceFaults.{faults_after}
+use Rattle.schedule_file.specs.SourceFaults.{file_faults_after}
 use Rattle.schedule_file.specs.ReadHeader.{heading}
 use Rattle.schedule_file.specs.Scopes.{scope_of}
 use Rattle.schedule_file.specs.declared.scope.Scope.{Scope}
@@ -19,7 +19,7 @@ returns-in_err-next-clause-exact g c = λ tells before stands.
 pub returns-in_err-next-clause-counts : goal.returns-in_err-next-clause-counts
 returns-in_err-next-clause-counts g c =
     let p = err_from_is_err_and c.from_residual.result c.from_residual.ensures.1 in
-    rw (p.1, p.2) (c.in_err-next.ensures.counts c.loop.invariant.0 ∙ ap (λ (n : ℕ). faults_after {A = Unit {0}} n (Err c.in_err-next.field-0.0)) c.loop.invariant.3)
+    rw (p.1, p.2) (c.in_err-next.ensures.counts c.loop.invariant.0 ∙ ap (λ (n : ℕ). file_faults_after {A = Unit {0}} n (Err c.in_err-next.field-0.0)) c.loop.invariant.3)
 
 pub returns-in-None-clause-end : goal.returns-in-None-clause-end
 returns-in-None-clause-end g c = λ tells.

@@ -5,8 +5,8 @@ use Rattle.schedule_file.specs.Place.{spot}
 use Rattle.schedule_file.specs.ReadEvents.{events_at}
 use Rattle.world_model.specs.Counts.{total}
 use Rattle.schedule_replay.specs.Layers.{layers_by}
-use Rattle.schedule_replay.specs.Onto.{onto}
-use Rattle.schedule_replay.specs.Played.{StandsFor}
+use Rattle.schedule_replay.specs.Onto.{read_onto}
+use Rattle.schedule_replay.specs.Played.{PlayedStandsFor}
 use Rattle.schedule_replay.proofs.played.Played.play.Given as goal
 
 abbrev pub invariant-loop : goal.invariant-loop
@@ -17,7 +17,7 @@ invariant-loop g l =
     × (l.self.header ≡ l.initial.self.header)
     × (g.I.Source.faults l.input ≡ g.I.Source.faults l.initial.input)
     × (total l.self.counts ≤ l.counter)
-    × (g.I.Source.tells ≡ true → (before : List Event) → StandsFor m l.initial.self before →
-    (h : List Event) × StandsFor m l.self h
-    × (onto h (events_at (67108865 - l.counter) l.reader.scope (spot l.reader.held (g.I.Source.left l.input)))
-    ≡ onto before (events_at 67108865 l.initial.reader.scope (spot l.initial.reader.held (g.I.Source.left l.initial.input)))))
+    × (g.I.Source.tells ≡ true → (before : List Event) → PlayedStandsFor m l.initial.self before →
+    (h : List Event) × PlayedStandsFor m l.self h
+    × (read_onto h (events_at (67108865 - l.counter) l.reader.scope (spot l.reader.held (g.I.Source.left l.input)))
+    ≡ read_onto before (events_at 67108865 l.initial.reader.scope (spot l.initial.reader.held (g.I.Source.left l.initial.input)))))

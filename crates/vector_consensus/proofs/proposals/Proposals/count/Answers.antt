@@ -1,5 +1,5 @@
 use Rattle.std.proofs.Common.{◌∙◌, length, ap, arith}
-use Rattle.vector_consensus.specs.Kept.{Kept}
+use Rattle.vector_consensus.specs.Kept.{KeptProposals}
 use Rattle.vector_consensus.proofs.KeptLaws.{few}
 use Rattle.vector_consensus.proofs.proposals.Proposals.count.Goals as goal
 
@@ -10,4 +10,4 @@ overflow_cast-result c =
     record { fits = omega (arith, l, e) }
 
 pub returns : goal.returns
-returns c = c.len.ensures ∙ (c.self.inside.entries.ok.0 ∙ ap (λ (t : Kept). length t.entries) c.self.view_is)
+returns c = c.len.ensures ∙ (c.self.inside.entries.ok.0 ∙ ap (λ (t : KeptProposals). length t.entries) c.self.view_is)

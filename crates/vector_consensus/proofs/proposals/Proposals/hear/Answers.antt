@@ -2,14 +2,14 @@ use Rattle.std.proofs.Common.{◌≡◌, ℕ, ◌∙◌, false, ap, ap₂, subst
 use Rattle.std.specs.Prelude.{◌||◌, ◌==◌, List}
 use Rattle.std.specs.List.{insert}
 use Rattle.ritas_base.specs.Members.{has_member, member_count}
-use Rattle.vector_consensus.specs.Kept.{Kept, IsKept}
+use Rattle.vector_consensus.specs.Kept.{KeptProposals, AreKeptProposals}
 use Rattle.vector_consensus.proofs.KeptLaws.{IsPut, kept_there, kept_within, kept_more, some_more, rank_within}
 use Rattle.vector_consensus.proofs.proposals.Proposals.hear.Goals as goal
 use Rattle.vector_consensus.proofs.proposals.Proposals.hear.Goals.{then-k-ge32-via-then-k-ge32, then-k-ge32-via-else-k-ge32+then-has, then-k-ge32-via-else-k-ge32+else-has+then-value-gt65535}
 
 pub returns-then-k-ge32 : goal.returns-then-k-ge32
 returns-then-k-ge32 c = λ os kept none short.
-    let inside : IsKept os (record { places = c.self.inside.places; entries = c.self.inside.entries.items }) = subst (λ (t : Kept). IsKept os t) (sym c.self.view_is) kept in
+    let inside : AreKeptProposals os (record { places = c.self.inside.places; entries = c.self.inside.entries.items }) = subst (λ (t : KeptProposals). AreKeptProposals os t) (sym c.self.view_is) kept in
     absurd (elim c.then-k-ge32.branch [
       | then-k-ge32-via-then-k-ge32 x ↦ let l = kept_within os _ c.args.k kept none in let g = x.if-k-ge32.true in omega (arith, l, g)
       | then-k-ge32-via-else-k-ge32+then-has x ↦
@@ -45,4 +45,4 @@ invariant_of-self-2 c =
 
 pub returns : goal.returns
 returns c = λ os kept none short.
-    kept_more os c.args.k c.args.value.now _ _ (subst (λ (t : Kept). IsKept os t) (sym c.self.view_is) kept) none (put c)
+    kept_more os c.args.k c.args.value.now _ _ (subst (λ (t : KeptProposals). AreKeptProposals os t) (sym c.self.view_is) kept) none (put c)
