@@ -1,6 +1,7 @@
 -- What the getters of a value of atomic broadcast answer.
 use Rattle.std.specs.Prelude.{ℕ, ◌-◌, ◌==◌, nat_lt, nat_le, Bool, true, false, ◌&&◌, reverse, slice_index, if◌then◌else◌}
 use Rattle.ritas_base.specs.declared.slot.Slot.{Slot}
+use Rattle.ritas_base.specs.Limits.{number_limit}
 use Rattle.ritas_base.specs.Numbers.{Numbers}
 use Rattle.layer_api.specs.Service.{Undecided, Decided, Spent}
 use Rattle.layer_api.specs.ServiceCalls.{ServiceShown}
@@ -14,7 +15,7 @@ use Rattle.atomic_bcast.specs.declared.abc.Abc.{Abc}
 -- whether items of a slot of a round may be taken: the round began and isn't past, and its box takes them
 abbrev pub opens_round : {V : Type 0} → (V → VectorShown) → Numbers → ℕ → Boxes V → Slot → Bool
 opens_round shown p completed boxes s =
-    nat_lt s.a 1000000 && (nat_le s.a completed && (is_slot_in p.f s.a s && opens_in shown (box_at boxes (completed - s.a)) s))
+    nat_lt s.a number_limit && (nat_le s.a completed && (is_slot_in p.f s.a s && opens_in shown (box_at boxes (completed - s.a)) s))
 
 -- the base that a ledger tells of an origin
 abbrev pub base_in : Ledger → ℕ → ℕ

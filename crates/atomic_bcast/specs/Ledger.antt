@@ -2,6 +2,7 @@
 use Rattle.std.specs.Prelude.{◌≡◌, ℕ, ◌<◌, true, List, reverse, slice_index}
 use Rattle.std.specs.List.{AllByRecursion}
 use Rattle.ritas_base.specs.declared.id.Id.{Id}
+use Rattle.ritas_base.specs.Limits.{number_limit}
 use Rattle.layer_api.specs.Service.{has_id, IsPart}
 use Rattle.atomic_bcast.specs.Identifiers.{passing_ids, is_without, append_ids}
 use Rattle.atomic_bcast.specs.Early.{is_known, IsTight}
@@ -21,7 +22,7 @@ pub record LedgerStands (l : Ledger) (delivered log : List Id) : Type 0 where
 pub record IsReady (delivered : List Id) (x : Id) : Type 0 where
   pub has : has_id delivered x ≡ true
   pub origin : x.origin < 31
-  pub number : x.num < 1000000
+  pub number : x.num < number_limit
 
 -- the ledger with these bases
 abbrev pub at_bases : Ledger → List ℕ → Ledger

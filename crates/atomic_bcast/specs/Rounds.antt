@@ -5,8 +5,10 @@ use Rattle.std.specs.List.{find, range_with_len}
 use Rattle.ritas_base.specs.declared.slot.Slot.{Slot}
 use Rattle.ritas_base.specs.declared.item.Say.{Say}
 use Rattle.ritas_base.specs.declared.id.Id.{Id}
+use Rattle.ritas_base.specs.Limits.{number_limit}
 use Rattle.ritas_base.specs.Numbers.{Numbers}
 use Rattle.ritas_base.specs.Shortest.{at_shortest}
+use Rattle.frame_codec.specs.Limits.{most_ids}
 use Rattle.frame_codec.specs.Values.{ids_bytes, ids_of, vector_entries}
 use Rattle.ritas_base.specs.Slots.{command_slot}
 use Rattle.layer_api.specs.Words.{Word, Ask, Hear, is_heard, asked}
@@ -14,6 +16,7 @@ use Rattle.layer_api.specs.Service.{ServiceRules, Seat, Instance, OfBit, OfValue
 use Rattle.layer_api.specs.Part.{part_of, part_words, says_in}
 use Rattle.layer_api.specs.Multi.{Scope, Desk}
 use Rattle.layer_api.specs.Vectors.{VectorRules, is_vector_slot}
+use Rattle.layer_api.specs.Windows.{rounds_kept}
 use Rattle.atomic_bcast.specs.Commands.{says_input}
 use Rattle.atomic_bcast.specs.Identifiers.{in_order, passing_ids, is_without, all_pass, first_of_each, append_ids}
 use Rattle.std.specs.Option.{option_or}
@@ -30,9 +33,9 @@ delivered_ids (Hear s v ∷ w) = if s.class == 1 then record { origin = s.origin
 abbrev pub pending : List Word → List Id → List Id
 pending w log = passing_ids (is_without log) (delivered_ids w)
 
--- of each origin's the least floor(64 / n), in ascending order
+-- of each origin's the least floor(most_ids / n), in ascending order
 abbrev pub proposal : ℕ → List Id → List Id
-proposal n ids = first_of_each (64 / n) [] (in_order ids)
+proposal n ids = first_of_each (most_ids / n) [] (in_order ids)
 
 -- ---- what a vector says
 
@@ -127,7 +130,7 @@ module _ (v : VectorRules) (seat : Seat) where
 
 -- rounds
 unfoldable pub rounds : ℕ
-rounds = 1000000
+rounds = number_limit
 
 -- the least number of an origin that isn't in the log
 abbrev pub least_without : List Id → ℕ → ℕ
@@ -136,7 +139,7 @@ least_without log origin = unwrap_or (find (λ k. is_without log (record { origi
 -- whether items of a round's slot may be taken: the round isn't past, and its instance takes them
 abbrev pub round_opens : VectorRules → Seat → List Word → Slot → Bool
 round_opens v seat w s =
-    nat_lt s.a rounds && (nat_le (complete_of v seat rounds w) (s.a + 2)
+    nat_lt s.a rounds && (nat_le (complete_of v seat rounds w) (s.a + rounds_kept)
     && (is_vector_slot (round_scope seat.numbers s.a) s && v.opens (round_desk seat s.a) (round_words v seat s.a w) s))
 
 -- the vector of a round, where it is decided

@@ -2,12 +2,11 @@
 
 use crate::boxes::Boxes;
 use crate::ledger::Ledger;
-use crate::limits::MOST_ROUNDS;
 use crate::place::Place;
 use crate::rounds::{begin_round, learn, note_command};
 use crate::saying::say_command;
 use layer_api::{Outcome, Service, VectorBox, is_slot_in, put_out};
-use ritas_base::{Coin, Id, Mem, Params, Say, Slot};
+use ritas_base::{Coin, Id, Mem, NUMBER_LIMIT, Params, Say, Slot};
 use std::alloc::Global;
 
 /// Atomic broadcast over any vector consensus, for root service 6.
@@ -51,7 +50,7 @@ impl<V: VectorBox> Abc<V> {
     fn is_round_open(&self, slot: &Slot) -> bool
         ensures { result ≡ opens_round V.shown self.now.place.numbers self.now.completed self.now.boxes slot.now }
     {
-        slot.a < MOST_ROUNDS
+        slot.a < NUMBER_LIMIT
             && slot.a <= self.completed
             && is_slot_in(self.place.last, slot.a, slot)
             && self.boxes.is_open(self.completed - slot.a, slot)
@@ -80,7 +79,7 @@ impl<V: VectorBox> Abc<V> {
         ensures err { OnErr result (self.new ≡ self.old) }
     {
         if self.boxes.current.is_some()
-            || self.completed >= MOST_ROUNDS
+            || self.completed >= NUMBER_LIMIT
             || !self.ledger.has_pending()
         {
             return Ok(());

@@ -3,10 +3,10 @@
 ghost use Rattle.std.specs.Prelude.{◌≡◌, ℕ, ◌==◌, ◌&&◌, ◌||◌, not, OnOk, OnErr};
 ghost use Rattle.atomic_bcast.specs.Early.{has_early, Advances, Notes};
 
-use crate::limits::{MOST_COMMANDS, MOST_REPLICAS};
+use crate::limits::MOST_REPLICAS;
 use crate::saying::say_command;
 use layer_api::{Outcome, Service};
-use ritas_base::{Coin, Id, Mem, Params, Say, Slot};
+use ritas_base::{Coin, Id, Mem, NUMBER_LIMIT, Params, Say, Slot};
 use std::alloc::Global;
 use std::collections::BTreeSet;
 
@@ -53,7 +53,7 @@ pub(crate) fn put_early(early: &mut BTreeSet<Id>, origin: u8, num: u32) -> Resul
 pub(crate) fn advance(early: &mut BTreeSet<Id>, origin: u8, mut base: u32) -> u32
     ensures { Advances early.old early.new origin base result }
 {
-    while base < MOST_COMMANDS && take_early(early, origin, base) {
+    while base < NUMBER_LIMIT && take_early(early, origin, base) {
         base += 1;
     }
     base
@@ -67,7 +67,7 @@ impl CmdRoot {
             (Notes self.old.numbers.n origin num self.old.bases self.new.bases self.old.early self.new.early) }
         ensures lost { OnErr result (self.new.bases ≡ self.old.bases) }
     {
-        if origin >= self.numbers.n() || num >= MOST_COMMANDS {
+        if origin >= self.numbers.n() || num >= NUMBER_LIMIT {
             return Ok(());
         }
         let base = self.bases[origin as usize];

@@ -5,6 +5,7 @@ ghost use Rattle.ritas_base.specs.declared.item.Say.{Say};
 ghost use Rattle.layer_api.specs.Service.{Seat, AreProper, AreDistinct, WordLaws};
 ghost use Rattle.layer_api.specs.Words.{Word, Ask, is_heard, asked};
 ghost use Rattle.layer_api.specs.OneLog.{OneLog};
+ghost use Rattle.layer_api.specs.Windows.{command_window};
 ghost use Rattle.layer_api.specs.Vectors.{VectorRules, VectorLaws, OneVector};
 ghost use Rattle.ritas_base.specs.Slots.{command_slot};
 ghost use Rattle.atomic_bcast.specs.Commands.{base_of, commands};
@@ -21,14 +22,14 @@ pub fn says_commands()
 {}
 
 /// The law of the base: it is the least number of the origin that was not heard, and what was heard lies less than
-/// 64 above it.
+/// the window of commands above it.
 ///
 /// It does nothing: its contract is the law.
 pub fn base_is_least()
     ensures missing { (w : List Word) (o : ℕ) → is_heard w (command_slot o (base_of w o)) ≡ false }
     ensures below { (w : List Word) (o k : ℕ) → k < base_of w o → is_heard w (command_slot o k) ≡ true }
     ensures near { (seat : Seat) (w : List Word) (o k : ℕ) → AreProper commands seat w
-        → is_heard w (command_slot o k) ≡ true → k < base_of w o + 64 }
+        → is_heard w (command_slot o k) ≡ true → k < base_of w o + command_window }
 {}
 
 /// The law of atomic broadcast, over any vector consensus that keeps its laws: over every run of correct replicas, of

@@ -3,6 +3,7 @@
 ghost use Rattle.std.specs.Prelude.{◌≡◌, ℕ, ◌<◌, ◌≤◌, ◌↔◌, true, false, List, [], ◌∷◌, reverse, slice_index, IsTrue, OnOk, OnErr, IfOk};
 ghost use Rattle.std.specs.List.{AllByRecursion};
 ghost use Rattle.ritas_base.specs.declared.id.Id.{Id};
+ghost use Rattle.ritas_base.specs.Limits.{number_limit};
 ghost use Rattle.frame_codec.specs.Ids.{IsBelow};
 ghost use Rattle.layer_api.specs.Service.{has_id};
 ghost use Rattle.atomic_bcast.specs.Early.{Notes};
@@ -11,9 +12,9 @@ ghost use Rattle.atomic_bcast.specs.Rounds.{proposal, least_without};
 ghost use Rattle.atomic_bcast.specs.Ledger.{LedgerStands, IsReady, at_bases, Appending, Between};
 
 use crate::cmd_root::{advance, put_early};
-use crate::limits::{MOST_COMMANDS, MOST_REPLICAS};
+use crate::limits::MOST_REPLICAS;
 use crate::proposal::proposal;
-use ritas_base::{Id, Mem};
+use ritas_base::{Id, Mem, NUMBER_LIMIT};
 use std::alloc::Global;
 use std::collections::BTreeSet;
 
@@ -32,7 +33,7 @@ pub(crate) struct Ledger {
 // Notes that a number of an origin is in the log.
 fn note(bases: &mut [u32; MOST_REPLICAS], early: &mut BTreeSet<Id>, id: Id) -> Result<(), Mem>
     requires origin { id.origin < 31 }
-    requires number { id.num < 1000000 }
+    requires number { id.num < number_limit }
     ensures { OnOk result (Notes 31 id.origin id.num bases.old bases.new early.old early.new) }
 {
     let base = bases[id.origin as usize];
@@ -111,7 +112,7 @@ impl Ledger {
     // Appends the identifier of a delivered command to the log, and raises these bases. After `Err` the log is as before.
     fn append(&mut self, bases: &mut [u32; MOST_REPLICAS], id: Id) -> Result<(), Mem>
         requires origin { id.origin < 31 }
-        requires number { id.num < 1000000 }
+        requires number { id.num < number_limit }
         ensures ok { OnOk result ((delivered log : List Id) → has_id delivered id ≡ true → LedgerStands (at_bases self.old bases.old) delivered log
             → LedgerStands (at_bases self.new bases.new) delivered (id ∷ log)) }
         ensures err { OnErr result (self.new.log.items ≡ self.old.log.items) }
@@ -130,7 +131,7 @@ impl Ledger {
         ensures err { OnErr result (self.new.log.items ≡ self.old.log.items) }
         ensures bases { self.new.bases ≡ self.old.bases }
     {
-        if (id.origin as usize) < MOST_REPLICAS && id.num < MOST_COMMANDS && !self.has(bases, id) {
+        if (id.origin as usize) < MOST_REPLICAS && id.num < NUMBER_LIMIT && !self.has(bases, id) {
             self.append(bases, id)?;
         }
         Ok(())

@@ -7,7 +7,8 @@ ghost use Rattle.atomic_bcast.specs.Identifiers.{first_of_each};
 ghost use Rattle.atomic_bcast.specs.Rounds.{proposal};
 ghost use Rattle.atomic_bcast.specs.Pending.{HoldsIds, CountsOrigins};
 
-use crate::limits::{MOST_LISTED, MOST_REPLICAS};
+use crate::limits::MOST_REPLICAS;
+use frame_codec::MOST_IDS;
 use ritas_base::{Id, Mem};
 use std::alloc::Global;
 use std::collections::BTreeSet;
@@ -35,7 +36,7 @@ pub(crate) fn proposal(alloc: Global, n: u8, pending: &BTreeSet<Id>) -> Result<V
     requires { 1 ≤ n }
     ensures { IfOk result (λ taken. (ids : List Id) → HoldsIds pending.now ids → AllByRecursion (λ x. x.origin < 31) ids → taken.items ≡ proposal n ids) }
 {
-    let most = MOST_LISTED / n;
+    let most = MOST_IDS / n;
     let mut taken = Vec::new(alloc);
     let mut counts = [0; MOST_REPLICAS];
     for id in pending.iter() {

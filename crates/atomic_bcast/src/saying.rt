@@ -20,14 +20,7 @@ pub(crate) fn say_command(
 {
     let value = Bytes::from_slice(alloc, value)?;
     says.push(Say {
-        slot: Slot {
-            class: 1,
-            a: number,
-            attempt: 0,
-            bround: 0,
-            step: 0,
-            origin: me,
-        },
+        slot: Slot::command(me, number),
         value,
     })?;
     Ok(())

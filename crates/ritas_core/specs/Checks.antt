@@ -3,10 +3,12 @@ use Rattle.std.specs.Prelude.{is_some, ◌≡◌, ℕ, ◌+◌, ◌<◌, Bool, t
 use Rattle.ritas_base.specs.declared.slot.Slot.{Slot}
 use Rattle.ritas_base.specs.declared.item.Item.{Item}
 use Rattle.ritas_base.specs.declared.item.Kind.TheVariants.{Column}
+use Rattle.ritas_base.specs.Limits.{number_limit}
 use Rattle.ritas_base.specs.Messages.{kind_eq}
 use Rattle.ritas_base.specs.History.{first}
 use Rattle.layer_api.specs.Broadcast.{is_of_origin, is_for_origin, MayTake}
 use Rattle.layer_api.specs.Service.{MayAsk, is_past, is_ahead}
+use Rattle.layer_api.specs.Windows.{command_window}
 use Rattle.frame_codec.specs.Body.{IsInGrammar, spelling}
 use Rattle.frame_codec.specs.Inputs.{IsInput, input_fault}
 use Rattle.ooc_buffers.specs.Lists.{HeldItem, is_held, held_bytes, most_held_bytes}
@@ -81,8 +83,8 @@ verdict_on r p held item =
 abbrev pub window_fault : Rules → Parts → Option CoreFault
 window_fault r p =
     if r.service.given (seat_of r) p.words then Some faults.InputTaken
-    else if nat_le (r.service.base (seat_of r) p.words r.casts.me + 64) (r.service.next_number (seat_of r) p.words)
-    || nat_le 1000000 (r.service.next_number (seat_of r) p.words)
+    else if nat_le (r.service.base (seat_of r) p.words r.casts.me + command_window) (r.service.next_number (seat_of r) p.words)
+    || nat_le number_limit (r.service.next_number (seat_of r) p.words)
     then Some (faults.WindowFull (r.service.next_number (seat_of r) p.words))
     else None
 

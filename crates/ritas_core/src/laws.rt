@@ -10,6 +10,7 @@ ghost use Rattle.ritas_base.specs.Slots.{slot_fault};
 ghost use Rattle.ritas_base.specs.Messages.{has};
 ghost use Rattle.layer_api.specs.Broadcast.{BroadcastRules};
 ghost use Rattle.layer_api.specs.Runs.{Has};
+ghost use Rattle.layer_api.specs.Windows.{command_window};
 ghost use Rattle.layer_api.specs.OneValue.{IsReceiver, IsOnce};
 ghost use Rattle.ritas_core.specs.Rules.{Rules, seat_of, out_at_slot, casts_by, FormsFit, HasForm};
 ghost use Rattle.ritas_base.specs.Tags.{Tags, HasDigests};
@@ -45,7 +46,7 @@ pub fn delivered_within<S: Service, E: Broadcast>()
     ensures grammar { (r : Rules) → IsCoreOf S.rules E.rules r → (h : List Entry) → IsHistory r h → (s : Slot) →
         is_some (out_at_slot r.casts s ((parts r h).calls s)) ≡ true → slot_fault r.casts.numbers r.mode s ≡ None }
     ensures window { (r : Rules) → IsCoreOf S.rules E.rules r → (h : List Entry) → IsHistory r h → (s : Slot) → s.class ≡ 1 →
-        is_some (out_at_slot r.casts s ((parts r h).calls s)) ≡ true → s.a < r.service.base (seat_of r) (parts r h).words s.origin + 64 }
+        is_some (out_at_slot r.casts s ((parts r h).calls s)) ≡ true → s.a < r.service.base (seat_of r) (parts r h).words s.origin + command_window }
 {}
 
 /// Every entry of a history, where it met its own conditions, meets those of the layers, whatever they mean, as long as

@@ -7,8 +7,8 @@ use crate::hear::{is_ready, take_cast};
 use crate::limits::{is_behind, is_beyond};
 use crate::taken::Taken;
 use frame_codec::input_fault;
-use layer_api::{Broadcast, Heard, Service};
-use ritas_base::{Coin, Item, Mem, Mode, Msg, Params, Slot, Tagger};
+use layer_api::{Broadcast, COMMAND_WINDOW, Heard, Service};
+use ritas_base::{Coin, Item, Mem, Mode, Msg, NUMBER_LIMIT, Params, Slot, Tagger};
 use std::alloc::Global;
 use std::collections::BTreeMap;
 
@@ -181,7 +181,9 @@ impl<S: Service, E: Broadcast, C: Coin + Drop, T: Tagger + Drop> Layers<S, E, C,
         }
         let number = self.service.next_number();
         let base = self.service.base(self.me);
-        if u64::from(number) >= u64::from(base) + 64 || number >= 1_000_000 {
+        if u64::from(number) >= u64::from(base) + u64::from(COMMAND_WINDOW)
+            || number >= NUMBER_LIMIT
+        {
             return Some(CoreFault::WindowFull(number));
         }
         None
