@@ -9,6 +9,7 @@ use Rattle.std.proofs.lemmas.Slice.Eq.{bytes_eq-Decides}
 use Rattle.hex.specs.declared.error.FromHexError.TheVariants.{OddLength, InvalidStringLength}
 use Rattle.hex.specs.Hex.{decode_of, decode_sized, decode_pairs}
 use Rattle.hex.proofs.HexLemmas.{decode_of-ok, decode_sized-twice}
+use Rattle.ritas_base.specs.Limits.{longest_payload}
 use Rattle.ritas_base.specs.Numbers.{Numbers}
 use Rattle.ritas_base.specs.declared.mode.FrameVersion.{FrameVersion}
 use Rattle.ritas_base.specs.declared.mode.FrameVersion.TheVariants.{One, Two}
@@ -132,25 +133,25 @@ before_range byte high text x e =
     let range = number_range 0 high parts.0 number was in
     omega (arith, same, range.1)))
 
-payload_short : (text payload : List ℕ) → payload_in text ≡ Some payload → length payload ≤ 4088
+payload_short : (text payload : List ℕ) → payload_in text ≡ Some payload → length payload ≤ longest_payload
 payload_short text payload e = go (bytes_eq text (codes "-")) e
   where
     digits : (r : Result (List ℕ) _) → decode_of text ≡ r → if_ok r ≡ Some payload → decode_of text ≡ Ok payload
     digits (Ok bytes) is f = is ∙ ap (λ (l : List ℕ). Ok l) (the_one bytes payload f)
     digits (Err fault) is f = absurd cc
 
-    go : (b : Bool) → (if b then Some [] else (if nat_le 2 (length text) && nat_le (length text) 8176 then if_ok (decode_of text) else None)) ≡ Some payload → length payload ≤ 4088
+    go : (b : Bool) → (if b then Some [] else (if nat_le 2 (length text) && nat_le (length text) (2 * longest_payload) then if_ok (decode_of text) else None)) ≡ Some payload → length payload ≤ longest_payload
     go true f = let none : 0 ≡ length payload = ap (λ (l : List ℕ). length l) (the_one [] payload f) in omega (arith, none)
     go false f =
-        let test = some_if (nat_le 2 (length text) && nat_le (length text) 8176) (if_ok (decode_of text)) payload f in
-        let most = leb-true (length text) 8176 (and_parts (nat_le 2 (length text)) (nat_le (length text) 8176) test.0).1 in
+        let test = some_if (nat_le 2 (length text) && nat_le (length text) (2 * longest_payload)) (if_ok (decode_of text)) payload f in
+        let most = leb-true (length text) (2 * longest_payload) (and_parts (nat_le 2 (length text)) (nat_le (length text) (2 * longest_payload)) test.0).1 in
         let twice = (decode_of-ok text payload (digits (decode_of text) refl test.1)).2 in
         omega (arith, most, twice)
 
--- a request for one of n replicas, of at most 4,088 bytes
+-- a request for one of n replicas, of at most `longest_payload` bytes
 record FitsRequest (n : ℕ) (r : Request) : Type 0 where
   at : r.at ≤ n - 1
-  short : length r.payload ≤ 4088
+  short : length r.payload ≤ longest_payload
 
 request_fits : (n : ℕ) (text : List ℕ) (r : Request) → request_of_line n text ≡ Some r → FitsRequest n r
 request_fits n text r e =
@@ -254,7 +255,7 @@ node_fits text x is =
       keys = row_long p.0.n row.2.value row.0 row.2.reads;
     })
 
-all_short : (n : ℕ) (rs : List Request) → AllByRecursion (IsSaid (request_of_line n)) rs → AllByRecursion (λ r. length r.payload ≤ 4088) rs
+all_short : (n : ℕ) (rs : List Request) → AllByRecursion (IsSaid (request_of_line n)) rs → AllByRecursion (λ r. length r.payload ≤ longest_payload) rs
 all_short n [] said = tt
 all_short n (r ∷ rs) said = ((request_fits n said.0.0 r said.0.1).short, all_short n rs said.1)
 

@@ -1,6 +1,7 @@
 -- What the configurations that are read keep to, beside their lines.
 use Rattle.std.specs.Prelude.{◌≡◌, ◌↔◌, ℕ, List, ◌++◌, codes, ◌<◌, ◌≤◌, ◌-◌, length, drop, replicate}
 use Rattle.std.specs.List.{AllByRecursion}
+use Rattle.ritas_base.specs.Limits.{longest_payload}
 use Rattle.ritas_base.specs.declared.mode.FrameVersion.{FrameVersion}
 use Rattle.ritas_base.specs.declared.mode.FrameVersion.TheVariants.{One, Two}
 use Rattle.cluster_config.specs.declared.submit.SubmitConfig.{SubmitConfig}
@@ -31,16 +32,16 @@ pub record FitsNode (x : NodeText) : Type 0 where
   pub rest : drop x.p.n x.key_row ≡ replicate (31 - x.p.n) (replicate 32 0)
   pub keys : AllByRecursion (λ key. length key ≡ 32) x.key_row
 
--- that of all replicas: the same of the root service and the peers, and there are at most 64 requests, each of at most 4,088 bytes
--- and for one of the n replicas
+-- that of all replicas: the same of the root service and the peers, and there are at most 64 requests, each of at most
+-- `longest_payload` bytes and for one of the n replicas
 pub record FitsCluster (x : ClusterText) : Type 0 where
   pub root : x.root ≡ 6
   pub peers : length x.peers ≡ x.p.n
   pub many : length x.requests ≤ 64
-  pub short : AllByRecursion (λ r. length r.payload ≤ 4088) x.requests
+  pub short : AllByRecursion (λ r. length r.payload ≤ longest_payload) x.requests
   pub here : AllByRecursion (λ r. r.at < x.p.n) x.requests
 
--- that of a request that is to be handed in: there is a peer for each of n replicas, and it has at most 4,088 bytes
+-- that of a request that is to be handed in: there is a peer for each of n replicas, and it has at most `longest_payload` bytes
 pub record FitsSubmit (x : SubmitConfig) : Type 0 where
   pub peers : length x.peers ≡ x.p.n
-  pub short : length x.request.payload ≤ 4088
+  pub short : length x.request.payload ≤ longest_payload

@@ -3,6 +3,7 @@ use Rattle.std.specs.Prelude.{ℕ, zero, suc, ◌+◌, ◌-◌, ◌*◌, ◌^◌
 use Rattle.std.specs.Char.{is_ascii_digit}
 use Rattle.std.specs.Str.{bytes_eq}
 use Rattle.hex.specs.Hex.{decode_of, decode_sized}
+use Rattle.ritas_base.specs.Limits.{longest_payload}
 use Rattle.ritas_base.specs.Numbers.{Numbers}
 use Rattle.ritas_base.specs.declared.mode.FrameVersion.{FrameVersion}
 use Rattle.ritas_base.specs.declared.mode.FrameVersion.TheVariants.{One, Two}
@@ -87,10 +88,10 @@ address_in text = do
   port ← number_in 1 65535 fourth.1
   Some text
 
--- bytes in 2 to 8,176 hexadecimal digits; a hyphen is no byte
+-- bytes in two hexadecimal digits each, from one byte to the most that a request asks; a hyphen is no byte
 abbrev pub payload_in : List ℕ → Option (List ℕ)
 payload_in text = if bytes_eq text (codes "-") then Some []
-    else (if nat_le 2 (length text) && nat_le (length text) 8176 then if_ok (decode_of text) else None)
+    else (if nat_le 2 (length text) && nat_le (length text) (2 * longest_payload) then if_ok (decode_of text) else None)
 
 -- a replica below n, a client, a request and its bytes, with a space between them
 abbrev pub request_of_line : ℕ → List ℕ → Option Request

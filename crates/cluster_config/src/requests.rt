@@ -15,7 +15,7 @@ pub struct Request {
     pub client: u32,
     /// The request's number at its client.
     pub request: u32,
-    /// The bytes of the command, at most 4,088.
+    /// The bytes of the command, at most `LONGEST_PAYLOAD` (4,088).
     pub payload: Bytes,
 }
 

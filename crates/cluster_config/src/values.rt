@@ -6,7 +6,7 @@ ghost use Rattle.cluster_config.specs.Views.{payload_of, viewed_request};
 
 use crate::cuts::cut_at;
 use crate::views::RequestView;
-use ritas_base::{Attack, FrameVersion, Order, Params, Vect};
+use ritas_base::{Attack, FrameVersion, LONGEST_PAYLOAD, Order, Params, Vect};
 
 // The number that these digits write behind those of `first`.
 fn number_from(first: u64, digits: &[u8]) -> Option<u64>
@@ -191,10 +191,10 @@ fn is_payload(text: &[u8]) -> bool
     if text == b"-".as_slice() {
         return true;
     }
-    if text.len() < 2 || text.len() > 8_176 {
+    if text.len() < 2 || text.len() > 2 * LONGEST_PAYLOAD {
         return false;
     }
-    let mut bytes = [0; 4_088];
+    let mut bytes = [0; LONGEST_PAYLOAD];
     hex::decode_to_slice(text, &mut bytes[..text.len() / 2]).is_ok()
 }
 
