@@ -33,15 +33,7 @@ fn follow_one<S: Service, E: Broadcast, C: Coin + Drop>(
     ensures err { OnErr result (log.new.rows ≡ log.old.rows) }
     ensures f { log.new.f ≡ log.old.f }
 {
-    let slot = Slot {
-        class: 1,
-        a: id.num,
-        attempt: 0,
-        bround: 0,
-        step: 0,
-        origin: id.origin,
-    };
-    let Some(command) = core.delivered(&slot) else {
+    let Some(command) = core.delivered(&Slot::command(id.origin, id.num)) else {
         return Ok(());
     };
     // No shorter command comes, and the log has room.

@@ -31,19 +31,6 @@ use ritas_core::{Core, delivered_within};
 use std::alloc::{AllocError, Global};
 use world_model::Audit;
 
-fn command_slot(origin: u8, num: u32) -> Slot
-    ensures { result ≡ command_slot origin num }
-{
-    Slot {
-        class: 1,
-        a: num,
-        attempt: 0,
-        bround: 0,
-        step: 0,
-        origin,
-    }
-}
-
 // Appends the line of a command that was delivered.
 fn add_out(
     alloc: Global,
@@ -72,7 +59,7 @@ fn add_delivered<S: Service, E: Broadcast, C: Coin + Drop>(
         (r : Rules) (st : CoreState) → CoreStands m core.now r st → st.live ≡ true → r.mode.root ≤ 2
         → OnOk result (string_bytes text.new ≡ string_bytes text.old ++ out_line origin num (delivered_at r st.history (command_slot origin num))) }
 {
-    match core.delivered(&command_slot(origin, num)) {
+    match core.delivered(&Slot::command(origin, num)) {
         Some(value) => add_out(alloc, text, origin, num, value),
         None => Ok(()),
     }
