@@ -6,6 +6,7 @@ use Rattle.std.proofs.Math.Dec.{leb}
 use Rattle.std.proofs.lemmas.Bool.{both_ways, or_cases, eqb-true, le-leb, leb-true}
 use Rattle.ritas_base.specs.declared.id.Id.{Id}
 use Rattle.ritas_base.specs.declared.slot.Slot.{Slot}
+use Rattle.ritas_base.specs.Limits.{least_request}
 use Rattle.ritas_base.specs.Slots.{command_slot, has_class}
 use Rattle.ritas_base.specs.SlotLaws.{right_is}
 use Rattle.ritas_base.specs.Numbers.{Numbers}
@@ -46,7 +47,7 @@ sixth root high has =
     ]
 
 -- a command's value there
-command_value : (p : Numbers) (root origin num : ℕ) (v : List ℕ) → root ≡ 6 → Is (value p root (command_slot origin num)) v → 8 ≤ length v
+command_value : (p : Numbers) (root origin num : ℕ) (v : List ℕ) → root ≡ 6 → Is (value p root (command_slot origin num)) v → least_request ≤ length v
 unfolding value
 command_value p root origin num v six is = command_long v (subst (λ (n : ℕ). Is (class1 n) v) six is)
 

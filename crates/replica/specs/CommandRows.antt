@@ -1,6 +1,7 @@
 -- The log of commands that a replica keeps: it follows the identifier log of its service. Lists have the newest first.
 use Rattle.std.specs.Prelude.{◌≡◌, ℕ, ◌≤◌, false, List, length, Option, Some}
 use Rattle.ritas_base.specs.declared.id.Id.{Id}
+use Rattle.ritas_base.specs.Limits.{least_request}
 use Rattle.ritas_base.specs.Slots.{command_slot}
 use Rattle.layer_api.specs.Service.{IsPart}
 use Rattle.command_log.specs.Rows.{Row, entries_of_log, command_rows}
@@ -40,5 +41,5 @@ LiesBetween r h later rows = IsPart (history_rows r h) rows × IsPart rows (hist
 pub record HasCommand (r : Rules) (h : List Entry) (x : Id) : Type 0 where
   pub command : List ℕ
   pub there : command_of r h x ≡ Some command
-  pub long : 8 ≤ length command
+  pub long : least_request ≤ length command
   pub shown : is_hidden r h (command_slot x.origin x.num) ≡ false

@@ -13,7 +13,7 @@ use Rattle.frame_codec.specs.declared.fault.BodyFault.TheVariants as body
 use Rattle.keyed_channel.specs.KeyRow.{KeyRow}
 use Rattle.keyed_channel.specs.declared.frame.OpenFault.TheVariants.{BadTag}
 use Rattle.layer_api.specs.Service.{ServiceRules, Undecided}
-use Rattle.ooc_buffers.specs.Lists.{HeldItem, held_of_peer}
+use Rattle.ooc_buffers.specs.Lists.{HeldItem, held_of_peer, most_held_bytes}
 use Rattle.reliable_bcast.specs.Bracha.{bracha}
 use Rattle.ritas_core.specs.declared.answer.Answer.{Answer}
 use Rattle.ritas_core.specs.declared.answer.Answer.TheVariants as answers
@@ -77,7 +77,7 @@ holding other own = record {
 -- ---- which states a peer can't tell apart
 
 -- those that differ in what is held for another peer, and in what waits
-alike : AreAlike 2 (holding 1048576 20) (record (holding 0 20) { inbox = init 0 0 ∷ [] })
+alike : AreAlike 2 (holding most_held_bytes 20) (record (holding 0 20) { inbox = init 0 0 ∷ [] })
 alike = record { live = refl; history = refl; held = refl }
 
 -- it can where another length is held for it, where the history is another, and where one is stopped
@@ -101,12 +101,12 @@ unfolding verdict_on by_other
 beside_nothing = refl
 
 -- as many bytes of replica 1 as may be held leave all the room
-beside_most : answer_in (holding 1048576 20) ≡ Ok answers.Held
+beside_most : answer_in (holding most_held_bytes 20) ≡ Ok answers.Held
 unfolding verdict_on by_other
 beside_most = refl
 
 -- and as many of its own leave none
-with_own_most : answer_in (holding 0 1048576) ≡ Err (refusals.Core (faults.HeldFull 1048576))
+with_own_most : answer_in (holding 0 most_held_bytes) ≡ Err (refusals.Core (faults.HeldFull most_held_bytes))
 unfolding verdict_on by_other
 with_own_most = refl
 

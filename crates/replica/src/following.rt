@@ -15,7 +15,7 @@ ghost use Rattle.replica.specs.CommandRows.{command_of, HasCommand};
 use command_log::Log;
 use keyed_channel::Channel;
 use layer_api::{Broadcast, Service};
-use ritas_base::{Coin, Id, Mem, Slot};
+use ritas_base::{Coin, Id, LEAST_REQUEST, Mem, Slot};
 use ritas_core::Core;
 use std::alloc::Global;
 
@@ -37,7 +37,7 @@ fn follow_one<S: Service, E: Broadcast, C: Coin + Drop>(
         return Ok(());
     };
     // No shorter command comes, and the log has room.
-    if command.len() >= 8 && log.len() < 4_294_967_295 {
+    if command.len() >= LEAST_REQUEST && log.len() < 4_294_967_295 {
         log.append(alloc, id, command)?;
     }
     Ok(())

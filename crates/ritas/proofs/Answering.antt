@@ -198,7 +198,7 @@ module _ {K : Type 0} (tells : Tells) (taken : K → List ℕ) (old new : K) (ba
   done_plan what (configs.Submit c) none answers eight = absurd none
 
   -- the text wasn't read whole
-  pub text_job : (job : Job) (fault : ReadFault) → (fault ≢ read_faults.Failed → fault ≢ read_faults.Mem → fault ≡ read_faults.TooLong → 1048576 < length text)
+  pub text_job : (job : Job) (fault : ReadFault) → (fault ≢ read_faults.Failed → fault ≢ read_faults.Mem → fault ≡ read_faults.TooLong → text_limit < length text)
       → RefusesText tells.tape taken old new status fault → still × undisked → IsJobAnswered job
   unfolding text_limit
   text_job job read_faults.TooLong over refuses link = long_job job (over (λ e. cc) (λ e. cc) refl) refuses link

@@ -61,8 +61,8 @@ text_counts x y status read_faults.Failed four is = one_failed x y (four.1 refl)
 text_counts x y status read_faults.Mem four is = none_failed x y (λ e. let same = four.0 e in cc) is
 
 pub text_taken : {K : Type 0} (tells : Bool) (taken : K → List ℕ) (old new : K) (status : ℕ) (before after : List ℕ) (fault : ReadFault)
-    → (fault ≢ read_faults.Failed → fault ≢ read_faults.Mem → fault ≡ read_faults.TooLong → 1048576 < length before) → RefusesText tells taken old new status fault
-    → length before ≤ length after + 1048576 + 1 → TakesText before after status
+    → (fault ≢ read_faults.Failed → fault ≢ read_faults.Mem → fault ≡ read_faults.TooLong → text_limit < length before) → RefusesText tells taken old new status fault
+    → length before ≤ length after + text_limit + 1 → TakesText before after status
 unfolding text_limit
 text_taken tells taken old new status before after read_faults.TooLong over refuses most = record {
   most = most;

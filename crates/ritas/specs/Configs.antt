@@ -59,7 +59,7 @@ RefusesConfig tells taken old new status config_faults.Mem = (status ≡ 8) × (
 
 -- a text that is too long is answered by its limit, unless the input failed or memory ran out
 abbrev pub RefusesText : {K : Type 0} → Bool → (K → List ℕ) → K → K → ℕ → ReadFault → Type 0
-RefusesText tells taken old new status read_faults.TooLong = Replies tells taken old new status 7 (limit_text 1048576)
+RefusesText tells taken old new status read_faults.TooLong = Replies tells taken old new status 7 (limit_text text_limit)
 RefusesText tells taken old new status read_faults.Failed = (status ≡ 4) × (new ≡ old)
 RefusesText tells taken old new status read_faults.Mem = (status ≡ 8) × (new ≡ old)
 

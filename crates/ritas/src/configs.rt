@@ -22,7 +22,8 @@ use std::alloc::Global;
 use std::net::Net;
 use std::sync::Wait;
 
-const TEXT_LIMIT: usize = 1_048_576;
+/// A configuration has at most so many bytes (`text_limit`).
+pub(crate) const TEXT_LIMIT: usize = 1_048_576;
 
 // Makes the schedule of a plan.
 fn drive_plan<K: Sink>(alloc: Global, job: Job, plan: &Plan, output: &mut K) -> u8

@@ -4,6 +4,7 @@ ghost use Rattle.ritas.specs.Run.{Ends, Replies};
 ghost use Rattle.ritas.specs.Configs.{RefusesConfig, RefusesJournal, RefusesText};
 ghost use Rattle.ritas.specs.Statuses.{limit_text, line_text, input_line};
 
+use crate::configs::TEXT_LIMIT;
 use crate::lines::{journal_text, limit_text, line_text};
 use crate::run::finish;
 use cluster_config::ConfigFault;
@@ -82,6 +83,7 @@ pub(crate) fn refuse_journal<K: Sink>(alloc: Global, output: &mut K, fault: Jour
 }
 
 /// Writes the line of a text's fault, where it is too long.
+#[tactic(auto, unfolding(crate::specs::Statuses::text_limit))]
 pub(crate) fn refuse_text<K: Sink>(alloc: Global, output: &mut K, fault: ReadFault) -> u8
     ensures ends { Ends K.faults output.old output.new result }
     ensures refuses { RefusesText K.tells K.taken output.old output.new result fault }
@@ -91,7 +93,7 @@ pub(crate) fn refuse_text<K: Sink>(alloc: Global, output: &mut K, fault: ReadFau
     ensures wanting { result ≡ 8 → output.new ≡ output.old }
 {
     match fault {
-        ReadFault::TooLong => refuse_limit(alloc, output, 1_048_576),
+        ReadFault::TooLong => refuse_limit(alloc, output, TEXT_LIMIT as u32),
         ReadFault::Failed => 4,
         ReadFault::Mem => 8,
     }

@@ -7,6 +7,7 @@ use Rattle.ritas_base.specs.declared.id.Id.{Id}
 use Rattle.ritas_base.specs.declared.mode.Vect.{Vect}
 use Rattle.ritas_base.specs.declared.mode.Vect.TheVariants.{Echo, Reliable}
 use Rattle.layer_api.specs.Service.{Ending, Undecided, Over, Decided, Bit, Nothing, Value, Spent}
+use Rattle.ritas_base.specs.Limits.{number_limit}
 use Rattle.ritas_base.specs.Slots.{command_slot}
 use Rattle.keyed_channel.specs.KeyRow.{KeyRow}
 use Rattle.ritas_core.specs.Rules.{Rules, seat_of}
@@ -70,7 +71,7 @@ out_line origin num (Some value) =
 
 -- how many command numbers there are
 unfoldable pub command_numbers : ℕ
-command_numbers = 1000000
+command_numbers = number_limit
 
 -- the commands of an origin that a replica delivered, by number
 abbrev pub origin_lines : (ℕ → Option (List ℕ)) → ℕ → List ℕ

@@ -24,9 +24,9 @@ use crate::played::Played;
 use crate::replicas::{Lines, add_rest};
 use command_log::Log;
 use keyed_channel::Channel;
-use layer_api::{Broadcast, Service};
+use layer_api::{Broadcast, COMMAND_WINDOW, Service};
 use replica::Replica;
-use ritas_base::{Coin, Slot};
+use ritas_base::{Coin, NUMBER_LIMIT, Slot};
 use ritas_core::{Core, delivered_within};
 use std::alloc::{AllocError, Global};
 use world_model::Audit;
@@ -80,8 +80,8 @@ fn add_origin<S: Service, E: Broadcast, C: Coin + Drop>(
     let end = core
         .service()
         .base(origin)
-        .saturating_add(64)
-        .min(1_000_000);
+        .saturating_add(COMMAND_WINDOW)
+        .min(NUMBER_LIMIT);
     for num in 0..end {
         add_delivered(alloc, text, core, origin, num)?;
     }

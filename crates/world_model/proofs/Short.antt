@@ -1,6 +1,7 @@
 -- The frames of players are short.
 use Rattle.std.proofs.Common.{◌≡◌, ℕ, ◌≤◌, List, length, ap, arith}
 use Rattle.ritas_base.specs.declared.item.Msg.{Msg}
+use Rattle.ritas_base.specs.Limits.{longest_frame}
 use Rattle.ritas_base.specs.Messages.{item_of}
 use Rattle.frame_codec.specs.Body.{IsInGrammar, spelling}
 use Rattle.layer_api.specs.Broadcast.{BroadcastRules}
@@ -18,9 +19,9 @@ use Rattle.world_model.proofs.Members.{reverse_listed}
 use Rattle.world_model.proofs.Unforged.{IsSafe, fair_of, play_safe}
 use Rattle.world_model.proofs.Sent.{made_sent}
 
--- a frame has 43 bytes beside its body, which spells an item of the grammar
+-- a frame has `frame_overhead` bytes beside its body, which spells an item of the grammar
 seal_short : (service : ServiceRules) (other : BroadcastRules) → AreLayers service other → (w : Setting) → IsFair w → (i j seq : ℕ) (m : Msg) (bytes : List ℕ) → (w.keys i).me ≡ i
-    → IsInGrammar w.numbers w.mode (item_of i m) → bytes ≡ sealed (w.keys i) j seq (body_of (w.keys i).me m) → length bytes ≤ 16384
+    → IsInGrammar w.numbers w.mode (item_of i m) → bytes ≡ sealed (w.keys i) j seq (body_of (w.keys i).me m) → length bytes ≤ longest_frame
 seal_short service other layers w fair i j seq m bytes me good is =
     let own : length (body_of (w.keys i).me m) ≡ length (spelling (item_of i m)) = ap (λ (k : ℕ). length (spelling (item_of k m))) me in
     let more = layers.sealed_length (w.keys i) j seq (body_of (w.keys i).me m) in
@@ -29,7 +30,7 @@ seal_short service other layers w fair i j seq m bytes me good is =
     omega (arith, own, more, most, whole)
 
 frames_short : (service : ServiceRules) (other : BroadcastRules) → AreLayers service other → (w : Setting) (c : Cast) (s : Scene) → IsFair w → IsFaceView w c.shown → IsSafe w c s
-    → (x : Player) → IsPlayer w c x → (j : ℕ) (bytes : List ℕ) → Has (player_frames w c s x j) bytes → length bytes ≤ 16384
+    → (x : Player) → IsPlayer w c x → (j : ℕ) (bytes : List ℕ) → Has (player_frames w c s x j) bytes → length bytes ≤ longest_frame
 frames_short service other layers w c s fair shows safe (Correct i) plays j bytes there =
     let below = fair.sound.world.within i plays in
     let h = (states_of w s.events i).history in

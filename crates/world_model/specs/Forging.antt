@@ -3,6 +3,7 @@ use Rattle.std.specs.Prelude.{◌≡◌, ◌≢◌, ℕ, ◌<◌, ◌≤◌, fal
 use Rattle.ritas_base.specs.declared.event.Event.{Event}
 use Rattle.ritas_base.specs.declared.item.Kind.TheVariants.{Init}
 use Rattle.ritas_base.specs.declared.item.Msg.{Msg}
+use Rattle.ritas_base.specs.Limits.{longest_frame}
 use Rattle.ritas_base.specs.Messages.{item_of}
 use Rattle.frame_codec.specs.Body.{IsInGrammar}
 use Rattle.layer_api.specs.Broadcast.{BroadcastRules}
@@ -48,4 +49,4 @@ PlayedAudit service other = (w : Setting) (c : Cast) (steps : List Step) → IsP
 -- each frame that a player made has at most so many bytes as a frame may have
 abbrev pub ShortLaw : ServiceRules → BroadcastRules → Type 0
 ShortLaw service other = (w : Setting) (c : Cast) (steps : List Step) → IsPlay service other w c steps → (x : Player) → IsPlayer w c x → (j : ℕ) → j < w.numbers.n
-    → (bytes : List ℕ) → Has (player_frames w c (scene_of w c steps) x j) bytes → length bytes ≤ 16384
+    → (bytes : List ℕ) → Has (player_frames w c (scene_of w c steps) x j) bytes → length bytes ≤ longest_frame

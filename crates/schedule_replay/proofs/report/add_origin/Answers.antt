@@ -1,5 +1,6 @@
 use Rattle.std.proofs.Common.{◌≡◌, ℕ, ◌+◌, ◌≤◌, ◌<◌, List, [], ◌++◌, sym, ◌∙◌, ap, refl, arith, string_bytes}
 use Rattle.layer_api.specs.Service.{ServiceRules}
+use Rattle.layer_api.specs.Windows.{command_window}
 use Rattle.ritas_base.specs.Slots.{command_slot}
 use Rattle.ritas_core.specs.Rules.{seat_of}
 use Rattle.ritas_core.specs.Parts.{parts}
@@ -26,7 +27,7 @@ returns g c = λ r st stands live core low within.
     let window = c.delivered_within.ensures.window r core st.history stands.history in
     let quiet : (j : ℕ) → 0 + c.loop-num.num ≤ j → j < 0 + command_numbers → line j ≡ [] =
     λ j above below. silent c.args.origin j (outs j) (λ some.
-    let early : j < r.service.base (seat_of r) words c.args.origin + 64 = window (command_slot c.args.origin j) refl some in
+    let early : j < r.service.base (seat_of r) words c.args.origin + command_window = window (command_slot c.args.origin j) refl some in
     omega (arith, early, base, above, below, c.saturating_add.ensures, c.min-end.ensures, c.loop-num-test.false)) in
     let few : c.loop-num.num ≤ command_numbers = omega (arith, c.min-end.ensures, c.loop-num.auto.num-end) in
     c.loop-num.invariant r st stands live low
