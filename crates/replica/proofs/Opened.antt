@@ -9,10 +9,8 @@ use Rattle.frame_codec.specs.declared.fault.BodyFault.TheVariants as body
 use Rattle.frame_codec.specs.Body.{body_answer, Answers, Spells, IsInGrammar}
 use Rattle.keyed_channel.specs.KeyRow.{KeyRow}
 use Rattle.keyed_channel.specs.declared.frame.OpenFault.{OpenFault}
-use Rattle.keyed_channel.specs.declared.frame.OpenFault.TheVariants.{Short, Long, Version, NotMine, NoSuchReplica, BadTag}
-use Rattle.ritas_base.specs.Bytes.{version_byte}
-use Rattle.ritas_base.specs.Places.{first_failed}
-use Rattle.keyed_channel.specs.Frames.{Opening, opening, opening_but, open_fault, opening_parts, is_tagged, is_peer, version_of, sender_of, receiver_of}
+use Rattle.keyed_channel.specs.Frames.{Opening, opening}
+use Rattle.keyed_channel.specs.FramesLaws.{opened_is}
 use Rattle.ritas_core.specs.Rules.{Rules}
 use Rattle.ritas_core.specs.Machine as core
 use Rattle.ritas_core.specs.Machine.{CoreState, moved}
@@ -29,31 +27,11 @@ use Rattle.replica.proofs.Passing.{IsCall}
 
 -- ---- opening
 
-fifth : (a b c d e t : Bool) →
-    first_failed (((a, Short) ∷ (b, Long) ∷ (c, Version) ∷ (d, NotMine) ∷ (e, NoSuchReplica) ∷ []) ++ (t, BadTag) ∷ []) ≡ None → e ≡ true
-fifth true true true true true t h = refl
-fifth true true true true false t h = cc
-fifth true true true false e t h = cc
-fifth true true false d e t h = cc
-fifth true false c d e t h = cc
-fifth false b c d e t h = cc
-
-both_true : (a b : Bool) → (a && b) ≡ true → a ≡ true
-both_true true b h = refl
-both_true false b h = cc
-
-no_fault : (fault : Option OpenFault) (parts o : Opening) → opening_but fault parts ≡ Ok o → (fault ≡ None) × (parts ≡ o)
-no_fault None parts o h = (refl, cc)
-no_fault (Some fault) parts o h = cc
-
 -- what opens is from a replica
 pub opens_from : (k : KeyRow) (bytes : List ℕ) (o : Opening) → opening k bytes ≡ Ok o → o.from < k.n
-unfolding opening
 opens_from k bytes o h =
-    let fine = no_fault (open_fault k bytes) (opening_parts bytes) o h in
-    let peer : is_peer k (sender_of bytes) ≡ true = fifth (nat_le 43 (length bytes)) (nat_le (length bytes) 16384) (version_of bytes == version_byte k.version) (receiver_of bytes == k.me) (is_peer k (sender_of bytes)) (is_tagged k bytes) fine.0 in
-    let P : Opening → Type 0 = λ x. x.from < k.n in
-    subst P fine.1 (ltb-true _ _ (both_true (nat_lt (sender_of bytes) k.n) (not (sender_of bytes == k.me)) peer))
+    let opened = opened_is k bytes o h in
+    subst (λ (x : Opening). x.from < k.n) opened.parts opened.plain.sender
 
 -- ---- a frame that is read
 

@@ -1,6 +1,6 @@
 -- The body of a message that a face shows with the other bit, and the body of a frame.
 use Rattle.std.proofs.Common.{◌≡◌, ℕ, ◌-◌, ◌==◌, ◌&&◌, Bool, true, false, List, ◌∷◌, ◌++◌, length, take, drop, refl, sym, ◌∙◌, ap, if◌then◌else◌, arith}
-use Rattle.std.specs.Prelude.{slice_index, slice_range}
+use Rattle.std.specs.Prelude.{slice_index}
 use Rattle.std.proofs.Math.Seq.{take-append_seam}
 use Rattle.ritas_base.specs.declared.item.Kind.{Kind}
 use Rattle.ritas_base.specs.declared.item.Kind.TheVariants as kinds
@@ -12,7 +12,8 @@ use Rattle.ritas_base.specs.Slots.{slot_bytes}
 use Rattle.frame_codec.specs.Body.{kind_byte, spelling}
 use Rattle.keyed_channel.specs.Hmac.{hmac_of}
 use Rattle.keyed_channel.specs.KeyRow.{KeyRow, key_with}
-use Rattle.keyed_channel.specs.Frames.{frame_front, sealed}
+use Rattle.keyed_channel.specs.Lengths.{head_length, tag_length}
+use Rattle.keyed_channel.specs.Frames.{frame_front, sealed, frame_body}
 use Rattle.keyed_channel.specs.Laws.{SealedLength}
 use Rattle.schedule_plan.specs.Flips.{other_bit, flipped, flip_body}
 use Rattle.schedule_plan.proofs.Showing.{same_if, with_other}
@@ -50,10 +51,10 @@ flipped_spelling i m =
 
 -- ---- the body of a frame
 
-pub sealed_body : SealedLength → (k : KeyRow) (to seq : ℕ) (body : List ℕ) → slice_range (sealed k to seq body) 11 (length (sealed k to seq body) - 32) ≡ body
+pub sealed_body : SealedLength → (k : KeyRow) (to seq : ℕ) (body : List ℕ) → frame_body (sealed k to seq body) ≡ body
 sealed_body long k to seq body =
     let tag = hmac_of (key_with k to) (frame_front k.version k.me to seq body) in
-    let at : length (sealed k to seq body) - 32 - 11 ≡ length body = omega (arith, long k to seq body) in
+    let at : length (sealed k to seq body) - tag_length - head_length ≡ length body = omega (arith, long k to seq body) in
     ap (λ n. take n (body ++ tag)) at ∙ take-append_seam body tag
 
 -- a body that has no bit is left

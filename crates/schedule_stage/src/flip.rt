@@ -3,14 +3,9 @@ ghost use Rattle.std.specs.Prelude.{◌≡◌, ◌<◌, ◌==◌, ◌&&◌, ℕ,
 ghost use Rattle.keyed_channel.specs.Frames.{sealed};
 ghost use Rattle.schedule_plan.specs.Flips.{flip_body};
 
-use keyed_channel::{Keys, seal, sealed_length};
+use keyed_channel::{Keys, frame_parts, seal, sealed_length};
 use ritas_base::{Bytes, Mem};
 use std::alloc::Global;
-
-// Where the body of a frame begins, and the bytes of the tag behind it.
-const BODY_AT: usize = 11;
-
-const TAG_LEN: usize = 32;
 
 // Whether a body is INIT, which is kind 1, of a step of binary consensus, which is class 5.
 fn is_step_init(body: &[u8]) -> bool
@@ -46,13 +41,12 @@ pub(crate) fn flip_frame(
         → IfOk result (λ frame. frame ≡ sealed keys.now to seq (flip_body body)) }
 {
     sealed_length();
-    if bytes.len() < BODY_AT + TAG_LEN {
+    let Some(parts) = frame_parts(bytes) else {
+        return Bytes::from_slice(alloc, bytes);
+    };
+    if !is_step_init(parts.body) {
         return Bytes::from_slice(alloc, bytes);
     }
-    let body = &bytes[BODY_AT..bytes.len() - TAG_LEN];
-    if !is_step_init(body) {
-        return Bytes::from_slice(alloc, bytes);
-    }
-    let flipped = flip_body(alloc, body)?;
+    let flipped = flip_body(alloc, parts.body)?;
     seal(alloc, keys, to, seq, flipped.as_slice())
 }

@@ -15,7 +15,9 @@ use Rattle.frame_codec.specs.declared.fault.BodyFault.TheVariants as faults
 use Rattle.frame_codec.specs.Body.{IsInGrammar, spelling, body_answer, head_answer, kind_answer}
 use Rattle.layer_api.specs.Runs.{Has}
 use Rattle.keyed_channel.specs.KeyRow.{KeyRow}
+use Rattle.keyed_channel.specs.Lengths.{head_length, tag_length}
 use Rattle.keyed_channel.specs.Frames.{Opening, opening, sealed}
+use Rattle.keyed_channel.specs.FramesLaws.{opened_is}
 use Rattle.keyed_channel.specs.declared.frame.OpenFault.{OpenFault}
 use Rattle.ritas_core.specs.Rules.{Rules}
 use Rattle.ritas_core.specs.Parts.{Entry, parts}
@@ -30,7 +32,6 @@ use Rattle.world_model.specs.Audit.{has_made, is_forged_opening, is_forged_call}
 use Rattle.world_model.specs.Players.{Cast, frames_shown_as, thrown}
 use Rattle.world_model.specs.Forging.{IsFaceView}
 use Rattle.world_model.proofs.Anywhere.{any_of, mapped_from}
-use Rattle.world_model.proofs.Forging.{what_opened}
 use Rattle.world_model.proofs.HashedSteps.{bytes_itself}
 use Rattle.world_model.proofs.Members.{has_passing}
 use Rattle.world_model.proofs.Sent.{sealed_from, made_sent, new_due}
@@ -155,10 +156,10 @@ unread p mode from (suc n) rest x e = unread_head p mode from (255 ∷ take n re
 pub thrown_comes : (w : Setting) (hist : ℕ → List Entry) (version : FrameVersion) (from j : ℕ) (rest : List ℕ) → ComesFrom w hist from j (thrown version from j rest)
 thrown_comes w hist version from j rest = record {
   honest = λ o x e reads.
-      let parts = (what_opened (w.keys j) (thrown version from j rest) o e).parts in
-      absurd (unread w.numbers w.mode from (length (thrown version from j rest) - 32 - 11) rest x
+      let parts = (opened_is (w.keys j) (thrown version from j rest) o e).parts in
+      absurd (unread w.numbers w.mode from (length (thrown version from j rest) - tag_length - head_length) rest x
       (ap (λ (p : Opening). body_answer w.numbers w.mode p.from p.body) parts ∙ reads));
-  sender = λ o e. ap (λ (p : Opening). p.from) (sym (what_opened (w.keys j) (thrown version from j rest) o e).parts);
+  sender = λ o e. ap (λ (p : Opening). p.from) (sym (opened_is (w.keys j) (thrown version from j rest) o e).parts);
 }
 
 -- ---- whether a frame is forged

@@ -9,10 +9,9 @@ use Rattle.frame_codec.specs.declared.fault.BodyFault.{BodyFault}
 use Rattle.frame_codec.specs.Body.{body_answer}
 use Rattle.keyed_channel.specs.KeyRow.{KeyRow}
 use Rattle.keyed_channel.specs.declared.frame.OpenFault.{OpenFault}
-use Rattle.keyed_channel.specs.declared.frame.OpenFault.TheVariants.{Short, Long, Version, NotMine, NoSuchReplica, BadTag}
-use Rattle.ritas_base.specs.Bytes.{version_byte}
-use Rattle.ritas_base.specs.Places.{first_failed}
-use Rattle.keyed_channel.specs.Frames.{Opening, opening, opening_but, open_fault, opening_parts, is_tagged, is_peer, version_of, sender_of, receiver_of, seq_of}
+use Rattle.keyed_channel.specs.Lengths.{head_length}
+use Rattle.keyed_channel.specs.Frames.{Opening, opening, sender_of, seq_of}
+use Rattle.keyed_channel.specs.FramesLaws.{IsOpened, opened_is}
 use Rattle.ritas_core.specs.declared.answer.Answer.{Answer}
 use Rattle.ritas_core.specs.declared.fault.CoreFault.{CoreFault}
 use Rattle.ritas_core.specs.Rules.{Rules}
@@ -29,47 +28,6 @@ use Rattle.world_model.specs.FramesMade.{MadeTable, made_in}
 use Rattle.world_model.specs.Stands.{SeatsStand, FramesStand, frames_from}
 use Rattle.world_model.specs.Steps.{is_numbered, is_unmade, is_seen_opened}
 use Rattle.world_model.proofs.Numbered.{made_by_number}
-
--- ---- what opens
-
-first_and_fifth : (a b c d e t : Bool) →
-    first_failed (((a, Short) ∷ (b, Long) ∷ (c, Version) ∷ (d, NotMine) ∷ (e, NoSuchReplica) ∷ []) ++ (t, BadTag) ∷ []) ≡ None → (a ≡ true) × (e ≡ true)
-first_and_fifth true true true true true t h = (refl, refl)
-first_and_fifth true true true true false t h = cc
-first_and_fifth true true true false e t h = cc
-first_and_fifth true true false d e t h = cc
-first_and_fifth true false c d e t h = cc
-first_and_fifth false b c d e t h = cc
-
-both : (a b : Bool) → (a && b) ≡ true → (a ≡ true) × (b ≡ true)
-both true b h = (refl, h)
-both false b h = cc
-
-no_fault : (fault : Option OpenFault) (parts o : Opening) → opening_but fault parts ≡ Ok o → (fault ≡ None) × (parts ≡ o)
-no_fault None parts o h = (refl, cc)
-no_fault (Some fault) parts o h = cc
-
-pub record IsOpened (k : KeyRow) (bytes : List ℕ) (o : Opening) : Type 0 where
-  pub whole : 43 ≤ length bytes
-  pub long : 11 ≤ length bytes
-  pub parts : opening_parts bytes ≡ o
-  pub below : sender_of bytes < k.n
-  pub other : sender_of bytes ≢ k.me
-
-pub what_opened : (k : KeyRow) (bytes : List ℕ) (o : Opening) → opening k bytes ≡ Ok o → IsOpened k bytes o
-unfolding opening
-what_opened k bytes o h =
-    let fine = no_fault (open_fault k bytes) (opening_parts bytes) o h in
-    let passed = first_and_fifth (nat_le 43 (length bytes)) (nat_le (length bytes) 16384) (version_of bytes == version_byte k.version) (receiver_of bytes == k.me) (is_peer k (sender_of bytes)) (is_tagged k bytes) fine.0 in
-    let long : 43 ≤ length bytes = leb-true _ _ passed.0 in
-    let peer = both (nat_lt (sender_of bytes) k.n) (not (sender_of bytes == k.me)) passed.1 in
-    record {
-      whole = long;
-      long = omega arith;
-      parts = fine.1;
-      below = ltb-true _ _ peer.0;
-      other = λ same. false≢true (sym (not-true (sender_of bytes == k.me) peer.1) ∙ eq-eqb (sender_of bytes) k.me same);
-    }
 
 -- ---- whether the sender had made it
 
@@ -89,8 +47,8 @@ pub unmade_is_forged : (w : Setting) (seats : Seats) (states : ℕ → CoreState
 unmade_is_forged w seats states t j bytes o seats_stand stand below opened few =
     let own = seats_stand.own j below in
     let s = sender_of bytes in
-    let s_below : s < w.numbers.n = subst (λ n. s < n) own.1 opened.below in
-    let other : (s == j) ≡ false = ne_eqb s j (λ e. opened.other (e ∙ sym own.0)) in
+    let s_below : s < w.numbers.n = subst (λ n. s < n) own.1 opened.plain.sender in
+    let other : (s == j) ≡ false = ne_eqb s j (λ e. opened.plain.other (e ∙ sym own.0)) in
     let P : Opening → Type 0 = λ x. is_unmade seats.correct t j bytes ≡ is_forged_opening w states j bytes (Ok x) in
     subst P opened.parts
     (ap (λ b. b && not (is_numbered (made_in t s j) (seq_of bytes) bytes)) (sym (seats_stand.correct s))
@@ -108,17 +66,18 @@ body_opened r k st (Err fault) = refl
 
 -- what the code has found: whether the frame isn't made, where it is long enough
 pub record IsFound (correct : ℕ) (t : MadeTable) (j : ℕ) (bytes : List ℕ) (unmade : Bool) : Type 0 where
-  pub value : 11 ≤ length bytes → unmade ≡ is_unmade correct t j bytes
-  pub few : 11 ≤ length bytes → length (made_in t (sender_of bytes) j) < 2 ^ 64
+  pub value : head_length ≤ length bytes → unmade ≡ is_unmade correct t j bytes
+  pub few : head_length ≤ length bytes → length (made_in t (sender_of bytes) j) < 2 ^ 64
 
 forged_either : (w : Setting) (seats : Seats) (states : ℕ → CoreState) (t : MadeTable) (j : ℕ) (bytes : List ℕ) (unmade : Bool) (opened : Result Opening OpenFault) →
     SeatsStand w seats → FramesStand w states t → j < w.numbers.n → IsFound seats.correct t j bytes unmade → opening (w.keys j) bytes ≡ opened
     → (is_seen_opened (seen_answer (given_frame (rules_at w j) (w.keys j) (states j) opened).answer) && unmade) ≡ is_forged_opening w states j bytes opened
 forged_either w seats states t j bytes unmade (Err fault) seats_stand stand below found e = refl
 forged_either w seats states t j bytes unmade (Ok o) seats_stand stand below found e =
-    let was = what_opened (w.keys j) bytes o e in
+    let was = opened_is (w.keys j) bytes o e in
+    let named : head_length ≤ length bytes = omega (arith, was.plain.long) in
     ap (λ b. b && unmade) (body_opened (rules_at w j) (w.keys j) (states j) (body_answer w.numbers w.mode o.from o.body))
-    ∙ found.value was.long ∙ unmade_is_forged w seats states t j bytes o seats_stand stand below was (found.few was.long)
+    ∙ found.value named ∙ unmade_is_forged w seats states t j bytes o seats_stand stand below was (found.few named)
 
 at_correct : (w : Setting) (seats : Seats) (states : ℕ → CoreState) (t : MadeTable) (j : ℕ) (bytes : List ℕ) (unmade b : Bool) →
     SeatsStand w seats → FramesStand w states t → (w.is_correct j ≡ true → j < w.numbers.n) → IsFound seats.correct t j bytes unmade → w.is_correct j ≡ b

@@ -5,6 +5,7 @@ use Rattle.std.proofs.lemmas.Slice.Eq.{bytes_eq-Decides}
 use Rattle.layer_api.specs.Runs.{Has}
 use Rattle.keyed_channel.specs.KeyRow.{KeyRow}
 use Rattle.keyed_channel.specs.Frames.{Opening, opening, sealed, sender_of}
+use Rattle.keyed_channel.specs.FramesLaws.{opened_is}
 use Rattle.ritas_core.specs.Rules.{Rules}
 use Rattle.ritas_core.specs.Parts.{Entry}
 use Rattle.ritas_core.specs.Order.{new_messages, sent_to}
@@ -16,7 +17,6 @@ use Rattle.world_model.specs.World.{Setting, rules_at}
 use Rattle.world_model.specs.Audit.{has_made, is_forged_opening, is_forged_call}
 use Rattle.world_model.specs.Stands.{SeatsStand, frames_from}
 use Rattle.world_model.proofs.Anywhere.{any_of}
-use Rattle.world_model.proofs.Forging.{what_opened}
 use Rattle.world_model.proofs.Members.{reverse_listed}
 use Rattle.world_model.proofs.Sent.{sealed_from}
 
@@ -54,7 +54,7 @@ and_not false b e = refl
 pub fair_to_pass : (w : Setting) (seats : Seats) (states : ℕ → CoreState) (from to : ℕ) (bytes : List ℕ) (o : Opening) → SeatsStand w seats → from < w.numbers.n
     → Has (frames_from w states from to) bytes → opening (w.keys to) bytes ≡ Ok o → is_forged_call w states to (Frame bytes) ≡ false
 fair_to_pass w seats states from to bytes o stand below there opens =
-    let parts = (what_opened (w.keys to) bytes o opens).parts in
+    let parts = (opened_is (w.keys to) bytes o opens).parts in
     let sender : o.from ≡ from =
     ap (λ (p : Opening). p.from) (sym parts) ∙ ap sender_of (frame_sealed w states from to bytes there).is ∙ (stand.own from below).0 in
     let made = made_for (rules_at w from) (w.keys from) (states from).history to in

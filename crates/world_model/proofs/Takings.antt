@@ -9,6 +9,7 @@ use Rattle.frame_codec.specs.Laws.{AnswersGood}
 use Rattle.keyed_channel.specs.KeyRow.{KeyRow}
 use Rattle.keyed_channel.specs.declared.frame.OpenFault.{OpenFault}
 use Rattle.keyed_channel.specs.Frames.{Opening, opening}
+use Rattle.keyed_channel.specs.FramesLaws.{IsOpened, opened_is}
 use Rattle.ritas_core.specs.declared.fault.CoreFault.{CoreFault}
 use Rattle.ritas_core.specs.declared.fault.CoreFault.TheVariants as faults
 use Rattle.ritas_core.specs.declared.verdict.Verdict.{Verdict}
@@ -27,7 +28,6 @@ use Rattle.world_model.specs.Audit.{newest_item}
 use Rattle.world_model.specs.Stands.{SeatsStand}
 use Rattle.world_model.specs.Watch.{item_taken, watched, IsGoodIf}
 use Rattle.world_model.specs.Steps.{is_took, IsInboxFront, IsFrameItem}
-use Rattle.world_model.proofs.Forging.{IsOpened, what_opened}
 use Rattle.world_model.proofs.Histories.{newest_taken, newest_none}
 
 -- ---- what a call offers, and takes where it was taken
@@ -126,7 +126,7 @@ read_at : (w : Setting) (seats : Seats) (at : ℕ) (bytes : List ℕ) (seen : Se
 read_at w seats at bytes seen found o stand item opened = record {
   missed = item.missed;
   took = λ x took reads.
-      item.took x took (subst (λ (p : Numbers). IsSession p) (sym stand.numbers) stand.session) opened.whole
+      item.took x took (subst (λ (p : Numbers). IsSession p) (sym stand.numbers) stand.session) opened.plain.long
       (ap (λ (p : Opening). body_answer seats.params seats.mode p.from p.body) opened.parts
       ∙ ap₂ (λ (p : Numbers) (mode : Mode). body_answer p mode o.from o.body) stand.numbers stand.mode ∙ reads)
       ∙ ap (λ (mode : Mode). watched mode (Some x)) stand.mode;
@@ -146,7 +146,7 @@ opened_item_is : AnswersGood → (w : Setting) (seats : Seats) (states : ℕ →
     item_taken w states c ≡ newest_item (states at).history (given_frame (rules_at w at) (w.keys at) (states at) opened).state.history → IsItemOf w states c found
 opened_item_is good w seats states at c bytes seen found (Ok o) stand item opens saw is =
     body_item_is good w seats states at c bytes seen found o (body_answer w.numbers w.mode o.from o.body) stand.session
-    (read_at w seats at bytes seen found o stand item (what_opened (w.keys at) bytes o opens)) refl saw is
+    (read_at w seats at bytes seen found o stand item (opened_is (w.keys at) bytes o opens)) refl saw is
 opened_item_is good w seats states at c bytes seen found (Err fault) stand item opens saw is =
     no_item w states c found (item.missed (ap is_took saw)) (is ∙ newest_none (states at).history)
 

@@ -11,6 +11,7 @@ use Rattle.ritas_base.specs.Numbers.{Numbers, IsSession}
 use Rattle.frame_codec.specs.declared.fault.BodyFault.TheVariants as body
 use Rattle.keyed_channel.specs.KeyRow.{KeyRow}
 use Rattle.frame_codec.specs.Body.{body_answer}
+use Rattle.keyed_channel.specs.Lengths.{frame_overhead}
 use Rattle.keyed_channel.specs.Frames.{sender_of, seq_of, frame_body}
 use Rattle.ritas_core.specs.declared.answer.Answer.{Answer}
 use Rattle.ritas_core.specs.declared.answer.Answer.TheVariants as answers
@@ -119,7 +120,7 @@ pub record IsInboxFront (w : Setting) (states : ℕ → CoreState) (at : ℕ) (f
 -- the item of a frame's body, where the frame was taken and the audit looks at the item
 pub record IsFrameItem (p : Numbers) (mode : Mode) (seen : Seen) (bytes : List ℕ) (found : Option Item) : Type 0 where
   pub missed : is_took seen ≡ false → found ≡ None
-  pub took : (item : Item) → is_took seen ≡ true → IsSession p → 43 ≤ length bytes
+  pub took : (item : Item) → is_took seen ≡ true → IsSession p → frame_overhead ≤ length bytes
       → body_answer p mode (sender_of bytes) (frame_body bytes) ≡ Ok item → found ≡ watched mode (Some item)
 
 -- ---- an event

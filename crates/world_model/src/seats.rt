@@ -3,12 +3,13 @@
 ghost use Rattle.std.specs.Prelude.{◌≡◌, ℕ, ◌<◌, ◌≤◌, ◌^◌, List, true, false, length, Ok, Some, None, IfOk, IsErr, MatchOption};
 ghost use Rattle.std.specs.List.{slice_get};
 ghost use Rattle.keyed_channel.specs.KeyRow.{KeyRow, shares_key};
-ghost use Rattle.keyed_channel.specs.Frames.{sealed, sender_of, seq_of, opening};
+ghost use Rattle.keyed_channel.specs.Lengths.{head_length};
+ghost use Rattle.keyed_channel.specs.Frames.{sealed, sender_of, opening};
 ghost use Rattle.world_model.specs.FramesMade.{made_in};
 ghost use Rattle.world_model.specs.Steps.{is_numbered, is_unmade};
 
 use crate::made::MadeFrames;
-use keyed_channel::{Channel, Keys, Opened};
+use keyed_channel::{Channel, FrameHeader, Keys, Opened, frame_header};
 use ritas_base::{Bytes, Mem, Mode, Params, SenderSet};
 use std::alloc::Global;
 
@@ -32,20 +33,6 @@ pub(crate) fn channels(alloc: Global, rows: Vec<Keys>) -> Result<Vec<Channel>, M
     Ok(channels)
 }
 
-// The sender and the number that a frame names, where it is long enough.
-fn header(bytes: &[u8]) -> Option<(u8, u64)>
-    ensures { MatchOption result
-        (length bytes.now < 11)
-        (λ named. (named.0 ≡ sender_of bytes.now) × (named.1 ≡ seq_of bytes.now)) }
-{
-    if bytes.len() < 11 {
-        return None;
-    }
-    let mut number = [0; 8];
-    number.copy_from_slice(&bytes[3..11]);
-    Some((bytes[1], u64::from_be_bytes(number)))
-}
-
 // Whether the frame of this number, from 0, is this one.
 fn is_numbered(frames: &[Bytes], number: u64, bytes: &[u8]) -> bool
     ensures value { result ≡ is_numbered frames.now number bytes.now }
@@ -60,12 +47,12 @@ fn is_numbered(frames: &[Bytes], number: u64, bytes: &[u8]) -> bool
 impl Seats {
     /// Whether these bytes name a correct sender that hadn't made them for this receiver.
     pub(crate) fn is_unmade(&self, made: &MadeFrames, to: u8, bytes: &[u8]) -> bool
-        ensures value { 11 ≤ length bytes.now → result ≡ is_unmade self.now.correct made.now to bytes.now }
-        ensures few { 11 ≤ length bytes.now → length (made_in made.now (sender_of bytes.now) to) < 2 ^ 64 }
+        ensures value { head_length ≤ length bytes.now → result ≡ is_unmade self.now.correct made.now to bytes.now }
+        ensures few { head_length ≤ length bytes.now → length (made_in made.now (sender_of bytes.now) to) < 2 ^ 64 }
     {
-        match header(bytes) {
-            Some((from, number)) => {
-                let is_made = is_numbered(made.frames(from, to), number, bytes);
+        match frame_header(bytes) {
+            Some(FrameHeader { from, seq }) => {
+                let is_made = is_numbered(made.frames(from, to), seq, bytes);
                 self.correct.has(from) && !is_made
             }
             None => false,

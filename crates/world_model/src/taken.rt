@@ -18,6 +18,7 @@ ghost use Rattle.world_model.specs.Steps.{is_took, IsInboxFront, IsFrameItem};
 
 use crate::seen::Seen;
 use frame_codec::{BodyFault, read_body, spelled};
+use keyed_channel::frame_parts;
 use layer_api::{Broadcast, Service};
 use replica::Replica;
 use ritas_base::{Coin, FrameVersion, Item, Kind, Mem, Mode, Params};
@@ -155,10 +156,13 @@ pub(crate) fn frame_item(
     ensures is { IfOk result (λ found. IsFrameItem p.now mode.now seen.now bytes.now found) }
     ensures only { OnErr result (is_took seen.now ≡ true) }
 {
-    if !is_took(seen) || bytes.len() < 43 {
+    if !is_took(seen) {
         return Ok(None);
     }
-    body_item(alloc, p, mode, bytes[1], &bytes[11..bytes.len() - 32])
+    match frame_parts(bytes) {
+        Some(parts) => body_item(alloc, p, mode, parts.from, parts.body),
+        None => Ok(None),
+    }
 }
 
 /// The item, where the event was seen to be taken.
