@@ -36,6 +36,10 @@ cluster_text config = record {
   requests = config.requests;
 }
 
+-- it has at most so many requests
+abbrev pub most_requests : ℕ
+most_requests = 64
+
 -- its lines
 unfoldable pub cluster_column : Column ClusterText
 cluster_column =
@@ -47,5 +51,5 @@ cluster_column =
     lines_of (codes "peer") refl address_in p.n (λ peers.
     Line (codes "limit") refl (number_in 1 most) (λ limit.
     Line (codes "until") refl (number_in 0 4294967295) (λ until.
-    lines_up_to (codes "request") refl (request_of_line p.n) 64 (λ requests.
+    lines_up_to (codes "request") refl (request_of_line p.n) most_requests (λ requests.
     record { session = session; p = p; root = root; vect = vect; version = version; master = master; peers = peers; limit = limit; until = until; requests = requests })))))))))

@@ -7,7 +7,7 @@ use Rattle.ritas_base.specs.declared.mode.FrameVersion.TheVariants.{One, Two}
 use Rattle.cluster_config.specs.declared.submit.SubmitConfig.{SubmitConfig}
 use Rattle.cluster_config.specs.Drive.{Planned}
 use Rattle.cluster_config.specs.Node.{NodeText}
-use Rattle.cluster_config.specs.Cluster.{ClusterText}
+use Rattle.cluster_config.specs.Cluster.{ClusterText, most_requests}
 
 -- the text begins so
 abbrev pub StartsWith : List ℕ → List ℕ → Type 0
@@ -32,12 +32,12 @@ pub record FitsNode (x : NodeText) : Type 0 where
   pub rest : drop x.p.n x.key_row ≡ replicate (31 - x.p.n) (replicate 32 0)
   pub keys : AllByRecursion (λ key. length key ≡ 32) x.key_row
 
--- that of all replicas: the same of the root service and the peers, and there are at most 64 requests, each of at most
--- `longest_payload` bytes and for one of the n replicas
+-- that of all replicas: the same of the root service and the peers, and there are at most `most_requests` requests, each
+-- of at most `longest_payload` bytes and for one of the n replicas
 pub record FitsCluster (x : ClusterText) : Type 0 where
   pub root : x.root ≡ 6
   pub peers : length x.peers ≡ x.p.n
-  pub many : length x.requests ≤ 64
+  pub many : length x.requests ≤ most_requests
   pub short : AllByRecursion (λ r. length r.payload ≤ longest_payload) x.requests
   pub here : AllByRecursion (λ r. r.at < x.p.n) x.requests
 

@@ -3,6 +3,7 @@ ghost use Rattle.std.specs.Prelude.{◌≡◌, ◌+◌, ◌<◌, ◌≤◌, ◌=
 ghost use Rattle.cluster_config.specs.Lines.{GivesLine, text_end_at, field_at, fields_at, fields_up_to, first_line, line_at, line_value_at, value_in};
 ghost use Rattle.cluster_config.specs.Front.{copies_at, journal_at, numbers_lines_at, session_at};
 ghost use Rattle.cluster_config.specs.Values.{address_in, attack_in, key_in, number_in, numbers_in, order_in, request_of_line, row_in, vect_in, version_in, yes_or_no_in};
+ghost use Rattle.cluster_config.specs.Cluster.{most_requests};
 ghost use Rattle.cluster_config.specs.Views.{viewed_request};
 
 use crate::cuts::cut_at;
@@ -10,7 +11,7 @@ use crate::values::{
     address_in, attack_in, key_in, number_in, order_in, params_in, request_in, row_in, vect_in,
     version_in, yes_or_no_in,
 };
-use crate::views::{Addresses, RequestView, RequestViews};
+use crate::views::{Addresses, MOST_REQUESTS, RequestView, RequestViews};
 use ritas_base::{Attack, FrameVersion, Order, Params, Vect};
 use std::marker::Model;
 
@@ -301,14 +302,14 @@ impl<'a> Lines<'a> {
         or_line(line, request_in(self.value(name)?, n))
     }
 
-    /// The requests of all lines that are left, at most 64.
+    /// The requests of all lines that are left, at most `MOST_REQUESTS` (64).
     pub(crate) fn requests(&mut self, name: &str, n: u8) -> Result<RequestViews<'a>, WrongLine>
         requires place { self.old.number < 4294967200 }
         requires least { 1 ≤ n }
-        ensures { GivesLine (λ x. x) result self.new (fields_up_to name.now (request_of_line n) 64 self.old) }
+        ensures { GivesLine (λ x. x) result self.new (fields_up_to name.now (request_of_line n) most_requests self.old) }
     {
         let mut requests = RequestViews::new();
-        while requests.len() < 64 && !self.is_over() {
+        while requests.len() < MOST_REQUESTS && !self.is_over() {
             requests.push(self.request(name, n)?);
         }
         self.end()?;

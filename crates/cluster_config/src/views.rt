@@ -1,5 +1,6 @@
 //! What a text says, as parts of the text, before memory is taken for it.
 ghost use Rattle.std.specs.Prelude.{◌≡◌, ◌<◌, ◌≤◌, ◌∷◌, ◌++◌, [], IfOk, length};
+ghost use Rattle.cluster_config.specs.Cluster.{most_requests};
 ghost use Rattle.cluster_config.specs.Views.{payload_of, viewed_request};
 
 use crate::requests::{Request, Requests};
@@ -99,23 +100,27 @@ impl<'a> RequestView<'a> {
     }
 }
 
-/// At most 64 requests of a text. Contracts see them as a list.
+/// A configuration of all replicas has at most so many requests (`most_requests`).
+pub(crate) const MOST_REQUESTS: usize = 64;
+
+/// At most `MOST_REQUESTS` (64) requests of a text. Contracts see them as a list.
 #[derive(Drop)]
 pub(crate) struct RequestViews<'a> {
-    views: [RequestView<'a>; 64],
+    views: [RequestView<'a>; MOST_REQUESTS],
     len: usize,
 }
 
 impl<'a> Model for RequestViews<'a> {
     ghost use Rattle.std.specs.Prelude.{◌≡◌, ◌≤◌, List, length, map, take};
     ghost use Rattle.cluster_config.specs.declared.requests.Request.{Request};
+    ghost use Rattle.cluster_config.specs.Cluster.{most_requests};
     ghost use Rattle.cluster_config.specs.Views.{viewed_request};
 
     ghost Value = { List Request };
 
     ghost view = { λ r. map viewed_request (take r.len r.views) };
 
-    ghost invariant = { λ r. (r.len ≤ 64) × (length r.views ≡ 64) };
+    ghost invariant = { λ r. (r.len ≤ most_requests) × (length r.views ≡ most_requests) };
 }
 
 impl<'a> RequestViews<'a> {
@@ -130,7 +135,7 @@ impl<'a> RequestViews<'a> {
             digits: &[],
         };
         RequestViews {
-            views: [none; 64],
+            views: [none; MOST_REQUESTS],
             len: 0,
         }
     }
@@ -144,7 +149,7 @@ impl<'a> RequestViews<'a> {
 
     /// Appends a request.
     pub(crate) fn push(&mut self, view: RequestView<'a>)
-        requires { length self.old < 64 }
+        requires { length self.old < most_requests }
         ensures { self.new ≡ self.old ++ viewed_request view.entry ∷ [] }
     {
         self.views[self.len] = view;
