@@ -42,8 +42,6 @@ mod row;
 mod runs;
 mod sender;
 mod sweeps;
-#[cfg(test)]
-mod tests;
 
 pub use driving::drive;
 pub use end::DriveEnd;

@@ -16,8 +16,6 @@ mod lines;
 mod played;
 mod replicas;
 mod report;
-#[cfg(test)]
-mod tests;
 mod vectors;
 mod write;
 

@@ -15,8 +15,6 @@ mod frames;
 mod halt;
 mod stage;
 mod tape;
-#[cfg(test)]
-mod tests;
 
 pub use halt::Halt;
 pub use stage::{Finished, Stage};

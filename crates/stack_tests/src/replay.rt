@@ -1,9 +1,9 @@
 //! Tests of the texts of a file, with all keys and with those of one replica, and of a vector that is shown.
 
-use crate::{ReplayEnd, replay};
 use outside::{MemSink, MemSource};
 use ritas_base::What;
 use schedule_file::FileFault;
+use schedule_replay::{ReplayEnd, replay};
 use std::alloc::Global;
 use std::test::*;
 use world_model::Audit;

@@ -3,10 +3,10 @@
 ghost use Rattle.std.specs.Prelude.{◌≡◌};
 ghost use Rattle.ritas_base.specs.declared.mode.FrameVersion.TheVariants.{One};
 
-use crate::{Halt, Stage};
 use atomic_bcast::CmdRoot;
 use reliable_bcast::Rb;
 use ritas_base::{Attack, Bytes, DriveWhat, Mem, Mode, Order, Params, Plan, Vect};
+use schedule_stage::{Halt, Stage};
 use std::process::Abort;
 use std::test::*;
 use world_model::Player;

@@ -1,8 +1,8 @@
 //! Tests of the texts of a plan of one replica, in either order of steps, and of a sink that fails.
 
-use crate::{DriveEnd, drive};
 use outside::MemSink;
 use ritas_base::{Attack, DriveWhat, Mode, Order, Params, Plan, Vect};
+use schedule_drive::{DriveEnd, drive};
 use std::alloc::Global;
 use std::process::Abort;
 use std::test::*;
