@@ -6,7 +6,7 @@ use Rattle.tcp_link.specs.Outcomes.{moved_at, reads_on, change_seen, nobody_at}
 use Rattle.tcp_link.specs.Queues.{Queue, empty_queue, next_of, without_next, with_frame_last, with_frame_first, with_message, in_turn}
 use Rattle.tcp_link.specs.Stages.{first_stage, stage_after, is_read, is_written}
 use Rattle.tcp_link.specs.Tokens.{token_of, serial_after, connection_place, ends_of_all, spares_for, replica_count}
-use Rattle.tcp_link.specs.Waits.{first_clock, after_waits, after_work, retried_at, look_at}
+use Rattle.tcp_link.specs.Waits.{first_clock, after_waits, after_work, retry_due_microseconds, look_due_microseconds}
 use Rattle.tcp_link.specs.Sides.{most_looks, looked, piece_kept, side_read}
 use Rattle.outside.specs.declared.link.LinkItem.TheVariants.{Frame}
 use Rattle.std.specs.declared.io.ErrorKind.TheVariants.{WouldBlock, Interrupted, ConnectionAborted, ConnectionReset}
@@ -228,25 +228,25 @@ was_gone = refl
 -- ---- pauses
 
 -- what is added at first is due after 100,000 microseconds
-due_at_first : retried_at first_clock ≡ 100000
+due_at_first : retry_due_microseconds first_clock ≡ 100000
 due_at_first = refl
 
--- quiet waits have 1, 2, 4, 8, 16, 32 and 32 milliseconds: seven are too few, and the eighth is enough
-after_seven : after_waits first_clock (replicate 7 true) ≡ record { counted_micros = 95000; wait_millis = 32 }
+-- quiet waits have 1, 2, 4, 8, 16, 32 and 32 thousands of microseconds: seven are too few, and the eighth is enough
+after_seven : after_waits first_clock (replicate 7 true) ≡ record { counted_microseconds = 95000; wait_microseconds = 32000 }
 after_seven = refl
 
-after_eight : after_waits first_clock (replicate 8 true) ≡ record { counted_micros = 127000; wait_millis = 32 }
+after_eight : after_waits first_clock (replicate 8 true) ≡ record { counted_microseconds = 127000; wait_microseconds = 32000 }
 after_eight = refl
 
 -- an event makes waits short again
-after_an_event : after_waits first_clock (true ∷ true ∷ false ∷ []) ≡ record { counted_micros = 3050; wait_millis = 1 }
+after_an_event : after_waits first_clock (true ∷ true ∷ false ∷ []) ≡ record { counted_microseconds = 3050; wait_microseconds = 1000 }
 after_an_event = refl
 
 -- what is done counts as an event does, and makes no wait short
-after_one_thing : after_work (record { counted_micros = 95000; wait_millis = 32 }) ≡ record { counted_micros = 95050; wait_millis = 32 }
+after_one_thing : after_work (record { counted_microseconds = 95000; wait_microseconds = 32000 }) ≡ record { counted_microseconds = 95050; wait_microseconds = 32000 }
 after_one_thing = refl
 
-look_at_first : look_at first_clock ≡ 5000000
+look_at_first : look_due_microseconds first_clock ≡ 5000000
 look_at_first = refl
 
 -- ---- looks
@@ -283,7 +283,7 @@ new_peer = record {
   has_come = false;
   has_sent = false;
   ticks = 0;
-  idle = 0;
+  idle_ticks = 0;
   listed = record { reads = false; writes = false; gives = false; drains = false; looks = true };
   input = [];
   output = [];

@@ -50,15 +50,15 @@ abbrev pub is_drain_due : Side → Bool
 is_drain_due s = is_draining s.stage && not s.listed.drains
 
 abbrev pub draining : Side → Side
-draining s = if is_drain_due s then record s { listed = record s.listed { drains = true }; output = []; ticks = 0; idle = 0 } else s
+draining s = if is_drain_due s then record s { listed = record s.listed { drains = true }; output = []; ticks = 0; idle_ticks = 0 } else s
 
 -- after a tenth of a second more it ends, if nothing came for a second, or if it was read for five; one that waits for an older one
 -- isn't read, and isn't counted
 abbrev pub ticked : Side → Side
 ticked s =
     if is_some s.behind then s
-    else if nat_le 9 s.idle || nat_le 49 s.ticks then ended s
-    else record s { ticks = s.ticks + 1; idle = s.idle + 1 }
+    else if nat_le 9 s.idle_ticks || nat_le 49 s.ticks then ended s
+    else record s { ticks = s.ticks + 1; idle_ticks = s.idle_ticks + 1 }
 
 -- ---- looks, every five seconds
 
@@ -159,7 +159,7 @@ closed s = changed s (if is_client s.whom then Closes else Ends)
 
 -- after a read: what came stands behind what had come
 abbrev pub side_read : Side → Moved → List ℕ → Side
-side_read s (Bytes n) buffer = record s { input = s.input ++ take n buffer; idle = 0; has_come = true }
+side_read s (Bytes n) buffer = record s { input = s.input ++ take n buffer; idle_ticks = 0; has_come = true }
 side_read s Later buffer = s
 side_read s Again buffer = s
 side_read s Closed buffer = closed s

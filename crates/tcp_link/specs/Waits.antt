@@ -1,4 +1,4 @@
--- The time that passes, as it is counted by waits, and what is due by then. Times are in microseconds, and waits in milliseconds.
+-- The time that passes, as it is counted by waits, and what is due by then. All times are in microseconds.
 use Rattle.std.specs.Prelude.{ℕ, ◌+◌, ◌*◌, ◌^◌, ◌-◌, ◌<◌, ◌≤◌, Bool, min, nat_le, List, [], ◌∷◌, length, Option, Some, None, is_some, if◌then◌else◌}
 use Rattle.tcp_link.specs.declared.clock.Clock.{Clock}
 use Rattle.tcp_link.specs.declared.retries.Retry.{Retry}
@@ -11,19 +11,19 @@ capped_64 n = min n (2 ^ 64 - 1)
 
 -- what a link does counts 50 microseconds: one read, one connection that came in, one piece that is given
 abbrev pub after_work : Clock → Clock
-after_work c = record c { counted_micros = capped_64 (c.counted_micros + 50) }
+after_work c = record c { counted_microseconds = capped_64 (c.counted_microseconds + 50) }
 
--- nothing was counted yet, and the first wait has one millisecond
+-- nothing was counted yet, and the first wait has a thousandth of a second
 abbrev pub first_clock : Clock
-first_clock = record { counted_micros = 0; wait_millis = 1 }
+first_clock = record { counted_microseconds = 0; wait_microseconds = 1000 }
 
--- a quiet wait lasted as long as it was to, and the next one is twice as long, up to 32 milliseconds
+-- a quiet wait lasted as long as it was to, and the next one is twice as long, up to 32,000 microseconds
 abbrev pub after_quiet : Clock → Clock
-after_quiet c = record { counted_micros = capped_64 (c.counted_micros + 1000 * c.wait_millis); wait_millis = min (2 * c.wait_millis) 32 }
+after_quiet c = record { counted_microseconds = capped_64 (c.counted_microseconds + c.wait_microseconds); wait_microseconds = min (2 * c.wait_microseconds) 32000 }
 
--- one that an event ended counts 50 microseconds, and the next one has one millisecond
+-- one that an event ended counts 50 microseconds, and the next one has 1,000 again
 abbrev pub after_event : Clock → Clock
-after_event c = record { counted_micros = capped_64 (c.counted_micros + 50); wait_millis = 1 }
+after_event c = record { counted_microseconds = capped_64 (c.counted_microseconds + 50); wait_microseconds = 1000 }
 
 abbrev pub after_wait : Clock → Bool → Clock
 after_wait c is_quiet = if is_quiet then after_quiet c else after_event c
@@ -34,27 +34,27 @@ after_waits c [] = c
 after_waits c (is_quiet ∷ waits) = after_waits (after_wait c is_quiet) waits
 
 -- a connection is looked at again after five seconds
-abbrev pub look_at : Clock → ℕ
-look_at c = capped_64 (c.counted_micros + 5000000)
+abbrev pub look_due_microseconds : Clock → ℕ
+look_due_microseconds c = capped_64 (c.counted_microseconds + 5000000)
 
 -- what is tried again is due after a tenth of a second
-abbrev pub retried_at : Clock → ℕ
-retried_at c = capped_64 (c.counted_micros + 100000)
+abbrev pub retry_due_microseconds : Clock → ℕ
+retry_due_microseconds c = capped_64 (c.counted_microseconds + 100000)
 
 -- a dial that comes again
 abbrev pub redial : Clock → Option ℕ → List Waiting
 redial c None = []
-redial c (Some dial) = (record { due_micros = retried_at c; retry = Dial dial }) ∷ []
+redial c (Some dial) = (record { due_microseconds = retry_due_microseconds c; retry = Dial dial }) ∷ []
 
 -- the first that waits, if it is due
 abbrev pub due_in : Clock → List Waiting → Option Retry
 due_in c [] = None
-due_in c (w ∷ ws) = if nat_le w.due_micros c.counted_micros then Some w.retry else None
+due_in c (w ∷ ws) = if nat_le w.due_microseconds c.counted_microseconds then Some w.retry else None
 
 -- and what waits then
 abbrev pub left_in : Clock → List Waiting → List Waiting
 left_in c [] = []
-left_in c (w ∷ ws) = if nat_le w.due_micros c.counted_micros then ws else w ∷ ws
+left_in c (w ∷ ws) = if nat_le w.due_microseconds c.counted_microseconds then ws else w ∷ ws
 
 -- the first that is due of two lists: what is tried again comes before what is looked at
 abbrev pub first_retry : Clock → List Waiting → List Waiting → Option Retry
@@ -65,12 +65,13 @@ abbrev pub late_of : Clock → List Waiting → List Waiting → List Waiting
 late_of c soon late = if is_some (due_in c soon) then late else left_in c late
 
 -- how long to wait: without end where nothing is to be tried again or to be looked at
-abbrev pub time_to_wait : Clock → List Waiting → List Waiting → Option ℕ
-time_to_wait c [] [] = None
-time_to_wait c (w ∷ ws) late = Some c.wait_millis
-time_to_wait c [] (w ∷ ws) = Some c.wait_millis
+abbrev pub microseconds_to_wait : Clock → List Waiting → List Waiting → Option ℕ
+microseconds_to_wait c [] [] = None
+microseconds_to_wait c (w ∷ ws) late = Some c.wait_microseconds
+microseconds_to_wait c [] (w ∷ ws) = Some c.wait_microseconds
 
--- a pause ends: what is added is due after 2,000 waits at the latest, however they end
+-- a pause ends: what is added is due after 2,000 waits at the latest, however they end, where the first of them isn't shorter than what an
+-- event counts
 abbrev pub PauseEnds : Type 0
-PauseEnds = (c : Clock) (waits : List Bool) → 0 < c.wait_millis
-    → 2000 ≤ length waits → retried_at c ≤ (after_waits c waits).counted_micros
+PauseEnds = (c : Clock) (waits : List Bool) → 50 ≤ c.wait_microseconds
+    → 2000 ≤ length waits → retry_due_microseconds c ≤ (after_waits c waits).counted_microseconds

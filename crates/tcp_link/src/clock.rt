@@ -1,23 +1,21 @@
 //! The time that passes, counted by waits.
 
-ghost use Rattle.std.specs.Prelude.{◌≡◌};
-ghost use Rattle.tcp_link.specs.Waits.{first_clock, after_wait, after_work, retried_at, look_at};
+ghost use Rattle.std.specs.Prelude.{◌≡◌, ◌+◌};
+ghost use Rattle.tcp_link.specs.Waits.{capped_64, first_clock, after_wait, after_work, retry_due_microseconds, look_due_microseconds};
 
 // What is tried again is due after so long.
-const PAUSE_MICROS: u64 = 100_000;
+const PAUSE_MICROSECONDS: u64 = 100_000;
 
 // A connection is looked at again after so long.
-const LOOK_MICROS: u64 = 5_000_000;
+const LOOK_MICROSECONDS: u64 = 5_000_000;
 
 // How long the first of some quiet waits is, and the longest.
-const FIRST_WAIT_MILLIS: u64 = 1;
+const FIRST_WAIT_MICROSECONDS: u64 = 1_000;
 
-const LONGEST_WAIT_MILLIS: u64 = 32;
+const LONGEST_WAIT_MICROSECONDS: u64 = 32_000;
 
 // What a wait that an event ended counts, and each thing that is done.
-const SHORT_WAIT_MICROS: u64 = 50;
-
-const MICROS_OF_A_MILLI: u64 = 1000;
+const SHORT_WAIT_MICROSECONDS: u64 = 50;
 
 /// A count of the time that passed, made without a clock.
 ///
@@ -27,9 +25,9 @@ const MICROS_OF_A_MILLI: u64 = 1000;
 #[derive(Clone, Copy, Debug)]
 pub(crate) struct Clock {
     /// The time that was counted.
-    pub(crate) counted_micros: u64,
+    pub(crate) counted_microseconds: u64,
     /// How long the next wait is.
-    pub(crate) wait_millis: u64,
+    pub(crate) wait_microseconds: u64,
 }
 
 impl Clock {
@@ -38,9 +36,16 @@ impl Clock {
         ensures { result ≡ first_clock }
     {
         Clock {
-            counted_micros: 0,
-            wait_millis: FIRST_WAIT_MILLIS,
+            counted_microseconds: 0,
+            wait_microseconds: FIRST_WAIT_MICROSECONDS,
         }
+    }
+
+    // The time that was counted, and so much more.
+    fn counted_and(self, more_microseconds: u64) -> u64
+        ensures { result ≡ capped_64 (self.counted_microseconds + more_microseconds) }
+    {
+        self.counted_microseconds.saturating_add(more_microseconds)
     }
 
     /// The clock after a wait, which ended quietly or by an event.
@@ -48,15 +53,15 @@ impl Clock {
         ensures { result ≡ after_wait self is_quiet }
     {
         if is_quiet {
-            let waited = self.wait_millis.saturating_mul(MICROS_OF_A_MILLI);
+            let doubled = self.wait_microseconds.saturating_mul(2);
             Clock {
-                counted_micros: self.counted_micros.saturating_add(waited),
-                wait_millis: self.wait_millis.saturating_mul(2).min(LONGEST_WAIT_MILLIS),
+                counted_microseconds: self.counted_and(self.wait_microseconds),
+                wait_microseconds: doubled.min(LONGEST_WAIT_MICROSECONDS),
             }
         } else {
             Clock {
-                counted_micros: self.counted_micros.saturating_add(SHORT_WAIT_MICROS),
-                wait_millis: FIRST_WAIT_MILLIS,
+                counted_microseconds: self.counted_and(SHORT_WAIT_MICROSECONDS),
+                wait_microseconds: FIRST_WAIT_MICROSECONDS,
             }
         }
     }
@@ -66,22 +71,22 @@ impl Clock {
         ensures { result ≡ after_work self }
     {
         Clock {
-            counted_micros: self.counted_micros.saturating_add(SHORT_WAIT_MICROS),
-            wait_millis: self.wait_millis,
+            counted_microseconds: self.counted_and(SHORT_WAIT_MICROSECONDS),
+            wait_microseconds: self.wait_microseconds,
         }
     }
 
-    /// When a connection is looked at again, in microseconds that are counted.
-    pub(crate) fn look(self) -> u64
-        ensures { result ≡ look_at self }
+    /// When a connection is looked at again.
+    pub(crate) fn look_due_microseconds(self) -> u64
+        ensures { result ≡ look_due_microseconds self }
     {
-        self.counted_micros.saturating_add(LOOK_MICROS)
+        self.counted_and(LOOK_MICROSECONDS)
     }
 
-    /// When something is due that is to be tried again, in microseconds that are counted.
-    pub(crate) fn due(self) -> u64
-        ensures { result ≡ retried_at self }
+    /// When something is due that is to be tried again.
+    pub(crate) fn retry_due_microseconds(self) -> u64
+        ensures { result ≡ retry_due_microseconds self }
     {
-        self.counted_micros.saturating_add(PAUSE_MICROS)
+        self.counted_and(PAUSE_MICROSECONDS)
     }
 }

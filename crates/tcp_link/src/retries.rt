@@ -1,7 +1,7 @@
 //! What is tried again after a pause.
 
 ghost use Rattle.std.specs.Prelude.{◌≡◌, ◌++◌, ◌∷◌, [], OnOk, if◌then◌else◌};
-ghost use Rattle.tcp_link.specs.Waits.{first_clock, after_wait, after_work, retried_at, look_at, due_in, left_in, first_retry, late_of, time_to_wait};
+ghost use Rattle.tcp_link.specs.Waits.{first_clock, after_wait, after_work, retry_due_microseconds, look_due_microseconds, due_in, left_in, first_retry, late_of, microseconds_to_wait};
 
 use crate::clock::Clock;
 use ritas_base::Mem;
@@ -24,7 +24,7 @@ pub(crate) enum Retry {
 /// What is tried again, and when.
 #[derive(Clone, Copy, Debug)]
 pub(crate) struct Waiting {
-    pub(crate) due_micros: u64,
+    pub(crate) due_microseconds: u64,
     pub(crate) retry: Retry,
 }
 
@@ -42,7 +42,7 @@ fn take_due(clock: Clock, waiting: &mut VecDeque<Waiting>) -> Option<Retry>
     ensures left { waiting.new.items ≡ left_in clock waiting.old.items }
 {
     let first = *waiting.front()?;
-    if first.due_micros > clock.counted_micros {
+    if first.due_microseconds > clock.counted_microseconds {
         return None;
     }
     waiting.pop_front();
@@ -65,24 +65,27 @@ impl Retries {
 
     /// Has this tried again after a pause. The one error is want of memory.
     pub(crate) fn add(&mut self, retry: Retry) -> Result<(), Mem>
-        ensures last { OnOk result (self.new.waiting.items ≡ self.old.waiting.items ++ (record { due_micros = retried_at self.old.clock; retry = retry }) ∷ []) }
+        ensures last { OnOk result (self.new.waiting.items ≡ self.old.waiting.items ++ (record { due_microseconds = retry_due_microseconds self.old.clock; retry = retry }) ∷ []) }
         ensures looks { self.new.looks ≡ self.old.looks }
         ensures clock { self.new.clock ≡ self.old.clock }
     {
-        let due_micros = self.clock.due();
-        self.waiting.push_back(Waiting { due_micros, retry })?;
+        let due_microseconds = self.clock.retry_due_microseconds();
+        self.waiting.push_back(Waiting {
+            due_microseconds,
+            retry,
+        })?;
         Ok(())
     }
 
     /// Has the connection of this token looked at after five seconds. The one error is want of memory.
     pub(crate) fn look_at(&mut self, token: usize) -> Result<(), Mem>
-        ensures last { OnOk result (self.new.looks.items ≡ self.old.looks.items ++ (record { due_micros = look_at self.old.clock; retry = Retry.Look token }) ∷ []) }
+        ensures last { OnOk result (self.new.looks.items ≡ self.old.looks.items ++ (record { due_microseconds = look_due_microseconds self.old.clock; retry = Retry.Look token }) ∷ []) }
         ensures waiting { self.new.waiting ≡ self.old.waiting }
         ensures clock { self.new.clock ≡ self.old.clock }
     {
-        let due_micros = self.clock.look();
+        let due_microseconds = self.clock.look_due_microseconds();
         self.looks.push_back(Waiting {
-            due_micros,
+            due_microseconds,
             retry: Retry::Look(token),
         })?;
         Ok(())
@@ -93,17 +96,17 @@ impl Retries {
         self.waiting.len().saturating_add(self.looks.len())
     }
 
-    /// How many milliseconds to wait for an event at most: none where something is to be done before, and without end where nothing
+    /// How many microseconds to wait for an event at most: none where something is to be done before, and without end where nothing
     /// is to be tried again or looked at.
-    pub(crate) fn wait_millis(&self, is_busy: bool) -> Option<u64>
-        ensures { result ≡ (if is_busy then Some 0 else time_to_wait self.now.clock self.now.waiting.items self.now.looks.items) }
+    pub(crate) fn wait_microseconds(&self, is_busy: bool) -> Option<u64>
+        ensures { result ≡ (if is_busy then Some 0 else microseconds_to_wait self.now.clock self.now.waiting.items self.now.looks.items) }
     {
         if is_busy {
             Some(0)
         } else if self.waiting.is_empty() && self.looks.is_empty() {
             None
         } else {
-            Some(self.clock.wait_millis)
+            Some(self.clock.wait_microseconds)
         }
     }
 

@@ -36,8 +36,8 @@ impl Running {
     // Waits for events, unless something is to be done before one comes, and takes note of them.
     fn wait(&mut self) -> Result<(), Trouble> {
         let is_busy = self.sockets.is_busy();
-        let wait_millis = self.sockets.retries.wait_millis(is_busy);
-        let timeout = wait_millis.map(Duration::from_millis);
+        let wait_microseconds = self.sockets.retries.wait_microseconds(is_busy);
+        let timeout = wait_microseconds.map(Duration::from_micros);
         self.poll.poll(&mut self.events, timeout)?;
         let is_quiet = !is_busy && self.events.is_empty();
         self.sockets.retries.waited(is_quiet);

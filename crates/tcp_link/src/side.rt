@@ -87,7 +87,7 @@ pub(crate) struct Side {
     /// How many tenths of a second it is read to its end.
     pub(crate) ticks: u8,
     /// And in how many of these nothing came.
-    pub(crate) idle: u8,
+    pub(crate) idle_ticks: u8,
     pub(crate) listed: Listed,
     pub(crate) input: Input,
     pub(crate) output: Output,
@@ -118,7 +118,7 @@ impl Side {
             has_come: false,
             has_sent: false,
             ticks: 0,
-            idle: 0,
+            idle_ticks: 0,
             listed: Listed::default(),
             input: Input::new(alloc),
             output: Output::new(alloc),
@@ -157,7 +157,7 @@ impl Side {
         self.listed.drains = true;
         self.output.let_go();
         self.ticks = 0;
-        self.idle = 0;
+        self.idle_ticks = 0;
         true
     }
 
@@ -168,11 +168,11 @@ impl Side {
         if self.behind.is_some() {
             return;
         }
-        if self.idle >= MOST_IDLE - 1 || self.ticks >= MOST_TICKS - 1 {
+        if self.idle_ticks >= MOST_IDLE - 1 || self.ticks >= MOST_TICKS - 1 {
             self.change(Change::Ends);
         } else {
             self.ticks += 1;
-            self.idle += 1;
+            self.idle_ticks += 1;
         }
     }
 
@@ -248,7 +248,7 @@ impl Side {
         match moved {
             Moved::Bytes(count) => {
                 self.input.append(&buffer[..count])?;
-                self.idle = 0;
+                self.idle_ticks = 0;
                 self.has_come = true;
             }
             Moved::Later | Moved::Again => {}
