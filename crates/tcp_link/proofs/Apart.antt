@@ -2,7 +2,8 @@
 use Rattle.std.proofs.Common.{arith}
 use Rattle.std.proofs.lemmas.Nat.{mod-mul-add}
 use Rattle.std.proofs.lemmas.Bool.Decides.{nat_tests}
-use Rattle.tcp_link.specs.Tokens.{most_conns, TokenLaw, PairLaw}
+use Rattle.tcp_link.specs.Limits.{most_conns}
+use Rattle.tcp_link.specs.Tokens.{TokenLaw, PairLaw}
 
 pub tokens_apart : TokenLaw
 tokens_apart serial place serial' place' low low' = (

@@ -1,5 +1,7 @@
 -- Whom a connection is with: what a first byte is answered, which number a client gets, and what is told of peers and clients.
 use Rattle.std.specs.Prelude.{ℕ, ◌+◌, ◌<◌, Bool, true, false, ◌&&◌, nat_lt, nat_le, nat_eq, List, [], ◌∷◌, Option, Some, None, if◌then◌else◌}
+use Rattle.ritas_base.specs.Limits.{longest_frame}
+use Rattle.tcp_link.specs.Limits.{most_clients, most_at_once, longest_piece, most_kept_bytes, most_kept_bytes_of_client}
 use Rattle.outside.specs.declared.link.LinkItem.{LinkItem}
 use Rattle.outside.specs.declared.link.LinkItem.TheVariants.{Frame, Client as Message, Reply}
 use Rattle.outside.specs.declared.link.LinkItem.TheVariants as items
@@ -33,18 +35,10 @@ naming n (Node from) bytes = Waits
 
 -- ---- clients
 
--- the numbers of clients are 0 to 4,294,967,294
-abbrev pub most_clients : ℕ
-most_clients = 4294967295
-
--- whether one more may come in, where so many clients were numbered: peers always may
+-- whether one more may come in, where so many clients were numbered: peers always may. The numbers of clients are below `most_clients`
 abbrev pub admits_one_more : Entry → ℕ → Bool
 admits_one_more (entries.Replicas at) numbered = true
 admits_one_more (entries.Clients at) numbered = nat_lt numbered most_clients
-
--- at most so many clients are there at a time
-abbrev pub most_at_once : ℕ
-most_at_once = 768
 
 -- whether there is room for one that came in, where so many clients are there and all spare descriptors or not: a client takes none that
 -- a peer may need
@@ -67,16 +61,16 @@ numbered_after (entries.Clients at) numbered = numbered + 1
 -- the most bytes of a piece: nothing is given of one that has no name yet
 abbrev pub most_of : Whom → Option ℕ
 most_of (Unnamed at) = None
-most_of (Peer at peer) = Some 16384
-most_of (Client at conn) = Some 65535
-most_of (Node from) = Some 65535
+most_of (Peer at peer) = Some longest_frame
+most_of (Client at conn) = Some longest_piece
+most_of (Node from) = Some longest_piece
 
--- with more kept bytes a connection takes no more: a client takes 128 KiB, and others 16 MiB
+-- with more kept bytes a connection takes no more
 abbrev pub most_kept : Whom → ℕ
-most_kept (Unnamed at) = 16777216
-most_kept (Peer at peer) = 16777216
-most_kept (Client at conn) = 131072
-most_kept (Node from) = 16777216
+most_kept (Unnamed at) = most_kept_bytes
+most_kept (Peer at peer) = most_kept_bytes
+most_kept (Client at conn) = most_kept_bytes_of_client
+most_kept (Node from) = most_kept_bytes
 
 -- the item that a piece is
 abbrev pub link_item_of : Whom → List ℕ → Option LinkItem
@@ -115,7 +109,7 @@ is_client_of own (Node from) = false
 
 -- the replica through which bytes are sent, as its link finds the connection; a frame that is longer than a peer takes is dropped
 abbrev pub sent_through : Bool → ℕ → ℕ → Option ℕ
-sent_through is_client_link at length = if is_client_link then Some 0 else if nat_le length 16384 then Some at else None
+sent_through is_client_link at length = if is_client_link then Some 0 else if nat_le length longest_frame then Some at else None
 
 -- ---- news
 

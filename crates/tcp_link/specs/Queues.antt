@@ -1,6 +1,7 @@
 -- The order in which a link gives what came. A connection is named by its token, and is at most once among those with pieces.
 use Rattle.std.specs.Prelude.{◌≡◌, ℕ, false, nat_eq, List, [], ◌∷◌, ◌++◌, map, take, drop, Option, Some, None, if◌then◌else◌}
 use Rattle.std.specs.List.{flat_map}
+use Rattle.tcp_link.specs.Limits.{messages_a_turn}
 use Rattle.tcp_link.specs.declared.news.News.{News}
 use Rattle.tcp_link.specs.declared.agenda.Next.{Next}
 use Rattle.tcp_link.specs.declared.agenda.Next.TheVariants as next
@@ -54,12 +55,9 @@ with_frame_first q t = record q { frames = t ∷ q.frames }
 abbrev pub with_message : Queue → ℕ → Queue
 with_message q t = record q { later = q.later ++ t ∷ [] }
 
--- a turn begins: the first 16 clients of those that have a piece give one each, and the others wait for a later turn
-abbrev pub most_messages : ℕ
-most_messages = 16
-
+-- a turn begins: the first clients of those that have a piece give one each, and the others wait for a later turn
 abbrev pub in_turn : Queue → Queue
-in_turn q = record q { due = take most_messages (q.due ++ q.later); later = drop most_messages (q.due ++ q.later) }
+in_turn q = record q { due = take messages_a_turn (q.due ++ q.later); later = drop messages_a_turn (q.due ++ q.later) }
 
 -- ---- the whole order, where it is known which pieces came by each connection
 

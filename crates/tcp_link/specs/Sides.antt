@@ -1,6 +1,7 @@
 -- What is known of a connection without its stream, and what becomes of it.
 use Rattle.std.specs.Prelude.{◌≡◌, ◌⊎◌, ℕ, ◌+◌, ◌-◌, ◌≤◌, nat_eq, is_none, is_some, Bool, true, false, not, ◌&&◌, ◌||◌, nat_lt, nat_le, List, [], ◌++◌, length, take, drop, Option, Some, None, if◌then◌else◌}
 use Rattle.outside.specs.declared.link.LinkItem.{LinkItem}
+use Rattle.tcp_link.specs.Limits.{length_bytes, many_came, many_kept, looks_of_dial, looks_of_node, looks_of_stranger, looks_of_peer, looks_of_half_closed, most_idle_ticks, most_ticks}
 use Rattle.tcp_link.specs.Queues.{Queue, with_frame_last, with_frame_first, with_message}
 use Rattle.tcp_link.specs.Pieces.{piece, length_told, IsPieceFront}
 use Rattle.tcp_link.specs.Stages.{stage_after, is_up, is_begun, is_half, is_draining, is_read, is_written, is_over}
@@ -57,7 +58,7 @@ draining s = if is_drain_due s then record s { listed = record s.listed { drains
 abbrev pub ticked : Side → Side
 ticked s =
     if is_some s.behind then s
-    else if nat_le 9 s.idle_ticks || nat_le 49 s.ticks then ended s
+    else if nat_le (most_idle_ticks - 1) s.idle_ticks || nat_le (most_ticks - 1) s.ticks then ended s
     else record s { ticks = s.ticks + 1; idle_ticks = s.idle_ticks + 1 }
 
 -- ---- looks, every five seconds
@@ -66,21 +67,21 @@ ticked s =
 -- after 30 seconds, one that told no number is closed at the first, a client that sends no more after 30 seconds, and a peer that doesn't
 -- answer after 60; others aren't looked at
 abbrev pub looks_of_begun : Whom → ℕ
-looks_of_begun (Unnamed at) = 1
-looks_of_begun (Peer at peer) = 1
-looks_of_begun (Client at conn) = 1
-looks_of_begun (Node from) = 6
+looks_of_begun (Unnamed at) = looks_of_dial
+looks_of_begun (Peer at peer) = looks_of_dial
+looks_of_begun (Client at conn) = looks_of_dial
+looks_of_begun (Node from) = looks_of_node
 
 abbrev pub looks_of_up : Whom → Option ℕ
-looks_of_up (Unnamed at) = Some 1
-looks_of_up (Peer at peer) = Some 12
+looks_of_up (Unnamed at) = Some looks_of_stranger
+looks_of_up (Peer at peer) = Some looks_of_peer
 looks_of_up (Client at conn) = None
 looks_of_up (Node from) = None
 
 abbrev pub most_looks : Stage → Whom → Option ℕ
 most_looks Begun whom = Some (looks_of_begun whom)
 most_looks Up whom = looks_of_up whom
-most_looks Half whom = Some 6
+most_looks Half whom = Some looks_of_half_closed
 most_looks Broken whom = None
 most_looks Older whom = None
 most_looks Refused whom = None
@@ -120,9 +121,9 @@ takes s = is_written s.stage || (is_begun s.stage && is_node s.whom)
 abbrev pub piece_kept : Side → List ℕ → Side
 piece_kept s bytes = record s { output = s.output ++ piece bytes; owed = s.owed - 1; has_sent = true }
 
--- with 65,536 kept bytes they are written at once, if they are taken
+-- with so many kept bytes they are written at once, if they are taken
 abbrev pub has_much : Side → Bool
-has_much s = is_side_ready s && nat_le 65536 (length s.output)
+has_much s = is_side_ready s && nat_le many_kept (length s.output)
 
 -- with more kept bytes than may be it takes no more
 abbrev pub capped : Side → Side
@@ -144,7 +145,7 @@ side_written s Failed = broken s
 
 -- with as many bytes as the longest piece has, no more are read before some are given
 abbrev pub is_fed : Side → Bool
-is_fed s = nat_le 65537 (length s.input)
+is_fed s = nat_le many_came (length s.input)
 
 -- more is read of one that was fed, once it isn't any more
 abbrev pub is_read_due : Side → Bool
@@ -181,12 +182,12 @@ IsFrontAt (Some most) bytes f = IsPieceFront bytes most f
 -- a whole piece stands at the front, of at most so many bytes
 abbrev pub is_whole_at : Option ℕ → List ℕ → Bool
 is_whole_at None bytes = false
-is_whole_at (Some most) bytes = nat_le 2 (length bytes) && nat_le (length_told bytes) most && nat_le (2 + length_told bytes) (length bytes)
+is_whole_at (Some most) bytes = nat_le length_bytes (length bytes) && nat_le (length_told bytes) most && nat_le (length_bytes + length_told bytes) (length bytes)
 
 -- a length over the most stands at the front
 abbrev pub is_too_long_at : Option ℕ → List ℕ → Bool
 is_too_long_at None bytes = false
-is_too_long_at (Some most) bytes = nat_le 2 (length bytes) && nat_lt most (length_told bytes)
+is_too_long_at (Some most) bytes = nat_le length_bytes (length bytes) && nat_lt most (length_told bytes)
 
 abbrev pub is_whole : Side → Bool
 is_whole s = is_whole_at (most_of s.whom) s.input
@@ -203,10 +204,10 @@ gives_of s =
 
 -- the bytes of the piece at the front, and what follows it
 abbrev pub front_piece : List ℕ → List ℕ
-front_piece bytes = take (length_told bytes) (drop 2 bytes)
+front_piece bytes = take (length_told bytes) (drop length_bytes bytes)
 
 abbrev pub behind_piece : List ℕ → List ℕ
-behind_piece bytes = drop (2 + length_told bytes) bytes
+behind_piece bytes = drop (length_bytes + length_told bytes) bytes
 
 -- the item that is taken, and what stays; it is noted that something was given, and that one reply more is owed
 abbrev pub side_item_taken : Side → Option LinkItem

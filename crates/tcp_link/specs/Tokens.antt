@@ -1,13 +1,6 @@
 -- The numbers by which connections, doors and pairs of replicas are found.
 use Rattle.std.specs.Prelude.{◌≡◌, ℕ, ◌+◌, ◌*◌, ◌%◌, ◌-◌, ◌<◌, ◌≤◌, ◌&&◌, nat_lt, min, Option, Some, None, if◌then◌else◌}
-
--- at most so many connections stand at a time; a number below names no connection, but a door
-abbrev pub most_conns : ℕ
-most_conns = 16777216
-
--- so many connections are made before one may have the token of an old one
-abbrev pub most_serials : ℕ
-most_serials = 1000000000000
+use Rattle.tcp_link.specs.Limits.{most_replicas, most_conns, most_serials, spares_of_replica, spares_of_strangers}
 
 -- a token: the serial number of a connection, and the place where it stands
 abbrev pub token_of : ℕ → ℕ → ℕ
@@ -28,9 +21,9 @@ TokenLaw = (serial place serial' place' : ℕ) → place < most_conns → place'
     × (token_of serial place ≡ token_of serial' place' → (serial ≡ serial') × (place ≡ place'))
     × (most_conns ≤ token_of (serial_after serial) place)
 
--- where the connection of replica `at` with `peer` is noted, if both numbers are below 31
+-- where the connection of replica `at` with `peer` is noted, if both are numbers of replicas
 abbrev pub connection_place : ℕ → ℕ → Option ℕ
-connection_place at peer = if nat_lt at 31 && nat_lt peer 31 then Some (at * 31 + peer) else None
+connection_place at peer = if nat_lt at most_replicas && nat_lt peer most_replicas then Some (at * most_replicas + peer) else None
 
 -- no two pairs are noted at one place
 abbrev pub PairLaw : Type 0
@@ -40,10 +33,10 @@ PairLaw = (at peer at' peer' place : ℕ) → connection_place at peer ≡ Some 
 abbrev pub ends_of_all : ℕ → ℕ
 ends_of_all n = n * (n - 1)
 
--- so many descriptors are held for peers: two for each other replica, and eight for those that told no number yet
+-- so many descriptors are held for peers: some for each replica, and some for those that told no number yet
 abbrev pub spares_for : ℕ → ℕ
-spares_for n = 2 * n + 8
+spares_for n = spares_of_replica * n + spares_of_strangers
 
--- the replicas of a list of addresses: at most 31
+-- the replicas of a list of addresses
 abbrev pub replica_count : ℕ → ℕ
-replica_count length = min length 31
+replica_count length = min length most_replicas

@@ -1,5 +1,6 @@
 -- The time that passes, as it is counted by waits, and what is due by then. All times are in microseconds.
-use Rattle.std.specs.Prelude.{ℕ, ◌+◌, ◌*◌, ◌^◌, ◌-◌, ◌<◌, ◌≤◌, Bool, min, nat_le, List, [], ◌∷◌, length, Option, Some, None, is_some, if◌then◌else◌}
+use Rattle.std.specs.Prelude.{ℕ, ◌+◌, ◌*◌, ◌/◌, ◌^◌, ◌-◌, ◌≤◌, Bool, min, nat_le, List, [], ◌∷◌, length, Option, Some, None, is_some, if◌then◌else◌}
+use Rattle.tcp_link.specs.Limits.{pause_microseconds, look_microseconds, first_wait_microseconds, longest_wait_microseconds, short_wait_microseconds}
 use Rattle.tcp_link.specs.declared.clock.Clock.{Clock}
 use Rattle.tcp_link.specs.declared.retries.Retry.{Retry}
 use Rattle.tcp_link.specs.declared.retries.Retry.TheVariants.{Dial}
@@ -9,21 +10,21 @@ use Rattle.tcp_link.specs.declared.retries.Waiting.{Waiting}
 abbrev pub capped_64 : ℕ → ℕ
 capped_64 n = min n (2 ^ 64 - 1)
 
--- what a link does counts 50 microseconds: one read, one connection that came in, one piece that is given
+-- what a link does counts as a short wait: one read, one connection that came in, one piece that is given
 abbrev pub after_work : Clock → Clock
-after_work c = record c { counted_microseconds = capped_64 (c.counted_microseconds + 50) }
+after_work c = record c { counted_microseconds = capped_64 (c.counted_microseconds + short_wait_microseconds) }
 
--- nothing was counted yet, and the first wait has a thousandth of a second
+-- nothing was counted yet, and the first wait is the shortest that a poll can make
 abbrev pub first_clock : Clock
-first_clock = record { counted_microseconds = 0; wait_microseconds = 1000 }
+first_clock = record { counted_microseconds = 0; wait_microseconds = first_wait_microseconds }
 
--- a quiet wait lasted as long as it was to, and the next one is twice as long, up to 32,000 microseconds
+-- a quiet wait lasted as long as it was to, and the next one is twice as long, up to the longest
 abbrev pub after_quiet : Clock → Clock
-after_quiet c = record { counted_microseconds = capped_64 (c.counted_microseconds + c.wait_microseconds); wait_microseconds = min (2 * c.wait_microseconds) 32000 }
+after_quiet c = record { counted_microseconds = capped_64 (c.counted_microseconds + c.wait_microseconds); wait_microseconds = min (2 * c.wait_microseconds) longest_wait_microseconds }
 
--- one that an event ended counts 50 microseconds, and the next one has 1,000 again
+-- one that an event ended counts little, and the next one is a first one
 abbrev pub after_event : Clock → Clock
-after_event c = record { counted_microseconds = capped_64 (c.counted_microseconds + 50); wait_microseconds = 1000 }
+after_event c = record { counted_microseconds = capped_64 (c.counted_microseconds + short_wait_microseconds); wait_microseconds = first_wait_microseconds }
 
 abbrev pub after_wait : Clock → Bool → Clock
 after_wait c is_quiet = if is_quiet then after_quiet c else after_event c
@@ -33,13 +34,13 @@ abbrev pub after_waits : Clock → List Bool → Clock
 after_waits c [] = c
 after_waits c (is_quiet ∷ waits) = after_waits (after_wait c is_quiet) waits
 
--- a connection is looked at again after five seconds
+-- when a connection is looked at again
 abbrev pub look_due_microseconds : Clock → ℕ
-look_due_microseconds c = capped_64 (c.counted_microseconds + 5000000)
+look_due_microseconds c = capped_64 (c.counted_microseconds + look_microseconds)
 
--- what is tried again is due after a tenth of a second
+-- when something is due that is to be tried again
 abbrev pub retry_due_microseconds : Clock → ℕ
-retry_due_microseconds c = capped_64 (c.counted_microseconds + 100000)
+retry_due_microseconds c = capped_64 (c.counted_microseconds + pause_microseconds)
 
 -- a dial that comes again
 abbrev pub redial : Clock → Option ℕ → List Waiting
@@ -70,8 +71,12 @@ microseconds_to_wait c [] [] = None
 microseconds_to_wait c (w ∷ ws) late = Some c.wait_microseconds
 microseconds_to_wait c [] (w ∷ ws) = Some c.wait_microseconds
 
--- a pause ends: what is added is due after 2,000 waits at the latest, however they end, where the first of them isn't shorter than what an
+-- so many waits count as much as a pause, however they end: 2,000
+abbrev pub waits_of_pause : ℕ
+waits_of_pause = pause_microseconds / short_wait_microseconds
+
+-- a pause ends: what is added is due after so many waits at the latest, however they end, where the first of them isn't shorter than what an
 -- event counts
 abbrev pub PauseEnds : Type 0
-PauseEnds = (c : Clock) (waits : List Bool) → 50 ≤ c.wait_microseconds
-    → 2000 ≤ length waits → retry_due_microseconds c ≤ (after_waits c waits).counted_microseconds
+PauseEnds = (c : Clock) (waits : List Bool) → short_wait_microseconds ≤ c.wait_microseconds
+    → waits_of_pause ≤ length waits → retry_due_microseconds c ≤ (after_waits c waits).counted_microseconds

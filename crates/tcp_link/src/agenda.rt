@@ -3,14 +3,12 @@
 ghost use Rattle.std.specs.Prelude.{◌≡◌, ◌++◌, ◌∷◌, [], OnOk, length, drop, nat_lt, slice_get};
 ghost use Rattle.tcp_link.specs.Queues.{Queue, empty_queue, next_of, without_next, with_news, with_told, with_frame_last, with_frame_first, with_message, in_turn};
 
+use crate::limits::MESSAGES_A_TURN;
 use crate::news::News;
 use ritas_base::Mem;
 use std::alloc::Global;
 use std::collections::VecDeque;
 use std::marker::Model;
-
-// So many clients give a message in one turn at most, so that peers don't wait for them.
-const MOST_MESSAGES: usize = 16;
 
 /// What is given next.
 #[derive(Clone, Copy, Debug)]
@@ -122,7 +120,7 @@ impl Agenda {
     pub(crate) fn begin_turn(&mut self)
         ensures { self.new ≡ in_turn self.old }
     {
-        self.messages_due = self.messages.len().min(MOST_MESSAGES);
+        self.messages_due = self.messages.len().min(MESSAGES_A_TURN);
     }
 
     // The next message of this turn.

@@ -3,19 +3,10 @@
 ghost use Rattle.std.specs.Prelude.{◌≡◌, ◌+◌};
 ghost use Rattle.tcp_link.specs.Waits.{capped_64, first_clock, after_wait, after_work, retry_due_microseconds, look_due_microseconds};
 
-// What is tried again is due after so long.
-const PAUSE_MICROSECONDS: u64 = 100_000;
-
-// A connection is looked at again after so long.
-const LOOK_MICROSECONDS: u64 = 5_000_000;
-
-// How long the first of some quiet waits is, and the longest.
-const FIRST_WAIT_MICROSECONDS: u64 = 1_000;
-
-const LONGEST_WAIT_MICROSECONDS: u64 = 32_000;
-
-// What a wait that an event ended counts, and each thing that is done.
-const SHORT_WAIT_MICROSECONDS: u64 = 50;
+use crate::limits::{
+    FIRST_WAIT_MICROSECONDS, LONGEST_WAIT_MICROSECONDS, LOOK_MICROSECONDS, PAUSE_MICROSECONDS,
+    SHORT_WAIT_MICROSECONDS,
+};
 
 /// A count of the time that passed, made without a clock.
 ///

@@ -4,6 +4,7 @@ use crate::conn::Conn;
 use crate::dials::{begin, watched};
 use crate::doors::Arrival;
 use crate::entry::Entry;
+use crate::limits::MOST_STRANGERS;
 use crate::outcome::Nobody;
 use crate::retries::Retry;
 use crate::side::Side;
@@ -15,9 +16,6 @@ use mio::net::TcpStream;
 use ritas_base::Mem;
 use std::alloc::Global;
 use std::net::{Net, SocketAddr};
-
-// One of a replica that told no number is closed once so many came in after it.
-const MOST_STRANGERS: usize = 64;
 
 impl Sockets {
     /// Accepts connections at the doors on the list.

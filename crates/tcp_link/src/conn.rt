@@ -3,6 +3,7 @@
 ghost use Rattle.std.specs.Prelude.{◌<◌, ◌^◌, OnOk, length};
 ghost use Rattle.tcp_link.specs.Sides.{IsCapped};
 
+use crate::limits::MOST_WRITES;
 use crate::outcome::{change_seen, is_own, is_well, moved_by};
 use crate::side::Side;
 use crate::stage::Change;
@@ -45,7 +46,7 @@ impl Conn {
 
     /// Writes what it can.
     pub(crate) fn write(&mut self) {
-        for _ in 0..u32::MAX {
+        for _ in 0..MOST_WRITES {
             if !self.side.has_output() || !self.write_once() {
                 break;
             }

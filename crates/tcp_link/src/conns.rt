@@ -6,10 +6,12 @@ ghost use Rattle.std.specs.Ordering.{nat_cmp};
 ghost use Rattle.std.specs.BTreeMap.{get as get_client};
 ghost use Rattle.slab.specs.Slab.{slab_len};
 ghost use Rattle.tcp_link.specs.Connections.{conn_at, is_up_at, newest_connection, noting, place_noted};
-ghost use Rattle.tcp_link.specs.Tokens.{most_conns, token_of, serial_after, connection_place};
+ghost use Rattle.tcp_link.specs.Limits.{most_conns};
+ghost use Rattle.tcp_link.specs.Tokens.{token_of, serial_after, connection_place};
 
 use crate::conn::Conn;
-use crate::tokens::{MOST_REPLICAS, Tokens, place_in, place_of};
+use crate::limits::MOST_REPLICAS;
+use crate::tokens::{Tokens, place_in, place_of};
 use crate::whom::Whom;
 use ritas_base::Mem;
 use slab::Slab;
@@ -21,7 +23,7 @@ use std::collections::BTreeMap;
 pub(crate) struct Conns {
     places: Slab<Conn>,
     tokens: Tokens,
-    /// The token of the connection of replica `at` with `peer`, at `at * 31 + peer`.
+    /// The token of the connection of replica `at` with `peer`, at `at * MOST_REPLICAS + peer`.
     peers: Vec<Option<usize>>,
     /// The token of a client's connection, by its number.
     clients: BTreeMap<u32, usize>,

@@ -3,18 +3,8 @@
 ghost use Rattle.std.specs.Prelude.{◌≡◌, true};
 ghost use Rattle.tcp_link.specs.Names.{admits_one_more, has_client_room, whom_at, numbered_after};
 
+use crate::limits::{CLIENTS_A_TURN, MOST_AT_ONCE, MOST_CLIENTS, REPLICAS_A_TURN};
 use crate::whom::Whom;
-
-// So many clients are numbered, from 0 on, and then no more come in.
-const MOST_CLIENTS: u32 = 4_294_967_295;
-
-// At most so many clients are there at a time.
-const MOST_AT_ONCE: usize = 768;
-
-// So many connections are accepted in one turn at a door for replicas, and at one for clients.
-const MOST_REPLICAS_A_TURN: usize = 64;
-
-const MOST_CLIENTS_A_TURN: usize = 16;
 
 /// Who comes in by a door.
 #[derive(Clone, Copy, Debug)]
@@ -39,8 +29,8 @@ impl Entry {
     /// How many connections are accepted in one turn at most.
     pub(crate) fn most_a_turn(self) -> usize {
         match self {
-            Entry::Replicas { at: _ } => MOST_REPLICAS_A_TURN,
-            Entry::Clients { at: _ } => MOST_CLIENTS_A_TURN,
+            Entry::Replicas { at: _ } => REPLICAS_A_TURN,
+            Entry::Clients { at: _ } => CLIENTS_A_TURN,
         }
     }
 

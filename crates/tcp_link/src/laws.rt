@@ -15,7 +15,7 @@ pub fn gives_in_order()
     ensures messages { MessagesInOrder }
 {}
 
-/// What is tried again comes: it is due after 2,000 waits at the latest, however they end.
+/// What is tried again comes: it is due after 2,000 waits (`waits_of_pause`) at the latest, however they end.
 ///
 /// It does nothing: its contract is the law.
 pub fn pause_ends()

@@ -1,7 +1,7 @@
 //! A link over TCP (RFC 9293), whose sockets are waited for by epoll(7).
 //!
 //! Of two replicas the one with the greater number connects, and writes one byte first, its number. From then on both sides write
-//! pieces: a length of two bytes, the greater first, and so many bytes. A piece is a frame, of at most 16,384 bytes. A client
+//! pieces: a length of two bytes, the greater first, and so many bytes. A piece is a frame, of at most 16,384 bytes (`longest_frame`). A client
 //! connects to a node's address for clients, where both sides write pieces of at most 65,535 bytes from the beginning.
 //!
 //! A peer that was sent something and of which then nothing comes for a minute is taken for gone.
@@ -25,6 +25,7 @@ mod giving;
 mod input;
 mod items;
 mod laws;
+mod limits;
 mod link;
 mod looking;
 mod news;
@@ -46,4 +47,5 @@ mod trouble;
 mod whom;
 
 pub use laws::{gives_in_order, over_stays, pause_ends, tokens_are_apart};
+pub use limits::limits_are;
 pub use link::TcpLink;

@@ -5,7 +5,7 @@ ghost use Rattle.outside.specs.Faults.{HasCause};
 ghost use Rattle.outside.specs.Links.{bytes_of, faults_after};
 ghost use Rattle.tcp_link.specs.Outcomes.{link_fault_of};
 
-use crate::pieces::MOST_BYTES;
+use crate::limits::LONGEST_PIECE;
 use crate::running::Running;
 use crate::starting::started;
 use crate::trouble::Trouble;
@@ -131,7 +131,7 @@ impl Link for TcpLink {
         ensures cause { HasCause self.old.faults.failed self.new.faults.failed (result ≡ Err LinkFault.Failed) }
         ensures count { self.new.faults ≡ faults_after self.old.faults result }
     {
-        if frame.len() > MOST_BYTES {
+        if frame.len() > LONGEST_PIECE {
             return Ok(());
         }
         let Some(running) = &mut self.running else {
@@ -154,7 +154,7 @@ impl Link for TcpLink {
         ensures cause { HasCause self.old.faults.failed self.new.faults.failed (result ≡ Err LinkFault.Failed) }
         ensures count { self.new.faults ≡ faults_after self.old.faults result }
     {
-        if bytes.len() > MOST_BYTES {
+        if bytes.len() > LONGEST_PIECE {
             return Ok(());
         }
         let Some(running) = &mut self.running else {

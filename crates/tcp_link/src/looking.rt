@@ -1,32 +1,29 @@
 //! Connections are looked at every five seconds.
 
 ghost use Rattle.std.specs.Prelude.{◌≡◌, ◌≤◌, IfSome};
+ghost use Rattle.tcp_link.specs.Limits.{looks_of_peer};
 ghost use Rattle.tcp_link.specs.Sides.{most_looks, looked, is_at_rest, is_read_due, unread_taken};
 
+use crate::limits::{
+    LOOKS_OF_DIAL, LOOKS_OF_HALF_CLOSED, LOOKS_OF_NODE, LOOKS_OF_PEER, LOOKS_OF_STRANGER,
+};
 use crate::side::Side;
 use crate::sockets::Sockets;
 use crate::stage::{Change, Stage};
 use crate::whom::Whom;
 use ritas_base::Mem;
 
-// Each is a number of looks, of five seconds each.
-const ONE: u8 = 1;
-
-const HALF_A_MINUTE: u8 = 6;
-
-const A_MINUTE: u8 = 12;
-
 // After how many looks in a row, between which nothing came, a connection ends.
 fn most_looks(stage: Stage, whom: Whom) -> Option<u8>
     ensures is { result ≡ most_looks stage whom }
-    ensures few { IfSome result (λ most. most ≤ 12) }
+    ensures few { IfSome result (λ most. most ≤ looks_of_peer) }
 {
     match (stage, whom) {
-        (Stage::Begun, Whom::Node { from: _ }) => Some(HALF_A_MINUTE),
-        (Stage::Begun, _) => Some(ONE),
-        (Stage::Up, Whom::Unnamed { at: _ }) => Some(ONE),
-        (Stage::Up, Whom::Peer { at: _, peer: _ }) => Some(A_MINUTE),
-        (Stage::Half, _) => Some(HALF_A_MINUTE),
+        (Stage::Begun, Whom::Node { from: _ }) => Some(LOOKS_OF_NODE),
+        (Stage::Begun, _) => Some(LOOKS_OF_DIAL),
+        (Stage::Up, Whom::Unnamed { at: _ }) => Some(LOOKS_OF_STRANGER),
+        (Stage::Up, Whom::Peer { at: _, peer: _ }) => Some(LOOKS_OF_PEER),
+        (Stage::Half, _) => Some(LOOKS_OF_HALF_CLOSED),
         _ => None,
     }
 }

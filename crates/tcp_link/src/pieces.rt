@@ -5,12 +5,6 @@ ghost use Rattle.tcp_link.specs.Pieces.{piece, IsPieceFront, FitsIn};
 
 use ritas_base::Mem;
 
-/// How many bytes tell the length of a piece.
-pub(crate) const LENGTH_BYTES: usize = 2;
-
-/// The most bytes of a piece.
-pub(crate) const MOST_BYTES: usize = 65_535;
-
 /// What stands at the front of bytes that came.
 #[derive(Clone, Copy, Debug)]
 pub(crate) enum Front<'a> {

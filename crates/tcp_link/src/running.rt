@@ -1,14 +1,12 @@
 //! A link that runs.
 
+use crate::limits::MOST_EVENTS;
 use crate::sockets::Sockets;
 use crate::trouble::Trouble;
 use mio::{Events, Poll};
 use std::alloc::Global;
 use std::net::Net;
 use std::time::Duration;
-
-// So many events are taken by one wait.
-const MOST_EVENTS: usize = 1_024;
 
 /// A link that runs: the poll, and its sockets.
 #[derive(Drop)]

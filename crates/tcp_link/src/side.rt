@@ -2,6 +2,7 @@
 
 ghost use Rattle.std.specs.Prelude.{◌≡◌, ◌<◌, ◌^◌, ◌++◌, ◌∷◌, [], IfOk, IfSome, OnOk, length, is_some, nat_lt, false};
 ghost use Rattle.outside.specs.Links.{bytes_of};
+ghost use Rattle.tcp_link.specs.Limits.{longest_piece};
 ghost use Rattle.tcp_link.specs.Names.{naming, most_of};
 ghost use Rattle.tcp_link.specs.Outcomes.{IsWithin};
 ghost use Rattle.tcp_link.specs.Pieces.{FitsIn};
@@ -9,25 +10,15 @@ ghost use Rattle.tcp_link.specs.Stages.{first_stage, is_begun};
 ghost use Rattle.tcp_link.specs.Sides.{changed, ended, is_side_done, is_replied, is_drain_due, draining, ticked, is_side_ready, is_reading, takes, piece_kept, has_much, capped, IsCapped, side_written, is_fed, side_read, named, IsFrontAt, gives_of, side_item_taken, side_taken, side_noted, is_write_due, off_readers, off_writers};
 
 use crate::input::Input;
+use crate::limits::{LENGTH_BYTES, MANY_CAME, MANY_KEPT, MOST_IDLE_TICKS, MOST_TICKS};
 use crate::outcome::{Moved, Seen};
 use crate::output::Output;
-use crate::pieces::{Front, LENGTH_BYTES, MOST_BYTES, front_of};
+use crate::pieces::{Front, front_of};
 use crate::stage::{Change, Stage};
 use crate::whom::{self, Naming, Whom};
 use outside::LinkItem;
 use ritas_base::{Bytes, Mem};
 use std::alloc::Global;
-
-// With so many bytes to go out, they are written before the link would wait.
-const MANY_KEPT: usize = 65_536;
-
-// With so many bytes that came, there is a whole piece among them, and no more are read.
-const MANY_CAME: usize = LENGTH_BYTES + MOST_BYTES;
-
-// One that is read to its end ends after so many tenths of a second in which nothing came, and after so many in all.
-const MOST_IDLE: u8 = 10;
-
-const MOST_TICKS: u8 = 50;
 
 /// Which lists a connection is on.
 #[derive(Clone, Copy, Debug, Default)]
@@ -168,7 +159,7 @@ impl Side {
         if self.behind.is_some() {
             return;
         }
-        if self.idle_ticks >= MOST_IDLE - 1 || self.ticks >= MOST_TICKS - 1 {
+        if self.idle_ticks >= MOST_IDLE_TICKS - 1 || self.ticks >= MOST_TICKS - 1 {
             self.change(Change::Ends);
         } else {
             self.ticks += 1;
@@ -346,7 +337,7 @@ impl Side {
     // What stands at the front of what came.
     fn front(&self) -> Front<'_>
         ensures is { IsFrontAt (most_of self.now.whom) self.now.input result }
-        ensures fits { FitsIn self.now.input 65535 result }
+        ensures fits { FitsIn self.now.input longest_piece result }
     {
         match self.whom.most() {
             Some(most) => front_of(self.input.rest(), most),

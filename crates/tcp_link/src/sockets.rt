@@ -9,6 +9,7 @@ use crate::agenda::Agenda;
 use crate::conns::Conns;
 use crate::dials::Dial;
 use crate::doors::Door;
+use crate::limits::{CLIENTS_READ_A_TURN, LONGEST_READ};
 use crate::news::News;
 use crate::outcome::told_by;
 use crate::retries::{Retries, Retry};
@@ -19,12 +20,6 @@ use mio::event::Event;
 use ritas_base::Mem;
 use std::alloc::Global;
 use std::collections::VecDeque;
-
-// A connection is read by so many bytes at a time, and then the next one is: so peers that have much to give come on together.
-const BUFFER_BYTES: usize = 2_048;
-
-// So many clients are read in one turn at most, so that peers don't wait for them.
-const MOST_CLIENTS_READ: usize = 32;
 
 /// The sockets of a link. The lists are of tokens, or of numbers of doors, and have each at most once.
 #[derive(Drop)]
@@ -90,7 +85,7 @@ impl Sockets {
             spares: Spares::new(alloc, if is_client { 0 } else { spares_for(n) }),
             writers: VecDeque::new(alloc),
             agenda: Agenda::new(alloc),
-            buffer: Vec::from_elem(alloc, 0, BUFFER_BYTES)?,
+            buffer: Vec::from_elem(alloc, 0, LONGEST_READ)?,
         })
     }
 
@@ -168,7 +163,7 @@ impl Sockets {
 
     /// Reads once from some clients, each in its turn.
     pub(crate) fn read_clients(&mut self) -> Result<(), Mem> {
-        for _ in 0..self.client_readers.len().min(MOST_CLIENTS_READ) {
+        for _ in 0..self.client_readers.len().min(CLIENTS_READ_A_TURN) {
             if let Some(token) = self.client_readers.pop_front() {
                 self.read_from(token)?;
             }

@@ -2,16 +2,12 @@
 
 ghost use Rattle.std.specs.Prelude.{◌≡◌, ◌<◌, ◌≤◌, Some, IfSome, IfNone};
 ghost use Rattle.std.specs.Option.{SomeIff};
-ghost use Rattle.tcp_link.specs.Tokens.{most_conns, token_of, serial_after, token_place, connection_place, ends_of_all, spares_for, replica_count};
+ghost use Rattle.tcp_link.specs.Limits.{most_conns};
+ghost use Rattle.tcp_link.specs.Tokens.{token_of, serial_after, token_place, connection_place, ends_of_all, spares_for, replica_count};
 
-/// The most replicas of a session.
-pub(crate) const MOST_REPLICAS: usize = 31;
-
-// There are at most so many connections at a time. A token below is none of a connection.
-const MOST_CONNS: usize = 16_777_216;
-
-// So many connections are made before one may have the token of an old one.
-const MOST_SERIALS: usize = 1_000_000_000_000;
+use crate::limits::{
+    MOST_CONNS, MOST_REPLICAS, MOST_SERIALS, SPARES_OF_REPLICA, SPARES_OF_STRANGERS,
+};
 
 /// Makes tokens of connections, no two of which are the same among 1,000,000,000,000 in a row.
 #[derive(Clone, Copy, Debug)]
@@ -83,7 +79,7 @@ pub(crate) fn ends_of_all(n: u8) -> usize
 pub(crate) fn spares_for(n: u8) -> usize
     ensures { result ≡ spares_for n }
 {
-    2 * usize::from(n) + 8
+    SPARES_OF_REPLICA * usize::from(n) + SPARES_OF_STRANGERS
 }
 
 /// How many replicas so many addresses are of: more than 31 aren't reached.

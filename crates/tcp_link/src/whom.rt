@@ -5,17 +5,9 @@ ghost use Rattle.std.specs.Option.{SomeIff};
 ghost use Rattle.outside.specs.Links.{bytes_of};
 ghost use Rattle.tcp_link.specs.Names.{IsName, most_of, link_item_of, is_client, is_client_of, is_node, is_with_peer, most_kept, sent_through, dial_again, told_first};
 
-use crate::pieces::MOST_BYTES;
+use crate::limits::{LONGEST_PIECE, MOST_KEPT_BYTES, MOST_KEPT_BYTES_OF_CLIENT};
 use outside::LinkItem;
-use ritas_base::Bytes;
-
-/// The most bytes of a frame.
-const MOST_FRAME: usize = 16_384;
-
-// A connection with more bytes to go out takes no more.
-const MOST_KEPT: usize = 16_777_216;
-
-const MOST_KEPT_OF_A_CLIENT: usize = 131_072;
+use ritas_base::{Bytes, LONGEST_FRAME};
 
 /// Whom a connection is with.
 #[derive(Clone, Copy, Debug)]
@@ -52,13 +44,13 @@ pub(crate) fn named(n: u8, at: u8, byte: u8) -> Option<u8>
     }
 }
 
-/// The replica through which a link sends bytes; a client's link has but one. A frame over 16,384 bytes isn't sent.
+/// The replica through which a link sends bytes; a client's link has but one. A frame over `LONGEST_FRAME` (16,384) bytes isn't sent.
 pub(crate) fn sent_through(is_client: bool, at: u8, len: usize) -> Option<u8>
     ensures { result ≡ sent_through is_client at len }
 {
     if is_client {
         Some(0)
-    } else if len <= MOST_FRAME {
+    } else if len <= LONGEST_FRAME {
         Some(at)
     } else {
         None
@@ -80,8 +72,8 @@ impl Whom {
     {
         match self {
             Whom::Unnamed { at: _ } => None,
-            Whom::Peer { at: _, peer: _ } => Some(MOST_FRAME),
-            Whom::Client { at: _, conn: _ } | Whom::Node { from: _ } => Some(MOST_BYTES),
+            Whom::Peer { at: _, peer: _ } => Some(LONGEST_FRAME),
+            Whom::Client { at: _, conn: _ } | Whom::Node { from: _ } => Some(LONGEST_PIECE),
         }
     }
 
@@ -144,8 +136,8 @@ impl Whom {
         ensures { result ≡ most_kept self }
     {
         match self {
-            Whom::Client { at: _, conn: _ } => MOST_KEPT_OF_A_CLIENT,
-            _ => MOST_KEPT,
+            Whom::Client { at: _, conn: _ } => MOST_KEPT_BYTES_OF_CLIENT,
+            _ => MOST_KEPT_BYTES,
         }
     }
 
