@@ -98,11 +98,7 @@ impl Sockets {
         match watched(registry, stream, token) {
             Ok(stream) => {
                 let side = Side::new(alloc, whom, None);
-                self.conns.add(Conn {
-                    stream,
-                    token,
-                    side,
-                })?;
+                self.conns.add(Conn::new(stream, token, side))?;
                 self.enter_stranger(entry, token)
             }
             Err(_) => Ok(()),
@@ -163,11 +159,7 @@ impl Sockets {
                 if let Some(number) = dial.whom.told_first() {
                     side.tell(number)?;
                 }
-                self.conns.add(Conn {
-                    stream,
-                    token,
-                    side,
-                })?;
+                self.conns.add(Conn::new(stream, token, side))?;
                 self.look_later(token)
             }
             None => self.not_begun(number, dial.whom),

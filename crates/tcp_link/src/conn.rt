@@ -1,6 +1,6 @@
 //! One connection: its socket, and what is known of it.
 
-ghost use Rattle.std.specs.Prelude.{◌<◌, ◌^◌, OnOk, length};
+ghost use Rattle.std.specs.Prelude.{◌≡◌, ◌<◌, ◌^◌, OnOk, length};
 ghost use Rattle.tcp_link.specs.Sides.{IsCapped};
 
 use crate::limits::MOST_WRITES;
@@ -15,12 +15,24 @@ use std::net::Shutdown;
 /// A connection.
 #[derive(Drop)]
 pub(crate) struct Conn {
-    pub(crate) stream: TcpStream,
+    stream: TcpStream,
     pub(crate) token: usize,
     pub(crate) side: Side,
 }
 
 impl Conn {
+    /// A connection over this stream.
+    pub(crate) fn new(stream: TcpStream, token: usize, side: Side) -> Conn
+        ensures token { result.token ≡ token }
+        ensures side { result.side ≡ side }
+    {
+        Conn {
+            stream,
+            token,
+            side,
+        }
+    }
+
     /// Looks whether it stands by now, having been begun.
     pub(crate) fn look(&mut self) {
         let is_well = is_well(self.stream.take_error());
@@ -39,7 +51,7 @@ impl Conn {
 
     // Writes once, and says whether to go on.
     fn write_once(&mut self) -> bool {
-        let moved = moved_by((&self.stream).write(self.side.output.rest()));
+        let moved = moved_by((&self.stream).write(self.side.to_go_out()));
         self.side.wrote(moved);
         moved.writes_on()
     }

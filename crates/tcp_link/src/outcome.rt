@@ -39,9 +39,9 @@ pub(crate) enum Nobody {
 #[derive(Clone, Copy, Debug)]
 pub(crate) struct Seen {
     /// Bytes may have come.
-    pub(crate) is_readable: bool,
+    is_readable: bool,
     /// Bytes may be taken.
-    pub(crate) is_writable: bool,
+    is_writable: bool,
     /// The other side sends or takes no more, or the connection failed.
     pub(crate) is_closed: bool,
     /// Nothing can go out any more.

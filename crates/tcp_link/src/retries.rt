@@ -24,8 +24,8 @@ pub(crate) enum Retry {
 /// What is tried again, and when.
 #[derive(Clone, Copy, Debug)]
 pub(crate) struct Waiting {
-    pub(crate) due_microseconds: u64,
-    pub(crate) retry: Retry,
+    due_microseconds: u64,
+    retry: Retry,
 }
 
 /// What is tried again and what is looked at, each in the order in which it is due, and the time that was counted meanwhile.

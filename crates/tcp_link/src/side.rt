@@ -30,7 +30,7 @@ pub(crate) struct Listed {
     /// Of those from which a piece is to be given.
     pub(crate) gives: bool,
     /// Of those that are read to their end.
-    pub(crate) drains: bool,
+    drains: bool,
     /// Of those that are looked at every five seconds.
     pub(crate) looks: bool,
 }
@@ -60,13 +60,13 @@ pub(crate) struct Side {
     /// Something of it was given.
     pub(crate) has_given: bool,
     /// The socket takes no byte until an event says so.
-    pub(crate) is_blocked: bool,
+    is_blocked: bool,
     /// The older connection of the same peer that is read to its end first.
     pub(crate) behind: Option<usize>,
     /// The newer one, which waits for that.
     pub(crate) newer: Option<usize>,
     /// How many messages of a client were given that weren't replied.
-    pub(crate) owed: usize,
+    owed: usize,
     /// It was fed when it was to be read.
     pub(crate) is_unread: bool,
     /// At how many looks in a row nothing had come, as they are counted.
@@ -76,12 +76,12 @@ pub(crate) struct Side {
     /// Whether a piece was kept to go out since the last look.
     pub(crate) has_sent: bool,
     /// How many tenths of a second it is read to its end.
-    pub(crate) ticks: u8,
+    ticks: u8,
     /// And in how many of these nothing came.
-    pub(crate) idle_ticks: u8,
+    idle_ticks: u8,
     pub(crate) listed: Listed,
-    pub(crate) input: Input,
-    pub(crate) output: Output,
+    input: Input,
+    output: Output,
 }
 
 impl Side {
@@ -179,6 +179,13 @@ impl Side {
         ensures { result ≡ takes self.now }
     {
         self.stage.is_written() || (self.stage.is_begun() && self.whom.is_node())
+    }
+
+    /// The bytes that are to go out.
+    pub(crate) fn to_go_out(&self) -> &[u8]
+        ensures { result.now ≡ self.now.output }
+    {
+        self.output.rest()
     }
 
     /// Whether bytes are to go out.

@@ -37,9 +37,9 @@ pub(crate) struct Sockets {
     /// Doors where connections may wait.
     pub(crate) open_doors: VecDeque<usize>,
     /// Connections that may have bytes to be read, but for those of clients.
-    pub(crate) readers: VecDeque<usize>,
+    readers: VecDeque<usize>,
     /// Those of clients.
-    pub(crate) client_readers: VecDeque<usize>,
+    client_readers: VecDeque<usize>,
     /// The last connections that came in at doors for replicas.
     pub(crate) strangers: VecDeque<usize>,
     /// Descriptors for peers.
