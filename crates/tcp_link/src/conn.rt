@@ -71,7 +71,7 @@ impl Conn {
     }
 
     /// Keeps a piece to go out; many bytes are written at once, and with too many it takes no more. The one error is want of memory.
-    pub(crate) fn put(&mut self, bytes: &[u8]) -> Result<(), Mem>
+    pub(crate) fn keep(&mut self, bytes: &[u8]) -> Result<(), Mem>
         requires { length bytes.now < 2 ^ 16 }
         ensures { OnOk result (IsCapped self.new.side) }
     {

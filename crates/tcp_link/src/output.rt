@@ -3,7 +3,6 @@
 ghost use Rattle.std.specs.Prelude.{◌≡◌, ◌≤◌, ◌<◌, ◌∷◌, ◌++◌, ◌^◌, [], OnOk, length, drop};
 ghost use Rattle.tcp_link.specs.Pieces.{piece};
 
-use crate::pieces::put_piece;
 use ritas_base::Mem;
 use std::alloc::Global;
 use std::marker::Model;
@@ -63,12 +62,15 @@ impl Output {
     }
 
     /// Appends a piece.
-    pub(crate) fn put(&mut self, bytes: &[u8]) -> Result<(), Mem>
+    pub(crate) fn append(&mut self, bytes: &[u8]) -> Result<(), Mem>
         requires { length bytes.now < 2 ^ 16 }
         ensures { OnOk result (self.new ≡ self.old ++ piece bytes.now) }
     {
         self.compact();
-        put_piece(&mut self.bytes, bytes)
+        let told = (bytes.len() as u16).to_be_bytes();
+        self.bytes.extend_from_slice(&told)?;
+        self.bytes.extend_from_slice(bytes)?;
+        Ok(())
     }
 
     /// Lets go of all.

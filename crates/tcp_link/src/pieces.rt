@@ -1,9 +1,7 @@
 //! Pieces of a stream: a length of two bytes, the greater first, and so many bytes.
 
-ghost use Rattle.std.specs.Prelude.{◌≡◌, ◌<◌, ◌≤◌, ◌++◌, ◌^◌, OnOk, length, vec_len};
-ghost use Rattle.tcp_link.specs.Pieces.{piece, IsPieceFront, FitsIn};
-
-use ritas_base::Mem;
+ghost use Rattle.std.specs.Prelude.{◌<◌, ◌^◌};
+ghost use Rattle.tcp_link.specs.Pieces.{IsPieceFront, FitsIn};
 
 /// What stands at the front of bytes that came.
 #[derive(Clone, Copy, Debug)]
@@ -33,15 +31,4 @@ pub(crate) fn front_of(bytes: &[u8], most: usize) -> Front<'_>
         return Front::Part;
     }
     Front::Piece(&rest[..len])
-}
-
-/// Appends a piece.
-pub(crate) fn put_piece(output: &mut Vec<u8>, bytes: &[u8]) -> Result<(), Mem>
-    requires { length bytes.now < 2 ^ 16 }
-    ensures ok { OnOk result (output.new.items ≡ output.old.items ++ piece bytes.now) }
-    ensures no_shorter { vec_len output.old ≤ vec_len output.new }
-{
-    output.extend_from_slice(&(bytes.len() as u16).to_be_bytes())?;
-    output.extend_from_slice(bytes)?;
-    Ok(())
 }

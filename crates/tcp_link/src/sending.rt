@@ -44,7 +44,7 @@ impl Sockets {
         if !conn.side.takes() {
             return Ok(());
         }
-        conn.put(bytes)?;
+        conn.keep(bytes)?;
         if conn.side.is_ready() && conn.side.has_output() {
             list(&mut conn.side.listed.writes, token, &mut self.writers)?;
         }

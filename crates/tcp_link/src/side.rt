@@ -281,7 +281,7 @@ impl Side {
         requires { length bytes.now < 2 ^ 16 }
         ensures { OnOk result (self.new ≡ piece_kept self.old bytes.now) }
     {
-        self.output.put(bytes)?;
+        self.output.append(bytes)?;
         self.owed = self.owed.saturating_sub(1);
         self.has_sent = true;
         Ok(())
