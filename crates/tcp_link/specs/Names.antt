@@ -149,7 +149,7 @@ told_at_end Refused has_given (Peer at peer) = None
 told_at_end Replaced has_given (Peer at peer) = None
 
 -- the dial that comes again for a closed connection: a client connects once
-abbrev pub dial_again : Bool → Option ℕ → Option ℕ
+abbrev pub dial_again : {X : Type 0} → Bool → Option X → Option X
 dial_again is_client_link dial = if is_client_link then None else dial
 
 -- the byte that is told first by a connection that was begun

@@ -1,5 +1,5 @@
 -- Worked rows, each of which fails where a definition is turned.
-use Rattle.std.specs.Prelude.{◌≡◌, true, false, [], ◌∷◌, replicate, Some, None, refl}
+use Rattle.std.specs.Prelude.{◌≡◌, ℕ, true, false, [], ◌∷◌, replicate, Some, None, refl}
 use Rattle.std.specs.Fn.{iterate}
 use Rattle.tcp_link.specs.Names.{naming, admits_one_more, has_client_room, link_item_of, whom_at, numbered_after, most_of, most_kept, sent_through, up_of, told_at_end, dial_again, told_first}
 use Rattle.tcp_link.specs.Outcomes.{moved_at, reads_on, change_seen, nobody_at}
@@ -184,10 +184,10 @@ client_said_nothing = refl
 stranger_gone : told_at_end Over false (Unnamed 1) ≡ None
 stranger_gone = refl
 
-again : dial_again false (Some 3) ≡ Some 3
+again : dial_again {X = ℕ} false (Some 3) ≡ Some 3
 again = refl
 
-once : dial_again true (Some 3) ≡ None
+once : dial_again {X = ℕ} true (Some 3) ≡ None
 once = refl
 
 -- ---- sockets

@@ -2,8 +2,9 @@
 use Rattle.std.specs.Prelude.{ℕ, ◌+◌, ◌*◌, ◌/◌, ◌^◌, ◌-◌, ◌≤◌, Bool, min, nat_le, List, [], ◌∷◌, length, Option, Some, None, is_some, if◌then◌else◌}
 use Rattle.tcp_link.specs.Limits.{pause_microseconds, look_microseconds, first_wait_microseconds, longest_wait_microseconds, short_wait_microseconds}
 use Rattle.tcp_link.specs.declared.clock.Clock.{Clock}
+use Rattle.tcp_link.specs.declared.dials.Dial.{Dial}
 use Rattle.tcp_link.specs.declared.retries.Retry.{Retry}
-use Rattle.tcp_link.specs.declared.retries.Retry.TheVariants.{Dial}
+use Rattle.tcp_link.specs.declared.retries.Retry.TheVariants as retries
 use Rattle.tcp_link.specs.declared.retries.Waiting.{Waiting}
 
 -- a number of 64 bits: a greater one is the greatest
@@ -43,9 +44,9 @@ abbrev pub retry_due_microseconds : Clock → ℕ
 retry_due_microseconds c = capped_64 (c.counted_microseconds + pause_microseconds)
 
 -- a dial that comes again
-abbrev pub redial : Clock → Option ℕ → List Waiting
+abbrev pub redial : Clock → Option Dial → List Waiting
 redial c None = []
-redial c (Some dial) = (record { due_microseconds = retry_due_microseconds c; retry = Dial dial }) ∷ []
+redial c (Some dial) = (record { due_microseconds = retry_due_microseconds c; retry = retries.Dial dial }) ∷ []
 
 -- the first that waits, if it is due
 abbrev pub due_in : Clock → List Waiting → Option Retry

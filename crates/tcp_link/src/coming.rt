@@ -1,7 +1,7 @@
 //! Connections that come in at the doors, and those that are begun.
 
 use crate::conn::Conn;
-use crate::dials::{begin, watched};
+use crate::dials::{Dial, begin, watched};
 use crate::doors::Arrival;
 use crate::entry::Entry;
 use crate::limits::MOST_STRANGERS;
@@ -10,7 +10,6 @@ use crate::retries::Retry;
 use crate::side::Side;
 use crate::sockets::{Sockets, list};
 use crate::stage::Stage;
-use crate::whom::Whom;
 use mio::Registry;
 use mio::net::TcpStream;
 use ritas_base::Mem;
@@ -145,30 +144,27 @@ impl Sockets {
         rt: &R,
         alloc: Global,
         registry: &Registry,
-        number: usize,
+        dial: Dial,
     ) -> Result<(), Mem> {
-        let Some(dial) = self.dials.get(number).copied() else {
-            return Ok(());
-        };
         let Some(token) = self.conns.next_token() else {
-            return self.not_begun(number, dial.whom);
+            return self.not_begun(dial);
         };
         match self.begin(rt, registry, dial.address, token) {
             Some(stream) => {
-                let mut side = Side::new(alloc, dial.whom, Some(number));
+                let mut side = Side::new(alloc, dial.whom, Some(dial));
                 if let Some(number) = dial.whom.told_first() {
                     side.tell(number)?;
                 }
                 self.conns.add(Conn::new(stream, token, side))?;
                 self.look_later(token)
             }
-            None => self.not_begun(number, dial.whom),
+            None => self.not_begun(dial),
         }
     }
 
     // A connection couldn't be begun: it is tried again after a pause, but not by a client.
-    fn not_begun(&mut self, number: usize, whom: Whom) -> Result<(), Mem> {
-        self.closed(whom.ended(Stage::Refused, false), Some(number))
+    fn not_begun(&mut self, dial: Dial) -> Result<(), Mem> {
+        self.closed(dial.whom.ended(Stage::Refused, false), Some(dial))
     }
 
     /// Tries again what is due.
@@ -180,7 +176,7 @@ impl Sockets {
     ) -> Result<(), Mem> {
         for _ in 0..self.retries.len() {
             match self.retries.next() {
-                Some(Retry::Dial(number)) => self.dial(rt, alloc, registry, number)?,
+                Some(Retry::Dial(dial)) => self.dial(rt, alloc, registry, dial)?,
                 Some(Retry::Door(number)) => self.accept_at(alloc, registry, number)?,
                 Some(Retry::Drain(token)) => self.drain_on(token)?,
                 Some(Retry::Look(token)) => self.look(token)?,

@@ -4,6 +4,7 @@ ghost use Rattle.std.specs.Prelude.{◌≡◌, ◌++◌, ◌∷◌, [], OnOk, if
 ghost use Rattle.tcp_link.specs.Waits.{first_clock, after_wait, after_work, retry_due_microseconds, look_due_microseconds, due_in, left_in, first_retry, late_of, microseconds_to_wait};
 
 use crate::clock::Clock;
+use crate::dials::Dial;
 use ritas_base::Mem;
 use std::alloc::Global;
 use std::collections::VecDeque;
@@ -11,8 +12,8 @@ use std::collections::VecDeque;
 /// What is tried again.
 #[derive(Clone, Copy, Debug)]
 pub(crate) enum Retry {
-    /// The dial of this number.
-    Dial(usize),
+    /// To begin this connection.
+    Dial(Dial),
     /// Accepting at the door of this number.
     Door(usize),
     /// To look at the connection of this token, which is read to its end.

@@ -9,6 +9,7 @@ ghost use Rattle.tcp_link.specs.Pieces.{FitsIn};
 ghost use Rattle.tcp_link.specs.Stages.{first_stage, is_begun};
 ghost use Rattle.tcp_link.specs.Sides.{changed, ended, is_side_done, is_replied, is_drain_due, draining, ticked, is_side_ready, is_reading, takes, piece_kept, has_much, capped, IsCapped, side_written, is_fed, side_read, named, IsFrontAt, gives_of, side_item_taken, side_taken, side_noted, is_write_due, off_readers, off_writers};
 
+use crate::dials::Dial;
 use crate::input::Input;
 use crate::limits::{LENGTH_BYTES, MANY_CAME, MANY_KEPT, MOST_IDLE_TICKS, MOST_TICKS};
 use crate::outcome::{Moved, Seen};
@@ -53,8 +54,8 @@ pub(crate) enum Gives {
 pub(crate) struct Side {
     pub(crate) whom: Whom,
     pub(crate) stage: Stage,
-    /// The number of its dial, if it was begun here.
-    pub(crate) dial: Option<usize>,
+    /// Its dial, if it was begun here.
+    pub(crate) dial: Option<Dial>,
     /// The other side sends no more, or it failed: the next reads tell.
     pub(crate) is_hung_up: bool,
     /// Something of it was given.
@@ -86,7 +87,7 @@ pub(crate) struct Side {
 
 impl Side {
     /// Of a new connection.
-    pub(crate) fn new(alloc: Global, whom: Whom, dial: Option<usize>) -> Side
+    pub(crate) fn new(alloc: Global, whom: Whom, dial: Option<Dial>) -> Side
         ensures whom { result.whom ≡ whom }
         ensures stage { result.stage ≡ first_stage (is_some dial) }
         ensures dial { result.dial ≡ dial }

@@ -29,7 +29,6 @@ pub(crate) struct Sockets {
     /// Whether it is a client's link, which connects to each node once.
     pub(crate) is_client: bool,
     pub(crate) doors: Vec<Door>,
-    pub(crate) dials: Vec<Dial>,
     pub(crate) conns: Conns,
     /// How many clients were numbered.
     pub(crate) clients: u32,
@@ -74,7 +73,6 @@ impl Sockets {
             n,
             is_client,
             doors: Vec::new(alloc),
-            dials: Vec::new(alloc),
             conns: Conns::new(alloc)?,
             clients: 0,
             retries: Retries::new(alloc),
@@ -218,7 +216,7 @@ impl Sockets {
 
     /// A connection was closed, or one of a dial couldn't be begun: this is told of it, and the dial comes again. The one error is want
     /// of memory.
-    pub(crate) fn closed(&mut self, told: Option<News>, dial: Option<usize>) -> Result<(), Mem>
+    pub(crate) fn closed(&mut self, told: Option<News>, dial: Option<Dial>) -> Result<(), Mem>
         ensures told { OnOk result (self.new.agenda ≡ with_told self.old.agenda told) }
         ensures again { OnOk result (self.new.retries.waiting.items ≡ self.old.retries.waiting.items ++ redial self.old.retries.clock (dial_again self.old.is_client dial)) }
     {

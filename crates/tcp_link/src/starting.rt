@@ -32,9 +32,9 @@ impl Running {
         let Some(address) = address_of(text) else {
             return self.sockets.closed(whom.ended(Stage::Refused, false), None);
         };
-        let number = self.sockets.dials.len();
-        self.sockets.dials.push(Dial { address, whom })?;
-        self.sockets.dial(rt, alloc, self.poll.registry(), number)
+        let registry = self.poll.registry();
+        self.sockets
+            .dial(rt, alloc, registry, Dial { address, whom })
     }
 
     // Connects a replica with those of lesser numbers.

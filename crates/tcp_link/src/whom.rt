@@ -5,6 +5,7 @@ ghost use Rattle.std.specs.Option.{SomeIff};
 ghost use Rattle.outside.specs.Links.{bytes_of};
 ghost use Rattle.tcp_link.specs.Names.{IsName, most_of, link_item_of, is_client, is_client_of, is_node, is_with_peer, most_kept, sent_through, dial_again, told_first};
 
+use crate::dials::Dial;
 use crate::limits::{LONGEST_PIECE, MOST_KEPT_BYTES, MOST_KEPT_BYTES_OF_CLIENT};
 use outside::LinkItem;
 use ritas_base::{Bytes, LONGEST_FRAME};
@@ -58,7 +59,7 @@ pub(crate) fn sent_through(is_client: bool, at: u8, len: usize) -> Option<u8>
 }
 
 /// The dial that comes again for a connection that is closed, of a link that is a client's or isn't.
-pub(crate) fn dial_again(is_client: bool, dial: Option<usize>) -> Option<usize>
+pub(crate) fn dial_again(is_client: bool, dial: Option<Dial>) -> Option<Dial>
     ensures { result ≡ dial_again is_client dial }
 {
     if is_client { None } else { dial }
