@@ -18,7 +18,7 @@ use std::sync::Wait;
 /// A link over TCP. It isn't told what it gave and what it was given.
 ///
 /// Addresses are texts as `127.0.0.1:8080`, of at most 31 replicas or nodes; further ones are left out. `Failed` is answered where
-/// a listener can't be made, as for want of its address, or the poll fails. Until it is started it gives `End`.
+/// a node's number is none of theirs, a listener can't be made, as for want of its address, or the poll fails. Until it is started it gives `End`.
 #[derive(Drop)]
 pub struct TcpLink {
     running: Option<Running>,

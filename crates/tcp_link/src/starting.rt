@@ -37,18 +37,19 @@ impl Running {
             .dial(rt, alloc, registry, Dial { address, whom })
     }
 
-    // Connects a replica with those of lesser numbers.
+    // Connects a replica with those of lesser numbers, each of which has to have an address.
     fn reach_lesser<R: Net>(
         &mut self,
         rt: &R,
         alloc: Global,
         at: u8,
         peers: &Texts,
-    ) -> Result<(), Mem> {
+    ) -> Result<(), Trouble> {
         for peer in 0..at {
-            if let Some(text) = peers.get(usize::from(peer)) {
-                self.reach(rt, alloc, text, Whom::Peer { at, peer })?;
-            }
+            let Some(text) = peers.get(usize::from(peer)) else {
+                return Err(Trouble::System);
+            };
+            self.reach(rt, alloc, text, Whom::Peer { at, peer })?;
         }
         Ok(())
     }
@@ -66,7 +67,7 @@ impl Running {
     }
 }
 
-// One replica of a session.
+// One replica of a session, if its number is one of that.
 fn start_node<R: Net>(
     rt: &R,
     alloc: Global,
@@ -74,7 +75,11 @@ fn start_node<R: Net>(
     peers: &Texts,
     client: &[u8],
 ) -> Result<Running, Trouble> {
-    let mut running = Running::new(rt, alloc, count_of(peers.len()), false)?;
+    let n = count_of(peers.len());
+    if at >= n {
+        return Err(Trouble::System);
+    }
+    let mut running = Running::new(rt, alloc, n, false)?;
     running.open(rt, peers.get(usize::from(at)), Entry::Replicas { at })?;
     running.open(rt, Some(client), Entry::Clients { at })?;
     running.reach_lesser(rt, alloc, at, peers)?;
@@ -100,9 +105,10 @@ fn start_client<R: Net>(rt: &R, alloc: Global, nodes: &Texts) -> Result<Running,
     let n = count_of(nodes.len());
     let mut running = Running::new(rt, alloc, n, true)?;
     for from in 0..n {
-        if let Some(text) = nodes.get(usize::from(from)) {
-            running.reach(rt, alloc, text, Whom::Node { from })?;
-        }
+        let Some(text) = nodes.get(usize::from(from)) else {
+            return Err(Trouble::System);
+        };
+        running.reach(rt, alloc, text, Whom::Node { from })?;
     }
     Ok(running)
 }
