@@ -15,7 +15,6 @@ use Rattle.tcp_link.specs.declared.entry.Entry.TheVariants.{Replicas, Clients}
 use Rattle.tcp_link.specs.declared.news.News.TheVariants as news
 use Rattle.tcp_link.specs.declared.outcome.Moved.TheVariants as moved
 use Rattle.tcp_link.specs.declared.outcome.Nobody.TheVariants as nobody
-use Rattle.tcp_link.specs.declared.side.Listed.{Listed}
 use Rattle.tcp_link.specs.declared.side.Side.{Side}
 use Rattle.tcp_link.specs.declared.stage.Change.TheVariants.{Stands, Closes, Breaks, Ends, IsReplaced}
 use Rattle.tcp_link.specs.declared.stage.Stage.TheVariants.{Up, Older, Refused, Over, Replaced}
