@@ -1,6 +1,7 @@
 -- Connections, as they are found by their tokens, and by pairs of replicas.
-use Rattle.std.specs.Prelude.{ℕ, Bool, false, ◌==◌, List, Option, Some, None, slice_set, slice_index_or, if◌then◌else◌}
+use Rattle.std.specs.Prelude.{ℕ, Bool, false, ◌==◌, nat_lt, List, length, drop, Option, Some, None, slice_get, slice_set, slice_index_or, if◌then◌else◌}
 use Rattle.slab.specs.Slab.{Slab, get}
+use Rattle.tcp_link.specs.Limits.{most_strangers}
 use Rattle.tcp_link.specs.Stages.{is_up}
 use Rattle.tcp_link.specs.Tokens.{token_place, connection_place}
 use Rattle.tcp_link.specs.declared.whom.Whom.{Whom}
@@ -41,6 +42,13 @@ place_noted (Unnamed at) = None
 place_noted (Peer at peer) = connection_place at peer
 place_noted (Client at conn) = None
 place_noted (Node from) = connection_place 0 from
+
+-- of the connections that came in last and may be yet to tell their numbers, the oldest first: the one that is too many, and those that are left
+abbrev pub stranger_too_many : List ℕ → Option ℕ
+stranger_too_many tokens = if nat_lt most_strangers (length tokens) then slice_get tokens 0 else None
+
+abbrev pub strangers_left : List ℕ → List ℕ
+strangers_left tokens = if nat_lt most_strangers (length tokens) then drop 1 tokens else tokens
 
 -- it is noted at a place
 abbrev pub noting : List (Option ℕ) → Option ℕ → ℕ → List (Option ℕ)

@@ -92,6 +92,10 @@ most_looks Replaced whom = None
 abbrev pub is_at_rest : Side → Bool
 is_at_rest s = is_up s.stage && is_with_peer s.whom && not s.has_sent && nat_eq s.looks 0
 
+-- it is to be looked at again
+abbrev pub on_looks : Side → Side
+on_looks s = record s { listed = record s.listed { looks = true } }
+
 -- so many looks were in a row without anything that came: those of a peer are counted from the first before which something was sent to it
 abbrev pub quiet_looks : Side → ℕ
 quiet_looks s = if s.has_come || is_at_rest s then 0 else s.looks + 1
@@ -234,9 +238,12 @@ is_reading s = is_read s.stage && is_none s.behind
 abbrev pub is_write_due : Side → Seen → Bool
 is_write_due s e = may_write e && (is_begun s.stage || nat_lt 0 (length s.output))
 
--- after it was taken off the lists that are gone through
+-- after it was taken off the lists that are gone through, or put on one
 abbrev pub off_readers : Side → Side
 off_readers s = record s { listed = record s.listed { reads = false } }
+
+abbrev pub on_readers : Side → Side
+on_readers s = record s { listed = record s.listed { reads = true } }
 
 abbrev pub off_writers : Side → Side
 off_writers s = record s { listed = record s.listed { writes = false } }

@@ -4,7 +4,6 @@ use crate::conn::Conn;
 use crate::dials::{Dial, begin, watched};
 use crate::doors::Arrival;
 use crate::entry::Entry;
-use crate::limits::MOST_STRANGERS;
 use crate::outcome::Nobody;
 use crate::retries::Retry;
 use crate::side::Side;
@@ -20,9 +19,10 @@ impl Sockets {
     /// Accepts connections at the doors on the list.
     pub(crate) fn accept_all(&mut self, alloc: Global, registry: &Registry) -> Result<(), Mem> {
         for _ in 0..self.open_doors.len() {
-            if let Some(number) = self.open_doors.pop_front() {
-                self.accept_at(alloc, registry, number)?;
-            }
+            let Some(number) = self.open_doors.pop_front() else {
+                break;
+            };
+            self.accept_at(alloc, registry, number)?;
         }
         Ok(())
     }
@@ -96,7 +96,10 @@ impl Sockets {
         };
         match watched(registry, stream, token) {
             Ok(stream) => {
-                let side = Side::new(alloc, whom, None);
+                let mut side = Side::new(alloc, whom, None);
+                if entry.is_of_replicas() {
+                    side.look_later(&mut self.retries, token)?;
+                }
                 self.conns.add(Conn::new(stream, token, side))?;
                 self.enter_stranger(entry, token)
             }
@@ -104,17 +107,12 @@ impl Sockets {
         }
     }
 
-    // One that came in at a door for replicas is looked at, and closed once many came in after it, unless it told its number by then.
+    // One that came in at a door for replicas is closed once many came in after it, unless it told its number by then.
     fn enter_stranger(&mut self, entry: Entry, token: usize) -> Result<(), Mem> {
         if !entry.is_of_replicas() {
             return Ok(());
         }
-        self.look_later(token)?;
-        self.strangers.push_back(token)?;
-        if self.strangers.len() <= MOST_STRANGERS {
-            return Ok(());
-        }
-        let Some(oldest) = self.strangers.pop_front() else {
+        let Some(oldest) = self.strangers.add(token)? else {
             return Ok(());
         };
         match self.conns.get(oldest) {
@@ -155,8 +153,8 @@ impl Sockets {
                 if let Some(number) = dial.whom.told_first() {
                     side.tell(number)?;
                 }
-                self.conns.add(Conn::new(stream, token, side))?;
-                self.look_later(token)
+                side.look_later(&mut self.retries, token)?;
+                self.conns.add(Conn::new(stream, token, side))
             }
             None => self.not_begun(dial),
         }

@@ -56,7 +56,7 @@ impl Sockets {
         };
         if conn.side.begin_to_drain() {
             conn.stop_writing();
-            self.list_reader(token)?;
+            self.readers.add(&mut conn.side, token)?;
             self.retries.add(Retry::Drain(token))?;
         }
         match self.conns.get(token) {
@@ -90,9 +90,10 @@ impl Sockets {
 
     // A connection waits for no older one any more, and is read.
     fn release(&mut self, token: usize) -> Result<(), Mem> {
-        if let Some(conn) = self.conns.get_mut(token) {
-            conn.side.behind = None;
-        }
-        self.list_reader(token)
+        let Some(conn) = self.conns.get_mut(token) else {
+            return Ok(());
+        };
+        conn.side.behind = None;
+        self.readers.add(&mut conn.side, token)
     }
 }

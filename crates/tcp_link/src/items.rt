@@ -20,7 +20,7 @@ impl Sockets {
         };
         let item = conn.side.give(alloc, &mut self.agenda, token)?;
         if conn.side.take_unread() {
-            self.list_reader(token)?;
+            self.readers.add(&mut conn.side, token)?;
         }
         self.retries.worked();
         self.settle(token)?;

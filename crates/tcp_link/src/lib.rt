@@ -32,6 +32,7 @@ mod news;
 mod outcome;
 mod output;
 mod pieces;
+mod readers;
 mod retries;
 mod running;
 mod sending;
@@ -40,6 +41,7 @@ mod sockets;
 mod spares;
 mod stage;
 mod starting;
+mod strangers;
 #[cfg(test)]
 mod tests;
 mod tokens;

@@ -1,12 +1,14 @@
 //! Connections are looked at every five seconds.
 
-ghost use Rattle.std.specs.Prelude.{◌≡◌, ◌≤◌, IfSome};
+ghost use Rattle.std.specs.Prelude.{◌≡◌, ◌≤◌, IfSome, OnOk, if◌then◌else◌};
 ghost use Rattle.tcp_link.specs.Limits.{looks_of_peer};
-ghost use Rattle.tcp_link.specs.Sides.{most_looks, looked, is_at_rest, is_read_due, unread_taken};
+ghost use Rattle.tcp_link.specs.Stages.{is_half};
+ghost use Rattle.tcp_link.specs.Sides.{most_looks, looked, on_looks, is_at_rest, is_read_due, unread_taken};
 
 use crate::limits::{
     LOOKS_OF_DIAL, LOOKS_OF_HALF_CLOSED, LOOKS_OF_NODE, LOOKS_OF_PEER, LOOKS_OF_STRANGER,
 };
+use crate::retries::Retries;
 use crate::side::Side;
 use crate::sockets::Sockets;
 use crate::stage::{Change, Stage};
@@ -34,6 +36,27 @@ impl Side {
         ensures { result ≡ is_at_rest self.now }
     {
         self.stage.is_up() && self.whom.is_peer() && !self.has_sent && self.looks == 0
+    }
+
+    /// It is looked at in five seconds, if it isn't to be looked at already. The one error is want of memory.
+    pub(crate) fn look_later(&mut self, retries: &mut Retries, token: usize) -> Result<(), Mem>
+        ensures { OnOk result (self.new ≡ on_looks self.old) }
+    {
+        if !self.listed.looks {
+            retries.look_at(token)?;
+            self.listed.looks = true;
+        }
+        Ok(())
+    }
+
+    /// A client that sends no more is looked at from then on. The one error is want of memory.
+    pub(crate) fn look_at_half(&mut self, retries: &mut Retries, token: usize) -> Result<(), Mem>
+        ensures { OnOk result (self.new ≡ (if is_half self.old.stage then on_looks self.old else self.old)) }
+    {
+        if self.stage.is_half() {
+            self.look_later(retries, token)?;
+        }
+        Ok(())
     }
 
     /// It is looked at, and ends if nothing came for long. Looks at a peer are counted from the first before which something was sent
@@ -72,17 +95,6 @@ impl Side {
 }
 
 impl Sockets {
-    /// A connection is looked at in five seconds, if it isn't to be looked at already.
-    pub(crate) fn look_later(&mut self, token: usize) -> Result<(), Mem> {
-        match self.conns.get_mut(token) {
-            Some(conn) if !conn.side.listed.looks => {
-                conn.side.listed.looks = true;
-                self.retries.look_at(token)
-            }
-            _ => Ok(()),
-        }
-    }
-
     /// Looks at a connection.
     pub(crate) fn look(&mut self, token: usize) -> Result<(), Mem> {
         let Some(conn) = self.conns.get_mut(token) else {

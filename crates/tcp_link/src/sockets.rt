@@ -12,8 +12,10 @@ use crate::doors::Door;
 use crate::limits::{CLIENTS_READ_A_TURN, LONGEST_READ};
 use crate::news::News;
 use crate::outcome::told_by;
+use crate::readers::Readers;
 use crate::retries::{Retries, Retry};
 use crate::spares::Spares;
+use crate::strangers::Strangers;
 use crate::tokens::{door_of, spares_for};
 use crate::whom::dial_again;
 use mio::event::Event;
@@ -35,12 +37,10 @@ pub(crate) struct Sockets {
     pub(crate) retries: Retries,
     /// Doors where connections may wait.
     pub(crate) open_doors: VecDeque<usize>,
-    /// Connections that may have bytes to be read, but for those of clients.
-    readers: VecDeque<usize>,
-    /// Those of clients.
-    client_readers: VecDeque<usize>,
+    /// Connections that may have bytes to be read.
+    pub(crate) readers: Readers,
     /// The last connections that came in at doors for replicas.
-    pub(crate) strangers: VecDeque<usize>,
+    pub(crate) strangers: Strangers,
     /// Descriptors for peers.
     pub(crate) spares: Spares,
     /// Connections that may take bytes.
@@ -77,9 +77,8 @@ impl Sockets {
             clients: 0,
             retries: Retries::new(alloc),
             open_doors: VecDeque::new(alloc),
-            readers: VecDeque::new(alloc),
-            client_readers: VecDeque::new(alloc),
-            strangers: VecDeque::new(alloc),
+            readers: Readers::new(alloc),
+            strangers: Strangers::new(alloc),
             spares: Spares::new(alloc, if is_client { 0 } else { spares_for(n) }),
             writers: VecDeque::new(alloc),
             agenda: Agenda::new(alloc),
@@ -89,10 +88,7 @@ impl Sockets {
 
     /// Whether something is to be done before an event comes.
     pub(crate) fn is_busy(&self) -> bool {
-        !self.open_doors.is_empty()
-            || !self.readers.is_empty()
-            || !self.client_readers.is_empty()
-            || self.agenda.len() > 0
+        !self.open_doors.is_empty() || !self.readers.is_empty() || self.agenda.len() > 0
     }
 
     // Takes note of an event at a door.
@@ -118,29 +114,18 @@ impl Sockets {
             list(&mut conn.side.listed.writes, token, &mut self.writers)?;
         }
         if seen.may_read() {
-            self.list_reader(token)?;
+            self.readers.add(&mut conn.side, token)?;
         }
         self.settle(token)
-    }
-
-    /// Puts a connection among those that may have bytes to be read, if it isn't there.
-    pub(crate) fn list_reader(&mut self, token: usize) -> Result<(), Mem> {
-        let Some(conn) = self.conns.get_mut(token) else {
-            return Ok(());
-        };
-        if conn.side.whom.is_client() {
-            list(&mut conn.side.listed.reads, token, &mut self.client_readers)
-        } else {
-            list(&mut conn.side.listed.reads, token, &mut self.readers)
-        }
     }
 
     /// Writes what the connections on the list can take.
     pub(crate) fn write_all(&mut self) -> Result<(), Mem> {
         for _ in 0..self.writers.len() {
-            if let Some(token) = self.writers.pop_front() {
-                self.write_to(token)?;
-            }
+            let Some(token) = self.writers.pop_front() else {
+                break;
+            };
+            self.write_to(token)?;
         }
         Ok(())
     }
@@ -161,20 +146,22 @@ impl Sockets {
 
     /// Reads once from some clients, each in its turn.
     pub(crate) fn read_clients(&mut self) -> Result<(), Mem> {
-        for _ in 0..self.client_readers.len().min(CLIENTS_READ_A_TURN) {
-            if let Some(token) = self.client_readers.pop_front() {
-                self.read_from(token)?;
-            }
+        for _ in 0..self.readers.clients.len().min(CLIENTS_READ_A_TURN) {
+            let Some(token) = self.readers.clients.pop_front() else {
+                break;
+            };
+            self.read_from(token)?;
         }
         Ok(())
     }
 
     /// Reads once from each connection on the list of those that aren't clients'.
     pub(crate) fn read_all(&mut self) -> Result<(), Mem> {
-        for _ in 0..self.readers.len() {
-            if let Some(token) = self.readers.pop_front() {
-                self.read_from(token)?;
-            }
+        for _ in 0..self.readers.others.len() {
+            let Some(token) = self.readers.others.pop_front() else {
+                break;
+            };
+            self.read_from(token)?;
         }
         Ok(())
     }
@@ -189,21 +176,13 @@ impl Sockets {
         if conn.side.is_fed() {
             conn.side.is_unread = true;
         } else if conn.read(&mut self.buffer)? {
-            self.list_reader(token)?;
+            self.readers.add(&mut conn.side, token)?;
         }
         self.retries.worked();
-        self.look_at_half(token)?;
+        conn.side.look_at_half(&mut self.retries, token)?;
         self.take_name(token)?;
         self.list_piece(token)?;
         self.settle(token)
-    }
-
-    // A client that sends no more is looked at from then on.
-    fn look_at_half(&mut self, token: usize) -> Result<(), Mem> {
-        match self.conns.get(token) {
-            Some(conn) if conn.side.stage.is_half() => self.look_later(token),
-            _ => Ok(()),
-        }
     }
 
     // Puts a connection among those that have pieces, if it has one. With a length that isn't allowed it ends.
