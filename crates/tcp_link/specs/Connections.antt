@@ -2,6 +2,7 @@
 use Rattle.std.specs.Prelude.{ℕ, Bool, false, ◌==◌, nat_lt, List, length, drop, Option, Some, None, slice_get, slice_set, slice_index_or, if◌then◌else◌}
 use Rattle.slab.specs.Slab.{Slab, get}
 use Rattle.tcp_link.specs.Limits.{most_strangers}
+use Rattle.tcp_link.specs.Sides.{is_side_done}
 use Rattle.tcp_link.specs.Stages.{is_up}
 use Rattle.tcp_link.specs.Tokens.{token_place, connection_place}
 use Rattle.tcp_link.specs.declared.whom.Whom.{Whom}
@@ -16,6 +17,11 @@ if_token token (Some c) = if c.token == token then Some c else None
 -- the connection of a token: one that stands at its place, and has this very token
 abbrev pub conn_at : Slab Conn → ℕ → Option Conn
 conn_at places token = if_token token (get places (token_place token))
+
+-- a connection, if it is over or was replied all, and no piece is to be given from it
+abbrev pub if_done : Option Conn → Option Conn
+if_done None = None
+if_done (Some c) = if is_side_done c.side then Some c else None
 
 -- a connection stands
 abbrev pub is_up_conn : Option Conn → Bool

@@ -5,7 +5,7 @@ ghost use Rattle.std.specs.Option.{SomeIff};
 ghost use Rattle.std.specs.Ordering.{nat_cmp};
 ghost use Rattle.std.specs.BTreeMap.{get as get_client};
 ghost use Rattle.slab.specs.Slab.{slab_len};
-ghost use Rattle.tcp_link.specs.Connections.{conn_at, is_up_at, newest_connection, noting, place_noted};
+ghost use Rattle.tcp_link.specs.Connections.{conn_at, if_done, is_up_at, newest_connection, noting, place_noted};
 ghost use Rattle.tcp_link.specs.Limits.{most_conns};
 ghost use Rattle.tcp_link.specs.Tokens.{token_of, serial_after, connection_place};
 
@@ -95,8 +95,8 @@ impl Conns {
         }
     }
 
-    /// Takes out a connection.
-    pub(crate) fn remove(&mut self, token: usize) -> Option<Conn>
+    // Takes out a connection.
+    fn remove(&mut self, token: usize) -> Option<Conn>
         ensures { result ≡ conn_at self.old.places token }
     {
         self.get(token)?;
@@ -109,6 +109,18 @@ impl Conns {
             self.clients.remove(&number);
         }
         Some(conn)
+    }
+
+    /// Takes out a connection, if it is there and is done.
+    pub(crate) fn remove_done(&mut self, token: usize) -> Option<Conn>
+        ensures { result ≡ if_done (conn_at self.old.places token) }
+    {
+        let conn = self.get(token)?;
+        if conn.side.is_done() {
+            self.remove(token)
+        } else {
+            None
+        }
     }
 
     /// The token of the newest connection of a replica with a peer.

@@ -1,5 +1,6 @@
 //! Connections that are replaced, read to their end, and closed.
 
+use crate::conn::Conn;
 use crate::retries::Retry;
 use crate::sockets::Sockets;
 use crate::stage::Change;
@@ -59,9 +60,9 @@ impl Sockets {
             self.readers.add(&mut conn.side, token)?;
             self.retries.add(Retry::Drain(token))?;
         }
-        match self.conns.get(token) {
-            Some(conn) if conn.side.is_done() => self.close(token),
-            _ => Ok(()),
+        match self.conns.remove_done(token) {
+            Some(conn) => self.close(conn),
+            None => Ok(()),
         }
     }
 
@@ -77,10 +78,8 @@ impl Sockets {
         self.settle(token)
     }
 
-    fn close(&mut self, token: usize) -> Result<(), Mem> {
-        let Some(conn) = self.conns.remove(token) else {
-            return Ok(());
-        };
+    // A connection that was taken out is closed, and told of.
+    fn close(&mut self, conn: Conn) -> Result<(), Mem> {
         if let Some(newer) = conn.side.newer {
             self.release(newer)?;
         }
