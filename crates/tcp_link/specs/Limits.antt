@@ -59,12 +59,12 @@ abbrev pub many_kept : ℕ
 many_kept = 65536
 
 -- with more kept bytes a connection takes no more
-abbrev pub most_kept_bytes : ℕ
-most_kept_bytes = 16777216
+abbrev pub most_unwritten_bytes : ℕ
+most_unwritten_bytes = 16777216
 
 -- and so does a client's
-abbrev pub most_kept_bytes_of_client : ℕ
-most_kept_bytes_of_client = 131072
+abbrev pub most_unwritten_bytes_of_client : ℕ
+most_unwritten_bytes_of_client = 131072
 
 -- ---- turns
 

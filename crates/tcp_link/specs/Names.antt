@@ -1,7 +1,7 @@
 -- Whom a connection is with: what a first byte is answered, which number a client gets, and what is told of peers and clients.
 use Rattle.std.specs.Prelude.{ℕ, ◌+◌, ◌<◌, Bool, true, false, ◌&&◌, nat_lt, nat_le, nat_eq, List, [], ◌∷◌, Option, Some, None, if◌then◌else◌}
 use Rattle.ritas_base.specs.Limits.{longest_frame}
-use Rattle.tcp_link.specs.Limits.{most_clients, most_at_once, longest_piece, most_kept_bytes, most_kept_bytes_of_client}
+use Rattle.tcp_link.specs.Limits.{most_clients, most_at_once, longest_piece, most_unwritten_bytes, most_unwritten_bytes_of_client}
 use Rattle.outside.specs.declared.link.LinkItem.{LinkItem}
 use Rattle.outside.specs.declared.link.LinkItem.TheVariants.{Frame, Client as Message, Reply}
 use Rattle.outside.specs.declared.link.LinkItem.TheVariants as items
@@ -67,10 +67,10 @@ most_of (Node from) = Some longest_piece
 
 -- with more kept bytes a connection takes no more
 abbrev pub most_kept : Whom → ℕ
-most_kept (Unnamed at) = most_kept_bytes
-most_kept (Peer at peer) = most_kept_bytes
-most_kept (Client at conn) = most_kept_bytes_of_client
-most_kept (Node from) = most_kept_bytes
+most_kept (Unnamed at) = most_unwritten_bytes
+most_kept (Peer at peer) = most_unwritten_bytes
+most_kept (Client at conn) = most_unwritten_bytes_of_client
+most_kept (Node from) = most_unwritten_bytes
 
 -- the item that a piece is
 abbrev pub link_item_of : Whom → List ℕ → Option LinkItem

@@ -1,6 +1,6 @@
 //! The limits of a link, each defined once in `specs/Limits.antt`. The longest frame is that of `ritas_base`.
 ghost use Rattle.std.specs.Prelude.{◌≡◌};
-ghost use Rattle.tcp_link.specs.Limits.{most_replicas, most_clients, most_at_once, most_strangers, spares_of_replica, spares_of_strangers, most_conns, most_serials, length_bytes, longest_piece, many_came, longest_read, many_kept, most_kept_bytes, most_kept_bytes_of_client, replicas_a_turn, clients_a_turn, clients_read_a_turn, messages_a_turn, most_events, most_writes, pause_microseconds, look_microseconds, first_wait_microseconds, longest_wait_microseconds, short_wait_microseconds, looks_of_dial, looks_of_node, looks_of_stranger, looks_of_peer, looks_of_half_closed, most_idle_ticks, most_ticks};
+ghost use Rattle.tcp_link.specs.Limits.{most_replicas, most_clients, most_at_once, most_strangers, spares_of_replica, spares_of_strangers, most_conns, most_serials, length_bytes, longest_piece, many_came, longest_read, many_kept, most_unwritten_bytes, most_unwritten_bytes_of_client, replicas_a_turn, clients_a_turn, clients_read_a_turn, messages_a_turn, most_events, most_writes, pause_microseconds, look_microseconds, first_wait_microseconds, longest_wait_microseconds, short_wait_microseconds, looks_of_dial, looks_of_node, looks_of_stranger, looks_of_peer, looks_of_half_closed, most_idle_ticks, most_ticks};
 
 /// A session has at most so many replicas.
 pub(crate) const MOST_REPLICAS: usize = 31;
@@ -42,10 +42,10 @@ pub(crate) const LONGEST_READ: usize = 2_048;
 pub(crate) const MANY_KEPT: usize = 65_536;
 
 /// A connection with more bytes to go out takes no more.
-pub(crate) const MOST_KEPT_BYTES: usize = 16_777_216;
+pub(crate) const MOST_UNWRITTEN_BYTES: usize = 16_777_216;
 
 /// And so does a client's.
-pub(crate) const MOST_KEPT_BYTES_OF_CLIENT: usize = 131_072;
+pub(crate) const MOST_UNWRITTEN_BYTES_OF_CLIENT: usize = 131_072;
 
 /// So many connections are accepted in one turn at a door for replicas.
 pub(crate) const REPLICAS_A_TURN: usize = 64;
@@ -118,8 +118,8 @@ pub fn limits_are()
     ensures came { MANY_CAME ≡ many_came }
     ensures read { LONGEST_READ ≡ longest_read }
     ensures many { MANY_KEPT ≡ many_kept }
-    ensures kept { MOST_KEPT_BYTES ≡ most_kept_bytes }
-    ensures client_kept { MOST_KEPT_BYTES_OF_CLIENT ≡ most_kept_bytes_of_client }
+    ensures kept { MOST_UNWRITTEN_BYTES ≡ most_unwritten_bytes }
+    ensures client_kept { MOST_UNWRITTEN_BYTES_OF_CLIENT ≡ most_unwritten_bytes_of_client }
     ensures replica_turn { REPLICAS_A_TURN ≡ replicas_a_turn }
     ensures client_turn { CLIENTS_A_TURN ≡ clients_a_turn }
     ensures client_reads { CLIENTS_READ_A_TURN ≡ clients_read_a_turn }

@@ -6,7 +6,7 @@ ghost use Rattle.outside.specs.Links.{bytes_of};
 ghost use Rattle.tcp_link.specs.Names.{IsName, most_of, link_item_of, is_client, is_client_of, is_node, is_with_peer, most_kept, sent_through, dial_again, told_first};
 
 use crate::dials::Dial;
-use crate::limits::{LONGEST_PIECE, MOST_KEPT_BYTES, MOST_KEPT_BYTES_OF_CLIENT};
+use crate::limits::{LONGEST_PIECE, MOST_UNWRITTEN_BYTES, MOST_UNWRITTEN_BYTES_OF_CLIENT};
 use outside::LinkItem;
 use ritas_base::{Bytes, LONGEST_FRAME};
 
@@ -137,8 +137,8 @@ impl Whom {
         ensures { result ≡ most_kept self }
     {
         match self {
-            Whom::Client { at: _, conn: _ } => MOST_KEPT_BYTES_OF_CLIENT,
-            _ => MOST_KEPT_BYTES,
+            Whom::Client { at: _, conn: _ } => MOST_UNWRITTEN_BYTES_OF_CLIENT,
+            _ => MOST_UNWRITTEN_BYTES,
         }
     }
 
