@@ -10,3 +10,5 @@ mod drive;
 mod replay;
 #[cfg(test)]
 mod stage;
+#[cfg(test)]
+mod tcp;

@@ -42,8 +42,6 @@ mod spares;
 mod stage;
 mod starting;
 mod strangers;
-#[cfg(test)]
-mod tests;
 mod tokens;
 mod trouble;
 mod whom;

@@ -1,12 +1,12 @@
 //! Tests of links over loopback: a cluster of two, and a node with its client.
 
-use crate::TcpLink;
 use outside::{Link, LinkFault, LinkItem, LinkPlan};
 use ritas_base::{Bytes, Mem, Texts};
 use std::alloc::Global;
 use std::net::Net;
 use std::sync::Wait;
 use std::test::*;
+use tcp_link::TcpLink;
 
 // These two addresses.
 fn addresses(alloc: Global, first: &[u8], second: &[u8]) -> Result<Texts, Mem> {
