@@ -1,10 +1,10 @@
 -- What comes of an item or a turn.
 use Rattle.std.proofs.Common.{inl, inr, ◌≡◌, ℕ, Bool, true, false, ◌&&◌, nat_le, List, [], ◌∷◌, ◌++◌, length, map, Option, Some, None, refl, sym, ◌∙◌, ap, ap₂, subst, append-nil, if◌then◌else◌}
 use Rattle.std.specs.List.{slice_get}
-use Rattle.std.specs.Option.{MatchOption, is_some}
 use Rattle.std.proofs.lemmas.Bool.{both_ways}
 use Rattle.std.proofs.lemmas.Option.{slice_get_cases}
 use Rattle.ritas_base.specs.declared.event.Event.{Event}
+use Rattle.ritas_base.specs.Limits.{least_request, longest_input}
 use Rattle.keyed_channel.specs.KeyRow.{KeyRow}
 use Rattle.ritas_core.specs.Stands.{Meaning}
 use Rattle.outside.specs.declared.link.Sent.{Sent}
@@ -182,6 +182,22 @@ not_here m w es numbers now output at did ws p more faulty none stands clear =
 
 -- ---- a message that is a request
 
+-- what a request asks for
+abbrev pub asks_for : ℕ → Request → Asked
+asks_for at r = record { at = at; client = r.client; request = r.request }
+
+pub request_asked : (at : ℕ) (bytes : List ℕ) (r : Request) → request_in bytes ≡ Some r → asked_in at bytes ≡ asks_for at r
+unfolding request_in
+request_asked at bytes r is = go (nat_le least_request (length bytes)) (nat_le (length bytes) longest_input) is
+  where
+    same_parts : (x y : Request) → Some x ≡ Some y → x ≡ y
+    same_parts x y e = cc
+
+    go : (a b : Bool) → (if a && b then Some (request_parts bytes) else None) ≡ Some r → (if a then asks_for at (request_parts bytes) else record { at = at; client = 0; request = 0 }) ≡ asks_for at r
+    go true true is = ap (asks_for at) (same_parts (request_parts bytes) r is)
+    go true false is = absurd (cc)
+    go false b is = absurd (cc)
+
 asks_at : (w : Setting) (es : List Event) (at : ℕ) (conn : Option ℕ) (bytes : List ℕ) (ws : Waiting) (long short : Bool) (none : Asked)
     → ((if long && short then Some (request_parts bytes) else None) ≡ None → ⊥)
     → (let asked = if long then record { at = at; client = (request_parts bytes).client; request = (request_parts bytes).request } else none in
@@ -194,7 +210,7 @@ pub asks_is : (w : Setting) (es : List Event) (at : ℕ) (conn : Option ℕ) (by
     → asks w es at conn bytes ws ≡ asked_so w es at conn bytes ws (position_of (rows_at w es at) (asked_in at bytes).client (asked_in at bytes).request)
 unfolding request_in
 asks_is w es at conn bytes ws some =
-    asks_at w es at conn bytes ws (nat_le 8 (length bytes)) (nat_le (length bytes) 4096) (record { at = at; client = 0; request = 0 }) some
+    asks_at w es at conn bytes ws (nat_le least_request (length bytes)) (nat_le (length bytes) longest_input) (record { at = at; client = 0; request = 0 }) some
 
 pub asks_none : (w : Setting) (es : List Event) (at : ℕ) (conn : Option ℕ) (bytes : List ℕ) (ws : Waiting) → request_in bytes ≡ None
     → asks w es at conn bytes ws ≡ submitted w es at conn bytes ws
@@ -233,13 +249,3 @@ pub asked_first : (w : Setting) (es : List Event) (at : ℕ) (conn : Option ℕ)
     → position_of (rows_at w es at) asked.client asked.request ≡ None → is_waited_for (ws asked) ≡ false
     → submitted w es at conn bytes ws ≡ asked_so w es at conn bytes ws (position_of (rows_at w es at) (asked_in at bytes).client (asked_in at bytes).request)
 asked_first w es at conn bytes ws asked same none waits = sym (asked_none w es at conn bytes ws asked false same none waits)
-
--- ---- what was read of a message
-
-pub read_some : {X : Type 0} (o : Option X) (f : X → Request) (request : Option Request) → is_some o ≡ true → MatchOption o (request ≡ None) (λ r. request ≡ Some (f r)) → request ≡ None → ⊥
-read_some None f request some reads none = cc
-read_some (Some r) f request some reads none = cc
-
-pub read_none : {X : Type 0} (o : Option X) (f : X → Request) (request : Option Request) → is_some o ≡ false → MatchOption o (request ≡ None) (λ r. request ≡ Some (f r)) → request ≡ None
-read_none None f request none reads = reads
-read_none (Some r) f request none reads = absurd (cc)

@@ -14,6 +14,8 @@ use Rattle.keyed_channel.specs.Frames.{Opening, sender_of, seq_of, opening_parts
 use Rattle.keyed_channel.specs.Laws.{OpenedParts, OpenedFromPeer}
 use Rattle.keyed_channel.specs.Notes.{ack_note, is_note, noted}
 use Rattle.keyed_channel.specs.declared.frame.OpenFault.{OpenFault}
+use Rattle.keyed_channel.specs.declared.parts.FrameHeader.{FrameHeader}
+use Rattle.keyed_channel.specs.Lengths.{head_length, least_frame}
 use Rattle.keyed_channel.specs.KeyRow.{KeyRow}
 use Rattle.ritas_core.specs.declared.answer.Answer.{Answer}
 use Rattle.ritas_core.specs.declared.fault.CoreFault.{CoreFault}
@@ -34,7 +36,6 @@ use Rattle.world_model.specs.Stands.{NoneStops}
 use Rattle.world_model.specs.World.{Setting, rules_at, states_of, seen_answer, seen_of}
 use Rattle.world_model.specs.MadeOrder.{MadeFrame}
 use Rattle.world_model.proofs.Left.{get_set_same, get_set_other}
-use Rattle.node_loop.specs.declared.asks.Carried.{Carried}
 use Rattle.node_loop.specs.declared.output.More.{More}
 use Rattle.node_loop.specs.declared.output.More.TheVariants as mores
 use Rattle.node_loop.specs.declared.output.Reply.{Reply}
@@ -215,7 +216,7 @@ heard_as : {S E C : Type 0} (m : Meaning S E C KeyRow) (w : Setting) (es : List 
 heard_as m w es numbers now ws at e out brought other same heard = let P : Brought → Type 0 = λ x. Heard m w es numbers now ws at e out x in subst P same heard
 
 -- it opens, and is to come again or isn't
-opened_comes : {S E C : Type 0} (m : Meaning S E C KeyRow) (w : Setting) (es : List Event) (numbers : List ℕ) (given now : House S E C) (ws : Waiting) (p : Peers) (at : ℕ) (bytes : List ℕ) (frame : Carried) (o : Opening)
+opened_comes : {S E C : Type 0} (m : Meaning S E C KeyRow) (w : Setting) (es : List Event) (numbers : List ℕ) (given now : House S E C) (ws : Waiting) (p : Peers) (at : ℕ) (bytes : List ℕ) (frame : FrameHeader) (o : Opening)
     (was out : More) (answer : Result Answer Refusal) (b : Bool)
     → HouseStands m w (events.Frame at bytes ∷ es) numbers given ws p → was ≡ mores.Nothing → frame.from ≡ o.from → frame.seq ≡ o.seq → o.from < w.numbers.n
     → is_deferred (seen_of w es (events.Frame at bytes)) ≡ b → is_deferred (seen_answer answer) ≡ b
@@ -252,12 +253,16 @@ opened_comes {S = S} {E = E} {C = C} m w es numbers given now ws p at bytes fram
       stands = let P : House S E C → Type 0 = λ x. HouseStands m w (e ∷ es) numbers x ws p in subst P (sym took.0) stands;
     })
 
-heard_by : {S E C : Type 0} (m : Meaning S E C KeyRow) (w : Setting) (es : List Event) (numbers : List ℕ) (given now : House S E C) (ws : Waiting) (p : Peers) (at : ℕ) (bytes : List ℕ) (carried : Option Carried)
+-- what is read of a frame's header
+abbrev IsHeaderOf : List ℕ → Option FrameHeader → Type 0
+IsHeaderOf bytes carried = MatchOption carried (length bytes < head_length) (λ f. (head_length ≤ length bytes) × (f.from ≡ sender_of bytes) × (f.seq ≡ seq_of bytes))
+
+heard_by : {S E C : Type 0} (m : Meaning S E C KeyRow) (w : Setting) (es : List Event) (numbers : List ℕ) (given now : House S E C) (ws : Waiting) (p : Peers) (at : ℕ) (bytes : List ℕ) (carried : Option FrameHeader)
     (was out : More) (answer : Result Answer Refusal) (o : Result Opening OpenFault)
     → HouseStands m w (events.Frame at bytes ∷ es) numbers given ws p → was ≡ mores.Nothing
     → seen_answer answer ≡ seen_of w es (events.Frame at bytes) → is_answer_opened answer ≡ is_ok o
-    → MatchOption carried (length bytes < 43) (λ f. (f.from ≡ sender_of bytes) × (f.seq ≡ seq_of bytes))
-    → ((x : Opening) → o ≡ Ok x → (43 ≤ length bytes) × (x ≡ opening_parts bytes) × (x.from < w.numbers.n))
+    → IsHeaderOf bytes carried
+    → ((x : Opening) → o ≡ Ok x → (least_frame ≤ length bytes) × (x ≡ opening_parts bytes) × (x.from < w.numbers.n))
     → (is_answer_opened answer ≡ false → (now ≡ given) × (out ≡ was))
     → (is_answer_opened answer ≡ true → is_deferred (seen_answer answer) ≡ true → IfSome carried (λ f.
     HouseStands m w (events.Frame at bytes ∷ es) numbers now ws (with_mark at f.from (Some (mark_at w (events.Frame at bytes ∷ es) at f.from)) p) × (out ≡ was)))
@@ -278,21 +283,19 @@ heard_by m w es numbers given now ws p at bytes None was out answer (Ok o) stand
 heard_by m w es numbers given now ws p at bytes (Some frame) was out answer (Ok o) stands clear saw opened reads says none marks takes =
     let said = says o refl in
     opened_comes m w es numbers given now ws p at bytes frame o was out answer (is_deferred (seen_answer answer)) stands clear
-    (reads.0 ∙ sym (ap (λ (x : Opening). x.from) said.1)) (reads.1 ∙ sym (ap (λ (x : Opening). x.seq) said.1)) said.2
+    (reads.1 ∙ sym (ap (λ (x : Opening). x.from) said.1)) (reads.2 ∙ sym (ap (λ (x : Opening). x.seq) said.1)) said.2
     (ap is_deferred (sym saw)) refl (marks opened) (takes opened)
 
 -- what was read of bytes, by another name
-pub reads_of : (xs ys : List ℕ) (carried : Option Carried) → xs ≡ ys → MatchOption carried (length xs < 43) (λ f. (f.from ≡ sender_of xs) × (f.seq ≡ seq_of xs))
-    → MatchOption carried (length ys < 43) (λ f. (f.from ≡ sender_of ys) × (f.seq ≡ seq_of ys))
-reads_of xs ys carried same reads =
-    let P : List ℕ → Type 0 = λ x. MatchOption carried (length x < 43) (λ f. (f.from ≡ sender_of x) × (f.seq ≡ seq_of x)) in subst P same reads
+pub reads_of : (xs ys : List ℕ) (carried : Option FrameHeader) → xs ≡ ys → IsHeaderOf xs carried → IsHeaderOf ys carried
+reads_of xs ys carried same reads = subst (λ (x : List ℕ). IsHeaderOf x carried) same reads
 
 -- the frame was called with, and this was heard
-pub heard : {S E C : Type 0} (m : Meaning S E C KeyRow) (w : Setting) (es : List Event) (numbers : List ℕ) (old : List (Replica S E C)) (given now : House S E C) (ws : Waiting) (p : Peers) (place at : ℕ) (bytes : List ℕ) (carried : Option Carried)
+pub heard : {S E C : Type 0} (m : Meaning S E C KeyRow) (w : Setting) (es : List Event) (numbers : List ℕ) (old : List (Replica S E C)) (given now : House S E C) (ws : Waiting) (p : Peers) (place at : ℕ) (bytes : List ℕ) (carried : Option FrameHeader)
     (was out : More) (answer : Result Answer Refusal)
     → AreHere m w es numbers old → slice_get numbers place ≡ Some at
     → HouseStands m w (events.Frame at bytes ∷ es) numbers given ws p → was ≡ mores.Nothing → seen_answer answer ≡ seen_of w es (events.Frame at bytes)
-    → MatchOption carried (length bytes < 43) (λ f. (f.from ≡ sender_of bytes) × (f.seq ≡ seq_of bytes)) → OpenedParts → OpenedFromPeer
+    → IsHeaderOf bytes carried → OpenedParts → OpenedFromPeer
     → (is_answer_opened answer ≡ false → (now ≡ given) × (out ≡ was))
     → (is_answer_opened answer ≡ true → is_deferred (seen_answer answer) ≡ true → IfSome carried (λ f.
     HouseStands m w (events.Frame at bytes ∷ es) numbers now ws (with_mark at f.from (Some (mark_at w (events.Frame at bytes ∷ es) at f.from)) p) × (out ≡ was)))

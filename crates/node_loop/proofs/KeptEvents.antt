@@ -7,13 +7,16 @@ use Rattle.std.specs.Int.{from_be_bytes, w8}
 use Rattle.ritas_base.specs.declared.event.Event.{Event}
 use Rattle.ritas_base.specs.declared.event.Event.TheVariants as events
 use Rattle.ritas_base.specs.declared.item.Item.{Item}
+use Rattle.ritas_base.specs.Limits.{least_request, longest_input, longest_frame}
 use Rattle.ritas_base.specs.Numbers.{Numbers}
 use Rattle.frame_codec.specs.declared.fault.BodyFault.{BodyFault}
 use Rattle.frame_codec.specs.Body.{body_answer}
 use Rattle.frame_codec.specs.Format.{Done, Plain, read, plain_at, ◌>>=◌}
 use Rattle.frame_codec.specs.Grammar.{bit, class1, class2, class3, ids, vector}
+use Rattle.frame_codec.specs.Limits.{longest_entry}
 use Rattle.frame_codec.specs.Inputs.{input_format, input_fault, fault_offset}
 use Rattle.keyed_channel.specs.KeyRow.{KeyRow}
+use Rattle.keyed_channel.specs.Lengths.{least_frame}
 use Rattle.ritas_base.specs.Places.{first_failed}
 use Rattle.keyed_channel.specs.Frames.{Opening, opening, opening_but, opening_parts, plain_tests, is_tagged, open_fault}
 use Rattle.keyed_channel.specs.declared.frame.OpenFault.{OpenFault}
@@ -242,16 +245,16 @@ second_holds false b x y rest e = absurd (cc e)
 abbrev tests_of : KeyRow → List ℕ → List (Bool × OpenFault)
 tests_of k bytes = plain_tests k bytes ++ (is_tagged k bytes, open_faults.BadTag) ∷ []
 
-opened_short : (k : KeyRow) (bytes : List ℕ) → open_fault k bytes ≡ None → length bytes ≤ 16384
+opened_short : (k : KeyRow) (bytes : List ℕ) → open_fault k bytes ≡ None → length bytes ≤ longest_frame
 opened_short k bytes e =
-    leb-true (length bytes) 16384 (second_holds (nat_le 43 (length bytes)) (nat_le (length bytes) 16384) open_faults.Short open_faults.Long (drop 2 (tests_of k bytes)) e)
+    leb-true (length bytes) longest_frame (second_holds (nat_le least_frame (length bytes)) (nat_le (length bytes) longest_frame) open_faults.Short open_faults.Long (drop 2 (tests_of k bytes)) e)
 
-answered_short : (r : Rules) (k : KeyRow) (st : CoreState) (bytes : List ℕ) (o : Option OpenFault) → (o ≡ None → length bytes ≤ 16384)
-    → is_kept_answer (seen_answer (given_frame r k st (opening_but o (opening_parts bytes))).answer) ≡ true → length bytes ≤ 16384
+answered_short : (r : Rules) (k : KeyRow) (st : CoreState) (bytes : List ℕ) (o : Option OpenFault) → (o ≡ None → length bytes ≤ longest_frame)
+    → is_kept_answer (seen_answer (given_frame r k st (opening_but o (opening_parts bytes))).answer) ≡ true → length bytes ≤ longest_frame
 answered_short r k st bytes None short e = short refl
 answered_short r k st bytes (Some fault) short e = absurd (cc e)
 
-frame_short : (r : Rules) (k : KeyRow) (st : CoreState) (bytes : List ℕ) → is_kept_answer (seen_answer (handled r k st (Frame bytes)).answer) ≡ true → length bytes ≤ 16384
+frame_short : (r : Rules) (k : KeyRow) (st : CoreState) (bytes : List ℕ) → is_kept_answer (seen_answer (handled r k st (Frame bytes)).answer) ≡ true → length bytes ≤ longest_frame
 unfolding opening
 frame_short r k st bytes e = answered_short r k st bytes (open_fault k bytes) (opened_short k bytes) e
 
@@ -286,34 +289,34 @@ bit_short len bytes e = here (nat_lt (length bytes) 1) (nat_lt (from_be_bytes w8
     here false false e = absurd (cc e)
     here false true e = one_left len bytes (length (drop 1 bytes) == 0) refl e
 
--- what is of the format of the inputs of a root service has at most 4,096 bytes
-format_short : (p : Numbers) (root : ℕ) (bytes : List ℕ) → fault_offset (length bytes) (read (input_format p root) bytes) ≡ None → length bytes ≤ 16384
+-- what is of the format of the inputs of a root service is no longer than the longest input
+format_short : (p : Numbers) (root : ℕ) (bytes : List ℕ) → fault_offset (length bytes) (read (input_format p root) bytes) ≡ None → length bytes ≤ longest_frame
 unfolding input_format class1 class2 class3
 format_short p root bytes e = here (root == 3) (root == 4) (root == 5) refl refl e
   where
-    plain : (low high : ℕ) → high ≤ 16384 → fault_offset (length bytes) (plain_at low high bytes) ≡ None → length bytes ≤ 16384
+    plain : (low high : ℕ) → high ≤ longest_frame → fault_offset (length bytes) (plain_at low high bytes) ≡ None → length bytes ≤ longest_frame
     plain low high most e = let short = plain_short low high (length bytes) bytes refl e in omega (arith, most, short)
 
-    fourth : (b : Bool) → b ≡ true → fault_offset (length bytes) (read (if b then Plain 1 4096 else vector p root) bytes) ≡ None → length bytes ≤ 16384
-    fourth true is e = plain 1 4096 (lit≤ tt) e
+    fourth : (b : Bool) → b ≡ true → fault_offset (length bytes) (read (if b then Plain 1 longest_input else vector p root) bytes) ≡ None → length bytes ≤ longest_frame
+    fourth true is e = plain 1 longest_input (lit≤ tt) e
     fourth false is e = absurd (cc is)
 
-    fifth : (b : Bool) → b ≡ false → fault_offset (length bytes) (read (if b then ids p.n else Plain 1 512) bytes) ≡ None → length bytes ≤ 16384
+    fifth : (b : Bool) → b ≡ false → fault_offset (length bytes) (read (if b then ids p.n else Plain 1 longest_entry) bytes) ≡ None → length bytes ≤ longest_frame
     fifth true is e = absurd (cc is)
-    fifth false is e = plain 1 512 (lit≤ tt) e
+    fifth false is e = plain 1 longest_entry (lit≤ tt) e
 
     five_is : (root == 5) ≡ true → (root == 6) ≡ false
     five_is is = ap (λ (x : ℕ). x == 6) (eqb-true root 5 is)
 
     here : (a b c : Bool) → (root == 4) ≡ b → (root == 5) ≡ c
-        → fault_offset (length bytes) (read (if a then bit 1 else if b then (if root == 4 then Plain 1 4096 else vector p root)
-        else if c then (if root == 6 then ids p.n else Plain 1 512) else Plain (if root == 6 then 8 else 1) 4096) bytes) ≡ None → length bytes ≤ 16384
+        → fault_offset (length bytes) (read (if a then bit 1 else if b then (if root == 4 then Plain 1 longest_input else vector p root)
+        else if c then (if root == 6 then ids p.n else Plain 1 longest_entry) else Plain (if root == 6 then least_request else 1) longest_input) bytes) ≡ None → length bytes ≤ longest_frame
     here true b c four five e = let short = bit_short (length bytes) bytes e in omega (arith, short)
     here false true c four five e = fourth (root == 4) four e
     here false false true four five e = fifth (root == 6) (five_is five) e
-    here false false false four five e = plain (if root == 6 then 8 else 1) 4096 (lit≤ tt) e
+    here false false false four five e = plain (if root == 6 then least_request else 1) longest_input (lit≤ tt) e
 
-checked_short : (r : Rules) (p : Parts) (bytes : List ℕ) → input_check r p bytes ≡ None → length bytes ≤ 16384
+checked_short : (r : Rules) (p : Parts) (bytes : List ℕ) → input_check r p bytes ≡ None → length bytes ≤ longest_frame
 unfolding input_check
 checked_short r p bytes e = format_short r.casts.numbers r.mode.root bytes (here (input_fault r.casts.numbers r.mode bytes) e)
   where
@@ -321,23 +324,23 @@ checked_short r p bytes e = format_short r.casts.numbers r.mode.root bytes (here
     here None e = refl
     here (Some place) e = absurd (cc e)
 
-input_short : (r : Rules) (k : KeyRow) (st : CoreState) (bytes : List ℕ) → is_kept_answer (seen_answer (handled r k st (Input bytes)).answer) ≡ true → length bytes ≤ 16384
+input_short : (r : Rules) (k : KeyRow) (st : CoreState) (bytes : List ℕ) → is_kept_answer (seen_answer (handled r k st (Input bytes)).answer) ≡ true → length bytes ≤ longest_frame
 input_short r k st bytes e = here st.live (sym (ap (λ (x : Moved). keeps x.answer) (live_is r st (core.Input bytes) st.live)) ∙ e)
   where
-    given : (o : Option CoreFault) → o ≡ input_check r (parts r st.history) bytes → keeps (given_input r st bytes o).answer ≡ true → length bytes ≤ 16384
+    given : (o : Option CoreFault) → o ≡ input_check r (parts r st.history) bytes → keeps (given_input r st bytes o).answer ≡ true → length bytes ≤ longest_frame
     given None is e = checked_short r (parts r st.history) bytes (sym is)
     given (Some fault) is e = absurd (cc e)
 
-    here : (b : Bool) → keeps (if_live r st (core.Input bytes) b).answer ≡ true → length bytes ≤ 16384
+    here : (b : Bool) → keeps (if_live r st (core.Input bytes) b).answer ≡ true → length bytes ≤ longest_frame
     here true e = given (input_check r (parts r st.history) bytes) refl e
     here false e = absurd (cc e)
 
 called_short : (w : Setting) (states : ℕ → CoreState) (at : ℕ) (call : ReplicaCall) (bytes : List ℕ)
-    → (is_kept_answer (seen_answer (handled_at w states (record { at = at; call = call })).answer) ≡ true → length bytes ≤ 16384)
-    → is_kept_answer (seen_call w states (call_at w at call)) ≡ true → length bytes ≤ 16384
+    → (is_kept_answer (seen_answer (handled_at w states (record { at = at; call = call })).answer) ≡ true → length bytes ≤ longest_frame)
+    → is_kept_answer (seen_call w states (call_at w at call)) ≡ true → length bytes ≤ longest_frame
 called_short w states at call bytes short e = here (w.is_correct at) e
   where
-    here : (b : Bool) → is_kept_answer (seen_call w states (if b then Some (record { at = at; call = call }) else None)) ≡ true → length bytes ≤ 16384
+    here : (b : Bool) → is_kept_answer (seen_call w states (if b then Some (record { at = at; call = call }) else None)) ≡ true → length bytes ≤ longest_frame
     here true e = short e
     here false e = absurd (cc e)
 

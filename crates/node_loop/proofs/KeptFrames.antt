@@ -12,6 +12,7 @@ use Rattle.ritas_base.specs.declared.item.Item.{Item}
 use Rattle.ritas_base.specs.declared.item.Msg.{Msg}
 use Rattle.frame_codec.specs.declared.fault.BodyFault.{BodyFault}
 use Rattle.frame_codec.specs.Body.{body_answer}
+use Rattle.keyed_channel.specs.Lengths.{head_length}
 use Rattle.keyed_channel.specs.KeyRow.{KeyRow}
 use Rattle.keyed_channel.specs.Frames.{Opening, opening}
 use Rattle.keyed_channel.specs.Laws.{SealedLength}
@@ -39,7 +40,7 @@ use Rattle.node_loop.specs.Standing.{HouseStands, frame_by}
 -- ---- frames are long enough for a number
 
 abbrev AreLong : List OutFrame → Type 0
-AreLong frames = AllByRecursion (λ f. 11 ≤ length f.bytes) frames
+AreLong frames = AllByRecursion (λ f. head_length ≤ length f.bytes) frames
 
 both_long : (fs gs : List OutFrame) → AreLong fs → AreLong gs → AreLong (fs ++ gs)
 both_long [] gs first second = second
@@ -70,7 +71,7 @@ out_long law r k st (Input bytes) = all_long law k _ _
 out_long law r k st Turn = all_long law k _ _
 
 abbrev IsLong : LinkAct → Type 0
-IsLong (Sends s) = 11 ≤ length s.bytes
+IsLong (Sends s) = head_length ≤ length s.bytes
 IsLong other = Unit {0}
 
 sent_long : (k at : ℕ) (frames : List OutFrame) → AreLong frames → AllByRecursion IsLong (map as_sent (map (λ o. record { event = k; from = at; to = o.to; bytes = o.bytes }) frames))
@@ -91,9 +92,9 @@ long_again at (f ∷ fs) long = (long.0, long_again at fs long.1)
 
 -- each frame of a call has a number
 pub have_numbers : SealedLength → (w : Setting) (es : List Event) (e : Option Event) (at : ℕ) (frames : List OutFrame)
-    → map (frame_by at) frames ≡ sent_by w es e → All (λ f. 11 ≤ length f.bytes) frames
+    → map (frame_by at) frames ≡ sent_by w es e → All (λ f. head_length ≤ length f.bytes) frames
 have_numbers law w es e at frames is =
-    All-from_recursion (λ f. 11 ≤ length f.bytes) frames (long_again at frames (subst (λ (acts : List LinkAct). AllByRecursion IsLong acts) (sym is) (made_long law w es e)))
+    All-from_recursion (λ f. head_length ≤ length f.bytes) frames (long_again at frames (subst (λ (acts : List LinkAct). AllByRecursion IsLong acts) (sym is) (made_long law w es e)))
 
 -- ---- frames that are kept one after the other: with each, so much is kept for its peer in place of what was
 

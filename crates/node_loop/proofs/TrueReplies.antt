@@ -1,5 +1,5 @@
 -- The replies that give a position are true.
-use Rattle.std.proofs.Common.{◌≡◌, ℕ, ◌&&◌, Bool, true, false, List, [], ◌∷◌, ◌++◌, length, map, reverse, Option, Some, None, nat_le, nat_lt, refl, sym, ◌∙◌, ap, ap₂, subst, append_assoc, if◌then◌else◌}
+use Rattle.std.proofs.Common.{◌≡◌, ℕ, ◌&&◌, Bool, true, false, List, [], ◌∷◌, ◌++◌, length, map, reverse, Option, Some, None, nat_lt, refl, sym, ◌∙◌, ap, ap₂, subst, append_assoc, if◌then◌else◌}
 use Rattle.std.specs.List.{AllByRecursion}
 use Rattle.std.proofs.lemmas.List.{reverse-append}
 use Rattle.std.proofs.lemmas.Bool.{eq-eqb}
@@ -9,7 +9,7 @@ use Rattle.outside.specs.declared.link.LinkItem.{LinkItem}
 use Rattle.outside.specs.declared.link.LinkItem.TheVariants as items
 use Rattle.outside.specs.declared.link.Sent.{Sent}
 use Rattle.outside.specs.Links.{LinkAct, Starts, Gives, Sends, Replies, replies_in}
-use Rattle.client_port.specs.Messages.{Request, request_parts, request_in, position_reply, refusal_reply}
+use Rattle.client_port.specs.Messages.{Request, request_in, position_reply, refusal_reply}
 use Rattle.command_log.specs.Rows.{Row, position_of}
 use Rattle.layer_api.specs.Service.{IsPart}
 use Rattle.world_model.specs.World.{Setting, seen_of}
@@ -26,6 +26,7 @@ use Rattle.node_loop.specs.Waiting.{Waiting, with_waiter}
 use Rattle.node_loop.specs.Calls.{Outcome, reply, reply_each, asked_by, waiting_left_by, replies_by, event_called, asked_in, refusal_in, submitted, submitted_so, silent, is_waited_for, asked_so, asks_so, asks, if_here, item_does, first_does}
 use Rattle.node_loop.specs.Serving.{Serving, so_far, as_sent, frames_made_by, sent_by, onto, with_outcome, Round, Began, Turned, Reminded, Took, began, gave, brought, after_from}
 use Rattle.node_loop.specs.Laws.{IsTrueReply}
+use Rattle.node_loop.proofs.Comings.{request_asked}
 use Rattle.node_loop.proofs.Logs.{rows_are_once, position_in_part}
 
 -- ---- all of a list
@@ -160,22 +161,6 @@ asked_true w es at conn bytes ws None is = here (is_waited_for (ws (asked_in at 
     here : (b : Bool) → IsTrueOutcome w es (if b then silent [] (with_waiter (asked_in at bytes) conn ws) else submitted w es at conn bytes ws)
     here true = tt
     here false = submitted_true w es at conn bytes ws (refusal_in (seen_of w es (events.Input at bytes)))
-
--- what a request asks for
-abbrev asks_for : ℕ → Request → Asked
-asks_for at r = record { at = at; client = r.client; request = r.request }
-
-request_asked : (at : ℕ) (bytes : List ℕ) (r : Request) → request_in bytes ≡ Some r → asked_in at bytes ≡ asks_for at r
-unfolding request_in
-request_asked at bytes r is = go (nat_le 8 (length bytes)) (nat_le (length bytes) 4096) is
-  where
-    same_parts : (x y : Request) → Some x ≡ Some y → x ≡ y
-    same_parts x y e = cc
-
-    go : (a b : Bool) → (if a && b then Some (request_parts bytes) else None) ≡ Some r → (if a then asks_for at (request_parts bytes) else record { at = at; client = 0; request = 0 }) ≡ asks_for at r
-    go true true is = ap (asks_for at) (same_parts (request_parts bytes) r is)
-    go true false is = absurd (cc)
-    go false b is = absurd (cc)
 
 asks_true : (w : Setting) (es : List Event) (at : ℕ) (conn : Option ℕ) (bytes : List ℕ) (ws : Waiting) (r : Option Request) → request_in bytes ≡ r
     → IsTrueOutcome w es (asks_so w es at conn bytes ws r)

@@ -3,6 +3,7 @@
 use Rattle.std.specs.Prelude.{ℕ, Bool, true, false, List, [], ◌∷◌, ◌++◌, length, Option, Some, None, nat_le, nat_lt, if◌then◌else◌}
 use Rattle.ritas_base.specs.declared.event.Event.{Event}
 use Rattle.ritas_base.specs.declared.event.Event.TheVariants as events
+use Rattle.ritas_base.specs.Limits.{request_front}
 use Rattle.outside.specs.declared.link.LinkItem.{LinkItem}
 use Rattle.outside.specs.declared.link.LinkItem.TheVariants as items
 use Rattle.outside.specs.declared.link.Sent.{Sent}
@@ -82,9 +83,9 @@ abbrev pub refusal_in : Seen → Option ℕ
 refusal_in (seen.Refused (refusals.Core fault)) = Some (fault_number fault)
 refusal_in _ = None
 
--- the request that a message is at a replica; of one with under 8 bytes the numbers are 0
+-- the request that a message is at a replica; of one that is too short for a request's front the numbers are 0
 abbrev pub asked_in : ℕ → List ℕ → Asked
-asked_in at bytes = if nat_le 8 (length bytes)
+asked_in at bytes = if nat_le request_front (length bytes)
     then record { at = at; client = four_bytes_at 0 bytes; request = four_bytes_at 4 bytes }
     else record { at = at; client = 0; request = 0 }
 

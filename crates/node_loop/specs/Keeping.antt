@@ -3,6 +3,7 @@ use Rattle.std.specs.Prelude.{◌≡◌, ℕ, ◌≤◌, Bool, true, false, List
 use Rattle.std.specs.List.{AllByRecursion}
 use Rattle.ritas_base.specs.declared.event.Event.{Event}
 use Rattle.ritas_base.specs.declared.event.Event.TheVariants as events
+use Rattle.ritas_base.specs.Limits.{longest_frame}
 use Rattle.ritas_core.specs.declared.answer.Answer.TheVariants as answers
 use Rattle.world_model.specs.declared.seen.Seen.{Seen}
 use Rattle.world_model.specs.declared.seen.Seen.TheVariants as seen
@@ -67,6 +68,6 @@ call_bytes (events.Turn at) = []
 call_bytes (events.Pass from to m) = []
 call_bytes (events.Sealed from to body) = []
 
--- a kept frame or input has at most 16,384 bytes
+-- a kept frame or input has no more bytes than a frame may have
 abbrev pub KeptIsShort : Type 0
-KeptIsShort = (w : Setting) (es : List Event) (e : Event) → is_kept w es e ≡ true → length (call_bytes e) ≤ 16384
+KeptIsShort = (w : Setting) (es : List Event) (e : Event) → is_kept w es e ≡ true → length (call_bytes e) ≤ longest_frame

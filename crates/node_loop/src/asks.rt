@@ -1,7 +1,6 @@
 //! The messages of clients, and the items of a link.
-ghost use Rattle.std.specs.Prelude.{◌≡◌, ◌<◌, ◌++◌, length, map, OnOk, MatchOption};
-ghost use Rattle.keyed_channel.specs.Frames.{sender_of, seq_of};
-ghost use Rattle.keyed_channel.specs.Notes.{is_note};
+ghost use Rattle.std.specs.Prelude.{◌≡◌, ◌≢◌, ◌++◌, map, None, OnOk, MatchOption};
+ghost use Rattle.client_port.specs.Messages.{request_in};
 ghost use Rattle.node_loop.specs.Calls.{asked_in, reply};
 ghost use Rattle.node_loop.specs.Standing.{reply_by};
 
@@ -10,8 +9,10 @@ use crate::output::{More, Output, Reply};
 use crate::peers::mark_of;
 use crate::refusals::{is_deferred, is_kept, is_opened, refusal_in};
 use crate::waiting::Asked;
-use client_port::{read_request, write_refusal, write_reply};
-use keyed_channel::{Note, noted_from_peer, opened_from_peer, opened_parts};
+use client_port::{RequestFront, read_front, read_request, write_refusal, write_reply};
+use keyed_channel::{
+    FrameHeader, Note, frame_header, is_note, noted_from_peer, opened_from_peer, opened_parts,
+};
 use layer_api::{Broadcast, Service};
 use outside::LinkItem;
 use replica::Refusal;
@@ -19,52 +20,44 @@ use ritas_base::{Bytes, Coin, Event, Mem};
 use ritas_core::Answer;
 use std::alloc::Global;
 
-/// The request that a message is at a replica; of one with under 8 bytes the numbers are 0.
-#[tactic(auto, unfolding(client_port::specs::Messages::four_bytes_at))]
+/// The request that a message is at a replica; of one that is too short for a request's front the numbers are 0.
 pub(crate) fn asked_in(at: u8, bytes: &[u8]) -> Asked
     ensures { result ≡ asked_in at bytes.now }
 {
-    if bytes.len() < 8 {
-        return Asked {
+    match read_front(bytes) {
+        Some(RequestFront { client, request }) => Asked {
+            at,
+            client,
+            request,
+        },
+        None => Asked {
             at,
             client: 0,
             request: 0,
-        };
+        },
     }
-    Asked {
+}
+
+// The request that a message is at a replica, if it is one.
+fn request_of(at: u8, bytes: &[u8]) -> Option<Asked>
+    ensures { MatchOption result
+        (request_in bytes.now ≡ None)
+        (λ asked. (request_in bytes.now ≢ None) × (asked ≡ asked_in at bytes.now)) }
+{
+    let request = read_request(bytes)?;
+    Some(Asked {
         at,
-        client: u32::from_be_bytes([bytes[0], bytes[1], bytes[2], bytes[3]]),
-        request: u32::from_be_bytes([bytes[4], bytes[5], bytes[6], bytes[7]]),
-    }
-}
-
-// Whether bytes are a note, or else a frame.
-fn is_note(bytes: &[u8]) -> bool
-    ensures { result ≡ is_note bytes.now }
-{
-    bytes.first() == Some(&0x4e)
-}
-
-// Whose frame it is, and its number.
-#[derive(Clone, Copy, Debug)]
-struct Carried {
-    from: u8,
-    seq: u64,
-}
-
-// Whose frame bytes are, and its number, as they stand in it. What is too short for a frame has none.
-fn sender_and_number(bytes: &[u8]) -> Option<Carried>
-    ensures { MatchOption result (length bytes.now < 43) (λ c. (c.from ≡ sender_of bytes.now) × (c.seq ≡ seq_of bytes.now)) }
-{
-    if bytes.len() < 43 {
-        return None;
-    }
-    let mut seq = [0; 8];
-    seq.copy_from_slice(&bytes[3..11]);
-    Some(Carried {
-        from: bytes[1],
-        seq: u64::from_be_bytes(seq),
+        client: request.client,
+        request: request.request,
     })
+}
+
+// A message of a client to a replica: the request that it is there, the connection by which it came, if there is one, and its bytes.
+#[derive(Drop)]
+struct Message {
+    asked: Asked,
+    conn: Option<u32>,
+    bytes: Bytes,
 }
 
 // Replies so to a connection, if there is one.
@@ -106,19 +99,18 @@ impl<S: Service, E: Broadcast, C: Coin + Drop> House<S, E, C> {
         &mut self,
         alloc: Global,
         place: usize,
-        conn: Option<u32>,
-        bytes: Bytes,
+        message: Message,
         output: &mut Output,
     ) -> Result<(), Mem>
         ensures comes { let m = with_keys S.stands S.rules S.shown E.stands E.rules E.shown C.bits in
             (w : Setting) (es : List Event) (numbers : List ℕ) (ws : Waiting) (p : Peers) → HouseStands m w es numbers self.old ws p
-            → slice_get numbers place ≡ Some output.old.at → IsEmptyOutput output.old
-            → OnOk result (ComesOut m w es numbers self.new output.new (submitted w es output.old.at conn bytes ws)
-            (nothing_more (keep_all (frames_made_by w es (submitted w es output.old.at conn bytes ws).event) p))) }
-        ensures sized { length bytes < 2 ^ 16 → OnOk result (IfSome output.new.event IsSized) }
+            → slice_get numbers place ≡ Some output.old.at → IsEmptyOutput output.old → message.asked ≡ asked_in output.old.at message.bytes
+            → let did = submitted w es output.old.at message.conn message.bytes ws in
+            OnOk result (ComesOut m w es numbers self.new output.new did (nothing_more (keep_all (frames_made_by w es did.event) p))) }
+        ensures sized { length message.bytes < 2 ^ 16 → OnOk result (IfSome output.new.event IsSized) }
     {
+        let Message { asked, conn, bytes } = message;
         let count = self.rows_at(place);
-        let asked = asked_in(output.at, bytes.as_slice());
         let event = Event::Input {
             at: output.at,
             bytes,
@@ -156,27 +148,26 @@ impl<S: Service, E: Broadcast, C: Coin + Drop> House<S, E, C> {
         &mut self,
         alloc: Global,
         place: usize,
-        conn: Option<u32>,
-        bytes: Bytes,
+        message: Message,
         output: &mut Output,
     ) -> Result<(), Mem>
         ensures comes { let m = with_keys S.stands S.rules S.shown E.stands E.rules E.shown C.bits in
             (w : Setting) (es : List Event) (numbers : List ℕ) (ws : Waiting) (p : Peers) → HouseStands m w es numbers self.old ws p
-            → slice_get numbers place ≡ Some output.old.at → IsEmptyOutput output.old
-            → let did = asked_so w es output.old.at conn bytes ws
-            (position_of (rows_at w es output.old.at) (asked_in output.old.at bytes).client (asked_in output.old.at bytes).request) in
+            → slice_get numbers place ≡ Some output.old.at → IsEmptyOutput output.old → message.asked ≡ asked_in output.old.at message.bytes
+            → let did = asked_so w es output.old.at message.conn message.bytes ws
+            (position_of (rows_at w es output.old.at) (asked_in output.old.at message.bytes).client (asked_in output.old.at message.bytes).request) in
             OnOk result (ComesOut m w es numbers self.new output.new did (nothing_more (keep_all (frames_made_by w es did.event) p))) }
-        ensures sized { length bytes < 2 ^ 16 → IfSome output.old.event IsSized → OnOk result (IfSome output.new.event IsSized) }
+        ensures sized { length message.bytes < 2 ^ 16 → IfSome output.old.event IsSized → OnOk result (IfSome output.new.event IsSized) }
     {
-        let asked = asked_in(output.at, bytes.as_slice());
+        let asked = message.asked;
         if let Some(position) = self.position_at(place, asked) {
             let bytes = write_reply(asked.client, asked.request, position);
-            return reply(output, conn, bytes);
+            return reply(output, message.conn, bytes);
         }
         if self.waiting.has(asked) {
-            return self.waiting.push(alloc, asked, conn);
+            return self.waiting.push(alloc, asked, message.conn);
         }
-        self.submit(alloc, place, conn, bytes, output)
+        self.submit(alloc, place, message, output)
     }
 
     // A client's message comes to a replica, if that is here. The one error is want of memory.
@@ -198,10 +189,12 @@ impl<S: Service, E: Broadcast, C: Coin + Drop> House<S, E, C> {
         let Some(place) = self.place_of(at) else {
             return Ok(());
         };
-        if read_request(bytes.as_slice()).is_some() {
-            self.ask_for(alloc, place, conn, bytes, output)
-        } else {
-            self.submit(alloc, place, conn, bytes, output)
+        match request_of(at, bytes.as_slice()) {
+            Some(asked) => self.ask_for(alloc, place, Message { asked, conn, bytes }, output),
+            None => {
+                let asked = asked_in(at, bytes.as_slice());
+                self.submit(alloc, place, Message { asked, conn, bytes }, output)
+            }
         }
     }
 
@@ -244,7 +237,7 @@ impl<S: Service, E: Broadcast, C: Coin + Drop> House<S, E, C> {
     }
 
     // The note that the replica at a place took the frame of this number is to go to its sender.
-    fn acknowledge(&self, place: usize, frame: Carried, output: &mut Output)
+    fn acknowledge(&self, place: usize, frame: FrameHeader, output: &mut Output)
         ensures note { let m = with_keys S.stands S.rules S.shown E.stands E.rules E.shown C.bits in
             (w : Setting) (es : List Event) (numbers : List ℕ) (at : ℕ) → AreHere m w es numbers self.now.replicas.items → slice_get numbers place ≡ Some at
             → frame.from < w.numbers.n → output.new.more ≡ mores.Note frame.from (ack_note (w.keys at) frame.from frame.seq) }
@@ -265,7 +258,7 @@ impl<S: Service, E: Broadcast, C: Coin + Drop> House<S, E, C> {
     fn respond(
         &mut self,
         place: usize,
-        carried: Option<Carried>,
+        carried: Option<FrameHeader>,
         answer: Result<Answer, Refusal>,
         output: &mut Output,
     )
@@ -313,7 +306,7 @@ impl<S: Service, E: Broadcast, C: Coin + Drop> House<S, E, C> {
         opened_parts();
         opened_from_peer();
         let count = self.rows_at(place);
-        let carried = sender_and_number(bytes.as_slice());
+        let carried = frame_header(bytes.as_slice());
         let event = Event::Frame {
             to: output.at,
             bytes,

@@ -7,6 +7,7 @@ ghost use Rattle.outside.specs.LinkCalls.{LinkDid, each_act};
 ghost use Rattle.outside.specs.Links.{LinkAct, Replies};
 ghost use Rattle.outside.specs.Writing.{TookFront};
 ghost use Rattle.outside.specs.declared.link.LinkItem.{LinkItem};
+ghost use Rattle.keyed_channel.specs.Lengths.{head_length};
 ghost use Rattle.link_resume.specs.Lists.{kept_for};
 ghost use Rattle.schedule_file.specs.Spelling.{IsSized};
 ghost use Rattle.replica.specs.Replica.{with_keys};
@@ -41,7 +42,7 @@ use std::sync::Wait;
 
 // Keeps these frames of a replica for their peers, in order. The one error is want of memory.
 fn keep_each(resume: &mut Resume, alloc: Global, frames: &[OutFrame]) -> Result<(), Mem>
-    ensures { (n i k : ℕ) (p : Peers) → All (λ f. 11 ≤ length f.bytes) frames.now → AreKept n i resume.old p.keeping
+    ensures { (n i k : ℕ) (p : Peers) → All (λ f. head_length ≤ length f.bytes) frames.now → AreKept n i resume.old p.keeping
         → OnOk result (AreKept n i resume.new (keep_all (map (made_as k i) frames.now) p).keeping) }
 {
     for frame in frames {

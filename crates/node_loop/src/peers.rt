@@ -1,7 +1,7 @@
 //! What is kept for the peers of a replica until they acknowledge it, and who of them is to be asked to send again.
 ghost use Rattle.std.specs.Prelude.{◌≡◌, ℕ, ◌≤◌, ◌∷◌, List, [], length, replicate, slice_set, slice_index_or, true, Some, None, IfOk, OnOk, MatchOption};
 ghost use Rattle.ritas_base.specs.declared.event.Event.{Event};
-ghost use Rattle.keyed_channel.specs.Frames.{seq_of};
+ghost use Rattle.keyed_channel.specs.Lengths.{head_length};
 ghost use Rattle.replica.specs.Replica.{with_keys};
 ghost use Rattle.world_model.specs.World.{Setting, rules_at, states_of};
 ghost use Rattle.world_model.specs.EveryWorld.{IsWorld};
@@ -11,6 +11,7 @@ ghost use Rattle.node_loop.specs.Peers.{Peers, with_list, keeps, acknowledged, i
 ghost use Rattle.node_loop.specs.PeersStanding.{AreKept, IsKeeper};
 ghost use Rattle.node_loop.specs.Resending.{replica_progress, mark_at, peers_due};
 
+use keyed_channel::frame_header;
 use layer_api::{Broadcast, Service};
 use link_resume::{KeepFault, Resume};
 use replica::Replica;
@@ -81,27 +82,19 @@ pub(crate) fn mark_of<S: Service, E: Broadcast, C: Coin + Drop>(
     }
 }
 
-// The number that a frame carries.
-fn number_of(frame: &[u8]) -> u64
-    requires { 11 ≤ length frame.now }
-    ensures { result ≡ seq_of frame.now }
-{
-    let mut seq = [0; 8];
-    seq.copy_from_slice(&frame[3..11]);
-    u64::from_be_bytes(seq)
-}
-
-/// Keeps a frame under the number that it carries, unless too many bytes are kept for the peer. What is no peer, and what is no frame,
-/// is passed over. The one error is want of memory.
+/// Keeps a frame under the number that it carries, unless too many bytes are kept for the peer. What is no peer, and what is too short for
+/// a number, is passed over. The one error is want of memory.
 pub(crate) fn keep(resume: &mut Resume, alloc: Global, peer: u8, frame: &[u8]) -> Result<(), Mem>
-    ensures { (n i : ℕ) (p : Peers) → 11 ≤ length frame.now → AreKept n i resume.old p.keeping
+    ensures { (n i : ℕ) (p : Peers) → head_length ≤ length frame.now → AreKept n i resume.old p.keeping
         → OnOk result (AreKept n i resume.new (with_list i peer (keeps frame.now (p.keeping i peer)) p).keeping) }
 {
-    if usize::from(peer) >= resume.peers() || frame.len() < 11 {
+    let Some(header) = frame_header(frame) else {
+        return Ok(());
+    };
+    if usize::from(peer) >= resume.peers() {
         return Ok(());
     }
-    let seq = number_of(frame);
-    match resume.keep(alloc, peer, seq, frame) {
+    match resume.keep(alloc, peer, header.seq, frame) {
         Ok(()) => Ok(()),
         Err(KeepFault::QueueFull(_)) => Ok(()),
         Err(KeepFault::Mem) => Err(Mem),

@@ -1,5 +1,6 @@
 //! Events that a journal kept happen again.
 ghost use Rattle.std.specs.Prelude.{◌≡◌, ℕ, ◌≤◌, length, map, OnOk, MatchOption, All};
+ghost use Rattle.keyed_channel.specs.Lengths.{head_length};
 ghost use Rattle.link_resume.specs.Lists.{room_for};
 ghost use Rattle.schedule_file.specs.Spelling.{IsAlone};
 ghost use Rattle.world_model.specs.World.{seen_answer};
@@ -63,7 +64,7 @@ fn make_room(resume: &mut Resume, peer: u8, size: u64)
 
 // Keeps a frame of a replica for its peer; where it doesn't fit, the oldest are dropped first. The one error is want of memory.
 fn keep_newest(resume: &mut Resume, alloc: Global, frame: &OutFrame) -> Result<(), Mem>
-    ensures { (n i k : ℕ) (p : Peers) → 11 ≤ length frame.now.bytes → AreKept n i resume.old p.keeping
+    ensures { (n i k : ℕ) (p : Peers) → head_length ≤ length frame.now.bytes → AreKept n i resume.old p.keeping
         → OnOk result (AreKept n i resume.new (keep_newest (made_as k i frame.now) p).keeping) }
 {
     let bytes = frame.bytes.as_slice();
@@ -73,7 +74,7 @@ fn keep_newest(resume: &mut Resume, alloc: Global, frame: &OutFrame) -> Result<(
 
 // Keeps these frames of a replica for their peers so, in order.
 fn all_newest(resume: &mut Resume, alloc: Global, frames: &[OutFrame]) -> Result<(), Mem>
-    ensures { (n i k : ℕ) (p : Peers) → All (λ f. 11 ≤ length f.bytes) frames.now → AreKept n i resume.old p.keeping
+    ensures { (n i k : ℕ) (p : Peers) → All (λ f. head_length ≤ length f.bytes) frames.now → AreKept n i resume.old p.keeping
         → OnOk result (AreKept n i resume.new (all_newest (map (made_as k i) frames.now) p).keeping) }
 {
     for frame in frames {

@@ -1,5 +1,6 @@
 use Rattle.std.proofs.Common.{◌≤◌, ℕ, List, length, sym, subst, map, take}
 use Rattle.std.proofs.lemmas.List.{take_all}
+use Rattle.keyed_channel.specs.Lengths.{head_length}
 use Rattle.replica.specs.declared.frame.OutFrame.{OutFrame}
 use Rattle.node_loop.specs.Peers.{Peers, keep_all, keeps, with_list}
 use Rattle.node_loop.specs.PeersStanding.{AreKept, made_as}
@@ -14,10 +15,10 @@ loop-frame-preserved c = λ n i k p long kept.
     let xs = c.args.frames.now in
     let x : OutFrame = c.frame-item.result in
     let q : Peers = keep_all (map (made_as k i) (take c.loop-frame.frame-index xs)) p in
-    let size : 11 ≤ length x.bytes = subst (λ (f : OutFrame). 11 ≤ length f.bytes) (sym c.frame-item.is) (long c.loop-frame.frame-index x c.loop-frame-test.true) in
+    let size : head_length ≤ length x.bytes = subst (λ (f : OutFrame). head_length ≤ length f.bytes) (sym c.frame-item.is) (long c.loop-frame.frame-index x c.loop-frame-test.true) in
     subst (λ (r : Peers). AreKept n i c.keep.new.resume r.keeping) (sym (keep_next k i xs c.loop-frame.frame-index x p c.loop-frame-test.true c.frame-item.is))
     (subst (λ (bytes : List ℕ). AreKept n i c.keep.new.resume (with_list i x.to (keeps bytes (q.keeping i x.to)) q).keeping) c.as_slice.ensures
-    (c.in_ok-keep.ensures n i q (subst (λ (bytes : List ℕ). 11 ≤ length bytes) (sym c.as_slice.ensures) size) (c.loop-frame.invariant n i k p long kept)))
+    (c.in_ok-keep.ensures n i q (subst (λ (bytes : List ℕ). head_length ≤ length bytes) (sym c.as_slice.ensures) size) (c.loop-frame.invariant n i k p long kept)))
 
 pub returns : goal.returns
 returns c = λ n i k p long kept.

@@ -2,6 +2,7 @@ use Rattle.std.proofs.Common.{◌≡◌, ◌≤◌, true, false, List, length, m
 use Rattle.std.specs.List.{All}
 use Rattle.std.proofs.lemmas.Option.{slice_get_read, slice_get_within}
 use Rattle.std.proofs.lemmas.Result.{on_ok_weaker}
+use Rattle.keyed_channel.specs.Lengths.{head_length}
 use Rattle.replica.specs.declared.frame.OutFrame.{OutFrame}
 use Rattle.node_loop.specs.Peers.{keep_all}
 use Rattle.node_loop.specs.PeersStanding.{AreKept, made_as}
@@ -23,7 +24,7 @@ returns-in-Some-get_mut g c = λ w es numbers did more comes.
     let keepers = c.args.house.now.keepers.items in
     let there = slice_get_read keepers (length keepers) c.in-Some.place old refl c.in-Some-get_mut.ensures.item.3.0 c.in-Some-get_mut.ensures.value in
     let same : keep_all (map (made_as 0 at) frames) comes.before ≡ more.peers = same_kept w es did.event 0 at frames comes.before comes.frames ∙ comes.kept in
-    let long = subst (λ (fs : List OutFrame). All (λ f. 11 ≤ length f.bytes) fs) (sym c.as_slice.ensures.value) (have_numbers c.sealed_length.ensures w es did.event at frames comes.frames) in
+    let long = subst (λ (fs : List OutFrame). All (λ f. head_length ≤ length f.bytes) fs) (sym c.as_slice.ensures.value) (have_numbers c.sealed_length.ensures w es did.event at frames comes.frames) in
     on_ok_weaker c.keep_each.result
     (λ kept. house_kept _ w (onto did.event es) numbers c.args.house.now did.waiting comes.before more.peers 0 at c.in-Some.place frames old _ comes.stands number there same
     (subst (λ (fs : List OutFrame). AreKept w.numbers.n at c.keep_each.new.resume (keep_all (map (made_as 0 at) fs) comes.before).keeping) c.as_slice.ensures.value kept))

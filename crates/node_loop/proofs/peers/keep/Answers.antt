@@ -12,7 +12,7 @@ returns-in-Ok c = λ n i p long kept.
       | inl over ↦ absurd (let e = (c.in-Ok.ensures.full (bytes_in (kept_for c.args.resume.now c.args.peer))).1 (refl, over) in cc)
       | inr fits ↦ fits
     ] in
-    kept_more n i c.args.peer c.number_of-seq.result c.args.frame.now c.args.resume.now c.keep.new.self p kept here c.number_of-seq.ensures c.in-Ok.ensures.ok room
+    kept_more n i c.args.peer c.in-Some.header.seq c.args.frame.now c.args.resume.now c.keep.new.self p kept here c.in-Some.ensures.2 c.in-Ok.ensures.ok room
 
 pub returns-in-Err-QueueFull : goal.returns-in-Err-QueueFull
 returns-in-Err-QueueFull c = λ n i p long kept.

@@ -1,5 +1,6 @@
 use Rattle.std.proofs.Common.{◌≤◌, List, length, sym, subst, map, take}
 use Rattle.std.proofs.lemmas.List.{take_all}
+use Rattle.keyed_channel.specs.Lengths.{head_length}
 use Rattle.replica.specs.declared.frame.OutFrame.{OutFrame}
 use Rattle.node_loop.specs.Peers.{Peers}
 use Rattle.node_loop.specs.PeersStanding.{AreKept, made_as}
@@ -15,7 +16,7 @@ loop-frame-preserved c = λ n i k p long kept.
     let xs = c.args.frames.now in
     let x : OutFrame = c.frame-item.result in
     let q : Peers = all_newest (map (made_as k i) (take c.loop-frame.frame-index xs)) p in
-    let size : 11 ≤ length x.bytes = subst (λ (f : OutFrame). 11 ≤ length f.bytes) (sym c.frame-item.is) (long c.loop-frame.frame-index x c.loop-frame-test.true) in
+    let size : head_length ≤ length x.bytes = subst (λ (f : OutFrame). head_length ≤ length f.bytes) (sym c.frame-item.is) (long c.loop-frame.frame-index x c.loop-frame-test.true) in
     subst (λ (r : Peers). AreKept n i c.keep_newest.new.resume r.keeping) (sym (newest_next k i xs c.loop-frame.frame-index x p c.loop-frame-test.true c.frame-item.is))
     (c.in_ok-keep_newest.ensures n i k q size (c.loop-frame.invariant n i k p long kept))
 

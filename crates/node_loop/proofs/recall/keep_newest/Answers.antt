@@ -1,5 +1,6 @@
 use Rattle.std.proofs.Common.{◌≤◌, ℕ, List, length, OnOk, sym, subst}
 use Rattle.std.proofs.lemmas.Result.{on_ok_weaker}
+use Rattle.keyed_channel.specs.Lengths.{head_length}
 use Rattle.node_loop.specs.Peers.{with_list, keeps}
 use Rattle.node_loop.specs.PeersStanding.{AreKept}
 use Rattle.link_resume.specs.Lists.{room_for}
@@ -11,7 +12,7 @@ returns c = λ n i k p long kept.
     let to = c.args.frame.now.to in
     let bytes = c.as_slice-bytes.result.now in
     let same = c.as_slice-bytes.ensures in
-    let size : 11 ≤ length bytes = subst (λ (x : List ℕ). 11 ≤ length x) (sym same) long in
+    let size : head_length ≤ length bytes = subst (λ (x : List ℕ). head_length ≤ length x) (sym same) long in
     let room = room_for (length bytes) (p.keeping i to) in
     subst (λ (x : List ℕ). OnOk c.keep.result (AreKept n i c.keep.new.resume (with_list i to (keeps x (room_for (length x) (p.keeping i to))) p).keeping)) same
     (on_ok_weaker c.keep.result (kept_in_room n i to bytes room c.keep.new.resume p) (c.keep.ensures n i (with_list i to room p) size (c.make_room.ensures n i p kept)))

@@ -23,8 +23,8 @@ returns-clause-comes g c = λ w es numbers ws p i stand one at_number clear.
     let given = given_stands _ w es (e ∷ es) numbers c.args.self.now c.give.new.self ws p stand did.0 c.give.ensures.same.0 c.give.ensures.same.1 in
     let seen = c.in_ok-answer.ensures.answered w es numbers at stand.here number refl in
     let right = right_at _ w es numbers c.args.self.now.replicas.items c.args.place at stand.here number in
-    let h = heard _ w es numbers c.args.self.now.replicas.items c.give.new.self c.respond.new.self ws p c.args.place at bytes c.sender_and_number-carried.result c.args.output.now.more c.respond.new.output.more c.in_ok-answer.answer
-    stand.here number given clear.more seen (reads_of c.as_slice.result.now bytes c.sender_and_number-carried.result c.as_slice.ensures c.sender_and_number-carried.ensures) c.opened_parts.ensures c.opened_from_peer.ensures
+    let h = heard _ w es numbers c.args.self.now.replicas.items c.give.new.self c.respond.new.self ws p c.args.place at bytes c.frame_header-carried.result c.args.output.now.more c.respond.new.output.more c.in_ok-answer.answer
+    stand.here number given clear.more seen (reads_of c.as_slice.result.now bytes c.frame_header-carried.result c.as_slice.ensures c.frame_header-carried.ensures) c.opened_parts.ensures c.opened_from_peer.ensures
     c.respond.ensures.none (c.respond.ensures.marks w (e ∷ es) numbers ws p at given number) (c.respond.ensures.takes w (e ∷ es) numbers at given.here number) in
     let at_is = c.respond.ensures.same.0 in
     on_ok_weaker c.enter.result

@@ -3,6 +3,7 @@ use Rattle.std.specs.List.{All}
 use Rattle.std.proofs.lemmas.Bool.{both_ways}
 use Rattle.std.proofs.lemmas.Option.{slice_get_read, slice_get_within}
 use Rattle.std.proofs.lemmas.Result.{on_ok_weaker}
+use Rattle.keyed_channel.specs.Lengths.{head_length}
 use Rattle.replica.specs.declared.frame.OutFrame.{OutFrame}
 use Rattle.node_loop.specs.PeersStanding.{AreKept, made_as}
 use Rattle.node_loop.specs.Recovering.{recalled, all_newest}
@@ -27,7 +28,7 @@ returns-in-Some-get_mut g c = λ w es numbers ws p stand served.
     let number = (c.in-Some.ensures w (e ∷ es) numbers happened.0.here).1 in
     let keepers = house.keepers.items in
     let there = slice_get_read keepers (length keepers) c.in-Some.place old refl c.in-Some-get_mut.ensures.item.3.0 c.in-Some-get_mut.ensures.value in
-    let long = subst (λ (fs : List OutFrame). All (λ f. 11 ≤ length f.bytes) fs) (sym c.as_slice.ensures.value) (have_numbers c.sealed_length.ensures w es (Some e) at frames happened.1) in
+    let long = subst (λ (fs : List OutFrame). All (λ f. head_length ≤ length f.bytes) fs) (sym c.as_slice.ensures.value) (have_numbers c.sealed_length.ensures w es (Some e) at frames happened.1) in
     on_ok_weaker c.all_newest.result
     (λ kept. house_put newest _ w (e ∷ es) numbers house (recalled w es e ws).waiting p (all_newest (frames_made_by w es (Some e)) p) (all_newest (map (made_as 0 at) frames) p) 0 at c.in-Some.place frames old _
     happened.0 number there (all_put_newest (map (made_as 0 at) frames) p) (same_newest w es (Some e) 0 at frames p happened.1)

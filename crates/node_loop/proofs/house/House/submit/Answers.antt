@@ -13,9 +13,9 @@ use Rattle.node_loop.proofs.Comings.{right_at, given_stands, wait_else, quietly,
 use Rattle.node_loop.proofs.house.House.submit.Goals as goal
 
 pub returns-in_ok-enter-in-Some-clause-comes : goal.returns-in_ok-enter-in-Some-clause-comes
-returns-in_ok-enter-in-Some-clause-comes g c = λ w es numbers ws p stand number clear.
+returns-in_ok-enter-in-Some-clause-comes g c = λ w es numbers ws p stand number clear asked.
     let at = c.args.output.now.at in
-    let bytes = c.args.bytes in
+    let bytes = c.args.message.bytes in
     let e : Event = Input at bytes in
     let did = c.in_ok-answer.ensures.does w es numbers at stand.here number refl in
     let given = given_stands _ w es (e ∷ es) numbers c.args.self.now c.give.new.self ws p stand did.0 c.give.ensures.same.0 c.give.ensures.same.1 in
@@ -26,34 +26,32 @@ returns-in_ok-enter-in-Some-clause-comes g c = λ w es numbers ws p stand number
     (c.rows_at-count.ensures w es numbers at stand.here number) clear.frames did.1 clear.replies right (c.enter.ensures.same.3 ∙ clear.more)
     entered.0 entered.1 c.enter.ensures.same.0 c.enter.ensures.same.1 (c.enter.ensures.same.4 ∙ c.is_kept-output.ensures ∙ ap (is_kept_so e) seen) (ap (λ v. v.items) c.enter.ensures.same.2) in
     let code : refusal_in (seen_of w es e) ≡ Some c.in-Some.code = ap refusal_in (sym seen) ∙ sym c.refusal_in.ensures ∙ c.in-Some.is in
-    let asked : c.asked_in-asked.result ≡ asked_in at bytes = c.asked_in-asked.ensures ∙ ap (asked_in at) c.as_slice.ensures in
     let said = c.write_refusal-refusal.ensures ∙ ap (λ (a : Asked). refusal_reply a.client a.request c.in-Some.code) asked in
-    let more = reply at (refusal_reply (asked_in at bytes).client (asked_in at bytes).request c.in-Some.code) c.args.conn in
+    let more = reply at (refusal_reply (asked_in at bytes).client (asked_in at bytes).request c.in-Some.code) c.args.message.conn in
     on_ok_weaker c.reply.result
-    (λ replied. comes_as _ w es numbers c.enter.new.self c.reply.new.output (refusal_replied w es at c.args.conn bytes c.in-Some.code ws) (submitted w es at c.args.conn bytes ws) (quietly w es p)
-    (sym (ap (submitted_so w es at c.args.conn bytes ws) code))
+    (λ replied. comes_as _ w es numbers c.enter.new.self c.reply.new.output (refusal_replied w es at c.args.message.conn bytes c.in-Some.code ws) (submitted w es at c.args.message.conn bytes ws) (quietly w es p)
+    (sym (ap (submitted_so w es at c.args.message.conn bytes ws) code))
     (replied_too _ w es numbers c.enter.new.self c.enter.new.output c.reply.new.output at (event_called w es at e ws) more (quietly w es p (event_called w es at e ws)) comes c.enter.ensures.same.0
     c.reply.ensures.same.0 c.reply.ensures.same.1 c.reply.ensures.same.4 c.reply.ensures.same.2 c.reply.ensures.same.3
-    (replied ∙ ap (λ b. map (reply_by at) c.enter.new.output.replies.items ++ reply at b c.args.conn) said)))
+    (replied ∙ ap (λ b. map (reply_by at) c.enter.new.output.replies.items ++ reply at b c.args.message.conn) said)))
     (c.reply.ensures.replies at)
 
 pub returns-in_ok-push-in-None-clause-comes : goal.returns-in_ok-push-in-None-clause-comes
-returns-in_ok-push-in-None-clause-comes g c = λ w es numbers ws p stand number clear.
+returns-in_ok-push-in-None-clause-comes g c = λ w es numbers ws p stand number clear asked.
     let at = c.args.output.now.at in
-    let bytes = c.args.bytes in
+    let bytes = c.args.message.bytes in
     let e : Event = Input at bytes in
     let did = c.in_ok-answer.ensures.does w es numbers at stand.here number refl in
     let given = given_stands _ w es (e ∷ es) numbers c.args.self.now c.give.new.self ws p stand did.0 c.give.ensures.same.0 c.give.ensures.same.1 in
-    let asked : c.asked_in-asked.result ≡ asked_in at bytes = c.asked_in-asked.ensures ∙ ap (asked_in at) c.as_slice.ensures in
-    let us = with_waiter (asked_in at bytes) c.args.conn ws in
-    let P : Asked → Type 0 = λ a. IsWaiting c.push.new.self (with_waiter a c.args.conn ws) in
+    let us = with_waiter (asked_in at bytes) c.args.message.conn ws in
+    let P : Asked → Type 0 = λ a. IsWaiting c.push.new.self (with_waiter a c.args.message.conn ws) in
     let waits = subst P asked (c.in_ok-push-in-None.ensures ws given.waiting) in
     let seen = c.in_ok-answer.ensures.answered w es numbers at stand.here number refl in
     let code : refusal_in (seen_of w es e) ≡ None = ap refusal_in (sym seen) ∙ sym c.refusal_in.ensures ∙ c.in-None.is in
     let right = right_at _ w es numbers c.args.self.now.replicas.items c.args.place at stand.here number in
     on_ok_weaker c.enter-in-None.result
-    (λ x. comes_as _ w es numbers c.enter-in-None.new.self c.enter-in-None.new.output (request_taken w es at c.args.conn bytes ws) (submitted w es at c.args.conn bytes ws) (quietly w es p)
-    (sym (ap (submitted_so w es at c.args.conn bytes ws) code))
+    (λ x. comes_as _ w es numbers c.enter-in-None.new.self c.enter-in-None.new.output (request_taken w es at c.args.message.conn bytes ws) (submitted w es at c.args.message.conn bytes ws) (quietly w es p)
+    (sym (ap (submitted_so w es at c.args.message.conn bytes ws) code))
     (came_quietly _ w es numbers c.enter-in-None.new.self c.enter-in-None.new.output at c.rows_at-count.result e c.args.output.now.frames.items c.give.new.frames.items c.args.output.now.replies.items us p
     (c.rows_at-count.ensures w es numbers at stand.here number) clear.frames did.1 clear.replies right (c.enter-in-None.ensures.same.3 ∙ clear.more)
     x.0 x.1 c.enter-in-None.ensures.same.0 c.enter-in-None.ensures.same.1 (c.enter-in-None.ensures.same.4 ∙ c.is_kept-output.ensures ∙ ap (is_kept_so e) seen) (ap (λ v. v.items) c.enter-in-None.ensures.same.2)))
