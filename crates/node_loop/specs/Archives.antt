@@ -1,8 +1,6 @@
 -- What serving has beside its replicas: a link, a tape, and an archive that keeps events on a disk. Lists of events have the newest first.
 use Rattle.std.specs.Prelude.{◌≡◌, ℕ, List, ◌⊎◌}
 use Rattle.ritas_base.specs.declared.event.Event.{Event}
-use Rattle.outside.specs.Links.{LinkAct}
-use Rattle.outside.specs.declared.link.FaultCounts.{FaultCounts}
 use Rattle.node_loop.specs.declared.archive.ArchiveFault.{ArchiveFault}
 use Rattle.node_loop.specs.declared.archive.ArchiveFault.TheVariants as archive
 use Rattle.node_loop.specs.declared.archive.Outlets.{Outlets}
@@ -10,7 +8,7 @@ use Rattle.node_loop.specs.declared.end.Fault.{Fault}
 use Rattle.node_loop.specs.declared.end.Fault.TheVariants as faults
 use Rattle.node_loop.specs.declared.end.ServeEnd.{ServeEnd}
 use Rattle.node_loop.specs.declared.end.ServeEnd.TheVariants as ends
-use Rattle.node_loop.specs.Outs.{Outs, outs_of}
+use Rattle.node_loop.specs.Outs.{Outs}
 
 -- a moment: what the tape and the link have, for which events the archive stands, and over which group of them, behind which, it failed how
 pub record Moment : Type 1 where
@@ -20,11 +18,6 @@ pub record Moment : Type 1 where
 
 abbrev pub moment : Outs → (List Event → Type 0) → (ArchiveFault → List Event → List Event → Type 0) → Moment
 moment outs stands fails = record { outs = outs; stands = stands; fails = fails }
-
-abbrev pub moment_of : {L K A D : Type 0} → (K → List ℕ) → (K → ℕ) → (L → List LinkAct) → (L → FaultCounts)
-    → (A → D → List Event → Type 0) → (A → D → ArchiveFault → List Event → List Event → Type 0) → Outlets L K A D → Moment
-moment_of taken tape_faults told link_faults stands fails out =
-    moment (outs_of taken tape_faults told link_faults out.tape.now out.link.now) (stands out.archive.now out.disk.now) (fails out.archive.now out.disk.now)
 
 -- they are of the same link, tape, archive and disk
 abbrev pub AreSameOutlets : {L K A D : Type 0} → Outlets L K A D → Outlets L K A D → Type 0

@@ -3,11 +3,14 @@ use Rattle.std.specs.Prelude.{◌≡◌, ℕ, ◌≤◌, ◌<◌, ◌-◌, ◌^�
 use Rattle.ritas_base.specs.declared.event.Event.{Event}
 use Rattle.outside.specs.Disks.{DiskState, MayLeave, LeavesOnly, disk_state_of}
 use Rattle.outside.specs.Faults.{Rose}
+use Rattle.outside.specs.declared.disk.Disk.{Ghosts as DiskGhosts}
 use Rattle.schedule_file.specs.FileBytes.{limit}
 use Rattle.event_journal.specs.Journal.{Opens}
 use Rattle.event_journal.specs.Appending.{AllOpen, JournalState, OpensWithout, JournalStandsFor, length_with}
 use Rattle.node_loop.specs.declared.archive.ArchiveFault.{ArchiveFault}
 use Rattle.node_loop.specs.declared.archive.ArchiveFault.TheVariants as archive
+use Rattle.node_loop.specs.Archives.{Moment, moment}
+use Rattle.node_loop.specs.Outs.{Outs}
 
 -- an image opens as these past events and the first of the given ones
 pub record OpensSome (me : ℕ) (head : List ℕ) (past given : List Event) (image : List ℕ) : Type 0 where
@@ -64,3 +67,18 @@ NamedStands name past given journal tells before now few many =
 abbrev pub NamedFails : List ℕ → List Event → List Event → List Event → JournalState → Bool → List DiskState → List DiskState → ℕ → ℕ → ArchiveFault → Type 0
 NamedFails name past group older journal tells before now few many fault =
     (journal.me ≡ me_named name) × JournalFails (head_named name) past group older journal tells before now few many fault
+
+-- ---- a journal and its disk, as serving finds and leaves them
+
+-- where the disk tells, the journal was opened as past events
+abbrev pub OpenedAs : {D : Type 0} → DiskGhosts D → List ℕ → List Event → JournalState → D → Type 0
+OpenedAs storage head past journal disk =
+    storage.tells ≡ true → JournalStandsFor journal head past × AllOpen journal.me head past (disk_state_of (storage.told disk))
+
+-- the moment at which they are so, of replica `me` and of the disk before the first of the given events
+abbrev pub journal_moment : {D : Type 0} → DiskGhosts D → List ℕ → List Event → ℕ → D → Outs → JournalState → D → Moment
+journal_moment storage head past me before outs journal disk = moment outs
+    (λ given. (journal.me ≡ me)
+    × JournalStands head past given journal storage.tells (storage.told before) (storage.told disk) (storage.faults before) (storage.faults disk))
+    (λ fault group older. (journal.me ≡ me)
+    × JournalFails head past group older journal storage.tells (storage.told before) (storage.told disk) (storage.faults before) (storage.faults disk) fault)

@@ -10,6 +10,7 @@ pub mod Served
 pub mod PeersStanding
 pub mod Standing
 pub mod Archives
+pub mod Meanings
 pub mod ServedKept
 pub mod Groups
 pub mod Running

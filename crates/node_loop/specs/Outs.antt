@@ -4,9 +4,11 @@ use Rattle.std.specs.List.{flat_map}
 use Rattle.ritas_base.specs.declared.event.Event.{Event}
 use Rattle.outside.specs.Faults.{count_after}
 use Rattle.outside.specs.Links.{LinkAct, failed_once, short_once}
-use Rattle.outside.specs.LinkCalls.{TookBack}
+use Rattle.outside.specs.LinkCalls.{LinkDid, TookBack}
 use Rattle.outside.specs.Writing.{TookFront}
 use Rattle.outside.specs.declared.link.FaultCounts.{FaultCounts}
+use Rattle.outside.specs.declared.link.Link.{Ghosts as LinkGhosts}
+use Rattle.outside.specs.declared.sink.Sink.{Ghosts as SinkGhosts}
 use Rattle.outside.specs.declared.link.LinkFault.{LinkFault}
 use Rattle.outside.specs.declared.link.LinkFault.TheVariants as link_faults
 use Rattle.schedule_file.specs.Spelling.{event_text}
@@ -24,13 +26,19 @@ pub record Outs : Type 0 where
   pub told : List LinkAct
   pub link_faults : FaultCounts
 
-abbrev pub outs_of : {K L : Type 0} → (K → List ℕ) → (K → ℕ) → (L → List LinkAct) → (L → FaultCounts) → K → L → Outs
-outs_of taken tape_faults told link_faults tape link = record {
-  taken = taken tape;
-  tape_faults = tape_faults tape;
-  told = told link;
-  link_faults = link_faults link;
+-- a tape and a link as they are
+abbrev pub outs_of : {K L : Type 0} → SinkGhosts K → LinkGhosts L → K → L → Outs
+outs_of sink connection tape link = record {
+  taken = sink.taken tape;
+  tape_faults = sink.faults tape;
+  told = connection.told link;
+  link_faults = connection.faults link;
 }
+
+-- a link did these calls, the newest first, or as many of them as came before its fault
+abbrev pub LinkTook : {L : Type 0} → LinkGhosts L → List LinkAct → L → L → Result (Unit {0}) LinkFault → Type 0
+LinkTook connection acts old new result =
+    LinkDid connection.tells acts (connection.told old) (connection.told new) (connection.faults old) (connection.faults new) result
 
 -- no call of them failed, and none of the link was without memory
 abbrev pub NoneFailed : Outs → Outs → Type 0
@@ -52,6 +60,9 @@ FellShort base now = (now.tape_faults ≡ base.tape_faults) × ((now.link_faults
 pub record Tells : Type 0 where
   pub tape : Bool
   pub link : Bool
+
+abbrev pub tells_of : {K L : Type 0} → SinkGhosts K → LinkGhosts L → Tells
+tells_of sink connection = record { tape = sink.tells; link = connection.tells }
 
 -- since base, the tape took these events, the link told these calls, and none failed or was without memory
 pub record Agrees (tells : Tells) (base now : Outs) (events : List Event) (acts : List LinkAct) : Type 0 where

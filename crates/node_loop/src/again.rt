@@ -2,17 +2,15 @@
 ghost use Rattle.std.specs.Prelude.{◌≡◌, ℕ, [], List, true, reverse};
 ghost use Rattle.std.specs.List.{AllByRecursion};
 ghost use Rattle.ritas_base.specs.declared.event.Event.{Event};
-ghost use Rattle.outside.specs.Disks.{disk_state_of};
-ghost use Rattle.replica.specs.Replica.{with_keys};
 ghost use Rattle.schedule_file.specs.Spelling.{IsSized};
 ghost use Rattle.world_model.specs.World.{Setting};
-ghost use Rattle.event_journal.specs.Appending.{AllOpen, JournalStandsFor};
 ghost use Rattle.event_journal.specs.Journal.{IsRecord};
+ghost use Rattle.node_loop.specs.Meanings.{meaning_of, moment_of, moment_at};
 ghost use Rattle.node_loop.specs.Again.{ServesAgain};
-ghost use Rattle.node_loop.specs.Archives.{AreSameOutlets, moment, moment_of};
-ghost use Rattle.node_loop.specs.Journals.{JournalStands, JournalFails};
+ghost use Rattle.node_loop.specs.Archives.{AreSameOutlets};
+ghost use Rattle.node_loop.specs.Journals.{journal_moment, OpenedAs};
 ghost use Rattle.node_loop.specs.Laws.{IsServed};
-ghost use Rattle.node_loop.specs.Outs.{outs_of};
+ghost use Rattle.node_loop.specs.Outs.{outs_of, tells_of};
 ghost use Rattle.node_loop.specs.Peers.{no_peers};
 ghost use Rattle.node_loop.specs.Served.{AreHere};
 ghost use Rattle.node_loop.specs.Standing.{HouseStands};
@@ -54,13 +52,13 @@ fn serve_again<
 ) -> ServeEnd
     requires { AllByRecursion IsSized recovered.now }
     ensures same { AreSameOutlets out.old out.new }
-    ensures goes { let m = with_keys S.stands S.rules S.shown E.stands E.rules E.shown C.bits in
+    ensures goes { let m = meaning_of S.Service E.Broadcast C.Coin in
         (head : List ℕ) (before : D) (w : Setting) (numbers : List ℕ) → HouseStands m w [] numbers house.old nobody no_peers
         → AllByRecursion (IsServed w) recovered.now
         → A.stands head before (reverse recovered.now) out.old.archive.now out.old.disk.now []
-        → ServesAgain m w (reverse recovered.now) numbers house.new.replicas.items (record { tape = K.tells; link = L.tells })
-        (outs_of K.taken K.faults L.told L.faults out.old.tape.now out.old.link.now)
-        (moment_of K.taken K.faults L.told L.faults (A.stands head before (reverse recovered.now)) (A.fails head before (reverse recovered.now)) out.new)
+        → ServesAgain m w (reverse recovered.now) numbers house.new.replicas.items (tells_of K.Sink L.Link)
+        (outs_of K.Sink L.Link out.old.tape.now out.old.link.now)
+        (moment_of K.Sink L.Link A.Archive head before (reverse recovered.now) out.new)
         result bounds.until bounds.limit }
 {
     let mut output = Output::new(alloc);
@@ -98,13 +96,13 @@ fn serve_again_with<
     recovered: &[Event],
 ) -> ServeEnd
     requires { AllByRecursion IsSized recovered.now }
-    ensures { let m = with_keys S.stands S.rules S.shown E.stands E.rules E.shown C.bits in
+    ensures { let m = meaning_of S.Service E.Broadcast C.Coin in
         (head : List ℕ) (before : D) (w : Setting) (numbers : List ℕ) → HouseStands m w [] numbers house.old nobody no_peers
         → AllByRecursion (IsServed w) recovered.now
         → A.stands head before (reverse recovered.now) archive.old disk.old []
-        → ServesAgain m w (reverse recovered.now) numbers house.new.replicas.items (record { tape = K.tells; link = L.tells })
-        (outs_of K.taken K.faults L.told L.faults tape.old link.old)
-        (moment (outs_of K.taken K.faults L.told L.faults tape.new link.new) (A.stands head before (reverse recovered.now) archive.new disk.new) (A.fails head before (reverse recovered.now) archive.new disk.new))
+        → ServesAgain m w (reverse recovered.now) numbers house.new.replicas.items (tells_of K.Sink L.Link)
+        (outs_of K.Sink L.Link tape.old link.old)
+        (moment_at A.Archive head before (reverse recovered.now) (outs_of K.Sink L.Link tape.new link.new) archive.new disk.new)
         result bounds.until bounds.limit }
 {
     let mut out = Outlets {
@@ -153,14 +151,12 @@ pub fn serve_kept<
 ) -> ServeEnd
     requires live { journal.old.live ≡ true }
     requires own { AllByRecursion (IsRecord journal.old.me) recovered.now.items }
-    ensures { let m = with_keys S.stands S.rules S.shown E.stands E.rules E.shown C.bits in
+    ensures { let m = meaning_of S.Service E.Broadcast C.Coin in
         (head : List ℕ) (w : Setting) (numbers : List ℕ) → AreHere m w [] numbers replicas.old.items → w.is_correct journal.old.me ≡ true
-        → (D.tells ≡ true → JournalStandsFor journal.old head (reverse recovered.now.items) × AllOpen journal.old.me head (reverse recovered.now.items) (disk_state_of (D.told disk.old)))
-        → ServesAgain m w (reverse recovered.now.items) numbers replicas.new.items (record { tape = K.tells; link = L.tells })
-        (outs_of K.taken K.faults L.told L.faults tape.old link.old)
-        (moment (outs_of K.taken K.faults L.told L.faults tape.new link.new)
-        (λ given. (journal.new.me ≡ journal.old.me) × JournalStands head (reverse recovered.now.items) given journal.new D.tells (D.told disk.old) (D.told disk.new) (D.faults disk.old) (D.faults disk.new))
-        (λ fault group older. (journal.new.me ≡ journal.old.me) × JournalFails head (reverse recovered.now.items) group older journal.new D.tells (D.told disk.old) (D.told disk.new) (D.faults disk.old) (D.faults disk.new) fault))
+        → OpenedAs D.Disk head (reverse recovered.now.items) journal.old disk.old
+        → ServesAgain m w (reverse recovered.now.items) numbers replicas.new.items (tells_of K.Sink L.Link)
+        (outs_of K.Sink L.Link tape.old link.old)
+        (journal_moment D.Disk head (reverse recovered.now.items) journal.old.me disk.old (outs_of K.Sink L.Link tape.new link.new) journal.new disk.new)
         result until limit }
 {
     let mut house = match House::new(alloc, replicas) {

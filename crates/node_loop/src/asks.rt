@@ -78,10 +78,10 @@ impl<S: Service, E: Broadcast, C: Coin + Drop> House<S, E, C> {
     ghost use Rattle.ritas_base.specs.declared.event.Event.TheVariants.{Frame};
     ghost use Rattle.outside.specs.Links.{bytes_of};
     ghost use Rattle.command_log.specs.Rows.{position_of};
-    ghost use Rattle.replica.specs.Replica.{with_keys};
     ghost use Rattle.schedule_file.specs.Spelling.{IsSized};
     ghost use Rattle.world_model.specs.World.{Setting, seen_answer};
     ghost use Rattle.world_model.specs.Agree.{rows_at};
+    ghost use Rattle.node_loop.specs.Meanings.{meaning_of};
     ghost use Rattle.node_loop.specs.Waiting.{Waiting};
     ghost use Rattle.keyed_channel.specs.Frames.{opening};
     ghost use Rattle.keyed_channel.specs.Notes.{ack_note, noted};
@@ -102,7 +102,7 @@ impl<S: Service, E: Broadcast, C: Coin + Drop> House<S, E, C> {
         message: Message,
         output: &mut Output,
     ) -> Result<(), Mem>
-        ensures comes { let m = with_keys S.stands S.rules S.shown E.stands E.rules E.shown C.bits in
+        ensures comes { let m = meaning_of S.Service E.Broadcast C.Coin in
             (w : Setting) (es : List Event) (numbers : List ℕ) (ws : Waiting) (p : Peers) → HouseStands m w es numbers self.old ws p
             → slice_get numbers place ≡ Some output.old.at → IsEmptyOutput output.old → message.asked ≡ asked_in output.old.at message.bytes
             → let did = submitted w es output.old.at message.conn message.bytes ws in
@@ -133,7 +133,7 @@ impl<S: Service, E: Broadcast, C: Coin + Drop> House<S, E, C> {
 
     // The position of a request in the log of the replica at a place.
     fn position_at(&self, place: usize, asked: Asked) -> Option<u32>
-        ensures { let m = with_keys S.stands S.rules S.shown E.stands E.rules E.shown C.bits in
+        ensures { let m = meaning_of S.Service E.Broadcast C.Coin in
             (w : Setting) (es : List Event) (numbers : List ℕ) (at : ℕ) → AreHere m w es numbers self.now.replicas.items → slice_get numbers place ≡ Some at
             → result ≡ position_of (rows_at w es at) asked.client asked.request }
     {
@@ -151,7 +151,7 @@ impl<S: Service, E: Broadcast, C: Coin + Drop> House<S, E, C> {
         message: Message,
         output: &mut Output,
     ) -> Result<(), Mem>
-        ensures comes { let m = with_keys S.stands S.rules S.shown E.stands E.rules E.shown C.bits in
+        ensures comes { let m = meaning_of S.Service E.Broadcast C.Coin in
             (w : Setting) (es : List Event) (numbers : List ℕ) (ws : Waiting) (p : Peers) → HouseStands m w es numbers self.old ws p
             → slice_get numbers place ≡ Some output.old.at → IsEmptyOutput output.old → message.asked ≡ asked_in output.old.at message.bytes
             → let did = asked_so w es output.old.at message.conn message.bytes ws
@@ -179,7 +179,7 @@ impl<S: Service, E: Broadcast, C: Coin + Drop> House<S, E, C> {
         bytes: Bytes,
         output: &mut Output,
     ) -> Result<(), Mem>
-        ensures comes { let m = with_keys S.stands S.rules S.shown E.stands E.rules E.shown C.bits in
+        ensures comes { let m = meaning_of S.Service E.Broadcast C.Coin in
             (w : Setting) (es : List Event) (numbers : List ℕ) (ws : Waiting) (p : Peers) → HouseStands m w es numbers self.old ws p
             → let did = if_here w at (asks w es at conn bytes ws) ws in
             OnOk result (ComesOut m w es numbers self.new output.new did (nothing_more (keep_all (frames_made_by w es did.event) p))) }
@@ -200,7 +200,7 @@ impl<S: Service, E: Broadcast, C: Coin + Drop> House<S, E, C> {
 
     // A note comes to the replica at a place: what is acknowledged isn't kept any more, or what is kept is to go out again.
     fn note(&mut self, place: usize, bytes: &[u8], output: &mut Output)
-        ensures comes { let m = with_keys S.stands S.rules S.shown E.stands E.rules E.shown C.bits in
+        ensures comes { let m = meaning_of S.Service E.Broadcast C.Coin in
             (w : Setting) (es : List Event) (numbers : List ℕ) (ws : Waiting) (p : Peers) → HouseStands m w es numbers self.old ws p
             → slice_get numbers place ≡ Some output.old.at → IsEmptyOutput output.old
             → ComesOut m w es numbers self.new output.new (silent [] ws) (noted_so output.old.at p (noted (w.keys output.old.at) bytes.now)) }
@@ -223,7 +223,7 @@ impl<S: Service, E: Broadcast, C: Coin + Drop> House<S, E, C> {
 
     // A peer is marked at the replica at a place, as that stands now.
     fn mark(&mut self, place: usize, peer: u8)
-        ensures { let m = with_keys S.stands S.rules S.shown E.stands E.rules E.shown C.bits in
+        ensures { let m = meaning_of S.Service E.Broadcast C.Coin in
             (w : Setting) (es : List Event) (numbers : List ℕ) (ws : Waiting) (p : Peers) (at : ℕ) → HouseStands m w es numbers self.old ws p
             → slice_get numbers place ≡ Some at
             → HouseStands m w es numbers self.new ws (with_mark at peer (Some (mark_at w es at peer)) p) }
@@ -238,7 +238,7 @@ impl<S: Service, E: Broadcast, C: Coin + Drop> House<S, E, C> {
 
     // The note that the replica at a place took the frame of this number is to go to its sender.
     fn acknowledge(&self, place: usize, frame: FrameHeader, output: &mut Output)
-        ensures note { let m = with_keys S.stands S.rules S.shown E.stands E.rules E.shown C.bits in
+        ensures note { let m = meaning_of S.Service E.Broadcast C.Coin in
             (w : Setting) (es : List Event) (numbers : List ℕ) (at : ℕ) → AreHere m w es numbers self.now.replicas.items → slice_get numbers place ≡ Some at
             → frame.from < w.numbers.n → output.new.more ≡ mores.Note frame.from (ack_note (w.keys at) frame.from frame.seq) }
         ensures same { (output.new.at ≡ output.old.at) × (output.new.event ≡ output.old.event) × (output.new.frames ≡ output.old.frames) × (output.new.replies ≡ output.old.replies) × (output.new.kept ≡ output.old.kept) }
@@ -263,12 +263,12 @@ impl<S: Service, E: Broadcast, C: Coin + Drop> House<S, E, C> {
         output: &mut Output,
     )
         ensures none { is_answer_opened answer ≡ false → (self.new ≡ self.old) × (output.new.more ≡ output.old.more) }
-        ensures marks { let m = with_keys S.stands S.rules S.shown E.stands E.rules E.shown C.bits in
+        ensures marks { let m = meaning_of S.Service E.Broadcast C.Coin in
             (w : Setting) (es : List Event) (numbers : List ℕ) (ws : Waiting) (p : Peers) (at : ℕ) → HouseStands m w es numbers self.old ws p
             → slice_get numbers place ≡ Some at → is_answer_opened answer ≡ true → is_deferred (seen_answer answer) ≡ true
             → IfSome carried (λ frame. HouseStands m w es numbers self.new ws (with_mark at frame.from (Some (mark_at w es at frame.from)) p)
             × (output.new.more ≡ output.old.more)) }
-        ensures takes { let m = with_keys S.stands S.rules S.shown E.stands E.rules E.shown C.bits in
+        ensures takes { let m = meaning_of S.Service E.Broadcast C.Coin in
             (w : Setting) (es : List Event) (numbers : List ℕ) (at : ℕ) → AreHere m w es numbers self.old.replicas.items
             → slice_get numbers place ≡ Some at → is_answer_opened answer ≡ true → is_deferred (seen_answer answer) ≡ false
             → IfSome carried (λ frame. frame.from < w.numbers.n
@@ -296,7 +296,7 @@ impl<S: Service, E: Broadcast, C: Coin + Drop> House<S, E, C> {
         bytes: Bytes,
         output: &mut Output,
     ) -> Result<(), Mem>
-        ensures comes { let m = with_keys S.stands S.rules S.shown E.stands E.rules E.shown C.bits in
+        ensures comes { let m = meaning_of S.Service E.Broadcast C.Coin in
             (w : Setting) (es : List Event) (numbers : List ℕ) (ws : Waiting) (p : Peers) (at : ℕ) → HouseStands m w es numbers self.old ws p
             → at ≡ output.old.at → slice_get numbers place ≡ Some at → IsEmptyOutput output.old
             → OnOk result (ComesOut m w es numbers self.new output.new (event_called w es at (Frame at bytes) ws)
@@ -320,7 +320,7 @@ impl<S: Service, E: Broadcast, C: Coin + Drop> House<S, E, C> {
 
     // A frame or a note comes to a replica, if that is here. The one error is want of memory.
     fn hear(&mut self, alloc: Global, to: u8, bytes: Bytes, output: &mut Output) -> Result<(), Mem>
-        ensures comes { let m = with_keys S.stands S.rules S.shown E.stands E.rules E.shown C.bits in
+        ensures comes { let m = meaning_of S.Service E.Broadcast C.Coin in
             (w : Setting) (es : List Event) (numbers : List ℕ) (ws : Waiting) (p : Peers) → HouseStands m w es numbers self.old ws p
             → let did = item_does w es (items.Frame to bytes) ws in
             OnOk result (ComesOut m w es numbers self.new output.new did (item_brings w es (items.Frame to bytes) (keep_all (frames_made_by w es did.event) p))) }
@@ -339,7 +339,7 @@ impl<S: Service, E: Broadcast, C: Coin + Drop> House<S, E, C> {
 
     // A peer of a replica has a connection: what is kept for it is to go out again.
     fn up(&mut self, at: u8, peer: u8, output: &mut Output)
-        ensures comes { let m = with_keys S.stands S.rules S.shown E.stands E.rules E.shown C.bits in
+        ensures comes { let m = meaning_of S.Service E.Broadcast C.Coin in
             (w : Setting) (es : List Event) (numbers : List ℕ) (ws : Waiting) (p : Peers) → HouseStands m w es numbers self.old ws p
             → ComesOut m w es numbers self.new output.new (silent [] ws) (item_brings w es (items.Up at peer) p) }
         ensures none { output.new.event ≡ None }
@@ -363,7 +363,7 @@ impl<S: Service, E: Broadcast, C: Coin + Drop> House<S, E, C> {
         output: &mut Output,
     ) -> Result<(), Mem>
         requires { length (bytes_of item) < 2 ^ 16 }
-        ensures comes { let m = with_keys S.stands S.rules S.shown E.stands E.rules E.shown C.bits in
+        ensures comes { let m = meaning_of S.Service E.Broadcast C.Coin in
             (w : Setting) (es : List Event) (numbers : List ℕ) (ws : Waiting) (p : Peers) → HouseStands m w es numbers self.old ws p
             → let did = item_does w es item ws in
             OnOk result (ComesOut m w es numbers self.new output.new did (item_brings w es item (keep_all (frames_made_by w es did.event) p))) }
@@ -396,7 +396,7 @@ impl<S: Service, E: Broadcast, C: Coin + Drop> House<S, E, C> {
         output: &mut Output,
     ) -> Result<(), Mem>
         requires { MayBegin item.now }
-        ensures comes { let m = with_keys S.stands S.rules S.shown E.stands E.rules E.shown C.bits in
+        ensures comes { let m = meaning_of S.Service E.Broadcast C.Coin in
             (w : Setting) (es : List Event) (numbers : List ℕ) (ws : Waiting) (p : Peers) → HouseStands m w es numbers self.old ws p
             → let did = first_does w es item.now ws in
             OnOk result (ComesOut m w es numbers self.new output.new did (nothing_more (keep_all (frames_made_by w es did.event) p))) }

@@ -14,10 +14,10 @@ impl<S: Service, E: Broadcast, C: Coin + Drop> House<S, E, C> {
     ghost use Rattle.std.specs.List.{slice_get};
     ghost use Rattle.ritas_base.specs.declared.event.Event.{Event};
     ghost use Rattle.ritas_base.specs.declared.event.Event.TheVariants.{Turn};
-    ghost use Rattle.replica.specs.Replica.{with_keys};
     ghost use Rattle.schedule_file.specs.Spelling.{IsAlone, IsSized};
     ghost use Rattle.world_model.specs.World.{Setting, seen_of, seen_answer};
     ghost use Rattle.world_model.specs.Agree.{rows_at};
+    ghost use Rattle.node_loop.specs.Meanings.{meaning_of};
     ghost use Rattle.node_loop.specs.Waiting.{Waiting};
     ghost use Rattle.node_loop.specs.Calls.{event_called, waiting_left_by, replies_by};
     ghost use Rattle.node_loop.specs.Peers.{Peers, keep_all};
@@ -28,7 +28,7 @@ impl<S: Service, E: Broadcast, C: Coin + Drop> House<S, E, C> {
 
     /// How many rows the log of the replica at a place has.
     pub(crate) fn rows_at(&self, place: usize) -> u32
-        ensures { let m = with_keys S.stands S.rules S.shown E.stands E.rules E.shown C.bits in
+        ensures { let m = meaning_of S.Service E.Broadcast C.Coin in
             (w : Setting) (es : List Event) (numbers : List ℕ) (at : ℕ) → AreHere m w es numbers self.now.replicas.items → slice_get numbers place ≡ Some at
             → result ≡ length (rows_at w es at) }
     {
@@ -46,11 +46,11 @@ impl<S: Service, E: Broadcast, C: Coin + Drop> House<S, E, C> {
         event: &Event,
         frames: &mut Vec<OutFrame>,
     ) -> Result<Result<Answer, Refusal>, Mem>
-        ensures does { let m = with_keys S.stands S.rules S.shown E.stands E.rules E.shown C.bits in
+        ensures does { let m = meaning_of S.Service E.Broadcast C.Coin in
             (w : Setting) (es : List Event) (numbers : List ℕ) (at : ℕ) → AreHere m w es numbers self.old.replicas.items → slice_get numbers place ≡ Some at
             → IsAlone at event.now → OnOk result (AreHere m w (event.now ∷ es) numbers self.new.replicas.items
             × (map (frame_by at) frames.new.items ≡ map (frame_by at) frames.old.items ++ sent_by w es (Some event.now))) }
-        ensures answered { let m = with_keys S.stands S.rules S.shown E.stands E.rules E.shown C.bits in
+        ensures answered { let m = meaning_of S.Service E.Broadcast C.Coin in
             (w : Setting) (es : List Event) (numbers : List ℕ) (at : ℕ) → AreHere m w es numbers self.old.replicas.items → slice_get numbers place ≡ Some at
             → IsAlone at event.now → IfOk result (λ answer. seen_answer answer ≡ seen_of w es event.now) }
         ensures same { (self.new.waiting ≡ self.old.waiting) × (self.new.keepers ≡ self.old.keepers) }
@@ -77,7 +77,7 @@ impl<S: Service, E: Broadcast, C: Coin + Drop> House<S, E, C> {
         count: u32,
         output: &mut Output,
     ) -> Result<(), Mem>
-        ensures enters { let m = with_keys S.stands S.rules S.shown E.stands E.rules E.shown C.bits in
+        ensures enters { let m = meaning_of S.Service E.Broadcast C.Coin in
             (w : Setting) (es : List Event) (numbers : List ℕ) (ws : Waiting) (p : Peers) → HouseStands m w es numbers self.old ws p → slice_get numbers place ≡ Some output.old.at
             → OnOk result (HouseStands m w es numbers self.new (waiting_left_by output.old.at count (rows_at w es output.old.at) ws) p
             × (map (reply_by output.old.at) output.new.replies.items
@@ -105,7 +105,7 @@ impl<S: Service, E: Broadcast, C: Coin + Drop> House<S, E, C> {
         event: Event,
         output: &mut Output,
     ) -> Result<(), Mem>
-        ensures comes { let m = with_keys S.stands S.rules S.shown E.stands E.rules E.shown C.bits in
+        ensures comes { let m = meaning_of S.Service E.Broadcast C.Coin in
             (w : Setting) (es : List Event) (numbers : List ℕ) (ws : Waiting) (p : Peers) → HouseStands m w es numbers self.old ws p → slice_get numbers place ≡ Some output.old.at
             → IsAlone output.old.at event → IsEmptyOutput output.old
             → OnOk result (ComesOut m w es numbers self.new output.new (event_called w es output.old.at event ws) (nothing_more (keep_all (frames_made_by w es (Some event)) p))) }
@@ -120,7 +120,7 @@ impl<S: Service, E: Broadcast, C: Coin + Drop> House<S, E, C> {
 
     /// A turn at a replica. The one error is want of memory.
     pub(crate) fn turn(&mut self, alloc: Global, at: u8, output: &mut Output) -> Result<(), Mem>
-        ensures comes { let m = with_keys S.stands S.rules S.shown E.stands E.rules E.shown C.bits in
+        ensures comes { let m = meaning_of S.Service E.Broadcast C.Coin in
             (w : Setting) (es : List Event) (numbers : List ℕ) (ws : Waiting) (p : Peers) → HouseStands m w es numbers self.old ws p → w.is_correct at ≡ true
             → OnOk result (ComesOut m w es numbers self.new output.new (event_called w es at (Turn at) ws) (nothing_more (keep_all (frames_made_by w es (Some (Turn at))) p))) }
         ensures sized { OnOk result (IfSome output.new.event IsSized) }

@@ -3,26 +3,26 @@ ghost use Rattle.std.specs.Prelude.{◌≡◌, ℕ, ◌<◌, ◌≤◌, ◌++◌
 ghost use Rattle.std.specs.List.{AllByRecursion};
 ghost use Rattle.ritas_base.specs.declared.event.Event.{Event};
 ghost use Rattle.outside.specs.Faults.{count_after};
-ghost use Rattle.outside.specs.LinkCalls.{LinkDid, each_act};
+ghost use Rattle.outside.specs.LinkCalls.{each_act};
 ghost use Rattle.outside.specs.Links.{LinkAct, Replies};
 ghost use Rattle.outside.specs.Writing.{TookFront};
 ghost use Rattle.outside.specs.declared.link.LinkItem.{LinkItem};
 ghost use Rattle.keyed_channel.specs.Lengths.{head_length};
 ghost use Rattle.link_resume.specs.Lists.{kept_for};
 ghost use Rattle.schedule_file.specs.Spelling.{IsSized};
-ghost use Rattle.replica.specs.Replica.{with_keys};
 ghost use Rattle.world_model.specs.World.{Setting};
+ghost use Rattle.node_loop.specs.Meanings.{meaning_of, moment_of};
 ghost use Rattle.node_loop.specs.Calls.{Outcome};
 ghost use Rattle.node_loop.specs.Waiting.{Waiting};
 ghost use Rattle.node_loop.specs.Peers.{Peers, keep_all};
 ghost use Rattle.node_loop.specs.PeersStanding.{AreKept, kept_by, made_as};
 ghost use Rattle.node_loop.specs.Resending.{Brought};
-ghost use Rattle.node_loop.specs.Outs.{Outs, Tells, Agrees, StepsInOrder, IsFaultOfLink, events_text};
+ghost use Rattle.node_loop.specs.Outs.{Outs, Tells, Agrees, StepsInOrder, IsFaultOfLink, events_text, tells_of, LinkTook};
 ghost use Rattle.node_loop.specs.Serving.{Serving, Round, so_far, onto, at_call, outcome, brought, after_from};
 ghost use Rattle.node_loop.specs.Standing.{HouseStands, ComesOut, frame_by, reply_by};
 ghost use Rattle.node_loop.specs.Groups.{FitsPeers, GroupHolds, JoinsGroup, Under, IsEmpty, more_by, acts_by, acts_each, if_kept};
 ghost use Rattle.node_loop.specs.Running.{Gathered, NotYet, Delivered, IsOfTape};
-ghost use Rattle.node_loop.specs.Archives.{AreSameOutlets, moment_of};
+ghost use Rattle.node_loop.specs.Archives.{AreSameOutlets};
 
 use crate::archive::{Archive, ArchiveFault, Outlets, fault_in};
 use crate::end::Fault;
@@ -57,7 +57,7 @@ fn keep_frames<S: Service, E: Broadcast, C: Coin + Drop>(
     alloc: Global,
     output: &Output,
 ) -> Result<(), Mem>
-    ensures { let m = with_keys S.stands S.rules S.shown E.stands E.rules E.shown C.bits in
+    ensures { let m = meaning_of S.Service E.Broadcast C.Coin in
         (w : Setting) (es : List Event) (numbers : List ℕ) (did : Outcome) (more : Brought)
         → ComesOut m w es numbers house.old output.now did more
         → OnOk result (HouseStands m w (onto did.event es) numbers house.new did.waiting more.peers) }
@@ -81,7 +81,7 @@ fn send_all<R: Net + Wait, L: Link>(
     at: u8,
     frames: &[OutFrame],
 ) -> Result<(), LinkFault>
-    ensures { LinkDid L.tells (each_act (frame_by at) frames.now) (L.told link.old) (L.told link.new) (L.faults link.old) (L.faults link.new) result }
+    ensures { LinkTook L.Link (each_act (frame_by at) frames.now) link.old link.new result }
 {
     for frame in frames {
         match link.send(rt, alloc, at, frame.to, frame.bytes.as_slice()) {
@@ -102,7 +102,7 @@ fn send_kept<R: Net + Wait, L: Link>(
     peer: u8,
 ) -> Result<(), LinkFault>
     requires { peer < length resume.now }
-    ensures { LinkDid L.tells (each_act (kept_by at peer) (kept_for resume.now peer)) (L.told link.old) (L.told link.new) (L.faults link.old) (L.faults link.new) result }
+    ensures { LinkTook L.Link (each_act (kept_by at peer) (kept_for resume.now peer)) link.old link.new result }
 {
     for place in 0..resume.count(peer) {
         let Some(kept) = resume.waiting(peer, place) else {
@@ -126,10 +126,10 @@ fn send_again<R: Net + Wait, S: Service, E: Broadcast, C: Coin + Drop, L: Link>(
     at: u8,
     peer: u8,
 ) -> Result<(), LinkFault>
-    ensures { let m = with_keys S.stands S.rules S.shown E.stands E.rules E.shown C.bits in
+    ensures { let m = meaning_of S.Service E.Broadcast C.Coin in
         (w : Setting) (es : List Event) (numbers : List ℕ) (ws : Waiting) (p : Peers) → HouseStands m w es numbers house.now ws p
         → FitsPeers w p.keeping at (More.Kept peer)
-        → LinkDid L.tells (each_act (kept_by at peer) (p.keeping at peer)) (L.told link.old) (L.told link.new) (L.faults link.old) (L.faults link.new) result }
+        → LinkTook L.Link (each_act (kept_by at peer) (p.keeping at peer)) link.old link.new result }
 {
     let Some(place) = house.place_of(at) else {
         // Nothing is kept at what isn't here.
@@ -155,10 +155,10 @@ fn send_more<R: Net + Wait, S: Service, E: Broadcast, C: Coin + Drop, L: Link>(
     at: u8,
     more: More,
 ) -> Result<(), LinkFault>
-    ensures { let m = with_keys S.stands S.rules S.shown E.stands E.rules E.shown C.bits in
+    ensures { let m = meaning_of S.Service E.Broadcast C.Coin in
         (w : Setting) (es : List Event) (numbers : List ℕ) (ws : Waiting) (p : Peers) → HouseStands m w es numbers house.now ws p
         → FitsPeers w p.keeping at more
-        → LinkDid L.tells (more_by p.keeping at more) (L.told link.old) (L.told link.new) (L.faults link.old) (L.faults link.new) result }
+        → LinkTook L.Link (more_by p.keeping at more) link.old link.new result }
 {
     match more {
         More::Nothing => Ok(()),
@@ -175,10 +175,10 @@ fn send_out<R: Net + Wait, S: Service, E: Broadcast, C: Coin + Drop, L: Link>(
     link: &mut L,
     output: &Output,
 ) -> Result<(), LinkFault>
-    ensures { let m = with_keys S.stands S.rules S.shown E.stands E.rules E.shown C.bits in
+    ensures { let m = meaning_of S.Service E.Broadcast C.Coin in
         (w : Setting) (es : List Event) (numbers : List ℕ) (ws : Waiting) (p : Peers) → HouseStands m w es numbers house.now ws p
         → FitsPeers w p.keeping output.now.at output.now.more
-        → LinkDid L.tells (acts_by p.keeping output.now) (L.told link.old) (L.told link.new) (L.faults link.old) (L.faults link.new) result }
+        → LinkTook L.Link (acts_by p.keeping output.now) link.old link.new result }
 {
     let at = output.at;
     match send_all(rt, alloc, link, at, output.frames.as_slice()) {
@@ -200,10 +200,10 @@ fn send_each<R: Net + Wait, S: Service, E: Broadcast, C: Coin + Drop, L: Link>(
     link: &mut L,
     outputs: &[Output],
 ) -> Result<(), LinkFault>
-    ensures { let m = with_keys S.stands S.rules S.shown E.stands E.rules E.shown C.bits in
+    ensures { let m = meaning_of S.Service E.Broadcast C.Coin in
         (w : Setting) (es : List Event) (numbers : List ℕ) (ws : Waiting) (p : Peers) → HouseStands m w es numbers house.now ws p
         → AllByRecursion (λ o. FitsPeers w p.keeping o.at o.more) outputs.now
-        → LinkDid L.tells (acts_each (acts_by p.keeping) outputs.now) (L.told link.old) (L.told link.new) (L.faults link.old) (L.faults link.new) result }
+        → LinkTook L.Link (acts_each (acts_by p.keeping) outputs.now) link.old link.new result }
 {
     for output in outputs {
         match send_out(rt, alloc, house, link, output) {
@@ -222,7 +222,7 @@ fn reply_all<R: Net + Wait, L: Link>(
     at: u8,
     replies: &[Reply],
 ) -> Result<(), LinkFault>
-    ensures { LinkDid L.tells (each_act Replies (map (reply_by at) replies.now)) (L.told link.old) (L.told link.new) (L.faults link.old) (L.faults link.new) result }
+    ensures { LinkTook L.Link (each_act Replies (map (reply_by at) replies.now)) link.old link.new result }
 {
     for given in replies {
         match link.reply(rt, alloc, at, given.conn, &given.bytes) {
@@ -306,7 +306,7 @@ pub(crate) fn gather<S: Service, E: Broadcast, C: Coin + Drop>(
     requires sized { AllByRecursion IsSized group.old.events.items }
     requires event { IfSome output.event IsSized }
     ensures sized { OnOk result (AllByRecursion IsSized group.new.events.items) }
-    ensures joins { let m = with_keys S.stands S.rules S.shown E.stands E.rules E.shown C.bits in
+    ensures joins { let m = meaning_of S.Service E.Broadcast C.Coin in
         (w : Setting) (past : List Event) (numbers : List ℕ) (start : Serving) (x : Round) (newest older : List Round)
         → let s = after_from w past start (newest ++ older) in
         ComesOut m w (so_far past (at_call x s)) numbers house.old output (outcome w past x s) (brought w past x s)
@@ -338,14 +338,14 @@ pub(crate) fn deliver<
     requires { AllByRecursion IsSized group.old.events.items }
     ensures same { AreSameOutlets out.old out.new }
     ensures empty { OnOk result (IsEmpty group.new) }
-    ensures goes { let m = with_keys S.stands S.rules S.shown E.stands E.rules E.shown C.bits in
+    ensures goes { let m = meaning_of S.Service E.Broadcast C.Coin in
         (head : List ℕ) (before : D) (w : Setting) (past : List Event) (numbers : List ℕ) (base : Outs) (taken until limit : ℕ) (start : Serving)
         (left : List LinkItem) (older : List Round) (given : List LinkAct)
         → Gathered m w past numbers house.now group.old taken until limit start left older given 64
-        → NotYet w past (record { tape = K.tells; link = L.tells }) base
-        (moment_of K.taken K.faults L.told L.faults (A.stands head before past) (A.fails head before past) out.old) start older given
-        → Delivered m w past numbers house.now (record { tape = K.tells; link = L.tells }) base
-        (moment_of K.taken K.faults L.told L.faults (A.stands head before past) (A.fails head before past) out.new) taken until limit start left result }
+        → NotYet w past (tells_of K.Sink L.Link) base
+        (moment_of K.Sink L.Link A.Archive head before past out.old) start older given
+        → Delivered m w past numbers house.now (tells_of K.Sink L.Link) base
+        (moment_of K.Sink L.Link A.Archive head before past out.new) taken until limit start left result }
 {
     match write(alloc, out.tape, group.events.as_slice()) {
         Ok(()) => {}

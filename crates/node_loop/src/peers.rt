@@ -2,10 +2,10 @@
 ghost use Rattle.std.specs.Prelude.{◌≡◌, ℕ, ◌≤◌, ◌∷◌, List, [], length, replicate, slice_set, slice_index_or, true, Some, None, IfOk, OnOk, MatchOption};
 ghost use Rattle.ritas_base.specs.declared.event.Event.{Event};
 ghost use Rattle.keyed_channel.specs.Lengths.{head_length};
-ghost use Rattle.replica.specs.Replica.{with_keys};
 ghost use Rattle.world_model.specs.World.{Setting, rules_at, states_of};
 ghost use Rattle.world_model.specs.EveryWorld.{IsWorld};
 ghost use Rattle.world_model.specs.Stands.{IsReplica};
+ghost use Rattle.node_loop.specs.Meanings.{meaning_of};
 ghost use Rattle.node_loop.specs.declared.peers.Pair.{Pair as APair};
 ghost use Rattle.node_loop.specs.Peers.{Peers, with_list, keeps, acknowledged, is_due_of};
 ghost use Rattle.node_loop.specs.PeersStanding.{AreKept, IsKeeper};
@@ -45,7 +45,7 @@ pub(crate) struct Keeper {
 
 // How far a replica has come: its completed rounds and all its bases.
 fn progress_of<S: Service, E: Broadcast, C: Coin + Drop>(replica: &Replica<S, E, C>) -> u64
-    ensures { let m = with_keys S.stands S.rules S.shown E.stands E.rules E.shown C.bits in
+    ensures { let m = meaning_of S.Service E.Broadcast C.Coin in
         (w : Setting) (es : List Event) (i : ℕ) → IsWorld m.service m.cast w → IsReplica m w (states_of w es) i replica.now
         → result ≡ replica_progress (rules_at w i) (states_of w es i) w.numbers.n }
 {
@@ -72,7 +72,7 @@ pub(crate) fn mark_of<S: Service, E: Broadcast, C: Coin + Drop>(
     replica: &Replica<S, E, C>,
     peer: u8,
 ) -> Mark
-    ensures { let m = with_keys S.stands S.rules S.shown E.stands E.rules E.shown C.bits in
+    ensures { let m = meaning_of S.Service E.Broadcast C.Coin in
         (w : Setting) (es : List Event) (i : ℕ) → IsWorld m.service m.cast w → IsReplica m w (states_of w es) i replica.now
         → result ≡ mark_at w es i peer }
 {
@@ -166,7 +166,7 @@ impl Keeper {
         &self,
         replica: &Replica<S, E, C>,
     ) -> Option<u8>
-        ensures { let m = with_keys S.stands S.rules S.shown E.stands E.rules E.shown C.bits in
+        ensures { let m = meaning_of S.Service E.Broadcast C.Coin in
             (w : Setting) (es : List Event) (i : ℕ) (p : Peers) → IsWorld m.service m.cast w → IsReplica m w (states_of w es) i replica.now
             → IsKeeper w.numbers.n i self.now p
             → MatchOption result (peers_due w es p i ≡ []) (λ j. (more : List APair) × (peers_due w es p i ≡ record { at = i; peer = j } ∷ more)) }

@@ -87,8 +87,8 @@ impl<S: Service, E: Broadcast, C: Coin + Drop> House<S, E, C> {
     ghost use Rattle.std.specs.Prelude.{◌≡◌, ℕ, [], ◌∷◌, true, map, reverse, List, Some, OnOk};
     ghost use Rattle.std.specs.List.{AllByRecursion};
     ghost use Rattle.ritas_base.specs.declared.event.Event.{Event};
-    ghost use Rattle.replica.specs.Replica.{with_keys};
     ghost use Rattle.world_model.specs.World.{Setting};
+    ghost use Rattle.node_loop.specs.Meanings.{meaning_of};
     ghost use Rattle.node_loop.specs.Waiting.{Waiting, nobody};
     ghost use Rattle.node_loop.specs.Peers.{Peers, no_peers};
     ghost use Rattle.node_loop.specs.Recovering.{recalled, all_newest, recalled_waiting, recalled_peers};
@@ -98,7 +98,7 @@ impl<S: Service, E: Broadcast, C: Coin + Drop> House<S, E, C> {
 
     // An event happens again: an input that is taken waits for its row with no connection. The one error is want of memory.
     fn happen(&mut self, alloc: Global, event: &Event, output: &mut Output) -> Result<(), Mem>
-        ensures { let m = with_keys S.stands S.rules S.shown E.stands E.rules E.shown C.bits in
+        ensures { let m = meaning_of S.Service E.Broadcast C.Coin in
             (w : Setting) (es : List Event) (numbers : List ℕ) (ws : Waiting) (p : Peers) → HouseStands m w es numbers self.old ws p → IsServed w event.now
             → OnOk result (HouseStands m w (event.now ∷ es) numbers self.new (recalled w es event.now ws).waiting p
             × (map (frame_by output.new.at) output.new.frames.items ≡ sent_by w es (Some event.now)) × (w.is_correct output.new.at ≡ true)) }
@@ -119,7 +119,7 @@ impl<S: Service, E: Broadcast, C: Coin + Drop> House<S, E, C> {
 
     // An event happens again, and its frames are kept for their peers. The one error is want of memory.
     fn recall(&mut self, alloc: Global, event: &Event, output: &mut Output) -> Result<(), Mem>
-        ensures { let m = with_keys S.stands S.rules S.shown E.stands E.rules E.shown C.bits in
+        ensures { let m = meaning_of S.Service E.Broadcast C.Coin in
             (w : Setting) (es : List Event) (numbers : List ℕ) (ws : Waiting) (p : Peers) → HouseStands m w es numbers self.old ws p → IsServed w event.now
             → OnOk result (HouseStands m w (event.now ∷ es) numbers self.new (recalled w es event.now ws).waiting (all_newest (frames_made_by w es (Some event.now)) p)) }
     {
@@ -142,7 +142,7 @@ impl<S: Service, E: Broadcast, C: Coin + Drop> House<S, E, C> {
         events: &[Event],
         output: &mut Output,
     ) -> Result<(), Mem>
-        ensures { let m = with_keys S.stands S.rules S.shown E.stands E.rules E.shown C.bits in
+        ensures { let m = meaning_of S.Service E.Broadcast C.Coin in
             (w : Setting) (numbers : List ℕ) → HouseStands m w [] numbers self.old nobody no_peers → AllByRecursion (IsServed w) events.now
             → OnOk result (HouseStands m w (reverse events.now) numbers self.new (recalled_waiting w (reverse events.now)) (recalled_peers w (reverse events.now))) }
     {

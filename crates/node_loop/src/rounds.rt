@@ -4,17 +4,17 @@ ghost use Rattle.std.specs.List.{AllByRecursion};
 ghost use Rattle.ritas_base.specs.declared.event.Event.{Event};
 ghost use Rattle.outside.specs.Links.{LinkAct, bytes_of};
 ghost use Rattle.outside.specs.declared.link.LinkItem.{LinkItem};
-ghost use Rattle.replica.specs.Replica.{with_keys};
 ghost use Rattle.schedule_file.specs.Spelling.{IsSized};
 ghost use Rattle.world_model.specs.World.{Setting};
+ghost use Rattle.node_loop.specs.Meanings.{meaning_of, moment_of, moment_at};
 ghost use Rattle.node_loop.specs.Waiting.{Waiting, nobody};
 ghost use Rattle.node_loop.specs.Peers.{Peers, no_peers};
 ghost use Rattle.node_loop.specs.Serving.{Serving, begin, so_far, wants_of, Round, Began, Turned, Reminded, Took, after_from};
-ghost use Rattle.node_loop.specs.Outs.{Outs, outs_of, Agrees};
+ghost use Rattle.node_loop.specs.Outs.{Outs, outs_of, Agrees, tells_of};
 ghost use Rattle.node_loop.specs.Standing.{HouseStands};
 ghost use Rattle.node_loop.specs.Served.{AreHere, MayBegin, Serves};
 ghost use Rattle.node_loop.specs.ServedKept.{ServesKept};
-ghost use Rattle.node_loop.specs.Archives.{AreSameOutlets, moment, moment_of};
+ghost use Rattle.node_loop.specs.Archives.{AreSameOutlets};
 ghost use Rattle.node_loop.specs.Groups.{IsEmpty, JoinsGroup, Under};
 ghost use Rattle.node_loop.specs.Running.{Running, RanRound, Gathered, NotYet, FellShortOf, Delivered, IsNext, IsEndOf};
 
@@ -60,7 +60,7 @@ fn next_of<S: Service, E: Broadcast, C: Coin + Drop>(
     taken: u64,
 ) -> Next
     ensures room { result ≡ Next.Ask → taken < bounds.limit }
-    ensures next { let m = with_keys S.stands S.rules S.shown E.stands E.rules E.shown C.bits in
+    ensures next { let m = meaning_of S.Service E.Broadcast C.Coin in
         (w : Setting) (es : List Event) (numbers : List ℕ) (ws : Waiting) (p : Peers) → HouseStands m w es numbers house.now ws p
         → IsNext (wants_of w bounds.until bounds.limit es taken p) result }
 {
@@ -99,7 +99,7 @@ fn remind<S: Service, E: Broadcast, C: Coin + Drop>(
 ) -> Result<(), Mem>
     requires sized { AllByRecursion IsSized group.old.events.items }
     ensures sized { OnOk result (AllByRecursion IsSized group.new.events.items) }
-    ensures joins { let m = with_keys S.stands S.rules S.shown E.stands E.rules E.shown C.bits in
+    ensures joins { let m = meaning_of S.Service E.Broadcast C.Coin in
         (w : Setting) (past : List Event) (numbers : List ℕ) (start : Serving) (newest older : List Round)
         → Under m w past numbers start newest older house.old group.old → JoinsGroup newest (Reminded pair.at pair.peer) group.old
         → w.is_correct pair.at ≡ true → pair.peer < w.numbers.n
@@ -119,7 +119,7 @@ fn turn<S: Service, E: Broadcast, C: Coin + Drop>(
 ) -> Result<(), Mem>
     requires sized { AllByRecursion IsSized group.old.events.items }
     ensures sized { OnOk result (AllByRecursion IsSized group.new.events.items) }
-    ensures joins { let m = with_keys S.stands S.rules S.shown E.stands E.rules E.shown C.bits in
+    ensures joins { let m = meaning_of S.Service E.Broadcast C.Coin in
         (w : Setting) (past : List Event) (numbers : List ℕ) (start : Serving) (newest older : List Round)
         → Under m w past numbers start newest older house.old group.old → JoinsGroup newest (Turned at) group.old
         → w.is_correct at ≡ true
@@ -140,7 +140,7 @@ fn take<S: Service, E: Broadcast, C: Coin + Drop>(
     requires sized { AllByRecursion IsSized group.old.events.items }
     requires short { length (bytes_of item) < 2 ^ 16 }
     ensures sized { OnOk result (AllByRecursion IsSized group.new.events.items) }
-    ensures joins { let m = with_keys S.stands S.rules S.shown E.stands E.rules E.shown C.bits in
+    ensures joins { let m = meaning_of S.Service E.Broadcast C.Coin in
         (w : Setting) (past : List Event) (numbers : List ℕ) (start : Serving) (newest older : List Round)
         → Under m w past numbers start newest older house.old group.old → JoinsGroup newest (Took item) group.old
         → OnOk result (Under m w past numbers start (Took item ∷ newest) older house.new group.new) }
@@ -160,7 +160,7 @@ fn take_first<S: Service, E: Broadcast, C: Coin + Drop>(
     requires sized { AllByRecursion IsSized group.old.events.items }
     requires first { MayBegin item.now }
     ensures sized { OnOk result (AllByRecursion IsSized group.new.events.items) }
-    ensures joins { let m = with_keys S.stands S.rules S.shown E.stands E.rules E.shown C.bits in
+    ensures joins { let m = meaning_of S.Service E.Broadcast C.Coin in
         (w : Setting) (past : List Event) (numbers : List ℕ) (start : Serving) (newest older : List Round)
         → Under m w past numbers start newest older house.old group.old → JoinsGroup newest (Began item.now) group.old
         → OnOk result (Under m w past numbers start (Began item.now ∷ newest) older house.new group.new) }
@@ -180,7 +180,7 @@ fn take_turns<S: Service, E: Broadcast, C: Coin + Drop>(
 ) -> Result<(), Mem>
     requires sized { AllByRecursion IsSized group.old.events.items }
     ensures sized { OnOk result (AllByRecursion IsSized group.new.events.items) }
-    ensures goes { let m = with_keys S.stands S.rules S.shown E.stands E.rules E.shown C.bits in
+    ensures goes { let m = meaning_of S.Service E.Broadcast C.Coin in
         (w : Setting) (past : List Event) (numbers : List ℕ) (start : Serving) (older : List Round) (given : List LinkAct)
         → Gathered m w past numbers house.old group.old taken bounds.until bounds.limit start [] older given 1
         → MatchResult result (λ _. Gathered m w past numbers house.new group.new taken bounds.until bounds.limit start [] older given 64)
@@ -223,13 +223,13 @@ fn finish<
     requires { AllByRecursion IsSized group.old.events.items }
     ensures same { AreSameOutlets out.old out.new }
     ensures empty { OnOk result (IsEmpty group.new) }
-    ensures goes { let m = with_keys S.stands S.rules S.shown E.stands E.rules E.shown C.bits in
+    ensures goes { let m = meaning_of S.Service E.Broadcast C.Coin in
         (head : List ℕ) (before : D) (w : Setting) (past : List Event) (numbers : List ℕ) (base : Outs) (start : Serving) (older : List Round) (given : List LinkAct)
         → Gathered m w past numbers house.old group.old taken bounds.until bounds.limit start [] older given 1
-        → NotYet w past (record { tape = K.tells; link = L.tells }) base
-        (moment_of K.taken K.faults L.told L.faults (A.stands head before past) (A.fails head before past) out.old) start older given
-        → RanRound m w past numbers house.new (record { tape = K.tells; link = L.tells }) base
-        (moment_of K.taken K.faults L.told L.faults (A.stands head before past) (A.fails head before past) out.new)
+        → NotYet w past (tells_of K.Sink L.Link) base
+        (moment_of K.Sink L.Link A.Archive head before past out.old) start older given
+        → RanRound m w past numbers house.new (tells_of K.Sink L.Link) base
+        (moment_of K.Sink L.Link A.Archive head before past out.new)
         taken bounds.until bounds.limit start result }
 {
     match take_turns(alloc, house, bounds, taken, group) {
@@ -265,14 +265,14 @@ fn run_turns<
     requires empty { IsEmpty group.old }
     ensures same { AreSameOutlets out.old out.new }
     ensures empty { OnOk result (IsEmpty group.new) }
-    ensures goes { let m = with_keys S.stands S.rules S.shown E.stands E.rules E.shown C.bits in
+    ensures goes { let m = meaning_of S.Service E.Broadcast C.Coin in
         (head : List ℕ) (before : D) (w : Setting) (past : List Event) (numbers : List ℕ) (base : Outs) (start : Serving)
-        → (run : Running m w past numbers house.old (record { tape = K.tells; link = L.tells }) base
-        (moment_of K.taken K.faults L.told L.faults (A.stands head before past) (A.fails head before past) out.old)
+        → (run : Running m w past numbers house.old (tells_of K.Sink L.Link) base
+        (moment_of K.Sink L.Link A.Archive head before past out.old)
         taken bounds.until bounds.limit start [])
         → IsNext (wants_of w bounds.until bounds.limit (so_far past (after_from w past start run.rounds)) taken (after_from w past start run.rounds).peers) (Next.Turn at)
-        → RanRound m w past numbers house.new (record { tape = K.tells; link = L.tells }) base
-        (moment_of K.taken K.faults L.told L.faults (A.stands head before past) (A.fails head before past) out.new)
+        → RanRound m w past numbers house.new (tells_of K.Sink L.Link) base
+        (moment_of K.Sink L.Link A.Archive head before past out.new)
         taken bounds.until bounds.limit start result }
 {
     match turn(alloc, house, at, group) {
@@ -304,14 +304,14 @@ fn run_remind<
     requires empty { IsEmpty group.old }
     ensures same { AreSameOutlets out.old out.new }
     ensures empty { OnOk result (IsEmpty group.new) }
-    ensures goes { let m = with_keys S.stands S.rules S.shown E.stands E.rules E.shown C.bits in
+    ensures goes { let m = meaning_of S.Service E.Broadcast C.Coin in
         (head : List ℕ) (before : D) (w : Setting) (past : List Event) (numbers : List ℕ) (base : Outs) (start : Serving)
-        → (run : Running m w past numbers house.old (record { tape = K.tells; link = L.tells }) base
-        (moment_of K.taken K.faults L.told L.faults (A.stands head before past) (A.fails head before past) out.old)
+        → (run : Running m w past numbers house.old (tells_of K.Sink L.Link) base
+        (moment_of K.Sink L.Link A.Archive head before past out.old)
         taken bounds.until bounds.limit start [])
         → IsNext (wants_of w bounds.until bounds.limit (so_far past (after_from w past start run.rounds)) taken (after_from w past start run.rounds).peers) (Next.Remind pair)
-        → RanRound m w past numbers house.new (record { tape = K.tells; link = L.tells }) base
-        (moment_of K.taken K.faults L.told L.faults (A.stands head before past) (A.fails head before past) out.new)
+        → RanRound m w past numbers house.new (tells_of K.Sink L.Link) base
+        (moment_of K.Sink L.Link A.Archive head before past out.new)
         taken bounds.until bounds.limit start result }
 {
     match remind(alloc, house, pair, group) {
@@ -347,14 +347,14 @@ fn run_item<
     requires empty { IsEmpty group.old }
     ensures same { AreSameOutlets out.old out.new }
     ensures empty { OnOk result (IsEmpty group.new) }
-    ensures goes { let m = with_keys S.stands S.rules S.shown E.stands E.rules E.shown C.bits in
+    ensures goes { let m = meaning_of S.Service E.Broadcast C.Coin in
         (head : List ℕ) (before : D) (w : Setting) (past : List Event) (numbers : List ℕ) (base : Outs) (start : Serving)
-        → (run : Running m w past numbers house.old (record { tape = K.tells; link = L.tells }) base
-        (moment_of K.taken K.faults L.told L.faults (A.stands head before past) (A.fails head before past) out.old)
+        → (run : Running m w past numbers house.old (tells_of K.Sink L.Link) base
+        (moment_of K.Sink L.Link A.Archive head before past out.old)
         taken.old bounds.until bounds.limit start [])
         → IsNext (wants_of w bounds.until bounds.limit (so_far past (after_from w past start run.rounds)) taken.old (after_from w past start run.rounds).peers) (Next.Ask)
-        → RanRound m w past numbers house.new (record { tape = K.tells; link = L.tells }) base
-        (moment_of K.taken K.faults L.told L.faults (A.stands head before past) (A.fails head before past) out.new)
+        → RanRound m w past numbers house.new (tells_of K.Sink L.Link) base
+        (moment_of K.Sink L.Link A.Archive head before past out.new)
         taken.new bounds.until bounds.limit start result }
 {
     let item = match out.link.next(rt, alloc) {
@@ -393,13 +393,13 @@ fn run_group<
     requires empty { IsEmpty group.old }
     ensures same { AreSameOutlets out.old out.new }
     ensures empty { OnOk result (IsEmpty group.new) }
-    ensures goes { let m = with_keys S.stands S.rules S.shown E.stands E.rules E.shown C.bits in
+    ensures goes { let m = meaning_of S.Service E.Broadcast C.Coin in
         (head : List ℕ) (before : D) (w : Setting) (past : List Event) (numbers : List ℕ) (base : Outs) (start : Serving)
-        → (run : Running m w past numbers house.old (record { tape = K.tells; link = L.tells }) base
-        (moment_of K.taken K.faults L.told L.faults (A.stands head before past) (A.fails head before past) out.old)
+        → (run : Running m w past numbers house.old (tells_of K.Sink L.Link) base
+        (moment_of K.Sink L.Link A.Archive head before past out.old)
         taken.old bounds.until bounds.limit start [])
-        → RanRound m w past numbers house.new (record { tape = K.tells; link = L.tells }) base
-        (moment_of K.taken K.faults L.told L.faults (A.stands head before past) (A.fails head before past) out.new)
+        → RanRound m w past numbers house.new (tells_of K.Sink L.Link) base
+        (moment_of K.Sink L.Link A.Archive head before past out.new)
         taken.new bounds.until bounds.limit start result }
 {
     match next_of(house, bounds, *taken) {
@@ -431,13 +431,13 @@ pub(crate) fn go_on<
 ) -> ServeEnd
     requires { IsEmpty group.old }
     ensures same { AreSameOutlets out.old out.new }
-    ensures goes { let m = with_keys S.stands S.rules S.shown E.stands E.rules E.shown C.bits in
+    ensures goes { let m = meaning_of S.Service E.Broadcast C.Coin in
         (head : List ℕ) (before : D) (w : Setting) (past : List Event) (numbers : List ℕ) (base : Outs) (start : Serving)
-        → Running m w past numbers house.old (record { tape = K.tells; link = L.tells }) base
-        (moment_of K.taken K.faults L.told L.faults (A.stands head before past) (A.fails head before past) out.old)
+        → Running m w past numbers house.old (tells_of K.Sink L.Link) base
+        (moment_of K.Sink L.Link A.Archive head before past out.old)
         0 bounds.until bounds.limit start []
-        → ServesKept m w past numbers house.new.replicas.items (record { tape = K.tells; link = L.tells }) base
-        (moment_of K.taken K.faults L.told L.faults (A.stands head before past) (A.fails head before past) out.new)
+        → ServesKept m w past numbers house.new.replicas.items (tells_of K.Sink L.Link) base
+        (moment_of K.Sink L.Link A.Archive head before past out.new)
         result bounds.until bounds.limit start }
 {
     let mut taken = 0;
@@ -472,12 +472,12 @@ fn begin<
     requires empty { IsEmpty group.old }
     ensures same { AreSameOutlets out.old out.new }
     ensures empty { OnOk result (IsEmpty group.new) }
-    ensures goes { let m = with_keys S.stands S.rules S.shown E.stands E.rules E.shown C.bits in
+    ensures goes { let m = meaning_of S.Service E.Broadcast C.Coin in
         (head : List ℕ) (before : D) (w : Setting) (past : List Event) (numbers : List ℕ) (base : Outs) (until limit : ℕ)
         → HouseStands m w past numbers house.old nobody no_peers
-        → Agrees (record { tape = K.tells; link = L.tells }) base (outs_of K.taken K.faults L.told L.faults out.old.tape.now out.old.link.now) [] []
+        → Agrees (tells_of K.Sink L.Link) base (outs_of K.Sink L.Link out.old.tape.now out.old.link.now) [] []
         → A.stands head before past out.old.archive.now out.old.disk.now []
-        → Delivered m w past numbers house.new (record { tape = K.tells; link = L.tells }) base (moment_of K.taken K.faults L.told L.faults (A.stands head before past) (A.fails head before past) out.new)
+        → Delivered m w past numbers house.new (tells_of K.Sink L.Link) base (moment_of K.Sink L.Link A.Archive head before past out.new)
         0 until limit (begin first.now) [] result }
 {
     for item in first {
@@ -513,12 +513,12 @@ fn serve_house<
 ) -> ServeEnd
     requires { All MayBegin first.now }
     ensures same { AreSameOutlets out.old out.new }
-    ensures goes { let m = with_keys S.stands S.rules S.shown E.stands E.rules E.shown C.bits in
+    ensures goes { let m = meaning_of S.Service E.Broadcast C.Coin in
         (head : List ℕ) (before : D) (w : Setting) (past : List Event) (numbers : List ℕ) → HouseStands m w past numbers house.old nobody no_peers
         → A.stands head before past out.old.archive.now out.old.disk.now []
-        → ServesKept m w past numbers house.new.replicas.items (record { tape = K.tells; link = L.tells })
-        (outs_of K.taken K.faults L.told L.faults out.old.tape.now out.old.link.now)
-        (moment_of K.taken K.faults L.told L.faults (A.stands head before past) (A.fails head before past) out.new)
+        → ServesKept m w past numbers house.new.replicas.items (tells_of K.Sink L.Link)
+        (outs_of K.Sink L.Link out.old.tape.now out.old.link.now)
+        (moment_of K.Sink L.Link A.Archive head before past out.new)
         result bounds.until bounds.limit (begin first.now) }
 {
     let mut group = Group::new(alloc);
@@ -550,12 +550,12 @@ fn serve_with<
     first: &[LinkItem],
 ) -> ServeEnd
     requires { All MayBegin first.now }
-    ensures { let m = with_keys S.stands S.rules S.shown E.stands E.rules E.shown C.bits in
+    ensures { let m = meaning_of S.Service E.Broadcast C.Coin in
         (head : List ℕ) (before : D) (w : Setting) (past : List Event) (numbers : List ℕ) → HouseStands m w past numbers house.old nobody no_peers
         → A.stands head before past archive.old disk.old []
-        → ServesKept m w past numbers house.new.replicas.items (record { tape = K.tells; link = L.tells })
-        (outs_of K.taken K.faults L.told L.faults tape.old link.old)
-        (moment (outs_of K.taken K.faults L.told L.faults tape.new link.new) (A.stands head before past archive.new disk.new) (A.fails head before past archive.new disk.new))
+        → ServesKept m w past numbers house.new.replicas.items (tells_of K.Sink L.Link)
+        (outs_of K.Sink L.Link tape.old link.old)
+        (moment_at A.Archive head before past (outs_of K.Sink L.Link tape.new link.new) archive.new disk.new)
         result bounds.until bounds.limit (begin first.now) }
 {
     let mut out = Outlets {
@@ -607,11 +607,11 @@ pub fn serve<R: Net + Wait, S: Service, E: Broadcast, C: Coin + Drop, L: Link, K
     first: &Vec<LinkItem>,
 ) -> ServeEnd
     requires { All MayBegin first.now.items }
-    ensures { let m = with_keys S.stands S.rules S.shown E.stands E.rules E.shown C.bits in
+    ensures { let m = meaning_of S.Service E.Broadcast C.Coin in
         (w : Setting) (past : List Event) (numbers : List ℕ) → AreHere m w past numbers replicas.old.items
-        → Serves m w past numbers replicas.new.items (record { tape = K.tells; link = L.tells })
-        (outs_of K.taken K.faults L.told L.faults tape.old link.old)
-        (outs_of K.taken K.faults L.told L.faults tape.new link.new)
+        → Serves m w past numbers replicas.new.items (tells_of K.Sink L.Link)
+        (outs_of K.Sink L.Link tape.old link.old)
+        (outs_of K.Sink L.Link tape.new link.new)
         result until limit first.now.items }
 {
     let mut house = match House::new(alloc, replicas) {

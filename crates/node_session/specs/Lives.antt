@@ -5,6 +5,7 @@ use Rattle.ritas_base.specs.declared.event.Event.{Event}
 use Rattle.outside.specs.Disks.{DiskState, LeavesOnly, disk_state_of}
 use Rattle.outside.specs.Faults.{Rose}
 use Rattle.outside.specs.Links.{LinkAct, Starts}
+use Rattle.outside.specs.declared.disk.Disk.{Ghosts as DiskGhosts}
 use Rattle.outside.specs.declared.link.LinkPlan.{LinkPlan}
 use Rattle.schedule_file.specs.FileBytes.{limit}
 use Rattle.schedule_file.specs.ReadHeader.{heading}
@@ -44,8 +45,14 @@ pub record DiskSeen : Type 0 where
   pub few : ℕ
   pub many : ℕ
 
-abbrev pub disk_seen : {D : Type 0} → Bool → (D → List DiskState) → (D → ℕ) → D → D → DiskSeen
-disk_seen tells told faults old new = record { tells = tells; before = told old; now = told new; few = faults old; many = faults new }
+abbrev pub disk_seen : {D : Type 0} → DiskGhosts D → D → D → DiskSeen
+disk_seen storage old new = record {
+  tells = storage.tells;
+  before = storage.told old;
+  now = storage.told new;
+  few = storage.faults old;
+  many = storage.faults new;
+}
 
 -- an image is one from before or opens as one of these, or it opens as the past events and the first of the given ones
 abbrev pub IsOfLife : ℕ → List ℕ → List Event → List Event → DiskState → List ℕ → Type 0

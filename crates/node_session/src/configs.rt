@@ -4,7 +4,7 @@ ghost use Rattle.schedule_replay.specs.Layers.{setting_of};
 ghost use Rattle.cluster_config.specs.Cluster.{cluster_text};
 ghost use Rattle.cluster_config.specs.Node.{node_text};
 ghost use Rattle.cluster_config.specs.Ranges.{FitsNode, FitsCluster};
-ghost use Rattle.node_loop.specs.Outs.{outs_of};
+ghost use Rattle.node_loop.specs.Outs.{outs_of, tells_of};
 ghost use Rattle.node_session.specs.Configs.{node_header, node_session, cluster_header, cluster_session, first_item};
 ghost use Rattle.node_session.specs.Lives.{ServesNode, Unopened, disk_seen};
 ghost use Rattle.node_session.specs.Session.{ServesSession};
@@ -111,10 +111,10 @@ fn serve_journal<R: Net + Wait, L: Link, K: Sink, D: Disk>(
     disk: &mut D,
 ) -> Result<ServeEnd, JournalFault>
     requires { FitsNode (node_text config) }
-    ensures served { IfOk result (λ end. ServesNode config (record { tape = K.tells; link = L.tells })
-        (outs_of K.taken K.faults L.told L.faults output.old link.old) (outs_of K.taken K.faults L.told L.faults output.new link.new)
-        (disk_seen D.tells D.told D.faults disk.old disk.new) end) }
-    ensures unserved { IfErr result (λ fault. Unopened config (disk_seen D.tells D.told D.faults disk.old disk.new) fault
+    ensures served { IfOk result (λ end. ServesNode config (tells_of K.Sink L.Link)
+        (outs_of K.Sink L.Link output.old link.old) (outs_of K.Sink L.Link output.new link.new)
+        (disk_seen D.Disk disk.old disk.new) end) }
+    ensures unserved { IfErr result (λ fault. Unopened config (disk_seen D.Disk disk.old disk.new) fault
         × (output.new ≡ output.old) × (link.new ≡ link.old)) }
 {
     let head = journal_head(
@@ -159,13 +159,13 @@ pub fn serve_node<R: Net + Wait, L: Link, K: Sink, D: Disk>(
     disk: &mut D,
 ) -> Result<ServeEnd, JournalFault>
     requires { FitsNode (node_text config) }
-    ensures served { config.journal ≡ false → IfOk result (λ end. ServesSession (node_session config) [] (setting_of (node_header config)) (record { tape = K.tells; link = L.tells })
-        (outs_of K.taken K.faults L.told L.faults output.old link.old) (outs_of K.taken K.faults L.told L.faults output.new link.new) end) }
+    ensures served { config.journal ≡ false → IfOk result (λ end. ServesSession (node_session config) [] (setting_of (node_header config)) (tells_of K.Sink L.Link)
+        (outs_of K.Sink L.Link output.old link.old) (outs_of K.Sink L.Link output.new link.new) end) }
     ensures undisked { config.journal ≡ false → (disk.new ≡ disk.old) × IfErr result (λ fault. fault ≡ JournalFault.Mem) }
-    ensures kept { config.journal ≡ true → IfOk result (λ end. ServesNode config (record { tape = K.tells; link = L.tells })
-        (outs_of K.taken K.faults L.told L.faults output.old link.old) (outs_of K.taken K.faults L.told L.faults output.new link.new)
-        (disk_seen D.tells D.told D.faults disk.old disk.new) end) }
-    ensures unopened { config.journal ≡ true → IfErr result (λ fault. Unopened config (disk_seen D.tells D.told D.faults disk.old disk.new) fault) }
+    ensures kept { config.journal ≡ true → IfOk result (λ end. ServesNode config (tells_of K.Sink L.Link)
+        (outs_of K.Sink L.Link output.old link.old) (outs_of K.Sink L.Link output.new link.new)
+        (disk_seen D.Disk disk.old disk.new) end) }
+    ensures unopened { config.journal ≡ true → IfErr result (λ fault. Unopened config (disk_seen D.Disk disk.old disk.new) fault) }
     ensures unserved { OnErr result ((output.new ≡ output.old) × (link.new ≡ link.old)) }
 {
     if config.journal {
@@ -188,8 +188,8 @@ pub fn serve_cluster<R: Net + Wait, L: Link, K: Sink>(
     output: &mut K,
 ) -> Result<ServeEnd, Mem>
     requires { FitsCluster (cluster_text config) }
-    ensures served { IfOk result (λ end. ServesSession (cluster_session config) (map first_item config.requests) (setting_of (cluster_header config)) (record { tape = K.tells; link = L.tells })
-        (outs_of K.taken K.faults L.told L.faults output.old link.old) (outs_of K.taken K.faults L.told L.faults output.new link.new) end) }
+    ensures served { IfOk result (λ end. ServesSession (cluster_session config) (map first_item config.requests) (setting_of (cluster_header config)) (tells_of K.Sink L.Link)
+        (outs_of K.Sink L.Link output.old link.old) (outs_of K.Sink L.Link output.new link.new) end) }
     ensures unserved { OnErr result ((output.new ≡ output.old) × (link.new ≡ link.old)) }
 {
     let first = first_items(alloc, &config.requests)?;

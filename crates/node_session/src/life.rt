@@ -1,15 +1,12 @@
 //! Serving the session of a header after the events that a journal kept.
 ghost use Rattle.std.specs.Prelude.{◌≡◌, true, [], List, ℕ, reverse, IfOk, OnErr};
 ghost use Rattle.std.specs.List.{AllByRecursion};
-ghost use Rattle.outside.specs.Disks.{disk_state_of};
 ghost use Rattle.ritas_base.specs.Members.{has_member};
 ghost use Rattle.ritas_core.specs.Rules.{other_form};
-ghost use Rattle.event_journal.specs.Appending.{AllOpen, JournalStandsFor};
 ghost use Rattle.event_journal.specs.Journal.{IsRecord};
 ghost use Rattle.schedule_replay.specs.Layers.{setting_by, setting_of};
-ghost use Rattle.node_loop.specs.Archives.{moment};
-ghost use Rattle.node_loop.specs.Journals.{JournalStands, JournalFails};
-ghost use Rattle.node_loop.specs.Outs.{outs_of};
+ghost use Rattle.node_loop.specs.Journals.{journal_moment, OpenedAs};
+ghost use Rattle.node_loop.specs.Outs.{outs_of, tells_of};
 ghost use Rattle.node_session.specs.Lives.{ServesLife};
 ghost use Rattle.node_session.specs.Session.{IsServable};
 
@@ -53,13 +50,10 @@ fn live_as<R: Net + Wait, S: Service, E: Broadcast, L: Link, K: Sink, D: Disk>(
     requires live { journal.old.live ≡ true }
     requires own { AllByRecursion (IsRecord journal.old.me) recovered.now.items }
     requires member { has_member session.now.header.correct journal.old.me ≡ true }
-    ensures served { (head : List ℕ) → (D.tells ≡ true → JournalStandsFor journal.old head (reverse recovered.now.items)
-        × AllOpen journal.old.me head (reverse recovered.now.items) (disk_state_of (D.told disk.old)))
-        → IfOk result (λ end. ServesLife session.now (reverse recovered.now.items) (setting_by S.rules E.rules session.now.header) (record { tape = K.tells; link = L.tells })
-        (outs_of K.taken K.faults L.told L.faults output.old link.old)
-        (moment (outs_of K.taken K.faults L.told L.faults output.new link.new)
-        (λ given. (journal.new.me ≡ journal.old.me) × JournalStands head (reverse recovered.now.items) given journal.new D.tells (D.told disk.old) (D.told disk.new) (D.faults disk.old) (D.faults disk.new))
-        (λ fault group older. (journal.new.me ≡ journal.old.me) × JournalFails head (reverse recovered.now.items) group older journal.new D.tells (D.told disk.old) (D.told disk.new) (D.faults disk.old) (D.faults disk.new) fault)) end) }
+    ensures served { (head : List ℕ) → OpenedAs D.Disk head (reverse recovered.now.items) journal.old disk.old
+        → IfOk result (λ end. ServesLife session.now (reverse recovered.now.items) (setting_by S.rules E.rules session.now.header) (tells_of K.Sink L.Link)
+        (outs_of K.Sink L.Link output.old link.old)
+        (journal_moment D.Disk head (reverse recovered.now.items) journal.old.me disk.old (outs_of K.Sink L.Link output.new link.new) journal.new disk.new) end) }
     ensures unserved { OnErr result ((output.new ≡ output.old) × (link.new ≡ link.old) × (disk.new ≡ disk.old)) }
 {
     events_fit();
@@ -108,13 +102,10 @@ pub(crate) fn serve_life<R: Net + Wait, L: Link, K: Sink, D: Disk>(
     requires live { journal.old.live ≡ true }
     requires own { AllByRecursion (IsRecord journal.old.me) recovered.now.items }
     requires member { has_member session.now.header.correct journal.old.me ≡ true }
-    ensures served { (head : List ℕ) → (D.tells ≡ true → JournalStandsFor journal.old head (reverse recovered.now.items)
-        × AllOpen journal.old.me head (reverse recovered.now.items) (disk_state_of (D.told disk.old)))
-        → IfOk result (λ end. ServesLife session.now (reverse recovered.now.items) (setting_of session.now.header) (record { tape = K.tells; link = L.tells })
-        (outs_of K.taken K.faults L.told L.faults output.old link.old)
-        (moment (outs_of K.taken K.faults L.told L.faults output.new link.new)
-        (λ given. (journal.new.me ≡ journal.old.me) × JournalStands head (reverse recovered.now.items) given journal.new D.tells (D.told disk.old) (D.told disk.new) (D.faults disk.old) (D.faults disk.new))
-        (λ fault group older. (journal.new.me ≡ journal.old.me) × JournalFails head (reverse recovered.now.items) group older journal.new D.tells (D.told disk.old) (D.told disk.new) (D.faults disk.old) (D.faults disk.new) fault)) end) }
+    ensures served { (head : List ℕ) → OpenedAs D.Disk head (reverse recovered.now.items) journal.old disk.old
+        → IfOk result (λ end. ServesLife session.now (reverse recovered.now.items) (setting_of session.now.header) (tells_of K.Sink L.Link)
+        (outs_of K.Sink L.Link output.old link.old)
+        (journal_moment D.Disk head (reverse recovered.now.items) journal.old.me disk.old (outs_of K.Sink L.Link output.new link.new) journal.new disk.new) end) }
     ensures unserved { OnErr result ((output.new ≡ output.old) × (link.new ≡ link.old) × (disk.new ≡ disk.old)) }
 {
     let form = other_form(&session.header.mode);

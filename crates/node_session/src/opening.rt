@@ -1,7 +1,7 @@
 //! What a session begins with.
 ghost use Rattle.std.specs.Prelude.{◌≡◌};
 ghost use Rattle.schedule_file.specs.ReadHeader.{heading};
-ghost use Rattle.node_loop.specs.Outs.{outs_of};
+ghost use Rattle.node_loop.specs.Outs.{outs_of, tells_of};
 ghost use Rattle.node_session.specs.Opening.{OpensSession, IsServeEndOf};
 
 use node_loop::ServeEnd;
@@ -30,9 +30,9 @@ pub(crate) fn open<R: Net + Wait, L: Link, K: Sink>(
     link: &mut L,
     output: &mut K,
 ) -> Result<(), ServeEnd>
-    ensures { OpensSession (heading header.now) plan.now (record { tape = K.tells; link = L.tells })
-        (outs_of K.taken K.faults L.told L.faults output.old link.old)
-        (outs_of K.taken K.faults L.told L.faults output.new link.new)
+    ensures { OpensSession (heading header.now) plan.now (tells_of K.Sink L.Link)
+        (outs_of K.Sink L.Link output.old link.old)
+        (outs_of K.Sink L.Link output.new link.new)
         result }
 {
     if Writer::start(output, header).is_err() {

@@ -5,7 +5,7 @@ ghost use Rattle.schedule_file.specs.ReadHeader.{heading};
 ghost use Rattle.schedule_file.specs.Spelling.{IsHeading};
 ghost use Rattle.schedule_replay.specs.Layers.{layers_by, setting_by, setting_of};
 ghost use Rattle.world_model.specs.Stands.{members};
-ghost use Rattle.node_loop.specs.Outs.{outs_of};
+ghost use Rattle.node_loop.specs.Outs.{outs_of, tells_of};
 ghost use Rattle.node_loop.specs.Served.{AreHere};
 ghost use Rattle.node_session.specs.Session.{IsServable, ServesSession};
 
@@ -75,8 +75,8 @@ fn serve_as<R: Net + Wait, S: Service, E: Broadcast, L: Link, K: Sink>(
     requires servable { IsServable session.now first.now.items }
     requires serves { S.rules.serves session.now.header.mode.root ≡ true }
     requires form { E.FORM ≡ other_form session.now.header.mode }
-    ensures served { IfOk result (λ end. ServesSession session.now first.now.items (setting_by S.rules E.rules session.now.header) (record { tape = K.tells; link = L.tells })
-        (outs_of K.taken K.faults L.told L.faults output.old link.old) (outs_of K.taken K.faults L.told L.faults output.new link.new) end) }
+    ensures served { IfOk result (λ end. ServesSession session.now first.now.items (setting_by S.rules E.rules session.now.header) (tells_of K.Sink L.Link)
+        (outs_of K.Sink L.Link output.old link.old) (outs_of K.Sink L.Link output.new link.new) end) }
     ensures unserved { OnErr result ((output.new ≡ output.old) × (link.new ≡ link.old)) }
 {
     events_fit();
@@ -124,8 +124,8 @@ pub fn serve_session<R: Net + Wait, L: Link, K: Sink>(
     output: &mut K,
 ) -> Result<ServeEnd, Mem>
     requires { IsServable session.now first.now.items }
-    ensures served { IfOk result (λ end. ServesSession session.now first.now.items (setting_of session.now.header) (record { tape = K.tells; link = L.tells })
-        (outs_of K.taken K.faults L.told L.faults output.old link.old) (outs_of K.taken K.faults L.told L.faults output.new link.new) end) }
+    ensures served { IfOk result (λ end. ServesSession session.now first.now.items (setting_of session.now.header) (tells_of K.Sink L.Link)
+        (outs_of K.Sink L.Link output.old link.old) (outs_of K.Sink L.Link output.new link.new) end) }
     ensures unserved { OnErr result ((output.new ≡ output.old) × (link.new ≡ link.old)) }
 {
     let form = other_form(&session.header.mode);

@@ -3,7 +3,7 @@ ghost use Rattle.std.specs.Prelude.{◌≡◌, ◌≢◌, ◌≤◌, length, tru
 ghost use Rattle.ritas_base.specs.declared.what.What.{What};
 ghost use Rattle.ritas_base.specs.declared.what.DriveWhat.{DriveWhat};
 ghost use Rattle.outside.specs.Faults.{HasCause};
-ghost use Rattle.node_loop.specs.Outs.{outs_of};
+ghost use Rattle.node_loop.specs.Outs.{outs_of, tells_of};
 ghost use Rattle.node_session.specs.Lives.{disk_seen};
 ghost use Rattle.ritas.specs.Configs.{AnswersConfig, AnswersJob, DrivesPlan, FitsConfig, IsDrive, TakesText};
 ghost use Rattle.schedule_replay.specs.Replay.{CountsIf};
@@ -54,10 +54,10 @@ fn do_config<R: Net + Wait, K: Sink, L: Link, D: Disk>(
     ensures others { result ≢ 4 }
     ensures disk_counts { HasCause (D.faults disk.old) (D.faults disk.new) (result ≡ 9) }
     ensures undisked { job ≢ Job.Node → disk.new ≡ disk.old }
-    ensures answers { AnswersConfig (record { tape = K.tells; link = L.tells }) K.taken output.old output.new
-        (outs_of K.taken K.faults L.told L.faults output.old link.old)
-        (outs_of K.taken K.faults L.told L.faults output.new link.new)
-        (disk_seen D.tells D.told D.faults disk.old disk.new) (LeavesLink link.old link.new result) (disk.new ≡ disk.old) result job config }
+    ensures answers { AnswersConfig (tells_of K.Sink L.Link) K.taken output.old output.new
+        (outs_of K.Sink L.Link output.old link.old)
+        (outs_of K.Sink L.Link output.new link.new)
+        (disk_seen D.Disk disk.old disk.new) (LeavesLink link.old link.new result) (disk.new ≡ disk.old) result job config }
 {
     match config {
         Config::Drive(plan) => drive_plan(alloc, job, &plan, output),
@@ -84,10 +84,10 @@ fn do_text<R: Net + Wait, K: Sink, L: Link, D: Disk>(
     ensures others { result ≢ 4 }
     ensures disk_counts { HasCause (D.faults disk.old) (D.faults disk.new) (result ≡ 9) }
     ensures undisked { job ≢ Job.Node → disk.new ≡ disk.old }
-    ensures answers { AnswersJob (record { tape = K.tells; link = L.tells }) K.taken output.old output.new
-        (outs_of K.taken K.faults L.told L.faults output.old link.old)
-        (outs_of K.taken K.faults L.told L.faults output.new link.new)
-        (disk_seen D.tells D.told D.faults disk.old disk.new) (LeavesLink link.old link.new result) (disk.new ≡ disk.old) result text.now job }
+    ensures answers { AnswersJob (tells_of K.Sink L.Link) K.taken output.old output.new
+        (outs_of K.Sink L.Link output.old link.old)
+        (outs_of K.Sink L.Link output.new link.new)
+        (disk_seen D.Disk disk.old disk.new) (LeavesLink link.old link.new result) (disk.new ≡ disk.old) result text.now job }
     ensures unlinked { is_linked job ≡ false → LeavesLink link.old link.new result }
     ensures undriven { (what : DriveWhat) → job ≡ Job.Drive what → result ≡ 8 → output.new ≡ output.old }
 {
@@ -114,10 +114,10 @@ pub(crate) fn do_read<R: Net + Wait, S: Source, K: Sink, L: Link, D: Disk>(
     ensures taken { S.tells ≡ true → TakesText (S.left input.old) (S.left input.new) result }
     ensures disk_counts { HasCause (D.faults disk.old) (D.faults disk.new) (result ≡ 9) }
     ensures undisked { job ≢ Job.Node → disk.new ≡ disk.old }
-    ensures answers { S.tells ≡ true → AnswersJob (record { tape = K.tells; link = L.tells }) K.taken output.old output.new
-        (outs_of K.taken K.faults L.told L.faults output.old link.old)
-        (outs_of K.taken K.faults L.told L.faults output.new link.new)
-        (disk_seen D.tells D.told D.faults disk.old disk.new) (LeavesLink link.old link.new result) (disk.new ≡ disk.old) result (S.left input.old) job }
+    ensures answers { S.tells ≡ true → AnswersJob (tells_of K.Sink L.Link) K.taken output.old output.new
+        (outs_of K.Sink L.Link output.old link.old)
+        (outs_of K.Sink L.Link output.new link.new)
+        (disk_seen D.Disk disk.old disk.new) (LeavesLink link.old link.new result) (disk.new ≡ disk.old) result (S.left input.old) job }
     ensures unlinked { is_linked job ≡ false → LeavesLink link.old link.new result }
     ensures undriven { (what : DriveWhat) → job ≡ Job.Drive what → result ≡ 8 → output.new ≡ output.old }
 {

@@ -1,6 +1,6 @@
 //! Handing in a request.
 ghost use Rattle.std.specs.Prelude.{◌≡◌, ◌≢◌, ◌↔◌, IfOk, string_bytes};
-ghost use Rattle.node_loop.specs.Outs.{outs_of};
+ghost use Rattle.node_loop.specs.Outs.{outs_of, tells_of};
 ghost use Rattle.ritas.specs.Configs.{RunsSubmit};
 ghost use Rattle.ritas.specs.Run.{Ends, LeavesLink, Replies, Runs};
 ghost use Rattle.ritas.specs.Statuses.{submit_status, submit_text};
@@ -61,9 +61,9 @@ pub(crate) fn run_submit<R: Net + Wait, K: Sink, L: Link>(
     ensures runs { Runs K.faults output.old output.new (L.faults link.old) (L.faults link.new) result }
     ensures others { result ≢ 4 }
     ensures nine { result ≢ 9 }
-    ensures answers { RunsSubmit config.now (record { tape = K.tells; link = L.tells }) K.taken output.old output.new
-        (outs_of K.taken K.faults L.told L.faults output.old link.old)
-        (outs_of K.taken K.faults L.told L.faults output.new link.new)
+    ensures answers { RunsSubmit config.now (tells_of K.Sink L.Link) K.taken output.old output.new
+        (outs_of K.Sink L.Link output.old link.old)
+        (outs_of K.Sink L.Link output.new link.new)
         ((output.new ≡ output.old) × LeavesLink link.old link.new result) result }
 {
     let request = &config.request;

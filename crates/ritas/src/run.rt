@@ -25,7 +25,7 @@ ghost use Rattle.cluster_config.specs.declared.cluster.ClusterConfig.{ClusterCon
 ghost use Rattle.cluster_config.specs.declared.node.NodeConfig.{NodeConfig};
 ghost use Rattle.cluster_config.specs.Cluster.{cluster_column, cluster_text};
 ghost use Rattle.cluster_config.specs.Node.{node_column, node_text};
-ghost use Rattle.node_loop.specs.Outs.{outs_of};
+ghost use Rattle.node_loop.specs.Outs.{outs_of, tells_of};
 ghost use Rattle.node_session.specs.Configs.{node_session, cluster_session};
 ghost use Rattle.ritas.specs.Run.{Asks, IsReplay, is_linked, IsStatus, IsOwnStatus, LinkCounts, LeavesLink, Ends, Replays, Runs, Replies, AnswersFile, WroteVectors};
 ghost use Rattle.outside.specs.Faults.{HasCause};
@@ -153,10 +153,10 @@ fn work<R: Net + Wait, S: Source, K: Sink, L: Link, D: Disk>(
     ensures replayed { (what : What) → job ≡ Job.Replay what → S.tells ≡ true → result ≤ 1 → S.left input.new ≡ [] }
     ensures taken { ((what : What) → job ≢ Job.Replay what) → S.tells ≡ true
         → TakesText (S.left input.old) (S.left input.new) result }
-    ensures configured { S.tells ≡ true → AnswersJob (record { tape = K.tells; link = L.tells }) K.taken output.old output.new
-        (outs_of K.taken K.faults L.told L.faults output.old link.old)
-        (outs_of K.taken K.faults L.told L.faults output.new link.new)
-        (disk_seen D.tells D.told D.faults disk.old disk.new) (LeavesLink link.old link.new result) (disk.new ≡ disk.old) result (S.left input.old) job }
+    ensures configured { S.tells ≡ true → AnswersJob (tells_of K.Sink L.Link) K.taken output.old output.new
+        (outs_of K.Sink L.Link output.old link.old)
+        (outs_of K.Sink L.Link output.new link.new)
+        (disk_seen D.Disk disk.old disk.new) (LeavesLink link.old link.new result) (disk.new ≡ disk.old) result (S.left input.old) job }
     ensures undriven { (what : DriveWhat) → job ≡ Job.Drive what → result ≡ 8 → output.new ≡ output.old }
 {
     match job {
@@ -273,10 +273,10 @@ pub fn run<R: Net + Wait, S: Source, K: Sink, L: Link, D: Disk>(
     // first fault, or of the limit, and the link isn't touched. A plan's schedule is written, or the line of the limit that it passes
     // first, and at 0 its replicas agree; keys are written; a node or a cluster is served; a request is handed in, and its position written.
     ensures configured { (job : Job) → job_of (map string_bytes words.now.items) ≡ Some job → S.tells ≡ true
-        → AnswersJob (record { tape = K.tells; link = L.tells }) K.taken output.old output.new
-        (outs_of K.taken K.faults L.told L.faults output.old link.old)
-        (outs_of K.taken K.faults L.told L.faults output.new link.new)
-        (disk_seen D.tells D.told D.faults disk.old disk.new) (LeavesLink link.old link.new result) (disk.new ≡ disk.old) result (S.left input.old) job }
+        → AnswersJob (tells_of K.Sink L.Link) K.taken output.old output.new
+        (outs_of K.Sink L.Link output.old link.old)
+        (outs_of K.Sink L.Link output.new link.new)
+        (disk_seen D.Disk disk.old disk.new) (LeavesLink link.old link.new result) (disk.new ≡ disk.old) result (S.left input.old) job }
     ensures undriven { (what : DriveWhat) → job_of (map string_bytes words.now.items) ≡ Some (Job.Drive what) → result ≡ 8
         → output.new ≡ output.old }
 
@@ -297,24 +297,24 @@ pub fn run<R: Net + Wait, S: Source, K: Sink, L: Link, D: Disk>(
     // that was replied is that of the request in the log of its replica. And where the audit of the events holds, the replicas agree.
     ensures node { job_of (map string_bytes words.now.items) ≡ Some Job.Node → S.tells ≡ true → (c : NodeConfig)
         → IsText node_column (node_text c) (S.left input.old) → length (S.left input.old) ≤ text_limit → c.journal ≡ false → result ≡ 0
-        → HasServed (node_session c) [] (record { tape = K.tells; link = L.tells })
-        (outs_of K.taken K.faults L.told L.faults output.old link.old)
-        (outs_of K.taken K.faults L.told L.faults output.new link.new) × (disk.new ≡ disk.old) }
+        → HasServed (node_session c) [] (tells_of K.Sink L.Link)
+        (outs_of K.Sink L.Link output.old link.old)
+        (outs_of K.Sink L.Link output.new link.new) × (disk.new ≡ disk.old) }
     ensures cluster { job_of (map string_bytes words.now.items) ≡ Some Job.Cluster → S.tells ≡ true → (c : ClusterConfig)
         → IsText cluster_column (cluster_text c) (S.left input.old) → length (S.left input.old) ≤ text_limit → result ≡ 0
-        → HasServed (cluster_session c) [] (record { tape = K.tells; link = L.tells })
-        (outs_of K.taken K.faults L.told L.faults output.old link.old)
-        (outs_of K.taken K.faults L.told L.faults output.new link.new) }
+        → HasServed (cluster_session c) [] (tells_of K.Sink L.Link)
+        (outs_of K.Sink L.Link output.old link.old)
+        (outs_of K.Sink L.Link output.new link.new) }
 
     // Where a node has a journal, the same is so of its file, in front of which stand the events of its lives before, which the journal's file opened
     // as; their frames count as sent before. From then on every image that a stop may leave on the disk opens as these and the later ones, but
     // for those that change nothing.
     ensures journal { job_of (map string_bytes words.now.items) ≡ Some Job.Node → S.tells ≡ true → (c : NodeConfig)
         → IsText node_column (node_text c) (S.left input.old) → length (S.left input.old) ≤ text_limit → c.journal ≡ true → result ≡ 0
-        → HasLived c (record { tape = K.tells; link = L.tells })
-        (outs_of K.taken K.faults L.told L.faults output.old link.old)
-        (outs_of K.taken K.faults L.told L.faults output.new link.new)
-        (disk_seen D.tells D.told D.faults disk.old disk.new) }
+        → HasLived c (tells_of K.Sink L.Link)
+        (outs_of K.Sink L.Link output.old link.old)
+        (outs_of K.Sink L.Link output.new link.new)
+        (disk_seen D.Disk disk.old disk.new) }
 {
     file_laws();
     config_laws();

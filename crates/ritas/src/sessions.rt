@@ -3,7 +3,7 @@ ghost use Rattle.std.specs.Prelude.{◌≡◌, ◌≢◌, [], map};
 ghost use Rattle.cluster_config.specs.Cluster.{cluster_text};
 ghost use Rattle.cluster_config.specs.Node.{node_text};
 ghost use Rattle.cluster_config.specs.Ranges.{FitsNode, FitsCluster};
-ghost use Rattle.node_loop.specs.Outs.{outs_of};
+ghost use Rattle.node_loop.specs.Outs.{outs_of, tells_of};
 ghost use Rattle.node_session.specs.Configs.{cluster_session, first_item};
 ghost use Rattle.outside.specs.Faults.{HasCause};
 ghost use Rattle.node_session.specs.Lives.{disk_seen};
@@ -48,10 +48,10 @@ pub(crate) fn run_node<R: Net + Wait, K: Sink, L: Link, D: Disk>(
     ensures runs { Runs K.faults output.old output.new (L.faults link.old) (L.faults link.new) result }
     ensures others { result ≢ 4 }
     ensures disk_counts { HasCause (D.faults disk.old) (D.faults disk.new) (result ≡ 9) }
-    ensures answers { AnswersBoth config (record { tape = K.tells; link = L.tells }) K.taken output.old output.new
-        (outs_of K.taken K.faults L.told L.faults output.old link.old)
-        (outs_of K.taken K.faults L.told L.faults output.new link.new)
-        (disk_seen D.tells D.told D.faults disk.old disk.new)
+    ensures answers { AnswersBoth config (tells_of K.Sink L.Link) K.taken output.old output.new
+        (outs_of K.Sink L.Link output.old link.old)
+        (outs_of K.Sink L.Link output.new link.new)
+        (disk_seen D.Disk disk.old disk.new)
         (LeavesLink link.old link.new result) (disk.new ≡ disk.old) result config.journal }
 {
     match serve_node(rt, alloc, config, link, output, disk) {
@@ -72,9 +72,9 @@ pub(crate) fn run_cluster<R: Net + Wait, K: Sink, L: Link>(
     ensures runs { Runs K.faults output.old output.new (L.faults link.old) (L.faults link.new) result }
     ensures others { result ≢ 4 }
     ensures nine { result ≢ 9 }
-    ensures answers { AnswersSession (cluster_session config) (map first_item config.requests) (record { tape = K.tells; link = L.tells })
-        (outs_of K.taken K.faults L.told L.faults output.old link.old)
-        (outs_of K.taken K.faults L.told L.faults output.new link.new)
+    ensures answers { AnswersSession (cluster_session config) (map first_item config.requests) (tells_of K.Sink L.Link)
+        (outs_of K.Sink L.Link output.old link.old)
+        (outs_of K.Sink L.Link output.new link.new)
         ((output.new ≡ output.old) × LeavesLink link.old link.new result) result }
 {
     match serve_cluster(rt, alloc, config, link, output) {

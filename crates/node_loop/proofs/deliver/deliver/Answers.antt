@@ -1,13 +1,13 @@
 use Rattle.std.proofs.Common.{[], ◌++◌, refl}
 use Rattle.node_loop.specs.Keeping.{kept_of}
-use Rattle.node_loop.specs.Outs.{Tells}
+use Rattle.node_loop.specs.Outs.{Tells, tells_of}
 use Rattle.node_loop.specs.Serving.{so_far, after_from, newest_from, sooner_from}
 use Rattle.node_loop.proofs.Delivering.{begun, tape_fails, all_wrote, archive_fails, all_kept, all_fit, group_goes, group_stops}
 use Rattle.node_loop.proofs.deliver.deliver.Goals as goal
 
 pub returns-in-Err-clause-goes : goal.returns-in-Err-clause-goes
 returns-in-Err-clause-goes g c = λ head before w past numbers base taken until limit start left older given run not_yet end is.
-    let tells : Tells = record { tape = g.K.Sink.tells; link = g.L.Link.tells } in
+    let tells : Tells = tells_of g.K.Sink g.L.Link in
     let s = after_from w past start older in
     let old = sooner_from w past start run.newest older in
     let agrees = begun _ w past numbers tells base taken until limit start left older given c.args.house.now c.args.group.now run _ not_yet in
@@ -16,7 +16,7 @@ returns-in-Err-clause-goes g c = λ head before w past numbers base taken until 
 
 pub returns-in-Err-keep_events-clause-goes : goal.returns-in-Err-keep_events-clause-goes
 returns-in-Err-keep_events-clause-goes g c = λ head before w past numbers base taken until limit start left older given run not_yet end is.
-    let tells : Tells = record { tape = g.K.Sink.tells; link = g.L.Link.tells } in
+    let tells : Tells = tells_of g.K.Sink g.L.Link in
     let s = after_from w past start older in
     let old = sooner_from w past start run.newest older in
     let agrees = begun _ w past numbers tells base taken until limit start left older given c.args.house.now c.args.group.now run _ not_yet in
@@ -27,7 +27,7 @@ returns-in-Err-keep_events-clause-goes g c = λ head before w past numbers base 
 
 pub returns-in-Err-send_each-clause-goes : goal.returns-in-Err-send_each-clause-goes
 returns-in-Err-send_each-clause-goes g c = λ head before w past numbers base taken until limit start left older given run not_yet end is.
-    let tells : Tells = record { tape = g.K.Sink.tells; link = g.L.Link.tells } in
+    let tells : Tells = tells_of g.K.Sink g.L.Link in
     let s = after_from w past start older in
     let now = after_from w past start (run.newest ++ older) in
     let old = sooner_from w past start run.newest older in
@@ -42,7 +42,7 @@ returns-in-Err-send_each-clause-goes g c = λ head before w past numbers base ta
 
 pub returns-clause-goes : goal.returns-clause-goes
 returns-clause-goes g c = λ head before w past numbers base taken until limit start left older given run not_yet.
-    let tells : Tells = record { tape = g.K.Sink.tells; link = g.L.Link.tells } in
+    let tells : Tells = tells_of g.K.Sink g.L.Link in
     let s = after_from w past start older in
     let now = after_from w past start (run.newest ++ older) in
     let old = sooner_from w past start run.newest older in

@@ -1,9 +1,10 @@
 use Rattle.std.proofs.Common.{◌≡◌, List, length, Some, Ok, refl, sym, ap, subst, arith}
 use Rattle.std.specs.List.{slice_get}
 use Rattle.std.proofs.lemmas.Option.{slice_get_read, slice_get_within}
-use Rattle.outside.specs.LinkCalls.{LinkDid, each_act}
+use Rattle.outside.specs.LinkCalls.{each_act}
 use Rattle.outside.specs.LinkCallsLaws.{did_none}
 use Rattle.link_resume.specs.declared.kept.Kept.{Kept}
+use Rattle.node_loop.specs.Outs.{LinkTook}
 use Rattle.node_loop.specs.declared.peers.Keeper.{Keeper}
 use Rattle.node_loop.specs.PeersStanding.{kept_by}
 use Rattle.node_loop.proofs.deliver.send_again.Goals as goal
@@ -11,7 +12,7 @@ use Rattle.node_loop.proofs.deliver.send_again.Goals as goal
 pub returns-in_default : goal.returns-in_default
 returns-in_default g c = λ w es numbers ws p stands fits.
     let away = c.in_default.ensures w es numbers stands.here in
-    subst (λ (kept : List Kept). LinkDid g.L.Link.tells (each_act (kept_by c.args.at c.args.peer) kept) (g.L.Link.told c.args.link.now) (g.L.Link.told c.args.link.now) (g.L.Link.faults c.args.link.now) (g.L.Link.faults c.args.link.now) (Ok tt))
+    subst (λ (kept : List Kept). LinkTook g.L.Link (each_act (kept_by c.args.at c.args.peer) kept) c.args.link.now c.args.link.now (Ok tt))
     (sym (fits.1 away)) (did_none _ _ _)
 
 pub returns-in_default-get : goal.returns-in_default-get
@@ -43,5 +44,5 @@ returns g c = λ w es numbers ws p stands fits.
     let keeper = c.in-Some-get.keeper.now in
     let there : slice_get keepers c.in-Some.place ≡ Some keeper = slice_get_read keepers (length keepers) c.in-Some.place keeper refl look.3.0 look.1 in
     let is = stands.keepers c.in-Some.place c.args.at keeper number (subst (λ (l : List Keeper). slice_get l c.in-Some.place ≡ Some keeper) c.deref.ensures.value there) in
-    subst (λ (kept : List Kept). LinkDid g.L.Link.tells (each_act (kept_by c.args.at c.args.peer) kept) (g.L.Link.told c.args.link.now) (g.L.Link.told c.send_kept.new.link) (g.L.Link.faults c.args.link.now) (g.L.Link.faults c.send_kept.new.link) c.send_kept.result)
+    subst (λ (kept : List Kept). LinkTook g.L.Link (each_act (kept_by c.args.at c.args.peer) kept) c.args.link.now c.send_kept.new.link c.send_kept.result)
     (is.kept.each c.args.peer fits.0) c.send_kept.ensures

@@ -2,9 +2,9 @@ use Rattle.std.proofs.Common.{ℕ, List, []}
 use Rattle.std.specs.List.{AllByRecursion}
 use Rattle.ritas_base.specs.declared.event.Event.{Event}
 use Rattle.outside.specs.Links.{LinkAct}
-use Rattle.replica.specs.Replica.{with_keys}
 use Rattle.schedule_file.specs.Spelling.{IsSized}
 use Rattle.world_model.specs.World.{Setting}
+use Rattle.node_loop.specs.Meanings.{meaning_of}
 use Rattle.node_loop.specs.Running.{Gathered}
 use Rattle.node_loop.specs.Serving.{Serving, Round}
 use Rattle.node_loop.proofs.rounds.take_turns.Given as goal
@@ -13,8 +13,8 @@ abbrev pub invariant-loop : goal.invariant-loop
 invariant-loop g l = record {
   sized : AllByRecursion IsSized l.group.events.items;
   goes : (w : Setting) (past : List Event) (numbers : List ℕ) (start : Serving) (older : List Round) (given : List LinkAct)
-      → Gathered (with_keys g.S.Service.stands g.S.Service.rules g.S.Service.shown g.E.Broadcast.stands g.E.Broadcast.rules g.E.Broadcast.shown g.C.Coin.bits) w past numbers
+      → Gathered (meaning_of g.S.Service g.E.Broadcast g.C.Coin) w past numbers
       l.initial.house l.initial.group l.taken l.bounds.until l.bounds.limit start [] older given 1
-      → Gathered (with_keys g.S.Service.stands g.S.Service.rules g.S.Service.shown g.E.Broadcast.stands g.E.Broadcast.rules g.E.Broadcast.shown g.C.Coin.bits) w past numbers
+      → Gathered (meaning_of g.S.Service g.E.Broadcast g.C.Coin) w past numbers
       l.house l.group l.taken l.bounds.until l.bounds.limit start [] older given l.counter;
 }

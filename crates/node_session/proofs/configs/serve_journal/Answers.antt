@@ -26,7 +26,7 @@ serve_life-requires-clause-member g c =
 pub returns-in-Err-clause-unserved : goal.returns-in-Err-clause-unserved
 returns-in-Err-clause-unserved g c =
     let e = c.in-Err.ensures in (
-      unopened c.args.config c.journal_head-head.result (disk_seen g.D.Disk.tells g.D.Disk.told g.D.Disk.faults c.args.disk.now c.open_journal.new.disk) _ c.in-Err.fault refl
+      unopened c.args.config c.journal_head-head.result (disk_seen g.D.Disk c.args.disk.now c.open_journal.new.disk) _ c.in-Err.fault refl
           c.journal_head-head.ensures.exact e.since e.foreign e.broken e.full e.cause,
       refl,
       refl,
@@ -50,10 +50,10 @@ pub returns-clause-unserved : goal.returns-clause-unserved
 returns-clause-unserved g c =
     let e = c.in-Ok.ensures in
     let same = c.in-Err-serve_life.ensures.unserved in
-    let d = disk_seen g.D.Disk.tells g.D.Disk.told g.D.Disk.faults c.args.disk.now c.open_journal.new.disk in
+    let d = disk_seen g.D.Disk c.args.disk.now c.open_journal.new.disk in
     let short : Unopened c.args.config d faults.Mem = record {
       cause = tt;
       since = λ t. subst (λ (h : List ℕ). LeavesOnly (OpensAsKept c.args.config.me h (disk_state_of d.before)) d.before d.now) c.journal_head-head.ensures.exact (e.since t);
       later = e.cause.later;
     } in
-    (subst (λ disk. Unopened c.args.config (disk_seen g.D.Disk.tells g.D.Disk.told g.D.Disk.faults c.args.disk.now disk) faults.Mem) (sym same.2) short, same.0, same.1)
+    (subst (λ disk. Unopened c.args.config (disk_seen g.D.Disk c.args.disk.now disk) faults.Mem) (sym same.2) short, same.0, same.1)

@@ -1,5 +1,6 @@
 use Rattle.std.proofs.Common.{refl, ap, subst}
 use Rattle.ritas.specs.Configs.{RefusesJournal}
+use Rattle.node_loop.specs.Outs.{tells_of}
 use Rattle.node_session.specs.Lives.{disk_seen}
 use Rattle.ritas.proofs.Lived.{both_served, both_run, both_count, both_refused, refused_count}
 use Rattle.ritas.proofs.sessions.run_node.Goals as goal
@@ -7,29 +8,29 @@ use Rattle.ritas.proofs.sessions.run_node.Goals as goal
 pub returns-in-Ok-clause-answers : goal.returns-in-Ok-clause-answers
 returns-in-Ok-clause-answers g c =
     let e = c.in-Ok.ensures in
-    both_served c.args.config (record { tape = g.K.Sink.tells; link = g.L.Link.tells }) g.K.Sink.taken c.args.output.now c.serve_node.new.output _ _ _ _ _ c.in-Ok.end c.end_status.result
+    both_served c.args.config (tells_of g.K.Sink g.L.Link) g.K.Sink.taken c.args.output.now c.serve_node.new.output _ _ _ _ _ c.in-Ok.end c.end_status.result
     c.end_status.ensures e.served (λ none. (e.undisked none).0) e.kept
 
 pub returns-in-Ok-clause-runs : goal.returns-in-Ok-clause-runs
 returns-in-Ok-clause-runs g c =
     let e = c.in-Ok.ensures in
-    rw c.end_status.ensures (both_run g.K.Sink.faults c.args.output.now c.serve_node.new.output c.args.config (record { tape = g.K.Sink.tells; link = g.L.Link.tells }) _ _ _ c.in-Ok.end refl refl
+    rw c.end_status.ensures (both_run g.K.Sink.faults c.args.output.now c.serve_node.new.output c.args.config (tells_of g.K.Sink g.L.Link) _ _ _ c.in-Ok.end refl refl
     e.served e.kept)
 
 pub returns-in-Ok-clause-disk_counts : goal.returns-in-Ok-clause-disk_counts
 returns-in-Ok-clause-disk_counts g c =
     let e = c.in-Ok.ensures in
-    rw c.end_status.ensures (both_count c.args.config (record { tape = g.K.Sink.tells; link = g.L.Link.tells }) _ _ _ c.in-Ok.end e.served (λ none. ap g.D.Disk.faults (e.undisked none).0) e.kept)
+    rw c.end_status.ensures (both_count c.args.config (tells_of g.K.Sink g.L.Link) _ _ _ c.in-Ok.end e.served (λ none. ap g.D.Disk.faults (e.undisked none).0) e.kept)
 
 pub returns-in-Err-clause-answers : goal.returns-in-Err-clause-answers
 returns-in-Err-clause-answers g c =
     let e = c.in-Err.ensures in
-    both_refused c.args.config (record { tape = g.K.Sink.tells; link = g.L.Link.tells }) g.K.Sink.taken c.args.output.now c.refuse_journal.new.output _ _ _ _ _ c.in-Err.fault c.refuse_journal.result
+    both_refused c.args.config (tells_of g.K.Sink g.L.Link) g.K.Sink.taken c.args.output.now c.refuse_journal.new.output _ _ _ _ _ c.in-Err.fault c.refuse_journal.result
     (subst (λ o. RefusesJournal g.K.Sink.tells g.K.Sink.taken o c.refuse_journal.new.output c.refuse_journal.result c.in-Err.fault) e.unserved.0 c.refuse_journal.ensures.refuses)
     (e.unserved.1, c.refuse_journal.ensures.others.3) (λ none. (e.undisked none).0) (λ none. (e.undisked none).1) e.unopened
 
 pub returns-in-Err-clause-disk_counts : goal.returns-in-Err-clause-disk_counts
 returns-in-Err-clause-disk_counts g c =
     let e = c.in-Err.ensures in
-    refused_count c.args.config (disk_seen g.D.Disk.tells g.D.Disk.told g.D.Disk.faults c.args.disk.now c.serve_node.new.disk) c.in-Err.fault c.refuse_journal.result
+    refused_count c.args.config (disk_seen g.D.Disk c.args.disk.now c.serve_node.new.disk) c.in-Err.fault c.refuse_journal.result
     c.refuse_journal.ensures.disk.0 (λ none. ap g.D.Disk.faults (e.undisked none).0) (λ none. (e.undisked none).1) e.unopened

@@ -1,7 +1,7 @@
 use Rattle.std.proofs.Common.{ℕ, List}
 use Rattle.ritas_base.specs.declared.event.Event.{Event}
-use Rattle.replica.specs.Replica.{with_keys}
 use Rattle.world_model.specs.World.{Setting, states_of}
+use Rattle.node_loop.specs.Meanings.{meaning_of}
 use Rattle.node_loop.specs.Serving.{is_busy}
 use Rattle.node_loop.specs.Served.{AreHere}
 use Rattle.node_loop.proofs.Busy.{Least}
@@ -10,5 +10,5 @@ use Rattle.node_loop.proofs.house.House.least_busy.Given as goal
 abbrev pub invariant-loop-replica : goal.invariant-loop-replica
 invariant-loop-replica g l =
     (w : Setting) (es : List Event) (numbers : List ℕ)
-    → AreHere (with_keys g.S.Service.stands g.S.Service.rules g.S.Service.shown g.E.Broadcast.stands g.E.Broadcast.rules g.E.Broadcast.shown g.C.Coin.bits) w es numbers l.self.replicas.items
+    → AreHere (meaning_of g.S.Service g.E.Broadcast g.C.Coin) w es numbers l.self.replicas.items
     → Least (λ i. is_busy (states_of w es i).inbox) numbers l.replica-index l.least

@@ -2,7 +2,7 @@ use Rattle.std.proofs.Common.{List, reverse, sym, subst}
 use Rattle.std.proofs.lemmas.List.{take_all}
 use Rattle.std.proofs.lemmas.List.Elements.{All-from_recursion}
 use Rattle.ritas_base.specs.declared.event.Event.{Event}
-use Rattle.replica.specs.Replica.{with_keys}
+use Rattle.node_loop.specs.Meanings.{meaning_of}
 use Rattle.node_loop.specs.Laws.{IsServed}
 use Rattle.node_loop.specs.Recovering.{recalled_waiting, recalled_peers}
 use Rattle.node_loop.specs.Standing.{HouseStands}
@@ -14,7 +14,7 @@ loop-event-init g c = λ w numbers stand served. stand
 
 pub loop-event-preserved : goal.loop-event-preserved
 loop-event-preserved g c = λ w numbers stand served.
-    let m = with_keys g.S.Service.stands g.S.Service.rules g.S.Service.shown g.E.Broadcast.stands g.E.Broadcast.rules g.E.Broadcast.shown g.C.Coin.bits in
+    let m = meaning_of g.S.Service g.E.Broadcast g.C.Coin in
     let es = c.args.events.now in
     let i = c.loop-event.event-index in
     let e : Event = c.event-item.result in
@@ -24,6 +24,6 @@ loop-event-preserved g c = λ w numbers stand served.
 
 pub returns : goal.returns
 returns g c = λ w numbers stand served.
-    let m = with_keys g.S.Service.stands g.S.Service.rules g.S.Service.shown g.E.Broadcast.stands g.E.Broadcast.rules g.E.Broadcast.shown g.C.Coin.bits in
+    let m = meaning_of g.S.Service g.E.Broadcast g.C.Coin in
     subst (λ (l : List Event). HouseStands m w (reverse l) numbers c.loop-event.self (recalled_waiting w (reverse l)) (recalled_peers w (reverse l)))
     (take_all c.loop-event.event-index c.args.events.now c.loop-event-test.false) (c.loop-event.invariant w numbers stand served)
