@@ -33,8 +33,8 @@ use Rattle.node_loop.specs.ServedKept.{ServesKept, group_kept}
 use Rattle.node_loop.specs.Serving.{Serving, Round, IsGroup, after_from, events_from, newest_from, sooner_from}
 use Rattle.node_loop.specs.ServingLaws.{acts_from}
 use Rattle.node_loop.proofs.Grouping.{events_parts, text_parts, kept_parts}
-use Rattle.node_loop.proofs.Rounding.{if_failed, at_fault, is_group}
-use Rattle.node_loop.proofs.Stepping.{with_link, same_failed, link_goes, link_stops}
+use Rattle.node_loop.proofs.Rounding.{if_failed, at_fault, is_group, left_none}
+use Rattle.node_loop.proofs.Stepping.{with_link, same_failed, link_goes, link_stops, of_tape, link_alone}
 
 -- ---- the tape
 
@@ -82,16 +82,7 @@ wrote_none tells base o es older acts news agrees = record {
 
 -- where the tape failed, only the older ones were kept
 left_tape : (now : Moment) (none : Type 0) (kept group older : List Event) (fault : Fault) → IsOfTape fault → none → now.stands older → ArchiveLeftAt now none kept group older fault
-left_tape now none kept group older faults.Tape own sent stands = stands
-left_tape now none kept group older faults.Mem own sent stands = inr (sent, inl stands)
-left_tape now none kept group older faults.Link own sent stands = absurd own
-left_tape now none kept group older faults.Disk own sent stands = absurd own
-left_tape now none kept group older (faults.Full x) own sent stands = absurd own
-
--- all was kept where the link failed
-left_link : (now : Moment) (none : Type 0) (kept group older : List Event) (x : LinkFault) (fault : Fault) → IsFaultOfLink x fault → now.stands kept → ArchiveLeftAt now none kept group older fault
-left_link now none kept group older link_faults.Failed fault is stands = rw is stands
-left_link now none kept group older link_faults.Mem fault is stands = rw is (inl stands)
+left_tape now none kept group older fault own sent stands = of_tape (λ x. ArchiveLeftAt now none kept group older x) stands (inr (sent, inl stands)) fault own
 
 -- the archive failed over the newest group
 left_archive : (now : Moment) (none : Type 0) (kept group older : List Event) (x : ArchiveFault) → none → now.fails x group older → ArchiveLeftAt now none kept group older (fault_in x)
@@ -218,4 +209,4 @@ module _ {S E C : Type 0} (m : Meaning S E C KeyRow) (w : Setting) (past : List 
         (link_stops tells base o s₁.events old [] new new told count x fault why (sym (append-nil new)) agrees
         (subst (λ (acts : List LinkAct). LinkDid tells.link acts o.told told o.link_faults count (Err x)) (ap (acts_each (acts_by s₁.peers.keeping)) same ∙ run.under.holds.acts) did))
         (if_failed fault _ run.under.stands.here)
-        (left_link then (NoneSent tells base (with_link o told count) old) (kept_of w past s₁.events) (group_kept w past start run.newest older) (kept_of w past s₀.events) x fault why kept)
+        (left_none then (NoneSent tells base (with_link o told count) old) (kept_of w past s₁.events) (group_kept w past start run.newest older) (kept_of w past s₀.events) fault (link_alone x fault why) kept)

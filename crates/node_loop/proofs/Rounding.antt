@@ -25,7 +25,7 @@ use Rattle.node_loop.specs.declared.rounds.Next.TheVariants as next
 use Rattle.node_loop.specs.Peers.{Peers}
 use Rattle.node_loop.specs.Resending.{due}
 use Rattle.node_loop.specs.Serving.{Serving, begin, so_far, Want, Begins, Finishes, Turns, Halts, Reminds, Asks, wants_of, turn_or, remind_or, first_or, here, busy, has_enough_rows, wants, Round, Began, Turned, Reminded, Took, AreTurns, IsGroup, behind_first, round_does, serving_after, newest, sooner, after_from, events_from, newest_from, sooner_from, given_for_round, given_first, IsGiven, IsWanted, AreWantedFrom}
-use Rattle.node_loop.specs.Outs.{events_text, Outs, Tells, Agrees, HasCauses, AllWritten, NoneSent, InOrder, StopsPartway, IfFailed, IsFaultOfLink}
+use Rattle.node_loop.specs.Outs.{events_text, Outs, Tells, Agrees, HasCauses, AllWritten, NoneSent, StopsPartway, IfFailed, IsFaultOfLink}
 use Rattle.node_loop.specs.ServingLaws.{acts_from}
 use Rattle.node_loop.specs.Standing.{HouseStands}
 use Rattle.node_loop.specs.Served.{AreHere, EndsSo, Serves}
@@ -37,7 +37,7 @@ use Rattle.node_loop.specs.Running.{IsEndOf, Running, Gathered, FellShortOf, Not
 use Rattle.node_loop.specs.declared.group.Group.{Group}
 use Rattle.node_loop.specs.Groups.{IsEmpty, JoinsGroup, Under}
 use Rattle.outside.specs.LinkCallsLaws.{back_none, back_all}
-use Rattle.node_loop.proofs.Stepping.{with_link, has_cause, same_failed}
+use Rattle.node_loop.proofs.Stepping.{with_link, has_cause, same_failed, IsOfLink, of_link, link_alone, whole_order}
 use Rattle.node_loop.proofs.Grouping.{events_parts, text_parts, holds_none}
 use Rattle.node_loop.proofs.Turning.{turns_correct, reminds_peer}
 
@@ -54,14 +54,6 @@ next_given tells base o events acts told count item agrees is same = record {
   link_stands = same ∙ agrees.link_stands;
 }
 
--- a fault of the link, or want of memory
-abbrev pub IsOfLink : Fault → Type 0
-IsOfLink faults.Link = Unit {0}
-IsOfLink faults.Mem = Unit {0}
-IsOfLink faults.Tape = ⊥
-IsOfLink faults.Disk = ⊥
-IsOfLink (faults.Full x) = ⊥
-
 -- it gave none, for a fault of its own or for want of memory
 pub record GaveNone (tells : Tells) (base now : Outs) (fault : Fault) (s : Serving) : Type 0 where
   pub written : AllWritten tells base now s.events
@@ -69,10 +61,6 @@ pub record GaveNone (tells : Tells) (base now : Outs) (fault : Fault) (s : Servi
   pub link_later : base.link_faults.failed ≤ now.link_faults.failed
   pub own : IsOfLink fault
   pub cause : HasCauses base now fault
-
-link_alone : (x : LinkFault) (fault : Fault) → IsFaultOfLink x fault → IsOfLink fault
-link_alone link_faults.Failed fault is = rw is tt
-link_alone link_faults.Mem fault is = rw is tt
 
 pub next_failed : (tells : Tells) (base o : Outs) (s : Serving) (told : List LinkAct) (count : FaultCounts) (x : LinkFault) (fault : Fault)
     → IsFaultOfLink x fault → Agrees tells base o s.events s.acts → (tells.link ≡ true → told ≡ o.told)
@@ -86,19 +74,8 @@ next_failed tells base o s told count x fault is agrees same le counts = record 
 }
 
 tape_on : (base o : Outs) (fault : Fault) → IsOfLink fault → HasCauses base o fault → base.tape_faults ≤ o.tape_faults
-tape_on base o faults.Tape own cause = absurd own
-tape_on base o faults.Link own cause = omega (arith, cause.0)
-tape_on base o faults.Mem own cause = omega (arith, cause.0)
-tape_on base o faults.Disk own cause = absurd own
-tape_on base o (faults.Full x) own cause = absurd own
-
-whole_order : (tells : Tells) (base o : Outs) (fault : Fault) (events : List Event) (sooner : List LinkAct) → IsOfLink fault → AllWritten tells base o events
-    → InOrder tells base o fault events sooner
-whole_order tells base o faults.Tape events sooner own written = absurd own
-whole_order tells base o faults.Disk events sooner own written = absurd own
-whole_order tells base o (faults.Full x) events sooner own written = absurd own
-whole_order tells base o faults.Link events sooner own written = written
-whole_order tells base o faults.Mem events sooner own written = inl written
+tape_on base o fault own cause =
+    of_link (λ x. HasCauses base o x → base.tape_faults ≤ o.tape_faults) (λ failed. omega (arith, failed.0)) (λ short. omega (arith, short.0)) fault own cause
 
 -- then all that came of the rounds was told
 none_stops : (w : Setting) (past : List Event) (start : Serving) (newest older : List Round) (tells : Tells) (base o : Outs) (fault : Fault)
@@ -112,7 +89,7 @@ none_stops w past start newest older tells base o fault gave =
       taken = λ t. all_written base.taken o.taken (events_text s.events) (gave.written t);
       told = λ t. back_all (old ++ base.told) o.told new
           (gave.told t ∙ ap (λ (l : List LinkAct). l ++ base.told) (acts_from w past start newest older) ∙ append_assoc new old base.told);
-      order = whole_order tells base o fault s.events old gave.own gave.written;
+      order = whole_order tells base o s.events old fault gave.own gave.written;
       tape_later = tape_on base o fault gave.own gave.cause;
       link_later = gave.link_later;
       cause = gave.cause;
@@ -212,12 +189,8 @@ left_end now none kept group older faults.Disk end is left = rw is left
 left_end now none kept group older (faults.Full x) end is left = rw is left
 
 -- all was where the link gave none
-left_none : (now : Moment) (none : Type 0) (kept group older : List Event) (fault : Fault) → IsOfLink fault → now.stands kept → ArchiveLeftAt now none kept group older fault
-left_none now none kept group older faults.Link own stands = stands
-left_none now none kept group older faults.Mem own stands = inl stands
-left_none now none kept group older faults.Tape own stands = absurd own
-left_none now none kept group older faults.Disk own stands = absurd own
-left_none now none kept group older (faults.Full x) own stands = absurd own
+pub left_none : (now : Moment) (none : Type 0) (kept group older : List Event) (fault : Fault) → IsOfLink fault → now.stands kept → ArchiveLeftAt now none kept group older fault
+left_none now none kept group older fault own stands = of_link (λ x. ArchiveLeftAt now none kept group older x) stands (inl stands) fault own
 
 -- ---- where none of the first items is left
 

@@ -14,6 +14,8 @@ use Rattle.outside.specs.declared.link.FaultCounts.{FaultCounts}
 use Rattle.outside.specs.declared.link.LinkFault.{LinkFault}
 use Rattle.outside.specs.declared.link.LinkFault.TheVariants as link_faults
 use Rattle.node_loop.specs.declared.end.Fault.{Fault}
+use Rattle.node_loop.specs.declared.end.Fault.TheVariants as faults
+use Rattle.node_loop.specs.Running.{IsOfTape}
 use Rattle.node_loop.specs.Outs.{events_text, Outs, Tells, Agrees, HasCauses, AllWritten, InOrder, StopsPartway, IsFaultOfLink}
 
 pub same_failed : {a b : FaultCounts} → a ≡ b → a.failed ≡ b.failed
@@ -64,6 +66,37 @@ link_goes tells base o events acts news told count agrees did = record {
   link_stands = did.count ∙ agrees.link_stands;
 }
 
+-- ---- whose fault it is
+
+-- a fault of the link, or want of memory
+abbrev pub IsOfLink : Fault → Type 0
+IsOfLink faults.Link = Unit {0}
+IsOfLink faults.Mem = Unit {0}
+IsOfLink faults.Tape = ⊥
+IsOfLink faults.Disk = ⊥
+IsOfLink (faults.Full x) = ⊥
+
+-- what holds of these two holds of each that is of the link
+pub of_link : (P : Fault → Type 0) → P faults.Link → P faults.Mem → (fault : Fault) → IsOfLink fault → P fault
+of_link P link short faults.Link own = link
+of_link P link short faults.Mem own = short
+of_link P link short faults.Tape own = absurd own
+of_link P link short faults.Disk own = absurd own
+of_link P link short (faults.Full x) own = absurd own
+
+-- and so of the tape
+pub of_tape : (P : Fault → Type 0) → P faults.Tape → P faults.Mem → (fault : Fault) → IsOfTape fault → P fault
+of_tape P tape short faults.Tape own = tape
+of_tape P tape short faults.Mem own = short
+of_tape P tape short faults.Link own = absurd own
+of_tape P tape short faults.Disk own = absurd own
+of_tape P tape short (faults.Full x) own = absurd own
+
+-- the link's faults are of it
+pub link_alone : (x : LinkFault) (fault : Fault) → IsFaultOfLink x fault → IsOfLink fault
+link_alone link_faults.Failed fault is = rw is tt
+link_alone link_faults.Mem fault is = rw is tt
+
 -- ---- the link wasn't given all
 
 pub has_cause : (A : Type 0) (base o : Outs) (events : List Event) (acts told : List LinkAct) (tells : Tells) (count : FaultCounts) (x : LinkFault) (fault : Fault) → IsFaultOfLink x fault
@@ -71,10 +104,10 @@ pub has_cause : (A : Type 0) (base o : Outs) (events : List Event) (acts told : 
 has_cause A base o events acts told tells count link_faults.Failed fault is agrees counts = rw is (agrees.tape_stands, counts ∙ ap failed_once agrees.link_stands)
 has_cause A base o events acts told tells count link_faults.Mem fault is agrees counts = rw is (agrees.tape_stands, inr (counts ∙ ap short_once agrees.link_stands))
 
-in_order : (tells : Tells) (base o : Outs) (told : List LinkAct) (count : FaultCounts) (events : List Event) (sooner : List LinkAct) (x : LinkFault) (fault : Fault) → IsFaultOfLink x fault
-    → AllWritten tells base o events → InOrder tells base (with_link o told count) fault events sooner
-in_order tells base o told count events sooner link_faults.Failed fault is written = rw is written
-in_order tells base o told count events sooner link_faults.Mem fault is written = rw is (inl written)
+-- all that was written was written before
+pub whole_order : (tells : Tells) (base o : Outs) (events : List Event) (sooner : List LinkAct) (fault : Fault) → IsOfLink fault → AllWritten tells base o events
+    → InOrder tells base o fault events sooner
+whole_order tells base o events sooner fault own written = of_link (λ x. InOrder tells base o x events sooner) written (inl written) fault own
 
 -- of what is new some was told before, and then a part of the rest
 pub link_stops : (tells : Tells) (base o : Outs) (events : List Event) (sooner done news all told : List LinkAct) (count : FaultCounts) (x : LinkFault) (fault : Fault)
@@ -83,7 +116,7 @@ pub link_stops : (tells : Tells) (base o : Outs) (events : List Event) (sooner d
 link_stops tells base o events sooner done news all told count x fault is both agrees did = record {
   taken = λ t. all_written base.taken o.taken (events_text events) (agrees.taken t);
   told = λ t. rw both (back_then (sooner ++ base.told) o.told told done news (agrees.told t ∙ append_assoc done sooner base.told) (did.back t));
-  order = in_order tells base o told count events sooner x fault is agrees.taken;
+  order = whole_order tells base (with_link o told count) events sooner fault (link_alone x fault is) agrees.taken;
   tape_later = omega (arith, agrees.tape_stands);
   link_later = omega (arith, same_failed agrees.link_stands, did.later);
   cause = has_cause (Unit {0}) base o events (done ++ sooner) told tells count x fault is agrees did.count;
