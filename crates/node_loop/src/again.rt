@@ -32,88 +32,6 @@ use std::alloc::Global;
 use std::net::Net;
 use std::sync::Wait;
 
-// Serves the replicas of a house after these events.
-fn serve_again<
-    R: Net + Wait,
-    S: Service,
-    E: Broadcast,
-    C: Coin + Drop,
-    L: Link,
-    K: Sink,
-    A: Archive<D>,
-    D,
->(
-    rt: &R,
-    alloc: Global,
-    house: &mut House<S, E, C>,
-    out: &mut Outlets<L, K, A, D>,
-    bounds: Bounds,
-    recovered: &[Event],
-) -> ServeEnd
-    requires { AllByRecursion IsSized recovered.now }
-    ensures same { AreSameOutlets out.old out.new }
-    ensures goes { let m = meaning_of S.Service E.Broadcast C.Coin in
-        (head : List ℕ) (before : D) (w : Setting) (numbers : List ℕ) → HouseStands m w [] numbers house.old nobody no_peers
-        → AllByRecursion (IsServed w) recovered.now
-        → A.stands head before (reverse recovered.now) out.old.archive.now out.old.disk.now []
-        → ServesAgain m w (reverse recovered.now) numbers house.new.replicas.items (tells_of K.Sink L.Link)
-        (outs_of K.Sink L.Link out.old.tape.now out.old.link.now)
-        (moment_of K.Sink L.Link A.Archive head before (reverse recovered.now) out.new)
-        result bounds.until bounds.limit }
-{
-    let mut output = Output::new(alloc);
-    match house.recall_all(alloc, recovered, &mut output) {
-        Ok(()) => {}
-        Err(Mem) => return ServeEnd::Mem,
-    }
-    match write_events(out.tape, recovered) {
-        Ok(()) => {}
-        Err(_) => return ServeEnd::TapeFault,
-    }
-    let mut group = Group::new(alloc);
-    go_on(rt, alloc, house, out, bounds, &mut group)
-}
-
-// Serves the replicas of a house after these events, with a link, a tape, and what keeps events.
-fn serve_again_with<
-    R: Net + Wait,
-    S: Service,
-    E: Broadcast,
-    C: Coin + Drop,
-    L: Link,
-    K: Sink,
-    A: Archive<D>,
-    D,
->(
-    rt: &R,
-    alloc: Global,
-    house: &mut House<S, E, C>,
-    link: &mut L,
-    tape: &mut K,
-    archive: &mut A,
-    disk: &mut D,
-    bounds: Bounds,
-    recovered: &[Event],
-) -> ServeEnd
-    requires { AllByRecursion IsSized recovered.now }
-    ensures { let m = meaning_of S.Service E.Broadcast C.Coin in
-        (head : List ℕ) (before : D) (w : Setting) (numbers : List ℕ) → HouseStands m w [] numbers house.old nobody no_peers
-        → AllByRecursion (IsServed w) recovered.now
-        → A.stands head before (reverse recovered.now) archive.old disk.old []
-        → ServesAgain m w (reverse recovered.now) numbers house.new.replicas.items (tells_of K.Sink L.Link)
-        (outs_of K.Sink L.Link tape.old link.old)
-        (moment_at A.Archive head before (reverse recovered.now) (outs_of K.Sink L.Link tape.new link.new) archive.new disk.new)
-        result bounds.until bounds.limit }
-{
-    let mut out = Outlets {
-        link,
-        tape,
-        archive,
-        disk,
-    };
-    serve_again(rt, alloc, house, &mut out, bounds, recovered)
-}
-
 /// Serves one replica again, after the events that its journal kept, or for the first time, where there are none (`event_journal::open_journal`
 /// gives both). These events happen to it first, with no reply, and the tape takes them; the frames of their calls are kept for their peers, where
 /// the oldest make room for the newest, and none goes to the link by that. A request that was taken and isn't in the log waits, with no connection.
@@ -177,4 +95,86 @@ pub fn serve_kept<
     );
     *replicas = house.replicas;
     end
+}
+
+// Serves the replicas of a house after these events, with a link, a tape, and what keeps events.
+fn serve_again_with<
+    R: Net + Wait,
+    S: Service,
+    E: Broadcast,
+    C: Coin + Drop,
+    L: Link,
+    K: Sink,
+    A: Archive<D>,
+    D,
+>(
+    rt: &R,
+    alloc: Global,
+    house: &mut House<S, E, C>,
+    link: &mut L,
+    tape: &mut K,
+    archive: &mut A,
+    disk: &mut D,
+    bounds: Bounds,
+    recovered: &[Event],
+) -> ServeEnd
+    requires { AllByRecursion IsSized recovered.now }
+    ensures { let m = meaning_of S.Service E.Broadcast C.Coin in
+        (head : List ℕ) (before : D) (w : Setting) (numbers : List ℕ) → HouseStands m w [] numbers house.old nobody no_peers
+        → AllByRecursion (IsServed w) recovered.now
+        → A.stands head before (reverse recovered.now) archive.old disk.old []
+        → ServesAgain m w (reverse recovered.now) numbers house.new.replicas.items (tells_of K.Sink L.Link)
+        (outs_of K.Sink L.Link tape.old link.old)
+        (moment_at A.Archive head before (reverse recovered.now) (outs_of K.Sink L.Link tape.new link.new) archive.new disk.new)
+        result bounds.until bounds.limit }
+{
+    let mut out = Outlets {
+        link,
+        tape,
+        archive,
+        disk,
+    };
+    serve_again(rt, alloc, house, &mut out, bounds, recovered)
+}
+
+// Serves the replicas of a house after these events.
+fn serve_again<
+    R: Net + Wait,
+    S: Service,
+    E: Broadcast,
+    C: Coin + Drop,
+    L: Link,
+    K: Sink,
+    A: Archive<D>,
+    D,
+>(
+    rt: &R,
+    alloc: Global,
+    house: &mut House<S, E, C>,
+    out: &mut Outlets<L, K, A, D>,
+    bounds: Bounds,
+    recovered: &[Event],
+) -> ServeEnd
+    requires { AllByRecursion IsSized recovered.now }
+    ensures same { AreSameOutlets out.old out.new }
+    ensures goes { let m = meaning_of S.Service E.Broadcast C.Coin in
+        (head : List ℕ) (before : D) (w : Setting) (numbers : List ℕ) → HouseStands m w [] numbers house.old nobody no_peers
+        → AllByRecursion (IsServed w) recovered.now
+        → A.stands head before (reverse recovered.now) out.old.archive.now out.old.disk.now []
+        → ServesAgain m w (reverse recovered.now) numbers house.new.replicas.items (tells_of K.Sink L.Link)
+        (outs_of K.Sink L.Link out.old.tape.now out.old.link.now)
+        (moment_of K.Sink L.Link A.Archive head before (reverse recovered.now) out.new)
+        result bounds.until bounds.limit }
+{
+    let mut output = Output::new(alloc);
+    match house.recall_all(alloc, recovered, &mut output) {
+        Ok(()) => {}
+        Err(Mem) => return ServeEnd::Mem,
+    }
+    match write_events(out.tape, recovered) {
+        Ok(()) => {}
+        Err(_) => return ServeEnd::TapeFault,
+    }
+    let mut group = Group::new(alloc);
+    go_on(rt, alloc, house, out, bounds, &mut group)
 }
