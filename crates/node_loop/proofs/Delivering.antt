@@ -13,7 +13,6 @@ use Rattle.outside.specs.Writing.{TookFront}
 use Rattle.outside.specs.WritingLaws.{all_written, front_then, front_more}
 use Rattle.outside.specs.declared.link.FaultCounts.{FaultCounts}
 use Rattle.outside.specs.declared.link.LinkFault.{LinkFault}
-use Rattle.outside.specs.declared.link.LinkFault.TheVariants as link_faults
 use Rattle.outside.specs.declared.link.LinkItem.{LinkItem}
 use Rattle.world_model.specs.World.{Setting}
 use Rattle.node_loop.specs.declared.archive.ArchiveFault.{ArchiveFault}
@@ -24,11 +23,12 @@ use Rattle.node_loop.specs.declared.end.ServeEnd.{ServeEnd}
 use Rattle.node_loop.specs.declared.group.Group.{Group}
 use Rattle.node_loop.specs.declared.house.House.{House}
 use Rattle.node_loop.specs.declared.output.Output.{Output}
-use Rattle.node_loop.specs.Archives.{Moment, ArchiveLeftAt, fault_in}
+use Rattle.node_loop.specs.Archives.{Moment, ArchiveLeftAt}
 use Rattle.node_loop.specs.Groups.{FitsPeers, acts_by, acts_each, if_kept}
 use Rattle.node_loop.specs.Keeping.{kept_of}
-use Rattle.node_loop.specs.Outs.{events_text, Outs, Tells, Agrees, StopsPartway, HasCauses, InOrder, NoneSent, IsFaultOfLink}
-use Rattle.node_loop.specs.Running.{Running, Gathered, NotYet, IsEndOf, IsOfTape}
+use Rattle.node_loop.specs.Outs.{events_text, Outs, Tells, Agrees, StopsPartway, HasCauses, InOrder, NoneSent}
+use Rattle.node_loop.specs.Ends.{IsFaultOfLink, fault_in, IsEndOf}
+use Rattle.node_loop.specs.Running.{Running, Gathered, NotYet, IsOfTape}
 use Rattle.node_loop.specs.ServedKept.{ServesKept, group_kept}
 use Rattle.node_loop.specs.Serving.{Serving, Round, IsGroup, after_from, events_from, newest_from, sooner_from}
 use Rattle.node_loop.specs.ServingLaws.{acts_from}

@@ -25,7 +25,8 @@ use Rattle.node_loop.specs.declared.rounds.Next.TheVariants as next
 use Rattle.node_loop.specs.Peers.{Peers}
 use Rattle.node_loop.specs.Resending.{due}
 use Rattle.node_loop.specs.Serving.{Serving, begin, so_far, Want, Begins, Finishes, Turns, Halts, Reminds, Asks, wants_of, turn_or, remind_or, first_or, here, busy, has_enough_rows, wants, Round, Began, Turned, Reminded, Took, AreTurns, IsGroup, behind_first, round_does, serving_after, newest, sooner, after_from, events_from, newest_from, sooner_from, given_for_round, given_first, IsGiven, IsWanted, AreWantedFrom}
-use Rattle.node_loop.specs.Outs.{events_text, Outs, Tells, Agrees, HasCauses, AllWritten, NoneSent, StopsPartway, IfFailed, IsFaultOfLink}
+use Rattle.node_loop.specs.Outs.{events_text, Outs, Tells, Agrees, HasCauses, AllWritten, NoneSent, StopsPartway, IfFailed}
+use Rattle.node_loop.specs.Ends.{IsEndOfLink, IsFaultOfLink, IsEndOf}
 use Rattle.node_loop.specs.ServingLaws.{acts_from}
 use Rattle.node_loop.specs.Standing.{HouseStands}
 use Rattle.node_loop.specs.Served.{AreHere, EndsSo, Serves}
@@ -33,7 +34,7 @@ use Rattle.node_loop.specs.ServedKept.{EndsKept, ServesKept, earlier_from, group
 use Rattle.node_loop.specs.declared.archive.ArchiveFault.{ArchiveFault}
 use Rattle.node_loop.specs.Archives.{Moment, ArchiveLeftAt, KeptAt}
 use Rattle.node_loop.specs.Keeping.{kept_of}
-use Rattle.node_loop.specs.Running.{IsEndOf, Running, Gathered, FellShortOf, NotYet, IsNext}
+use Rattle.node_loop.specs.Running.{Running, Gathered, FellShortOf, NotYet, IsNext}
 use Rattle.node_loop.specs.declared.group.Group.{Group}
 use Rattle.node_loop.specs.Groups.{IsEmpty, JoinsGroup, Under}
 use Rattle.outside.specs.LinkCallsLaws.{back_none, back_all}
@@ -61,6 +62,11 @@ pub record GaveNone (tells : Tells) (base now : Outs) (fault : Fault) (s : Servi
   pub link_later : base.link_faults.failed ≤ now.link_faults.failed
   pub own : IsOfLink fault
   pub cause : HasCauses base now fault
+
+-- of a fault of the link and the end that it is, the fault of serving between them
+pub fault_between : (x : LinkFault) (end : ServeEnd) → IsEndOfLink x end → (fault : Fault) × IsFaultOfLink x fault × IsEndOf fault end
+fault_between link_faults.Failed end is = (faults.Link, refl, is)
+fault_between link_faults.Mem end is = (faults.Mem, refl, is)
 
 pub next_failed : (tells : Tells) (base o : Outs) (s : Serving) (told : List LinkAct) (count : FaultCounts) (x : LinkFault) (fault : Fault)
     → IsFaultOfLink x fault → Agrees tells base o s.events s.acts → (tells.link ≡ true → told ≡ o.told)

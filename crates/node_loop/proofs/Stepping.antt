@@ -16,7 +16,8 @@ use Rattle.outside.specs.declared.link.LinkFault.TheVariants as link_faults
 use Rattle.node_loop.specs.declared.end.Fault.{Fault}
 use Rattle.node_loop.specs.declared.end.Fault.TheVariants as faults
 use Rattle.node_loop.specs.Running.{IsOfTape}
-use Rattle.node_loop.specs.Outs.{events_text, Outs, Tells, Agrees, HasCauses, AllWritten, InOrder, StopsPartway, IsFaultOfLink}
+use Rattle.node_loop.specs.Outs.{events_text, Outs, Tells, Agrees, HasCauses, AllWritten, InOrder, StopsPartway}
+use Rattle.node_loop.specs.Ends.{IsFaultOfLink}
 
 pub same_failed : {a b : FaultCounts} → a ≡ b → a.failed ≡ b.failed
 same_failed e = ap (λ (n : FaultCounts). n.failed) e

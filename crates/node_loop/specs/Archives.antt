@@ -1,5 +1,5 @@
 -- What serving has beside its replicas: a link, a tape, and an archive that keeps events on a disk. Lists of events have the newest first.
-use Rattle.std.specs.Prelude.{◌≡◌, ℕ, List, ◌⊎◌}
+use Rattle.std.specs.Prelude.{◌≡◌, List, ◌⊎◌}
 use Rattle.ritas_base.specs.declared.event.Event.{Event}
 use Rattle.node_loop.specs.declared.archive.ArchiveFault.{ArchiveFault}
 use Rattle.node_loop.specs.declared.archive.ArchiveFault.TheVariants as archive
@@ -24,12 +24,6 @@ abbrev pub AreSameOutlets : {L K A D : Type 0} → Outlets L K A D → Outlets L
 AreSameOutlets old new =
     (new.link.ghost_name ≡ old.link.ghost_name) × (new.tape.ghost_name ≡ old.tape.ghost_name) × (new.archive.ghost_name ≡ old.archive.ghost_name)
     × (new.disk.ghost_name ≡ old.disk.ghost_name)
-
--- a fault of the archive as one of serving
-abbrev pub fault_in : ArchiveFault → Fault
-fault_in archive.Disk = faults.Disk
-fault_in (archive.Full x) = faults.Full x
-fault_in archive.Mem = faults.Mem
 
 -- What it stands for at a fault, of these kept events, which are those of the newest group and the older ones: all were kept before the link told
 -- anything of the group, which is nothing (`none`) unless all were.

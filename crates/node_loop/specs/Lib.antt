@@ -5,6 +5,7 @@ pub mod Deeds
 pub mod Resending
 pub mod Serving
 pub mod ServingLaws
+pub mod Ends
 pub mod Outs
 pub mod Served
 pub mod PeersStanding

@@ -10,7 +10,6 @@ use Rattle.outside.specs.declared.link.FaultCounts.{FaultCounts}
 use Rattle.outside.specs.declared.link.Link.{Ghosts as LinkGhosts}
 use Rattle.outside.specs.declared.sink.Sink.{Ghosts as SinkGhosts}
 use Rattle.outside.specs.declared.link.LinkFault.{LinkFault}
-use Rattle.outside.specs.declared.link.LinkFault.TheVariants as link_faults
 use Rattle.schedule_file.specs.Spelling.{event_text}
 use Rattle.node_loop.specs.declared.end.Fault.{Fault}
 use Rattle.node_loop.specs.declared.end.Fault.TheVariants as faults
@@ -121,8 +120,3 @@ pub record StopsPartway (tells : Tells) (base now : Outs) (fault : Fault) (event
 abbrev pub StepsInOrder : {A : Type 0} → Tells → Outs → Outs → Result A Fault → List Event → List LinkAct → List LinkAct → List LinkAct → Type 0
 StepsInOrder tells base now (Ok done) events acts sooner news = Agrees tells base now events acts
 StepsInOrder tells base now (Err fault) events acts sooner news = StopsPartway tells base now fault events sooner news
-
--- a fault of the link as one of serving
-abbrev pub IsFaultOfLink : LinkFault → Fault → Type 0
-IsFaultOfLink link_faults.Failed fault = fault ≡ faults.Link
-IsFaultOfLink link_faults.Mem fault = fault ≡ faults.Mem

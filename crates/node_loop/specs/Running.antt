@@ -9,11 +9,11 @@ use Rattle.world_model.specs.World.{Setting}
 use Rattle.node_loop.specs.declared.end.Fault.{Fault}
 use Rattle.node_loop.specs.declared.end.Fault.TheVariants as faults
 use Rattle.node_loop.specs.declared.end.ServeEnd.{ServeEnd}
-use Rattle.node_loop.specs.declared.end.ServeEnd.TheVariants as ends
 use Rattle.node_loop.specs.declared.house.House.{House}
 use Rattle.node_loop.specs.declared.rounds.Next.{Next}
 use Rattle.node_loop.specs.declared.rounds.Next.TheVariants as next
 use Rattle.node_loop.specs.Serving.{Serving, so_far, Want, Finishes, Turns, Halts, Reminds, Asks, Round, AreTurns, IsGroup, after_from, given_first, AreWantedFrom}
+use Rattle.node_loop.specs.Ends.{IsEndOf}
 use Rattle.node_loop.specs.Outs.{Outs, Tells, Agrees}
 use Rattle.node_loop.specs.ServedKept.{ServesKept}
 use Rattle.node_loop.specs.Archives.{Moment}
@@ -21,14 +21,6 @@ use Rattle.node_loop.specs.declared.group.Group.{Group}
 use Rattle.node_loop.specs.Groups.{Under}
 use Rattle.node_loop.specs.Keeping.{kept_of}
 use Rattle.node_loop.specs.Standing.{HouseStands}
-
--- the end that a fault is
-abbrev pub IsEndOf : Fault → ServeEnd → Type 0
-IsEndOf faults.Link end = end ≡ ends.LinkFault
-IsEndOf faults.Tape end = end ≡ ends.TapeFault
-IsEndOf faults.Mem end = end ≡ ends.Mem
-IsEndOf faults.Disk end = end ≡ ends.DiskFault
-IsEndOf (faults.Full x) end = end ≡ ends.JournalFull x
 
 -- it serves: these are the rounds so far, of its first items these are left, and the archive stands for what is kept
 pub record Running {S E C : Type 0} (m : Meaning S E C KeyRow) (w : Setting) (past : List Event) (numbers : List ℕ) (house : House S E C)

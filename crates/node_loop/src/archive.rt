@@ -4,9 +4,7 @@ ghost use Rattle.std.specs.List.{AllByRecursion};
 ghost use Rattle.event_journal.specs.Journal.{IsRecord};
 ghost use Rattle.ritas_base.specs.declared.event.Event.{Event};
 ghost use Rattle.node_loop.specs.declared.archive.ArchiveFault.{ArchiveFault};
-ghost use Rattle.node_loop.specs.Archives.{fault_in};
 
-use crate::end::Fault;
 use event_journal::{Journal, JournalFault};
 use outside::{Disk, Link, Sink};
 use ritas_base::Event;
@@ -100,15 +98,4 @@ pub(crate) struct Outlets<'l, 't, 'a, 'd, L: Link, K: Sink, A: Archive<D>, D> {
     pub tape: &'t mut K,
     pub archive: &'a mut A,
     pub disk: &'d mut D,
-}
-
-/// A fault of an archive as one of serving.
-pub(crate) fn fault_in(fault: ArchiveFault) -> Fault
-    ensures { result ≡ fault_in fault }
-{
-    match fault {
-        ArchiveFault::Disk => Fault::Disk,
-        ArchiveFault::Full(size) => Fault::Full(size),
-        ArchiveFault::Mem => Fault::Mem,
-    }
 }

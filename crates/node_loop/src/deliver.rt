@@ -17,14 +17,14 @@ ghost use Rattle.node_loop.specs.Waiting.{Waiting};
 ghost use Rattle.node_loop.specs.Peers.{Peers, keep_all};
 ghost use Rattle.node_loop.specs.PeersStanding.{AreKept, kept_by, made_as};
 ghost use Rattle.node_loop.specs.Resending.{Brought};
-ghost use Rattle.node_loop.specs.Outs.{Outs, Tells, Agrees, StepsInOrder, IsFaultOfLink, events_text, tells_of, LinkTook};
+ghost use Rattle.node_loop.specs.Outs.{Outs, Tells, Agrees, StepsInOrder, events_text, tells_of, LinkTook};
 ghost use Rattle.node_loop.specs.Serving.{Serving, Round, so_far, onto, at_call, outcome, brought, after_from};
 ghost use Rattle.node_loop.specs.Standing.{HouseStands, ComesOut, frame_by, reply_by};
 ghost use Rattle.node_loop.specs.Groups.{FitsPeers, GroupHolds, JoinsGroup, Under, IsEmpty, more_by, acts_by, acts_each, if_kept};
 ghost use Rattle.node_loop.specs.Running.{Gathered, NotYet, Delivered, IsOfTape};
 ghost use Rattle.node_loop.specs.Archives.{AreSameOutlets};
 
-use crate::archive::{Archive, ArchiveFault, Outlets, fault_in};
+use crate::archive::{Archive, ArchiveFault, Outlets};
 use crate::end::Fault;
 use crate::group::Group;
 use crate::house::House;
@@ -84,10 +84,7 @@ fn send_all<R: Net + Wait, L: Link>(
     ensures { LinkTook L.Link (each_act (frame_by at) frames.now) link.old link.new result }
 {
     for frame in frames {
-        match link.send(rt, alloc, at, frame.to, frame.bytes.as_slice()) {
-            Ok(()) => {}
-            Err(fault) => return Err(fault),
-        }
+        link.send(rt, alloc, at, frame.to, frame.bytes.as_slice())?;
     }
     Ok(())
 }
@@ -109,10 +106,7 @@ fn send_kept<R: Net + Wait, L: Link>(
             // There is no such place.
             return Ok(());
         };
-        match link.send(rt, alloc, at, peer, kept.frame.as_slice()) {
-            Ok(()) => {}
-            Err(fault) => return Err(fault),
-        }
+        link.send(rt, alloc, at, peer, kept.frame.as_slice())?;
     }
     Ok(())
 }
@@ -181,14 +175,8 @@ fn send_out<R: Net + Wait, S: Service, E: Broadcast, C: Coin + Drop, L: Link>(
         → LinkTook L.Link (acts_by p.keeping output.now) link.old link.new result }
 {
     let at = output.at;
-    match send_all(rt, alloc, link, at, output.frames.as_slice()) {
-        Ok(()) => {}
-        Err(fault) => return Err(fault),
-    }
-    match send_more(rt, alloc, house, link, at, output.more) {
-        Ok(()) => {}
-        Err(fault) => return Err(fault),
-    }
+    send_all(rt, alloc, link, at, output.frames.as_slice())?;
+    send_more(rt, alloc, house, link, at, output.more)?;
     reply_all(rt, alloc, link, at, output.replies.as_slice())
 }
 
@@ -206,10 +194,7 @@ fn send_each<R: Net + Wait, S: Service, E: Broadcast, C: Coin + Drop, L: Link>(
         → LinkTook L.Link (acts_each (acts_by p.keeping) outputs.now) link.old link.new result }
 {
     for output in outputs {
-        match send_out(rt, alloc, house, link, output) {
-            Ok(()) => {}
-            Err(fault) => return Err(fault),
-        }
+        send_out(rt, alloc, house, link, output)?;
     }
     Ok(())
 }
@@ -225,22 +210,9 @@ fn reply_all<R: Net + Wait, L: Link>(
     ensures { LinkTook L.Link (each_act Replies (map (reply_by at) replies.now)) link.old link.new result }
 {
     for given in replies {
-        match link.reply(rt, alloc, at, given.conn, &given.bytes) {
-            Ok(()) => {}
-            Err(fault) => return Err(fault),
-        }
+        link.reply(rt, alloc, at, given.conn, &given.bytes)?;
     }
     Ok(())
-}
-
-// A fault of the link as one of serving.
-pub(crate) fn fault_of(fault: LinkFault) -> Fault
-    ensures { IsFaultOfLink fault result }
-{
-    match fault {
-        LinkFault::Failed => Fault::Link,
-        LinkFault::Mem => Fault::Mem,
-    }
 }
 
 /// Writes these events to the tape, the oldest first.
@@ -251,10 +223,7 @@ pub(crate) fn write_events<K: Sink>(tape: &mut K, events: &[Event]) -> Result<()
         × (K.tells ≡ true → TookFront (K.taken tape.old) (K.taken tape.new) (events_text (reverse events.now)))) }
 {
     for event in events {
-        match Writer::event(tape, event) {
-            Ok(()) => {}
-            Err(fault) => return Err(fault),
-        }
+        Writer::event(tape, event)?;
     }
     Ok(())
 }
@@ -347,18 +316,9 @@ pub(crate) fn deliver<
         → Delivered m w past numbers house.now (tells_of K.Sink L.Link) base
         (moment_of K.Sink L.Link A.Archive head before past out.new) taken until limit start left result }
 {
-    match write(alloc, out.tape, group.events.as_slice()) {
-        Ok(()) => {}
-        Err(fault) => return Err(fault),
-    }
-    match keep_events(alloc, out.archive, out.disk, group) {
-        Ok(()) => {}
-        Err(fault) => return Err(fault_in(fault)),
-    }
-    match send_each(rt, alloc, house, out.link, group.outputs.as_slice()) {
-        Ok(()) => {}
-        Err(fault) => return Err(fault_of(fault)),
-    }
+    write(alloc, out.tape, group.events.as_slice())?;
+    keep_events(alloc, out.archive, out.disk, group)?;
+    send_each(rt, alloc, house, out.link, group.outputs.as_slice())?;
     group.clear();
     Ok(())
 }

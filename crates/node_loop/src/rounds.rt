@@ -16,10 +16,10 @@ ghost use Rattle.node_loop.specs.Served.{AreHere, MayBegin, Serves};
 ghost use Rattle.node_loop.specs.ServedKept.{ServesKept};
 ghost use Rattle.node_loop.specs.Archives.{AreSameOutlets};
 ghost use Rattle.node_loop.specs.Groups.{IsEmpty, JoinsGroup, Under};
-ghost use Rattle.node_loop.specs.Running.{Running, RanRound, Gathered, NotYet, FellShortOf, Delivered, IsNext, IsEndOf};
+ghost use Rattle.node_loop.specs.Running.{Running, RanRound, Gathered, NotYet, FellShortOf, Delivered, IsNext};
 
 use crate::archive::{Archive, NoArchive, NoDisk, Outlets};
-use crate::deliver::{deliver, fault_of, gather};
+use crate::deliver::{deliver, gather};
 use crate::end::{Fault, ServeEnd};
 use crate::group::Group;
 use crate::house::House;
@@ -192,7 +192,7 @@ fn serve_house<
     let mut group = Group::new(alloc);
     match begin(rt, alloc, house, out, first, &mut group) {
         Ok(()) => go_on(rt, alloc, house, out, bounds, &mut group),
-        Err(fault) => end_of(fault),
+        Err(fault) => ServeEnd::from(fault),
     }
 }
 
@@ -227,14 +227,8 @@ fn begin<
         0 until limit (begin first.now) [] result }
 {
     for item in first {
-        match take_first(alloc, house, item, group) {
-            Ok(()) => {}
-            Err(Mem) => return Err(Fault::Mem),
-        }
-        match deliver(rt, alloc, house, out, group) {
-            Ok(()) => {}
-            Err(fault) => return Err(fault),
-        }
+        take_first(alloc, house, item, group)?;
+        deliver(rt, alloc, house, out, group)?;
     }
     Ok(())
 }
@@ -351,10 +345,8 @@ fn run_turns<
         (moment_of K.Sink L.Link A.Archive head before past out.new)
         taken bounds.until bounds.limit start result }
 {
-    match turn(alloc, house, at, group) {
-        Ok(()) => finish(rt, alloc, house, out, bounds, taken, group),
-        Err(Mem) => Err(ServeEnd::Mem),
-    }
+    turn(alloc, house, at, group)?;
+    finish(rt, alloc, house, out, bounds, taken, group)
 }
 
 // A peer of a replica is asked to send again, which is a group by itself.
@@ -390,14 +382,9 @@ fn run_remind<
         (moment_of K.Sink L.Link A.Archive head before past out.new)
         taken bounds.until bounds.limit start result }
 {
-    match remind(alloc, house, pair, group) {
-        Ok(()) => {}
-        Err(Mem) => return Err(ServeEnd::Mem),
-    }
-    match deliver(rt, alloc, house, out, group) {
-        Ok(()) => Ok(()),
-        Err(fault) => Err(end_of(fault)),
-    }
+    remind(alloc, house, pair, group)?;
+    deliver(rt, alloc, house, out, group)?;
+    Ok(())
 }
 
 // The link's next item, unless it gives its end, and the turns behind it.
@@ -433,18 +420,13 @@ fn run_item<
         (moment_of K.Sink L.Link A.Archive head before past out.new)
         taken.new bounds.until bounds.limit start result }
 {
-    let item = match out.link.next(rt, alloc) {
-        Ok(item) => item,
-        Err(fault) => return Err(end_of(fault_of(fault))),
-    };
+    let item = out.link.next(rt, alloc)?;
     if item.is_end() {
         return Err(ServeEnd::End);
     }
     *taken += 1;
-    match take(alloc, house, item, group) {
-        Ok(()) => finish(rt, alloc, house, out, bounds, *taken, group),
-        Err(Mem) => Err(ServeEnd::Mem),
-    }
+    take(alloc, house, item, group)?;
+    finish(rt, alloc, house, out, bounds, *taken, group)
 }
 
 // Takes the turns that join a group, and delivers it.
@@ -478,14 +460,9 @@ fn finish<
         (moment_of K.Sink L.Link A.Archive head before past out.new)
         taken bounds.until bounds.limit start result }
 {
-    match take_turns(alloc, house, bounds, taken, group) {
-        Ok(()) => {}
-        Err(Mem) => return Err(ServeEnd::Mem),
-    }
-    match deliver(rt, alloc, house, out, group) {
-        Ok(()) => Ok(()),
-        Err(fault) => Err(end_of(fault)),
-    }
+    take_turns(alloc, house, bounds, taken, group)?;
+    deliver(rt, alloc, house, out, group)?;
+    Ok(())
 }
 
 // Takes the turns that the rules say next, while they may join the group. The one error is want of memory.
@@ -509,10 +486,7 @@ fn take_turns<S: Service, E: Broadcast, C: Coin + Drop>(
             return Ok(());
         }
         match next_of(house, bounds, taken) {
-            Next::Turn(at) => match turn(alloc, house, at, group) {
-                Ok(()) => {}
-                Err(Mem) => return Err(Mem),
-            },
+            Next::Turn(at) => turn(alloc, house, at, group)?,
             _ => return Ok(()),
         }
     }
@@ -621,17 +595,4 @@ fn take<S: Service, E: Broadcast, C: Coin + Drop>(
     let mut output = Output::new(alloc);
     house.take(alloc, item, &mut output)?;
     gather(alloc, house, group, output)
-}
-
-// The end that a fault is.
-fn end_of(fault: Fault) -> ServeEnd
-    ensures { IsEndOf fault result }
-{
-    match fault {
-        Fault::Link => ServeEnd::LinkFault,
-        Fault::Tape => ServeEnd::TapeFault,
-        Fault::Mem => ServeEnd::Mem,
-        Fault::Disk => ServeEnd::DiskFault,
-        Fault::Full(size) => ServeEnd::JournalFull(size),
-    }
 }

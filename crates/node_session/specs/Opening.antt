@@ -3,19 +3,12 @@ use Rattle.std.specs.Prelude.{◌≡◌, ℕ, ◌≤◌, Bool, true, false, List
 use Rattle.outside.specs.Faults.{count_after}
 use Rattle.outside.specs.Links.{Starts}
 use Rattle.outside.specs.Writing.{TookFront}
-use Rattle.outside.specs.declared.link.LinkFault.{LinkFault}
-use Rattle.outside.specs.declared.link.LinkFault.TheVariants as faults
 use Rattle.outside.specs.declared.link.LinkPlan.{LinkPlan}
 use Rattle.schedule_file.specs.ReadHeader.{Heading}
 use Rattle.schedule_file.specs.Spelling.{header_text}
 use Rattle.node_loop.specs.declared.end.ServeEnd.{ServeEnd}
 use Rattle.node_loop.specs.declared.end.ServeEnd.TheVariants as ends
 use Rattle.node_loop.specs.Outs.{Outs, TapeFailed, LinkFailed, FellShort, Tells}
-
--- the end that a fault of the link is
-abbrev pub IsServeEndOf : LinkFault → ServeEnd → Type 0
-IsServeEndOf faults.Failed end = end ≡ ends.LinkFault
-IsServeEndOf faults.Mem end = end ≡ ends.Mem
 
 -- ---- the beginning
 

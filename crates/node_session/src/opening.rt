@@ -1,25 +1,14 @@
 //! What a session begins with.
-ghost use Rattle.std.specs.Prelude.{◌≡◌};
 ghost use Rattle.schedule_file.specs.ReadHeader.{heading};
 ghost use Rattle.node_loop.specs.Outs.{outs_of, tells_of};
-ghost use Rattle.node_session.specs.Opening.{OpensSession, IsServeEndOf};
+ghost use Rattle.node_session.specs.Opening.{OpensSession};
 
 use node_loop::ServeEnd;
-use outside::{Link, LinkFault, LinkPlan, Sink};
+use outside::{Link, LinkPlan, Sink};
 use schedule_file::{Header, Writer};
 use std::alloc::Global;
 use std::net::Net;
 use std::sync::Wait;
-
-// The end that a fault of the link is.
-fn end_of(fault: LinkFault) -> ServeEnd
-    ensures { IsServeEndOf fault result }
-{
-    match fault {
-        LinkFault::Failed => ServeEnd::LinkFault,
-        LinkFault::Mem => ServeEnd::Mem,
-    }
-}
 
 /// Writes the header, and starts the link.
 pub(crate) fn open<R: Net + Wait, L: Link, K: Sink>(
@@ -38,8 +27,6 @@ pub(crate) fn open<R: Net + Wait, L: Link, K: Sink>(
     if Writer::start(output, header).is_err() {
         return Err(ServeEnd::TapeFault);
     }
-    match link.start(rt, alloc, plan) {
-        Ok(()) => Ok(()),
-        Err(fault) => Err(end_of(fault)),
-    }
+    link.start(rt, alloc, plan)?;
+    Ok(())
 }

@@ -1,6 +1,8 @@
-use Rattle.std.proofs.Common.{◌≡◌, ℕ, List, [], map, reverse, get_or, ap, refl, take_all}
+use Rattle.std.proofs.Common.{◌≡◌, ℕ, List, [], map, reverse, get_or, ap, refl, take_all, Err, ◌∙◌}
 use Rattle.std.proofs.lemmas.Simd.{map-map}
+use Rattle.std.proofs.lemmas.Result.{err_from_is_err_and}
 use Rattle.outside.specs.Links.{Replies}
+use Rattle.outside.specs.declared.link.LinkFault.{LinkFault}
 use Rattle.node_loop.specs.declared.output.Reply.{Reply}
 use Rattle.node_loop.specs.Standing.{reply_by}
 use Rattle.outside.specs.LinkCalls.{each_act}
@@ -22,14 +24,16 @@ pub loop-given-preserved : goal.loop-given-preserved
 loop-given-preserved g c =
     let given = get_or c.args.replies.now c.loop-given.given-index none in
     each_goes (λ r. Replies (reply_by c.args.at r)) c.args.replies.now c.loop-given.given-index given none _ _ _ _ _ _ _ c.loop-given-test.true refl c.loop-given.invariant
-    (did_one _ (Replies (reply_by c.args.at given)) (Replies (reply_by c.args.at given)) _ _ _ _ _ refl c.in-Ok.ensures.ok c.in-Ok.ensures.err c.in-Ok.ensures.cause c.in-Ok.ensures.count)
+    (did_one _ (Replies (reply_by c.args.at given)) (Replies (reply_by c.args.at given)) _ _ _ _ _ refl c.in_ok-reply.ensures.ok c.in_ok-reply.ensures.err c.in_ok-reply.ensures.cause c.in_ok-reply.ensures.count)
 
-pub returns-in-Err : goal.returns-in-Err
-returns-in-Err g c =
+pub returns-in_err-reply : goal.returns-in_err-reply
+returns-in_err-reply g c =
     let given = get_or c.args.replies.now c.loop-given.given-index none in
-    rw (as_two c.args.at c.args.replies.now)
+    let fault = err_from_is_err_and c.from_residual.result c.from_residual.ensures.1 in
+    rw (fault.1 ∙ ap (λ (x : LinkFault). Err x) fault.2)
+    (rw (as_two c.args.at c.args.replies.now)
     (each_fails (λ r. Replies (reply_by c.args.at r)) c.args.replies.now c.loop-given.given-index given none _ _ _ _ _ _ _ _ c.loop-given-test.true refl c.loop-given.invariant
-    (did_one _ (Replies (reply_by c.args.at given)) (Replies (reply_by c.args.at given)) _ _ _ _ _ refl c.in-Err.ensures.ok c.in-Err.ensures.err c.in-Err.ensures.cause c.in-Err.ensures.count))
+    (did_one _ (Replies (reply_by c.args.at given)) (Replies (reply_by c.args.at given)) _ _ _ _ _ refl c.in_err-reply.ensures.ok c.in_err-reply.ensures.err c.in_err-reply.ensures.cause c.in_err-reply.ensures.count)))
 
 pub returns : goal.returns
 returns g c = rw (as_two c.args.at c.args.replies.now) (rw (take_all c.loop-given.given-index c.args.replies.now c.loop-given-test.false) at c.loop-given.invariant)

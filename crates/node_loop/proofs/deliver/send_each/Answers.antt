@@ -1,6 +1,8 @@
-use Rattle.std.proofs.Common.{sym, subst, take_all}
+use Rattle.std.proofs.Common.{sym, subst, take_all, Err, ap, ◌∙◌}
 use Rattle.std.proofs.lemmas.List.Elements.{All-from_recursion}
+use Rattle.std.proofs.lemmas.Result.{err_from_is_err_and}
 use Rattle.outside.specs.LinkCallsLaws.{did_none}
+use Rattle.outside.specs.declared.link.LinkFault.{LinkFault}
 use Rattle.node_loop.specs.declared.output.Output.{Output}
 use Rattle.node_loop.specs.Groups.{FitsPeers, acts_by}
 use Rattle.node_loop.proofs.Grouping.{acts_go, acts_fail}
@@ -16,16 +18,18 @@ loop-output-preserved g c = λ w es numbers ws p stands fit.
     let fits = subst (λ (o : Output). FitsPeers w p.keeping o.at o.more) (sym c.output-item.is)
     (All-from_recursion (λ o. FitsPeers w p.keeping o.at o.more) outputs fit c.loop-output.output-index output c.loop-output-test.true) in
     acts_go (acts_by p.keeping) outputs c.loop-output.output-index output output _ _ _ _ _ _ _ c.loop-output-test.true c.output-item.is
-    (c.loop-output.invariant w es numbers ws p stands fit) (c.in-Ok.ensures w es numbers ws p stands fits)
+    (c.loop-output.invariant w es numbers ws p stands fit) (c.in_ok-send_out.ensures w es numbers ws p stands fits)
 
-pub returns-in-Err : goal.returns-in-Err
-returns-in-Err g c = λ w es numbers ws p stands fit.
+pub returns-in_err-send_out : goal.returns-in_err-send_out
+returns-in_err-send_out g c = λ w es numbers ws p stands fit.
     let outputs = c.args.outputs.now in
     let output : Output = c.output-item.result in
     let fits = subst (λ (o : Output). FitsPeers w p.keeping o.at o.more) (sym c.output-item.is)
     (All-from_recursion (λ o. FitsPeers w p.keeping o.at o.more) outputs fit c.loop-output.output-index output c.loop-output-test.true) in
-    acts_fail (acts_by p.keeping) outputs c.loop-output.output-index output output _ _ _ _ _ _ _ _ c.loop-output-test.true c.output-item.is
-    (c.loop-output.invariant w es numbers ws p stands fit) (c.in-Err.ensures w es numbers ws p stands fits)
+    let fault = err_from_is_err_and c.from_residual.result c.from_residual.ensures.1 in
+    rw (fault.1 ∙ ap (λ (x : LinkFault). Err x) fault.2)
+    (acts_fail (acts_by p.keeping) outputs c.loop-output.output-index output output _ _ _ _ _ _ _ _ c.loop-output-test.true c.output-item.is
+    (c.loop-output.invariant w es numbers ws p stands fit) (c.in_err-send_out.ensures w es numbers ws p stands fits))
 
 pub returns : goal.returns
 returns g c = λ w es numbers ws p stands fit.

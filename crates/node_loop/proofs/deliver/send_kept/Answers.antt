@@ -1,9 +1,11 @@
-use Rattle.std.proofs.Common.{◌≡◌, ℕ, List, ap, sym}
+use Rattle.std.proofs.Common.{◌≡◌, ℕ, List, ap, sym, Err, ◌∙◌}
 use Rattle.std.proofs.lemmas.Option.{get_or_from_slice_get, slice_get_within}
+use Rattle.std.proofs.lemmas.Result.{err_from_is_err_and}
 use Rattle.link_resume.specs.declared.kept.Kept.{Kept}
 use Rattle.link_resume.specs.Lists.{kept_for}
 use Rattle.outside.specs.Links.{Sends}
 use Rattle.outside.specs.LinkCallsLaws.{did_none, did_one, each_goes, each_fails}
+use Rattle.outside.specs.declared.link.LinkFault.{LinkFault}
 use Rattle.node_loop.specs.PeersStanding.{kept_by}
 use Rattle.node_loop.proofs.deliver.send_kept.Goals as goal
 
@@ -19,12 +21,14 @@ loop-place-preserved g c =
     let k : Kept = c.in-Some.kept.now in
     each_goes (kept_by c.args.at c.args.peer) kept c.loop-place.place k k _ _ _ _ _ _ _ (slice_get_within kept c.loop-place.place k c.in-Some.ensures)
     (sym (get_or_from_slice_get kept c.loop-place.place k k c.in-Some.ensures)) c.loop-place.invariant
-    (did_one _ _ _ _ _ _ _ _ (same c.as_slice.ensures) c.in-Ok.ensures.ok c.in-Ok.ensures.err c.in-Ok.ensures.cause c.in-Ok.ensures.count)
+    (did_one _ _ _ _ _ _ _ _ (same c.as_slice.ensures) c.in_ok-send.ensures.ok c.in_ok-send.ensures.err c.in_ok-send.ensures.cause c.in_ok-send.ensures.count)
 
-pub returns-in-Err : goal.returns-in-Err
-returns-in-Err g c =
+pub returns-in_err-send : goal.returns-in_err-send
+returns-in_err-send g c =
     let kept : List Kept = kept_for c.args.resume.now c.args.peer in
     let k : Kept = c.in-Some.kept.now in
-    each_fails (kept_by c.args.at c.args.peer) kept c.loop-place.place k k _ _ _ _ _ _ _ _ (slice_get_within kept c.loop-place.place k c.in-Some.ensures)
+    let fault = err_from_is_err_and c.from_residual.result c.from_residual.ensures.1 in
+    rw (fault.1 ∙ ap (λ (x : LinkFault). Err x) fault.2)
+    (each_fails (kept_by c.args.at c.args.peer) kept c.loop-place.place k k _ _ _ _ _ _ _ _ (slice_get_within kept c.loop-place.place k c.in-Some.ensures)
     (sym (get_or_from_slice_get kept c.loop-place.place k k c.in-Some.ensures)) c.loop-place.invariant
-    (did_one _ _ _ _ _ _ _ _ (same c.as_slice.ensures) c.in-Err.ensures.ok c.in-Err.ensures.err c.in-Err.ensures.cause c.in-Err.ensures.count)
+    (did_one _ _ _ _ _ _ _ _ (same c.as_slice.ensures) c.in_err-send.ensures.ok c.in_err-send.ensures.err c.in_err-send.ensures.cause c.in_err-send.ensures.count))

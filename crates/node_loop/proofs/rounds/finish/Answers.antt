@@ -1,17 +1,23 @@
-use Rattle.std.proofs.Common.{[]}
+use Rattle.std.proofs.Common.{[], Err, ap, ◌∙◌}
+use Rattle.std.proofs.lemmas.Result.{err_from_is_err_and}
+use Rattle.node_loop.specs.declared.end.ServeEnd.{ServeEnd}
 use Rattle.node_loop.proofs.Rounding.{gathers_short}
 use Rattle.node_loop.proofs.rounds.finish.Goals as goal
 
-pub returns-in-Err-clause-goes : goal.returns-in-Err-clause-goes
-returns-in-Err-clause-goes g c = λ head before w past numbers base start older given run not_yet.
-    gathers_short _ w past numbers _ base c.args.bounds.until c.args.bounds.limit start _ _ older given not_yet (c.in-Err.ensures.goes w past numbers start older given run)
+pub returns-in_err-take_turns-clause-goes : goal.returns-in_err-take_turns-clause-goes
+returns-in_err-take_turns-clause-goes g c = λ head before w past numbers base start older given run not_yet.
+    let end = err_from_is_err_and c.from_residual.result c.from_residual.ensures.1 in
+    rw (end.1 ∙ ap (λ (x : ServeEnd). Err x) end.2)
+    (gathers_short _ w past numbers _ base c.args.bounds.until c.args.bounds.limit start _ _ older given not_yet (c.in_err-take_turns.ensures.goes w past numbers start older given run))
 
-pub returns-in-Ok-deliver-clause-goes : goal.returns-in-Ok-deliver-clause-goes
-returns-in-Ok-deliver-clause-goes g c = λ head before w past numbers base start older given run not_yet.
-    c.in-Ok-deliver.ensures.goes head before w past numbers base c.args.taken c.args.bounds.until c.args.bounds.limit start [] older given
-    (c.in-Ok.ensures.goes w past numbers start older given run) not_yet
+pub returns-clause-goes : goal.returns-clause-goes
+returns-clause-goes g c = λ head before w past numbers base start older given run not_yet.
+    c.in_ok-deliver.ensures.goes head before w past numbers base c.args.taken c.args.bounds.until c.args.bounds.limit start [] older given
+    (c.in_ok-take_turns.ensures.goes w past numbers start older given run) not_yet
 
-pub returns-in-Err-deliver-clause-goes : goal.returns-in-Err-deliver-clause-goes
-returns-in-Err-deliver-clause-goes g c = λ head before w past numbers base start older given run not_yet.
-    c.in-Err-deliver.ensures.goes head before w past numbers base c.args.taken c.args.bounds.until c.args.bounds.limit start [] older given
-    (c.in-Ok.ensures.goes w past numbers start older given run) not_yet _ c.end_of.ensures
+pub returns-in_err-deliver-clause-goes : goal.returns-in_err-deliver-clause-goes
+returns-in_err-deliver-clause-goes g c = λ head before w past numbers base start older given run not_yet.
+    let end = err_from_is_err_and c.from_residual-in_err-deliver.result c.from_residual-in_err-deliver.ensures.1 in
+    rw end.1
+    (c.in_err-deliver.ensures.goes head before w past numbers base c.args.taken c.args.bounds.until c.args.bounds.limit start [] older given
+    (c.in_ok-take_turns.ensures.goes w past numbers start older given run) not_yet end.0 end.2)

@@ -1,49 +1,56 @@
-use Rattle.std.proofs.Common.{ℕ, ◌+◌, [], ◌∷◌, List, false, refl, ap, sym, subst, arith}
+use Rattle.std.proofs.Common.{ℕ, ◌+◌, [], ◌∷◌, List, false, refl, ap, sym, subst, arith, Err, ◌∙◌}
 use Rattle.std.proofs.lemmas.Bool.{both_ways}
 use Rattle.std.specs.List.{AllByRecursion}
+use Rattle.std.proofs.lemmas.Result.{err_from_is_err_and}
 use Rattle.ritas_base.specs.declared.event.Event.{Event}
 use Rattle.outside.specs.Links.{Gives}
 use Rattle.schedule_file.specs.Spelling.{IsSized}
+use Rattle.node_loop.specs.declared.end.ServeEnd.{ServeEnd}
 use Rattle.node_loop.specs.Serving.{after_from, Took}
-use Rattle.node_loop.proofs.Rounding.{next_given, next_failed, link_fails, link_ends, item_wanted, under_none, gathers_first, item_given, item_short}
+use Rattle.node_loop.proofs.Rounding.{next_given, next_failed, fault_between, link_fails, link_ends, item_wanted, under_none, gathers_first, item_given, item_short}
 use Rattle.node_loop.proofs.rounds.run_item.Goals as goal
 
-pub returns-in-Err-clause-goes : goal.returns-in-Err-clause-goes
-returns-in-Err-clause-goes g c = λ head before w past numbers base start run is.
+pub returns-in_err-item-clause-goes : goal.returns-in_err-item-clause-goes
+returns-in_err-item-clause-goes g c = λ head before w past numbers base start run is.
     let s = after_from w past start run.rounds in
-    link_fails _ w past numbers _ base c.args.bounds.until c.args.bounds.limit start _ _ c.args.taken.now run _ _ _
-    (next_failed _ base _ s _ _ _ _ c.fault_of.ensures run.agrees c.in-Err.ensures.err c.in-Err.ensures.cause.later c.in-Err.ensures.count) run.kept c.end_of.ensures
+    let end = err_from_is_err_and c.from_residual.result c.from_residual.ensures.1 in
+    let fault = fault_between c.in_err-item.field-0.0 end.0 end.2 in
+    rw end.1
+    (link_fails _ w past numbers _ base c.args.bounds.until c.args.bounds.limit start _ _ c.args.taken.now run _ _ _
+    (next_failed _ base _ s _ _ _ _ fault.1 run.agrees c.in_err-item.ensures.err c.in_err-item.ensures.cause.later c.in_err-item.ensures.count) run.kept fault.2)
 
 pub returns-then-is_end-clause-goes : goal.returns-then-is_end-clause-goes
 returns-then-is_end-clause-goes g c = λ head before w past numbers base start run is.
     let s = after_from w past start run.rounds in
-    link_ends _ w past numbers _ base c.args.bounds.until c.args.bounds.limit start _ _ c.args.taken.now run _ c.in-Ok.item is (c.if-is_end.ensures.0 refl)
-    (next_given _ base _ s.events s.acts _ _ c.in-Ok.item run.agrees c.in-Ok.ensures.ok c.in-Ok.ensures.count) run.kept
+    link_ends _ w past numbers _ base c.args.bounds.until c.args.bounds.limit start _ _ c.args.taken.now run _ c.in_ok-item.item is (c.if-is_end.ensures.0 refl)
+    (next_given _ base _ s.events s.acts _ _ c.in_ok-item.item run.agrees c.in_ok-item.ensures.ok c.in_ok-item.ensures.count) run.kept
 
 pub take-requires-clause-sized : goal.take-requires-clause-sized
 take-requires-clause-sized g c = subst (λ (es : List Event). AllByRecursion IsSized es) (sym c.requires.empty.events) tt
 
-pub returns-in-Ok-take-clause-goes : goal.returns-in-Ok-take-clause-goes
-returns-in-Ok-take-clause-goes g c = λ head before w past numbers base start run is.
+pub returns-clause-goes : goal.returns-clause-goes
+returns-clause-goes g c = λ head before w past numbers base start run is.
     let until = c.args.bounds.until in
     let limit = c.args.bounds.limit in
     let taken = c.args.taken.now in
-    let item = c.in-Ok.item in
+    let item = c.in_ok-item.item in
     let none = under_none _ w past numbers _ base until limit start _ c.args.group.now _ taken [] run c.requires.empty in
     let want = item_wanted w past until limit start run.rounds taken run.rest run.count item is
-    (record { goes_on = λ e. both_ways false refl (c.if-is_end.ensures.1 e); short = c.in-Ok.ensures.size }) in
-    let under = c.in-Ok-take.ensures.joins w past numbers start [] run.rounds none tt in
+    (record { goes_on = λ e. both_ways false refl (c.if-is_end.ensures.1 e); short = c.in_ok-item.ensures.size }) in
+    let under = c.in_ok-take.ensures.joins w past numbers start [] run.rounds none tt in
     c.finish.ensures.goes head before w past numbers base start run.rounds (Gives item ∷ [])
     (gathers_first _ w past numbers _ base until limit start _ _ _ _ taken (taken + 1) 1 [] [] (Took item) run want run.rest (ap (λ (n : ℕ). n + 1) run.count) (omega arith) under)
-    (item_given _ w past numbers _ base until limit start _ _ _ _ taken item run c.in-Ok.ensures.ok c.in-Ok.ensures.count)
+    (item_given _ w past numbers _ base until limit start _ _ _ _ taken item run c.in_ok-item.ensures.ok c.in_ok-item.ensures.count)
 
-pub returns-in-Err-take-clause-goes : goal.returns-in-Err-take-clause-goes
-returns-in-Err-take-clause-goes g c = λ head before w past numbers base start run is.
+pub returns-in_err-take-clause-goes : goal.returns-in_err-take-clause-goes
+returns-in_err-take-clause-goes g c = λ head before w past numbers base start run is.
     let until = c.args.bounds.until in
     let limit = c.args.bounds.limit in
     let taken = c.args.taken.now in
-    let item = c.in-Ok.item in
+    let item = c.in_ok-item.item in
     let want = item_wanted w past until limit start run.rounds taken run.rest run.count item is
-    (record { goes_on = λ e. both_ways false refl (c.if-is_end.ensures.1 e); short = c.in-Ok.ensures.size }) in
-    item_short _ w past numbers _ base until limit start _ _ _ taken _ item run
-    (item_given _ w past numbers _ base until limit start _ _ _ _ taken item run c.in-Ok.ensures.ok c.in-Ok.ensures.count) want
+    (record { goes_on = λ e. both_ways false refl (c.if-is_end.ensures.1 e); short = c.in_ok-item.ensures.size }) in
+    let end = err_from_is_err_and c.from_residual-in_err-take.result c.from_residual-in_err-take.ensures.1 in
+    rw (end.1 ∙ ap (λ (x : ServeEnd). Err x) end.2)
+    (item_short _ w past numbers _ base until limit start _ _ _ taken _ item run
+    (item_given _ w past numbers _ base until limit start _ _ _ _ taken item run c.in_ok-item.ensures.ok c.in_ok-item.ensures.count) want)

@@ -1,7 +1,9 @@
-use Rattle.std.proofs.Common.{[], List, sym, subst, refl, arith}
+use Rattle.std.proofs.Common.{[], List, sym, subst, refl, arith, Err, ap, ◌∙◌}
 use Rattle.std.specs.List.{AllByRecursion}
+use Rattle.std.proofs.lemmas.Result.{err_from_is_err_and}
 use Rattle.ritas_base.specs.declared.event.Event.{Event}
 use Rattle.schedule_file.specs.Spelling.{IsSized}
+use Rattle.node_loop.specs.declared.end.ServeEnd.{ServeEnd}
 use Rattle.node_loop.specs.Serving.{Turned}
 use Rattle.node_loop.proofs.Rounding.{turn_at_correct, turn_wanted, under_none, gathers_first, not_yet, first_short}
 use Rattle.node_loop.proofs.rounds.run_turns.Goals as goal
@@ -9,8 +11,8 @@ use Rattle.node_loop.proofs.rounds.run_turns.Goals as goal
 pub turn-requires : goal.turn-requires
 turn-requires g c = record { sized = subst (λ (es : List Event). AllByRecursion IsSized es) (sym c.requires.empty.events) tt }
 
-pub returns-in-Ok-clause-goes : goal.returns-in-Ok-clause-goes
-returns-in-Ok-clause-goes g c = λ head before w past numbers base start run is.
+pub returns-clause-goes : goal.returns-clause-goes
+returns-clause-goes g c = λ head before w past numbers base start run is.
     let until = c.args.bounds.until in
     let limit = c.args.bounds.limit in
     let taken = c.args.taken in
@@ -18,12 +20,14 @@ returns-in-Ok-clause-goes g c = λ head before w past numbers base start run is.
     let none = under_none _ w past numbers _ base until limit start _ c.args.group.now _ taken [] run c.requires.empty in
     let correct = turn_at_correct w past until limit start run.rounds taken run.rest run.count at is in
     let want = turn_wanted w past until limit start run.rounds taken run.rest run.count at is in
-    let under = c.in-Ok.ensures.joins w past numbers start [] run.rounds none tt correct in
+    let under = c.in_ok-turn.ensures.joins w past numbers start [] run.rounds none tt correct in
     c.finish.ensures.goes head before w past numbers base start run.rounds []
     (gathers_first _ w past numbers _ base until limit start _ _ _ _ taken taken 1 [] [] (Turned at) run want run.rest run.count (omega arith) under)
     (not_yet _ w past numbers _ base until limit start _ _ taken [] run)
 
-pub returns-in-Err-clause-goes : goal.returns-in-Err-clause-goes
-returns-in-Err-clause-goes g c = λ head before w past numbers base start run is.
-    first_short _ w past numbers _ base c.args.bounds.until c.args.bounds.limit start _ _ c.args.taken [] _ (Turned c.args.at) run refl
-    (turn_wanted w past c.args.bounds.until c.args.bounds.limit start run.rounds c.args.taken run.rest run.count c.args.at is)
+pub returns-in_err-turn-clause-goes : goal.returns-in_err-turn-clause-goes
+returns-in_err-turn-clause-goes g c = λ head before w past numbers base start run is.
+    let end = err_from_is_err_and c.from_residual.result c.from_residual.ensures.1 in
+    rw (end.1 ∙ ap (λ (x : ServeEnd). Err x) end.2)
+    (first_short _ w past numbers _ base c.args.bounds.until c.args.bounds.limit start _ _ c.args.taken [] _ (Turned c.args.at) run refl
+    (turn_wanted w past c.args.bounds.until c.args.bounds.limit start run.rounds c.args.taken run.rest run.count c.args.at is))

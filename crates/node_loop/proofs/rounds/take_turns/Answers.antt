@@ -1,11 +1,12 @@
 use Rattle.std.proofs.Common.{[], ◌++◌, arith}
+use Rattle.std.proofs.lemmas.Result.{err_from_is_err_and}
 use Rattle.node_loop.specs.Serving.{so_far, after_from}
 use Rattle.node_loop.proofs.Rounding.{turn_at_correct, may_turn, gathers_turn, gathers_within, gathers_fell}
 use Rattle.node_loop.proofs.rounds.take_turns.Goals as goal
 
 pub loop-preserved : goal.loop-preserved
 loop-preserved g c = record {
-  sized = c.in-Ok.ensures.sized;
+  sized = c.in_ok-turn-in-Turn.ensures.sized;
   goes = λ w past numbers start older given began.
       let until = c.args.bounds.until in
       let limit = c.args.bounds.limit in
@@ -15,13 +16,15 @@ loop-preserved g c = record {
       let is = c.in-Turn.ensures.next w (so_far past s) numbers s.waiting s.peers run.under.stands in
       let correct = turn_at_correct w past until limit start (run.newest ++ older) taken run.rest run.count c.in-Turn.at is in
       gathers_turn _ w past numbers until limit start c.loop.house c.turn.new.house c.loop.group c.turn.new.group taken older given c.loop.counter c.in-Turn.at run is
-      (c.in-Ok.ensures.joins w past numbers start run.newest older run.under (may_turn run.newest c.in-Turn.at c.loop.group c.if-not-goes_on.ensures) correct);
+      (c.in_ok-turn-in-Turn.ensures.joins w past numbers start run.newest older run.under (may_turn run.newest c.in-Turn.at c.loop.group c.if-not-goes_on.ensures) correct);
 }
 
-pub returns-in-Err-clause-goes : goal.returns-in-Err-clause-goes
-returns-in-Err-clause-goes g c = λ w past numbers start older given began.
-    gathers_fell _ w past numbers c.args.bounds.until c.args.bounds.limit start _ _ c.args.taken [] older given c.loop.counter (omega (arith, c.loop.auto.counter-end))
-    (c.loop.invariant.goes w past numbers start older given began)
+pub returns-in_err-turn-in-Turn-clause-goes : goal.returns-in_err-turn-in-Turn-clause-goes
+returns-in_err-turn-in-Turn-clause-goes g c = λ w past numbers start older given began.
+    let short = err_from_is_err_and c.from_residual.result c.from_residual.ensures.1 in
+    rw short.1
+    (gathers_fell _ w past numbers c.args.bounds.until c.args.bounds.limit start _ _ c.args.taken [] older given c.loop.counter (omega (arith, c.loop.auto.counter-end))
+    (c.loop.invariant.goes w past numbers start older given began))
 
 pub returns-then-not-goes_on-clause-goes : goal.returns-then-not-goes_on-clause-goes
 returns-then-not-goes_on-clause-goes g c = λ w past numbers start older given began.

@@ -1,4 +1,4 @@
-use Rattle.std.proofs.Common.{◌≡◌, [], ◌++◌, map, refl, sym, ap, ◌∙◌}
+use Rattle.std.proofs.Common.{[], ◌++◌, map, refl, sym, ap, ◌∙◌}
 use Rattle.std.proofs.lemmas.Result.{on_ok_weaker}
 use Rattle.client_port.specs.Messages.{position_reply}
 use Rattle.command_log.specs.Rows.{position_of}
