@@ -23,8 +23,6 @@ mod peers;
 mod recall;
 mod refusals;
 mod rounds;
-#[cfg(test)]
-mod tests;
 mod waiting;
 
 pub use again::serve_kept;

@@ -7,7 +7,11 @@
 #[cfg(test)]
 mod drive;
 #[cfg(test)]
+mod nodes;
+#[cfg(test)]
 mod replay;
+#[cfg(test)]
+mod sessions;
 #[cfg(test)]
 mod stage;
 #[cfg(test)]

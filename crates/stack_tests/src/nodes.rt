@@ -1,0 +1,155 @@
+//! Tests of `node_loop`: serving one replica, its events, its replies, where it ends, and the faults of the tape and the link.
+
+ghost use Rattle.std.specs.Prelude.{◌<◌, ◌^◌, length, All, IfOk, OnOk};
+ghost use Rattle.outside.specs.MemoryLink.{IsShort};
+ghost use Rattle.node_loop.specs.Served.{MayBegin};
+
+use atomic_bcast::Abc;
+use binary_consensus::Bin;
+use keyed_channel::{Keys, SeedCoin};
+use multivalued::Mvc;
+use node_loop::{ServeEnd, serve};
+use outside::{LinkItem, MemLink, MemSink};
+use reliable_bcast::Rb;
+use replica::Replica;
+use ritas_base::{Bytes, FrameVersion, Mem, Mode, Params, Vect};
+use std::alloc::Global;
+use std::net::Net;
+use std::process::Abort;
+use std::sync::Wait;
+use std::test::*;
+use vector_consensus::Vc;
+
+type Alone = Replica<Abc<Vc<Mvc<Bin>>>, Rb, SeedCoin>;
+
+// The one replica of a session of one, in root service 6.
+fn alone(rt: &impl Abort, alloc: Global) -> Result<Vec<Alone>, Mem> {
+    let p = Params::new(1, 0).expect(rt, "numbers");
+    let mode = Mode {
+        root: 6,
+        vect: Vect::Reliable,
+        version: FrameVersion::One,
+    };
+    let keys = Keys::deal(&[0; 32], 0, &p, 0);
+    let mut replicas = Vec::new(alloc);
+    replicas.push(Replica::new(alloc, p, mode, keys, SeedCoin::new(0, [0; 32]))?)?;
+    Ok(replicas)
+}
+
+// A message of a client more.
+fn add(items: &mut Vec<LinkItem>, alloc: Global, at: u8, conn: u32, bytes: &[u8]) -> Result<(), Mem>
+    requires short { length bytes.now < 2 ^ 16 }
+    requires firsts { All MayBegin items.old.items }
+    requires shorts { All IsShort items.old.items }
+    ensures firsts { OnOk result (All MayBegin items.new.items) }
+    ensures shorts { OnOk result (All IsShort items.new.items) }
+{
+    let bytes = Bytes::from_slice(alloc, bytes)?;
+    items.push(LinkItem::Client { at, conn, bytes })?;
+    Ok(())
+}
+
+// One message to the replica.
+fn one(alloc: Global, bytes: &[u8]) -> Result<Vec<LinkItem>, Mem>
+    requires { length bytes.now < 2 ^ 16 }
+    ensures firsts { IfOk result (λ v. All MayBegin v.items) }
+    ensures shorts { IfOk result (λ v. All IsShort v.items) }
+{
+    let mut items = Vec::new(alloc);
+    add(&mut items, alloc, 0, 1, bytes)?;
+    Ok(items)
+}
+
+// Client 7's request 1, one that is refused, the request at a replica that isn't here, and the request again.
+fn four(alloc: Global) -> Result<Vec<LinkItem>, Mem>
+    ensures { IfOk result (λ v. All IsShort v.items) }
+{
+    let request = b"\x00\x00\x00\x07\x00\x00\x00\x01hi";
+    let mut items = Vec::new(alloc);
+    add(&mut items, alloc, 0, 3, request)?;
+    add(&mut items, alloc, 0, 4, b"")?;
+    add(&mut items, alloc, 1, 5, request)?;
+    add(&mut items, alloc, 0, 6, request)?;
+    Ok(items)
+}
+
+// Whether the reply of this number went to this connection.
+fn replied(link: &MemLink, number: usize, conn: u32, bytes: &[u8]) -> bool {
+    match link.replies().get(number) {
+        Some(reply) => reply.at == 0 && reply.to == conn && reply.bytes.as_slice() == bytes,
+        None => false,
+    }
+}
+
+// The request makes 30 turns, and its position is replied once its row is in the log, and at once where it is asked for again.
+#[test]
+fn serves_one(rt: HostRuntime) -> Result<(), Fail> {
+    let items = four(rt.alloc())?;
+    let mut link = MemLink::new(rt.alloc(), &items, &[])?;
+    let mut tape = MemSink::new(rt.alloc(), 100, &[])?;
+    let mut replicas = alone(&rt, rt.alloc())?;
+    let first = Vec::new(rt.alloc());
+    let end = serve(
+        &rt,
+        rt.alloc(),
+        &mut replicas,
+        &mut link,
+        &mut tape,
+        10,
+        0,
+        &first,
+    );
+    assert!(rt; end == ServeEnd::End);
+    assert!(rt; replicas.len() == 1);
+    assert_eq!(rt; tape.taken().len(), 14 + 30 * 2 + 4);
+    assert!(rt; link.frames().is_empty());
+    assert_eq!(rt; link.replies().len(), 3);
+    let position = b"\x01\x00\x00\x00\x07\x00\x00\x00\x01\x00\x00\x00\x00";
+    let refusal = b"\x02\x00\x00\x00\x00\x00\x00\x00\x00\x00\x00\x00\x08";
+    assert!(rt; replied(&link, 0, 3, position));
+    assert!(rt; replied(&link, 1, 4, refusal));
+    assert!(rt; replied(&link, 2, 6, position));
+    Ok(())
+}
+
+// How it ends, and how many bytes of events the tape took, where it begins with a message and takes at most one item of the link, which
+// is refused.
+fn ended<R: Net + Wait + Abort>(
+    rt: &R,
+    alloc: Global,
+    message: &[u8],
+    until: u32,
+    tape_fails: &[u64],
+    link_fails: &[u64],
+) -> Result<(ServeEnd, usize), Mem>
+    requires { length message.now < 2 ^ 16 }
+{
+    let items = one(alloc, b"")?;
+    let first = one(alloc, message)?;
+    let mut link = MemLink::new(alloc, &items, link_fails)?;
+    let mut tape = MemSink::new(alloc, 100, tape_fails)?;
+    let mut replicas = alone(rt, alloc)?;
+    let end = serve(
+        rt,
+        alloc,
+        &mut replicas,
+        &mut link,
+        &mut tape,
+        1,
+        until,
+        &first,
+    );
+    Ok((end, tape.taken().len()))
+}
+
+// What it begins with isn't counted, and a row that is wanted is there after 21 turns. Then the tape's second call fails, and the link's
+// first.
+#[test]
+fn ends(rt: HostRuntime) -> Result<(), Fail> {
+    let request = b"\x00\x00\x00\x07\x00\x00\x00\x01hi";
+    assert!(rt; ended(&rt, rt.alloc(), b"", 0, &[], &[])? == (ServeEnd::Limit, 8));
+    assert!(rt; ended(&rt, rt.alloc(), request, 1, &[], &[])? == (ServeEnd::Done, 14 + 21 * 2));
+    assert!(rt; ended(&rt, rt.alloc(), b"", 0, &[1], &[])? == (ServeEnd::TapeFault, 4));
+    assert!(rt; ended(&rt, rt.alloc(), b"", 0, &[], &[0])? == (ServeEnd::LinkFault, 4));
+    Ok(())
+}
