@@ -210,12 +210,15 @@ def leave(*_) -> None:
     sys.exit(1)
 
 
-def options_of(names, description: str) -> argparse.Namespace:
-    """The seed, the bound and the scenarios that the words pick, which are all where none is picked."""
+def options_of(names, description: str, of_sessions: bool = False) -> argparse.Namespace:
+    """The seed, the bound, what every session is to have where that may be said, and the scenarios that the words pick: all where none is picked."""
     signal.signal(signal.SIGTERM, leave)
     parser = argparse.ArgumentParser(description=description, allow_abbrev=False)
     parser.add_argument("--seed", type=int, default=1)
     parser.add_argument("--bound", type=float, default=90, help="seconds, for what is waited for")
+    if of_sessions:
+        parser.add_argument("--vect", choices=("echo", "reliable"), help="how VECTs go in every session, in place of what each scenario has")
+        parser.add_argument("--version", type=int, choices=(1, 2), help="of the frames of every session")
     parser.add_argument("scenarios", nargs="*", metavar="SCENARIO", help=", ".join(names))
     options = parser.parse_args()
     if unknown := set(options.scenarios) - set(names):
