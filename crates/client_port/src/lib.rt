@@ -38,8 +38,6 @@ mod laws;
 mod number;
 mod reply;
 mod request;
-#[cfg(test)]
-mod tests;
 mod votes;
 
 pub use front::{RequestFront, read_front};

@@ -64,8 +64,6 @@ mod lines;
 mod node;
 mod requests;
 mod submit;
-#[cfg(test)]
-mod tests;
 mod values;
 mod views;
 mod words;

@@ -36,8 +36,6 @@
 mod laws;
 mod log;
 mod row;
-#[cfg(test)]
-mod tests;
 mod waiting;
 
 pub use laws::{command_rows, log_follows};

@@ -39,8 +39,6 @@ mod journal;
 mod laws;
 mod opening;
 mod reading;
-#[cfg(test)]
-mod tests;
 
 pub use fault::JournalFault;
 pub use head::journal_head;

@@ -74,6 +74,3 @@ pub use limits::{LONGEST_ENTRY, MOST_IDS, limits_are};
 pub use reading::read_body;
 pub use values::{column_entry, id_at, ids_have, vect_parts, vector_entry};
 pub use writing::{body_len, write_body, write_column, write_ids, write_vect, write_vector};
-
-#[cfg(test)]
-mod tests;

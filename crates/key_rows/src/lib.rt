@@ -13,8 +13,6 @@
 //! `keyed_channel` which keys they are.
 #![tactic(auto)]
 
-#[cfg(test)]
-mod tests;
 mod write;
 
 pub use write::write_key_rows;

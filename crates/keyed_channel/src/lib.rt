@@ -52,8 +52,6 @@ mod lengths;
 mod note;
 mod parts;
 mod tags;
-#[cfg(test)]
-mod tests;
 
 pub use channel::Channel;
 pub use coin::{SeedCoin, coin_key};

@@ -12,7 +12,7 @@ use std::collections::VecDeque;
 use std::marker::Model;
 
 /// The most bytes that are kept for one peer.
-pub(crate) const MOST_BYTES: u64 = 8_388_608;
+const MOST_BYTES: u64 = 8_388_608;
 
 /// The frames that are kept for one peer, the oldest first.
 #[derive(Debug, Drop)]

@@ -25,8 +25,6 @@
 mod kept;
 mod lane;
 mod resume;
-#[cfg(test)]
-mod tests;
 
 pub use kept::{KeepFault, Kept};
 pub use resume::Resume;

@@ -13,7 +13,7 @@ use std::collections::VecDeque;
 use std::marker::Model;
 
 /// The most bytes that are held for one peer.
-pub(crate) const MOST_BYTES: u64 = 1_048_576;
+const MOST_BYTES: u64 = 1_048_576;
 
 /// Why an item isn't held.
 #[derive(Clone, Copy, Debug, PartialEq, Eq)]

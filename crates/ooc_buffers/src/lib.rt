@@ -17,7 +17,5 @@
 mod held;
 mod key;
 mod peer;
-#[cfg(test)]
-mod tests;
 
 pub use held::{Held, HoldFault};

@@ -47,8 +47,6 @@ mod mem_link;
 mod memory;
 mod sink;
 mod source;
-#[cfg(test)]
-mod tests;
 mod whole;
 
 pub use adapters::{FromRead, ToWrite};

@@ -11,8 +11,6 @@ mod awaiting;
 mod end;
 mod handing;
 mod laws;
-#[cfg(test)]
-mod tests;
 
 pub use end::SubmitEnd;
 pub use handing::submit;

@@ -13,8 +13,6 @@ mod plan;
 mod sender_set;
 mod slot;
 mod tagger;
-#[cfg(test)]
-mod tests;
 mod texts;
 mod what;
 

@@ -77,8 +77,6 @@ mod read_header;
 mod reader;
 mod scope;
 mod stage;
-#[cfg(test)]
-mod tests;
 mod writer;
 
 pub use fault::FileFault;

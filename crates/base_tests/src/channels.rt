@@ -1,0 +1,102 @@
+//! Tests of `keyed_channel`: a channel in both versions, with the states of its keys, against the calls that take the keys alone.
+
+use crate::dealt::{ABC, ENTRY, FRAME, FRAME_2, SLOT, dealt};
+use keyed_channel::{Channel, Keys, OpenFault, Opened};
+use ritas_base::{Bytes, FrameVersion, Mem, Tagger};
+use std::alloc::Global;
+use std::process::Abort;
+use std::test::Fail;
+
+// The channel of replica me of 4.
+fn channel(rt: &impl Abort, alloc: Global, me: u8, version: FrameVersion) -> Result<Channel, Mem> {
+    Channel::new(alloc, dealt(rt, me).with_version(version))
+}
+
+// The frame of replica 3 for 1 with number 258 and two bytes.
+fn sealed(rt: &impl Abort, alloc: Global, version: FrameVersion) -> Result<Bytes, Mem> {
+    let sender = channel(rt, alloc, 3, version)?;
+    assert!(rt; 1 < sender.keys().n());
+    sender.seal(alloc, 1, 258, b"\xaa\xbb")
+}
+
+#[test]
+fn a_channel_seals(rt: HostRuntime) -> Result<(), Fail> {
+    let frame = sealed(&rt, rt.alloc(), FrameVersion::One)?;
+    assert_eq!(rt; frame.as_slice(), FRAME);
+    let frame = sealed(&rt, rt.alloc(), FrameVersion::Two)?;
+    assert_eq!(rt; frame.as_slice(), FRAME_2);
+    Ok(())
+}
+
+// Whether it is the frame of replica 3 with number 258 and these two bytes.
+fn is_opened(opened: &Opened) -> bool {
+    opened.from == 3 && opened.seq == 258 && opened.body == b"\xaa\xbb".as_slice()
+}
+
+#[test]
+fn a_channel_opens(rt: HostRuntime) -> Result<(), Fail> {
+    let receiver = channel(&rt, rt.alloc(), 1, FrameVersion::One)?;
+    assert!(rt; is_opened(&receiver.open(FRAME)?));
+    let sender = channel(&rt, rt.alloc(), 3, FrameVersion::One)?;
+    let shared = receiver.open_shared(&sender, FRAME);
+    assert!(rt; shared.is_some_and(|opened: Opened| is_opened(&opened)));
+    Ok(())
+}
+
+#[test]
+fn a_channel_tags(rt: HostRuntime) -> Result<(), Fail> {
+    let channel = channel(&rt, rt.alloc(), 1, FrameVersion::One)?;
+    assert_eq!(rt; Tagger::me(&channel), 1);
+    assert_eq!(rt; channel.digest(b"abc").as_slice(), ABC.as_slice());
+    assert_eq!(rt;
+        channel.entry(&SLOT, 3, 1, ABC).as_slice(),
+        ENTRY.as_slice()
+    );
+    Ok(())
+}
+
+// Whether the entries of replica 1 for another one, and of that one for it, are those that its keys alone give.
+fn has_entries(channel: &Channel, keys: &Keys, other: u8) -> bool {
+    other < 31
+        && channel.entry(&SLOT, 1, other, ABC) == keys.entry(&SLOT, 1, other, ABC)
+        && channel.entry(&SLOT, other, 1, ABC) == keys.entry(&SLOT, other, 1, ABC)
+}
+
+// The last of them has no key of its own in a session of four.
+#[test]
+fn entries_of_a_channel(rt: HostRuntime) -> Result<(), Fail> {
+    let keys = dealt(&rt, 1);
+    let channel = Channel::new(rt.alloc(), keys)?;
+    assert_eq!(rt; keys.me(), 1);
+    for other in [0_u8, 1, 2, 3, 4, 30] {
+        assert!(rt; has_entries(&channel, &keys, other), "of {other}");
+    }
+    Ok(())
+}
+
+#[test]
+fn a_channel_of_version_2(rt: HostRuntime) -> Result<(), Fail> {
+    let old = channel(&rt, rt.alloc(), 1, FrameVersion::One)?;
+    let receiver = channel(&rt, rt.alloc(), 1, FrameVersion::Two)?;
+    assert_eq!(rt; receiver.open(FRAME_2)?.seq, 258);
+    assert!(rt;
+        old.open(FRAME_2)
+            .is_err_and(|fault| fault == OpenFault::Version)
+    );
+    assert!(rt;
+        receiver
+            .open(FRAME)
+            .is_err_and(|fault| fault == OpenFault::Version)
+    );
+    Ok(())
+}
+
+#[test]
+fn shared_in_version_2(rt: HostRuntime) -> Result<(), Fail> {
+    let sender = channel(&rt, rt.alloc(), 3, FrameVersion::Two)?;
+    let old = channel(&rt, rt.alloc(), 1, FrameVersion::One)?;
+    let receiver = channel(&rt, rt.alloc(), 1, FrameVersion::Two)?;
+    assert!(rt; receiver.open_shared(&sender, FRAME_2).is_some());
+    assert!(rt; old.open_shared(&sender, FRAME_2).is_none());
+    Ok(())
+}

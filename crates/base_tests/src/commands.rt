@@ -1,0 +1,70 @@
+//! Tests of `command_log`: one row for each request, and an origin that counts once.
+
+use command_log::{Log, command_rows, log_follows};
+use ritas_base::Id;
+use std::alloc::Global;
+
+// Appends a command of this identifier, where it has a client's number and a request's, and tells the answer.
+fn append(
+    alloc: Global,
+    log: &mut Log,
+    origin: u8,
+    num: u32,
+    command: &[u8],
+) -> Option<Option<u32>> {
+    if command.len() < 8 || log.len() == u32::MAX {
+        return None;
+    }
+    log.append(alloc, Id { origin, num }, command).ok()
+}
+
+// A command enters at its second origin, and no more where its client and request have a row.
+#[test]
+fn each_request_has_one_row(rt: HostRuntime) {
+    let mut log = Log::new(rt.alloc(), 1);
+    assert!(rt; log.len() == 0 && log.row(0).is_none() && log.find(7, 1).is_none());
+    for (origin, command, position) in [
+        (0, b"\0\0\0\x07\0\0\0\x01hi".as_slice(), None),
+        (1, b"\0\0\0\x07\0\0\0\x01ho".as_slice(), None),
+        (2, b"\x01\x02\x03\x04\xff\xfe\xfd\xfc".as_slice(), None),
+        (32, b"\0\0\0\x07\0\0\0\x01hi".as_slice(), None),
+        (3, b"\0\0\0\x07\0\0\0\x01hi".as_slice(), Some(0)),
+        (2, b"\0\0\0\x07\0\0\0\x01ho".as_slice(), None),
+        (0, b"\x01\x02\x03\x04\xff\xfe\xfd\xfc".as_slice(), Some(1)),
+    ] {
+        let entered = append(rt.alloc(), &mut log, origin, 0, command);
+        assert_eq!(rt; entered, Some(position), "of {origin}");
+    }
+    assert_eq!(rt; log.len(), 2);
+    for (position, origin, client, request, payload) in [
+        (0, 3, 7, 1, b"hi".as_slice()),
+        (1, 0, 16_909_060, 4_294_901_244, b"".as_slice()),
+    ] {
+        assert_eq!(rt; log.find(client, request), Some(position));
+        let row = log.row(position).expect(&rt, "a row");
+        assert!(rt; row.id == Id { origin, num: 0 }, "at {position}");
+        assert!(rt;
+            row.client == client && row.request == request,
+            "at {position}"
+        );
+        assert!(rt; row.payload.as_slice() == payload, "at {position}");
+    }
+    assert!(rt; log.row(2).is_none() && log.find(7, 2).is_none() && log.find(2, 1).is_none());
+}
+
+// An origin counts once, whatever number of its own a command comes under.
+#[test]
+fn an_origin_counts_once(rt: HostRuntime) {
+    let mut log = Log::new(rt.alloc(), 1);
+    for (origin, num, position) in [(0, 0, None), (0, 1, None), (2, 0, Some(0)), (1, 0, None)] {
+        let entered = append(rt.alloc(), &mut log, origin, num, b"\0\0\0\x07\0\0\0\x01");
+        assert_eq!(rt; entered, Some(position), "of {origin}.{num}");
+    }
+}
+
+// The laws are functions that do nothing.
+#[test]
+fn laws_can_be_called(_rt: HostRuntime) {
+    command_rows();
+    log_follows();
+}

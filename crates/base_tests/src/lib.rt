@@ -1,0 +1,62 @@
+//! Tests of the crates below the layers and beside them, by their public calls alone.
+//!
+//! They stand beside these crates and not in them because a crate that has tests is proved twice. Where a test wants what its
+//! crate keeps to itself, it stands in that crate.
+//!
+//! | Module | Tests of |
+//! |---|---|
+//! | `slots` | `ritas_base` |
+//! | `streams`, `links`, `disks` | `outside` |
+//! | `bodies`, `values` | `frame_codec` |
+//! | `tags`, `frames`, `channels`, `notes`, with the keys of `dealt` | `keyed_channel` |
+//! | `schedules` | `schedule_file` |
+//! | `journals` | `event_journal` |
+//! | `replies` | `client_port` |
+//! | `configs` | `cluster_config` |
+//! | `resuming` | `link_resume` |
+//! | `key_texts` | `key_rows` |
+//! | `submitting` | `request_submit` |
+//! | `holding` | `ooc_buffers` |
+//! | `commands` | `command_log` |
+#![tactic(auto)]
+
+#[cfg(test)]
+mod bodies;
+#[cfg(test)]
+mod channels;
+#[cfg(test)]
+mod commands;
+#[cfg(test)]
+mod configs;
+#[cfg(test)]
+mod dealt;
+#[cfg(test)]
+mod disks;
+#[cfg(test)]
+mod frames;
+#[cfg(test)]
+mod holding;
+#[cfg(test)]
+mod journals;
+#[cfg(test)]
+mod key_texts;
+#[cfg(test)]
+mod links;
+#[cfg(test)]
+mod notes;
+#[cfg(test)]
+mod replies;
+#[cfg(test)]
+mod resuming;
+#[cfg(test)]
+mod schedules;
+#[cfg(test)]
+mod slots;
+#[cfg(test)]
+mod streams;
+#[cfg(test)]
+mod submitting;
+#[cfg(test)]
+mod tags;
+#[cfg(test)]
+mod values;
