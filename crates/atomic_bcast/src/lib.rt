@@ -24,8 +24,6 @@ mod place;
 mod proposal;
 mod rounds;
 mod saying;
-#[cfg(test)]
-mod tests;
 mod wanted;
 
 pub use abc::Abc;

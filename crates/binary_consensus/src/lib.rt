@@ -19,8 +19,6 @@ mod leaving;
 mod line;
 mod part;
 mod place;
-#[cfg(test)]
-mod tests;
 
 pub use bin::Bin;
 pub use bin_root::BinRoot;

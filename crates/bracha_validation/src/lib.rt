@@ -26,8 +26,6 @@
 mod following;
 mod laws;
 mod tally;
-#[cfg(test)]
-mod tests;
 
 pub use following::may_follow;
 pub use laws::{rules_by_counts, set_is_picked, set_of_votes};

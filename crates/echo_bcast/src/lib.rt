@@ -18,8 +18,6 @@ mod columns;
 mod eb;
 mod entries;
 mod laws;
-#[cfg(test)]
-mod tests;
 
 pub use eb::Eb;
 pub use laws::{good_is, hashes_carry, one_due, one_value, senders_are};

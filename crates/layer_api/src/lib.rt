@@ -16,8 +16,6 @@ mod outcome;
 mod saying;
 mod service;
 mod slots;
-#[cfg(test)]
-mod tests;
 mod vector_box;
 mod vote;
 mod windows;

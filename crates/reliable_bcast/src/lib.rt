@@ -20,13 +20,9 @@
 mod broadcast;
 mod digest_broadcast;
 mod digest_rb;
-#[cfg(test)]
-mod digest_tests;
 mod laws;
 mod rb;
 mod saying;
-#[cfg(test)]
-mod tests;
 mod votes;
 
 pub use digest_rb::DigestRb;

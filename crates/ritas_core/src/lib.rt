@@ -34,6 +34,3 @@ pub use kernel::Core;
 pub use laws::{delivered_within, entry_laws, history_laws, kinds_fit, new_is_due, verdict_laws};
 pub use route::Route;
 pub use verdict::Verdict;
-
-#[cfg(test)]
-mod tests;

@@ -17,8 +17,6 @@ mod laws;
 mod opening;
 mod part;
 mod proposals;
-#[cfg(test)]
-mod tests;
 mod vc;
 mod vc_root;
 

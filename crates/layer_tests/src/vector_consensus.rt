@@ -3,23 +3,11 @@
 ghost use Rattle.std.specs.Prelude.{◌≡◌};
 ghost use Rattle.ritas_base.specs.SlotOrder.{is_slot};
 
-use super::*;
+use crate::zeros::ZeroCoin;
 use layer_api::{Decided, MultiBox, Outcome, Service, VectorBox};
 use ritas_base::{Coin, Mem, Params, Say, Slot};
 use std::alloc::Global;
-
-// Each of its bits is 0.
-struct Zeros;
-
-impl Coin for Zeros {
-    ghost use Rattle.std.specs.Prelude.{false};
-
-    ghost bits = { λ c s. false };
-
-    fn toss(&self, _slot: &Slot) -> bool {
-        false
-    }
-}
+use vector_consensus::{Vc, VcRoot, one_vector, vector_laws};
 
 // Whether it is the slot of a replica's proposal in this instance.
 fn is_init(slot: &Slot, a: u32, attempt: u8, origin: u8) -> bool
@@ -160,7 +148,10 @@ fn attempts_begin_one_by_one(rt: HostRuntime) {
     ];
     for (at, first, last, spent) in cases {
         assert!(rt; vc.is_open(&at) && !vc.is_open(&Slot { a: 8, ..at }));
-        assert!(rt; vc.heard(rt.alloc(), &Zeros, &at, b"1", &mut says).is_ok());
+        assert!(rt;
+            vc.heard(rt.alloc(), &ZeroCoin, &at, b"1", &mut says)
+                .is_ok()
+        );
         assert_eq!(rt; vc.is_open(&slot(3, 7, 0, 3)), first, "after {at:?}");
         assert_eq!(rt; vc.is_open(&slot(3, 7, 1, 3)), last, "after {at:?}");
         assert_eq!(rt; vc.spent(), spent, "after {at:?}");
@@ -182,7 +173,7 @@ fn an_instance_is_spent(rt: HostRuntime) {
     for at in [slot(2, 0, 0, 0), slot(3, 0, 0, 0)] {
         assert!(rt; root.outcome() == Outcome::Undecided);
         assert!(rt;
-            root.heard(rt.alloc(), &Zeros, &at, b"mine", &mut says)
+            root.heard(rt.alloc(), &ZeroCoin, &at, b"mine", &mut says)
                 .is_ok()
         );
     }

@@ -3,7 +3,7 @@
 ghost use Rattle.std.specs.Prelude.{ℕ, ◌+◌, ◌<◌, ◌≤◌, ◌≡◌};
 ghost use Rattle.bracha_validation.specs.Tallies.{vote_count};
 
-use super::*;
+use bracha_validation::{Tally, may_follow, rules_by_counts, set_is_picked, set_of_votes};
 use ritas_base::Params;
 
 fn tally(zeros: u8, ones: u8, nones: u8) -> Tally

@@ -1,21 +1,9 @@
 //! Tests of rounds whose votes are split to the end, and of a tie that gives 0.
 
-use super::*;
+use crate::zeros::ZeroCoin;
+use binary_consensus::{Bin, BinRoot, box_laws, one_bit};
 use layer_api::{BinaryBox, Outcome, Service};
-use ritas_base::{Coin, Params, Say, Slot};
-
-// Each of its bits is 0.
-struct Zeros;
-
-impl Coin for Zeros {
-    ghost use Rattle.std.specs.Prelude.{false};
-
-    ghost bits = { λ c s. false };
-
-    fn toss(&self, _slot: &Slot) -> bool {
-        false
-    }
-}
+use ritas_base::{Params, Say, Slot};
 
 fn slot(a: u32, attempt: u8, bround: u8, step: u8, origin: u8) -> Slot {
     Slot {
@@ -45,7 +33,7 @@ fn rounds_of_unmarked_votes_end(rt: HostRuntime) {
             for (origin, vote) in votes.iter().enumerate() {
                 let heard = slot(7, 1, round, step, origin as u8);
                 assert!(rt;
-                    bin.heard(rt.alloc(), &Zeros, &heard, *vote, &mut says)
+                    bin.heard(rt.alloc(), &ZeroCoin, &heard, *vote, &mut says)
                         .is_ok()
                 );
             }
@@ -84,7 +72,7 @@ fn a_tie_gives_zero(rt: HostRuntime) {
         assert!(rt; root.outcome() == Outcome::Undecided);
         let heard = slot(0, 0, 1, step, origin);
         assert!(rt;
-            root.heard(rt.alloc(), &Zeros, &heard, &[vote], &mut says)
+            root.heard(rt.alloc(), &ZeroCoin, &heard, &[vote], &mut says)
                 .is_ok()
         );
     }

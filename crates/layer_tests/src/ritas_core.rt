@@ -1,48 +1,16 @@
 //! Tests of each check of a core, with its answer.
 
-ghost use Rattle.std.specs.Prelude.{◌≡◌, refl, ◌<◌, replicate};
+ghost use Rattle.std.specs.Prelude.{◌<◌};
 
-use super::*;
+use crate::zeros::{ZeroCoin, ZeroTagger};
 use layer_api::{Outcome, Service};
 use reliable_bcast::Rb;
 use ritas_base::{Bytes, Coin, Id, Item, Kind, Mem, Mode, Msg, Params, Say, Slot, Tagger, Vect};
+use ritas_core::{
+    Answer, Core, CoreFault, delivered_within, entry_laws, history_laws, kinds_fit, new_is_due,
+    verdict_laws,
+};
 use std::alloc::Global;
-
-/// A tagger and a coin whose answers are all zeros: nothing here asks them.
-#[derive(Drop)]
-struct Zeros {
-    me: u8,
-}
-
-impl Tagger for Zeros {
-    ghost me = { λ t. t.me };
-
-    ghost tags = { λ t. record { digest = λ m. replicate 32 0; entry = λ s echoer verifier d. replicate 32 0 } };
-
-    ghost digests = { λ t m. refl };
-
-    fn me(&self) -> u8 {
-        self.me
-    }
-
-    fn entry(&self, _slot: &Slot, _echoer: u8, _verifier: u8, _d: &[u8; 32]) -> [u8; 32] {
-        [0; 32]
-    }
-
-    fn digest(&self, _bytes: &[u8]) -> [u8; 32] {
-        [0; 32]
-    }
-}
-
-impl Coin for Zeros {
-    ghost use Rattle.std.specs.Prelude.{false};
-
-    ghost bits = { λ c s. false };
-
-    fn toss(&self, _slot: &Slot) -> bool {
-        false
-    }
-}
 
 /// A service of vector consensus that says nothing, and lets in all but steps of consensus.
 #[derive(Drop)]
@@ -223,12 +191,12 @@ fn item(
 }
 
 // Vector consensus where VECTs go by reliable broadcast too.
-fn new_core(alloc: Global, p: Params) -> Result<Core<Mute, Rb, Zeros, Zeros>, Mem>
+fn new_core(alloc: Global, p: Params) -> Result<Core<Mute, Rb, ZeroCoin, ZeroTagger>, Mem>
     requires { 0 < p.n }
 {
     match Mode::new(5, Vect::Reliable) {
         None => Err(Mem),
-        Some(mode) => Core::new(alloc, p, mode, 0, Zeros { me: 0 }, Zeros { me: 0 }),
+        Some(mode) => Core::new(alloc, p, mode, 0, ZeroTagger { me: 0 }, ZeroCoin),
     }
 }
 

@@ -1,10 +1,9 @@
 //! Tests of reliable broadcast with values: its answers and messages at an origin and at another replica.
 
-ghost use Rattle.std.specs.Prelude.{◌≡◌, refl, IfOk, replicate};
-
-use crate::Rb;
+use crate::zeros::ZeroTagger;
 use layer_api::{Broadcast, Heard};
-use ritas_base::{Bytes, Item, Kind, Mem, Msg, Params, Slot, Tagger};
+use reliable_bcast::Rb;
+use ritas_base::{Bytes, Item, Kind, Mem, Msg, Params, Slot};
 use std::alloc::Global;
 
 pub(crate) const SLOT: Slot = Slot {
@@ -15,31 +14,6 @@ pub(crate) const SLOT: Slot = Slot {
     step: 0,
     origin: 0,
 };
-
-/// A tagger whose answers are all zeros: reliable broadcast asks for none.
-struct Zeros {
-    me: u8,
-}
-
-impl Tagger for Zeros {
-    ghost me = { λ t. t.me };
-
-    ghost tags = { λ t. record { digest = λ m. replicate 32 0; entry = λ s echoer verifier d. replicate 32 0 } };
-
-    ghost digests = { λ t m. refl };
-
-    fn me(&self) -> u8 {
-        self.me
-    }
-
-    fn entry(&self, _slot: &Slot, _echoer: u8, _verifier: u8, _d: &[u8; 32]) -> [u8; 32] {
-        [0; 32]
-    }
-
-    fn digest(&self, _bytes: &[u8]) -> [u8; 32] {
-        [0; 32]
-    }
-}
 
 pub(crate) fn item(alloc: Global, from: u8, kind: Kind, value: &[u8]) -> Result<Item, Mem> {
     Ok(Item {
@@ -75,7 +49,7 @@ fn follows_the_rules(rt: HostRuntime) {
     for (at, (from, kind, value, heard, said, delivers)) in table.into_iter().enumerate() {
         let item = item(alloc, from, kind, value).expect(&rt, "item");
         let answer = rb
-            .take(alloc, &Zeros { me: 1 }, &item, &mut out)
+            .take(alloc, &ZeroTagger { me: 1 }, &item, &mut out)
             .expect(&rt, "take");
         assert_eq!(rt; answer, heard, "answer at {at}");
         assert_eq!(rt; out.pop().map(|m| m.kind), said, "said at {at}");
@@ -92,13 +66,13 @@ fn starts_and_joins(rt: HostRuntime) {
     let p = Params::new(4, 1).expect(&rt, "numbers");
     let mut rb = Rb::new(alloc, &p, 0, SLOT).expect(&rt, "new");
     let mut out: Vec<Msg> = Vec::new(alloc);
-    rb.start(alloc, &Zeros { me: 0 }, b"a", &mut out)
+    rb.start(alloc, &ZeroTagger { me: 0 }, b"a", &mut out)
         .expect(&rt, "start");
     assert_eq!(rt; out.pop().map(|m| m.kind), Some(Kind::Init), "start");
     for (from, said) in [(1, None), (2, Some(Kind::Ready))] {
         let item = item(alloc, from, Kind::Ready, b"a").expect(&rt, "item");
         assert!(rt; rb.ready_for(&item), "ready");
-        rb.take(alloc, &Zeros { me: 0 }, &item, &mut out)
+        rb.take(alloc, &ZeroTagger { me: 0 }, &item, &mut out)
             .expect(&rt, "take");
         assert_eq!(rt; out.pop().map(|m| m.kind), said, "at {from}");
     }

@@ -1,6 +1,6 @@
 //! Tests of the slots of an instance, of votes, and of what is said.
 
-use crate::{inner_runs, is_slot_in, put_out, vote_of};
+use layer_api::{inner_runs, is_slot_in, put_out, vote_of};
 use ritas_base::{Bytes, Mem, Say, Slot};
 use std::alloc::Global;
 

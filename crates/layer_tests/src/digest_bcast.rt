@@ -2,9 +2,9 @@
 
 ghost use Rattle.std.specs.Prelude.{◌≡◌, refl, replicate, slice_index_or};
 
-use crate::DigestRb;
-use crate::tests::{SLOT, item};
+use crate::reliable_bcast::{SLOT, item};
 use layer_api::{Broadcast, Heard};
+use reliable_bcast::DigestRb;
 use ritas_base::{Kind, Msg, Params, Slot, Tagger, To};
 use std::alloc::Global;
 use std::process::Abort;

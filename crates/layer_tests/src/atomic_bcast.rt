@@ -4,22 +4,11 @@ ghost use Rattle.std.specs.Prelude.{◌≡◌};
 ghost use Rattle.ritas_base.specs.SlotOrder.{is_slot};
 ghost use Rattle.atomic_bcast.specs.OnePlace.{counted_slot};
 
-use super::*;
+use crate::zeros::ZeroCoin;
+use atomic_bcast::{Abc, CmdRoot, atomic_laws, base_is_least, one_log, says_commands};
 use layer_api::{Outcome, Service, VectorBox};
 use ritas_base::{Bytes, Coin, Id, Mem, Params, Say, Slot};
 use std::alloc::Global;
-
-struct NoCoin;
-
-impl Coin for NoCoin {
-    ghost use Rattle.std.specs.Prelude.{false};
-
-    ghost bits = { λ c s. false };
-
-    fn toss(&self, _slot: &Slot) -> bool {
-        false
-    }
-}
 
 fn slot(class: u8, a: u32, step: u8, origin: u8) -> Slot {
     Slot {
@@ -197,7 +186,7 @@ fn a_round_completes(rt: HostRuntime) {
     ] {
         assert!(rt; abc.is_open(&at));
         assert!(rt;
-            abc.heard(rt.alloc(), &NoCoin, &at, value, &mut says)
+            abc.heard(rt.alloc(), &ZeroCoin, &at, value, &mut says)
                 .is_ok()
         );
         assert!(rt; abc.completed() == completed && abc.done().len() == length);
@@ -237,7 +226,7 @@ fn rounds_leave_the_window(rt: HostRuntime) {
     ];
     for (at, value, first, last) in cases {
         assert!(rt;
-            abc.heard(rt.alloc(), &NoCoin, &at, value, &mut says)
+            abc.heard(rt.alloc(), &ZeroCoin, &at, value, &mut says)
                 .is_ok()
         );
         assert_eq!(rt; abc.completed(), last, "at {at:?}");
@@ -284,7 +273,7 @@ fn commands_are_numbered_and_raise_the_base(rt: HostRuntime) {
             service
                 .heard(
                     rt.alloc(),
-                    &NoCoin,
+                    &ZeroCoin,
                     &slot(1, a, step, origin),
                     b"x",
                     &mut says

@@ -2,7 +2,7 @@
 
 ghost use Rattle.std.specs.Prelude.{◌≡◌, refl, replicate, slice_set};
 
-use crate::Eb;
+use echo_bcast::Eb;
 use layer_api::{Broadcast, Heard};
 use ritas_base::{Bytes, Item, Kind, Mem, Msg, Params, Slot, Tagger, To};
 use std::alloc::Global;
