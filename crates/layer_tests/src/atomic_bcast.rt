@@ -9,6 +9,7 @@ use atomic_bcast::{Abc, CmdRoot, atomic_laws, base_is_least, one_log, says_comma
 use layer_api::{Outcome, Service, VectorBox};
 use ritas_base::{Bytes, Coin, Id, Mem, Params, Say, Slot};
 use std::alloc::Global;
+use std::process::Abort;
 
 fn slot(class: u8, a: u32, step: u8, origin: u8) -> Slot {
     Slot {
@@ -154,46 +155,56 @@ impl VectorBox for OnePlace {
     ghost one_vector = { one_place_agrees };
 }
 
+/// Atomic broadcast over such a box.
+type Rounds = Abc<OnePlace>;
+
+// The lists of replicas 0, 1 and 3: the mask of the three places, and for each a length and identifiers.
+const THREE_LISTS: [u8; 40] = [
+    0, 0, 0, 0b1011, //
+    0, 10, 1, 0, 0, 0, 0, 3, 0, 0, 0, 5, //
+    0, 15, 1, 0, 0, 0, 0, 1, 0, 0, 0, 1, 3, 0, 0, 0, 5, //
+    0, 5, 0, 0, 0, 0, 9,
+];
+
+// The first input is said as command 0 of replica 2.
+fn give_input(rt: &impl Abort, alloc: Global, abc: &mut Rounds, says: &mut Vec<Say>) {
+    assert!(rt; abc.input(alloc, b"client_1", says).is_ok());
+    assert!(rt; says.len() == 1 && says[0].slot == slot(1, 0, 0, 2) && abc.next_number() == 1);
+    assert!(rt; abc.is_open(&slot(1, 7, 0, 3)) && !abc.is_open(&slot(2, 0, 0, 0)));
+}
+
+// Each slot that is heard, and what it delivers; then how many rounds are complete, and how long the log is.
+fn hear_lists(rt: &impl Abort, alloc: Global, abc: &mut Rounds, says: &mut Vec<Say>) {
+    for (at, value, completed, length) in [
+        (slot(1, 0, 0, 1), b"client_1".as_slice(), 0, 0),
+        (slot(3, 0, 0, 0), THREE_LISTS.as_slice(), 0, 0),
+        (slot(3, 0, 0, 1), THREE_LISTS.as_slice(), 0, 0),
+        (slot(1, 2, 0, 2), b"client_2".as_slice(), 0, 0),
+        (slot(1, 5, 0, 3), b"client_3".as_slice(), 1, 2),
+    ] {
+        assert!(rt; abc.is_open(&at));
+        assert!(rt; abc.heard(alloc, &ZeroCoin, &at, value, says).is_ok());
+        assert!(rt; abc.completed() == completed && abc.done().len() == length);
+    }
+}
+
 // Four replicas, of which one may be faulty, and replica 2's service. Command 0 of replica 1 is delivered, and round 0
 // begins. Its vector has the lists of replicas 0, 1 and 3. Two of them name command 0 of replica 1 and command 5 of replica
 // 3; one alone names command 1 of replica 1. So the round waits for command 5 of replica 3, appends both in ascending order,
 // and the next round begins with a command that came meanwhile.
 #[test]
 fn a_round_completes(rt: HostRuntime) {
-    assert!(rt; Abc::<OnePlace>::serves(6) && !Abc::<OnePlace>::serves(5));
+    assert!(rt; Rounds::serves(6) && !Rounds::serves(5));
     let p = Params::new(4, 1).unwrap();
-    let mut abc: Abc<OnePlace> = Abc::new(rt.alloc(), &p, 2).expect(&rt, "memory");
+    let mut abc = Rounds::new(rt.alloc(), &p, 2).expect(&rt, "memory");
     let mut says: Vec<Say> = Vec::new(rt.alloc());
-    assert!(rt; abc.input(rt.alloc(), b"client_1", &mut says).is_ok());
-    assert!(rt; says.len() == 1 && says[0].slot == slot(1, 0, 0, 2) && abc.next_number() == 1);
-    assert!(rt; abc.is_open(&slot(1, 7, 0, 3)) && !abc.is_open(&slot(2, 0, 0, 0)));
+    give_input(&rt, rt.alloc(), &mut abc, &mut says);
+    hear_lists(&rt, rt.alloc(), &mut abc, &mut says);
     let first = Id { origin: 1, num: 0 };
     let last = Id { origin: 3, num: 5 };
-    // the mask of three places, and for each a length and identifiers
-    let vector = [
-        0, 0, 0, 0b1011, //
-        0, 10, 1, 0, 0, 0, 0, 3, 0, 0, 0, 5, //
-        0, 15, 1, 0, 0, 0, 0, 1, 0, 0, 0, 1, 3, 0, 0, 0, 5, //
-        0, 5, 0, 0, 0, 0, 9,
-    ];
-    // slot and what it delivers; then how many rounds are complete, and how long the log is
-    for (at, value, completed, length) in [
-        (slot(1, 0, 0, 1), b"client_1".as_slice(), 0, 0),
-        (slot(3, 0, 0, 0), vector.as_slice(), 0, 0),
-        (slot(3, 0, 0, 1), vector.as_slice(), 0, 0),
-        (slot(1, 2, 0, 2), b"client_2".as_slice(), 0, 0),
-        (slot(1, 5, 0, 3), b"client_3".as_slice(), 1, 2),
-    ] {
-        assert!(rt; abc.is_open(&at));
-        assert!(rt;
-            abc.heard(rt.alloc(), &ZeroCoin, &at, value, &mut says)
-                .is_ok()
-        );
-        assert!(rt; abc.completed() == completed && abc.done().len() == length);
-    }
     assert!(rt; abc.done() == [first, last].as_slice());
     // the vector of round 0, by its first attempt, though round 1 began
-    assert!(rt; abc.last_vector() == Some((0, 0, vector.as_slice())));
+    assert!(rt; abc.last_vector() == Some((0, 0, THREE_LISTS.as_slice())));
     assert!(rt; abc.base(1) == 1 && abc.base(3) == 0 && abc.base(2) == 0);
     assert!(rt; abc.is_open(&slot(2, 0, 0, 1)) && abc.is_open(&slot(2, 1, 0, 1)));
     assert!(rt; !abc.is_open(&slot(2, 2, 0, 1)) && !abc.is_open(&slot(2, 1, 1, 1)));
@@ -205,6 +216,17 @@ fn a_round_completes(rt: HostRuntime) {
 const NONE_BACKED: &[u8] =
     b"\0\0\0\x07\0\x05\x02\0\0\0\x01\0\x05\x03\0\0\0\x05\0\x05\x01\0\0\0\x01";
 
+// Of the first five rounds the first to the last take items, and no others.
+fn are_open(rt: &impl Abort, abc: &Rounds, first: u32, last: u32, at: &Slot) {
+    for a in 0..5 {
+        assert_eq!(rt;
+            abc.is_open(&slot(2, a, 0, 1)),
+            first <= a && a <= last,
+            "{a} at {at:?}"
+        );
+    }
+}
+
 // A command is pending, and no vector wants it: so round after round completes. The current round and the two before it
 // take items.
 #[test]
@@ -212,7 +234,7 @@ fn rounds_leave_the_window(rt: HostRuntime) {
     one_log();
     atomic_laws();
     let p = Params::new(4, 1).unwrap();
-    let mut abc: Abc<OnePlace> = Abc::new(rt.alloc(), &p, 2).expect(&rt, "memory");
+    let mut abc = Rounds::new(rt.alloc(), &p, 2).expect(&rt, "memory");
     let mut says: Vec<Say> = Vec::new(rt.alloc());
     // slot and what it delivers; then the rounds that take items
     let cases: [(Slot, &[u8], u32, u32); 7] = [
@@ -230,28 +252,15 @@ fn rounds_leave_the_window(rt: HostRuntime) {
                 .is_ok()
         );
         assert_eq!(rt; abc.completed(), last, "at {at:?}");
-        for a in 0..5 {
-            assert_eq!(rt;
-                abc.is_open(&slot(2, a, 0, 1)),
-                first <= a && a <= last,
-                "{a} at {at:?}"
-            );
-        }
+        are_open(&rt, &abc, first, last, &at);
     }
     assert!(rt; abc.done().is_empty() && says.is_empty());
 }
 
-// Four replicas, and replica 2's service: three inputs, and commands that come out of order.
-#[test]
-fn commands_are_numbered_and_raise_the_base(rt: HostRuntime) {
-    base_is_least();
-    says_commands();
-    assert!(rt; CmdRoot::serves(1) && CmdRoot::serves(2) && !CmdRoot::serves(3));
-    let p = Params::new(4, 1).unwrap();
-    let mut service = CmdRoot::new(rt.alloc(), &p, 2).expect(&rt, "memory");
-    let mut says: Vec<Say> = Vec::new(rt.alloc());
+// Three inputs get the next three numbers.
+fn number_inputs(rt: &impl Abort, alloc: Global, service: &mut CmdRoot, says: &mut Vec<Say>) {
     for _ in 0..3 {
-        assert!(rt; service.input(rt.alloc(), b"put", &mut says).is_ok());
+        assert!(rt; service.input(alloc, b"put", says).is_ok());
     }
     assert_eq!(rt; says.len(), 3);
     for (k, said) in says.iter().enumerate() {
@@ -260,7 +269,10 @@ fn commands_are_numbered_and_raise_the_base(rt: HostRuntime) {
         );
     }
     assert_eq!(rt; service.next_number(), 3);
-    // number, step of the slot, origin; then the base of that origin
+}
+
+// Commands come out of order: the number, the step of the slot, and the origin; then the base of that origin.
+fn raise_bases(rt: &impl Abort, alloc: Global, service: &mut CmdRoot, says: &mut Vec<Say>) {
     for (a, step, origin, base) in [
         (2, 0, 1, 0),
         (0, 0, 1, 1),
@@ -269,20 +281,24 @@ fn commands_are_numbered_and_raise_the_base(rt: HostRuntime) {
         (3, 0, 1, 4),
         (0, 0, 3, 1),
     ] {
-        assert!(rt;
-            service
-                .heard(
-                    rt.alloc(),
-                    &ZeroCoin,
-                    &slot(1, a, step, origin),
-                    b"x",
-                    &mut says
-                )
-                .is_ok()
-        );
+        let at = slot(1, a, step, origin);
+        assert!(rt; service.heard(alloc, &ZeroCoin, &at, b"x", says).is_ok());
         assert_eq!(rt; service.base(origin), base, "at {a} of {origin}");
     }
     assert_eq!(rt; service.base(0), 0);
+}
+
+// Four replicas, and replica 2's service.
+#[test]
+fn commands_are_numbered_and_raise_the_base(rt: HostRuntime) {
+    base_is_least();
+    says_commands();
+    assert!(rt; CmdRoot::serves(1) && CmdRoot::serves(2) && !CmdRoot::serves(3));
+    let p = Params::new(4, 1).unwrap();
+    let mut service = CmdRoot::new(rt.alloc(), &p, 2).expect(&rt, "memory");
+    let mut says: Vec<Say> = Vec::new(rt.alloc());
+    number_inputs(&rt, rt.alloc(), &mut service, &mut says);
+    raise_bases(&rt, rt.alloc(), &mut service, &mut says);
     assert_eq!(rt; says.len(), 3);
     assert!(rt; service.is_open(&slot(1, 9, 0, 0)) && !service.is_open(&slot(2, 0, 0, 0)));
     assert!(rt;

@@ -4,6 +4,8 @@ use crate::zeros::ZeroCoin;
 use binary_consensus::{Bin, BinRoot, box_laws, one_bit};
 use layer_api::{BinaryBox, Outcome, Service};
 use ritas_base::{Params, Say, Slot};
+use std::alloc::Global;
+use std::process::Abort;
 
 fn slot(a: u32, attempt: u8, bround: u8, step: u8, origin: u8) -> Slot {
     Slot {
@@ -16,8 +18,28 @@ fn slot(a: u32, attempt: u8, bround: u8, step: u8, origin: u8) -> Slot {
     }
 }
 
-// Four replicas, of which one may be faulty. In each round the bits are split, so that the third step is unmarked and the
-// coin gives the next bit. No round decides.
+// The votes of a round: the bits are split, so that the third step is unmarked and the coin gives the next bit.
+fn hear_round(rt: &impl Abort, alloc: Global, bin: &mut Bin, round: u8, says: &mut Vec<Say>) {
+    for (step, votes) in [(1, [0, 0, 1, 1]), (2, [0, 0, 1, 1]), (3, [2, 2, 2, 2])] {
+        for (origin, vote) in votes.iter().enumerate() {
+            let heard = slot(7, 1, round, step, origin as u8);
+            assert!(rt; bin.heard(alloc, &ZeroCoin, &heard, *vote, says).is_ok());
+        }
+    }
+}
+
+// Each step of 200 rounds is said: 0, 0, and then unmarked.
+fn are_said(rt: &impl Abort, says: &[Say]) {
+    assert_eq!(rt; says.len(), 600);
+    for (k, said) in says.iter().enumerate() {
+        let step = (k % 3) as u8 + 1;
+        let vote = if step == 3 { 2 } else { 0 };
+        assert!(rt; said.slot == slot(7, 1, (k / 3) as u8 + 1, step, 0));
+        assert!(rt; said.value.as_slice() == [vote].as_slice());
+    }
+}
+
+// Four replicas, of which one may be faulty. In each round the votes are split, and no round decides.
 #[test]
 fn rounds_of_unmarked_votes_end(rt: HostRuntime) {
     one_bit();
@@ -29,25 +51,11 @@ fn rounds_of_unmarked_votes_end(rt: HostRuntime) {
     assert!(rt; bin.propose(rt.alloc(), false, &mut says).is_ok());
     assert!(rt; bin.round() == 1);
     for round in 1..201u8 {
-        for (step, votes) in [(1, [0, 0, 1, 1]), (2, [0, 0, 1, 1]), (3, [2, 2, 2, 2])] {
-            for (origin, vote) in votes.iter().enumerate() {
-                let heard = slot(7, 1, round, step, origin as u8);
-                assert!(rt;
-                    bin.heard(rt.alloc(), &ZeroCoin, &heard, *vote, &mut says)
-                        .is_ok()
-                );
-            }
-        }
+        hear_round(&rt, rt.alloc(), &mut bin, round, &mut says);
         assert!(rt; bin.rounds_over() == (round == 200));
     }
     assert!(rt; bin.decision().is_none() && bin.round() == 200 && bin.live());
-    assert_eq!(rt; says.len(), 600);
-    for (k, said) in says.iter().enumerate() {
-        let step = (k % 3) as u8 + 1;
-        let vote = if step == 3 { 2 } else { 0 };
-        assert!(rt; said.slot == slot(7, 1, (k / 3) as u8 + 1, step, 0));
-        assert!(rt; said.value.as_slice() == [vote].as_slice());
-    }
+    are_said(&rt, &says);
 }
 
 // Two replicas that propose 0 and 1, at the replica that proposes 1: the tie gives 0, and both decide it.

@@ -142,6 +142,25 @@ fn asks_for_the_value(rt: HostRuntime) {
     );
 }
 
+// The origin says INIT.
+fn start(rt: &impl Abort, alloc: Global, rb: &mut DigestRb, out: &mut Vec<Msg>) {
+    rb.start(alloc, &Firsts { me: 0 }, b"a", out)
+        .expect(rt, "start");
+    let init: Said = Some((To::All, Kind::Init, b"a"));
+    assert!(rt; is_said(&out.pop(), init), "start");
+}
+
+// Three ask, of whom two want what the origin will say, and nobody is answered yet.
+fn ask(rt: &impl Abort, alloc: Global, rb: &mut DigestRb, out: &mut Vec<Msg>) {
+    let asked: [(u8, &[u8]); 3] = [(3, &A), (1, &A), (2, &B)];
+    for (from, digest) in asked {
+        let want = item(alloc, from, Kind::Want, digest).expect(rt, "want");
+        rb.take(alloc, &Firsts { me: 0 }, &want, out)
+            .expect(rt, "take");
+        assert!(rt; out.is_empty(), "answer to {from}");
+    }
+}
+
 // The origin starts, and those who asked before its INIT came are answered with it, in the order of their numbers.
 #[test]
 fn answers_those_who_asked_before(rt: HostRuntime) {
@@ -149,19 +168,8 @@ fn answers_those_who_asked_before(rt: HostRuntime) {
     let p = Params::new(4, 1).expect(&rt, "numbers");
     let mut rb = DigestRb::new(alloc, &p, 0, SLOT).expect(&rt, "new");
     let mut out: Vec<Msg> = Vec::new(alloc);
-    rb.start(alloc, &Firsts { me: 0 }, b"a", &mut out)
-        .expect(&rt, "start");
-    assert!(rt;
-        is_said(&out.pop(), Some((To::All, Kind::Init, b"a"))),
-        "start"
-    );
-    let asked: [(u8, &[u8]); 3] = [(3, &A), (1, &A), (2, &B)];
-    for (from, digest) in asked {
-        let want = item(alloc, from, Kind::Want, digest).expect(&rt, "want");
-        rb.take(alloc, &Firsts { me: 0 }, &want, &mut out)
-            .expect(&rt, "take");
-        assert!(rt; out.is_empty(), "answer to {from}");
-    }
+    start(&rt, alloc, &mut rb, &mut out);
+    ask(&rt, alloc, &mut rb, &mut out);
     let init = item(alloc, 0, Kind::Init, b"a").expect(&rt, "init");
     rb.take(alloc, &Firsts { me: 0 }, &init, &mut out)
         .expect(&rt, "take");

@@ -6,6 +6,7 @@ use echo_bcast::Eb;
 use layer_api::{Broadcast, Heard};
 use ritas_base::{Bytes, Item, Kind, Mem, Msg, Params, Slot, Tagger, To};
 use std::alloc::Global;
+use std::process::Abort;
 
 const SLOT: Slot = Slot {
     class: 1,
@@ -64,25 +65,23 @@ fn rows(alloc: Global, front: &[u8], entries: &[[u8; 2]]) -> Result<Bytes, Mem> 
     Ok(Bytes::from_vec(out))
 }
 
-// Replica 0 of 4, one of which may be faulty: each column with the answer, and whether it delivers.
-#[test]
-fn follows_the_rules(rt: HostRuntime) {
-    let alloc = rt.alloc();
-    let p = Params::new(4, 1).expect(&rt, "numbers");
-    let tagger = Plain { me: 0 };
-    let mut eb = Eb::new(alloc, &p, 0, SLOT).expect(&rt, "new");
-    let mut out: Vec<Msg> = Vec::new(alloc);
+// The first SEND alone is answered, with HASHES to the origin.
+fn take_sends(rt: &impl Abort, alloc: Global, eb: &mut Eb, out: &mut Vec<Msg>) {
     for (value, heard, said) in [
         (b"a", Heard::Took, Some(To::One(3))),
         (b"b", Heard::Repeat, None),
     ] {
-        let value = Bytes::from_slice(alloc, value).expect(&rt, "value");
+        let value = Bytes::from_slice(alloc, value).expect(rt, "value");
         let answer = eb
-            .take(alloc, &tagger, &item(3, Kind::Send, value), &mut out)
-            .expect(&rt, "send");
+            .take(alloc, &Plain { me: 0 }, &item(3, Kind::Send, value), out)
+            .expect(rt, "send");
         assert_eq!(rt; answer, heard, "SEND");
         assert_eq!(rt; out.pop().map(|m| m.to), said, "HASHES");
     }
+}
+
+// Each column with the answer, and whether it delivers.
+fn take_columns(rt: &impl Abort, alloc: Global, eb: &mut Eb, out: &mut Vec<Msg>) {
     let table = [
         (3, [[0, 0], [1, 0]], Heard::Took, false),
         (3, [[0, 0], [1, 0]], Heard::Repeat, false),
@@ -90,15 +89,26 @@ fn follows_the_rules(rt: HostRuntime) {
         (10, [[1, 0], [3, 0]], Heard::Took, true),
     ];
     for (mask, entries, heard, delivers) in table {
-        let value = rows(alloc, &[0, 0, 0, mask], &entries).expect(&rt, "rows");
+        let value = rows(alloc, &[0, 0, 0, mask], &entries).expect(rt, "rows");
         let column = item(3, Kind::Column, value);
         assert!(rt; eb.ready_for(&column), "ready");
         let answer = eb
-            .take(alloc, &tagger, &column, &mut out)
-            .expect(&rt, "column");
+            .take(alloc, &Plain { me: 0 }, &column, out)
+            .expect(rt, "column");
         assert_eq!(rt; answer, heard, "COLUMN {mask}");
         assert_eq!(rt; eb.delivered().is_some(), delivers, "delivered at {mask}");
     }
+}
+
+// Replica 0 of 4, one of which may be faulty.
+#[test]
+fn follows_the_rules(rt: HostRuntime) {
+    let alloc = rt.alloc();
+    let p = Params::new(4, 1).expect(&rt, "numbers");
+    let mut eb = Eb::new(alloc, &p, 0, SLOT).expect(&rt, "new");
+    let mut out: Vec<Msg> = Vec::new(alloc);
+    take_sends(&rt, alloc, &mut eb, &mut out);
+    take_columns(&rt, alloc, &mut eb, &mut out);
     assert!(rt; out.is_empty(), "no more");
     assert!(rt; eb.delivered() == Some(b"a".as_slice()), "the value");
 }

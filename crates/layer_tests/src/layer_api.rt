@@ -4,56 +4,45 @@ use layer_api::{inner_runs, is_slot_in, put_out, vote_of};
 use ritas_base::{Bytes, Mem, Say, Slot};
 use std::alloc::Global;
 
-const PROPOSAL: Slot = Slot {
-    class: 2,
-    a: 7,
-    attempt: 0,
-    bround: 0,
-    step: 0,
-    origin: 3,
-};
+// A slot of number 7 and replica 3.
+fn slot(class: u8, attempt: u8, bround: u8, step: u8) -> Slot {
+    Slot {
+        class,
+        a: 7,
+        attempt,
+        bround,
+        step,
+        origin: 3,
+    }
+}
 
 // Round 7 with three attempts: its proposals, and what belongs to an attempt.
 #[test]
 fn slots_of_an_instance(rt: HostRuntime) {
     inner_runs();
-    let vect = Slot {
-        class: 4,
-        attempt: 2,
-        ..PROPOSAL
-    };
-    let step = Slot {
-        class: 5,
-        bround: 200,
-        step: 3,
-        ..vect
-    };
-    assert!(rt; is_slot_in(2, 7, &PROPOSAL) && is_slot_in(2, 7, &vect) && is_slot_in(2, 7, &step));
-    assert!(rt;
-        !is_slot_in(2, 8, &PROPOSAL) && !is_slot_in(1, 7, &vect) && !is_slot_in(1, 7, &step)
-    );
-    assert!(rt;
-        !is_slot_in(
-            2,
-            7,
-            &Slot {
-                attempt: 1,
-                ..PROPOSAL
-            }
-        )
-    );
-    assert!(rt;
-        !is_slot_in(
-            2,
-            7,
-            &Slot {
-                class: 1,
-                ..PROPOSAL
-            }
-        )
-    );
-    assert!(rt; !is_slot_in(2, 7, &Slot { class: 6, ..vect }));
-    assert!(rt; !is_slot_in(2, 7, &Slot { step: 0, ..step }));
+    let proposal = slot(2, 0, 0, 0);
+    let vect = slot(4, 2, 0, 0);
+    let step = slot(5, 2, 200, 3);
+    // an instance by its last attempt and its round; a slot, and whether it is one of that instance
+    let rows = [
+        (2, 7, proposal, true),
+        (2, 7, vect, true),
+        (2, 7, step, true),
+        (2, 8, proposal, false),
+        (1, 7, vect, false),
+        (1, 7, step, false),
+        (2, 7, slot(2, 1, 0, 0), false),
+        (2, 7, slot(1, 0, 0, 0), false),
+        (2, 7, slot(6, 2, 0, 0), false),
+        (2, 7, slot(5, 2, 200, 0), false),
+    ];
+    for (last, a, at, is_inside) in rows {
+        assert_eq!(rt;
+            is_slot_in(last, a, &at),
+            is_inside,
+            "{at:?} of {a}, up to {last}"
+        );
+    }
 }
 
 #[test]
@@ -63,7 +52,7 @@ fn votes(rt: HostRuntime) {
 
 fn say(alloc: Global, value: &[u8]) -> Result<Say, Mem> {
     Ok(Say {
-        slot: PROPOSAL,
+        slot: slot(2, 0, 0, 0),
         value: Bytes::from_slice(alloc, value)?,
     })
 }

@@ -11,6 +11,10 @@ use ritas_core::{
     verdict_laws,
 };
 use std::alloc::Global;
+use std::process::Abort;
+
+/// The core of these tests: what it says goes by reliable broadcast, and its service says nothing.
+type MuteCore = Core<Mute, Rb, ZeroCoin, ZeroTagger>;
 
 /// A service of vector consensus that says nothing, and lets in all but steps of consensus.
 #[derive(Drop)]
@@ -191,7 +195,7 @@ fn item(
 }
 
 // Vector consensus where VECTs go by reliable broadcast too.
-fn new_core(alloc: Global, p: Params) -> Result<Core<Mute, Rb, ZeroCoin, ZeroTagger>, Mem>
+fn new_core(alloc: Global, p: Params) -> Result<MuteCore, Mem>
     requires { 0 < p.n }
 {
     match Mode::new(5, Vect::Reliable) {
@@ -200,13 +204,8 @@ fn new_core(alloc: Global, p: Params) -> Result<Core<Mute, Rb, ZeroCoin, ZeroTag
     }
 }
 
-// Replica 0 of 4: values and VECTs are let in, and steps of consensus are held.
-#[test]
-fn each_check_has_its_answer(rt: HostRuntime) {
-    let alloc = rt.alloc();
-    let p = Params::new(4, 1).expect(&rt, "numbers");
-    let mut core = new_core(alloc, p).expect(&rt, "new");
-    let mut out: Vec<Msg> = Vec::new(alloc);
+// Items that another than the origin sends or gets are refused, values and VECTs are let in, and steps of consensus are held.
+fn take_items(rt: &impl Abort, alloc: Global, core: &mut MuteCore, out: &mut Vec<Msg>) {
     let table = [
         (2, Kind::Init, 2, Err(CoreFault::NotOrigin)),
         (1, Kind::Hashes, 4, Err(CoreFault::NotForMe)),
@@ -223,27 +222,34 @@ fn each_check_has_its_answer(rt: HostRuntime) {
             4 => b"",
             _ => &[1],
         };
-        let item = item(alloc, from, kind, class, 1, value).expect(&rt, "item");
-        assert_eq!(rt; core.take(alloc, item, &mut out), answer);
+        let item = item(alloc, from, kind, class, 1, value).expect(rt, "item");
+        assert_eq!(rt; core.take(alloc, item, out), answer);
     }
+}
+
+// The one input is taken once.
+fn take_inputs(rt: &impl Abort, alloc: Global, core: &mut MuteCore, out: &mut Vec<Msg>) {
     let inputs: [(&[u8], Result<Answer, CoreFault>); 3] = [
         (b"", Err(CoreFault::Input(0))),
         (b"12345678", Ok(Answer::Took)),
         (b"12345678", Err(CoreFault::InputTaken)),
     ];
     for (input, answer) in inputs {
-        assert_eq!(rt; core.input(alloc, input, &mut out), answer);
+        assert_eq!(rt; core.input(alloc, input, out), answer);
     }
-    assert!(rt; out.len() == 2 && core.inbox_len() == 2 && core.inbox_front().is_some());
-    assert_eq!(rt; core.turn(alloc, &mut out), Ok(Answer::Took));
-    assert_eq!(rt; core.turn(alloc, &mut out), Ok(Answer::Took));
-    assert_eq!(rt; core.turn(alloc, &mut out), Ok(Answer::Idle));
-    assert!(rt; out.len() == 2 && core.live());
-    assert_eq!(rt;
-        (core.held(), core.held_of(1), core.held_of(2)),
-        (11, 11, 0)
-    );
+}
+
+// Two items of its own wait, and each of two turns takes one.
+fn take_turns(rt: &impl Abort, alloc: Global, core: &mut MuteCore, out: &mut Vec<Msg>) {
+    assert!(rt; core.inbox_len() == 2 && core.inbox_front().is_some());
+    for answer in [Answer::Took, Answer::Took, Answer::Idle] {
+        assert_eq!(rt; core.turn(alloc, out), Ok(answer));
+    }
     assert!(rt; core.inbox_len() == 0 && core.inbox_front().is_none());
+}
+
+// Nothing is delivered, and the one step of consensus is still held.
+fn shows(rt: &impl Abort, core: &MuteCore) {
     let slot = Slot {
         class: 2,
         a: 0,
@@ -252,7 +258,11 @@ fn each_check_has_its_answer(rt: HostRuntime) {
         step: 0,
         origin: 1,
     };
-    assert!(rt; core.delivered(&slot).is_none() && core.service().given());
+    assert!(rt; core.live() && core.delivered(&slot).is_none() && core.service().given());
+    assert_eq!(rt;
+        (core.held(), core.held_of(1), core.held_of(2)),
+        (11, 11, 0)
+    );
     assert_eq!(rt;
         (
             core.params().n(),
@@ -262,6 +272,21 @@ fn each_check_has_its_answer(rt: HostRuntime) {
         ),
         (4, 5, 0, 0)
     );
+}
+
+// Replica 0 of 4.
+#[test]
+fn each_check_has_its_answer(rt: HostRuntime) {
+    let alloc = rt.alloc();
+    let p = Params::new(4, 1).expect(&rt, "numbers");
+    let mut core = new_core(alloc, p).expect(&rt, "new");
+    let mut out: Vec<Msg> = Vec::new(alloc);
+    take_items(&rt, alloc, &mut core, &mut out);
+    take_inputs(&rt, alloc, &mut core, &mut out);
+    assert!(rt; out.len() == 2);
+    take_turns(&rt, alloc, &mut core, &mut out);
+    assert!(rt; out.len() == 2);
+    shows(&rt, &core);
     new_is_due::<Mute, Rb>();
     delivered_within::<Mute, Rb>();
     history_laws();

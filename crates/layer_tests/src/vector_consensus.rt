@@ -7,6 +7,7 @@ use crate::zeros::ZeroCoin;
 use layer_api::{Decided, MultiBox, Outcome, Service, VectorBox};
 use ritas_base::{Coin, Mem, Params, Say, Slot};
 use std::alloc::Global;
+use std::process::Abort;
 use vector_consensus::{Vc, VcRoot, one_vector, vector_laws};
 
 // Whether it is the slot of a replica's proposal in this instance.
@@ -122,19 +123,16 @@ fn slot(class: u8, a: u32, attempt: u8, origin: u8) -> Slot {
     }
 }
 
-// Four replicas, of which one may be faulty: the first attempt begins with three proposals, and the second, which is the
-// last, with four. In each two replicas' proposals are enough to refuse.
-#[test]
-fn attempts_begin_one_by_one(rt: HostRuntime) {
-    one_vector();
-    vector_laws();
-    let p = Params::new(4, 1).unwrap();
-    let mut vc: Vc<Refuses> = Vc::new(rt.alloc(), &p, 2, 7).expect(&rt, "memory");
-    assert!(rt; vc.live() && !vc.is_open(&slot(2, 7, 0, 2)));
-    let mut says: Vec<Say> = Vec::new(rt.alloc());
-    assert!(rt; vc.propose(rt.alloc(), b"mine", &mut says).is_ok());
+// The proposal is said, and no attempt begins.
+fn propose(rt: &impl Abort, alloc: Global, vc: &mut Vc<Refuses>, says: &mut Vec<Say>) {
+    assert!(rt; !vc.is_open(&slot(2, 7, 0, 2)));
+    assert!(rt; vc.propose(alloc, b"mine", says).is_ok());
     assert!(rt; says.len() == 1 && says[0].slot == slot(2, 7, 0, 2));
     assert!(rt; says[0].value.as_slice() == b"mine".as_slice());
+}
+
+// Proposals come to the instance and to its attempts. In each attempt two replicas' proposals are enough to refuse.
+fn hear(rt: &impl Abort, alloc: Global, vc: &mut Vc<Refuses>, says: &mut Vec<Say>) {
     // the slot that is heard; then whether slots of the two attempts are open, and whether they are spent
     let cases = [
         (slot(2, 7, 0, 0), false, false, false),
@@ -148,15 +146,26 @@ fn attempts_begin_one_by_one(rt: HostRuntime) {
     ];
     for (at, first, last, spent) in cases {
         assert!(rt; vc.is_open(&at) && !vc.is_open(&Slot { a: 8, ..at }));
-        assert!(rt;
-            vc.heard(rt.alloc(), &ZeroCoin, &at, b"1", &mut says)
-                .is_ok()
-        );
+        assert!(rt; vc.heard(alloc, &ZeroCoin, &at, b"1", says).is_ok());
         assert_eq!(rt; vc.is_open(&slot(3, 7, 0, 3)), first, "after {at:?}");
         assert_eq!(rt; vc.is_open(&slot(3, 7, 1, 3)), last, "after {at:?}");
         assert_eq!(rt; vc.spent(), spent, "after {at:?}");
         assert!(rt; vc.decision().is_none() && vc.decided_try().is_none());
     }
+}
+
+// Four replicas, of which one may be faulty: the first attempt begins with three proposals, and the second, which is the
+// last, with four.
+#[test]
+fn attempts_begin_one_by_one(rt: HostRuntime) {
+    one_vector();
+    vector_laws();
+    let p = Params::new(4, 1).unwrap();
+    let mut vc: Vc<Refuses> = Vc::new(rt.alloc(), &p, 2, 7).expect(&rt, "memory");
+    assert!(rt; vc.live());
+    let mut says: Vec<Say> = Vec::new(rt.alloc());
+    propose(&rt, rt.alloc(), &mut vc, &mut says);
+    hear(&rt, rt.alloc(), &mut vc, &mut says);
     assert!(rt; vc.live());
     assert_eq!(rt; says.len(), 1);
 }
