@@ -5,7 +5,7 @@ ghost use Rattle.std.specs.Prelude.{◌≡◌, ◌<◌};
 use ritas_base::Params;
 
 /// Whose service it is: the session's numbers, and the replica.
-#[derive(Clone, Copy, Debug)]
+#[derive(Clone, Copy)]
 pub(crate) struct Place {
     /// The session's numbers.
     pub(crate) numbers: Params,

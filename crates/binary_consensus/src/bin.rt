@@ -19,7 +19,7 @@ use std::alloc::Global;
 /// nothing. Memory is taken for counts and for what is said.
 ///
 /// The protocol is that of G. Bracha, "Asynchronous Byzantine Agreement Protocols" (1987).
-#[derive(Debug, Drop)]
+#[derive(Drop)]
 pub struct Bin {
     part: Part,
     line: Line,

@@ -12,7 +12,7 @@ use bracha_validation::Tally;
 use ritas_base::{Coin, Params};
 
 /// What a step that is left leads to: what is decided by then, and the vote to say next, if one follows.
-#[derive(Clone, Copy, Debug)]
+#[derive(Clone, Copy)]
 pub(crate) struct Left {
     pub(crate) decided: Option<bool>,
     pub(crate) next: Option<u8>,

@@ -20,7 +20,7 @@ const NONE: Tally = Tally {
 };
 
 /// The votes of one step: how many were heard, and how many of those are accepted.
-#[derive(Clone, Copy, Debug)]
+#[derive(Clone, Copy)]
 pub(crate) struct StepVotes {
     heard: Tally,
     accepted: Tally,
@@ -30,7 +30,7 @@ pub(crate) struct StepVotes {
 ///
 /// Whether a vote is accepted depends on its value and on the votes accepted at the step before. So the counts alone are
 /// kept, and one vote more changes the accepted votes of its step and of those above up to the first that stays as it was.
-#[derive(Debug, Drop)]
+#[derive(Drop)]
 pub(crate) struct Line {
     params: Params,
     steps: Vec<StepVotes>,

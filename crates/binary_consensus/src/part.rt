@@ -13,7 +13,7 @@ const ROUNDS: u8 = 200;
 pub(crate) const STEPS: u16 = 3 * ROUNDS as u16;
 
 /// Whose part in which instance a box is: the replica, the round and the attempt.
-#[derive(Clone, Copy, Debug)]
+#[derive(Clone, Copy)]
 pub(crate) struct Part {
     pub(crate) me: u8,
     pub(crate) a: u32,

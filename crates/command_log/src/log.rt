@@ -44,7 +44,7 @@ fn payload_of(command: &[u8]) -> &[u8]
 }
 
 /// The log of commands. Contracts see it as a `Ledger`, whose rows have the newest first.
-#[derive(Debug, Drop)]
+#[derive(Drop)]
 pub struct Log {
     // A command has its row from its (f + 1)st origin on.
     f: u8,

@@ -8,7 +8,7 @@ use std::alloc::Global;
 use std::collections::BTreeMap;
 
 /// For each client and request, by their key, the payloads of their commands with the origins of each.
-#[derive(Debug, Drop)]
+#[derive(Drop)]
 pub(crate) struct Waiting {
     by_key: BTreeMap<u64, BTreeMap<Vec<u8>, SenderSet>>,
 }

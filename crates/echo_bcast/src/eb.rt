@@ -15,14 +15,14 @@ use ritas_base::{Bytes, Item, Kind, Mem, Msg, Params, SenderSet, Slot, Tagger, T
 use std::alloc::Global;
 
 /// The message that the origin sent, and its digest.
-#[derive(Debug, Drop)]
+#[derive(Drop)]
 pub(crate) struct Sent {
     value: Bytes,
     digest: [u8; 32],
 }
 
 /// One replica's part in one echo broadcast.
-#[derive(Debug, Drop)]
+#[derive(Drop)]
 pub struct Eb {
     pub(crate) params: Params,
     slot: Slot,

@@ -31,7 +31,7 @@ impl From<Mem> for BodyFault {
 }
 
 /// A fault in a payload, by how many bytes are left from it on.
-#[derive(Clone, Copy, Debug, PartialEq, Eq)]
+#[derive(Clone, Copy, PartialEq, Eq)]
 pub(crate) struct Wrong {
     pub(crate) left: usize,
 }

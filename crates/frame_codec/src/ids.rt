@@ -11,7 +11,7 @@ use crate::limits::MOST_IDS;
 use ritas_base::{Id, NUMBER_LIMIT, Params};
 
 /// The identifiers of a list so far: the last one, how many have its origin, and how many there are.
-#[derive(Clone, Copy, Debug)]
+#[derive(Clone, Copy)]
 pub(crate) struct Run {
     last: Option<Id>,
     same: u8,

@@ -15,7 +15,7 @@ use std::marker::Model;
 const MOST_BYTES: u64 = 8_388_608;
 
 /// The frames that are kept for one peer, the oldest first.
-#[derive(Debug, Drop)]
+#[derive(Drop)]
 pub(crate) struct Lane {
     kept: VecDeque<Kept>,
     // How many bytes the frames have.

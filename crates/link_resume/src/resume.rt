@@ -11,7 +11,7 @@ use std::alloc::Global;
 use std::marker::Model;
 
 /// Frames that are kept for each peer, the oldest first.
-#[derive(Debug, Drop)]
+#[derive(Drop)]
 pub struct Resume {
     lanes: Vec<Lane>,
 }

@@ -15,7 +15,7 @@ use std::alloc::Global;
 /// It keeps each different value once, with who proposed it and whose VECTs have it. A proposal or a VECT costs a look-up of
 /// its value; the VECTs of a value are counted again only where one more replica proposes it. Memory is taken for values,
 /// for a few bytes a VECT, and for what is said.
-#[derive(Debug, Drop)]
+#[derive(Drop)]
 pub struct Mvc<B: BinaryBox> {
     pub(crate) part: Part,
     pub(crate) inner: B,

@@ -7,7 +7,7 @@ ghost use Rattle.layer_api.specs.Multi.{Desk};
 use ritas_base::{Params, Slot};
 
 /// Whose part in which instance a box is: the replica, the round and the attempt; and how many messages it waits for.
-#[derive(Clone, Copy, Debug)]
+#[derive(Clone, Copy)]
 pub(crate) struct Part {
     pub(crate) me: u8,
     pub(crate) a: u32,

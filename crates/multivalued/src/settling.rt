@@ -11,7 +11,7 @@ use ritas_base::{Mem, Say};
 use std::alloc::Global;
 
 /// What is decided: nothing yet, that no value is, or the value of the entry there.
-#[derive(Clone, Copy, Debug)]
+#[derive(Clone, Copy)]
 pub(crate) enum Decision {
     NotYet,
     Nothing,
@@ -20,7 +20,7 @@ pub(crate) enum Decision {
 
 /// How far an instance has come: whether it proposed, said its VECT and proposed the bit; the round of the binary
 /// instance; and what is decided.
-#[derive(Clone, Copy, Debug)]
+#[derive(Clone, Copy)]
 pub(crate) struct Progress {
     pub(crate) own: bool,
     pub(crate) told: bool,

@@ -84,7 +84,7 @@ fn split_vect(value: &[u8]) -> (SenderSet, &[u8])
 }
 
 /// The proposals and VECTs that were heard.
-#[derive(Debug, Drop)]
+#[derive(Drop)]
 pub(crate) struct Table {
     support: u8,
     inits: SenderSet,

@@ -26,7 +26,7 @@ pub enum ServeEnd {
 }
 
 /// Why serving can't go on.
-#[derive(Clone, Copy, Debug, PartialEq, Eq)]
+#[derive(Clone, Copy, PartialEq, Eq)]
 pub(crate) enum Fault {
     /// The link failed.
     Link,

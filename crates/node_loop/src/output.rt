@@ -7,7 +7,7 @@ use ritas_base::Event;
 use std::alloc::Global;
 
 /// A reply to a connection.
-#[derive(Clone, Copy, Debug)]
+#[derive(Clone, Copy)]
 pub(crate) struct Reply {
     /// The connection's number.
     pub conn: u32,
@@ -16,7 +16,7 @@ pub(crate) struct Reply {
 }
 
 /// What goes to a peer besides the frames of a call.
-#[derive(Clone, Copy, Debug)]
+#[derive(Clone, Copy)]
 pub(crate) enum More {
     /// Nothing.
     Nothing,

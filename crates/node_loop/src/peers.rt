@@ -19,7 +19,7 @@ use ritas_base::{Coin, Mem};
 use std::alloc::Global;
 
 /// How far a replica had come, and how many bytes it held for a peer.
-#[derive(Clone, Copy, Debug)]
+#[derive(Clone, Copy)]
 pub(crate) struct Mark {
     /// Its completed rounds and all its bases.
     pub progress: u64,
@@ -28,7 +28,7 @@ pub(crate) struct Mark {
 }
 
 /// A replica and a peer of it.
-#[derive(Clone, Copy, Debug)]
+#[derive(Clone, Copy)]
 pub(crate) struct Pair {
     /// The replica's number.
     pub at: u8,

@@ -37,7 +37,7 @@ use std::sync::Wait;
 const MOST: u32 = 64;
 
 /// What is done next.
-#[derive(Clone, Copy, Debug)]
+#[derive(Clone, Copy)]
 pub(crate) enum Next {
     Finish,
     Turn(u8),
@@ -47,7 +47,7 @@ pub(crate) enum Next {
 }
 
 /// For how long it is served: to so many rows in each log, if that isn't 0, and to so many items of the link.
-#[derive(Clone, Copy, Debug)]
+#[derive(Clone, Copy)]
 pub(crate) struct Bounds {
     pub until: u32,
     pub limit: u64,

@@ -9,7 +9,7 @@ use std::alloc::Global;
 use std::collections::BTreeMap;
 
 /// A request at a replica.
-#[derive(Clone, Copy, Debug, PartialEq, Eq, PartialOrd, Ord)]
+#[derive(Clone, Copy, PartialEq, Eq, PartialOrd, Ord)]
 pub(crate) struct Asked {
     /// The replica's number.
     pub at: u8,
@@ -20,7 +20,7 @@ pub(crate) struct Asked {
 }
 
 /// For each request that waits for its row, the connections that asked for it, in the order in which they asked.
-#[derive(Debug, Drop)]
+#[derive(Drop)]
 pub(crate) struct Waiters {
     by_request: BTreeMap<Asked, Vec<Option<u32>>>,
 }

@@ -47,7 +47,7 @@ fn too_many(held: u32, len: u32) -> Option<u32>
 }
 
 /// Items that came too early, held for each peer in the order in which they came.
-#[derive(Debug, Drop)]
+#[derive(Drop)]
 pub struct Held {
     peers: Vec<Peer>,
     // For how many peers something is held: where it is for none, nobody goes over them.

@@ -9,7 +9,7 @@ use indexmap::IndexMap;
 use ritas_base::{Item, Kind, Mem};
 
 /// What of an item is looked up: its kind and slot, and for a column a mark of its value.
-#[derive(Clone, Copy, Debug, PartialEq, Eq, Hash)]
+#[derive(Clone, Copy, PartialEq, Eq, Hash)]
 pub(crate) struct Key {
     kind: u8,
     class: u8,

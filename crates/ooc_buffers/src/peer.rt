@@ -18,7 +18,7 @@ use std::collections::VecDeque;
 use std::marker::Model;
 
 /// An item that is held, and the length that it was held with.
-#[derive(Debug, Drop)]
+#[derive(Drop)]
 pub(crate) struct Entry {
     item: Item,
     len: u32,
@@ -96,7 +96,7 @@ fn forget_turn<F: Fn(&Item) -> bool>(
 }
 
 /// The items that are held for one peer, in the order in which they came.
-#[derive(Debug, Drop)]
+#[derive(Drop)]
 pub(crate) struct Peer {
     entries: VecDeque<Entry>,
     index: IndexMap<Key, usize>,

@@ -10,7 +10,7 @@ use std::alloc::Global;
 use std::marker::Model;
 
 // What a call did: for `Next`, the place of the item that it gave. At the place after the last item it gave `End`.
-#[derive(Clone, Copy, Debug)]
+#[derive(Clone, Copy)]
 pub(crate) enum Did {
     Start,
     Next(usize),

@@ -16,14 +16,14 @@ use std::alloc::Global;
 use std::marker::Model;
 
 // What a call did: it wrote a part of the text, so many bytes from a place on, or it synced.
-#[derive(Clone, Copy, Debug)]
+#[derive(Clone, Copy)]
 pub(crate) enum DiskDid {
     Wrote { at: u64, from: usize, count: usize },
     Synced,
 }
 
 // So many bytes from an offset on, which were written since the last sync.
-#[derive(Clone, Copy, Debug)]
+#[derive(Clone, Copy)]
 pub(crate) struct Span {
     at: u64,
     count: usize,

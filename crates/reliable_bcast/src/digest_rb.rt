@@ -14,14 +14,14 @@ use ritas_base::{Bytes, Item, Kind, Mem, Msg, Params, SenderSet, Slot, Tagger};
 use std::alloc::Global;
 
 /// A value that is known, and its digest.
-#[derive(Debug, Drop)]
+#[derive(Drop)]
 pub(crate) struct Known {
     digest: Bytes,
     value: Bytes,
 }
 
 /// One replica's part in one reliable broadcast whose ECHO and READY carry the value's digest: that of frame version 2.
-#[derive(Debug, Drop)]
+#[derive(Drop)]
 pub struct DigestRb {
     params: Params,
     me: u8,

@@ -11,7 +11,7 @@ use ritas_base::{Bytes, Item, Kind, Mem, Msg, Params, Slot};
 use std::alloc::Global;
 
 /// One replica's part in one reliable broadcast whose ECHO and READY carry the value: that of frame version 1.
-#[derive(Debug, Drop)]
+#[derive(Drop)]
 pub struct Rb {
     params: Params,
     pub(crate) slot: Slot,

@@ -12,14 +12,14 @@ use std::alloc::Global;
 use std::marker::Model;
 
 /// A value, and who gave it.
-#[derive(Debug, Drop)]
+#[derive(Drop)]
 pub(crate) struct Ballot {
     value: Bytes,
     voters: SenderSet,
 }
 
 /// The first value from each of n replicas. Contracts see a list with a place for each replica.
-#[derive(Debug, Drop)]
+#[derive(Drop)]
 pub(crate) struct Votes {
     n: u8,
     ballots: Vec<Ballot>,

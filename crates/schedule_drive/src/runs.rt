@@ -20,7 +20,7 @@ use std::alloc::Global;
 use world_model::Player;
 
 /// A part of a sweep.
-#[derive(Clone, Copy, Debug, PartialEq, Eq)]
+#[derive(Clone, Copy, PartialEq, Eq)]
 pub(crate) enum Run {
     /// So many turns of a player.
     Turns(Player, usize),

@@ -7,7 +7,7 @@ use outside::{Sink, write_all};
 use std::alloc::AllocError;
 
 /// Why a text wasn't written whole.
-#[derive(Clone, Copy, Debug, PartialEq, Eq)]
+#[derive(Clone, Copy, PartialEq, Eq)]
 pub(crate) enum Cut {
     /// The sink failed.
     Write,

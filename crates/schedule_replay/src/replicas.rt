@@ -27,7 +27,7 @@ use std::alloc::{AllocError, Global};
 use world_model::{Audit, World};
 
 /// What a text says of a replica.
-#[derive(Clone, Copy, Debug, PartialEq, Eq)]
+#[derive(Clone, Copy, PartialEq, Eq)]
 pub(crate) enum Lines {
     /// How it stands, and what its service shows.
     Report,

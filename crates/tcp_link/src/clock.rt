@@ -13,7 +13,7 @@ use crate::limits::{
 /// A wait that no event ended lasted as long as it was to, and each after the first is twice as long. One that an event ended counts
 /// little, and so does each read, each connection that comes in and each piece that is given. So where a link has much to do, about as
 /// much is counted as it takes.
-#[derive(Clone, Copy, Debug)]
+#[derive(Clone, Copy)]
 pub(crate) struct Clock {
     /// The time that was counted.
     pub(crate) counted_microseconds: u64,

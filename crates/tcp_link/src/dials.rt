@@ -7,7 +7,7 @@ use std::io;
 use std::net::{Net, SocketAddr};
 
 /// Whom to connect with, and where.
-#[derive(Clone, Copy, Debug)]
+#[derive(Clone, Copy)]
 pub(crate) struct Dial {
     pub(crate) address: SocketAddr,
     pub(crate) whom: Whom,

@@ -7,7 +7,7 @@ use crate::limits::{CLIENTS_A_TURN, MOST_AT_ONCE, MOST_CLIENTS, REPLICAS_A_TURN}
 use crate::whom::Whom;
 
 /// Who comes in by a door.
-#[derive(Clone, Copy, Debug)]
+#[derive(Clone, Copy)]
 pub(crate) enum Entry {
     /// Replicas, to replica `at`.
     Replicas { at: u8 },

@@ -8,7 +8,7 @@ use crate::whom::Whom;
 use outside::LinkItem;
 
 /// News of a connection.
-#[derive(Clone, Copy, Debug)]
+#[derive(Clone, Copy)]
 pub(crate) enum News {
     /// A peer of a replica has a connection.
     Up { at: u8, peer: u8 },

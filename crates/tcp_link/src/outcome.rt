@@ -10,7 +10,7 @@ use std::io::ErrorKind;
 use std::net::SocketAddr;
 
 /// What came of one read or write.
-#[derive(Clone, Copy, Debug)]
+#[derive(Clone, Copy)]
 pub(crate) enum Moved {
     /// So many bytes, at least one.
     Bytes(usize),
@@ -25,7 +25,7 @@ pub(crate) enum Moved {
 }
 
 /// Why no connection came in at a door.
-#[derive(Clone, Copy, Debug)]
+#[derive(Clone, Copy)]
 pub(crate) enum Nobody {
     /// One was gone before it was accepted.
     Gone,
@@ -36,7 +36,7 @@ pub(crate) enum Nobody {
 }
 
 /// What an event tells of a connection.
-#[derive(Clone, Copy, Debug)]
+#[derive(Clone, Copy)]
 pub(crate) struct Seen {
     /// Bytes may have come.
     is_readable: bool,

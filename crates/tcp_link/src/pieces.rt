@@ -4,7 +4,7 @@ ghost use Rattle.std.specs.Prelude.{◌<◌, ◌^◌};
 ghost use Rattle.tcp_link.specs.Pieces.{IsPieceFront, FitsIn};
 
 /// What stands at the front of bytes that came.
-#[derive(Clone, Copy, Debug)]
+#[derive(Clone, Copy)]
 pub(crate) enum Front<'a> {
     /// A whole piece, of these bytes.
     Piece(&'a [u8]),

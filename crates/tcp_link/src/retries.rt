@@ -10,7 +10,7 @@ use std::alloc::Global;
 use std::collections::VecDeque;
 
 /// What is tried again.
-#[derive(Clone, Copy, Debug)]
+#[derive(Clone, Copy)]
 pub(crate) enum Retry {
     /// To begin this connection.
     Dial(Dial),
@@ -23,7 +23,7 @@ pub(crate) enum Retry {
 }
 
 /// What is tried again, and when.
-#[derive(Clone, Copy, Debug)]
+#[derive(Clone, Copy)]
 pub(crate) struct Waiting {
     due_microseconds: u64,
     retry: Retry,

@@ -22,7 +22,7 @@ use ritas_base::{Bytes, Mem};
 use std::alloc::Global;
 
 /// Which lists a connection is on.
-#[derive(Clone, Copy, Debug, Default)]
+#[derive(Clone, Copy, Default)]
 pub(crate) struct Listed {
     /// Of those that may have bytes to be read.
     pub(crate) reads: bool,
@@ -37,7 +37,7 @@ pub(crate) struct Listed {
 }
 
 /// What a connection has to give.
-#[derive(Clone, Copy, Debug)]
+#[derive(Clone, Copy)]
 pub(crate) enum Gives {
     /// A piece of a peer or a node.
     Frame,

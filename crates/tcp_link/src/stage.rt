@@ -4,7 +4,7 @@ ghost use Rattle.std.specs.Prelude.{◌≡◌};
 ghost use Rattle.tcp_link.specs.Stages.{first_stage, stage_after, is_up, is_begun, is_half, is_draining, is_read, is_written, is_over};
 
 /// How far a connection is.
-#[derive(Clone, Copy, Debug)]
+#[derive(Clone, Copy)]
 pub(crate) enum Stage {
     /// It was begun, and doesn't stand yet.
     Begun,
@@ -25,7 +25,7 @@ pub(crate) enum Stage {
 }
 
 /// What happens to a connection.
-#[derive(Clone, Copy, Debug)]
+#[derive(Clone, Copy)]
 pub(crate) enum Change {
     /// It is seen to stand.
     Stands,

@@ -10,7 +10,7 @@ use crate::limits::{
 };
 
 /// Makes tokens of connections, no two of which are the same among 1,000,000,000,000 in a row.
-#[derive(Clone, Copy, Debug)]
+#[derive(Clone, Copy)]
 pub(crate) struct Tokens {
     serial: usize,
 }

@@ -5,7 +5,7 @@ use std::alloc::{AllocError, AllocFailed};
 use std::io;
 
 /// Why a step of a link went wrong.
-#[derive(Clone, Copy, Debug)]
+#[derive(Clone, Copy)]
 pub(crate) enum Trouble {
     /// A listener couldn't be made, or the poll failed.
     System,

@@ -11,7 +11,7 @@ use outside::LinkItem;
 use ritas_base::{Bytes, LONGEST_FRAME};
 
 /// Whom a connection is with.
-#[derive(Clone, Copy, Debug)]
+#[derive(Clone, Copy)]
 pub(crate) enum Whom {
     /// Of replica `at`, with one that hasn't told its number yet.
     Unnamed { at: u8 },
@@ -24,7 +24,7 @@ pub(crate) enum Whom {
 }
 
 /// What is done at the first byte of a connection.
-#[derive(Clone, Copy, Debug)]
+#[derive(Clone, Copy)]
 pub(crate) enum Naming {
     /// Nothing: it didn't come yet, or the connection has its name.
     Waits,

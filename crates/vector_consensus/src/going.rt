@@ -14,7 +14,7 @@ use ritas_base::{Mem, Say};
 use std::alloc::Global;
 
 /// How far the attempts have come.
-#[derive(Clone, Copy, Debug)]
+#[derive(Clone, Copy)]
 pub(crate) struct Progress {
     /// Whether something was proposed.
     pub(crate) own: bool,

@@ -5,7 +5,7 @@ ghost use Rattle.std.specs.Prelude.{◌≡◌, ◌<◌};
 use ritas_base::{Params, Slot};
 
 /// Whose part in which instance a box is: the session's numbers, the replica and the round.
-#[derive(Clone, Copy, Debug)]
+#[derive(Clone, Copy)]
 pub(crate) struct Part {
     pub(crate) params: Params,
     pub(crate) me: u8,

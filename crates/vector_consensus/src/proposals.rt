@@ -12,7 +12,7 @@ use std::alloc::Global;
 use std::marker::Model;
 
 /// The proposals that were heard: each is kept once, in the order of their replicas.
-#[derive(Debug, Drop)]
+#[derive(Drop)]
 pub(crate) struct Proposals {
     places: u32,
     entries: Vec<Bytes>,

@@ -39,7 +39,7 @@ fn as_byte(attempt: Option<usize>) -> Option<u8>
 /// is proposed its vector, so mostly there is one. What a slot of an attempt delivered costs what it costs that box. The
 /// vector of the proposals is made once for each attempt. Memory is taken for proposals, for boxes, for vectors and for
 /// what is said.
-#[derive(Debug, Drop)]
+#[derive(Drop)]
 pub struct Vc<M: MultiBox> {
     part: Part,
     table: Proposals,

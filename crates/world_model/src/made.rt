@@ -14,7 +14,7 @@ use std::marker::Model;
 
 /// The frames that the replicas of a world made: for each sender and receiver a list, the oldest first, and where each
 /// frame stands, in the order in which they were made.
-#[derive(Debug, Drop)]
+#[derive(Drop)]
 pub(crate) struct MadeFrames {
     n: u8,
     lists: Vec<Vec<Bytes>>,

@@ -40,7 +40,7 @@ impl Model for Met {
 }
 
 /// A slot at a replica.
-#[derive(Clone, Copy, Debug, PartialEq, Eq, PartialOrd, Ord)]
+#[derive(Clone, Copy, PartialEq, Eq, PartialOrd, Ord)]
 pub(crate) struct SlotAt {
     pub(crate) slot: Slot,
     pub(crate) replica: u8,

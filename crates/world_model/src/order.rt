@@ -14,7 +14,7 @@ pub struct Made<'a> {
 }
 
 /// Where a frame that was made stands: in which event it was made, by whom and for whom, and its place in their list.
-#[derive(Clone, Copy, Debug)]
+#[derive(Clone, Copy)]
 pub(crate) struct Place {
     pub(crate) event: u64,
     pub(crate) from: u8,
