@@ -1,7 +1,8 @@
 -- A log has room for all identifiers: they are distinct, and each was heard, so there are at most 31,000,000 of them, and no more
 -- rows.
-use Rattle.std.specs.Prelude.{ℕ, ◌+◌, ◌≤◌, Bool, true, false, if◌then◌else◌, List, [], ◌∷◌, length, Option}
+use Rattle.std.specs.Prelude.{ℕ, ◌+◌, ◌*◌, ◌≤◌, Bool, true, false, if◌then◌else◌, List, [], ◌∷◌, length, Option}
 use Rattle.std.proofs.Common.{arith}
+use Rattle.ritas_base.specs.Limits.{number_limit, least_request}
 use Rattle.ritas_base.specs.declared.id.Id.{Id}
 use Rattle.frame_codec.specs.Format.{Is}
 use Rattle.frame_codec.specs.Grammar.{class1}
@@ -11,7 +12,7 @@ use Rattle.layer_api.specs.LogLengthLaws.{ids_fit}
 use Rattle.command_log.specs.Rows.{CommandEntry, Row, row_of, is_entered, rows_with, entry_of_id, entries_of_log, command_rows}
 
 -- so many does an identifier log have at most
-pub log_fits : (r : ServiceRules) → WordLaws r → (seat : Seat) (w : List Word) → AreProper r seat w → length (r.done seat w) ≤ 31000000
+pub log_fits : (r : ServiceRules) → WordLaws r → (seat : Seat) (w : List Word) → AreProper r seat w → length (r.done seat w) ≤ 31 * number_limit
 log_fits r laws seat w proper = ids_fit r seat w (r.done seat w) proper (laws.done_heard seat w proper) (laws.done_once seat w proper)
 
 -- ---- and no more rows
@@ -32,6 +33,6 @@ rows_fit f a (x ∷ xs) =
 
 -- ---- a command of the grammar has a client's number and a request's
 
-pub command_long : (v : List ℕ) → Is (class1 6) v → 8 ≤ length v
+pub command_long : (v : List ℕ) → Is (class1 6) v → least_request ≤ length v
 unfolding class1
 command_long v is = is.0

@@ -1,6 +1,7 @@
 //! The laws of the rows, for replicas: one for each client and request, whose command has f + 1 origins.
 
-ghost use Rattle.std.specs.Prelude.{◌≡◌, ℕ, ◌<◌, ◌≤◌, true, List, ◌++◌, length, Option};
+ghost use Rattle.std.specs.Prelude.{◌≡◌, ℕ, ◌*◌, ◌<◌, ◌≤◌, true, List, ◌++◌, length, Option};
+ghost use Rattle.ritas_base.specs.Limits.{number_limit};
 ghost use Rattle.ritas_base.specs.declared.id.Id.{Id};
 ghost use Rattle.layer_api.specs.Words.{Word};
 ghost use Rattle.layer_api.specs.Service.{IsPart, ServiceRules, Seat, AreProper, WordLaws};
@@ -29,7 +30,7 @@ pub fn command_rows()
 ///
 /// It does nothing: its contract is the law.
 pub fn log_follows()
-    ensures identifiers { (r : ServiceRules) → WordLaws r → (seat : Seat) (w : List Word) → AreProper r seat w → length (r.done seat w) ≤ 31000000 }
+    ensures identifiers { (r : ServiceRules) → WordLaws r → (seat : Seat) (w : List Word) → AreProper r seat w → length (r.done seat w) ≤ 31 * number_limit }
     ensures rows { (f : ℕ) (a : Id → Option (List ℕ)) (xs : List Id) → length (command_rows f a xs) ≤ length xs }
     ensures entries { (before now : Id → Option (List ℕ)) (xs : List Id) → ((x : Id) → IsIn x xs → before x ≡ now x) → entries_of_log before xs ≡ entries_of_log now xs }
 {}

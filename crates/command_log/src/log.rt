@@ -3,6 +3,7 @@
 ghost use Rattle.std.specs.Prelude.{◌≡◌, ℕ, ◌+◌, ◌<◌, ◌≤◌, ◌==◌, ◌↔◌, false, List, [], ◌∷◌, length, take, drop, Some, None, IfOk, OnOk, OnErr, if◌then◌else◌};
 ghost use Rattle.std.specs.Option.{option_copied};
 ghost use Rattle.std.specs.Int.{w32, from_be_bytes};
+ghost use Rattle.ritas_base.specs.Limits.{least_request};
 ghost use Rattle.ritas_base.specs.Members.{member_count};
 ghost use Rattle.command_log.specs.Rows.{CommandEntry, client_of, request_of, row_of, has_row, is_origin, row_at, position_of, entered, HasPlace};
 ghost use Rattle.command_log.specs.Index.{row_key};
@@ -37,7 +38,7 @@ fn key_of(client: u32, request: u32) -> u64
 
 // The payload of a command.
 fn payload_of(command: &[u8]) -> &[u8]
-    requires { 8 ≤ length command.now }
+    requires { least_request ≤ length command.now }
     ensures { result.now ≡ drop 8 command.now }
 {
     &command[8..]
@@ -153,7 +154,7 @@ impl Log {
     /// has at most 4,294,967,295 rows. The one error is want of memory, after which the log is as it was; it comes only
     /// where the client and request have no row, and where the command hasn't come from this origin before.
     pub fn append(&mut self, alloc: Global, id: Id, command: &[u8]) -> Result<Option<u32>, Mem>
-        requires long { 8 ≤ length command.now }
+        requires long { least_request ≤ length command.now }
         requires room { length self.old.rows < 4294967295 }
         ensures position { (es : List CommandEntry) → StandsFor self.old es → IfOk result (λ position. position ≡ entered self.old.f (record { id = id; command = command.now }) es) }
         ensures ok { (es : List CommandEntry) → StandsFor self.old es → OnOk result (StandsFor self.new (record { id = id; command = command.now } ∷ es)) }

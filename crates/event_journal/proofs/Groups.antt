@@ -22,11 +22,11 @@ module _ (events : List Event) where
   pub text_behind : (taken : List ℕ) → taken ≡ flat_map record_text events ++ 0 ∷ [] → drop 1 taken ≡ behind_text (reverse events)
   text_behind taken is = ap (drop 1) (is ∙ ap (λ (x : List ℕ). x ++ 0 ∷ []) (sym in_order))
 
-  pub fits_limit : (end size : ℕ) (taken : List ℕ) → taken ≡ flat_map record_text events ++ 0 ∷ [] → size ≡ min (end + 1 + length (flat_map record_text events)) 18446744073709551615 → size ≤ 67108864
+  pub fits_limit : (end size : ℕ) (taken : List ℕ) → taken ≡ flat_map record_text events ++ 0 ∷ [] → size ≡ min (end + 1 + length (flat_map record_text events)) 18446744073709551615 → size ≤ limit
       → end + 1 + length (drop 1 taken) ≤ limit
   fits_limit end size taken is size_is le = omega (arith, ap length is, length-append (flat_map record_text events) (0 ∷ []), length-drop 1 taken, size_is, le)
 
-  pub ends_behind : (head : List ℕ) (es : List Event) (end size : ℕ) → end ≡ length (closed_front head es) → size ≡ min (end + 1 + length (flat_map record_text events)) 18446744073709551615 → size ≤ 67108864
+  pub ends_behind : (head : List ℕ) (es : List Event) (end size : ℕ) → end ≡ length (closed_front head es) → size ≡ min (end + 1 + length (flat_map record_text events)) 18446744073709551615 → size ≤ limit
       → size - 1 ≡ length (closed_front head (reverse events ++ es))
   ends_behind head es end size place size_is le =
       omega (arith, place, size_is, le, ap length (front_more head es (reverse events)), length-append (closed_front head es) (records (reverse events)), ap length in_order)

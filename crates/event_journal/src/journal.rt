@@ -12,13 +12,10 @@ ghost use Rattle.event_journal.specs.Appending.{AllOpen, AppendsEvents, KeepsJou
 use crate::fault::JournalFault;
 use outside::{Buffer, Disk, Failed, put, write_all};
 use ritas_base::{Event, Mem};
-use schedule_file::{Writer, event_size};
+use schedule_file::{FILE_LIMIT, Writer, event_size};
 use std::alloc::Global;
 use std::marker::Model;
 use std::slice;
-
-// A file has at most so many bytes.
-const LIMIT: u64 = 67_108_864;
 
 /// A journal that was opened. Contracts see the offset of its closed gate, its replica, and whether it's live.
 #[derive(Drop)]
@@ -30,13 +27,14 @@ pub struct Journal {
 
 impl Model for Journal {
     ghost use Rattle.std.specs.Prelude.{◌<◌};
+    ghost use Rattle.schedule_file.specs.FileBytes.{limit};
     ghost use Rattle.event_journal.specs.Appending.{JournalState};
 
     ghost Value = { JournalState };
 
     ghost view = { λ j. record { end = j.end; me = j.me; live = j.live } };
 
-    ghost invariant = { λ j. j.end < 67108864 };
+    ghost invariant = { λ j. j.end < limit };
 }
 
 // Adds an event's record, with an open gate.
@@ -69,7 +67,7 @@ fn with_records(alloc: Global, me: u8, events: &[Event]) -> Result<Buffer, Mem>
 // How long a file is with these records behind so many bytes, up to 2^64 - 1.
 fn size_with(front: u64, me: u8, events: &[Event]) -> u64
     requires own { AllByRecursion (IsRecord me) events.now }
-    requires low { front ≤ 67108864 }
+    requires low { front ≤ limit }
     ensures { result ≡ min (front + length (flat_map record_text events.now)) (2 ^ 64 - 1) }
 {
     let mut size = front;
@@ -81,7 +79,7 @@ fn size_with(front: u64, me: u8, events: &[Event]) -> u64
 
 // Writes bytes behind the closed gate and syncs, and then opens the gate and syncs.
 fn keep<D: Disk>(disk: &mut D, gate: u64, text: &[u8]) -> Result<(), Failed>
-    requires { gate < 67108864 }
+    requires { gate < limit }
     ensures kept { D.tells ≡ true → (me : ℕ) (head : List ℕ) (es more : List Event) → 0 < length more → AllByRecursion (IsRecord me) more
         → gate ≡ length (closed_front head es) → text.now ≡ behind_text more → gate + 1 + length text.now ≤ limit
         → AllOpen me head es (disk_state_of (D.told disk.old)) → KeepsJournal me head es more (D.told disk.old) (D.told disk.new) result }
@@ -94,7 +92,7 @@ fn keep<D: Disk>(disk: &mut D, gate: u64, text: &[u8]) -> Result<(), Failed>
 impl Journal {
     // A journal whose closed gate stands at this offset.
     pub(crate) fn at(end: u64, me: u8) -> Journal
-        requires { end < 67108864 }
+        requires { end < limit }
         ensures { result ≡ record { end = end; me = me; live = true } }
     {
         Journal {
@@ -152,7 +150,7 @@ impl Journal {
         ensures cause { HasCause (D.faults disk.old) (D.faults disk.new) (result ≡ Err JournalFault.Disk) }
     {
         let size = size_with(self.end + 1, self.me, events);
-        if size > LIMIT {
+        if size > FILE_LIMIT as u64 {
             return Err(JournalFault::Full(size));
         }
         if events.is_empty() {

@@ -1,5 +1,5 @@
 //! Opening a journal.
-ghost use Rattle.std.specs.Prelude.{◌≡◌, ◌<◌, ◌≤◌, ◌++◌, ◌∷◌, ◌⊎◌, [], ℕ, List, true, length, reverse, slice_index, Err, IfOk, IsErr, ◌≢◌};
+ghost use Rattle.std.specs.Prelude.{◌≡◌, ◌<◌, ◌≤◌, ◌+◌, ◌++◌, ◌∷◌, ◌⊎◌, [], ℕ, List, true, length, reverse, slice_index, Err, IfOk, IsErr, ◌≢◌};
 ghost use Rattle.outside.specs.Faults.{HasCause};
 ghost use Rattle.outside.specs.Disks.{LeavesOnly, at_rest, disk_state_of};
 ghost use Rattle.schedule_file.specs.FileBytes.{limit};
@@ -71,7 +71,7 @@ fn decode(
     requires long { 53 ≤ length file.now }
     requires made { slice_index file.now 0 ≡ 1 }
     requires short { length file.now ≤ limit }
-    ensures opens { IfOk result (λ x. Opens me head.now file.now (reverse x.0.items) × (x.1 ≡ length (closed_front head.now (reverse x.0.items))) × (x.1 < 67108864)) }
+    ensures opens { IfOk result (λ x. Opens me head.now file.now (reverse x.0.items) × (x.1 ≡ length (closed_front head.now (reverse x.0.items))) × (x.1 < limit)) }
     ensures foreign { (p : ℕ) → result ≡ Err (JournalFault.Foreign p) → IsForeign head.now file.now p }
     ensures broken { (p : ℕ) → result ≡ Err (JournalFault.Broken p) → IsBroken me head.now file.now p }
     ensures others { (p : ℕ) → (result ≢ Err (JournalFault.Full p)) × (result ≢ Err JournalFault.Disk) }
@@ -147,7 +147,7 @@ pub fn open_journal<D: Disk>(
 
     ensures foreign { D.tells ≡ true → (p : ℕ) → result ≡ Err (JournalFault.Foreign p) → IsForeign head.now (disk_state_of (D.told disk.old)).seen p }
     ensures broken { D.tells ≡ true → (p : ℕ) → result ≡ Err (JournalFault.Broken p) → IsBroken me head.now (disk_state_of (D.told disk.old)).seen p }
-    ensures full { (x : ℕ) → result ≡ Err (JournalFault.Full x) → (x ≡ 67108865) × (D.tells ≡ true → limit < length (disk_state_of (D.told disk.old)).seen) }
+    ensures full { (x : ℕ) → result ≡ Err (JournalFault.Full x) → (x ≡ limit + 1) × (D.tells ≡ true → limit < length (disk_state_of (D.told disk.old)).seen) }
     ensures cause { HasCause (D.faults disk.old) (D.faults disk.new) (result ≡ Err JournalFault.Disk) }
 {
     match disk.sync() {

@@ -10,31 +10,28 @@ ghost use Rattle.event_journal.specs.Reading.{AtGate, NoRecord, record_in};
 use crate::fault::JournalFault;
 use outside::{Disk, Failed};
 use ritas_base::{Event, Mem};
-use schedule_file::read_event;
+use schedule_file::{FILE_LIMIT, read_event};
 use std::alloc::Global;
-
-// A file has at most so many bytes.
-const LIMIT: usize = 67_108_864;
 
 /// All bytes of a disk's file, if it has at most 67,108,864.
 pub(crate) fn read_file<D: Disk>(alloc: Global, disk: &mut D) -> Result<Vec<u8>, JournalFault>
     ensures whole { D.tells ≡ true → IfOk result (λ v. v.items ≡ (disk_state_of (D.told disk.old)).seen) }
     ensures short { IfOk result (λ v. length v.items ≤ limit) }
-    ensures full { (x : ℕ) → result ≡ Err (JournalFault.Full x) → (x ≡ 67108865) × (D.tells ≡ true → limit < length (disk_state_of (D.told disk.old)).seen) }
+    ensures full { (x : ℕ) → result ≡ Err (JournalFault.Full x) → (x ≡ limit + 1) × (D.tells ≡ true → limit < length (disk_state_of (D.told disk.old)).seen) }
     ensures others { (p : ℕ) → (result ≢ Err (JournalFault.Foreign p)) × (result ≢ Err (JournalFault.Broken p)) }
     ensures same { D.tells ≡ true → D.told disk.new ≡ D.told disk.old }
     ensures cause { HasCause (D.faults disk.old) (D.faults disk.new) (result ≡ Err JournalFault.Disk) }
 {
     let mut file = Vec::new(alloc);
     let mut piece = [0; 4096];
-    while file.len() <= LIMIT {
+    while file.len() <= FILE_LIMIT as usize {
         let came = disk.read(file.len() as u64, &mut piece)?;
         if came == 0 {
             return Ok(file);
         }
         file.extend_from_slice(&piece[..came])?;
     }
-    Err(JournalFault::Full(67_108_865))
+    Err(JournalFault::Full(FILE_LIMIT as u64 + 1))
 }
 
 /// Whether a file isn't made.

@@ -16,7 +16,7 @@ pub unopened : {A : Type 0} (config : NodeConfig) (head : List ℕ) (d : DiskSee
     → (d.tells ≡ true → LeavesOnly (OpensAsKept config.me head (disk_state_of d.before)) d.before d.now)
     → (d.tells ≡ true → (p : ℕ) → result ≡ Err (faults.Foreign p) → IsForeign head (disk_state_of d.before).seen p)
     → (d.tells ≡ true → (p : ℕ) → result ≡ Err (faults.Broken p) → IsBroken config.me head (disk_state_of d.before).seen p)
-    → ((x : ℕ) → result ≡ Err (faults.Full x) → (x ≡ 67108865) × (d.tells ≡ true → limit < length (disk_state_of d.before).seen))
+    → ((x : ℕ) → result ≡ Err (faults.Full x) → (x ≡ limit + 1) × (d.tells ≡ true → limit < length (disk_state_of d.before).seen))
     → HasCause d.few d.many (result ≡ Err faults.Disk) → Unopened config d fault
 unopened config head d result fault is named since foreign broken full cause = record {
   cause = by_fault fault is;

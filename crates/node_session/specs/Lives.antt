@@ -137,7 +137,7 @@ pub record ServesNode (config : NodeConfig) (tells : Tells) (base now : Outs) (d
 abbrev pub IsFaultOf : ℕ → List ℕ → DiskSeen → JournalFault → Type 0
 IsFaultOf me head d (journal_faults.Foreign p) = d.tells ≡ true → IsForeign head (disk_state_of d.before).seen p
 IsFaultOf me head d (journal_faults.Broken p) = d.tells ≡ true → IsBroken me head (disk_state_of d.before).seen p
-IsFaultOf me head d (journal_faults.Full x) = (x ≡ 67108865) × (d.tells ≡ true → limit < length (disk_state_of d.before).seen)
+IsFaultOf me head d (journal_faults.Full x) = (x ≡ limit + 1) × (d.tells ≡ true → limit < length (disk_state_of d.before).seen)
 IsFaultOf me head d journal_faults.Disk = Rose d.few d.many
 IsFaultOf me head d journal_faults.Mem = Unit {0}
 

@@ -1,6 +1,7 @@
 -- The statuses of the program, and the texts that it writes where there is none of a world.
 use Rattle.std.specs.Prelude.{ℕ, List, [], ◌++◌, codes, decimal}
 use Rattle.ritas_base.specs.declared.event.Event.{Event}
+use Rattle.schedule_file.specs.FileBytes.{limit}
 use Rattle.schedule_file.specs.declared.fault.FileFault.{FileFault}
 use Rattle.schedule_file.specs.declared.fault.FileFault.TheVariants as faults
 use Rattle.schedule_file.specs.declared.header.Header.{Header}
@@ -35,6 +36,10 @@ usage = codes "usage: ritas replay report|frames|vectors, drive report|schedule,
 abbrev pub input_line : List ℕ → ℕ → List ℕ
 input_line name place = codes "input " ++ (name ++ (codes " at " ++ (decimal place ++ end_of_line)))
 
+-- the line that names a limit
+abbrev pub limit_text : ℕ → List ℕ
+limit_text most = codes "limit " ++ (decimal most ++ end_of_line)
+
 -- the line of a file's fault. A fault of the source or of memory has none
 abbrev pub fault_text : FileFault → List ℕ
 fault_text faults.Magic = input_line (codes "magic") 0
@@ -43,7 +48,7 @@ fault_text (faults.Header p) = input_line (codes "header") p
 fault_text (faults.Event p) = input_line (codes "event") p
 fault_text (faults.Truncated p) = input_line (codes "truncated") p
 fault_text (faults.Trailing p) = input_line (codes "trailing") p
-fault_text faults.TooLong = codes "limit 67108864" ++ end_of_line
+fault_text faults.TooLong = limit_text limit
 fault_text faults.Read = []
 fault_text faults.Mem = []
 
@@ -64,10 +69,7 @@ fault_status faults.Mem = 8
 unfoldable pub text_limit : ℕ
 text_limit = 1048576
 
--- the line that names a limit, and the one that names a wrong or missing line of a configuration
-abbrev pub limit_text : ℕ → List ℕ
-limit_text limit = codes "limit " ++ (decimal limit ++ end_of_line)
-
+-- the line that names a wrong or missing line of a configuration
 abbrev pub line_text : ℕ → List ℕ
 line_text line = codes "input line " ++ (decimal line ++ end_of_line)
 
@@ -95,7 +97,7 @@ journal_status journal_faults.Mem = 8
 abbrev pub journal_text : JournalFault → List ℕ
 journal_text (journal_faults.Foreign p) = input_line (codes "journal") p
 journal_text (journal_faults.Broken p) = input_line (codes "journal") p
-journal_text (journal_faults.Full x) = limit_text 67108864
+journal_text (journal_faults.Full x) = limit_text limit
 journal_text journal_faults.Disk = []
 journal_text journal_faults.Mem = []
 

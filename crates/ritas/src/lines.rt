@@ -2,7 +2,7 @@
 ghost use Rattle.std.specs.Prelude.{◌≡◌, ◌++◌, IfOk, string_bytes, codes};
 ghost use Rattle.ritas.specs.Statuses.{input_line, fault_text, fault_status, audit_status, limit_text, line_text, submit_text, submit_status, end_status};
 
-use schedule_file::FileFault;
+use schedule_file::{FILE_LIMIT, FileFault};
 use std::alloc::{AllocError, Global};
 use world_model::Audit;
 
@@ -27,7 +27,7 @@ pub(crate) fn fault_text(alloc: Global, fault: FileFault) -> Result<String, Allo
         FileFault::Event(place) => placed(alloc, "event", place),
         FileFault::Truncated(place) => placed(alloc, "truncated", place),
         FileFault::Trailing(place) => placed(alloc, "trailing", place),
-        FileFault::TooLong => String::from_str(alloc, "limit 67108864\n"),
+        FileFault::TooLong => limit_text(alloc, FILE_LIMIT),
         FileFault::Read | FileFault::Mem => Ok(String::new(alloc)),
     }
 }

@@ -10,6 +10,7 @@ use crate::run::finish;
 use cluster_config::ConfigFault;
 use event_journal::JournalFault;
 use outside::{ReadFault, Sink};
+use schedule_file::FILE_LIMIT;
 use std::alloc::Global;
 
 /// Writes the line that names a limit.
@@ -76,7 +77,7 @@ pub(crate) fn refuse_journal<K: Sink>(alloc: Global, output: &mut K, fault: Jour
         JournalFault::Foreign(place) | JournalFault::Broken(place) => {
             refuse_place(alloc, output, place)
         }
-        JournalFault::Full(_) => refuse_limit(alloc, output, 67_108_864),
+        JournalFault::Full(_) => refuse_limit(alloc, output, FILE_LIMIT),
         JournalFault::Disk => 9,
         JournalFault::Mem => 8,
     }

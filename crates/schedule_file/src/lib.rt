@@ -70,6 +70,7 @@
 mod fault;
 mod header;
 mod laws;
+mod limit;
 mod own_event;
 mod pieces;
 mod read_events;
@@ -82,6 +83,7 @@ mod writer;
 pub use fault::FileFault;
 pub use header::{Header, HeaderKeys};
 pub use laws::{file_faults, file_laws, own_event_laws, writer_laws};
+pub use limit::{FILE_LIMIT, limit_is};
 pub use own_event::read_event;
 pub use reader::Reader;
 pub use writer::{Writer, event_size};

@@ -11,13 +11,11 @@ ghost use Rattle.schedule_file.specs.FileBytes.{GivesUnlessFailed, Fails, byte_a
 ghost use Rattle.schedule_file.specs.Place.{spot};
 
 use crate::fault::FileFault;
+use crate::limit::FILE_LIMIT;
 use outside::{Failed, Source};
 use ritas_base::Bytes;
 use std::alloc::Global;
 use std::marker::Model;
-
-// A file has at most so many bytes.
-const LIMIT: u32 = 67_108_864;
 
 /// What came of a file and wasn't read, at most 65,536 bytes: room for the longest text, so that memory is taken for a text
 /// only once all of it came. Contracts see its place and its bytes.
@@ -31,13 +29,14 @@ pub struct Pieces {
 
 impl Model for Pieces {
     ghost use Rattle.std.specs.Prelude.{take, drop, ◌≤◌};
+    ghost use Rattle.schedule_file.specs.FileBytes.{limit};
     ghost use Rattle.schedule_file.specs.Place.{Unread};
 
     ghost Value = { Unread };
 
     ghost view = { λ p. record { at = p.at; bytes = drop p.from (take p.to p.piece) } };
 
-    ghost invariant = { λ p. (p.from ≤ p.to) × (p.to ≤ 65536) × (p.at ≤ 67108864) };
+    ghost invariant = { λ p. (p.from ≤ p.to) × (p.to ≤ 65536) × (p.at ≤ limit) };
 }
 
 /// A condition, and the fault where it doesn't hold.
@@ -168,7 +167,7 @@ impl Pieces {
         if !self.refill(source)? {
             return Ok(false);
         }
-        if self.at >= LIMIT {
+        if self.at >= FILE_LIMIT {
             return Err(FileFault::TooLong);
         }
         Ok(true)
@@ -218,7 +217,7 @@ impl Pieces {
     {
         self.gather(source, len)?;
         let have = self.len().min(len);
-        if have > (LIMIT - self.at) as usize {
+        if have > (FILE_LIMIT - self.at) as usize {
             return Err(FileFault::TooLong);
         }
         if have < len {

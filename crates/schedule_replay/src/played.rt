@@ -17,7 +17,7 @@ use keyed_channel::SeedCoin;
 use layer_api::{Broadcast, Service};
 use outside::Source;
 use ritas_base::{Event, Mem};
-use schedule_file::{FileFault, Header, Reader};
+use schedule_file::{FILE_LIMIT, FileFault, Header, Reader};
 use std::alloc::Global;
 use world_model::{Counts, World};
 
@@ -118,7 +118,7 @@ impl<S: Service, E: Broadcast> Played<S, E> {
         ensures header { self.new.header ≡ self.old.header }
         ensures counts { I.faults input.new ≡ file_faults_after (I.faults input.old) result }
     {
-        for _ in 0..67_108_865u32 {
+        for _ in 0..FILE_LIMIT + 1 {
             match reader.next(alloc, input)? {
                 None => return Ok(()),
                 Some(event) => self.event(alloc, &event)?,

@@ -36,7 +36,7 @@ passes_steps w p step steps none many = met_next w p step steps none ∙ too_man
 
 -- or that of bytes is, and not that of steps
 pub passes_bytes : (w : Setting) (p : Plan) (step : Step) (steps : List Step) → limit_met w p steps ≡ None → length steps < 4000000
-    → 67108864 ≤ length (front_by w p (step ∷ steps)) → limit_met w p (step ∷ steps) ≡ Some 67108864
+    → limit ≤ length (front_by w p (step ∷ steps)) → limit_met w p (step ∷ steps) ≡ Some limit
 unfolding step_limit
 passes_bytes w p step steps none few long =
     let size = file_length (heading (header_of p)) (events_by w p (step ∷ steps)) in
@@ -46,7 +46,7 @@ passes_bytes w p step steps none few long =
 
 -- or none
 pub passes_none : (w : Setting) (p : Plan) (step : Step) (steps : List Step) → limit_met w p steps ≡ None → length steps < 4000000
-    → length (front_by w p (step ∷ steps)) < 67108864 → limit_met w p (step ∷ steps) ≡ None
+    → length (front_by w p (step ∷ steps)) < limit → limit_met w p (step ∷ steps) ≡ None
 unfolding step_limit
 passes_none w p step steps none few short =
     let size = file_length (heading (header_of p)) (events_by w p (step ∷ steps)) in
@@ -94,8 +94,8 @@ written_on w p what old new step steps e stands events next size same kept =
 
 -- an event for which there is no room
 pub no_room : (w : Setting) (p : Plan) (what : DriveWhat) (old : Tape) (step : Step) (steps : List Step) (e : Event) → IsTape w p what old steps
-    → events_by w p (step ∷ steps) ≡ e ∷ events_by w p steps → old.steps < 4000000 → 67108864 ≤ old.size + length (event_text e)
-    → limit_met w p (step ∷ steps) ≡ Some 67108864
+    → events_by w p (step ∷ steps) ≡ e ∷ events_by w p steps → old.steps < 4000000 → limit ≤ old.size + length (event_text e)
+    → limit_met w p (step ∷ steps) ≡ Some limit
 no_room w p what old step steps e stands events few over =
     let h = heading (header_of p) in
     let es = events_by w p steps in
@@ -119,8 +119,8 @@ no_more w p what old step steps halt stands is many =
 
 -- where there is no room for an event
 pub no_space : (w : Setting) (p : Plan) (what : DriveWhat) (old : Tape) (step : Step) (steps : List Step) (e : Event) (halt : Halt) → IsTape w p what old steps
-    → events_by w p (step ∷ steps) ≡ e ∷ events_by w p steps → old.steps < 4000000 → 67108864 ≤ old.size + length (event_text e)
-    → halt ≡ halts.Limit 67108864 → HaltsBy w p (step ∷ steps) halt
+    → events_by w p (step ∷ steps) ≡ e ∷ events_by w p steps → old.steps < 4000000 → limit ≤ old.size + length (event_text e)
+    → halt ≡ halts.Limit limit → HaltsBy w p (step ∷ steps) halt
 no_space w p what old step steps e halt stands events few over is =
     subst (HaltsBy w p (step ∷ steps)) (sym is) (no_room w p what old step steps e stands events few over)
 

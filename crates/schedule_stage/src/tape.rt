@@ -1,19 +1,17 @@
 //! The tape: how many steps were taken, how events were answered, and the schedule's file so far.
 ghost use Rattle.std.specs.Prelude.{◌<◌, ◌≤◌};
+ghost use Rattle.schedule_file.specs.FileBytes.{limit};
 ghost use Rattle.world_model.specs.Counts.{total};
 
 use crate::halt::Halt;
 use outside::Buffer;
 use ritas_base::{DriveWhat, Event, Mem};
-use schedule_file::{Header, Writer, event_size};
+use schedule_file::{FILE_LIMIT, Header, Writer, event_size};
 use std::alloc::Global;
 use world_model::{Counts, Seen};
 
 // A schedule has at most so many steps.
 const STEP_LIMIT: u32 = 4_000_000;
-
-// A schedule file has at most so many bytes.
-const SIZE_LIMIT: usize = 67_108_864;
 
 /// How many steps were taken, how their events were answered, and how many bytes the schedule's file has without its end mark.
 /// The file itself is kept where it is wanted.
@@ -26,13 +24,14 @@ pub(crate) struct Tape {
     pub(crate) file: Buffer,
     ghost counted: { total counts ≤ steps },
     ghost few: { steps ≤ 4000000 },
-    ghost short: { size < 67108864 },
+    ghost short: { size < limit },
 }
 
 impl Tape {
     ghost use Rattle.std.specs.Prelude.{◌≡◌, ◌+◌, ◌<◌, ◌≤◌, ◌++◌, List, [], ◌∷◌, IfOk, IfErr, OnOk};
     ghost use Rattle.ritas_base.specs.declared.plan.Plan.{Plan};
     ghost use Rattle.ritas_base.specs.declared.what.DriveWhat.{DriveWhat};
+    ghost use Rattle.schedule_file.specs.FileBytes.{limit};
     ghost use Rattle.schedule_file.specs.ReadHeader.{heading};
     ghost use Rattle.schedule_file.specs.Spelling.{event_text, FrontOf, IsHeading, IsSized};
     ghost use Rattle.world_model.specs.Counts.{counted_event, no_counts, total};
@@ -87,11 +86,11 @@ impl Tape {
     // Counts these bytes of the file, behind which the end mark is to follow.
     fn lengthen(&mut self, more: usize) -> Result<(), Halt>
         ensures ok { OnOk result (self.new.size ≡ self.old.size + more) }
-        ensures err { IfErr result (λ halt. (halt ≡ Halt.Limit 67108864) × (67108864 ≤ self.old.size + more)) }
+        ensures err { IfErr result (λ halt. (halt ≡ Halt.Limit limit) × (limit ≤ self.old.size + more)) }
         ensures same { SameSteps self.old self.new }
     {
-        if more >= SIZE_LIMIT - self.size {
-            return Err(Halt::Limit(SIZE_LIMIT as u32));
+        if more >= FILE_LIMIT as usize - self.size {
+            return Err(Halt::Limit(FILE_LIMIT));
         }
         self.size += more;
         Ok(())

@@ -1,5 +1,6 @@
 use Rattle.std.proofs.Common.{◌≡◌, ◌≤◌, ◌+◌, ◌-◌, length, take, true}
 use Rattle.outside.specs.Disks.{disk_state_of}
+use Rattle.schedule_file.specs.FileBytes.{limit}
 use Rattle.event_journal.proofs.reading.read_file.Given as goal
 
 abbrev pub invariant-loop-piece : goal.invariant-loop-piece
@@ -10,4 +11,4 @@ invariant-loop-piece g l = record {
 }
 
 abbrev pub decreases-loop-piece : goal.decreases-loop-piece
-decreases-loop-piece g l = 67108864 + 1 - length l.file.items
+decreases-loop-piece g l = limit + 1 - length l.file.items

@@ -1,6 +1,7 @@
-use Rattle.std.proofs.Common.{◌≡◌, List, [], Result, Ok, Err, refl, sym, ◌∙◌, ap, subst}
+use Rattle.std.proofs.Common.{◌≡◌, ◌+◌, List, [], Result, Ok, Err, refl, sym, ◌∙◌, ap, subst}
 use Rattle.ritas_base.specs.declared.event.Event.{Event}
 use Rattle.schedule_file.specs.declared.fault.FileFault.{FileFault}
+use Rattle.schedule_file.specs.FileBytes.{limit}
 use Rattle.schedule_file.specs.Place.{spot}
 use Rattle.schedule_file.specs.ReadEvents.{events_at}
 use Rattle.schedule_file.specs.ReadHeader.{heading}
@@ -22,10 +23,10 @@ returns-in-Ok-clause-shows g c = λ tells.
     let k = c.in-Ok.header in
     let next = spot c.in-Ok.reader.held (g.S.Source.left c.start.new.src) in
     let what = c.args.what in
-    let read : Scope → Result (List Event) FileFault = λ scope. asked_behind what k.mode.root (read_onto [] (events_at 67108865 scope next)) in
+    let read : Scope → Result (List Event) FileFault = λ scope. asked_behind what k.mode.root (read_onto [] (events_at (limit + 1) scope next)) in
     let scope = scope_of (heading k) in
     let from_header : asked_of what (file_of bytes) ≡ behind (heading k) (read scope) =
-    ap (asked_of what) (file_from bytes (heading k) next (c.in-Ok.ensures.exact tells)) ∙ asked_from what (heading k) (read_onto [] (events_at 67108865 scope next)) in
+    ap (asked_of what) (file_from bytes (heading k) next (c.in-Ok.ensures.exact tells)) ∙ asked_from what (heading k) (read_onto [] (events_at (limit + 1) scope next)) in
     record {
       shown = λ h es file.
           let events : read scope ≡ Ok es = events_behind (heading k) (heading h) (read scope) es (sym from_header ∙ file) in

@@ -16,7 +16,7 @@ returns-in_err-keep-clause-kept g c = λ tells head es stands all.
     let me_is : c.self.inside.me ≡ c.args.self.now.me = ap (λ (j : JournalState). j.me) c.self.view_is in
     let some : 0 < length events = search rules in
     let cut : take (length c.taken.result.now - 1) (drop 1 c.taken.result.now) ≡ drop 1 c.taken.result.now = take_rest c.taken.result.now 1 in
-    let low = fits_limit events c.self.inside.end c.size_with-size.result c.taken.result.now text_is c.size_with-size.ensures (omega (arith, c.if-size-gt-LIMIT.false)) in
+    let low = fits_limit events c.self.inside.end c.size_with-size.result c.taken.result.now text_is c.size_with-size.ensures (omega (arith, c.if-size.false)) in
     let kept = c.in_err-keep.ensures.kept tells c.args.self.now.me head es (reverse events) (some_more events some) (all_reverse c.args.self.now.me events c.requires.own) place (cut ∙ text_behind events c.taken.result.now text_is) (omega (arith, ap length cut, low)) all in
     let failed = c.from_residual-in_err-keep.ensures.0 in
     record {
@@ -33,9 +33,9 @@ returns-clause-kept g c = λ tells head es stands all.
     let me_is : c.self.inside.me ≡ c.args.self.now.me = ap (λ (j : JournalState). j.me) c.self.view_is in
     let some : 0 < length events = search rules in
     let cut : take (length c.taken.result.now - 1) (drop 1 c.taken.result.now) ≡ drop 1 c.taken.result.now = take_rest c.taken.result.now 1 in
-    let low = fits_limit events c.self.inside.end c.size_with-size.result c.taken.result.now text_is c.size_with-size.ensures (omega (arith, c.if-size-gt-LIMIT.false)) in
+    let low = fits_limit events c.self.inside.end c.size_with-size.result c.taken.result.now text_is c.size_with-size.ensures (omega (arith, c.if-size.false)) in
     let kept = c.in_ok-keep.ensures.kept tells c.args.self.now.me head es (reverse events) (some_more events some) (all_reverse c.args.self.now.me events c.requires.own) place (cut ∙ text_behind events c.taken.result.now text_is) (omega (arith, ap length cut, low)) all in
     record {
-      stands = ends_behind events head es c.self.inside.end c.size_with-size.result place c.size_with-size.ensures (omega (arith, c.if-size-gt-LIMIT.false));
+      stands = ends_behind events head es c.self.inside.end c.size_with-size.result place c.size_with-size.ensures (omega (arith, c.if-size.false));
       kept = record { images = kept.images; since = kept.since };
     }

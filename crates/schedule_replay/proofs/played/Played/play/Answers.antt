@@ -1,5 +1,6 @@
-use Rattle.std.proofs.Common.{◌≡◌, ℕ, Err, ◌∷◌, arith, refl, ap, ◌∙◌, subst}
+use Rattle.std.proofs.Common.{◌≡◌, ℕ, ◌+◌, Err, ◌∷◌, arith, refl, ap, ◌∙◌, subst}
 use Rattle.std.proofs.lemmas.Result.{err_from_is_err_and}
+use Rattle.schedule_file.specs.FileBytes.{limit}
 use Rattle.schedule_file.specs.Place.{spot}
 use Rattle.schedule_file.specs.SourceFaults.{file_faults_after}
 use Rattle.schedule_file.specs.ReadHeader.{heading}
@@ -13,7 +14,7 @@ pub returns-in_err-next-clause-exact : goal.returns-in_err-next-clause-exact
 returns-in_err-next-clause-exact g c = λ tells before stands.
     let p = err_from_is_err_and c.from_residual.result c.from_residual.ensures.1 in
     let so_far = c.loop.invariant.5 tells before stands in
-    rw (p.1, p.2) (fails c.in_err-next.field-0.0 so_far.0 67108865 c.loop.counter c.loop.reader.scope (spot c.loop.reader.held (g.I.Source.left c.loop.input)) _
+    rw (p.1, p.2) (fails c.in_err-next.field-0.0 so_far.0 (limit + 1) c.loop.counter c.loop.reader.scope (spot c.loop.reader.held (g.I.Source.left c.loop.input)) _
     c.loop-test.true (c.in_err-next.ensures.exact c.loop.invariant.0 tells) so_far.2)
 
 pub returns-in_err-next-clause-counts : goal.returns-in_err-next-clause-counts
@@ -32,7 +33,7 @@ returns-in-None-clause-exact g c = λ tells before stands.
     let read = rw c.in-None.is at (c.in_ok-next.ensures.exact c.loop.invariant.0 tells) in (
       so_far.0,
       so_far.1,
-      ends so_far.0 67108865 c.loop.counter c.loop.reader.scope (spot c.loop.reader.held (g.I.Source.left c.loop.input))
+      ends so_far.0 (limit + 1) c.loop.counter c.loop.reader.scope (spot c.loop.reader.held (g.I.Source.left c.loop.input))
           (spot c.next.new.self.held (g.I.Source.left c.next.new.src)) _ c.loop-test.true read so_far.2,
     )
 
@@ -50,7 +51,7 @@ loop-preserved g c =
       λ tells before stands.
           let so_far = c.loop.invariant.5 tells before stands in
           let read = rw c.in-Some.is at (c.in_ok-next.ensures.exact c.loop.invariant.0 tells) in
-          let more = goes_on so_far.0 67108865 c.loop.counter c.loop.reader.scope (spot c.loop.reader.held (g.I.Source.left c.loop.input)) c.in-Some.event
+          let more = goes_on so_far.0 (limit + 1) c.loop.counter c.loop.reader.scope (spot c.loop.reader.held (g.I.Source.left c.loop.input)) c.in-Some.event
           (spot c.next.new.self.held (g.I.Source.left c.next.new.src)) _ c.loop-test.true read so_far.2 in
           (c.in-Some.event ∷ so_far.0, c.in_ok-event-in-Some.ensures.stands so_far.0 so_far.1 may, rw c.in_ok-next.ensures.scope more),
     )
@@ -58,4 +59,4 @@ loop-preserved g c =
 pub returns-clause-exact : goal.returns-clause-exact
 returns-clause-exact g c = λ tells before stands own.
     let so_far = c.loop.invariant.5 tells before stands in
-    too_many so_far.0 67108865 c.loop.counter c.loop.reader.scope (spot c.loop.reader.held (g.I.Source.left c.loop.input)) _ c.loop-test.false so_far.2
+    too_many so_far.0 (limit + 1) c.loop.counter c.loop.reader.scope (spot c.loop.reader.held (g.I.Source.left c.loop.input)) _ c.loop-test.false so_far.2

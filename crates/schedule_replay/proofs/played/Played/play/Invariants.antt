@@ -1,6 +1,7 @@
-use Rattle.std.proofs.Common.{◌≡◌, ◌≤◌, ◌-◌, List, true}
+use Rattle.std.proofs.Common.{◌≡◌, ◌≤◌, ◌+◌, ◌-◌, List, true}
 use Rattle.ritas_base.specs.declared.event.Event.{Event}
 use Rattle.schedule_file.specs.declared.stage.Stage.TheVariants.{Open}
+use Rattle.schedule_file.specs.FileBytes.{limit}
 use Rattle.schedule_file.specs.Place.{spot}
 use Rattle.schedule_file.specs.ReadEvents.{events_at}
 use Rattle.world_model.specs.Counts.{total}
@@ -19,5 +20,5 @@ invariant-loop g l =
     × (total l.self.counts ≤ l.counter)
     × (g.I.Source.tells ≡ true → (before : List Event) → PlayedStandsFor m l.initial.self before →
     (h : List Event) × PlayedStandsFor m l.self h
-    × (read_onto h (events_at (67108865 - l.counter) l.reader.scope (spot l.reader.held (g.I.Source.left l.input)))
-    ≡ read_onto before (events_at 67108865 l.initial.reader.scope (spot l.initial.reader.held (g.I.Source.left l.initial.input)))))
+    × (read_onto h (events_at (limit + 1 - l.counter) l.reader.scope (spot l.reader.held (g.I.Source.left l.input)))
+    ≡ read_onto before (events_at (limit + 1) l.initial.reader.scope (spot l.initial.reader.held (g.I.Source.left l.initial.input)))))
