@@ -1,25 +1,38 @@
 //! Tests of the layers, by their public calls alone.
 //!
 //! They stand beside these crates and not in them because a crate that has tests is proved twice.
+//!
+//! | Module | Tests of |
+//! |---|---|
+//! | `slots` | `layer_api` |
+//! | `following` | `bracha_validation` |
+//! | `votes`, `digests` | `reliable_bcast` |
+//! | `columns` | `echo_bcast` |
+//! | `bits` | `binary_consensus` |
+//! | `vectors` | `vector_consensus` |
+//! | `orders` | `atomic_bcast` |
+//! | `cores` | `ritas_core` |
+//!
+//! `zeros` has a tagger and a coin whose bytes are zeros.
 #![tactic(auto)]
 
 #[cfg(test)]
-mod atomic_bcast;
+mod bits;
 #[cfg(test)]
-mod binary_consensus;
+mod columns;
 #[cfg(test)]
-mod bracha_validation;
+mod cores;
 #[cfg(test)]
-mod digest_bcast;
+mod digests;
 #[cfg(test)]
-mod echo_bcast;
+mod following;
 #[cfg(test)]
-mod layer_api;
+mod orders;
 #[cfg(test)]
-mod reliable_bcast;
+mod slots;
 #[cfg(test)]
-mod ritas_core;
+mod vectors;
 #[cfg(test)]
-mod vector_consensus;
+mod votes;
 #[cfg(test)]
 mod zeros;

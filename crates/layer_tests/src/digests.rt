@@ -2,7 +2,7 @@
 
 ghost use Rattle.std.specs.Prelude.{◌≡◌, refl, replicate, slice_index_or};
 
-use crate::reliable_bcast::{SLOT, item};
+use crate::votes::{SLOT, item};
 use layer_api::{Broadcast, Heard};
 use reliable_bcast::DigestRb;
 use ritas_base::{Kind, Msg, Params, Slot, Tagger, To};

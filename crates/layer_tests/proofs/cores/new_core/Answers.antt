@@ -6,7 +6,7 @@ use Rattle.ritas_base.specs.declared.mode.Vect.TheVariants.{Echo, Reliable}
 use Rattle.ritas_base.specs.declared.mode.FrameVersion.TheVariants.{One}
 use Rattle.ritas_base.specs.Slots.{reliable_form}
 use Rattle.ritas_core.specs.Rules.{other_form}
-use Rattle.layer_tests.proofs.ritas_core.new_core.Goals as goal
+use Rattle.layer_tests.proofs.cores.new_core.Goals as goal
 
 form_is : (mode : Mode) → mode.root ≡ 5 → mode.vect ≡ Reliable → mode.version ≡ One → other_form mode ≡ 1
 unfolding other_form
