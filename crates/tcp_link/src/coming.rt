@@ -30,6 +30,7 @@ impl Sockets {
     // Accepts connections at a door, which is on the list again if more may wait.
     fn accept_at(&mut self, alloc: Global, registry: &Registry, number: usize) -> Result<(), Mem> {
         let Some(door) = self.doors.get_mut(number) else {
+            // There is no such door.
             return Ok(());
         };
         door.is_listed = false;
@@ -40,6 +41,7 @@ impl Sockets {
         }
         match self.doors.get_mut(number) {
             Some(door) => list(&mut door.is_listed, number, &mut self.open_doors),
+            // There is no such door.
             None => Ok(()),
         }
     }
@@ -52,6 +54,7 @@ impl Sockets {
         number: usize,
     ) -> Result<bool, Mem> {
         let Some(door) = self.doors.get_mut(number) else {
+            // There is no such door.
             return Ok(false);
         };
         let entry = door.entry;

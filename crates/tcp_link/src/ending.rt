@@ -11,6 +11,7 @@ impl Sockets {
     /// Takes the number that a peer told, whose connection stands in place of an older one from then on.
     pub(crate) fn take_name(&mut self, token: usize) -> Result<(), Mem> {
         let Some(conn) = self.conns.get_mut(token) else {
+            // It is gone.
             return Ok(());
         };
         let Naming::Names { at, peer } = conn.side.take_name(self.n) else {
@@ -27,6 +28,7 @@ impl Sockets {
     // A newer connection of a peer waits until the older one is read to its end. Where that one waits itself, the oldest ends.
     fn replace(&mut self, older: usize, newer: usize) -> Result<(), Mem> {
         let Some(conn) = self.conns.get_mut(older) else {
+            // It is gone.
             return Ok(());
         };
         conn.side.change(Change::IsReplaced);
@@ -53,6 +55,7 @@ impl Sockets {
     /// it.
     pub(crate) fn settle(&mut self, token: usize) -> Result<(), Mem> {
         let Some(conn) = self.conns.get_mut(token) else {
+            // It is gone.
             return Ok(());
         };
         if conn.side.begin_to_drain() {
@@ -69,6 +72,7 @@ impl Sockets {
     /// Looks again at a connection that is read to its end, which ends after a while.
     pub(crate) fn drain_on(&mut self, token: usize) -> Result<(), Mem> {
         let Some(conn) = self.conns.get_mut(token) else {
+            // It is gone.
             return Ok(());
         };
         conn.side.tick();
@@ -90,6 +94,7 @@ impl Sockets {
     // A connection waits for no older one any more, and is read.
     fn release(&mut self, token: usize) -> Result<(), Mem> {
         let Some(conn) = self.conns.get_mut(token) else {
+            // It is gone.
             return Ok(());
         };
         conn.side.behind = None;

@@ -98,6 +98,7 @@ impl Sockets {
     /// Looks at a connection.
     pub(crate) fn look(&mut self, token: usize) -> Result<(), Mem> {
         let Some(conn) = self.conns.get_mut(token) else {
+            // It is gone.
             return Ok(());
         };
         conn.side.look();

@@ -39,6 +39,7 @@ impl Sockets {
         requires { length bytes.now < 2 ^ 16 }
     {
         let Some(conn) = self.conns.get_mut(token) else {
+            // It is gone.
             return Ok(());
         };
         if !conn.side.takes() {

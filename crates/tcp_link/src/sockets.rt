@@ -23,7 +23,8 @@ use ritas_base::Mem;
 use std::alloc::Global;
 use std::collections::VecDeque;
 
-/// The sockets of a link. The lists are of tokens, or of numbers of doors, and have each at most once.
+/// The sockets of a link. The lists are of tokens, or of numbers of doors, and have each at most once. A token stays on a list when its
+/// connection goes, and is passed over there. A door never goes.
 #[derive(Drop)]
 pub(crate) struct Sockets {
     /// How many replicas there are.
@@ -95,6 +96,7 @@ impl Sockets {
     fn note_door(&mut self, number: usize) -> Result<(), Mem> {
         match self.doors.get_mut(number) {
             Some(door) => list(&mut door.is_listed, number, &mut self.open_doors),
+            // There is no such door.
             None => Ok(()),
         }
     }
@@ -106,6 +108,7 @@ impl Sockets {
             return self.note_door(number);
         }
         let Some(conn) = self.conns.get_mut(token) else {
+            // It is gone.
             return Ok(());
         };
         let seen = told_by(event);
@@ -132,6 +135,7 @@ impl Sockets {
 
     fn write_to(&mut self, token: usize) -> Result<(), Mem> {
         let Some(conn) = self.conns.get_mut(token) else {
+            // It is gone.
             return Ok(());
         };
         if conn.side.off_writers() {
@@ -168,6 +172,7 @@ impl Sockets {
 
     fn read_from(&mut self, token: usize) -> Result<(), Mem> {
         let Some(conn) = self.conns.get_mut(token) else {
+            // It is gone.
             return Ok(());
         };
         if !conn.side.off_readers() {
@@ -188,6 +193,7 @@ impl Sockets {
     // Puts a connection among those that have pieces, if it has one. With a length that isn't allowed it ends.
     fn list_piece(&mut self, token: usize) -> Result<(), Mem> {
         let Some(conn) = self.conns.get_mut(token) else {
+            // It is gone.
             return Ok(());
         };
         conn.side.list_piece(&mut self.agenda, token)
