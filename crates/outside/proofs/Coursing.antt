@@ -7,8 +7,8 @@ use Rattle.outside.specs.declared.link.LinkItem.TheVariants as item
 use Rattle.outside.specs.declared.link.LinkPlan.{LinkPlan}
 use Rattle.outside.specs.declared.link.Sent.{Sent}
 use Rattle.outside.specs.declared.course.Did.{Did}
-use Rattle.outside.specs.declared.course.Did.TheVariants.{Start, Next, Send, Reply}
-use Rattle.outside.specs.Links.{LinkAct, Starts, Gives, Sends, Replies, bytes_of}
+use Rattle.outside.specs.declared.course.Did.TheVariants.{Start, Next, Now, Send, Reply}
+use Rattle.outside.specs.Links.{LinkAct, Starts, Gives, GivesNow, Sends, Replies, bytes_of}
 use Rattle.outside.specs.MemoryLink.{IsShort, first_of, rest_of}
 use Rattle.outside.specs.Courses.{CourseState, told_of, Fits}
 
@@ -24,6 +24,10 @@ told_start items dids dids2 plans plans2 frames replies plan did put = rw (did, 
 pub told_next : (items : List LinkItem) (at : ℕ) (dids dids2 : List Did) (plans : List LinkPlan) (frames replies : List Sent) → dids2 ≡ dids ++ Next at ∷ [] → told_of items dids2 plans frames replies ≡ Gives (first_of (drop at items)) ∷ told_of items dids plans frames replies
 unfolding told_of
 told_next items at dids dids2 plans frames replies did = rw (did, snoc dids (Next at)) refl
+
+pub told_now : (items : List LinkItem) (at : ℕ) (dids dids2 : List Did) (plans : List LinkPlan) (frames replies : List Sent) → dids2 ≡ dids ++ Now at ∷ [] → told_of items dids2 plans frames replies ≡ GivesNow (first_of (drop at items)) ∷ told_of items dids plans frames replies
+unfolding told_of
+told_now items at dids dids2 plans frames replies did = rw (did, snoc dids (Now at)) refl
 
 pub told_send : (items : List LinkItem) (dids dids2 : List Did) (plans : List LinkPlan) (frames frames2 replies : List Sent) (sent : Sent) → dids2 ≡ dids ++ Send ∷ [] → frames2 ≡ frames ++ sent ∷ [] → told_of items dids2 plans frames2 replies ≡ Sends sent ∷ told_of items dids plans frames replies
 unfolding told_of
@@ -96,6 +100,19 @@ ended_more (item.Left at conn ∷ left) given ended has = contains_cons _ _ give
 pub fits_next : (items : List LinkItem) (at at2 : ℕ) (dids dids2 : List Did) (plans : List LinkPlan) (frames replies : List Sent) → dids2 ≡ dids ++ Next at ∷ [] → drop at2 items ≡ rest_of (drop at items) → Fits items at dids plans frames replies → Fits items at2 dids2 plans frames replies
 fits_next items at at2 dids dids2 plans frames replies did moved f =
     let more = told_next items at dids dids2 plans frames replies did in
+    record {
+      short = f.short;
+      ended = rw (more, moved) (ended_more (drop at items) _ f.ended);
+      plans_told = rw more f.plans_told;
+      frames_told = rw more f.frames_told;
+      replies_told = rw more f.replies_told;
+    }
+
+-- ---- the next item, by a call that never waits
+
+pub fits_now : (items : List LinkItem) (at at2 : ℕ) (dids dids2 : List Did) (plans : List LinkPlan) (frames replies : List Sent) → dids2 ≡ dids ++ Now at ∷ [] → drop at2 items ≡ rest_of (drop at items) → Fits items at dids plans frames replies → Fits items at2 dids2 plans frames replies
+fits_now items at at2 dids dids2 plans frames replies did moved f =
+    let more = told_now items at dids dids2 plans frames replies did in
     record {
       short = f.short;
       ended = rw (more, moved) (ended_more (drop at items) _ f.ended);

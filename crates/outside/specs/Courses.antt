@@ -1,13 +1,13 @@
 -- What a link in memory keeps: what each call did, and with what, the oldest first.
 use Rattle.std.specs.Prelude.{◌≡◌, ℕ, List, [], ◌∷◌, reverse, drop, Contains, All}
-use Rattle.outside.specs.Links.{LinkAct, Starts, Gives, Sends, Replies, plans_in, items_in, frames_in, replies_in}
+use Rattle.outside.specs.Links.{LinkAct, Starts, Gives, GivesNow, Sends, Replies, plans_in, items_in, frames_in, replies_in}
 use Rattle.outside.specs.MemoryLink.{IsShort, first_of}
 use Rattle.outside.specs.declared.link.LinkItem.{LinkItem}
 use Rattle.outside.specs.declared.link.LinkItem.TheVariants as item
 use Rattle.outside.specs.declared.link.LinkPlan.{LinkPlan}
 use Rattle.outside.specs.declared.link.Sent.{Sent}
 use Rattle.outside.specs.declared.course.Did.{Did}
-use Rattle.outside.specs.declared.course.Did.TheVariants.{Start, Next, Send, Reply}
+use Rattle.outside.specs.declared.course.Did.TheVariants.{Start, Next, Now, Send, Reply}
 
 -- the items that are left, and the calls that answered Ok, the newest first
 pub record CourseState : Type 0 where
@@ -24,6 +24,7 @@ abbrev pub merged : List LinkItem → List Did → List LinkPlan → List Sent �
 merged items [] plans frames replies = []
 merged items (Start ∷ dids) plans frames replies = with_first Starts plans (merged items dids (drop 1 plans) frames replies)
 merged items (Next at ∷ dids) plans frames replies = Gives (first_of (drop at items)) ∷ merged items dids plans frames replies
+merged items (Now at ∷ dids) plans frames replies = GivesNow (first_of (drop at items)) ∷ merged items dids plans frames replies
 merged items (Send ∷ dids) plans frames replies = with_first Sends frames (merged items dids plans (drop 1 frames) replies)
 merged items (Reply ∷ dids) plans frames replies = with_first Replies replies (merged items dids plans frames (drop 1 replies))
 

@@ -6,6 +6,7 @@ pub mod Links
 pub mod LinkCalls
 pub mod LinkCallsLaws
 pub mod MemoryLink
+pub mod LinkRows
 pub mod Courses
 pub mod Writing
 pub mod WritingLaws

@@ -1,5 +1,5 @@
 -- What a link gives and is given. Lists of its calls have the newest first.
-use Rattle.std.specs.Prelude.{ℕ, List, [], ◌∷◌, Result, Ok, Err}
+use Rattle.std.specs.Prelude.{ℕ, List, [], ◌∷◌, Option, Some, None, Result, Ok, Err}
 use Rattle.outside.specs.Faults.{count_after}
 use Rattle.outside.specs.declared.link.FaultCounts.{FaultCounts}
 use Rattle.outside.specs.declared.link.LinkFault.{LinkFault}
@@ -9,10 +9,12 @@ use Rattle.outside.specs.declared.link.LinkItem.TheVariants as items
 use Rattle.outside.specs.declared.link.LinkPlan.{LinkPlan}
 use Rattle.outside.specs.declared.link.Sent.{Sent}
 
--- a call that answered Ok: a plan was started, an item given, a frame sent, or a reply sent
+-- a call that answered Ok: a plan was started, an item given, by the call that may wait or by the one that never does, a frame sent, or a
+-- reply sent
 pub data LinkAct : Type 0 where
   Starts : LinkPlan → LinkAct
   Gives : LinkItem → LinkAct
+  GivesNow : LinkItem → LinkAct
   Sends : Sent → LinkAct
   Replies : Sent → LinkAct
 
@@ -40,11 +42,17 @@ bytes_of (items.Down at peer) = []
 bytes_of (items.Left at conn) = []
 bytes_of items.End = []
 
+-- what a call that never waits tells: the item that it gave, and nothing where it gave none
+abbrev pub now_given : Option LinkItem → List LinkAct
+now_given None = []
+now_given (Some item) = GivesNow item ∷ []
+
 -- of these calls, the plans that were started
 abbrev pub plans_in : List LinkAct → List LinkPlan
 plans_in [] = []
 plans_in (Starts plan ∷ acts) = plan ∷ plans_in acts
 plans_in (Gives item ∷ acts) = plans_in acts
+plans_in (GivesNow item ∷ acts) = plans_in acts
 plans_in (Sends sent ∷ acts) = plans_in acts
 plans_in (Replies sent ∷ acts) = plans_in acts
 
@@ -53,6 +61,7 @@ abbrev pub items_in : List LinkAct → List LinkItem
 items_in [] = []
 items_in (Starts plan ∷ acts) = items_in acts
 items_in (Gives item ∷ acts) = item ∷ items_in acts
+items_in (GivesNow item ∷ acts) = item ∷ items_in acts
 items_in (Sends sent ∷ acts) = items_in acts
 items_in (Replies sent ∷ acts) = items_in acts
 
@@ -61,6 +70,7 @@ abbrev pub frames_in : List LinkAct → List Sent
 frames_in [] = []
 frames_in (Starts plan ∷ acts) = frames_in acts
 frames_in (Gives item ∷ acts) = frames_in acts
+frames_in (GivesNow item ∷ acts) = frames_in acts
 frames_in (Sends sent ∷ acts) = sent ∷ frames_in acts
 frames_in (Replies sent ∷ acts) = frames_in acts
 
@@ -69,5 +79,6 @@ abbrev pub replies_in : List LinkAct → List Sent
 replies_in [] = []
 replies_in (Starts plan ∷ acts) = replies_in acts
 replies_in (Gives item ∷ acts) = replies_in acts
+replies_in (GivesNow item ∷ acts) = replies_in acts
 replies_in (Sends sent ∷ acts) = replies_in acts
 replies_in (Replies sent ∷ acts) = sent ∷ replies_in acts

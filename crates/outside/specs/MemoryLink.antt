@@ -1,5 +1,5 @@
 -- A link in memory: what it holds, and what a call does.
-use Rattle.std.specs.Prelude.{◌≡◌, ℕ, ◌↔◌, ◌<◌, ◌^◌, List, [], ◌∷◌, length, Result, Err, IfOk, OnErr}
+use Rattle.std.specs.Prelude.{◌≡◌, ℕ, ◌↔◌, ◌<◌, ◌^◌, List, [], ◌∷◌, ◌++◌, length, Option, Some, None, Result, Err, IfOk, OnErr}
 use Rattle.outside.specs.Faults.{count_after}
 use Rattle.outside.specs.Memory.{FailingCalls, IsFault}
 use Rattle.outside.specs.Links.{LinkAct, bytes_of, faults_after}
@@ -31,7 +31,18 @@ abbrev pub first_of : List LinkItem → LinkItem
 first_of [] = item.End
 first_of (x ∷ left) = x
 
--- what is then left: what stands after an `End` is never given
+-- what is given there by a call that never waits: an `End` isn't
+abbrev pub now_of : List LinkItem → Option LinkItem
+now_of [] = None
+now_of (item.End ∷ left) = None
+now_of (item.Frame to bytes ∷ left) = Some (item.Frame to bytes)
+now_of (item.Client at conn bytes ∷ left) = Some (item.Client at conn bytes)
+now_of (item.Reply from bytes ∷ left) = Some (item.Reply from bytes)
+now_of (item.Up at peer ∷ left) = Some (item.Up at peer)
+now_of (item.Down at peer ∷ left) = Some (item.Down at peer)
+now_of (item.Left at conn ∷ left) = Some (item.Left at conn)
+
+-- what is then left by either: what stands after an `End` is never given
 abbrev pub rest_of : List LinkItem → List LinkItem
 rest_of [] = []
 rest_of (item.End ∷ left) = item.End ∷ left
@@ -44,12 +55,16 @@ rest_of (item.Left at conn ∷ left) = left
 
 -- ---- what a call does
 
--- A call fails exactly where its number is listed. Where it answers Ok, it is told and this is left.
-pub record LinksMemory {A : Type 0} (act : A → LinkAct) (left : List LinkItem) (old new : LinkState) (result : Result A LinkFault) : Type 0 where
+-- A call fails exactly where its number is listed. Where it answers Ok, these acts are told and this is left.
+pub record LinksTelling {A : Type 0} (acts : A → List LinkAct) (left : List LinkItem) (old new : LinkState) (result : Result A LinkFault) : Type 0 where
   pub fails : (result ≡ Err faults.Failed) ↔ IsFault old.calls
   pub listed : new.calls.fails ≡ old.calls.fails
   pub number : new.calls.number ≡ count_after old.calls.number
   pub faults : faults_of new ≡ faults_after (faults_of old) result
-  pub told : IfOk result (λ x. new.told ≡ act x ∷ old.told)
+  pub told : IfOk result (λ x. new.told ≡ acts x ++ old.told)
   pub rest : IfOk result (λ _. new.left ≡ left)
   pub same : OnErr result ((new.told ≡ old.told) × (new.left ≡ old.left))
+
+-- one act is told
+abbrev pub LinksMemory : {A : Type 0} → (A → LinkAct) → List LinkItem → LinkState → LinkState → Result A LinkFault → Type 0
+LinksMemory act left old new result = LinksTelling (λ x. act x ∷ []) left old new result

@@ -1,19 +1,20 @@
 //! What a link in memory was told, and the items that it has left.
 
-ghost use Rattle.std.specs.Prelude.{◌≡◌, ◌<◌, ◌∷◌, [], ◌^◌, reverse, drop, length, IfOk, OnOk, OnErr, All, Contains};
-ghost use Rattle.outside.specs.Links.{Starts, Gives, Sends, Replies, bytes_of, plans_in, items_in, frames_in, replies_in};
-ghost use Rattle.outside.specs.MemoryLink.{IsShort, first_of, rest_of};
+ghost use Rattle.std.specs.Prelude.{◌≡◌, ◌≢◌, ◌<◌, ◌∷◌, ◌++◌, [], ◌^◌, reverse, drop, length, IfOk, IfSome, OnOk, OnErr, All, Contains, None};
+ghost use Rattle.outside.specs.Links.{Starts, Gives, Sends, Replies, bytes_of, plans_in, items_in, frames_in, replies_in, now_given};
+ghost use Rattle.outside.specs.MemoryLink.{IsShort, first_of, rest_of, now_of};
 
 use crate::link::{LinkItem, LinkPlan, Sent};
 use ritas_base::{Bytes, Mem};
 use std::alloc::Global;
 use std::marker::Model;
 
-// What a call did: for `Next`, the place of the item that it gave. At the place after the last item it gave `End`.
+// What a call did: for `Next` and `Now`, the place of the item that it gave. At the place after the last item it gave `End`.
 #[derive(Clone, Copy)]
 pub(crate) enum Did {
     Start,
     Next(usize),
+    Now(usize),
     Send,
     Reply,
 }
@@ -134,6 +135,24 @@ impl Course {
         self.dids.push(Did::Next(self.at))?;
         self.at = place_after(&self.items, self.at);
         Ok(item)
+    }
+
+    /// The next item is given if it is left and isn't `End`, and else none.
+    pub(crate) fn gave_now(&mut self, alloc: Global) -> Result<Option<LinkItem>, Mem>
+        ensures item { IfOk result (λ given. given ≡ now_of self.old.left) }
+        ensures ok { IfOk result (λ given. self.new ≡ record { left = rest_of self.old.left; told = now_given given ++ self.old.told }) }
+        ensures size { IfOk result (λ given. IfSome given (λ item. length (bytes_of item) < 2 ^ 16)) }
+        ensures open { IfOk result (λ given. IfSome given (λ item. item ≢ LinkItem.End)) }
+        ensures end { Contains (items_in self.old.told) LinkItem.End → now_of self.old.left ≡ None }
+        ensures err { OnErr result (self.new ≡ self.old) }
+    {
+        let given = item_at(alloc, &self.items, self.at)?;
+        if given.is_end() {
+            return Ok(None);
+        }
+        self.dids.push(Did::Now(self.at))?;
+        self.at = place_after(&self.items, self.at);
+        Ok(Some(given))
     }
 
     /// The plans that were started, in order.

@@ -1,9 +1,9 @@
 //! The trait of a link, with the items that it gives, the plans that it starts and its counts of faults.
 
-ghost use Rattle.std.specs.Prelude.{◌≡◌, ◌↔◌, ◌<◌, ◌∷◌, ◌^◌, List, ℕ, Bool, true, IsTrue, IfOk, OnOk, OnErr, Err, Contains, length};
+ghost use Rattle.std.specs.Prelude.{◌≡◌, ◌≢◌, ◌↔◌, ◌<◌, ◌∷◌, ◌++◌, ◌^◌, List, ℕ, Bool, true, IsTrue, IfOk, IfSome, OnOk, OnErr, Err, None, Contains, length};
 ghost use Rattle.outside.specs.Faults.{HasCause, count_after};
 ghost use Rattle.outside.specs.declared.link.FaultCounts.{FaultCounts};
-ghost use Rattle.outside.specs.Links.{LinkAct, Starts, Gives, Sends, Replies, bytes_of, items_in, faults_after};
+ghost use Rattle.outside.specs.Links.{LinkAct, Starts, Gives, Sends, Replies, bytes_of, items_in, now_given, faults_after};
 
 use crate::source::Failed;
 use ritas_base::{Bytes, Mem, Texts};
@@ -250,6 +250,17 @@ pub trait Link {
         ensures size { IfOk result (λ item. length (bytes_of item) < 2 ^ 16) }
         ensures end { tells ≡ true → Contains (items_in (told self.old)) LinkItem.End → IfOk result (λ item. item ≡ LinkItem.End) }
         ensures ok { tells ≡ true → IfOk result (λ item. told self.new ≡ Gives item ∷ told self.old) }
+        ensures err { tells ≡ true → OnErr result (told self.new ≡ told self.old) }
+        ensures cause { HasCause (faults self.old).failed (faults self.new).failed (result ≡ Err LinkFault.Failed) }
+        ensures count { faults self.new ≡ faults_after (faults self.old) result };
+
+    /// Gives the next item, of at most 65,535 bytes, if one is there by now, and else `None`. It never waits, and never gives `End`, which
+    /// `next` does.
+    fn next_now(&mut self, alloc: Global) -> Result<Option<LinkItem>, LinkFault>
+        ensures size { IfOk result (λ given. IfSome given (λ item. length (bytes_of item) < 2 ^ 16)) }
+        ensures open { IfOk result (λ given. IfSome given (λ item. item ≢ LinkItem.End)) }
+        ensures end { tells ≡ true → Contains (items_in (told self.old)) LinkItem.End → IfOk result (λ given. given ≡ None) }
+        ensures ok { tells ≡ true → IfOk result (λ given. told self.new ≡ now_given given ++ told self.old) }
         ensures err { tells ≡ true → OnErr result (told self.new ≡ told self.old) }
         ensures cause { HasCause (faults self.old).failed (faults self.new).failed (result ≡ Err LinkFault.Failed) }
         ensures count { faults self.new ≡ faults_after (faults self.old) result };

@@ -1,10 +1,10 @@
 //! A link in memory: it gives the items that it was made with, tells what it was told, and fails where it is to.
 
-ghost use Rattle.std.specs.Prelude.{◌≡◌, ◌<◌, ◌∷◌, [], ◌^◌, true, reverse, length, IfOk, OnOk, OnErr, Err, All, Contains};
+ghost use Rattle.std.specs.Prelude.{◌≡◌, ◌≢◌, ◌<◌, ◌∷◌, ◌++◌, [], ◌^◌, true, reverse, length, IfOk, IfSome, OnOk, OnErr, Err, None, All, Contains};
 ghost use Rattle.outside.specs.Faults.{HasCause, count_after};
 ghost use Rattle.outside.specs.Memory.{no_calls};
-ghost use Rattle.outside.specs.Links.{Starts, Gives, Sends, Replies, bytes_of, plans_in, items_in, frames_in, replies_in, faults_after};
-ghost use Rattle.outside.specs.MemoryLink.{IsShort, LinksMemory, faults_of, first_of, rest_of};
+ghost use Rattle.outside.specs.Links.{Starts, Gives, Sends, Replies, bytes_of, plans_in, items_in, frames_in, replies_in, now_given, faults_after};
+ghost use Rattle.outside.specs.MemoryLink.{IsShort, LinksMemory, LinksTelling, faults_of, first_of, rest_of, now_of};
 
 use crate::course::Course;
 use crate::link::{Link, LinkFault, LinkItem, LinkPlan, Sent};
@@ -16,6 +16,7 @@ use std::net::Net;
 use std::sync::Wait;
 
 /// A link in memory, which gives the items that it was made with, in order, up to the first `End`, and then only `End`.
+/// All that are left before the first `End` are there at once.
 /// Contracts see the items that are left, the calls that answered Ok, the newest first, its calls: those that fail, the
 /// number of the next one, and how many failed, and how many were without memory. Such a call has a number too.
 #[derive(Drop)]
@@ -46,7 +47,7 @@ fn copied(alloc: Global, items: &[LinkItem]) -> Result<Vec<LinkItem>, Mem>
 
 impl MemLink {
     /// A link that gives a copy of these items, each of at most 65,535 bytes. `fails` lists the numbers of the calls of
-    /// `start`, `next`, `send` and `reply` that answer `Failed`. Calls are numbered from 0, and each call after number
+    /// `start`, `next`, `next_now`, `send` and `reply` that answer `Failed`. Calls are numbered from 0, and each call after number
     /// 2^64 - 1 has that number too. The one error is want of memory.
     pub fn new(alloc: Global, items: &[LinkItem], fails: &[u64]) -> Result<MemLink, Mem>
         requires { All IsShort items.now }
@@ -130,6 +131,24 @@ impl Link for MemLink {
         self.calls.begin()?;
         match self.course.gave(alloc) {
             Ok(item) => Ok(item),
+            Err(Mem) => Err(self.fall_short()),
+        }
+    }
+
+    fn next_now(&mut self, alloc: Global) -> Result<Option<LinkItem>, LinkFault>
+        ensures exact { LinksTelling now_given (rest_of self.old.left) self.old self.new result }
+        ensures item { IfOk result (λ given. given ≡ now_of self.old.left) }
+        ensures size { IfOk result (λ given. IfSome given (λ item. length (bytes_of item) < 2 ^ 16)) }
+        ensures open { IfOk result (λ given. IfSome given (λ item. item ≢ LinkItem.End)) }
+        ensures end { Contains (items_in self.old.told) LinkItem.End → IfOk result (λ given. given ≡ None) }
+        ensures ok { IfOk result (λ given. self.new.told ≡ now_given given ++ self.old.told) }
+        ensures err { OnErr result (self.new.told ≡ self.old.told) }
+        ensures cause { HasCause self.old.calls.faults self.new.calls.faults (result ≡ Err LinkFault.Failed) }
+        ensures count { faults_of self.new ≡ faults_after (faults_of self.old) result }
+    {
+        self.calls.begin()?;
+        match self.course.gave_now(alloc) {
+            Ok(given) => Ok(given),
             Err(Mem) => Err(self.fall_short()),
         }
     }
