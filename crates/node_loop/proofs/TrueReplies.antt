@@ -8,7 +8,7 @@ use Rattle.ritas_base.specs.declared.event.Event.TheVariants as events
 use Rattle.outside.specs.declared.link.LinkItem.{LinkItem}
 use Rattle.outside.specs.declared.link.LinkItem.TheVariants as items
 use Rattle.outside.specs.declared.link.Sent.{Sent}
-use Rattle.outside.specs.Links.{LinkAct, Starts, Gives, Sends, Replies, replies_in}
+use Rattle.outside.specs.Links.{LinkAct, Starts, Gives, GivesNow, Sends, Replies, replies_in}
 use Rattle.client_port.specs.Messages.{Request, request_in, position_reply, refusal_reply}
 use Rattle.command_log.specs.Rows.{Row, position_of}
 use Rattle.layer_api.specs.Service.{IsPart}
@@ -53,6 +53,7 @@ replies_more : (acts more : List LinkAct) → replies_in (acts ++ more) ≡ repl
 replies_more [] more = refl
 replies_more (Starts plan ∷ acts) more = replies_more acts more
 replies_more (Gives item ∷ acts) more = replies_more acts more
+replies_more (GivesNow item ∷ acts) more = replies_more acts more
 replies_more (Sends sent ∷ acts) more = replies_more acts more
 replies_more (Replies sent ∷ acts) more = ap (λ (l : List Sent). sent ∷ l) (replies_more acts more)
 
