@@ -7,6 +7,8 @@
 #[cfg(test)]
 mod drive;
 #[cfg(test)]
+mod links;
+#[cfg(test)]
 mod nodes;
 #[cfg(test)]
 mod replay;
