@@ -1,6 +1,6 @@
 //! The pieces of a connection that are given, and their place in the order in which a link gives.
 
-ghost use Rattle.std.specs.Prelude.{◌≡◌, ◌<◌, ◌^◌, IfOk, IfSome, OnOk, length};
+ghost use Rattle.std.specs.Prelude.{◌≡◌, ◌≢◌, ◌<◌, ◌^◌, IfOk, IfSome, OnOk, length};
 ghost use Rattle.outside.specs.Links.{bytes_of};
 ghost use Rattle.tcp_link.specs.Sides.{gives_of, side_item_taken, with_gives, off_given, side_listed, queue_listed, side_given, queue_given};
 
@@ -44,6 +44,7 @@ impl Side {
     // Takes the piece of a connection that came next.
     fn take_listed(&mut self, alloc: Global) -> Result<Option<LinkItem>, Mem>
         ensures size { IfOk result (λ item. IfSome item (λ x. length (bytes_of x) < 2 ^ 16)) }
+        ensures open { IfOk result (λ item. IfSome item (λ x. x ≢ LinkItem.End)) }
         ensures item { IfOk result (λ item. item ≡ side_item_taken self.old) }
         ensures side { OnOk result (self.new ≡ off_given self.old) }
     {
@@ -60,6 +61,7 @@ impl Side {
         token: usize,
     ) -> Result<Option<LinkItem>, Mem>
         ensures size { IfOk result (λ item. IfSome item (λ x. length (bytes_of x) < 2 ^ 16)) }
+        ensures open { IfOk result (λ item. IfSome item (λ x. x ≢ LinkItem.End)) }
         ensures item { IfOk result (λ item. item ≡ side_item_taken self.old) }
         ensures side { OnOk result (self.new ≡ side_given self.old) }
         ensures agenda { OnOk result (agenda.new ≡ queue_given agenda.old token (gives_of (off_given self.old))) }

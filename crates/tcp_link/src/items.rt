@@ -1,6 +1,6 @@
 //! The items that a link gives.
 
-ghost use Rattle.std.specs.Prelude.{◌≡◌, ◌<◌, ◌^◌, ◌&&◌, ◌==◌, not, nat_lt, IfOk, IfSome, length};
+ghost use Rattle.std.specs.Prelude.{◌≡◌, ◌≢◌, ◌<◌, ◌^◌, ◌&&◌, ◌==◌, not, nat_lt, IfOk, IfSome, length};
 ghost use Rattle.slab.specs.Slab.{slab_len};
 ghost use Rattle.outside.specs.Links.{bytes_of};
 
@@ -13,7 +13,8 @@ use std::alloc::Global;
 impl Sockets {
     // The piece of a connection that came next. It is closed if it is over and has no more.
     fn take_from(&mut self, alloc: Global, token: usize) -> Result<Option<LinkItem>, Mem>
-        ensures { IfOk result (λ item. IfSome item (λ x. length (bytes_of x) < 2 ^ 16)) }
+        ensures size { IfOk result (λ item. IfSome item (λ x. length (bytes_of x) < 2 ^ 16)) }
+        ensures open { IfOk result (λ item. IfSome item (λ x. x ≢ LinkItem.End)) }
     {
         let Some(conn) = self.conns.get_mut(token) else {
             return Ok(None);
@@ -29,7 +30,8 @@ impl Sockets {
 
     // The item that comes next, if its connection still has it.
     fn take_next(&mut self, alloc: Global, next: Next) -> Result<Option<LinkItem>, Mem>
-        ensures { IfOk result (λ item. IfSome item (λ x. length (bytes_of x) < 2 ^ 16)) }
+        ensures size { IfOk result (λ item. IfSome item (λ x. length (bytes_of x) < 2 ^ 16)) }
+        ensures open { IfOk result (λ item. IfSome item (λ x. x ≢ LinkItem.End)) }
     {
         match next {
             Next::Told(news) => Ok(Some(news.item())),
@@ -37,16 +39,17 @@ impl Sockets {
         }
     }
 
-    // Whether no item follows: a client's link ends once it has no connection left, and that was told of each.
-    fn is_at_end(&self) -> bool
+    /// Whether no item follows: a client's link ends once it has no connection left, and that was told of each.
+    pub(crate) fn is_at_end(&self) -> bool
         ensures { result ≡ (self.now.is_client && (slab_len self.now.conns.places == 0) && not (nat_lt 0 (length self.now.agenda.news))) }
     {
         self.is_client && self.conns.is_empty() && !self.agenda.has_news()
     }
 
-    /// The next item, if one came. The one error is want of memory.
+    /// The next item that came, if there is one. The one error is want of memory.
     pub(crate) fn take_item(&mut self, alloc: Global) -> Result<Option<LinkItem>, Mem>
-        ensures { IfOk result (λ item. IfSome item (λ x. length (bytes_of x) < 2 ^ 16)) }
+        ensures size { IfOk result (λ item. IfSome item (λ x. length (bytes_of x) < 2 ^ 16)) }
+        ensures open { IfOk result (λ item. IfSome item (λ x. x ≢ LinkItem.End)) }
     {
         for _ in 0..self.agenda.len() {
             let Some(next) = self.agenda.next() else {
@@ -56,9 +59,6 @@ impl Sockets {
             if item.is_some() {
                 return Ok(item);
             }
-        }
-        if self.is_at_end() {
-            return Ok(Some(LinkItem::End));
         }
         Ok(None)
     }

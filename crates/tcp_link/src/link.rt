@@ -1,6 +1,6 @@
 //! The link over TCP: what comes by its connections is given in order, and what is sent goes out.
 
-ghost use Rattle.std.specs.Prelude.{◌≡◌, ◌<◌, ◌^◌, [], false, IfOk, IfSome, length, Err};
+ghost use Rattle.std.specs.Prelude.{◌≡◌, ◌≢◌, ◌<◌, ◌^◌, [], false, IfOk, IfSome, length, Err};
 ghost use Rattle.outside.specs.Faults.{HasCause};
 ghost use Rattle.outside.specs.Links.{bytes_of, faults_after};
 ghost use Rattle.tcp_link.specs.Outcomes.{link_fault_of};
@@ -19,6 +19,7 @@ use std::sync::Wait;
 ///
 /// Addresses are texts as `127.0.0.1:8080`, of at most 31 replicas or nodes; further ones are left out. `Failed` is answered where
 /// a node's number is none of theirs, a listener can't be made, as for want of its address, or the poll fails. Until it is started it gives `End`.
+/// `next_now` reads nothing: it gives what is left of what `next` read, of each client at most one message until `next` reads again.
 #[derive(Drop)]
 pub struct TcpLink {
     running: Option<Running>,
@@ -59,19 +60,21 @@ impl TcpLink {
         }
     }
 
-    // The next item, if one came by now.
+    // The next item, if one was read by now, or none follows. Where neither is so, it waits for what comes, and reads it.
     fn step<R: Net>(&mut self, rt: &R, alloc: Global) -> Result<Option<LinkItem>, LinkFault>
         ensures size { IfOk result (λ item. IfSome item (λ x. length (bytes_of x) < 2 ^ 16)) }
         ensures cause { HasCause self.old.faults.failed self.new.faults.failed (result ≡ Err LinkFault.Failed) }
         ensures count { self.new.faults ≡ faults_after self.old.faults result }
     {
+        let given = self.next_now(alloc)?;
+        if given.is_some() {
+            return Ok(given);
+        }
         let Some(running) = &mut self.running else {
             return Ok(Some(LinkItem::End));
         };
-        match running.sockets.take_item(alloc) {
-            Ok(Some(item)) => return Ok(Some(item)),
-            Ok(None) => {}
-            Err(Mem) => return Err(self.faults.fall_short()),
+        if running.sockets.is_at_end() {
+            return Ok(Some(LinkItem::End));
         }
         match running.turn(rt, alloc) {
             Ok(()) => Ok(None),
@@ -118,6 +121,21 @@ impl Link for TcpLink {
             }
         }
         unreachable!()
+    }
+
+    fn next_now(&mut self, alloc: Global) -> Result<Option<LinkItem>, LinkFault>
+        ensures size { IfOk result (λ given. IfSome given (λ item. length (bytes_of item) < 2 ^ 16)) }
+        ensures open { IfOk result (λ given. IfSome given (λ item. item ≢ LinkItem.End)) }
+        ensures cause { HasCause self.old.faults.failed self.new.faults.failed (result ≡ Err LinkFault.Failed) }
+        ensures count { self.new.faults ≡ faults_after self.old.faults result }
+    {
+        let Some(running) = &mut self.running else {
+            return Ok(None);
+        };
+        match running.sockets.take_item(alloc) {
+            Ok(given) => Ok(given),
+            Err(Mem) => Err(self.faults.fall_short()),
+        }
     }
 
     fn send<R: Net + Wait>(

@@ -1,6 +1,6 @@
 //! What is told of peers, nodes and clients.
 
-ghost use Rattle.std.specs.Prelude.{◌≡◌};
+ghost use Rattle.std.specs.Prelude.{◌≡◌, ◌≢◌};
 ghost use Rattle.tcp_link.specs.Names.{item_told, up_of, told_at_end};
 
 use crate::stage::Stage;
@@ -21,7 +21,8 @@ pub(crate) enum News {
 impl News {
     /// The item that tells it.
     pub(crate) fn item(self) -> LinkItem
-        ensures { result ≡ item_told self }
+        ensures is { result ≡ item_told self }
+        ensures open { result ≢ LinkItem.End }
     {
         match self {
             News::Up { at, peer } => LinkItem::Up { at, peer },

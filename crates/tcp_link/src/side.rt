@@ -1,6 +1,6 @@
 //! What is known of a connection without its stream: how far it is, whom it is with, and the bytes that came and that go.
 
-ghost use Rattle.std.specs.Prelude.{◌≡◌, ◌<◌, ◌^◌, ◌++◌, ◌∷◌, [], IfOk, IfSome, OnOk, length, is_some, nat_lt, false};
+ghost use Rattle.std.specs.Prelude.{◌≡◌, ◌≢◌, ◌<◌, ◌^◌, ◌++◌, ◌∷◌, [], IfOk, IfSome, OnOk, length, is_some, nat_lt, false};
 ghost use Rattle.outside.specs.Links.{bytes_of};
 ghost use Rattle.tcp_link.specs.Limits.{longest_piece};
 ghost use Rattle.tcp_link.specs.Names.{naming, most_of};
@@ -371,6 +371,7 @@ impl Side {
     /// Takes the piece at the front, if it is whole. The one error is want of memory.
     pub(crate) fn take(&mut self, alloc: Global) -> Result<Option<LinkItem>, Mem>
         ensures size { IfOk result (λ item. IfSome item (λ x. length (bytes_of x) < 2 ^ 16)) }
+        ensures open { IfOk result (λ item. IfSome item (λ x. x ≢ LinkItem.End)) }
         ensures item { IfOk result (λ item. item ≡ side_item_taken self.old) }
         ensures rest { OnOk result (self.new ≡ side_taken self.old) }
     {

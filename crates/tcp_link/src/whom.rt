@@ -1,6 +1,6 @@
 //! Whom a connection is with, and what follows from it.
 
-ghost use Rattle.std.specs.Prelude.{◌≡◌, ◌<◌, ◌^◌, IfSome, length};
+ghost use Rattle.std.specs.Prelude.{◌≡◌, ◌≢◌, ◌<◌, ◌^◌, IfSome, length};
 ghost use Rattle.std.specs.Option.{SomeIff};
 ghost use Rattle.outside.specs.Links.{bytes_of};
 ghost use Rattle.tcp_link.specs.Names.{IsName, most_of, link_item_of, is_client, is_client_of, is_node, is_with_peer, most_kept, sent_through, dial_again, told_first};
@@ -83,6 +83,7 @@ impl Whom {
         requires { length bytes < 2 ^ 16 }
         ensures is { result ≡ link_item_of self bytes }
         ensures size { IfSome result (λ item. length (bytes_of item) < 2 ^ 16) }
+        ensures open { IfSome result (λ item. item ≢ LinkItem.End) }
     {
         match self {
             Whom::Unnamed { at: _ } => None,
