@@ -1,4 +1,4 @@
-//! Tests of links over loopback: a cluster of two, and a node with its client.
+//! Tests of links over loopback: a cluster of two, with what is there by now, and a node with its client.
 
 use outside::{Link, LinkFault, LinkItem, LinkPlan};
 use ritas_base::{Bytes, Mem, Texts};
@@ -109,6 +109,33 @@ fn a_cluster(rt: HostRuntime) -> Result<(), Fail> {
     let peers = addresses(rt.alloc(), b"127.0.0.1:21010", b"127.0.0.1:21011")?;
     let mut link = started(&rt, rt.alloc(), &LinkPlan::Cluster { peers })?;
     assert!(rt; frames_come(&rt, rt.alloc(), &mut link)?);
+    Ok(())
+}
+
+// Whether what is there by now is a frame of these bytes for replica 0.
+fn has_frame(alloc: Global, link: &mut TcpLink, wanted: &[u8]) -> Result<bool, LinkFault> {
+    match link.next_now(alloc)? {
+        Some(LinkItem::Frame { to: 0, bytes }) => Ok(bytes.as_slice() == wanted),
+        _ => Ok(false),
+    }
+}
+
+// Whether two frames that go out together come together: the first is waited for, the second is there then, and no third.
+fn both_come<R: Net + Wait>(rt: &R, alloc: Global, link: &mut TcpLink) -> Result<bool, LinkFault> {
+    let are_up = gives_up(rt, alloc, link, 1, 0)? && gives_up(rt, alloc, link, 0, 1)?;
+    link.send(rt, alloc, 1, 0, b"one")?;
+    link.send(rt, alloc, 1, 0, b"other")?;
+    let come = gives_frame(rt, alloc, link, b"one")? && has_frame(alloc, link, b"other")?;
+    Ok(are_up && come && link.next_now(alloc)?.is_none())
+}
+
+#[test]
+fn what_was_read_is_there(rt: HostRuntime) -> Result<(), Fail> {
+    let mut link = TcpLink::new(rt.alloc());
+    assert!(rt; link.next_now(rt.alloc())?.is_none());
+    let peers = addresses(rt.alloc(), b"127.0.0.1:21030", b"127.0.0.1:21031")?;
+    link.start(&rt, rt.alloc(), &LinkPlan::Cluster { peers })?;
+    assert!(rt; both_come(&rt, rt.alloc(), &mut link)?);
     Ok(())
 }
 
