@@ -17,6 +17,7 @@ impl Sockets {
         ensures open { IfOk result (λ item. IfSome item (λ x. x ≢ LinkItem.End)) }
     {
         let Some(conn) = self.conns.get_mut(token) else {
+            // It is gone.
             return Ok(None);
         };
         let item = conn.side.give(alloc, &mut self.agenda, token)?;
