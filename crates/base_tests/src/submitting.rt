@@ -15,8 +15,8 @@ use std::sync::Wait;
 use std::test::*;
 
 fn short(alloc: Global, bytes: &[u8]) -> Result<Bytes, Mem>
-    requires { length bytes.now < 2 ^ 16 }
-    ensures { IfOk result (λ b. length b < 2 ^ 16) }
+    requires fits { length bytes.now < 2 ^ 16 }
+    ensures short { IfOk result (λ b. length b < 2 ^ 16) }
 {
     Bytes::from_slice(alloc, bytes)
 }
@@ -24,7 +24,7 @@ fn short(alloc: Global, bytes: &[u8]) -> Result<Bytes, Mem>
 fn add(items: &mut Vec<LinkItem>, item: LinkItem) -> Result<(), Mem>
     requires short { length (bytes_of item) < 2 ^ 16 }
     requires all { All IsShort items.old.items }
-    ensures { OnOk result (All IsShort items.new.items) }
+    ensures all { OnOk result (All IsShort items.new.items) }
 {
     items.push(item)?;
     Ok(())
@@ -32,8 +32,8 @@ fn add(items: &mut Vec<LinkItem>, item: LinkItem) -> Result<(), Mem>
 
 // A reply of a node more, to request 1 of client 7.
 fn replies(items: &mut Vec<LinkItem>, alloc: Global, from: u8, bytes: &[u8; 13]) -> Result<(), Mem>
-    requires { All IsShort items.old.items }
-    ensures { OnOk result (All IsShort items.new.items) }
+    requires all { All IsShort items.old.items }
+    ensures all { OnOk result (All IsShort items.new.items) }
 {
     let bytes = short(alloc, bytes)?;
     add(items, LinkItem::Reply { from, bytes })
@@ -41,7 +41,7 @@ fn replies(items: &mut Vec<LinkItem>, alloc: Global, from: u8, bytes: &[u8; 13])
 
 // The first reply of position 5, and then the second.
 fn two(alloc: Global) -> Result<Vec<LinkItem>, Mem>
-    ensures { IfOk result (λ v. All IsShort v.items) }
+    ensures all { IfOk result (λ v. All IsShort v.items) }
 {
     let mut items = Vec::new(alloc);
     replies(&mut items, alloc, 0, &write_reply(7, 1, 5))?;
@@ -51,7 +51,7 @@ fn two(alloc: Global) -> Result<Vec<LinkItem>, Mem>
 
 // The first reply, and then items that change nothing.
 fn quiet(alloc: Global) -> Result<Vec<LinkItem>, Mem>
-    ensures { IfOk result (λ v. All IsShort v.items) }
+    ensures all { IfOk result (λ v. All IsShort v.items) }
 {
     let mut items = Vec::new(alloc);
     replies(&mut items, alloc, 0, &write_reply(7, 1, 5))?;

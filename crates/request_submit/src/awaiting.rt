@@ -7,7 +7,7 @@ ghost use Rattle.client_port.specs.Votes.{Wanted, VotesStand};
 ghost use Rattle.request_submit.specs.Submitting.{reply_calls, settles, Submits};
 ghost use Rattle.request_submit.specs.Waiting.{Waits, WaitsOrEnds};
 
-use crate::end::{SubmitEnd, end_of};
+use crate::end::SubmitEnd;
 use client_port::Votes;
 use outside::{Link, LinkItem};
 use std::alloc::Global;
@@ -40,14 +40,11 @@ fn take<R: Net + Wait, L: Link>(
     votes: &mut Votes,
     link: &mut L,
 ) -> Result<(), SubmitEnd>
-    ensures { (w : Wanted) (nodes : List (List ℕ)) (payload : List ℕ) (base : List LinkAct) (before : FaultCounts)
+    ensures waits { (w : Wanted) (nodes : List (List ℕ)) (payload : List ℕ) (base : List LinkAct) (before : FaultCounts)
         → Waits w nodes payload L.tells base (L.told link.old) before (L.faults link.old) votes.old
         → WaitsOrEnds w nodes payload L.tells base (L.told link.new) before (L.faults link.new) votes.new result }
 {
-    let item = match link.next(rt, alloc) {
-        Ok(item) => item,
-        Err(fault) => return Err(end_of(fault)),
-    };
+    let item = link.next(rt, alloc)?;
     if item.is_end() {
         return Err(SubmitEnd::NoPosition);
     }
@@ -64,7 +61,7 @@ pub(crate) fn await_position<R: Net + Wait, L: Link>(
     votes: Votes,
     link: &mut L,
 ) -> SubmitEnd
-    ensures { (w : Wanted) (nodes : List (List ℕ)) (payload : List ℕ) (base : List LinkAct) (before : FaultCounts)
+    ensures submits { (w : Wanted) (nodes : List (List ℕ)) (payload : List ℕ) (base : List LinkAct) (before : FaultCounts)
         → Waits w nodes payload L.tells base (L.told link.old) before (L.faults link.old) votes
         → Submits w nodes payload L.tells base (L.told link.new) before (L.faults link.new) result }
 {

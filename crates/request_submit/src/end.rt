@@ -1,8 +1,7 @@
 //! How handing in a request ends.
 
-ghost use Rattle.request_submit.specs.Waiting.{IsSubmitEndOf};
-
 use outside::LinkFault;
+use ritas_base::Mem;
 
 /// How handing in a request ended.
 #[derive(Clone, Copy, Debug, PartialEq, Eq)]
@@ -17,12 +16,26 @@ pub enum SubmitEnd {
     Mem,
 }
 
-// The end that a fault of the link is.
-pub(crate) fn end_of(fault: LinkFault) -> SubmitEnd
-    ensures { IsSubmitEndOf fault result }
-{
-    match fault {
-        LinkFault::Failed => SubmitEnd::LinkFault,
-        LinkFault::Mem => SubmitEnd::Mem,
+impl From<Mem> for SubmitEnd {
+    ghost use Rattle.std.specs.Prelude.{◌≡◌};
+    ghost use Rattle.request_submit.specs.declared.end.SubmitEnd.TheVariants as ends;
+
+    ghost from_gives = { λ _ end. end ≡ ends.Mem };
+
+    fn from(_: Mem) -> SubmitEnd {
+        SubmitEnd::Mem
+    }
+}
+
+impl From<LinkFault> for SubmitEnd {
+    ghost use Rattle.request_submit.specs.Waiting.{IsSubmitEndOf};
+
+    ghost from_gives = { IsSubmitEndOf };
+
+    fn from(fault: LinkFault) -> SubmitEnd {
+        match fault {
+            LinkFault::Failed => SubmitEnd::LinkFault,
+            LinkFault::Mem => SubmitEnd::Mem,
+        }
     }
 }

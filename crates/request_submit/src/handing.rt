@@ -6,7 +6,7 @@ ghost use Rattle.client_port.specs.Messages.{request_bytes};
 ghost use Rattle.request_submit.specs.Submitting.{plan_of, sent_to_each, Submits};
 
 use crate::awaiting::await_position;
-use crate::end::{SubmitEnd, end_of};
+use crate::end::SubmitEnd;
 use client_port::{Votes, write_request};
 use outside::{Link, LinkFault, LinkPlan};
 use ritas_base::{Bytes, Mem, Params, Texts};
@@ -22,13 +22,10 @@ fn send_to_each<R: Net + Wait, L: Link>(
     count: u8,
     message: &[u8],
 ) -> Result<(), LinkFault>
-    ensures { LinkDid L.tells (sent_to_each count message.now) (L.told link.old) (L.told link.new) (L.faults link.old) (L.faults link.new) result }
+    ensures sent { LinkDid L.tells (sent_to_each count message.now) (L.told link.old) (L.told link.new) (L.faults link.old) (L.faults link.new) result }
 {
     for node in 0..count {
-        match link.send(rt, alloc, 0, node, message) {
-            Ok(()) => {}
-            Err(fault) => return Err(fault),
-        }
+        link.send(rt, alloc, 0, node, message)?;
     }
     Ok(())
 }
@@ -58,12 +55,10 @@ fn hand_in<R: Net + Wait, L: Link>(
     message: &[u8],
     link: &mut L,
 ) -> Result<(), LinkFault>
-    ensures { LinkDid L.tells (sent_to_each count message.now ++ Starts plan.now ∷ []) (L.told link.old) (L.told link.new) (L.faults link.old) (L.faults link.new) result }
+    ensures handed { LinkDid L.tells (sent_to_each count message.now ++ Starts plan.now ∷ []) (L.told link.old) (L.told link.new) (L.faults link.old) (L.faults link.new) result }
 {
-    match link.start(rt, alloc, plan) {
-        Ok(()) => send_to_each(rt, alloc, link, count, message),
-        Err(fault) => Err(fault),
-    }
+    link.start(rt, alloc, plan)?;
+    send_to_each(rt, alloc, link, count, message)
 }
 
 /// Hands a client's request to all nodes, and waits for a position that f + 1 of them reply: as up to f nodes may be faulty,
@@ -88,7 +83,7 @@ pub fn submit<R: Net + Wait, L: Link>(
     payload: &[u8],
     link: &mut L,
 ) -> SubmitEnd
-    ensures { Submits (record { numbers = p.now; client = client; request = request }) nodes.now payload.now L.tells (L.told link.old) (L.told link.new) (L.faults link.old) (L.faults link.new) result }
+    ensures submits { Submits (record { numbers = p.now; client = client; request = request }) nodes.now payload.now L.tells (L.told link.old) (L.told link.new) (L.faults link.old) (L.faults link.new) result }
 {
     let (plan, message) = match prepared(alloc, nodes, client, request, payload) {
         Ok(prepared) => prepared,
@@ -96,6 +91,6 @@ pub fn submit<R: Net + Wait, L: Link>(
     };
     match hand_in(rt, alloc, p.n(), &plan, message.as_slice(), link) {
         Ok(()) => await_position(rt, alloc, Votes::new(p, client, request), link),
-        Err(fault) => end_of(fault),
+        Err(fault) => SubmitEnd::from(fault),
     }
 }

@@ -6,7 +6,7 @@ ghost use Rattle.request_submit.specs.Laws.{OneOfLogs};
 ///
 /// It does nothing: its contract is the law.
 pub fn position_is_one_of_logs()
-    ensures { OneOfLogs }
+    ensures one { OneOfLogs }
 {
     client_port::position_is_true();
 }
