@@ -124,8 +124,4 @@ module _ (h : Header) (plan : LinkPlan) (tells : Tells) where
       by_end ends.LinkFault why = (why.cause, part [], NotStarted why)
       by_end ends.TapeFault why = (why.cause, last_taken base now s.events s.acts rule part, NotStarted why)
       by_end ends.Mem why = (why.cause, part [], NotStarted why)
-      by_end ends.Done why = absurd why.cause
-      by_end ends.Limit why = absurd why.cause
-      by_end ends.End why = absurd why.cause
-      by_end ends.DiskFault why = absurd why.cause
-      by_end (ends.JournalFull x) why = absurd why.cause
+      by_end end why = absurd why.cause

@@ -93,29 +93,24 @@ module _ (x : Session) (w : Setting) (tells : Tells) where
       ended ends.Mem result so both same link closed kept =
           let k = kept refl in
           subst EndedAt (sym k.0) (fell_short so.cause k.1, breaks _ [] so both k.1, broke ends.Mem so k.1)
-      ended ends.DiskFault result so both same link closed kept = absurd so
-      ended (ends.JournalFull x) result so both same link closed kept = absurd so
+      ended end result so both same link closed kept = absurd so
 
     -- counts of faults don't fall
     pub tape_on : (s : Serving) (sooner news : List LinkAct) (rule : Want) (end : ServeEnd) → EndsSo m w [] numbers here tells mid now end s sooner news rule → mid.tape_faults ≤ now.tape_faults
-    tape_on s sooner news rule ends.Done so = omega (arith, so.agrees.tape_stands)
-    tape_on s sooner news rule ends.Limit so = omega (arith, so.agrees.tape_stands)
-    tape_on s sooner news rule ends.End so = omega (arith, so.agrees.tape_stands)
     tape_on s sooner news rule ends.LinkFault so = so.0.tape_later
     tape_on s sooner news rule ends.TapeFault so = so.0.tape_later
     tape_on s sooner news rule ends.Mem so = so.tape_later
     tape_on s sooner news rule ends.DiskFault so = absurd so
     tape_on s sooner news rule (ends.JournalFull x) so = absurd so
+    tape_on s sooner news rule end so = omega (arith, so.agrees.tape_stands)
 
     pub link_on : (s : Serving) (sooner news : List LinkAct) (rule : Want) (end : ServeEnd) → EndsSo m w [] numbers here tells mid now end s sooner news rule → mid.link_faults.failed ≤ now.link_faults.failed
-    link_on s sooner news rule ends.Done so = omega (arith, same_failed so.agrees.link_stands)
-    link_on s sooner news rule ends.Limit so = omega (arith, same_failed so.agrees.link_stands)
-    link_on s sooner news rule ends.End so = omega (arith, same_failed so.agrees.link_stands)
     link_on s sooner news rule ends.LinkFault so = so.0.link_later
     link_on s sooner news rule ends.TapeFault so = so.0.link_later
     link_on s sooner news rule ends.Mem so = so.link_later
     link_on s sooner news rule ends.DiskFault so = absurd so
     link_on s sooner news rule (ends.JournalFull x) so = absurd so
+    link_on s sooner news rule end so = omega (arith, same_failed so.agrees.link_stands)
 
     pub close_on : (end result : ServeEnd) → Closes tells.tape now.taken last.taken now.tape_faults last.tape_faults end result → now.tape_faults ≤ last.tape_faults
     close_on end result (Closed is stands closed) = omega (arith, stands)

@@ -32,7 +32,7 @@ use Rattle.node_loop.specs.declared.end.ServeEnd.TheVariants as ends
 use Rattle.node_loop.specs.Again.{ServesAgain}
 use Rattle.node_loop.specs.Archives.{Moment, KeptAt, moment}
 use Rattle.node_loop.specs.Keeping.{kept_of}
-use Rattle.node_loop.specs.Outs.{Outs, Tells, NoneFailed, NoneSent}
+use Rattle.node_loop.specs.Outs.{Outs, Tells, NoneFailed, NoneSent, StopsPartway}
 use Rattle.node_loop.specs.Recovering.{recovered, recalled_deeds, with_past}
 use Rattle.node_loop.specs.ServedKept.{BreaksOff, EndsKept, earlier_from, group_kept}
 use Rattle.node_loop.specs.ServingLaws.{acts_from}
@@ -47,14 +47,9 @@ use Rattle.node_session.proofs.Ending.{same_failed, breaks, ended, tape_on, link
 -- each end of any session is one of a life
 to_life : (x : Session) (tells : Tells) (base now : Outs) (end : ServeEnd) (s : Serving) (sooner news : List LinkAct) (rule : Want)
     → SessionEnds x.header x.plan tells base now end s sooner news rule → LifeEnds x.header x.plan tells base now end s sooner news rule
-to_life x tells base now ends.Done s sooner news rule so = so
-to_life x tells base now ends.Limit s sooner news rule so = so
-to_life x tells base now ends.End s sooner news rule so = so
-to_life x tells base now ends.LinkFault s sooner news rule so = so
-to_life x tells base now ends.TapeFault s sooner news rule so = so
-to_life x tells base now ends.Mem s sooner news rule so = so
 to_life x tells base now ends.DiskFault s sooner news rule so = absurd so
 to_life x tells base now (ends.JournalFull size) s sooner news rule so = absurd so
+to_life x tells base now end s sooner news rule so = so
 
 -- ---- what was kept
 
@@ -64,11 +59,7 @@ none_given : (now : Moment) (none : Type 0) (x : Session) (tells : Tells) (base 
 none_given now none x tells base outs ends.LinkFault failed here = here
 none_given now none x tells base outs ends.TapeFault failed here = inl here
 none_given now none x tells base outs ends.Mem failed here = inl here
-none_given now none x tells base outs ends.Done failed here = here
-none_given now none x tells base outs ends.Limit failed here = here
-none_given now none x tells base outs ends.End failed here = here
-none_given now none x tells base outs ends.DiskFault failed here = absurd failed.cause
-none_given now none x tells base outs (ends.JournalFull size) failed here = absurd failed.cause
+none_given now none x tells base outs end failed here = absurd failed.cause
 
 -- the end mark was written, or the output failed, and all was kept
 all_kept : (now : Moment) (none : Type 0) (kept group older : List Event) (tells : Bool) (old new : List ℕ) (before after : ℕ) (end result : ServeEnd) → is_reason end ≡ true
@@ -79,11 +70,7 @@ all_kept now none kept group older tells old new before after end result reason 
     here ends.Done is = stands
     here ends.Limit is = stands
     here ends.End is = stands
-    here ends.LinkFault is = absurd (cc is)
-    here ends.TapeFault is = absurd (cc is)
-    here ends.Mem is = absurd (cc is)
-    here ends.DiskFault is = absurd (cc is)
-    here (ends.JournalFull size) is = absurd (cc is)
+    here end is = absurd (cc is)
 all_kept now none kept group older tells old new before after end result reason stands (Failed is rises later lost) = subst (LifeKept now none kept group older) (sym is) (inl stands)
 
 module _ (x : Session) (w : Setting) (tells : Tells) {S E C : Type 0} (m : Meaning S E C KeyRow) (numbers : List ℕ) (here : List (Replica S E C))
@@ -98,38 +85,28 @@ module _ (x : Session) (w : Setting) (tells : Tells) {S E C : Type 0} (m : Meani
       → (is_reason end ≡ false → (result ≡ end) × (last ≡ now)) → LifeEnds x.header x.plan tells base last result s sooner news rule
   life_ended end result so both same link closed kept = by_end end so closed kept
     where
-      plain : (e : ServeEnd) → SessionEnds x.header x.plan tells base last result s sooner news rule → LifeEnds x.header x.plan tells base last result s sooner news rule
-      plain e so = to_life x tells base last result s sooner news rule so
+      at : ServeEnd → Type 0
+      at e = LifeEnds x.header x.plan tells base last e s sooner news rule
 
       none_failed : NoneFailed mid now → last ≡ now → NoneFailed base last
       none_failed cause same = rw same (cause.0 ∙ begun.tape_stands, cause.1 ∙ begun.link_stands)
 
-      over : (e : ServeEnd) → BreaksOff tells mid now e s.events sooner news → last ≡ now → BrokeAt x.header x.plan tells base last e s.events sooner news
-      over e stops same = record { mid = mid; begun = begun; stops = subst (λ (o : Outs). BreaksOff tells mid o e s.events sooner news) (sym same) stops }
+      -- the journal failed
+      over : (e : ServeEnd) (fault : _) → BreaksOff tells mid now e s.events sooner news → StopsPartway tells mid now fault s.events sooner news → NoneFailed mid now → last ≡ now
+          → NoneFailed base last × TookPart x.header x.plan tells base last s.events s.acts × BrokeAt x.header x.plan tells base last e s.events sooner news
+      over e fault off stops cause same = (
+        none_failed cause same,
+        breaks x w tells m numbers here base mid now last begun s sooner news rule fault [] stops both same,
+        record { mid = mid; begun = begun; stops = subst (λ (o : Outs). BreaksOff tells mid o e s.events sooner news) (sym same) off },
+      )
 
       by_end : (e : ServeEnd) → EndsKept m w [] numbers here tells mid now e s sooner news rule
           → (is_reason e ≡ true → Closes tells.tape now.taken last.taken now.tape_faults last.tape_faults e result)
           → (is_reason e ≡ false → (result ≡ e) × (last ≡ now)) → LifeEnds x.header x.plan tells base last result s sooner news rule
-      by_end ends.Done so closed kept = plain ends.Done (ended x w tells m numbers here base mid now last begun s sooner news rule ends.Done result so both same link closed kept)
-      by_end ends.Limit so closed kept = plain ends.Limit (ended x w tells m numbers here base mid now last begun s sooner news rule ends.Limit result so both same link closed kept)
-      by_end ends.End so closed kept = plain ends.End (ended x w tells m numbers here base mid now last begun s sooner news rule ends.End result so both same link closed kept)
-      by_end ends.LinkFault so closed kept = plain ends.LinkFault (ended x w tells m numbers here base mid now last begun s sooner news rule ends.LinkFault result so both same link closed kept)
-      by_end ends.TapeFault so closed kept = plain ends.TapeFault (ended x w tells m numbers here base mid now last begun s sooner news rule ends.TapeFault result so both same link closed kept)
-      by_end ends.Mem so closed kept = plain ends.Mem (ended x w tells m numbers here base mid now last begun s sooner news rule ends.Mem result so both same link closed kept)
-      by_end ends.DiskFault so closed kept =
-          let k = kept refl in
-          subst (λ (e : ServeEnd). LifeEnds x.header x.plan tells base last e s sooner news rule) (sym k.0) (
-            none_failed so.0.cause k.1,
-            breaks x w tells m numbers here base mid now last begun s sooner news rule _ [] so.0 both k.1,
-            over ends.DiskFault so.0 k.1,
-          )
-      by_end (ends.JournalFull size) so closed kept =
-          let k = kept refl in
-          subst (λ (e : ServeEnd). LifeEnds x.header x.plan tells base last e s sooner news rule) (sym k.0) (
-            none_failed so.0.cause k.1,
-            breaks x w tells m numbers here base mid now last begun s sooner news rule _ [] so.0 both k.1,
-            over (ends.JournalFull size) so.0 k.1,
-          )
+      by_end ends.DiskFault so closed kept = subst at (sym (kept refl).0) (over ends.DiskFault _ so.0 so.0 so.0.cause (kept refl).1)
+      by_end (ends.JournalFull size) so closed kept = subst at (sym (kept refl).0) (over (ends.JournalFull size) _ so.0 so.0 so.0.cause (kept refl).1)
+      by_end e so closed kept =
+          to_life x tells base last result s sooner news rule (ended x w tells m numbers here base mid now last begun s sooner news rule e result so both same link closed kept)
 
   -- what the archive stands for at the end of serving is what it stands for at the end of the session
   life_kept : (stands : List Event → Type 0) (fails : ArchiveFault → List Event → List Event → Type 0) (kept group older : List Event) (end result : ServeEnd)
@@ -149,34 +126,22 @@ module _ (x : Session) (w : Setting) (tells : Tells) {S E C : Type 0} (m : Meani
       by_end ends.Done so held closed same = all_kept (moment last stands fails) _ kept group older _ _ _ _ _ ends.Done result refl held (closed refl)
       by_end ends.Limit so held closed same = all_kept (moment last stands fails) _ kept group older _ _ _ _ _ ends.Limit result refl held (closed refl)
       by_end ends.End so held closed same = all_kept (moment last stands fails) _ kept group older _ _ _ _ _ ends.End result refl held (closed refl)
-      by_end ends.LinkFault so held closed same = subst at (sym (same refl).0) held
       by_end ends.TapeFault so held closed same = subst at (sym (same refl).0) (inr (nothing_more (same refl).1 so.0.order, held))
       by_end ends.Mem so held closed same = subst at (sym (same refl).0) (elim held [
         | inl all ↦ inl all
         | inr some ↦ inr (nothing_more (same refl).1 some.0, some.1)
       ])
-      by_end ends.DiskFault so held closed same = subst at (sym (same refl).0) held
-      by_end (ends.JournalFull size) so held closed same = subst at (sym (same refl).0) held
+      by_end e so held closed same = subst at (sym (same refl).0) held
 
   life_tape_on : (end : ServeEnd) → EndsKept m w [] numbers here tells mid now end s sooner news rule → mid.tape_faults ≤ now.tape_faults
-  life_tape_on ends.Done so = tape_on x w tells m numbers here base mid now last begun s sooner news rule ends.Done so
-  life_tape_on ends.Limit so = tape_on x w tells m numbers here base mid now last begun s sooner news rule ends.Limit so
-  life_tape_on ends.End so = tape_on x w tells m numbers here base mid now last begun s sooner news rule ends.End so
-  life_tape_on ends.LinkFault so = tape_on x w tells m numbers here base mid now last begun s sooner news rule ends.LinkFault so
-  life_tape_on ends.TapeFault so = tape_on x w tells m numbers here base mid now last begun s sooner news rule ends.TapeFault so
-  life_tape_on ends.Mem so = tape_on x w tells m numbers here base mid now last begun s sooner news rule ends.Mem so
   life_tape_on ends.DiskFault so = so.0.tape_later
   life_tape_on (ends.JournalFull size) so = so.0.tape_later
+  life_tape_on end so = tape_on x w tells m numbers here base mid now last begun s sooner news rule end so
 
   life_link_on : (end : ServeEnd) → EndsKept m w [] numbers here tells mid now end s sooner news rule → mid.link_faults.failed ≤ now.link_faults.failed
-  life_link_on ends.Done so = link_on x w tells m numbers here base mid now last begun s sooner news rule ends.Done so
-  life_link_on ends.Limit so = link_on x w tells m numbers here base mid now last begun s sooner news rule ends.Limit so
-  life_link_on ends.End so = link_on x w tells m numbers here base mid now last begun s sooner news rule ends.End so
-  life_link_on ends.LinkFault so = link_on x w tells m numbers here base mid now last begun s sooner news rule ends.LinkFault so
-  life_link_on ends.TapeFault so = link_on x w tells m numbers here base mid now last begun s sooner news rule ends.TapeFault so
-  life_link_on ends.Mem so = link_on x w tells m numbers here base mid now last begun s sooner news rule ends.Mem so
   life_link_on ends.DiskFault so = so.0.link_later
   life_link_on (ends.JournalFull size) so = so.0.link_later
+  life_link_on end so = link_on x w tells m numbers here base mid now last begun s sooner news rule end so
 
 -- ---- a life
 
@@ -261,10 +226,6 @@ life_weaker x past w tells base outs stands more_stands fails more_fails end one
 }
   where
     by_end : (e : ServeEnd) (none : Type 0) (kept group older : List Event) → LifeKept (moment outs stands fails) none kept group older e → LifeKept (moment outs more_stands more_fails) none kept group older e
-    by_end ends.Done none kept group older held = one kept held
-    by_end ends.Limit none kept group older held = one kept held
-    by_end ends.End none kept group older held = one kept held
-    by_end ends.LinkFault none kept group older held = one kept held
     by_end ends.TapeFault none kept group older held = elim held [ inl all ↦ inl (one kept all) | inr some ↦ inr (some.0, one older some.1) ]
     by_end ends.Mem none kept group older held = elim held [
       | inl all ↦ inl (one kept all)
@@ -272,6 +233,7 @@ life_weaker x past w tells base outs stands more_stands fails more_fails end one
     ]
     by_end ends.DiskFault none kept group older held = two archive.Disk group older held
     by_end (ends.JournalFull size) none kept group older held = two (archive.Full size) group older held
+    by_end e none kept group older held = one kept held
 
 -- ---- the world of a header
 

@@ -8,7 +8,7 @@ use schedule_file::Writer;
 
 // Whether serving ended by its rules.
 fn is_reason(end: ServeEnd) -> bool
-    ensures { result ≡ is_reason end }
+    ensures is { result ≡ is_reason end }
 {
     match end {
         ServeEnd::Done | ServeEnd::Limit | ServeEnd::End => true,

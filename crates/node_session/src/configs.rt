@@ -9,7 +9,7 @@ ghost use Rattle.node_session.specs.Configs.{node_header, node_session, cluster_
 ghost use Rattle.node_session.specs.Lives.{ServesNode, Unopened, disk_seen};
 ghost use Rattle.node_session.specs.Session.{ServesSession};
 
-use crate::life::serve_life;
+use crate::life::{Life, serve_life};
 use crate::session::{Session, serve_session};
 use client_port::write_request;
 use cluster_config::{ClusterConfig, NodeConfig, Request, Requests};
@@ -24,8 +24,8 @@ use std::sync::Wait;
 
 // The header of a node's file: the node alone is correct, and the keys are its own.
 fn node_header(config: &NodeConfig) -> Header
-    requires { config.now.me < 32 }
-    ensures { result ≡ node_header config.now }
+    requires below { config.now.me < 32 }
+    ensures header { result ≡ node_header config.now }
 {
     Header {
         session: config.session,
@@ -42,7 +42,7 @@ fn node_header(config: &NodeConfig) -> Header
 
 // The header of a cluster's file: all are correct.
 fn cluster_header(config: &ClusterConfig) -> Header
-    ensures { result ≡ cluster_header config.now }
+    ensures header { result ≡ cluster_header config.now }
 {
     let correct = (1u32 << config.p.n()) - 1;
     Header {
@@ -56,7 +56,7 @@ fn cluster_header(config: &ClusterConfig) -> Header
 
 // A request as an item with which serving begins. The one error is want of memory.
 fn first_item(alloc: Global, request: &Request) -> Result<LinkItem, Mem>
-    ensures { IfOk result (λ item. item ≡ first_item request.now) }
+    ensures item { IfOk result (λ item. item ≡ first_item request.now) }
 {
     let bytes = write_request(
         alloc,
@@ -73,7 +73,7 @@ fn first_item(alloc: Global, request: &Request) -> Result<LinkItem, Mem>
 
 // The items with which serving begins. The one error is want of memory.
 fn first_items(alloc: Global, requests: &Requests) -> Result<Vec<LinkItem>, Mem>
-    ensures { IfOk result (λ items. items.items ≡ map first_item requests.now) }
+    ensures items { IfOk result (λ items. items.items ≡ map first_item requests.now) }
 {
     let mut items = Vec::new(alloc);
     for at in 0..requests.len() {
@@ -86,8 +86,8 @@ fn first_items(alloc: Global, requests: &Requests) -> Result<Vec<LinkItem>, Mem>
 
 // The session of a configuration's replica.
 fn session_of(config: NodeConfig) -> Session
-    requires { config.me < 32 }
-    ensures { result ≡ node_session config }
+    requires below { config.me < 32 }
+    ensures session { result ≡ node_session config }
 {
     Session {
         header: node_header(&config),
@@ -110,7 +110,7 @@ fn serve_journal<R: Net + Wait, L: Link, K: Sink, D: Disk>(
     output: &mut K,
     disk: &mut D,
 ) -> Result<ServeEnd, JournalFault>
-    requires { FitsNode (node_text config) }
+    requires fits { FitsNode (node_text config) }
     ensures served { IfOk result (λ end. ServesNode config (tells_of K.Sink L.Link)
         (outs_of K.Sink L.Link output.old link.old) (outs_of K.Sink L.Link output.new link.new)
         (disk_seen D.Disk disk.old disk.new) end) }
@@ -125,24 +125,13 @@ fn serve_journal<R: Net + Wait, L: Link, K: Sink, D: Disk>(
         &config.key_row,
         &config.coin_key,
     );
-    let (mut journal, recovered) = match open_journal(alloc, disk, config.me, &head) {
-        Ok(opened) => opened,
-        Err(fault) => return Err(fault),
+    let (journal, recovered) = open_journal(alloc, disk, config.me, &head)?;
+    let mut life = Life {
+        session: session_of(config),
+        recovered,
+        journal,
     };
-    let session = session_of(config);
-    match serve_life(
-        rt,
-        alloc,
-        &session,
-        &recovered,
-        &mut journal,
-        link,
-        output,
-        disk,
-    ) {
-        Ok(end) => Ok(end),
-        Err(Mem) => Err(JournalFault::Mem),
-    }
+    Ok(serve_life(rt, alloc, &mut life, link, output, disk)?)
 }
 
 /// Serves the replica of a configuration, as `serve_session` does: its file names that one alone as correct, and has its keys.
@@ -158,7 +147,7 @@ pub fn serve_node<R: Net + Wait, L: Link, K: Sink, D: Disk>(
     output: &mut K,
     disk: &mut D,
 ) -> Result<ServeEnd, JournalFault>
-    requires { FitsNode (node_text config) }
+    requires fits { FitsNode (node_text config) }
     ensures served { config.journal ≡ false → IfOk result (λ end. ServesSession (node_session config) [] (setting_of (node_header config)) (tells_of K.Sink L.Link)
         (outs_of K.Sink L.Link output.old link.old) (outs_of K.Sink L.Link output.new link.new) end) }
     ensures undisked { config.journal ≡ false → (disk.new ≡ disk.old) × IfErr result (λ fault. fault ≡ JournalFault.Mem) }
@@ -172,10 +161,7 @@ pub fn serve_node<R: Net + Wait, L: Link, K: Sink, D: Disk>(
         return serve_journal(rt, alloc, config, link, output, disk);
     }
     let session = session_of(config);
-    match serve_session(rt, alloc, &session, &Vec::new(alloc), link, output) {
-        Ok(end) => Ok(end),
-        Err(Mem) => Err(JournalFault::Mem),
-    }
+    Ok(serve_session(rt, alloc, &session, &Vec::new(alloc), link, output)?)
 }
 
 /// Serves all replicas of a configuration, as `serve_session` does, and begins with its requests: each is handed to the replica that it
@@ -187,7 +173,7 @@ pub fn serve_cluster<R: Net + Wait, L: Link, K: Sink>(
     link: &mut L,
     output: &mut K,
 ) -> Result<ServeEnd, Mem>
-    requires { FitsCluster (cluster_text config) }
+    requires fits { FitsCluster (cluster_text config) }
     ensures served { IfOk result (λ end. ServesSession (cluster_session config) (map first_item config.requests) (setting_of (cluster_header config)) (tells_of K.Sink L.Link)
         (outs_of K.Sink L.Link output.old link.old) (outs_of K.Sink L.Link output.new link.new) end) }
     ensures unserved { OnErr result ((output.new ≡ output.old) × (link.new ≡ link.old)) }

@@ -33,27 +33,36 @@ use std::sync::Wait;
 use vector_consensus::Vc;
 use world_model::agreement;
 
-// Serves a session in these layers, after the events that the journal kept.
+/// A life of a replica that has a journal.
+#[derive(Drop)]
+pub(crate) struct Life {
+    /// What it is served with.
+    pub(crate) session: Session,
+    /// The events that the journal kept of the lives before, the oldest first.
+    pub(crate) recovered: Vec<Event>,
+    /// The journal, which keeps those of this one too.
+    pub(crate) journal: Journal,
+}
+
+// Serves a life in these layers.
 fn live_as<R: Net + Wait, S: Service, E: Broadcast, L: Link, K: Sink, D: Disk>(
     rt: &R,
     alloc: Global,
-    session: &Session,
-    recovered: &Vec<Event>,
-    journal: &mut Journal,
+    life: &mut Life,
     link: &mut L,
     output: &mut K,
     disk: &mut D,
 ) -> Result<ServeEnd, Mem>
-    requires servable { IsServable session.now [] }
-    requires serves { S.rules.serves session.now.header.mode.root ≡ true }
-    requires form { E.FORM ≡ other_form session.now.header.mode }
-    requires live { journal.old.live ≡ true }
-    requires own { AllByRecursion (IsRecord journal.old.me) recovered.now.items }
-    requires member { has_member session.now.header.correct journal.old.me ≡ true }
-    ensures served { (head : List ℕ) → OpenedAs D.Disk head (reverse recovered.now.items) journal.old disk.old
-        → IfOk result (λ end. ServesLife session.now (reverse recovered.now.items) (setting_by S.rules E.rules session.now.header) (tells_of K.Sink L.Link)
+    requires servable { IsServable life.old.session [] }
+    requires serves { S.rules.serves life.old.session.header.mode.root ≡ true }
+    requires form { E.FORM ≡ other_form life.old.session.header.mode }
+    requires live { life.old.journal.live ≡ true }
+    requires own { AllByRecursion (IsRecord life.old.journal.me) life.old.recovered.items }
+    requires member { has_member life.old.session.header.correct life.old.journal.me ≡ true }
+    ensures served { (head : List ℕ) → OpenedAs D.Disk head (reverse life.old.recovered.items) life.old.journal disk.old
+        → IfOk result (λ end. ServesLife life.old.session (reverse life.old.recovered.items) (setting_by S.rules E.rules life.old.session.header) (tells_of K.Sink L.Link)
         (outs_of K.Sink L.Link output.old link.old)
-        (journal_moment D.Disk head (reverse recovered.now.items) journal.old.me disk.old (outs_of K.Sink L.Link output.new link.new) journal.new disk.new) end) }
+        (journal_moment D.Disk head (reverse life.old.recovered.items) life.old.journal.me disk.old (outs_of K.Sink L.Link output.new link.new) life.new.journal disk.new) end) }
     ensures unserved { OnErr result ((output.new ≡ output.old) × (link.new ≡ link.old) × (disk.new ≡ disk.old)) }
 {
     events_fit();
@@ -64,8 +73,15 @@ fn live_as<R: Net + Wait, S: Service, E: Broadcast, L: Link, K: Sink, D: Disk>(
     acks_are_earned();
     replies_are_true::<S, E>();
     agreement::<S, E>();
-    let mut replicas = first_replicas::<S, E>(alloc, &session.header)?;
-    match open(rt, alloc, &session.header, &session.plan, link, output) {
+    let mut replicas = first_replicas::<S, E>(alloc, &life.session.header)?;
+    match open(
+        rt,
+        alloc,
+        &life.session.header,
+        &life.session.plan,
+        link,
+        output,
+    ) {
         Ok(()) => {}
         Err(end) => return Ok(end),
     }
@@ -73,53 +89,46 @@ fn live_as<R: Net + Wait, S: Service, E: Broadcast, L: Link, K: Sink, D: Disk>(
         rt,
         alloc,
         &mut replicas,
-        recovered,
-        journal,
+        &life.recovered,
+        &mut life.journal,
         disk,
         link,
         output,
-        session.limit,
-        session.until,
+        life.session.limit,
+        life.session.until,
     );
     Ok(close(output, end))
 }
 
-/// Serves the session of one replica after the events that its journal kept, as `serve_session` does one without.
+/// Serves a life of a replica, as `serve_session` does one without a journal.
 ///
-/// The output takes the header, these events, and then each event before the frames that it makes are sent (`node_loop::serve_kept`). The one
-/// error is want of memory for the replica: then nothing is written, and neither the link nor the disk is touched.
+/// The output takes the header, the events that were kept, and then each event before the frames that it makes are sent
+/// (`node_loop::serve_kept`). The one error is want of memory for the replica: then nothing is written, and neither the link nor the disk is
+/// touched.
 pub(crate) fn serve_life<R: Net + Wait, L: Link, K: Sink, D: Disk>(
     rt: &R,
     alloc: Global,
-    session: &Session,
-    recovered: &Vec<Event>,
-    journal: &mut Journal,
+    life: &mut Life,
     link: &mut L,
     output: &mut K,
     disk: &mut D,
 ) -> Result<ServeEnd, Mem>
-    requires servable { IsServable session.now [] }
-    requires live { journal.old.live ≡ true }
-    requires own { AllByRecursion (IsRecord journal.old.me) recovered.now.items }
-    requires member { has_member session.now.header.correct journal.old.me ≡ true }
-    ensures served { (head : List ℕ) → OpenedAs D.Disk head (reverse recovered.now.items) journal.old disk.old
-        → IfOk result (λ end. ServesLife session.now (reverse recovered.now.items) (setting_of session.now.header) (tells_of K.Sink L.Link)
+    requires servable { IsServable life.old.session [] }
+    requires live { life.old.journal.live ≡ true }
+    requires own { AllByRecursion (IsRecord life.old.journal.me) life.old.recovered.items }
+    requires member { has_member life.old.session.header.correct life.old.journal.me ≡ true }
+    ensures served { (head : List ℕ) → OpenedAs D.Disk head (reverse life.old.recovered.items) life.old.journal disk.old
+        → IfOk result (λ end. ServesLife life.old.session (reverse life.old.recovered.items) (setting_of life.old.session.header) (tells_of K.Sink L.Link)
         (outs_of K.Sink L.Link output.old link.old)
-        (journal_moment D.Disk head (reverse recovered.now.items) journal.old.me disk.old (outs_of K.Sink L.Link output.new link.new) journal.new disk.new) end) }
+        (journal_moment D.Disk head (reverse life.old.recovered.items) life.old.journal.me disk.old (outs_of K.Sink L.Link output.new link.new) life.new.journal disk.new) end) }
     ensures unserved { OnErr result ((output.new ≡ output.old) × (link.new ≡ link.old) × (disk.new ≡ disk.old)) }
 {
-    let form = other_form(&session.header.mode);
+    let form = other_form(&life.session.header.mode);
     if form == 2 {
-        live_as::<R, Abc<Vc<Mvc<Bin>>>, Eb, L, K, D>(
-            rt, alloc, session, recovered, journal, link, output, disk,
-        )
+        live_as::<R, Abc<Vc<Mvc<Bin>>>, Eb, L, K, D>(rt, alloc, life, link, output, disk)
     } else if form == 3 {
-        live_as::<R, Abc<Vc<Mvc<Bin>>>, DigestRb, L, K, D>(
-            rt, alloc, session, recovered, journal, link, output, disk,
-        )
+        live_as::<R, Abc<Vc<Mvc<Bin>>>, DigestRb, L, K, D>(rt, alloc, life, link, output, disk)
     } else {
-        live_as::<R, Abc<Vc<Mvc<Bin>>>, Rb, L, K, D>(
-            rt, alloc, session, recovered, journal, link, output, disk,
-        )
+        live_as::<R, Abc<Vc<Mvc<Bin>>>, Rb, L, K, D>(rt, alloc, life, link, output, disk)
     }
 }

@@ -19,7 +19,7 @@ pub(crate) fn open<R: Net + Wait, L: Link, K: Sink>(
     link: &mut L,
     output: &mut K,
 ) -> Result<(), ServeEnd>
-    ensures { OpensSession (heading header.now) plan.now (tells_of K.Sink L.Link)
+    ensures opens { OpensSession (heading header.now) plan.now (tells_of K.Sink L.Link)
         (outs_of K.Sink L.Link output.old link.old)
         (outs_of K.Sink L.Link output.new link.new)
         result }

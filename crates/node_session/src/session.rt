@@ -55,7 +55,7 @@ pub(crate) fn first_replicas<S: Service, E: Broadcast>(
     requires atomic { header.now.mode.root ≡ 6 }
     requires serves { S.rules.serves header.now.mode.root ≡ true }
     requires form { E.FORM ≡ other_form header.now.mode }
-    ensures { let m = layers_by S.stands S.rules S.shown E.stands E.rules E.shown in
+    ensures here { let m = layers_by S.stands S.rules S.shown E.stands E.rules E.shown in
         let w = setting_by S.rules E.rules header.now in
         IfOk result (λ replicas. AreHere m w [] (members w) replicas.items) }
 {
@@ -123,7 +123,7 @@ pub fn serve_session<R: Net + Wait, L: Link, K: Sink>(
     link: &mut L,
     output: &mut K,
 ) -> Result<ServeEnd, Mem>
-    requires { IsServable session.now first.now.items }
+    requires servable { IsServable session.now first.now.items }
     ensures served { IfOk result (λ end. ServesSession session.now first.now.items (setting_of session.now.header) (tells_of K.Sink L.Link)
         (outs_of K.Sink L.Link output.old link.old) (outs_of K.Sink L.Link output.new link.new) end) }
     ensures unserved { OnErr result ((output.new ≡ output.old) × (link.new ≡ link.old)) }

@@ -10,8 +10,10 @@ use Rattle.node_session.proofs.configs.serve_cluster.Goals as goal
 
 pub serve_session-requires : goal.serve_session-requires
 serve_session-requires g c = record {
-  heading = subst (λ (h : Header). IsHeading (heading h)) (sym c.cluster_header.ensures)
-      (cluster_heading c.args.config (search rules) (search rules) (search rules) c.requires);
-  atomic = rw c.cluster_header.ensures c.requires.root;
-  firsts = subst (λ (items : List LinkItem). All MayBegin items) (sym c.in_ok-first.ensures) (are_first c.args.config.requests c.requires.short);
+  servable = record {
+    heading = subst (λ (h : Header). IsHeading (heading h)) (sym c.cluster_header.ensures.header)
+        (cluster_heading c.args.config (search rules) (search rules) (search rules) c.requires.fits);
+    atomic = rw c.cluster_header.ensures.header c.requires.fits.root;
+    firsts = subst (λ (items : List LinkItem). All MayBegin items) (sym c.in_ok-first.ensures.items) (are_first c.args.config.requests c.requires.fits.short);
+  };
 }

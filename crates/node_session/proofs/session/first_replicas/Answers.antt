@@ -9,6 +9,8 @@ returns g c =
     let h = c.args.header.now in
     let w = setting_by g.S.Service.rules g.E.Broadcast.rules h in
     let world = c.in_ok-world.ensures in
-    IfOk-weaker c.into_replicas.result _ _
-    (λ replicas stand. are_here _ w [] replicas.items world.kind world.going c.requires.atomic stand)
-    (c.into_replicas.ensures.is w [] world)
+    record {
+      here = IfOk-weaker c.into_replicas.result _ _
+          (λ replicas stand. are_here _ w [] replicas.items world.kind world.going c.requires.atomic stand)
+          (c.into_replicas.ensures.is w [] world);
+    }

@@ -15,7 +15,7 @@ returns-in-Err-clause-served g c =
     fails session c.args.first.now.items w _
     (λ rounds wanted. is_session h w c.requires.servable.heading service other kind refl (λ i right. right) c.acts_are_deeds.ensures c.frames_are_made.ensures c.resends_are_open.ensures c.acks_are_earned.ensures c.events_fit.ensures c.replies_are_true.ensures c.agreement.ensures
     session.until session.limit c.args.first.now.items rounds c.requires.servable.firsts wanted)
-    _ _ c.in-Err.end c.in-Err.ensures
+    _ _ c.in-Err.end c.in-Err.ensures.opens
 
 pub returns-clause-served : goal.returns-clause-served
 returns-clause-served g c =
@@ -24,12 +24,12 @@ returns-clause-served g c =
     let service = g.S.Service.rules in
     let other = g.E.Broadcast.rules in
     let w = setting_by service other h in
-    let here = c.in_ok-replicas.ensures in
+    let here = c.in_ok-replicas.ensures.here in
     let run = c.serve-end.ensures w [] (members w) here in
     serves session c.args.first.now.items w _
     (λ rounds wanted. is_session h w c.requires.servable.heading service other here.kind refl (λ i right. right) c.acts_are_deeds.ensures c.frames_are_made.ensures c.resends_are_open.ensures c.acks_are_earned.ensures c.events_fit.ensures c.replies_are_true.ensures c.agreement.ensures
     session.until session.limit c.args.first.now.items rounds c.requires.servable.firsts wanted)
-    _ (members w) c.serve-end.new.replicas.items _ _ _ _ c.in-Ok.ensures c.serve-end.result c.close.result run refl
+    _ (members w) c.serve-end.new.replicas.items _ _ _ _ c.in-Ok.ensures.opens c.serve-end.result c.close.result run refl
     refl c.close.ensures.reason
     (λ fault.
     let kept = c.close.ensures.fault fault in
