@@ -1,0 +1,34 @@
+//! Tests of the two calls: their worked rows, and each length of a row.
+
+use super::*;
+
+#[test]
+fn places_are_counted(rt: HostRuntime) {
+    assert!(rt; count_equal(&[], 0) == 0);
+    assert!(rt; count_equal(&[2; 31], 2) == 31);
+    assert!(rt; count_equal(&[0, 1, 255, 1], 1) == 2);
+}
+
+#[test]
+fn rows_are_compared(rt: HostRuntime) {
+    let mut rows = [[0; 32]; 3];
+    assert!(rt; rows_equal(&rows, 5, &[0; 32]) == 5);
+    rows[2][31] = 1;
+    assert!(rt; rows_equal(&rows, 5, &[0; 32]) == 1);
+}
+
+// For each length from 0 to 31, against a plain count: every third byte is a one.
+#[test]
+fn every_length_is_counted(rt: HostRuntime) {
+    let mut row = [0; 31];
+    let mut ones = 0;
+    for len in 0..31 {
+        assert!(rt; count_equal(&row[..len], 1) == ones);
+        assert!(rt; count_equal(&row[..len], 7) == 0);
+        if len % 3 == 0 {
+            row[len] = 1;
+            ones += 1;
+        }
+    }
+    assert!(rt; count_equal(&row, 1) == ones);
+}
