@@ -1,0 +1,5 @@
+pub mod SlotMaps
+pub mod Keys
+pub mod Arena
+pub mod Lends
+pub mod Rows

@@ -1,0 +1,29 @@
+//! The broadcasts of a replica, or other values, each at its slot: a map from slots.
+//!
+//! ```rust
+//! use instance_tree::Tree;
+//! use ritas_base::Slot;
+//!
+//! let mut tree = Tree::new(alloc);
+//! tree.make(alloc, Slot::command(2, 7), "seventh")?;
+//! assert!(rt; tree.find(&Slot::command(2, 7)).is_some());
+//! // the commands of origin 2 that are numbered below 8 go
+//! tree.drop_commands(2, 8);
+//! assert!(rt; tree.find(&Slot::command(2, 7)).is_none());
+//! ```
+//!
+//! A replica keeps a broadcast for each slot of its rounds and commands, and lets go of those that are past: a round that is
+//! some rounds back, and commands that everybody has. So beside looking up and making there are two calls that drop:
+//! `drop_before` for the classes that belong to rounds, and `drop_commands` for the commands of an origin.
+//!
+//! Contracts see a `Tree` as a finite map (`specs/SlotMaps.antt`), and say of each call which map it leaves, for every slot
+//! there is. Values stand in an arena (`slab`), so none moves when another comes or goes. The keys by which the arena
+//! knows them are never shown.
+#![tactic(auto)]
+
+mod keys;
+#[cfg(test)]
+mod tests;
+mod tree;
+
+pub use tree::Tree;
