@@ -36,6 +36,7 @@ use Rattle.node_loop.specs.Serving.{Serving, so_far, Want}
 use Rattle.node_loop.specs.Standing.{HouseStands}
 use Rattle.node_loop.proofs.Grouping.{text_parts}
 use Rattle.node_loop.proofs.Rounding.{runs_first, no_group}
+use Rattle.node_loop.proofs.Serverwise.{agrees_none}
 
 -- ---- the events of a journal
 
@@ -142,11 +143,11 @@ module _ (tells : Tells) (base : Outs) (taken : List ℕ) (count : ℕ) (past : 
 -- ---- it begins
 
 module _ {S E C : Type 0} (m : Meaning S E C KeyRow) (w : Setting) (past : List Event) (numbers : List ℕ) (tells : Tells) where
-  pub runs_again : (house : House S E C) (now : Moment) (until limit : ℕ) → HouseStands m w past numbers house (recalled_waiting w past) (recalled_peers w past) → now.stands []
-      → Running m w past numbers house tells now.outs now 0 until limit (recovered w past) []
-  runs_again house now until limit stands stood =
-      runs_first m w past numbers tells now.outs until limit (recovered w past) house now refl stands
-      (record { taken = λ t. sym (append-nil now.outs.taken); told = λ t. refl; tape_stands = refl; link_stands = refl }) stood
+  pub runs_again : (house : House S E C) (now : Moment) (taken until limit : ℕ) → taken ≡ 0 → HouseStands m w past numbers house (recalled_waiting w past) (recalled_peers w past)
+      → now.stands [] → Running m w past numbers house tells now.outs now taken until limit (recovered w past) []
+  runs_again house now taken until limit none stands stood =
+      subst (λ (n : ℕ). Running m w past numbers house tells now.outs now n until limit (recovered w past) []) (sym none)
+      (runs_first m w past numbers tells now.outs until limit (recovered w past) house now refl stands (agrees_none tells now.outs) stood)
 
   -- memory ran out before
   pub again_short : (here : List (Replica S E C)) (now : Moment) (until limit : ℕ) → now.stands [] → ServesAgain m w past numbers here tells now.outs now ends.Mem until limit

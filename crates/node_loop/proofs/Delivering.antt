@@ -30,7 +30,7 @@ use Rattle.node_loop.specs.Outs.{events_text, Outs, Tells, Agrees, StopsPartway,
 use Rattle.node_loop.specs.Ends.{IsFaultOfLink, fault_in, IsEndOf}
 use Rattle.node_loop.specs.Running.{Running, Gathered, NotYet, IsOfTape}
 use Rattle.node_loop.specs.ServedKept.{ServesKept, group_kept}
-use Rattle.node_loop.specs.Serving.{Serving, Round, IsGroup, after_from, events_from, newest_from, sooner_from}
+use Rattle.node_loop.specs.Serving.{Serving, Round, most_rounds, IsGroup, after_from, events_from, newest_from, sooner_from}
 use Rattle.node_loop.specs.ServingLaws.{acts_from}
 use Rattle.node_loop.proofs.Grouping.{events_parts, text_parts, kept_parts}
 use Rattle.node_loop.proofs.Rounding.{if_failed, at_fault, is_group, left_none}
@@ -104,7 +104,7 @@ archive_order tells base now events acts archive.Mem agrees = inl agrees.taken
 
 module _ {S E C : Type 0} (m : Meaning S E C KeyRow) (w : Setting) (past : List Event) (numbers : List ℕ) (tells : Tells) (base : Outs) (taken until limit : ℕ) (start : Serving)
     (left : List LinkItem) (older : List Round) (given : List LinkAct) (house : House S E C) (group : Group)
-    (run : Gathered m w past numbers house group taken until limit start left older given 64) where
+    (run : Gathered m w past numbers house group taken until limit start left older given most_rounds) where
   abbrev s₀ : Serving
   s₀ = after_from w past start older
 

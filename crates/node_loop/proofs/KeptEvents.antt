@@ -28,7 +28,7 @@ use Rattle.ritas_core.specs.declared.verdict.Verdict.{Verdict}
 use Rattle.ritas_core.specs.declared.verdict.Verdict.TheVariants as verdicts
 use Rattle.ritas_core.specs.Rules.{Rules}
 use Rattle.ritas_core.specs.Machine as core
-use Rattle.ritas_core.specs.Machine.{CoreState, What, Moved, stays, gives_item, given_item, given_input, moved_live}
+use Rattle.ritas_core.specs.Machine.{CoreState, What, Moved, stays, gives_item, given_input, moved_live}
 use Rattle.ritas_core.specs.Checks.{verdict_on, input_check, input_fault_or, window_fault}
 use Rattle.ritas_core.specs.Parts.{Parts, parts}
 use Rattle.replica.specs.Handling.{ReplicaCall, Frame, Input, Turn, Handled, handled, given_body, given_frame, core_answer, framed}

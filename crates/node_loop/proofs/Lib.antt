@@ -28,3 +28,4 @@ pub mod Delivering
 pub mod Journaling
 pub mod Recalling
 pub mod AfterPast
+pub mod Serverwise

@@ -24,7 +24,7 @@ use Rattle.node_loop.specs.declared.peers.Pair.{Pair}
 use Rattle.node_loop.specs.declared.rounds.Next.TheVariants as next
 use Rattle.node_loop.specs.Peers.{Peers}
 use Rattle.node_loop.specs.Resending.{due}
-use Rattle.node_loop.specs.Serving.{Serving, begin, so_far, Want, Begins, Finishes, Turns, Halts, Reminds, Asks, wants_of, turn_or, remind_or, first_or, here, busy, has_enough_rows, wants, Round, Began, Turned, Reminded, Took, AreTurns, IsGroup, behind_first, round_does, serving_after, newest, sooner, after_from, events_from, newest_from, sooner_from, given_for_round, given_first, IsGiven, IsWanted, AreWantedFrom}
+use Rattle.node_loop.specs.Serving.{Serving, begin, so_far, Want, Begins, Finishes, Turns, Halts, Reminds, Asks, wants_of, turn_or, remind_or, first_or, here, busy, has_enough_rows, wants, Round, Began, Turned, Reminded, Took, AreTurns, most_rounds, IsGroup, behind_first, round_does, serving_after, newest, sooner, after_from, events_from, newest_from, sooner_from, given_for_round, given_first, IsGiven, IsWanted, AreWantedFrom}
 use Rattle.node_loop.specs.Outs.{events_text, Outs, Tells, Agrees, HasCauses, AllWritten, NoneSent, StopsPartway, IfFailed}
 use Rattle.node_loop.specs.Ends.{IsEndOfLink, IsFaultOfLink, IsEndOf}
 use Rattle.node_loop.specs.ServingLaws.{acts_from}
@@ -250,7 +250,7 @@ may_turn (y ∷ newest) at group goes = (and_left group.kept (not group.resends)
     not_true false is = refl
     not_true true is = absurd (cc)
 
-pub is_group : (newest older : List Round) → (newest ≡ [] → ⊥) → AreTurns newest → length newest ≤ 64 → IsGroup newest older
+pub is_group : (newest older : List Round) → (newest ≡ [] → ⊥) → AreTurns newest → length newest ≤ most_rounds → IsGroup newest older
 is_group newest older some turns le = record { some = λ none. absurd (some none); turns = turns; most = le }
 
 one_alone : (x : Round) (older : List Round) → IsGroup (x ∷ []) older
@@ -302,7 +302,7 @@ module _ {S E C : Type 0} (m : Meaning S E C KeyRow) (w : Setting) (past : List 
   }
 
   -- where memory ran out
-  pub gathers_fell : (house : House S E C) (group : Group) (taken : ℕ) (left : List LinkItem) (older : List Round) (given : List LinkAct) (most : ℕ) → most ≤ 64
+  pub gathers_fell : (house : House S E C) (group : Group) (taken : ℕ) (left : List LinkItem) (older : List Round) (given : List LinkAct) (most : ℕ) → most ≤ most_rounds
       → Gathered m w past numbers house group taken until limit start left older given most → FellShortOf w past until limit start older given
   gathers_fell house group taken left older given most le run = record {
     newest = run.newest;
@@ -424,16 +424,16 @@ module _ {S E C : Type 0} (m : Meaning S E C KeyRow) (w : Setting) (past : List 
       → Agrees tells base o.outs start.events start.acts → o.stands (kept_of w past start.events) → Running m w past numbers house tells base o 0 until limit start start.left
   runs_first house o none stands agrees stood = record { rounds = []; wanted = tt; rest = refl; count = sym none; stands = stands; agrees = agrees; kept = stood }
 
-  pub first_wanted : (old : House S E C) (o : Moment) (item : LinkItem) (left rest : List LinkItem) (run : Running m w past numbers old tells base o 0 until limit start left)
+  pub first_wanted : (old : House S E C) (o : Moment) (taken : ℕ) (item : LinkItem) (left rest : List LinkItem) (run : Running m w past numbers old tells base o taken until limit start left)
       → left ≡ item ∷ rest → IsWanted (wants w past until limit (after_from w past start run.rounds)) (Began item)
-  first_wanted old o item left rest run is =
+  first_wanted old o taken item left rest run is =
       let s = after_from w past start run.rounds in
       subst (λ (l : List LinkItem). IsWanted (first_or l (wants_of w until limit (so_far past s) s.taken s.peers)) (Began item)) (sym (run.rest ∙ is)) refl
 
-  pub gathers_item : (old new : House S E C) (group : Group) (o : Moment) (item : LinkItem) (left rest : List LinkItem) (run : Running m w past numbers old tells base o 0 until limit start left)
-      → left ≡ item ∷ rest → Under m w past numbers start (Began item ∷ []) run.rounds new group → Gathered m w past numbers new group 0 until limit start rest run.rounds [] 64
-  gathers_item old new group o item left rest run is under =
-      gathers_first old new group o 0 0 64 left rest (Began item) run (first_wanted old o item left rest run is) (ap behind_first (run.rest ∙ is)) run.count (omega arith) under
+  pub gathers_item : (old new : House S E C) (group : Group) (o : Moment) (taken : ℕ) (item : LinkItem) (left rest : List LinkItem) (run : Running m w past numbers old tells base o taken until limit start left)
+      → left ≡ item ∷ rest → Under m w past numbers start (Began item ∷ []) run.rounds new group → Gathered m w past numbers new group taken until limit start rest run.rounds [] most_rounds
+  gathers_item old new group o taken item left rest run is under =
+      gathers_first old new group o taken taken most_rounds left rest (Began item) run (first_wanted old o taken item left rest run is) (ap behind_first (run.rest ∙ is)) run.count (omega arith) under
 
   -- ---- the ends
 

@@ -1,9 +1,8 @@
--- What serving has beside its replicas: a link, a tape, and an archive that keeps events on a disk. Lists of events have the newest first.
-use Rattle.std.specs.Prelude.{◌≡◌, List, ◌⊎◌}
+-- What an archive keeps of the events that are served, moment by moment. Lists of events have the newest first.
+use Rattle.std.specs.Prelude.{List, ◌⊎◌}
 use Rattle.ritas_base.specs.declared.event.Event.{Event}
 use Rattle.node_loop.specs.declared.archive.ArchiveFault.{ArchiveFault}
 use Rattle.node_loop.specs.declared.archive.ArchiveFault.TheVariants as archive
-use Rattle.node_loop.specs.declared.archive.Outlets.{Outlets}
 use Rattle.node_loop.specs.declared.end.Fault.{Fault}
 use Rattle.node_loop.specs.declared.end.Fault.TheVariants as faults
 use Rattle.node_loop.specs.declared.end.ServeEnd.{ServeEnd}
@@ -18,12 +17,6 @@ pub record Moment : Type 1 where
 
 abbrev pub moment : Outs → (List Event → Type 0) → (ArchiveFault → List Event → List Event → Type 0) → Moment
 moment outs stands fails = record { outs = outs; stands = stands; fails = fails }
-
--- they are of the same link, tape, archive and disk
-abbrev pub AreSameOutlets : {L K A D : Type 0} → Outlets L K A D → Outlets L K A D → Type 0
-AreSameOutlets old new =
-    (new.link.ghost_name ≡ old.link.ghost_name) × (new.tape.ghost_name ≡ old.tape.ghost_name) × (new.archive.ghost_name ≡ old.archive.ghost_name)
-    × (new.disk.ghost_name ≡ old.disk.ghost_name)
 
 -- What it stands for at a fault, of these kept events, which are those of the newest group and the older ones: all were kept before the link told
 -- anything of the group, which is nothing (`none`) unless all were.

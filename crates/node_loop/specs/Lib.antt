@@ -15,6 +15,7 @@ pub mod Meanings
 pub mod ServedKept
 pub mod Groups
 pub mod Running
+pub mod Servers
 pub mod Journals
 pub mod Recovering
 pub mod Laws

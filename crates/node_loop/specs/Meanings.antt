@@ -10,9 +10,9 @@ use Rattle.outside.specs.declared.link.Link.{Ghosts as LinkGhosts}
 use Rattle.outside.specs.declared.sink.Sink.{Ghosts as SinkGhosts}
 use Rattle.replica.specs.Replica.{with_keys}
 use Rattle.node_loop.specs.declared.archive.Archive.{Ghosts as ArchiveGhosts}
-use Rattle.node_loop.specs.declared.archive.Outlets.{Outlets}
+use Rattle.node_loop.specs.declared.server.Server.{Server}
 use Rattle.node_loop.specs.Archives.{Moment, moment}
-use Rattle.node_loop.specs.Outs.{Outs, outs_of}
+use Rattle.node_loop.specs.Outs.{Outs, Tells, outs_of, tells_of}
 
 -- what a service, the broadcast beside the reliable one and a coin mean, of the bounds of each
 abbrev pub meaning_of : {S E C : Type 0} → ServiceGhosts S → BroadcastGhosts E → CoinGhosts C → Meaning S E C KeyRow
@@ -22,7 +22,17 @@ meaning_of service cast coin = with_keys service.stands service.rules service.sh
 abbrev pub moment_at : {A D : Type 0} → ArchiveGhosts A D → List ℕ → D → List Event → Outs → A → D → Moment
 moment_at archive head before past outs now disk = moment outs (archive.stands head before past now disk) (archive.fails head before past now disk)
 
--- and all that serving has beside its replicas
-abbrev pub moment_of : {L K A D : Type 0} → SinkGhosts K → LinkGhosts L → ArchiveGhosts A D → List ℕ → D → List Event → Outlets L K A D → Moment
-moment_of sink connection archive head before past out =
-    moment_at archive head before past (outs_of sink connection out.tape.now out.link.now) out.archive.now out.disk.now
+-- what all bounds of a server mean: of its layers, whether its tape and its link tell, and which moment it is
+pub record Senses (S E C L K A D : Type 0) : Type 1 where
+  pub layers : Meaning S E C KeyRow
+  pub tells : Tells
+  pub moment : List ℕ → D → List Event → Server L K A D → Moment
+
+abbrev pub senses_of : {S E C L K A D : Type 0} → ServiceGhosts S → BroadcastGhosts E → CoinGhosts C → LinkGhosts L → SinkGhosts K → ArchiveGhosts A D
+    → Senses S E C L K A D
+senses_of service cast coin connection sink archive = record {
+  layers = meaning_of service cast coin;
+  tells = tells_of sink connection;
+  moment = λ head before past server.
+      moment_at archive head before past (outs_of sink connection server.tape.now server.link.now) server.archive.now server.disk.now;
+}

@@ -60,6 +60,7 @@ pub record Tells : Type 0 where
   pub tape : Bool
   pub link : Bool
 
+-- of a tape and a link, by the bounds of each
 abbrev pub tells_of : {K L : Type 0} → SinkGhosts K → LinkGhosts L → Tells
 tells_of sink connection = record { tape = sink.tells; link = connection.tells }
 

@@ -1,5 +1,5 @@
 -- Serving under way.
-use Rattle.std.specs.Prelude.{◌≡◌, ℕ, ◌≤◌, List, [], ◌++◌, length, Result, Ok, Err}
+use Rattle.std.specs.Prelude.{◌≡◌, ℕ, ◌≤◌, List, [], ◌++◌, length}
 use Rattle.ritas_base.specs.declared.event.Event.{Event}
 use Rattle.keyed_channel.specs.KeyRow.{KeyRow}
 use Rattle.ritas_core.specs.Stands.{Meaning}
@@ -8,14 +8,11 @@ use Rattle.outside.specs.Links.{LinkAct}
 use Rattle.world_model.specs.World.{Setting}
 use Rattle.node_loop.specs.declared.end.Fault.{Fault}
 use Rattle.node_loop.specs.declared.end.Fault.TheVariants as faults
-use Rattle.node_loop.specs.declared.end.ServeEnd.{ServeEnd}
 use Rattle.node_loop.specs.declared.house.House.{House}
 use Rattle.node_loop.specs.declared.rounds.Next.{Next}
 use Rattle.node_loop.specs.declared.rounds.Next.TheVariants as next
 use Rattle.node_loop.specs.Serving.{Serving, so_far, Want, Finishes, Turns, Halts, Reminds, Asks, Round, AreTurns, IsGroup, after_from, given_first, AreWantedFrom}
-use Rattle.node_loop.specs.Ends.{IsEndOf}
 use Rattle.node_loop.specs.Outs.{Outs, Tells, Agrees}
-use Rattle.node_loop.specs.ServedKept.{ServesKept}
 use Rattle.node_loop.specs.Archives.{Moment}
 use Rattle.node_loop.specs.declared.group.Group.{Group}
 use Rattle.node_loop.specs.Groups.{Under}
@@ -66,22 +63,6 @@ IsOfTape faults.Mem = Unit {0}
 IsOfTape faults.Link = ⊥
 IsOfTape faults.Disk = ⊥
 IsOfTape (faults.Full x) = ⊥
-
--- all of it was delivered, or serving ended before
-abbrev pub Delivered : {S E C : Type 0} → Meaning S E C KeyRow → Setting → List Event → List ℕ → House S E C → Tells → Outs → Moment → ℕ → ℕ → ℕ
-    → Serving → List LinkItem → Result (Unit {0}) Fault → Type 0
-Delivered m w past numbers house tells base now taken until limit start left (Ok done) =
-    Running m w past numbers house tells base now taken until limit start left
-Delivered m w past numbers house tells base now taken until limit start left (Err fault) = (end : ServeEnd) → IsEndOf fault end
-    → ServesKept m w past numbers house.replicas.items tells base now end until limit start
-
--- a group more, or it ended
-abbrev pub RanRound : {S E C : Type 0} → Meaning S E C KeyRow → Setting → List Event → List ℕ → House S E C → Tells → Outs → Moment → ℕ → ℕ → ℕ
-    → Serving → Result (Unit {0}) ServeEnd → Type 0
-RanRound m w past numbers house tells base now taken until limit start (Ok done) =
-    Running m w past numbers house tells base now taken until limit start []
-RanRound m w past numbers house tells base now taken until limit start (Err end) =
-    ServesKept m w past numbers house.replicas.items tells base now end until limit start
 
 -- what is done next is what is wanted, where none of the first items is left
 abbrev pub IsNext : Want → Next → Type 0

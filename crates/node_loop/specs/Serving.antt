@@ -232,11 +232,15 @@ abbrev pub AreTurns : List Round → Type 0
 AreTurns [] = Unit {0}
 AreTurns (x ∷ group) = AreOver x group
 
--- the newest rounds are a group, with these older ones: one of any kind and turns behind it, at most 64 in all, where there is any
+-- a group has at most so many rounds
+abbrev pub most_rounds : ℕ
+most_rounds = 64
+
+-- the newest rounds are a group, with these older ones: one of any kind and turns behind it, where there is any
 pub record IsGroup (group older : List Round) : Type 0 where
   pub some : group ≡ [] → older ≡ []
   pub turns : AreTurns group
-  pub most : length group ≤ 64
+  pub most : length group ≤ most_rounds
 
 -- an item of a link that isn't its end has at most 65,535 bytes
 pub record IsGiven (item : LinkItem) : Type 0 where

@@ -1,28 +1,21 @@
 //! Serving again, after events that a journal kept.
 ghost use Rattle.std.specs.Prelude.{◌≡◌, ℕ, [], List, true, reverse};
 ghost use Rattle.std.specs.List.{AllByRecursion};
-ghost use Rattle.ritas_base.specs.declared.event.Event.{Event};
-ghost use Rattle.schedule_file.specs.Spelling.{IsSized};
 ghost use Rattle.world_model.specs.World.{Setting};
 ghost use Rattle.event_journal.specs.Journal.{IsRecord};
-ghost use Rattle.node_loop.specs.Meanings.{meaning_of, moment_of, moment_at};
+ghost use Rattle.node_loop.specs.Meanings.{meaning_of};
 ghost use Rattle.node_loop.specs.Again.{ServesAgain};
-ghost use Rattle.node_loop.specs.Archives.{AreSameOutlets};
 ghost use Rattle.node_loop.specs.Journals.{journal_moment, OpenedAs};
-ghost use Rattle.node_loop.specs.Laws.{IsServed};
 ghost use Rattle.node_loop.specs.Outs.{outs_of, tells_of};
-ghost use Rattle.node_loop.specs.Peers.{no_peers};
 ghost use Rattle.node_loop.specs.Served.{AreHere};
-ghost use Rattle.node_loop.specs.Standing.{HouseStands};
-ghost use Rattle.node_loop.specs.Waiting.{nobody};
 
-use crate::archive::{Archive, Outlets};
+use crate::archive::Archive;
 use crate::deliver::write_events;
 use crate::end::ServeEnd;
 use crate::group::Group;
 use crate::house::House;
 use crate::output::Output;
-use crate::rounds::{Bounds, go_on};
+use crate::server::{Pace, Server};
 use event_journal::Journal;
 use layer_api::{Broadcast, Service};
 use outside::{Disk, Link, Sink};
@@ -69,112 +62,81 @@ pub fn serve_kept<
 ) -> ServeEnd
     requires live { journal.old.live ≡ true }
     requires own { AllByRecursion (IsRecord journal.old.me) recovered.now.items }
-    ensures { let m = meaning_of S.Service E.Broadcast C.Coin in
+    ensures serves { let m = meaning_of S.Service E.Broadcast C.Coin in
         (head : List ℕ) (w : Setting) (numbers : List ℕ) → AreHere m w [] numbers replicas.old.items → w.is_correct journal.old.me ≡ true
         → OpenedAs D.Disk head (reverse recovered.now.items) journal.old disk.old
         → ServesAgain m w (reverse recovered.now.items) numbers replicas.new.items (tells_of K.Sink L.Link)
         (outs_of K.Sink L.Link tape.old link.old)
-        (journal_moment D.Disk head (reverse recovered.now.items) journal.old.me disk.old (outs_of K.Sink L.Link tape.new link.new) journal.new disk.new)
+        (journal_moment D.Disk head (reverse recovered.now.items) journal.old.me disk.old
+        (outs_of K.Sink L.Link tape.new link.new) journal.new disk.new)
         result until limit }
 {
     let mut house = match House::new(alloc, replicas) {
         Ok(house) => house,
         Err(Mem) => return ServeEnd::Mem,
     };
-    let bounds = Bounds { until, limit };
-    let end = serve_again_with(
-        rt,
+    let mut group = Group::new(alloc);
+    let mut server = Server {
         alloc,
-        &mut house,
         link,
         tape,
-        journal,
+        archive: journal,
         disk,
-        bounds,
-        recovered.as_slice(),
-    );
+        pace: Pace {
+            until,
+            limit,
+            taken: 0,
+        },
+        group: &mut group,
+    };
+    let end = server.serve_again(rt, &mut house, recovered.as_slice());
     *replicas = house.replicas;
     end
 }
 
-// Serves the replicas of a house after these events, with a link, a tape, and what keeps events.
-fn serve_again_with<
-    R: Net + Wait,
-    S: Service,
-    E: Broadcast,
-    C: Coin + Drop,
-    L: Link,
-    K: Sink,
-    A: Archive<D>,
-    D,
->(
-    rt: &R,
-    alloc: Global,
-    house: &mut House<S, E, C>,
-    link: &mut L,
-    tape: &mut K,
-    archive: &mut A,
-    disk: &mut D,
-    bounds: Bounds,
-    recovered: &[Event],
-) -> ServeEnd
-    requires { AllByRecursion IsSized recovered.now }
-    ensures { let m = meaning_of S.Service E.Broadcast C.Coin in
-        (head : List ℕ) (before : D) (w : Setting) (numbers : List ℕ) → HouseStands m w [] numbers house.old nobody no_peers
-        → AllByRecursion (IsServed w) recovered.now
-        → A.stands head before (reverse recovered.now) archive.old disk.old []
-        → ServesAgain m w (reverse recovered.now) numbers house.new.replicas.items (tells_of K.Sink L.Link)
-        (outs_of K.Sink L.Link tape.old link.old)
-        (moment_at A.Archive head before (reverse recovered.now) (outs_of K.Sink L.Link tape.new link.new) archive.new disk.new)
-        result bounds.until bounds.limit }
-{
-    let mut out = Outlets {
-        link,
-        tape,
-        archive,
-        disk,
-    };
-    serve_again(rt, alloc, house, &mut out, bounds, recovered)
-}
+impl<L: Link, K: Sink, A: Archive<D>, D> Server<'_, '_, '_, '_, '_, L, K, A, D> {
+    ghost use Rattle.std.specs.Prelude.{◌≡◌, ℕ, [], List, reverse};
+    ghost use Rattle.std.specs.List.{AllByRecursion};
+    ghost use Rattle.schedule_file.specs.Spelling.{IsSized};
+    ghost use Rattle.world_model.specs.World.{Setting};
+    ghost use Rattle.node_loop.specs.Again.{ServesAgain};
+    ghost use Rattle.node_loop.specs.Groups.{IsEmpty};
+    ghost use Rattle.node_loop.specs.Laws.{IsServed};
+    ghost use Rattle.node_loop.specs.Meanings.{senses_of};
+    ghost use Rattle.node_loop.specs.Outs.{outs_of};
+    ghost use Rattle.node_loop.specs.Peers.{no_peers};
+    ghost use Rattle.node_loop.specs.Servers.{IsSameServer};
+    ghost use Rattle.node_loop.specs.Standing.{HouseStands};
+    ghost use Rattle.node_loop.specs.Waiting.{nobody};
 
-// Serves the replicas of a house after these events.
-fn serve_again<
-    R: Net + Wait,
-    S: Service,
-    E: Broadcast,
-    C: Coin + Drop,
-    L: Link,
-    K: Sink,
-    A: Archive<D>,
-    D,
->(
-    rt: &R,
-    alloc: Global,
-    house: &mut House<S, E, C>,
-    out: &mut Outlets<L, K, A, D>,
-    bounds: Bounds,
-    recovered: &[Event],
-) -> ServeEnd
-    requires { AllByRecursion IsSized recovered.now }
-    ensures same { AreSameOutlets out.old out.new }
-    ensures goes { let m = meaning_of S.Service E.Broadcast C.Coin in
-        (head : List ℕ) (before : D) (w : Setting) (numbers : List ℕ) → HouseStands m w [] numbers house.old nobody no_peers
-        → AllByRecursion (IsServed w) recovered.now
-        → A.stands head before (reverse recovered.now) out.old.archive.now out.old.disk.now []
-        → ServesAgain m w (reverse recovered.now) numbers house.new.replicas.items (tells_of K.Sink L.Link)
-        (outs_of K.Sink L.Link out.old.tape.now out.old.link.now)
-        (moment_of K.Sink L.Link A.Archive head before (reverse recovered.now) out.new)
-        result bounds.until bounds.limit }
-{
-    let mut output = Output::new(alloc);
-    match house.recall_all(alloc, recovered, &mut output) {
-        Ok(()) => {}
-        Err(Mem) => return ServeEnd::Mem,
+    // These events happen again, and the tape takes them; then it serves.
+    fn serve_again<R: Net + Wait, S: Service, E: Broadcast, C: Coin + Drop>(
+        &mut self,
+        rt: &R,
+        house: &mut House<S, E, C>,
+        recovered: &[Event],
+    ) -> ServeEnd
+        requires sized { AllByRecursion IsSized recovered.now }
+        requires empty { IsEmpty self.old.group.now }
+        ensures same { IsSameServer self.old self.new }
+        ensures serves { let t = senses_of S.Service E.Broadcast C.Coin L.Link K.Sink A.Archive in
+            (head : List ℕ) (before : D) (w : Setting) (numbers : List ℕ) → HouseStands t.layers w [] numbers house.old nobody no_peers
+            → AllByRecursion (IsServed w) recovered.now → A.stands head before (reverse recovered.now) self.old.archive.now self.old.disk.now []
+            → self.old.pace.taken ≡ 0
+            → ServesAgain t.layers w (reverse recovered.now) numbers house.new.replicas.items t.tells
+            (outs_of K.Sink L.Link self.old.tape.now self.old.link.now)
+            (t.moment head before (reverse recovered.now) self.new)
+            result self.new.pace.until self.new.pace.limit }
+    {
+        let mut output = Output::new(self.alloc);
+        match house.recall_all(self.alloc, recovered, &mut output) {
+            Ok(()) => {}
+            Err(Mem) => return ServeEnd::Mem,
+        }
+        match write_events(self.tape, recovered) {
+            Ok(()) => {}
+            Err(_) => return ServeEnd::TapeFault,
+        }
+        self.go_on(rt, house)
     }
-    match write_events(out.tape, recovered) {
-        Ok(()) => {}
-        Err(_) => return ServeEnd::TapeFault,
-    }
-    let mut group = Group::new(alloc);
-    go_on(rt, alloc, house, out, bounds, &mut group)
 }

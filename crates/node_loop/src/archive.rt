@@ -1,4 +1,4 @@
-//! What keeps events on a disk, and what else serving has beside its replicas.
+//! What keeps events on a disk.
 ghost use Rattle.std.specs.Prelude.{◌≡◌, ℕ, ◌++◌, List, MatchResult, reverse, true, IsTrue};
 ghost use Rattle.std.specs.List.{AllByRecursion};
 ghost use Rattle.event_journal.specs.Journal.{IsRecord};
@@ -6,7 +6,7 @@ ghost use Rattle.ritas_base.specs.declared.event.Event.{Event};
 ghost use Rattle.node_loop.specs.declared.archive.ArchiveFault.{ArchiveFault};
 
 use event_journal::{Journal, JournalFault};
-use outside::{Disk, Link, Sink};
+use outside::Disk;
 use ritas_base::Event;
 use std::alloc::Global;
 
@@ -32,7 +32,7 @@ pub(crate) trait Archive<D> {
 
     /// Keeps a group of events, the oldest first.
     fn keep(&mut self, alloc: Global, disk: &mut D, events: &[Event]) -> Result<(), ArchiveFault>
-        ensures { (head : List ℕ) (before : D) (past given : List Event) → stands head before past self.old disk.old given
+        ensures keeps { (head : List ℕ) (before : D) (past given : List Event) → stands head before past self.old disk.old given
             → MatchResult result (λ _. stands head before past self.new disk.new (reverse events.now ++ given))
             (λ fault. fails head before past self.new disk.new fault (reverse events.now) given) };
 }
@@ -57,7 +57,7 @@ impl Archive<NoDisk> for NoArchive {
 
 // Whether a journal is live, and takes each of these events.
 fn takes_all(journal: &Journal, events: &[Event]) -> bool
-    ensures { IsTrue result → (journal.now.live ≡ true) × AllByRecursion (IsRecord journal.now.me) events.now }
+    ensures takes { IsTrue result → (journal.now.live ≡ true) × AllByRecursion (IsRecord journal.now.me) events.now }
 {
     for event in events {
         if !journal.takes(event) {
@@ -89,13 +89,4 @@ impl<D: Disk> Archive<D> for Journal {
             Err(_) => Err(ArchiveFault::Mem),
         }
     }
-}
-
-/// What serving has beside its replicas: the link, the tape, and what keeps events on which disk.
-#[derive(Drop)]
-pub(crate) struct Outlets<'l, 't, 'a, 'd, L: Link, K: Sink, A: Archive<D>, D> {
-    pub link: &'l mut L,
-    pub tape: &'t mut K,
-    pub archive: &'a mut A,
-    pub disk: &'d mut D,
 }

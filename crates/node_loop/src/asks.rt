@@ -5,7 +5,7 @@ ghost use Rattle.node_loop.specs.Calls.{asked_in, reply};
 ghost use Rattle.node_loop.specs.Standing.{reply_by};
 
 use crate::house::House;
-use crate::output::{More, Output, Reply};
+use crate::output::{More, Output, REPLY_LEN, Reply};
 use crate::peers::mark_of;
 use crate::refusals::{is_deferred, is_kept, is_opened, refusal_in};
 use crate::waiting::Asked;
@@ -22,7 +22,7 @@ use std::alloc::Global;
 
 /// The request that a message is at a replica; of one that is too short for a request's front the numbers are 0.
 pub(crate) fn asked_in(at: u8, bytes: &[u8]) -> Asked
-    ensures { result ≡ asked_in at bytes.now }
+    ensures asked { result ≡ asked_in at bytes.now }
 {
     match read_front(bytes) {
         Some(RequestFront { client, request }) => Asked {
@@ -40,7 +40,7 @@ pub(crate) fn asked_in(at: u8, bytes: &[u8]) -> Asked
 
 // The request that a message is at a replica, if it is one.
 fn request_of(at: u8, bytes: &[u8]) -> Option<Asked>
-    ensures { MatchOption result
+    ensures asked { MatchOption result
         (request_in bytes.now ≡ None)
         (λ asked. (request_in bytes.now ≢ None) × (asked ≡ asked_in at bytes.now)) }
 {
@@ -61,9 +61,11 @@ struct Message {
 }
 
 // Replies so to a connection, if there is one.
-fn reply(output: &mut Output, conn: Option<u32>, bytes: [u8; 13]) -> Result<(), Mem>
-    ensures replies { (at : _) → OnOk result (map (reply_by at) output.new.replies.items ≡ map (reply_by at) output.old.replies.items ++ reply at bytes conn) }
-    ensures same { (output.new.at ≡ output.old.at) × (output.new.event ≡ output.old.event) × (output.new.frames ≡ output.old.frames) × (output.new.more ≡ output.old.more) × (output.new.kept ≡ output.old.kept) }
+fn reply(output: &mut Output, conn: Option<u32>, bytes: [u8; REPLY_LEN]) -> Result<(), Mem>
+    ensures replies { (at : _) → OnOk result (map (reply_by at) output.new.replies.items
+        ≡ map (reply_by at) output.old.replies.items ++ reply at bytes conn) }
+    ensures same { (output.new.at ≡ output.old.at) × (output.new.event ≡ output.old.event) × (output.new.frames ≡ output.old.frames)
+        × (output.new.more ≡ output.old.more) × (output.new.kept ≡ output.old.kept) }
 {
     if let Some(conn) = conn {
         output.replies.push(Reply { conn, bytes })?;
@@ -133,8 +135,9 @@ impl<S: Service, E: Broadcast, C: Coin + Drop> House<S, E, C> {
 
     // The position of a request in the log of the replica at a place.
     fn position_at(&self, place: usize, asked: Asked) -> Option<u32>
-        ensures { let m = meaning_of S.Service E.Broadcast C.Coin in
-            (w : Setting) (es : List Event) (numbers : List ℕ) (at : ℕ) → AreHere m w es numbers self.now.replicas.items → slice_get numbers place ≡ Some at
+        ensures position { let m = meaning_of S.Service E.Broadcast C.Coin in
+            (w : Setting) (es : List Event) (numbers : List ℕ) (at : ℕ) → AreHere m w es numbers self.now.replicas.items
+            → slice_get numbers place ≡ Some at
             → result ≡ position_of (rows_at w es at) asked.client asked.request }
     {
         self.replicas
@@ -223,7 +226,7 @@ impl<S: Service, E: Broadcast, C: Coin + Drop> House<S, E, C> {
 
     // A peer is marked at the replica at a place, as that stands now.
     fn mark(&mut self, place: usize, peer: u8)
-        ensures { let m = meaning_of S.Service E.Broadcast C.Coin in
+        ensures marks { let m = meaning_of S.Service E.Broadcast C.Coin in
             (w : Setting) (es : List Event) (numbers : List ℕ) (ws : Waiting) (p : Peers) (at : ℕ) → HouseStands m w es numbers self.old ws p
             → slice_get numbers place ≡ Some at
             → HouseStands m w es numbers self.new ws (with_mark at peer (Some (mark_at w es at peer)) p) }
@@ -239,9 +242,11 @@ impl<S: Service, E: Broadcast, C: Coin + Drop> House<S, E, C> {
     // The note that the replica at a place took the frame of this number is to go to its sender.
     fn acknowledge(&self, place: usize, frame: FrameHeader, output: &mut Output)
         ensures note { let m = meaning_of S.Service E.Broadcast C.Coin in
-            (w : Setting) (es : List Event) (numbers : List ℕ) (at : ℕ) → AreHere m w es numbers self.now.replicas.items → slice_get numbers place ≡ Some at
+            (w : Setting) (es : List Event) (numbers : List ℕ) (at : ℕ) → AreHere m w es numbers self.now.replicas.items
+            → slice_get numbers place ≡ Some at
             → frame.from < w.numbers.n → output.new.more ≡ mores.Note frame.from (ack_note (w.keys at) frame.from frame.seq) }
-        ensures same { (output.new.at ≡ output.old.at) × (output.new.event ≡ output.old.event) × (output.new.frames ≡ output.old.frames) × (output.new.replies ≡ output.old.replies) × (output.new.kept ≡ output.old.kept) }
+        ensures same { (output.new.at ≡ output.old.at) × (output.new.event ≡ output.old.event) × (output.new.frames ≡ output.old.frames)
+            × (output.new.replies ≡ output.old.replies) × (output.new.kept ≡ output.old.kept) }
     {
         if let Some(replica) = self.replicas.get(place) {
             let channel = replica.channel();
@@ -273,7 +278,8 @@ impl<S: Service, E: Broadcast, C: Coin + Drop> House<S, E, C> {
             → slice_get numbers place ≡ Some at → is_answer_opened answer ≡ true → is_deferred (seen_answer answer) ≡ false
             → IfSome carried (λ frame. frame.from < w.numbers.n
             → (self.new ≡ self.old) × (output.new.more ≡ mores.Note frame.from (ack_note (w.keys at) frame.from frame.seq))) }
-        ensures same { (output.new.at ≡ output.old.at) × (output.new.event ≡ output.old.event) × (output.new.frames ≡ output.old.frames) × (output.new.replies ≡ output.old.replies) × (output.new.kept ≡ output.old.kept) }
+        ensures same { (output.new.at ≡ output.old.at) × (output.new.event ≡ output.old.event) × (output.new.frames ≡ output.old.frames)
+            × (output.new.replies ≡ output.old.replies) × (output.new.kept ≡ output.old.kept) }
     {
         match carried {
             Some(frame) if is_opened(answer) => {
@@ -323,7 +329,8 @@ impl<S: Service, E: Broadcast, C: Coin + Drop> House<S, E, C> {
         ensures comes { let m = meaning_of S.Service E.Broadcast C.Coin in
             (w : Setting) (es : List Event) (numbers : List ℕ) (ws : Waiting) (p : Peers) → HouseStands m w es numbers self.old ws p
             → let did = item_does w es (items.Frame to bytes) ws in
-            OnOk result (ComesOut m w es numbers self.new output.new did (item_brings w es (items.Frame to bytes) (keep_all (frames_made_by w es did.event) p))) }
+            OnOk result (ComesOut m w es numbers self.new output.new did
+            (item_brings w es (items.Frame to bytes) (keep_all (frames_made_by w es did.event) p))) }
         ensures sized { length bytes < 2 ^ 16 → OnOk result (IfSome output.new.event IsSized) }
     {
         output.clear(to);
@@ -362,7 +369,7 @@ impl<S: Service, E: Broadcast, C: Coin + Drop> House<S, E, C> {
         item: LinkItem,
         output: &mut Output,
     ) -> Result<(), Mem>
-        requires { length (bytes_of item) < 2 ^ 16 }
+        requires short { length (bytes_of item) < 2 ^ 16 }
         ensures comes { let m = meaning_of S.Service E.Broadcast C.Coin in
             (w : Setting) (es : List Event) (numbers : List ℕ) (ws : Waiting) (p : Peers) → HouseStands m w es numbers self.old ws p
             → let did = item_does w es item ws in
@@ -395,7 +402,7 @@ impl<S: Service, E: Broadcast, C: Coin + Drop> House<S, E, C> {
         item: &LinkItem,
         output: &mut Output,
     ) -> Result<(), Mem>
-        requires { MayBegin item.now }
+        requires first { MayBegin item.now }
         ensures comes { let m = meaning_of S.Service E.Broadcast C.Coin in
             (w : Setting) (es : List Event) (numbers : List ℕ) (ws : Waiting) (p : Peers) → HouseStands m w es numbers self.old ws p
             → let did = first_does w es item.now ws in

@@ -28,8 +28,9 @@ impl<S: Service, E: Broadcast, C: Coin + Drop> House<S, E, C> {
 
     /// How many rows the log of the replica at a place has.
     pub(crate) fn rows_at(&self, place: usize) -> u32
-        ensures { let m = meaning_of S.Service E.Broadcast C.Coin in
-            (w : Setting) (es : List Event) (numbers : List ℕ) (at : ℕ) → AreHere m w es numbers self.now.replicas.items → slice_get numbers place ≡ Some at
+        ensures count { let m = meaning_of S.Service E.Broadcast C.Coin in
+            (w : Setting) (es : List Event) (numbers : List ℕ) (at : ℕ) → AreHere m w es numbers self.now.replicas.items
+            → slice_get numbers place ≡ Some at
             → result ≡ length (rows_at w es at) }
     {
         match self.replicas.get(place) {
@@ -47,11 +48,13 @@ impl<S: Service, E: Broadcast, C: Coin + Drop> House<S, E, C> {
         frames: &mut Vec<OutFrame>,
     ) -> Result<Result<Answer, Refusal>, Mem>
         ensures does { let m = meaning_of S.Service E.Broadcast C.Coin in
-            (w : Setting) (es : List Event) (numbers : List ℕ) (at : ℕ) → AreHere m w es numbers self.old.replicas.items → slice_get numbers place ≡ Some at
+            (w : Setting) (es : List Event) (numbers : List ℕ) (at : ℕ) → AreHere m w es numbers self.old.replicas.items
+            → slice_get numbers place ≡ Some at
             → IsAlone at event.now → OnOk result (AreHere m w (event.now ∷ es) numbers self.new.replicas.items
             × (map (frame_by at) frames.new.items ≡ map (frame_by at) frames.old.items ++ sent_by w es (Some event.now))) }
         ensures answered { let m = meaning_of S.Service E.Broadcast C.Coin in
-            (w : Setting) (es : List Event) (numbers : List ℕ) (at : ℕ) → AreHere m w es numbers self.old.replicas.items → slice_get numbers place ≡ Some at
+            (w : Setting) (es : List Event) (numbers : List ℕ) (at : ℕ) → AreHere m w es numbers self.old.replicas.items
+            → slice_get numbers place ≡ Some at
             → IsAlone at event.now → IfOk result (λ answer. seen_answer answer ≡ seen_of w es event.now) }
         ensures same { (self.new.waiting ≡ self.old.waiting) × (self.new.keepers ≡ self.old.keepers) }
     {
@@ -78,11 +81,13 @@ impl<S: Service, E: Broadcast, C: Coin + Drop> House<S, E, C> {
         output: &mut Output,
     ) -> Result<(), Mem>
         ensures enters { let m = meaning_of S.Service E.Broadcast C.Coin in
-            (w : Setting) (es : List Event) (numbers : List ℕ) (ws : Waiting) (p : Peers) → HouseStands m w es numbers self.old ws p → slice_get numbers place ≡ Some output.old.at
+            (w : Setting) (es : List Event) (numbers : List ℕ) (ws : Waiting) (p : Peers) → HouseStands m w es numbers self.old ws p
+            → slice_get numbers place ≡ Some output.old.at
             → OnOk result (HouseStands m w es numbers self.new (waiting_left_by output.old.at count (rows_at w es output.old.at) ws) p
             × (map (reply_by output.old.at) output.new.replies.items
             ≡ map (reply_by output.old.at) output.old.replies.items ++ replies_by output.old.at count (rows_at w es output.old.at) ws)) }
-        ensures same { (output.new.at ≡ output.old.at) × (output.new.event ≡ output.old.event) × (output.new.frames ≡ output.old.frames) × (output.new.more ≡ output.old.more) × (output.new.kept ≡ output.old.kept) }
+        ensures same { (output.new.at ≡ output.old.at) × (output.new.event ≡ output.old.event) × (output.new.frames ≡ output.old.frames)
+            × (output.new.more ≡ output.old.more) × (output.new.kept ≡ output.old.kept) }
     {
         match self.replicas.get(place) {
             Some(replica) => enter_rows(
@@ -106,9 +111,11 @@ impl<S: Service, E: Broadcast, C: Coin + Drop> House<S, E, C> {
         output: &mut Output,
     ) -> Result<(), Mem>
         ensures comes { let m = meaning_of S.Service E.Broadcast C.Coin in
-            (w : Setting) (es : List Event) (numbers : List ℕ) (ws : Waiting) (p : Peers) → HouseStands m w es numbers self.old ws p → slice_get numbers place ≡ Some output.old.at
+            (w : Setting) (es : List Event) (numbers : List ℕ) (ws : Waiting) (p : Peers) → HouseStands m w es numbers self.old ws p
+            → slice_get numbers place ≡ Some output.old.at
             → IsAlone output.old.at event → IsEmptyOutput output.old
-            → OnOk result (ComesOut m w es numbers self.new output.new (event_called w es output.old.at event ws) (nothing_more (keep_all (frames_made_by w es (Some event)) p))) }
+            → OnOk result (ComesOut m w es numbers self.new output.new
+            (event_called w es output.old.at event ws) (nothing_more (keep_all (frames_made_by w es (Some event)) p))) }
         ensures sized { IsSized event → OnOk result (IfSome output.new.event IsSized) }
     {
         let count = self.rows_at(place);
@@ -121,8 +128,10 @@ impl<S: Service, E: Broadcast, C: Coin + Drop> House<S, E, C> {
     /// A turn at a replica. The one error is want of memory.
     pub(crate) fn turn(&mut self, alloc: Global, at: u8, output: &mut Output) -> Result<(), Mem>
         ensures comes { let m = meaning_of S.Service E.Broadcast C.Coin in
-            (w : Setting) (es : List Event) (numbers : List ℕ) (ws : Waiting) (p : Peers) → HouseStands m w es numbers self.old ws p → w.is_correct at ≡ true
-            → OnOk result (ComesOut m w es numbers self.new output.new (event_called w es at (Turn at) ws) (nothing_more (keep_all (frames_made_by w es (Some (Turn at))) p))) }
+            (w : Setting) (es : List Event) (numbers : List ℕ) (ws : Waiting) (p : Peers) → HouseStands m w es numbers self.old ws p
+            → w.is_correct at ≡ true
+            → OnOk result (ComesOut m w es numbers self.new output.new
+            (event_called w es at (Turn at) ws) (nothing_more (keep_all (frames_made_by w es (Some (Turn at))) p))) }
         ensures sized { OnOk result (IfSome output.new.event IsSized) }
     {
         output.clear(at);

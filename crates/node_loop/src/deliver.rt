@@ -6,30 +6,29 @@ ghost use Rattle.outside.specs.Faults.{count_after};
 ghost use Rattle.outside.specs.LinkCalls.{each_act};
 ghost use Rattle.outside.specs.Links.{LinkAct, Replies};
 ghost use Rattle.outside.specs.Writing.{TookFront};
-ghost use Rattle.outside.specs.declared.link.LinkItem.{LinkItem};
 ghost use Rattle.keyed_channel.specs.Lengths.{head_length};
 ghost use Rattle.link_resume.specs.Lists.{kept_for};
 ghost use Rattle.schedule_file.specs.Spelling.{IsSized};
 ghost use Rattle.world_model.specs.World.{Setting};
-ghost use Rattle.node_loop.specs.Meanings.{meaning_of, moment_of};
+ghost use Rattle.node_loop.specs.Meanings.{meaning_of};
 ghost use Rattle.node_loop.specs.Calls.{Outcome};
 ghost use Rattle.node_loop.specs.Waiting.{Waiting};
 ghost use Rattle.node_loop.specs.Peers.{Peers, keep_all};
 ghost use Rattle.node_loop.specs.PeersStanding.{AreKept, kept_by, made_as};
 ghost use Rattle.node_loop.specs.Resending.{Brought};
-ghost use Rattle.node_loop.specs.Outs.{Outs, Tells, Agrees, StepsInOrder, events_text, tells_of, LinkTook};
+ghost use Rattle.node_loop.specs.Outs.{Outs, Tells, Agrees, StepsInOrder, events_text, LinkTook};
 ghost use Rattle.node_loop.specs.Serving.{Serving, Round, so_far, onto, at_call, outcome, brought, after_from};
 ghost use Rattle.node_loop.specs.Standing.{HouseStands, ComesOut, frame_by, reply_by};
-ghost use Rattle.node_loop.specs.Groups.{FitsPeers, GroupHolds, JoinsGroup, Under, IsEmpty, more_by, acts_by, acts_each, if_kept};
-ghost use Rattle.node_loop.specs.Running.{Gathered, NotYet, Delivered, IsOfTape};
-ghost use Rattle.node_loop.specs.Archives.{AreSameOutlets};
+ghost use Rattle.node_loop.specs.Groups.{FitsPeers, GroupHolds, JoinsGroup, Under, more_by, acts_by, acts_each, if_kept};
+ghost use Rattle.node_loop.specs.Running.{IsOfTape};
 
-use crate::archive::{Archive, ArchiveFault, Outlets};
+use crate::archive::{Archive, ArchiveFault};
 use crate::end::Fault;
 use crate::group::Group;
 use crate::house::House;
 use crate::output::{More, Output, Reply};
 use crate::peers::keep;
+use crate::server::Server;
 use layer_api::{Broadcast, Service};
 use link_resume::Resume;
 use outside::{Buffer, Failed, Link, LinkFault, Sink, write_all};
@@ -42,7 +41,7 @@ use std::sync::Wait;
 
 // Keeps these frames of a replica for their peers, in order. The one error is want of memory.
 fn keep_each(resume: &mut Resume, alloc: Global, frames: &[OutFrame]) -> Result<(), Mem>
-    ensures { (n i k : ℕ) (p : Peers) → All (λ f. head_length ≤ length f.bytes) frames.now → AreKept n i resume.old p.keeping
+    ensures keeps { (n i k : ℕ) (p : Peers) → All (λ f. head_length ≤ length f.bytes) frames.now → AreKept n i resume.old p.keeping
         → OnOk result (AreKept n i resume.new (keep_all (map (made_as k i) frames.now) p).keeping) }
 {
     for frame in frames {
@@ -57,7 +56,7 @@ fn keep_frames<S: Service, E: Broadcast, C: Coin + Drop>(
     alloc: Global,
     output: &Output,
 ) -> Result<(), Mem>
-    ensures { let m = meaning_of S.Service E.Broadcast C.Coin in
+    ensures keeps { let m = meaning_of S.Service E.Broadcast C.Coin in
         (w : Setting) (es : List Event) (numbers : List ℕ) (did : Outcome) (more : Brought)
         → ComesOut m w es numbers house.old output.now did more
         → OnOk result (HouseStands m w (onto did.event es) numbers house.new did.waiting more.peers) }
@@ -81,7 +80,7 @@ fn send_all<R: Net + Wait, L: Link>(
     at: u8,
     frames: &[OutFrame],
 ) -> Result<(), LinkFault>
-    ensures { LinkTook L.Link (each_act (frame_by at) frames.now) link.old link.new result }
+    ensures sends { LinkTook L.Link (each_act (frame_by at) frames.now) link.old link.new result }
 {
     for frame in frames {
         link.send(rt, alloc, at, frame.to, frame.bytes.as_slice())?;
@@ -98,8 +97,8 @@ fn send_kept<R: Net + Wait, L: Link>(
     resume: &Resume,
     peer: u8,
 ) -> Result<(), LinkFault>
-    requires { peer < length resume.now }
-    ensures { LinkTook L.Link (each_act (kept_by at peer) (kept_for resume.now peer)) link.old link.new result }
+    requires peer { peer < length resume.now }
+    ensures sends { LinkTook L.Link (each_act (kept_by at peer) (kept_for resume.now peer)) link.old link.new result }
 {
     for place in 0..resume.count(peer) {
         let Some(kept) = resume.waiting(peer, place) else {
@@ -120,7 +119,7 @@ fn send_again<R: Net + Wait, S: Service, E: Broadcast, C: Coin + Drop, L: Link>(
     at: u8,
     peer: u8,
 ) -> Result<(), LinkFault>
-    ensures { let m = meaning_of S.Service E.Broadcast C.Coin in
+    ensures sends { let m = meaning_of S.Service E.Broadcast C.Coin in
         (w : Setting) (es : List Event) (numbers : List ℕ) (ws : Waiting) (p : Peers) → HouseStands m w es numbers house.now ws p
         → FitsPeers w p.keeping at (More.Kept peer)
         → LinkTook L.Link (each_act (kept_by at peer) (p.keeping at peer)) link.old link.new result }
@@ -149,7 +148,7 @@ fn send_more<R: Net + Wait, S: Service, E: Broadcast, C: Coin + Drop, L: Link>(
     at: u8,
     more: More,
 ) -> Result<(), LinkFault>
-    ensures { let m = meaning_of S.Service E.Broadcast C.Coin in
+    ensures sends { let m = meaning_of S.Service E.Broadcast C.Coin in
         (w : Setting) (es : List Event) (numbers : List ℕ) (ws : Waiting) (p : Peers) → HouseStands m w es numbers house.now ws p
         → FitsPeers w p.keeping at more
         → LinkTook L.Link (more_by p.keeping at more) link.old link.new result }
@@ -169,7 +168,7 @@ fn send_out<R: Net + Wait, S: Service, E: Broadcast, C: Coin + Drop, L: Link>(
     link: &mut L,
     output: &Output,
 ) -> Result<(), LinkFault>
-    ensures { let m = meaning_of S.Service E.Broadcast C.Coin in
+    ensures sends { let m = meaning_of S.Service E.Broadcast C.Coin in
         (w : Setting) (es : List Event) (numbers : List ℕ) (ws : Waiting) (p : Peers) → HouseStands m w es numbers house.now ws p
         → FitsPeers w p.keeping output.now.at output.now.more
         → LinkTook L.Link (acts_by p.keeping output.now) link.old link.new result }
@@ -188,7 +187,7 @@ fn send_each<R: Net + Wait, S: Service, E: Broadcast, C: Coin + Drop, L: Link>(
     link: &mut L,
     outputs: &[Output],
 ) -> Result<(), LinkFault>
-    ensures { let m = meaning_of S.Service E.Broadcast C.Coin in
+    ensures sends { let m = meaning_of S.Service E.Broadcast C.Coin in
         (w : Setting) (es : List Event) (numbers : List ℕ) (ws : Waiting) (p : Peers) → HouseStands m w es numbers house.now ws p
         → AllByRecursion (λ o. FitsPeers w p.keeping o.at o.more) outputs.now
         → LinkTook L.Link (acts_each (acts_by p.keeping) outputs.now) link.old link.new result }
@@ -207,7 +206,7 @@ fn reply_all<R: Net + Wait, L: Link>(
     at: u8,
     replies: &[Reply],
 ) -> Result<(), LinkFault>
-    ensures { LinkTook L.Link (each_act Replies (map (reply_by at) replies.now)) link.old link.new result }
+    ensures replies { LinkTook L.Link (each_act Replies (map (reply_by at) replies.now)) link.old link.new result }
 {
     for given in replies {
         link.reply(rt, alloc, at, given.conn, &given.bytes)?;
@@ -217,8 +216,9 @@ fn reply_all<R: Net + Wait, L: Link>(
 
 /// Writes these events to the tape, the oldest first.
 pub(crate) fn write_events<K: Sink>(tape: &mut K, events: &[Event]) -> Result<(), Failed>
-    requires { AllByRecursion IsSized events.now }
-    ensures whole { OnOk result ((K.faults tape.new ≡ K.faults tape.old) × (K.tells ≡ true → K.taken tape.new ≡ K.taken tape.old ++ events_text (reverse events.now))) }
+    requires sized { AllByRecursion IsSized events.now }
+    ensures whole { OnOk result ((K.faults tape.new ≡ K.faults tape.old)
+        × (K.tells ≡ true → K.taken tape.new ≡ K.taken tape.old ++ events_text (reverse events.now))) }
     ensures front { OnErr result ((K.faults tape.new ≡ count_after (K.faults tape.old)) × (K.faults tape.old ≤ K.faults tape.new)
         × (K.tells ≡ true → TookFront (K.taken tape.old) (K.taken tape.new) (events_text (reverse events.now)))) }
 {
@@ -230,11 +230,14 @@ pub(crate) fn write_events<K: Sink>(tape: &mut K, events: &[Event]) -> Result<()
 
 // Writes the events of a group to the tape, the oldest first, in one piece.
 fn write<K: Sink>(alloc: Global, tape: &mut K, events: &[Event]) -> Result<(), Fault>
-    requires { AllByRecursion IsSized events.now }
+    requires sized { AllByRecursion IsSized events.now }
     ensures own { IfErr result IsOfTape }
-    ensures steps { (tells : Tells) (base : Outs) (told : List LinkAct) (link_faults : _) (older : List Event) (acts news : List LinkAct) → tells.tape ≡ K.tells
-        → Agrees tells base (record { taken = K.taken tape.old; tape_faults = K.faults tape.old; told = told; link_faults = link_faults }) older acts
-        → StepsInOrder tells base (record { taken = K.taken tape.new; tape_faults = K.faults tape.new; told = told; link_faults = link_faults }) result
+    ensures steps { (tells : Tells) (base : Outs) (told : List LinkAct) (link_faults : _) (older : List Event) (acts news : List LinkAct)
+        → tells.tape ≡ K.tells
+        → Agrees tells base (record { taken = K.taken tape.old; tape_faults = K.faults tape.old; told = told; link_faults = link_faults })
+        older acts
+        → StepsInOrder tells base (record { taken = K.taken tape.new; tape_faults = K.faults tape.new; told = told; link_faults = link_faults })
+        result
         (reverse events.now ++ older) acts acts news }
 {
     let mut text = Buffer::new(alloc);
@@ -255,8 +258,9 @@ fn keep_events<A: Archive<D>, D>(
     disk: &mut D,
     group: &Group,
 ) -> Result<(), ArchiveFault>
-    ensures { (head : List ℕ) (before : D) (past given : List Event) → A.stands head before past archive.old disk.old given
-        → MatchResult result (λ _. A.stands head before past archive.new disk.new (if_kept group.now.kept (reverse group.now.events.items) ++ given))
+    ensures keeps { (head : List ℕ) (before : D) (past given : List Event) → A.stands head before past archive.old disk.old given
+        → MatchResult result
+        (λ _. A.stands head before past archive.new disk.new (if_kept group.now.kept (reverse group.now.events.items) ++ given))
         (λ fault. A.fails head before past archive.new disk.new fault (if_kept group.now.kept (reverse group.now.events.items)) given) }
 {
     if !group.kept {
@@ -286,39 +290,38 @@ pub(crate) fn gather<S: Service, E: Broadcast, C: Coin + Drop>(
     group.add(output)
 }
 
-/// Writes the events of a group to the tape, hands them to the archive where they are kept, and then gives the link, round after round, the
-/// frames, what goes to a peer besides, and the replies.
-pub(crate) fn deliver<
-    R: Net + Wait,
-    S: Service,
-    E: Broadcast,
-    C: Coin + Drop,
-    L: Link,
-    K: Sink,
-    A: Archive<D>,
-    D,
->(
-    rt: &R,
-    alloc: Global,
-    house: &House<S, E, C>,
-    out: &mut Outlets<L, K, A, D>,
-    group: &mut Group,
-) -> Result<(), Fault>
-    requires { AllByRecursion IsSized group.old.events.items }
-    ensures same { AreSameOutlets out.old out.new }
-    ensures empty { OnOk result (IsEmpty group.new) }
-    ensures goes { let m = meaning_of S.Service E.Broadcast C.Coin in
-        (head : List ℕ) (before : D) (w : Setting) (past : List Event) (numbers : List ℕ) (base : Outs) (taken until limit : ℕ) (start : Serving)
-        (left : List LinkItem) (older : List Round) (given : List LinkAct)
-        → Gathered m w past numbers house.now group.old taken until limit start left older given 64
-        → NotYet w past (tells_of K.Sink L.Link) base
-        (moment_of K.Sink L.Link A.Archive head before past out.old) start older given
-        → Delivered m w past numbers house.now (tells_of K.Sink L.Link) base
-        (moment_of K.Sink L.Link A.Archive head before past out.new) taken until limit start left result }
-{
-    write(alloc, out.tape, group.events.as_slice())?;
-    keep_events(alloc, out.archive, out.disk, group)?;
-    send_each(rt, alloc, house, out.link, group.outputs.as_slice())?;
-    group.clear();
-    Ok(())
+impl<L: Link, K: Sink, A: Archive<D>, D> Server<'_, '_, '_, '_, '_, L, K, A, D> {
+    ghost use Rattle.std.specs.Prelude.{List, OnOk};
+    ghost use Rattle.std.specs.List.{AllByRecursion};
+    ghost use Rattle.outside.specs.Links.{LinkAct};
+    ghost use Rattle.outside.specs.declared.link.LinkItem.{LinkItem};
+    ghost use Rattle.schedule_file.specs.Spelling.{IsSized};
+    ghost use Rattle.node_loop.specs.Groups.{IsEmpty};
+    ghost use Rattle.node_loop.specs.Meanings.{senses_of};
+    ghost use Rattle.node_loop.specs.Servers.{Outset, IsSameServer, HasGathered, HasDeliveredNone, HasDelivered};
+    ghost use Rattle.node_loop.specs.Serving.{Round, most_rounds};
+
+    /// Writes the events of the group to the tape, hands them to the archive where they are kept, and then gives the link, round after round, the
+    /// frames, what goes to a peer besides, and the replies.
+    pub(crate) fn deliver<R: Net + Wait, S: Service, E: Broadcast, C: Coin + Drop>(
+        &mut self,
+        rt: &R,
+        house: &House<S, E, C>,
+    ) -> Result<(), Fault>
+        requires sized { AllByRecursion IsSized self.old.group.now.events.items }
+        ensures same { IsSameServer self.old self.new }
+        ensures empty { OnOk result (IsEmpty self.new.group.now) }
+        ensures goes { let t = senses_of S.Service E.Broadcast C.Coin L.Link K.Sink A.Archive in
+            (o : Outset D) (left : List LinkItem) (older : List Round) (given : List LinkAct)
+            → HasGathered t o house.now self.old left older given most_rounds → HasDeliveredNone t o self.old older given
+            → HasDelivered t o house.now self.new left result }
+    {
+        let events = self.group.events.as_slice();
+        write(self.alloc, self.tape, events)?;
+        keep_events(self.alloc, self.archive, self.disk, self.group)?;
+        let outputs = self.group.outputs.as_slice();
+        send_each(rt, self.alloc, house, self.link, outputs)?;
+        self.group.clear();
+        Ok(())
+    }
 }

@@ -1,12 +1,11 @@
 //! The rows that come into a replica's log, and those who waited for them.
-ghost use Rattle.std.specs.Prelude.{◌≡◌, ◌++◌, ◌∷◌, ◌<◌, length, map, OnOk, Some};
+ghost use Rattle.std.specs.Prelude.{◌≡◌, ◌++◌, ◌<◌, map, OnOk, Some};
 ghost use Rattle.client_port.specs.Messages.{position_reply};
-ghost use Rattle.command_log.specs.Rows.{Row, row_at};
 ghost use Rattle.node_loop.specs.Waiting.{Waiting, without_asked};
 ghost use Rattle.node_loop.specs.Calls.{asked_by, waiting_left_by, replies_by, reply_each};
 ghost use Rattle.node_loop.specs.Standing.{IsWaiting, reply_by};
 
-use crate::output::Reply;
+use crate::output::{REPLY_LEN, Reply};
 use crate::waiting::{Asked, Waiters};
 use client_port::write_reply;
 use command_log::{Log, LogRow};
@@ -14,8 +13,13 @@ use ritas_base::Mem;
 use std::alloc::Global;
 
 // Replies so to each of these connections.
-fn reply_each(conns: &[Option<u32>], bytes: [u8; 13], replies: &mut Vec<Reply>) -> Result<(), Mem>
-    ensures { (at : _) → OnOk result (map (reply_by at) replies.new.items ≡ map (reply_by at) replies.old.items ++ reply_each at bytes conns.now) }
+fn reply_each(
+    conns: &[Option<u32>],
+    bytes: [u8; REPLY_LEN],
+    replies: &mut Vec<Reply>,
+) -> Result<(), Mem>
+    ensures replies { (at : _) → OnOk result (map (reply_by at) replies.new.items
+        ≡ map (reply_by at) replies.old.items ++ reply_each at bytes conns.now) }
 {
     for conn in conns {
         if let Some(conn) = *conn {
@@ -34,7 +38,7 @@ fn enter_row(
     position: u32,
     replies: &mut Vec<Reply>,
 ) -> Result<(), Mem>
-    ensures { (ws : Waiting) → IsWaiting waiting.old ws → OnOk result
+    ensures enters { (ws : Waiting) → IsWaiting waiting.old ws → OnOk result
         (IsWaiting waiting.new (without_asked (asked_by at row.now) ws)
         × (map (reply_by at) replies.new.items ≡ map (reply_by at) replies.old.items
         ++ reply_each at (position_reply row.now.client row.now.request position) (ws (asked_by at row.now)))) }
@@ -62,7 +66,7 @@ pub(crate) fn enter_rows(
     count: u32,
     replies: &mut Vec<Reply>,
 ) -> Result<(), Mem>
-    ensures { (ws : Waiting) → IsWaiting waiting.old ws → OnOk result
+    ensures enters { (ws : Waiting) → IsWaiting waiting.old ws → OnOk result
         (IsWaiting waiting.new (waiting_left_by at count log.now.rows ws)
         × (map (reply_by at) replies.new.items ≡ map (reply_by at) replies.old.items ++ replies_by at count log.now.rows ws)) }
 {

@@ -21,7 +21,7 @@ pub(crate) struct Group {
 
 // Whether all that is kept for a peer goes out again.
 fn is_again(more: More) -> bool
-    ensures { result ≡ is_again more }
+    ensures again { result ≡ is_again more }
 {
     match more {
         More::Nothing => false,
@@ -33,7 +33,7 @@ fn is_again(more: More) -> bool
 impl Group {
     /// No round. It takes no memory.
     pub(crate) fn new(alloc: Global) -> Group
-        ensures { IsEmpty result }
+        ensures empty { IsEmpty result }
     {
         Group {
             events: Vec::new(alloc),
@@ -45,7 +45,7 @@ impl Group {
 
     /// No round any more.
     pub(crate) fn clear(&mut self)
-        ensures { IsEmpty self.new }
+        ensures empty { IsEmpty self.new }
     {
         self.events.clear();
         self.outputs.clear();
@@ -69,7 +69,7 @@ impl Group {
 
     /// Whether a turn may join: all events are kept, and nothing that is kept for a peer goes out again.
     pub(crate) fn goes_on(&self) -> bool
-        ensures { result ≡ (self.now.kept && not self.now.resends) }
+        ensures goes { result ≡ (self.now.kept && not self.now.resends) }
     {
         self.kept && !self.resends
     }

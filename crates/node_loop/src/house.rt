@@ -27,7 +27,7 @@ pub(crate) struct House<S: Service, E: Broadcast, C: Coin + Drop> {
 
 // Whether a number is less than the least one, if there is one.
 fn is_less(number: u8, least: Option<u8>) -> bool
-    ensures { result ≡ is_before_other number least }
+    ensures value { result ≡ is_before_other number least }
 {
     match least {
         Some(other) => number < other,
@@ -37,7 +37,7 @@ fn is_less(number: u8, least: Option<u8>) -> bool
 
 // The number of a replica.
 fn number_of<S: Service, E: Broadcast, C: Coin + Drop>(replica: &Replica<S, E, C>) -> u8
-    ensures { let m = meaning_of S.Service E.Broadcast C.Coin in
+    ensures number { let m = meaning_of S.Service E.Broadcast C.Coin in
         (w : Setting) (states : ℕ → CoreState) (i : ℕ) → IsReplica m w states i replica.now → result ≡ (w.keys i).me }
 {
     replica.keys().me()
@@ -45,7 +45,7 @@ fn number_of<S: Service, E: Broadcast, C: Coin + Drop>(replica: &Replica<S, E, C
 
 // Whether an item waits at a replica.
 fn is_busy<S: Service, E: Broadcast, C: Coin + Drop>(replica: &Replica<S, E, C>) -> bool
-    ensures { let m = meaning_of S.Service E.Broadcast C.Coin in
+    ensures busy { let m = meaning_of S.Service E.Broadcast C.Coin in
         (w : Setting) (states : ℕ → CoreState) (i : ℕ) → IsReplica m w states i replica.now → result ≡ is_busy (states i).inbox }
 {
     replica.core().inbox_len() > 0
@@ -56,7 +56,7 @@ fn has_rows<S: Service, E: Broadcast, C: Coin + Drop>(
     replica: &Replica<S, E, C>,
     count: u32,
 ) -> bool
-    ensures { let m = meaning_of S.Service E.Broadcast C.Coin in
+    ensures enough { let m = meaning_of S.Service E.Broadcast C.Coin in
         (w : Setting) (es : List Event) (i : ℕ) → IsReplica m w (states_of w es) i replica.now → result ≡ nat_le count (length (rows_at w es i)) }
 {
     replica.log().len() >= count
@@ -67,7 +67,7 @@ fn lesser<S: Service, E: Broadcast, C: Coin + Drop>(
     replica: &Replica<S, E, C>,
     least: Option<u8>,
 ) -> Option<u8>
-    ensures { let m = meaning_of S.Service E.Broadcast C.Coin in
+    ensures least { let m = meaning_of S.Service E.Broadcast C.Coin in
         (w : Setting) (states : ℕ → CoreState) (i : ℕ) → IsReplica m w states i replica.now
         → result ≡ (if is_busy (states i).inbox && is_before_other (w.keys i).me least then Some (w.keys i).me else least) }
 {
@@ -80,7 +80,8 @@ fn lesser<S: Service, E: Broadcast, C: Coin + Drop>(
 }
 
 impl<S: Service, E: Broadcast, C: Coin + Drop> House<S, E, C> {
-    ghost use Rattle.std.specs.Prelude.{◌≡◌, ℕ, ◌<◌, ◌&&◌, nat_lt, [], ◌∷◌, ◌++◌, length, List, true, false, MatchOption, Some, None, IfOk, OnErr, if◌then◌else◌};
+    ghost use Rattle.std.specs.Prelude.{◌≡◌, ℕ, ◌<◌, ◌&&◌, nat_lt, [], ◌∷◌, ◌++◌, length};
+    ghost use Rattle.std.specs.Prelude.{List, true, false, MatchOption, Some, None, IfOk, OnErr, if◌then◌else◌};
     ghost use Rattle.std.specs.List.{slice_get};
     ghost use Rattle.ritas_base.specs.declared.event.Event.{Event};
     ghost use Rattle.world_model.specs.World.{Setting};
@@ -118,7 +119,7 @@ impl<S: Service, E: Broadcast, C: Coin + Drop> House<S, E, C> {
 
     /// Where the replica of a number stands, if it is here.
     pub(crate) fn place_of(&self, at: u8) -> Option<usize>
-        ensures { let m = meaning_of S.Service E.Broadcast C.Coin in
+        ensures place { let m = meaning_of S.Service E.Broadcast C.Coin in
             (w : Setting) (es : List Event) (numbers : List ℕ) → AreHere m w es numbers self.now.replicas.items
             → MatchOption result (w.is_correct at ≡ false) (λ k. (w.is_correct at ≡ true) × (slice_get numbers k ≡ Some at)) }
     {
@@ -132,7 +133,7 @@ impl<S: Service, E: Broadcast, C: Coin + Drop> House<S, E, C> {
 
     /// The least number of a replica at which an item waits.
     pub(crate) fn least_busy(&self) -> Option<u8>
-        ensures { let m = meaning_of S.Service E.Broadcast C.Coin in
+        ensures least { let m = meaning_of S.Service E.Broadcast C.Coin in
             (w : Setting) (es : List Event) (numbers : List ℕ) → AreHere m w es numbers self.now.replicas.items
             → MatchOption result (busy w es ≡ []) (λ i. (more : List ℕ) × (busy w es ≡ i ∷ more)) }
     {
@@ -145,10 +146,11 @@ impl<S: Service, E: Broadcast, C: Coin + Drop> House<S, E, C> {
 
     // The peer of the replica at a place that is to be asked to send again, the least if there are several.
     fn due_at(&self, place: usize) -> Option<u8>
-        ensures { let m = meaning_of S.Service E.Broadcast C.Coin in
+        ensures first { let m = meaning_of S.Service E.Broadcast C.Coin in
             (w : Setting) (es : List Event) (numbers : List ℕ) (ws : Waiting) (p : Peers) (at : ℕ) → HouseStands m w es numbers self.now ws p
             → slice_get numbers place ≡ Some at
-            → MatchOption result (peers_due w es p at ≡ []) (λ j. (more : List APair) × (peers_due w es p at ≡ record { at = at; peer = j } ∷ more)) }
+            → MatchOption result (peers_due w es p at ≡ [])
+            (λ j. (more : List APair) × (peers_due w es p at ≡ record { at = at; peer = j } ∷ more)) }
     {
         self.keepers.get(place)?.due(self.replicas.get(place)?)
     }
@@ -156,7 +158,7 @@ impl<S: Service, E: Broadcast, C: Coin + Drop> House<S, E, C> {
     // The number of the replica at a place, if a peer of it is to be asked to send again and the number is less than the least one; else
     // this.
     fn lesser_wishing(&self, place: usize, number: u8, least: Option<u8>) -> Option<u8>
-        ensures { let m = meaning_of S.Service E.Broadcast C.Coin in
+        ensures least { let m = meaning_of S.Service E.Broadcast C.Coin in
             (w : Setting) (es : List Event) (numbers : List ℕ) (ws : Waiting) (p : Peers) (at : ℕ) → HouseStands m w es numbers self.now ws p
             → slice_get numbers place ≡ Some at
             → result ≡ (if nat_lt 0 (length (peers_due w es p at)) && is_before_other number least then Some number else least) }
@@ -170,7 +172,7 @@ impl<S: Service, E: Broadcast, C: Coin + Drop> House<S, E, C> {
 
     // The least number of a replica that has a peer which is to be asked to send again.
     fn least_wishing(&self) -> Option<u8>
-        ensures { let m = meaning_of S.Service E.Broadcast C.Coin in
+        ensures least { let m = meaning_of S.Service E.Broadcast C.Coin in
             (w : Setting) (es : List Event) (numbers : List ℕ) (ws : Waiting) (p : Peers) → HouseStands m w es numbers self.now ws p
             → MatchOption result (due w es (here w) p ≡ []) (λ i. (more : List APair) × (w.is_correct i ≡ true)
             × (nat_lt 0 (length (peers_due w es p i)) ≡ true) × (due w es (here w) p ≡ peers_due w es p i ++ more)) }
@@ -184,7 +186,7 @@ impl<S: Service, E: Broadcast, C: Coin + Drop> House<S, E, C> {
 
     /// The least peer, of the least replica that has one, which is to be asked to send again.
     pub(crate) fn least_due(&self) -> Option<Pair>
-        ensures { let m = meaning_of S.Service E.Broadcast C.Coin in
+        ensures first { let m = meaning_of S.Service E.Broadcast C.Coin in
             (w : Setting) (es : List Event) (numbers : List ℕ) (ws : Waiting) (p : Peers) → HouseStands m w es numbers self.now ws p
             → MatchOption result (due w es (here w) p ≡ []) (λ pair. (more : List APair) × (due w es (here w) p ≡ pair ∷ more)) }
     {
@@ -195,7 +197,7 @@ impl<S: Service, E: Broadcast, C: Coin + Drop> House<S, E, C> {
 
     // A peer of the replica at a place isn't marked any more.
     fn unmark(&mut self, place: usize, peer: u8)
-        ensures { let m = meaning_of S.Service E.Broadcast C.Coin in
+        ensures unmarks { let m = meaning_of S.Service E.Broadcast C.Coin in
             (w : Setting) (es : List Event) (numbers : List ℕ) (ws : Waiting) (p : Peers) (at : ℕ) → HouseStands m w es numbers self.old ws p
             → slice_get numbers place ≡ Some at → HouseStands m w es numbers self.new ws (with_mark at peer None p) }
     {
@@ -206,7 +208,7 @@ impl<S: Service, E: Broadcast, C: Coin + Drop> House<S, E, C> {
 
     // The note that asks a peer of the replica at a place to send again.
     fn again_to(&self, place: usize, peer: u8) -> More
-        ensures { let m = meaning_of S.Service E.Broadcast C.Coin in
+        ensures note { let m = meaning_of S.Service E.Broadcast C.Coin in
             (w : Setting) (es : List Event) (numbers : List ℕ) (p : Peers) (at : ℕ) → AreHere m w es numbers self.now.replicas.items
             → slice_get numbers place ≡ Some at → peer < w.numbers.n → IsMore w at result (asks_for_more at peer p) }
     {
@@ -241,7 +243,7 @@ impl<S: Service, E: Broadcast, C: Coin + Drop> House<S, E, C> {
 
     /// Whether each log has so many rows, if that isn't 0.
     pub(crate) fn is_done(&self, until: u32) -> bool
-        ensures { let m = meaning_of S.Service E.Broadcast C.Coin in
+        ensures done { let m = meaning_of S.Service E.Broadcast C.Coin in
             (w : Setting) (es : List Event) (numbers : List ℕ) → AreHere m w es numbers self.now.replicas.items
             → result ≡ has_enough_rows w until es }
     {

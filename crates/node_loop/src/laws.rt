@@ -1,5 +1,6 @@
 //! What serving keeps to, whatever the link gives.
-ghost use Rattle.node_loop.specs.Laws.{OneRun, OnlyGrows, ActsAreDeeds, FramesAreMade, ResendsAreOpen, RecalledAreSent, RecalledAreOpen, AcksAreEarned, EventsFit, RepliesAreTrue, KeptMakes};
+ghost use Rattle.node_loop.specs.Laws.{OneRun, OnlyGrows, ActsAreDeeds, FramesAreMade, ResendsAreOpen};
+ghost use Rattle.node_loop.specs.Laws.{RecalledAreSent, RecalledAreOpen, AcksAreEarned, EventsFit, RepliesAreTrue, KeptMakes};
 ghost use Rattle.node_loop.specs.Keeping.{KeptStands, KeptIsShort};
 
 use layer_api::{Broadcast, Service};
@@ -9,35 +10,35 @@ use layer_api::{Broadcast, Service};
 ///
 /// It does nothing: its contract is the law.
 pub fn one_run()
-    ensures { OneRun }
+    ensures runs { OneRun }
 {}
 
 /// More rounds only add to the events and to the calls of the link. So what a fault left is a front of what would have come.
 ///
 /// It does nothing: its contract is the law.
 pub fn only_grows()
-    ensures { OnlyGrows }
+    ensures grows { OnlyGrows }
 {}
 
 /// The link's calls are the deeds of the rounds: what it gave, and what it was given and why.
 ///
 /// It does nothing: its contract is the law.
 pub fn acts_are_deeds()
-    ensures { ActsAreDeeds }
+    ensures deeds { ActsAreDeeds }
 {}
 
 /// The frames that went out for the first time are those that the calls of the events made, in their order, and no others.
 ///
 /// It does nothing: its contract is the law.
 pub fn frames_are_made()
-    ensures { FramesAreMade }
+    ensures made { FramesAreMade }
 {}
 
 /// A frame that goes out again went out for the first time before, and no acknowledgement of its number by that peer came between the two.
 ///
 /// It does nothing: its contract is the law.
 pub fn resends_are_open()
-    ensures { ResendsAreOpen }
+    ensures unacknowledged { ResendsAreOpen }
 {}
 
 /// What is kept for peers as serving begins after events that a journal kept are frames of these events, which count as sent before, and of
@@ -54,21 +55,21 @@ pub fn recalled_are_sent()
 ///
 /// It does nothing: its contract is the law.
 pub fn acks_are_earned()
-    ensures { AcksAreEarned }
+    ensures earned { AcksAreEarned }
 {}
 
 /// The events are at the replicas that are served, and have at most 65,535 bytes: so they may stand in a schedule file.
 ///
 /// It does nothing: its contract is the law.
 pub fn events_fit()
-    ensures { EventsFit }
+    ensures fit { EventsFit }
 {}
 
 /// A reply that gives a position gives the one that the request has in the log of the replica which replies, and which it keeps there.
 ///
 /// It does nothing: its contract is the law.
 pub fn replies_are_true<S: Service, E: Broadcast>()
-    ensures { RepliesAreTrue S.rules E.rules }
+    ensures replies { RepliesAreTrue S.rules E.rules }
 {
     world_model::logs_grow::<S, E>();
 }
@@ -78,7 +79,7 @@ pub fn replies_are_true<S: Service, E: Broadcast>()
 ///
 /// It does nothing: its contract is the law.
 pub fn kept_stands()
-    ensures { KeptStands }
+    ensures stands { KeptStands }
 {}
 
 /// The frames that the kept events make are those that all events make, in their order. So of a node that is started again with its journal
@@ -86,12 +87,12 @@ pub fn kept_stands()
 ///
 /// It does nothing: its contract is the law.
 pub fn kept_makes()
-    ensures { KeptMakes }
+    ensures makes { KeptMakes }
 {}
 
 /// A frame or an input that a journal keeps has at most 16,384 bytes.
 ///
 /// It does nothing: its contract is the law.
 pub fn kept_is_short()
-    ensures { KeptIsShort }
+    ensures short { KeptIsShort }
 {}

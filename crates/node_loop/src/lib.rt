@@ -23,6 +23,7 @@ mod peers;
 mod recall;
 mod refusals;
 mod rounds;
+mod server;
 mod waiting;
 
 pub use again::serve_kept;

@@ -2,9 +2,13 @@
 ghost use Rattle.std.specs.Prelude.{◌≡◌, [], None, false};
 ghost use Rattle.node_loop.specs.declared.output.More.TheVariants as mores;
 
+use keyed_channel::NOTE_LEN;
 use replica::OutFrame;
 use ritas_base::Event;
 use std::alloc::Global;
+
+/// So long is what `client_port` writes, whose own constant isn't public: a reply of another length would have another type.
+pub(crate) const REPLY_LEN: usize = 13;
 
 /// A reply to a connection.
 #[derive(Clone, Copy)]
@@ -12,7 +16,7 @@ pub(crate) struct Reply {
     /// The connection's number.
     pub conn: u32,
     /// The bytes of the reply.
-    pub bytes: [u8; 13],
+    pub bytes: [u8; REPLY_LEN],
 }
 
 /// What goes to a peer besides the frames of a call.
@@ -21,7 +25,7 @@ pub(crate) enum More {
     /// Nothing.
     Nothing,
     /// A note.
-    Note { peer: u8, bytes: [u8; 44] },
+    Note { peer: u8, bytes: [u8; NOTE_LEN] },
     /// All frames that it didn't acknowledge.
     Kept { peer: u8 },
 }
@@ -47,7 +51,8 @@ pub(crate) struct Output {
 impl Output {
     /// Nothing comes. It takes no memory.
     pub(crate) fn new(alloc: Global) -> Output
-        ensures { (result.event ≡ None) × (result.frames.items ≡ []) × (result.more ≡ mores.Nothing) × (result.replies.items ≡ []) × (result.kept ≡ false) }
+        ensures none { (result.event ≡ None) × (result.frames.items ≡ []) × (result.more ≡ mores.Nothing) × (result.replies.items ≡ [])
+            × (result.kept ≡ false) }
     {
         Output {
             at: 0,
@@ -62,7 +67,8 @@ impl Output {
     /// Nothing comes yet of what is next, at this replica. What it took of memory is kept.
     pub(crate) fn clear(&mut self, at: u8)
         ensures at { self.new.at ≡ at }
-        ensures none { (self.new.event ≡ None) × (self.new.frames.items ≡ []) × (self.new.more ≡ mores.Nothing) × (self.new.replies.items ≡ []) × (self.new.kept ≡ false) }
+        ensures none { (self.new.event ≡ None) × (self.new.frames.items ≡ []) × (self.new.more ≡ mores.Nothing)
+            × (self.new.replies.items ≡ []) × (self.new.kept ≡ false) }
     {
         self.at = at;
         self.event = None;

@@ -1,5 +1,6 @@
 //! What is kept for the peers of a replica until they acknowledge it, and who of them is to be asked to send again.
-ghost use Rattle.std.specs.Prelude.{◌≡◌, ℕ, ◌≤◌, ◌∷◌, List, [], length, replicate, slice_set, slice_index_or, true, Some, None, IfOk, OnOk, MatchOption};
+ghost use Rattle.std.specs.Prelude.{◌≡◌, ℕ, ◌≤◌, ◌∷◌, List, [], length, replicate};
+ghost use Rattle.std.specs.Prelude.{slice_set, slice_index_or, true, Some, None, IfOk, OnOk, MatchOption};
 ghost use Rattle.ritas_base.specs.declared.event.Event.{Event};
 ghost use Rattle.keyed_channel.specs.Lengths.{head_length};
 ghost use Rattle.world_model.specs.World.{Setting, rules_at, states_of};
@@ -45,7 +46,7 @@ pub(crate) struct Keeper {
 
 // How far a replica has come: its completed rounds and all its bases.
 fn progress_of<S: Service, E: Broadcast, C: Coin + Drop>(replica: &Replica<S, E, C>) -> u64
-    ensures { let m = meaning_of S.Service E.Broadcast C.Coin in
+    ensures progress { let m = meaning_of S.Service E.Broadcast C.Coin in
         (w : Setting) (es : List Event) (i : ℕ) → IsWorld m.service m.cast w → IsReplica m w (states_of w es) i replica.now
         → result ≡ replica_progress (rules_at w i) (states_of w es i) w.numbers.n }
 {
@@ -59,7 +60,7 @@ fn progress_of<S: Service, E: Broadcast, C: Coin + Drop>(replica: &Replica<S, E,
 
 // Whether a peer with this mark is to be asked to send again, where the replica stands so now.
 fn is_due(was: Option<Mark>, now: Mark) -> bool
-    ensures { result ≡ is_due_of was now }
+    ensures due { result ≡ is_due_of was now }
 {
     match was {
         Some(was) => now.held < was.held || was.progress < now.progress,
@@ -72,7 +73,7 @@ pub(crate) fn mark_of<S: Service, E: Broadcast, C: Coin + Drop>(
     replica: &Replica<S, E, C>,
     peer: u8,
 ) -> Mark
-    ensures { let m = meaning_of S.Service E.Broadcast C.Coin in
+    ensures mark { let m = meaning_of S.Service E.Broadcast C.Coin in
         (w : Setting) (es : List Event) (i : ℕ) → IsWorld m.service m.cast w → IsReplica m w (states_of w es) i replica.now
         → result ≡ mark_at w es i peer }
 {
@@ -85,7 +86,7 @@ pub(crate) fn mark_of<S: Service, E: Broadcast, C: Coin + Drop>(
 /// Keeps a frame under the number that it carries, unless too many bytes are kept for the peer. What is no peer, and what is too short for
 /// a number, is passed over. The one error is want of memory.
 pub(crate) fn keep(resume: &mut Resume, alloc: Global, peer: u8, frame: &[u8]) -> Result<(), Mem>
-    ensures { (n i : ℕ) (p : Peers) → head_length ≤ length frame.now → AreKept n i resume.old p.keeping
+    ensures kept { (n i : ℕ) (p : Peers) → head_length ≤ length frame.now → AreKept n i resume.old p.keeping
         → OnOk result (AreKept n i resume.new (with_list i peer (keeps frame.now (p.keeping i peer)) p).keeping) }
 {
     let Some(header) = frame_header(frame) else {
@@ -104,7 +105,7 @@ pub(crate) fn keep(resume: &mut Resume, alloc: Global, peer: u8, frame: &[u8]) -
 impl Keeper {
     /// Nothing is kept for any of n peers, and none is marked. The one error is want of memory.
     pub(crate) fn new(alloc: Global, n: u8) -> Result<Keeper, Mem>
-        ensures { IfOk result (λ keeper. (keeper.resume ≡ replicate n []) × (keeper.marks.items ≡ replicate n None)) }
+        ensures none { IfOk result (λ keeper. (keeper.resume ≡ replicate n []) × (keeper.marks.items ≡ replicate n None)) }
     {
         Ok(Keeper {
             resume: Resume::new(alloc, n)?,
@@ -114,7 +115,7 @@ impl Keeper {
 
     /// The frame of this number isn't kept for the peer any more.
     pub(crate) fn acked(&mut self, peer: u8, seq: u64)
-        ensures { (n i : ℕ) (p : Peers) → IsKeeper n i self.old p → IsKeeper n i self.new (acknowledged i peer seq p) }
+        ensures acked { (n i : ℕ) (p : Peers) → IsKeeper n i self.old p → IsKeeper n i self.new (acknowledged i peer seq p) }
     {
         if usize::from(peer) < self.resume.peers() {
             self.resume.acked(peer, seq);
@@ -123,7 +124,8 @@ impl Keeper {
 
     /// The peer gets this mark, in place of the one that it may have.
     pub(crate) fn mark(&mut self, peer: u8, mark: Mark)
-        ensures { (self.new.resume ≡ self.old.resume) × (self.new.marks.items ≡ slice_set self.old.marks.items peer (Some mark)) }
+        ensures resume { self.new.resume ≡ self.old.resume }
+        ensures marks { self.new.marks.items ≡ slice_set self.old.marks.items peer (Some mark) }
     {
         if let Some(old) = self.marks.get_mut(usize::from(peer)) {
             *old = Some(mark);
@@ -132,7 +134,8 @@ impl Keeper {
 
     /// The peer has no mark any more.
     pub(crate) fn unmark(&mut self, peer: u8)
-        ensures { (self.new.resume ≡ self.old.resume) × (self.new.marks.items ≡ slice_set self.old.marks.items peer None) }
+        ensures resume { self.new.resume ≡ self.old.resume }
+        ensures marks { self.new.marks.items ≡ slice_set self.old.marks.items peer None }
     {
         if let Some(old) = self.marks.get_mut(usize::from(peer)) {
             *old = None;
@@ -141,7 +144,7 @@ impl Keeper {
 
     // Whether no peer has a mark.
     fn has_no_marks(&self) -> bool
-        ensures { result ≡ true → (j : ℕ) → slice_index_or self.now.marks.items j None ≡ None }
+        ensures none { result ≡ true → (j : ℕ) → slice_index_or self.now.marks.items j None ≡ None }
     {
         for mark in &self.marks {
             if mark.is_some() {
@@ -153,7 +156,7 @@ impl Keeper {
 
     // The mark of a peer, if it has one.
     fn mark_for(&self, peer: u8) -> Option<Mark>
-        ensures { result ≡ slice_index_or self.now.marks.items peer None }
+        ensures mark { result ≡ slice_index_or self.now.marks.items peer None }
     {
         match self.marks.get(usize::from(peer)) {
             Some(mark) => *mark,
@@ -166,10 +169,11 @@ impl Keeper {
         &self,
         replica: &Replica<S, E, C>,
     ) -> Option<u8>
-        ensures { let m = meaning_of S.Service E.Broadcast C.Coin in
+        ensures first { let m = meaning_of S.Service E.Broadcast C.Coin in
             (w : Setting) (es : List Event) (i : ℕ) (p : Peers) → IsWorld m.service m.cast w → IsReplica m w (states_of w es) i replica.now
             → IsKeeper w.numbers.n i self.now p
-            → MatchOption result (peers_due w es p i ≡ []) (λ j. (more : List APair) × (peers_due w es p i ≡ record { at = i; peer = j } ∷ more)) }
+            → MatchOption result (peers_due w es p i ≡ [])
+            (λ j. (more : List APair) × (peers_due w es p i ≡ record { at = i; peer = j } ∷ more)) }
     {
         if self.has_no_marks() {
             return None;

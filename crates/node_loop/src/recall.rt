@@ -26,7 +26,7 @@ use std::alloc::Global;
 
 // The replica at which an event of a journal happens: each frame, input and turn.
 fn replica_of(event: &Event) -> Option<u8>
-    ensures { MatchOption result ((me : ℕ) → IsAlone me event.now → ⊥) (λ at. IsAlone at event.now) }
+    ensures at { MatchOption result ((me : ℕ) → IsAlone me event.now → ⊥) (λ at. IsAlone at event.now) }
 {
     match event {
         Event::Frame { to, .. } => Some(*to),
@@ -42,7 +42,8 @@ fn wait_again(
     event: &Event,
     answer: Result<Answer, Refusal>,
 ) -> Result<(), Mem>
-    ensures { (ws : Waiting) → IsWaiting waiting.old ws → OnOk result (IsWaiting waiting.new (waits_again event.now (seen_answer answer) ws)) }
+    ensures waits { (ws : Waiting) → IsWaiting waiting.old ws
+        → OnOk result (IsWaiting waiting.new (waits_again event.now (seen_answer answer) ws)) }
 {
     match event {
         Event::Input { at, bytes } if refusal_in(answer).is_none() => {
@@ -54,7 +55,7 @@ fn wait_again(
 
 // The oldest that are kept for a peer are dropped until so many bytes fit behind the others. What is no peer is passed over.
 fn make_room(resume: &mut Resume, peer: u8, size: u64)
-    ensures { (n i : ℕ) (p : Peers) → AreKept n i resume.old p.keeping
+    ensures room { (n i : ℕ) (p : Peers) → AreKept n i resume.old p.keeping
         → AreKept n i resume.new (with_list i peer (room_for size (p.keeping i peer)) p).keeping }
 {
     if usize::from(peer) < resume.peers() {
@@ -64,7 +65,7 @@ fn make_room(resume: &mut Resume, peer: u8, size: u64)
 
 // Keeps a frame of a replica for its peer; where it doesn't fit, the oldest are dropped first. The one error is want of memory.
 fn keep_newest(resume: &mut Resume, alloc: Global, frame: &OutFrame) -> Result<(), Mem>
-    ensures { (n i k : ℕ) (p : Peers) → head_length ≤ length frame.now.bytes → AreKept n i resume.old p.keeping
+    ensures keeps { (n i k : ℕ) (p : Peers) → head_length ≤ length frame.now.bytes → AreKept n i resume.old p.keeping
         → OnOk result (AreKept n i resume.new (keep_newest (made_as k i frame.now) p).keeping) }
 {
     let bytes = frame.bytes.as_slice();
@@ -74,7 +75,7 @@ fn keep_newest(resume: &mut Resume, alloc: Global, frame: &OutFrame) -> Result<(
 
 // Keeps these frames of a replica for their peers so, in order.
 fn all_newest(resume: &mut Resume, alloc: Global, frames: &[OutFrame]) -> Result<(), Mem>
-    ensures { (n i k : ℕ) (p : Peers) → All (λ f. head_length ≤ length f.bytes) frames.now → AreKept n i resume.old p.keeping
+    ensures keeps { (n i k : ℕ) (p : Peers) → All (λ f. head_length ≤ length f.bytes) frames.now → AreKept n i resume.old p.keeping
         → OnOk result (AreKept n i resume.new (all_newest (map (made_as k i) frames.now) p).keeping) }
 {
     for frame in frames {
@@ -98,8 +99,9 @@ impl<S: Service, E: Broadcast, C: Coin + Drop> House<S, E, C> {
 
     // An event happens again: an input that is taken waits for its row with no connection. The one error is want of memory.
     fn happen(&mut self, alloc: Global, event: &Event, output: &mut Output) -> Result<(), Mem>
-        ensures { let m = meaning_of S.Service E.Broadcast C.Coin in
-            (w : Setting) (es : List Event) (numbers : List ℕ) (ws : Waiting) (p : Peers) → HouseStands m w es numbers self.old ws p → IsServed w event.now
+        ensures happens { let m = meaning_of S.Service E.Broadcast C.Coin in
+            (w : Setting) (es : List Event) (numbers : List ℕ) (ws : Waiting) (p : Peers) → HouseStands m w es numbers self.old ws p
+            → IsServed w event.now
             → OnOk result (HouseStands m w (event.now ∷ es) numbers self.new (recalled w es event.now ws).waiting p
             × (map (frame_by output.new.at) output.new.frames.items ≡ sent_by w es (Some event.now)) × (w.is_correct output.new.at ≡ true)) }
     {
@@ -119,9 +121,11 @@ impl<S: Service, E: Broadcast, C: Coin + Drop> House<S, E, C> {
 
     // An event happens again, and its frames are kept for their peers. The one error is want of memory.
     fn recall(&mut self, alloc: Global, event: &Event, output: &mut Output) -> Result<(), Mem>
-        ensures { let m = meaning_of S.Service E.Broadcast C.Coin in
-            (w : Setting) (es : List Event) (numbers : List ℕ) (ws : Waiting) (p : Peers) → HouseStands m w es numbers self.old ws p → IsServed w event.now
-            → OnOk result (HouseStands m w (event.now ∷ es) numbers self.new (recalled w es event.now ws).waiting (all_newest (frames_made_by w es (Some event.now)) p)) }
+        ensures happens { let m = meaning_of S.Service E.Broadcast C.Coin in
+            (w : Setting) (es : List Event) (numbers : List ℕ) (ws : Waiting) (p : Peers) → HouseStands m w es numbers self.old ws p
+            → IsServed w event.now
+            → OnOk result (HouseStands m w (event.now ∷ es) numbers self.new (recalled w es event.now ws).waiting
+            (all_newest (frames_made_by w es (Some event.now)) p)) }
     {
         keyed_channel::sealed_length();
         self.happen(alloc, event, output)?;
@@ -142,9 +146,10 @@ impl<S: Service, E: Broadcast, C: Coin + Drop> House<S, E, C> {
         events: &[Event],
         output: &mut Output,
     ) -> Result<(), Mem>
-        ensures { let m = meaning_of S.Service E.Broadcast C.Coin in
+        ensures happen { let m = meaning_of S.Service E.Broadcast C.Coin in
             (w : Setting) (numbers : List ℕ) → HouseStands m w [] numbers self.old nobody no_peers → AllByRecursion (IsServed w) events.now
-            → OnOk result (HouseStands m w (reverse events.now) numbers self.new (recalled_waiting w (reverse events.now)) (recalled_peers w (reverse events.now))) }
+            → OnOk result (HouseStands m w (reverse events.now) numbers self.new
+            (recalled_waiting w (reverse events.now)) (recalled_peers w (reverse events.now))) }
     {
         for event in events {
             self.recall(alloc, event, output)?;

@@ -14,7 +14,7 @@ use ritas_core::{Answer, CoreFault};
 
 /// The number of a fault.
 fn fault_number(fault: CoreFault) -> u32
-    ensures { result ≡ fault_number fault }
+    ensures number { result ≡ fault_number fault }
 {
     match fault {
         CoreFault::NotOrigin => 1,
@@ -32,7 +32,7 @@ fn fault_number(fault: CoreFault) -> u32
 
 /// The answer of a call. The one error is want of memory, as the call answered it.
 pub(crate) fn told(answer: Result<Answer, Refusal>) -> Result<Result<Answer, Refusal>, Mem>
-    ensures { TellsWant answer result }
+    ensures tells { TellsWant answer result }
 {
     match answer {
         Err(Refusal::Core(CoreFault::Mem)) | Err(Refusal::Body(BodyFault::Mem)) => Err(Mem),
@@ -42,7 +42,7 @@ pub(crate) fn told(answer: Result<Answer, Refusal>) -> Result<Result<Answer, Ref
 
 /// The number of the fault with which the core refused an input, if it did.
 pub(crate) fn refusal_in(answer: Result<Answer, Refusal>) -> Option<u32>
-    ensures { result ≡ refusal_in (seen_answer answer) }
+    ensures number { result ≡ refusal_in (seen_answer answer) }
 {
     match answer {
         Err(Refusal::Core(fault)) => Some(fault_number(fault)),
@@ -52,14 +52,14 @@ pub(crate) fn refusal_in(answer: Result<Answer, Refusal>) -> Option<u32>
 
 /// Whether a frame that was answered so opened.
 pub(crate) fn is_opened(answer: Result<Answer, Refusal>) -> bool
-    ensures { result ≡ is_answer_opened answer }
+    ensures opened { result ≡ is_answer_opened answer }
 {
     !matches!(answer, Err(Refusal::Open(_)))
 }
 
 /// Whether a journal keeps an event that was answered so: each turn, and what was taken or is held.
 pub(crate) fn is_kept(event: &Event, answer: Result<Answer, Refusal>) -> bool
-    ensures { result ≡ is_kept_so event.now (seen_answer answer) }
+    ensures kept { result ≡ is_kept_so event.now (seen_answer answer) }
 {
     match event {
         Event::Turn { .. } => true,
@@ -72,7 +72,7 @@ pub(crate) fn is_kept(event: &Event, answer: Result<Answer, Refusal>) -> bool
 
 /// Whether a frame that was answered so is to come again.
 pub(crate) fn is_deferred(answer: Result<Answer, Refusal>) -> bool
-    ensures { result ≡ is_deferred (seen_answer answer) }
+    ensures deferred { result ≡ is_deferred (seen_answer answer) }
 {
     match answer {
         Err(Refusal::Core(fault)) => match fault {

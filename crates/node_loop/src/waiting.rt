@@ -1,5 +1,5 @@
 //! Who waits for which request.
-ghost use Rattle.std.specs.Prelude.{◌≡◌, ◌==◌, ℕ, List, [], not, Some, OnOk, OnErr, if◌then◌else◌};
+ghost use Rattle.std.specs.Prelude.{◌≡◌, ◌==◌, not, Some, OnOk, if◌then◌else◌};
 ghost use Rattle.node_loop.specs.Waiting.{Waiting as waiting, nobody, is_conn, joined, with_waiter, without_conn, left_off, without_asked};
 ghost use Rattle.node_loop.specs.Calls.{is_waited_for};
 ghost use Rattle.node_loop.specs.Standing.{IsWaiting};
@@ -27,7 +27,7 @@ pub(crate) struct Waiters {
 
 // A connection waits with these, if it doesn't already. The one error is want of memory.
 fn join(conns: &mut Vec<Option<u32>>, conn: Option<u32>) -> Result<(), Mem>
-    ensures { OnOk result (conns.new.items ≡ joined conn conns.old.items) }
+    ensures joins { OnOk result (conns.new.items ≡ joined conn conns.old.items) }
 {
     if !conns.contains(&conn) {
         conns.push(conn)?;
@@ -37,7 +37,7 @@ fn join(conns: &mut Vec<Option<u32>>, conn: Option<u32>) -> Result<(), Mem>
 
 // Whether one that waits is another than this connection.
 fn is_other(one: Option<u32>, conn: u32) -> bool
-    ensures { result ≡ not (is_conn (Some conn) one) }
+    ensures other { result ≡ not (is_conn (Some conn) one) }
 {
     match one {
         Some(other) => other != conn,
@@ -47,7 +47,7 @@ fn is_other(one: Option<u32>, conn: u32) -> bool
 
 // A connection doesn't wait with these any more; but where it was the only one, nobody in particular waits on.
 fn leave(conns: &mut Vec<Option<u32>>, conn: u32)
-    ensures { conns.new.items ≡ without_conn conn conns.old.items }
+    ensures leaves { conns.new.items ≡ without_conn conn conns.old.items }
 {
     if conns.len() == 1 {
         if conns[0] == Some(conn) {
@@ -60,7 +60,7 @@ fn leave(conns: &mut Vec<Option<u32>>, conn: u32)
 
 // It doesn't wait with these any more, if they wait for a request at its replica.
 fn leave_at(asked: Asked, conns: &mut Vec<Option<u32>>, at: u8, conn: u32)
-    ensures { conns.new.items ≡ (if asked.at == at then without_conn conn conns.old.items else conns.old.items) }
+    ensures leaves { conns.new.items ≡ (if asked.at == at then without_conn conn conns.old.items else conns.old.items) }
 {
     if asked.at == at {
         leave(conns, conn);
@@ -70,7 +70,7 @@ fn leave_at(asked: Asked, conns: &mut Vec<Option<u32>>, at: u8, conn: u32)
 impl Waiters {
     /// Nobody waits. It takes no memory.
     pub(crate) fn new(alloc: Global) -> Waiters
-        ensures { IsWaiting result nobody }
+        ensures nobody { IsWaiting result nobody }
     {
         Waiters {
             by_request: BTreeMap::new(alloc),
@@ -79,7 +79,7 @@ impl Waiters {
 
     /// Whether somebody waits for this request.
     pub(crate) fn has(&self, asked: Asked) -> bool
-        ensures { (ws : waiting) → IsWaiting self.now ws → result ≡ is_waited_for (ws asked) }
+        ensures waits { (ws : waiting) → IsWaiting self.now ws → result ≡ is_waited_for (ws asked) }
     {
         match self.by_request.get(&asked) {
             Some(conns) => !conns.is_empty(),
@@ -89,7 +89,7 @@ impl Waiters {
 
     /// One more waits, unless it waits already. The one error is want of memory.
     pub(crate) fn push(&mut self, alloc: Global, asked: Asked, conn: Option<u32>) -> Result<(), Mem>
-        ensures { (ws : waiting) → IsWaiting self.old ws → OnOk result (IsWaiting self.new (with_waiter asked conn ws)) }
+        ensures waits { (ws : waiting) → IsWaiting self.old ws → OnOk result (IsWaiting self.new (with_waiter asked conn ws)) }
     {
         match self.by_request.get_mut(&asked) {
             Some(conns) => join(conns, conn)?,
@@ -115,7 +115,7 @@ impl Waiters {
 
     /// A connection of a replica is gone, and doesn't wait any more; what it asked for waits on. It takes no memory.
     pub(crate) fn leave(&mut self, at: u8, conn: u32)
-        ensures { (ws : waiting) → IsWaiting self.old ws → IsWaiting self.new (left_off at conn ws) }
+        ensures leaves { (ws : waiting) → IsWaiting self.old ws → IsWaiting self.new (left_off at conn ws) }
     {
         self.by_request.retain(move |asked, conns| {
             leave_at(*asked, conns, at, conn);

@@ -1,12 +1,11 @@
 -- What a journal stands for, as what the disk has since before it was opened.
-use Rattle.std.proofs.Common.{◌≡◌, ℕ, ◌+◌, ◌-◌, ◌^◌, ◌≤◌, ◌<◌, min, Bool, true, List, [], ◌∷◌, ◌++◌, length, refl, sym, ◌∙◌, ap, subst, arith, inl, inr}
+use Rattle.std.proofs.Common.{◌≡◌, ℕ, ◌+◌, ◌-◌, ◌^◌, ◌≤◌, min, Bool, true, List, ◌++◌, length, ◌∙◌, ap, subst, arith, inl, inr}
 use Rattle.ritas_base.specs.declared.event.Event.{Event}
 use Rattle.outside.specs.Disks.{DiskState, LeavesOnly, disk_state_of}
 use Rattle.outside.specs.DisksLaws.{leaves_then, leaves_weaker}
 use Rattle.outside.specs.Faults.{Rose}
-use Rattle.schedule_file.specs.FileBytes.{limit}
 use Rattle.event_journal.specs.Appending.{AllOpen, JournalState}
-use Rattle.event_journal.specs.Journal.{OpensAs, closed_front, records}
+use Rattle.event_journal.specs.Journal.{OpensAs, records}
 use Rattle.cluster_config.specs.declared.node.NodeConfig.{NodeConfig}
 use Rattle.schedule_replay.specs.Layers.{setting_of}
 use Rattle.node_loop.specs.declared.end.ServeEnd.{ServeEnd}

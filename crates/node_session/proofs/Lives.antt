@@ -1,5 +1,5 @@
 -- What is true of a life of a node with a journal.
-use Rattle.std.proofs.Common.{◌≡◌, ℕ, ◌≤◌, Bool, true, false, List, [], ◌∷◌, ◌++◌, ◌⊎◌, reverse, refl, sym, ◌∙◌, ap, ap₂, subst, arith, inl, inr}
+use Rattle.std.proofs.Common.{◌≡◌, ℕ, ◌≤◌, Bool, true, false, List, [], ◌++◌, reverse, refl, sym, ◌∙◌, ap, ap₂, subst, arith, inl, inr}
 use Rattle.std.specs.List.{AllByRecursion}
 use Rattle.std.proofs.lemmas.List.{reverse-reverse}
 use Rattle.std.proofs.lemmas.List.Elements.{All-from_recursion}
@@ -19,7 +19,7 @@ use Rattle.node_loop.specs.Served.{MayBegin}
 use Rattle.node_loop.proofs.AfterPast.{record_served}
 use Rattle.node_session.proofs.Sessions.{all_back, is_true}
 use Rattle.ritas_base.specs.declared.event.Event.{Event}
-use Rattle.outside.specs.Links.{LinkAct, Starts}
+use Rattle.outside.specs.Links.{LinkAct}
 use Rattle.schedule_file.specs.ReadHeader.{heading}
 use Rattle.replica.specs.declared.replica.Replica.{Replica}
 use Rattle.keyed_channel.specs.KeyRow.{KeyRow}

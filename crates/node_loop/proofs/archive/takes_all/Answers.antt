@@ -13,9 +13,11 @@ loop-event-preserved c =
     (subst (λ (e : Event). IsRecord me e) c.event-item.is taken)
 
 pub returns : goal.returns
-returns c = λ live.
-    let me = c.args.journal.now.me in (
-      sym c.live.ensures ∙ live,
-      recursion_from_All (IsRecord me) c.args.events.now
-          (subst (λ (es : List Event). All (IsRecord me) es) (take_all c.loop-event.event-index c.args.events.now c.loop-event-test.false) c.loop-event.invariant),
-    )
+returns c = record {
+  takes = λ live.
+      let me = c.args.journal.now.me in (
+        sym c.live.ensures ∙ live,
+        recursion_from_All (IsRecord me) c.args.events.now
+            (subst (λ (es : List Event). All (IsRecord me) es) (take_all c.loop-event.event-index c.args.events.now c.loop-event-test.false) c.loop-event.invariant),
+      );
+}

@@ -10,6 +10,6 @@ returns-clause-sized g c = still_all IsSized c.add.result c.args.group.now.event
 pub returns-clause-joins : goal.returns-clause-joins
 returns-clause-joins g c = λ w past numbers start x newest older comes holds joins.
     let s = after_from w past start (newest ++ older) in
-    let stands = c.in_ok-keep_frames.ensures w (so_far past (at_call x s)) numbers (outcome w past x s) (brought w past x s) comes in
+    let stands = c.in_ok-keep_frames.ensures.keeps w (so_far past (at_call x s)) numbers (outcome w past x s) (brought w past x s) comes in
     added _ w past numbers start x newest older c.args.house.now c.keep_frames.new.house c.args.group.now c.add.new.self c.args.output c.add.result comes stands holds joins
     c.add.ensures.events c.add.ensures.outputs c.add.ensures.kept c.add.ensures.resends

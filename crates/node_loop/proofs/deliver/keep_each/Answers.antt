@@ -18,9 +18,11 @@ loop-frame-preserved c = λ n i k p long kept.
     let size : head_length ≤ length x.bytes = subst (λ (f : OutFrame). head_length ≤ length f.bytes) (sym c.frame-item.is) (long c.loop-frame.frame-index x c.loop-frame-test.true) in
     subst (λ (r : Peers). AreKept n i c.keep.new.resume r.keeping) (sym (keep_next k i xs c.loop-frame.frame-index x p c.loop-frame-test.true c.frame-item.is))
     (subst (λ (bytes : List ℕ). AreKept n i c.keep.new.resume (with_list i x.to (keeps bytes (q.keeping i x.to)) q).keeping) c.as_slice.ensures
-    (c.in_ok-keep.ensures n i q (subst (λ (bytes : List ℕ). head_length ≤ length bytes) (sym c.as_slice.ensures) size) (c.loop-frame.invariant n i k p long kept)))
+    (c.in_ok-keep.ensures.kept n i q (subst (λ (bytes : List ℕ). head_length ≤ length bytes) (sym c.as_slice.ensures) size) (c.loop-frame.invariant n i k p long kept)))
 
 pub returns : goal.returns
-returns c = λ n i k p long kept.
-    subst (λ (l : List OutFrame). AreKept n i c.loop-frame.resume (keep_all (map (made_as k i) l) p).keeping)
-    (take_all c.loop-frame.frame-index c.args.frames.now c.loop-frame-test.false) (c.loop-frame.invariant n i k p long kept)
+returns c = record {
+  keeps = λ n i k p long kept.
+      subst (λ (l : List OutFrame). AreKept n i c.loop-frame.resume (keep_all (map (made_as k i) l) p).keeping)
+      (take_all c.loop-frame.frame-index c.args.frames.now c.loop-frame-test.false) (c.loop-frame.invariant n i k p long kept);
+}

@@ -27,13 +27,17 @@ loop-given-preserved g c =
     (did_one _ (Replies (reply_by c.args.at given)) (Replies (reply_by c.args.at given)) _ _ _ _ _ refl c.in_ok-reply.ensures.ok c.in_ok-reply.ensures.err c.in_ok-reply.ensures.cause c.in_ok-reply.ensures.count)
 
 pub returns-in_err-reply : goal.returns-in_err-reply
-returns-in_err-reply g c =
-    let given = get_or c.args.replies.now c.loop-given.given-index none in
-    let fault = err_from_is_err_and c.from_residual.result c.from_residual.ensures.1 in
-    rw (fault.1 ∙ ap (λ (x : LinkFault). Err x) fault.2)
-    (rw (as_two c.args.at c.args.replies.now)
-    (each_fails (λ r. Replies (reply_by c.args.at r)) c.args.replies.now c.loop-given.given-index given none _ _ _ _ _ _ _ _ c.loop-given-test.true refl c.loop-given.invariant
-    (did_one _ (Replies (reply_by c.args.at given)) (Replies (reply_by c.args.at given)) _ _ _ _ _ refl c.in_err-reply.ensures.ok c.in_err-reply.ensures.err c.in_err-reply.ensures.cause c.in_err-reply.ensures.count)))
+returns-in_err-reply g c = record {
+  replies =
+      let given = get_or c.args.replies.now c.loop-given.given-index none in
+      let fault = err_from_is_err_and c.from_residual.result c.from_residual.ensures.1 in
+      rw (fault.1 ∙ ap (λ (x : LinkFault). Err x) fault.2)
+      (rw (as_two c.args.at c.args.replies.now)
+      (each_fails (λ r. Replies (reply_by c.args.at r)) c.args.replies.now c.loop-given.given-index given none _ _ _ _ _ _ _ _ c.loop-given-test.true refl c.loop-given.invariant
+      (did_one _ (Replies (reply_by c.args.at given)) (Replies (reply_by c.args.at given)) _ _ _ _ _ refl c.in_err-reply.ensures.ok c.in_err-reply.ensures.err c.in_err-reply.ensures.cause c.in_err-reply.ensures.count)));
+}
 
 pub returns : goal.returns
-returns g c = rw (as_two c.args.at c.args.replies.now) (rw (take_all c.loop-given.given-index c.args.replies.now c.loop-given-test.false) at c.loop-given.invariant)
+returns g c = record {
+  replies = rw (as_two c.args.at c.args.replies.now) (rw (take_all c.loop-given.given-index c.args.replies.now c.loop-given-test.false) at c.loop-given.invariant);
+}

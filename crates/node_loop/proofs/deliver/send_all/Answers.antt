@@ -18,8 +18,10 @@ loop-frame-preserved g c =
     (did_one _ _ _ _ _ _ _ _ (same c.as_slice.ensures) c.in_ok-send.ensures.ok c.in_ok-send.ensures.err c.in_ok-send.ensures.cause c.in_ok-send.ensures.count)
 
 pub returns-in_err-send : goal.returns-in_err-send
-returns-in_err-send g c =
-    let fault = err_from_is_err_and c.from_residual.result c.from_residual.ensures.1 in
-    rw (fault.1 ∙ ap (λ (x : LinkFault). Err x) fault.2)
-    (each_fails (frame_by c.args.at) c.args.frames.now c.loop-frame.frame-index c.frame-item.result c.frame-item.result _ _ _ _ _ _ _ _ c.loop-frame-test.true c.frame-item.is c.loop-frame.invariant
-    (did_one _ _ _ _ _ _ _ _ (same c.as_slice.ensures) c.in_err-send.ensures.ok c.in_err-send.ensures.err c.in_err-send.ensures.cause c.in_err-send.ensures.count))
+returns-in_err-send g c = record {
+  sends =
+      let fault = err_from_is_err_and c.from_residual.result c.from_residual.ensures.1 in
+      rw (fault.1 ∙ ap (λ (x : LinkFault). Err x) fault.2)
+      (each_fails (frame_by c.args.at) c.args.frames.now c.loop-frame.frame-index c.frame-item.result c.frame-item.result _ _ _ _ _ _ _ _ c.loop-frame-test.true c.frame-item.is c.loop-frame.invariant
+      (did_one _ _ _ _ _ _ _ _ (same c.as_slice.ensures) c.in_err-send.ensures.ok c.in_err-send.ensures.err c.in_err-send.ensures.cause c.in_err-send.ensures.count));
+}

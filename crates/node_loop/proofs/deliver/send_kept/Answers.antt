@@ -24,11 +24,13 @@ loop-place-preserved g c =
     (did_one _ _ _ _ _ _ _ _ (same c.as_slice.ensures) c.in_ok-send.ensures.ok c.in_ok-send.ensures.err c.in_ok-send.ensures.cause c.in_ok-send.ensures.count)
 
 pub returns-in_err-send : goal.returns-in_err-send
-returns-in_err-send g c =
-    let kept : List Kept = kept_for c.args.resume.now c.args.peer in
-    let k : Kept = c.in-Some.kept.now in
-    let fault = err_from_is_err_and c.from_residual.result c.from_residual.ensures.1 in
-    rw (fault.1 ∙ ap (λ (x : LinkFault). Err x) fault.2)
-    (each_fails (kept_by c.args.at c.args.peer) kept c.loop-place.place k k _ _ _ _ _ _ _ _ (slice_get_within kept c.loop-place.place k c.in-Some.ensures)
-    (sym (get_or_from_slice_get kept c.loop-place.place k k c.in-Some.ensures)) c.loop-place.invariant
-    (did_one _ _ _ _ _ _ _ _ (same c.as_slice.ensures) c.in_err-send.ensures.ok c.in_err-send.ensures.err c.in_err-send.ensures.cause c.in_err-send.ensures.count))
+returns-in_err-send g c = record {
+  sends =
+      let kept : List Kept = kept_for c.args.resume.now c.args.peer in
+      let k : Kept = c.in-Some.kept.now in
+      let fault = err_from_is_err_and c.from_residual.result c.from_residual.ensures.1 in
+      rw (fault.1 ∙ ap (λ (x : LinkFault). Err x) fault.2)
+      (each_fails (kept_by c.args.at c.args.peer) kept c.loop-place.place k k _ _ _ _ _ _ _ _ (slice_get_within kept c.loop-place.place k c.in-Some.ensures)
+      (sym (get_or_from_slice_get kept c.loop-place.place k k c.in-Some.ensures)) c.loop-place.invariant
+      (did_one _ _ _ _ _ _ _ _ (same c.as_slice.ensures) c.in_err-send.ensures.ok c.in_err-send.ensures.err c.in_err-send.ensures.cause c.in_err-send.ensures.count));
+}

@@ -6,13 +6,19 @@ use Rattle.node_loop.specs.Groups.{FitsPeers}
 use Rattle.node_loop.proofs.deliver.send_more.Goals as goal
 
 pub returns-in-Nothing : goal.returns-in-Nothing
-returns-in-Nothing g c = λ w es numbers ws p stands fits. rw c.in-Nothing.is (did_none _ _ _)
+returns-in-Nothing g c = record {
+  sends = λ w es numbers ws p stands fits. rw c.in-Nothing.is (did_none _ _ _);
+}
 
 pub returns-in-Note : goal.returns-in-Note
-returns-in-Note g c = λ w es numbers ws p stands fits.
-    let act = sends c.args.at c.in-Note.peer c.in-Note.bytes in
-    rw c.in-Note.is (did_one _ act act _ _ _ _ _ refl c.send.ensures.ok c.send.ensures.err c.send.ensures.cause c.send.ensures.count)
+returns-in-Note g c = record {
+  sends = λ w es numbers ws p stands fits.
+      let act = sends c.args.at c.in-Note.peer c.in-Note.bytes in
+      rw c.in-Note.is (did_one _ act act _ _ _ _ _ refl c.send.ensures.ok c.send.ensures.err c.send.ensures.cause c.send.ensures.count);
+}
 
 pub returns-in-Kept : goal.returns-in-Kept
-returns-in-Kept g c = λ w es numbers ws p stands fits.
-    rw c.in-Kept.is (c.send_again.ensures w es numbers ws p stands (subst (λ (more : More). FitsPeers w p.keeping c.args.at more) c.in-Kept.is fits))
+returns-in-Kept g c = record {
+  sends = λ w es numbers ws p stands fits.
+      rw c.in-Kept.is (c.send_again.ensures.sends w es numbers ws p stands (subst (λ (more : More). FitsPeers w p.keeping c.args.at more) c.in-Kept.is fits));
+}

@@ -19,7 +19,7 @@ loop-event-preserved g c = record {
 
 pub event-requires : goal.event-requires
 event-requires g c =
-    subst (λ (x : Event). IsSized x) (sym c.event-item.is) (All-from_recursion IsSized c.args.events.now c.requires c.loop-event.event-index c.event-item.result c.loop-event-test.true)
+    subst (λ (x : Event). IsSized x) (sym c.event-item.is) (All-from_recursion IsSized c.args.events.now c.requires.sized c.loop-event.event-index c.event-item.result c.loop-event-test.true)
 
 pub returns-in_err-event-clause-front : goal.returns-in_err-event-clause-front
 returns-in_err-event-clause-front g c =

@@ -5,12 +5,14 @@ use Rattle.node_loop.specs.Standing.{reply_by}
 use Rattle.node_loop.proofs.enter.enter_row.Goals as goal
 
 pub returns : goal.returns
-returns c = λ ws is.
-    let at = c.args.at in
-    let before = map (reply_by at) c.args.replies.now.items in
-    on_ok_weaker c.reply_each.result
-    (λ e. (
-      c.take-conns.ensures.rest ws is,
-      e ∙ ap₂ (λ bytes conns. before ++ reply_each at bytes conns) c.write_reply.ensures (c.as_slice.ensures.value ∙ c.take-conns.ensures.those ws is),
-    ))
-    (c.reply_each.ensures at)
+returns c = record {
+  enters = λ ws is.
+      let at = c.args.at in
+      let before = map (reply_by at) c.args.replies.now.items in
+      on_ok_weaker c.reply_each.result
+      (λ e. (
+        c.take-conns.ensures.rest ws is,
+        e ∙ ap₂ (λ bytes conns. before ++ reply_each at bytes conns) c.write_reply.ensures (c.as_slice.ensures.value ∙ c.take-conns.ensures.those ws is),
+      ))
+      (c.reply_each.ensures.replies at);
+}

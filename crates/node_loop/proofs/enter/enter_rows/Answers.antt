@@ -16,7 +16,7 @@ loop-position-preserved c = λ ws is. elim c.match-row.branch [
   | in-Some+in_ok-enter_row w ↦
       let before = c.loop-position.invariant ws is in
       let left = waiting_left_by c.args.at c.args.count (first c.args.log.now.rows c.loop-position.position) ws in
-      let entered = w.in_ok-enter_row.ensures left before.waits in
+      let entered = w.in_ok-enter_row.ensures.enters left before.waits in
       let P : Waiters → Type 0 = λ x. IsWaiting x (without_asked (asked_by c.args.at w.in-Some.row.now) left) in
       enters_more c.args.at c.args.count c.args.log.now.rows c.loop-position.position w.in-Some.row.now c.loop-position.waiting c.match-row.waiting _
       (map (reply_by c.args.at) c.loop-position.replies.items) (map (reply_by c.args.at) c.match-row.replies.items) ws before c.loop-position.auto.position
@@ -28,10 +28,12 @@ loop-position-preserved c = λ ws is. elim c.match-row.branch [
 ]
 
 pub returns : goal.returns
-returns c = λ ws is.
-    let done = c.loop-position.invariant ws is in
-    let all = all_first c.args.log.now.rows c.loop-position.position (let past = c.loop-position-test.false in let long = c.len-position-end.ensures in omega arith) in
-    let P : Waiting → Type 0 = λ x. IsWaiting c.loop-position.waiting x in (
-      subst P (ap (λ rows. waiting_left_by c.args.at c.args.count rows ws) all) done.waits,
-      done.replies ∙ ap (λ rows. map (reply_by c.args.at) c.args.replies.now.items ++ replies_by c.args.at c.args.count rows ws) all,
-    )
+returns c = record {
+  enters = λ ws is.
+      let done = c.loop-position.invariant ws is in
+      let all = all_first c.args.log.now.rows c.loop-position.position (let past = c.loop-position-test.false in let long = c.len-position-end.ensures in omega arith) in
+      let P : Waiting → Type 0 = λ x. IsWaiting c.loop-position.waiting x in (
+        subst P (ap (λ rows. waiting_left_by c.args.at c.args.count rows ws) all) done.waits,
+        done.replies ∙ ap (λ rows. map (reply_by c.args.at) c.args.replies.now.items ++ replies_by c.args.at c.args.count rows ws) all,
+      );
+}

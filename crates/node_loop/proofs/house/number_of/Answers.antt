@@ -4,4 +4,6 @@ use Rattle.world_model.specs.World.{rules_at}
 use Rattle.node_loop.proofs.house.number_of.Goals as goal
 
 pub returns : goal.returns
-returns g c = λ w states i is. c.me.ensures.value ∙ ap (λ (k : KeyRow). k.me) (c.keys.ensures (rules_at w i) (w.keys i) (states i) is.stands)
+returns g c = record {
+  number = λ w states i is. c.me.ensures.value ∙ ap (λ (k : KeyRow). k.me) (c.keys.ensures (rules_at w i) (w.keys i) (states i) is.stands);
+}

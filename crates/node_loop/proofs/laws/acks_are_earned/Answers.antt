@@ -2,4 +2,6 @@ use Rattle.node_loop.proofs.Earning.{are_earned}
 use Rattle.node_loop.proofs.laws.acks_are_earned.Goals as goal
 
 pub returns : goal.returns
-returns c = are_earned
+returns c = record {
+  earned = are_earned;
+}

@@ -2,4 +2,6 @@ use Rattle.node_loop.proofs.Fitting.{all_fit}
 use Rattle.node_loop.proofs.laws.events_fit.Goals as goal
 
 pub returns : goal.returns
-returns c = all_fit
+returns c = record {
+  fit = all_fit;
+}

@@ -2,4 +2,6 @@ use Rattle.node_loop.proofs.FramesSent.{are_made}
 use Rattle.node_loop.proofs.laws.frames_are_made.Goals as goal
 
 pub returns : goal.returns
-returns c = are_made
+returns c = record {
+  made = are_made;
+}

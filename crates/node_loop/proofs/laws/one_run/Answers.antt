@@ -2,4 +2,6 @@ use Rattle.node_loop.proofs.OneRun.{runs_one}
 use Rattle.node_loop.proofs.laws.one_run.Goals as goal
 
 pub returns : goal.returns
-returns c = runs_one
+returns c = record {
+  runs = runs_one;
+}

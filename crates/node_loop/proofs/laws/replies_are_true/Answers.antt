@@ -2,4 +2,6 @@ use Rattle.node_loop.proofs.TrueReplies.{replies_true}
 use Rattle.node_loop.proofs.laws.replies_are_true.Goals as goal
 
 pub returns : goal.returns
-returns g c = λ w past start rounds is all. replies_true w (λ more es i. c.logs_grow.ensures w more es i is) past start rounds all
+returns g c = record {
+  replies = λ w past start rounds is all. replies_true w (λ more es i. c.logs_grow.ensures w more es i is) past start rounds all;
+}

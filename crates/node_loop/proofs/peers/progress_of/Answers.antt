@@ -29,8 +29,10 @@ loop-origin-preserved g c = record {
 }
 
 pub returns : goal.returns
-returns g c = λ w es i kind is.
-    let number : (w.keys i).n ≡ w.numbers.n = (kind.own i (kind.within i is.correct)).1 in
-    let many : c.n-origin-end.result ≡ (w.keys i).n = c.n-origin-end.ensures.value ∙ ap (λ (k : KeyRow). k.n) (c.keys.ensures (rules_at w i) (w.keys i) (states_of w es i) is.stands) in
-    let end : c.loop-origin.origin ≡ w.numbers.n = omega (arith, c.loop-origin-test.false, c.loop-origin.auto.origin-end, many, number) in
-    c.loop-origin.invariant.is w es i kind is ∙ ap (come_by (rules_at w i) (states_of w es i)) end
+returns g c = record {
+  progress = λ w es i kind is.
+      let number : (w.keys i).n ≡ w.numbers.n = (kind.own i (kind.within i is.correct)).1 in
+      let many : c.n-origin-end.result ≡ (w.keys i).n = c.n-origin-end.ensures.value ∙ ap (λ (k : KeyRow). k.n) (c.keys.ensures (rules_at w i) (w.keys i) (states_of w es i) is.stands) in
+      let end : c.loop-origin.origin ≡ w.numbers.n = omega (arith, c.loop-origin-test.false, c.loop-origin.auto.origin-end, many, number) in
+      c.loop-origin.invariant.is w es i kind is ∙ ap (come_by (rules_at w i) (states_of w es i)) end;
+}

@@ -18,9 +18,11 @@ loop-frame-preserved c = λ n i k p long kept.
     let q : Peers = all_newest (map (made_as k i) (take c.loop-frame.frame-index xs)) p in
     let size : head_length ≤ length x.bytes = subst (λ (f : OutFrame). head_length ≤ length f.bytes) (sym c.frame-item.is) (long c.loop-frame.frame-index x c.loop-frame-test.true) in
     subst (λ (r : Peers). AreKept n i c.keep_newest.new.resume r.keeping) (sym (newest_next k i xs c.loop-frame.frame-index x p c.loop-frame-test.true c.frame-item.is))
-    (c.in_ok-keep_newest.ensures n i k q size (c.loop-frame.invariant n i k p long kept))
+    (c.in_ok-keep_newest.ensures.keeps n i k q size (c.loop-frame.invariant n i k p long kept))
 
 pub returns : goal.returns
-returns c = λ n i k p long kept.
-    subst (λ (l : List OutFrame). AreKept n i c.loop-frame.resume (all_newest (map (made_as k i) l) p).keeping)
-    (take_all c.loop-frame.frame-index c.args.frames.now c.loop-frame-test.false) (c.loop-frame.invariant n i k p long kept)
+returns c = record {
+  keeps = λ n i k p long kept.
+      subst (λ (l : List OutFrame). AreKept n i c.loop-frame.resume (all_newest (map (made_as k i) l) p).keeping)
+      (take_all c.loop-frame.frame-index c.args.frames.now c.loop-frame-test.false) (c.loop-frame.invariant n i k p long kept);
+}

@@ -8,11 +8,13 @@ use Rattle.node_loop.proofs.Recalling.{kept_in_room}
 use Rattle.node_loop.proofs.recall.keep_newest.Goals as goal
 
 pub returns : goal.returns
-returns c = λ n i k p long kept.
-    let to = c.args.frame.now.to in
-    let bytes = c.as_slice-bytes.result.now in
-    let same = c.as_slice-bytes.ensures in
-    let size : head_length ≤ length bytes = subst (λ (x : List ℕ). head_length ≤ length x) (sym same) long in
-    let room = room_for (length bytes) (p.keeping i to) in
-    subst (λ (x : List ℕ). OnOk c.keep.result (AreKept n i c.keep.new.resume (with_list i to (keeps x (room_for (length x) (p.keeping i to))) p).keeping)) same
-    (on_ok_weaker c.keep.result (kept_in_room n i to bytes room c.keep.new.resume p) (c.keep.ensures n i (with_list i to room p) size (c.make_room.ensures n i p kept)))
+returns c = record {
+  keeps = λ n i k p long kept.
+      let to = c.args.frame.now.to in
+      let bytes = c.as_slice-bytes.result.now in
+      let same = c.as_slice-bytes.ensures in
+      let size : head_length ≤ length bytes = subst (λ (x : List ℕ). head_length ≤ length x) (sym same) long in
+      let room = room_for (length bytes) (p.keeping i to) in
+      subst (λ (x : List ℕ). OnOk c.keep.result (AreKept n i c.keep.new.resume (with_list i to (keeps x (room_for (length x) (p.keeping i to))) p).keeping)) same
+      (on_ok_weaker c.keep.result (kept_in_room n i to bytes room c.keep.new.resume p) (c.keep.ensures.kept n i (with_list i to room p) size (c.make_room.ensures.room n i p kept)));
+}

@@ -1,12 +1,7 @@
 use Rattle.std.proofs.Common.{rules, sym, subst}
-use Rattle.schedule_file.specs.ReadHeader.{heading}
-use Rattle.schedule_file.specs.Spelling.{IsHeading}
-use Rattle.node_session.proofs.Headings.{node_heading, node_servable}
+use Rattle.node_session.proofs.Headings.{node_servable}
 use Rattle.node_session.specs.Session.{IsServable}
 use Rattle.node_session.specs.declared.session.Session.{Session}
-use Rattle.std.specs.Prelude.{[]}
-use Rattle.std.proofs.lemmas.List.Elements.{All-from_recursion}
-use Rattle.node_loop.specs.Served.{MayBegin}
 use Rattle.node_session.proofs.configs.serve_node.Goals as goal
 
 pub serve_session-requires : goal.serve_session-requires

@@ -1,4 +1,4 @@
-use Rattle.std.proofs.Common.{[], refl, ap, ◌∙◌, reverse}
+use Rattle.std.proofs.Common.{refl, ap, ◌∙◌, reverse}
 use Rattle.schedule_replay.specs.Layers.{setting_by}
 use Rattle.world_model.specs.Stands.{members}
 use Rattle.node_loop.proofs.AfterPast.{kept_past}
@@ -16,8 +16,8 @@ returns-in-Err-clause-served g c = λ head stands.
     let kind = is_world service other h c.requires.servable.heading c.requires.serves (g.met.E.Broadcast.form ∙ c.requires.form) in
     let events = c.args.life.now.recovered.items in
     life_fails session (reverse events) w _ _ _
-    (λ rounds wanted. is_life h w c.requires.servable.heading service other kind refl (λ i right. right) c.acts_are_deeds.ensures c.frames_are_made.ensures
-    c.resends_are_open.ensures c.acks_are_earned.ensures c.events_fit.ensures c.replies_are_true.ensures c.agreement.ensures
+    (λ rounds wanted. is_life h w c.requires.servable.heading service other kind refl (λ i right. right) c.acts_are_deeds.ensures.deeds c.frames_are_made.ensures.made
+    c.resends_are_open.ensures.unacknowledged c.acks_are_earned.ensures.earned c.events_fit.ensures.fit c.replies_are_true.ensures.replies c.agreement.ensures
     c.recalled_are_sent.ensures.sent c.recalled_are_sent.ensures.again session.until session.limit c.args.life.now.journal.me events c.requires.member c.requires.own rounds wanted)
     _ _ c.in-Err.end c.in-Err.ensures.opens (refl, kept_past head (reverse events) c.args.life.now.journal g.D.Disk.tells (g.D.Disk.told c.args.disk.now) (g.D.Disk.faults c.args.disk.now) stands)
 
@@ -30,10 +30,10 @@ returns-clause-served g c = λ head stands.
     let w = setting_by service other h in
     let here = c.in_ok-replicas.ensures.here in
     let events = c.args.life.now.recovered.items in
-    let run = c.serve_kept-end.ensures head w (members w) here c.requires.member stands in
+    let run = c.serve_kept-end.ensures.serves head w (members w) here c.requires.member stands in
     lives session (reverse events) w _ _ _
-    (λ rounds wanted. is_life h w c.requires.servable.heading service other here.kind refl (λ i right. right) c.acts_are_deeds.ensures c.frames_are_made.ensures
-    c.resends_are_open.ensures c.acks_are_earned.ensures c.events_fit.ensures c.replies_are_true.ensures c.agreement.ensures
+    (λ rounds wanted. is_life h w c.requires.servable.heading service other here.kind refl (λ i right. right) c.acts_are_deeds.ensures.deeds c.frames_are_made.ensures.made
+    c.resends_are_open.ensures.unacknowledged c.acks_are_earned.ensures.earned c.events_fit.ensures.fit c.replies_are_true.ensures.replies c.agreement.ensures
     c.recalled_are_sent.ensures.sent c.recalled_are_sent.ensures.again session.until session.limit c.args.life.now.journal.me events c.requires.member c.requires.own rounds wanted)
     _ (members w) c.serve_kept-end.new.replicas.items _ _ _ _ c.in-Ok.ensures.opens c.serve_kept-end.result c.close.result run refl
     refl c.close.ensures.reason

@@ -7,17 +7,21 @@ use Rattle.node_loop.proofs.Wishing.{again_is}
 use Rattle.node_loop.proofs.house.House.again_to.Goals as goal
 
 pub returns-then-peer-n : goal.returns-then-peer-n
-returns-then-peer-n g c = λ w es numbers p at stand number below.
-    let is = read_at _ w es numbers c.args.self.now.replicas.items c.deref.result.now c.args.place at c.in-Some.replica.now stand c.deref.ensures.value number
-    (ltb-true _ _ (sym c.in-Some.ensures.lookup.0)) c.in-Some.ensures.lookup.1 in
-    let same = c.channel-channel.ensures (rules_at w at) (w.keys at) (states_of w es at) is.stands in
-    let many : c.n.result ≡ (w.keys at).n = c.n.ensures.value ∙ ap (λ (k : KeyRow). k.n) (c.keys.ensures ∙ same) in
-    let own : (w.keys at).n ≡ w.numbers.n = (stand.kind.own at (stand.kind.within at is.correct)).1 in
-    absurd (omega (arith, c.if-peer-n.true, many, own, below))
+returns-then-peer-n g c = record {
+  note = λ w es numbers p at stand number below.
+      let is = read_at _ w es numbers c.args.self.now.replicas.items c.deref.result.now c.args.place at c.in-Some.replica.now stand c.deref.ensures.value number
+      (ltb-true _ _ (sym c.in-Some.ensures.lookup.0)) c.in-Some.ensures.lookup.1 in
+      let same = c.channel-channel.ensures (rules_at w at) (w.keys at) (states_of w es at) is.stands in
+      let many : c.n.result ≡ (w.keys at).n = c.n.ensures.value ∙ ap (λ (k : KeyRow). k.n) (c.keys.ensures ∙ same) in
+      let own : (w.keys at).n ≡ w.numbers.n = (stand.kind.own at (stand.kind.within at is.correct)).1 in
+      absurd (omega (arith, c.if-peer-n.true, many, own, below));
+}
 
 pub returns : goal.returns
-returns g c = λ w es numbers p at stand number below.
-    let is = read_at _ w es numbers c.args.self.now.replicas.items c.deref.result.now c.args.place at c.in-Some.replica.now stand c.deref.ensures.value number
-    (ltb-true _ _ (sym c.in-Some.ensures.lookup.0)) c.in-Some.ensures.lookup.1 in
-    let same = c.channel-channel.ensures (rules_at w at) (w.keys at) (states_of w es at) is.stands in
-    again_is w at c.args.peer c.seal_again.result c.channel-channel.result.now p same c.seal_again.ensures
+returns g c = record {
+  note = λ w es numbers p at stand number below.
+      let is = read_at _ w es numbers c.args.self.now.replicas.items c.deref.result.now c.args.place at c.in-Some.replica.now stand c.deref.ensures.value number
+      (ltb-true _ _ (sym c.in-Some.ensures.lookup.0)) c.in-Some.ensures.lookup.1 in
+      let same = c.channel-channel.ensures (rules_at w at) (w.keys at) (states_of w es at) is.stands in
+      again_is w at c.args.peer c.seal_again.result c.channel-channel.result.now p same c.seal_again.ensures;
+}

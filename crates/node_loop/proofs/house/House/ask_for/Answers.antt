@@ -14,7 +14,7 @@ pub returns-in-Some-clause-comes : goal.returns-in-Some-clause-comes
 returns-in-Some-clause-comes g c = λ w es numbers ws p stand number clear asked.
     let at = c.args.output.now.at in
     let bytes = c.args.message.bytes in
-    let found = ap (λ (a : Asked). position_of (rows_at w es at) a.client a.request) (sym asked) ∙ sym (c.in-Some.ensures w es numbers at stand.here number) in
+    let found = ap (λ (a : Asked). position_of (rows_at w es at) a.client a.request) (sym asked) ∙ sym (c.in-Some.ensures.position w es numbers at stand.here number) in
     let said = c.write_reply-bytes.ensures ∙ ap (λ (a : Asked). position_reply a.client a.request c.in-Some.position) asked in
     let more = reply at (position_reply (asked_in at bytes).client (asked_in at bytes).request c.in-Some.position) c.args.message.conn in
     on_ok_weaker c.reply.result
@@ -33,10 +33,10 @@ returns-then-has-clause-comes g c = λ w es numbers ws p stand number clear aske
     on_ok_weaker c.push.result
     (λ waits. comes_as _ w es numbers (record { replicas = c.args.self.now.replicas; waiting = c.push.new.self; keepers = c.args.self.now.keepers }) c.args.output.now (silent [] us)
     (asked_so w es at c.args.message.conn bytes ws (position_of (rows_at w es at) (asked_in at bytes).client (asked_in at bytes).request)) (quietly w es p)
-    (asked_waits w es at c.args.message.conn bytes ws c.args.message.asked asked (sym (c.position_at.ensures w es numbers at stand.here number) ∙ c.in_default.is) (sym (c.has.ensures ws stand.waiting) ∙ c.if-has.true))
+    (asked_waits w es at c.args.message.conn bytes ws c.args.message.asked asked (sym (c.position_at.ensures.position w es numbers at stand.here number) ∙ c.in_default.is) (sym (c.has.ensures.waits ws stand.waiting) ∙ c.if-has.true))
     (nothing_comes _ w es numbers (record { replicas = c.args.self.now.replicas; waiting = c.push.new.self; keepers = c.args.self.now.keepers }) c.args.output.now us p
     (wait_else _ w es numbers c.args.self.now (record { replicas = c.args.self.now.replicas; waiting = c.push.new.self; keepers = c.args.self.now.keepers }) ws us p stand refl refl waits) clear))
-    (c.push.ensures ws stand.waiting)
+    (c.push.ensures.waits ws stand.waiting)
 
 pub returns-clause-comes : goal.returns-clause-comes
 returns-clause-comes g c = λ w es numbers ws p stand number clear asked.
@@ -45,5 +45,5 @@ returns-clause-comes g c = λ w es numbers ws p stand number clear asked.
     on_ok_weaker c.submit.result
     (comes_as _ w es numbers c.submit.new.self c.submit.new.output (submitted w es at c.args.message.conn bytes ws)
     (asked_so w es at c.args.message.conn bytes ws (position_of (rows_at w es at) (asked_in at bytes).client (asked_in at bytes).request)) (quietly w es p)
-    (asked_first w es at c.args.message.conn bytes ws c.args.message.asked asked (sym (c.position_at.ensures w es numbers at stand.here number) ∙ c.in_default.is) (sym (c.has.ensures ws stand.waiting) ∙ c.if-has.false)))
+    (asked_first w es at c.args.message.conn bytes ws c.args.message.asked asked (sym (c.position_at.ensures.position w es numbers at stand.here number) ∙ c.in_default.is) (sym (c.has.ensures.waits ws stand.waiting) ∙ c.if-has.false)))
     (c.submit.ensures.comes w es numbers ws p stand number clear asked)

@@ -19,7 +19,7 @@ returns-in-Some-clause-enters g c = λ w es numbers ws p stand number.
           (let P : List Row → Type 0 = λ x. IsWaiting c.enter_rows.new.waiting (waiting_left_by at c.args.count x ws) in subst P rows entered.0),
       entered.1 ∙ ap (λ x. map (reply_by at) c.args.output.now.replies.items ++ replies_by at c.args.count x ws) rows,
     ))
-    (c.enter_rows.ensures ws stand.waiting)
+    (c.enter_rows.ensures.enters ws stand.waiting)
 
 pub returns-in-None-clause-enters : goal.returns-in-None-clause-enters
 returns-in-None-clause-enters g c = λ w es numbers ws p stand number.

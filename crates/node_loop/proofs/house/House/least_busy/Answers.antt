@@ -8,9 +8,11 @@ loop-replica-init g c = λ w es numbers stand. least_at_first (is_busy_at w es) 
 pub loop-replica-preserved : goal.loop-replica-preserved
 loop-replica-preserved g c = λ w es numbers stand.
     least_next _ w es numbers c.args.self.now.replicas.items c.deref-replica-items.result.now c.loop-replica.replica-index c.replica-item.result c.loop-replica.least c.lesser-least.result
-    stand c.deref-replica-items.ensures.value c.loop-replica-test.true c.replica-item.is c.lesser-least.ensures (c.loop-replica.invariant w es numbers stand)
+    stand c.deref-replica-items.ensures.value c.loop-replica-test.true c.replica-item.is c.lesser-least.ensures.least (c.loop-replica.invariant w es numbers stand)
 
 pub returns : goal.returns
-returns g c = λ w es numbers stand.
-    least_is _ w es numbers c.args.self.now.replicas.items c.deref-replica-items.result.now c.loop-replica.replica-index c.loop-replica.least
-    stand c.deref-replica-items.ensures.value c.loop-replica.auto.replica-index-end c.loop-replica-test.false (c.loop-replica.invariant w es numbers stand)
+returns g c = record {
+  least = λ w es numbers stand.
+      least_is _ w es numbers c.args.self.now.replicas.items c.deref-replica-items.result.now c.loop-replica.replica-index c.loop-replica.least
+      stand c.deref-replica-items.ensures.value c.loop-replica.auto.replica-index-end c.loop-replica-test.false (c.loop-replica.invariant w es numbers stand);
+}

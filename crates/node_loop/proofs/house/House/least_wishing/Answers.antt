@@ -8,10 +8,12 @@ loop-place-init g c = λ w es numbers ws p stands. least_at_first (wishes w es p
 pub loop-place-preserved : goal.loop-place-preserved
 loop-place-preserved g c = λ w es numbers ws p stands.
     least_wishing_next _ w es numbers c.args.self.now.replicas.items c.deref-replica-items.result.now c.loop-place.place c.replica-item.result p c.number_of.result c.loop-place.least c.lesser_wishing-least.result
-    stands.here c.deref-replica-items.ensures.value c.loop-place-test.true c.replica-item.is c.number_of.ensures
-    (λ at placed. c.lesser_wishing-least.ensures w es numbers ws p at stands placed) (c.loop-place.invariant w es numbers ws p stands)
+    stands.here c.deref-replica-items.ensures.value c.loop-place-test.true c.replica-item.is c.number_of.ensures.number
+    (λ at placed. c.lesser_wishing-least.ensures.least w es numbers ws p at stands placed) (c.loop-place.invariant w es numbers ws p stands)
 
 pub returns : goal.returns
-returns g c = λ w es numbers ws p stands.
-    least_wishing_is _ w es numbers c.args.self.now.replicas.items c.deref-replica-items.result.now c.loop-place.place p c.loop-place.least
-    stands.here c.deref-replica-items.ensures.value c.loop-place.auto.place-end c.loop-place-test.false (c.loop-place.invariant w es numbers ws p stands)
+returns g c = record {
+  least = λ w es numbers ws p stands.
+      least_wishing_is _ w es numbers c.args.self.now.replicas.items c.deref-replica-items.result.now c.loop-place.place p c.loop-place.least
+      stands.here c.deref-replica-items.ensures.value c.loop-place.auto.place-end c.loop-place-test.false (c.loop-place.invariant w es numbers ws p stands);
+}

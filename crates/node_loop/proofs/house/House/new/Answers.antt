@@ -11,7 +11,7 @@ pub loop-replica-preserved : goal.loop-replica-preserved
 loop-replica-preserved g c = λ w es numbers stand.
     fresh_next _ w es numbers c.deref-replica-items.result.now c.loop-replica.replica-index c.replica-item.result c.n.result c.in_ok-new.field-0 c.loop-replica.keepers.items c.push.new.self.items
     stand c.loop-replica-test.true c.replica-item.is (λ r row st stands. c.n.ensures.value ∙ ap (λ (k : KeyRow). k.n) (c.keys.ensures r row st stands))
-    (c.loop-replica.invariant w es numbers stand) c.in_ok-new.ensures c.in_ok-push.ensures.items
+    (c.loop-replica.invariant w es numbers stand) c.in_ok-new.ensures.none c.in_ok-push.ensures.items
 
 pub returns-clause-stands : goal.returns-clause-stands
 returns-clause-stands g c = λ w es numbers stand.
@@ -19,4 +19,4 @@ returns-clause-stands g c = λ w es numbers stand.
     let here = as_here _ w es numbers c.args.replicas.now.items read c.deref-replica-items.ensures.value stand in
     let all : c.loop-replica.replica-index ≡ length read = omega (arith, c.loop-replica-test.false, c.loop-replica.auto.replica-index-end) in
     new_house _ w es numbers (record { replicas = c.replace.result; waiting = c.new-3.result; keepers = c.loop-replica.keepers }) read c.loop-replica.replica-index
-    here (ap (λ v. v.items) c.replace.ensures.value ∙ sym c.deref-replica-items.ensures.value) c.new-3.ensures all (c.loop-replica.invariant w es numbers here)
+    here (ap (λ v. v.items) c.replace.ensures.value ∙ sym c.deref-replica-items.ensures.value) c.new-3.ensures.nobody all (c.loop-replica.invariant w es numbers here)

@@ -26,7 +26,7 @@ returns-in-Some-get_mut-clause-comes g c = λ w es numbers ws p stand number cle
     (nothing_comes _ w es numbers _ c.args.output.now ws (acknowledged at from seq p)
     (one_keeper _ w es numbers c.args.self.now _ ws p (acknowledged at from seq p) c.args.place at c.in-Some-get_mut.keeper.now c.acked.new.self
     stand number c.in-Some-get_mut.ensures.item.3.0 c.in-Some-get_mut.ensures.value refl refl refl
-    (c.acked.ensures w.numbers.n at p keeper)
+    (c.acked.ensures.acked w.numbers.n at p keeper)
     (λ i k other it. list_elsewhere w.numbers.n i at from (all_but seq (p.keeping at from)) k p other it)) clear)
 
 pub returns-in-Some-Again-clause-comes : goal.returns-in-Some-Again-clause-comes

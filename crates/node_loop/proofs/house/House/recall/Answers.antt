@@ -13,33 +13,39 @@ use Rattle.node_loop.proofs.Recalling.{newest, all_put_newest, same_newest}
 use Rattle.node_loop.proofs.house.House.recall.Goals as goal
 
 pub returns-in_default : goal.returns-in_default
-returns-in_default g c = λ w es numbers ws p stand served.
-    let happened = c.in_ok-happen.ensures w es numbers ws p stand served in
-    absurd (both_ways (w.is_correct c.happen.new.output.at) (c.in_default.ensures w (c.args.event.now ∷ es) numbers happened.0.here) happened.2)
+returns-in_default g c = record {
+  happens = λ w es numbers ws p stand served.
+      let happened = c.in_ok-happen.ensures.happens w es numbers ws p stand served in
+      absurd (both_ways (w.is_correct c.happen.new.output.at) (c.in_default.ensures.place w (c.args.event.now ∷ es) numbers happened.0.here) happened.2);
+}
 
 pub returns-in-Some-get_mut : goal.returns-in-Some-get_mut
-returns-in-Some-get_mut g c = λ w es numbers ws p stand served.
-    let e = c.args.event.now in
-    let happened = c.in_ok-happen.ensures w es numbers ws p stand served in
-    let house = c.happen.new.self in
-    let at = c.happen.new.output.at in
-    let frames = c.happen.new.output.frames.items in
-    let old = c.in-Some-get_mut.keeper.now in
-    let number = (c.in-Some.ensures w (e ∷ es) numbers happened.0.here).1 in
-    let keepers = house.keepers.items in
-    let there = slice_get_read keepers (length keepers) c.in-Some.place old refl c.in-Some-get_mut.ensures.item.3.0 c.in-Some-get_mut.ensures.value in
-    let long = subst (λ (fs : List OutFrame). All (λ f. head_length ≤ length f.bytes) fs) (sym c.as_slice.ensures.value) (have_numbers c.sealed_length.ensures w es (Some e) at frames happened.1) in
-    on_ok_weaker c.all_newest.result
-    (λ kept. house_put newest _ w (e ∷ es) numbers house (recalled w es e ws).waiting p (all_newest (frames_made_by w es (Some e)) p) (all_newest (map (made_as 0 at) frames) p) 0 at c.in-Some.place frames old _
-    happened.0 number there (all_put_newest (map (made_as 0 at) frames) p) (same_newest w es (Some e) 0 at frames p happened.1)
-    (subst (λ (fs : List OutFrame). AreKept w.numbers.n at c.all_newest.new.resume (all_newest (map (made_as 0 at) fs) p).keeping) c.as_slice.ensures.value kept))
-    (c.all_newest.ensures w.numbers.n at 0 p long (happened.0.keepers c.in-Some.place at old number there).kept)
+returns-in-Some-get_mut g c = record {
+  happens = λ w es numbers ws p stand served.
+      let e = c.args.event.now in
+      let happened = c.in_ok-happen.ensures.happens w es numbers ws p stand served in
+      let house = c.happen.new.self in
+      let at = c.happen.new.output.at in
+      let frames = c.happen.new.output.frames.items in
+      let old = c.in-Some-get_mut.keeper.now in
+      let number = (c.in-Some.ensures.place w (e ∷ es) numbers happened.0.here).1 in
+      let keepers = house.keepers.items in
+      let there = slice_get_read keepers (length keepers) c.in-Some.place old refl c.in-Some-get_mut.ensures.item.3.0 c.in-Some-get_mut.ensures.value in
+      let long = subst (λ (fs : List OutFrame). All (λ f. head_length ≤ length f.bytes) fs) (sym c.as_slice.ensures.value) (have_numbers c.sealed_length.ensures w es (Some e) at frames happened.1) in
+      on_ok_weaker c.all_newest.result
+      (λ kept. house_put newest _ w (e ∷ es) numbers house (recalled w es e ws).waiting p (all_newest (frames_made_by w es (Some e)) p) (all_newest (map (made_as 0 at) frames) p) 0 at c.in-Some.place frames old _
+      happened.0 number there (all_put_newest (map (made_as 0 at) frames) p) (same_newest w es (Some e) 0 at frames p happened.1)
+      (subst (λ (fs : List OutFrame). AreKept w.numbers.n at c.all_newest.new.resume (all_newest (map (made_as 0 at) fs) p).keeping) c.as_slice.ensures.value kept))
+      (c.all_newest.ensures.keeps w.numbers.n at 0 p long (happened.0.keepers c.in-Some.place at old number there).kept);
+}
 
 pub returns-in-None : goal.returns-in-None
-returns-in-None g c = λ w es numbers ws p stand served.
-    let happened = c.in_ok-happen.ensures w es numbers ws p stand served in
-    let number = (c.in-Some.ensures w (c.args.event.now ∷ es) numbers happened.0.here).1 in
-    let within = slice_get_within numbers c.in-Some.place c.happen.new.output.at number in
-    let many = happened.0.many in
-    let none : false ≡ true = c.in-None.ensures.variant.1 (omega (arith, within, many)) in
-    absurd (cc)
+returns-in-None g c = record {
+  happens = λ w es numbers ws p stand served.
+      let happened = c.in_ok-happen.ensures.happens w es numbers ws p stand served in
+      let number = (c.in-Some.ensures.place w (c.args.event.now ∷ es) numbers happened.0.here).1 in
+      let within = slice_get_within numbers c.in-Some.place c.happen.new.output.at number in
+      let many = happened.0.many in
+      let none : false ≡ true = c.in-None.ensures.variant.1 (omega (arith, within, many)) in
+      absurd (cc);
+}

@@ -20,10 +20,12 @@ loop-event-preserved g c = λ w numbers stand served.
     let e : Event = c.event-item.result in
     let one : IsServed w e = subst (λ (x : Event). IsServed w x) (sym c.event-item.is) (All-from_recursion (IsServed w) es served i e c.loop-event-test.true) in
     subst (λ (l : List Event). HouseStands m w l numbers c.recall.new.self (recalled_waiting w l) (recalled_peers w l)) (sym (turned_next es i e c.loop-event-test.true c.event-item.is))
-    (c.in_ok-recall.ensures w _ numbers _ _ (c.loop-event.invariant w numbers stand served) one)
+    (c.in_ok-recall.ensures.happens w _ numbers _ _ (c.loop-event.invariant w numbers stand served) one)
 
 pub returns : goal.returns
-returns g c = λ w numbers stand served.
-    let m = meaning_of g.S.Service g.E.Broadcast g.C.Coin in
-    subst (λ (l : List Event). HouseStands m w (reverse l) numbers c.loop-event.self (recalled_waiting w (reverse l)) (recalled_peers w (reverse l)))
-    (take_all c.loop-event.event-index c.args.events.now c.loop-event-test.false) (c.loop-event.invariant w numbers stand served)
+returns g c = record {
+  happen = λ w numbers stand served.
+      let m = meaning_of g.S.Service g.E.Broadcast g.C.Coin in
+      subst (λ (l : List Event). HouseStands m w (reverse l) numbers c.loop-event.self (recalled_waiting w (reverse l)) (recalled_peers w (reverse l)))
+      (take_all c.loop-event.event-index c.args.events.now c.loop-event-test.false) (c.loop-event.invariant w numbers stand served);
+}

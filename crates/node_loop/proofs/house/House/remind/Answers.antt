@@ -9,7 +9,7 @@ use Rattle.node_loop.proofs.house.House.remind.Goals as goal
 
 pub returns-in_default-clause-comes : goal.returns-in_default-clause-comes
 returns-in_default-clause-comes g c = λ w es numbers ws p stands right below.
-    absurd (both_ways (w.is_correct c.args.pair.at) (c.in_default.ensures w es numbers stands.here) right)
+    absurd (both_ways (w.is_correct c.args.pair.at) (c.in_default.ensures.place w es numbers stands.here) right)
 
 pub returns-clause-comes : goal.returns-clause-comes
 returns-clause-comes g c = λ w es numbers ws p stands right below.
@@ -18,9 +18,9 @@ returns-clause-comes g c = λ w es numbers ws p stands right below.
     let o = c.clear.new.self in
     let same : o.at ≡ at = c.clear.ensures.at in
     let none = c.clear.ensures.none in
-    let placed = (c.in-Some.ensures w es numbers stands.here).1 in
-    let now = c.unmark.ensures w es numbers ws p at stands placed in
-    let asks = c.again_to-output.ensures w es numbers p at now.here placed below in
+    let placed = (c.in-Some.ensures.place w es numbers stands.here).1 in
+    let now = c.unmark.ensures.unmarks w es numbers ws p at stands placed in
+    let asks = c.again_to-output.ensures.note w es numbers p at now.here placed below in
     record {
       event = none.0;
       keeps = none.4;

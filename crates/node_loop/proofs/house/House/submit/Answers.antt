@@ -23,9 +23,9 @@ returns-in_ok-enter-in-Some-clause-comes g c = λ w es numbers ws p stand number
     let right = right_at _ w es numbers c.args.self.now.replicas.items c.args.place at stand.here number in
     let seen = c.in_ok-answer.ensures.answered w es numbers at stand.here number refl in
     let comes = came_quietly _ w es numbers c.enter.new.self c.enter.new.output at c.rows_at-count.result e c.args.output.now.frames.items c.give.new.frames.items c.args.output.now.replies.items ws p
-    (c.rows_at-count.ensures w es numbers at stand.here number) clear.frames did.1 clear.replies right (c.enter.ensures.same.3 ∙ clear.more)
-    entered.0 entered.1 c.enter.ensures.same.0 c.enter.ensures.same.1 (c.enter.ensures.same.4 ∙ c.is_kept-output.ensures ∙ ap (is_kept_so e) seen) (ap (λ v. v.items) c.enter.ensures.same.2) in
-    let code : refusal_in (seen_of w es e) ≡ Some c.in-Some.code = ap refusal_in (sym seen) ∙ sym c.refusal_in.ensures ∙ c.in-Some.is in
+    (c.rows_at-count.ensures.count w es numbers at stand.here number) clear.frames did.1 clear.replies right (c.enter.ensures.same.3 ∙ clear.more)
+    entered.0 entered.1 c.enter.ensures.same.0 c.enter.ensures.same.1 (c.enter.ensures.same.4 ∙ c.is_kept-output.ensures.kept ∙ ap (is_kept_so e) seen) (ap (λ v. v.items) c.enter.ensures.same.2) in
+    let code : refusal_in (seen_of w es e) ≡ Some c.in-Some.code = ap refusal_in (sym seen) ∙ sym c.refusal_in.ensures.number ∙ c.in-Some.is in
     let said = c.write_refusal-refusal.ensures ∙ ap (λ (a : Asked). refusal_reply a.client a.request c.in-Some.code) asked in
     let more = reply at (refusal_reply (asked_in at bytes).client (asked_in at bytes).request c.in-Some.code) c.args.message.conn in
     on_ok_weaker c.reply.result
@@ -45,14 +45,14 @@ returns-in_ok-push-in-None-clause-comes g c = λ w es numbers ws p stand number 
     let given = given_stands _ w es (e ∷ es) numbers c.args.self.now c.give.new.self ws p stand did.0 c.give.ensures.same.0 c.give.ensures.same.1 in
     let us = with_waiter (asked_in at bytes) c.args.message.conn ws in
     let P : Asked → Type 0 = λ a. IsWaiting c.push.new.self (with_waiter a c.args.message.conn ws) in
-    let waits = subst P asked (c.in_ok-push-in-None.ensures ws given.waiting) in
+    let waits = subst P asked (c.in_ok-push-in-None.ensures.waits ws given.waiting) in
     let seen = c.in_ok-answer.ensures.answered w es numbers at stand.here number refl in
-    let code : refusal_in (seen_of w es e) ≡ None = ap refusal_in (sym seen) ∙ sym c.refusal_in.ensures ∙ c.in-None.is in
+    let code : refusal_in (seen_of w es e) ≡ None = ap refusal_in (sym seen) ∙ sym c.refusal_in.ensures.number ∙ c.in-None.is in
     let right = right_at _ w es numbers c.args.self.now.replicas.items c.args.place at stand.here number in
     on_ok_weaker c.enter-in-None.result
     (λ x. comes_as _ w es numbers c.enter-in-None.new.self c.enter-in-None.new.output (request_taken w es at c.args.message.conn bytes ws) (submitted w es at c.args.message.conn bytes ws) (quietly w es p)
     (sym (ap (submitted_so w es at c.args.message.conn bytes ws) code))
     (came_quietly _ w es numbers c.enter-in-None.new.self c.enter-in-None.new.output at c.rows_at-count.result e c.args.output.now.frames.items c.give.new.frames.items c.args.output.now.replies.items us p
-    (c.rows_at-count.ensures w es numbers at stand.here number) clear.frames did.1 clear.replies right (c.enter-in-None.ensures.same.3 ∙ clear.more)
-    x.0 x.1 c.enter-in-None.ensures.same.0 c.enter-in-None.ensures.same.1 (c.enter-in-None.ensures.same.4 ∙ c.is_kept-output.ensures ∙ ap (is_kept_so e) seen) (ap (λ v. v.items) c.enter-in-None.ensures.same.2)))
+    (c.rows_at-count.ensures.count w es numbers at stand.here number) clear.frames did.1 clear.replies right (c.enter-in-None.ensures.same.3 ∙ clear.more)
+    x.0 x.1 c.enter-in-None.ensures.same.0 c.enter-in-None.ensures.same.1 (c.enter-in-None.ensures.same.4 ∙ c.is_kept-output.ensures.kept ∙ ap (is_kept_so e) seen) (ap (λ v. v.items) c.enter-in-None.ensures.same.2)))
     (c.enter-in-None.ensures.enters w (e ∷ es) numbers us p (wait_else _ w (e ∷ es) numbers c.give.new.self (record { replicas = c.give.new.self.replicas; waiting = c.push.new.self; keepers = c.give.new.self.keepers }) ws us p given refl refl waits) number)

@@ -11,11 +11,11 @@ use Rattle.node_loop.proofs.house.House.turn.Goals as goal
 
 pub returns-in-Some-clause-comes : goal.returns-in-Some-clause-comes
 returns-in-Some-clause-comes g c = λ w es numbers ws p stand right.
-    let placed = c.in-Some.ensures w es numbers stand.here in
+    let placed = c.in-Some.ensures.place w es numbers stand.here in
     let at_is = c.clear.ensures.at in
     on_ok_weaker c.call.result
     (comes_at _ w es numbers c.call.new.self c.call.new.output (λ k. event_called w es k (Turn c.args.at) ws) (λ k. nothing_more (keep_all (frames_made_by w es (Some (Turn c.args.at))) p)) c.clear.new.self.at c.args.at at_is)
     (c.call.ensures.comes w es numbers ws p stand (placed.1 ∙ ap (λ x. Some x) (sym at_is)) (sym at_is) (cleared c.clear.new.self c.clear.ensures.none))
 
 pub returns-in-None-clause-comes : goal.returns-in-None-clause-comes
-returns-in-None-clause-comes g c = λ w es numbers ws p stand right. absurd (both_ways (w.is_correct c.args.at) (c.in-None.ensures w es numbers stand.here) right)
+returns-in-None-clause-comes g c = λ w es numbers ws p stand right. absurd (both_ways (w.is_correct c.args.at) (c.in-None.ensures.place w es numbers stand.here) right)

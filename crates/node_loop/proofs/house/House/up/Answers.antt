@@ -10,12 +10,12 @@ use Rattle.node_loop.proofs.house.House.up.Goals as goal
 pub returns-in_default-clause-comes : goal.returns-in_default-clause-comes
 returns-in_default-clause-comes g c = λ w es numbers ws p stand.
     comes_with _ w es numbers c.args.self.now c.clear.new.self _ (nothing_more p) _
-    (sym (ap (λ (b : Bool). if b && nat_lt c.args.peer w.numbers.n then resends c.args.at c.args.peer p else nothing_more p) (c.in_default.ensures w es numbers stand.here)))
+    (sym (ap (λ (b : Bool). if b && nat_lt c.args.peer w.numbers.n then resends c.args.at c.args.peer p else nothing_more p) (c.in_default.ensures.place w es numbers stand.here)))
     (nothing_comes _ w es numbers c.args.self.now c.clear.new.self ws p stand (cleared c.clear.new.self c.clear.ensures.none))
 
 pub returns-then-peer-n-clause-comes : goal.returns-then-peer-n-clause-comes
 returns-then-peer-n-clause-comes g c = λ w es numbers ws p stand.
-    let placed = c.in-Some.ensures w es numbers stand.here in
+    let placed = c.in-Some.ensures.place w es numbers stand.here in
     let at_is = c.clear.ensures.at in
     let is = read_at _ w es numbers c.args.self.now.replicas.items c.deref.result.now c.in-Some.place c.args.at c.in-Some-get.replica.now stand.here c.deref.ensures.value placed.1 c.in-Some-get.ensures.lookup.3.0 c.in-Some-get.ensures.lookup.1 in
     let keys = c.keys.ensures (rules_at w c.args.at) (w.keys c.args.at) (states_of w es c.args.at) is.stands in
@@ -29,7 +29,7 @@ returns-then-peer-n-clause-comes g c = λ w es numbers ws p stand.
 
 pub returns-else-peer-n-clause-comes : goal.returns-else-peer-n-clause-comes
 returns-else-peer-n-clause-comes g c = λ w es numbers ws p stand.
-    let placed = c.in-Some.ensures w es numbers stand.here in
+    let placed = c.in-Some.ensures.place w es numbers stand.here in
     let is = read_at _ w es numbers c.args.self.now.replicas.items c.deref.result.now c.in-Some.place c.args.at c.in-Some-get.replica.now stand.here c.deref.ensures.value placed.1 c.in-Some-get.ensures.lookup.3.0 c.in-Some-get.ensures.lookup.1 in
     let keys = c.keys.ensures (rules_at w c.args.at) (w.keys c.args.at) (states_of w es c.args.at) is.stands in
     let many : c.n.result ≡ w.numbers.n = c.n.ensures.value ∙ ap (λ k. k.n) keys ∙ is.stands.many in
@@ -40,5 +40,5 @@ returns-else-peer-n-clause-comes g c = λ w es numbers ws p stand.
 
 pub returns-in_default-get-clause-comes : goal.returns-in_default-get-clause-comes
 returns-in_default-get-clause-comes g c = λ w es numbers ws p stand.
-    let placed = c.in-Some.ensures w es numbers stand.here in
+    let placed = c.in-Some.ensures.place w es numbers stand.here in
     absurd (nowhere _ w es numbers c.deref.result.now c.in-Some.place c.args.at (as_here _ w es numbers c.args.self.now.replicas.items c.deref.result.now c.deref.ensures.value stand.here) placed.1 c.in_default-get.ensures.lookup.3)

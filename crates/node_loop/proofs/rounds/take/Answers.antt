@@ -1,9 +1,0 @@
-use Rattle.std.proofs.Common.{◌++◌}
-use Rattle.node_loop.specs.Serving.{so_far, after_from, Took}
-use Rattle.node_loop.proofs.rounds.take.Goals as goal
-
-pub returns-clause-joins : goal.returns-clause-joins
-returns-clause-joins g c = λ w past numbers start newest older under joins.
-    let s = after_from w past start (newest ++ older) in
-    c.gather.ensures.joins w past numbers start (Took c.args.item) newest older
-    (c.in_ok-take.ensures.comes w (so_far past s) numbers s.waiting s.peers under.stands) under.holds joins

@@ -1,0 +1,176 @@
+//! A node at work.
+
+use crate::archive::Archive;
+use crate::end::{Fault, ServeEnd};
+use crate::group::Group;
+use crate::house::House;
+use crate::rounds::Next;
+use layer_api::{Broadcast, Service};
+use outside::{Link, LinkItem, Sink};
+use ritas_base::Coin;
+use std::alloc::Global;
+use std::net::Net;
+use std::sync::Wait;
+
+/// For how long it is served, to so many rows in each log, if that isn't 0, and to so many items of the link; and how many of these were taken.
+#[derive(Clone, Copy)]
+pub(crate) struct Pace {
+    pub until: u32,
+    pub limit: u64,
+    pub taken: u64,
+}
+
+/// What serves the replicas of a house: the link, the tape, and what keeps events on which disk; for how long it serves; and the rounds of which
+/// nothing was delivered yet. The house stands beside it: a reference to what has three parameters can't be kept in a struct that is lent.
+#[derive(Drop)]
+pub(crate) struct Server<'l, 't, 'a, 'd, 'g, L: Link, K: Sink, A: Archive<D>, D> {
+    pub alloc: Global,
+    pub link: &'l mut L,
+    pub tape: &'t mut K,
+    pub archive: &'a mut A,
+    pub disk: &'d mut D,
+    pub pace: Pace,
+    pub group: &'g mut Group,
+}
+
+impl<L: Link, K: Sink, A: Archive<D>, D> Server<'_, '_, '_, '_, '_, L, K, A, D> {
+    ghost use Rattle.std.specs.Prelude.{◌<◌, List, [], All, OnOk};
+    ghost use Rattle.std.specs.List.{AllByRecursion};
+    ghost use Rattle.outside.specs.Links.{LinkAct};
+    ghost use Rattle.schedule_file.specs.Spelling.{IsSized};
+    ghost use Rattle.node_loop.specs.Groups.{IsEmpty};
+    ghost use Rattle.node_loop.specs.Meanings.{senses_of};
+    ghost use Rattle.node_loop.specs.Served.{MayBegin};
+    ghost use Rattle.node_loop.specs.Servers.{Outset, IsSameServer, IsAtWork, IsNextIn, HasGathered, HasDeliveredNone, HasDelivered};
+    ghost use Rattle.node_loop.specs.Servers.{HasEnded, HasGoneOn};
+    ghost use Rattle.node_loop.specs.Serving.{Round};
+
+    /// Serves: first these items, and then those of the link.
+    pub(crate) fn serve<R: Net + Wait, S: Service, E: Broadcast, C: Coin + Drop>(
+        &mut self,
+        rt: &R,
+        house: &mut House<S, E, C>,
+        first: &[LinkItem],
+    ) -> ServeEnd
+        requires first { All MayBegin first.now }
+        requires empty { IsEmpty self.old.group.now }
+        ensures same { IsSameServer self.old self.new }
+        ensures serves { let t = senses_of S.Service E.Broadcast C.Coin L.Link K.Sink A.Archive in
+            (o : Outset D) → IsAtWork t o house.old self.old first.now → HasEnded t o house.new self.new result }
+    {
+        match self.begin(rt, house, first) {
+            Ok(()) => self.go_on(rt, house),
+            Err(fault) => ServeEnd::from(fault),
+        }
+    }
+
+    // The items with which serving begins, in their order, each a group by itself.
+    fn begin<R: Net + Wait, S: Service, E: Broadcast, C: Coin + Drop>(
+        &mut self,
+        rt: &R,
+        house: &mut House<S, E, C>,
+        first: &[LinkItem],
+    ) -> Result<(), Fault>
+        requires first { All MayBegin first.now }
+        requires empty { IsEmpty self.old.group.now }
+        ensures same { IsSameServer self.old self.new }
+        ensures empty { OnOk result (IsEmpty self.new.group.now) }
+        ensures begins { let t = senses_of S.Service E.Broadcast C.Coin L.Link K.Sink A.Archive in
+            (o : Outset D) → IsAtWork t o house.old self.old first.now → HasDelivered t o house.new self.new [] result }
+    {
+        for item in first {
+            house.join_first(self.alloc, item, self.group)?;
+            self.deliver(rt, house)?;
+        }
+        Ok(())
+    }
+
+    /// Groups of rounds, until serving ends. It waits in the calls of the link alone; but nothing says that turns ever end.
+    pub(crate) fn go_on<R: Net + Wait, S: Service, E: Broadcast, C: Coin + Drop>(
+        &mut self,
+        rt: &R,
+        house: &mut House<S, E, C>,
+    ) -> ServeEnd
+        requires empty { IsEmpty self.old.group.now }
+        ensures same { IsSameServer self.old self.new }
+        ensures serves { let t = senses_of S.Service E.Broadcast C.Coin L.Link K.Sink A.Archive in
+            (o : Outset D) → IsAtWork t o house.old self.old [] → HasEnded t o house.new self.new result }
+    {
+        for _ in rt.forever() {
+            match self.run_group(rt, house) {
+                Ok(()) => {}
+                Err(end) => return end,
+            }
+        }
+        unreachable!()
+    }
+
+    // One group of rounds, unless serving ends.
+    fn run_group<R: Net + Wait, S: Service, E: Broadcast, C: Coin + Drop>(
+        &mut self,
+        rt: &R,
+        house: &mut House<S, E, C>,
+    ) -> Result<(), ServeEnd>
+        requires empty { IsEmpty self.old.group.now }
+        ensures same { IsSameServer self.old self.new }
+        ensures empty { OnOk result (IsEmpty self.new.group.now) }
+        ensures goes { let t = senses_of S.Service E.Broadcast C.Coin L.Link K.Sink A.Archive in
+            (o : Outset D) → IsAtWork t o house.old self.old [] → HasGoneOn t o house.new self.new result }
+    {
+        match house.what_next(self.pace) {
+            Next::Finish => Err(ServeEnd::Done),
+            Next::Turn(at) => {
+                house.join_turn(self.alloc, at, self.group)?;
+                self.finish(rt, house)
+            }
+            Next::Halt => Err(ServeEnd::Limit),
+            Next::Remind(pair) => {
+                house.join_reminder(self.alloc, pair, self.group)?;
+                self.deliver(rt, house)?;
+                Ok(())
+            }
+            Next::Ask => self.run_item(rt, house),
+        }
+    }
+
+    // The link's next item, unless it gives its end, and the turns behind it.
+    fn run_item<R: Net + Wait, S: Service, E: Broadcast, C: Coin + Drop>(
+        &mut self,
+        rt: &R,
+        house: &mut House<S, E, C>,
+    ) -> Result<(), ServeEnd>
+        requires room { self.old.pace.taken < self.old.pace.limit }
+        requires empty { IsEmpty self.old.group.now }
+        ensures same { IsSameServer self.old self.new }
+        ensures empty { OnOk result (IsEmpty self.new.group.now) }
+        ensures goes { let t = senses_of S.Service E.Broadcast C.Coin L.Link K.Sink A.Archive in
+            (o : Outset D) (run : IsAtWork t o house.old self.old []) → IsNextIn o self.old.pace run.rounds Next.Ask → HasGoneOn t o house.new self.new result }
+    {
+        let item = self.link.next(rt, self.alloc)?;
+        if item.is_end() {
+            return Err(ServeEnd::End);
+        }
+        let pace = self.pace;
+        self.pace.taken = pace.taken + 1;
+        house.join_item(self.alloc, item, self.group)?;
+        self.finish(rt, house)
+    }
+
+    // Takes the turns that join a group, and delivers it.
+    fn finish<R: Net + Wait, S: Service, E: Broadcast, C: Coin + Drop>(
+        &mut self,
+        rt: &R,
+        house: &mut House<S, E, C>,
+    ) -> Result<(), ServeEnd>
+        requires sized { AllByRecursion IsSized self.old.group.now.events.items }
+        ensures same { IsSameServer self.old self.new }
+        ensures empty { OnOk result (IsEmpty self.new.group.now) }
+        ensures goes { let t = senses_of S.Service E.Broadcast C.Coin L.Link K.Sink A.Archive in
+            (o : Outset D) (older : List Round) (given : List LinkAct)
+            → HasGathered t o house.old self.old [] older given 1 → HasDeliveredNone t o self.old older given → HasGoneOn t o house.new self.new result }
+    {
+        house.take_turns(self.alloc, self.pace, self.group)?;
+        self.deliver(rt, house)?;
+        Ok(())
+    }
+}
