@@ -11,6 +11,7 @@ ghost use Rattle.ritas.specs.Run.{Ends, LeavesLink, Runs, is_linked};
 ghost use Rattle.ritas.specs.Statuses.{text_limit};
 
 use crate::drives::make;
+use crate::host::Host;
 use crate::keys::run_keys;
 use crate::refusals::{refuse_config, refuse_text};
 use crate::requests::run_submit;
@@ -27,7 +28,7 @@ pub(crate) const TEXT_LIMIT: usize = 1_048_576;
 
 // Makes the schedule of a plan.
 fn drive_plan<K: Sink>(alloc: Global, job: Job, plan: &Plan, output: &mut K) -> u8
-    requires { IsDrive job }
+    requires drives { IsDrive job }
     ensures ends { Ends K.faults output.old output.new result }
     ensures others { (result ≢ 2) × (result ≢ 4) × (result ≢ 6) }
     ensures nine { result ≢ 9 }
@@ -41,15 +42,14 @@ fn drive_plan<K: Sink>(alloc: Global, job: Job, plan: &Plan, output: &mut K) -> 
 
 // Does the job of a configuration.
 fn do_config<R: Net + Wait, K: Sink, L: Link, D: Disk>(
-    rt: &R,
-    alloc: Global,
+    host: &Host<R>,
     job: Job,
     config: Config,
     output: &mut K,
     link: &mut L,
     disk: &mut D,
 ) -> u8
-    requires { FitsConfig job config }
+    requires fits { FitsConfig job config }
     ensures runs { Runs K.faults output.old output.new (L.faults link.old) (L.faults link.new) result }
     ensures others { result ≢ 4 }
     ensures disk_counts { HasCause (D.faults disk.old) (D.faults disk.new) (result ≡ 9) }
@@ -60,18 +60,17 @@ fn do_config<R: Net + Wait, K: Sink, L: Link, D: Disk>(
         (disk_seen D.Disk disk.old disk.new) (LeavesLink link.old link.new result) (disk.new ≡ disk.old) result job config }
 {
     match config {
-        Config::Drive(plan) => drive_plan(alloc, job, &plan, output),
-        Config::Keys(keys) => run_keys(alloc, &keys, output),
-        Config::Node(node) => run_node(rt, alloc, node, output, link, disk),
-        Config::Cluster(cluster) => run_cluster(rt, alloc, cluster, output, link),
-        Config::Submit(submit) => run_submit(rt, alloc, &submit, output, link),
+        Config::Drive(plan) => drive_plan(host.alloc, job, &plan, output),
+        Config::Keys(keys) => run_keys(host.alloc, &keys, output),
+        Config::Node(node) => run_node(host.rt, host.alloc, node, output, link, disk),
+        Config::Cluster(cluster) => run_cluster(host.rt, host.alloc, cluster, output, link),
+        Config::Submit(submit) => run_submit(host.rt, host.alloc, &submit, output, link),
     }
 }
 
 // Does the job of the configuration that a text says, or writes the line of its first fault.
 fn do_text<R: Net + Wait, K: Sink, L: Link, D: Disk>(
-    rt: &R,
-    alloc: Global,
+    host: &Host<R>,
     job: Job,
     text: &[u8],
     output: &mut K,
@@ -92,23 +91,22 @@ fn do_text<R: Net + Wait, K: Sink, L: Link, D: Disk>(
     ensures undriven { (what : DriveWhat) → job ≡ Job.Drive what → result ≡ 8 → output.new ≡ output.old }
 {
     config_ranges();
-    match read_config(alloc, job, text) {
-        Ok(config) => do_config(rt, alloc, job, config, output, link, disk),
-        Err(fault) => refuse_config(alloc, output, fault),
+    match read_config(host.alloc, job, text) {
+        Ok(config) => do_config(host, job, config, output, link, disk),
+        Err(fault) => refuse_config(host.alloc, output, fault),
     }
 }
 
 /// Does the job of the configuration that the input says, or writes the line of its first fault.
 pub(crate) fn do_read<R: Net + Wait, S: Source, K: Sink, L: Link, D: Disk>(
-    rt: &R,
-    alloc: Global,
+    host: &Host<R>,
     job: Job,
     input: &mut S,
     output: &mut K,
     link: &mut L,
     disk: &mut D,
 ) -> u8
-    requires { (what : What) → job ≢ Job.Replay what }
+    requires job { (what : What) → job ≢ Job.Replay what }
     ensures runs { Runs K.faults output.old output.new (L.faults link.old) (L.faults link.new) result }
     ensures input_counts { CountsIf (S.faults input.old) (S.faults input.new) (result ≡ 4) }
     ensures taken { S.tells ≡ true → TakesText (S.left input.old) (S.left input.new) result }
@@ -121,8 +119,8 @@ pub(crate) fn do_read<R: Net + Wait, S: Source, K: Sink, L: Link, D: Disk>(
     ensures unlinked { is_linked job ≡ false → LeavesLink link.old link.new result }
     ensures undriven { (what : DriveWhat) → job ≡ Job.Drive what → result ≡ 8 → output.new ≡ output.old }
 {
-    match read_whole(alloc, input, TEXT_LIMIT) {
-        Ok(text) => do_text(rt, alloc, job, text.as_slice(), output, link, disk),
-        Err(fault) => refuse_text(alloc, output, fault),
+    match read_whole(host.alloc, input, TEXT_LIMIT) {
+        Ok(text) => do_text(host, job, text.as_slice(), output, link, disk),
+        Err(fault) => refuse_text(host.alloc, output, fault),
     }
 }

@@ -1,5 +1,6 @@
 //! Tests of replays whose input or output fails, or has no room.
 
+use crate::host::Host;
 use crate::run::run;
 use outside::{MemDisk, MemLink, MemSink, MemSource};
 use std::alloc::Global;
@@ -47,14 +48,14 @@ pub(crate) fn file(
 
 // Replays a file, over an input and an output whose calls of these numbers fail.
 fn replay<R: Net + Wait>(
-    rt: &R,
-    alloc: Global,
+    host: &Host<R>,
     what: &str,
     bytes: &[u8],
     reads: &[u64],
     writes: &[u64],
     room: usize,
 ) -> Result<(u8, MemSink), Fail> {
+    let alloc = host.alloc;
     let mut words = Vec::new(alloc);
     for word in ["ritas", "replay", what] {
         words.push(String::from_str(alloc, word)?)?;
@@ -64,7 +65,7 @@ fn replay<R: Net + Wait>(
     let mut link = MemLink::new(alloc, &[], &[])?;
     let mut disk = MemDisk::new(alloc, &[], 0, 0, &[])?;
     let status = run(
-        rt,
+        host.rt,
         alloc,
         &words,
         &mut input,
@@ -78,16 +79,20 @@ fn replay<R: Net + Wait>(
 // The input is read in two calls, and the report is written in one.
 #[test]
 fn each_call_fails(rt: HostRuntime) -> Result<(), Fail> {
+    let host = Host {
+        rt: &rt,
+        alloc: rt.alloc(),
+    };
     let bytes = file(rt.alloc(), 6, 0, 54, REQUEST, 31)?;
     assert_eq!(rt; bytes.len(), 131);
     for call in 0..4u64 {
         let fails = [call];
-        let (status, output) = replay(&rt, rt.alloc(), "report", &bytes, &fails, &[], 500)?;
+        let (status, output) = replay(&host, "report", &bytes, &fails, &[], 500)?;
         let (wanted, text) = if call < 2 { (4, "") } else { (0, REPORT) };
         assert_eq!(rt; status, wanted);
         assert_eq!(rt; output.taken(), text.as_bytes());
 
-        let (status, output) = replay(&rt, rt.alloc(), "report", &bytes, &[], &fails, 500)?;
+        let (status, output) = replay(&host, "report", &bytes, &[], &fails, 500)?;
         let (wanted, text) = if call < 1 { (5, "") } else { (0, REPORT) };
         assert_eq!(rt; status, wanted);
         assert_eq!(rt; output.taken(), text.as_bytes());
@@ -97,9 +102,13 @@ fn each_call_fails(rt: HostRuntime) -> Result<(), Fail> {
 
 #[test]
 fn each_room(rt: HostRuntime) -> Result<(), Fail> {
+    let host = Host {
+        rt: &rt,
+        alloc: rt.alloc(),
+    };
     let bytes = file(rt.alloc(), 6, 0, 54, REQUEST, 31)?;
     for room in 0..=REPORT.len() {
-        let (status, output) = replay(&rt, rt.alloc(), "report", &bytes, &[], &[], room)?;
+        let (status, output) = replay(&host, "report", &bytes, &[], &[], room)?;
         assert_eq!(rt; status, if room < REPORT.len() { 5 } else { 0 });
         assert_eq!(rt; output.taken().len(), room);
         assert!(rt; REPORT.as_bytes().starts_with(output.taken()));
@@ -110,9 +119,13 @@ fn each_room(rt: HostRuntime) -> Result<(), Fail> {
 // A vector is decided in root service 5, and in root service 4 there is none.
 #[test]
 fn vectors(rt: HostRuntime) -> Result<(), Fail> {
+    let host = Host {
+        rt: &rt,
+        alloc: rt.alloc(),
+    };
     for (root, text, wanted) in [(5, VECTORS, 0), (4, "input header at 15\n", 3)] {
         let bytes = file(rt.alloc(), root, 0, 54, b"\x02\0\0\x01a", 28)?;
-        let (status, output) = replay(&rt, rt.alloc(), "vectors", &bytes, &[], &[], 100)?;
+        let (status, output) = replay(&host, "vectors", &bytes, &[], &[], 100)?;
         assert_eq!(rt; status, wanted);
         assert_eq!(rt; output.taken(), text.as_bytes());
     }

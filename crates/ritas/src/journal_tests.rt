@@ -32,7 +32,7 @@ fn again<R: Net + Wait>(rt: &R, alloc: Global, disk: &mut MemDisk) -> Result<(u8
     let text = config(alloc)?;
     let mut link = MemLink::new(alloc, &[], &[])?;
     let mut output = MemSink::new(alloc, 1000, &[])?;
-    let status = status_with(rt, alloc, "node", &text, &mut link, &mut output, disk)?;
+    let status = status_with(rt, alloc, &text, &mut link, &mut output, disk)?;
     if !link.replies().is_empty() {
         return Err("a reply")?;
     }
@@ -49,15 +49,7 @@ fn node_comes_back(rt: HostRuntime) -> Result<(), Fail> {
     let mut output = MemSink::new(rt.alloc(), 1000, &[])?;
     let mut disk = empty(rt.alloc(), &[])?;
     assert_eq!(rt;
-        status_with(
-            &rt,
-            rt.alloc(),
-            "node",
-            &text,
-            &mut link,
-            &mut output,
-            &mut disk
-        )?,
+        status_with(&rt, rt.alloc(), &text, &mut link, &mut output, &mut disk)?,
         0
     );
     assert_eq!(rt; output.taken(), file.as_slice());
@@ -89,15 +81,7 @@ fn each_call_of_the_disk_fails(rt: HostRuntime) -> Result<(), Fail> {
         let mut link = MemLink::new(rt.alloc(), &items, &[])?;
         let mut output = MemSink::new(rt.alloc(), 1000, &[])?;
         let mut disk = empty(rt.alloc(), &[call])?;
-        let status = status_with(
-            &rt,
-            rt.alloc(),
-            "node",
-            &text,
-            &mut link,
-            &mut output,
-            &mut disk,
-        )?;
+        let status = status_with(&rt, rt.alloc(), &text, &mut link, &mut output, &mut disk)?;
         assert_eq!(rt; status, if call < 12 { 9 } else { 0 });
         assert_eq!(rt; link.replies().is_empty(), call < 12);
         assert_eq!(rt; output.taken().is_empty(), call < 8);

@@ -8,7 +8,7 @@ use world_model::Audit;
 
 /// The status that an audit gives: 0 where it holds, and else 1.
 pub(crate) fn audit_status(audit: Audit) -> u8
-    ensures { result ≡ audit_status audit }
+    ensures status { result ≡ audit_status audit }
 {
     match audit {
         Audit::Holds => 0,
@@ -18,7 +18,7 @@ pub(crate) fn audit_status(audit: Audit) -> u8
 
 /// The line that names a fault of a file and its place.
 pub(crate) fn fault_text(alloc: Global, fault: FileFault) -> Result<String, AllocError>
-    ensures { IfOk result (λ s. string_bytes s ≡ fault_text fault) }
+    ensures text { IfOk result (λ s. string_bytes s ≡ fault_text fault) }
 {
     match fault {
         FileFault::Magic => placed(alloc, "magic", 0),
@@ -34,7 +34,7 @@ pub(crate) fn fault_text(alloc: Global, fault: FileFault) -> Result<String, Allo
 
 /// The status that a fault of a file gives.
 pub(crate) fn fault_status(fault: FileFault) -> u8
-    ensures { result ≡ fault_status fault }
+    ensures status { result ≡ fault_status fault }
 {
     match fault {
         FileFault::TooLong => 7,
@@ -44,29 +44,30 @@ pub(crate) fn fault_status(fault: FileFault) -> u8
     }
 }
 
+// The line that names a fault and a place.
 fn placed(alloc: Global, name: &str, place: u32) -> Result<String, AllocError>
-    ensures { IfOk result (λ s. string_bytes s ≡ input_line name.now place) }
+    ensures text { IfOk result (λ s. string_bytes s ≡ input_line name.now place) }
 {
     format!(in alloc; "input {name} at {place}\n")
 }
 
 /// The line that names the place of a journal's fault.
 pub(crate) fn journal_text(alloc: Global, place: u32) -> Result<String, AllocError>
-    ensures { IfOk result (λ s. string_bytes s ≡ input_line (codes "journal") place) }
+    ensures text { IfOk result (λ s. string_bytes s ≡ input_line (codes "journal") place) }
 {
     placed(alloc, "journal", place)
 }
 
 /// The line that names a limit.
 pub(crate) fn limit_text(alloc: Global, limit: u32) -> Result<String, AllocError>
-    ensures { IfOk result (λ s. string_bytes s ≡ limit_text limit) }
+    ensures text { IfOk result (λ s. string_bytes s ≡ limit_text limit) }
 {
     format!(in alloc; "limit {limit}\n")
 }
 
 /// The line that names a line of a configuration.
 pub(crate) fn line_text(alloc: Global, line: u32) -> Result<String, AllocError>
-    ensures { IfOk result (λ s. string_bytes s ≡ line_text line) }
+    ensures text { IfOk result (λ s. string_bytes s ≡ line_text line) }
 {
     format!(in alloc; "input line {line}\n")
 }

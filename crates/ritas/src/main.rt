@@ -6,6 +6,7 @@ mod configs;
 mod drives;
 #[cfg(test)]
 mod fault_tests;
+mod host;
 #[cfg(test)]
 mod journal_tests;
 mod keys;

@@ -15,7 +15,7 @@ use std::sync::Wait;
 
 // The line that names a position.
 fn position_text(alloc: Global, position: u32) -> Result<String, AllocError>
-    ensures { IfOk result (λ s. string_bytes s ≡ submit_text (SubmitEnd.Position position)) }
+    ensures text { IfOk result (λ s. string_bytes s ≡ submit_text (SubmitEnd.Position position)) }
 {
     format!(in alloc; "position {position}\n")
 }

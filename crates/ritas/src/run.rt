@@ -35,6 +35,7 @@ ghost use Rattle.ritas.specs.Drives.{AnswersPlan};
 ghost use Rattle.ritas.specs.Statuses.{usage, text_limit, status_of, input_line, fault_text, fault_status};
 
 use crate::configs::do_read;
+use crate::host::Host;
 use crate::lines::{audit_status, fault_status, fault_text};
 use cluster_config::{Job, WordsFault, config_laws, read_words};
 use outside::{Disk, Link, Sink, Source, write_all};
@@ -64,7 +65,7 @@ pub(crate) fn finish<K: Sink>(output: &mut K, text: &[u8], status: u8) -> u8
 
 // Writes the line of a file's fault, which is none of the source or of memory.
 fn refuse<K: Sink>(alloc: Global, output: &mut K, fault: FileFault) -> u8
-    requires { is_outside fault ≡ false }
+    requires inside { is_outside fault ≡ false }
     ensures ends { Ends K.faults output.old output.new result }
     ensures replies { Replies K.tells K.taken output.old output.new result (fault_status fault) (fault_text fault) }
     ensures others { (result ≢ 0) × (result ≢ 1) × (result ≢ 2) × (result ≢ 4) × (result ≢ 6) }
@@ -129,8 +130,7 @@ fn refuse_words<K: Sink>(output: &mut K, fault: WordsFault) -> u8
 
 // Does a job.
 fn work<R: Net + Wait, S: Source, K: Sink, L: Link, D: Disk>(
-    rt: &R,
-    alloc: Global,
+    host: &Host<R>,
     job: Job,
     input: &mut S,
     output: &mut K,
@@ -160,9 +160,9 @@ fn work<R: Net + Wait, S: Source, K: Sink, L: Link, D: Disk>(
     ensures undriven { (what : DriveWhat) → job ≡ Job.Drive what → result ≡ 8 → output.new ≡ output.old }
 {
     match job {
-        Job::Replay(what) => reply(alloc, input, output, what),
+        Job::Replay(what) => reply(host.alloc, input, output, what),
         Job::Drive(_) | Job::Keys | Job::Node | Job::Cluster | Job::Submit => {
-            do_read(rt, alloc, job, input, output, link, disk)
+            do_read(host, job, input, output, link, disk)
         }
     }
 }
@@ -183,16 +183,16 @@ fn work<R: Net + Wait, S: Source, K: Sink, L: Link, D: Disk>(
 /// - `submit` starts the link with the addresses of nodes, hands a request to each, and writes the position that f + 1 of them reply, with
 ///   0, or that there was none, with 1.
 ///
-/// A file that isn't a schedule is answered with a line that names its first fault and the place of it, and 3, or 7 for one
-/// that is longer than 64 MiB. A text that isn't the job's configuration is answered with a line that names its first wrong or missing
-/// line, and 3, or 7 for one that is longer than 1 MiB; a plan whose schedule would have more than 4,000,000 steps, or a file of more than
-/// 64 MiB, with a line that names that limit, and 7. A journal that is another session's, or broken, is answered with a line that names the place,
-/// and 3, and one that is longer than 64 MiB with the limit, and 7; where it becomes so long while it is kept, it is 7 without a line. Other words are answered with a line on usage, and 2. It is 4 where a call of
-/// the input failed, and then nothing was written; 5 where one of the output failed, which took a front of the text; and 6 where one of the
-/// link failed, which only `node`, `cluster` and `submit` use. By its count of faults just one call failed then, and none at any other
-/// status. It is 9 where a call of the disk failed: then a front of the file was written, or nothing where the journal couldn't be opened. It is 8
-/// where memory ran out: then nothing was written of a report, of vectors or of a schedule that was made, and a front of
-/// frames or of what was served.
+/// A file that isn't a schedule is answered with a line that names its first fault and the place of it, and 3, or 7 for one that is longer
+/// than 64 MiB. A text that isn't the job's configuration is answered with a line that names its first wrong or missing line, and 3, or 7 for
+/// one that is longer than 1 MiB; a plan whose schedule would have more than 4,000,000 steps, or a file of more than 64 MiB, with a line that
+/// names that limit, and 7. A journal that is another session's, or broken, is answered with a line that names the place, and 3, and one that
+/// is longer than 64 MiB with the limit, and 7; where it becomes so long while it is kept, it is 7 without a line. Other words are answered
+/// with a line on usage, and 2. It is 4 where a call of the input failed, and then nothing was written; 5 where one of the output failed,
+/// which took a front of the text; and 6 where one of the link failed, which only `node`, `cluster` and `submit` use. By its count of faults
+/// just one call failed then, and none at any other status. It is 9 where a call of the disk failed: then a front of the file was written, or
+/// nothing where the journal couldn't be opened. It is 8 where memory ran out: then nothing was written of a report, of vectors or of a
+/// schedule that was made, and a front of frames or of what was served.
 ///
 /// Of a schedule all is read before 0 or 1, and of a configuration one byte more than 1 MiB at most.
 ///
@@ -318,8 +318,9 @@ pub fn run<R: Net + Wait, S: Source, K: Sink, L: Link, D: Disk>(
 {
     file_laws();
     config_laws();
+    let host = Host { rt, alloc };
     match read_words(alloc, words) {
-        Ok(job) => work(rt, alloc, job, input, output, link, disk),
+        Ok(job) => work(&host, job, input, output, link, disk),
         Err(fault) => refuse_words(output, fault),
     }
 }

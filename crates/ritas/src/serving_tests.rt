@@ -40,7 +40,7 @@ const REFUSAL: &[u8] = b"\x02\0\0\0\0\0\0\0\0\0\0\0\x08";
 fn add(items: &mut Vec<LinkItem>, item: LinkItem) -> Result<(), Mem>
     requires short { IsShort item }
     requires shorts { All IsShort items.old.items }
-    ensures { OnOk result (All IsShort items.new.items) }
+    ensures shorts { OnOk result (All IsShort items.new.items) }
 {
     items.push(item)?;
     Ok(())
@@ -48,7 +48,7 @@ fn add(items: &mut Vec<LinkItem>, item: LinkItem) -> Result<(), Mem>
 
 // A request that comes by two connections.
 pub(crate) fn twice(alloc: Global) -> Result<Vec<LinkItem>, Mem>
-    ensures { IfOk result (λ v. All IsShort v.items) }
+    ensures shorts { IfOk result (λ v. All IsShort v.items) }
 {
     let mut items = Vec::new(alloc);
     let bytes = Bytes::from_slice(alloc, REQUEST)?;
@@ -74,7 +74,7 @@ pub(crate) fn twice(alloc: Global) -> Result<Vec<LinkItem>, Mem>
 
 // A message of one byte.
 fn too_short(alloc: Global) -> Result<Vec<LinkItem>, Mem>
-    ensures { IfOk result (λ v. All IsShort v.items) }
+    ensures shorts { IfOk result (λ v. All IsShort v.items) }
 {
     let mut items = Vec::new(alloc);
     let bytes = Bytes::from_slice(alloc, b"\0")?;
@@ -89,11 +89,10 @@ fn too_short(alloc: Global) -> Result<Vec<LinkItem>, Mem>
     Ok(items)
 }
 
-// The status of the program with this word and this input over a link and a disk.
+// The status of a node with this configuration over a link and a disk.
 pub(crate) fn status_with<R: Net + Wait>(
     rt: &R,
     alloc: Global,
-    word: &str,
     text: &str,
     link: &mut MemLink,
     output: &mut MemSink,
@@ -101,7 +100,7 @@ pub(crate) fn status_with<R: Net + Wait>(
 ) -> Result<u8, Mem> {
     let mut words = Vec::new(alloc);
     words.push(String::from_str(alloc, "ritas")?)?;
-    words.push(String::from_str(alloc, word)?)?;
+    words.push(String::from_str(alloc, "node")?)?;
     let mut input = MemSource::new(alloc, text.as_bytes(), &[])?;
     Ok(run(rt, alloc, &words, &mut input, output, link, disk))
 }
@@ -110,13 +109,12 @@ pub(crate) fn status_with<R: Net + Wait>(
 fn status<R: Net + Wait>(
     rt: &R,
     alloc: Global,
-    word: &str,
     text: &str,
     link: &mut MemLink,
     output: &mut MemSink,
 ) -> Result<u8, Mem> {
     let mut disk = MemDisk::new(alloc, &[], 0, 0, &[])?;
-    status_with(rt, alloc, word, text, link, output, &mut disk)
+    status_with(rt, alloc, text, link, output, &mut disk)
 }
 
 // A header, the request, which is submitted once and makes thirty turns, and the end mark.
@@ -130,10 +128,7 @@ fn node_serves_a_request(rt: HostRuntime) -> Result<(), Fail> {
     let items = twice(rt.alloc())?;
     let mut link = MemLink::new(rt.alloc(), &items, &[])?;
     let mut output = MemSink::new(rt.alloc(), 1000, &[])?;
-    assert_eq!(rt;
-        status(&rt, rt.alloc(), "node", NODE, &mut link, &mut output)?,
-        0
-    );
+    assert_eq!(rt; status(&rt, rt.alloc(), NODE, &mut link, &mut output)?, 0);
     let file = served(rt.alloc())?;
     assert_eq!(rt; file.len(), 162);
     assert_eq!(rt; output.taken(), file.as_slice());
@@ -153,7 +148,7 @@ fn each_call_of_the_link_fails(rt: HostRuntime) -> Result<(), Fail> {
     for call in 0..8u64 {
         let mut link = MemLink::new(rt.alloc(), &items, &[call])?;
         let mut output = MemSink::new(rt.alloc(), 1000, &[])?;
-        let ended = status(&rt, rt.alloc(), "node", NODE, &mut link, &mut output)?;
+        let ended = status(&rt, rt.alloc(), NODE, &mut link, &mut output)?;
         assert_eq!(rt; ended, if call < 6 { 6 } else { 0 });
         assert_eq!(rt; output.taken().len() == 162, 6 <= call);
         assert!(rt; file.starts_with(output.taken()));
@@ -167,10 +162,7 @@ fn node_refuses_a_message(rt: HostRuntime) -> Result<(), Fail> {
     let items = too_short(rt.alloc())?;
     let mut link = MemLink::new(rt.alloc(), &items, &[])?;
     let mut output = MemSink::new(rt.alloc(), 1000, &[])?;
-    assert_eq!(rt;
-        status(&rt, rt.alloc(), "node", NODE, &mut link, &mut output)?,
-        0
-    );
+    assert_eq!(rt; status(&rt, rt.alloc(), NODE, &mut link, &mut output)?, 0);
     assert_eq!(rt; output.taken().len(), 93);
     let reply = link.replies().get(0).ok_or("no reply")?;
     assert!(rt; link.replies().len() == 1 && reply.to == 0);
@@ -189,7 +181,7 @@ fn node_serves_nothing(rt: HostRuntime) -> Result<(), Fail> {
         let mut link = MemLink::new(rt.alloc(), &[], fails)?;
         let mut output = MemSink::new(rt.alloc(), room, &[])?;
         assert_eq!(rt;
-            status(&rt, rt.alloc(), "node", NODE, &mut link, &mut output)?,
+            status(&rt, rt.alloc(), NODE, &mut link, &mut output)?,
             wanted
         );
         assert_eq!(rt; output.taken().len(), length);

@@ -23,7 +23,7 @@ use std::sync::Wait;
 
 // The status of serving that ended so.
 fn end_status(end: ServeEnd) -> u8
-    ensures { result ≡ end_status end }
+    ensures status { result ≡ end_status end }
 {
     match end {
         ServeEnd::Done | ServeEnd::Limit | ServeEnd::End => 0,
@@ -44,7 +44,7 @@ pub(crate) fn run_node<R: Net + Wait, K: Sink, L: Link, D: Disk>(
     link: &mut L,
     disk: &mut D,
 ) -> u8
-    requires { FitsNode (node_text config) }
+    requires fits { FitsNode (node_text config) }
     ensures runs { Runs K.faults output.old output.new (L.faults link.old) (L.faults link.new) result }
     ensures others { result ≢ 4 }
     ensures disk_counts { HasCause (D.faults disk.old) (D.faults disk.new) (result ≡ 9) }
@@ -68,7 +68,7 @@ pub(crate) fn run_cluster<R: Net + Wait, K: Sink, L: Link>(
     output: &mut K,
     link: &mut L,
 ) -> u8
-    requires { FitsCluster (cluster_text config) }
+    requires fits { FitsCluster (cluster_text config) }
     ensures runs { Runs K.faults output.old output.new (L.faults link.old) (L.faults link.new) result }
     ensures others { result ≢ 4 }
     ensures nine { result ≢ 9 }

@@ -2,6 +2,7 @@
 
 ghost use Rattle.std.specs.Prelude.{[], false};
 
+use crate::host::Host;
 use crate::run::run;
 use outside::{Failed, MemDisk, MemLink, MemSink, MemSource, Source};
 use std::alloc::Global;
@@ -90,21 +91,21 @@ fn words(alloc: Global, second: &str) -> Result<Vec<String>, Fail> {
 
 // The status, or 99 where the output isn't this text.
 fn status<R: Net + Wait>(
-    rt: &R,
-    alloc: Global,
+    host: &Host<R>,
     second: &str,
     file: &[u8],
     room: usize,
     fails: &[u64],
     text: &str,
 ) -> Result<u8, Fail> {
+    let alloc = host.alloc;
     let words = words(alloc, second)?;
     let mut input = MemSource::new(alloc, file, fails)?;
     let mut output = MemSink::new(alloc, room, &[])?;
     let mut link = MemLink::new(alloc, &[], &[])?;
     let mut disk = MemDisk::new(alloc, &[], 0, 0, &[])?;
     let status = run(
-        rt,
+        host.rt,
         alloc,
         &words,
         &mut input,
@@ -121,6 +122,10 @@ fn status<R: Net + Wait>(
 
 #[test]
 fn reports(rt: HostRuntime) -> Result<(), Fail> {
+    let host = Host {
+        rt: &rt,
+        alloc: rt.alloc(),
+    };
     for (file, text, wanted) in [
         (ALONE, ALONE_REPORT, 0),
         (OUTNUMBERED, OUTNUMBERED_REPORT, 1),
@@ -129,43 +134,36 @@ fn reports(rt: HostRuntime) -> Result<(), Fail> {
         (&ALONE[..70], "input truncated at 70\n", 3),
         (&ALONE[..3], "input truncated at 3\n", 3),
     ] {
-        assert_eq!(rt;
-            status(&rt, rt.alloc(), "report", file, 1000, &[], text)?,
-            wanted
-        );
+        assert_eq!(rt; status(&host, "report", file, 1000, &[], text)?, wanted);
     }
     Ok(())
 }
 
 #[test]
 fn frames(rt: HostRuntime) -> Result<(), Fail> {
+    let host = Host {
+        rt: &rt,
+        alloc: rt.alloc(),
+    };
     for (file, text, wanted) in [
         (ALONE, "audit holds\n", 0),
         (THREE, THREE_FRAMES, 0),
         (&ALONE[..70], "input truncated at 70\n", 3),
     ] {
-        assert_eq!(rt;
-            status(&rt, rt.alloc(), "frames", file, 2000, &[], text)?,
-            wanted
-        );
+        assert_eq!(rt; status(&host, "frames", file, 2000, &[], text)?, wanted);
     }
-    assert_eq!(rt;
-        status(&rt, rt.alloc(), "frames", THREE, 2000, &[1], "")?,
-        4
-    );
-    assert_eq!(rt;
-        status(&rt, rt.alloc(), "frames", THREE, 5, &[], "0 1 0")?,
-        5
-    );
+    assert_eq!(rt; status(&host, "frames", THREE, 2000, &[1], "")?, 4);
+    assert_eq!(rt; status(&host, "frames", THREE, 5, &[], "0 1 0")?, 5);
     Ok(())
 }
 
 #[test]
 fn other_words(rt: HostRuntime) -> Result<(), Fail> {
-    assert_eq!(rt;
-        status(&rt, rt.alloc(), "rapport", ALONE, 1000, &[0], USAGE)?,
-        2
-    );
+    let host = Host {
+        rt: &rt,
+        alloc: rt.alloc(),
+    };
+    assert_eq!(rt; status(&host, "rapport", ALONE, 1000, &[0], USAGE)?, 2);
     Ok(())
 }
 

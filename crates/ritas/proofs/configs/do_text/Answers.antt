@@ -5,9 +5,11 @@ use Rattle.ritas.proofs.configs.do_text.Goals as goal
 pub do_config-requires : goal.do_config-requires
 do_config-requires g c =
     let said = c.in-Ok.ensures in
-    fits_config c.args.job c.args.text.now c.in-Ok.config
-    (reads_job c.args.job c.args.text.now (Ok c.in-Ok.config) c.requires.job said.drive said.keys said.node said.cluster said.submit)
-    (c.config_ranges.ensures.node c.args.text.now) (c.config_ranges.ensures.cluster c.args.text.now)
+    record {
+      fits = fits_config c.args.job c.args.text.now c.in-Ok.config
+          (reads_job c.args.job c.args.text.now (Ok c.in-Ok.config) c.requires.job said.drive said.keys said.node said.cluster said.submit)
+          (c.config_ranges.ensures.node c.args.text.now) (c.config_ranges.ensures.cluster c.args.text.now);
+    }
 
 pub returns-in-Ok-clause-answers : goal.returns-in-Ok-clause-answers
 returns-in-Ok-clause-answers g c =

@@ -11,7 +11,7 @@ returns-in-Done-clause-answers g c = λ tells.
           let world = shows.shown h es file in
           let audit = rw c.in-Done.is at world.answer in
           record {
-            answer = λ own. c.audit_status.ensures ∙ ap audit_status audit;
+            answer = λ own. c.audit_status.ensures.status ∙ ap audit_status audit;
             whole = λ told own. world.whole told c.in-Done.audit c.in-Done.is;
             front = world.front;
           };
@@ -21,10 +21,10 @@ returns-in-Done-clause-answers g c = λ tells.
 
 pub returns-in-Done-clause-agree : goal.returns-in-Done-clause-agree
 returns-in-Done-clause-agree g c = λ tells none h es file.
-    let holds = holds_at_0 c.in-Done.audit (sym c.audit_status.ensures ∙ none) in
+    let holds = holds_at_0 c.in-Done.audit (sym c.audit_status.ensures.status ∙ none) in
     ((c.replay.ensures.shows tells).shown h es file).agree (rw holds at c.in-Done.is)
 
 pub returns-in-Done-clause-vectors : goal.returns-in-Done-clause-vectors
 returns-in-Done-clause-vectors g c = λ asked tells none h es file.
-    let holds = holds_at_0 c.in-Done.audit (sym c.audit_status.ensures ∙ none) in
+    let holds = holds_at_0 c.in-Done.audit (sym c.audit_status.ensures.status ∙ none) in
     rw asked at (((c.replay.ensures.shows tells).shown h es file).vectors asked (rw holds at c.in-Done.is))

@@ -9,18 +9,18 @@ pub returns-in-Ok-clause-answers : goal.returns-in-Ok-clause-answers
 returns-in-Ok-clause-answers g c =
     let e = c.in-Ok.ensures in
     both_served c.args.config (tells_of g.K.Sink g.L.Link) g.K.Sink.taken c.args.output.now c.serve_node.new.output _ _ _ _ _ c.in-Ok.end c.end_status.result
-    c.end_status.ensures e.served (λ none. (e.undisked none).0) e.kept
+    c.end_status.ensures.status e.served (λ none. (e.undisked none).0) e.kept
 
 pub returns-in-Ok-clause-runs : goal.returns-in-Ok-clause-runs
 returns-in-Ok-clause-runs g c =
     let e = c.in-Ok.ensures in
-    rw c.end_status.ensures (both_run g.K.Sink.faults c.args.output.now c.serve_node.new.output c.args.config (tells_of g.K.Sink g.L.Link) _ _ _ c.in-Ok.end refl refl
+    rw c.end_status.ensures.status (both_run g.K.Sink.faults c.args.output.now c.serve_node.new.output c.args.config (tells_of g.K.Sink g.L.Link) _ _ _ c.in-Ok.end refl refl
     e.served e.kept)
 
 pub returns-in-Ok-clause-disk_counts : goal.returns-in-Ok-clause-disk_counts
 returns-in-Ok-clause-disk_counts g c =
     let e = c.in-Ok.ensures in
-    rw c.end_status.ensures (both_count c.args.config (tells_of g.K.Sink g.L.Link) _ _ _ c.in-Ok.end e.served (λ none. ap g.D.Disk.faults (e.undisked none).0) e.kept)
+    rw c.end_status.ensures.status (both_count c.args.config (tells_of g.K.Sink g.L.Link) _ _ _ c.in-Ok.end e.served (λ none. ap g.D.Disk.faults (e.undisked none).0) e.kept)
 
 pub returns-in-Err-clause-answers : goal.returns-in-Err-clause-answers
 returns-in-Err-clause-answers g c =
