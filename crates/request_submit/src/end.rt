@@ -1,7 +1,6 @@
 //! How handing in a request ends.
 
 use outside::LinkFault;
-use ritas_base::Mem;
 
 /// How handing in a request ended.
 #[derive(Clone, Copy, Debug, PartialEq, Eq)]
@@ -14,17 +13,6 @@ pub enum SubmitEnd {
     LinkFault,
     /// There was not enough memory.
     Mem,
-}
-
-impl From<Mem> for SubmitEnd {
-    ghost use Rattle.std.specs.Prelude.{◌≡◌};
-    ghost use Rattle.request_submit.specs.declared.end.SubmitEnd.TheVariants as ends;
-
-    ghost from_gives = { λ _ end. end ≡ ends.Mem };
-
-    fn from(_: Mem) -> SubmitEnd {
-        SubmitEnd::Mem
-    }
 }
 
 impl From<LinkFault> for SubmitEnd {
