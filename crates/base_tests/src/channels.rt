@@ -1,7 +1,7 @@
 //! Tests of `keyed_channel`: a channel in both versions, with the states of its keys, against the calls that take the keys alone.
 
 use crate::dealt::{ABC, ENTRY, FRAME, FRAME_2, SLOT, dealt};
-use keyed_channel::{Channel, Keys, OpenFault, Opened};
+use keyed_channel::{Channel, OpenFault, Opened};
 use ritas_base::{Bytes, FrameVersion, Mem, Tagger};
 use std::alloc::Global;
 use std::process::Abort;
@@ -55,21 +55,23 @@ fn a_channel_tags(rt: HostRuntime) -> Result<(), Fail> {
     Ok(())
 }
 
-// Whether the entries of replica 1 for another one, and of that one for it, are those that its keys alone give.
-fn has_entries(channel: &Channel, keys: &Keys, other: u8) -> bool {
-    other < 31
-        && channel.entry(&SLOT, 1, other, ABC) == keys.entry(&SLOT, 1, other, ABC)
-        && channel.entry(&SLOT, other, 1, ABC) == keys.entry(&SLOT, other, 1, ABC)
-}
-
-// The last of them has no key of its own in a session of four.
+// The entries of replica 1 for another one, and of that one for it, are those that its keys alone give. The last of the others has
+// no key of its own in a session of four.
 #[test]
 fn entries_of_a_channel(rt: HostRuntime) -> Result<(), Fail> {
     let keys = dealt(&rt, 1);
     let channel = Channel::new(rt.alloc(), keys)?;
     assert_eq!(rt; keys.me(), 1);
+    assert_eq!(rt; Tagger::me(&channel), 1);
     for other in [0_u8, 1, 2, 3, 4, 30] {
-        assert!(rt; has_entries(&channel, &keys, other), "of {other}");
+        assert!(rt; other < 31);
+        let given = channel.entry(&SLOT, 1, other, ABC);
+        assert_eq!(rt;
+            given.as_slice(),
+            keys.entry(&SLOT, 1, other, ABC).as_slice()
+        );
+        let got = channel.entry(&SLOT, other, 1, ABC);
+        assert_eq!(rt; got.as_slice(), keys.entry(&SLOT, other, 1, ABC).as_slice());
     }
     Ok(())
 }
