@@ -1,5 +1,5 @@
 -- Why a journal couldn't be opened.
-use Rattle.std.proofs.Common.{◌≡◌, ℕ, ◌<◌, ◌^◌, ◌==◌, true, List, length, Result, Err, ap, subst}
+use Rattle.std.proofs.Common.{◌≡◌, ℕ, ◌+◌, ◌<◌, ◌^◌, ◌==◌, true, List, length, Result, Err, ap, subst}
 use Rattle.std.proofs.lemmas.Nat.Bits.{bit_at-pow_same}
 use Rattle.outside.specs.Disks.{LeavesOnly, disk_state_of}
 use Rattle.outside.specs.Faults.{HasCause}
