@@ -42,6 +42,6 @@ mod votes;
 
 pub use front::{RequestFront, read_front};
 pub use laws::{position_is_true, replies_are_read, requests_are_read};
-pub use reply::{write_refusal, write_reply};
+pub use reply::{REPLY_LEN, write_refusal, write_reply};
 pub use request::{RequestView, read_request, write_request};
 pub use votes::{ReplyFault, Votes};

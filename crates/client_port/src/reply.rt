@@ -4,7 +4,7 @@ ghost use Rattle.std.specs.Prelude.{◌≡◌};
 ghost use Rattle.client_port.specs.Messages.{position_reply, refusal_reply, reply_bytes};
 
 /// The bytes of a reply.
-pub(crate) const REPLY_LEN: usize = 13;
+pub const REPLY_LEN: usize = 13;
 
 /// The form of a reply that gives a position, its first byte.
 pub(crate) const POSITION: u8 = 1;
@@ -23,14 +23,14 @@ fn reply(form: u8, client: u32, request: u32, number: u32) -> [u8; REPLY_LEN]
 }
 
 /// The reply that a client's request stands at this position of the log.
-pub fn write_reply(client: u32, request: u32, pos: u32) -> [u8; 13]
+pub fn write_reply(client: u32, request: u32, pos: u32) -> [u8; REPLY_LEN]
     ensures { result ≡ position_reply client request pos }
 {
     reply(POSITION, client, request, pos)
 }
 
 /// The reply that a client's request is refused, with the number of the fault.
-pub fn write_refusal(client: u32, request: u32, code: u32) -> [u8; 13]
+pub fn write_refusal(client: u32, request: u32, code: u32) -> [u8; REPLY_LEN]
     ensures { result ≡ refusal_reply client request code }
 {
     reply(REFUSAL, client, request, code)

@@ -1,6 +1,6 @@
 //! How many bytes of a row have a value.
 
-ghost use Rattle.std.specs.Prelude.{◌≡◌, ◌≤◌, length};
+ghost use Rattle.std.specs.Prelude.{◌≡◌, ◌<◌, ◌≤◌, length};
 ghost use Rattle.vote_lanes.specs.Plain.{equal_places};
 
 use std::simd::prelude::*;
@@ -21,7 +21,7 @@ fn count_in_lane(lane: &[u8], v: u8) -> u32
 
 // How many bytes of what is less than a lane have the value.
 fn count_in_rest(rest: &[u8], v: u8) -> u32
-    requires { length rest.now ≤ 31 }
+    requires { length rest.now < LANE }
     ensures { result ≡ equal_places rest.now v }
 {
     rest.iter().filter(|byte| **byte == v).count() as u32
