@@ -41,6 +41,13 @@ impl Buffer {
         &self.bytes
     }
 
+    /// It took nothing any more. Its memory stays with it, for what comes, and so does its count of faults.
+    pub fn clear(&mut self)
+        ensures { self.new ≡ record self.old { taken = [] } }
+    {
+        self.bytes.clear()
+    }
+
     /// How many bytes were taken.
     pub fn len(&self) -> usize
         ensures { result ≡ length self.now.taken }
