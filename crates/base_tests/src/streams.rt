@@ -18,7 +18,7 @@ fn a_source_fails_once(rt: HostRuntime) -> Result<(), Fail> {
     Ok(())
 }
 
-// A text through each form in memory.
+// A text through each form in memory. A buffer that is emptied takes again.
 #[test]
 fn goes_through_memory(rt: HostRuntime) -> Result<(), Fail> {
     let mut source = MemSource::new(rt.alloc(), b"abcde", &[])?;
@@ -29,6 +29,10 @@ fn goes_through_memory(rt: HostRuntime) -> Result<(), Fail> {
     assert_eq!(rt; write_all(&mut buffer, sink.taken()), Ok(()));
     assert_eq!(rt; (buffer.taken(), buffer.len()), (b"abcde".as_slice(), 5));
     assert_eq!(rt; sink.write(b"f"), Err(Failed));
+    buffer.clear();
+    assert_eq!(rt; buffer.len(), 0);
+    assert_eq!(rt; write_all(&mut buffer, b"fg"), Ok(()));
+    assert_eq!(rt; buffer.taken(), b"fg".as_slice());
     Ok(())
 }
 

@@ -1,6 +1,6 @@
 //! Appending to a journal: events are written behind a closed gate, and kept once it is open.
 
-ghost use Rattle.std.specs.Prelude.{◌≡◌, ◌<◌, ◌≤◌, ◌+◌, ◌-◌, ◌++◌, ◌∷◌, ◌^◌, ◌↔◌, ◌⊎◌, [], ℕ, List, true, false, length, min, reverse, Err, IfOk, OnOk, IsOk, IsErr, IsTrue};
+ghost use Rattle.std.specs.Prelude.{◌≡◌, ◌<◌, ◌≤◌, ◌+◌, ◌-◌, ◌++◌, ◌∷◌, ◌^◌, ◌↔◌, ◌⊎◌, [], ℕ, List, true, false, length, min, reverse, Err, OnOk, IsOk, IsErr, IsTrue};
 ghost use Rattle.std.specs.List.{flat_map, AllByRecursion};
 ghost use Rattle.outside.specs.Faults.{HasCause};
 ghost use Rattle.outside.specs.Disks.{disk_state_of};
@@ -17,12 +17,17 @@ use std::alloc::Global;
 use std::marker::Model;
 use std::slice;
 
-/// A journal that was opened. Contracts see the offset of its closed gate, its replica, and whether it's live.
+// A buffer gives its memory back where a group filled more of it than 1 MiB.
+const MOST_KEPT: usize = 1_048_576;
+
+/// A journal that was opened. Contracts see the offset of its closed gate, its replica, and whether it's live; not the buffer in
+/// which the records of a group are put together, whose memory stays for the next one.
 #[derive(Drop)]
 pub struct Journal {
     end: u64,
     me: u8,
     live: bool,
+    text: Buffer,
 }
 
 impl Model for Journal {
@@ -47,21 +52,28 @@ fn add_record(text: &mut Buffer, me: u8, ev: &Event) -> Result<(), Failed>
     Writer::event(text, ev)
 }
 
-// The records of events, and a closed gate.
-fn with_records(alloc: Global, me: u8, events: &[Event]) -> Result<Buffer, Mem>
+// Fills a buffer anew, with the records of events and a closed gate.
+fn fill(text: &mut Buffer, me: u8, events: &[Event]) -> Result<(), Mem>
     requires { AllByRecursion (IsRecord me) events.now }
-    ensures { IfOk result (λ b. b.taken ≡ flat_map record_text events.now ++ 0 ∷ []) }
+    ensures { OnOk result (text.new.taken ≡ flat_map record_text events.now ++ 0 ∷ []) }
 {
-    let mut text = Buffer::new(alloc);
+    text.clear();
     for ev in events {
-        if add_record(&mut text, me, ev).is_err() {
+        if add_record(text, me, ev).is_err() {
             return Err(Mem);
         }
     }
-    if write_all(&mut text, &[0]).is_err() {
+    if write_all(text, &[0]).is_err() {
         return Err(Mem);
     }
-    Ok(text)
+    Ok(())
+}
+
+// Gives the memory of a buffer back, where much of it is filled.
+fn give_back(text: &mut Buffer, alloc: Global) {
+    if text.len() > MOST_KEPT {
+        *text = Buffer::new(alloc);
+    }
 }
 
 // How long a file is with these records behind so many bytes, up to 2^64 - 1.
@@ -90,8 +102,8 @@ fn keep<D: Disk>(disk: &mut D, gate: u64, text: &[u8]) -> Result<(), Failed>
 }
 
 impl Journal {
-    // A journal whose closed gate stands at this offset.
-    pub(crate) fn at(end: u64, me: u8) -> Journal
+    // A journal whose closed gate stands at this offset. It takes no memory.
+    pub(crate) fn at(alloc: Global, end: u64, me: u8) -> Journal
         requires { end < limit }
         ensures { result ≡ record { end = end; me = me; live = true } }
     {
@@ -99,6 +111,7 @@ impl Journal {
             end,
             me,
             live: true,
+            text: Buffer::new(alloc),
         }
     }
 
@@ -157,8 +170,9 @@ impl Journal {
             return Ok(());
         }
         self.live = false;
-        let text = with_records(alloc, self.me, events)?;
-        keep(disk, self.end, &text.taken()[1..])?;
+        fill(&mut self.text, self.me, events)?;
+        keep(disk, self.end, &self.text.taken()[1..])?;
+        give_back(&mut self.text, alloc);
         self.end = size - 1;
         self.live = true;
         Ok(())

@@ -109,12 +109,12 @@ fn open_file<D: Disk>(
 {
     if is_unmade(file) {
         return match make(disk, file, head) {
-            Ok(()) => Ok((Journal::at(52, me), Vec::new(alloc))),
+            Ok(()) => Ok((Journal::at(alloc, 52, me), Vec::new(alloc))),
             Err(Failed) => Err(JournalFault::Disk),
         };
     }
     match decode(alloc, me, file, head) {
-        Ok((events, end)) => Ok((Journal::at(end as u64, me), events)),
+        Ok((events, end)) => Ok((Journal::at(alloc, end as u64, me), events)),
         Err(fault) => Err(fault),
     }
 }
