@@ -1,4 +1,5 @@
 pub mod SlotMaps
+pub mod Places
 pub mod Keys
 pub mod Arena
 pub mod Lends

@@ -1,8 +1,9 @@
--- Worked rows: which slots a drop takes.
-use Rattle.std.specs.Prelude.{◌≡◌, ℕ, true, false, refl}
+-- Worked rows: which slots a drop takes, and at which place a slot stands.
+use Rattle.std.specs.Prelude.{◌≡◌, ℕ, ◌+◌, ◌*◌, true, false, refl}
 use Rattle.ritas_base.specs.declared.slot.Slot.{Slot}
 use Rattle.ritas_base.specs.Slots.{command_slot}
 use Rattle.instance_tree.specs.SlotMaps.{is_before_round, is_command_below}
+use Rattle.instance_tree.specs.Places.{place_in_ring, cell_of, place_in_origin}
 
 abbrev at : ℕ → ℕ → Slot
 at class a = record { class = class; a = a; attempt = 0; bround = 0; step = 0; origin = 3 }
@@ -37,3 +38,41 @@ origin_row = refl
 
 of_round_row : is_command_below 3 7 (at 2 6) ≡ false
 of_round_row = refl
+
+-- commands stand 128 apart at one place, and all of an origin's in its first map
+ring_row : place_in_ring 128 (command_slot 3 130) ≡ 2
+ring_row = refl
+
+first_row : place_in_origin (command_slot 3 130) ≡ 0
+first_row = refl
+
+-- of the other classes each has cells of its own, by the round
+abbrev step_at : ℕ → ℕ → ℕ → ℕ → Slot
+step_at a attempt bround step = record { class = 5; a = a; attempt = attempt; bround = bround; step = step; origin = 3 }
+
+vector_row : cell_of (at 2 6) ≡ 2 * 16 + 6
+vector_row = refl
+
+multivalued_row : cell_of (at 3 6) ≡ 3 * 16 + 6
+multivalued_row = refl
+
+vect_row : cell_of (at 4 6) ≡ 6
+vect_row = refl
+
+-- and so has each step of binary consensus
+step_row : cell_of (step_at 6 0 0 3) ≡ 7 * 16 + 6
+step_row = refl
+
+-- a binary round has eight kinds, and a try has four binary rounds
+bround_row : cell_of (step_at 6 0 1 3) ≡ (8 + 7) * 16 + 6
+bround_row = refl
+
+attempt_row : cell_of (step_at 6 1 1 3) ≡ (5 * 8 + 7) * 16 + 6
+attempt_row = refl
+
+-- rounds 16 apart share a cell, and so do tries and binary rounds 4 apart
+shared_row : cell_of (step_at 22 5 5 3) ≡ cell_of (step_at 6 1 1 3)
+shared_row = refl
+
+cell_row : place_in_origin (at 2 6) ≡ 1 + (2 * 16 + 6)
+cell_row = refl

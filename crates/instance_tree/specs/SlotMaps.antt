@@ -22,6 +22,14 @@ is_before_round round s = within 2 5 s.class && nat_lt s.a round
 abbrev pub is_command_below : ℕ → ℕ → Slot → Bool
 is_command_below origin below s = (s.class == 1 && s.origin == origin) && nat_lt s.a below
 
+-- the same of any origin
+abbrev pub is_numbered_command : ℕ → Slot → Bool
+is_numbered_command below s = s.class == 1 && nat_lt s.a below
+
+-- a slot whose number is below this one
+abbrev pub is_numbered_below : ℕ → Slot → Bool
+is_numbered_below bound s = nat_lt s.a bound
+
 -- a slot is stored as the tuple of its fields
 abbrev pub slot_code : Coded Slot
 slot_code =

@@ -1,12 +1,14 @@
 //! Under which key of the arena the value of each slot stands.
 
-ghost use Rattle.std.specs.Prelude.{◌≡◌, ℕ, None, OnOk, OnErr, position};
-ghost use Rattle.ritas_base.specs.declared.slot.Slot.{Slot};
-ghost use Rattle.ritas_base.specs.SlotOrder.{slot_cmp, is_slot};
-ghost use Rattle.std.specs.FinMap.{empty, get, insert, find};
+ghost use Rattle.std.specs.Prelude.{◌≡◌, None, OnOk, OnErr};
+ghost use Rattle.ritas_base.specs.Slots.{within};
+ghost use Rattle.std.specs.FinMap.{empty, get, insert};
 ghost use Rattle.instance_tree.specs.SlotMaps.{is_before_round, is_command_below};
 ghost use Rattle.instance_tree.specs.Keys.{TakesOut};
 
+use crate::origin::ROUNDS;
+use crate::origins::Origins;
+use crate::ring::Ring;
 use ritas_base::{Mem, Slot};
 use std::alloc::Global;
 use std::marker::Model;
@@ -14,24 +16,26 @@ use std::marker::Model;
 /// The key of each slot that has one.
 #[derive(Drop)]
 pub(crate) struct Keys {
-    spots: Vec<(Slot, usize)>,
+    slots: Origins,
+    // The slots of rounds once more, by which those that are past are found.
+    rounds: Ring,
 }
 
 impl Model for Keys {
     ghost use Rattle.std.specs.Prelude.{ℕ};
     ghost use Rattle.std.specs.Coded.{coded_ℕ};
-    ghost use Rattle.std.specs.FinMap.{FinMap, code, from_entries};
+    ghost use Rattle.std.specs.FinMap.{FinMap, code};
     ghost use Rattle.ritas_base.specs.SlotOrder.{slot_cmp};
     ghost use Rattle.instance_tree.specs.SlotMaps.{slot_code};
-    ghost use Rattle.instance_tree.specs.Keys.{AreApart};
+    ghost use Rattle.instance_tree.specs.Keys.{AreOfRounds};
 
     ghost Value = { FinMap slot_cmp ℕ };
 
     ghost coded = { code slot_code coded_ℕ };
 
-    ghost view = { λ k. from_entries k.spots.items };
+    ghost view = { λ k. k.slots };
 
-    ghost invariant = { λ k. AreApart k.spots.items };
+    ghost invariant = { λ k. AreOfRounds k.slots k.rounds };
 }
 
 impl Keys {
@@ -40,7 +44,8 @@ impl Keys {
         ensures { result ≡ empty }
     {
         Keys {
-            spots: Vec::new(alloc),
+            slots: Origins::new(alloc),
+            rounds: Ring::new(alloc, ROUNDS),
         }
     }
 
@@ -48,7 +53,7 @@ impl Keys {
     pub(crate) fn find(&self, slot: &Slot) -> Option<usize>
         ensures { result ≡ get self.now slot.now }
     {
-        find_in(self.spots.as_slice(), slot)
+        self.slots.find(slot)
     }
 
     /// Gives a slot a key, where it has none. The one error is want of memory, and all stays as it was then.
@@ -57,7 +62,14 @@ impl Keys {
         ensures ok { OnOk result (self.new ≡ insert self.old slot key) }
         ensures err { OnErr result (self.new ≡ self.old) }
     {
-        self.spots.push((slot, key))?;
+        self.slots.insert(slot, key)?;
+        if !is_of_round(&slot) {
+            return Ok(());
+        }
+        if self.rounds.insert(slot, key).is_err() {
+            self.slots.remove(&slot);
+            return Err(Mem);
+        }
         Ok(())
     }
 
@@ -65,8 +77,9 @@ impl Keys {
     pub(crate) fn take_before(&mut self, round: u32) -> Option<usize>
         ensures { TakesOut (is_before_round round) self.old self.new result }
     {
-        let at = place_before(self.spots.as_slice(), round)?;
-        Some(self.spots.remove(at).1)
+        let (slot, key) = self.rounds.take_below(round)?;
+        self.slots.remove(&slot);
+        Some(key)
     }
 
     /// Takes out the slot of a command of this origin that is numbered below, and answers its key; `None` where there is no
@@ -74,56 +87,14 @@ impl Keys {
     pub(crate) fn take_command(&mut self, origin: u8, below: u32) -> Option<usize>
         ensures { TakesOut (is_command_below origin below) self.old self.new result }
     {
-        let at = place_of_command(self.spots.as_slice(), origin, below)?;
-        Some(self.spots.remove(at).1)
+        let (_, key) = self.slots.take_command(origin, below)?;
+        Some(key)
     }
 }
 
-// Whether two slots are one.
-fn is_same(slot: &Slot, other: &Slot) -> bool
-    ensures { result ≡ is_slot slot.now other.now }
+// Whether the slot is of one of the classes that belong to rounds.
+fn is_of_round(slot: &Slot) -> bool
+    ensures { result ≡ within 2 5 slot.now.class }
 {
-    slot == other
-}
-
-// The key that stands beside a slot.
-fn find_in(spots: &[(Slot, usize)], slot: &Slot) -> Option<usize>
-    ensures { result ≡ find slot_cmp slot.now spots.now }
-{
-    for spot in spots {
-        if is_same(slot, &spot.0) {
-            return Some(spot.1);
-        }
-    }
-    None
-}
-
-// The first place of a slot of a round before this one.
-fn place_before(spots: &[(Slot, usize)], round: u32) -> Option<usize>
-    ensures { result ≡ position (λ (e : Slot × ℕ). is_before_round round e.0) spots.now }
-{
-    spots.iter().position(|spot| is_before(&spot.0, round))
-}
-
-// The first place of a command of this origin with a lesser number.
-fn place_of_command(spots: &[(Slot, usize)], origin: u8, below: u32) -> Option<usize>
-    ensures { result ≡ position (λ (e : Slot × ℕ). is_command_below origin below e.0) spots.now }
-{
-    spots
-        .iter()
-        .position(|spot| is_command_below(&spot.0, origin, below))
-}
-
-// Whether the slot is one of a round before this one.
-fn is_before(slot: &Slot, round: u32) -> bool
-    ensures { result ≡ is_before_round round slot.now }
-{
-    slot.class >= 2 && slot.class <= 5 && slot.a < round
-}
-
-// Whether the slot is that of a command of this origin with a lesser number.
-fn is_command_below(slot: &Slot, origin: u8, below: u32) -> bool
-    ensures { result ≡ is_command_below origin below slot.now }
-{
-    slot.class == 1 && slot.origin == origin && slot.a < below
+    slot.class >= 2 && slot.class <= 5
 }

@@ -19,9 +19,19 @@
 //! Contracts see a `Tree` as a finite map (`specs/SlotMaps.antt`), and say of each call which map it leaves, for every slot
 //! there is. Values stand in an arena (`slab`), so none moves when another comes or goes. The keys by which the arena
 //! knows them are never shown.
+//!
+//! A key is found through tables: by origin, and then by the number of a command, or by the other fields of a slot. Rounds,
+//! tries and binary rounds are taken modulo some window; what shares a place there stands in a short list. The slots of
+//! rounds stand in a second table by round, so a drop looks at no slot that stays, but for those that share a place with one
+//! that goes. Tables grow to the places that were used, and keep their memory.
 #![tactic(auto)]
 
+mod bucket;
+mod buckets;
 mod keys;
+mod origin;
+mod origins;
+mod ring;
 #[cfg(test)]
 mod tests;
 mod tree;

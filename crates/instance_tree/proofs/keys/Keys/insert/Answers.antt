@@ -1,18 +1,31 @@
-use Rattle.std.proofs.Common.{subst, sym, ap, ◌∙◌}
-use Rattle.std.specs.FinMap.{insert, get}
-use Rattle.instance_tree.specs.Keys.{AreApart}
-use Rattle.instance_tree.proofs.Spots.{map_of, push_keeps_apart, push_inserts}
+use Rattle.std.proofs.Common.{◌≡◌, sym, ap, ◌∙◌, ℕ}
+use Rattle.std.specs.FinMap.{get, insert}
+use Rattle.instance_tree.specs.SlotMaps.{SlotMap}
+use Rattle.instance_tree.proofs.Joined.{err_holds, ok_holds}
+use Rattle.instance_tree.proofs.Rounds.{first_inserted, both_inserted, inserted_removed, rounds_same}
 use Rattle.instance_tree.proofs.keys.Keys.insert.Goals as goal
 
-pub invariant_of-self-2 : goal.invariant_of-self-2
-invariant_of-self-2 c =
-    let es = c.self.inside.spots.items in
-    subst AreApart (sym c.in_ok-push.ensures.items)
-    (push_keeps_apart es c.args.slot c.args.key (ap (λ m. get m c.args.slot) c.self.view_is ∙ c.requires) c.self.invariant)
+pub invariant_of-self-then-not-is_of_round : goal.invariant_of-self-then-not-is_of_round
+invariant_of-self-then-not-is_of_round c =
+    first_inserted c.self.inside.slots c.self.inside.rounds c.args.slot c.self.invariant c.insert.new.self c.args.key
+    (sym c.is_of_round.ensures ∙ c.if-not-is_of_round.true) c.in_ok-insert.ensures.ok
 
-pub returns-clause-ok : goal.returns-clause-ok
-returns-clause-ok c =
-    let es = c.self.inside.spots.items in
-    ap map_of c.in_ok-push.ensures.items
-    ∙ push_inserts es c.args.slot c.args.key (ap (λ m. get m c.args.slot) c.self.view_is ∙ c.requires)
-    ∙ ap (λ m. insert m c.args.slot c.args.key) c.self.view_is
+pub invariant_of-self-then-is_err : goal.invariant_of-self-then-is_err
+invariant_of-self-then-is_err c =
+    let none = ap (λ (m : SlotMap ℕ). get m c.args.slot) c.self.view_is ∙ c.requires in
+    rounds_same c.self.inside.slots c.self.inside.rounds c.remove.new.self c.insert-2.new.self c.self.invariant
+    (inserted_removed c.self.inside.slots c.insert.new.self c.remove.new.self c.args.slot c.args.key none c.in_ok-insert.ensures.ok c.remove.ensures)
+    (err_holds c.insert-2.result (c.insert-2.new.self ≡ c.self.inside.rounds) (sym c.is_err.ensures.value ∙ c.if-is_err.true) c.insert-2.ensures.err)
+
+pub returns-then-is_err-clause-err : goal.returns-then-is_err-clause-err
+returns-then-is_err-clause-err c =
+    let none = ap (λ (m : SlotMap ℕ). get m c.args.slot) c.self.view_is ∙ c.requires in
+    inserted_removed c.self.inside.slots c.insert.new.self c.remove.new.self c.args.slot c.args.key none c.in_ok-insert.ensures.ok c.remove.ensures
+    ∙ c.self.view_is
+
+pub invariant_of-self-else-is_err : goal.invariant_of-self-else-is_err
+invariant_of-self-else-is_err c =
+    both_inserted c.self.inside.slots c.self.inside.rounds c.args.slot c.self.invariant c.insert.new.self c.insert-2.new.self c.args.key
+    (sym c.is_of_round.ensures ∙ c.if-not-is_of_round.false) c.in_ok-insert.ensures.ok
+    (ok_holds c.insert-2.result (c.insert-2.new.self ≡ insert c.self.inside.rounds c.args.slot c.args.key) (sym c.is_err.ensures.value ∙ c.if-is_err.false)
+    c.insert-2.ensures.ok)

@@ -1,32 +1,13 @@
-use Rattle.std.proofs.Common.{◌≡◌, refl, subst, sym, ap, ◌∙◌, Option, ℕ, Bool, List}
-use Rattle.std.specs.Prelude.{position}
-use Rattle.std.specs.FinMap.{get}
-use Rattle.ritas_base.specs.declared.slot.Slot.{Slot}
-use Rattle.instance_tree.specs.SlotMaps.{SlotMap, is_before_round}
-use Rattle.instance_tree.specs.Keys.{TakesOut, TakesSlotOut}
-use Rattle.instance_tree.proofs.Spots.{Spot, map_of, takes_none, takes_seen, apart_taken}
+use Rattle.std.proofs.Common.{Option, subst}
+use Rattle.instance_tree.specs.SlotMaps.{is_numbered_below}
+use Rattle.instance_tree.specs.Keys.{KeyedSlot, TakesSpotOut}
+use Rattle.instance_tree.proofs.Rounds.{both_removed, had_round}
 use Rattle.instance_tree.proofs.keys.Keys.take_before.Goals as goal
 
-pub returns-in_err-at : goal.returns-in_err-at
-returns-in_err-at c =
-    let es = c.self.inside.spots.items in
-    let gone : Slot → Bool = is_before_round c.args.round in
-    let place = c.place_before.ensures ∙ ap (λ (l : List Spot). position (λ (e : Spot). gone e.0) l) c.as_slice.ensures.value in
-    let none = takes_none gone es (sym place ∙ c.in_err-at.was) in
-    subst (λ (o : Option ℕ). TakesOut gone c.args.self.now c.args.self.now o) (sym c.from_residual.ensures)
-    (refl, λ s passes. sym (ap (λ (m : SlotMap ℕ). get m s) c.self.view_is) ∙ none s passes)
-
-pub invariant_of-self : goal.invariant_of-self
-invariant_of-self c =
-    let es = c.self.inside.spots.items in
-    let gone : Slot → Bool = is_before_round c.args.round in
-    let place = c.place_before.ensures ∙ ap (λ (l : List Spot). position (λ (e : Spot). gone e.0) l) c.as_slice.ensures.value in
-    apart_taken gone es _ c.in_ok-at.at c.remove.result c.self.invariant (sym place ∙ c.in_ok-at.was) c.remove.ensures.items
-
-pub returns : goal.returns
-returns c =
-    let es = c.self.inside.spots.items in
-    let gone : Slot → Bool = is_before_round c.args.round in
-    let place = c.place_before.ensures ∙ ap (λ (l : List Spot). position (λ (e : Spot). gone e.0) l) c.as_slice.ensures.value in
-    subst (λ (m : SlotMap ℕ). TakesSlotOut gone m (map_of c.remove.new.self.items) c.remove.result.1) c.self.view_is
-    (takes_seen gone es _ c.in_ok-at.at c.remove.result c.self.invariant (sym place ∙ c.in_ok-at.was) c.remove.ensures.items c.remove.ensures.value)
+pub invariant_of-self-2 : goal.invariant_of-self-2
+invariant_of-self-2 c =
+    let slots = c.self.inside.slots in
+    let rounds = c.self.inside.rounds in
+    let takes = subst (λ (o : Option KeyedSlot). TakesSpotOut (is_numbered_below c.args.round) rounds c.take_below.new.self o) c.in_ok-slot.was c.take_below.ensures in
+    both_removed slots rounds c.in_ok-slot.slot c.self.invariant c.remove.new.self c.take_below.new.self
+    (had_round slots rounds c.in_ok-slot.slot c.in_ok-slot.key c.self.invariant takes.had).0 c.remove.ensures takes.taken

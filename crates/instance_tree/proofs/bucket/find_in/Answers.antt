@@ -1,6 +1,6 @@
 use Rattle.std.proofs.Common.{sym, ◌∙◌}
 use Rattle.instance_tree.proofs.Spots.{found_here, found_later, found_nowhere}
-use Rattle.instance_tree.proofs.keys.find_in.Goals as goal
+use Rattle.instance_tree.proofs.bucket.find_in.Goals as goal
 
 pub returns-then-is_same : goal.returns-then-is_same
 returns-then-is_same c =

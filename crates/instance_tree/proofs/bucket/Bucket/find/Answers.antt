@@ -1,8 +1,8 @@
-use Rattle.std.proofs.Common.{sym, ◌∙◌, ap}
+use Rattle.std.proofs.Common.{◌∙◌, ap}
 use Rattle.std.specs.FinMap.{find, get}
 use Rattle.ritas_base.specs.SlotOrder.{slot_cmp}
-use Rattle.instance_tree.proofs.Spots.{map_of, found_as_map}
-use Rattle.instance_tree.proofs.keys.Keys.find.Goals as goal
+use Rattle.instance_tree.proofs.Spots.{found_as_map}
+use Rattle.instance_tree.proofs.bucket.Bucket.find.Goals as goal
 
 pub returns : goal.returns
 returns c =
