@@ -35,7 +35,7 @@ use Rattle.node_loop.specs.ServedKept.{EndsKept, ServesKept}
 use Rattle.node_loop.specs.Serving.{Serving, so_far, Want}
 use Rattle.node_loop.specs.Standing.{HouseStands}
 use Rattle.node_loop.proofs.Grouping.{text_parts}
-use Rattle.node_loop.proofs.Rounding.{runs_first, no_group}
+use Rattle.node_loop.proofs.Gathering.{runs_first}
 use Rattle.node_loop.proofs.Serverwise.{agrees_none}
 
 -- ---- the events of a journal
@@ -85,7 +85,8 @@ module _ (tells : Tells) (base : Outs) (taken : List ℕ) (count : ℕ) (past : 
 
   order_with : (now : Outs) (fault : Fault) (es : List Event) (sooner : List LinkAct) → InOrder tells mid now fault es sooner → InOrder tells base now fault (es ++ past) sooner
   order_with now faults.Tape es sooner order = order
-  order_with now faults.Link es sooner order = all_with now es order
+  order_with now faults.Link es sooner (inl written) = inl (all_with now es written)
+  order_with now faults.Link es sooner (inr none) = inr none
   order_with now faults.Mem es sooner (inl written) = inl (all_with now es written)
   order_with now faults.Mem es sooner (inr none) = inr none
   order_with now faults.Disk es sooner order = (all_with now es order.0, order.1)
@@ -132,10 +133,8 @@ module _ (tells : Tells) (base : Outs) (taken : List ℕ) (count : ℕ) (past : 
     pub serves_with : (now : Moment) (end : ServeEnd) (until limit : ℕ) → ServesKept m w past numbers here tells mid now end until limit (recovered w past)
         → ServesAgain m w past numbers here tells base now end until limit
     serves_with now end until limit served = record {
-      group = served.group;
-      older = served.older;
-      one = served.one;
-      wanted = served.wanted;
+      groups = served.groups;
+      are = served.are;
       so = ends_with now.outs end _ _ _ _ served.so;
       kept = served.kept;
     }
@@ -152,10 +151,8 @@ module _ {S E C : Type 0} (m : Meaning S E C KeyRow) (w : Setting) (past : List 
   -- memory ran out before
   pub again_short : (here : List (Replica S E C)) (now : Moment) (until limit : ℕ) → now.stands [] → ServesAgain m w past numbers here tells now.outs now ends.Mem until limit
   again_short here now until limit stood = record {
-    group = [];
-    older = [];
-    one = no_group;
-    wanted = tt;
+    groups = [];
+    are = tt;
     so = record {
       taken = λ t. none_written now.outs.taken (events_text past);
       told = λ t. back_none now.outs.told [];
@@ -172,10 +169,8 @@ module _ {S E C : Type 0} (m : Meaning S E C KeyRow) (w : Setting) (past : List 
       → (tells.tape ≡ true → TookFront base.taken now.outs.taken (events_text past)) → now.outs.tape_faults ≡ count_after base.tape_faults → base.tape_faults ≤ now.outs.tape_faults
       → now.outs.told ≡ base.told → now.outs.link_faults ≡ base.link_faults → ServesAgain m w past numbers here tells base now ends.TapeFault until limit
   again_unwritten here base now until limit stand stood front rises later told faults_are = record {
-    group = [];
-    older = [];
-    one = no_group;
-    wanted = tt;
+    groups = [];
+    are = tt;
     so = (
       record {
         taken = front;

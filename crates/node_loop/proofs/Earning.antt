@@ -1,8 +1,9 @@
 -- An acknowledgement goes out only after its frame.
-use Rattle.std.proofs.Common.{◌≡◌, ℕ, ◌&&◌, Bool, true, false, nat_lt, List, [], ◌∷◌, ◌++◌, map, reverse, Option, Some, None, Result, Ok, Err, refl, sym, ◌∙◌, ap, subst, append_assoc, if◌then◌else◌}
+use Rattle.std.proofs.Common.{◌≡◌, ℕ, ◌&&◌, Bool, true, false, nat_lt, List, [], ◌∷◌, ◌++◌, map, reverse, Option, Some, None, Result, Ok, Err, refl, sym, ◌∙◌, ap, subst, append_assoc, ◌⊎◌, inl, inr, if◌then◌else◌}
 use Rattle.std.proofs.lemmas.List.{reverse-append}
 use Rattle.ritas_base.specs.declared.event.Event.{Event}
 use Rattle.ritas_base.specs.declared.event.Event.TheVariants as events
+use Rattle.outside.specs.declared.link.LinkItem.{LinkItem}
 use Rattle.outside.specs.declared.link.LinkItem.TheVariants as items
 use Rattle.outside.specs.declared.link.Sent.{Sent}
 use Rattle.keyed_channel.specs.Frames.{Opening, opening}
@@ -20,8 +21,10 @@ use Rattle.node_loop.specs.Calls.{Outcome, event_called, item_does, first_does}
 use Rattle.node_loop.specs.Peers.{Peers, keep_all, with_mark}
 use Rattle.node_loop.specs.Deeds.{Deed, Came, Made, Resent, Acked, Wished, Replied, pushed}
 use Rattle.node_loop.specs.Resending.{Brought, nothing_more, is_deferred, opened_so, resends, noted_so}
-use Rattle.node_loop.specs.Serving.{Serving, so_far, onto, Round, Began, Turned, Reminded, Took, frames_made_by, outcome, brought, round_does, after_from, came, with_deeds, deeds_from}
+use Rattle.node_loop.specs.Serving.{Serving, so_far, onto, Round, Began, Turned, Reminded, Took, frames_made_by, outcome, brought, round_does, after_from}
+use Rattle.node_loop.specs.Told.{after_groups, with_deeds, deeds_from}
 use Rattle.node_loop.specs.Laws.{IsEarned, AreEarned, AcksAreEarned}
+use Rattle.node_loop.proofs.InOrder.{came, in_order, OfAnyKind, StaysWhere, any_together}
 use Rattle.node_loop.proofs.Reopening.{did_so, brings_so}
 
 pushed_is : (xs ds : List Deed) → pushed xs ds ≡ reverse xs ++ ds
@@ -37,7 +40,7 @@ part_more front xs ys part = (front ++ part.0, append_assoc front part.0 xs ∙ 
 earned_later : (w : Setting) (es : List Event) (o : Option Event) (ds : List Deed) → AreEarned w es ds → AreEarned w (onto o es) ds
 earned_later w es None ds all = all
 earned_later w es (Some e) [] all = tt
-earned_later w es (Some e) (Came item ∷ ds) all = earned_later w es (Some e) ds all
+earned_later w es (Some e) (Came now item ∷ ds) all = earned_later w es (Some e) ds all
 earned_later w es (Some e) (Made f ∷ ds) all = earned_later w es (Some e) ds all
 earned_later w es (Some e) (Resent i j frame ∷ ds) all = earned_later w es (Some e) ds all
 earned_later w es (Some e) (Acked i j seq ∷ ds) all = (
@@ -46,6 +49,7 @@ earned_later w es (Some e) (Acked i j seq ∷ ds) all = (
     before = all.0.before;
     newer = all.0.newer;
     older = all.0.older;
+    now = all.0.now;
     came = all.0.came;
     called = part_more (e ∷ []) (events.Frame i all.0.bytes ∷ all.0.before) es all.0.called;
     body = all.0.body;
@@ -80,13 +84,14 @@ noted_earned w es i p (Some (notes.Again from)) ds all = resent_earned w es i fr
 -- a frame that opened, and whose call is the newest event
 ack_earned : (w : Setting) (es : List Event) (i : ℕ) (bytes : List ℕ) (fs : List MadeFrame) (ds : List Deed) (o : Opening)
     → opening (w.keys i) bytes ≡ Ok o → is_deferred (seen_of w es (events.Frame i bytes)) ≡ false
-    → IsEarned w (events.Frame i bytes ∷ es) i o.from o.seq (pushed (map Made fs) (Came (items.Frame i bytes) ∷ ds))
+    → IsEarned w (events.Frame i bytes ∷ es) i o.from o.seq (pushed (map Made fs) (Came false (items.Frame i bytes) ∷ ds))
 ack_earned w es i bytes fs ds o is answered = record {
   bytes = bytes;
   before = es;
   newer = reverse (map Made fs);
   older = ds;
-  came = pushed_is (map Made fs) (Came (items.Frame i bytes) ∷ ds);
+  now = false;
+  came = pushed_is (map Made fs) (Came false (items.Frame i bytes) ∷ ds);
   called = ([], refl);
   body = o.body;
   opens = is;
@@ -101,17 +106,17 @@ opened_by w es i bytes p o t = if t
 answer_earned : (w : Setting) (es : List Event) (i : ℕ) (bytes : List ℕ) (p : Peers) (fs : List MadeFrame) (ds : List Deed) (o : Opening) (t : Bool)
     → opening (w.keys i) bytes ≡ Ok o → is_deferred (seen_of w es (events.Frame i bytes)) ≡ t
     → AreEarned w (events.Frame i bytes ∷ es) ds
-    → AreEarned w (events.Frame i bytes ∷ es) (pushed (opened_by w es i bytes p o t).deeds (pushed (map Made fs) (Came (items.Frame i bytes) ∷ ds)))
+    → AreEarned w (events.Frame i bytes ∷ es) (pushed (opened_by w es i bytes p o t).deeds (pushed (map Made fs) (Came false (items.Frame i bytes) ∷ ds)))
 unfolding opened_by
-answer_earned w es i bytes p fs ds o true is answered all = made_earned w (events.Frame i bytes ∷ es) fs (Came (items.Frame i bytes) ∷ ds) all
+answer_earned w es i bytes p fs ds o true is answered all = made_earned w (events.Frame i bytes ∷ es) fs (Came false (items.Frame i bytes) ∷ ds) all
 answer_earned w es i bytes p fs ds o false is answered all =
-    (ack_earned w es i bytes fs ds o is answered, made_earned w (events.Frame i bytes ∷ es) fs (Came (items.Frame i bytes) ∷ ds) all)
+    (ack_earned w es i bytes fs ds o is answered, made_earned w (events.Frame i bytes ∷ es) fs (Came false (items.Frame i bytes) ∷ ds) all)
 
 opened_earned : (w : Setting) (es : List Event) (i : ℕ) (bytes : List ℕ) (p : Peers) (fs : List MadeFrame) (ds : List Deed) (said : Result Opening OpenFault)
     → opening (w.keys i) bytes ≡ said → AreEarned w (events.Frame i bytes ∷ es) ds
-    → AreEarned w (events.Frame i bytes ∷ es) (pushed (opened_so w es i bytes p said).deeds (pushed (map Made fs) (Came (items.Frame i bytes) ∷ ds)))
+    → AreEarned w (events.Frame i bytes ∷ es) (pushed (opened_so w es i bytes p said).deeds (pushed (map Made fs) (Came false (items.Frame i bytes) ∷ ds)))
 unfolding opened_by
-opened_earned w es i bytes p fs ds (Err fault) is all = made_earned w (events.Frame i bytes ∷ es) fs (Came (items.Frame i bytes) ∷ ds) all
+opened_earned w es i bytes p fs ds (Err fault) is all = made_earned w (events.Frame i bytes ∷ es) fs (Came false (items.Frame i bytes) ∷ ds) all
 opened_earned w es i bytes p fs ds (Ok o) is all =
     answer_earned w es i bytes p fs ds o (is_deferred (seen_of w es (events.Frame i bytes))) is refl all
 
@@ -124,12 +129,12 @@ FrameEarned w now past to bytes ws p ds here note =
     let fs = frames_made_by w es did.event in
     let q = keep_all fs p in
     let more = brings_so here note (noted_so to q (noted (w.keys to) bytes)) (opened_so w es to bytes q (opening (w.keys to) bytes)) q in
-    AreEarned w (onto did.event now ++ past) (with_deeds fs more.deeds did.replies (Came (items.Frame to bytes) ∷ ds))
+    AreEarned w (onto did.event now ++ past) (with_deeds fs more.deeds did.replies (Came false (items.Frame to bytes) ∷ ds))
 
 frame_earned : (w : Setting) (now past : List Event) (to : ℕ) (bytes : List ℕ) (ws : Waiting) (p : Peers) (ds : List Deed) (here note : Bool)
     → AreEarned w (now ++ past) ds → FrameEarned w now past to bytes ws p ds here note
 frame_earned w now past to bytes ws p ds false note all = all
-frame_earned w now past to bytes ws p ds true true all = noted_earned w (now ++ past) to p (noted (w.keys to) bytes) (Came (items.Frame to bytes) ∷ ds) all
+frame_earned w now past to bytes ws p ds true true all = noted_earned w (now ++ past) to p (noted (w.keys to) bytes) (Came false (items.Frame to bytes) ∷ ds) all
 frame_earned w now past to bytes ws p ds true false all =
     let es = now ++ past in
     let did = event_called w es to (events.Frame to bytes) ws in
@@ -163,15 +168,118 @@ round_earned w past (Reminded i j) s ds all = all
 round_earned w past (Took (items.Frame to bytes)) s ds all =
     frame_earned w s.events past to bytes s.waiting s.peers ds (w.is_correct to) (is_note bytes) all
 round_earned w past (Took (items.Client at conn bytes)) s ds all =
-    plain_earned w s.events past (item_does w (so_far past s) (items.Client at conn bytes) s.waiting) (Came (items.Client at conn bytes) ∷ ds) all
+    plain_earned w s.events past (item_does w (so_far past s) (items.Client at conn bytes) s.waiting) (Came false (items.Client at conn bytes) ∷ ds) all
 round_earned w past (Took (items.Reply from bytes)) s ds all = all
 round_earned w past (Took (items.Up at peer)) s ds all =
-    up_earned w (so_far past s) at peer s.peers (Came (items.Up at peer) ∷ ds) (w.is_correct at && nat_lt peer w.numbers.n) all
+    up_earned w (so_far past s) at peer s.peers (Came false (items.Up at peer) ∷ ds) (w.is_correct at && nat_lt peer w.numbers.n) all
 round_earned w past (Took (items.Down at peer)) s ds all = all
 round_earned w past (Took (items.Left at conn)) s ds all = all
 round_earned w past (Took items.End) s ds all = all
 
+earned_in_order : (w : Setting) (past : List Event) (start : Serving) (ds : List Deed) (rounds : List Round) → AreEarned w (so_far past start) ds
+    → AreEarned w (so_far past (after_from w past start rounds)) (in_order w past start ds rounds)
+earned_in_order w past start ds [] all = all
+earned_in_order w past start ds (x ∷ rounds) all =
+    round_earned w past x (after_from w past start rounds) (in_order w past start ds rounds) (earned_in_order w past start ds rounds all)
+
+-- ---- groups
+
+-- the item came by one of these deeds
+abbrev IsComing : LinkItem → Deed → Type 0
+IsComing item d = (now : Bool) × (d ≡ Came now item)
+
+abbrev HasCome : LinkItem → List Deed → Type 0
+HasCome item [] = ⊥
+HasCome item (d ∷ ds) = IsComing item d ⊎ HasCome item ds
+
+come_behind : (item : LinkItem) (d : Deed) (a b : List Deed) → (HasCome item a → HasCome item b) → HasCome item (d ∷ a) → HasCome item (d ∷ b)
+come_behind item d a b f (inl here) = inl here
+come_behind item d a b f (inr behind) = inr (f behind)
+
+come_either : (item other : LinkItem) (now later : Bool) (ds : List Deed) → HasCome item (Came now other ∷ ds) → HasCome item (Came later other ∷ ds)
+come_either item other now later ds (inl here) = inl (later, let same : other ≡ item = cc here.1 in ap (λ (x : LinkItem). Came later x) same)
+come_either item other now later ds (inr behind) = inr behind
+
+come_sooner : (item other : LinkItem) (now : Bool) (d : Deed) (ds : List Deed) → HasCome item (Came now other ∷ d ∷ ds) → HasCome item (d ∷ Came now other ∷ ds)
+come_sooner item other now d ds (inl here) = inr (inl here)
+come_sooner item other now d ds (inr (inl here)) = inl here
+come_sooner item other now d ds (inr (inr behind)) = inr (inr behind)
+
+-- what stands before and behind it
+come_from : (item : LinkItem) (now : Bool) (newer older : List Deed) → HasCome item (newer ++ Came now item ∷ older)
+come_from item now [] older = inl (now, refl)
+come_from item now (d ∷ newer) older = inr (come_from item now newer older)
+
+record Place (item : LinkItem) (ds : List Deed) : Type 0 where
+  newer : List Deed
+  older : List Deed
+  now : Bool
+  came : ds ≡ newer ++ Came now item ∷ older
+
+come_at : (item : LinkItem) (ds : List Deed) → HasCome item ds → Place item ds
+come_at item [] has = absurd has
+come_at item (d ∷ ds) (inl here) = record { newer = []; older = ds; now = here.0; came = ap (λ (x : Deed). x ∷ ds) here.1 }
+come_at item (d ∷ ds) (inr behind) =
+    let place = come_at item ds behind in
+    record { newer = d ∷ place.newer; older = place.older; now = place.now; came = ap (λ (l : List Deed). d ∷ l) place.came }
+
+-- what came and what is earned by the ones came and is earned by the others
+record StayEarned (a b : List Deed) : Type 0 where
+  come : (item : LinkItem) → HasCome item a → HasCome item b
+  earned : (w : Setting) (es : List Event) → AreEarned w es a → AreEarned w es b
+
+earned_by : (w : Setting) (es : List Event) (i j seq : ℕ) (a b : List Deed) → ((item : LinkItem) → HasCome item a → HasCome item b)
+    → IsEarned w es i j seq a → IsEarned w es i j seq b
+earned_by w es i j seq a b come is =
+    let item = items.Frame i is.bytes in
+    let had : HasCome item a = subst (λ (l : List Deed). HasCome item l) (sym is.came) (come_from item is.now is.newer is.older) in
+    let place = come_at item b (come item had) in
+    record {
+      bytes = is.bytes;
+      before = is.before;
+      newer = place.newer;
+      older = place.older;
+      now = place.now;
+      came = place.came;
+      called = is.called;
+      body = is.body;
+      opens = is.opens;
+      taken = is.taken;
+    }
+
+more_earned : (d : Deed) (a b : List Deed) → StayEarned a b → (w : Setting) (es : List Event) → AreEarned w es (d ∷ a) → AreEarned w es (d ∷ b)
+more_earned (Came now item) a b stay w es all = stay.earned w es all
+more_earned (Made f) a b stay w es all = stay.earned w es all
+more_earned (Resent i j frame) a b stay w es all = stay.earned w es all
+more_earned (Acked i j seq) a b stay w es all = (earned_by w es i j seq a b stay.come all.0, stay.earned w es all.1)
+more_earned (Wished i j) a b stay w es all = stay.earned w es all
+more_earned (Replied sent) a b stay w es all = stay.earned w es all
+
+sooner_earned : (now : Bool) (item : LinkItem) (d : Deed) (ds : List Deed) (w : Setting) (es : List Event) → AreEarned w es (Came now item ∷ d ∷ ds)
+    → AreEarned w es (d ∷ Came now item ∷ ds)
+sooner_earned now item (Came other one) ds w es all = all
+sooner_earned now item (Made f) ds w es all = all
+sooner_earned now item (Resent i j frame) ds w es all = all
+sooner_earned now item (Acked i j seq) ds w es all = (earned_by w es i j seq ds (Came now item ∷ ds) (λ other has. inr has) all.0, all.1)
+sooner_earned now item (Wished i j) ds w es all = all
+sooner_earned now item (Replied sent) ds w es all = all
+
+earned_stay : StaysWhere OfAnyKind StayEarned
+earned_stay = record {
+  itself = λ ds. record { come = λ item has. has; earned = λ w es all. all };
+  through = λ a b c first second. record {
+    come = λ item has. second.come item (first.come item has);
+    earned = λ w es all. second.earned w es (first.earned w es all);
+  };
+  behind = λ d a b stay. record { come = λ item. come_behind item d a b (stay.come item); earned = more_earned d a b stay };
+  either_call = λ now later item ds. record { come = λ other. come_either other item now later ds; earned = λ w es all. all };
+  sooner = λ now item d ds kind. record { come = λ other. come_sooner other item now d ds; earned = sooner_earned now item d ds };
+}
+
 pub are_earned : AcksAreEarned
 are_earned w past start ds [] all = all
-are_earned w past start ds (x ∷ rounds) all =
-    round_earned w past x (after_from w past start rounds) (deeds_from w past start ds rounds) (are_earned w past start ds rounds all)
+are_earned w past start ds (group ∷ older) all =
+    let s = after_groups w past start older in
+    let below = deeds_from w past start ds older in
+    (any_together StayEarned earned_stay w past s below group).earned w (so_far past (after_from w past s group))
+    (earned_in_order w past s below group (are_earned w past start ds older all))

@@ -13,7 +13,8 @@ use Rattle.world_model.specs.World.{Setting, seen_of}
 use Rattle.world_model.specs.Agree.{rows_at}
 use Rattle.node_loop.specs.Waiting.{Waiting, with_waiter}
 use Rattle.node_loop.specs.Calls.{Outcome, event_called, asked_in, refusal_in, submitted, submitted_so, silent, is_waited_for, asked_so, asks_so, asks, if_here, item_does, first_does}
-use Rattle.node_loop.specs.Serving.{so_far, onto, Want, Begins, Finishes, Turns, Halts, Reminds, Asks, here, has_enough_rows, busy, turn_or, remind_or, wants_of, first_or, Serving, Round, Began, Turned, Reminded, Took, behind_first, after_from, IsWanted}
+use Rattle.node_loop.specs.Serving.{so_far, onto, Want, Begins, Finishes, Turns, Halts, Reminds, Asks, here, has_enough_rows, busy, turn_or, remind_or, wants_of, first_or, Serving, Round, Began, Turned, Reminded, Took, behind_first, after_from, IsWanted, AreWantedFrom}
+use Rattle.node_loop.specs.Told.{after_groups}
 use Rattle.node_loop.specs.Served.{MayBegin}
 use Rattle.node_loop.specs.Laws.{IsServed, EventsFit}
 use Rattle.node_loop.proofs.Turning.{turns_correct}
@@ -160,20 +161,34 @@ took_fits w until limit es taken item p [] want = by_rule (wants_of w until limi
     by_rule (Reminds k l) none = absurd none
 took_fits w until limit es taken item p (x ∷ left) none = absurd none
 
-pub all_fit : EventsFit
-all_fit w past until limit start [] firsts all wanted = all
-all_fit w past until limit start (Began item ∷ rounds) firsts all wanted =
+rounds_fit : (w : Setting) (past : List Event) (until limit : ℕ) (start : Serving) (rounds : List Round) → AllByRecursion MayBegin start.left
+    → AllByRecursion (IsServed w) start.events → AreWantedFrom w past until limit start rounds → AllByRecursion (IsServed w) (after_from w past start rounds).events
+rounds_fit w past until limit start [] firsts all wanted = all
+rounds_fit w past until limit start (Began item ∷ rounds) firsts all wanted =
     let s = after_from w past start rounds in
-    let is_first = begun_fits s.left (wants_of w until limit (so_far past s) s.taken s.peers) item (left_fits w past start rounds (recursion_from_All MayBegin start.left firsts))
+    let is_first = begun_fits s.left (wants_of w until limit (so_far past s) s.taken s.peers) item (left_fits w past start rounds firsts)
     (no_first w until limit (so_far past s) s.taken s.peers) wanted.0 in
     onto_fits w s.events (first_does w (so_far past s) item s.waiting).event (first_fits w (so_far past s) item s.waiting is_first)
-    (all_fit w past until limit start rounds firsts all wanted.1)
-all_fit w past until limit start (Turned i ∷ rounds) firsts all wanted =
+    (rounds_fit w past until limit start rounds firsts all wanted.1)
+rounds_fit w past until limit start (Turned i ∷ rounds) firsts all wanted =
     let s = after_from w past start rounds in
-    (turned_fits w until limit (so_far past s) s.taken i s.peers s.left wanted.0, all_fit w past until limit start rounds firsts all wanted.1)
-all_fit w past until limit start (Reminded i j ∷ rounds) firsts all wanted = all_fit w past until limit start rounds firsts all wanted.1
-all_fit w past until limit start (Took item ∷ rounds) firsts all wanted =
+    (turned_fits w until limit (so_far past s) s.taken i s.peers s.left wanted.0, rounds_fit w past until limit start rounds firsts all wanted.1)
+rounds_fit w past until limit start (Reminded i j ∷ rounds) firsts all wanted = rounds_fit w past until limit start rounds firsts all wanted.1
+rounds_fit w past until limit start (Took item ∷ rounds) firsts all wanted =
     let s = after_from w past start rounds in
     onto_fits w s.events (item_does w (so_far past s) item s.waiting).event
     (item_fits w (so_far past s) item s.waiting (took_fits w until limit (so_far past s) s.taken item s.peers s.left wanted.0))
-    (all_fit w past until limit start rounds firsts all wanted.1)
+    (rounds_fit w past until limit start rounds firsts all wanted.1)
+
+-- ---- groups
+
+left_fits_behind : (w : Setting) (past : List Event) (start : Serving) (groups : List (List Round)) → AllByRecursion MayBegin start.left
+    → AllByRecursion MayBegin (after_groups w past start groups).left
+left_fits_behind w past start [] all = all
+left_fits_behind w past start (group ∷ older) all = left_fits w past (after_groups w past start older) group (left_fits_behind w past start older all)
+
+pub all_fit : EventsFit
+all_fit w past until limit start [] firsts all are = all
+all_fit w past until limit start (group ∷ older) firsts all are =
+    rounds_fit w past until limit (after_groups w past start older) group (left_fits_behind w past start older (recursion_from_All MayBegin start.left firsts))
+    (all_fit w past until limit start older firsts all are.2) are.0.wanted

@@ -1,14 +1,11 @@
 -- What a group holds of the rounds whose outcome is delivered together.
-use Rattle.std.proofs.Common.{◌≡◌, ℕ, ◌+◌, ◌<◌, Bool, true, false, List, [], ◌∷◌, ◌++◌, length, map, reverse, take, drop, get_or, Option, Some, None, Result, Ok, Err, refl, sym, ◌∙◌, ap, ap₂, subst, append_assoc}
+use Rattle.std.proofs.Common.{arith, ◌≡◌, ℕ, ◌+◌, ◌<◌, Bool, true, false, List, [], ◌∷◌, ◌++◌, length, map, reverse, take, drop, get_or, Option, Some, None, Result, Ok, Err, refl, sym, ◌∙◌, ap, ap₂, subst, append_assoc}
 use Rattle.std.specs.List.{AllByRecursion, flat_map}
-use Rattle.std.specs.Option.{IfSome}
 use Rattle.std.proofs.lemmas.List.{append-nil, reverse-append, take_more, take-append-drop}
 use Rattle.std.proofs.lemmas.Grind.{flat_map-append}
-use Rattle.std.proofs.lemmas.Result.{on_ok_weaker}
 use Rattle.std.specs.Result.{OnOk}
 use Rattle.ritas_base.specs.declared.bytes.Mem.{Mem}
 use Rattle.ritas_base.specs.declared.event.Event.{Event}
-use Rattle.ritas_base.specs.declared.event.Event.TheVariants as events
 use Rattle.keyed_channel.specs.KeyRow.{KeyRow}
 use Rattle.ritas_core.specs.Stands.{Meaning}
 use Rattle.link_resume.specs.declared.kept.Kept.{Kept}
@@ -27,16 +24,16 @@ use Rattle.node_loop.specs.declared.output.Output.{Output}
 use Rattle.node_loop.specs.declared.output.Reply.{Reply}
 use Rattle.replica.specs.declared.frame.OutFrame.{OutFrame}
 use Rattle.node_loop.specs.Calls.{Outcome}
-use Rattle.node_loop.specs.Deeds.{Deed, Resent, act_of}
-use Rattle.node_loop.specs.Groups.{acts_by, acts_each, more_by, is_again, FitsPeers, event_listed, if_kept, GroupHolds, JoinsGroup, Under, IsEmpty}
+use Rattle.node_loop.specs.Deeds.{Deed, Resent, act_of, has_resent}
+use Rattle.node_loop.specs.Groups.{acts_by, acts_each, more_by, FitsPeers, kept_listed, text_listed, GroupHolds, JoinsGroup, Under, IsEmpty}
 use Rattle.node_loop.specs.Keeping.{is_kept, has_kept, kept_onto, kept_of}
 use Rattle.node_loop.specs.Outs.{events_text}
 use Rattle.node_loop.specs.Peers.{Keeping}
 use Rattle.node_loop.specs.PeersStanding.{kept_by}
 use Rattle.node_loop.specs.Resending.{Brought}
-use Rattle.node_loop.specs.Serving.{Serving, so_far, sent_by, sent_of, onto, Round, Began, Turned, Reminded, Took, at_call, outcome, brought, after_from, events_from, newest_from, given_behind}
-use Rattle.node_loop.specs.ServedKept.{group_kept}
-use Rattle.node_loop.specs.Standing.{HouseStands, ComesOut, IsMore, frame_by, reply_by}
+use Rattle.node_loop.specs.Serving.{Serving, so_far, sent_by, sent_of, onto, Round, Began, Turned, Reminded, Took, at_call, outcome, brought, after_from}
+use Rattle.node_loop.specs.Told.{AreJoined, enough_bytes, events_from, news_from}
+use Rattle.node_loop.specs.Standing.{HouseStands, ComesOut, IsMore, IsMoreNow, is_again, frame_by, reply_by}
 
 -- ---- what goes out, round after round
 
@@ -76,7 +73,7 @@ resent_acts keys at peer (k ∷ kept) = ap (λ (acts : List LinkAct). kept_by at
 
 besides : (w : Setting) (at : ℕ) (goes : More) (more : Brought) → IsMore w at goes more → more_by more.peers.keeping at goes ≡ reverse (map (act_of w.keys) more.deeds)
 besides w at mores.Nothing more brings = ap (λ (ds : List Deed). reverse (map (act_of w.keys) ds)) (sym brings)
-besides w at (mores.Note peer bytes) more brings = ap reverse (sym brings)
+besides w at (mores.Note peer bytes) more brings = ap reverse (sym brings.0)
 besides w at (mores.Kept peer) more brings =
     ap reverse (sym (resent_acts w.keys at peer (more.peers.keeping at peer)) ∙ ap (map (act_of w.keys)) (sym brings.1))
 
@@ -89,7 +86,7 @@ none_kept : (at peer : ℕ) (kept : List Kept) → map (λ k. Resent at peer k.f
 none_kept at peer [] none = refl
 none_kept at peer (k ∷ kept) none = absurd (cc)
 
-fits_as : (w : Setting) (at : ℕ) (goes : More) (more : Brought) → IsMore w at goes more → (w.is_correct at ≡ false → more.deeds ≡ []) → FitsPeers w more.peers.keeping at goes
+pub fits_as : (w : Setting) (at : ℕ) (goes : More) (more : Brought) → IsMore w at goes more → (w.is_correct at ≡ false → more.deeds ≡ []) → FitsPeers w more.peers.keeping at goes
 fits_as w at mores.Nothing more brings nowhere = tt
 fits_as w at (mores.Note peer bytes) more brings nowhere = tt
 fits_as w at (mores.Kept peer) more brings nowhere = (brings.0, λ away. none_kept at peer (more.peers.keeping at peer) (sym brings.1 ∙ nowhere away))
@@ -165,10 +162,31 @@ all_pushed : {A : Type 0} (P : A → Type 0) (xs : List A) (x : A) → AllByRecu
 all_pushed P [] x all one = (one, tt)
 all_pushed P (y ∷ xs) x all one = (all.0, all_pushed P xs x all.1 one)
 
--- with an event, if there is one
-pub all_listed : (P : Event → Type 0) (es : List Event) (o : Option Event) → AllByRecursion P es → IfSome o P → AllByRecursion P (es ++ event_listed o)
-all_listed P es None all one = subst (λ (l : List Event). AllByRecursion P l) (sym (append-nil es)) all
-all_listed P es (Some e) all one = all_pushed P es e all one
+-- what goes out again is what is kept, if some is
+pub now_nothing : (w : Setting) (at : ℕ) (more : Brought) → IsMore w at mores.Nothing more → IsMoreNow w at mores.Nothing more
+now_nothing w at more brings = record { besides = brings; again = sym (ap has_resent brings) }
+
+pub now_note : (w : Setting) (at peer : ℕ) (bytes : _) (more : Brought) → IsMore w at (mores.Note peer bytes) more → IsMoreNow w at (mores.Note peer bytes) more
+now_note w at peer bytes more brings = record { besides = brings; again = sym brings.1 }
+
+pub now_as : (w : Setting) (at : ℕ) (goes : More) (more : Brought) → ((peer : ℕ) → goes ≡ mores.Kept peer → ⊥) → IsMore w at goes more → IsMoreNow w at goes more
+now_as w at mores.Nothing more other brings = now_nothing w at more brings
+now_as w at (mores.Note peer bytes) more other brings = now_note w at peer bytes more brings
+now_as w at (mores.Kept peer) more other brings = absurd (other peer refl)
+
+pub now_none : (w : Setting) (at peer : ℕ) (more : Brought) → IsMore w at (mores.Kept peer) more → length (more.peers.keeping at peer) ≡ 0 → IsMoreNow w at mores.Nothing more
+now_none w at peer more brings none = now_nothing w at more (brings.1 ∙ by_kept (more.peers.keeping at peer) none)
+  where
+    by_kept : (kept : List Kept) → length kept ≡ 0 → map (λ k. Resent at peer k.frame) kept ≡ []
+    by_kept [] is = refl
+    by_kept (k ∷ kept) is = absurd (omega (arith, is))
+
+pub now_some : (w : Setting) (at peer : ℕ) (more : Brought) → IsMore w at (mores.Kept peer) more → (length (more.peers.keeping at peer) ≡ 0 → ⊥) → IsMoreNow w at (mores.Kept peer) more
+now_some w at peer more brings some = record { besides = brings; again = by_kept (more.peers.keeping at peer) some ∙ sym (ap has_resent brings.1) }
+  where
+    by_kept : (kept : List Kept) → (length kept ≡ 0 → ⊥) → true ≡ has_resent (map (λ k. Resent at peer k.frame) kept)
+    by_kept [] some = absurd (some refl)
+    by_kept (k ∷ kept) some = refl
 
 -- ---- the events of a group, and those before
 
@@ -182,13 +200,13 @@ at_events (Turned i) s = refl
 at_events (Reminded i j) s = refl
 at_events (Took item) s = refl
 
-pub events_parts : (w : Setting) (past : List Event) (start : Serving) (group older : List Round)
-    → (after_from w past start (group ++ older)).events ≡ events_from w past start group older ++ (after_from w past start older).events
-events_parts w past start [] older = refl
-events_parts w past start (x ∷ group) older =
-    let s = after_from w past start (group ++ older) in
-    ap (onto (outcome w past x s).event) (at_events x s ∙ events_parts w past start group older)
-    ∙ onto_past (outcome w past x s).event (events_from w past start group older) (after_from w past start older).events
+pub events_parts : (w : Setting) (past : List Event) (start : Serving) (group : List Round)
+    → (after_from w past start group).events ≡ events_from w past start group ++ start.events
+events_parts w past start [] = refl
+events_parts w past start (x ∷ group) =
+    let s = after_from w past start group in
+    ap (onto (outcome w past x s).event) (at_events x s ∙ events_parts w past start group)
+    ∙ onto_past (outcome w past x s).event (events_from w past start group) start.events
 
 pub text_parts : (a b : List Event) → events_text (a ++ b) ≡ events_text b ++ events_text a
 text_parts a b = ap (flat_map event_text) (reverse-append a b) ∙ flat_map-append event_text (reverse b) (reverse a)
@@ -203,61 +221,47 @@ kept_both w past (e ∷ a) b =
     ap₂ (λ (es : List Event) (l : List Event). kept_onto (is_kept w es e) e l) (append_assoc a b past) (kept_both w past a b)
     ∙ kept_past (is_kept w (a ++ (b ++ past)) e) e (kept_of w (b ++ past) a) (kept_of w past b)
 
-pub kept_parts : (w : Setting) (past : List Event) (start : Serving) (group older : List Round)
-    → kept_of w past (after_from w past start (group ++ older)).events ≡ group_kept w past start group older ++ kept_of w past (after_from w past start older).events
-kept_parts w past start group older =
-    ap (kept_of w past) (events_parts w past start group older) ∙ kept_both w past (events_from w past start group older) (after_from w past start older).events
+pub kept_parts : (w : Setting) (past : List Event) (start : Serving) (group : List Round)
+    → kept_of w past (after_from w past start group).events ≡ kept_of w (so_far past start) (events_from w past start group) ++ kept_of w past start.events
+kept_parts w past start group =
+    ap (kept_of w past) (events_parts w past start group) ∙ kept_both w past (events_from w past start group) start.events
 
 -- ---- a round more
 
-turned_onto : (o : Option Event) (es : List Event) → reverse es ++ event_listed o ≡ reverse (onto o es)
-turned_onto None es = append-nil (reverse es)
-turned_onto (Some e) es = sym (reverse-append (e ∷ []) es)
+-- the text has that of its event too
+text_joins : (o : Option Event) (es : List Event) → events_text es ++ text_listed o ≡ events_text (onto o es)
+text_joins None es = append-nil (events_text es)
+text_joins (Some e) es =
+    ap (λ (l : List ℕ). events_text es ++ l) (sym (append-nil (event_text e))) ∙ sym (text_parts (e ∷ []) es)
 
-first_kept : (w : Setting) (es : List Event) (o : Option Event) → kept_of w es (onto o []) ≡ if_kept (has_kept w es o) (onto o [])
-first_kept w es None = refl
-first_kept w es (Some e) = either (is_kept w es e)
+-- and it is among the kept ones, if it is kept
+kept_joins : (w : Setting) (past es : List Event) (o : Option Event) (b : Bool) → b ≡ has_kept w (es ++ past) o
+    → reverse (kept_of w past es) ++ kept_listed b o ≡ reverse (kept_of w past (onto o es))
+kept_joins w past es None true is = absurd (cc)
+kept_joins w past es None false is = append-nil (reverse (kept_of w past es))
+kept_joins w past es (Some e) b is = either b (is_kept w (es ++ past) e) is
   where
-    either : (b : Bool) → kept_onto b e [] ≡ if_kept b (e ∷ [])
-    either true = refl
-    either false = refl
+    either : (b c : Bool) → b ≡ c → reverse (kept_of w past es) ++ kept_listed b (Some e) ≡ reverse (kept_onto c e (kept_of w past es))
+    either true true same = sym (reverse-append (e ∷ []) (kept_of w past es))
+    either false false same = append-nil (reverse (kept_of w past es))
+    either true false same = absurd (cc)
+    either false true same = absurd (cc)
 
-module _ (w : Setting) (past : List Event) (start : Serving) (older : List Round) (group : Group) where
-  calm : (newest : List Round) (x : Round) → GroupHolds w past start newest older group → JoinsGroup newest x group → AreSettled group.outputs.items
+module _ (w : Setting) (past : List Event) (start : Serving) (group : Group) where
+  calm : (newest : List Round) (x : Round) → GroupHolds w past start newest group → JoinsGroup newest x group → AreSettled group.outputs.items
   calm [] x holds joins = subst AreSettled (sym (holds.none refl)) tt
-  calm (y ∷ newest) (Turned i) holds joins = holds.settled joins.1
-  calm (y ∷ newest) (Began item) holds joins = absurd joins
-  calm (y ∷ newest) (Reminded i j) holds joins = absurd joins
-  calm (y ∷ newest) (Took item) holds joins = absurd joins
+  calm (y ∷ newest) x holds joins = (holds.settled joins.1.calm).0
 
-  gives_none : (newest : List Round) (x : Round) → JoinsGroup newest x group → given_behind newest x ≡ []
-  gives_none [] x joins = refl
-  gives_none (y ∷ newest) (Turned i) joins = refl
-  gives_none (y ∷ newest) (Began item) joins = absurd joins
-  gives_none (y ∷ newest) (Reminded i j) joins = absurd joins
-  gives_none (y ∷ newest) (Took item) joins = absurd joins
+  pub joins_on : (newest : List Round) (x : Round) → GroupHolds w past start newest group → JoinsGroup newest x group → AreJoined w past start (x ∷ newest)
+  joins_on [] x holds joins = (tt, holds.joined)
+  joins_on (y ∷ newest) x holds joins =
+      let light : length (events_text (events_from w past start (y ∷ newest))) < enough_bytes = subst (λ (l : List ℕ). length l < enough_bytes) holds.text joins.1.light in
+      ((joins.0, (holds.settled joins.1.calm).1, light), holds.joined)
 
-  keeps_on : (newest : List Round) (x : Round) (kept : Bool) → GroupHolds w past start newest older group → JoinsGroup newest x group
-      → kept ≡ has_kept w (so_far past (at_call x (after_from w past start (newest ++ older)))) (outcome w past x (after_from w past start (newest ++ older))).event
-      → group_kept w past start (x ∷ newest) older ≡ if_kept kept (events_from w past start (x ∷ newest) older)
-  keeps_on [] x kept holds joins is =
-      let s = after_from w past start older in
-      let did = (outcome w past x s).event in
-      first_kept w (so_far past s) did
-      ∙ ap (λ (b : Bool). if_kept b (onto did [])) (ap (λ (es : List Event). has_kept w (es ++ past) did) (sym (at_events x s)) ∙ sym is)
-  keeps_on (y ∷ newest) (Turned i) kept holds joins is =
-      let es = events_from w past start (y ∷ newest) older in
-      let all : group_kept w past start (y ∷ newest) older ≡ es = holds.keeps ∙ ap (λ (b : Bool). if_kept b es) joins.0 in
-      ap (λ (l : List Event). events.Turn i ∷ l) all
-      ∙ ap (λ (b : Bool). if_kept b (events.Turn i ∷ es)) (sym is)
-  keeps_on (y ∷ newest) (Began item) kept holds joins is = absurd joins
-  keeps_on (y ∷ newest) (Reminded i j) kept holds joins is = absurd joins
-  keeps_on (y ∷ newest) (Took item) kept holds joins is = absurd joins
-
-module _ {S E C : Type 0} (m : Meaning S E C KeyRow) (w : Setting) (past : List Event) (numbers : List ℕ) (start : Serving) (x : Round) (newest older : List Round)
-    (house : House S E C) (group new : Group) (o : Output) where
+module _ {S E C : Type 0} (m : Meaning S E C KeyRow) (w : Setting) (past : List Event) (numbers : List ℕ) (start : Serving) (x : Round) (newest : List Round)
+    (house : House S E C) (group new : Group) (o : Output) (goes : More) where
   abbrev s : Serving
-  s = after_from w past start (newest ++ older)
+  s = after_from w past start newest
 
   abbrev did : Outcome
   did = outcome w past x s
@@ -266,72 +270,97 @@ module _ {S E C : Type 0} (m : Meaning S E C KeyRow) (w : Setting) (past : List 
   more = brought w past x s
 
   abbrev then : Output
-  then = record o { event = None }
+  then = record o { event = None; more = goes }
 
-  acts_grow : acts_by more.peers.keeping then ≡ sent_of w (so_far past (at_call x s)) did more → AreSettled group.outputs.items → GroupHolds w past start newest older group
-      → JoinsGroup newest x group → new.outputs.items ≡ group.outputs.items ++ then ∷ []
-      → acts_each (acts_by more.peers.keeping) new.outputs.items ≡ newest_from w past start (x ∷ newest) older
-  acts_grow sent still holds joins outputs =
+  abbrev es : List Event
+  es = events_from w past start newest
+
+  acts_grow : acts_by more.peers.keeping then ≡ sent_of w (so_far past (at_call x s)) did more → AreSettled group.outputs.items → GroupHolds w past start newest group
+      → new.outputs.items ≡ group.outputs.items ++ then ∷ []
+      → acts_each (acts_by more.peers.keeping) new.outputs.items ≡ news_from w past start (x ∷ newest)
+  acts_grow sent still holds outputs =
       let keeping = more.peers.keeping in
-      let news = newest_from w past start newest older in
       ap (acts_each (acts_by keeping)) outputs
       ∙ acts_append (acts_by keeping) group.outputs.items (then ∷ [])
       ∙ ap₂ (λ (a b : List LinkAct). a ++ b) sent (all_settled keeping s.peers.keeping group.outputs.items still ∙ holds.acts)
-      ∙ ap (λ (l : List LinkAct). sent_of w (so_far past (at_call x s)) did more ++ (l ++ news)) (sym (gives_none w past start older group newest x joins))
 
-  pub joined : ComesOut m w (so_far past (at_call x s)) numbers house o did more → GroupHolds w past start newest older group → JoinsGroup newest x group
-      → new.events.items ≡ group.events.items ++ event_listed o.event → new.outputs.items ≡ group.outputs.items ++ then ∷ [] → new.kept ≡ o.kept → new.resends ≡ is_again o.more
-      → GroupHolds w past start (x ∷ newest) older new
-  joined comes holds joins events outputs kept again =
-      let still = calm w past start older group newest x holds joins in
+  -- the events before its own
+  events_at : so_far past (at_call x s) ≡ es ++ so_far past start
+  events_at = ap (λ (l : List Event). l ++ past) (at_events x s ∙ events_parts w past start newest) ∙ append_assoc es start.events past
+
+  pub joined : ComesOut m w (so_far past (at_call x s)) numbers house o did more → IsMoreNow w o.at goes more → GroupHolds w past start newest group → JoinsGroup newest x group
+      → new.text.taken ≡ group.text.taken ++ text_listed o.event → new.kept.items ≡ group.kept.items ++ kept_listed o.kept o.event
+      → new.outputs.items ≡ group.outputs.items ++ then ∷ [] → new.resends ≡ is_again goes
+      → GroupHolds w past start (x ∷ newest) new
+  joined comes now holds joins text kept outputs again =
+      let still = calm w past start group newest x holds joins in
+      let is_kept_so : o.kept ≡ has_kept w (es ++ so_far past start) did.event = comes.keeps ∙ ap (λ (l : List Event). has_kept w l did.event) events_at in
       record {
         none = λ no. absurd (cc);
-        events = events ∙ ap₂ (λ (a : List Event) (e : Option Event). a ++ event_listed e) holds.events comes.event ∙ turned_onto did.event (events_from w past start newest older);
-        keeps = keeps_on w past start older group newest x new.kept holds joins (kept ∙ comes.keeps);
-        acts = acts_grow (acts_as w (so_far past (at_call x s)) did more o comes.frames comes.besides comes.replies) still holds joins outputs;
+        text = text ∙ ap₂ (λ (a : List ℕ) (e : Option Event). a ++ text_listed e) holds.text comes.event ∙ text_joins did.event es;
+        keeps = kept ∙ ap₂ (λ (a : List Event) (e : Option Event). a ++ kept_listed o.kept e) holds.keeps comes.event
+            ∙ kept_joins w (so_far past start) es did.event o.kept is_kept_so;
+        acts = acts_grow (acts_as w (so_far past (at_call x s)) did more then comes.frames now.besides comes.replies) still holds outputs;
         fit = subst (λ (os : List Output). AllByRecursion (λ o. FitsPeers w more.peers.keeping o.at o.more) os) (sym outputs)
             (all_pushed (λ o. FitsPeers w more.peers.keeping o.at o.more) group.outputs.items then (all_fit w more.peers.keeping group.outputs.items still)
-            (fits_as w o.at o.more more comes.besides (λ away. (comes.nowhere away).1)));
-        settled = λ is. subst AreSettled (sym outputs) (all_pushed (λ o. is_again o.more ≡ false) group.outputs.items then still (sym again ∙ is));
+            (fits_as w o.at goes more now.besides (λ away. (comes.nowhere away).1)));
+        settled = λ is. (
+          subst AreSettled (sym outputs) (all_pushed (λ o. is_again o.more ≡ false) group.outputs.items then still (sym again ∙ is)),
+          sym now.again ∙ (sym again ∙ is),
+        );
+        again = λ is. sym now.again ∙ (sym again ∙ is);
+        joined = joins_on w past start group newest x holds joins;
       }
 
-  pub under_more : HouseStands m w (onto did.event (so_far past (at_call x s))) numbers house did.waiting more.peers → GroupHolds w past start (x ∷ newest) older new
-      → Under m w past numbers start (x ∷ newest) older house new
+  pub under_more : HouseStands m w (onto did.event (so_far past (at_call x s))) numbers house did.waiting more.peers → GroupHolds w past start (x ∷ newest) new
+      → Under m w past numbers start (x ∷ newest) house new
   under_more stands holds = record {
     stands = subst (λ (es : List Event). HouseStands m w es numbers house did.waiting more.peers) (onto_past did.event (at_call x s).events past) stands;
     holds = holds;
   }
 
--- of no round a group holds nothing
-pub holds_none : (w : Setting) (past : List Event) (start : Serving) (older : List Round) (group : Group) → IsEmpty group → GroupHolds w past start [] older group
-holds_none w past start older group empty = record {
-  none = λ is. empty.outputs;
-  events = empty.events;
-  keeps = no_events group.kept;
-  acts = ap (acts_each (acts_by (after_from w past start older).peers.keeping)) empty.outputs;
-  fit = subst (λ (os : List Output). AllByRecursion (λ o. FitsPeers w (after_from w past start older).peers.keeping o.at o.more) os) (sym empty.outputs) tt;
-  settled = λ is. subst AreSettled (sym empty.outputs) tt;
+-- whatever is spare, it holds the same, and the same may join
+pub holds_spare : (w : Setting) (past : List Event) (start : Serving) (newest : List Round) (group : Group) (spare : _) → GroupHolds w past start newest group
+    → GroupHolds w past start newest (record group { spare = spare })
+holds_spare w past start newest group spare holds = record {
+  none = holds.none;
+  text = holds.text;
+  keeps = holds.keeps;
+  acts = holds.acts;
+  fit = holds.fit;
+  settled = holds.settled;
+  again = holds.again;
+  joined = holds.joined;
 }
-  where
-    no_events : (b : Bool) → [] ≡ if_kept b []
-    no_events true = refl
-    no_events false = refl
 
--- what a group gets of a round
-module _ (P : Event → Type 0) (r : Result (Unit {0}) Mem) (old new : List Event) (o : Option Event) where
-  pub still_all : OnOk r (new ≡ old ++ event_listed o) → AllByRecursion P old → IfSome o P → OnOk r (AllByRecursion P new)
-  still_all added all one = on_ok_weaker r (λ (is : new ≡ old ++ event_listed o). subst (λ (l : List Event). AllByRecursion P l) (sym is) (all_listed P old o all one)) added
+pub joins_spare : (newest : List Round) (x : Round) (group : Group) (spare : _) → JoinsGroup newest x group → JoinsGroup newest x (record group { spare = spare })
+joins_spare [] x group spare joins = tt
+joins_spare (y ∷ newest) x group spare joins = (joins.0, record { calm = joins.1.calm; light = joins.1.light })
+
+-- of no round a group holds nothing
+pub holds_none : (w : Setting) (past : List Event) (start : Serving) (group : Group) → IsEmpty group → GroupHolds w past start [] group
+holds_none w past start group empty = record {
+  none = λ is. empty.outputs;
+  text = empty.text;
+  keeps = empty.kept;
+  acts = ap (acts_each (acts_by start.peers.keeping)) empty.outputs;
+  fit = subst (λ (os : List Output). AllByRecursion (λ o. FitsPeers w start.peers.keeping o.at o.more) os) (sym empty.outputs) tt;
+  settled = λ is. (subst AreSettled (sym empty.outputs) tt, tt);
+  again = λ is. let none = empty.resends in absurd (cc);
+  joined = tt;
+}
 
 -- a round joined, if memory was enough
-pub added : {S E C : Type 0} (m : Meaning S E C KeyRow) (w : Setting) (past : List Event) (numbers : List ℕ) (start : Serving) (x : Round) (newest older : List Round)
-    (old house : House S E C) (group new : Group) (o : Output) (r : Result (Unit {0}) Mem)
-    → ComesOut m w (so_far past (at_call x (after_from w past start (newest ++ older)))) numbers old o (outcome w past x (after_from w past start (newest ++ older)))
-    (brought w past x (after_from w past start (newest ++ older)))
-    → HouseStands m w (onto (outcome w past x (after_from w past start (newest ++ older))).event (so_far past (at_call x (after_from w past start (newest ++ older))))) numbers house
-    (outcome w past x (after_from w past start (newest ++ older))).waiting (brought w past x (after_from w past start (newest ++ older))).peers
-    → GroupHolds w past start newest older group → JoinsGroup newest x group
-    → OnOk r (new.events.items ≡ group.events.items ++ event_listed o.event) → OnOk r (new.outputs.items ≡ group.outputs.items ++ record o { event = None } ∷ [])
-    → OnOk r (new.kept ≡ o.kept) → OnOk r (new.resends ≡ is_again o.more) → OnOk r (Under m w past numbers start (x ∷ newest) older house new)
-added m w past numbers start x newest older old house group new o (Ok done) comes stands holds joins events outputs kept again =
-    under_more m w past numbers start x newest older house group new o stands (joined m w past numbers start x newest older old group new o comes holds joins events outputs kept again)
-added m w past numbers start x newest older old house group new o (Err e) comes stands holds joins events outputs kept again = tt
+pub added : {S E C : Type 0} (m : Meaning S E C KeyRow) (w : Setting) (past : List Event) (numbers : List ℕ) (start : Serving) (x : Round) (newest : List Round)
+    (old house : House S E C) (group new : Group) (o : Output) (goes : More) (r : Result (Unit {0}) Mem)
+    → ComesOut m w (so_far past (at_call x (after_from w past start newest))) numbers old o (outcome w past x (after_from w past start newest))
+    (brought w past x (after_from w past start newest))
+    → HouseStands m w (onto (outcome w past x (after_from w past start newest)).event (so_far past (at_call x (after_from w past start newest)))) numbers house
+    (outcome w past x (after_from w past start newest)).waiting (brought w past x (after_from w past start newest)).peers
+    → IsMoreNow w o.at goes (brought w past x (after_from w past start newest)) → GroupHolds w past start newest group → JoinsGroup newest x group
+    → OnOk r (new.text.taken ≡ group.text.taken ++ text_listed o.event) → OnOk r (new.kept.items ≡ group.kept.items ++ kept_listed o.kept o.event)
+    → OnOk r (new.outputs.items ≡ group.outputs.items ++ record o { event = None; more = goes } ∷ [])
+    → OnOk r (new.resends ≡ is_again goes) → OnOk r (Under m w past numbers start (x ∷ newest) house new)
+added m w past numbers start x newest old house group new o goes (Ok done) comes stands now holds joins text kept outputs again =
+    under_more m w past numbers start x newest house group new o goes stands (joined m w past numbers start x newest old group new o goes comes now holds joins text kept outputs again)
+added m w past numbers start x newest old house group new o goes (Err e) comes stands now holds joins text kept outputs again = tt

@@ -1,46 +1,74 @@
--- More rounds only add to the events and to the calls of the link.
-use Rattle.std.proofs.Common.{List, [], ◌∷◌, ◌++◌, map, reverse, Option, Some, None, refl, ◌∙◌, ap, subst, append_assoc}
+-- More rounds only add to the events, and more groups to the calls of the link. The rounds of groups are what the rules say.
+use Rattle.std.proofs.Common.{◌≡◌, ℕ, List, [], ◌∷◌, ◌++◌, Option, Some, None, refl, sym, ◌∙◌, ap, subst, append_assoc}
 use Rattle.ritas_base.specs.declared.event.Event.{Event}
-use Rattle.ritas_base.specs.declared.event.Event.TheVariants as events
-use Rattle.outside.specs.Links.{Gives, Replies}
 use Rattle.layer_api.specs.Service.{IsPart}
 use Rattle.world_model.specs.World.{Setting}
-use Rattle.node_loop.specs.Calls.{Outcome, event_called, silent, item_does, first_does}
-use Rattle.node_loop.specs.Deeds.{act_of}
-use Rattle.node_loop.specs.Resending.{Brought}
-use Rattle.node_loop.specs.Serving.{Serving, so_far, sent_by, onto, with_outcome, Round, Began, Turned, Reminded, Took, began, gave, brought, round_does, after_from}
-use Rattle.node_loop.specs.Laws.{OnlyGrows}
-
-abbrev Grown : Serving → Serving → Type 0
-Grown s t = IsPart s.events t.events × IsPart s.acts t.acts
+use Rattle.node_loop.specs.Serving.{Serving, onto, Round, Began, Turned, Reminded, Took, outcome, round_does, after_from, wants, IsWanted, AreWantedFrom}
+use Rattle.node_loop.specs.Told.{after_groups, all_rounds, given_in, news_from, told_from}
+use Rattle.node_loop.specs.Laws.{RoundsGrow, GroupsGrow, GroupsAreRounds}
 
 part_front : {X : Type 0} (front xs ys : List X) → IsPart xs ys → IsPart xs (front ++ ys)
 part_front front xs ys part = (front ++ part.0, append_assoc front part.0 xs ∙ ap (λ (l : List _). front ++ l) part.1)
+
+-- ---- the events
 
 part_onto : (o : Option Event) (xs ys : List Event) → IsPart xs ys → IsPart xs (onto o ys)
 part_onto None xs ys part = part
 part_onto (Some e) xs ys part = part_front (e ∷ []) xs ys part
 
-grown_outcome : (w : Setting) (past : List Event) (did : Outcome) (more : Brought) (s t : Serving) → Grown s t → Grown s (with_outcome w past did more t)
-grown_outcome w past did more s t grown = (
-  part_onto did.event s.events t.events grown.0,
-  part_front (reverse (map Replies did.replies)) s.acts (reverse (map (act_of w.keys) more.deeds) ++ (reverse (sent_by w (so_far past t) did.event) ++ t.acts))
-      (part_front (reverse (map (act_of w.keys) more.deeds)) s.acts (reverse (sent_by w (so_far past t) did.event) ++ t.acts)
-      (part_front (reverse (sent_by w (so_far past t) did.event)) s.acts t.acts grown.1)),
+grown_round : (w : Setting) (past : List Event) (x : Round) (es : List Event) (s : Serving) → IsPart es s.events → IsPart es (round_does w past x s).events
+grown_round w past (Began item) es s part = part_onto (outcome w past (Began item) s).event es s.events part
+grown_round w past (Turned i) es s part = part_onto (outcome w past (Turned i) s).event es s.events part
+grown_round w past (Reminded i j) es s part = part
+grown_round w past (Took item) es s part = part_onto (outcome w past (Took item) s).event es s.events part
+
+grown_more : (w : Setting) (past : List Event) (start : Serving) (more xs : List Round)
+    → IsPart (after_from w past start xs).events (after_from w past start (more ++ xs)).events
+grown_more w past start [] xs = ([], refl)
+grown_more w past start (x ∷ more) xs =
+    grown_round w past x (after_from w past start xs).events (after_from w past start (more ++ xs)) (grown_more w past start more xs)
+
+pub rounds_grow : RoundsGrow
+rounds_grow w past start xs ys part =
+    subst (λ (zs : List Round). IsPart (after_from w past start xs).events (after_from w past start zs).events) part.1 (grown_more w past start part.0 xs)
+
+-- ---- the link's calls
+
+told_more : (w : Setting) (past : List Event) (start : Serving) (more xs : List (List Round)) → IsPart (told_from w past start xs) (told_from w past start (more ++ xs))
+told_more w past start [] xs = ([], refl)
+told_more w past start (group ∷ more) xs =
+    let told = told_from w past start xs in
+    let below = told_from w past start (more ++ xs) in
+    part_front (news_from w past (after_groups w past start (more ++ xs)) group) told (given_in group ++ below)
+    (part_front (given_in group) told below (told_more w past start more xs))
+
+pub groups_grow : GroupsGrow
+groups_grow w past start xs ys part =
+    subst (λ (zs : List (List Round)). IsPart (told_from w past start xs) (told_from w past start zs)) part.1 (told_more w past start part.0 xs)
+
+-- ---- the rounds of groups
+
+after_more : (w : Setting) (past : List Event) (start : Serving) (more xs : List Round)
+    → after_from w past start (more ++ xs) ≡ after_from w past (after_from w past start xs) more
+after_more w past start [] xs = refl
+after_more w past start (x ∷ more) xs = ap (λ (s : Serving). round_does w past x s) (after_more w past start more xs)
+
+wanted_more : (w : Setting) (past : List Event) (until limit : ℕ) (start : Serving) (more xs : List Round)
+    → AreWantedFrom w past until limit (after_from w past start xs) more → AreWantedFrom w past until limit start xs
+    → AreWantedFrom w past until limit start (more ++ xs)
+wanted_more w past until limit start [] xs new old = old
+wanted_more w past until limit start (x ∷ more) xs new old = (
+  subst (λ (s : Serving). IsWanted (wants w past until limit s) x) (sym (after_more w past start more xs)) new.0,
+  wanted_more w past until limit start more xs new.1 old,
 )
 
-grown_round : (w : Setting) (past : List Event) (x : Round) (s t : Serving) → Grown s t → Grown s (round_does w past x t)
-grown_round w past (Began item) s t grown = grown_outcome w past (first_does w (so_far past t) item t.waiting) (brought w past (Began item) t) s (began t) grown
-grown_round w past (Turned i) s t grown = grown_outcome w past (event_called w (so_far past t) i (events.Turn i) t.waiting) (brought w past (Turned i) t) s t grown
-grown_round w past (Reminded i j) s t grown = grown_outcome w past (silent [] t.waiting) (brought w past (Reminded i j) t) s t grown
-grown_round w past (Took item) s t grown =
-    grown_outcome w past (item_does w (so_far past t) item t.waiting) (brought w past (Took item) t) s (gave item t) (grown.0, part_front (Gives item ∷ []) s.acts t.acts grown.1)
-
-grown_more : (w : Setting) (past : List Event) (start : Serving) (more xs : List Round) → Grown (after_from w past start xs) (after_from w past start (more ++ xs))
-grown_more w past start [] xs = (([], refl), ([], refl))
-grown_more w past start (x ∷ more) xs =
-    grown_round w past x (after_from w past start xs) (after_from w past start (more ++ xs)) (grown_more w past start more xs)
-
-pub grows : OnlyGrows
-grows w past start xs ys part =
-    subst (λ (zs : List Round). Grown (after_from w past start xs) (after_from w past start zs)) part.1 (grown_more w past start part.0 xs)
+pub groups_are_rounds : GroupsAreRounds
+groups_are_rounds w past until limit start [] are = (tt, refl)
+groups_are_rounds w past until limit start (group ∷ older) are =
+    let below = groups_are_rounds w past until limit start older are.2 in
+    let rounds = all_rounds older in
+    let wanted : AreWantedFrom w past until limit (after_from w past start rounds) group =
+    subst (λ (s : Serving). AreWantedFrom w past until limit s group) (sym below.1) are.0.wanted in (
+      wanted_more w past until limit start group rounds wanted below.0,
+      after_more w past start group rounds ∙ ap (λ (s : Serving). after_from w past s group) below.1,
+    )

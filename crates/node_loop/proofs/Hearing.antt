@@ -248,7 +248,7 @@ opened_comes {S = S} {E = E} {C = C} m w es numbers given now ws p at bytes fram
     (record {
       before = p;
       besides = let P : More → Type 0 = λ x. IsMore w at x (record { deeds = Acked at o.from o.seq ∷ []; peers = keep_all fs p }) in
-          subst P (sym (took.1 ∙ ap₂ note from_is seq_is)) refl;
+          subst P (sym (took.1 ∙ ap₂ note from_is seq_is)) (refl, refl);
       kept = refl;
       stands = let P : House S E C → Type 0 = λ x. HouseStands m w (e ∷ es) numbers x ws p in subst P (sym took.0) stands;
     })

@@ -1,3 +1,4 @@
+pub mod InOrder
 pub mod Grown
 pub mod OneRun
 pub mod FramesSent
@@ -24,6 +25,7 @@ pub mod Wishing
 pub mod Hearing
 pub mod KeptFrames
 pub mod Grouping
+pub mod Gathering
 pub mod Delivering
 pub mod Journaling
 pub mod Recalling

@@ -23,12 +23,14 @@ use Rattle.node_loop.specs.Waiting.{Waiting}
 use Rattle.node_loop.specs.Calls.{Outcome, event_called, silent, item_does, first_does}
 use Rattle.node_loop.specs.declared.peers.Mark.{Mark}
 use Rattle.node_loop.specs.Peers.{Peers, is_pair, with_list, with_mark, keeps, keep_one, keep_all, acknowledged}
-use Rattle.node_loop.specs.Deeds.{Deed, Came, Made, Resent, Acked, Wished, Replied, pushed, says_so, acks, is_first, is_connected}
+use Rattle.node_loop.specs.Deeds.{Deed, Came, Made, Resent, Acked, Wished, Replied, pushed, is_resent, has_resent, says_so, acks, is_first, is_connected}
 use Rattle.node_loop.specs.Resending.{Brought, nothing_more, mark_at, is_deferred, opened_so, resends, noted_so}
-use Rattle.node_loop.specs.Serving.{Serving, so_far, Round, Began, Turned, Reminded, Took, frames_made_by, brought, outcome, after_from, came, with_deeds, deeds_from}
+use Rattle.node_loop.specs.Serving.{Serving, so_far, Round, Began, Turned, Reminded, Took, frames_made_by, brought, outcome, after_from}
+use Rattle.node_loop.specs.Told.{AreJoined, AreGroups, after_groups, came_in, with_deeds, newest_deeds, deeds_from}
 use Rattle.node_loop.specs.Recovering.{keep_newest, all_newest, recalled_peers, recalled_deeds}
 use Rattle.node_loop.specs.Laws.{IsUnacknowledged, AllSent, AreOpen, ResendsAreOpen, RecalledAreSent, RecalledAreOpen}
 use Rattle.node_loop.proofs.FramesSent.{firsts_made}
+use Rattle.node_loop.proofs.InOrder.{came, in_order, StaysWhere, AreOfKindBefore, together}
 
 -- ---- tests
 
@@ -138,12 +140,12 @@ asked_good w i j p ds good = record { sent = record { each = good.sent.each }; a
 -- ---- items that are no acknowledgement
 
 came_stays : (w : Setting) (item : LinkItem) (i j : ℕ) (ds : List Deed) (ks : List Kept) → ((seq : ℕ) → acks w item i j seq ≡ false)
-    → AllByRecursion (IsUnacknowledged w i j ds) ks → AllByRecursion (IsUnacknowledged w i j (Came item ∷ ds)) ks
+    → AllByRecursion (IsUnacknowledged w i j ds) ks → AllByRecursion (IsUnacknowledged w i j (Came false item ∷ ds)) ks
 came_stays w item i j ds [] none all = tt
 came_stays w item i j ds (k ∷ ks) none all =
     ((all.0.0, not_and (acks w item i j (seq_of k.frame)) (is_connected w i j k.frame ds) (none (seq_of k.frame)) all.0.1), came_stays w item i j ds ks none all.1)
 
-came_good : (w : Setting) (item : LinkItem) (p : Peers) (ds : List Deed) → ((i j seq : ℕ) → acks w item i j seq ≡ false) → Good w p ds → Good w p (Came item ∷ ds)
+came_good : (w : Setting) (item : LinkItem) (p : Peers) (ds : List Deed) → ((i j seq : ℕ) → acks w item i j seq ≡ false) → Good w p ds → Good w p (Came false item ∷ ds)
 came_good w item p ds none good = record {
   sent = record { each = λ i j. came_stays w item i j ds (p.keeping i j) (none i j) (good.sent.each i j) };
   again = good.again;
@@ -171,8 +173,8 @@ other_seq a b h = elim (cases_Bool (a == b)) [
 
 taken_step : (w : Setting) (to from number : ℕ) (bytes : List ℕ) → ((i j seq : ℕ) → acks w (items.Frame to bytes) i j seq ≡ (to == i && (from == j && number == seq)))
     → (ds : List Deed) (k : Kept) (ks : List Kept) (b : Bool) → not (k.seq == number) ≡ b → IsUnacknowledged w to from ds k
-    → AllByRecursion (IsUnacknowledged w to from (Came (items.Frame to bytes) ∷ ds)) ks
-    → AllByRecursion (IsUnacknowledged w to from (Came (items.Frame to bytes) ∷ ds)) (if b then k ∷ ks else ks)
+    → AllByRecursion (IsUnacknowledged w to from (Came false (items.Frame to bytes) ∷ ds)) ks
+    → AllByRecursion (IsUnacknowledged w to from (Came false (items.Frame to bytes) ∷ ds)) (if b then k ∷ ks else ks)
 taken_step w to from number bytes is ds k ks true other one rest =
     let none : acks w (items.Frame to bytes) to from (seq_of k.frame) ≡ false =
     is to from (seq_of k.frame)
@@ -182,7 +184,7 @@ taken_step w to from number bytes is ds k ks true other one rest =
 taken_step w to from number bytes is ds k ks false same one rest = rest
 
 taken_stays : (w : Setting) (to from number : ℕ) (bytes : List ℕ) → ((i j seq : ℕ) → acks w (items.Frame to bytes) i j seq ≡ (to == i && (from == j && number == seq)))
-    → (ds : List Deed) (ks : List Kept) → AllByRecursion (IsUnacknowledged w to from ds) ks → AllByRecursion (IsUnacknowledged w to from (Came (items.Frame to bytes) ∷ ds)) (all_but number ks)
+    → (ds : List Deed) (ks : List Kept) → AllByRecursion (IsUnacknowledged w to from ds) ks → AllByRecursion (IsUnacknowledged w to from (Came false (items.Frame to bytes) ∷ ds)) (all_but number ks)
 taken_stays w to from number bytes is ds [] all = tt
 taken_stays w to from number bytes is ds (k ∷ ks) all =
     taken_step w to from number bytes is ds k (all_but number ks) (not (k.seq == number)) refl all.0 (taken_stays w to from number bytes is ds ks all.1)
@@ -200,9 +202,9 @@ other_pair to from a b x other = elim (cases_Bool (to == a)) [
 
 ack_good : (w : Setting) (to from number : ℕ) (bytes : List ℕ) (p : Peers) (ds : List Deed)
     → ((i j seq : ℕ) → acks w (items.Frame to bytes) i j seq ≡ (to == i && (from == j && number == seq)))
-    → Good w p ds → Good w (acknowledged to from number p) (Came (items.Frame to bytes) ∷ ds)
+    → Good w p ds → Good w (acknowledged to from number p) (Came false (items.Frame to bytes) ∷ ds)
 ack_good w to from number bytes p ds is good = record {
-  sent = one_list w to from (all_but number (p.keeping to from)) p (Came (items.Frame to bytes) ∷ ds)
+  sent = one_list w to from (all_but number (p.keeping to from)) p (Came false (items.Frame to bytes) ∷ ds)
       (taken_stays w to from number bytes is ds (p.keeping to from) (good.sent.each to from))
       (λ a b other. came_stays w (items.Frame to bytes) a b ds (p.keeping a b) (λ seq. is a b seq ∙ other_pair to from a b (number == seq) other) (good.sent.each a b));
   again = good.again;
@@ -224,13 +226,13 @@ acks_frame w to bytes i j seq h =
 
 -- what a note leaves
 note_good : (w : Setting) (to : ℕ) (bytes : List ℕ) (p : Peers) (ds : List Deed) (said : Option Note) → w.is_correct to ≡ true → is_note bytes ≡ true
-    → noted (w.keys to) bytes ≡ said → Good w p ds → Good w (noted_so to p said).peers (pushed (noted_so to p said).deeds (Came (items.Frame to bytes) ∷ ds))
+    → noted (w.keys to) bytes ≡ said → Good w p ds → Good w (noted_so to p said).peers (pushed (noted_so to p said).deeds (Came false (items.Frame to bytes) ∷ ds))
 note_good w to bytes p ds None here note is good =
     came_good w (items.Frame to bytes) p ds (λ i j seq. acks_none w to bytes i j seq (ap (λ (o : Option Note). says_so o j seq) is)) good
 note_good w to bytes p ds (Some (notes.Ack from number)) here note is good =
     ack_good w to from number bytes p ds (acks_is w to from number bytes here note is) good
 note_good w to bytes p ds (Some (notes.Again from)) here note is good =
-    resends_good w to from p (Came (items.Frame to bytes) ∷ ds)
+    resends_good w to from p (Came false (items.Frame to bytes) ∷ ds)
     (came_good w (items.Frame to bytes) p ds (λ i j seq. acks_none w to bytes i j seq (ap (λ (o : Option Note). says_so o j seq) is)) good)
 
 -- whichever of two comes
@@ -260,7 +262,7 @@ FrameGood w es to bytes ws p ds here note =
     let fs = frames_made_by w es did.event in
     let q = keep_all fs p in
     let more = brings_so here note (noted_so to q (noted (w.keys to) bytes)) (opened_so w es to bytes q (opening (w.keys to) bytes)) q in
-    Good w more.peers (with_deeds fs more.deeds did.replies (Came (items.Frame to bytes) ∷ ds))
+    Good w more.peers (with_deeds fs more.deeds did.replies (Came false (items.Frame to bytes) ∷ ds))
 
 frame_good : (w : Setting) (es : List Event) (to : ℕ) (bytes : List ℕ) (ws : Waiting) (p : Peers) (ds : List Deed) (here note : Bool)
     → w.is_correct to ≡ here → is_note bytes ≡ note → Good w p ds → FrameGood w es to bytes ws p ds here note
@@ -273,8 +275,8 @@ frame_good w es to bytes ws p ds true false is kind good =
     let came_so = came_good w (items.Frame to bytes) p ds
     (λ i j seq. acks_frame w to bytes i j seq kind) good in
     replied_good w did.replies _ _
-    (opened_good w es to bytes (keep_all fs p) (pushed (map Made fs) (Came (items.Frame to bytes) ∷ ds)) (opening (w.keys to) bytes)
-    (all_made_good w fs p (Came (items.Frame to bytes) ∷ ds) came_so))
+    (opened_good w es to bytes (keep_all fs p) (pushed (map Made fs) (Came false (items.Frame to bytes) ∷ ds)) (opening (w.keys to) bytes)
+    (all_made_good w fs p (Came false (items.Frame to bytes) ∷ ds) came_so))
 
 -- ---- rounds
 
@@ -299,24 +301,136 @@ round_good w past (Reminded i j) s ds good = asked_good w i j s.peers ds good
 round_good w past (Took (items.Frame to bytes)) s ds good =
     frame_good w (so_far past s) to bytes s.waiting s.peers ds (w.is_correct to) (is_note bytes) refl refl good
 round_good w past (Took (items.Client at conn bytes)) s ds good =
-    plain_good w (so_far past s) (item_does w (so_far past s) (items.Client at conn bytes) s.waiting) s.peers (Came (items.Client at conn bytes) ∷ ds)
+    plain_good w (so_far past s) (item_does w (so_far past s) (items.Client at conn bytes) s.waiting) s.peers (Came false (items.Client at conn bytes) ∷ ds)
     (came_good w (items.Client at conn bytes) s.peers ds (λ i j seq. refl) good)
 round_good w past (Took (items.Reply from bytes)) s ds good = came_good w (items.Reply from bytes) s.peers ds (λ i j seq. refl) good
 round_good w past (Took (items.Up at peer)) s ds good =
-    up_good w at peer s.peers (Came (items.Up at peer) ∷ ds) (w.is_correct at && nat_lt peer w.numbers.n)
+    up_good w at peer s.peers (Came false (items.Up at peer) ∷ ds) (w.is_correct at && nat_lt peer w.numbers.n)
     (came_good w (items.Up at peer) s.peers ds (λ i j seq. refl) good)
 round_good w past (Took (items.Down at peer)) s ds good = came_good w (items.Down at peer) s.peers ds (λ i j seq. refl) good
 round_good w past (Took (items.Left at conn)) s ds good = came_good w (items.Left at conn) s.peers ds (λ i j seq. refl) good
 round_good w past (Took items.End) s ds good = came_good w items.End s.peers ds (λ i j seq. refl) good
 
-all_good : (w : Setting) (past : List Event) (start : Serving) (ds : List Deed) (rounds : List Round) → Good w start.peers ds
-    → Good w (after_from w past start rounds).peers (deeds_from w past start ds rounds)
-all_good w past start ds [] good = good
-all_good w past start ds (x ∷ rounds) good =
-    round_good w past x (after_from w past start rounds) (deeds_from w past start ds rounds) (all_good w past start ds rounds good)
+good_in_order : (w : Setting) (past : List Event) (start : Serving) (ds : List Deed) (rounds : List Round) → Good w start.peers ds
+    → Good w (after_from w past start rounds).peers (in_order w past start ds rounds)
+good_in_order w past start ds [] good = good
+good_in_order w past start ds (x ∷ rounds) good =
+    round_good w past x (after_from w past start rounds) (in_order w past start ds rounds) (good_in_order w past start ds rounds good)
+
+-- ---- groups
+
+-- what is on its way by the ones is by the others, and the others are open where the ones are
+record StayOpen (w : Setting) (a b : List Deed) : Type 0 where
+  connected : (i j : ℕ) (frame : List ℕ) → is_connected w i j frame a ≡ true → is_connected w i j frame b ≡ true
+  again : AreOpen w a → AreOpen w b
+
+connected_behind : (w : Setting) (d : Deed) (a b : List Deed) (i j : ℕ) (frame : List ℕ) → (is_connected w i j frame a ≡ true → is_connected w i j frame b ≡ true)
+    → is_connected w i j frame (d ∷ a) ≡ true → is_connected w i j frame (d ∷ b) ≡ true
+connected_behind w (Came now item) a b i j frame f is =
+    let parts = both (not (acks w item i j (seq_of frame))) (is_connected w i j frame a) is in
+    ap₂ (λ (x y : Bool). x && y) parts.0 (f parts.1)
+connected_behind w (Made made) a b i j frame f is = by_first (is_first made i j frame) is
+  where
+    by_first : (t : Bool) → (t || is_connected w i j frame a) ≡ true → (t || is_connected w i j frame b) ≡ true
+    by_first true is = refl
+    by_first false is = f is
+connected_behind w (Resent k l other) a b i j frame f is = f is
+connected_behind w (Acked k l seq) a b i j frame f is = f is
+connected_behind w (Wished k l) a b i j frame f is = f is
+connected_behind w (Replied sent) a b i j frame f is = f is
+
+open_behind : (w : Setting) (d : Deed) (a b : List Deed) → StayOpen w a b → AreOpen w (d ∷ a) → AreOpen w (d ∷ b)
+open_behind w (Came now item) a b stay all = stay.again all
+open_behind w (Made f) a b stay all = stay.again all
+open_behind w (Resent i j frame) a b stay all = (stay.connected i j frame all.0, stay.again all.1)
+open_behind w (Acked i j seq) a b stay all = stay.again all
+open_behind w (Wished i j) a b stay all = stay.again all
+open_behind w (Replied sent) a b stay all = stay.again all
+
+and_turned : (a b c : Bool) → (a && (b && c)) ≡ true → (b && (a && c)) ≡ true
+and_turned true b c is = is
+and_turned false b c is = absurd (cc)
+
+or_before : (a b c : Bool) → (a && (b || c)) ≡ true → (b || (a && c)) ≡ true
+or_before true b c is = is
+or_before false b c is = absurd (cc)
+
+connected_sooner : (w : Setting) (now : Bool) (item : LinkItem) (d : Deed) (ds : List Deed) (i j : ℕ) (frame : List ℕ)
+    → is_connected w i j frame (Came now item ∷ d ∷ ds) ≡ true → is_connected w i j frame (d ∷ Came now item ∷ ds) ≡ true
+connected_sooner w now item (Came later other) ds i j frame is =
+    and_turned (not (acks w item i j (seq_of frame))) (not (acks w other i j (seq_of frame))) (is_connected w i j frame ds) is
+connected_sooner w now item (Made f) ds i j frame is = or_before (not (acks w item i j (seq_of frame))) (is_first f i j frame) (is_connected w i j frame ds) is
+connected_sooner w now item (Resent k l other) ds i j frame is = is
+connected_sooner w now item (Acked k l seq) ds i j frame is = is
+connected_sooner w now item (Wished k l) ds i j frame is = is
+connected_sooner w now item (Replied sent) ds i j frame is = is
+
+-- a deed that sends nothing again
+abbrev IsNew : Deed → Type 0
+IsNew d = is_resent d ≡ false
+
+open_sooner : (w : Setting) (now : Bool) (item : LinkItem) (d : Deed) (ds : List Deed) → IsNew d → AreOpen w (Came now item ∷ d ∷ ds) → AreOpen w (d ∷ Came now item ∷ ds)
+open_sooner w now item (Came later other) ds new all = all
+open_sooner w now item (Made f) ds new all = all
+open_sooner w now item (Resent i j frame) ds new all = absurd (cc)
+open_sooner w now item (Acked i j seq) ds new all = all
+open_sooner w now item (Wished i j) ds new all = all
+open_sooner w now item (Replied sent) ds new all = all
+
+open_stay : (w : Setting) → StaysWhere IsNew (StayOpen w)
+open_stay w = record {
+  itself = λ ds. record { connected = λ i j frame is. is; again = λ all. all };
+  through = λ a b c first second. record {
+    connected = λ i j frame is. second.connected i j frame (first.connected i j frame is);
+    again = λ all. second.again (first.again all);
+  };
+  behind = λ d a b stay. record {
+    connected = λ i j frame. connected_behind w d a b i j frame (stay.connected i j frame);
+    again = open_behind w d a b stay;
+  };
+  either_call = λ now later item ds. record { connected = λ i j frame is. is; again = λ all. all };
+  sooner = λ now item d ds new. record { connected = connected_sooner w now item d ds; again = open_sooner w now item d ds new };
+}
+
+-- behind the newest round of a group none sends anything again
+none_again : (ds : List Deed) → has_resent ds ≡ false → AllByRecursion IsNew ds
+none_again [] none = tt
+none_again (d ∷ ds) none = let parts = neither (is_resent d) (has_resent ds) none in (parts.0, none_again ds parts.1)
+  where
+    neither : (a b : Bool) → (a || b) ≡ false → (a ≡ false) × (b ≡ false)
+    neither true b none = absurd (cc)
+    neither false b none = (refl, none)
+
+new_before : (w : Setting) (past : List Event) (start : Serving) (group : List Round) → AreJoined w past start group → AreOfKindBefore IsNew w past start group
+new_before w past start [] joined = tt
+new_before w past start (x ∷ []) joined = tt
+new_before w past start (x ∷ (y ∷ group)) joined =
+    (none_again (brought w past y (after_from w past start group)).deeds joined.0.1, new_before w past start (y ∷ group) joined.1)
+
+still_all_sent : (w : Setting) (i j : ℕ) (a b : List Deed) (ks : List Kept) → StayOpen w a b → AllByRecursion (IsUnacknowledged w i j a) ks
+    → AllByRecursion (IsUnacknowledged w i j b) ks
+still_all_sent w i j a b [] stay all = tt
+still_all_sent w i j a b (k ∷ ks) stay all = ((all.0.0, stay.connected i j k.frame all.0.1), still_all_sent w i j a b ks stay all.1)
+
+still_good : (w : Setting) (p : Peers) (a b : List Deed) → StayOpen w a b → Good w p a → Good w p b
+still_good w p a b stay good = record {
+  sent = record { each = λ i j. still_all_sent w i j a b (p.keeping i j) stay (good.sent.each i j) };
+  again = stay.again good.again;
+}
+
+groups_good : (w : Setting) (past : List Event) (until limit : ℕ) (start : Serving) (ds : List Deed) (groups : List (List Round))
+    → AreGroups w past until limit start groups → Good w start.peers ds → Good w (after_groups w past start groups).peers (deeds_from w past start ds groups)
+groups_good w past until limit start ds [] are good = good
+groups_good w past until limit start ds (group ∷ older) are good =
+    let s = after_groups w past start older in
+    let below = deeds_from w past start ds older in
+    still_good w (after_from w past s group).peers (in_order w past s below group) (newest_deeds w past s (came_in group ++ below) group)
+    (together IsNew (StayOpen w) (open_stay w) (λ f. refl) (λ sent. refl) w past s below group (new_before w past s group are.0.joined))
+    (good_in_order w past s below group (groups_good w past until limit start ds older are.2 good))
 
 pub resends_open : ResendsAreOpen
-resends_open w past start ds rounds sent again = (all_good w past start ds rounds (record { sent = sent; again = again })).again
+resends_open w past until limit start ds groups are sent again =
+    (groups_good w past until limit start ds groups are (record { sent = sent; again = again })).again
 
 -- ---- events that a journal kept
 

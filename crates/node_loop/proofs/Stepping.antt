@@ -108,7 +108,7 @@ has_cause A base o events acts told tells count link_faults.Mem fault is agrees 
 -- all that was written was written before
 pub whole_order : (tells : Tells) (base o : Outs) (events : List Event) (sooner : List LinkAct) (fault : Fault) → IsOfLink fault → AllWritten tells base o events
     → InOrder tells base o fault events sooner
-whole_order tells base o events sooner fault own written = of_link (λ x. InOrder tells base o x events sooner) written (inl written) fault own
+whole_order tells base o events sooner fault own written = of_link (λ x. InOrder tells base o x events sooner) (inl written) (inl written) fault own
 
 -- of what is new some was told before, and then a part of the rest
 pub link_stops : (tells : Tells) (base o : Outs) (events : List Event) (sooner done news all told : List LinkAct) (count : FaultCounts) (x : LinkFault) (fault : Fault)

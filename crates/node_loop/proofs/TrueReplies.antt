@@ -1,7 +1,7 @@
 -- The replies that give a position are true.
 use Rattle.std.proofs.Common.{◌≡◌, ℕ, ◌&&◌, Bool, true, false, List, [], ◌∷◌, ◌++◌, length, map, reverse, Option, Some, None, nat_lt, refl, sym, ◌∙◌, ap, ap₂, subst, append_assoc, if◌then◌else◌}
 use Rattle.std.specs.List.{AllByRecursion}
-use Rattle.std.proofs.lemmas.List.{reverse-append}
+use Rattle.std.proofs.lemmas.List.{append-nil, reverse-append}
 use Rattle.std.proofs.lemmas.Bool.{eq-eqb}
 use Rattle.ritas_base.specs.declared.event.Event.{Event}
 use Rattle.ritas_base.specs.declared.event.Event.TheVariants as events
@@ -24,7 +24,8 @@ use Rattle.node_loop.specs.Resending.{Brought}
 use Rattle.node_loop.proofs.FramesSent.{IsBesides, item_besides}
 use Rattle.node_loop.specs.Waiting.{Waiting, with_waiter}
 use Rattle.node_loop.specs.Calls.{Outcome, reply, reply_each, asked_by, waiting_left_by, replies_by, event_called, asked_in, refusal_in, submitted, submitted_so, silent, is_waited_for, asked_so, asks_so, asks, if_here, item_does, first_does}
-use Rattle.node_loop.specs.Serving.{Serving, so_far, as_sent, frames_made_by, sent_by, onto, with_outcome, Round, Began, Turned, Reminded, Took, began, gave, brought, after_from}
+use Rattle.node_loop.specs.Serving.{Serving, so_far, as_sent, frames_made_by, sent_by, sent_of, onto, with_outcome, Round, Began, Turned, Reminded, Took, began, took, at_call, outcome, brought, round_does, after_from}
+use Rattle.node_loop.specs.Told.{after_groups, given_for, given_in, news_from, told_from}
 use Rattle.node_loop.specs.Laws.{IsTrueReply}
 use Rattle.node_loop.proofs.Comings.{request_asked}
 use Rattle.node_loop.proofs.Logs.{rows_are_once, position_in_part}
@@ -71,7 +72,7 @@ none_sent w es o = no_replies (frames_made_by w es o)
 
 besides_none : (keys : ℕ → KeyRow) (more : List Deed) → AllByRecursion IsBesides more → replies_in (reverse (map (act_of keys) more)) ≡ []
 besides_none keys [] all = refl
-besides_none keys (Came item ∷ more) all = absurd all.0
+besides_none keys (Came now item ∷ more) all = absurd all.0
 besides_none keys (Made f ∷ more) all = absurd all.0
 besides_none keys (Resent i j frame ∷ more) all =
     rw (reverse_cons (act_of keys (Resent i j frame)) (map (act_of keys) more), replies_more (reverse (map (act_of keys) more)) (act_of keys (Resent i j frame) ∷ []), besides_none keys more all.1) refl
@@ -81,14 +82,30 @@ besides_none keys (Wished i j ∷ more) all =
     rw (reverse_cons (act_of keys (Wished i j)) (map (act_of keys) more), replies_more (reverse (map (act_of keys) more)) (act_of keys (Wished i j) ∷ []), besides_none keys more all.1) refl
 besides_none keys (Replied sent ∷ more) all = absurd all.0
 
-acts_replies : (w : Setting) (es : List Event) (o : Option Event) (more : List Deed) (xs : List Sent) (acts : List LinkAct) → AllByRecursion IsBesides more
-    → replies_in (reverse (map Replies xs) ++ (reverse (map (act_of w.keys) more) ++ (reverse (sent_by w es o) ++ acts))) ≡ reverse xs ++ replies_in acts
-acts_replies w es o more xs acts besides =
-    replies_more (reverse (map Replies xs)) (reverse (map (act_of w.keys) more) ++ (reverse (sent_by w es o) ++ acts))
-    ∙ ap₂ (λ (a b : List Sent). a ++ b) (all_replies xs)
-    (replies_more (reverse (map (act_of w.keys) more)) (reverse (sent_by w es o) ++ acts)
-    ∙ ap₂ (λ (a b : List Sent). a ++ b) (besides_none w.keys more besides)
-    (replies_more (reverse (sent_by w es o)) acts ∙ ap (λ (l : List Sent). l ++ replies_in acts) (none_sent w es o)))
+news_replies : (w : Setting) (es : List Event) (did : Outcome) (more : Brought) → AllByRecursion IsBesides more.deeds
+    → replies_in (sent_of w es did more) ≡ reverse did.replies
+news_replies w es did more besides =
+    let peers = reverse (map (act_of w.keys) more.deeds) in
+    let sent = reverse (sent_by w es did.event) in
+    let none : replies_in (peers ++ sent) ≡ [] =
+    replies_more peers sent ∙ ap₂ (λ (a b : List Sent). a ++ b) (besides_none w.keys more.deeds besides) (none_sent w es did.event) in
+    replies_more (reverse (map Replies did.replies)) (peers ++ sent)
+    ∙ (ap₂ (λ (a b : List Sent). a ++ b) (all_replies did.replies) none ∙ append-nil (reverse did.replies))
+
+-- an item is no reply
+given_none : (group : List Round) → replies_in (given_in group) ≡ []
+given_none [] = refl
+given_none (x ∷ group) = replies_more (given_for x group) (given_in group) ∙ ap₂ (λ (a b : List Sent). a ++ b) (none x group) (given_none group)
+  where
+    none : (x : Round) (group : List Round) → replies_in (given_for x group) ≡ []
+    none (Began item) [] = refl
+    none (Began item) (y ∷ group) = refl
+    none (Turned i) [] = refl
+    none (Turned i) (y ∷ group) = refl
+    none (Reminded i j) [] = refl
+    none (Reminded i j) (y ∷ group) = refl
+    none (Took item) [] = refl
+    none (Took item) (y ∷ group) = refl
 
 -- ---- what is replied
 
@@ -217,35 +234,55 @@ module _ (w : Setting) (grow : (more es : List Event) (i : ℕ) → IsPart (rows
             was.client was.request was.position was.stands;
       }
 
-  all_stay : (o : Option Event) (past : List Event) (s : Serving) → AreTrue w (so_far past s) (replies_in s.acts) → AreTrue w (onto o s.events ++ past) (replies_in s.acts)
-  all_stay None past s all = all
-  all_stay (Some e) past s all = all_map (IsTrueReply w (so_far past s)) (IsTrueReply w (e ∷ so_far past s)) (stays_true e (so_far past s)) (replies_in s.acts) all
+  all_stay : (o : Option Event) (past : List Event) (s : Serving) (xs : List Sent) → AreTrue w (so_far past s) xs → AreTrue w (onto o s.events ++ past) xs
+  all_stay None past s xs all = all
+  all_stay (Some e) past s xs all = all_map (IsTrueReply w (so_far past s)) (IsTrueReply w (e ∷ so_far past s)) (stays_true e (so_far past s)) xs all
 
   now_true : (o : Option Event) (past : List Event) (s : Serving) (xs : List Sent) → AreTrue w (onto o (so_far past s)) xs → AreTrue w (onto o s.events ++ past) xs
   now_true None past s xs all = all
   now_true (Some e) past s xs all = all
 
-  outcome_true : (past : List Event) (did : Outcome) (more : Brought) (s : Serving) → AllByRecursion IsBesides more.deeds → AreTrue w (so_far past s) (replies_in s.acts) → IsTrueOutcome w (so_far past s) did
-      → AreTrue w (so_far past (with_outcome w past did more s)) (replies_in (with_outcome w past did more s).acts)
-  outcome_true past did more s besides all holds =
+  -- with what goes out of an outcome, in front of these replies
+  outcome_true : (past : List Event) (did : Outcome) (more : Brought) (s : Serving) (xs : List Sent) → AllByRecursion IsBesides more.deeds → AreTrue w (so_far past s) xs
+      → IsTrueOutcome w (so_far past s) did → AreTrue w (so_far past (with_outcome did more s)) (replies_in (sent_of w (so_far past s) did more) ++ xs)
+  outcome_true past did more s xs besides all holds =
       let es = onto did.event s.events ++ past in
-      subst (λ (l : List Sent). AreTrue w es l) (sym (acts_replies w (so_far past s) did.event more.deeds did.replies s.acts besides))
-      (all_append (IsTrueReply w es) (reverse did.replies) (replies_in s.acts)
-      (all_reverse (IsTrueReply w es) did.replies (now_true did.event past s did.replies holds)) (all_stay did.event past s all))
+      subst (λ (l : List Sent). AreTrue w es (l ++ xs)) (sym (news_replies w (so_far past s) did more besides))
+      (all_append (IsTrueReply w es) (reverse did.replies) xs
+      (all_reverse (IsTrueReply w es) did.replies (now_true did.event past s did.replies holds)) (all_stay did.event past s xs all))
 
-  pub replies_true : (past : List Event) (start : Serving) (rounds : List Round) → AreTrue w (so_far past start) (replies_in start.acts)
-      → AllByRecursion (IsTrueReply w (so_far past (after_from w past start rounds))) (replies_in (after_from w past start rounds).acts)
-  replies_true past start [] all = all
-  replies_true past start (Began item ∷ rounds) all =
+  round_true : (past : List Event) (x : Round) (s : Serving) (xs : List Sent) → AreTrue w (so_far past s) xs
+      → AreTrue w (so_far past (round_does w past x s)) (replies_in (sent_of w (so_far past (at_call x s)) (outcome w past x s) (brought w past x s)) ++ xs)
+  round_true past (Began item) s xs all =
+      outcome_true past (first_does w (so_far past s) item s.waiting) (brought w past (Began item) s) (began s) xs tt all (first_true w (so_far past s) item s.waiting)
+  round_true past (Turned i) s xs all =
+      outcome_true past (event_called w (so_far past s) i (events.Turn i) s.waiting) (brought w past (Turned i) s) s xs tt all (called_true w (so_far past s) i (events.Turn i) s.waiting)
+  round_true past (Reminded i j) s xs all = outcome_true past (silent [] s.waiting) (brought w past (Reminded i j) s) s xs (tt, tt) all tt
+  round_true past (Took item) s xs all =
+      outcome_true past (item_does w (so_far past s) item s.waiting) (brought w past (Took item) s) (took s) xs
+      (item_besides w (so_far past s) item (keep_all (frames_made_by w (so_far past s) (item_does w (so_far past s) item s.waiting).event) s.peers)) all
+      (item_true w (so_far past s) item s.waiting)
+
+  rounds_true : (past : List Event) (start : Serving) (rounds : List Round) (xs : List Sent) → AreTrue w (so_far past start) xs
+      → AreTrue w (so_far past (after_from w past start rounds)) (replies_in (news_from w past start rounds) ++ xs)
+  rounds_true past start [] xs all = all
+  rounds_true past start (x ∷ rounds) xs all =
       let s = after_from w past start rounds in
-      outcome_true past (first_does w (so_far past s) item s.waiting) (brought w past (Began item) s) (began s) tt (replies_true past start rounds all) (first_true w (so_far past s) item s.waiting)
-  replies_true past start (Turned i ∷ rounds) all =
-      let s = after_from w past start rounds in
-      outcome_true past (event_called w (so_far past s) i (events.Turn i) s.waiting) (brought w past (Turned i) s) s tt (replies_true past start rounds all) (called_true w (so_far past s) i (events.Turn i) s.waiting)
-  replies_true past start (Reminded i j ∷ rounds) all =
-      let s = after_from w past start rounds in
-      outcome_true past (silent [] s.waiting) (brought w past (Reminded i j) s) s (tt, tt) (replies_true past start rounds all) tt
-  replies_true past start (Took item ∷ rounds) all =
-      let s = after_from w past start rounds in
-      outcome_true past (item_does w (so_far past s) item s.waiting) (brought w past (Took item) s) (gave item s)
-      (item_besides w (so_far past s) item (keep_all (frames_made_by w (so_far past s) (item_does w (so_far past s) item s.waiting).event) s.peers)) (replies_true past start rounds all) (item_true w (so_far past s) item s.waiting)
+      let sent = sent_of w (so_far past (at_call x s)) (outcome w past x s) (brought w past x s) in
+      let below = news_from w past start rounds in
+      let parts : (replies_in sent ++ (replies_in below ++ xs)) ≡ (replies_in (sent ++ below) ++ xs) =
+      sym (ap (λ (l : List Sent). l ++ xs) (replies_more sent below) ∙ append_assoc (replies_in sent) (replies_in below) xs) in
+      subst (λ (l : List Sent). AreTrue w (so_far past (round_does w past x s)) l) parts
+      (round_true past x s (replies_in below ++ xs) (rounds_true past start rounds xs all))
+
+  pub replies_true : (past : List Event) (start : Serving) (groups : List (List Round))
+      → AllByRecursion (IsTrueReply w (so_far past (after_groups w past start groups))) (replies_in (told_from w past start groups))
+  replies_true past start [] = tt
+  replies_true past start (group ∷ older) =
+      let s = after_groups w past start older in
+      let new = news_from w past s group in
+      let below = told_from w past start older in
+      let parts : (replies_in new ++ replies_in below) ≡ replies_in (new ++ (given_in group ++ below)) =
+      sym (replies_more new (given_in group ++ below)
+      ∙ ap (λ (l : List Sent). replies_in new ++ l) (replies_more (given_in group) below ∙ ap (λ (l : List Sent). l ++ replies_in below) (given_none group))) in
+      subst (λ (l : List Sent). AreTrue w (so_far past (after_from w past s group)) l) parts (rounds_true past s group (replies_in below) (replies_true past start older))

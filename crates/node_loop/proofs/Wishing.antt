@@ -160,7 +160,7 @@ not_none xs some none = both_ways (nat_lt 0 (length xs)) (ap (λ (ys : List Pair
 -- the note that asks a peer
 pub again_is : (w : Setting) (at peer : ℕ) (bytes : List ℕ) (k : KeyRow) (p : Peers) → k ≡ w.keys at → bytes ≡ again_note k peer
     → IsMore w at (mores.Note peer bytes) (asks_for_more at peer p)
-again_is w at peer bytes k p same is = ap (λ (b : List ℕ). sends at peer b ∷ []) (sym (is ∙ ap (λ (x : KeyRow). again_note x peer) same))
+again_is w at peer bytes k p same is = (ap (λ (b : List ℕ). sends at peer b ∷ []) (sym (is ∙ ap (λ (x : KeyRow). again_note x peer) same)), refl)
 
 -- ---- a mark is set, or is none any more
 

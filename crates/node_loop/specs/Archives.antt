@@ -18,10 +18,10 @@ pub record Moment : Type 1 where
 abbrev pub moment : Outs → (List Event → Type 0) → (ArchiveFault → List Event → List Event → Type 0) → Moment
 moment outs stands fails = record { outs = outs; stands = stands; fails = fails }
 
--- What it stands for at a fault, of these kept events, which are those of the newest group and the older ones: all were kept before the link told
--- anything of the group, which is nothing (`none`) unless all were.
+-- What it stands for at a fault, of these kept events, which are those of the newest group and the older ones: all were kept before anything of the
+-- group went out; and nothing did (`none`) unless all were.
 abbrev pub ArchiveLeftAt : Moment → Type 0 → List Event → List Event → List Event → Fault → Type 0
-ArchiveLeftAt now none kept group older faults.Link = now.stands kept
+ArchiveLeftAt now none kept group older faults.Link = now.stands kept ⊎ (none × now.stands older)
 ArchiveLeftAt now none kept group older faults.Tape = now.stands older
 ArchiveLeftAt now none kept group older faults.Disk = now.fails archive.Disk group older
 ArchiveLeftAt now none kept group older (faults.Full x) = now.fails (archive.Full x) group older

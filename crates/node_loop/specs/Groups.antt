@@ -1,11 +1,12 @@
--- Groups of rounds, what came of which is delivered together: what a group holds.
-use Rattle.std.specs.Prelude.{◌≡◌, ℕ, ◌<◌, Bool, true, false, List, [], ◌∷◌, ◌++◌, map, reverse, Option, Some, None}
+-- What is held of a group of rounds, until it is delivered.
+use Rattle.std.specs.Prelude.{◌≡◌, ◌⊎◌, ℕ, ◌<◌, ◌≤◌, Bool, true, false, List, [], ◌∷◌, ◌++◌, length, map, reverse, Option, Some, None}
 use Rattle.std.specs.List.{AllByRecursion}
 use Rattle.ritas_base.specs.declared.event.Event.{Event}
 use Rattle.keyed_channel.specs.KeyRow.{KeyRow}
 use Rattle.ritas_core.specs.Stands.{Meaning}
 use Rattle.outside.specs.LinkCalls.{each_act}
 use Rattle.outside.specs.Links.{LinkAct, Replies}
+use Rattle.schedule_file.specs.Spelling.{event_text}
 use Rattle.world_model.specs.World.{Setting}
 use Rattle.node_loop.specs.declared.group.Group.{Group}
 use Rattle.node_loop.specs.declared.house.House.{House}
@@ -15,9 +16,11 @@ use Rattle.node_loop.specs.declared.output.Output.{Output}
 use Rattle.node_loop.specs.Deeds.{sends}
 use Rattle.node_loop.specs.Peers.{Keeping}
 use Rattle.node_loop.specs.PeersStanding.{kept_by}
-use Rattle.node_loop.specs.Serving.{Serving, so_far, Round, Began, Turned, Reminded, Took, after_from, events_from, newest_from}
-use Rattle.node_loop.specs.ServedKept.{group_kept}
-use Rattle.node_loop.specs.Standing.{HouseStands, frame_by, reply_by}
+use Rattle.node_loop.specs.Keeping.{kept_of}
+use Rattle.node_loop.specs.Outs.{events_text}
+use Rattle.node_loop.specs.Serving.{Serving, so_far, Round, after_from}
+use Rattle.node_loop.specs.Told.{MayJoin, AreJoined, enough_bytes, events_from, news_from, resends_by}
+use Rattle.node_loop.specs.Standing.{HouseStands, is_again, frame_by, reply_by}
 
 -- ---- what goes to the link: the newest first
 
@@ -36,12 +39,6 @@ abbrev pub acts_each : {A : Type 0} → (A → List LinkAct) → List A → List
 acts_each f [] = []
 acts_each f (x ∷ xs) = acts_each f xs ++ f x
 
--- something goes out again
-abbrev pub is_again : More → Bool
-is_again mores.Nothing = false
-is_again (mores.Note peer bytes) = false
-is_again (mores.Kept peer) = true
-
 -- it goes to a peer, and what is for a replica that isn't here is nothing
 abbrev pub FitsPeers : Setting → Keeping → ℕ → More → Type 0
 FitsPeers w keeping at mores.Nothing = Unit {0}
@@ -50,41 +47,62 @@ FitsPeers w keeping at (mores.Kept peer) = (peer < w.numbers.n) × (w.is_correct
 
 -- ---- what a group holds
 
--- an event, if there is one
-abbrev pub event_listed : Option Event → List Event
-event_listed None = []
-event_listed (Some e) = e ∷ []
+-- an event, if there is one and it is kept
+abbrev pub kept_listed : Bool → Option Event → List Event
+kept_listed true (Some e) = e ∷ []
+kept_listed kept e = []
 
-abbrev pub if_kept : Bool → List Event → List Event
-if_kept true es = es
-if_kept false es = []
+-- the text of an event, if there is one
+abbrev pub text_listed : Option Event → List ℕ
+text_listed None = []
+text_listed (Some e) = event_text e
 
 -- nothing came yet
 pub record IsEmpty (group : Group) : Type 0 where
-  pub events : group.events.items ≡ []
+  pub text : group.text.taken ≡ []
+  pub kept : group.kept.items ≡ []
   pub outputs : group.outputs.items ≡ []
+  pub resends : group.resends ≡ false
 
--- It holds what came of the newest rounds, behind older ones: their events, of which a journal keeps all or none, and what goes to the link, of
--- what is kept for peers now. Only the newest round's may go by that.
-pub record GroupHolds (w : Setting) (past : List Event) (start : Serving) (newest older : List Round) (group : Group) : Type 0 where
+-- nothing goes out again by the newest of these rounds
+abbrev pub IsSettled : Setting → List Event → Serving → List Round → Type 0
+IsSettled w past start [] = Unit {0}
+IsSettled w past start (x ∷ newest) = resends_by w past x (after_from w past start newest) ≡ false
+
+-- something does
+abbrev pub IsResending : Setting → List Event → Serving → List Round → Type 0
+IsResending w past start [] = ⊥
+IsResending w past start (x ∷ newest) = resends_by w past x (after_from w past start newest) ≡ true
+
+-- It holds what came of these rounds: the text of their events, those that a journal keeps, and what goes to the link, of what is kept for peers now.
+-- Only the newest round's may go by that.
+pub record GroupHolds (w : Setting) (past : List Event) (start : Serving) (newest : List Round) (group : Group) : Type 0 where
   pub none : newest ≡ [] → group.outputs.items ≡ []
-  pub events : group.events.items ≡ reverse (events_from w past start newest older)
-  pub keeps : group_kept w past start newest older ≡ if_kept group.kept (events_from w past start newest older)
-  pub acts : acts_each (acts_by (after_from w past start (newest ++ older)).peers.keeping) group.outputs.items ≡ newest_from w past start newest older
-  pub fit : AllByRecursion (λ o. FitsPeers w (after_from w past start (newest ++ older)).peers.keeping o.at o.more) group.outputs.items
-  pub settled : group.resends ≡ false → AllByRecursion (λ o. is_again o.more ≡ false) group.outputs.items
+  pub text : group.text.taken ≡ events_text (events_from w past start newest)
+  pub keeps : group.kept.items ≡ reverse (kept_of w (so_far past start) (events_from w past start newest))
+  pub acts : acts_each (acts_by (after_from w past start newest).peers.keeping) group.outputs.items ≡ news_from w past start newest
+  pub fit : AllByRecursion (λ o. FitsPeers w (after_from w past start newest).peers.keeping o.at o.more) group.outputs.items
+  pub settled : group.resends ≡ false → AllByRecursion (λ o. is_again o.more ≡ false) group.outputs.items × IsSettled w past start newest
+  pub again : group.resends ≡ true → IsResending w past start newest
+  pub joined : AreJoined w past start newest
 
--- a round may join the group of these: it is the first, or a turn, where all that the group has is kept and none goes out again
+-- a turn or an item may join: nothing goes out again, and the text isn't enough
+pub record MayGrow (group : Group) : Type 0 where
+  pub calm : group.resends ≡ false
+  pub light : length group.text.taken < enough_bytes
+
+-- or none may
+abbrev pub IsGroupEnough : Group → Type 0
+IsGroupEnough group = (group.resends ≡ true) ⊎ (enough_bytes ≤ length group.text.taken)
+
+-- a round may join the group of these
 abbrev pub JoinsGroup : List Round → Round → Group → Type 0
 JoinsGroup [] x group = Unit {0}
-JoinsGroup (y ∷ newest) (Turned i) group = (group.kept ≡ true) × (group.resends ≡ false)
-JoinsGroup (y ∷ newest) (Began item) group = ⊥
-JoinsGroup (y ∷ newest) (Reminded i j) group = ⊥
-JoinsGroup (y ∷ newest) (Took item) group = ⊥
+JoinsGroup (y ∷ newest) x group = MayJoin x × MayGrow group
 
--- the replicas stand after the rounds, and the group holds what came of the newest
-pub record Under {S E C : Type 0} (m : Meaning S E C KeyRow) (w : Setting) (past : List Event) (numbers : List ℕ) (start : Serving) (newest older : List Round)
+-- the replicas stand after these rounds, and the group holds what came of them
+pub record Under {S E C : Type 0} (m : Meaning S E C KeyRow) (w : Setting) (past : List Event) (numbers : List ℕ) (start : Serving) (newest : List Round)
     (house : House S E C) (group : Group) : Type 0 where
-  pub stands : HouseStands m w (so_far past (after_from w past start (newest ++ older))) numbers house (after_from w past start (newest ++ older)).waiting
-      (after_from w past start (newest ++ older)).peers
-  pub holds : GroupHolds w past start newest older group
+  pub stands : HouseStands m w (so_far past (after_from w past start newest)) numbers house (after_from w past start newest).waiting
+      (after_from w past start newest).peers
+  pub holds : GroupHolds w past start newest group

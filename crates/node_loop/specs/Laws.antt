@@ -1,5 +1,5 @@
 -- What serving keeps to.
-use Rattle.std.specs.Prelude.{◌≡◌, ℕ, ◌<◌, ◌^◌, true, false, List, [], ◌∷◌, ◌++◌, length, map, reverse, Some, Ok}
+use Rattle.std.specs.Prelude.{◌≡◌, ℕ, ◌<◌, ◌^◌, Bool, true, false, List, [], ◌∷◌, ◌++◌, length, map, reverse, Some, Ok}
 use Rattle.std.specs.List.{All, AllByRecursion}
 use Rattle.ritas_base.specs.declared.event.Event.{Event}
 use Rattle.ritas_base.specs.declared.event.Event.TheVariants as events
@@ -15,7 +15,8 @@ use Rattle.world_model.specs.EveryWorld.{IsWorld}
 use Rattle.world_model.specs.MadeOrder.{MadeFrame, all_made}
 use Rattle.world_model.specs.Agree.{OneIsPart, rows_at}
 use Rattle.node_loop.specs.Served.{MayBegin}
-use Rattle.node_loop.specs.Serving.{Serving, so_far, Round, Began, Turned, Reminded, Took, after_from, AreWantedFrom, deeds_from}
+use Rattle.node_loop.specs.Serving.{Serving, so_far, Round, Began, Turned, Reminded, Took, after_from, AreWantedFrom}
+use Rattle.node_loop.specs.Told.{AreGroups, after_groups, all_rounds, told_from, deeds_from}
 use Rattle.node_loop.specs.Keeping.{IsCallEvent, kept_of}
 use Rattle.node_loop.specs.Peers.{Peers}
 use Rattle.node_loop.specs.Recovering.{recovered, recalled_deeds}
@@ -43,11 +44,19 @@ OneRun = (w : Setting) (past : List Event) (until limit : ℕ) (start : Serving)
     → AreWantedFrom w past until limit start xs → AreWantedFrom w past until limit start ys
     → OneIsPart (items_of xs) (items_of ys) → OneIsPart xs ys
 
--- more rounds only add to the events and to the link's calls
-abbrev pub OnlyGrows : Type 0
-OnlyGrows = (w : Setting) (past : List Event) (start : Serving) (xs ys : List Round) → IsPart xs ys
+-- the rounds of groups are what the rules say, one after the other, and lead to what the groups lead to
+abbrev pub GroupsAreRounds : Type 0
+GroupsAreRounds = (w : Setting) (past : List Event) (until limit : ℕ) (start : Serving) (groups : List (List Round)) → AreGroups w past until limit start groups
+    → AreWantedFrom w past until limit start (all_rounds groups) × (after_from w past start (all_rounds groups) ≡ after_groups w past start groups)
+
+-- more rounds only add to the events, and more groups to the link's calls
+abbrev pub RoundsGrow : Type 0
+RoundsGrow = (w : Setting) (past : List Event) (start : Serving) (xs ys : List Round) → IsPart xs ys
     → IsPart (after_from w past start xs).events (after_from w past start ys).events
-    × IsPart (after_from w past start xs).acts (after_from w past start ys).acts
+
+abbrev pub GroupsGrow : Type 0
+GroupsGrow = (w : Setting) (past : List Event) (start : Serving) (xs ys : List (List Round)) → IsPart xs ys
+    → IsPart (told_from w past start xs) (told_from w past start ys)
 
 -- ---- the frames
 
@@ -58,16 +67,21 @@ sent_as f = record { at = f.from; to = f.to; bytes = f.bytes }
 abbrev pub all_frames_of : Setting → List Event → List Sent
 all_frames_of w es = map sent_as (all_made w es)
 
--- the link's calls are the deeds, where those before are
+-- the link's calls are the deeds
 abbrev pub ActsAreDeeds : Type 0
-ActsAreDeeds = (w : Setting) (past : List Event) (start : Serving) (ds : List Deed) (rounds : List Round) → start.acts ≡ map (act_of w.keys) ds
-    → (after_from w past start rounds).acts ≡ map (act_of w.keys) (deeds_from w past start ds rounds)
+ActsAreDeeds = (w : Setting) (past : List Event) (start : Serving) (groups : List (List Round))
+    → told_from w past start groups ≡ map (act_of w.keys) (deeds_from w past start [] groups)
+
+-- those before them stay behind them
+abbrev pub DeedsAreBehind : Type 0
+DeedsAreBehind = (w : Setting) (past : List Event) (start : Serving) (ds : List Deed) (groups : List (List Round))
+    → deeds_from w past start ds groups ≡ deeds_from w past start [] groups ++ ds
 
 -- what went out for the first time are the frames that the calls made, in their order, behind those that were made before
 abbrev pub FramesAreMade : Type 0
-FramesAreMade = (w : Setting) (past : List Event) (start : Serving) (before : List MadeFrame) (ds : List Deed) (rounds : List Round)
+FramesAreMade = (w : Setting) (past : List Event) (start : Serving) (before : List MadeFrame) (ds : List Deed) (groups : List (List Round))
     → all_made w (so_far past start) ≡ before ++ reverse (firsts_in ds)
-    → all_made w (so_far past (after_from w past start rounds)) ≡ before ++ reverse (firsts_in (deeds_from w past start ds rounds))
+    → all_made w (so_far past (after_groups w past start groups)) ≡ before ++ reverse (firsts_in (deeds_from w past start ds groups))
 
 -- a kept frame went out for the first time, and no acknowledgement of its number came since
 abbrev pub IsUnacknowledged : Setting → ℕ → ℕ → List Deed → Kept → Type 0
@@ -80,7 +94,7 @@ pub record AllSent (w : Setting) (p : Peers) (ds : List Deed) : Type 0 where
 -- each frame that went out again went out for the first time before it, and no acknowledgement of it came between the two
 abbrev pub AreOpen : Setting → List Deed → Type 0
 AreOpen w [] = Unit {0}
-AreOpen w (Came item ∷ ds) = AreOpen w ds
+AreOpen w (Came now item ∷ ds) = AreOpen w ds
 AreOpen w (Made f ∷ ds) = AreOpen w ds
 AreOpen w (Resent i j frame ∷ ds) = (is_connected w i j frame ds ≡ true) × AreOpen w ds
 AreOpen w (Acked i j seq ∷ ds) = AreOpen w ds
@@ -88,8 +102,8 @@ AreOpen w (Wished i j ∷ ds) = AreOpen w ds
 AreOpen w (Replied sent ∷ ds) = AreOpen w ds
 
 abbrev pub ResendsAreOpen : Type 0
-ResendsAreOpen = (w : Setting) (past : List Event) (start : Serving) (ds : List Deed) (rounds : List Round) → AllSent w start.peers ds → AreOpen w ds
-    → AreOpen w (deeds_from w past start ds rounds)
+ResendsAreOpen = (w : Setting) (past : List Event) (until limit : ℕ) (start : Serving) (ds : List Deed) (groups : List (List Round))
+    → AreGroups w past until limit start groups → AllSent w start.peers ds → AreOpen w ds → AreOpen w (deeds_from w past start ds groups)
 
 -- what is kept as serving begins after events that a journal kept are frames of these, as if they had gone out before
 abbrev pub RecalledAreSent : Type 0
@@ -105,7 +119,8 @@ pub record IsEarned (w : Setting) (es : List Event) (i j seq : ℕ) (ds : List D
   pub before : List Event
   pub newer : List Deed
   pub older : List Deed
-  pub came : ds ≡ newer ++ Came (items.Frame i bytes) ∷ older
+  pub now : Bool
+  pub came : ds ≡ newer ++ Came now (items.Frame i bytes) ∷ older
   pub called : IsPart (events.Frame i bytes ∷ before) es
   pub body : List ℕ
   pub opens : opening (w.keys i) bytes ≡ Ok (record { from = j; seq = seq; body = body })
@@ -114,7 +129,7 @@ pub record IsEarned (w : Setting) (es : List Event) (i j seq : ℕ) (ds : List D
 -- each acknowledgement went out after such a frame
 abbrev pub AreEarned : Setting → List Event → List Deed → Type 0
 AreEarned w es [] = Unit {0}
-AreEarned w es (Came item ∷ ds) = AreEarned w es ds
+AreEarned w es (Came now item ∷ ds) = AreEarned w es ds
 AreEarned w es (Made f ∷ ds) = AreEarned w es ds
 AreEarned w es (Resent i j frame ∷ ds) = AreEarned w es ds
 AreEarned w es (Acked i j seq ∷ ds) = IsEarned w es i j seq ds × AreEarned w es ds
@@ -122,8 +137,8 @@ AreEarned w es (Wished i j ∷ ds) = AreEarned w es ds
 AreEarned w es (Replied sent ∷ ds) = AreEarned w es ds
 
 abbrev pub AcksAreEarned : Type 0
-AcksAreEarned = (w : Setting) (past : List Event) (start : Serving) (ds : List Deed) (rounds : List Round) → AreEarned w (so_far past start) ds
-    → AreEarned w (so_far past (after_from w past start rounds)) (deeds_from w past start ds rounds)
+AcksAreEarned = (w : Setting) (past : List Event) (start : Serving) (ds : List Deed) (groups : List (List Round)) → AreEarned w (so_far past start) ds
+    → AreEarned w (so_far past (after_groups w past start groups)) (deeds_from w past start ds groups)
 
 -- ---- the replies
 
@@ -138,11 +153,10 @@ pub record NamesPosition (w : Setting) (es : List Event) (x : Sent) : Type 0 whe
 abbrev pub IsTrueReply : Setting → List Event → Sent → Type 0
 IsTrueReply w es x = form_in x.bytes ≡ 1 → NamesPosition w es x
 
--- each reply of form 1 does, when it goes out and ever after, where those before do
+-- each reply of form 1 does, when it goes out and ever after
 abbrev pub RepliesAreTrue : ServiceRules → BroadcastRules → Type 0
-RepliesAreTrue service other = (w : Setting) (past : List Event) (start : Serving) (rounds : List Round) → IsWorld service other w
-    → AllByRecursion (IsTrueReply w (so_far past start)) (replies_in start.acts)
-    → AllByRecursion (IsTrueReply w (so_far past (after_from w past start rounds))) (replies_in (after_from w past start rounds).acts)
+RepliesAreTrue service other = (w : Setting) (past : List Event) (start : Serving) (groups : List (List Round)) → IsWorld service other w
+    → AllByRecursion (IsTrueReply w (so_far past (after_groups w past start groups))) (replies_in (told_from w past start groups))
 
 -- ---- the events
 
@@ -156,9 +170,9 @@ IsServed w (events.Sealed from to body) = ⊥
 
 -- each event of serving is one, where those before are
 abbrev pub EventsFit : Type 0
-EventsFit = (w : Setting) (past : List Event) (until limit : ℕ) (start : Serving) (rounds : List Round) → All MayBegin start.left
-    → AllByRecursion (IsServed w) start.events → AreWantedFrom w past until limit start rounds
-    → AllByRecursion (IsServed w) (after_from w past start rounds).events
+EventsFit = (w : Setting) (past : List Event) (until limit : ℕ) (start : Serving) (groups : List (List Round)) → All MayBegin start.left
+    → AllByRecursion (IsServed w) start.events → AreGroups w past until limit start groups
+    → AllByRecursion (IsServed w) (after_groups w past start groups).events
 
 -- ---- what a journal keeps
 

@@ -4,9 +4,10 @@ pub mod Peers
 pub mod Deeds
 pub mod Resending
 pub mod Serving
-pub mod ServingLaws
 pub mod Ends
 pub mod Outs
+pub mod Told
+pub mod ToldRows
 pub mod Served
 pub mod PeersStanding
 pub mod Standing

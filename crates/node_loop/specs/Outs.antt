@@ -98,11 +98,12 @@ AllWritten tells base now events = tells.tape ≡ true → now.taken ≡ base.ta
 abbrev pub NoneSent : Tells → Outs → Outs → List LinkAct → Type 0
 NoneSent tells base now sooner = tells.link ≡ true → now.told ≡ sooner ++ base.told
 
--- The events of a group are written, and then kept, before its frames and its replies go out: where the tape fails none of these did, where the
--- link fails all events were written, and where the newest can't be kept both.
+-- The events of a group are written, and then kept, before its frames and its replies go out: where the tape fails none of these did; where the
+-- link fails all events were written, unless it failed while it was asked for an item that joins the group, of which nothing went out then; and
+-- where the newest can't be kept they were written, and nothing went out.
 abbrev pub InOrder : Tells → Outs → Outs → Fault → List Event → List LinkAct → Type 0
 InOrder tells base now faults.Tape events sooner = NoneSent tells base now sooner
-InOrder tells base now faults.Link events sooner = AllWritten tells base now events
+InOrder tells base now faults.Link events sooner = AllWritten tells base now events ⊎ NoneSent tells base now sooner
 InOrder tells base now faults.Mem events sooner = AllWritten tells base now events ⊎ NoneSent tells base now sooner
 InOrder tells base now faults.Disk events sooner = AllWritten tells base now events × NoneSent tells base now sooner
 InOrder tells base now (faults.Full x) events sooner = AllWritten tells base now events × NoneSent tells base now sooner

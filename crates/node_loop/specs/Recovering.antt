@@ -39,7 +39,7 @@ recalled_peers w (e ∷ es) = all_newest (frames_made_by w es (Some e)) (recalle
 
 -- with what serving begins after these events; none of their frames goes out by it
 abbrev pub recovered : Setting → List Event → Serving
-recovered w past = record { left = []; waiting = recalled_waiting w past; peers = recalled_peers w past; taken = 0; events = []; acts = [] }
+recovered w past = record { left = []; waiting = recalled_waiting w past; peers = recalled_peers w past; taken = 0; events = [] }
 
 -- the frames that these events made, as if they had gone out before the call: those that stopped lives gave to a link are among them
 abbrev pub recalled_deeds : Setting → List Event → List Deed

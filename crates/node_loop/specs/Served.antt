@@ -14,7 +14,8 @@ use Rattle.world_model.specs.Stands.{NoneStops, IsReplica}
 use Rattle.node_loop.specs.declared.end.Fault.TheVariants as faults
 use Rattle.node_loop.specs.declared.end.ServeEnd.{ServeEnd}
 use Rattle.node_loop.specs.declared.end.ServeEnd.TheVariants as ends
-use Rattle.node_loop.specs.Serving.{Serving, so_far, Want, Finishes, Halts, Asks, wants, Round, IsGroup, serving_after, AreWanted, newest, sooner}
+use Rattle.node_loop.specs.Serving.{Serving, begin, so_far, Want, Finishes, Halts, Asks, wants, Round}
+use Rattle.node_loop.specs.Told.{AreGroups, after_groups, newest_calls, sooner}
 use Rattle.node_loop.specs.Outs.{Outs, Tells, Agrees, StopsPartway}
 
 -- The replicas of a world that are here are its correct ones: replica k of the list is that of the k-th number, as it stands after these
@@ -51,22 +52,20 @@ Breaks tells base now end events sooner news = ⊥
 -- the replicas stand where all events leave them, also those that weren't written.
 abbrev pub EndsSo : {S E C : Type 0} → Meaning S E C KeyRow → Setting → List Event → List ℕ → List (Replica S E C) → Tells → Outs → Outs → ServeEnd → Serving
     → List LinkAct → List LinkAct → Want → Type 0
-EndsSo m w past numbers here tells base now ends.Done s sooner news rule = Whole m w past numbers here tells base now s s.acts rule Finishes
-EndsSo m w past numbers here tells base now ends.Limit s sooner news rule = Whole m w past numbers here tells base now s s.acts rule Halts
-EndsSo m w past numbers here tells base now ends.End s sooner news rule = Whole m w past numbers here tells base now s (Gives items.End ∷ s.acts) rule Asks
+EndsSo m w past numbers here tells base now ends.Done s sooner news rule = Whole m w past numbers here tells base now s (news ++ sooner) rule Finishes
+EndsSo m w past numbers here tells base now ends.Limit s sooner news rule = Whole m w past numbers here tells base now s (news ++ sooner) rule Halts
+EndsSo m w past numbers here tells base now ends.End s sooner news rule = Whole m w past numbers here tells base now s (Gives items.End ∷ (news ++ sooner)) rule Asks
 EndsSo m w past numbers here tells base now ends.LinkFault s sooner news rule = Breaks tells base now ends.LinkFault s.events sooner news × AreHere m w (so_far past s) numbers here
 EndsSo m w past numbers here tells base now ends.TapeFault s sooner news rule = Breaks tells base now ends.TapeFault s.events sooner news × AreHere m w (so_far past s) numbers here
 EndsSo m w past numbers here tells base now ends.Mem s sooner news rule = Breaks tells base now ends.Mem s.events sooner news
 EndsSo m w past numbers here tells base now ends.DiskFault s sooner news rule = ⊥
 EndsSo m w past numbers here tells base now (ends.JournalFull x) s sooner news rule = ⊥
 
--- There are rounds, each what the rules said, after which serving ended so; the newest of them are a group. The items that these took are those
--- that the link gave, before its end: where it tells, each call but those of the newest group is told.
+-- There are groups of rounds, each round what the rules said, after which serving ended so. The items that these took are those that the link gave,
+-- before its end: where it tells, each call but those of the newest group is told.
 pub record Serves {S E C : Type 0} (m : Meaning S E C KeyRow) (w : Setting) (past : List Event) (numbers : List ℕ) (here : List (Replica S E C))
     (tells : Tells) (base now : Outs) (end : ServeEnd) (until limit : ℕ) (first : List LinkItem) : Type 0 where
-  pub group : List Round
-  pub older : List Round
-  pub one : IsGroup group older
-  pub wanted : AreWanted w past until limit first (group ++ older)
-  pub so : EndsSo m w past numbers here tells base now end (serving_after w past first (group ++ older)) (sooner w past first group older) (newest w past first group older)
-      (wants w past until limit (serving_after w past first (group ++ older)))
+  pub groups : List (List Round)
+  pub are : AreGroups w past until limit (begin first) groups
+  pub so : EndsSo m w past numbers here tells base now end (after_groups w past (begin first) groups) (sooner w past (begin first) groups) (newest_calls w past (begin first) groups)
+      (wants w past until limit (after_groups w past (begin first) groups))

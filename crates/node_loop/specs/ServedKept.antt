@@ -1,5 +1,5 @@
 -- How serving ends, where an archive keeps events.
-use Rattle.std.specs.Prelude.{ℕ, List, ◌++◌}
+use Rattle.std.specs.Prelude.{ℕ, List}
 use Rattle.ritas_base.specs.declared.event.Event.{Event}
 use Rattle.keyed_channel.specs.KeyRow.{KeyRow}
 use Rattle.ritas_core.specs.Stands.{Meaning}
@@ -13,7 +13,8 @@ use Rattle.node_loop.specs.Archives.{Moment, KeptAt}
 use Rattle.node_loop.specs.Keeping.{kept_of}
 use Rattle.node_loop.specs.Outs.{Outs, Tells, NoneSent, StopsPartway}
 use Rattle.node_loop.specs.Served.{AreHere, EndsSo}
-use Rattle.node_loop.specs.Serving.{Serving, so_far, Want, wants, Round, IsGroup, after_from, AreWantedFrom, events_from, newest_from, sooner_from}
+use Rattle.node_loop.specs.Serving.{Serving, so_far, Want, wants, Round}
+use Rattle.node_loop.specs.Told.{AreGroups, after_groups, newest_calls, sooner, before_newest, newest_events}
 
 -- it broke at a fault of the archive
 abbrev pub BreaksOff : Tells → Outs → Outs → ServeEnd → List Event → List LinkAct → List LinkAct → Type 0
@@ -28,22 +29,20 @@ EndsKept m w past numbers here tells base now ends.DiskFault s sooner news rule 
 EndsKept m w past numbers here tells base now (ends.JournalFull x) s sooner news rule = BreaksOff tells base now (ends.JournalFull x) s.events sooner news × AreHere m w (so_far past s) numbers here
 EndsKept m w past numbers here tells base now end s sooner news rule = EndsSo m w past numbers here tells base now end s sooner news rule
 
--- the events before the newest group's, and those of the group that are kept
-abbrev pub earlier_from : Setting → List Event → Serving → List Round → List Event
-earlier_from w past start older = (after_from w past start older).events
+-- of the newest group's events, those that are kept, and of those before
+abbrev pub newest_kept : Setting → List Event → Serving → List (List Round) → List Event
+newest_kept w past start groups = kept_of w (so_far past (before_newest w past start groups)) (newest_events w past start groups)
 
-abbrev pub group_kept : Setting → List Event → Serving → List Round → List Round → List Event
-group_kept w past start group older = kept_of w (so_far past (after_from w past start older)) (events_from w past start group older)
+abbrev pub earlier_kept : Setting → List Event → Serving → List (List Round) → List Event
+earlier_kept w past start groups = kept_of w past (before_newest w past start groups).events
 
--- of serving that begins so there are rounds, each what the rules said, after which it ended so, and the archive stands for what is kept of their
--- events; the newest of them are a group
+-- of serving that begins so there are groups of rounds, each round what the rules said, after which it ended so, and the archive stands for what is kept
+-- of their events
 pub record ServesKept {S E C : Type 0} (m : Meaning S E C KeyRow) (w : Setting) (past : List Event) (numbers : List ℕ) (here : List (Replica S E C))
     (tells : Tells) (base : Outs) (now : Moment) (end : ServeEnd) (until limit : ℕ) (start : Serving) : Type 0 where
-  pub group : List Round
-  pub older : List Round
-  pub one : IsGroup group older
-  pub wanted : AreWantedFrom w past until limit start (group ++ older)
-  pub so : EndsKept m w past numbers here tells base now.outs end (after_from w past start (group ++ older)) (sooner_from w past start group older) (newest_from w past start group older)
-      (wants w past until limit (after_from w past start (group ++ older)))
-  pub kept : KeptAt now (NoneSent tells base now.outs (sooner_from w past start group older)) (kept_of w past (after_from w past start (group ++ older)).events)
-      (group_kept w past start group older) (kept_of w past (earlier_from w past start older)) end
+  pub groups : List (List Round)
+  pub are : AreGroups w past until limit start groups
+  pub so : EndsKept m w past numbers here tells base now.outs end (after_groups w past start groups) (sooner w past start groups) (newest_calls w past start groups)
+      (wants w past until limit (after_groups w past start groups))
+  pub kept : KeptAt now (NoneSent tells base now.outs (sooner w past start groups)) (kept_of w past (after_groups w past start groups).events)
+      (newest_kept w past start groups) (earlier_kept w past start groups) end

@@ -1,8 +1,7 @@
 -- A server and its house between calls: what they stand for, over what serving began with.
-use Rattle.std.specs.Prelude.{◌≡◌, ℕ, List, [], Result, Ok, Err}
+use Rattle.std.specs.Prelude.{◌≡◌, ◌≤◌, ℕ, Bool, true, false, List, [], Result, Ok, Err}
 use Rattle.ritas_base.specs.declared.event.Event.{Event}
 use Rattle.outside.specs.declared.link.LinkItem.{LinkItem}
-use Rattle.outside.specs.Links.{LinkAct}
 use Rattle.world_model.specs.World.{Setting}
 use Rattle.node_loop.specs.declared.end.Fault.{Fault}
 use Rattle.node_loop.specs.declared.end.ServeEnd.{ServeEnd}
@@ -13,9 +12,10 @@ use Rattle.node_loop.specs.declared.server.Server.{Server}
 use Rattle.node_loop.specs.Ends.{IsEndOf}
 use Rattle.node_loop.specs.Meanings.{Senses}
 use Rattle.node_loop.specs.Outs.{Outs}
-use Rattle.node_loop.specs.Running.{Running, Gathered, NotYet, IsNext}
+use Rattle.node_loop.specs.Running.{Running, Gathered, IsNext}
 use Rattle.node_loop.specs.ServedKept.{ServesKept}
-use Rattle.node_loop.specs.Serving.{Serving, Round, so_far, wants_of, after_from}
+use Rattle.node_loop.specs.Serving.{Serving, so_far, wants_of}
+use Rattle.node_loop.specs.Told.{IsGroupOver, after_groups, most_rounds}
 
 -- What serving began with: the archive's name and its disk then, the world with its events then, the numbers of its replicas that are here, what the tape
 -- and the link had, and what stood.
@@ -51,26 +51,49 @@ HasEnded t o house server end =
     ServesKept t.layers o.world o.past o.numbers house.replicas.items t.tells o.base (t.moment o.head o.before o.past server) end server.pace.until server.pace.limit
     o.start
 
--- this is done next, by the rules, where there were these rounds
-abbrev pub IsNextIn : {D : Type 0} → Outset D → Pace → List Round → Next → Type 0
-IsNextIn o pace rounds done =
-    IsNext (wants_of o.world pace.until pace.limit (so_far o.past (after_from o.world o.past o.start rounds)) pace.taken (after_from o.world o.past o.start rounds).peers) done
+-- this is done next, by the rules, where it stands so
+abbrev pub IsNextIn : {D : Type 0} → Outset D → Pace → Serving → Next → Type 0
+IsNextIn o pace s done = IsNext (wants_of o.world pace.until pace.limit (so_far o.past s) pace.taken s.peers) done
 
 -- ---- while a group is under way
 
--- its group has at most so many rounds behind these older ones, of which the link gave this for the first
-abbrev pub HasGathered : {S E C L K A D : Type 0} → Senses S E C L K A D → Outset D → House S E C → Server L K A D → List LinkItem → List Round → List LinkAct → ℕ → Type 0
-HasGathered t o house server left older given most =
-    Gathered t.layers o.world o.past o.numbers house server.group.now server.pace.taken server.pace.until server.pace.limit o.start left older given most
+-- its group has so many rounds, and nothing of it was delivered yet
+abbrev pub HasGathered : {S E C L K A D : Type 0} → Senses S E C L K A D → Outset D → House S E C → Server L K A D → List LinkItem → ℕ → Type 0
+HasGathered t o house server left many =
+    Gathered t.layers o.world o.past o.numbers house server.group.now t.tells o.base (t.moment o.head o.before o.past server) server.pace.taken server.pace.until
+    server.pace.limit o.start left many
 
--- nothing of the group was delivered yet
-abbrev pub HasDeliveredNone : {S E C L K A D : Type 0} → Senses S E C L K A D → Outset D → Server L K A D → List Round → List LinkAct → Type 0
-HasDeliveredNone t o server older given = NotYet o.world o.past t.tells o.base (t.moment o.head o.before o.past server) o.start older given
+-- it is over, and can be delivered
+pub record IsGroupReady {S E C L K A D : Type 0} (t : Senses S E C L K A D) (o : Outset D) (house : House S E C) (server : Server L K A D) (left : List LinkItem) : Type 0 where
+  pub many : ℕ
+  pub within : many ≤ most_rounds
+  pub run : HasGathered t o house server left many
+  pub over : IsGroupOver o.world o.past server.pace.until server.pace.limit (after_groups o.world o.past o.start run.older) run.newest
 
--- all of the group was delivered, or serving ended before
+-- serving ended at a fault
+abbrev pub HasBroken : {S E C L K A D : Type 0} → Senses S E C L K A D → Outset D → House S E C → Server L K A D → Fault → Type 0
+HasBroken t o house server fault = (end : ServeEnd) → IsEndOf fault end → HasEnded t o house server end
+
+-- its group has one round, or serving ended
+abbrev pub HasFirst : {S E C L K A D : Type 0} → Senses S E C L K A D → Outset D → House S E C → Server L K A D → Result (Unit {0}) ServeEnd → Type 0
+HasFirst t o house server (Ok done) = HasGathered t o house server [] 1
+HasFirst t o house server (Err end) = HasEnded t o house server end
+
+-- its group has so many, and may have more, or it is over; or serving ended at a fault
+abbrev pub HasMore : {S E C L K A D : Type 0} → Senses S E C L K A D → Outset D → House S E C → Server L K A D → ℕ → Result Bool Fault → Type 0
+HasMore t o house server many (Ok true) = HasGathered t o house server [] many
+HasMore t o house server many (Ok false) = IsGroupReady t o house server []
+HasMore t o house server many (Err fault) = HasBroken t o house server fault
+
+-- its group is over, or serving ended at a fault
+abbrev pub HasGroup : {S E C L K A D : Type 0} → Senses S E C L K A D → Outset D → House S E C → Server L K A D → Result (Unit {0}) Fault → Type 0
+HasGroup t o house server (Ok done) = IsGroupReady t o house server []
+HasGroup t o house server (Err fault) = HasBroken t o house server fault
+
+-- all of the group was delivered, or serving ended at a fault
 abbrev pub HasDelivered : {S E C L K A D : Type 0} → Senses S E C L K A D → Outset D → House S E C → Server L K A D → List LinkItem → Result (Unit {0}) Fault → Type 0
 HasDelivered t o house server left (Ok done) = IsAtWork t o house server left
-HasDelivered t o house server left (Err fault) = (end : ServeEnd) → IsEndOf fault end → HasEnded t o house server end
+HasDelivered t o house server left (Err fault) = HasBroken t o house server fault
 
 -- a group more, or serving ended
 abbrev pub HasGoneOn : {S E C L K A D : Type 0} → Senses S E C L K A D → Outset D → House S E C → Server L K A D → Result (Unit {0}) ServeEnd → Type 0

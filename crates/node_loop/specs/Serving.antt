@@ -1,6 +1,6 @@
 -- What serving does: which calls it makes on the replicas of a world that are here, its correct ones, and which frames and replies the
 -- link is given. Lists of events, of the link's calls and of rounds have the newest first.
-use Rattle.std.specs.Prelude.{◌≡◌, ℕ, ◌+◌, ◌<◌, ◌≤◌, ◌^◌, Bool, true, false, not, ◌&&◌, ◌==◌, List, [], ◌∷◌, ◌++◌, length, map, filter, reverse, Option, Some, None, nat_le, if◌then◌else◌}
+use Rattle.std.specs.Prelude.{◌≡◌, ℕ, ◌+◌, ◌<◌, ◌^◌, Bool, true, false, not, ◌&&◌, ◌==◌, List, [], ◌∷◌, ◌++◌, length, map, filter, reverse, Option, Some, None, nat_le, if◌then◌else◌}
 use Rattle.std.specs.List.{list_all}
 use Rattle.ritas_base.specs.declared.event.Event.{Event}
 use Rattle.ritas_base.specs.declared.event.Event.TheVariants as events
@@ -8,30 +8,28 @@ use Rattle.ritas_base.specs.declared.item.Item.{Item}
 use Rattle.ritas_base.specs.History.{replicas}
 use Rattle.outside.specs.declared.link.LinkItem.{LinkItem}
 use Rattle.outside.specs.declared.link.LinkItem.TheVariants.{End}
-use Rattle.outside.specs.Links.{LinkAct, Gives, Sends, Replies, bytes_of}
+use Rattle.outside.specs.Links.{LinkAct, Sends, Replies, bytes_of}
 use Rattle.world_model.specs.World.{Setting, states_of, states_before, call_of}
 use Rattle.world_model.specs.MadeOrder.{MadeFrame, frames_of_call}
 use Rattle.world_model.specs.Agree.{rows_at}
 use Rattle.node_loop.specs.Waiting.{Waiting, nobody}
 use Rattle.node_loop.specs.Calls.{Outcome, event_called, silent, item_does, first_does}
 use Rattle.node_loop.specs.Peers.{Peers, no_peers, keep_all}
-use Rattle.node_loop.specs.Deeds.{Deed, Came, Made, Replied, pushed, act_of}
-use Rattle.outside.specs.declared.link.Sent.{Sent}
+use Rattle.node_loop.specs.Deeds.{act_of}
 use Rattle.node_loop.specs.Resending.{Brought, nothing_more, item_brings, asks_for_more, due}
 use Rattle.node_loop.specs.declared.peers.Pair.{Pair}
 
--- The items with which serving begins that weren't taken up yet; who waits; how many items of the link were taken; and, since it began,
--- the events and the link's calls; and what is kept for peers, and who of them is marked.
+-- The items with which serving begins that weren't taken up yet; who waits; what is kept for peers, and who of them is marked; how many items of
+-- the link were taken; and the events since it began.
 pub record Serving : Type 0 where
   pub left : List LinkItem
   pub waiting : Waiting
   pub peers : Peers
   pub taken : ℕ
   pub events : List Event
-  pub acts : List LinkAct
 
 abbrev pub begin : List LinkItem → Serving
-begin first = record { left = first; waiting = nobody; peers = no_peers; taken = 0; events = []; acts = [] }
+begin first = record { left = first; waiting = nobody; peers = no_peers; taken = 0; events = [] }
 
 -- all events, with those before it began
 abbrev pub so_far : List Event → Serving → List Event
@@ -60,14 +58,9 @@ onto (Some e) es = e ∷ es
 abbrev pub sent_of : Setting → List Event → Outcome → Brought → List LinkAct
 sent_of w es did more = reverse (map Replies did.replies) ++ (reverse (map (act_of w.keys) more.deeds) ++ reverse (sent_by w es did.event))
 
--- what came of an item or a turn joins the rest: its event, its frames, what goes to peers besides, and then its replies
-abbrev pub with_outcome : Setting → List Event → Outcome → Brought → Serving → Serving
-with_outcome w past did more s = record s {
-  waiting = did.waiting;
-  peers = more.peers;
-  events = onto did.event s.events;
-  acts = reverse (map Replies did.replies) ++ (reverse (map (act_of w.keys) more.deeds) ++ (reverse (sent_by w (so_far past s) did.event) ++ s.acts));
-}
+-- what stands with what came of an item or a turn
+abbrev pub with_outcome : Outcome → Brought → Serving → Serving
+with_outcome did more s = record s { waiting = did.waiting; peers = more.peers; events = onto did.event s.events }
 
 -- ---- the rules
 
@@ -137,16 +130,16 @@ behind_first (item ∷ left) = left
 abbrev pub began : Serving → Serving
 began s = record s { left = behind_first s.left }
 
--- the link gave it
-abbrev pub gave : LinkItem → Serving → Serving
-gave item s = record s { taken = s.taken + 1; acts = Gives item ∷ s.acts }
+-- an item of the link was taken
+abbrev pub took : Serving → Serving
+took s = record s { taken = s.taken + 1 }
 
 -- what stands where its call is made, and what comes of that
 abbrev pub at_call : Round → Serving → Serving
 at_call (Began item) s = began s
 at_call (Turned i) s = s
 at_call (Reminded i j) s = s
-at_call (Took item) s = gave item s
+at_call (Took item) s = took s
 
 abbrev pub outcome : Setting → List Event → Round → Serving → Outcome
 outcome w past (Began item) s = first_does w (so_far past s) item s.waiting
@@ -165,82 +158,12 @@ abbrev pub brought : Setting → List Event → Round → Serving → Brought
 brought w past x s = brings_peers w (so_far past s) x (keep_all (frames_made_by w (so_far past s) (outcome w past x s).event) s.peers)
 
 abbrev pub round_does : Setting → List Event → Round → Serving → Serving
-round_does w past x s = with_outcome w past (outcome w past x s) (brought w past x s) (at_call x s)
+round_does w past x s = with_outcome (outcome w past x s) (brought w past x s) (at_call x s)
 
 -- what stands after these rounds, of serving that begins so
 abbrev pub after_from : Setting → List Event → Serving → List Round → Serving
 after_from w past start [] = start
 after_from w past start (x ∷ xs) = round_does w past x (after_from w past start xs)
-
--- the item that the link gave for it, as a call of the link
-abbrev pub given_for_round : Round → List LinkAct
-given_for_round (Began item) = []
-given_for_round (Turned i) = []
-given_for_round (Reminded i j) = []
-given_for_round (Took item) = Gives item ∷ []
-
--- for a round that others of its group are before
-abbrev pub given_behind : List Round → Round → List LinkAct
-given_behind [] x = []
-given_behind (y ∷ group) x = given_for_round x
-
--- for the oldest round of a group, of which this is the newest
-abbrev pub given_oldest : Round → List Round → List LinkAct
-given_oldest x [] = given_for_round x
-given_oldest x (y ∷ group) = given_oldest y group
-
-abbrev pub given_first : List Round → List LinkAct
-given_first [] = []
-given_first (x ∷ group) = given_oldest x group
-
--- Of the newest group of rounds, and the older ones: the events that came of the group; the link's calls that came of it, behind the item with
--- which it began; and those before, with that item.
-abbrev pub events_from : Setting → List Event → Serving → List Round → List Round → List Event
-events_from w past start [] older = []
-events_from w past start (x ∷ group) older = onto (outcome w past x (after_from w past start (group ++ older))).event (events_from w past start group older)
-
-abbrev pub newest_from : Setting → List Event → Serving → List Round → List Round → List LinkAct
-newest_from w past start [] older = []
-newest_from w past start (x ∷ group) older = let s = after_from w past start (group ++ older) in
-    sent_of w (so_far past (at_call x s)) (outcome w past x s) (brought w past x s) ++ (given_behind group x ++ newest_from w past start group older)
-
-abbrev pub sooner_from : Setting → List Event → Serving → List Round → List Round → List LinkAct
-sooner_from w past start group older = given_first group ++ (after_from w past start older).acts
-
--- of serving that begins with these items
-abbrev pub serving_after : Setting → List Event → List LinkItem → List Round → Serving
-serving_after w past first rounds = after_from w past (begin first) rounds
-
-abbrev pub newest : Setting → List Event → List LinkItem → List Round → List Round → List LinkAct
-newest w past first group older = newest_from w past (begin first) group older
-
-abbrev pub sooner : Setting → List Event → List LinkItem → List Round → List Round → List LinkAct
-sooner w past first group older = sooner_from w past (begin first) group older
-
--- behind the oldest of these rounds all are turns
-abbrev pub IsTurn : Round → Type 0
-IsTurn (Began item) = ⊥
-IsTurn (Turned i) = Unit {0}
-IsTurn (Reminded i j) = ⊥
-IsTurn (Took item) = ⊥
-
-abbrev pub AreOver : Round → List Round → Type 0
-AreOver x [] = Unit {0}
-AreOver x (y ∷ group) = IsTurn x × AreOver y group
-
-abbrev pub AreTurns : List Round → Type 0
-AreTurns [] = Unit {0}
-AreTurns (x ∷ group) = AreOver x group
-
--- a group has at most so many rounds
-abbrev pub most_rounds : ℕ
-most_rounds = 64
-
--- the newest rounds are a group, with these older ones: one of any kind and turns behind it, where there is any
-pub record IsGroup (group older : List Round) : Type 0 where
-  pub some : group ≡ [] → older ≡ []
-  pub turns : AreTurns group
-  pub most : length group ≤ most_rounds
 
 -- an item of a link that isn't its end has at most 65,535 bytes
 pub record IsGiven (item : LinkItem) : Type 0 where
@@ -260,30 +183,3 @@ abbrev pub AreWantedFrom : Setting → List Event → ℕ → ℕ → Serving �
 AreWantedFrom w past until limit start [] = Unit {0}
 AreWantedFrom w past until limit start (x ∷ xs) =
     IsWanted (wants w past until limit (after_from w past start xs)) x × AreWantedFrom w past until limit start xs
-
-abbrev pub AreWanted : Setting → List Event → ℕ → ℕ → List LinkItem → List Round → Type 0
-AreWanted w past until limit first rounds = AreWantedFrom w past until limit (begin first) rounds
-
--- ---- the deeds
-
--- the item that the link gave for it, if it is one
-abbrev pub came : Round → List Deed → List Deed
-came (Began item) ds = ds
-came (Turned i) ds = ds
-came (Reminded i j) ds = ds
-came (Took item) ds = Came item ∷ ds
-
--- with what a round adds: its item, its frames, what goes to peers besides, and its replies
-abbrev pub with_deeds : List MadeFrame → List Deed → List Sent → List Deed → List Deed
-with_deeds frames more replies ds = pushed (map Replied replies) (pushed more (pushed (map Made frames) ds))
-
--- what the link gave and was given in these rounds, with why, behind these deeds
-abbrev pub deeds_from : Setting → List Event → Serving → List Deed → List Round → List Deed
-deeds_from w past start ds [] = ds
-deeds_from w past start ds (x ∷ xs) = let s = after_from w past start xs in
-    with_deeds (frames_made_by w (so_far past s) (outcome w past x s).event) (brought w past x s).deeds (outcome w past x s).replies
-    (came x (deeds_from w past start ds xs))
-
--- of serving that begins with these items
-abbrev pub deeds_of : Setting → List Event → List LinkItem → List Round → List Deed
-deeds_of w past first rounds = deeds_from w past (begin first) [] rounds

@@ -29,7 +29,7 @@ use Rattle.node_loop.specs.declared.peers.Keeper.{Keeper}
 use Rattle.node_loop.specs.Waiting.{Waiting}
 use Rattle.node_loop.specs.Calls.{Outcome}
 use Rattle.node_loop.specs.Peers.{Peers, keep_all}
-use Rattle.node_loop.specs.Deeds.{Resent, act_of, sends}
+use Rattle.node_loop.specs.Deeds.{Resent, act_of, has_resent, sends}
 use Rattle.node_loop.specs.Resending.{Brought}
 use Rattle.node_loop.specs.Keeping.{has_kept}
 use Rattle.node_loop.specs.Serving.{frames_made_by, sent_by, onto}
@@ -75,11 +75,22 @@ pub record IsEmptyOutput (o : Output) : Type 0 where
   pub replies : o.replies.items ≡ []
   pub kept : o.kept ≡ false
 
+-- all that is kept for a peer goes out again
+abbrev pub is_again : More → Bool
+is_again mores.Nothing = false
+is_again (mores.Note peer bytes) = false
+is_again (mores.Kept peer) = true
+
 -- what goes to a peer besides: nothing, a note, or all that is kept for it
 abbrev pub IsMore : Setting → ℕ → More → Brought → Type 0
 IsMore w at mores.Nothing more = more.deeds ≡ []
-IsMore w at (mores.Note peer bytes) more = map (act_of w.keys) more.deeds ≡ sends at peer bytes ∷ []
+IsMore w at (mores.Note peer bytes) more = (map (act_of w.keys) more.deeds ≡ sends at peer bytes ∷ []) × (has_resent more.deeds ≡ false)
 IsMore w at (mores.Kept peer) more = (peer < w.numbers.n) × (more.deeds ≡ map (λ k. Resent at peer k.frame) (more.peers.keeping at peer))
+
+-- so it is, and frames go out again just where some are kept
+pub record IsMoreNow (w : Setting) (at : ℕ) (goes : More) (more : Brought) : Type 0 where
+  pub besides : IsMore w at goes more
+  pub again : is_again goes ≡ has_resent more.deeds
 
 -- It is put out, with whether a journal keeps it, and the replicas and those who wait stand for it; the peers stand for it once the frames of its call are kept, as they
 -- are when they go out. What is for a replica that isn't here brings nothing.

@@ -31,7 +31,7 @@ use std::sync::Wait;
 /// Then it serves as `serve` does, with no items to begin with.
 ///
 /// Each call that was answered `Took` or `Held`, and each turn, is appended to the journal, after its event went to the tape and before its frames,
-/// its acknowledgement and its replies go out: those of one item and of the turns behind it all at once, with two syncs. Other calls change nothing,
+/// its acknowledgement and its replies go out: those of one group all at once, with two syncs. Other calls change nothing,
 /// and aren't appended. So whenever a stop comes, what it leaves on the disk opens as the recovered events and the first of those that were
 /// appended: with each of which a frame, an acknowledgement or a reply went out.
 ///

@@ -5,11 +5,11 @@ ghost use Rattle.node_loop.specs.Calls.{asked_in, reply};
 ghost use Rattle.node_loop.specs.Standing.{reply_by};
 
 use crate::house::House;
-use crate::output::{More, Output, REPLY_LEN, Reply};
+use crate::output::{More, Output, Reply};
 use crate::peers::mark_of;
 use crate::refusals::{is_deferred, is_kept, is_opened, refusal_in};
 use crate::waiting::Asked;
-use client_port::{RequestFront, read_front, read_request, write_refusal, write_reply};
+use client_port::{REPLY_LEN, RequestFront, read_front, read_request, write_refusal, write_reply};
 use keyed_channel::{
     FrameHeader, Note, frame_header, is_note, noted_from_peer, opened_from_peer, opened_parts,
 };

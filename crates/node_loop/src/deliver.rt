@@ -1,5 +1,5 @@
 //! What a tape and a link are given.
-ghost use Rattle.std.specs.Prelude.{◌≡◌, ℕ, ◌<◌, ◌≤◌, ◌++◌, ◌∷◌, List, length, map, reverse, true, All, IfSome, IfErr, OnOk, OnErr, MatchResult};
+ghost use Rattle.std.specs.Prelude.{◌≡◌, ℕ, ◌<◌, ◌≤◌, ◌++◌, ◌∷◌, List, length, map, reverse, true, All, IfSome, IfErr, OnOk, OnErr};
 ghost use Rattle.std.specs.List.{AllByRecursion};
 ghost use Rattle.ritas_base.specs.declared.event.Event.{Event};
 ghost use Rattle.outside.specs.Faults.{count_after};
@@ -18,11 +18,11 @@ ghost use Rattle.node_loop.specs.PeersStanding.{AreKept, kept_by, made_as};
 ghost use Rattle.node_loop.specs.Resending.{Brought};
 ghost use Rattle.node_loop.specs.Outs.{Outs, Tells, Agrees, StepsInOrder, events_text, LinkTook};
 ghost use Rattle.node_loop.specs.Serving.{Serving, Round, so_far, onto, at_call, outcome, brought, after_from};
-ghost use Rattle.node_loop.specs.Standing.{HouseStands, ComesOut, frame_by, reply_by};
-ghost use Rattle.node_loop.specs.Groups.{FitsPeers, GroupHolds, JoinsGroup, Under, more_by, acts_by, acts_each, if_kept};
+ghost use Rattle.node_loop.specs.Standing.{HouseStands, ComesOut, IsMore, IsMoreNow, frame_by, reply_by};
+ghost use Rattle.node_loop.specs.Groups.{FitsPeers, GroupHolds, JoinsGroup, Under, more_by, acts_by, acts_each};
 ghost use Rattle.node_loop.specs.Running.{IsOfTape};
 
-use crate::archive::{Archive, ArchiveFault};
+use crate::archive::Archive;
 use crate::end::Fault;
 use crate::group::Group;
 use crate::house::House;
@@ -31,7 +31,7 @@ use crate::peers::keep;
 use crate::server::Server;
 use layer_api::{Broadcast, Service};
 use link_resume::Resume;
-use outside::{Buffer, Failed, Link, LinkFault, Sink, write_all};
+use outside::{Failed, Link, LinkFault, Sink, write_all};
 use replica::OutFrame;
 use ritas_base::{Coin, Event, Mem};
 use schedule_file::Writer;
@@ -228,45 +228,65 @@ pub(crate) fn write_events<K: Sink>(tape: &mut K, events: &[Event]) -> Result<()
     Ok(())
 }
 
-// Writes the events of a group to the tape, the oldest first, in one piece.
-fn write<K: Sink>(alloc: Global, tape: &mut K, events: &[Event]) -> Result<(), Fault>
-    requires sized { AllByRecursion IsSized events.now }
+// Writes the text of a group's events to the tape, in one piece.
+fn write<K: Sink>(tape: &mut K, text: &[u8]) -> Result<(), Fault>
     ensures own { IfErr result IsOfTape }
-    ensures steps { (tells : Tells) (base : Outs) (told : List LinkAct) (link_faults : _) (older : List Event) (acts news : List LinkAct)
-        → tells.tape ≡ K.tells
+    ensures steps { (tells : Tells) (base : Outs) (told : List LinkAct) (link_faults : _) (news older : List Event) (acts outs : List LinkAct)
+        → tells.tape ≡ K.tells → text.now ≡ events_text news
         → Agrees tells base (record { taken = K.taken tape.old; tape_faults = K.faults tape.old; told = told; link_faults = link_faults })
         older acts
         → StepsInOrder tells base (record { taken = K.taken tape.new; tape_faults = K.faults tape.new; told = told; link_faults = link_faults })
         result
-        (reverse events.now ++ older) acts acts news }
+        (news ++ older) acts acts outs }
 {
-    let mut text = Buffer::new(alloc);
-    match write_events(&mut text, events) {
-        Ok(()) => {}
-        Err(_) => return Err(Fault::Mem),
-    }
-    match write_all(tape, text.taken()) {
+    match write_all(tape, text) {
         Ok(()) => Ok(()),
         Err(_) => Err(Fault::Tape),
     }
 }
 
-// Hands the events of a group to the archive, if they are kept.
-fn keep_events<A: Archive<D>, D>(
-    alloc: Global,
-    archive: &mut A,
-    disk: &mut D,
-    group: &Group,
-) -> Result<(), ArchiveFault>
-    ensures keeps { (head : List ℕ) (before : D) (past given : List Event) → A.stands head before past archive.old disk.old given
-        → MatchResult result
-        (λ _. A.stands head before past archive.new disk.new (if_kept group.now.kept (reverse group.now.events.items) ++ given))
-        (λ fault. A.fails head before past archive.new disk.new fault (if_kept group.now.kept (reverse group.now.events.items)) given) }
+// How many frames are kept for a peer of a replica.
+fn count_kept<S: Service, E: Broadcast, C: Coin + Drop>(
+    house: &House<S, E, C>,
+    at: u8,
+    peer: u8,
+) -> usize
+    ensures count { let m = meaning_of S.Service E.Broadcast C.Coin in
+        (w : Setting) (es : List Event) (numbers : List ℕ) (ws : Waiting) (p : Peers) → HouseStands m w es numbers house.now ws p
+        → FitsPeers w p.keeping at (More.Kept peer) → result ≡ length (p.keeping at peer) }
 {
-    if !group.kept {
-        return Ok(());
+    let Some(place) = house.place_of(at) else {
+        // Nothing is kept at what isn't here.
+        return 0;
+    };
+    let Some(keeper) = house.keepers.get(place) else {
+        // There is no such place.
+        return 0;
+    };
+    if usize::from(peer) >= keeper.resume.peers() {
+        // There is no such peer.
+        return 0;
     }
-    archive.keep(alloc, disk, group.events.as_slice())
+    keeper.resume.count(peer)
+}
+
+// What goes to a peer besides, as nothing goes out again where nothing is kept.
+fn more_now<S: Service, E: Broadcast, C: Coin + Drop>(
+    house: &House<S, E, C>,
+    at: u8,
+    more: More,
+) -> More
+    ensures goes { let m = meaning_of S.Service E.Broadcast C.Coin in
+        (w : Setting) (es : List Event) (numbers : List ℕ) (ws : Waiting) (brings : Brought) → HouseStands m w es numbers house.now ws brings.peers
+        → FitsPeers w brings.peers.keeping at more → IsMore w at more brings → IsMoreNow w at result brings }
+{
+    let More::Kept { peer } = more else {
+        return more;
+    };
+    if count_kept(house, at, peer) == 0 {
+        return More::Nothing;
+    }
+    more
 }
 
 /// What came of a round joins the group, and its frames are kept for their peers. The one error is want of memory.
@@ -274,51 +294,44 @@ pub(crate) fn gather<S: Service, E: Broadcast, C: Coin + Drop>(
     alloc: Global,
     house: &mut House<S, E, C>,
     group: &mut Group,
-    output: Output,
+    mut output: Output,
 ) -> Result<(), Mem>
-    requires sized { AllByRecursion IsSized group.old.events.items }
     requires event { IfSome output.event IsSized }
-    ensures sized { OnOk result (AllByRecursion IsSized group.new.events.items) }
     ensures joins { let m = meaning_of S.Service E.Broadcast C.Coin in
-        (w : Setting) (past : List Event) (numbers : List ℕ) (start : Serving) (x : Round) (newest older : List Round)
-        → let s = after_from w past start (newest ++ older) in
+        (w : Setting) (past : List Event) (numbers : List ℕ) (start : Serving) (x : Round) (newest : List Round)
+        → let s = after_from w past start newest in
         ComesOut m w (so_far past (at_call x s)) numbers house.old output (outcome w past x s) (brought w past x s)
-        → GroupHolds w past start newest older group.old → JoinsGroup newest x group.old
-        → OnOk result (Under m w past numbers start (x ∷ newest) older house.new group.new) }
+        → GroupHolds w past start newest group.old → JoinsGroup newest x group.old
+        → OnOk result (Under m w past numbers start (x ∷ newest) house.new group.new) }
 {
     keep_frames(house, alloc, &output)?;
+    output.more = more_now(house, output.at, output.more);
     group.add(output)
 }
 
 impl<L: Link, K: Sink, A: Archive<D>, D> Server<'_, '_, '_, '_, '_, L, K, A, D> {
     ghost use Rattle.std.specs.Prelude.{List, OnOk};
-    ghost use Rattle.std.specs.List.{AllByRecursion};
-    ghost use Rattle.outside.specs.Links.{LinkAct};
     ghost use Rattle.outside.specs.declared.link.LinkItem.{LinkItem};
-    ghost use Rattle.schedule_file.specs.Spelling.{IsSized};
     ghost use Rattle.node_loop.specs.Groups.{IsEmpty};
     ghost use Rattle.node_loop.specs.Meanings.{senses_of};
-    ghost use Rattle.node_loop.specs.Servers.{Outset, IsSameServer, HasGathered, HasDeliveredNone, HasDelivered};
-    ghost use Rattle.node_loop.specs.Serving.{Round, most_rounds};
+    ghost use Rattle.node_loop.specs.Servers.{Outset, IsSameServer, IsGroupReady, HasDelivered};
 
-    /// Writes the events of the group to the tape, hands them to the archive where they are kept, and then gives the link, round after round, the
+    /// Writes the text of the group's events to the tape, hands those that are kept to the archive, and then gives the link, round after round, the
     /// frames, what goes to a peer besides, and the replies.
     pub(crate) fn deliver<R: Net + Wait, S: Service, E: Broadcast, C: Coin + Drop>(
         &mut self,
         rt: &R,
         house: &House<S, E, C>,
     ) -> Result<(), Fault>
-        requires sized { AllByRecursion IsSized self.old.group.now.events.items }
         ensures same { IsSameServer self.old self.new }
         ensures empty { OnOk result (IsEmpty self.new.group.now) }
         ensures goes { let t = senses_of S.Service E.Broadcast C.Coin L.Link K.Sink A.Archive in
-            (o : Outset D) (left : List LinkItem) (older : List Round) (given : List LinkAct)
-            → HasGathered t o house.now self.old left older given most_rounds → HasDeliveredNone t o self.old older given
-            → HasDelivered t o house.now self.new left result }
+            (o : Outset D) (left : List LinkItem) → IsGroupReady t o house.now self.old left → HasDelivered t o house.now self.new left result }
     {
-        let events = self.group.events.as_slice();
-        write(self.alloc, self.tape, events)?;
-        keep_events(self.alloc, self.archive, self.disk, self.group)?;
+        let text = self.group.text.taken();
+        write(self.tape, text)?;
+        let kept = self.group.kept.as_slice();
+        self.archive.keep(self.alloc, self.disk, kept)?;
         let outputs = self.group.outputs.as_slice();
         send_each(rt, self.alloc, house, self.link, outputs)?;
         self.group.clear();

@@ -5,9 +5,9 @@ ghost use Rattle.node_loop.specs.Waiting.{Waiting, without_asked};
 ghost use Rattle.node_loop.specs.Calls.{asked_by, waiting_left_by, replies_by, reply_each};
 ghost use Rattle.node_loop.specs.Standing.{IsWaiting, reply_by};
 
-use crate::output::{REPLY_LEN, Reply};
+use crate::output::Reply;
 use crate::waiting::{Asked, Waiters};
-use client_port::write_reply;
+use client_port::{REPLY_LEN, write_reply};
 use command_log::{Log, LogRow};
 use ritas_base::Mem;
 use std::alloc::Global;

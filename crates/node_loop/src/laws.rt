@@ -1,30 +1,33 @@
 //! What serving keeps to, whatever the link gives.
-ghost use Rattle.node_loop.specs.Laws.{OneRun, OnlyGrows, ActsAreDeeds, FramesAreMade, ResendsAreOpen};
+ghost use Rattle.node_loop.specs.Laws.{OneRun, GroupsAreRounds, RoundsGrow, GroupsGrow, ActsAreDeeds, DeedsAreBehind, FramesAreMade, ResendsAreOpen};
 ghost use Rattle.node_loop.specs.Laws.{RecalledAreSent, RecalledAreOpen, AcksAreEarned, EventsFit, RepliesAreTrue, KeptMakes};
 ghost use Rattle.node_loop.specs.Keeping.{KeptStands, KeptIsShort};
 
 use layer_api::{Broadcast, Service};
 
 /// Serving is a function of what it begins with and of the items that the link gives: of two runs over one list of items, each as far as it
-/// came, the rounds of the one are the first of the other's.
+/// came, the rounds of the one are the first of the other's. In which groups they were delivered changes nothing of them.
 ///
 /// It does nothing: its contract is the law.
 pub fn one_run()
     ensures runs { OneRun }
+    ensures groups { GroupsAreRounds }
 {}
 
-/// More rounds only add to the events and to the calls of the link. So what a fault left is a front of what would have come.
+/// More rounds only add to the events, and more groups to the calls of the link. So what a fault left is a front of what would have come.
 ///
 /// It does nothing: its contract is the law.
 pub fn only_grows()
-    ensures grows { OnlyGrows }
+    ensures events { RoundsGrow }
+    ensures calls { GroupsGrow }
 {}
 
-/// The link's calls are the deeds of the rounds: what it gave, and what it was given and why.
+/// The link's calls are the deeds of the groups: what it gave, and what it was given and why.
 ///
 /// It does nothing: its contract is the law.
 pub fn acts_are_deeds()
     ensures deeds { ActsAreDeeds }
+    ensures behind { DeedsAreBehind }
 {}
 
 /// The frames that went out for the first time are those that the calls of the events made, in their order, and no others.

@@ -2,13 +2,11 @@
 ghost use Rattle.std.specs.Prelude.{◌≡◌, [], None, false};
 ghost use Rattle.node_loop.specs.declared.output.More.TheVariants as mores;
 
+use client_port::REPLY_LEN;
 use keyed_channel::NOTE_LEN;
 use replica::OutFrame;
 use ritas_base::Event;
 use std::alloc::Global;
-
-/// So long is what `client_port` writes, whose own constant isn't public: a reply of another length would have another type.
-pub(crate) const REPLY_LEN: usize = 13;
 
 /// A reply to a connection.
 #[derive(Clone, Copy)]

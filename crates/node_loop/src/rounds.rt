@@ -11,7 +11,6 @@ use crate::deliver::gather;
 use crate::end::ServeEnd;
 use crate::group::Group;
 use crate::house::House;
-use crate::output::Output;
 use crate::peers::Pair;
 use crate::server::{Pace, Server};
 use layer_api::{Broadcast, Service};
@@ -21,9 +20,6 @@ use ritas_base::{Coin, Mem};
 use std::alloc::Global;
 use std::net::Net;
 use std::sync::Wait;
-
-// A group has at most so many rounds.
-const MOST_ROUNDS: u32 = 64;
 
 /// What is done next.
 #[derive(Clone, Copy)]
@@ -45,9 +41,11 @@ pub(crate) enum Next {
 /// 5. The link's next item is taken; it ends with `End` where that is the link's end.
 ///
 /// A frame for a replica that is here is a call of its `on_frame`; a client's message is answered or submitted (`specs/Calls.antt`).
-/// Each call is an event, which goes to the tape before the call's frames go to the link, and these go before its replies. What comes of an
-/// item and of the turns behind it is delivered as one group, of at most 64 rounds: all events of it go to the tape, and then, round after
-/// round, its frames and replies to the link. An event that changed nothing is alone in its group, and so is what goes out again.
+/// Each call is an event, which goes to the tape before the call's frames go to the link, and these go before its replies. What comes of
+/// several rounds is delivered as one group: all events of it go to the tape, by one call, and then, round after round, its frames and replies to the
+/// link. To a first round of any kind join turns, and the link's items that are there by then, for which it never waits: at most 256 rounds are a
+/// group, and none joins one whose events have 65,536 bytes of text, or of which frames go out again. So what could go out never waits while the
+/// link does.
 ///
 /// Each frame of a call is kept for its peer, at most 8,388,608 bytes for one, and then goes out for the first time; where it would be
 /// more, it goes out and isn't kept. What is kept for a peer goes out again, the oldest first, where the peer has a connection again or
@@ -57,8 +55,9 @@ pub(crate) enum Next {
 ///
 /// It ends with `LinkFault` or `TapeFault` at the first call that fails, and with `Mem` where memory runs out, be it at a call of the link or
 /// of a replica, or for what is kept: no further call of the link or the tape is made then. Unless memory ran out, the replicas then
-/// stand where all events leave them, also those that the tape didn't take. It waits nowhere but in the link's calls; nothing says that
-/// turns ever end.
+/// stand where all events leave them, also those that the tape didn't take. Where the link fails while it is asked for an item that is there, the
+/// tape took nothing of the group under way, and nothing of it went out. It waits nowhere but in the link's calls; nothing says that turns ever
+/// end.
 ///
 /// What the contract says holds where the replicas are of one world (`AreHere`): they are its correct ones, all of them, each once and
 /// in any order, as they stand after the events of that world before serving began, in which none is stopped, and its root service is
@@ -108,18 +107,16 @@ pub fn serve<R: Net + Wait, S: Service, E: Broadcast, C: Coin + Drop, L: Link, K
 }
 
 impl<S: Service, E: Broadcast, C: Coin + Drop> House<S, E, C> {
-    ghost use Rattle.std.specs.Prelude.{◌≡◌, ℕ, ◌<◌, ◌^◌, List, [], ◌∷◌, length, true, OnOk, MatchResult};
-    ghost use Rattle.std.specs.List.{AllByRecursion};
+    ghost use Rattle.std.specs.Prelude.{◌≡◌, ℕ, ◌<◌, ◌^◌, List, ◌∷◌, length, true, OnOk};
     ghost use Rattle.ritas_base.specs.declared.event.Event.{Event};
-    ghost use Rattle.outside.specs.Links.{LinkAct, bytes_of};
-    ghost use Rattle.schedule_file.specs.Spelling.{IsSized};
+    ghost use Rattle.outside.specs.Links.{bytes_of};
     ghost use Rattle.world_model.specs.World.{Setting};
     ghost use Rattle.node_loop.specs.Groups.{JoinsGroup, Under};
     ghost use Rattle.node_loop.specs.Meanings.{meaning_of};
     ghost use Rattle.node_loop.specs.Peers.{Peers};
-    ghost use Rattle.node_loop.specs.Running.{Gathered, FellShortOf, IsNext};
+    ghost use Rattle.node_loop.specs.Running.{IsNext};
     ghost use Rattle.node_loop.specs.Served.{MayBegin};
-    ghost use Rattle.node_loop.specs.Serving.{Serving, Round, Began, Turned, Reminded, Took, most_rounds, wants_of};
+    ghost use Rattle.node_loop.specs.Serving.{Serving, Round, Began, Turned, Reminded, Took, wants_of};
     ghost use Rattle.node_loop.specs.Standing.{HouseStands};
     ghost use Rattle.node_loop.specs.Waiting.{Waiting};
 
@@ -143,34 +140,6 @@ impl<S: Service, E: Broadcast, C: Coin + Drop> House<S, E, C> {
         }
     }
 
-    /// Takes the turns that the rules say next, while they may join the group. The one error is want of memory.
-    pub(crate) fn take_turns(
-        &mut self,
-        alloc: Global,
-        pace: Pace,
-        group: &mut Group,
-    ) -> Result<(), Mem>
-        requires sized { AllByRecursion IsSized group.old.events.items }
-        ensures sized { OnOk result (AllByRecursion IsSized group.new.events.items) }
-        ensures goes { let m = meaning_of S.Service E.Broadcast C.Coin in
-            (w : Setting) (past : List Event) (numbers : List ℕ) (start : Serving) (older : List Round) (given : List LinkAct)
-            → Gathered m w past numbers self.old group.old pace.taken pace.until pace.limit start [] older given 1
-            → MatchResult result
-            (λ _. Gathered m w past numbers self.new group.new pace.taken pace.until pace.limit start [] older given most_rounds)
-            (λ _. FellShortOf w past pace.until pace.limit start older given) }
-    {
-        for _ in 1..MOST_ROUNDS {
-            if !group.goes_on() {
-                return Ok(());
-            }
-            match self.what_next(pace) {
-                Next::Turn(at) => self.join_turn(alloc, at, group)?,
-                _ => return Ok(()),
-            }
-        }
-        Ok(())
-    }
-
     /// Takes up one of the first items, and it joins the group. The one error is want of memory.
     pub(crate) fn join_first(
         &mut self,
@@ -178,15 +147,13 @@ impl<S: Service, E: Broadcast, C: Coin + Drop> House<S, E, C> {
         item: &LinkItem,
         group: &mut Group,
     ) -> Result<(), Mem>
-        requires sized { AllByRecursion IsSized group.old.events.items }
         requires first { MayBegin item.now }
-        ensures sized { OnOk result (AllByRecursion IsSized group.new.events.items) }
         ensures joins { let m = meaning_of S.Service E.Broadcast C.Coin in
-            (w : Setting) (past : List Event) (numbers : List ℕ) (start : Serving) (newest older : List Round)
-            → Under m w past numbers start newest older self.old group.old → JoinsGroup newest (Began item.now) group.old
-            → OnOk result (Under m w past numbers start (Began item.now ∷ newest) older self.new group.new) }
+            (w : Setting) (past : List Event) (numbers : List ℕ) (start : Serving) (newest : List Round)
+            → Under m w past numbers start newest self.old group.old → JoinsGroup newest (Began item.now) group.old
+            → OnOk result (Under m w past numbers start (Began item.now ∷ newest) self.new group.new) }
     {
-        let mut output = Output::new(alloc);
+        let mut output = group.output(alloc);
         self.begin(alloc, item, &mut output)?;
         gather(alloc, self, group, output)
     }
@@ -198,30 +165,26 @@ impl<S: Service, E: Broadcast, C: Coin + Drop> House<S, E, C> {
         pair: Pair,
         group: &mut Group,
     ) -> Result<(), Mem>
-        requires sized { AllByRecursion IsSized group.old.events.items }
-        ensures sized { OnOk result (AllByRecursion IsSized group.new.events.items) }
         ensures joins { let m = meaning_of S.Service E.Broadcast C.Coin in
-            (w : Setting) (past : List Event) (numbers : List ℕ) (start : Serving) (newest older : List Round)
-            → Under m w past numbers start newest older self.old group.old → JoinsGroup newest (Reminded pair.at pair.peer) group.old
+            (w : Setting) (past : List Event) (numbers : List ℕ) (start : Serving) (newest : List Round)
+            → Under m w past numbers start newest self.old group.old → JoinsGroup newest (Reminded pair.at pair.peer) group.old
             → w.is_correct pair.at ≡ true → pair.peer < w.numbers.n
-            → OnOk result (Under m w past numbers start (Reminded pair.at pair.peer ∷ newest) older self.new group.new) }
+            → OnOk result (Under m w past numbers start (Reminded pair.at pair.peer ∷ newest) self.new group.new) }
     {
-        let mut output = Output::new(alloc);
+        let mut output = group.output(alloc);
         self.remind(pair, &mut output);
         gather(alloc, self, group, output)
     }
 
     /// Takes a turn at a replica, and it joins the group. The one error is want of memory.
     pub(crate) fn join_turn(&mut self, alloc: Global, at: u8, group: &mut Group) -> Result<(), Mem>
-        requires sized { AllByRecursion IsSized group.old.events.items }
-        ensures sized { OnOk result (AllByRecursion IsSized group.new.events.items) }
         ensures joins { let m = meaning_of S.Service E.Broadcast C.Coin in
-            (w : Setting) (past : List Event) (numbers : List ℕ) (start : Serving) (newest older : List Round)
-            → Under m w past numbers start newest older self.old group.old → JoinsGroup newest (Turned at) group.old
+            (w : Setting) (past : List Event) (numbers : List ℕ) (start : Serving) (newest : List Round)
+            → Under m w past numbers start newest self.old group.old → JoinsGroup newest (Turned at) group.old
             → w.is_correct at ≡ true
-            → OnOk result (Under m w past numbers start (Turned at ∷ newest) older self.new group.new) }
+            → OnOk result (Under m w past numbers start (Turned at ∷ newest) self.new group.new) }
     {
-        let mut output = Output::new(alloc);
+        let mut output = group.output(alloc);
         self.turn(alloc, at, &mut output)?;
         gather(alloc, self, group, output)
     }
@@ -233,15 +196,13 @@ impl<S: Service, E: Broadcast, C: Coin + Drop> House<S, E, C> {
         item: LinkItem,
         group: &mut Group,
     ) -> Result<(), Mem>
-        requires sized { AllByRecursion IsSized group.old.events.items }
         requires short { length (bytes_of item) < 2 ^ 16 }
-        ensures sized { OnOk result (AllByRecursion IsSized group.new.events.items) }
         ensures joins { let m = meaning_of S.Service E.Broadcast C.Coin in
-            (w : Setting) (past : List Event) (numbers : List ℕ) (start : Serving) (newest older : List Round)
-            → Under m w past numbers start newest older self.old group.old → JoinsGroup newest (Took item) group.old
-            → OnOk result (Under m w past numbers start (Took item ∷ newest) older self.new group.new) }
+            (w : Setting) (past : List Event) (numbers : List ℕ) (start : Serving) (newest : List Round)
+            → Under m w past numbers start newest self.old group.old → JoinsGroup newest (Took item) group.old
+            → OnOk result (Under m w past numbers start (Took item ∷ newest) self.new group.new) }
     {
-        let mut output = Output::new(alloc);
+        let mut output = group.output(alloc);
         self.take(alloc, item, &mut output)?;
         gather(alloc, self, group, output)
     }

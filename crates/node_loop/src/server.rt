@@ -12,6 +12,9 @@ use std::alloc::Global;
 use std::net::Net;
 use std::sync::Wait;
 
+// A group has at most so many rounds.
+const MOST_ROUNDS: u32 = 256;
+
 /// For how long it is served, to so many rows in each log, if that isn't 0, and to so many items of the link; and how many of these were taken.
 #[derive(Clone, Copy)]
 pub(crate) struct Pace {
@@ -34,16 +37,13 @@ pub(crate) struct Server<'l, 't, 'a, 'd, 'g, L: Link, K: Sink, A: Archive<D>, D>
 }
 
 impl<L: Link, K: Sink, A: Archive<D>, D> Server<'_, '_, '_, '_, '_, L, K, A, D> {
-    ghost use Rattle.std.specs.Prelude.{◌<◌, List, [], All, OnOk};
-    ghost use Rattle.std.specs.List.{AllByRecursion};
-    ghost use Rattle.outside.specs.Links.{LinkAct};
-    ghost use Rattle.schedule_file.specs.Spelling.{IsSized};
-    ghost use Rattle.node_loop.specs.Groups.{IsEmpty};
+    ghost use Rattle.std.specs.Prelude.{ℕ, ◌+◌, ◌<◌, [], All, OnOk};
+    ghost use Rattle.node_loop.specs.Groups.{IsEmpty, MayGrow};
     ghost use Rattle.node_loop.specs.Meanings.{senses_of};
     ghost use Rattle.node_loop.specs.Served.{MayBegin};
-    ghost use Rattle.node_loop.specs.Servers.{Outset, IsSameServer, IsAtWork, IsNextIn, HasGathered, HasDeliveredNone, HasDelivered};
-    ghost use Rattle.node_loop.specs.Servers.{HasEnded, HasGoneOn};
-    ghost use Rattle.node_loop.specs.Serving.{Round};
+    ghost use Rattle.node_loop.specs.Servers.{Outset, IsSameServer, IsAtWork, IsNextIn, HasGathered, HasFirst, HasMore, HasGroup, HasDelivered, HasEnded, HasGoneOn};
+    ghost use Rattle.node_loop.specs.Serving.{after_from};
+    ghost use Rattle.node_loop.specs.Told.{most_rounds, after_groups};
 
     /// Serves: first these items, and then those of the link.
     pub(crate) fn serve<R: Net + Wait, S: Service, E: Broadcast, C: Coin + Drop>(
@@ -117,24 +117,40 @@ impl<L: Link, K: Sink, A: Archive<D>, D> Server<'_, '_, '_, '_, '_, L, K, A, D> 
         ensures goes { let t = senses_of S.Service E.Broadcast C.Coin L.Link K.Sink A.Archive in
             (o : Outset D) → IsAtWork t o house.old self.old [] → HasGoneOn t o house.new self.new result }
     {
+        self.begin_group(rt, house)?;
+        self.gather_more(house)?;
+        self.deliver(rt, house)?;
+        Ok(())
+    }
+
+    // The first round of a group, unless serving ends.
+    fn begin_group<R: Net + Wait, S: Service, E: Broadcast, C: Coin + Drop>(
+        &mut self,
+        rt: &R,
+        house: &mut House<S, E, C>,
+    ) -> Result<(), ServeEnd>
+        requires empty { IsEmpty self.old.group.now }
+        ensures same { IsSameServer self.old self.new }
+        ensures begins { let t = senses_of S.Service E.Broadcast C.Coin L.Link K.Sink A.Archive in
+            (o : Outset D) → IsAtWork t o house.old self.old [] → HasFirst t o house.new self.new result }
+    {
         match house.what_next(self.pace) {
             Next::Finish => Err(ServeEnd::Done),
             Next::Turn(at) => {
                 house.join_turn(self.alloc, at, self.group)?;
-                self.finish(rt, house)
+                Ok(())
             }
             Next::Halt => Err(ServeEnd::Limit),
             Next::Remind(pair) => {
                 house.join_reminder(self.alloc, pair, self.group)?;
-                self.deliver(rt, house)?;
                 Ok(())
             }
-            Next::Ask => self.run_item(rt, house),
+            Next::Ask => self.take_first(rt, house),
         }
     }
 
-    // The link's next item, unless it gives its end, and the turns behind it.
-    fn run_item<R: Net + Wait, S: Service, E: Broadcast, C: Coin + Drop>(
+    // The link's next item is the first round of a group, unless it is its end.
+    fn take_first<R: Net + Wait, S: Service, E: Broadcast, C: Coin + Drop>(
         &mut self,
         rt: &R,
         house: &mut House<S, E, C>,
@@ -142,9 +158,9 @@ impl<L: Link, K: Sink, A: Archive<D>, D> Server<'_, '_, '_, '_, '_, L, K, A, D> 
         requires room { self.old.pace.taken < self.old.pace.limit }
         requires empty { IsEmpty self.old.group.now }
         ensures same { IsSameServer self.old self.new }
-        ensures empty { OnOk result (IsEmpty self.new.group.now) }
-        ensures goes { let t = senses_of S.Service E.Broadcast C.Coin L.Link K.Sink A.Archive in
-            (o : Outset D) (run : IsAtWork t o house.old self.old []) → IsNextIn o self.old.pace run.rounds Next.Ask → HasGoneOn t o house.new self.new result }
+        ensures begins { let t = senses_of S.Service E.Broadcast C.Coin L.Link K.Sink A.Archive in
+            (o : Outset D) (run : IsAtWork t o house.old self.old []) → IsNextIn o self.old.pace (after_groups o.world o.past o.start run.groups) Next.Ask
+            → HasFirst t o house.new self.new result }
     {
         let item = self.link.next(rt, self.alloc)?;
         if item.is_end() {
@@ -153,24 +169,71 @@ impl<L: Link, K: Sink, A: Archive<D>, D> Server<'_, '_, '_, '_, '_, L, K, A, D> 
         let pace = self.pace;
         self.pace.taken = pace.taken + 1;
         house.join_item(self.alloc, item, self.group)?;
-        self.finish(rt, house)
+        Ok(())
     }
 
-    // Takes the turns that join a group, and delivers it.
-    fn finish<R: Net + Wait, S: Service, E: Broadcast, C: Coin + Drop>(
+    // The rounds that join a group: turns, and the link's items that are there.
+    fn gather_more<S: Service, E: Broadcast, C: Coin + Drop>(
         &mut self,
-        rt: &R,
         house: &mut House<S, E, C>,
-    ) -> Result<(), ServeEnd>
-        requires sized { AllByRecursion IsSized self.old.group.now.events.items }
+    ) -> Result<(), Fault>
         ensures same { IsSameServer self.old self.new }
-        ensures empty { OnOk result (IsEmpty self.new.group.now) }
-        ensures goes { let t = senses_of S.Service E.Broadcast C.Coin L.Link K.Sink A.Archive in
-            (o : Outset D) (older : List Round) (given : List LinkAct)
-            → HasGathered t o house.old self.old [] older given 1 → HasDeliveredNone t o self.old older given → HasGoneOn t o house.new self.new result }
+        ensures gathers { let t = senses_of S.Service E.Broadcast C.Coin L.Link K.Sink A.Archive in
+            (o : Outset D) → HasGathered t o house.old self.old [] 1 → HasGroup t o house.new self.new result }
     {
-        house.take_turns(self.alloc, self.pace, self.group)?;
-        self.deliver(rt, house)?;
+        for _ in 1..MOST_ROUNDS {
+            if !self.group.goes_on() {
+                return Ok(());
+            }
+            if !self.join_more(house)? {
+                return Ok(());
+            }
+        }
         Ok(())
+    }
+
+    // One round more, and whether there was one.
+    fn join_more<S: Service, E: Broadcast, C: Coin + Drop>(
+        &mut self,
+        house: &mut House<S, E, C>,
+    ) -> Result<bool, Fault>
+        ensures same { IsSameServer self.old self.new }
+        ensures gathers { let t = senses_of S.Service E.Broadcast C.Coin L.Link K.Sink A.Archive in
+            (o : Outset D) (many : ℕ) → MayGrow self.old.group.now → many < most_rounds → HasGathered t o house.old self.old [] many
+            → HasMore t o house.new self.new (many + 1) result }
+    {
+        match house.what_next(self.pace) {
+            Next::Turn(at) => {
+                house.join_turn(self.alloc, at, self.group)?;
+                Ok(true)
+            }
+            Next::Ask => self.take_more(house),
+            Next::Finish => Ok(false),
+            Next::Halt => Ok(false),
+            Next::Remind(_) => Ok(false),
+        }
+    }
+
+    // The link's next item joins a group, if there is one by now; and whether there was.
+    fn take_more<S: Service, E: Broadcast, C: Coin + Drop>(
+        &mut self,
+        house: &mut House<S, E, C>,
+    ) -> Result<bool, Fault>
+        requires room { self.old.pace.taken < self.old.pace.limit }
+        ensures same { IsSameServer self.old self.new }
+        ensures gathers { let t = senses_of S.Service E.Broadcast C.Coin L.Link K.Sink A.Archive in
+            (o : Outset D) (many : ℕ) (run : HasGathered t o house.old self.old [] many) → MayGrow self.old.group.now → many < most_rounds
+            → IsNextIn o self.old.pace (after_from o.world o.past (after_groups o.world o.past o.start run.older) run.newest) Next.Ask
+            → HasMore t o house.new self.new (many + 1) result }
+    {
+        let pace = self.pace;
+        match self.link.next_now(self.alloc)? {
+            None => Ok(false),
+            Some(item) => {
+                self.pace.taken = pace.taken + 1;
+                house.join_item(self.alloc, item, self.group)?;
+                Ok(true)
+            }
+        }
     }
 }

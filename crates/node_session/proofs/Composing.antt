@@ -109,7 +109,7 @@ module _ (h : Header) (plan : LinkPlan) (tells : Tells) where
       → SessionEnds h plan tells base now end s sooner news rule
   not_begun base now s sooner news rule end failed = by_end end failed
     where
-      part : (more : List LinkAct) → TookPart h plan tells base now s.events (more ++ s.acts)
+      part : (more : List LinkAct) → TookPart h plan tells base now s.events (more ++ (news ++ sooner))
       part more = record {
         file = λ t. let part = failed.taken t in record {
           front = part.front;
@@ -117,11 +117,11 @@ module _ (h : Header) (plan : LinkPlan) (tells : Tells) where
           parts = ap (λ l. l ++ (events_text s.events ++ 0 ∷ [])) part.parts ∙ append_assoc part.front part.rest (events_text s.events ++ 0 ∷ []);
           taken = part.taken;
         };
-        told = λ t. record { rest = (more ++ s.acts) ++ Starts plan ∷ []; back = []; parts = sym (append-nil ((more ++ s.acts) ++ Starts plan ∷ [])); told = failed.told t };
+        told = λ t. let acts = (more ++ (news ++ sooner)) ++ Starts plan ∷ [] in record { rest = acts; back = []; parts = sym (append-nil acts); told = failed.told t };
       }
 
       by_end : (x : ServeEnd) → HasFailed (heading h) plan tells base now x → SessionEnds h plan tells base now x s sooner news rule
       by_end ends.LinkFault why = (why.cause, part [], NotStarted why)
-      by_end ends.TapeFault why = (why.cause, last_taken base now s.events s.acts rule part, NotStarted why)
+      by_end ends.TapeFault why = (why.cause, last_taken base now s.events (news ++ sooner) rule part, NotStarted why)
       by_end ends.Mem why = (why.cause, part [], NotStarted why)
       by_end end why = absurd why.cause

@@ -1,7 +1,6 @@
 -- How a session ends, by how serving it did.
 use Rattle.std.proofs.Common.{◌≡◌, ℕ, ◌≤◌, Bool, true, false, List, [], ◌∷◌, ◌++◌, refl, sym, ◌∙◌, ap, subst, arith, inl, inr}
 use Rattle.outside.specs.Faults.{count_after}
-use Rattle.outside.specs.LinkCalls.{TookBack}
 use Rattle.outside.specs.LinkCallsLaws.{back_then}
 use Rattle.outside.specs.Links.{LinkAct, Gives, failed_once, short_once}
 use Rattle.outside.specs.declared.link.FaultCounts.{FaultCounts}
@@ -34,25 +33,25 @@ module _ (x : Session) (w : Setting) (tells : Tells) where
       pub closes : (reason : Want) (acts : List LinkAct) (end result : ServeEnd) → Whole m w [] numbers here tells mid now s acts rule reason
           → last.told ≡ now.told → last.link_faults ≡ now.link_faults → Closes tells.tape now.taken last.taken now.tape_faults last.tape_faults end result
           → ((rule ≡ reason) × TookAll x.header x.plan tells base last s.events acts → EndedAt end)
-          → acts ≡ last_acts reason s.acts → EndedAt result
+          → acts ≡ last_acts reason (news ++ sooner) → EndedAt result
       closes reason acts end result done same link (Closed is stands closed) so with_end =
           subst EndedAt (sym is) (so (done.why, all_taken x.header x.plan tells base mid now last s.events acts begun done.agrees closed same stands link))
       closes reason acts end result done same link (Failed is rises later lost) so with_end =
-          let at_last : acts ≡ last_acts rule s.acts = with_end ∙ ap (λ (r : Want). last_acts r s.acts) (sym done.why) in
-          let served : Agrees tells mid now s.events (last_acts rule s.acts) = subst (Agrees tells mid now s.events) at_last done.agrees in
+          let at_last : acts ≡ last_acts rule (news ++ sooner) = with_end ∙ ap (λ (r : Want). last_acts r (news ++ sooner)) (sym done.why) in
+          let served : Agrees tells mid now s.events (last_acts rule (news ++ sooner)) = subst (Agrees tells mid now s.events) at_last done.agrees in
           subst EndedAt (sym is) (
             (rises ∙ ap count_after (done.agrees.tape_stands ∙ begun.tape_stands), link ∙ (done.agrees.link_stands ∙ begun.link_stands)),
-            mark_lost x.header x.plan tells base mid now last s.events (last_acts rule s.acts) begun served lost same,
+            mark_lost x.header x.plan tells base mid now last s.events (last_acts rule (news ++ sooner)) begun served lost same,
             NotClosed mid now begun served refl lost same,
           )
 
       -- a fault came
-      pub breaks : (fault : _) (more : List LinkAct) → StopsPartway tells mid now fault s.events sooner news → s.acts ≡ news ++ sooner → last ≡ now
-          → TookPart x.header x.plan tells base last s.events (more ++ s.acts)
-      breaks fault more stops both same =
-          subst (λ (o : Outs). TookPart x.header x.plan tells base o s.events (more ++ s.acts)) (sym same)
-          (part_taken x.header x.plan tells base mid now s.events s.acts more begun stops.taken
-          (λ t. subst (TookBack mid.told now.told) (sym both) (back_then mid.told (sooner ++ mid.told) now.told sooner news refl (stops.told t))))
+      pub breaks : (fault : _) (more : List LinkAct) → StopsPartway tells mid now fault s.events sooner news → last ≡ now
+          → TookPart x.header x.plan tells base last s.events (more ++ (news ++ sooner))
+      breaks fault more stops same =
+          subst (λ (o : Outs). TookPart x.header x.plan tells base o s.events (more ++ (news ++ sooner))) (sym same)
+          (part_taken x.header x.plan tells base mid now s.events (news ++ sooner) more begun stops.taken
+          (λ t. back_then mid.told (sooner ++ mid.told) now.told sooner news refl (stops.told t)))
 
       pub broke : (end : ServeEnd) → Breaks tells mid now end s.events sooner news → last ≡ now → CameTo x.header x.plan tells base last end s sooner news rule
       broke end stops same = Broke mid begun (subst (λ (o : Outs). Breaks tells mid o end s.events sooner news) (sym same) stops)
@@ -70,30 +69,30 @@ module _ (x : Session) (w : Setting) (tells : Tells) where
         elim cause.1 [ inl none ↦ inl (none ∙ begun.link_stands) | inr one ↦ inr (one ∙ ap short_once begun.link_stands) ],
       )
 
-      pub ended : (end result : ServeEnd) → EndsSo m w [] numbers here tells mid now end s sooner news rule → s.acts ≡ news ++ sooner → last.told ≡ now.told → last.link_faults ≡ now.link_faults
+      pub ended : (end result : ServeEnd) → EndsSo m w [] numbers here tells mid now end s sooner news rule → last.told ≡ now.told → last.link_faults ≡ now.link_faults
           → (is_reason end ≡ true → Closes tells.tape now.taken last.taken now.tape_faults last.tape_faults end result)
           → (is_reason end ≡ false → (result ≡ end) × (last ≡ now)) → EndedAt result
-      ended ends.Done result so both same link closed kept = closes Finishes s.acts ends.Done result so same link (closed refl) (λ took. took) refl
-      ended ends.Limit result so both same link closed kept = closes Halts s.acts ends.Limit result so same link (closed refl) (λ took. took) refl
-      ended ends.End result so both same link closed kept = closes Asks (Gives items.End ∷ s.acts) ends.End result so same link (closed refl) (λ took. took) refl
-      ended ends.LinkFault result so both same link closed kept =
+      ended ends.Done result so same link closed kept = closes Finishes (news ++ sooner) ends.Done result so same link (closed refl) (λ took. took) refl
+      ended ends.Limit result so same link closed kept = closes Halts (news ++ sooner) ends.Limit result so same link (closed refl) (λ took. took) refl
+      ended ends.End result so same link closed kept = closes Asks (Gives items.End ∷ (news ++ sooner)) ends.End result so same link (closed refl) (λ took. took) refl
+      ended ends.LinkFault result so same link closed kept =
           let k = kept refl in
           subst EndedAt (sym k.0) (
             link_failed so.0.cause k.1,
-            breaks _ [] so.0 both k.1,
+            breaks _ [] so.0 k.1,
             broke ends.LinkFault so.0 k.1,
           )
-      ended ends.TapeFault result so both same link closed kept =
+      ended ends.TapeFault result so same link closed kept =
           let k = kept refl in
           subst EndedAt (sym k.0) (
             tape_failed so.0.cause k.1,
-            last_taken x.header x.plan tells base last s.events s.acts rule (λ more. breaks _ more so.0 both k.1),
+            last_taken x.header x.plan tells base last s.events (news ++ sooner) rule (λ more. breaks _ more so.0 k.1),
             broke ends.TapeFault so.0 k.1,
           )
-      ended ends.Mem result so both same link closed kept =
+      ended ends.Mem result so same link closed kept =
           let k = kept refl in
-          subst EndedAt (sym k.0) (fell_short so.cause k.1, breaks _ [] so both k.1, broke ends.Mem so k.1)
-      ended end result so both same link closed kept = absurd so
+          subst EndedAt (sym k.0) (fell_short so.cause k.1, breaks _ [] so k.1, broke ends.Mem so k.1)
+      ended end result so same link closed kept = absurd so
 
     -- counts of faults don't fall
     pub tape_on : (s : Serving) (sooner news : List LinkAct) (rule : Want) (end : ServeEnd) → EndsSo m w [] numbers here tells mid now end s sooner news rule → mid.tape_faults ≤ now.tape_faults

@@ -16,7 +16,6 @@ use Rattle.node_session.specs.declared.session.Session.{Session}
 use Rattle.node_session.proofs.Lives.{life_weaker}
 use Rattle.event_journal.specs.Reading.{OpensAsKept}
 use Rattle.node_loop.specs.declared.archive.ArchiveFault.{ArchiveFault}
-use Rattle.node_loop.specs.declared.archive.ArchiveFault.TheVariants as archive
 use Rattle.node_loop.specs.Journals.{HasKept, IsFull, JournalStands, JournalFails, OpensNewest, OpensSome}
 use Rattle.node_session.specs.Lives.{DiskBreaks, DiskKeeps, DiskSeen, IsOfLife, IsJournalTooLong, ServesLife, ServesNode, head_in}
 

@@ -1,4 +1,3 @@
-pub mod Behind
 pub mod Composing
 pub mod Ending
 pub mod Unopened

@@ -14,7 +14,7 @@ use Rattle.schedule_replay.specs.Layers.{broadcast_of, service_of, setting_by, s
 use Rattle.world_model.specs.EveryWorld.{IsWorld, AgreementLaw}
 use Rattle.world_model.specs.MadeOrder.{all_made}
 use Rattle.node_loop.specs.Deeds.{firsts_in}
-use Rattle.node_loop.specs.Laws.{ActsAreDeeds, FramesAreMade, ResendsAreOpen, RecalledAreSent, RecalledAreOpen, AcksAreEarned, EventsFit, RepliesAreTrue, IsServed}
+use Rattle.node_loop.specs.Laws.{ActsAreDeeds, DeedsAreBehind, FramesAreMade, ResendsAreOpen, RecalledAreSent, RecalledAreOpen, AcksAreEarned, EventsFit, RepliesAreTrue, IsServed}
 use Rattle.node_loop.specs.Served.{MayBegin}
 use Rattle.node_loop.proofs.AfterPast.{record_served}
 use Rattle.node_session.proofs.Sessions.{all_back, is_true}
@@ -34,9 +34,9 @@ use Rattle.node_loop.specs.Archives.{Moment, KeptAt, moment}
 use Rattle.node_loop.specs.Keeping.{kept_of}
 use Rattle.node_loop.specs.Outs.{Outs, Tells, NoneFailed, NoneSent, StopsPartway}
 use Rattle.node_loop.specs.Recovering.{recovered, recalled_deeds, with_past}
-use Rattle.node_loop.specs.ServedKept.{BreaksOff, EndsKept, earlier_from, group_kept}
-use Rattle.node_loop.specs.ServingLaws.{acts_from}
-use Rattle.node_loop.specs.Serving.{Serving, so_far, Want, wants, Round, after_from, AreWantedFrom, deeds_from, newest_from, sooner_from}
+use Rattle.node_loop.specs.ServedKept.{BreaksOff, EndsKept, earlier_kept, newest_kept}
+use Rattle.node_loop.specs.Serving.{Serving, so_far, Want, wants, Round}
+use Rattle.node_loop.specs.Told.{AreGroups, after_groups, told_from, newest_calls, sooner, deeds_from}
 use Rattle.node_session.specs.declared.session.Session.{Session}
 use Rattle.node_session.specs.Lives.{BrokeAt, LifeEnds, LifeKept, NothingMore, ServesLife}
 use Rattle.node_session.specs.Opening.{HasBegun, HasFailed, Closes, Closed, Failed, is_reason}
@@ -56,7 +56,7 @@ to_life x tells base now end s sooner news rule so = so
 -- nothing was given yet
 none_given : (now : Moment) (none : Type 0) (x : Session) (tells : Tells) (base outs : Outs) (end : ServeEnd) → HasFailed (heading x.header) x.plan tells base outs end
     → now.stands [] → LifeKept now none [] [] [] end
-none_given now none x tells base outs ends.LinkFault failed here = here
+none_given now none x tells base outs ends.LinkFault failed here = inl here
 none_given now none x tells base outs ends.TapeFault failed here = inl here
 none_given now none x tells base outs ends.Mem failed here = inl here
 none_given now none x tells base outs end failed here = absurd failed.cause
@@ -79,11 +79,11 @@ module _ (x : Session) (w : Setting) (tells : Tells) {S E C : Type 0} (m : Meani
   nothing_more : last ≡ now → NoneSent tells mid now sooner → NothingMore x.plan tells base last sooner
   nothing_more same none = λ t. inl (ap (λ (o : Outs). o.told) same ∙ (none t ∙ ap (λ (l : List LinkAct). sooner ++ l) (begun.told t)))
 
-  life_ended : (end result : ServeEnd) → EndsKept m w [] numbers here tells mid now end s sooner news rule → s.acts ≡ news ++ sooner → last.told ≡ now.told
+  life_ended : (end result : ServeEnd) → EndsKept m w [] numbers here tells mid now end s sooner news rule → last.told ≡ now.told
       → last.link_faults ≡ now.link_faults
       → (is_reason end ≡ true → Closes tells.tape now.taken last.taken now.tape_faults last.tape_faults end result)
       → (is_reason end ≡ false → (result ≡ end) × (last ≡ now)) → LifeEnds x.header x.plan tells base last result s sooner news rule
-  life_ended end result so both same link closed kept = by_end end so closed kept
+  life_ended end result so same link closed kept = by_end end so closed kept
     where
       at : ServeEnd → Type 0
       at e = LifeEnds x.header x.plan tells base last e s sooner news rule
@@ -93,10 +93,10 @@ module _ (x : Session) (w : Setting) (tells : Tells) {S E C : Type 0} (m : Meani
 
       -- the journal failed
       over : (e : ServeEnd) (fault : _) → BreaksOff tells mid now e s.events sooner news → StopsPartway tells mid now fault s.events sooner news → NoneFailed mid now → last ≡ now
-          → NoneFailed base last × TookPart x.header x.plan tells base last s.events s.acts × BrokeAt x.header x.plan tells base last e s.events sooner news
+          → NoneFailed base last × TookPart x.header x.plan tells base last s.events (news ++ sooner) × BrokeAt x.header x.plan tells base last e s.events sooner news
       over e fault off stops cause same = (
         none_failed cause same,
-        breaks x w tells m numbers here base mid now last begun s sooner news rule fault [] stops both same,
+        breaks x w tells m numbers here base mid now last begun s sooner news rule fault [] stops same,
         record { mid = mid; begun = begun; stops = subst (λ (o : Outs). BreaksOff tells mid o e s.events sooner news) (sym same) off },
       )
 
@@ -106,7 +106,7 @@ module _ (x : Session) (w : Setting) (tells : Tells) {S E C : Type 0} (m : Meani
       by_end ends.DiskFault so closed kept = subst at (sym (kept refl).0) (over ends.DiskFault _ so.0 so.0 so.0.cause (kept refl).1)
       by_end (ends.JournalFull size) so closed kept = subst at (sym (kept refl).0) (over (ends.JournalFull size) _ so.0 so.0 so.0.cause (kept refl).1)
       by_end e so closed kept =
-          to_life x tells base last result s sooner news rule (ended x w tells m numbers here base mid now last begun s sooner news rule e result so both same link closed kept)
+          to_life x tells base last result s sooner news rule (ended x w tells m numbers here base mid now last begun s sooner news rule e result so same link closed kept)
 
   -- what the archive stands for at the end of serving is what it stands for at the end of the session
   life_kept : (stands : List Event → Type 0) (fails : ArchiveFault → List Event → List Event → Type 0) (kept group older : List Event) (end result : ServeEnd)
@@ -126,6 +126,10 @@ module _ (x : Session) (w : Setting) (tells : Tells) {S E C : Type 0} (m : Meani
       by_end ends.Done so held closed same = all_kept (moment last stands fails) _ kept group older _ _ _ _ _ ends.Done result refl held (closed refl)
       by_end ends.Limit so held closed same = all_kept (moment last stands fails) _ kept group older _ _ _ _ _ ends.Limit result refl held (closed refl)
       by_end ends.End so held closed same = all_kept (moment last stands fails) _ kept group older _ _ _ _ _ ends.End result refl held (closed refl)
+      by_end ends.LinkFault so held closed same = subst at (sym (same refl).0) (elim held [
+        | inl all ↦ inl all
+        | inr some ↦ inr (nothing_more (same refl).1 some.0, some.1)
+      ])
       by_end ends.TapeFault so held closed same = subst at (sym (same refl).0) (inr (nothing_more (same refl).1 so.0.order, held))
       by_end ends.Mem so held closed same = subst at (sym (same refl).0) (elim held [
         | inl all ↦ inl all
@@ -147,29 +151,27 @@ module _ (x : Session) (w : Setting) (tells : Tells) {S E C : Type 0} (m : Meani
 
 -- what is true of a life that began with these events
 pub is_life : (h : Header) (w : Setting) → IsHeading (heading h) → (service : ServiceRules) (other : BroadcastRules) → IsWorld service other w → w.numbers ≡ h.p
-    → ((i : ℕ) → w.is_correct i ≡ true → has_member h.correct i ≡ true) → ActsAreDeeds → FramesAreMade → ResendsAreOpen → AcksAreEarned → EventsFit
+    → ((i : ℕ) → w.is_correct i ≡ true → has_member h.correct i ≡ true) → ActsAreDeeds → DeedsAreBehind → FramesAreMade → ResendsAreOpen → AcksAreEarned → EventsFit
     → RepliesAreTrue service other → AgreementLaw service other → RecalledAreSent → RecalledAreOpen → (until limit me : ℕ) (events : List Event) → w.is_correct me ≡ true
-    → AllByRecursion (IsRecord me) events → (rounds : List Round) → AreWantedFrom w (reverse events) until limit (recovered w (reverse events)) rounds
-    → IsTrueSession h w (so_far (reverse events) (after_from w (reverse events) (recovered w (reverse events)) rounds)) (recalled_deeds w (reverse events))
-    (deeds_from w (reverse events) (recovered w (reverse events)) [] rounds) (after_from w (reverse events) (recovered w (reverse events)) rounds).acts
-is_life h w is service other kind numbers correct done made kept earned fit replied agreed sent again until limit me events right own rounds wanted =
+    → AllByRecursion (IsRecord me) events → (groups : List (List Round)) → AreGroups w (reverse events) until limit (recovered w (reverse events)) groups
+    → IsTrueSession h w (so_far (reverse events) (after_groups w (reverse events) (recovered w (reverse events)) groups)) (recalled_deeds w (reverse events))
+    (deeds_from w (reverse events) (recovered w (reverse events)) [] groups) (told_from w (reverse events) (recovered w (reverse events)) groups)
+is_life h w is service other kind numbers correct done behind made kept earned fit replied agreed sent again until limit me events right own groups are =
     let past = reverse events in
     let made_first : all_made w past ≡ reverse (firsts_in (recalled_deeds w past)) = sym (ap reverse (again w past).1 ∙ reverse-reverse (all_made w past)) in
-    is_true h w is service other kind numbers correct done made kept earned fit replied agreed past until limit (recovered w past) (recalled_deeds w past) rounds refl refl
-    (All-from_recursion MayBegin [] tt) made_first (sent w past) (again w past).0 (all_back (IsServed w) events (record_served w me events right own)) wanted
+    is_true h w is service other kind numbers correct done behind made kept earned fit replied agreed past until limit (recovered w past) (recalled_deeds w past) groups refl
+    (All-from_recursion MayBegin [] tt) made_first (sent w past) (again w past).0 (all_back (IsServed w) events (record_served w me events right own)) are
 
 module _ (x : Session) (past : List Event) (w : Setting) (tells : Tells) (stands : List Event → Type 0) (fails : ArchiveFault → List Event → List Event → Type 0)
-    (session : (rounds : List Round) → AreWantedFrom w past x.until x.limit (recovered w past) rounds
-    → IsTrueSession x.header w (so_far past (after_from w past (recovered w past) rounds)) (recalled_deeds w past)
-    (deeds_from w past (recovered w past) [] rounds) (after_from w past (recovered w past) rounds).acts) where
+    (session : (groups : List (List Round)) → AreGroups w past x.until x.limit (recovered w past) groups
+    → IsTrueSession x.header w (so_far past (after_groups w past (recovered w past) groups)) (recalled_deeds w past)
+    (deeds_from w past (recovered w past) [] groups) (told_from w past (recovered w past) groups)) where
   -- it ended before it was served
   pub life_fails : (base now : Outs) (end : ServeEnd) → HasFailed (heading x.header) x.plan tells base now end → stands []
       → ServesLife x past w tells base (moment now stands fails) end
   life_fails base now end failed held = record {
-    group = [];
-    older = [];
-    one = record { some = λ is. refl; turns = tt; most = omega arith };
-    wanted = tt;
+    groups = [];
+    are = tt;
     so = to_life x tells base now end _ [] [] _
         (not_begun x.header x.plan tells base now (with_past past (recovered w past)) [] [] (wants w past x.until x.limit (recovered w past)) end failed);
     kept = none_given (moment now stands fails) _ x tells base now end failed held;
@@ -185,20 +187,18 @@ module _ (x : Session) (past : List Event) (w : Setting) (tells : Tells) (stands
       → (is_reason end ≡ false → (result ≡ end) × (last ≡ now)) → ServesLife x past w tells base (moment last stands fails) result
   lives m numbers here base mid now last begun end result run same same_count closed kept =
       let start = recovered w past in
-      let rounds = run.group ++ run.older in
-      let s = with_past past (after_from w past start rounds) in
-      let old = sooner_from w past start run.group run.older in
-      let new = newest_from w past start run.group run.older in
-      let rule = wants w past x.until x.limit (after_from w past start rounds) in
+      let later = after_groups w past start run.groups in
+      let s = with_past past later in
+      let old = sooner w past start run.groups in
+      let new = newest_calls w past start run.groups in
+      let rule = wants w past x.until x.limit later in
       record {
-        group = run.group;
-        older = run.older;
-        one = run.one;
-        wanted = run.wanted;
-        so = life_ended x w tells m numbers here base mid now last begun s old new rule end result run.so (acts_from w past start run.group run.older) same same_count closed kept;
+        groups = run.groups;
+        are = run.are;
+        so = life_ended x w tells m numbers here base mid now last begun s old new rule end result run.so same same_count closed kept;
         kept = life_kept x w tells m numbers here base mid now last begun s old new rule stands fails
-            (kept_of w past (after_from w past start rounds).events) (group_kept w past start run.group run.older) (kept_of w past (earlier_from w past start run.older)) end result run.so run.kept closed kept;
-        true_of = session rounds run.wanted;
+            (kept_of w past later.events) (newest_kept w past start run.groups) (earlier_kept w past start run.groups) end result run.so run.kept closed kept;
+        true_of = session run.groups run.are;
         tape_later = omega (
           arith,
           begun.tape_stands,
@@ -214,10 +214,8 @@ pub life_weaker : (x : Session) (past : List Event) (w : Setting) (tells : Tells
     → ((fault : ArchiveFault) (group older : List Event) → fails fault group older → more_fails fault group older)
     → ServesLife x past w tells base (moment outs stands fails) end → ServesLife x past w tells base (moment outs more_stands more_fails) end
 life_weaker x past w tells base outs stands more_stands fails more_fails end one two life = record {
-  group = life.group;
-  older = life.older;
-  one = life.one;
-  wanted = life.wanted;
+  groups = life.groups;
+  are = life.are;
   so = life.so;
   kept = by_end end _ _ _ _ life.kept;
   true_of = life.true_of;
@@ -226,6 +224,7 @@ life_weaker x past w tells base outs stands more_stands fails more_fails end one
 }
   where
     by_end : (e : ServeEnd) (none : Type 0) (kept group older : List Event) → LifeKept (moment outs stands fails) none kept group older e → LifeKept (moment outs more_stands more_fails) none kept group older e
+    by_end ends.LinkFault none kept group older held = elim held [ inl all ↦ inl (one kept all) | inr some ↦ inr (some.0, one older some.1) ]
     by_end ends.TapeFault none kept group older held = elim held [ inl all ↦ inl (one kept all) | inr some ↦ inr (some.0, one older some.1) ]
     by_end ends.Mem none kept group older held = elim held [
       | inl all ↦ inl (one kept all)

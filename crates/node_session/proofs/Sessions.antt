@@ -12,7 +12,6 @@ use Rattle.std.proofs.lemmas.Bool.{eqb-true, eq-eqb, both_ways}
 use Rattle.layer_api.specs.Broadcast.{BroadcastRules}
 use Rattle.layer_api.specs.Service.{ServiceRules}
 use Rattle.ritas_core.specs.Rules.{HasForm}
-use Rattle.outside.specs.Links.{LinkAct, replies_in}
 use Rattle.outside.specs.declared.link.LinkItem.{LinkItem}
 use Rattle.schedule_file.specs.ReadHeader.{heading}
 use Rattle.schedule_file.specs.Spelling.{IsHeading, IsEvent, IsSized, MayStand, AreHeaderKeys}
@@ -30,15 +29,14 @@ use Rattle.world_model.specs.MadeOrder.{all_made}
 use Rattle.world_model.specs.EveryWorld.{IsWorld, AgreementLaw}
 use Rattle.node_loop.specs.declared.end.ServeEnd.{ServeEnd}
 use Rattle.node_loop.specs.Deeds.{Deed, firsts_in}
-use Rattle.node_loop.specs.Laws.{sent_as, ActsAreDeeds, FramesAreMade, AllSent, AreOpen, ResendsAreOpen, AcksAreEarned, RepliesAreTrue, EventsFit, IsServed, IsTrueReply}
+use Rattle.node_loop.specs.Laws.{sent_as, ActsAreDeeds, DeedsAreBehind, FramesAreMade, AllSent, AreOpen, ResendsAreOpen, AcksAreEarned, RepliesAreTrue, EventsFit, IsServed}
 use Rattle.node_loop.specs.Outs.{Outs, Tells}
 use Rattle.node_loop.specs.Served.{MayBegin, Serves}
-use Rattle.node_loop.specs.ServingLaws.{acts_of}
-use Rattle.node_loop.specs.Serving.{Serving, begin, so_far, Round, serving_after, after_from, deeds_of, deeds_from, sooner, newest, wants, AreWanted, AreWantedFrom}
+use Rattle.node_loop.specs.Serving.{Serving, begin, so_far, Round, wants}
+use Rattle.node_loop.specs.Told.{AreGroups, after_groups, told_from, newest_calls, sooner, deeds_from}
 use Rattle.node_session.specs.declared.session.Session.{Session}
 use Rattle.node_session.specs.Session.{IsTrueSession, ServesSession}
 use Rattle.node_session.specs.Opening.{HasBegun, HasFailed, Closes, is_reason}
-use Rattle.node_session.proofs.Behind.{deeds_behind}
 use Rattle.node_session.proofs.Composing.{not_begun}
 use Rattle.node_session.proofs.Ending.{same_failed, ended, tape_on, link_on, end_on}
 
@@ -117,19 +115,19 @@ all_back {X = X} P (x ∷ xs) all =
 
 module _ (h : Header) (w : Setting) (is : IsHeading (heading h)) (service : ServiceRules) (other : BroadcastRules) (kind : IsWorld service other w)
     (numbers : w.numbers ≡ h.p) (correct : (i : ℕ) → w.is_correct i ≡ true → has_member h.correct i ≡ true)
-    (done : ActsAreDeeds) (made : FramesAreMade) (kept : ResendsAreOpen) (earned : AcksAreEarned) (fit : EventsFit) (replied : RepliesAreTrue service other) (agreed : AgreementLaw service other) where
+    (done : ActsAreDeeds) (behind : DeedsAreBehind) (made : FramesAreMade) (kept : ResendsAreOpen) (earned : AcksAreEarned) (fit : EventsFit) (replied : RepliesAreTrue service other) (agreed : AgreementLaw service other) where
   -- of serving that began after the past events, whose frames went out earlier
-  pub is_true : (past : List Event) (until limit : ℕ) (start : Serving) (earlier : List Deed) (rounds : List Round) → start.acts ≡ [] → start.events ≡ []
+  pub is_true : (past : List Event) (until limit : ℕ) (start : Serving) (earlier : List Deed) (groups : List (List Round)) → start.events ≡ []
       → All MayBegin start.left → all_made w past ≡ reverse (firsts_in earlier) → AllSent w start.peers earlier → AreOpen w earlier
-      → AllByRecursion (IsServed w) past → AreWantedFrom w past until limit start rounds
-      → IsTrueSession h w (so_far past (after_from w past start rounds)) earlier (deeds_from w past start [] rounds) (after_from w past start rounds).acts
-  is_true past until limit start earlier rounds no_acts no_events firsts first_made sent again served wanted =
-      let s = after_from w past start rounds in
-      let deeds = deeds_from w past start [] rounds in
-      let behind : deeds_from w past start earlier rounds ≡ deeds ++ earlier = deeds_behind w past start earlier rounds in
+      → AllByRecursion (IsServed w) past → AreGroups w past until limit start groups
+      → IsTrueSession h w (so_far past (after_groups w past start groups)) earlier (deeds_from w past start [] groups) (told_from w past start groups)
+  is_true past until limit start earlier groups no_events firsts first_made sent again served are =
+      let s = after_groups w past start groups in
+      let deeds = deeds_from w past start [] groups in
+      let all_deeds : deeds_from w past start earlier groups ≡ deeds ++ earlier = behind w past start earlier groups in
       let within : (i : ℕ) → w.is_correct i ≡ true → i < h.p.n = λ i right. subst (λ (p : Numbers). i < p.n) numbers (kind.within i right) in
       let fits : AllByRecursion (IsServed w) s.events =
-      fit w past until limit start rounds firsts (subst (λ (es : List Event). AllByRecursion (IsServed w) es) (sym no_events) tt) wanted in
+      fit w past until limit start groups firsts (subst (λ (es : List Event). AllByRecursion (IsServed w) es) (sym no_events) tt) are in
       let all : AllByRecursion (IsServed w) (so_far past s) = append_all (IsServed w) s.events past fits served in
       let frames : all_made w (so_far past start) ≡ [] ++ reverse (firsts_in earlier) = ap (λ (es : List Event). all_made w (es ++ past)) no_events ∙ first_made in
       record {
@@ -139,34 +137,32 @@ module _ (h : Header) (w : Setting) (is : IsHeading (heading h)) (service : Serv
           each = all_back (IsEvent (heading h)) (so_far past s) (all_stand h w is within correct (so_far past s) all);
           size = size;
         };
-        calls = done w past start [] rounds no_acts;
-        frames = ap (map sent_as) (made w past start [] earlier rounds frames ∙ ap (λ (ds : List Deed). reverse (firsts_in ds)) behind);
-        resends = subst (AreOpen w) behind (kept w past start earlier rounds sent again);
-        acknowledged = earned w past start [] rounds tt;
-        replies = replied w past start rounds kind (subst (λ (acts : List LinkAct). AllByRecursion (IsTrueReply w (so_far past start)) (replies_in acts)) (sym no_acts) tt);
+        calls = done w past start groups;
+        frames = ap (map sent_as) (made w past start [] earlier groups frames ∙ ap (λ (ds : List Deed). reverse (firsts_in ds)) all_deeds);
+        resends = subst (AreOpen w) all_deeds (kept w past until limit start earlier groups are sent again);
+        acknowledged = earned w past start [] groups tt;
+        replies = replied w past start groups kind;
         agree = λ holds. agreed w (so_far past s) kind holds;
       }
 
-  pub is_session : (until limit : ℕ) (first : List LinkItem) (rounds : List Round) → All MayBegin first → AreWanted w [] until limit first rounds
-      → IsTrueSession h w (serving_after w [] first rounds).events [] (deeds_of w [] first rounds) (serving_after w [] first rounds).acts
+  pub is_session : (until limit : ℕ) (first : List LinkItem) (groups : List (List Round)) → All MayBegin first → AreGroups w [] until limit (begin first) groups
+      → IsTrueSession h w (after_groups w [] (begin first) groups).events [] (deeds_from w [] (begin first) [] groups) (told_from w [] (begin first) groups)
   unfolding all_made
-  is_session until limit first rounds firsts wanted =
-      let s = serving_after w [] first rounds in
-      subst (λ (es : List Event). IsTrueSession h w es [] (deeds_of w [] first rounds) s.acts) (append-nil s.events)
-      (is_true [] until limit (begin first) [] rounds refl refl firsts refl (record { each = λ i j. tt }) tt tt wanted)
+  is_session until limit first groups firsts are =
+      subst (λ (es : List Event). IsTrueSession h w es [] (deeds_from w [] (begin first) [] groups) (told_from w [] (begin first) groups))
+      (append-nil (after_groups w [] (begin first) groups).events)
+      (is_true [] until limit (begin first) [] groups refl firsts refl (record { each = λ i j. tt }) tt tt are)
 
 -- ---- the session as a whole
 
 module _ (x : Session) (first : List LinkItem) (w : Setting) (tells : Tells)
-    (session : (rounds : List Round) → AreWanted w [] x.until x.limit first rounds
-    → IsTrueSession x.header w (serving_after w [] first rounds).events [] (deeds_of w [] first rounds) (serving_after w [] first rounds).acts) where
+    (session : (groups : List (List Round)) → AreGroups w [] x.until x.limit (begin first) groups
+    → IsTrueSession x.header w (after_groups w [] (begin first) groups).events [] (deeds_from w [] (begin first) [] groups) (told_from w [] (begin first) groups)) where
   -- it ended before it was served
   pub fails : (base now : Outs) (end : ServeEnd) → HasFailed (heading x.header) x.plan tells base now end → ServesSession x first w tells base now end
   fails base now end failed = record {
-    group = [];
-    older = [];
-    one = record { some = λ is. refl; turns = tt; most = omega arith };
-    wanted = tt;
+    groups = [];
+    are = tt;
     so = not_begun x.header x.plan tells base now (begin first) [] [] (wants w [] x.until x.limit (begin first)) end failed;
     true_of = session [] tt;
     tape_later = failed.tape_later;
@@ -178,17 +174,15 @@ module _ (x : Session) (first : List LinkItem) (w : Setting) (tells : Tells)
         → (is_reason end ≡ true → Closes tells.tape now.taken last.taken now.tape_faults last.tape_faults end result)
         → (is_reason end ≡ false → (result ≡ end) × (last ≡ now)) → ServesSession x first w tells base last result
     serves end result run same same_count closed kept =
-        let s = serving_after w [] first (run.group ++ run.older) in
-        let old = sooner w [] first run.group run.older in
-        let new = newest w [] first run.group run.older in
+        let s = after_groups w [] (begin first) run.groups in
+        let old = sooner w [] (begin first) run.groups in
+        let new = newest_calls w [] (begin first) run.groups in
         let rule = wants w [] x.until x.limit s in
         record {
-          group = run.group;
-          older = run.older;
-          one = run.one;
-          wanted = run.wanted;
-          so = ended x w tells m numbers here base mid now last begun s old new rule end result run.so (acts_of w [] first run.group run.older) same same_count closed kept;
-          true_of = session (run.group ++ run.older) run.wanted;
+          groups = run.groups;
+          are = run.are;
+          so = ended x w tells m numbers here base mid now last begun s old new rule end result run.so same same_count closed kept;
+          true_of = session run.groups run.are;
           tape_later = omega (arith, begun.tape_stands, tape_on x w tells m numbers here base mid now last begun s old new rule end run.so, end_on x w tells m numbers here base mid now last begun end result (is_reason end) refl closed kept);
           link_later = omega (arith, same_failed begun.link_stands, link_on x w tells m numbers here base mid now last begun s old new rule end run.so, same_failed same_count);
         }

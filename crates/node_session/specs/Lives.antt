@@ -27,8 +27,9 @@ use Rattle.node_loop.specs.Journals.{OpensNewest, OpensSome}
 use Rattle.node_loop.specs.Keeping.{kept_of}
 use Rattle.node_loop.specs.Outs.{Outs, Tells, NoneFailed}
 use Rattle.node_loop.specs.Recovering.{recovered, recalled_deeds, with_past}
-use Rattle.node_loop.specs.ServedKept.{BreaksOff, earlier_from, group_kept}
-use Rattle.node_loop.specs.Serving.{Serving, so_far, Want, wants, Round, IsGroup, after_from, AreWantedFrom, deeds_from, newest_from, sooner_from}
+use Rattle.node_loop.specs.ServedKept.{BreaksOff, earlier_kept, newest_kept}
+use Rattle.node_loop.specs.Serving.{Serving, so_far, Want, wants, Round}
+use Rattle.node_loop.specs.Told.{AreGroups, after_groups, told_from, newest_calls, sooner, deeds_from}
 use Rattle.schedule_replay.specs.Layers.{setting_of}
 use Rattle.node_session.specs.Configs.{node_header, node_session}
 use Rattle.node_session.specs.Opening.{HasBegun}
@@ -88,9 +89,9 @@ pub record BrokeAt (h : Header) (plan : LinkPlan) (tells : Tells) (base now : Ou
 -- each end: as of any session, or the newest group couldn't be kept
 abbrev pub LifeEnds : Header → LinkPlan → Tells → Outs → Outs → ServeEnd → Serving → List LinkAct → List LinkAct → Want → Type 0
 LifeEnds h plan tells base now ends.DiskFault s sooner news rule =
-    NoneFailed base now × TookPart h plan tells base now s.events s.acts × BrokeAt h plan tells base now ends.DiskFault s.events sooner news
+    NoneFailed base now × TookPart h plan tells base now s.events (news ++ sooner) × BrokeAt h plan tells base now ends.DiskFault s.events sooner news
 LifeEnds h plan tells base now (ends.JournalFull x) s sooner news rule =
-    NoneFailed base now × TookPart h plan tells base now s.events s.acts × BrokeAt h plan tells base now (ends.JournalFull x) s.events sooner news
+    NoneFailed base now × TookPart h plan tells base now s.events (news ++ sooner) × BrokeAt h plan tells base now (ends.JournalFull x) s.events sooner news
 LifeEnds h plan tells base now end s sooner news rule = SessionEnds h plan tells base now end s sooner news rule
 
 -- what is kept at each end: where the output failed, all events, or all before the newest group, of which nothing went out
@@ -102,21 +103,19 @@ LifeKept now none kept group older end = KeptAt now none kept group older end
 abbrev pub NothingMore : LinkPlan → Tells → Outs → Outs → List LinkAct → Type 0
 NothingMore plan tells base now sooner = tells.link ≡ true → (now.told ≡ sooner ++ Starts plan ∷ base.told) ⊎ (now.told ≡ base.told)
 
--- There are rounds of serving that began after the past events, each what the rules say, after which the session ended so; the newest of them are a
--- group. The output took the past events too, in front of the others.
+-- There are groups of rounds of serving that began after the past events, each round what the rules say, after which the session ended so. The output
+-- took the past events too, in front of the others.
 pub record ServesLife (s : Session) (past : List Event) (w : Setting) (tells : Tells) (base : Outs) (now : Moment) (end : ServeEnd) : Type 0 where
-  pub group : List Round
-  pub older : List Round
-  pub one : IsGroup group older
-  pub wanted : AreWantedFrom w past s.until s.limit (recovered w past) (group ++ older)
-  pub so : LifeEnds s.header s.plan tells base now.outs end (with_past past (after_from w past (recovered w past) (group ++ older)))
-      (sooner_from w past (recovered w past) group older) (newest_from w past (recovered w past) group older)
-      (wants w past s.until s.limit (after_from w past (recovered w past) (group ++ older)))
-  pub kept : LifeKept now (NothingMore s.plan tells base now.outs (sooner_from w past (recovered w past) group older))
-      (kept_of w past (after_from w past (recovered w past) (group ++ older)).events) (group_kept w past (recovered w past) group older)
-      (kept_of w past (earlier_from w past (recovered w past) older)) end
-  pub true_of : IsTrueSession s.header w (so_far past (after_from w past (recovered w past) (group ++ older))) (recalled_deeds w past)
-      (deeds_from w past (recovered w past) [] (group ++ older)) (after_from w past (recovered w past) (group ++ older)).acts
+  pub groups : List (List Round)
+  pub are : AreGroups w past s.until s.limit (recovered w past) groups
+  pub so : LifeEnds s.header s.plan tells base now.outs end (with_past past (after_groups w past (recovered w past) groups))
+      (sooner w past (recovered w past) groups) (newest_calls w past (recovered w past) groups)
+      (wants w past s.until s.limit (after_groups w past (recovered w past) groups))
+  pub kept : LifeKept now (NothingMore s.plan tells base now.outs (sooner w past (recovered w past) groups))
+      (kept_of w past (after_groups w past (recovered w past) groups).events) (newest_kept w past (recovered w past) groups)
+      (earlier_kept w past (recovered w past) groups) end
+  pub true_of : IsTrueSession s.header w (so_far past (after_groups w past (recovered w past) groups)) (recalled_deeds w past)
+      (deeds_from w past (recovered w past) [] groups) (told_from w past (recovered w past) groups)
   pub tape_later : base.tape_faults ≤ now.outs.tape_faults
   pub link_later : base.link_faults.failed ≤ now.outs.link_faults.failed
 

@@ -22,7 +22,8 @@ use Rattle.node_loop.specs.Deeds.{Deed, act_of, firsts_in}
 use Rattle.node_loop.specs.Laws.{sent_as, all_frames_of, AreOpen, AreEarned, IsTrueReply}
 use Rattle.node_loop.specs.Outs.{Outs, NoneFailed, TapeFailed, LinkFailed, FellShort, Tells, Agrees}
 use Rattle.node_loop.specs.Served.{MayBegin, Breaks}
-use Rattle.node_loop.specs.Serving.{Serving, Want, Begins, Finishes, Turns, Halts, Reminds, Asks, Round, IsGroup, serving_after, deeds_of, sooner, newest, wants, AreWanted}
+use Rattle.node_loop.specs.Serving.{Serving, Want, Begins, Finishes, Turns, Halts, Reminds, Asks, Round, begin, wants}
+use Rattle.node_loop.specs.Told.{AreGroups, after_groups, told_from, newest_calls, sooner, deeds_from}
 use Rattle.node_session.specs.declared.session.Session.{Session}
 use Rattle.node_session.specs.Opening.{HasBegun, HasFailed}
 
@@ -61,20 +62,20 @@ last_acts Asks acts = Gives items.End ∷ acts
 pub data CameTo (h : Header) (plan : LinkPlan) (tells : Tells) (base now : Outs) (end : ServeEnd) (s : Serving) (sooner news : List LinkAct) (rule : Want) : Type 0 where
   NotStarted : HasFailed (heading h) plan tells base now end → CameTo h plan tells base now end s sooner news rule
   Broke : (mid : Outs) → HasBegun (heading h) plan tells base mid → Breaks tells mid now end s.events sooner news → CameTo h plan tells base now end s sooner news rule
-  NotClosed : (mid whole : Outs) → HasBegun (heading h) plan tells base mid → Agrees tells mid whole s.events (last_acts rule s.acts) → end ≡ ends.TapeFault
+  NotClosed : (mid whole : Outs) → HasBegun (heading h) plan tells base mid → Agrees tells mid whole s.events (last_acts rule (news ++ sooner)) → end ≡ ends.TapeFault
       → (tells.tape ≡ true → TookFront whole.taken now.taken (0 ∷ [])) → now.told ≡ whole.told → CameTo h plan tells base now end s sooner news rule
 
 -- each end: the rule that applied, or the fault that came, which is that of the first call that failed or was without memory
 abbrev pub SessionEnds : Header → LinkPlan → Tells → Outs → Outs → ServeEnd → Serving → List LinkAct → List LinkAct → Want → Type 0
-SessionEnds h plan tells base now ends.Done s sooner news rule = (rule ≡ Finishes) × TookAll h plan tells base now s.events s.acts
-SessionEnds h plan tells base now ends.Limit s sooner news rule = (rule ≡ Halts) × TookAll h plan tells base now s.events s.acts
-SessionEnds h plan tells base now ends.End s sooner news rule = (rule ≡ Asks) × TookAll h plan tells base now s.events (Gives items.End ∷ s.acts)
+SessionEnds h plan tells base now ends.Done s sooner news rule = (rule ≡ Finishes) × TookAll h plan tells base now s.events (news ++ sooner)
+SessionEnds h plan tells base now ends.Limit s sooner news rule = (rule ≡ Halts) × TookAll h plan tells base now s.events (news ++ sooner)
+SessionEnds h plan tells base now ends.End s sooner news rule = (rule ≡ Asks) × TookAll h plan tells base now s.events (Gives items.End ∷ (news ++ sooner))
 SessionEnds h plan tells base now ends.LinkFault s sooner news rule =
-    LinkFailed base now × TookPart h plan tells base now s.events s.acts × CameTo h plan tells base now ends.LinkFault s sooner news rule
+    LinkFailed base now × TookPart h plan tells base now s.events (news ++ sooner) × CameTo h plan tells base now ends.LinkFault s sooner news rule
 SessionEnds h plan tells base now ends.TapeFault s sooner news rule =
-    TapeFailed base now × TookPart h plan tells base now s.events (last_acts rule s.acts) × CameTo h plan tells base now ends.TapeFault s sooner news rule
+    TapeFailed base now × TookPart h plan tells base now s.events (last_acts rule (news ++ sooner)) × CameTo h plan tells base now ends.TapeFault s sooner news rule
 SessionEnds h plan tells base now ends.Mem s sooner news rule =
-    FellShort base now × TookPart h plan tells base now s.events s.acts × CameTo h plan tells base now ends.Mem s sooner news rule
+    FellShort base now × TookPart h plan tells base now s.events (news ++ sooner) × CameTo h plan tells base now ends.Mem s sooner news rule
 SessionEnds h plan tells base now ends.DiskFault s sooner news rule = ⊥
 SessionEnds h plan tells base now (ends.JournalFull x) s sooner news rule = ⊥
 
@@ -92,14 +93,12 @@ pub record IsTrueSession (h : Header) (w : Setting) (events : List Event) (earli
   pub replies : AllByRecursion (IsTrueReply w events) (replies_in acts)
   pub agree : audit_of w events ≡ Holds → Agree w events
 
--- There are rounds, each what the rules of serving say, after which the session ended so; the newest of them are a group.
+-- There are groups of rounds, each round what the rules of serving say, after which the session ended so.
 pub record ServesSession (s : Session) (first : List LinkItem) (w : Setting) (tells : Tells) (base now : Outs) (end : ServeEnd) : Type 0 where
-  pub group : List Round
-  pub older : List Round
-  pub one : IsGroup group older
-  pub wanted : AreWanted w [] s.until s.limit first (group ++ older)
-  pub so : SessionEnds s.header s.plan tells base now end (serving_after w [] first (group ++ older)) (sooner w [] first group older) (newest w [] first group older)
-      (wants w [] s.until s.limit (serving_after w [] first (group ++ older)))
-  pub true_of : IsTrueSession s.header w (serving_after w [] first (group ++ older)).events [] (deeds_of w [] first (group ++ older)) (serving_after w [] first (group ++ older)).acts
+  pub groups : List (List Round)
+  pub are : AreGroups w [] s.until s.limit (begin first) groups
+  pub so : SessionEnds s.header s.plan tells base now end (after_groups w [] (begin first) groups) (sooner w [] (begin first) groups) (newest_calls w [] (begin first) groups)
+      (wants w [] s.until s.limit (after_groups w [] (begin first) groups))
+  pub true_of : IsTrueSession s.header w (after_groups w [] (begin first) groups).events [] (deeds_from w [] (begin first) [] groups) (told_from w [] (begin first) groups)
   pub tape_later : base.tape_faults ≤ now.tape_faults
   pub link_later : base.link_faults.failed ≤ now.link_faults.failed

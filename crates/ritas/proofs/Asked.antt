@@ -1,5 +1,5 @@
 -- What is asked of a file that is one.
-use Rattle.std.proofs.Common.{◌≡◌, ◌≤◌, List, ℕ, true, false, Ok, Err, refl, ap, ◌∙◌, inl, inr, arith}
+use Rattle.std.proofs.Common.{◌≡◌, ◌≤◌, List, ℕ, true, false, Ok, Err, ap, ◌∙◌, inl, inr, arith}
 use Rattle.std.specs.Prelude.{Bool, Result, if◌then◌else◌}
 use Rattle.std.proofs.lemmas.Bool.{cases_Bool}
 use Rattle.ritas_base.specs.declared.event.Event.{Event}

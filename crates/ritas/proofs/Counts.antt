@@ -1,6 +1,6 @@
 -- Counts of faults, by how a call ended.
 use Rattle.std.proofs.Common.{◌≡◌, ◌≢◌, ◌+◌, ◌<◌, ◌≤◌, ℕ, List, length, Err, refl, ap, inl, inr, arith}
-use Rattle.std.specs.Prelude.{◌⊎◌, ◌↔◌, Bool, Result}
+use Rattle.std.specs.Prelude.{◌⊎◌, ◌↔◌, Bool}
 use Rattle.outside.specs.Faults.{count_after}
 use Rattle.outside.specs.Links.{failed_once, short_once}
 use Rattle.outside.specs.Wholes.{read_faults_after}

@@ -1,5 +1,5 @@
 -- What the status of a node with a journal says.
-use Rattle.std.proofs.Common.{◌≡◌, ◌≢◌, ℕ, ◌≤◌, Bool, true, false, List, [], ◌∷◌, ◌++◌, refl, sym, ◌∙◌, ap, inl, inr, subst, arith}
+use Rattle.std.proofs.Common.{◌≡◌, ◌≢◌, ℕ, Bool, true, false, List, [], ◌∷◌, refl, sym, ◌∙◌, inl, inr, subst, arith}
 use Rattle.outside.specs.Faults.{HasCause}
 use Rattle.outside.specs.Links.{LinkAct, Gives}
 use Rattle.outside.specs.declared.link.LinkItem.{LinkItem}
@@ -14,22 +14,22 @@ use Rattle.world_model.specs.World.{Setting}
 use Rattle.cluster_config.specs.declared.node.NodeConfig.{NodeConfig}
 use Rattle.event_journal.specs.declared.fault.JournalFault.{JournalFault}
 use Rattle.event_journal.specs.declared.fault.JournalFault.TheVariants as journal_faults
-use Rattle.node_loop.specs.declared.archive.ArchiveFault.TheVariants as archive
 use Rattle.node_loop.specs.declared.end.ServeEnd.{ServeEnd}
 use Rattle.node_loop.specs.declared.end.ServeEnd.TheVariants as ends
 use Rattle.node_loop.specs.Archives.{moment}
 use Rattle.node_loop.specs.Deeds.{Came}
 use Rattle.node_loop.specs.Outs.{Outs, Tells}
 use Rattle.node_loop.specs.Recovering.{recovered, recalled_deeds}
-use Rattle.node_loop.specs.Serving.{Serving, Want, after_from, deeds_from, so_far}
+use Rattle.node_loop.specs.Serving.{Serving, Want, so_far}
+use Rattle.node_loop.specs.Told.{after_groups, told_from, deeds_from}
 use Rattle.node_session.specs.Configs.{node_header, node_session}
 use Rattle.node_session.specs.Lives.{DiskBreaks, DiskKeeps, DiskSeen, IsFaultOf, LifeEnds, LifeKept, ServesLife, ServesNode, Unopened, head_in}
 use Rattle.node_session.specs.Session.{ServesSession}
-use Rattle.ritas.specs.Configs.{AnswersBoth, RunsNode, Idle, Refused, Lived, Served, Unserved, AnswersSession, HasLived, HasServed, IsIdle, RefusesJournal}
+use Rattle.ritas.specs.Configs.{AnswersBoth, RunsNode, Idle, Refused, Lived, Served, Unserved, AnswersSession, HasLived, IsIdle, RefusesJournal}
 use Rattle.ritas.specs.Run.{IsOwnStatus, LinkCounts, Replies, Runs}
-use Rattle.ritas.specs.Statuses.{end_status, journal_status, journal_text}
+use Rattle.ritas.specs.Statuses.{end_status}
 use Rattle.ritas.proofs.Counts.{none_failed, link_stood}
-use Rattle.ritas.proofs.Served.{low, no_four, no_two, tape_counts, link_counts, session_runs}
+use Rattle.ritas.proofs.Served.{low, no_four, no_two, tape_counts, link_counts, session_runs, took_told, with_end}
 
 -- ---- the counts of the output and the link
 
@@ -79,7 +79,8 @@ kept_counts : (me : ℕ) (head : List ℕ) (past : List Event) (outs : Outs) (d 
 kept_counts me head past outs d none kept group older ends.Done held = record { later = held.later; cause = λ e. absurd (omega (arith, e)) }
 kept_counts me head past outs d none kept group older ends.Limit held = record { later = held.later; cause = λ e. absurd (omega (arith, e)) }
 kept_counts me head past outs d none kept group older ends.End held = record { later = held.later; cause = λ e. absurd (omega (arith, e)) }
-kept_counts me head past outs d none kept group older ends.LinkFault held = record { later = held.later; cause = λ e. absurd (omega (arith, e)) }
+kept_counts me head past outs d none kept group older ends.LinkFault (inl held) = record { later = held.later; cause = λ e. absurd (omega (arith, e)) }
+kept_counts me head past outs d none kept group older ends.LinkFault (inr held) = record { later = held.1.later; cause = λ e. absurd (omega (arith, e)) }
 kept_counts me head past outs d none kept group older ends.TapeFault (inl held) = record { later = held.later; cause = λ e. absurd (omega (arith, e)) }
 kept_counts me head past outs d none kept group older ends.TapeFault (inr held) = record { later = held.1.later; cause = λ e. absurd (omega (arith, e)) }
 kept_counts me head past outs d none kept group older ends.Mem (inl held) = record { later = held.later; cause = λ e. absurd (omega (arith, e)) }
@@ -188,43 +189,50 @@ module _ {K : Type 0} (config : NodeConfig) (tells : Tells) (taken : K → List 
       past : List Event
       past = serves.past
 
+      start : Serving
+      start = recovered w past
+
       by_end : (e : ServeEnd) → end_status e ≡ 0
           → ServesLife (node_session config) past w tells base (moment now (DiskKeeps config.me (head_in config) past d) (DiskBreaks config.me (head_in config) past d)) e
           → HasLived config tells base now d
       by_end ends.Done e life = record {
         past = past;
-        later = (after_from w past (recovered w past) (life.group ++ life.older)).events;
+        later = (after_groups w past start life.groups).events;
         opened = serves.opened;
-        served = record { events = _; deeds = _; acts = _; took = life.so.1; true_of = life.true_of };
+        served = record {
+          events = so_far past (after_groups w past start life.groups);
+          deeds = deeds_from w past start [] life.groups;
+          acts = told_from w past start life.groups;
+          took = took_told (node_session config) tells base now _ [] w past start life.groups life.so.1;
+          true_of = life.true_of;
+        };
         all = refl;
         kept = life.kept;
       }
       by_end ends.Limit e life = record {
         past = past;
-        later = (after_from w past (recovered w past) (life.group ++ life.older)).events;
+        later = (after_groups w past start life.groups).events;
         opened = serves.opened;
-        served = record { events = _; deeds = _; acts = _; took = life.so.1; true_of = life.true_of };
+        served = record {
+          events = so_far past (after_groups w past start life.groups);
+          deeds = deeds_from w past start [] life.groups;
+          acts = told_from w past start life.groups;
+          took = took_told (node_session config) tells base now _ [] w past start life.groups life.so.1;
+          true_of = life.true_of;
+        };
         all = refl;
         kept = life.kept;
       }
       by_end ends.End e life = record {
         past = past;
-        later = (after_from w past (recovered w past) (life.group ++ life.older)).events;
+        later = (after_groups w past start life.groups).events;
         opened = serves.opened;
         served = record {
-          events = so_far past (after_from w past (recovered w past) (life.group ++ life.older));
-          deeds = Came items.End ∷ deeds_from w past (recovered w past) [] (life.group ++ life.older);
-          acts = Gives items.End ∷ (after_from w past (recovered w past) (life.group ++ life.older)).acts;
-          took = life.so.1;
-          true_of = record {
-            file = life.true_of.file;
-            calls = ap (λ (l : List LinkAct). Gives items.End ∷ l) life.true_of.calls;
-            frames = life.true_of.frames;
-            resends = life.true_of.resends;
-            acknowledged = life.true_of.acknowledged;
-            replies = life.true_of.replies;
-            agree = life.true_of.agree;
-          };
+          events = so_far past (after_groups w past start life.groups);
+          deeds = Came false items.End ∷ deeds_from w past start [] life.groups;
+          acts = Gives items.End ∷ told_from w past start life.groups;
+          took = took_told (node_session config) tells base now _ (Gives items.End ∷ []) w past start life.groups life.so.1;
+          true_of = with_end (node_header config) w _ (recalled_deeds w past) _ _ life.true_of;
         };
         all = refl;
         kept = life.kept;

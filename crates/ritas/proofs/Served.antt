@@ -1,19 +1,21 @@
 -- What the status of serving says.
-use Rattle.std.proofs.Common.{◌≡◌, ◌≢◌, ℕ, ◌≤◌, List, [], ◌∷◌, ◌++◌, refl, sym, ◌∙◌, ap, inl, inr, subst, arith}
+use Rattle.std.proofs.Common.{◌≡◌, ◌≢◌, ℕ, ◌≤◌, false, List, [], ◌∷◌, ◌++◌, refl, sym, ◌∙◌, ap, inl, inr, subst, arith}
 use Rattle.outside.specs.Links.{LinkAct, Gives}
 use Rattle.outside.specs.declared.link.LinkItem.{LinkItem}
 use Rattle.outside.specs.declared.link.LinkItem.TheVariants as items
 use Rattle.outside.specs.declared.link.LinkPlan.{LinkPlan}
+use Rattle.ritas_base.specs.declared.event.Event.{Event}
 use Rattle.schedule_file.specs.declared.header.Header.{Header}
 use Rattle.schedule_replay.specs.Layers.{setting_of}
 use Rattle.world_model.specs.World.{Setting}
 use Rattle.node_loop.specs.declared.end.ServeEnd.{ServeEnd}
 use Rattle.node_loop.specs.declared.end.ServeEnd.TheVariants as ends
 use Rattle.node_loop.specs.Outs.{Outs, Tells}
-use Rattle.node_loop.specs.Deeds.{Came}
-use Rattle.node_loop.specs.Serving.{Serving, Want, serving_after, deeds_of}
+use Rattle.node_loop.specs.Deeds.{Deed, Came}
+use Rattle.node_loop.specs.Serving.{Serving, Want, Round, begin}
+use Rattle.node_loop.specs.Told.{after_groups, told_from, newest_calls, sooner, deeds_from}
 use Rattle.node_session.specs.declared.session.Session.{Session}
-use Rattle.node_session.specs.Session.{SessionEnds, ServesSession}
+use Rattle.node_session.specs.Session.{TookAll, SessionEnds, IsTrueSession, ServesSession}
 use Rattle.ritas.specs.Configs.{AnswersSession, Unserved, Served, HasServed, IsIdle}
 use Rattle.schedule_replay.specs.Replay.{CountsIf}
 use Rattle.ritas.specs.Run.{LinkCounts, Runs}
@@ -91,6 +93,26 @@ session_runs faults old new session first w tells base now end before later serv
 pub session_unread : (end : ServeEnd) → end_status end ≢ 4
 session_unread end = no_four end
 
+-- what the link told behind its start are the calls of the newest group, and those before them
+pub took_told : (session : Session) (tells : Tells) (base now : Outs) (events : List Event) (last : List LinkAct) (w : Setting) (past : List Event) (start : Serving)
+    (groups : List (List Round)) → TookAll session.header session.plan tells base now events (last ++ (newest_calls w past start groups ++ sooner w past start groups))
+    → TookAll session.header session.plan tells base now events (last ++ told_from w past start groups)
+took_told session tells base now events last w past start [] took = took
+took_told session tells base now events last w past start (group ∷ older) took = took
+
+-- the same is true where the link gave its end too
+pub with_end : (h : Header) (w : Setting) (events : List Event) (earlier deeds : List Deed) (acts : List LinkAct) → IsTrueSession h w events earlier deeds acts
+    → IsTrueSession h w events earlier (Came false items.End ∷ deeds) (Gives items.End ∷ acts)
+with_end h w events earlier deeds acts true_of = record {
+  file = true_of.file;
+  calls = ap (λ (l : List LinkAct). Gives items.End ∷ l) true_of.calls;
+  frames = true_of.frames;
+  resends = true_of.resends;
+  acknowledged = true_of.acknowledged;
+  replies = true_of.replies;
+  agree = true_of.agree;
+}
+
 -- at 0 events were served to their end
 pub has_served : (session : Session) (first : List LinkItem) (tells : Tells) (base now : Outs) (untouched : Type 0) (status : ℕ)
     → AnswersSession session first tells base now untouched status → status ≡ 0 → HasServed session [] tells base now
@@ -101,23 +123,33 @@ has_served session first tells base now untouched status (Unserved idle same) ze
     no_zero (inr eight) = omega (arith, eight, zero)
 has_served session first tells base now untouched status (Served end is serves) zero = by_end end (sym is ∙ zero) serves
   where
-    by_end : (x : ServeEnd) → end_status x ≡ 0 → ServesSession session first (setting_of session.header) tells base now x → HasServed session [] tells base now
-    by_end ends.Done e run = record { events = _; deeds = _; acts = _; took = run.so.1; true_of = run.true_of }
-    by_end ends.Limit e run = record { events = _; deeds = _; acts = _; took = run.so.1; true_of = run.true_of }
+    w : Setting
+    w = setting_of session.header
+
+    start : Serving
+    start = begin first
+
+    by_end : (x : ServeEnd) → end_status x ≡ 0 → ServesSession session first w tells base now x → HasServed session [] tells base now
+    by_end ends.Done e run = record {
+      events = (after_groups w [] start run.groups).events;
+      deeds = deeds_from w [] start [] run.groups;
+      acts = told_from w [] start run.groups;
+      took = took_told session tells base now _ [] w [] start run.groups run.so.1;
+      true_of = run.true_of;
+    }
+    by_end ends.Limit e run = record {
+      events = (after_groups w [] start run.groups).events;
+      deeds = deeds_from w [] start [] run.groups;
+      acts = told_from w [] start run.groups;
+      took = took_told session tells base now _ [] w [] start run.groups run.so.1;
+      true_of = run.true_of;
+    }
     by_end ends.End e run = record {
-      events = _;
-      deeds = Came items.End ∷ deeds_of (setting_of session.header) [] first (run.group ++ run.older);
-      acts = Gives items.End ∷ (serving_after (setting_of session.header) [] first (run.group ++ run.older)).acts;
-      took = run.so.1;
-      true_of = record {
-        file = run.true_of.file;
-        calls = ap (λ (l : List LinkAct). Gives items.End ∷ l) run.true_of.calls;
-        frames = run.true_of.frames;
-        resends = run.true_of.resends;
-        acknowledged = run.true_of.acknowledged;
-        replies = run.true_of.replies;
-        agree = run.true_of.agree;
-      };
+      events = (after_groups w [] start run.groups).events;
+      deeds = Came false items.End ∷ deeds_from w [] start [] run.groups;
+      acts = Gives items.End ∷ told_from w [] start run.groups;
+      took = took_told session tells base now _ (Gives items.End ∷ []) w [] start run.groups run.so.1;
+      true_of = with_end session.header w _ [] _ _ run.true_of;
     }
     by_end ends.LinkFault e run = absurd (omega (arith, e))
     by_end ends.TapeFault e run = absurd (omega (arith, e))

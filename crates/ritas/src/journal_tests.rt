@@ -71,7 +71,7 @@ fn has_no_event(taken: &[u8], file: &[u8]) -> bool {
 }
 
 // Whichever call of the disk fails, and whatever a stop leaves then, a node goes on with what it kept. Opening an empty disk makes eight calls, and
-// the request and its thirty turns are one group, which four more append: all of it is there or none, and after the twelfth call all.
+// the request, its thirty turns and the request again are one group, which four more append: all of it is there or none, and after the twelfth call all.
 #[test]
 fn each_call_of_the_disk_fails(rt: HostRuntime) -> Result<(), Fail> {
     let items = twice(rt.alloc())?;

@@ -140,7 +140,8 @@ fn node_serves_a_request(rt: HostRuntime) -> Result<(), Fail> {
     Ok(())
 }
 
-// The link is started, gives two messages and its end, and takes two replies: where one of these calls fails, the file ends early.
+// The link is started, gives a message, one that is there by then, and none more, takes two replies, and gives its end: where one of these calls fails,
+// the file ends early.
 #[test]
 fn each_call_of_the_link_fails(rt: HostRuntime) -> Result<(), Fail> {
     let items = twice(rt.alloc())?;
@@ -149,8 +150,8 @@ fn each_call_of_the_link_fails(rt: HostRuntime) -> Result<(), Fail> {
         let mut link = MemLink::new(rt.alloc(), &items, &[call])?;
         let mut output = MemSink::new(rt.alloc(), 1000, &[])?;
         let ended = status(&rt, rt.alloc(), NODE, &mut link, &mut output)?;
-        assert_eq!(rt; ended, if call < 6 { 6 } else { 0 });
-        assert_eq!(rt; output.taken().len() == 162, 6 <= call);
+        assert_eq!(rt; ended, if call < 7 { 6 } else { 0 });
+        assert_eq!(rt; output.taken().len() == 162, 7 <= call);
         assert!(rt; file.starts_with(output.taken()));
     }
     Ok(())

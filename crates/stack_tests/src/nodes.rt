@@ -112,6 +112,46 @@ fn serves_one(rt: HostRuntime) -> Result<(), Fail> {
     Ok(())
 }
 
+// All four items are there, so their events go to the tape by one call: a second one would fail. And where the link fails as it is asked for the second
+// item, nothing was written of the first.
+#[test]
+fn writes_once_for_all(rt: HostRuntime) -> Result<(), Fail> {
+    let items = four(rt.alloc())?;
+    let first = Vec::new(rt.alloc());
+    let mut link = MemLink::new(rt.alloc(), &items, &[])?;
+    let mut tape = MemSink::new(rt.alloc(), 100, &[1])?;
+    let mut replicas = alone(&rt, rt.alloc())?;
+    let end = serve(
+        &rt,
+        rt.alloc(),
+        &mut replicas,
+        &mut link,
+        &mut tape,
+        10,
+        0,
+        &first,
+    );
+    assert!(rt; end == ServeEnd::End);
+    assert_eq!(rt; tape.taken().len(), 14 + 30 * 2 + 4);
+    let mut link = MemLink::new(rt.alloc(), &items, &[1])?;
+    let mut tape = MemSink::new(rt.alloc(), 100, &[])?;
+    let mut replicas = alone(&rt, rt.alloc())?;
+    let end = serve(
+        &rt,
+        rt.alloc(),
+        &mut replicas,
+        &mut link,
+        &mut tape,
+        10,
+        0,
+        &first,
+    );
+    assert!(rt; end == ServeEnd::LinkFault);
+    assert!(rt; tape.taken().is_empty());
+    assert!(rt; link.replies().is_empty());
+    Ok(())
+}
+
 // How it ends, and how many bytes of events the tape took, where it begins with a message and takes at most one item of the link, which
 // is refused.
 fn ended<R: Net + Wait + Abort>(

@@ -1,15 +1,17 @@
-use Rattle.std.proofs.Common.{◌++◌}
-use Rattle.schedule_file.specs.Spelling.{IsSized}
-use Rattle.node_loop.specs.Serving.{so_far, at_call, outcome, brought, after_from}
-use Rattle.node_loop.proofs.Grouping.{still_all, added}
+use Rattle.node_loop.specs.Serving.{so_far, at_call, outcome, brought, onto, after_from}
+use Rattle.node_loop.proofs.Grouping.{fits_as, added}
 use Rattle.node_loop.proofs.deliver.gather.Goals as goal
 
-pub returns-clause-sized : goal.returns-clause-sized
-returns-clause-sized g c = still_all IsSized c.add.result c.args.group.now.events.items c.add.new.self.events.items c.args.output.event c.add.ensures.events c.requires.sized c.requires.event
-
-pub returns-clause-joins : goal.returns-clause-joins
-returns-clause-joins g c = λ w past numbers start x newest older comes holds joins.
-    let s = after_from w past start (newest ++ older) in
-    let stands = c.in_ok-keep_frames.ensures.keeps w (so_far past (at_call x s)) numbers (outcome w past x s) (brought w past x s) comes in
-    added _ w past numbers start x newest older c.args.house.now c.keep_frames.new.house c.args.group.now c.add.new.self c.args.output c.add.result comes stands holds joins
-    c.add.ensures.events c.add.ensures.outputs c.add.ensures.kept c.add.ensures.resends
+pub returns : goal.returns
+returns g c = record {
+  joins = λ w past numbers start x newest comes holds joins.
+      let s = after_from w past start newest in
+      let es = so_far past (at_call x s) in
+      let did = outcome w past x s in
+      let more = brought w past x s in
+      let o = c.args.output in
+      let stands = c.in_ok-keep_frames.ensures.keeps w es numbers did more comes in
+      let now = c.more_now-output.ensures.goes w (onto did.event es) numbers did.waiting more stands (fits_as w o.at o.more more comes.besides (λ away. (comes.nowhere away).1)) comes.besides in
+      added _ w past numbers start x newest c.args.house.now c.keep_frames.new.house c.args.group.now c.add.new.self o c.more_now-output.result c.add.result comes stands now holds joins
+      c.add.ensures.text c.add.ensures.kept c.add.ensures.outputs c.add.ensures.resends;
+}

@@ -3,5 +3,5 @@ use Rattle.node_loop.proofs.laws.replies_are_true.Goals as goal
 
 pub returns : goal.returns
 returns g c = record {
-  replies = λ w past start rounds is all. replies_true w (λ more es i. c.logs_grow.ensures w more es i is) past start rounds all;
+  replies = λ w past start groups is. replies_true w (λ more es i. c.logs_grow.ensures w more es i is) past start groups;
 }

@@ -4,7 +4,7 @@ use Rattle.node_loop.specs.Outs.{outs_of, tells_of}
 use Rattle.node_loop.specs.Served.{Serves}
 use Rattle.node_loop.specs.Servers.{Outset}
 use Rattle.node_loop.specs.Serving.{begin}
-use Rattle.node_loop.proofs.Rounding.{none_served, runs_first, serves_plain}
+use Rattle.node_loop.proofs.Gathering.{none_served, runs_first, serves_plain}
 use Rattle.node_loop.proofs.Serverwise.{agrees_none, at_last, served_for}
 use Rattle.node_loop.proofs.rounds.serve.Goals as goal
 
