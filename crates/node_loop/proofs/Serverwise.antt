@@ -1,5 +1,5 @@
 -- Servers from call to call.
-use Rattle.std.proofs.Common.{◌∙◌, ◌≡◌, ℕ, List, [], refl, sym, subst}
+use Rattle.std.proofs.Common.{◌≡◌, ℕ, List, [], refl, sym, subst}
 use Rattle.std.proofs.lemmas.List.{append-nil}
 use Rattle.ritas_base.specs.declared.event.Event.{Event}
 use Rattle.keyed_channel.specs.KeyRow.{KeyRow}
@@ -19,16 +19,6 @@ use Rattle.node_loop.specs.Serving.{Serving}
 
 pub same_self : {L K A D : Type 0} (server : Server L K A D) → IsSameServer server server
 same_self server = record { link = refl; tape = refl; archive = refl; disk = refl; until = refl; limit = refl }
-
-pub same_then : {L K A D : Type 0} {old mid new : Server L K A D} → IsSameServer old mid → IsSameServer mid new → IsSameServer old new
-same_then first second = record {
-  link = second.link ∙ first.link;
-  tape = second.tape ∙ first.tape;
-  archive = second.archive ∙ first.archive;
-  disk = second.disk ∙ first.disk;
-  until = second.until ∙ first.until;
-  limit = second.limit ∙ first.limit;
-}
 
 -- ---- for how long it served
 
