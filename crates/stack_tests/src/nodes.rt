@@ -112,43 +112,37 @@ fn serves_one(rt: HostRuntime) -> Result<(), Fail> {
     Ok(())
 }
 
-// All four items are there, so their events go to the tape by one call: a second one would fail. And where the link fails as it is asked for the second
-// item, nothing was written of the first.
+// How it ends where four items are there and calls of these numbers fail, how many bytes of events the tape took, and how many replies went out.
+fn served_four<R: Net + Wait + Abort>(
+    rt: &R,
+    alloc: Global,
+    tape_fails: &[u64],
+    link_fails: &[u64],
+) -> Result<(ServeEnd, usize, usize), Mem> {
+    let items = four(alloc)?;
+    let first = Vec::new(alloc);
+    let mut link = MemLink::new(alloc, &items, link_fails)?;
+    let mut tape = MemSink::new(alloc, 100, tape_fails)?;
+    let mut replicas = alone(rt, alloc)?;
+    let end = serve(
+        rt,
+        alloc,
+        &mut replicas,
+        &mut link,
+        &mut tape,
+        10,
+        0,
+        &first,
+    );
+    Ok((end, tape.taken().len(), link.replies().len()))
+}
+
+// The events of all four items go to the tape by one call: a second one would fail. And where the link fails as it is asked for the second item, nothing
+// was written of the first.
 #[test]
 fn writes_once_for_all(rt: HostRuntime) -> Result<(), Fail> {
-    let items = four(rt.alloc())?;
-    let first = Vec::new(rt.alloc());
-    let mut link = MemLink::new(rt.alloc(), &items, &[])?;
-    let mut tape = MemSink::new(rt.alloc(), 100, &[1])?;
-    let mut replicas = alone(&rt, rt.alloc())?;
-    let end = serve(
-        &rt,
-        rt.alloc(),
-        &mut replicas,
-        &mut link,
-        &mut tape,
-        10,
-        0,
-        &first,
-    );
-    assert!(rt; end == ServeEnd::End);
-    assert_eq!(rt; tape.taken().len(), 14 + 30 * 2 + 4);
-    let mut link = MemLink::new(rt.alloc(), &items, &[1])?;
-    let mut tape = MemSink::new(rt.alloc(), 100, &[])?;
-    let mut replicas = alone(&rt, rt.alloc())?;
-    let end = serve(
-        &rt,
-        rt.alloc(),
-        &mut replicas,
-        &mut link,
-        &mut tape,
-        10,
-        0,
-        &first,
-    );
-    assert!(rt; end == ServeEnd::LinkFault);
-    assert!(rt; tape.taken().is_empty());
-    assert!(rt; link.replies().is_empty());
+    assert!(rt; served_four(&rt, rt.alloc(), &[1], &[])? == (ServeEnd::End, 14 + 30 * 2 + 4, 3));
+    assert!(rt; served_four(&rt, rt.alloc(), &[], &[1])? == (ServeEnd::LinkFault, 0, 0));
     Ok(())
 }
 
