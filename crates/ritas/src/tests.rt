@@ -2,10 +2,10 @@
 
 ghost use Rattle.std.specs.Prelude.{[], false};
 
+use crate::fault_tests::{is_text, replay, replay_from, sink};
 use crate::host::Host;
-use crate::run::run;
-use outside::{Failed, MemDisk, MemLink, MemSink, MemSource, Source};
-use std::alloc::Global;
+use outside::{Failed, Source};
+use ritas_base::Mem;
 use std::net::Net;
 use std::sync::Wait;
 use std::test::*;
@@ -80,15 +80,6 @@ audit holds
 const USAGE: &str =
     "usage: ritas replay report|frames|vectors, drive report|schedule, keys, node, cluster, submit\n";
 
-// The command line `ritas replay` and another word.
-fn words(alloc: Global, second: &str) -> Result<Vec<String>, Fail> {
-    let mut words = Vec::new(alloc);
-    for word in ["ritas", "replay", second] {
-        words.push(String::from_str(alloc, word)?)?;
-    }
-    Ok(words)
-}
-
 // The status, or 99 where the output isn't this text.
 fn status<R: Net + Wait>(
     host: &Host<R>,
@@ -97,27 +88,9 @@ fn status<R: Net + Wait>(
     room: usize,
     fails: &[u64],
     text: &str,
-) -> Result<u8, Fail> {
-    let alloc = host.alloc;
-    let words = words(alloc, second)?;
-    let mut input = MemSource::new(alloc, file, fails)?;
-    let mut output = MemSink::new(alloc, room, &[])?;
-    let mut link = MemLink::new(alloc, &[], &[])?;
-    let mut disk = MemDisk::new(alloc, &[], 0, 0, &[])?;
-    let status = run(
-        host.rt,
-        alloc,
-        &words,
-        &mut input,
-        &mut output,
-        &mut link,
-        &mut disk,
-    );
-    if output.taken() == text.as_bytes() {
-        Ok(status)
-    } else {
-        Ok(99)
-    }
+) -> Result<u8, Mem> {
+    let (status, output) = replay(host, second, file, fails, &[], room)?;
+    Ok(if is_text(&output, text) { status } else { 99 })
 }
 
 #[test]
@@ -134,7 +107,8 @@ fn reports(rt: HostRuntime) -> Result<(), Fail> {
         (&ALONE[..70], "input truncated at 70\n", 3),
         (&ALONE[..3], "input truncated at 3\n", 3),
     ] {
-        assert_eq!(rt; status(&host, "report", file, 1000, &[], text)?, wanted);
+        let ended = status(&host, "report", file, 1000, &[], text)?;
+        assert_eq!(rt; ended, wanted);
     }
     Ok(())
 }
@@ -150,10 +124,13 @@ fn frames(rt: HostRuntime) -> Result<(), Fail> {
         (THREE, THREE_FRAMES, 0),
         (&ALONE[..70], "input truncated at 70\n", 3),
     ] {
-        assert_eq!(rt; status(&host, "frames", file, 2000, &[], text)?, wanted);
+        let ended = status(&host, "frames", file, 2000, &[], text)?;
+        assert_eq!(rt; ended, wanted);
     }
-    assert_eq!(rt; status(&host, "frames", THREE, 2000, &[1], "")?, 4);
-    assert_eq!(rt; status(&host, "frames", THREE, 5, &[], "0 1 0")?, 5);
+    let ended = status(&host, "frames", THREE, 2000, &[1], "")?;
+    assert_eq!(rt; ended, 4);
+    let ended = status(&host, "frames", THREE, 5, &[], "0 1 0")?;
+    assert_eq!(rt; ended, 5);
     Ok(())
 }
 
@@ -163,7 +140,8 @@ fn other_words(rt: HostRuntime) -> Result<(), Fail> {
         rt: &rt,
         alloc: rt.alloc(),
     };
-    assert_eq!(rt; status(&host, "rapport", ALONE, 1000, &[0], USAGE)?, 2);
+    let ended = status(&host, "rapport", ALONE, 1000, &[0], USAGE)?;
+    assert_eq!(rt; ended, 2);
     Ok(())
 }
 
@@ -206,22 +184,15 @@ impl Source for Endless {
 
 #[test]
 fn one_byte_too_many(rt: HostRuntime) -> Result<(), Fail> {
-    let words = words(rt.alloc(), "report")?;
+    let host = Host {
+        rt: &rt,
+        alloc: rt.alloc(),
+    };
     let mut input = Endless { at: 0 };
-    let mut output = MemSink::new(rt.alloc(), 100, &[])?;
-    let mut link = MemLink::new(rt.alloc(), &[], &[])?;
-    let mut disk = MemDisk::new(rt.alloc(), &[], 0, 0, &[])?;
-    let status = run(
-        &rt,
-        rt.alloc(),
-        &words,
-        &mut input,
-        &mut output,
-        &mut link,
-        &mut disk,
-    );
+    let mut output = sink(rt.alloc(), 100, &[])?;
+    let status = replay_from(&host, "report", &mut input, &mut output)?;
     assert_eq!(rt; status, 7);
-    assert_eq!(rt; output.taken(), b"limit 67108864\n".as_slice());
+    assert!(rt; is_text(&output, "limit 67108864\n"));
     assert_eq!(rt; input.at, 67_108_865);
     Ok(())
 }
