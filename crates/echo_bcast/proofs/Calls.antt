@@ -31,7 +31,8 @@ use Rattle.ritas_base.specs.Places.{is_awaited}
 use Rattle.echo_bcast.specs.State.{KeepsMatrix, matrix_shown, MatrixUnchanged, HearsSend, HearsHashes, HearsColumn, HearsColumnOk, HearsMatrix}
 use Rattle.echo_bcast.specs.Laws.Once.{repeats_other}
 use Rattle.echo_bcast.specs.Laws.Getters.{some_as, shows_cast}
-use Rattle.echo_bcast.proofs.News.{news_start, news_send, news_column, news_hashes}
+use Rattle.echo_bcast.specs.Laws.News.{news_start}
+use Rattle.echo_bcast.proofs.News.{news_send, news_column, news_hashes}
 use Rattle.echo_bcast.proofs.Steps.{kept_start, kept_send, kept_hashes, kept_column, message_is, none_as, sent_as_kept, news_is}
 
 abbrev pub is_live : Eb → Bool

@@ -6,4 +6,5 @@ pub mod Once
 pub mod Entries
 pub mod OneValue
 pub mod Getters
+pub mod News
 pub mod Matrix

@@ -15,7 +15,7 @@ use Rattle.frame_codec.specs.Body.{IsInGrammar, is_of_form}
 use Rattle.ritas_base.specs.Messages.{Place, reaches, item_of, kind_eq, has}
 use Rattle.ritas_base.specs.History.{Call, Start, Take, started, first}
 use Rattle.ritas_base.specs.Tags.{Tags, HasDigests}
-use Rattle.layer_api.specs.Broadcast.{BroadcastRules, MayStart, MayTake}
+use Rattle.layer_api.specs.Broadcast.{BroadcastRules, MayStart, MayTake, news}
 use Rattle.layer_api.specs.Entries.{given, is_claim, Print, IsApart}
 use Rattle.frame_codec.specs.Values.{column_row}
 use Rattle.layer_api.specs.Runs.{ReplicaStep, calls_of, Has, IsEnough}
@@ -141,6 +141,8 @@ pub record ValueLaws (r : BroadcastRules) : Type 0 where
   -- where the values started and the items taken are in the grammar, each message and what is delivered are
   pub due_good : (at : Place) (tags : Tags) (mode : Mode) (h : List Call) (m : Msg) → HasDigests tags → IsOfSlot r at.numbers mode at.slot → AreGoodCalls at.numbers mode at.slot h
       → Has (r.due at tags h) m → IsInGrammar at.numbers mode (item_of at.me m)
+  -- what becomes due by a start is the same whatever came before
+  pub start_alone : (at : Place) (tags : Tags) (h : List Call) (v : List ℕ) → started h ≡ None → news r at tags h (Start v) ≡ news r at tags [] (Start v)
   pub out_good : (at : Place) (tags : Tags) (mode : Mode) (h : List Call) (v : List ℕ) → IsOfSlot r at.numbers mode at.slot → AreGoodCalls at.numbers mode at.slot h
       → r.out at tags h ≡ Some v → Is (value at.numbers mode.root at.slot) v
   -- nothing is repeated at first; an item that isn't a column repeats exactly where one of its kind and sender was taken

@@ -24,11 +24,11 @@ use Rattle.layer_api.specs.Broadcast.{news}
 use Rattle.layer_api.specs.ReplicaLaws.{range_has, replica_below}
 use Rattle.reliable_bcast.specs.declared.digest_rb.Known.{Known}
 use Rattle.reliable_bcast.specs.declared.digest_rb.DigestRb.{DigestRb}
-use Rattle.reliable_bcast.specs.Bracha.{some_carried, ready_value, out_by_value as carried_of}
+use Rattle.reliable_bcast.specs.Bracha.{ready_value, out_by_value as carried_of}
 use Rattle.reliable_bcast.specs.Laws.Steps.{backing, carrying, is_some_or, is_some_or_some, ready_quiet, ready_echo, ready_ready, out_quiet, out_ready}
-use Rattle.reliable_bcast.specs.Digests.{brings, brought_by, if_digest, known, Full, full_if, full_of, digest_in, asked_for, known_of, to_one, value_for, by_digest, echo_of}
-use Rattle.reliable_bcast.specs.Laws.DigestOneValue.{full_is}
-use Rattle.reliable_bcast.specs.Laws.DigestNews.{ones, gain, gain_for, digest_parts, news_is, gained_or, gained_itself, gained_echo, no_ones, ones_alike, same_parts}
+use Rattle.reliable_bcast.specs.Digests.{brings, brought_by, if_digest, known, known_of, to_one, value_for, by_digest, echo_of}
+use Rattle.reliable_bcast.specs.Laws.DigestNews.{ones, gain, gain_for, digest_parts, news_is, gained_or, gained_echo, no_ones, ones_alike, same_parts}
+use Rattle.reliable_bcast.specs.Laws.DigestQuiet.{known_same, newly_asked, want_gain, no_want, no_gain, no_echo, no_ready, start_news}
 use Rattle.reliable_bcast.specs.DigestState.{value_with_digest, KeepsDigests, with_known, answer_for, answers_to, answers, has_backing, has_carriers, settled_by_digest, ready_message, want_message, echoed_by, readied_by, wanted_by, after_ready, want_answer}
 
 -- ---- known values
@@ -54,10 +54,6 @@ value_with ks d m e = go (is_some (value_with_digest ks d)) refl
         → value_with_digest (if b then ks else ks ++ record { digest = d; value = m } ∷ []) e ≡ option_or (value_with_digest ks e) (if bytes_eq d e then Some m else None)
     go true some = there_already (value_with_digest ks e) (bytes_eq d e) m (λ t. ap (λ (x : List ℕ). is_some (value_with_digest ks x)) (sym ((bytes_eq-Decides d e).0 t)) ∙ some)
     go false none = value_append ks (record { digest = d; value = m }) e
-
--- a call that brings nothing
-pub known_same : (at : Place) (tags : Tags) (h : List Call) (c : Call) → brought_by at h c ≡ None → (d : List ℕ) → known at tags (c ∷ h) d ≡ known at tags h d
-known_same at tags h c none d = ap (λ (o : Option (List ℕ)). option_or (known at tags h d) (if_digest tags d o)) none ∙ option_or_none (known at tags h d)
 
 -- one that brings a value
 pub known_more : (at : Place) (tags : Tags) (h : List Call) (c : Call) (m : List ℕ) → brought_by at h c ≡ Some m
@@ -87,54 +83,7 @@ brings_value at h i kind new =
     (ap (λ (k : Kind). kind_eq k Init && (i.from == at.slot.origin && is_none (first h i.from Init))) kind)
     (ap (λ (k : Kind). kind_eq k Value && is_none (first h i.from Value)) kind ∙ ap is_none new))
 
--- ---- what is carried and asked for
-
--- what is asked for newly: what is carried now, was not before, and isn't known
-abbrev newly_asked : Place → Tags → List Call → Bool → Option (List ℕ) → Option (List ℕ)
-newly_asked at tags h false o = None
-newly_asked at tags h true None = None
-newly_asked at tags h true (Some d) = if is_some (known at tags h d) then None else Some d
-
-pub want_gain : (at : Place) (tags : Tags) (h : List Call) (c : Call) → gain at tags h c Want ≡ newly_asked at tags (c ∷ h) (is_none (carried_of at h)) (carried_of at (c ∷ h))
-want_gain at tags h c = go (full_of at tags h) (some_carried at.numbers (c ∷ h)) (carried_of at h) (full_is at tags h)
-  where
-    asked : (o : Option (List ℕ)) → asked_for (full_if at tags (c ∷ h) o) ≡ newly_asked at tags (c ∷ h) true o
-    asked None = refl
-    asked (Some d) = refl
-
-    go : (f : Option Full) (now was : Option (List ℕ)) → digest_in f ≡ was
-        → gained (asked_for f) (asked_for (option_or f (full_if at tags (c ∷ h) now))) ≡ newly_asked at tags (c ∷ h) (is_none was) (option_or was now)
-    go None now None same = asked now
-    go None now (Some d) same = absurd (cc)
-    go (Some full) now None same = absurd (cc)
-    go (Some full) now (Some d) same = gained_itself (asked_for (Some full))
-
--- where nothing more is carried, nothing is asked for
-pub no_want : (at : Place) (tags : Tags) (h : List Call) (c : Call) → carried_of at (c ∷ h) ≡ carried_of at h → gain at tags h c Want ≡ None
-no_want at tags h c same = want_gain at tags h c ∙ (ap (newly_asked at tags (c ∷ h) (is_none (carried_of at h))) same ∙ go (carried_of at h))
-  where
-    go : (o : Option (List ℕ)) → newly_asked at tags (c ∷ h) (is_none o) o ≡ None
-    go None = refl
-    go (Some d) = refl
-
 -- ---- answers
-
--- where neither what is known nor who asks changes, nobody is answered
-pub no_gain : (at : Place) (tags : Tags) (h : List Call) (c : Call) (k : ℕ) → ((d : List ℕ) → known at tags (c ∷ h) d ≡ known at tags h d) → told k Want c ≡ None
-    → gain_for at tags h c k ≡ None
-no_gain at tags h c k same quiet =
-    ap (λ (o : Option (List ℕ)). gained (value_for at tags h k) o) (value_same at tags h c k same quiet) ∙ gained_itself (value_for at tags h k)
-  where
-    known_of_same : (at : Place) (tags : Tags) (h : List Call) (c : Call) (o : Option (List ℕ)) → ((d : List ℕ) → known at tags (c ∷ h) d ≡ known at tags h d) → known_of at tags (c ∷ h) o ≡ known_of at tags h o
-    known_of_same at tags h c None same = refl
-    known_of_same at tags h c (Some d) same = same d
-
-    value_same : (at : Place) (tags : Tags) (h : List Call) (c : Call) (k : ℕ) → ((d : List ℕ) → known at tags (c ∷ h) d ≡ known at tags h d) → told k Want c ≡ None
-        → value_for at tags (c ∷ h) k ≡ value_for at tags h k
-    value_same at tags h c k same quiet =
-        ap (λ (o : Option (List ℕ)). if k == at.me then None else o)
-        (ap (λ (o : Option (List ℕ)). known_of at tags (c ∷ h) (option_or (first h k Want) o)) quiet
-        ∙ (ap (known_of at tags (c ∷ h)) (option_or_none (first h k Want)) ∙ known_of_same at tags h c (first h k Want) same))
 
 none_either : (b : Bool) → (let o : Option (List ℕ) = if b then None else None in o) ≡ None
 none_either true = refl
@@ -217,14 +166,6 @@ some_or_none o more none = ap (λ x. is_some (option_or o x)) none ∙ ap is_som
 
 no_start : (at : Place) (tags : Tags) (h : List Call) (i : Item) → gain at tags h (Take i) Init ≡ None
 no_start at tags h i = gained_or (started h) None ∙ gained_none (started h)
-
-no_echo : (at : Place) (tags : Tags) (h : List Call) (c : Call) → told at.slot.origin Init c ≡ None → gain at tags h c Echo ≡ None
-no_echo at tags h c quiet =
-    gained_echo tags.digest (first h at.slot.origin Init) (told at.slot.origin Init c)
-    ∙ (ap (λ (o : Option (List ℕ)). gained (echo_of tags.digest (first h at.slot.origin Init)) (echo_of tags.digest o)) quiet ∙ gained_none (echo_of tags.digest (first h at.slot.origin Init)))
-
-no_ready : (at : Place) (tags : Tags) (h : List Call) (c : Call) → ready_value at.numbers (c ∷ h) ≡ ready_value at.numbers h → gain at tags h c Ready ≡ None
-no_ready at tags h c same = ap (gained (ready_value at.numbers h)) same ∙ gained_itself (ready_value at.numbers h)
 
 -- an item of a kind tells nothing of another
 quiet : (i : Item) (kind : Kind) → kind_eq i.kind kind ≡ false → (j : ℕ) → told j kind (Take i) ≡ None
@@ -556,12 +497,5 @@ step_start b at tags h m keeps none =
         full = keeps.full ∙ sym (out_quiet at h (Start m) (λ j. refl));
         live = keeps.live;
       };
-      said =
-          ap (λ (s : Slot). to_all s Init (Some m)) keeps.slot
-          ∙ sym (news_is at tags h (Start m)
-          ∙ same_parts at.slot _ (Some m) _ None _ None _ None _ []
-          (gained_or (started h) (Some m) ∙ ap (λ (o : Option (List ℕ)). gained o (Some m)) none) (no_echo at tags h (Start m) refl)
-          (no_ready at tags h (Start m) (ready_quiet p h (Start m) (λ j. refl) (λ j. refl)))
-          (no_want at tags h (Start m) (out_quiet at h (Start m) (λ j. refl)))
-          (no_ones at.slot (gain_for at tags h (Start m)) (replicas p.n) (λ k. no_gain at tags h (Start m) k same refl)));
+      said = ap (λ (s : Slot). to_all s Init (Some m)) keeps.slot ∙ sym (start_news at tags h m none);
     }

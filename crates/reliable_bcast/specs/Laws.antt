@@ -12,3 +12,4 @@ pub mod DigestNews
 pub mod ByDigest
 pub mod DigestOneValue
 pub mod DigestShown
+pub mod DigestQuiet

@@ -22,6 +22,7 @@ use Rattle.echo_bcast.specs.Due.{IsMatrixDue, OfSend, OfHashes, OfColumn, due_is
 use Rattle.echo_bcast.specs.Laws.OneValue.{out_is}
 use Rattle.echo_bcast.specs.Laws.Once.{repeats_other, stays_there, due_once}
 use Rattle.echo_bcast.specs.Laws.Good.{due_good, out_good}
+use Rattle.echo_bcast.specs.Laws.News.{news_start}
 
 -- ---- what is due stays
 
@@ -117,6 +118,7 @@ value_laws_of_echo =
       due_to = λ at tags h m origin there. due_to at tags h m origin (due_is at tags h m there);
       due_once = λ at tags h taken first_ones. due_once at tags h taken first_ones;
       due_good = λ at tags mode h m digests of_slot good there. due_good at tags mode h m of_slot good (due_is at tags h m there);
+      start_alone = λ at tags h v new. news_start at tags h v new ∙ sym (news_start at tags [] v refl);
       out_good = λ at tags mode h v of_slot good e. out_good at mode h v good (out_is at tags h v e).1;
       repeats_nothing = λ at tags i. false_both (kind_eq i.kind Column);
       repeats_is = λ at tags h i other. repeats_other at tags h i other;

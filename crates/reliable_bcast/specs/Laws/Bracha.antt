@@ -17,7 +17,7 @@ use Rattle.layer_api.specs.OnceLaws.{once_append, once_to_all, kinds_apart}
 use Rattle.layer_api.specs.EntryLaws.{EntryLaws}
 use Rattle.layer_api.specs.Runs.{Has}
 use Rattle.reliable_bcast.specs.Bracha.{bracha, is_reliable, some_carried, ready_value, due_by_value}
-use Rattle.reliable_bcast.specs.Laws.Steps.{out_quiet}
+use Rattle.reliable_bcast.specs.Laws.Steps.{out_quiet, step_start}
 use Rattle.reliable_bcast.specs.Laws.Due.{due_more, due_is, listed_has}
 use Rattle.reliable_bcast.specs.Laws.Good.{due_good, out_good}
 
@@ -61,6 +61,7 @@ value_laws_of_bracha =
       due_to = λ at tags h m origin there. subst (λ (to : To). IsReceiver at.numbers.n to) (ap (λ (x : Msg). x.to) (sym (due_is at h m (listed_has (due_by_value at h) m there)).whole)) tt;
       due_once = λ at tags h taken first_ones. due_once at h;
       due_good = λ at tags mode h m digests of_slot good there. due_good at mode h m of_slot good (due_is at h m (listed_has (due_by_value at h) m there));
+      start_alone = λ at tags h v new. sym (step_start at tags h v new).said ∙ (step_start at tags [] v refl).said;
       out_good = λ at tags mode h v of_slot good e. out_good at mode h v of_slot good e;
       repeats_nothing = λ at tags i. refl;
       repeats_is = λ at tags h i other. refl;

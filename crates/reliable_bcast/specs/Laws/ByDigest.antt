@@ -32,6 +32,7 @@ use Rattle.reliable_bcast.specs.Laws.DigestOneValue.{full_is, out_is}
 use Rattle.reliable_bcast.specs.Laws.DigestDue.{one_message, same_one, IsDigestDue, ToAll, ToOne, ones_is, due_is, due_all, due_one, value_stays, value_for_stays, known_stays}
 use Rattle.reliable_bcast.specs.Laws.DigestGood.{due_good, out_good}
 use Rattle.reliable_bcast.specs.Laws.DigestNews.{no_ones}
+use Rattle.reliable_bcast.specs.Laws.DigestQuiet.{start_news}
 
 -- ---- what is delivered
 
@@ -172,6 +173,7 @@ value_laws_by_digest =
       due_to = λ at tags h m origin there. receiver_is at tags h m (due_is at tags h m there);
       due_once = λ at tags h taken first_ones. due_once at tags h;
       due_good = λ at tags mode h m digests of_slot good there. due_good at tags mode h m digests of_slot good (due_is at tags h m there);
+      start_alone = λ at tags h v new. start_news at tags h v new ∙ sym (start_news at tags [] v refl);
       out_good = λ at tags mode h v of_slot good e. out_good at tags mode h v of_slot good e;
       repeats_nothing = λ at tags i. refl;
       repeats_is = λ at tags h i other. refl;
