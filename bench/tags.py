@@ -132,3 +132,14 @@ def most_memory(file: str, *words: str) -> int:
         with open(file, "rb") as stream:
             done = subprocess.run([starter, program(), *words], stdin=stream, stderr=subprocess.PIPE, check=True)
     return int(done.stderr)
+
+
+def allocations(file: str, *words: str) -> int:
+    """How often the program takes memory, with these words and this file as its input: its calls of malloc(3) and its like, by `bench/calls.c`."""
+    with tempfile.TemporaryDirectory() as folder:
+        counter, counts = os.path.join(folder, "calls.so"), os.path.join(folder, "counts")
+        subprocess.run(["gcc", "-O2", "-D_GNU_SOURCE", "-shared", "-fPIC", os.path.join(HERE, "calls.c"), "-ldl", "-o", counter], check=True)
+        with open(file, "rb") as stream:
+            subprocess.run([program(), *words], stdin=stream, stdout=subprocess.DEVNULL, env={**os.environ, "LD_PRELOAD": counter, "CALLS": counts})
+        with open(counts, "rb") as text:
+            return int.from_bytes(text.read()[16:24], sys.byteorder)
