@@ -11,7 +11,7 @@
 //! | `bits` | `binary_consensus` |
 //! | `vectors` | `vector_consensus` |
 //! | `orders` | `atomic_bcast` |
-//! | `cores` | `ritas_core` |
+//! | `cores`, `drops` | `ritas_core` |
 //!
 //! `zeros` has a tagger and a coin whose bytes are zeros.
 #![tactic(auto)]
@@ -24,6 +24,8 @@ mod columns;
 mod cores;
 #[cfg(test)]
 mod digests;
+#[cfg(test)]
+mod drops;
 #[cfg(test)]
 mod following;
 #[cfg(test)]

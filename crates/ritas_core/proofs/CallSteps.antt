@@ -1,5 +1,5 @@
 -- What each outcome of a step is, as the abstract core has it.
-use Rattle.std.proofs.Common.{◌≡◌, Bool, true, false, not, cond, Option, Result, Ok, Err, List, [], ◌++◌, refl, sym, ◌∙◌, ap, subst, inr, append-nil}
+use Rattle.std.proofs.Common.{◌≡◌, Bool, true, false, not, cond, Option, Result, Ok, Err, List, [], ◌++◌, refl, sym, ◌∙◌, ap, subst, inl, inr, append-nil}
 use Rattle.ritas_base.specs.declared.item.Item.{Item}
 use Rattle.ritas_base.specs.declared.item.Msg.{Msg}
 use Rattle.layer_api.specs.declared.broadcast.Heard.TheVariants as heard
@@ -11,6 +11,7 @@ use Rattle.ritas_core.specs.declared.verdict.Verdict.{Verdict}
 use Rattle.ritas_core.specs.declared.verdict.Verdict.TheVariants as verdicts
 use Rattle.ritas_core.specs.declared.kernel.Core.{Core}
 use Rattle.ritas_core.specs.Rules.{Rules}
+use Rattle.ritas_core.specs.Casts.{OutputsStand}
 use Rattle.ritas_core.specs.Parts.{Entry, Took, parts}
 use Rattle.ritas_core.specs.Checks.{verdict_on, IsGood, IsTakable}
 use Rattle.ritas_core.specs.Machine.{CoreState, What, Frame, Moved, with_entry, stays, enters, gives_item, moved_live, moved}
@@ -19,6 +20,7 @@ use Rattle.ritas_core.specs.LayerCalls.{CanTakeItem, RepeatsOne}
 use Rattle.ritas_core.specs.Calls.{Moves, Does}
 use Rattle.ritas_core.specs.CoreCalls.{rules_in, IsLive, StopsCore, EntersCore, GivesLayers, IsToTake, DoesJudged}
 use Rattle.ritas_core.proofs.GoodSlots.{slot_origin}
+use Rattle.ritas_core.proofs.HeldSteps.{open_near}
 use Rattle.ritas_core.proofs.CoreSteps.{same_rules, stops_core}
 use Rattle.ritas_core.proofs.ShownLayers.{MeansWell, layers_show}
 use Rattle.ritas_core.proofs.JudgeSteps.{verdict_not_mem}
@@ -87,6 +89,7 @@ module _ {S E C T : Type 0} (m : Meaning S E C T) where
   can_take old item st is good judged = record {
     is_own = record { own = is.stands.own; below = is.stands.me };
     origin = slot_origin old.layers.params old.layers.mode item.slot good.in_grammar.slot;
+    near = open_near (rules_in m old) (parts (rules_in m old) st.history) item judged.opened;
     may = judged.may;
     stood = is.stands.layers is.live;
   }
@@ -123,6 +126,8 @@ module _ {S E C T : Type 0} (m : Meaning S E C T) where
   stays_core well old new item made st gives_it is =
       let same = same_rules m old.layers new.layers gives_it.seat in
       let stood : LayersStand m new.layers (parts (rules_in m old) st.history) = gives_it.given.same (parts (rules_in m old) st.history) (is.stands.layers is.live) in
+      let puts : st.live ≡ true → OutputsStand old.layers.mode.root (rules_in m old).casts new.layers.outputs (parts (rules_in m old) st.history).calls = λ live low s.
+      gives_it.given.outputs s ∙ is.stands.outputs live low s in
       subst (λ (core : Core S E C T). CoreStands m core (rules_in m old) st) (sym gives_it.rest) (record {
         rules = same;
         own = ap (λ (t : T). m.me t) gives_it.seat.tagger ∙ is.stands.own;
@@ -137,6 +142,8 @@ module _ {S E C T : Type 0} (m : Meaning S E C T) where
         lost = is.stands.lost;
         shows = subst (λ (o : Option Entry). LayersShow m new.layers (rules_in m old) (parts (rules_in m old) st.history) (parts (rules_in m old) (with_entry o st.history)))
             (sym (is.stands.lost is.live)) (layers_show m well new.layers (rules_in m old) same (parts (rules_in m old) st.history) stood);
+        outputs = λ live. puts live;
+        shows_outputs = λ low s. inl (puts is.live low s);
         inbox = is.stands.inbox;
         held = is.stands.held;
         peers = is.stands.peers;

@@ -1,5 +1,5 @@
 -- What the steps of a call make of a core.
-use Rattle.std.proofs.Common.{◌≡◌, ℕ, true, not, ◌||◌, Option, Some, None, List, [], ◌∷◌, ◌++◌, refl, sym, ◌∙◌, ap, subst}
+use Rattle.std.proofs.Common.{◌≡◌, ℕ, true, not, ◌||◌, Option, Some, None, List, [], ◌∷◌, ◌++◌, refl, sym, ◌∙◌, ap, subst, inl, inr}
 use Rattle.std.proofs.lemmas.List.{length-map}
 use Rattle.ritas_base.specs.declared.item.Item.{Item}
 use Rattle.ritas_base.specs.declared.item.Msg.{Msg}
@@ -9,20 +9,24 @@ use Rattle.layer_api.specs.Words.{Ask, Hear}
 use Rattle.ooc_buffers.specs.Lists.{HeldItem, failing, released, remaining}
 use Rattle.ritas_core.specs.declared.layers.Layers.{Layers}
 use Rattle.ritas_core.specs.declared.kernel.Core.{Core}
-use Rattle.ritas_core.specs.Rules.{Rules, casts_by}
+use Rattle.ritas_core.specs.Rules.{Rules, casts_by, seat_of}
+use Rattle.ritas_core.specs.Casts.{OutputsStand, OutputsShow}
 use Rattle.ritas_core.specs.StandsLaws.{layer_laws}
 use Rattle.ritas_core.specs.Parts.{Parts, Entry, Took, Given, parts, taken_at, item_delivers, parts_after, made_by}
 use Rattle.ritas_core.specs.Order.{ordered, own_items, new_messages}
 use Rattle.ritas_core.specs.Checks.{is_open, is_item_past, IsTakable, IsGivable, MayEnter, IsHistory}
 use Rattle.ritas_core.specs.Machine.{CoreState, What, with_entry, state_after_entry}
 use Rattle.ritas_core.specs.Stands.{Meaning, rules_of, LayersStand, LayersShow, CoreStands}
-use Rattle.ritas_core.specs.LayerCalls.{SameSeat, MayTell, MayFollow, CanTakeItem, CanTell, TellsLayers, TakesItem, is_past_in, is_open_in}
+use Rattle.ritas_core.specs.LayerCalls.{SameSeat, KeepsOutputs, MayTell, MayFollow, CanTakeItem, CanTell, TellsLayers, TakesItem, is_past_in, is_open_in}
 use Rattle.ritas_core.specs.Calls.{entry_of_call, stopped}
 use Rattle.ritas_core.specs.CoreCalls.{rules_in, IsLive, Finishes, Withdraws, StopsCore, EntersCore}
 use Rattle.ritas_core.specs.Laws.{LayerLaws}
 use Rattle.ritas_core.proofs.GoodSlots.{slot_origin}
 use Rattle.ritas_core.proofs.ShownLayers.{MeansWell, layers_show, layers_later, entry_part}
-use Rattle.ritas_core.proofs.Conditions.{may_start_given, may_hear, may_start_heard}
+use Rattle.ritas_core.proofs.Conditions.{words_proper, may_start_given, may_hear, may_start_heard}
+use Rattle.ritas_core.proofs.ShownCasts.{out_started}
+use Rattle.ritas_core.proofs.Keeping.{outputs_same}
+use Rattle.ritas_core.proofs.HeldSteps.{open_near}
 use Rattle.ritas_core.proofs.Goodness.{good_remaining, entered_inbox_good, entered_held_good}
 use Rattle.ritas_core.proofs.HeldSteps.{released_same, remaining_same, remaining_twice, past_same, open_same}
 
@@ -71,6 +75,9 @@ module _ {S E C T : Type 0} (m : Meaning S E C T) where
         layers = λ live. absurd (cc);
         lost = λ live. absurd (cc);
         shows = subst (λ (o : Option Entry). LayersShow m new.layers r (parts r st.history) (parts r (with_entry o st.history))) (sym given) (stops.shows st is may);
+        outputs = λ live. absurd (cc);
+        shows_outputs = subst (λ (o : Option Entry). OutputsShow r.mode.root r.casts new.layers.outputs (parts r st.history).calls (parts r (with_entry o st.history)).calls)
+            (sym given) (stops.outputs st is may);
         inbox = stops.inbox ∙ stands.inbox;
         held = stops.held ∙ stands.held;
         peers = stands.peers;
@@ -89,6 +96,7 @@ module _ {S E C T : Type 0} (m : Meaning S E C T) (well : MeansWell m) where
       (stands : CoreStands m old (rules_of m mid) st) (live : st.live ≡ true)
       (may : MayEnter (rules_of m mid) (parts (rules_of m mid) st.history) e)
       (stood : LayersStand m mid (parts_after (rules_of m mid) e (parts (rules_of m mid) st.history)))
+      (puts : OutputsStand (rules_of m mid).mode.root (rules_of m mid).casts mid.outputs (parts_after (rules_of m mid) e (parts (rules_of m mid) st.history)).calls)
       (made_is : made ≡ made_by (rules_of m mid) e (parts (rules_of m mid) st.history)) where
     new_inbox : new.inbox.items ≡ (state_after_entry (rules_of m mid) st e st.inbox).inbox
     new_inbox =
@@ -114,6 +122,11 @@ module _ {S E C T : Type 0} (m : Meaning S E C T) (well : MeansWell m) where
         (good_remaining r (is_open r p) st.held stands.good_held)
         ∙ remaining_twice (is_open r p) (is_item_past r p) st.held
 
+    new_outputs : OutputsStand (rules_of m mid).mode.root (rules_of m mid).casts new.layers.outputs (parts (rules_of m mid) (e ∷ st.history)).calls
+    new_outputs =
+        subst (λ (layers : Layers S E C T). OutputsStand (rules_of m mid).mode.root (rules_of m mid).casts layers.outputs (parts (rules_of m mid) (e ∷ st.history)).calls)
+        (sym fin.layers) puts
+
     pub enters_at : CoreStands m new (rules_of m mid) (state_after_entry (rules_of m mid) st e st.inbox)
         × (after_it ≡ before ++ new_messages (rules_of m mid) st.history e)
     enters_at =
@@ -133,6 +146,8 @@ module _ {S E C T : Type 0} (m : Meaning S E C T) (well : MeansWell m) where
             lost = λ _. refl;
             shows = subst (λ (layers : Layers S E C T). LayersShow m layers r (parts r (e ∷ st.history)) (parts r (e ∷ st.history))) (sym fin.layers)
                 (layers_show m well mid r refl (parts r (e ∷ st.history)) stood);
+            outputs = λ _. new_outputs;
+            shows_outputs = λ low s. inl (new_outputs low s);
             inbox = new_inbox;
             held = new_held;
             peers = length-map st.held (failing (λ x. is_open r (parts r (e ∷ st.history)) x || is_item_past r (parts r (e ∷ st.history)) x)) ∙ stands.peers;
@@ -147,6 +162,7 @@ module _ {S E C T : Type 0} (m : Meaning S E C T) (well : MeansWell m) where
       (fin : Finishes m (record old { layers = mid }) new made before after_it) where
     abbrev Enough : CoreState → Rules → Type 0
     Enough st r = CoreStands m old r st × MayEnter r (parts r st.history) e × LayersStand m mid (parts_after r e (parts r st.history))
+        × OutputsStand r.mode.root r.casts mid.outputs (parts_after r e (parts r st.history)).calls
         × (made ≡ made_by r e (parts r st.history))
 
     abbrev Done : CoreState → Rules → Type 0
@@ -156,13 +172,14 @@ module _ {S E C T : Type 0} (m : Meaning S E C T) (well : MeansWell m) where
     enters_from st live enough =
         let there = subst (λ (r : Rules). Enough st r) (sym (same_rules m old.layers mid seat)) enough in
         subst (λ (r : Rules). Done st r) (same_rules m old.layers mid seat)
-        (enters_at old new mid e made before after_it st fin seat.tagger there.0 live there.1 there.2 there.3)
+        (enters_at old new mid e made before after_it st fin seat.tagger there.0 live there.1 there.2 there.3 there.4)
 
   pub can_take : (old : Core S E C T) (item : Item) (st : CoreState) → IsLive m old st → IsTakable (rules_in m old) (parts (rules_in m old) st.history) item →
       CanTakeItem m old.layers item (parts (rules_in m old) st.history)
   can_take old item st is may = record {
     is_own = record { own = is.stands.own; below = is.stands.me };
     origin = slot_origin old.layers.params old.layers.mode item.slot may.good.in_grammar.slot;
+    near = open_near (rules_in m old) (parts (rules_in m old) st.history) item may.is_open;
     may = may.may;
     stood = is.stands.layers is.live;
   }
@@ -171,8 +188,10 @@ module _ {S E C T : Type 0} (m : Meaning S E C T) (well : MeansWell m) where
   pub stops_after : (old new : Core S E C T) (mid : Layers S E C T) (e : Entry) (before after_it : List Msg) → SameSeat old.layers mid →
       Withdraws (record old { layers = mid }) new before after_it →
       ((st : CoreState) → IsLive m old st → MayEnter (rules_in m old) (parts (rules_in m old) st.history) e →
-      LayersStand m mid (parts (rules_in m old) (e ∷ st.history))) → StopsCore m old new e before after_it
-  stops_after old new mid e before after_it seat back stood =
+      LayersStand m mid (parts (rules_in m old) (e ∷ st.history))) →
+      ((st : CoreState) → IsLive m old st → MayEnter (rules_in m old) (parts (rules_in m old) st.history) e →
+      OutputsStand old.layers.mode.root (rules_in m old).casts mid.outputs (parts (rules_in m old) (e ∷ st.history)).calls) → StopsCore m old new e before after_it
+  stops_after old new mid e before after_it seat back stood puts =
       let r = rules_in m old in
       record {
         seat = subst (λ (layers : Layers S E C T). SameSeat old.layers layers) (sym back.layers) seat;
@@ -180,6 +199,9 @@ module _ {S E C T : Type 0} (m : Meaning S E C T) (well : MeansWell m) where
             subst (λ (layers : Layers S E C T). LayersShow m layers r (parts r st.history) (parts r (e ∷ st.history))) (sym back.layers)
             (layers_later m well mid r (same_rules m old.layers mid seat) (parts r st.history) (parts r (e ∷ st.history)) (stood st is may)
             (entry_part r (laws_of old.layers old st is.stands) st.history e (may, is.stands.history)));
+        outputs = λ st is may.
+            subst (λ (layers : Layers S E C T). OutputsShow old.layers.mode.root r.casts layers.outputs (parts r st.history).calls (parts r (e ∷ st.history)).calls)
+            (sym back.layers) (λ low s. inr (puts st is may low s));
         inbox = back.inbox;
         held = back.held;
         out = back.out;
@@ -194,11 +216,13 @@ module _ {S E C T : Type 0} (m : Meaning S E C T) (well : MeansWell m) where
       let done : (st : CoreState) → IsLive m old st → IsTakable r (parts r st.history) item → Done old new mid seat (Took item) made before after_it fin st r = λ st is may.
       let follow = may_follow r (laws_of old.layers old st is.stands) st.history is.stands.history item may in
       let can = can_take old item st is may in
+      let proper = words_proper r (laws_of old.layers old st is.stands) st.history is.stands.history in
       enters_from old new mid seat (Took item) made before after_it fin st is.live (
         is.stands,
         may,
-        takes.grows (parts r st.history) can follow,
-        takes.made (parts r st.history) can follow ∙ ap (λ (ms : List Msg). ms ++ made_by r (Took item) (parts r st.history)) none,
+        takes.grows (parts r st.history) can follow proper,
+        takes.outputs (parts r st.history) can (is.stands.outputs is.live),
+        takes.made (parts r st.history) can follow proper ∙ ap (λ (ms : List Msg). ms ++ made_by r (Took item) (parts r st.history)) none,
       ) in
       record { state = λ st is may. (done st is may).0; out = λ st is may. (done st is may).1 }
 
@@ -210,18 +234,32 @@ module _ {S E C T : Type 0} (m : Meaning S E C T) (well : MeansWell m) where
     stood = is.stands.layers is.live;
   }
 
+  -- to give an input puts nothing out at a slot
+  pub input_outputs : (old : Core S E C T) (mid : Layers S E C T) (value : List ℕ) (st : CoreState) → IsLive m old st → KeepsOutputs old.layers mid →
+      OutputsStand old.layers.mode.root (rules_in m old).casts mid.outputs (parts (rules_in m old) (Given value ∷ st.history)).calls
+  input_outputs old mid value st is kept =
+      let r = rules_in m old in
+      let p = parts r st.history in
+      let layers = old.layers in
+      outputs_same layers.mode.root r.casts layers.outputs mid.outputs p.calls (parts r (Given value ∷ st.history)).calls kept
+      (λ s. out_started layers.mode m.cast_stands m.cast well.live m.cast_shown well.cast_shows well.values layers.params layers.me (m.tags layers.tagger)
+      (r.service.says (seat_of r) p.words (Ask value)) p.calls s)
+      (is.stands.outputs is.live)
+
   -- an input that was taken
   pub enters_input : (old new : Core S E C T) (mid : Layers S E C T) (value : List ℕ) (start made before after_it : List Msg) → start ≡ [] →
-      SameSeat old.layers mid → TellsLayers m old.layers mid (Ask value) start made → Finishes m (record old { layers = mid }) new made before after_it →
-      EntersCore m old new (Given value) before after_it
-  enters_input old new mid value start made before after_it none seat tells fin =
+      SameSeat old.layers mid → KeepsOutputs old.layers mid → TellsLayers m old.layers mid (Ask value) start made →
+      Finishes m (record old { layers = mid }) new made before after_it → EntersCore m old new (Given value) before after_it
+  enters_input old new mid value start made before after_it none seat kept tells fin =
       let r = rules_in m old in
       let done : (st : CoreState) → IsLive m old st → IsGivable r (parts r st.history) value → Done old new mid seat (Given value) made before after_it fin st r = λ st is may.
       let can = can_tell old value st is may in
+      let proper = words_proper r (laws_of old.layers old st is.stands) st.history is.stands.history in
       enters_from old new mid seat (Given value) made before after_it fin st is.live (
         is.stands,
         may,
-        tells.grows (parts r st.history) can,
-        tells.made (parts r st.history) can ∙ ap (λ (ms : List Msg). ms ++ made_by r (Given value) (parts r st.history)) none,
+        tells.grows (parts r st.history) can proper,
+        input_outputs old mid value st is kept,
+        tells.made (parts r st.history) can proper ∙ ap (λ (ms : List Msg). ms ++ made_by r (Given value) (parts r st.history)) none,
       ) in
       record { state = λ st is may. (done st is may).0; out = λ st is may. (done st is may).1 }

@@ -1,25 +1,33 @@
 -- What the getters of a core show.
-use Rattle.std.proofs.Common.{◌≡◌, ℕ, zero, suc, ◌+◌, Bool, true, cond, Option, None, ◌⊎◌, inl, inr, List, [], ◌∷◌, take, refl, sym, ◌∙◌, ap, add_assoc, arith}
+use Rattle.std.proofs.Common.{◌≡◌, ℕ, zero, suc, ◌+◌, Bool, true, false, cond, ◌&&◌, Option, Some, None, ◌⊎◌, inl, inr, List, [], ◌∷◌, take, refl, sym, ◌∙◌, ap, subst, add_assoc, arith}
 use Rattle.std.proofs.Math.Seq.{take-length}
 use Rattle.std.proofs.lemmas.List.Sums.{sum_by-cons}
-use Rattle.std.specs.BTreeMap.{get}
+use Rattle.std.specs.Prelude.{IfSome}
+use Rattle.std.specs.Option.{is_some}
+use Rattle.std.specs.FinMap.{get}
+use Rattle.std.specs.BTreeMap as map
+use Rattle.std.proofs.Math.Dec.{leb}
 use Rattle.ritas_base.specs.declared.slot.Slot.{Slot}
 use Rattle.ritas_base.specs.SlotOrder.{slot_cmp}
+use Rattle.ritas_base.specs.Slots.{within}
 use Rattle.ooc_buffers.specs.Lists.{HeldItem, held_bytes}
 use Rattle.ritas_core.specs.declared.kernel.Core.{Core}
 use Rattle.ritas_core.specs.declared.cast.Cast.{Cast}
-use Rattle.ritas_core.specs.Rules.{Rules}
+use Rattle.ritas_core.specs.Rules.{Rules, route_of, place_at}
 use Rattle.ritas_core.specs.SlotCast.{shown_by_cast}
 use Rattle.ritas_core.specs.Casts.{shown_out}
-use Rattle.ritas_core.specs.Parts.{Entry}
+use Rattle.ritas_core.specs.Parts.{Entry, parts}
 use Rattle.ritas_core.specs.Machine.{CoreState, with_entry, with_lost}
-use Rattle.ritas_core.specs.Stands.{Meaning, CoreStands}
-use Rattle.ritas_core.specs.LayerCalls.{hides_shown}
+use Rattle.ritas_core.specs.Stands.{Meaning, rules_of, CoreStands}
+use Rattle.ritas_core.specs.Drops.{is_past_shown, hides_shown}
 use Rattle.ritas_core.specs.Laws.{LayerLaws}
 use Rattle.ritas_core.proofs.ShownLayers.{MeansWell}
 use Rattle.ritas_core.specs.StandsLaws.{layer_laws}
 use Rattle.ritas_core.proofs.ShownSlots.{shown_either}
-use Rattle.ritas_core.specs.Shown.{held_bytes_in, all_bytes, shown_at}
+use Rattle.ritas_core.specs.Shown.{held_bytes_in, all_bytes, layers_out, delivered_at, shown_at, keeps_broadcast}
+use Rattle.ritas_core.proofs.TestLaws.{and_false}
+use Rattle.ritas_core.proofs.OneCast.{shows_at}
+use Rattle.ritas_core.proofs.Keeping.{kept_by_call}
 
 -- the bytes of one peer more
 pub bytes_more : (held : List (List HeldItem)) (i : ℕ) → all_bytes (take (suc i) held) ≡ all_bytes (take i held) + held_bytes held i
@@ -33,27 +41,54 @@ bytes_more (kept ∷ held) (suc i) =
     long ∙ ap (λ (n : ℕ). held_bytes_in kept + n) more ∙ sym (add_assoc (held_bytes_in kept) (all_bytes (take i held)) (held_bytes held i))
     ∙ ap (λ (n : ℕ). n + held_bytes held i) (sym short)
 
+-- where what a slot delivered isn't hidden, its broadcast isn't dropped
+shown_near : (inside high past : Bool) → high ≡ true → (high && past) ≡ false → (inside && past) ≡ false
+shown_near inside true past e near = ap (λ (b : Bool). inside && b) near ∙ and_false inside
+shown_near inside false past e near = absurd (cc)
+
 -- what a slot shows is what it delivered and isn't hidden, before what a stop lost or with it
-module _ {S E C T : Type 0} (m : Meaning S E C T) (well : MeansWell m) (core : Core S E C T) (slot : Slot) (hidden : Bool) (o : Option (Cast E))
+module _ {S E C T : Type 0} (m : Meaning S E C T) (well : MeansWell m) (core : Core S E C T) (slot : Slot) (hidden : Bool)
     (hides : hidden ≡ hides_shown (m.service_shown core.layers.service) core.layers.params.n core.layers.mode.root slot)
-    (found : get slot_cmp core.layers.casts slot ≡ o) (r : Rules) (st : CoreState) (stands : CoreStands m core r st) where
+    (r : Rules) (st : CoreState) (stands : CoreStands m core r st) where
+  abbrev Out : Option (List ℕ)
+  Out = layers_out (shown_by_cast m.cast_shown) core.layers slot
+
   abbrev Shown : Option (List ℕ)
-  Shown = cond hidden None (shown_out (shown_by_cast m.cast_shown) o)
+  Shown = cond hidden None Out
+
+  abbrev Hides : Bool
+  Hides = hides_shown (m.service_shown core.layers.service) r.casts.numbers.n r.mode.root slot
 
   laws : LayerLaws r
   laws = layer_laws m well.values well.words core r st stands
 
-  shown_is : Shown ≡ cond (hides_shown (m.service_shown core.layers.service) r.casts.numbers.n r.mode.root slot) None (shown_out (shown_by_cast m.cast_shown) (get slot_cmp core.layers.casts slot))
+  shown_is : Shown ≡ cond Hides None Out
   shown_is =
-      ap (λ (b : Bool). cond b None (shown_out (shown_by_cast m.cast_shown) o))
+      ap (λ (b : Bool). cond b None Out)
       (hides ∙ ap (λ (q : Rules). hides_shown (m.service_shown core.layers.service) q.casts.numbers.n q.mode.root slot) stands.rules)
-      ∙ ap (λ (x : Option (Cast E)). cond (hides_shown (m.service_shown core.layers.service) r.casts.numbers.n r.mode.root slot) None (shown_out (shown_by_cast m.cast_shown) x))
-      (sym found)
+
+  root_is : core.layers.mode.root ≡ r.mode.root
+  root_is = ap (λ (q : Rules). q.mode.root) stands.rules
+
+  -- by its broadcast, or by what is kept
+  out_by : (high : Bool) → leb 3 r.mode.root ≡ high → Hides ≡ false → (Out ≡ delivered_at r st.history slot) ⊎ (Out ≡ delivered_at r (with_lost st) slot)
+  out_by true is near =
+      let from = ap (λ (n : ℕ). cond (leb 3 n) (shown_out (shown_by_cast m.cast_shown) (get core.layers.casts slot)) (map.get slot_cmp core.layers.outputs slot)) root_is
+      ∙ ap (λ (b : Bool). cond b (shown_out (shown_by_cast m.cast_shown) (get core.layers.casts slot)) (map.get slot_cmp core.layers.outputs slot)) is in
+      elim (stands.shows.casts slot
+      (shown_near (within 1 5 slot.class) (leb 3 r.mode.root) (is_past_shown (m.service_shown core.layers.service) r.casts.numbers.n slot) is near)) [
+        | inl e ↦ inl (from ∙ e)
+        | inr e ↦ inr (from ∙ e)
+      ]
+  out_by false is near =
+      let from = ap (λ (n : ℕ). cond (leb 3 n) (shown_out (shown_by_cast m.cast_shown) (get core.layers.casts slot)) (map.get slot_cmp core.layers.outputs slot)) root_is
+      ∙ ap (λ (b : Bool). cond b (shown_out (shown_by_cast m.cast_shown) (get core.layers.casts slot)) (map.get slot_cmp core.layers.outputs slot)) is in
+      elim (stands.shows_outputs is slot) [ inl e ↦ inl (from ∙ e) | inr e ↦ inr (from ∙ e) ]
 
   pub delivered_either : (Shown ≡ shown_at r st.history slot) ⊎ (Shown ≡ shown_at r (with_lost st) slot)
   delivered_either =
       elim (shown_either r laws slot st.lost st.history stands.history stands.whole (m.service_shown core.layers.service) stands.shows.service
-      (shown_out (shown_by_cast m.cast_shown) (get slot_cmp core.layers.casts slot)) (stands.shows.casts slot)) [
+      Out (out_by (leb 3 r.mode.root) refl)) [
         | inl e ↦ inl (shown_is ∙ e)
         | inr e ↦ inr (shown_is ∙ e)
       ]
@@ -63,6 +98,41 @@ module _ {S E C T : Type 0} (m : Meaning S E C T) (well : MeansWell m) (core : C
     | inl e ↦ e
     | inr e ↦ e ∙ ap (λ (x : Option Entry). shown_at r (with_entry x st.history) slot) (stands.lost live)
   ]
+
+-- ---- the broadcasts
+module _ {S E C T : Type 0} (m : Meaning S E C T) (well : MeansWell m) (core : Core S E C T) (st : CoreState) (s : Slot) where
+  -- exactly those are there that had a call, and whose slots aren't past
+  keeps_here : CoreStands m core (rules_of m core.layers) st → st.live ≡ true → is_some (get core.layers.casts s) ≡ keeps_broadcast (rules_of m core.layers) st.history s
+  keeps_here stands live =
+      let r = rules_of m core.layers in
+      let all = (stands.layers live).casts in
+      kept_by_call r (layer_laws m well.values well.words core r st stands) st.history stands.history s (get core.layers.casts s)
+      (all.gone s) (all.unmade s) (all.used s)
+
+  pub keeps_called : (r : Rules) → CoreStands m core r st → st.live ≡ true → is_some (get core.layers.casts s) ≡ keeps_broadcast r st.history s
+  keeps_called r stands live =
+      subst (λ (q : Rules). CoreStands m core q st → is_some (get core.layers.casts s) ≡ keeps_broadcast q st.history s) stands.rules
+      (λ here. keeps_here here live) stands
+
+  -- and each has delivered what its slot has
+  delivers_here : CoreStands m core (rules_of m core.layers) st → st.live ≡ true → (b : Cast E) → get core.layers.casts s ≡ Some b →
+      (shown_by_cast m.cast_shown b).out ≡ delivered_at (rules_of m core.layers) st.history s
+  delivers_here stands live b found =
+      let layers = core.layers in
+      let r = rules_of m layers in
+      (shows_at m.cast_stands m.cast well.live m.cast_shown well.cast_shows (route_of layers.mode s) b (place_at r.casts s) r.casts.tags ((parts r st.history).calls s)
+      ((stands.layers live).casts.made s b found)).out
+
+  some_by : (o : Option (Cast E)) (d : Option (List ℕ)) → ((b : Cast E) → o ≡ Some b → (shown_by_cast m.cast_shown b).out ≡ d) →
+      IfSome o (λ b. (shown_by_cast m.cast_shown b).out ≡ d)
+  some_by None d is = tt
+  some_by (Some b) d is = is b refl
+
+  pub delivers_there : (r : Rules) → CoreStands m core r st → st.live ≡ true →
+      IfSome (get core.layers.casts s) (λ b. (shown_by_cast m.cast_shown b).out ≡ delivered_at r st.history s)
+  delivers_there r stands live =
+      subst (λ (q : Rules). CoreStands m core q st → IfSome (get core.layers.casts s) (λ b. (shown_by_cast m.cast_shown b).out ≡ delivered_at q st.history s)) stands.rules
+      (λ here. some_by (get core.layers.casts s) _ (delivers_here here live)) stands
 
 -- the bytes of all peers
 pub bytes_all : {S E C T : Type 0} (m : Meaning S E C T) (core : Core S E C T) (n : ℕ) → core.layers.params.n ≡ n →

@@ -26,6 +26,7 @@ failed_none true x rest e = (refl, e)
 failed_none false x rest e = absurd (cc)
 
 record Fields (p : Numbers) (s : Slot) : Type 0 where
+  class : within 1 5 s.class ≡ true
   number : s.a < 1000000
   origin : s.origin < p.n
 
@@ -45,9 +46,12 @@ fields p mode s e =
     let g = failed_none (has_count 200 s.class s.bround) faults.Round rest5 d.1 in
     let h = failed_none (has_count 3 s.class s.step) faults.Step rest6 g.1 in
     let k = failed_none (ltb s.origin p.n) faults.Origin [] h.1 in
-    record { number = ltb-true s.a 1000000 (left_true _ _ c.0); origin = ltb-true s.origin p.n k.0 }
+    record { class = a.0; number = ltb-true s.a 1000000 (left_true _ _ c.0); origin = ltb-true s.origin p.n k.0 }
 
--- its number is below a million, and its origin is a replica
+-- it has one of the classes, its number is below a million, and its origin is a replica
+pub slot_class : (p : Numbers) (mode : Mode) (s : Slot) → slot_fault p mode s ≡ None → within 1 5 s.class ≡ true
+slot_class p mode s e = (fields p mode s e).class
+
 pub slot_number : (p : Numbers) (mode : Mode) (s : Slot) → slot_fault p mode s ≡ None → s.a < 1000000
 slot_number p mode s e = (fields p mode s e).number
 

@@ -1,11 +1,10 @@
 -- What is open and what is past among held items that may be given.
 use Rattle.std.proofs.Common.{◌≡◌, Bool, true, false, not, cond, ◌&&◌, ◌||◌, Option, Some, None, List, [], ◌∷◌, ◌++◌, map, refl, sym, ◌∙◌, ap}
-use Rattle.std.specs.BTreeMap.{get}
+use Rattle.std.specs.FinMap.{get}
 use Rattle.std.specs.Option.{is_some}
-use Rattle.std.proofs.lemmas.Bool.{lt-ltb}
+use Rattle.std.proofs.lemmas.Bool.{lt-ltb, not-true}
 use Rattle.ritas_base.specs.declared.item.Item.{Item}
 use Rattle.ritas_base.specs.declared.item.Kind.TheVariants.{Column}
-use Rattle.ritas_base.specs.SlotOrder.{slot_cmp}
 use Rattle.ritas_base.specs.Messages.{kind_eq}
 use Rattle.ritas_base.specs.History.{Call}
 use Rattle.ooc_buffers.specs.Lists.{HeldItem, passing, failing, released, remaining}
@@ -17,8 +16,10 @@ use Rattle.ritas_core.specs.Checks.{is_item_past, is_item_ahead, is_open, IsGood
 use Rattle.ritas_core.specs.Stands.{Meaning, rules_of, LayersStand, AreGoodKept, AreGoodLists}
 use Rattle.ritas_core.specs.LayerCalls.{is_past_in, is_let_in, is_open_in}
 use Rattle.ritas_core.specs.Laws.{LayerLaws}
+use Rattle.ritas_core.proofs.TestLaws.{left_true}
 use Rattle.ritas_core.proofs.GoodSlots.{slot_origin, kind_fits}
 use Rattle.ritas_core.proofs.Lookup.{ready_always}
+use Rattle.ritas_core.proofs.DropSteps.{not_dropped}
 
 -- ---- tests that agree on good items
 
@@ -86,16 +87,25 @@ ready_by o false ready other none = sym (other refl)
 ready_by None true ready other none = sym (none refl)
 ready_by (Some b) true ready other none = refl
 
+-- an open item's slot isn't past
+pub open_near : (r : Rules) (p : Parts) (x : Item) → is_open r p x ≡ true → is_item_past r p x ≡ false
+open_near r p x opened = not-true (is_item_past r p x) (left_true (not (is_item_past r p x)) _ opened)
+
+-- what is asked only where a slot isn't past
+pub where_near : (past ahead opens a b : Bool) → (past ≡ false → a ≡ b) → (not past && (not ahead && (opens && a))) ≡ (not past && (not ahead && (opens && b)))
+where_near true ahead opens a b same = refl
+where_near false ahead opens a b same = ap (λ (x : Bool). not ahead && (opens && x)) (same refl)
+
 module _ {S E C T : Type 0} (m : Meaning S E C T) (layers : Layers S E C T) (laws : LayerLaws (rules_of m layers))
     (p : Parts) (stood : LayersStand m layers p) where
-  is_ready : (x : Item) → IsGood (rules_of m layers) x →
+  is_ready : (x : Item) → IsGood (rules_of m layers) x → is_item_past (rules_of m layers) p x ≡ false →
       is_ready_in (rules_of m layers).casts layers.casts p.calls x
       ≡ ((rules_of m layers).casts.at_slot x.slot).ready (place_at (rules_of m layers).casts x.slot) (rules_of m layers).casts.tags (p.calls x.slot) x
-  is_ready x good =
+  is_ready x good near =
       let c = (rules_of m layers).casts in
-      ready_by (get slot_cmp layers.casts x.slot) (kind_eq x.kind Column) ((c.at_slot x.slot).ready (place_at c x.slot) c.tags (p.calls x.slot) x)
+      ready_by (get layers.casts x.slot) (kind_eq x.kind Column) ((c.at_slot x.slot).ready (place_at c x.slot) c.tags (p.calls x.slot) x)
       (ready_always (c.at_slot x.slot) (laws.casts x.slot) (place_at c x.slot) c.tags (p.calls x.slot) x (kind_fits (rules_of m layers) laws x good.in_grammar))
-      (λ none. ap (λ (h : List Call). (c.at_slot x.slot).ready (place_at c x.slot) c.tags h x) (stood.casts.unmade x.slot none)
+      (λ none. ap (λ (h : List Call). (c.at_slot x.slot).ready (place_at c x.slot) c.tags h x) (stood.casts.unmade x.slot (not_dropped (rules_of m layers) p.words x.slot near) none)
       ∙ (laws.casts x.slot).ready_nothing (place_at c x.slot) c.tags x (kind_fits (rules_of m layers) laws x good.in_grammar))
 
   pub past_same : (x : Item) → IsGood (rules_of m layers) x → is_past_in m layers p x.slot ≡ is_item_past (rules_of m layers) p x
@@ -104,11 +114,11 @@ module _ {S E C T : Type 0} (m : Meaning S E C T) (layers : Layers S E C T) (law
   pub open_same : (x : Item) → IsGood (rules_of m layers) x → is_open_in m layers p x ≡ is_open (rules_of m layers) p x
   open_same x good =
       and_true _ _ (lt-ltb x.slot.origin layers.params.n (slot_origin layers.params layers.mode x.slot good.in_grammar.slot))
-      ∙ ap (λ (b : Bool). not (is_item_past (rules_of m layers) p x) && (not (is_item_ahead (rules_of m layers) p x)
-      && (m.service.opens (seat_of (rules_of m layers)) p.words x.slot && b))) (is_ready x good)
+      ∙ where_near (is_item_past (rules_of m layers) p x) (is_item_ahead (rules_of m layers) p x) (m.service.opens (seat_of (rules_of m layers)) p.words x.slot) _ _
+      (is_ready x good)
 
-  -- an item is let in where its slot is open and its broadcast can take it
-  pub let_same : (x : Item) → IsGood (rules_of m layers) x → is_let_in m layers p x
+  -- an item of a slot that isn't past is let in where its slot is open and its broadcast can take it
+  pub let_same : (x : Item) → IsGood (rules_of m layers) x → is_item_past (rules_of m layers) p x ≡ false → is_let_in m layers p x
       ≡ (m.service.opens (seat_of (rules_of m layers)) p.words x.slot
       && ((rules_of m layers).casts.at_slot x.slot).ready (place_at (rules_of m layers).casts x.slot) (rules_of m layers).casts.tags (p.calls x.slot) x)
-  let_same x good = ap (λ (b : Bool). m.service.opens (seat_of (rules_of m layers)) p.words x.slot && b) (is_ready x good)
+  let_same x good near = ap (λ (b : Bool). m.service.opens (seat_of (rules_of m layers)) p.words x.slot && b) (is_ready x good near)

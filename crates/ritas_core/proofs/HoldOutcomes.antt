@@ -87,6 +87,8 @@ module _ {S E C T : Type 0} (m : Meaning S E C T) where
           layers = λ _. s.layers is.live;
           lost = λ _. refl;
           shows = subst (λ (o : Option Entry). LayersShow m old.layers r (parts r st.history) (parts r (with_entry o st.history))) (s.lost is.live) s.shows;
+          outputs = λ _. s.outputs is.live;
+          shows_outputs = λ low q. inl (s.outputs is.live low q);
           inbox = s.inbox;
           held = holds
               ∙ ap (λ (hs : List (List HeldItem)). with_item_held hs item len) s.held

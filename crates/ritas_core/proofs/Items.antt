@@ -26,6 +26,8 @@ with_items m old q h r st inbox held same_inbox same_held peers good_inbox good_
   layers = stands.layers;
   lost = stands.lost;
   shows = stands.shows;
+  outputs = stands.outputs;
+  shows_outputs = stands.shows_outputs;
   inbox = same_inbox;
   held = same_held;
   peers = peers;

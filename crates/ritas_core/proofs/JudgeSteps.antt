@@ -1,7 +1,7 @@
 -- What the tests that the layers make of an item tell of its verdict.
 use Rattle.std.proofs.Common.{◌≡◌, ℕ, Bool, true, false, not, cond, ◌&&◌, ◌||◌, Some, None, List, refl, sym, ◌∙◌, ap}
 use Rattle.std.proofs.Math.Dec.{eqb}
-use Rattle.std.proofs.lemmas.Bool.{eqb-true}
+use Rattle.std.proofs.lemmas.Bool.{eqb-true, not-true}
 use Rattle.ritas_base.specs.declared.item.Item.{Item}
 use Rattle.ritas_base.specs.declared.item.Kind.TheVariants.{Column}
 use Rattle.ritas_base.specs.Messages.{kind_eq}
@@ -19,7 +19,7 @@ use Rattle.ritas_core.specs.LayerCalls.{is_let_in}
 use Rattle.ritas_core.specs.Judging.{inside_verdict, window_verdict, unless_fault, judged_in}
 use Rattle.ritas_core.specs.CoreCalls.{IsToTake, Judged}
 use Rattle.ritas_core.specs.Laws.{LayerLaws}
-use Rattle.ritas_core.proofs.TestLaws.{right_true}
+use Rattle.ritas_core.proofs.TestLaws.{left_true, right_true}
 use Rattle.ritas_core.proofs.GoodSlots.{kind_fits, payload_fits}
 use Rattle.ritas_core.proofs.Verdicts.{is_not_origin, is_not_for, by_tests, verdict_by, is_found_by}
 use Rattle.ritas_core.proofs.HeldSteps.{let_same}
@@ -39,6 +39,10 @@ settled verdicts.Take again room bytes = cond again verdicts.Again verdicts.Take
 
 abbrev opens_by : Bool → Bool → Bool → Bool
 opens_by past ahead let_in = not past && (not ahead && let_in)
+
+opens_near : (past ahead a b : Bool) → (past ≡ false → a ≡ b) → opens_by past ahead a ≡ opens_by past ahead b
+opens_near true ahead a b same = refl
+opens_near false ahead a b same = ap (λ (x : Bool). not ahead && x) (same refl)
 
 abbrev repeats_by : Bool → Bool → Bool → Bool → Bool
 repeats_by opened again column kept = cond opened (again || (not column && kept)) kept
@@ -106,8 +110,8 @@ module _ {S E C T : Type 0} (m : Meaning S E C T) (layers : Layers S E C T) (law
     (found : is_item_past (rules_of m layers) p item ≡ false → is_repeat (rules_of m layers) p held item ≡ is_found (rules_of m layers) p held item) where
   open_is : is_open (rules_of m layers) p item
       ≡ opens_by (is_item_past (rules_of m layers) p item) (is_item_ahead (rules_of m layers) p item) (is_let_in m layers p item)
-  open_is = ap (λ (b : Bool). opens_by (is_item_past (rules_of m layers) p item) (is_item_ahead (rules_of m layers) p item) b)
-      (sym (let_same m layers laws p stood item good))
+  open_is = opens_near (is_item_past (rules_of m layers) p item) (is_item_ahead (rules_of m layers) p item) _ _
+      (λ near. sym (let_same m layers laws p stood item good near))
 
   verdict_is : verdict_on (rules_of m layers) p held item
       ≡ settled (judged_in m layers p (is_held held item) item) (is_taken_again (rules_of m layers) p item) (has_room held item) (held_bytes held item.from)
@@ -127,6 +131,7 @@ module _ {S E C T : Type 0} (m : Meaning S E C T) (layers : Layers S E C T) (law
       let r = rules_of m layers in
       let told = takes_by (is_not_origin item) (is_not_for r.casts.me item) (is_item_past r p item) (is_item_ahead r p item) (is_let_in m layers p item)
       (kind_eq item.kind Column) (is_held held item) (mark_of r p item.slot) takes in
+      let near = not-true (is_item_past r p item) (left_true (not (is_item_past r p item)) _ told.opened) in
       let let_in = right_true (not (is_item_ahead r p item)) _ (right_true (not (is_item_past r p item)) _ told.opened) in
       record {
         here = refl;
@@ -135,7 +140,7 @@ module _ {S E C T : Type 0} (m : Meaning S E C T) (layers : Layers S E C T) (law
         origin = λ only. eqb-true item.from item.slot.origin (from_neither (is_of_origin item.kind) (eqb item.from item.slot.origin) told.origin only);
         receiver = λ only. eqb-true r.casts.me item.slot.origin (from_neither (is_for_origin item.kind) (eqb r.casts.me item.slot.origin) told.receiver only);
         payload = payload_fits r laws item good.in_grammar;
-        in_time = right_true (m.service.opens (seat_of r) p.words item.slot) _ (sym (let_same m layers laws p stood item good) ∙ let_in);
+        in_time = right_true (m.service.opens (seat_of r) p.words item.slot) _ (sym (let_same m layers laws p stood item good near) ∙ let_in);
       }
 
   to_take : judged_in m layers p (is_held held item) item ≡ verdicts.Take → IsToTake (rules_of m layers) p held item

@@ -1,61 +1,150 @@
 -- An item that delivers, and then what the service says to that.
-use Rattle.std.proofs.Common.{◌≡◌, ℕ, Option, Some, List, ◌++◌, subst, sym, ap, ◌∙◌}
-use Rattle.std.specs.BTreeMap.{BTreeMap}
+use Rattle.std.proofs.Common.{◌≡◌, ℕ, Bool, false, cond, Option, Some, None, List, [], ◌++◌, refl, subst, sym, ap, ◌∙◌, append-nil}
+use Rattle.std.proofs.Math.Dec.{leb}
+use Rattle.std.specs.BTreeMap as map
 use Rattle.ritas_base.specs.declared.slot.Slot.{Slot}
 use Rattle.ritas_base.specs.declared.item.Item.{Item}
 use Rattle.ritas_base.specs.declared.item.Msg.{Msg}
+use Rattle.ritas_base.specs.SlotOrder.{slot_cmp, is_slot}
 use Rattle.ritas_base.specs.History.{Take}
+use Rattle.layer_api.specs.OneValue.{ValueLaws}
 use Rattle.layer_api.specs.Words.{Hear}
+use Rattle.instance_tree.specs.SlotMaps.{SlotMap}
 use Rattle.ritas_core.specs.declared.layers.Layers.{Layers}
 use Rattle.ritas_core.specs.declared.cast.Cast.{Cast}
+use Rattle.ritas_core.specs.Rules.{at_slot_of}
+use Rattle.ritas_core.specs.RulesLaws.{laws_at}
 use Rattle.ritas_core.specs.SlotCast.{CastStandsAt}
-use Rattle.ritas_core.specs.Casts.{news_at}
-use Rattle.ritas_core.specs.CastCalls.{CanTake, CastsTake}
-use Rattle.ritas_core.specs.Parts.{Parts, Took, told_news, heard_at, heard_news, taken_at, item_delivers, made_by}
+use Rattle.ritas_core.specs.Drops.{is_dropped}
+use Rattle.ritas_core.specs.Casts.{OutputsStand, called, news_at}
+use Rattle.ritas_core.specs.CastCalls.{CastsTake, CastsRepeat}
+use Rattle.ritas_core.specs.Parts.{Parts, Took, told_news, heard_at, heard_news, taken_at, item_delivers, parts_after, made_by}
 use Rattle.ritas_core.specs.Stands.{Meaning, rules_of, LayersStand, LayersShow}
-use Rattle.ritas_core.specs.LayerCalls.{MayFollow, CanTakeItem, CanTell, TellsLayers, TellsNoLayer, TakesItem, LayersTakeNone}
+use Rattle.ritas_core.specs.LayerCalls.{MayFollow, SameSeat, KeepsOutputs, CanTakeItem, CanTell, TellsLayers, TellsNoLayer, TakesItem, RepeatsItem, LayersTakeNone}
 use Rattle.ritas_core.proofs.Starts.{appended_more}
-use Rattle.ritas_core.proofs.ShownLayers.{MeansWell, heard_fails}
+use Rattle.ritas_core.proofs.ShownLayers.{MeansWell, heard_fails, layers_later, take_part, can_give, out_heard}
+use Rattle.ritas_core.proofs.CoreSteps.{same_rules}
+use Rattle.ritas_core.proofs.Keeping.{Outputs, outputs_same, out_quiet, outputs_put}
 
-module _ {S E C T : Type 0} (m : Meaning S E C T) (old new : Layers S E C T) (casts : BTreeMap Slot (Cast E)) (item : Item)
-    (before between after_it : List Msg) (value told_value : List ℕ)
-    (takes : CastsTake (CastStandsAt old.mode m.cast_stands) (rules_of m old).casts (m.me old.tagger) old.casts casts item before between (Some value))
-    (same : told_value ≡ value) where
-  can_take : (p : Parts) → CanTakeItem m old item p → CanTake (CastStandsAt old.mode m.cast_stands) (rules_of m old).casts (m.me old.tagger) old.casts item p.calls
-  can_take p can = record { is_own = can.is_own; origin = can.origin; may = can.may; stood = can.stood.casts }
+module _ {S E C T : Type 0} (m : Meaning S E C T) (well : MeansWell m) where
+  laws_in : (layers : Layers S E C T) (s : Slot) → ValueLaws (at_slot_of layers.mode m.cast s)
+  laws_in layers s = laws_at layers.mode m.cast well.values s
 
-  delivers : (p : Parts) → CanTakeItem m old item p → item_delivers (rules_of m old) item p ≡ Some told_value
-  delivers p can = takes.delivered p.calls (can_take p can) ∙ ap (λ (v : List ℕ). Some v) (sym same)
-
-  can_tell : (p : Parts) → CanTakeItem m old item p → MayFollow (rules_of m old) item.slot (item_delivers (rules_of m old) item p) (taken_at item p)
-      → CanTell m (record old { casts = casts }) (Hear item.slot told_value) (taken_at item p)
-  can_tell p can may = record {
-    is_own = can.is_own;
-    may = subst (λ (d : Option (List ℕ)). MayFollow (rules_of m old) item.slot d (taken_at item p)) (delivers p can) may;
-    stood = record { service = can.stood.service; casts = takes.grows p.calls (can_take p can) };
+  -- ---- an item that repeats one
+  pub repeats_item : (old : Layers S E C T) (casts : SlotMap (Cast E)) (item : Item) (before after_it : List Msg) →
+      ((dropped : Slot → Bool) →
+      CastsRepeat (CastStandsAt old.mode m.cast_stands) (rules_of m old).casts dropped (m.me old.tagger) old.casts casts item before after_it) →
+      RepeatsItem m old (record old { casts = casts }) item before after_it
+  repeats_item old casts item before after_it repeats = record {
+    same = λ p stood. record {
+      service = stood.service;
+      casts = (repeats (is_dropped (rules_of m old) p.words)).same p.calls stood.casts;
+    };
+    outputs = λ s. refl;
+    out = (repeats (λ s. false)).made;
+    counts = λ p can. (repeats (is_dropped (rules_of m old) p.words)).counts p.calls (can_give m well old item p can);
   }
 
-  pub heard_item : TellsLayers m (record old { casts = casts }) new (Hear item.slot told_value) between after_it → TakesItem m old new item before after_it
-  heard_item tells = record {
-    grows = λ p can may.
-        subst (λ (d : Option (List ℕ)). LayersStand m new (heard_at (rules_of m old) item.slot d (taken_at item p))) (sym (delivers p can))
-        (tells.grows (taken_at item p) (can_tell p can may));
-    made = λ p can may.
-        appended_more before between after_it
-        (news_at (rules_of m old).casts item.slot (p.calls item.slot) (Take item))
-        (told_news (rules_of m old) (Hear item.slot told_value) (taken_at item p))
-        (made_by (rules_of m old) (Took item) p)
-        (takes.made p.calls (can_take p can))
-        (tells.made (taken_at item p) (can_tell p can may))
-        (ap (λ (d : Option (List ℕ)). news_at (rules_of m old).casts item.slot (p.calls item.slot) (Take item) ++ heard_news (rules_of m old) item.slot d (taken_at item p)) (delivers p can));
-    counts = λ p can. takes.counts p.calls (can_take p can);
-  }
+  -- ---- an item that delivers nothing
+  pub quiet_item : (old : Layers S E C T) (casts : SlotMap (Cast E)) (item : Item) (before after_it : List Msg) →
+      ((dropped : Slot → Bool) →
+      CastsTake (CastStandsAt old.mode m.cast_stands) (rules_of m old).casts dropped (m.me old.tagger) old.casts casts item before after_it None) →
+      TakesItem m old (record old { casts = casts }) item before after_it
+  quiet_item old casts item before after_it takes =
+      let r = rules_of m old in
+      let quiet : (p : Parts) → CanTakeItem m old item p → item_delivers r item p ≡ None = λ p can.
+      (takes (is_dropped r p.words)).delivered p.calls (can_give m well old item p can) in
+      record {
+        grows = λ p can may proper.
+            subst (λ (d : Option (List ℕ)). LayersStand m (record old { casts = casts }) (heard_at r item.slot d (taken_at item p))) (sym (quiet p can)) (record {
+              service = can.stood.service;
+              casts = (takes (is_dropped r p.words)).grows p.calls (can_give m well old item p can);
+            });
+        made = λ p can may proper.
+            let news = news_at r.casts item.slot (p.calls item.slot) (Take item) in
+            (takes (is_dropped r p.words)).made p.calls (can_give m well old item p can)
+            ∙ ap (λ (ms : List Msg). before ++ ms) (sym (append-nil news)
+            ∙ ap (λ (d : Option (List ℕ)). news ++ heard_news r item.slot d (taken_at item p)) (sym (quiet p can)));
+        outputs = λ p can stood.
+            outputs_same old.mode.root r.casts old.outputs old.outputs (called p.calls item.slot (Take item)) (parts_after r (Took item) p).calls (λ s. refl)
+            (λ s. out_heard m well old item.slot (item_delivers r item p) (taken_at item p) s)
+            (outputs_same old.mode.root r.casts old.outputs old.outputs p.calls (called p.calls item.slot (Take item)) (λ s. refl)
+            (out_quiet r.casts (laws_in old) p.calls item.slot (Take item) (quiet p can)) stood);
+        counts = λ p can. (takes (is_dropped r p.words)).counts p.calls (can_give m well old item p can);
+      }
 
-  -- for want of memory it didn't
-  pub heard_none : MeansWell m → TellsNoLayer m (record old { casts = casts }) new (Hear item.slot told_value) → LayersTakeNone m old new item
-  heard_none well tells = record {
-    shows = λ p can may proper.
-        subst (λ (d : Option (List ℕ)). LayersShow m new (rules_of m old) p (heard_at (rules_of m old) item.slot d (taken_at item p))) (sym (delivers p can))
-        (heard_fails m well old new item p told_value (tells (taken_at item p) (can_tell p can may) proper));
-    counts = λ p can. takes.counts p.calls (can_take p can);
-  }
+  -- ---- an item that delivers
+  module _ (old new : Layers S E C T) (casts : SlotMap (Cast E)) (item : Item)
+      (before between after_it : List Msg) (value told_value : List ℕ)
+      (takes : (dropped : Slot → Bool) →
+      CastsTake (CastStandsAt old.mode m.cast_stands) (rules_of m old).casts dropped (m.me old.tagger) old.casts casts item before between (Some value))
+      (same : told_value ≡ value) (kept : KeepsOutputs (record old { casts = casts }) new) where
+    takes_at : (p : Parts) → CastsTake (CastStandsAt old.mode m.cast_stands) (rules_of m old).casts (is_dropped (rules_of m old) p.words) (m.me old.tagger) old.casts casts item before between
+        (Some value)
+    takes_at p = takes (is_dropped (rules_of m old) p.words)
+
+    delivers : (p : Parts) → CanTakeItem m old item p → item_delivers (rules_of m old) item p ≡ Some told_value
+    delivers p can = (takes_at p).delivered p.calls (can_give m well old item p can) ∙ ap (λ (v : List ℕ). Some v) (sym same)
+
+    can_tell : (p : Parts) → CanTakeItem m old item p → MayFollow (rules_of m old) item.slot (item_delivers (rules_of m old) item p) (taken_at item p)
+        → CanTell m (record old { casts = casts }) (Hear item.slot told_value) (taken_at item p)
+    can_tell p can may = record {
+      is_own = can.is_own;
+      may = subst (λ (d : Option (List ℕ)). MayFollow (rules_of m old) item.slot d (taken_at item p)) (delivers p can) may;
+      stood = record { service = can.stood.service; casts = (takes_at p).grows p.calls (can_give m well old item p can) };
+    }
+
+    -- the service heard that, and it is kept by itself
+    module _ (outputs : Outputs)
+        (tells : TellsLayers m (record old { casts = casts }) new (Hear item.slot told_value) between after_it) where
+      pub heard_item : (leb 3 old.mode.root ≡ false → (s : Slot) → map.get slot_cmp outputs s ≡ cond (is_slot item.slot s) (Some value) (map.get slot_cmp new.outputs s)) →
+          TakesItem m old (record new { outputs = outputs }) item before after_it
+      heard_item put =
+          let r = rules_of m old in
+          record {
+            grows = λ p can may proper.
+                let stood = tells.grows (taken_at item p) (can_tell p can may) proper in
+                subst (λ (d : Option (List ℕ)). LayersStand m (record new { outputs = outputs }) (heard_at r item.slot d (taken_at item p))) (sym (delivers p can))
+                (record { service = stood.service; casts = stood.casts });
+            made = λ p can may proper.
+                appended_more before between after_it
+                (news_at r.casts item.slot (p.calls item.slot) (Take item))
+                (told_news r (Hear item.slot told_value) (taken_at item p))
+                (made_by r (Took item) p)
+                ((takes_at p).made p.calls (can_give m well old item p can))
+                (tells.made (taken_at item p) (can_tell p can may) proper)
+                (ap (λ (d : Option (List ℕ)). news_at r.casts item.slot (p.calls item.slot) (Take item) ++ heard_news r item.slot d (taken_at item p)) (delivers p can));
+            outputs = λ p can stood.
+                outputs_same old.mode.root r.casts outputs outputs (called p.calls item.slot (Take item)) (parts_after r (Took item) p).calls (λ s. refl)
+                (λ s. out_heard m well old item.slot (item_delivers r item p) (taken_at item p) s)
+                (outputs_put r.casts (laws_in old) p.calls item.slot (Take item) old.mode.root new.outputs outputs value
+                (outputs_same old.mode.root r.casts old.outputs new.outputs p.calls p.calls kept (λ s. refl) stood) put
+                ((takes_at p).delivered p.calls (can_give m well old item p can)));
+            counts = λ p can. (takes_at p).counts p.calls (can_give m well old item p can);
+          }
+
+      -- for want of memory it isn't kept
+      pub unkept_item : SameSeat old new → ((s : Slot) → map.get slot_cmp outputs s ≡ map.get slot_cmp new.outputs s) →
+          LayersTakeNone m old (record new { outputs = outputs }) item
+      unkept_item seat same_outputs =
+          let r = rules_of m old in
+          record {
+            shows = λ p can may proper.
+                let stood = tells.grows (taken_at item p) (can_tell p can may) proper in
+                layers_later m well (record new { outputs = outputs }) r (same_rules m old new seat) p (parts_after r (Took item) p)
+                (subst (λ (d : Option (List ℕ)). LayersStand m (record new { outputs = outputs }) (heard_at r item.slot d (taken_at item p))) (sym (delivers p can))
+                (record { service = stood.service; casts = stood.casts }))
+                (take_part m well r refl item p may proper);
+            outputs = λ s. same_outputs s ∙ kept s;
+            counts = λ p can. (takes_at p).counts p.calls (can_give m well old item p can);
+          }
+
+    -- for want of memory the service didn't hear it
+    pub heard_none : TellsNoLayer m (record old { casts = casts }) new (Hear item.slot told_value) → LayersTakeNone m old new item
+    heard_none tells = record {
+      shows = λ p can may proper.
+          subst (λ (d : Option (List ℕ)). LayersShow m new (rules_of m old) p (heard_at (rules_of m old) item.slot d (taken_at item p))) (sym (delivers p can))
+          (heard_fails m well old new item p told_value (tells (taken_at item p) (can_tell p can may) proper));
+      outputs = kept;
+      counts = λ p can. (takes_at p).counts p.calls (can_give m well old item p can);
+    }

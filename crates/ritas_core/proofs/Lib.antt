@@ -7,6 +7,9 @@ pub mod Lookup
 pub mod Due
 pub mod Window
 pub mod ShownSlots
+pub mod DropSteps
+pub mod Dropping
+pub mod Keeping
 pub mod CallsTaken
 pub mod Once
 pub mod CoreLaws
@@ -16,11 +19,11 @@ mod CastSteps
 pub mod Starts
 pub mod ShownLayers
 pub mod Means
-pub mod LayerSteps
 pub mod SendSteps
 pub mod HeldSteps
 pub mod Items
 pub mod CoreSteps
+pub mod LayerSteps
 pub mod JudgeSteps
 pub mod CallSteps
 pub mod PassSteps

@@ -1,5 +1,5 @@
 -- What becomes of an item that the layers were given.
-use Rattle.std.proofs.Common.{ℕ, true, Ok, Err, List, [], refl, ap, subst}
+use Rattle.std.proofs.Common.{ℕ, true, Ok, Err, List, [], refl, ◌∙◌, ap, subst, inl}
 use Rattle.ritas_base.specs.declared.bytes.Mem.{Mem}
 use Rattle.ritas_base.specs.declared.item.Item.{Item}
 use Rattle.ritas_base.specs.declared.item.Msg.{Msg}
@@ -11,12 +11,12 @@ use Rattle.ritas_core.specs.declared.verdict.Verdict.TheVariants as verdicts
 use Rattle.ritas_core.specs.declared.layers.Layers.{Layers}
 use Rattle.ritas_core.specs.declared.kernel.Core.{Core}
 use Rattle.ritas_core.specs.Stands.{Meaning}
-use Rattle.ritas_core.specs.LayerCalls.{SameSeat, TellsLayers, TellsNoLayer}
+use Rattle.ritas_core.specs.LayerCalls.{SameSeat, KeepsOutputs, TellsLayers, TellsNoLayer}
 use Rattle.ritas_core.specs.CoreCalls.{rules_in, Finishes, Withdraws, StopsCore, GivesLayers, DoesJudged}
 use Rattle.ritas_core.specs.Parts.{Took, Given, parts}
 use Rattle.ritas_core.proofs.Conditions.{words_proper}
 use Rattle.ritas_core.proofs.ShownLayers.{MeansWell}
-use Rattle.ritas_core.proofs.CoreSteps.{laws_of, may_follow, can_take, can_tell, stops_after, enters_item}
+use Rattle.ritas_core.proofs.CoreSteps.{laws_of, may_follow, can_take, can_tell, input_outputs, stops_after, enters_item}
 use Rattle.ritas_core.proofs.CallSteps.{took_does, stops_does}
 
 module _ {S E C T : Type 0} (m : Meaning S E C T) (well : MeansWell m) where
@@ -40,7 +40,9 @@ module _ {S E C T : Type 0} (m : Meaning S E C T) (well : MeansWell m) where
       stops_after m well old new mid.layers (Took item) before after_it gives_it.seat
       (subst (λ (core : Core S E C T). Withdraws core new before after_it) gives_it.rest back)
       (λ st is may. gives_it.given.grows (parts r st.history) (can_take m well old item st is may)
-      (may_follow r (laws_of m well old.layers old st is.stands) st.history is.stands.history item may)) in
+      (may_follow r (laws_of m well old.layers old st is.stands) st.history is.stands.history item may)
+      (words_proper r (laws_of m well old.layers old st is.stands) st.history is.stands.history))
+      (λ st is may. gives_it.given.outputs (parts r st.history) (can_take m well old item st is may) (is.stands.outputs is.live)) in
       stops_does m old new item before after_it stops gives_it.given.counts
 
   -- or for the layers
@@ -54,6 +56,7 @@ module _ {S E C T : Type 0} (m : Meaning S E C T) (well : MeansWell m) where
             let laws = laws_of m well old.layers old st is.stands in
             gives_it.given.shows (parts r st.history) (can_take m well old item st is may) (may_follow r laws st.history is.stands.history item may)
             (words_proper r laws st.history is.stands.history);
+        outputs = λ st is may low s. inl (gives_it.given.outputs s ∙ is.stands.outputs is.live low s);
         inbox = ap (λ (core : Core S E C T). core.inbox.items) gives_it.rest;
         held = ap (λ (core : Core S E C T). core.held) gives_it.rest;
         out = refl;
@@ -61,15 +64,16 @@ module _ {S E C T : Type 0} (m : Meaning S E C T) (well : MeansWell m) where
       stops_does m old mid item sent sent stops gives_it.given.counts
 
   -- an input that the layers had no memory for
-  pub input_fails : (old : Core S E C T) (mid : Layers S E C T) (value : List ℕ) (sent : List Msg) → SameSeat old.layers mid →
+  pub input_fails : (old : Core S E C T) (mid : Layers S E C T) (value : List ℕ) (sent : List Msg) → SameSeat old.layers mid → KeepsOutputs old.layers mid →
       TellsNoLayer m old.layers mid (Ask value) → StopsCore m old (record old { layers = mid }) (Given value) sent sent
-  input_fails old mid value sent seat tells =
+  input_fails old mid value sent seat kept tells =
       let r = rules_in m old in
       record {
         seat = seat;
         shows = λ st is may.
             let laws = laws_of m well old.layers old st is.stands in
             tells (parts r st.history) (can_tell m well old value st is may) (words_proper r laws st.history is.stands.history);
+        outputs = λ st is may low s. inl (kept s ∙ is.stands.outputs is.live low s);
         inbox = refl;
         held = refl;
         out = refl;
@@ -77,8 +81,10 @@ module _ {S E C T : Type 0} (m : Meaning S E C T) (well : MeansWell m) where
 
   -- or there was none for what was made
   pub input_withdraws : (old new : Core S E C T) (mid : Layers S E C T) (value : List ℕ) (start made before after_it : List Msg) → SameSeat old.layers mid →
-      TellsLayers m old.layers mid (Ask value) start made → Withdraws (record old { layers = mid }) new before after_it →
+      KeepsOutputs old.layers mid → TellsLayers m old.layers mid (Ask value) start made → Withdraws (record old { layers = mid }) new before after_it →
       StopsCore m old new (Given value) before after_it
-  input_withdraws old new mid value start made before after_it seat tells back =
+  input_withdraws old new mid value start made before after_it seat kept tells back =
       stops_after m well old new mid (Given value) before after_it seat back
-      (λ st is may. tells.grows (parts (rules_in m old) st.history) (can_tell m well old value st is may))
+      (λ st is may. tells.grows (parts (rules_in m old) st.history) (can_tell m well old value st is may)
+      (words_proper (rules_in m old) (laws_of m well old.layers old st is.stands) st.history is.stands.history))
+      (λ st is may. input_outputs m well old mid value st is kept)

@@ -1,12 +1,12 @@
 -- What the broadcasts of a replica show as delivered.
 use Rattle.std.proofs.Common.{◌≡◌, ℕ, Bool, true, false, cond, Option, Some, None, List, [], ◌∷◌, ◌⊎◌, inl, inr, refl, sym, ◌∙◌, ap, subst}
-use Rattle.std.specs.BTreeMap.{BTreeMap, get}
+use Rattle.std.specs.FinMap.{get}
 use Rattle.ritas_base.specs.declared.slot.Slot.{Slot}
 use Rattle.ritas_base.specs.declared.mode.Mode.{Mode}
 use Rattle.ritas_base.specs.declared.item.Item.{Item}
 use Rattle.ritas_base.specs.declared.item.Msg.{Msg}
 use Rattle.ritas_base.specs.declared.item.Say.{Say}
-use Rattle.ritas_base.specs.SlotOrder.{slot_cmp, is_slot, same_slot}
+use Rattle.ritas_base.specs.SlotOrder.{is_slot, same_slot}
 use Rattle.ritas_base.specs.Messages.{Place}
 use Rattle.ritas_base.specs.Numbers.{Numbers}
 use Rattle.ritas_base.specs.Tags.{Tags}
@@ -14,6 +14,7 @@ use Rattle.ritas_base.specs.History.{Call, Start, Take}
 use Rattle.layer_api.specs.Broadcast.{BroadcastRules, Tagging}
 use Rattle.layer_api.specs.BroadcastCalls.{CastShown, ShowsCast, TakesNew, TakesNone}
 use Rattle.layer_api.specs.OneValue.{ValueLaws}
+use Rattle.instance_tree.specs.SlotMaps.{SlotMap}
 use Rattle.ritas_core.specs.declared.cast.Cast.{Cast}
 use Rattle.ritas_core.specs.Rules.{CastRules, route_of, casts_by, place_at, out_at_slot}
 use Rattle.ritas_core.specs.RulesLaws.{laws_at}
@@ -28,18 +29,6 @@ module _ {E : Type 0} (mode : Mode) (stands : E → Place → Tags → List Call
   abbrev Casts : CastRules
   Casts = casts_by mode numbers me tags rules
 
-  shown_at : (casts : BTreeMap Slot (Cast E)) (h : Slot → List Call) → CastsStand (CastStandsAt mode stands) Casts casts h →
-      (s : Slot) (o : Option (Cast E)) → get slot_cmp casts s ≡ o → shown_out (shown_by_cast shown) o ≡ out_at_slot Casts s (h s)
-  shown_at casts h stood s None none =
-      sym (ap (λ (l : List Call). out_at_slot Casts s l) (stood.unmade s none) ∙ (laws_at mode rules values s).out_nothing (place_at Casts s) tags)
-  shown_at casts h stood s (Some b) some =
-      (shows_at stands rules live shown shows (route_of mode s) b (place_at Casts s) tags (h s) (stood.made s b some)).out
-
-  -- each slot of a map shows what it delivers by the calls that the map stands for
-  pub stands_shown : (casts : BTreeMap Slot (Cast E)) (h : Slot → List Call) → CastsStand (CastStandsAt mode stands) Casts casts h →
-      CastsShowAt (shown_by_cast shown) Casts casts h
-  stands_shown casts h stood s = shown_at casts h stood s (get slot_cmp casts s) refl
-
   -- to start delivers nothing
   pub out_called : (h : Slot → List Call) (x s : Slot) (v : List ℕ) (b : Bool) → is_slot x s ≡ b → out_at_slot Casts s (cond b (Start v ∷ h s) (h s)) ≡ out_at_slot Casts s (h s)
   out_called h x s v true here = (laws_at mode rules values s).out_start (place_at Casts s) tags (h s) v
@@ -50,38 +39,52 @@ module _ {E : Type 0} (mode : Mode) (stands : E → Place → Tags → List Call
   out_started (say ∷ says) h s =
       out_started says (called h say.slot (Start say.value)) s ∙ out_called h say.slot s say.value (is_slot say.slot s) refl
 
-  -- a map that shows so, with another value put at one slot
-  module _ (m n : BTreeMap Slot (Cast E)) (h : Slot → List Call) (x : Slot) (new : Cast E) (exact : CastsShowAt (shown_by_cast shown) Casts m h)
-      (put : (s : Slot) → get slot_cmp n s ≡ cond (is_slot x s) (Some new) (get slot_cmp m s)) where
-    abbrev Now : Slot → Option (List ℕ)
-    Now s = shown_out (shown_by_cast shown) (get slot_cmp n s)
+  module _ (dropped : Slot → Bool) where
+    shown_at : (casts : SlotMap (Cast E)) (h : Slot → List Call) → CastsStand (CastStandsAt mode stands) Casts dropped casts h →
+        (s : Slot) (o : Option (Cast E)) → dropped s ≡ false → get casts s ≡ o → shown_out (shown_by_cast shown) o ≡ out_at_slot Casts s (h s)
+    shown_at casts h stood s None near none =
+        sym (ap (λ (l : List Call). out_at_slot Casts s l) (stood.unmade s near none) ∙ (laws_at mode rules values s).out_nothing (place_at Casts s) tags)
+    shown_at casts h stood s (Some b) near some =
+        (shows_at stands rules live shown shows (route_of mode s) b (place_at Casts s) tags (h s) (stood.made s b some)).out
 
-    exact_at : (shown_by_cast shown new).out ≡ out_at_slot Casts x (h x) → (s : Slot) (b : Bool) → is_slot x s ≡ b → get slot_cmp n s ≡ cond b (Some new) (get slot_cmp m s) →
-        Now s ≡ out_at_slot Casts s (h s)
-    exact_at there s true here at = subst (λ (q : Slot). Now s ≡ out_at_slot Casts q (h q)) (same_slot x s here) (ap (λ (o : Option (Cast E)). shown_out (shown_by_cast shown) o) at ∙ there)
-    exact_at there s false here at = ap (λ (o : Option (Cast E)). shown_out (shown_by_cast shown) o) at ∙ exact s
+    -- each slot of a map shows what it delivers by the calls that the map stands for
+    pub stands_shown : (casts : SlotMap (Cast E)) (h : Slot → List Call) → CastsStand (CastStandsAt mode stands) Casts dropped casts h →
+        CastsShowAt (shown_by_cast shown) Casts dropped casts h
+    stands_shown casts h stood s near = shown_at casts h stood s (get casts s) near refl
 
-    pub put_shown : (shown_by_cast shown new).out ≡ out_at_slot Casts x (h x) → CastsShowAt (shown_by_cast shown) Casts n h
-    put_shown there s = exact_at there s (is_slot x s) refl (put s)
+    -- a map that shows so, with another value put at one slot
+    module _ (m n : SlotMap (Cast E)) (h : Slot → List Call) (x : Slot) (new : Cast E) (exact : CastsShowAt (shown_by_cast shown) Casts dropped m h)
+        (put : (s : Slot) → get n s ≡ cond (is_slot x s) (Some new) (get m s)) where
+      abbrev Now : Slot → Option (List ℕ)
+      Now s = shown_out (shown_by_cast shown) (get n s)
 
-    module _ (later : Slot → List Call) where
-      either_at : ((shown_by_cast shown new).out ≡ out_at_slot Casts x (h x)) ⊎ ((shown_by_cast shown new).out ≡ out_at_slot Casts x (later x)) → (s : Slot) (b : Bool) → is_slot x s ≡ b →
-          get slot_cmp n s ≡ cond b (Some new) (get slot_cmp m s) → (Now s ≡ out_at_slot Casts s (h s)) ⊎ (Now s ≡ out_at_slot Casts s (later s))
-      either_at there s true here at =
-          subst (λ (q : Slot). (Now s ≡ out_at_slot Casts q (h q)) ⊎ (Now s ≡ out_at_slot Casts q (later q))) (same_slot x s here) (elim there [
-            | inl e ↦ inl (ap (λ (o : Option (Cast E)). shown_out (shown_by_cast shown) o) at ∙ e)
-            | inr e ↦ inr (ap (λ (o : Option (Cast E)). shown_out (shown_by_cast shown) o) at ∙ e)
-          ])
-      either_at there s false here at = inl (ap (λ (o : Option (Cast E)). shown_out (shown_by_cast shown) o) at ∙ exact s)
+      exact_at : (shown_by_cast shown new).out ≡ out_at_slot Casts x (h x) → (s : Slot) (b : Bool) → dropped s ≡ false → is_slot x s ≡ b → get n s ≡ cond b (Some new) (get m s) →
+          Now s ≡ out_at_slot Casts s (h s)
+      exact_at there s true near here at = subst (λ (q : Slot). Now s ≡ out_at_slot Casts q (h q)) (same_slot x s here) (ap (λ (o : Option (Cast E)). shown_out (shown_by_cast shown) o) at ∙ there)
+      exact_at there s false near here at = ap (λ (o : Option (Cast E)). shown_out (shown_by_cast shown) o) at ∙ exact s near
 
-      pub put_either : ((shown_by_cast shown new).out ≡ out_at_slot Casts x (h x)) ⊎ ((shown_by_cast shown new).out ≡ out_at_slot Casts x (later x)) →
-          CastsShow (shown_by_cast shown) Casts n h later
-      put_either there s = either_at there s (is_slot x s) refl (put s)
+      pub put_shown : (shown_by_cast shown new).out ≡ out_at_slot Casts x (h x) → CastsShowAt (shown_by_cast shown) Casts dropped n h
+      put_shown there s near = exact_at there s (is_slot x s) near refl (put s)
 
-  -- a map with the same values
-  pub same_shown : (m n : BTreeMap Slot (Cast E)) (h : Slot → List Call) → CastsShowAt (shown_by_cast shown) Casts m h →
-      ((s : Slot) → get slot_cmp n s ≡ get slot_cmp m s) → CastsShowAt (shown_by_cast shown) Casts n h
-  same_shown m n h exact same s = ap (λ (o : Option (Cast E)). shown_out (shown_by_cast shown) o) (same s) ∙ exact s
+      module _ (later : Slot → List Call) where
+        either_at : ((shown_by_cast shown new).out ≡ out_at_slot Casts x (h x)) ⊎ ((shown_by_cast shown new).out ≡ out_at_slot Casts x (later x)) → (s : Slot) (b : Bool) →
+            dropped s ≡ false → is_slot x s ≡ b →
+            get n s ≡ cond b (Some new) (get m s) → (Now s ≡ out_at_slot Casts s (h s)) ⊎ (Now s ≡ out_at_slot Casts s (later s))
+        either_at there s true near here at =
+            subst (λ (q : Slot). (Now s ≡ out_at_slot Casts q (h q)) ⊎ (Now s ≡ out_at_slot Casts q (later q))) (same_slot x s here) (elim there [
+              | inl e ↦ inl (ap (λ (o : Option (Cast E)). shown_out (shown_by_cast shown) o) at ∙ e)
+              | inr e ↦ inr (ap (λ (o : Option (Cast E)). shown_out (shown_by_cast shown) o) at ∙ e)
+            ])
+        either_at there s false near here at = inl (ap (λ (o : Option (Cast E)). shown_out (shown_by_cast shown) o) at ∙ exact s near)
+
+        pub put_either : ((shown_by_cast shown new).out ≡ out_at_slot Casts x (h x)) ⊎ ((shown_by_cast shown new).out ≡ out_at_slot Casts x (later x)) →
+            CastsShow (shown_by_cast shown) Casts dropped n h later
+        put_either there s near = either_at there s (is_slot x s) near refl (put s)
+
+    -- a map with the same values
+    pub same_shown : (m n : SlotMap (Cast E)) (h : Slot → List Call) → CastsShowAt (shown_by_cast shown) Casts dropped m h →
+        ((s : Slot) → get n s ≡ get m s) → CastsShowAt (shown_by_cast shown) Casts dropped n h
+    same_shown m n h exact same s near = ap (λ (o : Option (Cast E)). shown_out (shown_by_cast shown) o) (same s) ∙ exact s near
 
 -- ---- one broadcast without memory
 module _ {B : Type 0} (stands : B → Place → Tags → List Call → Type 0) (r : BroadcastRules) (shown : B → CastShown) (t : Tagging) (old new : B) (item : Item)

@@ -1,8 +1,9 @@
 -- What the layers of a core show.
-use Rattle.std.proofs.Common.{◌≡◌, ℕ, Bool, true, Option, Some, None, List, [], ◌∷◌, inl, inr, refl, sym, ◌∙◌, subst}
-use Rattle.std.specs.BTreeMap.{BTreeMap}
+use Rattle.std.proofs.Common.{◌≡◌, ℕ, Bool, true, Option, Some, None, List, [], ◌∷◌, ◌++◌, inl, inr, refl, sym, ◌∙◌, ap, subst}
 use Rattle.ritas_base.specs.declared.slot.Slot.{Slot}
 use Rattle.ritas_base.specs.declared.item.Item.{Item}
+use Rattle.ritas_base.specs.declared.item.Msg.{Msg}
+use Rattle.ritas_base.specs.declared.item.Say.{Say}
 use Rattle.ritas_base.specs.Messages.{Place}
 use Rattle.ritas_base.specs.Tags.{Tags}
 use Rattle.ritas_base.specs.History.{Call}
@@ -11,18 +12,21 @@ use Rattle.layer_api.specs.OneValue.{ValueLaws}
 use Rattle.layer_api.specs.Service.{ServiceRules, Seat, WordLaws, AreProper, IsPart}
 use Rattle.layer_api.specs.Words.{Word, Ask, Hear}
 use Rattle.layer_api.specs.ServiceCalls.{ServiceShown, Shows, ShowsBetween}
+use Rattle.instance_tree.specs.SlotMaps.{SlotMap}
 use Rattle.ritas_core.specs.declared.layers.Layers.{Layers}
 use Rattle.ritas_core.specs.declared.cast.Cast.{Cast}
 use Rattle.ritas_core.specs.Rules.{Rules, seat_of, out_at_slot}
 use Rattle.ritas_core.specs.SlotCast.{CastStandsAt, shown_by_cast}
-use Rattle.ritas_core.specs.Casts.{CastsShowAt}
-use Rattle.ritas_core.specs.CastCalls.{CanTake, CastsFail}
+use Rattle.ritas_core.specs.Drops.{is_dropped, is_dropped_shown, DropsPast}
+use Rattle.ritas_core.specs.Casts.{CastsStand, CastsShowAt, MayStartAll, started_all, start_news}
+use Rattle.ritas_core.specs.CastCalls.{CanStartAll, StartsCasts, StartsFewer, CanTake, CastsFail}
 use Rattle.ritas_core.specs.Parts.{Parts, Entry, Took, Given, parts, service_told, heard_at, taken_at, item_delivers}
 use Rattle.ritas_core.specs.Checks.{IsHistory}
 use Rattle.ritas_core.specs.Laws.{LayerLaws}
 use Rattle.ritas_core.specs.Stands.{Meaning, rules_of, LayersStand, LayersShow}
-use Rattle.ritas_core.specs.LayerCalls.{MayTell, MayFollow, CanTell, TellsNoLayer, CanTakeItem, LayersTakeNone}
+use Rattle.ritas_core.specs.LayerCalls.{MayTell, MayFollow, WereProper, CanTell, TellsLayers, TellsNoLayer, CanTakeItem, LayersTakeNone}
 use Rattle.ritas_core.proofs.Conditions.{words_proper}
+use Rattle.ritas_core.proofs.DropSteps.{not_dropped, dropped_same, dropped_between, dropped_stays, casts_alike, casts_fewer}
 use Rattle.ritas_core.proofs.ShownCasts.{stands_shown, out_started}
 
 -- the traits' laws hold of what they say
@@ -80,6 +84,11 @@ entry_part r laws h (Took item) met =
     heard_part r laws.words item.slot (item_delivers r item (parts r h)) (taken_at item (parts r h)) (words_proper r laws (Took item ∷ h) met)
 entry_part r laws h (Given v) met = done_part r.service laws.words (seat_of r) (Ask v) (parts r h).words (words_proper r laws (Given v ∷ h) met)
 
+-- what is newly said by a word may be started
+may_start_said : (r : Rules) (word : Word) (p : Parts) → MayTell r word p → MayStartAll r.casts (r.service.says (seat_of r) p.words word) p.calls
+may_start_said r (Ask v) p may = may.1
+may_start_said r (Hear s v) p may = may.1
+
 -- words with one more that may come are proper
 proper_told : (r : Rules) (word : Word) (p : Parts) → MayTell r word p → AreProper r.service (seat_of r) p.words → AreProper r.service (seat_of r) (word ∷ p.words)
 proper_told r (Ask v) p may proper = (may.0, proper)
@@ -92,9 +101,19 @@ proper_heard r s (Some v) p may proper = (may.0, proper)
 
 module _ {S E C T : Type 0} (m : Meaning S E C T) (well : MeansWell m) where
   -- ---- layers that stand for some parts
-  exact : (layers : Layers S E C T) (p : Parts) → LayersStand m layers p → CastsShowAt (shown_by_cast m.cast_shown) (rules_of m layers).casts layers.casts p.calls
+  exact : (layers : Layers S E C T) (p : Parts) → LayersStand m layers p →
+      CastsShowAt (shown_by_cast m.cast_shown) (rules_of m layers).casts (is_dropped (rules_of m layers) p.words) layers.casts p.calls
   exact layers p stood =
-      stands_shown layers.mode m.cast_stands m.cast well.live m.cast_shown well.cast_shows well.values layers.params layers.me (m.tags layers.tagger) layers.casts p.calls stood.casts
+      stands_shown layers.mode m.cast_stands m.cast well.live m.cast_shown well.cast_shows well.values layers.params layers.me (m.tags layers.tagger)
+      (is_dropped (rules_of m layers) p.words) layers.casts p.calls stood.casts
+
+  -- by what the service shows
+  pub exact_shown : (layers : Layers S E C T) (p : Parts) → LayersStand m layers p →
+      CastsShowAt (shown_by_cast m.cast_shown) (rules_of m layers).casts (is_dropped_shown (m.service_shown layers.service) layers.params.n) layers.casts p.calls
+  exact_shown layers p stood s near =
+      exact layers p stood s
+      (sym (dropped_same (rules_of m layers) p.words (m.service_shown layers.service) s
+      (well.service_shows layers.service (seat_of (rules_of m layers)) p.words stood.service)) ∙ near)
 
   pub layers_show : (layers : Layers S E C T) (r : Rules) → rules_of m layers ≡ r → (p : Parts) → LayersStand m layers p → LayersShow m layers r p p
   layers_show layers r same p stood =
@@ -102,7 +121,7 @@ module _ {S E C T : Type 0} (m : Meaning S E C T) (well : MeansWell m) where
       subst (λ (q : Rules). LayersShow m layers q p p) same (record {
         service = between_now m.service seat p.words p.words (m.service_shown layers.service) (part_itself (m.service.done seat p.words))
             (well.service_shows layers.service seat p.words stood.service);
-        casts = λ s. inl (exact layers p stood s);
+        casts = λ s near. inl (exact_shown layers p stood s near);
       })
 
   -- the later ones of two
@@ -114,54 +133,123 @@ module _ {S E C T : Type 0} (m : Meaning S E C T) (well : MeansWell m) where
       (λ part. record {
         service = between_later m.service seat p.words later.words (m.service_shown layers.service) part
             (well.service_shows layers.service seat later.words stood.service);
-        casts = λ s. inr (exact layers later stood s);
+        casts = λ s near. inr (exact_shown layers later stood s near);
       }) part
 
   -- ---- a word that the service had no memory for, or what it says to that
   pub service_fails : (old : Layers S E C T) (service : S) (word : Word) →
       ((p : Parts) → CanTell m old word p → ShowsBetween m.service (seat_of (rules_of m old)) p.words (word ∷ p.words) (m.service_shown service)) →
       TellsNoLayer m old (record old { service = service }) word
-  service_fails old service word near p can proper = record { service = near p can; casts = λ s. inl (exact old p can.stood s) }
-
-  pub starts_fail : (old : Layers S E C T) (service : S) (casts : BTreeMap Slot (Cast E)) (word : Word) →
-      ((p : Parts) → CanTell m old word p → m.service_stands service (seat_of (rules_of m old)) (word ∷ p.words)) →
-      ((p : Parts) → CanTell m old word p → CastsShowAt (shown_by_cast m.cast_shown) (rules_of m old).casts casts p.calls) →
-      TellsNoLayer m old (record old { service = service; casts = casts }) word
-  starts_fail old service casts word grows fewer p can proper =
-      let seat = seat_of (rules_of m old) in
+  service_fails old service word near p can proper =
+      let r = rules_of m old in
       record {
-        service = between_later m.service seat p.words (word ∷ p.words) (m.service_shown service)
-            (done_part m.service well.words seat word p.words (proper_told (rules_of m old) word p can.may proper))
-            (well.service_shows service seat (word ∷ p.words) (grows p can));
-        casts = λ s. inl (fewer p can s);
+        service = near p can;
+        casts = λ s far. inl (exact old p can.stood s
+            (dropped_between r p.words (m.service_shown service) s well.words word (proper_told r word p can.may proper) (near p can) far));
       }
 
+  -- what the service says to a word is started, after what is past by it was dropped
+  module _ (old : Layers S E C T) (service : S) (mid casts : SlotMap (Cast E)) (word : Word) (says : List Say)
+      (grows : (p : Parts) → CanTell m old word p → m.service_stands service (seat_of (rules_of m old)) (word ∷ p.words))
+      (said : (p : Parts) → CanTell m old word p → says ≡ m.service.says (seat_of (rules_of m old)) p.words word)
+      (drops : DropsPast (is_dropped_shown (m.service_shown service) old.params.n) old.params.n old.casts mid) where
+    abbrev Later : Slot → Bool
+    Later = is_dropped_shown (m.service_shown service) old.params.n
+
+    proper_after : (p : Parts) → CanTell m old word p → WereProper m old p → AreProper m.service (seat_of (rules_of m old)) (word ∷ p.words)
+    proper_after p can proper = proper_told (rules_of m old) word p can.may proper
+
+    same_drops : (p : Parts) → CanTell m old word p → (s : Slot) → Later s ≡ is_dropped (rules_of m old) (word ∷ p.words) s
+    same_drops p can s =
+        dropped_same (rules_of m old) (word ∷ p.words) (m.service_shown service) s
+        (well.service_shows service (seat_of (rules_of m old)) (word ∷ p.words) (grows p can))
+
+    may_say : (p : Parts) → CanTell m old word p → MayStartAll (rules_of m old).casts says p.calls
+    may_say p can = subst (λ (xs : List Say). MayStartAll (rules_of m old).casts xs p.calls) (sym (said p can)) (may_start_said (rules_of m old) word p can.may)
+
+    can_start : (p : Parts) → CanTell m old word p → WereProper m old p →
+        CanStartAll (CastStandsAt old.mode m.cast_stands) (rules_of m old).casts Later (m.me old.tagger) mid says p.calls
+    can_start p can proper = record {
+      is_own = can.is_own;
+      may = may_say p can;
+      stood = casts_fewer (CastStandsAt old.mode m.cast_stands) (rules_of m old).casts (is_dropped (rules_of m old) p.words) Later p.calls
+          (λ s past. same_drops p can s ∙ dropped_stays (rules_of m old) well.words word p.words (proper_after p can proper) s past)
+          old.casts mid drops can.stood.casts;
+    }
+
+    pub starts_told : (before after_it : List Msg) →
+        StartsCasts (CastStandsAt old.mode m.cast_stands) (rules_of m old).casts Later (m.me old.tagger) mid casts says before after_it →
+        TellsLayers m old (record old { service = service; casts = casts }) word before after_it
+    starts_told before after_it starts = record {
+      grows = λ p can proper. record {
+        service = grows p can;
+        casts = casts_alike (CastStandsAt old.mode m.cast_stands) (rules_of m old).casts Later (is_dropped (rules_of m old) (word ∷ p.words))
+            (started_all (m.service.says (seat_of (rules_of m old)) p.words word) p.calls) casts (same_drops p can)
+            (subst (λ (xs : List Say). CastsStand (CastStandsAt old.mode m.cast_stands) (rules_of m old).casts Later casts (started_all xs p.calls)) (said p can)
+            (starts.grows p.calls (can_start p can proper)));
+      };
+      made = λ p can proper. starts.made p.calls (can_start p can proper)
+          ∙ ap (λ (xs : List Say). before ++ start_news (rules_of m old).casts xs p.calls) (said p can);
+    }
+
+    pub starts_fail :
+        StartsFewer (CastStandsAt old.mode m.cast_stands) (shown_by_cast m.cast_shown) (rules_of m old).casts Later (m.me old.tagger) mid casts says →
+        TellsNoLayer m old (record old { service = service; casts = casts }) word
+    starts_fail fewer p can proper =
+        let seat = seat_of (rules_of m old) in
+        record {
+          service = between_later m.service seat p.words (word ∷ p.words) (m.service_shown service)
+              (done_part m.service well.words seat word p.words (proper_after p can proper))
+              (well.service_shows service seat (word ∷ p.words) (grows p can));
+          casts = λ s near. inl (fewer p.calls (can_start p can proper) s near);
+        }
+
   -- ---- an item that its broadcast had no memory for
-  out_heard : (layers : Layers S E C T) (x : Slot) (d : Option (List ℕ)) (p : Parts) (s : Slot) →
+  pub out_heard : (layers : Layers S E C T) (x : Slot) (d : Option (List ℕ)) (p : Parts) (s : Slot) →
       out_at_slot (rules_of m layers).casts s ((heard_at (rules_of m layers) x d p).calls s) ≡ out_at_slot (rules_of m layers).casts s (p.calls s)
   out_heard layers x None p s = refl
   out_heard layers x (Some v) p s =
       out_started layers.mode m.cast_stands m.cast well.live m.cast_shown well.cast_shows well.values layers.params layers.me (m.tags layers.tagger)
       (m.service.says (seat_of (rules_of m layers)) p.words (Hear x v)) p.calls s
 
-  pub cast_fails : (old : Layers S E C T) (casts : BTreeMap Slot (Cast E)) (item : Item) →
-      CastsFail (CastStandsAt old.mode m.cast_stands) (shown_by_cast m.cast_shown) (rules_of m old).casts (m.me old.tagger) old.casts casts item →
+  pub take_part : (r : Rules) → r.service ≡ m.service → (item : Item) (p : Parts) → MayFollow r item.slot (item_delivers r item p) (taken_at item p) →
+      AreProper r.service (seat_of r) p.words →
+      IsPart (r.service.done (seat_of r) p.words) (r.service.done (seat_of r) (heard_at r item.slot (item_delivers r item p) (taken_at item p)).words)
+  take_part r is item p follow proper =
+      heard_part r (subst (λ (q : ServiceRules). WordLaws q) (sym is) well.words) item.slot (item_delivers r item p) (taken_at item p)
+      (proper_heard r item.slot (item_delivers r item p) (taken_at item p) follow proper)
+
+  pub can_give : (old : Layers S E C T) (item : Item) (p : Parts) → CanTakeItem m old item p →
+      CanTake (CastStandsAt old.mode m.cast_stands) (rules_of m old).casts (is_dropped (rules_of m old) p.words) (m.me old.tagger) old.casts item p.calls
+  can_give old item p can = record {
+    is_own = can.is_own;
+    origin = can.origin;
+    near = not_dropped (rules_of m old) p.words item.slot can.near;
+    may = can.may;
+    stood = can.stood.casts;
+  }
+
+  pub cast_fails : (old : Layers S E C T) (casts : SlotMap (Cast E)) (item : Item) →
+      ((dropped : Slot → Bool) →
+      CastsFail (CastStandsAt old.mode m.cast_stands) (shown_by_cast m.cast_shown) (rules_of m old).casts dropped (m.me old.tagger) old.casts casts item) →
       LayersTakeNone m old (record old { casts = casts }) item
   cast_fails old casts item fails =
       let r = rules_of m old in
-      let can_take : (p : Parts) → CanTakeItem m old item p → CanTake (CastStandsAt old.mode m.cast_stands) r.casts (m.me old.tagger) old.casts item p.calls = λ p can.
-      record { is_own = can.is_own; origin = can.origin; may = can.may; stood = can.stood.casts } in
       record {
         shows = λ p can follow proper.
             let d = item_delivers r item p in
             let q = taken_at item p in
             record {
               service = between_now m.service (seat_of r) p.words (heard_at r item.slot d q).words (m.service_shown old.service)
-                  (heard_part r well.words item.slot d q (proper_heard r item.slot d q follow proper))
+                  (take_part r refl item p follow proper)
                   (well.service_shows old.service (seat_of r) p.words can.stood.service);
-              casts = λ s. elim (fails.shows p.calls (can_take p can) s) [ inl e ↦ inl e | inr e ↦ inr (e ∙ sym (out_heard old item.slot d q s)) ];
+              casts = λ s near.
+                  let far = sym (dropped_same r p.words (m.service_shown old.service) s
+                  (well.service_shows old.service (seat_of r) p.words can.stood.service)) ∙ near in
+                  elim ((fails (is_dropped r p.words)).shows p.calls (can_give old item p can) s far) [ inl e ↦ inl e | inr e ↦ inr (e ∙ sym (out_heard old item.slot d q s)) ];
             };
-        counts = λ p can. fails.counts p.calls (can_take p can);
+        outputs = λ s. refl;
+        counts = λ p can. (fails (is_dropped r p.words)).counts p.calls (can_give old item p can);
       }
 
   -- an item that was taken by its broadcast, where the service had no memory for what that delivers, or for what it says
@@ -170,5 +258,5 @@ module _ {S E C T : Type 0} (m : Meaning S E C T) (well : MeansWell m) where
       LayersShow m new (rules_of m old) p (service_told (rules_of m old) (Hear item.slot v) (taken_at item p))
   heard_fails old new item p v shows = record {
     service = shows.service;
-    casts = λ s. elim (shows.casts s) [ inl e ↦ inr (e ∙ sym (out_heard old item.slot (Some v) (taken_at item p) s)) | inr e ↦ inr e ];
+    casts = λ s near. elim (shows.casts s near) [ inl e ↦ inr (e ∙ sym (out_heard old item.slot (Some v) (taken_at item p) s)) | inr e ↦ inr e ];
   }

@@ -16,8 +16,9 @@ use Rattle.ritas_core.specs.Laws.{LayerLaws}
 use Rattle.ritas_core.specs.HeardLaws.{heard_delivered}
 use Rattle.ritas_core.specs.Machine.{with_entry}
 use Rattle.layer_api.specs.Windows.{is_behind}
-use Rattle.ritas_core.specs.LayerCalls.{mark_shown, is_past_shown, hides_shown}
+use Rattle.ritas_core.specs.Drops.{mark_shown, is_past_shown, hides_shown}
 use Rattle.ritas_core.specs.Shown.{delivered_at, is_hidden, shown_at}
+use Rattle.ritas_core.proofs.TestLaws.{and_false}
 use Rattle.ritas_core.proofs.Conditions.{words_proper}
 use Rattle.ritas_core.proofs.GoodSlots.{slot_origin}
 use Rattle.ritas_core.proofs.Lookup.{was_not_past}
@@ -73,22 +74,22 @@ abbrev ShownBy : Bool → Bool → Option (List ℕ) → Option (List ℕ)
 ShownBy high past d = cond (high && past) None d
 
 between : (high before after past : Bool) (was now d : Option (List ℕ)) → (after ≡ true → now ≡ was) → (after ≡ false → before ≡ false) →
-    (past ≡ before) ⊎ (past ≡ after) → (d ≡ was) ⊎ (d ≡ now) → (ShownBy high past d ≡ ShownBy high before was) ⊎ (ShownBy high past d ≡ ShownBy high after now)
-between false before after past was now d same near hid out = out
+    (past ≡ before) ⊎ (past ≡ after) → ((high && past) ≡ false → (d ≡ was) ⊎ (d ≡ now)) → (ShownBy high past d ≡ ShownBy high before was) ⊎ (ShownBy high past d ≡ ShownBy high after now)
+between false before after past was now d same near hid out = out refl
 between true true false past was now d same near hid out = let wrong = near refl in absurd (cc)
 between true true true past was now d same near hid out = inl (ap (λ (b : Bool). cond b None d) (elim hid [ inl e ↦ e | inr e ↦ e ]))
 between true false false past was now d same near hid out =
     let e : past ≡ false = elim hid [ inl e ↦ e | inr e ↦ e ] in
     let is = ap (λ (b : Bool). cond b None d) e in
-    elim out [ inl q ↦ inl (is ∙ q) | inr q ↦ inr (is ∙ q) ]
+    elim (out e) [ inl q ↦ inl (is ∙ q) | inr q ↦ inr (is ∙ q) ]
 between true false true past was now d same near hid out =
     elim hid [
-      | inl e ↦ inl (ap (λ (b : Bool). cond b None d) e ∙ elim out [ inl q ↦ q | inr q ↦ q ∙ same refl ])
+      | inl e ↦ inl (ap (λ (b : Bool). cond b None d) e ∙ elim (out e) [ inl q ↦ q | inr q ↦ q ∙ same refl ])
       | inr e ↦ inr (ap (λ (b : Bool). cond b None d) e)
     ]
 
 -- a slot is past by the getters where it is by the one or by the other
-past_either : (one : Bool) (a base completed base_before base_after completed_before completed_after : ℕ) →
+pub past_either : (one : Bool) (a base completed base_before base_after completed_before completed_after : ℕ) →
     (base ≡ base_before) ⊎ (base ≡ base_after) → (completed ≡ completed_before) ⊎ (completed ≡ completed_after) →
     (cond one (ltb (a + 64) (cond one base completed)) (ltb (a + 2) (cond one base completed)) ≡ cond one (ltb (a + 64) base_before) (ltb (a + 2) completed_before))
     ⊎ (cond one (ltb (a + 64) (cond one base completed)) (ltb (a + 2) (cond one base completed)) ≡ cond one (ltb (a + 64) base_after) (ltb (a + 2) completed_after))
@@ -109,7 +110,7 @@ none_beyond r laws h met s beyond =
 -- ---- what a slot shows, where the getters of the service and what its broadcast delivered are each by one of two histories
 module _ (r : Rules) (laws : LayerLaws r) (s : Slot) (o : Option Entry) (h : List Entry) (met : IsHistory r h) (whole : IsHistory r (with_entry o h))
     (shown : ServiceShown) (by : ShowsBetween r.service (seat_of r) (parts r h).words (parts r (with_entry o h)).words shown)
-    (d : Option (List ℕ)) (out : (d ≡ delivered_at r h s) ⊎ (d ≡ delivered_at r (with_entry o h) s)) where
+    (d : Option (List ℕ)) (out : hides_shown shown r.casts.numbers.n r.mode.root s ≡ false → (d ≡ delivered_at r h s) ⊎ (d ≡ delivered_at r (with_entry o h) s)) where
   abbrev Shown : Type 0
   Shown =
       (cond (hides_shown shown r.casts.numbers.n r.mode.root s) None d ≡ shown_at r h s)
@@ -125,7 +126,8 @@ module _ (r : Rules) (laws : LayerLaws r) (s : Slot) (o : Option Entry) (h : Lis
   shown_beyond beyond =
       let was = none_beyond r laws h met s beyond in
       let now = none_beyond r laws (with_entry o h) whole s beyond in
-      inl (none_by (hides_shown shown r.casts.numbers.n r.mode.root s) (is_hidden r h s) (elim out [ inl e ↦ e ∙ was | inr e ↦ e ∙ now ]) was)
+      let bare = ap (λ (b : Bool). leb 3 r.mode.root && (b && is_behind s (mark_shown shown s))) beyond ∙ and_false (leb 3 r.mode.root) in
+      inl (none_by (hides_shown shown r.casts.numbers.n r.mode.root s) (is_hidden r h s) (elim (out bare) [ inl e ↦ e ∙ was | inr e ↦ e ∙ now ]) was)
 
   shown_within : ltb s.origin r.casts.numbers.n ≡ true → Shown
   shown_within within =

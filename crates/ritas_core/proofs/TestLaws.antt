@@ -17,6 +17,10 @@ pub right_true : (a b : Bool) → (a && b) ≡ true → b ≡ true
 right_true true b h = h
 right_true false b h = cc
 
+pub and_false : (a : Bool) → (a && false) ≡ false
+and_false true = refl
+and_false false = refl
+
 pub or_flip : (a b : Bool) → (a || b) ≡ (b || a)
 or_flip true true = refl
 or_flip true false = refl

@@ -179,6 +179,8 @@ module _ {S E C T : Type 0} (m : Meaning S E C T) where
             layers = is.stands.layers;
             lost = is.stands.lost;
             shows = is.stands.shows;
+            outputs = is.stands.outputs;
+            shows_outputs = is.stands.shows_outputs;
             inbox = same ∙ is.stands.inbox;
             held = is.stands.held;
             peers = is.stands.peers;

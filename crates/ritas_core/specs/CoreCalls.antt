@@ -14,6 +14,7 @@ use Rattle.ritas_core.specs.declared.verdict.Verdict.{Verdict}
 use Rattle.ritas_core.specs.declared.verdict.Verdict.TheVariants as verdicts
 use Rattle.ritas_core.specs.declared.kernel.Core.{Core}
 use Rattle.ritas_core.specs.Rules.{Rules, place_at}
+use Rattle.ritas_core.specs.Casts.{OutputsShow}
 use Rattle.ritas_core.specs.Parts.{Parts, Entry, Given, parts}
 use Rattle.ritas_core.specs.Order.{ordered, own_items, new_messages}
 use Rattle.ritas_core.specs.Checks.{is_open, is_taken_again, has_room, verdict_on, MayEnter}
@@ -55,6 +56,8 @@ pub record StopsCore {S E C T : Type 0} (m : Meaning S E C T) (old new : Core S 
   pub seat : SameSeat old.layers new.layers
   pub shows : (st : CoreState) → IsLive m old st → MayEnter (rules_in m old) (parts (rules_in m old) st.history) e
       → LayersShow m new.layers (rules_in m old) (parts (rules_in m old) st.history) (parts (rules_in m old) (e ∷ st.history))
+  pub outputs : (st : CoreState) → IsLive m old st → MayEnter (rules_in m old) (parts (rules_in m old) st.history) e
+      → OutputsShow old.layers.mode.root (rules_in m old).casts new.layers.outputs (parts (rules_in m old) st.history).calls (parts (rules_in m old) (e ∷ st.history)).calls
   pub inbox : new.inbox.items ≡ old.inbox.items
   pub held : new.held ≡ old.held
   pub out : after ≡ before

@@ -1,23 +1,23 @@
 -- What calls on the layers do, for all parts that they stand for. Each list has the newest first.
-use Rattle.std.specs.Prelude.{◌≡◌, ℕ, ◌<◌, nat_lt, nat_le, ◌==◌, Bool, true, false, not, ◌&&◌, if◌then◌else◌, Option, Some, None, Result, Ok, Err, List, ◌++◌}
+use Rattle.std.specs.Prelude.{◌≡◌, ℕ, ◌<◌, nat_lt, Bool, true, false, not, ◌&&◌, Option, Some, None, Result, Ok, Err, List, ◌++◌}
+use Rattle.std.specs.BTreeMap.{get}
 use Rattle.ritas_base.specs.declared.bytes.Mem.{Mem}
 use Rattle.ritas_base.specs.declared.slot.Slot.{Slot}
 use Rattle.ritas_base.specs.declared.item.Item.{Item}
 use Rattle.ritas_base.specs.declared.item.Msg.{Msg}
+use Rattle.ritas_base.specs.SlotOrder.{slot_cmp}
 use Rattle.layer_api.specs.declared.broadcast.Heard.{Heard}
 use Rattle.layer_api.specs.declared.broadcast.Heard.TheVariants as heard
 use Rattle.layer_api.specs.Broadcast.{MayTake}
 use Rattle.layer_api.specs.Service.{MayAsk, MayHear, AreProper, is_past}
 use Rattle.layer_api.specs.Words.{Word, Ask, Hear}
-use Rattle.layer_api.specs.ServiceCalls.{ServiceShown}
 use Rattle.ritas_core.specs.declared.layers.Layers.{Layers}
 use Rattle.ritas_core.specs.Rules.{Rules, seat_of, place_at}
-use Rattle.ritas_core.specs.Casts.{MayStartAll}
+use Rattle.ritas_core.specs.Casts.{MayStartAll, OutputsStand}
 use Rattle.ritas_core.specs.CastCalls.{IsOwnTagger, is_ready_in}
 use Rattle.ritas_core.specs.Parts.{Parts, Took, service_told, told_news, taken_at, item_delivers, parts_after, made_by}
 use Rattle.ritas_core.specs.Checks.{is_item_past, is_item_ahead, is_taken_again}
 use Rattle.ritas_core.specs.Stands.{Meaning, rules_of, LayersStand, LayersShow}
-use Rattle.layer_api.specs.Windows.{is_behind}
 
 -- what the service newly says by a word may be started
 abbrev pub MayStartSaid : Rules → Word → Parts → Type 0
@@ -33,13 +33,21 @@ abbrev pub MayFollow : Rules → Slot → Option (List ℕ) → Parts → Type 0
 MayFollow r s None p = Unit {0}
 MayFollow r s (Some value) p = MayTell r (Hear s value) p
 
--- all but the service and the broadcasts stays
+-- all but the service, the broadcasts and the outputs stays
 pub record SameSeat {S E C T : Type 0} (old new : Layers S E C T) : Type 0 where
   pub params : new.params ≡ old.params
   pub mode : new.mode ≡ old.mode
   pub me : new.me ≡ old.me
   pub tagger : new.tagger ≡ old.tagger
   pub coin : new.coin ≡ old.coin
+
+-- the words so far met their conditions
+abbrev pub WereProper : {S E C T : Type 0} → Meaning S E C T → Layers S E C T → Parts → Type 0
+WereProper m layers p = AreProper m.service (seat_of (rules_of m layers)) p.words
+
+-- each slot has the output that it had
+abbrev pub KeepsOutputs : {S E C T : Type 0} → Layers S E C T → Layers S E C T → Type 0
+KeepsOutputs old new = (s : Slot) → get slot_cmp new.outputs s ≡ get slot_cmp old.outputs s
 
 -- the service may have a word
 pub record CanTell {S E C T : Type 0} (m : Meaning S E C T) (layers : Layers S E C T) (word : Word) (p : Parts) : Type 0 where
@@ -49,18 +57,19 @@ pub record CanTell {S E C T : Type 0} (m : Meaning S E C T) (layers : Layers S E
 
 -- it had the word, and what became due by it is put out
 pub record TellsLayers {S E C T : Type 0} (m : Meaning S E C T) (old new : Layers S E C T) (word : Word) (before after_it : List Msg) : Type 0 where
-  pub grows : (p : Parts) → CanTell m old word p → LayersStand m new (service_told (rules_of m old) word p)
-  pub made : (p : Parts) → CanTell m old word p → after_it ≡ before ++ told_news (rules_of m old) word p
+  pub grows : (p : Parts) → CanTell m old word p → WereProper m old p → LayersStand m new (service_told (rules_of m old) word p)
+  pub made : (p : Parts) → CanTell m old word p → WereProper m old p → after_it ≡ before ++ told_news (rules_of m old) word p
 
 -- for want of memory what the layers show lies between what they were called with and that with the word
 abbrev pub TellsNoLayer : {S E C T : Type 0} → Meaning S E C T → Layers S E C T → Layers S E C T → Word → Type 0
-TellsNoLayer m old new word = (p : Parts) → CanTell m old word p → AreProper m.service (seat_of (rules_of m old)) p.words
+TellsNoLayer m old new word = (p : Parts) → CanTell m old word p → WereProper m old p
     → LayersShow m new (rules_of m old) p (service_told (rules_of m old) word p)
 
--- an item may be taken
+-- an item of a slot that isn't past may be taken
 pub record CanTakeItem {S E C T : Type 0} (m : Meaning S E C T) (layers : Layers S E C T) (item : Item) (p : Parts) : Type 0 where
   pub is_own : IsOwnTagger (rules_of m layers).casts (m.me layers.tagger)
   pub origin : item.slot.origin < layers.params.n
+  pub near : is_item_past (rules_of m layers) p item ≡ false
   pub may : MayTake ((rules_of m layers).casts.at_slot item.slot) (place_at (rules_of m layers).casts item.slot) (rules_of m layers).casts.tags (p.calls item.slot) item
   pub stood : LayersStand m layers p
 
@@ -71,24 +80,28 @@ RepeatsOne m old item b = (p : Parts) → CanTakeItem m old item p → is_taken_
 -- it was taken, and what became due by it is put out, where the service may hear what its slot newly delivers
 pub record TakesItem {S E C T : Type 0} (m : Meaning S E C T) (old new : Layers S E C T) (item : Item) (before after_it : List Msg) : Type 0 where
   pub grows : (p : Parts) → CanTakeItem m old item p
-      → MayFollow (rules_of m old) item.slot (item_delivers (rules_of m old) item p) (taken_at item p)
+      → MayFollow (rules_of m old) item.slot (item_delivers (rules_of m old) item p) (taken_at item p) → WereProper m old p
       → LayersStand m new (parts_after (rules_of m old) (Took item) p)
   pub made : (p : Parts) → CanTakeItem m old item p
-      → MayFollow (rules_of m old) item.slot (item_delivers (rules_of m old) item p) (taken_at item p)
+      → MayFollow (rules_of m old) item.slot (item_delivers (rules_of m old) item p) (taken_at item p) → WereProper m old p
       → after_it ≡ before ++ made_by (rules_of m old) (Took item) p
+  pub outputs : (p : Parts) → CanTakeItem m old item p → OutputsStand old.mode.root (rules_of m old).casts old.outputs p.calls
+      → OutputsStand old.mode.root (rules_of m old).casts new.outputs (parts_after (rules_of m old) (Took item) p).calls
   pub counts : RepeatsOne m old item false
 
 -- the item repeats one, and leaves all as it was
 pub record RepeatsItem {S E C T : Type 0} (m : Meaning S E C T) (old new : Layers S E C T) (item : Item) (before after_it : List Msg) : Type 0 where
   pub same : (p : Parts) → LayersStand m old p → LayersStand m new p
+  pub outputs : KeepsOutputs old new
   pub out : after_it ≡ before
   pub counts : RepeatsOne m old item true
 
 -- for want of memory what the layers show lies between what they were called with and that with the item
 pub record LayersTakeNone {S E C T : Type 0} (m : Meaning S E C T) (old new : Layers S E C T) (item : Item) : Type 0 where
   pub shows : (p : Parts) → CanTakeItem m old item p
-      → MayFollow (rules_of m old) item.slot (item_delivers (rules_of m old) item p) (taken_at item p) → AreProper m.service (seat_of (rules_of m old)) p.words
+      → MayFollow (rules_of m old) item.slot (item_delivers (rules_of m old) item p) (taken_at item p) → WereProper m old p
       → LayersShow m new (rules_of m old) p (parts_after (rules_of m old) (Took item) p)
+  pub outputs : KeepsOutputs old new
   pub counts : RepeatsOne m old item false
 
 -- each outcome
@@ -107,14 +120,3 @@ is_let_in m layers p item = m.service.opens (seat_of (rules_of m layers)) p.word
 abbrev pub is_open_in : {S E C T : Type 0} → Meaning S E C T → Layers S E C T → Parts → Item → Bool
 is_open_in m layers p item =
     nat_lt item.slot.origin layers.params.n && (not (is_item_past (rules_of m layers) p item) && (not (is_item_ahead (rules_of m layers) p item) && is_let_in m layers p item))
-
--- what a slot's window is counted from, and whether the slot is past, as the getters of a service answer; and whether what it
--- delivered is hidden by that, in a root service
-abbrev pub mark_shown : ServiceShown → Slot → ℕ
-mark_shown shown s = if s.class == 1 then shown.base s.origin else shown.completed
-
-abbrev pub is_past_shown : ServiceShown → ℕ → Slot → Bool
-is_past_shown shown n s = nat_lt s.origin n && is_behind s (mark_shown shown s)
-
-abbrev pub hides_shown : ServiceShown → ℕ → ℕ → Slot → Bool
-hides_shown shown n root s = nat_le 3 root && is_past_shown shown n s

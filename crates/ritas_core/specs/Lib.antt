@@ -1,6 +1,7 @@
 pub mod Rules
 pub mod RulesLaws
 pub mod SlotCast
+pub mod Drops
 pub mod Casts
 pub mod CastCalls
 pub mod Parts

@@ -15,7 +15,8 @@ use Rattle.ritas_core.specs.declared.layers.Layers.{Layers}
 use Rattle.ritas_core.specs.declared.kernel.Core.{Core}
 use Rattle.ritas_core.specs.Rules.{Rules, casts_by, seat_of, FormsFit}
 use Rattle.ritas_core.specs.SlotCast.{CastStandsAt, shown_by_cast}
-use Rattle.ritas_core.specs.Casts.{CastsStand, CastsShow}
+use Rattle.ritas_core.specs.Drops.{is_dropped, is_dropped_shown}
+use Rattle.ritas_core.specs.Casts.{CastsStand, CastsShow, OutputsStand, OutputsShow}
 use Rattle.ritas_core.specs.Parts.{Parts, parts}
 use Rattle.ritas_core.specs.Checks.{IsHistory, IsGood}
 use Rattle.ritas_core.specs.Machine.{CoreState, with_lost, AreGood}
@@ -55,16 +56,17 @@ rules_of m layers = record {
   service = m.service;
 }
 
--- the service and the broadcasts stand for these parts
+-- the service and the broadcasts stand for these parts, where the broadcasts of past slots are dropped
 pub record LayersStand {S E C T : Type 0} (m : Meaning S E C T) (layers : Layers S E C T) (p : Parts) : Type 0 where
   pub service : m.service_stands layers.service (seat_of (rules_of m layers)) p.words
-  pub casts : CastsStand (CastStandsAt layers.mode m.cast_stands) (rules_of m layers).casts layers.casts p.calls
+  pub casts : CastsStand (CastStandsAt layers.mode m.cast_stands) (rules_of m layers).casts (is_dropped (rules_of m layers) p.words) layers.casts p.calls
 
 -- what the layers show lies between two parts: the service shows what it does by the words of the one or of the other, and
--- each slot that it delivered what it did by the calls of the one or of the other
+-- each slot whose broadcast isn't dropped, by what the service shows, that it delivered what it did by the calls of the one or
+-- of the other
 pub record LayersShow {S E C T : Type 0} (m : Meaning S E C T) (layers : Layers S E C T) (r : Rules) (p later : Parts) : Type 0 where
   pub service : ShowsBetween r.service (seat_of r) p.words later.words (m.service_shown layers.service)
-  pub casts : CastsShow (shown_by_cast m.cast_shown) r.casts layers.casts p.calls later.calls
+  pub casts : CastsShow (shown_by_cast m.cast_shown) r.casts (is_dropped_shown (m.service_shown layers.service) r.casts.numbers.n) layers.casts p.calls later.calls
 
 -- the held items may be given
 abbrev pub AreGoodKept : Rules → List HeldItem → Type 0
@@ -76,7 +78,8 @@ AreGoodLists r [] = Unit {0}
 AreGoodLists r (kept ∷ held) = AreGoodKept r kept × AreGoodLists r held
 
 -- the core stands for this state, by these rules; a stopped core keeps what waits and what is held, what the stop lost met its
--- conditions, and what its layers show lies between its history and that with what the stop lost
+-- conditions, and what its layers show lies between its history and that with what the stop lost; so do the
+-- outputs, in which they keep what slots delivered
 pub record CoreStands {S E C T : Type 0} (m : Meaning S E C T) (core : Core S E C T) (r : Rules) (st : CoreState) : Type 0 where
   pub rules : rules_of m core.layers ≡ r
   pub own : m.me core.layers.tagger ≡ r.casts.me
@@ -90,6 +93,8 @@ pub record CoreStands {S E C T : Type 0} (m : Meaning S E C T) (core : Core S E 
   pub layers : st.live ≡ true → LayersStand m core.layers (parts r st.history)
   pub lost : st.live ≡ true → st.lost ≡ None
   pub shows : LayersShow m core.layers r (parts r st.history) (parts r (with_lost st))
+  pub outputs : st.live ≡ true → OutputsStand r.mode.root r.casts core.layers.outputs (parts r st.history).calls
+  pub shows_outputs : OutputsShow r.mode.root r.casts core.layers.outputs (parts r st.history).calls (parts r (with_lost st)).calls
   pub inbox : core.inbox.items ≡ st.inbox
   pub held : core.held ≡ st.held
   pub peers : length st.held ≡ r.casts.numbers.n

@@ -110,7 +110,7 @@ impl<E: Broadcast> Cast<E> {
     }
 
     /// What is delivered, if anything is.
-    pub(crate) fn delivered(&self) -> Option<&[u8]>
+    pub fn delivered(&self) -> Option<&[u8]>
         ensures { option_copied result ≡ (shown_by_cast E.shown self.now).out }
     {
         match self {

@@ -1,19 +1,24 @@
 //! What a core shows. No getter takes memory.
 
+use crate::cast::Cast;
 use crate::kernel::Core;
+use instance_tree::Tree;
 use layer_api::{Broadcast, Service};
 use ritas_base::{Coin, Item, Mode, Params, Slot, Tagger};
 
 impl<S: Service, E: Broadcast, C: Coin + Drop, T: Tagger + Drop> Core<S, E, C, T> {
-    ghost use Rattle.std.specs.Prelude.{◌≡◌, ◌⊎◌, true, length};
-    ghost use Rattle.std.specs.Option.{option_copied};
+    ghost use Rattle.std.specs.Prelude.{◌≡◌, ◌⊎◌, true, length, IfSome};
+    ghost use Rattle.std.specs.Option.{is_some, option_copied};
+    ghost use Rattle.std.specs.FinMap.{get};
+    ghost use Rattle.ritas_base.specs.declared.slot.Slot.{Slot};
     ghost use Rattle.layer_api.specs.ServiceCalls.{ShowsBetween};
     ghost use Rattle.ooc_buffers.specs.Lists.{held_bytes};
     ghost use Rattle.ritas_core.specs.Rules.{Rules, seat_of};
     ghost use Rattle.ritas_core.specs.Parts.{parts};
     ghost use Rattle.ritas_core.specs.Machine.{CoreState, with_lost};
     ghost use Rattle.ritas_core.specs.Stands.{meaning, CoreStands};
-    ghost use Rattle.ritas_core.specs.Shown.{params_of, mode_of, me_of, tagger_of, first_waiting, all_bytes, shown_at};
+    ghost use Rattle.ritas_core.specs.Shown.{params_of, mode_of, me_of, tagger_of, first_waiting, all_bytes, delivered_at, shown_at, keeps_broadcast};
+    ghost use Rattle.ritas_core.specs.SlotCast.{shown_by_cast};
 
     /// The numbers of the session.
     pub fn params(&self) -> &Params
@@ -119,10 +124,20 @@ impl<S: Service, E: Broadcast, C: Coin + Drop, T: Tagger + Drop> Core<S, E, C, T
         if self.layers.hides(slot) {
             return None;
         }
-        match self.layers.casts.get(slot) {
-            Some(cast) => cast.delivered(),
-            None => None,
-        }
+        self.layers.delivered(slot)
+    }
+
+    /// The broadcasts, by their slots. While the core isn't stopped, exactly those slots have one that aren't past and at which the
+    /// core took an item or started a broadcast, and each has delivered what its slot has.
+    pub fn broadcasts(&self) -> &Tree<Cast<E>>
+        ensures kept { let m = meaning S.stands S.rules S.shown E.stands E.rules E.shown C.bits T.me T.tags in
+            (r : Rules) (st : CoreState) → CoreStands m self.now r st → st.live ≡ true → (s : Slot)
+            → is_some (get result.now s) ≡ keeps_broadcast r st.history s }
+        ensures delivered { let m = meaning S.stands S.rules S.shown E.stands E.rules E.shown C.bits T.me T.tags in
+            (r : Rules) (st : CoreState) → CoreStands m self.now r st → st.live ≡ true → (s : Slot)
+            → IfSome (get result.now s) (λ b. (shown_by_cast E.shown b).out ≡ delivered_at r st.history s) }
+    {
+        &self.layers.casts
     }
 
     /// Whether no call on this core was without memory, but for one that only was to hold an item.

@@ -1,10 +1,9 @@
 //! Giving an item to the broadcast of its slot, which is made where it isn't there yet, and what is newly delivered by it.
 
 ghost use Rattle.std.specs.Prelude.{◌≡◌, ◌<◌, List, ℕ, Bool, true, IfOk, None, if◌then◌else◌};
-ghost use Rattle.std.specs.BTreeMap.{get};
+ghost use Rattle.std.specs.FinMap.{get};
 ghost use Rattle.ritas_base.specs.declared.slot.Slot.{Slot};
 ghost use Rattle.ritas_base.specs.declared.mode.Mode.{Mode};
-ghost use Rattle.ritas_base.specs.SlotOrder.{slot_cmp};
 ghost use Rattle.ritas_base.specs.History.{Call};
 ghost use Rattle.ritas_base.specs.Numbers.{Numbers};
 ghost use Rattle.ritas_base.specs.Tags.{Tags};
@@ -16,10 +15,10 @@ ghost use Rattle.ritas_core.specs.CastCalls.{HearsItem, CastsHear, is_ready_in};
 
 use crate::cast::Cast;
 use crate::taken::Taken;
+use instance_tree::Tree;
 use layer_api::{Broadcast, Heard};
-use ritas_base::{Bytes, Item, Kind, Mem, Mode, Msg, Params, Slot, Tagger};
+use ritas_base::{Bytes, Item, Kind, Mem, Mode, Msg, Params, Tagger};
 use std::alloc::Global;
-use std::collections::BTreeMap;
 
 /// What is delivered, where nothing was before.
 fn newly_delivered<E: Broadcast>(
@@ -56,27 +55,31 @@ fn hear<E: Broadcast, T: Tagger>(
     }
 }
 
-/// Makes the broadcast of an item's slot, where none is there, and gives it the item.
+/// Makes the broadcast of an item's slot, where none is there, and gives it the item. It is kept where it took the item.
 fn take_first<E: Broadcast, T: Tagger>(
     alloc: Global,
     p: &Params,
     mode: &Mode,
     me: u8,
     t: &T,
-    casts: &mut BTreeMap<Slot, Cast<E>>,
+    casts: &mut Tree<Cast<E>>,
     item: &Item,
     made: &mut Vec<Msg>,
 ) -> Result<Taken, Mem>
     requires me_below { me < p.now.n }
     requires origin_below { item.now.slot.origin < p.now.n }
-    requires unmade { get slot_cmp casts.old item.now.slot ≡ None }
+    requires unmade { get casts.old item.now.slot ≡ None }
     ensures { let c = casts_by mode.now p.now me (T.tags t.now) E.rules in
-        CastsHear (CastStandsAt mode.now E.stands) (shown_by_cast E.shown) c (T.me t.now) casts.old casts.new item.now made.old.items made.new.items result }
+        (dropped : Slot → Bool) → CastsHear (CastStandsAt mode.now E.stands) (shown_by_cast E.shown) c dropped (T.me t.now) casts.old casts.new item.now made.old.items made.new.items result }
 {
     let mut cast = Cast::make(alloc, p, mode, me, item.slot)?;
-    let taken = hear(alloc, t, &mut cast, item, made)?;
-    casts.insert(item.slot, cast)?;
-    Ok(taken)
+    match hear(alloc, t, &mut cast, item, made)? {
+        Taken::Repeat => Ok(Taken::Repeat),
+        Taken::Took(delivered) => match casts.make(alloc, item.slot, cast) {
+            Ok(()) => Ok(Taken::Took(delivered)),
+            Err(_) => Err(Mem),
+        },
+    }
 }
 
 /// Gives an item to the broadcast of its slot, which is made if it isn't there.
@@ -86,18 +89,18 @@ pub(crate) fn take_cast<E: Broadcast, T: Tagger>(
     mode: &Mode,
     me: u8,
     t: &T,
-    casts: &mut BTreeMap<Slot, Cast<E>>,
+    casts: &mut Tree<Cast<E>>,
     item: &Item,
     made: &mut Vec<Msg>,
 ) -> Result<Taken, Mem>
     ensures { let c = casts_by mode.now p.now me (T.tags t.now) E.rules in
-        CastsHear (CastStandsAt mode.now E.stands) (shown_by_cast E.shown) c (T.me t.now) casts.old casts.new item.now made.old.items made.new.items result }
+        (dropped : Slot → Bool) → CastsHear (CastStandsAt mode.now E.stands) (shown_by_cast E.shown) c dropped (T.me t.now) casts.old casts.new item.now made.old.items made.new.items result }
 {
     // No such item comes: the origin of a slot in the grammar is a replica.
     if me >= p.n() || item.slot.origin >= p.n() {
         return Ok(Taken::Repeat);
     }
-    match casts.get_mut(&item.slot) {
+    match casts.find_mut(&item.slot) {
         Some(cast) => hear(alloc, t, cast, item, made),
         None => take_first(alloc, p, mode, me, t, casts, item, made),
     }
@@ -105,15 +108,15 @@ pub(crate) fn take_cast<E: Broadcast, T: Tagger>(
 
 /// Whether the broadcast of its slot can take an item yet. Only a column isn't taken at any time, so nothing else is
 /// looked up.
-pub(crate) fn is_ready<E: Broadcast>(casts: &BTreeMap<Slot, Cast<E>>, item: &Item) -> bool
-    ensures { (mode : Mode) (numbers : Numbers) (me : ℕ) (tags : Tags) (h : Slot → List Call) →
+pub(crate) fn is_ready<E: Broadcast>(casts: &Tree<Cast<E>>, item: &Item) -> bool
+    ensures { (mode : Mode) (numbers : Numbers) (me : ℕ) (tags : Tags) (dropped : Slot → Bool) (h : Slot → List Call) →
         let c = casts_by mode numbers me tags E.rules in
-        CastsStand (CastStandsAt mode E.stands) c casts.now h → result ≡ is_ready_in c casts.now h item.now }
+        CastsStand (CastStandsAt mode E.stands) c dropped casts.now h → result ≡ is_ready_in c casts.now h item.now }
 {
     if item.kind != Kind::Column {
         return true;
     }
-    match casts.get(&item.slot) {
+    match casts.find(&item.slot) {
         Some(cast) => cast.ready_for(item),
         None => false,
     }

@@ -11,6 +11,7 @@ use crate::layers::Layers;
 use crate::steps::take_front;
 use crate::verdict::Verdict;
 use frame_codec::spelled;
+use instance_tree::Tree;
 use layer_api::{Broadcast, Service};
 use ooc_buffers::{Held, HoldFault};
 use ritas_base::{Coin, Item, Mem, Mode, Msg, Params, Tagger};
@@ -83,7 +84,8 @@ impl<S: Service, E: Broadcast, C: Coin + Drop, T: Tagger + Drop> Core<S, E, C, T
                 tagger: t,
                 coin,
                 service,
-                casts: BTreeMap::new(alloc),
+                casts: Tree::new(alloc),
+                outputs: BTreeMap::new(alloc),
             },
             inbox: VecDeque::new(alloc),
             held,

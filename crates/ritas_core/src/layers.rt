@@ -1,18 +1,26 @@
 //! The service of a replica over its broadcasts, the windows, and which items are open.
 
+ghost use Rattle.std.specs.Prelude.{◌≡◌, nat_le, false, Some, OnOk, OnErr, if◌then◌else◌};
+ghost use Rattle.std.specs.BTreeMap.{get};
+ghost use Rattle.ritas_base.specs.declared.slot.Slot.{Slot};
+ghost use Rattle.ritas_base.specs.SlotOrder.{slot_cmp, is_slot};
+
 use crate::cast::Cast;
 use crate::casts::start_casts;
+use crate::drops::{drop_past, mark};
 use crate::fault::CoreFault;
 use crate::hear::{is_ready, take_cast};
 use crate::limits::{is_behind, is_beyond};
 use crate::taken::Taken;
 use frame_codec::input_fault;
+use instance_tree::Tree;
 use layer_api::{Broadcast, COMMAND_WINDOW, Heard, Service};
-use ritas_base::{Coin, Item, Mem, Mode, Msg, NUMBER_LIMIT, Params, Slot, Tagger};
+use ritas_base::{Bytes, Coin, Item, Mem, Mode, Msg, NUMBER_LIMIT, Params, Slot, Tagger};
 use std::alloc::Global;
 use std::collections::BTreeMap;
 
-/// The service of a replica, its broadcasts by their slots, and what they are given.
+/// The service of a replica, the broadcasts of those slots that aren't past, and what they are given. In root services 1 and
+/// 2, which show what every slot delivered, that is kept by itself.
 #[derive(Drop)]
 pub struct Layers<S: Service, E: Broadcast, C: Coin + Drop, T: Tagger + Drop> {
     pub(crate) params: Params,
@@ -21,19 +29,41 @@ pub struct Layers<S: Service, E: Broadcast, C: Coin + Drop, T: Tagger + Drop> {
     pub(crate) tagger: T,
     pub(crate) coin: C,
     pub(crate) service: S,
-    pub(crate) casts: BTreeMap<Slot, Cast<E>>,
+    pub(crate) casts: Tree<Cast<E>>,
+    pub(crate) outputs: BTreeMap<Slot, Bytes>,
+}
+
+/// In root services 1 and 2 keeps what a slot delivered, since its broadcast is dropped once the slot is past.
+fn keep_output(
+    mode: &Mode,
+    outputs: &mut BTreeMap<Slot, Bytes>,
+    slot: Slot,
+    value: Bytes,
+) -> Result<(), Mem>
+    ensures kept { OnOk result (nat_le 3 mode.now.root ≡ false
+        → (s : Slot) → get slot_cmp outputs.new s ≡ (if is_slot slot s then Some value else get slot_cmp outputs.old s)) }
+    ensures err { OnErr result ((s : Slot) → get slot_cmp outputs.new s ≡ get slot_cmp outputs.old s) }
+{
+    if mode.root < 3 {
+        outputs.insert(slot, value)?;
+    }
+    Ok(())
 }
 
 impl<S: Service, E: Broadcast, C: Coin + Drop, T: Tagger + Drop> Layers<S, E, C, T> {
     ghost use Rattle.std.specs.Prelude.{◌≡◌, ◌<◌, None, OnOk, OnErr};
+    ghost use Rattle.std.specs.Option.{option_copied};
     ghost use Rattle.layer_api.specs.Words.{Ask, Hear};
+    ghost use Rattle.ritas_core.specs.SlotCast.{shown_by_cast};
+    ghost use Rattle.ritas_core.specs.Shown.{layers_out};
     ghost use Rattle.ritas_core.specs.Parts.{Parts};
     ghost use Rattle.ritas_core.specs.Checks.{mark_of, window_fault, input_check};
     ghost use Rattle.frame_codec.specs.Inputs.{IsInput};
     ghost use Rattle.ritas_core.specs.Stands.{meaning, rules_of, LayersStand};
-    ghost use Rattle.ritas_core.specs.LayerCalls.{SameSeat, TellsLayers, TellsNoLayer, GivesItem, is_past_in, is_let_in, is_open_in, mark_shown, is_past_shown, hides_shown};
+    ghost use Rattle.ritas_core.specs.LayerCalls.{SameSeat, KeepsOutputs, TellsLayers, TellsNoLayer, GivesItem, is_past_in, is_let_in, is_open_in};
+    ghost use Rattle.ritas_core.specs.Drops.{mark_shown, is_past_shown, hides_shown};
 
-    /// Tells the service what a slot delivered, and starts what it says.
+    /// Tells the service what a slot delivered, drops the broadcasts that are past by that, and starts what it says.
     fn hear(
         &mut self,
         alloc: Global,
@@ -46,23 +76,26 @@ impl<S: Service, E: Broadcast, C: Coin + Drop, T: Tagger + Drop> Layers<S, E, C,
         ensures missed { let m = meaning S.stands S.rules S.shown E.stands E.rules E.shown C.bits T.me T.tags in
             OnErr result (TellsNoLayer m self.old self.new (Hear slot.now value.now)) }
         ensures same { SameSeat self.old self.new }
+        ensures outputs { KeepsOutputs self.old self.new }
     {
         let mut says = Vec::new(alloc);
         self.service
             .heard(alloc, &self.coin, slot, value, &mut says)?;
+        drop_past(&self.service, self.params.n(), &mut self.casts);
         start_casts(
             alloc,
             &self.params,
             &self.mode,
             self.me,
             &self.tagger,
+            &self.service,
             &mut self.casts,
             says.as_slice(),
             made,
         )
     }
 
-    /// Gives the service an input, and starts what it says.
+    /// Gives the service an input, drops the broadcasts that are past by that, and starts what it says.
     pub(crate) fn input(
         &mut self,
         alloc: Global,
@@ -74,15 +107,18 @@ impl<S: Service, E: Broadcast, C: Coin + Drop, T: Tagger + Drop> Layers<S, E, C,
         ensures missed { let m = meaning S.stands S.rules S.shown E.stands E.rules E.shown C.bits T.me T.tags in
             OnErr result (TellsNoLayer m self.old self.new (Ask value.now)) }
         ensures same { SameSeat self.old self.new }
+        ensures outputs { KeepsOutputs self.old self.new }
     {
         let mut says = Vec::new(alloc);
         self.service.input(alloc, value, &mut says)?;
+        drop_past(&self.service, self.params.n(), &mut self.casts);
         start_casts(
             alloc,
             &self.params,
             &self.mode,
             self.me,
             &self.tagger,
+            &self.service,
             &mut self.casts,
             says.as_slice(),
             made,
@@ -114,6 +150,7 @@ impl<S: Service, E: Broadcast, C: Coin + Drop, T: Tagger + Drop> Layers<S, E, C,
             Taken::Took(None) => Ok(Heard::Took),
             Taken::Took(Some(value)) => {
                 self.hear(alloc, &item.slot, value.as_slice(), made)?;
+                keep_output(&self.mode, &mut self.outputs, item.slot, value)?;
                 Ok(Heard::Took)
             }
         }
@@ -127,11 +164,7 @@ impl<S: Service, E: Broadcast, C: Coin + Drop, T: Tagger + Drop> Layers<S, E, C,
             → result ≡ mark_of (rules_of m self.now) p slot.now }
         ensures shown { result ≡ mark_shown (S.shown self.now.service) slot.now }
     {
-        if slot.class == 1 {
-            self.service.base(slot.origin)
-        } else {
-            self.service.completed()
-        }
+        mark(&self.service, slot)
     }
 
     /// Whether an item inside its window may be taken now.
@@ -156,6 +189,23 @@ impl<S: Service, E: Broadcast, C: Coin + Drop, T: Tagger + Drop> Layers<S, E, C,
         ensures { result ≡ hides_shown (S.shown self.now.service) self.now.params.n self.now.mode.root slot.now }
     {
         self.mode.root >= 3 && self.is_past(slot)
+    }
+
+    /// What a slot delivered, as it was kept by itself, or as its broadcast has it.
+    pub(crate) fn delivered(&self, slot: &Slot) -> Option<&[u8]>
+        ensures { option_copied result ≡ layers_out (shown_by_cast E.shown) self.now slot.now }
+    {
+        if self.mode.root < 3 {
+            match self.outputs.get(slot) {
+                Some(value) => Some(value.as_slice()),
+                None => None,
+            }
+        } else {
+            match self.casts.find(slot) {
+                Some(cast) => cast.delivered(),
+                None => None,
+            }
+        }
     }
 
     /// Whether an item is open.

@@ -14,6 +14,7 @@
 mod answer;
 mod cast;
 mod casts;
+mod drops;
 mod fault;
 mod getters;
 mod hear;
@@ -29,6 +30,7 @@ mod taken;
 mod verdict;
 
 pub use answer::Answer;
+pub use cast::Cast;
 pub use fault::CoreFault;
 pub use kernel::Core;
 pub use laws::{delivered_within, entry_laws, history_laws, kinds_fit, new_is_due, verdict_laws};

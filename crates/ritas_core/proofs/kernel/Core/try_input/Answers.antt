@@ -15,7 +15,7 @@ returns-clause-does g c =
     meaning g.S.Service.stands g.S.Service.rules g.S.Service.shown b.stands b.rules b.shown g.C.Coin.bits g.T.Tagger.me g.T.Tagger.tags in
     let well = means_well m b.live g.met.E.Broadcast.value_laws g.met.S.Service.word_laws g.met.S.Service.shows g.met.E.Broadcast.shows in
     enters_input m well c.args.self.now c.finish.new.self c.input.new.self c.args.value.now
-    c.new-made.result.items c.input.new.made.items _ _ c.new-made.ensures.items c.input.ensures.same c.in_ok-input.ensures.told c.in_ok-finish.ensures.ok
+    c.new-made.result.items c.input.new.made.items _ _ c.new-made.ensures.items c.input.ensures.same c.input.ensures.outputs c.in_ok-input.ensures.told c.in_ok-finish.ensures.ok
 
 pub returns-in_err-input-clause-does : goal.returns-in_err-input-clause-does
 returns-in_err-input-clause-does g c =
@@ -27,7 +27,7 @@ returns-in_err-input-clause-does g c =
     let sent = c.args.out.now.items in
     let p = err_from_is_err_and c.from_residual.result c.from_residual.ensures.1 in
     subst (λ (r : Result (Unit {0}) Mem). TriesInput m old (record old { layers = c.input.new.self }) c.args.value.now sent sent r) (sym p.1)
-    (input_fails m well old c.input.new.self c.args.value.now sent c.input.ensures.same c.in_err-input.ensures.missed)
+    (input_fails m well old c.input.new.self c.args.value.now sent c.input.ensures.same c.input.ensures.outputs c.in_err-input.ensures.missed)
 
 pub returns-in_err-finish-clause-does : goal.returns-in_err-finish-clause-does
 returns-in_err-finish-clause-does g c =
@@ -39,4 +39,4 @@ returns-in_err-finish-clause-does g c =
     let p = err_from_is_err_and c.from_residual-in_err-finish.result c.from_residual-in_err-finish.ensures.1 in
     subst (λ (r : Result (Unit {0}) Mem). TriesInput m old c.finish.new.self c.args.value.now c.args.out.now.items c.finish.new.out.items r) (sym p.1)
     (input_withdraws m well old c.finish.new.self c.input.new.self c.args.value.now c.new-made.result.items c.input.new.made.items c.args.out.now.items c.finish.new.out.items
-    c.input.ensures.same c.in_ok-input.ensures.told c.in_err-finish.ensures.err)
+    c.input.ensures.same c.input.ensures.outputs c.in_ok-input.ensures.told c.in_err-finish.ensures.err)
