@@ -1,5 +1,5 @@
 -- A box stands for one word more.
-use Rattle.std.proofs.Common.{◌≡◌, ℕ, zero, suc, ◌+◌, ◌-◌, ◌*◌, ◌/◌, ◌%◌, ◌<◌, ◌≤◌, ◌==◌, ◌&&◌, Bool, true, false, not, List, [], ◌∷◌, ◌++◌, length, Option, Some, None, is_some, is_none, option_map, if◌then◌else◌, inl, inr, refl, sym, ◌∙◌, ap, ap₂, subst, arith, append-nil}
+use Rattle.std.proofs.Common.{◌≡◌, ℕ, zero, suc, ◌+◌, ◌-◌, ◌*◌, ◌/◌, ◌%◌, ◌<◌, ◌==◌, ◌&&◌, Bool, true, false, not, List, [], ◌∷◌, ◌++◌, length, Option, Some, None, is_some, is_none, option_map, if◌then◌else◌, inl, inr, refl, sym, ◌∙◌, ap, ap₂, subst, arith, append-nil}
 use Rattle.std.specs.Option.{option_or}
 use Rattle.std.proofs.lemmas.Bool.{cases_eq, both_ways}
 use Rattle.ritas_base.specs.declared.slot.Slot.{Slot}
@@ -12,20 +12,19 @@ use Rattle.layer_api.specs.Words.{Word, Ask, Hear, asked, is_heard, bit_byte}
 use Rattle.layer_api.specs.Binary.{Bench, IsStepSlot, MayPropose, MayVote, vote_limit}
 use Rattle.layer_api.specs.Calls.{IsCoin, WordTaken}
 use Rattle.layer_api.specs.FedLaws.{some_if}
-use Rattle.bracha_validation.specs.declared.tally.Tally.{Tally}
-use Rattle.bracha_validation.specs.Tallies.{vote_count, IsTally}
 use Rattle.ritas_base.specs.Places.{listed}
 use Rattle.binary_consensus.specs.Steps.{round_of, step_of, line_slot, heard, accepted}
 use Rattle.binary_consensus.specs.Consensus.{proposed_vote, left, decides, next_vote, vote_said, decided_below, steps, steps_say_below, binary_decision, binary}
 use Rattle.binary_consensus.specs.Laws.Stays.{steps_are, stays, unleft, next_none, said_down, silent, silent_above}
-use Rattle.binary_consensus.specs.Counts.{HeardTallies, HearsOneVote, tally_at}
-use Rattle.binary_consensus.specs.Going.{own_step_slot, line_of, IsBinaryPart, AreCountsHeard, StandsAtStep, IsOver, IsHere, Passing, Done, LineGoesOn}
+use Rattle.binary_consensus.specs.Counts.{byte_vote, row_votes, HeardRows, HearsOneVote}
+use Rattle.binary_consensus.specs.Going.{own_step_slot, line_of, IsBinaryPart, AreRowsHeard, StandsAtStep, IsOver, IsHere, Passing, Done, LineGoesOn}
 use Rattle.binary_consensus.specs.Stands.{BinaryStands}
 use Rattle.binary_consensus.specs.declared.part.Part.{Part}
 use Rattle.binary_consensus.specs.declared.place.Place.{Place}
 use Rattle.binary_consensus.specs.declared.bin.Bin.{Bin}
 use Rattle.binary_consensus.proofs.Turning.{rest, says_old, begins, begin, stay}
-use Rattle.binary_consensus.proofs.Hearing.{heard_room, heard_one_more}
+use Rattle.binary_consensus.proofs.RowCounts.{unheard_byte}
+use Rattle.binary_consensus.proofs.Hearing.{unheard_row, heard_one_more}
 use Rattle.binary_consensus.proofs.Moves.{own_is}
 
 -- ---- a new box
@@ -34,19 +33,16 @@ listed_none : (ks : List ℕ) → listed {X = ℕ} (λ k. None) ks ≡ []
 listed_none [] = refl
 listed_none (k ∷ ks) = listed_none ks
 
-none_tally : (t : ℕ) (n : ℕ) → IsTally (tally_at [] t) (listed {X = ℕ} (λ k. None) (replicas n))
-none_tally t n = subst (λ (vs : List ℕ). IsTally (tally_at [] t) vs) (sym (listed_none (replicas n))) (record { zeros = refl; ones = refl; nones = refl; all = refl })
-
 decided_nothing : (at : Bench) (n : ℕ) → None ≡ decided_below at n []
 decided_nothing at zero = refl
 decided_nothing at (suc n) = ap₂ (λ (d : Option Bool) (l : Option (List ℕ)). option_or d (decides at.numbers n l)) (decided_nothing at n) (sym (unleft at n [] (silent at n)))
 
-pub new_stands : (at : Bench) (b : Bin) → IsSession at.numbers → IsBinaryPart b.part b.line.numbers at → b.line.votes ≡ [] → b.place.said ≡ 0 → b.place.ended ≡ false
+pub new_stands : (at : Bench) (b : Bin) → IsSession at.numbers → IsBinaryPart b.part b.line.numbers at → b.line.rows ≡ [] → b.place.said ≡ 0 → b.place.ended ≡ false
     → b.place.decided ≡ None → b.live ≡ true → BinaryStands b at []
 new_stands at b session part votes said-is ended decided live = record {
   session = session;
   part = part;
-  heard = λ unended. subst (λ (hs : List Tally). AreCountsHeard at hs []) (sym votes) (λ t l. none_tally t at.numbers.n);
+  heard = λ unended. subst (λ (rs : List (List ℕ)). AreRowsHeard at rs []) (sym votes) (λ t k l m. ap byte_vote (unheard_byte 31 k));
   here = rw (said-is, ended) refl;
   decided = decided ∙ decided_nothing at steps;
   live = live;
@@ -110,7 +106,7 @@ proposes at old new w bit before after stands none part line said-is ended decid
     says : steps_say_below at steps [] (Ask (bit_byte bit ∷ [])) ≡ record { slot = line_slot at 0 at.me; value = bit_byte bit ∷ [] } ∷ []
     says = done.says ∙ ap (λ (out : List Say). (let y : Say = record { slot = line_slot at 0 at.me; value = bit_byte bit ∷ [] } in y ∷ []) ++ out) (nothing_out done.out done.pushed)
 
-    unheard : old.place.ended ≡ false → AreCountsHeard at old.line.votes w
+    unheard : old.place.ended ≡ false → AreRowsHeard at old.line.rows w
     unheard = stands.heard
 
     is-first : w ≡ []
@@ -120,17 +116,17 @@ proposes at old new w bit before after stands none part line said-is ended decid
     not_ended false h = refl
     not_ended true h = absurd h
 
-    heard-is : AreCountsHeard at new.line.votes (Ask (bit_byte bit ∷ []) ∷ [])
+    heard-is : AreRowsHeard at new.line.rows (Ask (bit_byte bit ∷ []) ∷ [])
     heard-is =
         let unended = not_ended old.place.ended (subst (λ (n : ℕ). IsHere at old.place.ended n w) none stands.here) in
-        let are : AreCountsHeard at old.line.votes [] = subst (λ (x : List Word). AreCountsHeard at old.line.votes x) is-first (stands.heard unended) in
-        subst (λ (h : HeardTallies). AreCountsHeard at h.votes (Ask (bit_byte bit ∷ []) ∷ [])) (sym line) (λ t l. are t l)
+        let are : AreRowsHeard at old.line.rows [] = subst (λ (x : List Word). AreRowsHeard at old.line.rows x) is-first (stands.heard unended) in
+        subst (λ (h : HeardRows). AreRowsHeard at h.rows (Ask (bit_byte bit ∷ []) ∷ [])) (sym line) (λ t k l m. are t k l m)
 
     empty : BinaryStands new at (Ask (bit_byte bit ∷ []) ∷ []) × (after ≡ before ++ steps_say_below at steps [] (Ask (bit_byte bit ∷ [])))
     empty = (
       record {
         session = stands.session;
-        part = subst (λ (h : HeardTallies). IsBinaryPart new.part h.numbers at) (sym line) (subst (λ (x : Part). IsBinaryPart x old.line.numbers at) (sym part) stands.part);
+        part = subst (λ (h : HeardRows). IsBinaryPart new.part h.numbers at) (sym line) (subst (λ (x : Part). IsBinaryPart x old.line.numbers at) (sym part) stands.part);
         heard = λ unended. heard-is;
         here = done.here;
         decided = done.decided;
@@ -230,29 +226,20 @@ slot_of_step at s t is e =
         ∙ (ap (λ (k : ℕ). record { class = y.class; a = y.a; attempt = y.attempt; bround = y.bround; step = k; origin = x.origin }) s
         ∙ ap (λ (k : ℕ). record { class = y.class; a = y.a; attempt = y.attempt; bround = y.bround; step = y.step; origin = k }) o))))
 
-limit_three : (step : ℕ) → vote_limit step ≤ 3
-limit_three step = go (step == 3)
-  where
-    go : (b : Bool) → (if b then 3 else 2) ≤ 3
-    go true = omega arith
-    go false = omega arith
-
 -- the votes heard with one more
-heard_more : (at : Bench) (b : Bin) (w : List Word) (s : Slot) (t v : ℕ) (line : HeardTallies) → BinaryStands b at w → b.place.ended ≡ false → MayVote binary at w s v
-    → line_of s ≡ Some t → (vote_count (tally_at b.line.votes t) < b.line.numbers.n → v < vote_limit (step_of t) → HearsOneVote t v b.line line)
-    → AreCountsHeard at line.votes (Hear s (v ∷ []) ∷ w) × (line.numbers ≡ b.line.numbers)
+heard_more : (at : Bench) (b : Bin) (w : List Word) (s : Slot) (t v : ℕ) (line : HeardRows) → BinaryStands b at w → b.place.ended ≡ false → MayVote binary at w s v
+    → line_of s ≡ Some t → (s.origin < b.line.numbers.n → row_votes b.line.rows t s.origin ≡ None → v < vote_limit (step_of t) → HearsOneVote t s.origin v b.line line)
+    → AreRowsHeard at line.rows (Hear s (v ∷ []) ∷ w) × (line.numbers ≡ b.line.numbers)
 heard_more at b w s t v line stands unended may e hears =
     let is = slot_of_step at s t may.slot e in
     let slot = is.slot in
     let first = subst (λ (q : Slot). is_heard w q ≡ false) slot may.first in
-    let room = heard_room at b.line.votes w t s.origin v (stands.heard unended) is.below may.origin first in
+    let free = unheard_row at b.line.rows w t s.origin (stands.heard unended) is.below may.origin first in
     let numbers = stands.part.numbers in
     let step : s.step ≡ step_of t = ap (λ (q : Slot). q.step) slot in
     let small : v < vote_limit (step_of t) = subst (λ (k : ℕ). v < vote_limit k) step may.value in
-    let one = hears (subst (λ (p : Numbers). vote_count (tally_at b.line.votes t) < p.n) (sym numbers) room) small in
-    let three = limit_three (step_of t) in (
-      subst (λ (q : Slot). AreCountsHeard at line.votes (Hear q (v ∷ []) ∷ w)) (sym slot)
-          (heard_one_more at b.line line w t s.origin v (stands.heard unended) one is.below may.origin first (omega (arith, small, three))),
+    let one = hears (subst (λ (p : Numbers). s.origin < p.n) (sym numbers) may.origin) free small in (
+      subst (λ (q : Slot). AreRowsHeard at line.rows (Hear q (v ∷ []) ∷ w)) (sym slot) (heard_one_more at b.line line w t s.origin v (stands.heard unended) one first),
       one.numbers,
     )
 
@@ -272,7 +259,7 @@ stands_decision at t w s (suc n) l =
 
 pub vote_stands : (at : Bench) (b new : Bin) (w : List Word) (s : Slot) (t v : ℕ) (bits : Slot → Bool) (place : Place) (before after out : List Say)
     → BinaryStands b at w → b.place.ended ≡ false → (b.place.said ≡ 0 → ⊥) → IsCoin at.coin bits → MayVote binary at w s v → line_of s ≡ Some t
-    → (vote_count (tally_at b.line.votes t) < b.line.numbers.n → v < vote_limit (step_of t) → HearsOneVote t v b.line new.line)
+    → (s.origin < b.line.numbers.n → row_votes b.line.rows t s.origin ≡ None → v < vote_limit (step_of t) → HearsOneVote t s.origin v b.line new.line)
     → new.part ≡ b.part → new.live ≡ b.live → LineGoesOn b.part new.line bits b.place [] out new.place → after ≡ before ++ out
     → BinaryStands new at (Hear s (v ∷ []) ∷ w) × (after ≡ before ++ steps_say_below at steps w (Hear s (v ∷ [])))
 vote_stands at b new w s t v bits place before after out stands unended some tosses may e hears part live goes pushed = go b.place.said refl stands.here

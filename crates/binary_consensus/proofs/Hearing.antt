@@ -1,12 +1,10 @@
--- The counts of the votes heard, and of those accepted.
-use Rattle.std.proofs.Common.{◌≡◌, ℕ, zero, suc, ◌+◌, ◌<◌, ◌≤◌, ◌==◌, Bool, true, false, if◌then◌else◌, List, [], ◌∷◌, length, count_by, cond, Option, Some, None, ◌⊎◌, inl, inr, refl, sym, ◌∙◌, ap, ap₂, subst, arith, eqb-true}
+-- The votes that are accepted, by counts of those heard, and what a word that hears changes.
+use Rattle.std.proofs.Common.{◌≡◌, ℕ, zero, suc, ◌+◌, ◌<◌, ◌≤◌, ◌==◌, Bool, true, false, if◌then◌else◌, List, [], ◌∷◌, count_by, Option, Some, None, inl, inr, refl, sym, ◌∙◌, ap, ap₂, subst, arith, eqb-true}
 use Rattle.std.specs.Option.{option_or}
 use Rattle.std.specs.List.{range_with_len}
 use Rattle.std.proofs.lemmas.Bool.{cases_Bool, cases_eq, both_ways, false_from_ne_true}
-use Rattle.std.proofs.lemmas.List.FromFn.{length-range_with_len}
 use Rattle.ritas_base.specs.declared.slot.Slot.{Slot}
 use Rattle.ritas_base.specs.Numbers.{Numbers}
-use Rattle.ritas_base.specs.History.{replicas}
 use Rattle.ritas_base.specs.Quorums.{count_same, count_none, count_more}
 use Rattle.ritas_base.specs.Shortest.{option_or_none}
 use Rattle.ritas_base.specs.SlotOrder.{same_slot, slot_itself}
@@ -15,37 +13,16 @@ use Rattle.layer_api.specs.PartLaws.{unheard}
 use Rattle.layer_api.specs.Binary.{Bench}
 use Rattle.bracha_validation.specs.declared.tally.Tally.{Tally}
 use Rattle.bracha_validation.specs.Votes.{votes, may_give}
-use Rattle.bracha_validation.specs.Tallies.{vote_count, tally_votes, IsTally, DependsOnCounts}
-use Rattle.bracha_validation.specs.PickLaws.{one_more}
+use Rattle.bracha_validation.specs.Tallies.{tally_votes, IsTally, DependsOnCounts}
 use Rattle.ritas_base.specs.Places.{push, listed}
 use Rattle.binary_consensus.specs.Steps.{step_of, line_slot, vote_heard, heard, passed_vote, accepted}
 use Rattle.binary_consensus.specs.Laws.Acceptance.{has_passing_vote, count_listed}
 use Rattle.binary_consensus.specs.Laws.OneBit.{one_step}
-use Rattle.binary_consensus.specs.Counts.{count_kept, tally_taken, tally_at, accepted_tally, with_vote, HeardTallies, HearsOneVote}
-use Rattle.binary_consensus.specs.Going.{AreCountsHeard}
+use Rattle.binary_consensus.specs.Counts.{count_kept, tally_taken, row_votes, HeardRows, HearsOneVote}
+use Rattle.binary_consensus.specs.Going.{AreRowsHeard}
+use Rattle.binary_consensus.proofs.RowCounts.{is_other, length_four}
 
 -- ---- what is accepted, by counts
-
--- votes that are none of 0, 1 and 2
-abbrev is_other : ℕ → Bool
-is_other x = if x == 0 then false else if x == 1 then false else if x == 2 then false else true
-
-length_four : (xs : List ℕ) → length xs ≡ votes 0 xs + votes 1 xs + votes 2 xs + count_by is_other xs
-length_four [] = refl
-length_four (x ∷ xs) = go (x == 0) (x == 1) (x == 2) refl refl refl (one_more (λ y. y == 0) x xs) (one_more (λ y. y == 1) x xs) (one_more (λ y. y == 2) x xs) (one_more is_other x xs) (length_four xs)
-  where
-    go : (a b d : Bool) → (x == 0) ≡ a → (x == 1) ≡ b → (x == 2) ≡ d
-        → votes 0 (x ∷ xs) ≡ cond a 1 0 + votes 0 xs → votes 1 (x ∷ xs) ≡ cond b 1 0 + votes 1 xs → votes 2 (x ∷ xs) ≡ cond d 1 0 + votes 2 xs
-        → count_by is_other (x ∷ xs) ≡ cond (if a then false else if b then false else if d then false else true) 1 0 + count_by is_other xs
-        → length xs ≡ votes 0 xs + votes 1 xs + votes 2 xs + count_by is_other xs
-        → length (x ∷ xs) ≡ votes 0 (x ∷ xs) + votes 1 (x ∷ xs) + votes 2 (x ∷ xs) + count_by is_other (x ∷ xs)
-    go true true d p q r i j k l e = let a = eqb-true x 0 p in let b = eqb-true x 1 q in absurd (omega (arith, a, b))
-    go true false true p q r i j k l e = let a = eqb-true x 0 p in let b = eqb-true x 2 r in absurd (omega (arith, a, b))
-    go true false false p q r i j k l e = omega arith
-    go false true true p q r i j k l e = let a = eqb-true x 1 q in let b = eqb-true x 2 r in absurd (omega (arith, a, b))
-    go false true false p q r i j k l e = omega arith
-    go false false true p q r i j k l e = omega arith
-    go false false false p q r i j k l e = omega arith
 
 holds_passed : (s test : ℕ → Bool) (o : Option ℕ) → has_passing_vote s (passed_vote test o) ≡ true → has_passing_vote s o ≡ true
 holds_passed s test None q = absurd cc
@@ -91,7 +68,7 @@ others_passed test a ks =
 kept_votes : (b : Bool) (n m : ℕ) → n ≡ m → count_kept b n ≡ count_kept b m
 kept_votes b n m e = ap (count_kept b) e
 
-taken_tally : DependsOnCounts → (p : Numbers) (t : ℕ) (before heard : Tally) (vs : List ℕ) (a : ℕ → Option ℕ) (ks : List ℕ) → IsTally before vs → IsTally heard (listed a ks)
+pub taken_tally : DependsOnCounts → (p : Numbers) (t : ℕ) (before heard : Tally) (vs : List ℕ) (a : ℕ → Option ℕ) (ks : List ℕ) → IsTally before vs → IsTally heard (listed a ks)
     → IsTally (tally_taken p (suc t) before heard) (listed (λ k. passed_vote (λ v. may_give p (step_of t) v vs) (a k)) ks)
 taken_tally alone p t before heard vs a ks is tally =
     let test : ℕ → Bool = λ v. may_give p (step_of t) v vs in
@@ -106,96 +83,19 @@ taken_tally alone p t before heard vs a ks is tally =
     let tz = tally.zeros in let to = tally.ones in let tu = tally.nones in let ta = tally.all in
     record { zeros = z; ones = o; nones = u; all = omega (arith, z, o, u, all, some, rest, tz, to, tu, ta) }
 
--- the counts of what is accepted
-pub counted_tally : DependsOnCounts → (at : Bench) (hs : List Tally) (w : List Word) → AreCountsHeard at hs w → (t : ℕ) → t < 600
-    → IsTally (accepted_tally at.numbers hs t) (accepted at.numbers (heard at w) t)
-counted_tally alone at hs w are zero l = are zero l
-counted_tally alone at hs w are (suc t) l =
-    taken_tally alone at.numbers t (accepted_tally at.numbers hs t) (tally_at hs (suc t)) (accepted at.numbers (heard at w) t) (heard at w (suc t)) (replicas at.numbers.n)
-    (counted_tally alone at hs w are t (omega arith)) (are (suc t) l)
+-- ---- the same votes
 
--- ---- one more vote
+listed_same : (a b : ℕ → Option ℕ) (from n : ℕ) → ((k : ℕ) → k < from + n → a k ≡ b k) → listed a (range_with_len from n) ≡ listed b (range_with_len from n)
+listed_same a b from zero same = refl
+listed_same a b from (suc n) same = ap₂ push (same from (omega arith)) (listed_same a b (from + 1) n (λ k l. same k (omega (arith, l))))
 
--- the votes of two lists of origins are the same but for one origin
-record IsOneMore (a b : ℕ → Option ℕ) (k v : ℕ) : Type 0 where
-  none_before : a k ≡ None
-  some_after : b k ≡ Some v
-  others : (j : ℕ) → (j ≡ k → ⊥) → b j ≡ a j
-
-listed_same : (a b : ℕ → Option ℕ) (from n k : ℕ) → ((j : ℕ) → (j ≡ k → ⊥) → b j ≡ a j) → (k < from) ⊎ (from + n ≤ k)
-    → listed b (range_with_len from n) ≡ listed a (range_with_len from n)
-listed_same a b from zero k same out = refl
-listed_same a b from (suc n) k same out =
-    ap₂ push (same from (λ e. apart out e)) (listed_same a b (from + 1) n k same (further out))
-  where
-    apart : (k < from) ⊎ (from + suc n ≤ k) → from ≡ k → ⊥
-    apart (inl l) e = omega (arith, l, e)
-    apart (inr l) e = omega (arith, l, e)
-
-    further : (k < from) ⊎ (from + suc n ≤ k) → (k < from + 1) ⊎ (from + 1 + n ≤ k)
-    further (inl l) = inl (omega arith)
-    further (inr l) = inr (omega arith)
-
-module _ (size : List ℕ → ℕ) (weight : ℕ → ℕ) (step : (v : ℕ) (vs : List ℕ) → size (v ∷ vs) ≡ weight v + size vs) where
-  size_more : (a b : ℕ → Option ℕ) (k v : ℕ) → IsOneMore a b k v → (from n : ℕ) → from ≤ k → k < from + n
-      → size (listed b (range_with_len from n)) ≡ weight v + size (listed a (range_with_len from n))
-  size_more a b k v one from zero low high = absurd (omega arith)
-  size_more a b k v one from (suc n) low high =
-      elim (cases_eq from k) [
-        | inl here ↦
-            let after : b from ≡ Some v = ap b here ∙ one.some_after in
-            let before : a from ≡ None = ap a here ∙ one.none_before in
-            let tail = listed_same a b (from + 1) n k one.others (inl (omega (arith, here))) in
-            ap size (ap₂ push after tail) ∙ (step v (listed a (range_with_len (from + 1) n))
-            ∙ ap (λ (o : Option ℕ). weight v + size (push o (listed a (range_with_len (from + 1) n)))) (sym before))
-        | inr other ↦
-            let tail = size_more a b k v one (from + 1) n (omega (arith, low, other)) (omega (arith, high)) in
-            ap (λ (o : Option ℕ). size (push o (listed b (range_with_len (from + 1) n)))) (one.others from other)
-            ∙ add (a from) (listed b (range_with_len (from + 1) n)) (listed a (range_with_len (from + 1) n)) tail
-      ]
-    where
-      add : (o : Option ℕ) (ys xs : List ℕ) → size ys ≡ weight v + size xs → size (push o ys) ≡ weight v + size (push o xs)
-      add None ys xs e = e
-      add (Some u) ys xs e = let l = step u ys in let r = step u xs in omega (arith, l, r, e)
-
-listed_few : (a : ℕ → Option ℕ) (ks : List ℕ) → length (listed a ks) ≤ length ks
-listed_few a [] = omega arith
-listed_few a (k ∷ ks) = go (a k) (listed_few a ks)
-  where
-    go : (o : Option ℕ) → length (listed a ks) ≤ length ks → length (push o (listed a ks)) ≤ suc (length ks)
-    go None l = omega arith
-    go (Some v) l = omega arith
-
-record ListedMore (a b : ℕ → Option ℕ) (n v : ℕ) : Type 0 where
-  value : (u : ℕ) → votes u (listed b (replicas n)) ≡ cond (v == u) 1 0 + votes u (listed a (replicas n))
-  size : length (listed b (replicas n)) ≡ 1 + length (listed a (replicas n))
-  room : length (listed a (replicas n)) < n
-
-listed_more : (a b : ℕ → Option ℕ) (k v n : ℕ) → IsOneMore a b k v → k < n → ListedMore a b n v
-listed_more a b k v n one l =
-    let size = size_more length (λ x. 1) (λ x vs. omega arith) a b k v one 0 n (omega arith) (omega (arith, l)) in
-    let few = listed_few b (replicas n) in
-    let all = length-range_with_len 0 n in
-    record {
-      value = λ u. size_more (votes u) (λ x. cond (x == u) 1 0) (λ x vs. one_more (λ y. y == u) x vs) a b k v one 0 n (omega arith) (omega (arith, l));
-      size = size;
-      room = omega (arith, size, few, all);
-    }
-
-more_tally : (t : Tally) (v n : ℕ) (a b : ℕ → Option ℕ) → v < 3 → ListedMore a b n v → IsTally t (listed a (replicas n)) → IsTally (with_vote v t) (listed b (replicas n))
-more_tally t zero n a b l more is =
-    let z = more.value 0 in let o = more.value 1 in let u = more.value 2 in let s = more.size in
-    let tz = is.zeros in let to = is.ones in let tu = is.nones in let ta = is.all in
-    record { zeros = omega (arith, z, tz); ones = omega (arith, o, to); nones = omega (arith, u, tu); all = omega (arith, s, ta) }
-more_tally t (suc zero) n a b l more is =
-    let z = more.value 0 in let o = more.value 1 in let u = more.value 2 in let s = more.size in
-    let tz = is.zeros in let to = is.ones in let tu = is.nones in let ta = is.all in
-    record { zeros = omega (arith, z, tz); ones = omega (arith, o, to); nones = omega (arith, u, tu); all = omega (arith, s, ta) }
-more_tally t (suc (suc zero)) n a b l more is =
-    let z = more.value 0 in let o = more.value 1 in let u = more.value 2 in let s = more.size in
-    let tz = is.zeros in let to = is.ones in let tu = is.nones in let ta = is.all in
-    record { zeros = omega (arith, z, tz); ones = omega (arith, o, to); nones = omega (arith, u, tu); all = omega (arith, s, ta) }
-more_tally t (suc (suc (suc v))) n a b l more is = absurd (omega (arith, l))
+-- where the same was heard, the same is accepted
+pub accepted_same : (p : Numbers) (a b : ℕ → ℕ → Option ℕ) (t : ℕ) → ((s k : ℕ) → s ≤ t → k < p.n → a s k ≡ b s k) → accepted p a t ≡ accepted p b t
+accepted_same p a b zero same = listed_same (a 0) (b 0) 0 p.n (λ k l. same 0 k (omega arith) (omega (arith, l)))
+accepted_same p a b (suc t) same =
+    let before = accepted_same p a b t (λ s k l m. same s k (omega (arith, l)) m) in
+    listed_same _ _ 0 p.n (λ k l.
+    ap₂ (λ (vs : List ℕ) (o : Option ℕ). passed_vote (λ v. may_give p (step_of t) v vs) o) before (same (suc t) k (omega arith) (omega (arith, l))))
 
 -- ---- a word that hears
 
@@ -209,45 +109,23 @@ heard_still at w t k s j v ne =
     (ap (λ (b : Bool). option_or (value_at w (line_slot at s j)) (if b then Some (v ∷ []) else None)) (false_from_ne_true _ (λ e. ne (same_slot _ _ e)))
     ∙ option_or_none (value_at w (line_slot at s j)))
 
-listed_all : (a b : ℕ → Option ℕ) → ((k : ℕ) → b k ≡ a k) → (ks : List ℕ) → listed b ks ≡ listed a ks
-listed_all a b e [] = refl
-listed_all a b e (k ∷ ks) = ap₂ push (e k) (listed_all a b e ks)
+-- at a step nothing was heard from an origin whose word is the first
+pub unheard_row : (at : Bench) (rows : List (List ℕ)) (w : List Word) (t k : ℕ) → AreRowsHeard at rows w → t < 600 → k < at.numbers.n → is_heard w (line_slot at t k) ≡ false
+    → row_votes rows t k ≡ None
+unheard_row at rows w t k are l within first = are t k l within ∙ ap vote_heard (unheard w (line_slot at t k) first)
 
--- there was room for a vote that was not heard
-pub heard_room : (at : Bench) (hs : List Tally) (w : List Word) (t k v : ℕ) → AreCountsHeard at hs w → t < 600 → k < at.numbers.n → is_heard w (line_slot at t k) ≡ false
-    → vote_count (tally_at hs t) < at.numbers.n
-heard_room at hs w t k v are l within first =
-    let more = listed_more (heard at w t) (heard at (Hear (line_slot at t k) (v ∷ []) ∷ w) t) k v at.numbers.n (one_more_heard at w t k v first) within in
-    let all = (are t l).all in
-    let room = more.room in
-    omega (arith, all, room)
-  where
-    one_more_heard : (at : Bench) (w : List Word) (t k v : ℕ) → is_heard w (line_slot at t k) ≡ false
-        → IsOneMore (heard at w t) (heard at (Hear (line_slot at t k) (v ∷ []) ∷ w) t) k v
-    one_more_heard at w t k v first = record {
-      none_before = ap vote_heard (unheard w (line_slot at t k) first);
-      some_after = heard_now at w t k v first;
-      others = λ j ne. heard_still at w t k t j v (λ e. ne (sym (ap (λ (q : Slot). q.origin) e)));
-    }
-
-pub heard_one_more : (at : Bench) (old new : HeardTallies) (w : List Word) (t k v : ℕ) → AreCountsHeard at old.votes w → HearsOneVote t v old new → t < 600 → k < at.numbers.n
-    → is_heard w (line_slot at t k) ≡ false → v < 3 → AreCountsHeard at new.votes (Hear (line_slot at t k) (v ∷ []) ∷ w)
-heard_one_more at old new w t k v are hears l within first small s ls =
+pub heard_one_more : (at : Bench) (old new : HeardRows) (w : List Word) (t k v : ℕ) → AreRowsHeard at old.rows w → HearsOneVote t k v old new
+    → is_heard w (line_slot at t k) ≡ false → AreRowsHeard at new.rows (Hear (line_slot at t k) (v ∷ []) ∷ w)
+heard_one_more at old new w t k v are hears first s j ls lj =
     elim (cases_eq s t) [
-      | inl same ↦ subst (λ (r : ℕ). IsTally (tally_at new.votes r) (listed (heard at (Hear (line_slot at t k) (v ∷ []) ∷ w) r) (replicas at.numbers.n))) (sym same)
-          (subst (λ (x : Tally). IsTally x (listed (heard at (Hear (line_slot at t k) (v ∷ []) ∷ w) t) (replicas at.numbers.n))) (sym hears.here)
-          (more_tally (tally_at old.votes t) v at.numbers.n (heard at w t) (heard at (Hear (line_slot at t k) (v ∷ []) ∷ w) t) small
-          (listed_more (heard at w t) (heard at (Hear (line_slot at t k) (v ∷ []) ∷ w) t) k v at.numbers.n one within) (are t l)))
-      | inr other ↦
-          let votes : listed (heard at (Hear (line_slot at t k) (v ∷ []) ∷ w) s) (replicas at.numbers.n) ≡ listed (heard at w s) (replicas at.numbers.n) =
-          listed_all (heard at w s) (heard at (Hear (line_slot at t k) (v ∷ []) ∷ w) s) (λ j. heard_still at w t k s j v (λ e. other (sym (one_step at t s k j e)))) (replicas at.numbers.n) in
-          subst (λ (x : Tally). IsTally x (listed (heard at (Hear (line_slot at t k) (v ∷ []) ∷ w) s) (replicas at.numbers.n))) (sym (hears.others s other))
-          (subst (λ (vs : List ℕ). IsTally (tally_at old.votes s) vs) (sym votes) (are s ls))
+      | inl same ↦ elim (cases_eq j k) [
+        | inl here ↦
+            subst (λ (r : ℕ). row_votes new.rows r j ≡ heard at (Hear (line_slot at t k) (v ∷ []) ∷ w) r j) (sym same)
+            (subst (λ (i : ℕ). row_votes new.rows t i ≡ heard at (Hear (line_slot at t k) (v ∷ []) ∷ w) t i) (sym here) (hears.here ∙ sym (heard_now at w t k v first)))
+        | inr other ↦ kept (λ q. other q.1) (λ e. other (sym (ap (λ (q : Slot). q.origin) e)))
+      ]
+      | inr other ↦ kept (λ q. other q.0) (λ e. other (sym (one_step at t s k j e)))
     ]
   where
-    one : IsOneMore (heard at w t) (heard at (Hear (line_slot at t k) (v ∷ []) ∷ w) t) k v
-    one = record {
-      none_before = ap vote_heard (unheard w (line_slot at t k) first);
-      some_after = heard_now at w t k v first;
-      others = λ j ne. heard_still at w t k t j v (λ e. ne (sym (ap (λ (q : Slot). q.origin) e)));
-    }
+    kept : ((s ≡ t) × (j ≡ k) → ⊥) → (line_slot at t k ≡ line_slot at s j → ⊥) → row_votes new.rows s j ≡ heard at (Hear (line_slot at t k) (v ∷ []) ∷ w) s j
+    kept apart ne = hears.others s j apart ∙ (are s j ls lj ∙ sym (heard_still at w t k s j v ne))

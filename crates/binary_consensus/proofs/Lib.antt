@@ -1,3 +1,4 @@
+mod RowCounts
 mod Lines
 mod Turning
 mod Hearing

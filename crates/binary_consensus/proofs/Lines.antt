@@ -1,14 +1,33 @@
--- The accepted votes of the steps, brought up to date one after the other.
-use Rattle.std.proofs.Common.{◌≡◌, ◌≢◌, ℕ, zero, suc, ◌-◌, ◌<◌, ◌≤◌, ◌==◌, ◌%◌, Bool, true, false, if◌then◌else◌, List, [], ◌∷◌, ◌++◌, take, replicate, length, get_or, set, get_or-set_same, get_or-set_other, refl, sym, ◌∙◌, ap, ap₂, subst, arith, eqb-true, inl, inr}
+-- The rows of the steps and the accepted votes, brought up to date one after the other.
+use Rattle.std.proofs.Common.{◌≡◌, ◌≢◌, ℕ, zero, suc, ◌+◌, ◌-◌, ◌<◌, ◌≤◌, ◌==◌, ◌%◌, Bool, true, false, if◌then◌else◌, List, [], ◌∷◌, ◌++◌, take, replicate, length, get_or, set, get_or-set_same, get_or-set_other, Some, None, ◌⊎◌, refl, sym, ◌∙◌, ap, ap₂, subst, arith, eqb-true, ne_eqb, inl, inr}
 use Rattle.std.proofs.lemmas.Bool.{cases_eq}
 use Rattle.ritas_base.specs.Numbers.{Numbers}
+use Rattle.ritas_base.specs.History.{replicas}
+use Rattle.ritas_base.specs.Places.{listed}
 use Rattle.layer_api.specs.Binary.{vote_limit}
 use Rattle.bracha_validation.specs.declared.tally.Tally.{Tally}
-use Rattle.bracha_validation.specs.Tallies.{vote_count, tally_votes}
+use Rattle.bracha_validation.specs.Tallies.{vote_count, tally_votes, IsTally, DependsOnCounts}
 use Rattle.bracha_validation.specs.Votes.{may_give}
-use Rattle.binary_consensus.specs.Steps.{step_of}
-use Rattle.binary_consensus.specs.Counts.{none, count_kept, tally_taken, tally_at, accepted_tally, with_vote, HearsOneVote, HearsRow, row, heards, before_row, IsSmall, AreSmall, IsSettledAt, IsLine, IsLineBut}
+use Rattle.binary_consensus.specs.Steps.{step_of, accepted}
+use Rattle.binary_consensus.specs.Counts.{byte_vote, silent_row, row_votes, none, row_tally, count_kept, tally_taken, HearsOneVote, HearsByte, row, sender_byte, heards, heard_tally, before_row, IsVoteRow, AreVoteRows, IsSettledAt, IsLine, IsLineBut}
 use Rattle.binary_consensus.specs.declared.line.StepVotes.{StepVotes}
+use Rattle.binary_consensus.proofs.RowCounts.{row_few, row_without, unheard_byte, row_listed}
+use Rattle.std.proofs.lemmas.List.{length-set}
+use Rattle.binary_consensus.proofs.Hearing.{taken_tally}
+
+-- there are no more votes than replicas, and they are votes of their step
+pub record IsSmall (p : Numbers) (t : ℕ) (votes : Tally) : Type 0 where
+  pub few : vote_count votes ≤ p.n
+  pub bits : vote_limit (step_of t) ≡ 2 → votes.nones ≡ 0
+
+heard_small : (p : Numbers) (rows : List StepVotes) (t : ℕ) → AreVoteRows rows → IsSmall p t (heard_tally p rows t)
+heard_small p rows t votes = record {
+  few = row_few (row rows t).heard p.n;
+  bits = λ e. row_without 2 (row rows t).heard p.n (λ k q. elim ((votes t).votes k) [
+    | inl nothing ↦ absurd (omega (arith, nothing, q))
+    | inr less ↦ absurd (omega (arith, less, e, q))
+  ]);
+}
 
 kept_less : (b : Bool) (n : ℕ) → count_kept b n ≤ n
 kept_less true n = omega arith
@@ -26,8 +45,12 @@ taken_small p (suc t) before heard small =
       bits = λ e. let none = small.bits e in omega (arith, u, none);
     }
 
-pub accepted_small : (p : Numbers) (rows : List StepVotes) (t : ℕ) → AreSmall p rows → IsSettledAt p rows t → IsSmall p t (row rows t).accepted
-accepted_small p rows t small settled = subst (λ (v : Tally). IsSmall p t v) (sym settled) (taken_small p t (before_row rows t) (row rows t).heard (small t))
+pub accepted_small : (p : Numbers) (rows : List StepVotes) (t : ℕ) → AreVoteRows rows → IsSettledAt p rows t → IsSmall p t (row rows t).accepted
+accepted_small p rows t votes settled =
+    subst (λ (v : Tally). IsSmall p t v) (sym settled) (taken_small p t (before_row rows t) (heard_tally p rows t) (heard_small p rows t votes))
+
+pub accepted_few : (p : Numbers) (rows : List StepVotes) (t : ℕ) → IsLine p rows → vote_count (row rows t).accepted ≤ p.n
+accepted_few p rows t line = (accepted_small p rows t line.votes (line.settled t)).few
 
 pub record BeforeSmall (p : Numbers) (t : ℕ) (votes : Tally) : Type 0 where
   pub bits : step_of t ≡ 2 → votes.nones ≡ 0
@@ -37,7 +60,7 @@ pub record BeforeSmall (p : Numbers) (t : ℕ) (votes : Tally) : Type 0 where
 pub before_small : (p : Numbers) (rows : List StepVotes) (t : ℕ) → IsLineBut p t rows → BeforeSmall p t (before_row rows t)
 before_small p rows zero line = record { bits = λ e. refl; few = omega arith }
 before_small p rows (suc t) line =
-    let small = accepted_small p rows t line.small (line.settled t (λ e. omega (arith, e))) in
+    let small = accepted_small p rows t line.votes (line.settled t (λ e. omega (arith, e))) in
     record {
       bits = λ e. let one : step_of t ≡ 1 = omega (arith, e) in small.bits (ap vote_limit one);
       few = small.few;
@@ -46,7 +69,7 @@ before_small p rows (suc t) line =
 -- the accepted votes of a step as they were
 pub settled_here : (p : Numbers) (rows : List StepVotes) (t : ℕ) → IsLineBut p t rows → IsSettledAt p rows t → IsLine p rows
 settled_here p rows t line here = record {
-  small = line.small;
+  votes = line.votes;
   settled = λ s. elim (cases_eq s t) [ inl same ↦ subst (λ (r : ℕ). IsSettledAt p rows r) (sym same) here | inr other ↦ line.settled s other ];
 }
 
@@ -54,7 +77,7 @@ abbrev pub with_accepted : List StepVotes → ℕ → Tally → List StepVotes
 with_accepted rows t votes = set rows t (record { heard = (row rows t).heard; accepted = votes })
 
 abbrev blank : StepVotes
-blank = record { heard = none; accepted = none }
+blank = record { heard = silent_row; accepted = none }
 
 pub heards_set : (rows : List StepVotes) (t : ℕ) (votes : Tally) → heards (with_accepted rows t votes) ≡ heards rows
 heards_set [] t votes = refl
@@ -78,18 +101,21 @@ before_kept : (rows : List StepVotes) (t s : ℕ) (votes : Tally) → (s ≡ suc
 before_kept rows t zero votes ne = refl
 before_kept rows t (suc s) votes ne = ap (λ (r : StepVotes). r.accepted) (row_other rows t s votes (λ e. ne (ap suc e)))
 
+abbrev counted : Numbers → List ℕ → Tally
+counted p bytes = row_tally (take p.n bytes)
+
 -- the accepted votes of a step brought up to date
 pub settled_next : (p : Numbers) (rows : List StepVotes) (t : ℕ) (votes : Tally) → t < length rows → IsLineBut p t rows
-    → votes ≡ tally_taken p t (before_row rows t) (row rows t).heard → IsLineBut p (suc t) (with_accepted rows t votes)
+    → votes ≡ tally_taken p t (before_row rows t) (heard_tally p rows t) → IsLineBut p (suc t) (with_accepted rows t votes)
 settled_next p rows t votes l line e = record {
-  small = λ s. subst (λ (v : Tally). IsSmall p s v) (sym (heard_kept rows t s votes l)) (line.small s);
+  votes = λ s. subst (IsVoteRow s) (sym (heard_kept rows t s votes l)) (line.votes s);
   settled = λ s ne. elim (cases_eq s t) [
     | inl same ↦ subst (λ (r : ℕ). IsSettledAt p (with_accepted rows t votes) r) (sym same)
         (ap (λ (r : StepVotes). r.accepted) (row_same rows t votes l)
-        ∙ (e ∙ sym (ap₂ (tally_taken p t) (before_kept rows t t votes (λ q. omega (arith, q))) (heard_kept rows t t votes l))))
+        ∙ (e ∙ sym (ap₂ (tally_taken p t) (before_kept rows t t votes (λ q. omega (arith, q))) (ap (counted p) (heard_kept rows t t votes l)))))
     | inr other ↦
         ap (λ (r : StepVotes). r.accepted) (row_other rows t s votes other)
-        ∙ (line.settled s other ∙ sym (ap₂ (tally_taken p s) (before_kept rows t s votes ne) (heard_kept rows t s votes l)))
+        ∙ (line.settled s other ∙ sym (ap₂ (tally_taken p s) (before_kept rows t s votes ne) (ap (counted p) (heard_kept rows t s votes l))))
   ];
 }
 
@@ -111,79 +137,155 @@ get_past [] k d l = refl
 get_past (x ∷ xs) zero d l = absurd (omega arith)
 get_past (x ∷ xs) (suc k) d l = get_past xs k d (omega arith)
 
+-- in a row in which nothing was heard there is no vote
+silent_none : (p : Numbers) → none ≡ counted p silent_row
+silent_none p =
+    let z = row_without 0 silent_row p.n (λ k q. let e = unheard_byte 31 k in absurd (omega (arith, e, q))) in
+    let o = row_without 1 silent_row p.n (λ k q. let e = unheard_byte 31 k in absurd (omega (arith, e, q))) in
+    let u = row_without 2 silent_row p.n (λ k q. let e = unheard_byte 31 k in absurd (omega (arith, e, q))) in
+    three z o u
+  where
+    three : {z o u : ℕ} → z ≡ 0 → o ≡ 0 → u ≡ 0 → none ≡ record { zeros = z; ones = o; nones = u }
+    three ez eo eu = rw (ez, eo, eu) refl
+
 -- past the end nothing is to be done
 pub settled_end : (p : Numbers) (rows : List StepVotes) (t : ℕ) → length rows ≤ t → IsLineBut p t rows → IsLine p rows
 settled_end p rows t l line =
-    settled_here p rows t line (subst (λ (r : StepVotes). r.accepted ≡ tally_taken p t (before_row rows t) r.heard) (sym (get_past rows t blank l)) (taken_none p t (before_row rows t)))
+    settled_here p rows t line (subst (λ (r : StepVotes). r.accepted ≡ tally_taken p t (before_row rows t) (counted p r.heard)) (sym (get_past rows t blank l))
+    (taken_none p t (before_row rows t) ∙ ap (tally_taken p t (before_row rows t)) (silent_none p)))
 
-row_heard : (rows : List StepVotes) (t : ℕ) → tally_at (heards rows) t ≡ (row rows t).heard
+row_heard : (rows : List StepVotes) (t : ℕ) → get_or (heards rows) t silent_row ≡ (row rows t).heard
 row_heard [] t = refl
 row_heard (r ∷ rows) zero = refl
 row_heard (r ∷ rows) (suc t) = row_heard rows t
 
+votes_are : (rows : List StepVotes) (t k : ℕ) → row_votes (heards rows) t k ≡ byte_vote (sender_byte rows t k)
+votes_are rows t k = ap (λ (bytes : List ℕ). byte_vote (get_or bytes k 255)) (row_heard rows t)
+
+limit_three : (step : ℕ) → vote_limit step ≤ 3
+limit_three step = go (step == 3)
+  where
+    go : (b : Bool) → (if b then 3 else 2) ≤ 3
+    go true = omega arith
+    go false = omega arith
+
+-- the counts of a row are those of the votes heard
+heard_counted : (p : Numbers) (rows : List StepVotes) (t : ℕ) → AreVoteRows rows → IsTally (heard_tally p rows t) (listed (row_votes (heards rows) t) (replicas p.n))
+heard_counted p rows t votes =
+    row_listed (row_votes (heards rows) t) (row rows t).heard 0 p.n
+    (λ k. let here : 0 + k ≡ k = omega arith in ap (row_votes (heards rows) t) here ∙ votes_are rows t k)
+    (λ k. elim ((votes t).votes k) [ inl nothing ↦ inl nothing | inr less ↦ inr (let three = limit_three (step_of t) in omega (arith, less, three)) ])
+
 -- the accepted votes that are kept are those that count
-pub accepted_counted : (p : Numbers) (rows : List StepVotes) (t : ℕ) → IsLine p rows → (row rows t).accepted ≡ accepted_tally p (heards rows) t
-accepted_counted p rows zero line = line.settled zero ∙ sym (row_heard rows zero)
-accepted_counted p rows (suc t) line = line.settled (suc t) ∙ ap₂ (tally_taken p (suc t)) (accepted_counted p rows t line) (sym (row_heard rows (suc t)))
+pub accepted_counted : DependsOnCounts → (p : Numbers) (rows : List StepVotes) (t : ℕ) → IsLine p rows → IsTally (row rows t).accepted (accepted p (row_votes (heards rows)) t)
+accepted_counted alone p rows zero line =
+    subst (λ (x : Tally). IsTally x (accepted p (row_votes (heards rows)) zero)) (sym (line.settled zero)) (heard_counted p rows zero line.votes)
+accepted_counted alone p rows (suc t) line =
+    subst (λ (x : Tally). IsTally x (accepted p (row_votes (heards rows)) (suc t))) (sym (line.settled (suc t)))
+    (taken_tally alone p t (row rows t).accepted (heard_tally p rows (suc t)) (accepted p (row_votes (heards rows)) t) (row_votes (heards rows) (suc t)) (replicas p.n)
+    (accepted_counted alone p rows t line) (heard_counted p rows (suc t) line.votes))
+
+-- past the end there are none
+pub none_past : (rows : List StepVotes) (t : ℕ) → length rows ≤ t → (row rows t).accepted ≡ none
+none_past rows t l = ap (λ (r : StepVotes). r.accepted) (get_past rows t blank l)
+
+-- a step that is read
+pub index_row : (rows : List StepVotes) (t : ℕ) → t < length rows → get_or rows t (record { heard = []; accepted = none }) ≡ row rows t
+index_row [] t l = absurd (omega arith)
+index_row (r ∷ rows) zero l = refl
+index_row (r ∷ rows) (suc t) l = index_row rows t (omega arith)
+
+-- the byte of a sender that is read
+pub byte_read : (rows : List StepVotes) (t k : ℕ) → t < length rows → k < length (row rows t).heard
+    → get_or (get_or rows t (record { heard = []; accepted = none })).heard k 0 ≡ sender_byte rows t k
+byte_read rows t k l m = ap (λ (r : StepVotes). get_or r.heard k 0) (index_row rows t l) ∙ any (row rows t).heard k m
+  where
+    any : (xs : List ℕ) (k : ℕ) → k < length xs → get_or xs k 0 ≡ get_or xs k 255
+    any [] k m = absurd (omega arith)
+    any (x ∷ xs) zero m = refl
+    any (x ∷ xs) (suc k) m = any xs k (omega arith)
 
 pub before_first : (rows : List StepVotes) (t : ℕ) → t ≡ 0 → none ≡ before_row rows t
 before_first rows zero e = refl
 before_first rows (suc t) e = absurd (omega arith)
 
-pub before_later : (rows : List StepVotes) (t : ℕ) → (t ≡ 0 → ⊥) → (row rows (t - 1)).accepted ≡ before_row rows t
-before_later rows zero ne = absurd (ne refl)
-before_later rows (suc t) ne = let e : suc t - 1 ≡ t = omega arith in ap (λ (k : ℕ). (row rows k).accepted) e
+pub before_later : (rows : List StepVotes) (t : ℕ) → (t ≡ 0 → ⊥) → t - 1 < length rows → (get_or rows (t - 1) (record { heard = []; accepted = none })).accepted ≡ before_row rows t
+before_later rows zero ne l = absurd (ne refl)
+before_later rows (suc t) ne l =
+    let e : suc t - 1 ≡ t = omega arith in
+    ap (λ (r : StepVotes). r.accepted) (index_row rows (suc t - 1) l) ∙ ap (λ (k : ℕ). (row rows k).accepted) e
+
+-- the votes that are accepted by what is read
+pub taken_here : (p : Numbers) (rows : List StepVotes) (t n : ℕ) (before votes : Tally) → n ≡ p.n → t < length rows → before ≡ before_row rows t
+    → votes ≡ tally_taken p t before (row_tally (take n (get_or rows t (record { heard = []; accepted = none })).heard))
+    → votes ≡ tally_taken p t (before_row rows t) (heard_tally p rows t)
+taken_here p rows t n before votes all l is e =
+    e ∙ ap₂ (tally_taken p t) is (ap₂ (λ (m : ℕ) (r : StepVotes). row_tally (take m r.heard)) all (index_row rows t l))
 
 -- ---- one more vote
 
-abbrev pub with_heard : List StepVotes → ℕ → Tally → List StepVotes
-with_heard rows t votes = set rows t (record { heard = votes; accepted = (row rows t).accepted })
+abbrev pub with_byte : List StepVotes → ℕ → ℕ → ℕ → List StepVotes
+with_byte rows t k v = set rows t (record { heard = set (row rows t).heard k v; accepted = (row rows t).accepted })
 
-heard_here : (rows : List StepVotes) (t : ℕ) (votes : Tally) → t < length rows → (row (with_heard rows t votes) t).heard ≡ votes
-heard_here rows t votes l = ap (λ (r : StepVotes). r.heard) (get_or-set_same rows t (record { heard = votes; accepted = (row rows t).accepted }) blank l)
+heard_here : (rows : List StepVotes) (t k v : ℕ) → t < length rows → (row (with_byte rows t k v) t).heard ≡ set (row rows t).heard k v
+heard_here rows t k v l = ap (λ (r : StepVotes). r.heard) (get_or-set_same rows t (record { heard = set (row rows t).heard k v; accepted = (row rows t).accepted }) blank l)
 
-heard_other : (rows : List StepVotes) (t s : ℕ) (votes : Tally) → s ≢ t → (row (with_heard rows t votes) s).heard ≡ (row rows s).heard
-heard_other rows t s votes ne = ap (λ (r : StepVotes). r.heard) (get_or-set_other rows t s (record { heard = votes; accepted = (row rows t).accepted }) blank ne)
+heard_other : (rows : List StepVotes) (t k v s : ℕ) → s ≢ t → (row (with_byte rows t k v) s).heard ≡ (row rows s).heard
+heard_other rows t k v s ne = ap (λ (r : StepVotes). r.heard) (get_or-set_other rows t s (record { heard = set (row rows t).heard k v; accepted = (row rows t).accepted }) blank ne)
 
-accepted_same : (rows : List StepVotes) (t s : ℕ) (votes : Tally) → t < length rows → (row (with_heard rows t votes) s).accepted ≡ (row rows s).accepted
-accepted_same rows t s votes l =
+accepted_same : (rows : List StepVotes) (t k v s : ℕ) → t < length rows → (row (with_byte rows t k v) s).accepted ≡ (row rows s).accepted
+accepted_same rows t k v s l =
     elim (cases_eq s t) [
-      | inl same ↦ subst (λ (r : ℕ). (row (with_heard rows t votes) r).accepted ≡ (row rows r).accepted) (sym same)
-          (ap (λ (r : StepVotes). r.accepted) (get_or-set_same rows t (record { heard = votes; accepted = (row rows t).accepted }) blank l))
-      | inr other ↦ ap (λ (r : StepVotes). r.accepted) (get_or-set_other rows t s (record { heard = votes; accepted = (row rows t).accepted }) blank other)
+      | inl same ↦ subst (λ (r : ℕ). (row (with_byte rows t k v) r).accepted ≡ (row rows r).accepted) (sym same)
+          (ap (λ (r : StepVotes). r.accepted) (get_or-set_same rows t (record { heard = set (row rows t).heard k v; accepted = (row rows t).accepted }) blank l))
+      | inr other ↦ ap (λ (r : StepVotes). r.accepted) (get_or-set_other rows t s (record { heard = set (row rows t).heard k v; accepted = (row rows t).accepted }) blank other)
     ]
 
-before_same : (rows : List StepVotes) (t s : ℕ) (votes : Tally) → t < length rows → before_row (with_heard rows t votes) s ≡ before_row rows s
-before_same rows t zero votes l = refl
-before_same rows t (suc s) votes l = accepted_same rows t s votes l
+before_same : (rows : List StepVotes) (t k v s : ℕ) → t < length rows → before_row (with_byte rows t k v) s ≡ before_row rows s
+before_same rows t k v zero l = refl
+before_same rows t k v (suc s) l = accepted_same rows t k v s l
 
-vote_small : (p : Numbers) (t v : ℕ) (votes : Tally) → IsSmall p t votes → vote_count votes < p.n → v < vote_limit (step_of t) → IsSmall p t (with_vote v votes)
-vote_small p t zero votes small l m = record { few = omega arith; bits = small.bits }
-vote_small p t (suc zero) votes small l m = record { few = omega arith; bits = small.bits }
-vote_small p t (suc (suc v)) votes small l m = record { few = omega arith; bits = λ e. absurd (omega (arith, e, m)) }
+byte_here : (rows : List StepVotes) (t k v : ℕ) → t < length rows → k < length (row rows t).heard → sender_byte (with_byte rows t k v) t k ≡ v
+byte_here rows t k v l m = ap (λ (bytes : List ℕ). get_or bytes k 255) (heard_here rows t k v l) ∙ get_or-set_same (row rows t).heard k v 255 m
+
+byte_other : (rows : List StepVotes) (t k v s j : ℕ) → t < length rows → ((s ≡ t) × (j ≡ k) → ⊥) → sender_byte (with_byte rows t k v) s j ≡ sender_byte rows s j
+byte_other rows t k v s j l ne =
+    elim (cases_eq s t) [
+      | inl same ↦ subst (λ (r : ℕ). sender_byte (with_byte rows t k v) r j ≡ sender_byte rows r j) (sym same)
+          (ap (λ (bytes : List ℕ). get_or bytes j 255) (heard_here rows t k v l) ∙ get_or-set_other (row rows t).heard k j v 255 (λ e. ne (same, e)))
+      | inr other ↦ ap (λ (bytes : List ℕ). get_or bytes j 255) (heard_other rows t k v s other)
+    ]
 
 -- one more vote leaves all steps but its own up to date
-pub heard_but : (p : Numbers) (rows : List StepVotes) (t v : ℕ) → t < length rows → IsLine p rows → vote_count (row rows t).heard < p.n
-    → v < vote_limit (step_of t) → IsLineBut p t (with_heard rows t (with_vote v (row rows t).heard))
-heard_but p rows t v l line few small = record {
-  small = λ s. elim (cases_eq s t) [
-    | inl same ↦ subst (λ (r : ℕ). IsSmall p r (row (with_heard rows t (with_vote v (row rows t).heard)) r).heard) (sym same)
-        (subst (λ (x : Tally). IsSmall p t x) (sym (heard_here rows t (with_vote v (row rows t).heard) l)) (vote_small p t v (row rows t).heard (line.small t) few small))
-    | inr other ↦ subst (λ (x : Tally). IsSmall p s x) (sym (heard_other rows t s (with_vote v (row rows t).heard) other)) (line.small s)
+pub heard_but : (p : Numbers) (rows : List StepVotes) (t k v : ℕ) → t < length rows → k < length (row rows t).heard → IsLine p rows → v < vote_limit (step_of t)
+    → IsLineBut p t (with_byte rows t k v)
+heard_but p rows t k v l m line small = record {
+  votes = λ s. elim (cases_eq s t) [
+    | inl same ↦ subst (λ (r : ℕ). IsVoteRow r (row (with_byte rows t k v) r).heard) (sym same) (subst (IsVoteRow t) (sym (heard_here rows t k v l)) here)
+    | inr other ↦ subst (IsVoteRow s) (sym (heard_other rows t k v s other)) (line.votes s)
   ];
   settled = λ s ne.
-      accepted_same rows t s (with_vote v (row rows t).heard) l
-      ∙ (line.settled s ∙ sym (ap₂ (tally_taken p s) (before_same rows t s (with_vote v (row rows t).heard) l) (heard_other rows t s (with_vote v (row rows t).heard) ne)));
+      accepted_same rows t k v s l
+      ∙ (line.settled s ∙ sym (ap₂ (tally_taken p s) (before_same rows t k v s l) (ap (counted p) (heard_other rows t k v s ne))));
 }
+  where
+    here : IsVoteRow t (set (row rows t).heard k v)
+    here = record {
+      whole = length-set (row rows t).heard k v ∙ (line.votes t).whole;
+      votes = λ j. elim (cases_eq j k) [
+        | inl same ↦ inr (subst (λ (b : ℕ). b < vote_limit (step_of t))
+            (sym (subst (λ (i : ℕ). get_or (set (row rows t).heard k v) i 255 ≡ v) (sym same) (get_or-set_same (row rows t).heard k v 255 m))) small)
+        | inr other ↦ subst (λ (b : ℕ). (b ≡ 255) ⊎ (b < vote_limit (step_of t))) (sym (get_or-set_other (row rows t).heard k j v 255 other)) ((line.votes t).votes j)
+      ];
+    }
 
-heards_row : (old new : List StepVotes) → heards new ≡ heards old → (t : ℕ) → (row new t).heard ≡ (row old t).heard
-heards_row old new e t = sym (row_heard new t) ∙ (ap (λ ts. tally_at ts t) e ∙ row_heard old t)
+heards_byte : (old new : List StepVotes) → heards new ≡ heards old → (t k : ℕ) → sender_byte new t k ≡ sender_byte old t k
+heards_byte old new e t k = ap (λ (bytes : List ℕ). get_or bytes k 255) (sym (row_heard new t) ∙ (ap (λ (rs : List (List ℕ)). get_or rs t silent_row) e ∙ row_heard old t))
 
-pub hears_row : (rows new : List StepVotes) (t v : ℕ) → t < length rows → heards new ≡ heards (with_heard rows t (with_vote v (row rows t).heard))
-    → HearsRow t v rows new
-hears_row rows new t v l e = record {
-  here = heards_row _ new e t ∙ heard_here rows t (with_vote v (row rows t).heard) l;
-  others = λ s ne. heards_row _ new e s ∙ heard_other rows t s (with_vote v (row rows t).heard) ne;
+pub hears_byte : (rows new : List StepVotes) (t k v : ℕ) → t < length rows → k < length (row rows t).heard → heards new ≡ heards (with_byte rows t k v) → HearsByte t k v rows new
+hears_byte rows new t k v l m e = record {
+  here = heards_byte _ new e t k ∙ byte_here rows t k v l m;
+  others = λ s j ne. heards_byte _ new e s j ∙ byte_other rows t k v s j l ne;
 }
 
 -- ---- room for a step
@@ -201,33 +303,50 @@ get_padded d [] (suc n) (suc k) = get_padded d [] n k
 get_padded d (x ∷ xs) n zero = refl
 get_padded d (x ∷ xs) n (suc k) = get_padded d xs n k
 
-pub padded_row : (rows : List StepVotes) (n m t : ℕ) → length rows ≤ n → row (take n rows ++ replicate m (record { heard = none; accepted = none })) t ≡ row rows t
+pub padded_row : (rows : List StepVotes) (n m t : ℕ) → length rows ≤ n → row (take n rows ++ replicate m (record { heard = silent_row; accepted = none })) t ≡ row rows t
 padded_row rows n m t l = ap (λ (rs : List StepVotes). row (rs ++ replicate m blank) t) (take_all n rows l) ∙ get_padded blank rows m t
 
 same_before : (rows new : List StepVotes) → ((t : ℕ) → row new t ≡ row rows t) → (t : ℕ) → before_row new t ≡ before_row rows t
 same_before rows new e zero = refl
 same_before rows new e (suc t) = ap (λ (r : StepVotes). r.accepted) (e t)
 
+-- a line of no steps
+pub empty_line : (p : Numbers) (rows : List StepVotes) → rows ≡ [] → IsLine p rows
+empty_line p rows e = subst (λ (rs : List StepVotes). IsLine p rs) (sym e) (record {
+  votes = λ t. record { whole = refl; votes = λ k. inl (unheard_byte 31 k) };
+  settled = λ t. taken_none p t (before_row [] t) ∙ ap (tally_taken p t (before_row [] t)) (silent_none p);
+})
+
 -- a line with the same steps
 pub same_line : (p : Numbers) (rows new : List StepVotes) → ((t : ℕ) → row new t ≡ row rows t) → IsLine p rows → IsLine p new
 same_line p rows new e line = record {
-  small = λ t. subst (λ (r : StepVotes). IsSmall p t r.heard) (sym (e t)) (line.small t);
+  votes = λ t. subst (λ (r : StepVotes). IsVoteRow t r.heard) (sym (e t)) (line.votes t);
   settled = λ t. ap (λ (r : StepVotes). r.accepted) (e t)
-      ∙ (line.settled t ∙ sym (ap₂ (tally_taken p t) (same_before rows new e t) (ap (λ (r : StepVotes). r.heard) (e t))));
+      ∙ (line.settled t ∙ sym (ap₂ (tally_taken p t) (same_before rows new e t) (ap (λ (r : StepVotes). counted p r.heard) (e t))));
 }
 
+vote_is : (v limit : ℕ) → v < limit → limit ≤ 3 → byte_vote v ≡ Some v
+vote_is v limit l three = ap (λ (b : Bool). if b then None else Some v) (ne_eqb v 255 (λ e. omega (arith, l, three, e)))
+
+nothing_is : (b : ℕ) → byte_vote b ≡ None → b ≡ 255
+nothing_is b e = go (b == 255) refl e
+  where
+    go : (c : Bool) → (b == 255) ≡ c → (if c then None else Some b) ≡ None → b ≡ 255
+    go true q e = eqb-true b 255 q
+    go false q e = absurd cc
+
 -- what is heard in the end
-pub hears_one : (p : Numbers) (rows more new : List StepVotes) (t v : ℕ) → ((s : ℕ) → row more s ≡ row rows s)
-    → (vote_count (row more t).heard < p.n → v < vote_limit (step_of t) → HearsRow t v more new)
-    → vote_count (tally_at (heards rows) t) < p.n → v < vote_limit (step_of t)
-    → HearsOneVote t v (record { numbers = p; votes = heards rows }) (record { numbers = p; votes = heards new })
-hears_one p rows more new t v same hears few small =
-    let old : (s : ℕ) → (row more s).heard ≡ tally_at (heards rows) s = λ s. ap (λ (r : StepVotes). r.heard) (same s) ∙ sym (row_heard rows s) in
-    let h = hears (subst (λ (x : Tally). vote_count x < p.n) (sym (old t)) few) small in
+pub hears_one : (p : Numbers) (rows more new : List StepVotes) (t k v : ℕ) → ((s : ℕ) → row more s ≡ row rows s)
+    → (k < p.n → sender_byte more t k ≡ 255 → v < vote_limit (step_of t) → HearsByte t k v more new)
+    → k < p.n → row_votes (heards rows) t k ≡ None → v < vote_limit (step_of t)
+    → HearsOneVote t k v (record { numbers = p; rows = heards rows }) (record { numbers = p; rows = heards new })
+hears_one p rows more new t k v same hears within free small =
+    let old : (s j : ℕ) → sender_byte more s j ≡ sender_byte rows s j = λ s j. ap (λ (r : StepVotes). get_or r.heard j 255) (same s) in
+    let h = hears within (old t k ∙ nothing_is (sender_byte rows t k) (sym (votes_are rows t k) ∙ free)) small in
     record {
       numbers = refl;
-      here = row_heard new t ∙ (h.here ∙ ap (with_vote v) (old t));
-      others = λ s ne. row_heard new s ∙ (h.others s ne ∙ old s);
+      here = votes_are new t k ∙ (ap byte_vote h.here ∙ vote_is v (vote_limit (step_of t)) small (limit_three (step_of t)));
+      others = λ s j ne. votes_are new s j ∙ (ap byte_vote (h.others s j ne ∙ old s j) ∙ sym (votes_are rows s j));
     }
 
 -- ---- limits

@@ -7,29 +7,30 @@ use Rattle.layer_api.specs.Words.{Word}
 use Rattle.layer_api.specs.Binary.{Bench}
 use Rattle.layer_api.specs.Calls.{IsCoin}
 use Rattle.bracha_validation.specs.declared.tally.Tally.{Tally}
-use Rattle.bracha_validation.specs.Tallies.{IsTally, DependsOnCounts}
+use Rattle.bracha_validation.specs.Tallies.{IsTally}
 use Rattle.binary_consensus.specs.Steps.{line_slot, heard, accepted}
 use Rattle.binary_consensus.specs.Consensus.{decides, next_said}
-use Rattle.binary_consensus.specs.Counts.{HeardTallies, accepted_tally}
-use Rattle.binary_consensus.specs.Going.{own_step_slot, IsBinaryPart, AreCountsHeard, Leaves}
+use Rattle.binary_consensus.specs.Counts.{HeardRows, row_votes}
+use Rattle.binary_consensus.specs.Going.{own_step_slot, IsBinaryPart, AreRowsHeard, Leaves}
 use Rattle.binary_consensus.specs.declared.part.Part.{Part}
 use Rattle.binary_consensus.specs.declared.leaving.Left.{Left}
-use Rattle.binary_consensus.proofs.Hearing.{counted_tally}
+use Rattle.binary_consensus.proofs.Hearing.{accepted_same}
 
 pub own_is : (part : Part) (p : Numbers) (at : Bench) (t : ℕ) → IsBinaryPart part p at → own_step_slot part t ≡ line_slot at t at.me
 own_is part p at t is = rw (is.me, is.a, is.attempt) refl
 
 -- the counts of what is accepted at a step
-pub tally_now : DependsOnCounts → (part : Part) (line : HeardTallies) (at : Bench) (w : List Word) (t : ℕ) (votes : Tally) → IsBinaryPart part line.numbers at → AreCountsHeard at line.votes w → t < 600
-    → votes ≡ accepted_tally line.numbers line.votes t → IsTally votes (accepted at.numbers (heard at w) t)
-tally_now alone part line at w t votes is are l e =
-    subst (λ (x : Tally). IsTally x (accepted at.numbers (heard at w) t)) (sym (e ∙ ap (λ (p : Numbers). accepted_tally p line.votes t) is.numbers))
-    (counted_tally alone at line.votes w are t l)
+pub tally_now : (part : Part) (line : HeardRows) (at : Bench) (w : List Word) (t : ℕ) (votes : Tally) → IsBinaryPart part line.numbers at → AreRowsHeard at line.rows w → t < 600
+    → IsTally votes (accepted line.numbers (row_votes line.rows) t) → IsTally votes (accepted at.numbers (heard at w) t)
+tally_now part line at w t votes is are l tally =
+    subst (λ (vs : List ℕ). IsTally votes vs)
+    (ap (λ (p : Numbers). accepted p (row_votes line.rows) t) is.numbers
+    ∙ accepted_same at.numbers (row_votes line.rows) (heard at w) t (λ s k below within. are s k (omega (arith, l, below)) within)) tally
 
-pub wait_is : (part : Part) (line : HeardTallies) (at : Bench) (p : Numbers) (wait : ℕ) → IsBinaryPart part line.numbers at → p ≡ line.numbers → wait ≡ wait_of p → wait ≡ wait_of at.numbers
+pub wait_is : (part : Part) (line : HeardRows) (at : Bench) (p : Numbers) (wait : ℕ) → IsBinaryPart part line.numbers at → p ≡ line.numbers → wait ≡ wait_of p → wait ≡ wait_of at.numbers
 wait_is part line at p wait is e q = q ∙ (ap wait_of e ∙ ap wait_of is.numbers)
 
-pub leaves_at : (part : Part) (line : HeardTallies) (p : Numbers) (at : Bench) (bits : Slot → Bool) (t : ℕ) (votes : Tally) (known : Option Bool) (left : Left) (vs : List ℕ)
+pub leaves_at : (part : Part) (line : HeardRows) (p : Numbers) (at : Bench) (bits : Slot → Bool) (t : ℕ) (votes : Tally) (known : Option Bool) (left : Left) (vs : List ℕ)
     → Leaves part p bits t votes known left → p ≡ line.numbers → IsBinaryPart part line.numbers at → IsCoin at.coin bits → IsTally votes vs
     → (left.decided ≡ option_or known (decides at.numbers t (Some vs))) × (left.next ≡ (if t == 599 then None else next_said at t known (Some vs)))
 leaves_at part line p at bits t votes known left vs leaves e is tosses tally =

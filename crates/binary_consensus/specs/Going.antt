@@ -4,17 +4,15 @@ use Rattle.std.specs.Option.{option_or}
 use Rattle.ritas_base.specs.declared.slot.Slot.{Slot}
 use Rattle.ritas_base.specs.declared.item.Say.{Say}
 use Rattle.ritas_base.specs.Numbers.{Numbers}
-use Rattle.ritas_base.specs.History.{replicas}
 use Rattle.ritas_base.specs.Slots.{within}
 use Rattle.layer_api.specs.Words.{Word}
 use Rattle.layer_api.specs.Binary.{Bench}
 use Rattle.layer_api.specs.Calls.{IsCoin}
 use Rattle.bracha_validation.specs.declared.tally.Tally.{Tally}
 use Rattle.bracha_validation.specs.Tallies.{IsTally}
-use Rattle.ritas_base.specs.Places.{listed}
 use Rattle.binary_consensus.specs.Steps.{round_of, step_of, heard}
 use Rattle.binary_consensus.specs.Consensus.{left, decides, vote_said, decided_below, steps, steps_say_below, binary_decision, next_said}
-use Rattle.binary_consensus.specs.Counts.{HeardTallies, tally_at}
+use Rattle.binary_consensus.specs.Counts.{HeardRows, row_votes}
 use Rattle.binary_consensus.specs.declared.part.Part.{Part}
 use Rattle.binary_consensus.specs.declared.leaving.Left.{Left}
 use Rattle.binary_consensus.specs.declared.place.Place.{Place}
@@ -34,9 +32,9 @@ pub record IsBinaryPart (part : Part) (p : Numbers) (at : Bench) : Type 0 where
   pub a : part.a ≡ at.a
   pub attempt : part.attempt ≡ at.attempt
 
--- the counts are those of the votes heard at each step
-abbrev pub AreCountsHeard : Bench → List Tally → List Word → Type 0
-AreCountsHeard at votes w = (t : ℕ) → t < 600 → IsTally (tally_at votes t) (listed (heard at w t) (replicas at.numbers.n))
+-- the rows have the votes heard at each step
+abbrev pub AreRowsHeard : Bench → List (List ℕ) → List Word → Type 0
+AreRowsHeard at rows w = (t k : ℕ) → t < 600 → k < at.numbers.n → row_votes rows t k ≡ heard at w t k
 
 -- what is decided where a step is left with these votes, and what is said next if anything
 abbrev pub Leaves : Part → Numbers → (Slot → Bool) → ℕ → Tally → Option Bool → Left → Type 0
@@ -90,7 +88,7 @@ module _ (at : Bench) where
     pub pushed : new ≡ old ++ out
     pub says : steps_say_below at steps w c ≡ steps_say_below at (suc start) w c ++ out
 
-abbrev pub LineGoesOn : Part → HeardTallies → (Slot → Bool) → Place → List Say → List Say → Place → Type 0
+abbrev pub LineGoesOn : Part → HeardRows → (Slot → Bool) → Place → List Say → List Say → Place → Type 0
 LineGoesOn part line bits place old new next = (at : Bench) (c : Word) (w : List Word) (start : ℕ) → IsBinaryPart part line.numbers at → IsCoin at.coin bits
-    → AreCountsHeard at line.votes (c ∷ w) → place.said ≡ suc start → start < 600 → Passing at start c w → place.decided ≡ decided_below at start (c ∷ w)
+    → AreRowsHeard at line.rows (c ∷ w) → place.said ≡ suc start → start < 600 → Passing at start c w → place.decided ≡ decided_below at start (c ∷ w)
     → Done at start old new next c w

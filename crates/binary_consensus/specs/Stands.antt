@@ -13,7 +13,7 @@ use Rattle.layer_api.specs.BinaryCalls.{BoxShown, ShowsBox, ShowsBoxNear}
 use Rattle.binary_consensus.specs.Steps.{step_of}
 use Rattle.binary_consensus.specs.Consensus.{left, next_vote, decides, vote_said, decided_below, binary_rounds, steps, last_step, binary_decision, over, round_below, steps_say_below, binary}
 use Rattle.binary_consensus.specs.Laws.Stays.{rounds_are, steps_are, last_is, unleft, next_none, silent, silent_above, clash}
-use Rattle.binary_consensus.specs.Going.{IsBinaryPart, AreCountsHeard, IsOver, IsHere}
+use Rattle.binary_consensus.specs.Going.{IsBinaryPart, AreRowsHeard, IsOver, IsHere}
 use Rattle.binary_consensus.specs.declared.place.Place.{Place}
 use Rattle.binary_consensus.specs.declared.bin.Bin.{Bin}
 
@@ -21,7 +21,7 @@ use Rattle.binary_consensus.specs.declared.bin.Bin.{Bin}
 pub record BinaryStands (b : Bin) (at : Bench) (w : List Word) : Type 0 where
   pub session : IsSession at.numbers
   pub part : IsBinaryPart b.part b.line.numbers at
-  pub heard : b.place.ended ≡ false → AreCountsHeard at b.line.votes w
+  pub heard : b.place.ended ≡ false → AreRowsHeard at b.line.rows w
   pub here : IsHere at b.place.ended b.place.said w
   pub decided : b.place.decided ≡ binary_decision at w
   pub live : b.live ≡ true

@@ -7,7 +7,7 @@ use Rattle.ritas_base.specs.History.{replicas}
 use Rattle.layer_api.specs.Words.{Word, value_at}
 use Rattle.layer_api.specs.Binary.{Bench}
 use Rattle.bracha_validation.specs.Votes.{may_give}
-use Rattle.ritas_base.specs.Places.{push, listed}
+use Rattle.ritas_base.specs.Places.{listed}
 
 -- the round of a step of the line, from 1, and which step of that round it is, 1 to 3
 abbrev pub round_of : ℕ → ℕ

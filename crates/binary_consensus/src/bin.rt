@@ -13,10 +13,10 @@ use std::alloc::Global;
 
 /// One replica's part in one instance of binary consensus.
 ///
-/// It keeps counts alone: for each step up to the greatest one with a vote, of which there are at most 600, how many votes
-/// of each value were heard there and are accepted. A vote costs a few comparisons, and a few more for each step above it
-/// at which other votes become acceptable by it, and for each step that is left. Once no more can be said, votes cost
-/// nothing. Memory is taken for counts and for what is said.
+/// It keeps a row for each step up to the greatest one with a vote, of which there are at most 600: a byte for each sender,
+/// and how many votes of each value are accepted. A vote is one byte written, and then the rows are counted of its step and
+/// of those above it up to the first whose accepted votes stay as they were; each step that is left costs a few comparisons
+/// more. Once no more can be said, votes cost nothing. Memory is taken for rows and for what is said.
 ///
 /// The protocol is that of G. Bracha, "Asynchronous Byzantine Agreement Protocols" (1987).
 #[derive(Drop)]
@@ -47,7 +47,7 @@ impl Bin {
         if self.place.ended || self.place.said == 0 {
             return Ok(self.place);
         }
-        self.line.hear(t, value)?;
+        self.line.hear(t, slot.origin, value)?;
         let mut made = Vec::new(alloc);
         let place = go_on(alloc, &self.part, &self.line, coin, self.place, &mut made)?;
         says.append(&mut made)?;

@@ -7,7 +7,6 @@ use crate::leaving::leave;
 use crate::line::Line;
 use crate::part::{Part, STEPS};
 use crate::place::Place;
-use bracha_validation::set_of_votes;
 use ritas_base::{Coin, Mem, Say};
 use std::alloc::Global;
 
@@ -24,7 +23,6 @@ pub(crate) fn go_on<C: Coin>(
     requires { 1 ≤ place.said }
     ensures { IfOk result (λ next. LineGoesOn part.now line.now (C.bits coin.now) place says.old.items says.new.items next) }
 {
-    set_of_votes();
     let p = line.params();
     let mut decided = place.decided;
     for t in place.said - 1..STEPS {

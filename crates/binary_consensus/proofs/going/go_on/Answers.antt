@@ -10,7 +10,7 @@ use Rattle.binary_consensus.proofs.going.go_on.Goals as goal
 pub returns-then-votes-wait : goal.returns-then-votes-wait
 returns-then-votes-wait g c = λ at x w start part tosses are said-is below passing known.
     let t = c.loop-t.t in
-    let tally = tally_now c.set_of_votes.ensures.same c.args.part.now c.args.line.now at (x ∷ w) t c.accepted-votes.result part are c.loop-t.invariant.below c.accepted-votes.ensures.counted in
+    let tally = tally_now c.args.part.now c.args.line.now at (x ∷ w) t c.accepted-votes.result part are c.loop-t.invariant.below c.accepted-votes.ensures.counted in
     let wait = wait_is c.args.part.now c.args.line.now at c.params-p.result c.wait.result part c.params-p.ensures c.wait.ensures in
     let all = tally.all in
     let few = c.if-votes-wait.true in
@@ -26,7 +26,7 @@ say-requires g c =
 pub returns-in_default : goal.returns-in_default
 returns-in_default g c = λ at x w start part tosses are said-is below passing known.
     let t = c.loop-t.t in
-    let tally = tally_now c.set_of_votes.ensures.same c.args.part.now c.args.line.now at (x ∷ w) t c.accepted-votes.result part are c.loop-t.invariant.below c.accepted-votes.ensures.counted in
+    let tally = tally_now c.args.part.now c.args.line.now at (x ∷ w) t c.accepted-votes.result part are c.loop-t.invariant.below c.accepted-votes.ensures.counted in
     let wait = wait_is c.args.part.now c.args.line.now at c.params-p.result c.wait.result part c.params-p.ensures c.wait.ensures in
     let all = tally.all in
     let many = c.if-votes-wait.false in
@@ -44,7 +44,7 @@ loop-t-preserved g c =
     record {
       below = omega (arith, more);
       gone = λ at x w start part tosses are said-is below passing known.
-          let tally = tally_now c.set_of_votes.ensures.same c.args.part.now c.args.line.now at (x ∷ w) t c.accepted-votes.result part are c.loop-t.invariant.below c.accepted-votes.ensures.counted in
+          let tally = tally_now c.args.part.now c.args.line.now at (x ∷ w) t c.accepted-votes.result part are c.loop-t.invariant.below c.accepted-votes.ensures.counted in
           let wait = wait_is c.args.part.now c.args.line.now at c.params-p.result c.wait.result part c.params-p.ensures c.wait.ensures in
           let all = tally.all in
           let many = c.if-votes-wait.false in

@@ -1,22 +1,38 @@
-use Rattle.std.proofs.Common.{◌≡◌, ◌∙◌, ap, add-one, length-set, arith}
-use Rattle.bracha_validation.specs.declared.tally.Tally.{Tally}
-use Rattle.binary_consensus.specs.Counts.{tally_taken, row, before_row}
-use Rattle.binary_consensus.proofs.Lines.{before_first, before_later, settled_next, heards_set}
+use Rattle.std.proofs.Common.{◌≡◌, ◌<◌, sym, ◌∙◌, ap, [], get_or, add-one, length, length-set, arith, rules}
+use Rattle.binary_consensus.specs.declared.line.StepVotes.{StepVotes}
+use Rattle.binary_consensus.specs.Counts.{none}
+use Rattle.binary_consensus.proofs.Lines.{before_small, index_row, settled_here, settled_next, heards_set, taken_here}
 use Rattle.binary_consensus.proofs.line.settle.Goals as goal
-use Rattle.binary_consensus.proofs.line.settle.Goals.{then-t-eq0, else-t-eq0}
+
+pub taken-accepted-requires-clause-bits : goal.taken-accepted-requires-clause-bits
+taken-accepted-requires-clause-bits c = rw c.votes_before.ensures (before_small c.args.p.now c.loop-t.steps c.loop-t.t c.loop-t.invariant.line).bits
+
+pub taken-accepted-requires-clause-few : goal.taken-accepted-requires-clause-few
+taken-accepted-requires-clause-few c = rw c.votes_before.ensures (before_small c.args.p.now c.loop-t.steps c.loop-t.t c.loop-t.invariant.line).few
 
 pub loop-t-preserved : goal.loop-t-preserved
 loop-t-preserved c =
+    let p = c.args.p.now in
     let rows = c.loop-t.steps in
     let t = c.loop-t.t in
-    let before : c.if-t-eq0.before ≡ before_row rows t = elim c.if-t-eq0.branch [
-      | then-t-eq0 w ↦ w.before-is ∙ before_first rows t w.if-t-eq0.true
-      | else-t-eq0 w ↦ w.before-is ∙ before_later rows t w.if-t-eq0.false
-    ] in
-    let is : c.taken-accepted.result ≡ tally_taken c.args.p.now t (before_row rows t) (row rows t).heard =
-    c.taken-accepted.ensures ∙ ap (λ (b : Tally). tally_taken c.args.p.now t b (row rows t).heard) before in
-    record {
-      line = rw (add-one t) (settled_next c.args.p.now rows t c.taken-accepted.result (omega arith) c.loop-t.invariant.line is);
+    let size = c.loop-t.invariant.size in
+    let test = c.loop-t-test.true in
+    let inside : t < length rows = omega (arith, size, test) in
+    let is = taken_here p rows t c.from-n.result c.votes_before.result c.taken-accepted.result (c.from-n.ensures ∙ c.n.ensures.value) inside c.votes_before.ensures c.taken-accepted.ensures in
+    rw (index_row rows t inside, add-one t, length-set) (record {
+      line = settled_next p rows t c.taken-accepted.result inside c.loop-t.invariant.line is;
       same = heards_set rows t c.taken-accepted.result ∙ c.loop-t.invariant.same;
-      size = rw length-set c.loop-t.invariant.size;
-    }
+      size = c.loop-t.invariant.size;
+    })
+
+pub returns-then-eq-clause-line : goal.returns-then-eq-clause-line
+returns-then-eq-clause-line c =
+    let p = c.args.p.now in
+    let rows = c.loop-t.steps in
+    let t = c.loop-t.t in
+    let size = c.loop-t.invariant.size in
+    let test = c.loop-t-test.true in
+    let inside : t < length rows = omega (arith, size, test) in
+    let is = taken_here p rows t c.from-n.result c.votes_before.result c.taken-accepted.result (c.from-n.ensures ∙ c.n.ensures.value) inside c.votes_before.ensures c.taken-accepted.ensures in
+    let same : c.taken-accepted.result ≡ (get_or rows t (record { heard = []; accepted = none })).accepted = search rules in
+    settled_here p rows t c.loop-t.invariant.line (ap (λ (r : StepVotes). r.accepted) (sym (index_row rows t inside)) ∙ (sym same ∙ is))
