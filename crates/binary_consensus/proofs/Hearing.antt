@@ -90,10 +90,10 @@ listed_same a b from zero same = refl
 listed_same a b from (suc n) same = ap₂ push (same from (omega arith)) (listed_same a b (from + 1) n (λ k l. same k (omega (arith, l))))
 
 -- where the same was heard, the same is accepted
-pub accepted_same : (p : Numbers) (a b : ℕ → ℕ → Option ℕ) (t : ℕ) → ((s k : ℕ) → s ≤ t → k < p.n → a s k ≡ b s k) → accepted p a t ≡ accepted p b t
-accepted_same p a b zero same = listed_same (a 0) (b 0) 0 p.n (λ k l. same 0 k (omega arith) (omega (arith, l)))
-accepted_same p a b (suc t) same =
-    let before = accepted_same p a b t (λ s k l m. same s k (omega (arith, l)) m) in
+pub same_accepted : (p : Numbers) (a b : ℕ → ℕ → Option ℕ) (t : ℕ) → ((s k : ℕ) → s ≤ t → k < p.n → a s k ≡ b s k) → accepted p a t ≡ accepted p b t
+same_accepted p a b zero same = listed_same (a 0) (b 0) 0 p.n (λ k l. same 0 k (omega arith) (omega (arith, l)))
+same_accepted p a b (suc t) same =
+    let before = same_accepted p a b t (λ s k l m. same s k (omega (arith, l)) m) in
     listed_same _ _ 0 p.n (λ k l.
     ap₂ (λ (vs : List ℕ) (o : Option ℕ). passed_vote (λ v. may_give p (step_of t) v vs) o) before (same (suc t) k (omega arith) (omega (arith, l))))
 

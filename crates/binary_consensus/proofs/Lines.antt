@@ -1,5 +1,5 @@
 -- The rows of the steps and the accepted votes, brought up to date one after the other.
-use Rattle.std.proofs.Common.{◌≡◌, ◌≢◌, ℕ, zero, suc, ◌+◌, ◌-◌, ◌<◌, ◌≤◌, ◌==◌, ◌%◌, Bool, true, false, if◌then◌else◌, List, [], ◌∷◌, ◌++◌, take, replicate, length, get_or, set, get_or-set_same, get_or-set_other, Some, None, ◌⊎◌, refl, sym, ◌∙◌, ap, ap₂, subst, arith, eqb-true, ne_eqb, inl, inr}
+use Rattle.std.proofs.Common.{◌≡◌, ◌≢◌, ℕ, zero, suc, ◌+◌, ◌-◌, ◌<◌, ◌≤◌, ◌==◌, ◌%◌, Bool, true, false, if◌then◌else◌, List, [], ◌∷◌, ◌++◌, take, replicate, length, get_or, set, get_or-set_same, get_or-set_other, Some, None, ◌⊎◌, refl, sym, ◌∙◌, ap, ap₂, subst, arith, eqb-true, inl, inr}
 use Rattle.std.proofs.lemmas.Bool.{cases_eq}
 use Rattle.ritas_base.specs.Numbers.{Numbers}
 use Rattle.ritas_base.specs.History.{replicas}
@@ -11,7 +11,7 @@ use Rattle.bracha_validation.specs.Votes.{may_give}
 use Rattle.binary_consensus.specs.Steps.{step_of, accepted}
 use Rattle.binary_consensus.specs.Counts.{byte_vote, silent_row, row_votes, none, row_tally, count_kept, tally_taken, HearsOneVote, HearsByte, row, sender_byte, heards, heard_tally, before_row, IsVoteRow, AreVoteRows, IsSettledAt, IsLine, IsLineBut}
 use Rattle.binary_consensus.specs.declared.line.StepVotes.{StepVotes}
-use Rattle.binary_consensus.proofs.RowCounts.{row_few, row_without, unheard_byte, row_listed}
+use Rattle.binary_consensus.proofs.RowCounts.{row_few, row_without, unheard_byte, vote_is, row_listed}
 use Rattle.std.proofs.lemmas.List.{length-set}
 use Rattle.binary_consensus.proofs.Hearing.{taken_tally}
 
@@ -325,9 +325,6 @@ same_line p rows new e line = record {
       ∙ (line.settled t ∙ sym (ap₂ (tally_taken p t) (same_before rows new e t) (ap (λ (r : StepVotes). counted p r.heard) (e t))));
 }
 
-vote_is : (v limit : ℕ) → v < limit → limit ≤ 3 → byte_vote v ≡ Some v
-vote_is v limit l three = ap (λ (b : Bool). if b then None else Some v) (ne_eqb v 255 (λ e. omega (arith, l, three, e)))
-
 nothing_is : (b : ℕ) → byte_vote b ≡ None → b ≡ 255
 nothing_is b e = go (b == 255) refl e
   where
@@ -345,7 +342,7 @@ hears_one p rows more new t k v same hears within free small =
     let h = hears within (old t k ∙ nothing_is (sender_byte rows t k) (sym (votes_are rows t k) ∙ free)) small in
     record {
       numbers = refl;
-      here = votes_are new t k ∙ (ap byte_vote h.here ∙ vote_is v (vote_limit (step_of t)) small (limit_three (step_of t)));
+      here = votes_are new t k ∙ (ap byte_vote h.here ∙ vote_is v (let three = limit_three (step_of t) in omega (arith, small, three)));
       others = λ s j ne. votes_are new s j ∙ (ap byte_vote (h.others s j ne ∙ old s j) ∙ sym (votes_are rows s j));
     }
 

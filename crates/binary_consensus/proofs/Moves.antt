@@ -14,7 +14,7 @@ use Rattle.binary_consensus.specs.Counts.{HeardRows, row_votes}
 use Rattle.binary_consensus.specs.Going.{own_step_slot, IsBinaryPart, AreRowsHeard, Leaves}
 use Rattle.binary_consensus.specs.declared.part.Part.{Part}
 use Rattle.binary_consensus.specs.declared.leaving.Left.{Left}
-use Rattle.binary_consensus.proofs.Hearing.{accepted_same}
+use Rattle.binary_consensus.proofs.Hearing.{same_accepted}
 
 pub own_is : (part : Part) (p : Numbers) (at : Bench) (t : ℕ) → IsBinaryPart part p at → own_step_slot part t ≡ line_slot at t at.me
 own_is part p at t is = rw (is.me, is.a, is.attempt) refl
@@ -25,7 +25,7 @@ pub tally_now : (part : Part) (line : HeardRows) (at : Bench) (w : List Word) (t
 tally_now part line at w t votes is are l tally =
     subst (λ (vs : List ℕ). IsTally votes vs)
     (ap (λ (p : Numbers). accepted p (row_votes line.rows) t) is.numbers
-    ∙ accepted_same at.numbers (row_votes line.rows) (heard at w) t (λ s k below within. are s k (omega (arith, l, below)) within)) tally
+    ∙ same_accepted at.numbers (row_votes line.rows) (heard at w) t (λ s k below within. are s k (omega (arith, l, below)) within)) tally
 
 pub wait_is : (part : Part) (line : HeardRows) (at : Bench) (p : Numbers) (wait : ℕ) → IsBinaryPart part line.numbers at → p ≡ line.numbers → wait ≡ wait_of p → wait ≡ wait_of at.numbers
 wait_is part line at p wait is e q = q ∙ (ap wait_of e ∙ ap wait_of is.numbers)

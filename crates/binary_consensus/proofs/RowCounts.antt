@@ -1,5 +1,5 @@
 -- The counts of a row of bytes, and the votes that the bytes are.
-use Rattle.std.proofs.Common.{◌≡◌, ℕ, zero, suc, ◌+◌, ◌<◌, ◌≤◌, ◌==◌, Bool, true, false, if◌then◌else◌, List, [], ◌∷◌, take, replicate, get_or, length, count_by, cond, Option, None, ◌⊎◌, inl, inr, refl, sym, ◌∙◌, ap, subst, arith, eqb-true, ne_eqb}
+use Rattle.std.proofs.Common.{◌≡◌, ℕ, zero, suc, ◌+◌, ◌<◌, ◌≤◌, ◌==◌, Bool, true, false, if◌then◌else◌, List, [], ◌∷◌, take, replicate, get_or, length, count_by, cond, Option, Some, None, ◌⊎◌, inl, inr, refl, sym, ◌∙◌, ap, subst, arith, eqb-true, ne_eqb}
 use Rattle.std.specs.List.{range_with_len}
 use Rattle.bracha_validation.specs.Votes.{votes}
 use Rattle.bracha_validation.specs.Tallies.{vote_count, IsTally}
@@ -60,32 +60,34 @@ listed_none said from (suc n) none =
     let rest = listed_none said (from + 1) n (λ k. let next : from + suc k ≡ from + 1 + k = omega arith in subst (λ (i : ℕ). said i ≡ None) next (none (suc k))) in
     ap (λ (o : Option ℕ). push o (listed said (range_with_len (from + 1) n))) here ∙ rest
 
+pub vote_is : (v : ℕ) → v < 3 → byte_vote v ≡ Some v
+vote_is v l = ap (λ (b : Bool). if b then None else Some v) (ne_eqb v 255 (λ e. omega (arith, l, e)))
+
 -- one more byte, and the vote that it is
 push_byte : (b : ℕ) (bytes vs : List ℕ) → (b ≡ 255) ⊎ (b < 3) → IsTally (row_tally bytes) vs → IsTally (row_tally (b ∷ bytes)) (push (byte_vote b) vs)
 push_byte b bytes vs (inl e) is =
-    let z = one_more (λ x. x == 0) 255 bytes in let o = one_more (λ x. x == 1) 255 bytes in let u = one_more (λ x. x == 2) 255 bytes in
-    let tz = is.zeros in let to = is.ones in let tu = is.nones in let ta = is.all in
+    let z = count_no (λ x. x == 0) 255 bytes refl in let o = count_no (λ x. x == 1) 255 bytes refl in let u = count_no (λ x. x == 2) 255 bytes refl in
+    let all = is.all in
     subst (λ (x : ℕ). IsTally (row_tally (x ∷ bytes)) (push (byte_vote x) vs)) (sym e)
-    (record { zeros = omega (arith, z, tz); ones = omega (arith, o, to); nones = omega (arith, u, tu); all = omega (arith, z, o, u, ta) })
-push_byte b bytes vs (inr l) is = go b l
+    (record { zeros = is.zeros ∙ sym z; ones = is.ones ∙ sym o; nones = is.nones ∙ sym u; all = omega (arith, z, o, u, all) })
+push_byte b bytes vs (inr l) is =
+    subst (λ (o : Option ℕ). IsTally (row_tally (b ∷ bytes)) (push o vs)) (sym (vote_is b l))
+    (record { zeros = more 0 is.zeros; ones = more 1 is.ones; nones = more 2 is.nones; all = all b l })
   where
-    go : (b : ℕ) → b < 3 → IsTally (row_tally (b ∷ bytes)) (push (byte_vote b) vs)
-    go zero l =
-        let z = one_more (λ x. x == 0) 0 bytes in let o = one_more (λ x. x == 1) 0 bytes in let u = one_more (λ x. x == 2) 0 bytes in
-        let vz = one_more (λ x. x == 0) 0 vs in let vo = one_more (λ x. x == 1) 0 vs in let vu = one_more (λ x. x == 2) 0 vs in
-        let tz = is.zeros in let to = is.ones in let tu = is.nones in let ta = is.all in
-        record { zeros = omega (arith, z, vz, tz); ones = omega (arith, o, vo, to); nones = omega (arith, u, vu, tu); all = omega (arith, z, o, u, ta) }
-    go (suc zero) l =
-        let z = one_more (λ x. x == 0) 1 bytes in let o = one_more (λ x. x == 1) 1 bytes in let u = one_more (λ x. x == 2) 1 bytes in
-        let vz = one_more (λ x. x == 0) 1 vs in let vo = one_more (λ x. x == 1) 1 vs in let vu = one_more (λ x. x == 2) 1 vs in
-        let tz = is.zeros in let to = is.ones in let tu = is.nones in let ta = is.all in
-        record { zeros = omega (arith, z, vz, tz); ones = omega (arith, o, vo, to); nones = omega (arith, u, vu, tu); all = omega (arith, z, o, u, ta) }
-    go (suc (suc zero)) l =
-        let z = one_more (λ x. x == 0) 2 bytes in let o = one_more (λ x. x == 1) 2 bytes in let u = one_more (λ x. x == 2) 2 bytes in
-        let vz = one_more (λ x. x == 0) 2 vs in let vo = one_more (λ x. x == 1) 2 vs in let vu = one_more (λ x. x == 2) 2 vs in
-        let tz = is.zeros in let to = is.ones in let tu = is.nones in let ta = is.all in
-        record { zeros = omega (arith, z, vz, tz); ones = omega (arith, o, vo, to); nones = omega (arith, u, vu, tu); all = omega (arith, z, o, u, ta) }
-    go (suc (suc (suc b))) l = absurd (omega (arith, l))
+    more : (u : ℕ) → votes u vs ≡ equal_places bytes u → votes u (b ∷ vs) ≡ equal_places (b ∷ bytes) u
+    more u e = one_more (λ x. x == u) b vs ∙ (ap (λ (n : ℕ). cond (b == u) 1 0 + n) e ∙ sym (one_more (λ x. x == u) b bytes))
+
+    all : (v : ℕ) → v < 3 → suc (length vs) ≡ vote_count (row_tally (v ∷ bytes))
+    all v l =
+        let z = one_more (λ x. x == 0) v bytes in let o = one_more (λ x. x == 1) v bytes in let u = one_more (λ x. x == 2) v bytes in
+        go v l z o u
+      where
+        go : (v : ℕ) → v < 3 → equal_places (v ∷ bytes) 0 ≡ cond (v == 0) 1 0 + equal_places bytes 0 → equal_places (v ∷ bytes) 1 ≡ cond (v == 1) 1 0 + equal_places bytes 1
+            → equal_places (v ∷ bytes) 2 ≡ cond (v == 2) 1 0 + equal_places bytes 2 → suc (length vs) ≡ vote_count (row_tally (v ∷ bytes))
+        go zero l z o u = let few = is.all in omega (arith, z, o, u, few)
+        go (suc zero) l z o u = let few = is.all in omega (arith, z, o, u, few)
+        go (suc (suc zero)) l z o u = let few = is.all in omega (arith, z, o, u, few)
+        go (suc (suc (suc v))) l z o u = absurd (omega (arith, l))
 
 -- the counts of a row are those of the votes that its bytes are
 pub row_listed : (said : ℕ → Option ℕ) (bytes : List ℕ) (from n : ℕ) → ((k : ℕ) → said (from + k) ≡ byte_vote (get_or bytes k 255))
