@@ -1,10 +1,12 @@
 -- Steps of the loops over entries, and what a column is.
-use Rattle.std.specs.Prelude.{◌≡◌, ℕ, ◌<◌, ◌≤◌, ◌+◌, ◌*◌, ◌^◌, Bool, true, false, not, map, ◌&&◌, ◌||◌, ◌==◌, nat_lt, nat_le, List, [], ◌∷◌, ◌++◌, take, drop, length, refl}
+use Rattle.std.specs.Prelude.{◌≡◌, ℕ, zero, suc, ◌<◌, ◌≤◌, ◌+◌, ◌*◌, ◌^◌, Bool, true, false, not, map, ◌&&◌, ◌||◌, ◌==◌, nat_lt, nat_le, List, [], ◌∷◌, ◌++◌, take, drop, length, slice_index_or, refl}
 use Rattle.std.proofs.Common.{sym, ◌∙◌, ap, subst, arith, inl, inr}
-use Rattle.std.specs.Int.{w32, from_be_bytes}
+use Rattle.std.specs.Int.{bit_at, w32, from_be_bytes}
 use Rattle.std.specs.Int.RustNames.{count_ones}
 use Rattle.std.specs.List.{list_any}
-use Rattle.std.proofs.lemmas.Bool.{and_parts, and_from, lt-ltb, le-ltb, le-leb, leb-true, ltb-true, ltb-false, cases_eq, cases_Bool, eq-eqb, ne_eqb, eqb-true, or_left, or_right, or_from}
+use Rattle.std.specs.Str.{bytes_eq}
+use Rattle.std.proofs.lemmas.Nat.Bits.{bit_at-lt, bit_at-suc, bit_at-zero, same_from_bits}
+use Rattle.std.proofs.lemmas.Bool.{both_ways, and_parts, and_from, lt-ltb, le-ltb, le-leb, leb-true, ltb-true, ltb-false, cases_eq, cases_Bool, eq-eqb, ne_eqb, eqb-true, or_left, or_right, or_from}
 use Rattle.std.proofs.lemmas.Grind.{flat_map-append}
 use Rattle.std.proofs.lemmas.List.Concat.{flat_map-cons}
 use Rattle.std.proofs.lemmas.List.Folds.{list_any-append}
@@ -16,6 +18,7 @@ use Rattle.std.proofs.lemmas.List.{take_at, length-append, length-drop, length-t
 use Rattle.frame_codec.specs.Format.{Is}
 use Rattle.frame_codec.specs.Grammar.{column, is_places}
 use Rattle.frame_codec.specs.Values.{mask_of}
+use Rattle.vote_lanes.specs.Plain.{is_equal_row}
 use Rattle.layer_api.specs.Broadcast.{Tagging}
 use Rattle.echo_bcast.specs.Matrix.{as_entry, hashes_bytes}
 use Rattle.echo_bcast.specs.State.{tagged, has_valid_entry, adds_to, JoinsSet}
@@ -48,6 +51,36 @@ column_from value small four some len =
     and_from (nat_lt mask (2 ^ 32)) (nat_le 1 (count_ones mask)) (lt-ltb mask (2 ^ 32) small) (le-leb 1 (count_ones mask) some) in
     let tail : length (drop 4 value) ≡ 32 * count_ones mask = omega (arith, length-drop 4 value, len) in
     (take 4 value, drop 4 value, sym (take-append-drop 4 value), length-take-le 4 value four, places, (drop 4 value, [], sym (append-nil (drop 4 value)), tail, refl, refl))
+
+-- ---- one row
+
+same_bit : (a b i : ℕ) → (bit_at a i == 1) ≡ (bit_at b i == 1) → bit_at a i ≡ bit_at b i
+same_bit a b i same =
+    let small = bit_at-lt a i in
+    let small2 = bit_at-lt b i in
+    elim (cases_eq (bit_at a i) 1) [
+      | inl one ↦ one ∙ sym (eqb-true (bit_at b i) 1 (sym same ∙ eq-eqb (bit_at a i) 1 one))
+      | inr none ↦
+          let none2 : (bit_at b i ≡ 1 → ⊥) = λ e. both_ways (bit_at b i == 1) (sym same ∙ ne_eqb (bit_at a i) 1 none) (eq-eqb (bit_at b i) 1 e) in
+          omega (arith, small, small2, none, none2)
+    ]
+
+no_more_bits : (i : ℕ) (b : Bool) → ((bit_at 1 (suc i) == 1) && b) ≡ (bit_at 1 (suc i) == 1)
+no_more_bits i b =
+    let none : (bit_at 1 (suc i) == 1) ≡ false = ap (λ (k : ℕ). k == 1) (bit_at-suc 1 i ∙ bit_at-zero i) in
+    ap (λ (c : Bool). c && b) none ∙ sym none
+
+-- of one row the mask of one bit that comes back is that bit exactly where the row is this one
+pub one_row : (row d : List ℕ) (equal : ℕ) → ((i : ℕ) → (bit_at equal i == 1) ≡ is_equal_row (row ∷ []) 1 d i) → (equal == 1) ≡ bytes_eq row d
+one_row row d equal are =
+    elim (cases_Bool (bytes_eq row d)) [
+      | inl same ↦ eq-eqb equal 1 (same_from_bits equal 1 (λ i. same_bit equal 1 i (bits same i))) ∙ sym same
+      | inr other ↦ ne_eqb equal 1 (λ e. both_ways (bit_at equal 0 == 1) (are 0 ∙ other) (ap (λ (m : ℕ). bit_at m 0 == 1) e)) ∙ sym other
+    ]
+  where
+    bits : bytes_eq row d ≡ true → (i : ℕ) → (bit_at equal i == 1) ≡ (bit_at 1 i == 1)
+    bits same zero = are 0 ∙ same
+    bits same (suc i) = are (suc i) ∙ no_more_bits i (bytes_eq (slice_index_or (row ∷ []) (suc i) []) d)
 
 -- ---- one echoer more
 

@@ -11,6 +11,8 @@ ghost use Rattle.echo_bcast.specs.State.{tagged, has_valid_entry, adds_to, Joins
 use frame_codec::column_entry;
 use ritas_base::{Bytes, Mem, SenderSet, Slot, Tagger};
 use std::alloc::Global;
+use std::slice;
+use vote_lanes::rows_equal;
 
 /// This replica's entry over a digest for a verifier.
 fn entry_for<T: Tagger>(t: &T, slot: &Slot, verifier: u8, digest: &[u8; 32]) -> [u8; 32]
@@ -70,10 +72,15 @@ fn is_valid<T: Tagger>(t: &T, slot: &Slot, digest: &[u8; 32], value: &[u8], echo
     requires is_column { Is (column 32) value.now }
     ensures { result ≡ has_valid_entry (record { me = T.me t.now; tags = T.tags t.now }) slot.now digest.now value.now echoer }
 {
-    match column_entry(value, echoer) {
-        None => false,
-        Some(row) => row == t.entry(slot, echoer, t.me(), digest).as_slice(),
-    }
+    let Some(row) = column_entry(value, echoer) else {
+        return false;
+    };
+    // It is a whole row, so it is an array where it stands.
+    let Some(row) = row.as_array() else {
+        return false;
+    };
+    let entry = t.entry(slot, echoer, t.me(), digest);
+    rows_equal(slice::from_ref(row), 1, &entry) == 1
 }
 
 /// The set with the echoers of which a column has a valid entry, and whether it has more members by them.
