@@ -5,7 +5,7 @@ use Rattle.std.specs.Int.{bit_at, w32, from_be_bytes}
 use Rattle.std.specs.Int.RustNames.{count_ones}
 use Rattle.std.specs.List.{list_any}
 use Rattle.std.specs.Str.{bytes_eq}
-use Rattle.std.proofs.lemmas.Nat.Bits.{bit_at-lt, bit_at-suc, bit_at-zero, same_from_bits}
+use Rattle.std.proofs.lemmas.Nat.Bits.{bit_at-suc, bit_at-zero}
 use Rattle.std.proofs.lemmas.Bool.{both_ways, and_parts, and_from, lt-ltb, le-ltb, le-leb, leb-true, ltb-true, ltb-false, cases_eq, cases_Bool, eq-eqb, ne_eqb, eqb-true, or_left, or_right, or_from}
 use Rattle.std.proofs.lemmas.Grind.{flat_map-append}
 use Rattle.std.proofs.lemmas.List.Concat.{flat_map-cons}
@@ -13,6 +13,7 @@ use Rattle.std.proofs.lemmas.List.Folds.{list_any-append}
 use Rattle.std.proofs.lemmas.List.FromFn.{map-range_with_len_more}
 use Rattle.ritas_base.specs.declared.slot.Slot.{Slot}
 use Rattle.ritas_base.specs.Members.{has_member}
+use Rattle.ritas_base.specs.MemberLaws.{same_mask}
 use Rattle.ritas_base.specs.History.{replicas}
 use Rattle.std.proofs.lemmas.List.{take_at, length-append, length-drop, length-take-le, take-append-drop, append-nil}
 use Rattle.frame_codec.specs.Format.{Is}
@@ -54,17 +55,6 @@ column_from value small four some len =
 
 -- ---- one row
 
-same_bit : (a b i : ℕ) → (bit_at a i == 1) ≡ (bit_at b i == 1) → bit_at a i ≡ bit_at b i
-same_bit a b i same =
-    let small = bit_at-lt a i in
-    let small2 = bit_at-lt b i in
-    elim (cases_eq (bit_at a i) 1) [
-      | inl one ↦ one ∙ sym (eqb-true (bit_at b i) 1 (sym same ∙ eq-eqb (bit_at a i) 1 one))
-      | inr none ↦
-          let none2 : (bit_at b i ≡ 1 → ⊥) = λ e. both_ways (bit_at b i == 1) (sym same ∙ ne_eqb (bit_at a i) 1 none) (eq-eqb (bit_at b i) 1 e) in
-          omega (arith, small, small2, none, none2)
-    ]
-
 no_more_bits : (i : ℕ) (b : Bool) → ((bit_at 1 (suc i) == 1) && b) ≡ (bit_at 1 (suc i) == 1)
 no_more_bits i b =
     let none : (bit_at 1 (suc i) == 1) ≡ false = ap (λ (k : ℕ). k == 1) (bit_at-suc 1 i ∙ bit_at-zero i) in
@@ -72,9 +62,10 @@ no_more_bits i b =
 
 -- of one row the mask of one bit that comes back is that bit exactly where the row is this one
 pub one_row : (row d : List ℕ) (equal : ℕ) → ((i : ℕ) → (bit_at equal i == 1) ≡ is_equal_row (row ∷ []) 1 d i) → (equal == 1) ≡ bytes_eq row d
+unfolding has_member
 one_row row d equal are =
     elim (cases_Bool (bytes_eq row d)) [
-      | inl same ↦ eq-eqb equal 1 (same_from_bits equal 1 (λ i. same_bit equal 1 i (bits same i))) ∙ sym same
+      | inl same ↦ eq-eqb equal 1 (same_mask equal 1 (bits same)) ∙ sym same
       | inr other ↦ ne_eqb equal 1 (λ e. both_ways (bit_at equal 0 == 1) (are 0 ∙ other) (ap (λ (m : ℕ). bit_at m 0 == 1) e)) ∙ sym other
     ]
   where
