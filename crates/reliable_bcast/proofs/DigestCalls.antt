@@ -1,6 +1,7 @@
 -- What the calls on the state promise, for all calls that the state stands for, in reliable broadcast by digests.
 use Rattle.std.proofs.Common.{◌≡◌, ◌∙◌, ap, subst, sym, ◌++◌, [], ◌∷◌, List, ℕ, ◌<◌, Bool, true, false, Some, None, inl, inr, refl, arith, ◌⊎◌}
-use Rattle.std.specs.Prelude.{Option, Result, Ok, Err, OnOk, OnErr, is_err, is_some, is_none}
+use Rattle.std.specs.Prelude.{Option, Result, Ok, Err, OnOk, OnErr, is_err, is_some, is_none, length}
+use Rattle.std.proofs.lemmas.List.{length-append}
 use Rattle.std.proofs.lemmas.Bool.{both_ways}
 use Rattle.ritas_base.specs.declared.bytes.Mem.{Mem}
 use Rattle.ritas_base.specs.declared.item.Kind.{Kind}
@@ -18,7 +19,9 @@ use Rattle.ritas_base.specs.Tags.{Tags}
 use Rattle.frame_codec.specs.Body.{is_of_form}
 use Rattle.layer_api.specs.declared.broadcast.Heard.{Heard}
 use Rattle.layer_api.specs.declared.broadcast.Heard.TheVariants.{Took, Repeat}
-use Rattle.layer_api.specs.Broadcast.{Tagging, IsTagger, MayTake, is_of_origin}
+use Rattle.frame_codec.specs.Format.{Is}
+use Rattle.frame_codec.specs.Grammar.{carries_digest, digest}
+use Rattle.layer_api.specs.Broadcast.{Tagging, IsTagger, MayTake, IsPayload, is_of_origin}
 use Rattle.layer_api.specs.BroadcastCalls.{Started, Takes}
 use Rattle.reliable_bcast.specs.declared.digest_rb.Known.{Known}
 use Rattle.reliable_bcast.specs.declared.digest_rb.DigestRb.{DigestRb}
@@ -180,6 +183,21 @@ half_value t old new i before after (Err x) kind e hears =
 awaits : (n : ℕ) (h : List Call) (kind : Kind) (ws : List (Option (List ℕ))) (k : ℕ) (b : Bool) → ws ≡ firsts n h kind → k < n → is_awaited ws k ≡ b → is_none (first h k kind) ≡ b
 awaits n h kind ws k b kept lt is = sym (awaited_is n h kind k lt) ∙ (ap (λ (l : List (Option (List ℕ))). is_awaited l k) (sym kept) ∙ is)
 
+length_of : (v : List ℕ) → Is digest v → length v ≡ 32
+unfolding digest
+length_of v (front, rest, parts, len, ok, nil) = ap length parts ∙ (length-append front rest ∙ (let none = ap length nil in omega (arith, len, none)))
+
+-- a vote brings a digest
+whole_digest : (at : Place) (tags : Tags) (h : List Call) (i : Item) (kind : Kind) → i.kind ≡ kind → carries_digest 3 kind ≡ true → MayTake by_digest at tags h i → length i.value ≡ 32
+whole_digest at tags h i kinds.Echo is carries may = length_of i.value (subst (λ (k : Kind). IsPayload 3 at.numbers.n k i.value) is may.payload)
+whole_digest at tags h i kinds.Ready is carries may = length_of i.value (subst (λ (k : Kind). IsPayload 3 at.numbers.n k i.value) is may.payload)
+whole_digest at tags h i kinds.Want is carries may = length_of i.value (subst (λ (k : Kind). IsPayload 3 at.numbers.n k i.value) is may.payload)
+whole_digest at tags h i kinds.Init is carries may = absurd (cc)
+whole_digest at tags h i kinds.Send is carries may = absurd (cc)
+whole_digest at tags h i kinds.Hashes is carries may = absurd (cc)
+whole_digest at tags h i kinds.Column is carries may = absurd (cc)
+whole_digest at tags h i kinds.Value is carries may = absurd (cc)
+
 heard_echo : (t : Tagging) (old new : DigestRb) (i : Item) (before after : List Msg) (r : Result Heard Mem) → i.kind ≡ Echo → is_err r ≡ false
     → HearsEcho old new i before after r → TakesAs t old new i before after r
 heard_echo t old new i before after (Ok Took) kind e hears =
@@ -191,7 +209,7 @@ heard_echo t old new i before after (Ok Took) kind e hears =
     (λ at tags h keeps tagger may. of_kind h i Echo kind ∙ none at tags h keeps tagger may) hears.2
 heard_echo t old new i before after (Ok Repeat) kind e hears =
     again t old new i before after hears.1
-    (λ at tags h keeps tagger may. ap is_some (of_kind h i Echo kind) ∙ there (first h i.from Echo) (awaits at.numbers.n h Echo old.echoes i.from false keeps.echoes may.sender hears.0))
+    (λ at tags h keeps tagger may. ap is_some (of_kind h i Echo kind) ∙ there (first h i.from Echo) (awaits at.numbers.n h Echo old.echoes i.from false keeps.echoes may.sender (hears.0 (whole_digest at tags h i Echo kind refl may))))
 heard_echo t old new i before after (Err x) kind e hears = absurd (cc)
 
 half_echo : (t : Tagging) (old new : DigestRb) (i : Item) (before after : List Msg) (r : Result Heard Mem) → i.kind ≡ Echo → is_err r ≡ true
@@ -216,7 +234,7 @@ heard_ready t old new i before after (Ok Took) kind e hears =
     (λ at tags h keeps tagger may. of_kind h i Ready kind ∙ none at tags h keeps tagger may) hears.2
 heard_ready t old new i before after (Ok Repeat) kind e hears =
     again t old new i before after hears.1
-    (λ at tags h keeps tagger may. ap is_some (of_kind h i Ready kind) ∙ there (first h i.from Ready) (awaits at.numbers.n h Ready old.readies i.from false keeps.readies may.sender hears.0))
+    (λ at tags h keeps tagger may. ap is_some (of_kind h i Ready kind) ∙ there (first h i.from Ready) (awaits at.numbers.n h Ready old.readies i.from false keeps.readies may.sender (hears.0 (whole_digest at tags h i Ready kind refl may))))
 heard_ready t old new i before after (Err x) kind e hears = absurd (cc)
 
 half_ready : (t : Tagging) (old new : DigestRb) (i : Item) (before after : List Msg) (r : Result Heard Mem) → i.kind ≡ Ready → is_err r ≡ true
@@ -245,7 +263,7 @@ heard_want t old new i before after (Ok Took) kind e hears =
     (λ at tags h keeps tagger may. of_kind h i Want kind ∙ none at tags h keeps tagger may) hears.2
 heard_want t old new i before after (Ok Repeat) kind e hears =
     again t old new i before after hears.1
-    (λ at tags h keeps tagger may. ap is_some (of_kind h i Want kind) ∙ there (first h i.from Want) (awaits at.numbers.n h Want old.wants i.from false keeps.wants may.sender hears.0))
+    (λ at tags h keeps tagger may. ap is_some (of_kind h i Want kind) ∙ there (first h i.from Want) (awaits at.numbers.n h Want old.wants i.from false keeps.wants may.sender (hears.0 (whole_digest at tags h i Want kind refl may))))
 heard_want t old new i before after (Err x) kind e hears = absurd (cc)
 
 half_want : (t : Tagging) (old new : DigestRb) (i : Item) (before after : List Msg) (r : Result Heard Mem) → i.kind ≡ Want → is_err r ≡ true

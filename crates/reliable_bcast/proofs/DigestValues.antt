@@ -1,6 +1,6 @@
 -- Where a digest's value stands among those that are known.
-use Rattle.std.proofs.Common.{◌≡◌, ℕ, zero, suc, cond, ◌<◌, ◌+◌, ◌++◌, Bool, true, false, List, [], ◌∷◌, Some, None, sym, ◌∙◌, ap, arith, length, get_or, refl}
-use Rattle.std.specs.Prelude.{position, nat_lt, not, ◌&&◌, ◌==◌}
+use Rattle.std.proofs.Common.{◌≡◌, ℕ, zero, suc, cond, ◌<◌, ◌+◌, ◌++◌, Bool, true, false, List, [], ◌∷◌, Some, None, sym, ◌∙◌, ap, arith, length, get_or, ap₂, refl}
+use Rattle.std.specs.Prelude.{slice_set, position, nat_lt, not, ◌&&◌, ◌==◌}
 use Rattle.std.specs.List.{AllByRecursion, position_or_len, flat_map, range_with_len}
 use Rattle.std.specs.Str.{bytes_eq}
 use Rattle.std.proofs.lemmas.Bool.{cond-true, cond-false, false_from_ne_true, ltb-false}
@@ -9,13 +9,14 @@ use Rattle.std.proofs.lemmas.List.Sums.{fails_before_first}
 use Rattle.std.proofs.lemmas.List.Elements.{recursion_from_All}
 use Rattle.std.proofs.lemmas.Option.{none-some}
 use Rattle.std.proofs.lemmas.List.{flat_map_more}
+use Rattle.ritas_base.specs.declared.item.Item.{Item}
 use Rattle.ritas_base.specs.declared.item.Msg.{Msg}
 use Rattle.ritas_base.specs.Members.{has_member}
 use Rattle.ritas_base.specs.History.{replicas, is_value}
 use Rattle.reliable_bcast.specs.declared.digest_rb.DigestRb.{DigestRb}
 use Rattle.reliable_bcast.specs.Laws.DigestNews.{ones, ones_alike}
 use Rattle.reliable_bcast.specs.declared.digest_rb.Known.{Known}
-use Rattle.reliable_bcast.specs.DigestState.{value_with_digest, answer_in, answer_for, answers_to}
+use Rattle.reliable_bcast.specs.DigestState.{value_with_digest, answer_in, answer_for, answers_to, DigestSettles, Carries, readied_by, settled_by_digest, carried_by_digest, after_ready, ready_message, want_message}
 
 found_at : (d : List ℕ) (ks : List Known) (i : ℕ) (k : Known) → i < length ks → bytes_eq (get_or ks i k).digest d ≡ true
     → ((j : ℕ) → j < i → bytes_eq (get_or ks j k).digest d ≡ false) → value_with_digest ks d ≡ Some (get_or ks i k).value
@@ -65,3 +66,17 @@ all_answered b d m asked k base after all members put =
     ∙ (ap (λ (n : ℕ). base ++ ones b.slot (answer_in b.me asked m) (replicas n)) all
     ∙ ap (λ (l : List Msg). base ++ l)
     (ones_alike b.slot (answer_in b.me asked m) (answer_for b d m) (replicas b.params.n) (λ j there. ap (λ (t : Bool). cond (not (j == b.me) && t) (Some m) None) (members j))))
+
+-- ---- READY
+
+-- what is kept, and what is said, after a READY
+pub ready_step : (old : DigestRb) (i : Item) (voted settled carried : DigestRb) (d : List ℕ) (none said all : List Msg) → d ≡ i.value
+    → voted ≡ record old { readies = slice_set old.readies i.from (Some d) } → DigestSettles voted settled d none said → Carries settled carried d said all → none ≡ []
+    → (carried ≡ after_ready old i) × (all ≡ ready_message (readied_by old i) i.value ++ want_message (settled_by_digest (readied_by old i) i.value) i.value)
+ready_step old i voted settled carried d none said all same vote settles carries empty =
+    let v : voted ≡ readied_by old i = vote ∙ ap (λ (e : List ℕ). record old { readies = slice_set old.readies i.from (Some e) }) same in
+    let s : settled ≡ settled_by_digest (readied_by old i) i.value = settles.state ∙ ap₂ settled_by_digest v same in
+    let first : said ≡ ready_message (readied_by old i) i.value = settles.said ∙ (ap (λ (l : List Msg). l ++ ready_message voted d) empty ∙ ap₂ ready_message v same) in (
+      carries.state ∙ ap₂ carried_by_digest s same,
+      carries.said ∙ ap₂ (λ (l m : List Msg). l ++ m) first (ap₂ want_message s same),
+    )

@@ -4,3 +4,4 @@ pub mod TallyLaws
 mod DigestValues
 mod DigestCalls
 mod DigestSteps
+mod VoteRowsLaws

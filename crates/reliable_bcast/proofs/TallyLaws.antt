@@ -4,7 +4,7 @@ use Rattle.std.specs.Prelude.{Option, ◌==◌, ◌||◌, ◌&&◌, not, count_b
 use Rattle.std.specs.List.{range_with_len, AllByRecursion, position, position_or_len, list_any}
 use Rattle.std.specs.Prelude.{nat_lt}
 use Rattle.std.specs.Str.{bytes_eq}
-use Rattle.std.proofs.lemmas.Bool.{cases_Bool, cases_lt, both_ways, cond-true, cond-false, cases_eq, eq-eqb, ne_eqb, eqb-true, or_cases, or_right, false_from_ne_true, ltb-false, ltb-true, lt-ltb, le-ltb, and_parts}
+use Rattle.std.proofs.lemmas.Bool.{cases_Bool, both_ways, cond-true, cond-false, cases_eq, eq-eqb, ne_eqb, eqb-true, or_cases, or_right, false_from_ne_true, ltb-false, ltb-true, lt-ltb, le-ltb, and_parts}
 use Rattle.std.proofs.lemmas.Slice.Eq.{bytes_eq-Decides}
 use Rattle.std.proofs.lemmas.List.FromFn.{fill_by_all, length-map-range_with_len, get_or-map-range_with_len}
 use Rattle.std.proofs.lemmas.List.Quantifiers.{position-Some}
@@ -80,7 +80,7 @@ within_for n (b ∷ bs) m tally =
     ]
 
 -- members from n on don't count
-count_within : (n s : ℕ) → AreVotersWithin n s → (d w : ℕ) → w ≡ n + d → count_by (has_member s) (range_with_len 0 w) ≡ count_by (has_member s) (range_with_len 0 n)
+pub count_within : (n s : ℕ) → AreVotersWithin n s → (d w : ℕ) → w ≡ n + d → count_by (has_member s) (range_with_len 0 w) ≡ count_by (has_member s) (range_with_len 0 n)
 count_within n s within zero w e = let same : w ≡ n = omega (arith, e) in ap (λ (x : ℕ). count_by (has_member s) (range_with_len 0 x)) same
 count_within n s within (suc d) w e =
     let next : w ≡ suc (n + d) = omega (arith, e) in
@@ -329,34 +329,3 @@ pub count_nowhere : (n : ℕ) (bs : List Ballot) (m : List ℕ) → n ≤ 31 →
     → position (λ b. bytes_eq b.value m) bs ≡ None → count_by (is_value m) (votes_in n bs) ≡ 0
 count_nowhere n bs m small tally none =
     tally_count n bs m small tally ∙ (ap (member_count 32) (voters_nowhere m bs (none_found bs m none)) ∙ no_members)
-
--- ---- those who gave a value
-
-vote_lookup : (n : ℕ) (bs : List Ballot) (m : List ℕ) (k : ℕ) → IsBallotTally n bs
-    → (nat_lt k (length (votes_in n bs)) && is_value m (get_or (votes_in n bs) k None)) ≡ has_member (voters_for m bs) k
-vote_lookup n bs m k tally =
-    let len = length-votes_in n bs in
-    elim (cases_lt k n) [
-      | inl lt ↦
-          ap (λ (t : Bool). t && is_value m (get_or (votes_in n bs) k None)) (lt-ltb k (length (votes_in n bs)) (omega (arith, lt, len)))
-          ∙ (ap (is_value m) (votes_at n bs k lt) ∙ vote_is_member n bs m k tally)
-      | inr ge ↦
-          ap (λ (t : Bool). t && is_value m (get_or (votes_in n bs) k None)) (le-ltb k (length (votes_in n bs)) (omega (arith, ge, len)))
-          ∙ sym (false_from_ne_true (has_member (voters_for m bs) k) (λ t. let lt = within_for n bs m tally k t in omega (arith, lt, ge)))
-    ]
-
-pub voters_found : (n : ℕ) (bs : List Ballot) (m : List ℕ) (i : ℕ) (b : Ballot) (votes : List (Option (List ℕ))) → IsBallotTally n bs → votes_in n bs ≡ votes
-    → position (λ b. bytes_eq b.value m) bs ≡ Some i → b ≡ get_or bs i b → (k : ℕ) → has_member b.voters k ≡ (nat_lt k (length votes) && is_value m (get_or votes k None))
-voters_found n bs m i b votes tally view found read k =
-    let at = position-Some (λ (x : Ballot). bytes_eq x.value m) bs i b found in
-    let same : voters_for m bs ≡ b.voters = voters_at m bs i b at.0 at.1 at.2 ∙ ap (λ (x : Ballot). x.voters) (sym read) in
-    ap (λ (s : ℕ). has_member s k) (sym same)
-    ∙ (sym (vote_lookup n bs m k tally) ∙ ap (λ (l : List (Option (List ℕ))). nat_lt k (length l) && is_value m (get_or l k None)) view)
-
-pub voters_not_found : (n : ℕ) (bs : List Ballot) (m : List ℕ) (s : ℕ) (votes : List (Option (List ℕ))) → IsBallotTally n bs → votes_in n bs ≡ votes
-    → position (λ b. bytes_eq b.value m) bs ≡ None → ((j : ℕ) → has_member s j ≡ false) → (k : ℕ) → has_member s k ≡ (nat_lt k (length votes) && is_value m (get_or votes k None))
-voters_not_found n bs m s votes tally view none empty k =
-    empty k
-    ∙ (sym (member_of_none k)
-    ∙ (ap (λ (x : ℕ). has_member x k) (sym (voters_nowhere m bs (none_found bs m none)))
-    ∙ (sym (vote_lookup n bs m k tally) ∙ ap (λ (l : List (Option (List ℕ))). nat_lt k (length l) && is_value m (get_or l k None)) view)))

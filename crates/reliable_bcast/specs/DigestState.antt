@@ -174,10 +174,11 @@ readied_by b i = record b { readies = slice_set b.readies i.from (Some i.value) 
 abbrev pub wanted_by : DigestRb → Item → DigestRb
 wanted_by b i = record b { wants = slice_set b.wants i.from (Some i.value) }
 
+-- a vote whose value is no digest, which doesn't come, changes nothing
 abbrev pub HearsEcho : DigestRb → DigestRb → Item → List Msg → List Msg → Result Heard Mem → Type 0
 HearsEcho old new i before after (Ok Took) =
     (is_awaited old.echoes i.from ≡ true) × (new ≡ settled_by_digest (echoed_by old i) i.value) × (after ≡ before ++ ready_message (echoed_by old i) i.value)
-HearsEcho old new i before after (Ok Repeat) = (is_awaited old.echoes i.from ≡ false) × DigestsUnchanged old new before after
+HearsEcho old new i before after (Ok Repeat) = (length i.value ≡ 32 → is_awaited old.echoes i.from ≡ false) × DigestsUnchanged old new before after
 HearsEcho old new i before after (Err e) = (is_awaited old.echoes i.from ≡ true) × (after ≡ before) × (delivered_of new ≡ delivered_of old)
 
 abbrev pub after_ready : DigestRb → Item → DigestRb
@@ -187,7 +188,7 @@ abbrev pub HearsReady : DigestRb → DigestRb → Item → List Msg → List Msg
 HearsReady old new i before after (Ok Took) =
     (is_awaited old.readies i.from ≡ true) × (new ≡ after_ready old i)
     × (after ≡ before ++ (ready_message (readied_by old i) i.value ++ want_message (settled_by_digest (readied_by old i) i.value) i.value))
-HearsReady old new i before after (Ok Repeat) = (is_awaited old.readies i.from ≡ false) × DigestsUnchanged old new before after
+HearsReady old new i before after (Ok Repeat) = (length i.value ≡ 32 → is_awaited old.readies i.from ≡ false) × DigestsUnchanged old new before after
 HearsReady old new i before after (Err e) =
     (is_awaited old.readies i.from ≡ true) × (after ≡ before) × ((delivered_of new ≡ delivered_of old) ⊎ (delivered_of new ≡ delivered_of (after_ready old i)))
 
@@ -198,7 +199,7 @@ want_answer b i = to_one b.slot i.from (if i.from == b.me then None else value_w
 abbrev pub HearsWant : DigestRb → DigestRb → Item → List Msg → List Msg → Result Heard Mem → Type 0
 HearsWant old new i before after (Ok Took) =
     (is_awaited old.wants i.from ≡ true) × (new ≡ wanted_by old i) × (after ≡ before ++ want_answer old i)
-HearsWant old new i before after (Ok Repeat) = (is_awaited old.wants i.from ≡ false) × DigestsUnchanged old new before after
+HearsWant old new i before after (Ok Repeat) = (length i.value ≡ 32 → is_awaited old.wants i.from ≡ false) × DigestsUnchanged old new before after
 HearsWant old new i before after (Err e) = (is_awaited old.wants i.from ≡ true) × (after ≡ before) × (delivered_of new ≡ delivered_of old)
 
 -- ---- an item of each kind

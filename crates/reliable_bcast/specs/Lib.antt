@@ -1,5 +1,6 @@
 pub mod Bracha
 pub mod Tally
+pub mod VoteRows
 pub mod State
 pub mod Reading
 pub mod Rows

@@ -1,14 +1,13 @@
 //! One replica's part in a reliable broadcast with digests: votes are for a digest, whose value is asked for where it isn't known.
 
-ghost use Rattle.std.specs.Prelude.{◌≡◌, ◌++◌, IfOk, OnErr, OnOk, None, Some, position, true, false, [], ℕ};
+ghost use Rattle.std.specs.Prelude.{◌≡◌, ◌++◌, length, MatchOption, OnErr, OnOk, None, Some, position, true, false};
 ghost use Rattle.std.specs.Str.{bytes_eq};
 ghost use Rattle.std.specs.Option.{option_copied};
-ghost use Rattle.ritas_base.specs.Members.{has_member};
 ghost use Rattle.reliable_bcast.specs.Digests.{to_one};
 ghost use Rattle.reliable_bcast.specs.DigestState.{value_with_digest, answer_in, answers_to, IsNew, IsSameState, LearnsValue, DigestSettles, Carries, HearsInit, HearsEcho, HearsReady, HearsWant, HearsValue, HearsByDigest, delivered_of};
 
-use crate::saying::{say, say_value};
-use crate::votes::Votes;
+use crate::digest_votes::DigestVotes;
+use crate::saying::{say_digest, say_value};
 use layer_api::Heard;
 use ritas_base::{Bytes, Item, Kind, Mem, Msg, Params, SenderSet, Slot, Tagger};
 use std::alloc::Global;
@@ -16,7 +15,7 @@ use std::alloc::Global;
 /// A value that is known, and its digest.
 #[derive(Drop)]
 pub(crate) struct Known {
-    digest: Bytes,
+    digest: [u8; 32],
     value: Bytes,
 }
 
@@ -29,33 +28,40 @@ pub struct DigestRb {
     inited: bool,
     readied: bool,
     // The first digest of each replica.
-    echoes: Votes,
-    readies: Votes,
-    wants: Votes,
+    echoes: DigestVotes,
+    readies: DigestVotes,
+    wants: DigestVotes,
     // Those whose VALUE was taken.
     given: SenderSet,
     // The first value of each digest.
     values: Vec<Known>,
     // The digest that is carried.
-    full: Option<Bytes>,
+    full: Option<[u8; 32]>,
     pub(crate) live: bool,
 }
 
 /// Where the value with this digest stands.
-fn place_of(values: &[Known], digest: &Bytes) -> Option<usize>
+fn place_of(values: &[Known], digest: &[u8; 32]) -> Option<usize>
     ensures { result ≡ position (λ k. bytes_eq k.digest digest.now) values.now }
 {
-    values.iter().position(|known| known.digest.is_same(digest))
+    values.iter().position(|known| known.digest == *digest)
 }
 
 /// The value with this digest, if it is known.
-fn value_of<'a>(values: &'a [Known], digest: &Bytes) -> Option<&'a Bytes>
+fn value_of<'a>(values: &'a [Known], digest: &[u8; 32]) -> Option<&'a Bytes>
     ensures { option_copied result ≡ value_with_digest values.now digest.now }
 {
     match place_of(values, digest) {
         None => None,
         Some(i) => Some(&values[i].value),
     }
+}
+
+/// The digest that an item brings; `None` where its value is none.
+fn digest_in(item: &Item) -> Option<&[u8; 32]>
+    ensures { MatchOption result (length item.now.value ≡ 32 → ⊥) (λ d. d.now ≡ item.now.value) }
+{
+    item.value.as_slice().as_array()
 }
 
 impl DigestRb {
@@ -70,9 +76,9 @@ impl DigestRb {
             slot,
             inited: false,
             readied: false,
-            echoes: Votes::new(alloc, n),
-            readies: Votes::new(alloc, n),
-            wants: Votes::new(alloc, n),
+            echoes: DigestVotes::new(alloc, n),
+            readies: DigestVotes::new(alloc, n),
+            wants: DigestVotes::new(alloc, n),
             given: SenderSet::empty(),
             values: Vec::new(alloc),
             full: None,
@@ -101,7 +107,7 @@ impl DigestRb {
     fn answer(
         &self,
         alloc: Global,
-        digest: &Bytes,
+        digest: &[u8; 32],
         value: &Bytes,
         out: &mut Vec<Msg>,
     ) -> Result<(), Mem>
@@ -119,28 +125,22 @@ impl DigestRb {
     fn learn(
         &mut self,
         alloc: Global,
-        digest: Bytes,
+        digest: &[u8; 32],
         value: &Bytes,
         out: &mut Vec<Msg>,
     ) -> Result<(), Mem>
-        ensures ok { OnOk result (LearnsValue self.old self.new digest value.now out.old.items out.new.items) }
+        ensures ok { OnOk result (LearnsValue self.old self.new digest.now value.now out.old.items out.new.items) }
         ensures err { OnErr result (IsSameState self.old self.new) }
     {
-        if value_of(&self.values, &digest).is_some() {
+        if value_of(&self.values, digest).is_some() {
             return Ok(());
         }
-        self.answer(alloc, &digest, value, out)?;
-        let value = value.copy(alloc)?;
-        self.values.push(Known { digest, value })?;
+        self.answer(alloc, digest, value, out)?;
+        self.values.push(Known {
+            digest: *digest,
+            value: value.copy(alloc)?,
+        })?;
         Ok(())
-    }
-
-    /// The digest of a value.
-    fn digest_of<T: Tagger>(alloc: Global, t: &T, value: &Bytes) -> Result<Bytes, Mem>
-        ensures { IfOk result (λ d. d ≡ (T.tags t.now).digest value.now) }
-    {
-        let digest = t.digest(value.as_slice());
-        Bytes::from_slice(alloc, &digest)
     }
 
     /// Says ECHO of the digest of the first INIT, and answers those who asked for its value.
@@ -156,10 +156,10 @@ impl DigestRb {
         if self.inited {
             return Ok(Heard::Repeat);
         }
-        let digest = DigestRb::digest_of(alloc, t, &item.value)?;
+        let digest = t.digest(item.value.as_slice());
         let mut said = Vec::new(alloc);
-        say(self.slot, Kind::Echo, digest.copy(alloc)?, &mut said)?;
-        self.learn(alloc, digest, &item.value, &mut said)?;
+        say_digest(alloc, self.slot, Kind::Echo, &digest, &mut said)?;
+        self.learn(alloc, &digest, &item.value, &mut said)?;
         self.inited = true;
         out.append(&mut said)?;
         Ok(Heard::Took)
@@ -179,16 +179,16 @@ impl DigestRb {
         if item.from >= 32 || self.given.has(item.from) {
             return Ok(Heard::Repeat);
         }
-        let digest = DigestRb::digest_of(alloc, t, &item.value)?;
+        let digest = t.digest(item.value.as_slice());
         let mut said = Vec::new(alloc);
-        self.learn(alloc, digest, &item.value, &mut said)?;
+        self.learn(alloc, &digest, &item.value, &mut said)?;
         self.given = self.given.with(item.from);
         out.append(&mut said)?;
         Ok(Heard::Took)
     }
 
     /// Says READY of a digest where it has the votes, once.
-    fn settle(&mut self, alloc: Global, digest: &Bytes, out: &mut Vec<Msg>) -> Result<(), Mem>
+    fn settle(&mut self, alloc: Global, digest: &[u8; 32], out: &mut Vec<Msg>) -> Result<(), Mem>
         ensures ok { OnOk result (DigestSettles self.old self.new digest.now out.old.items out.new.items) }
         ensures err { OnErr result ((self.new ≡ self.old) × (out.new.items ≡ out.old.items)) }
     {
@@ -198,14 +198,14 @@ impl DigestRb {
         if self.echoes.count(digest) >= self.params.q()
             || self.readies.count(digest) >= self.params.ready()
         {
-            say(self.slot, Kind::Ready, digest.copy(alloc)?, out)?;
+            say_digest(alloc, self.slot, Kind::Ready, digest, out)?;
             self.readied = true;
         }
         Ok(())
     }
 
     /// Keeps the digest that is carried, once, and says WANT of it where its value isn't known.
-    fn carry(&mut self, alloc: Global, digest: &Bytes, out: &mut Vec<Msg>) -> Result<(), Mem>
+    fn carry(&mut self, alloc: Global, digest: &[u8; 32], out: &mut Vec<Msg>) -> Result<(), Mem>
         ensures ok { OnOk result (Carries self.old self.new digest.now out.old.items out.new.items) }
         ensures err { OnErr result (self.new ≡ self.old) }
     {
@@ -213,11 +213,10 @@ impl DigestRb {
             return Ok(());
         }
         if self.readies.count(digest) >= self.params.deliver() {
-            let full = digest.copy(alloc)?;
             if value_of(&self.values, digest).is_none() {
-                say(self.slot, Kind::Want, digest.copy(alloc)?, out)?;
+                say_digest(alloc, self.slot, Kind::Want, digest, out)?;
             }
-            self.full = Some(full);
+            self.full = Some(*digest);
         }
         Ok(())
     }
@@ -226,11 +225,14 @@ impl DigestRb {
     fn echo(&mut self, alloc: Global, item: &Item, out: &mut Vec<Msg>) -> Result<Heard, Mem>
         ensures { HearsEcho self.old self.new item.now out.old.items out.new.items result }
     {
+        let Some(digest) = digest_in(item) else {
+            return Ok(Heard::Repeat);
+        };
         if !self.echoes.awaits(item.from) {
             return Ok(Heard::Repeat);
         }
-        self.echoes.vote(alloc, item.from, &item.value)?;
-        self.settle(alloc, &item.value, out)?;
+        self.echoes.vote(alloc, item.from, digest)?;
+        self.settle(alloc, digest, out)?;
         Ok(Heard::Took)
     }
 
@@ -238,13 +240,16 @@ impl DigestRb {
     fn ready(&mut self, alloc: Global, item: &Item, out: &mut Vec<Msg>) -> Result<Heard, Mem>
         ensures { HearsReady self.old self.new item.now out.old.items out.new.items result }
     {
+        let Some(digest) = digest_in(item) else {
+            return Ok(Heard::Repeat);
+        };
         if !self.readies.awaits(item.from) {
             return Ok(Heard::Repeat);
         }
-        self.readies.vote(alloc, item.from, &item.value)?;
+        self.readies.vote(alloc, item.from, digest)?;
         let mut said = Vec::new(alloc);
-        self.settle(alloc, &item.value, &mut said)?;
-        self.carry(alloc, &item.value, &mut said)?;
+        self.settle(alloc, digest, &mut said)?;
+        self.carry(alloc, digest, &mut said)?;
         out.append(&mut said)?;
         Ok(Heard::Took)
     }
@@ -253,14 +258,17 @@ impl DigestRb {
     fn want(&mut self, alloc: Global, item: &Item, out: &mut Vec<Msg>) -> Result<Heard, Mem>
         ensures { HearsWant self.old self.new item.now out.old.items out.new.items result }
     {
+        let Some(digest) = digest_in(item) else {
+            return Ok(Heard::Repeat);
+        };
         if !self.wants.awaits(item.from) {
             return Ok(Heard::Repeat);
         }
-        self.wants.vote(alloc, item.from, &item.value)?;
+        self.wants.vote(alloc, item.from, digest)?;
         if item.from == self.me {
             return Ok(Heard::Took);
         }
-        if let Some(value) = value_of(&self.values, &item.value) {
+        if let Some(value) = value_of(&self.values, digest) {
             say_value(alloc, self.slot, item.from, value, out)?;
         }
         Ok(Heard::Took)

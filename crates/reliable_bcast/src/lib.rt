@@ -20,6 +20,7 @@
 mod broadcast;
 mod digest_broadcast;
 mod digest_rb;
+mod digest_votes;
 mod laws;
 mod rb;
 mod saying;

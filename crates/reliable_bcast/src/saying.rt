@@ -21,6 +21,20 @@ pub(crate) fn say(slot: Slot, kind: Kind, value: Bytes, out: &mut Vec<Msg>) -> R
     Ok(())
 }
 
+/// Says a digest to all.
+pub(crate) fn say_digest(
+    alloc: Global,
+    slot: Slot,
+    kind: Kind,
+    digest: &[u8; 32],
+    out: &mut Vec<Msg>,
+) -> Result<(), Mem>
+    ensures ok { OnOk result (out.new.items ≡ out.old.items ++ to_all slot kind (Some digest.now)) }
+    ensures err { OnErr result (out.new.items ≡ out.old.items) }
+{
+    say(slot, kind, Bytes::from_slice(alloc, digest)?, out)
+}
+
 /// Says INIT.
 pub(crate) fn say_init(
     alloc: Global,

@@ -1,6 +1,6 @@
 //! Votes for values: the first one of each replica counts.
 
-ghost use Rattle.std.specs.Prelude.{◌≡◌, ℕ, ◌≤◌, Bool, true, List, IfOk, OnErr, OnOk, None, Some, count_by, slice_set, slice_index_or, length, nat_lt, ◌&&◌, replicate, position};
+ghost use Rattle.std.specs.Prelude.{◌≡◌, ◌≤◌, true, OnErr, OnOk, None, Some, count_by, slice_set, replicate, position};
 ghost use Rattle.std.specs.List.{list_any};
 ghost use Rattle.std.specs.Str.{bytes_eq};
 ghost use Rattle.ritas_base.specs.History.{is_value};
@@ -62,16 +62,6 @@ impl Votes {
         match place_of(&self.ballots, value) {
             Some(i) => self.ballots[i].voters.len(),
             None => 0,
-        }
-    }
-
-    /// Those who gave this value.
-    pub(crate) fn voters(&self, value: &Bytes) -> SenderSet
-        ensures { (k : ℕ) → has_member result k ≡ (nat_lt k (length self.now) && is_value value.now (slice_index_or self.now k None)) }
-    {
-        match place_of(&self.ballots, value) {
-            Some(i) => self.ballots[i].voters,
-            None => SenderSet::empty(),
         }
     }
 

@@ -11,4 +11,4 @@ returns c =
     let low = c.loop-k-test.false in
     let high = c.loop-k.auto.k-end in
     let all : c.loop-k.k ≡ c.args.self.now.params.n = omega (arith, end, low, high) in
-    all_answered c.args.self.now c.args.digest.now c.args.value.now c.voters-asked.result c.loop-k.k c.args.out.now.items c.loop-k.out.items all c.voters-asked.ensures c.loop-k.invariant.1
+    all_answered c.args.self.now c.args.digest.now c.args.value.now c.voters-asked.result c.loop-k.k c.args.out.now.items c.loop-k.out.items all c.voters-asked.ensures.gave c.loop-k.invariant.1
